@@ -1,0 +1,23 @@
+use super::{signed, write};
+use crate::reconcile::initiator;
+use crate::refusal::{self, Refusal};
+use crate::{message, mix};
+
+/// Finish: scheme, reply message, s. Gives the key.
+pub fn finish(scheme: u64, reply: &[u8], s: &[i32], key: &mut [u8]) -> Result<usize, Refusal> {
+    key.fill(0);
+
+    let scheme = refusal::no_scheme(scheme)?;
+    refusal::wrong_length(reply.len(), scheme.reply_bytes())?;
+    refusal::wrong_length(s.len(), scheme.secret_count())?;
+    refusal::short_output(key.len(), scheme.key_bytes)?;
+    let numbers = message::reply_numbers(scheme, reply);
+    refusal::large_in_message(scheme, &numbers)?;
+    refusal::beyond_noise(scheme, s)?;
+
+    let u = message::plain(scheme, &numbers);
+    let w = mix::w(scheme, &u, &signed(s));
+    let entries = initiator(scheme, &w, &message::reply_hints(scheme, reply));
+    let answer = message::key(scheme, &entries);
+    Ok(write(&answer, key))
+}

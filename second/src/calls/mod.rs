@@ -1,0 +1,28 @@
+//! 01, "The calls". A call answers with its written counts or refuses with a
+//! number and a place. Each output is zeroed first, so that after a refusal it
+//! is zero over its whole length, and after a success behind the answer.
+
+mod bench;
+mod expand;
+mod finish;
+mod noise;
+mod offer;
+mod reply;
+
+pub use bench::{bench, Bench};
+pub use expand::expand;
+pub use finish::finish;
+pub use noise::noise;
+pub use offer::offer;
+pub use reply::reply;
+
+/// Writes the answer at the start of the output; the written count.
+fn write<T: Copy>(answer: &[T], output: &mut [T]) -> usize {
+    output[..answer.len()].copy_from_slice(answer);
+    answer.len()
+}
+
+/// Secrets and noise as signed numbers to reckon with.
+fn signed(values: &[i32]) -> Vec<i128> {
+    values.iter().map(|&value| i128::from(value)).collect()
+}

@@ -1,0 +1,46 @@
+use super::{signed, write};
+use crate::reconcile::replier;
+use crate::refusal::{self, Refusal};
+use crate::{message, mix};
+
+/// Reply: scheme, opening message, public a, s', e', e'', coins. Gives the
+/// reply message and the key.
+#[allow(clippy::too_many_arguments)]
+pub fn reply(
+    scheme: u64,
+    opening: &[u8],
+    a: &[u32],
+    s1: &[i32],
+    e1: &[i32],
+    e2: &[i32],
+    coins: &[u8],
+    reply: &mut [u8],
+    key: &mut [u8],
+) -> Result<(usize, usize), Refusal> {
+    reply.fill(0);
+    key.fill(0);
+
+    let scheme = refusal::no_scheme(scheme)?;
+    refusal::wrong_length(opening.len(), scheme.opening_bytes())?;
+    refusal::wrong_length(a.len(), scheme.public_count())?;
+    refusal::wrong_length(s1.len(), scheme.secret_count())?;
+    refusal::wrong_length(e1.len(), scheme.noise_count())?;
+    refusal::wrong_length(e2.len(), scheme.last_noise_count())?;
+    refusal::wrong_length(coins.len(), scheme.coin_bytes())?;
+    refusal::short_output(reply.len(), scheme.reply_bytes())?;
+    refusal::short_output(key.len(), scheme.key_bytes)?;
+    refusal::large_public(scheme, a)?;
+    let numbers = message::opening_numbers(scheme, opening);
+    refusal::large_in_message(scheme, &numbers)?;
+    refusal::beyond_noise(scheme, s1)?;
+    refusal::beyond_noise(scheme, e1)?;
+    refusal::beyond_noise(scheme, e2)?;
+
+    let (a, b) = (message::plain(scheme, a), message::plain(scheme, &numbers));
+    let u = mix::u(scheme, &a, &signed(s1), &signed(e1));
+    let v = mix::v(scheme, &b, &signed(s1), &signed(e2));
+    let (hints, entries) = replier(scheme, &v, coins);
+    let answer = message::reply(scheme, &u, &hints);
+    let key_answer = message::key(scheme, &entries);
+    Ok((write(&answer, reply), write(&key_answer, key)))
+}

@@ -1,0 +1,23 @@
+//! The independent second program, written from document 01 alone.
+//!
+//! It follows 01's words literally: plain sums, a search for the nearest z,
+//! a remainder at each step. It is slow on purpose.
+//!
+//! `cargo test` runs all tests, the published NewHope vectors among them.
+
+pub mod calls;
+pub mod cards;
+pub mod coins;
+pub mod expand;
+pub mod line;
+pub mod matrix;
+pub mod message;
+pub mod mix;
+pub mod noise;
+pub mod packing;
+pub mod polynomial;
+pub mod reconcile;
+pub mod refusal;
+pub mod schemes;
+pub mod signed;
+pub mod transform;

@@ -1,0 +1,44 @@
+//! Prints expectations: `second line` and `second cards`.
+
+use std::io::{self, Read, Write};
+use std::process::ExitCode;
+
+const HELP: &str = "\
+second, the independent second program
+
+  second line    the line program: standard input to standard output
+  second cards   all bench cards, one line each: inputs, a colon, outputs
+";
+
+fn main() -> ExitCode {
+    let words: Vec<String> = std::env::args().skip(1).collect();
+    let words: Vec<&str> = words.iter().map(String::as_str).collect();
+    let done = match words[..] {
+        ["line"] => line(),
+        ["cards"] => cards(),
+        _ => {
+            eprint!("{HELP}");
+            return ExitCode::from(2);
+        }
+    };
+    match done {
+        Ok(()) => ExitCode::SUCCESS,
+        Err(error) => {
+            eprintln!("second: {error}");
+            ExitCode::FAILURE
+        }
+    }
+}
+
+fn line() -> io::Result<()> {
+    let mut input = vec![];
+    io::stdin().read_to_end(&mut input)?;
+    io::stdout().write_all(&second::line::line(&input))
+}
+
+fn cards() -> io::Result<()> {
+    for card in second::cards::cards() {
+        writeln!(io::stdout(), "{card}")?;
+    }
+    Ok(())
+}

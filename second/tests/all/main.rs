@@ -1,0 +1,26 @@
+//! All tests of the second program, one file for each of its modules.
+
+mod generator;
+mod inputs;
+mod standards;
+
+mod bench;
+mod cards;
+mod easy_to_get_wrong;
+mod exchange;
+mod expand;
+mod line;
+mod matrix;
+mod message;
+mod noise;
+mod packing;
+mod polynomial;
+mod program;
+mod published;
+mod reconcile_bcns;
+mod reconcile_frodo;
+mod reconcile_newhope;
+mod refusals;
+mod schemes;
+mod signed;
+mod transform;
