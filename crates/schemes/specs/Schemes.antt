@@ -1,0 +1,138 @@
+-- The schemes' fixed numbers as 01 has them, a record for each scheme, and the schemes' own numbers.
+--   bcns, newHope, frodo ..   what is fixed in each scheme, in the order of the struct `Fixed`
+--   fixedOf s                 the same, by the scheme
+--   numberOf s                the number of a scheme, 0 to 5
+--   schemeOf k                the scheme that a number names, or that it names none
+--   Tied f                    how the lengths of a scheme hang together
+use mathlib.Core.Path.{_≡_}
+use Prim.Native.Nat.{ℕ, _+_, _*_}
+use mathlib.Core.Bool.{cond}
+use lib.Dec.{eqb}
+use Rattle.schemes.specs.declared.Fixed.{Fixed}
+use Rattle.schemes.specs.declared.Scheme.{Scheme}
+use Rattle.schemes.specs.declared.Scheme.the-variants.{Bcns, NewHope, Challenge, Classical, Recommended, Paranoid}
+use Rattle.schemes.specs.declared.Named.{Named}
+use Rattle.schemes.specs.declared.Named.the-variants.{Is, Unknown}
+
+-- 01, "The three families and their numbers", "The calls" and "Bytes on the wire"
+abbrev pub bcns : Fixed
+bcns =
+    record {
+      n = 1024;
+      q = 4294967295;
+      largest = 51;
+      public = 1024;
+      secret = 1024;
+      noise = 1024;
+      mixed = 1024;
+      groups = 1024;
+      width = 32;
+      hintbits = 1;
+      keybits = 1;
+      coinbits = 2;
+      packed = 4096;
+      seed = 0;
+      hint = 128;
+      opening = 4096;
+      reply = 4224;
+      coins = 256;
+      key = 128;
+    }
+
+abbrev pub newHope : Fixed
+newHope =
+    record {
+      n = 1024;
+      q = 12289;
+      largest = 16;
+      public = 1024;
+      secret = 1024;
+      noise = 1024;
+      mixed = 1024;
+      groups = 256;
+      width = 14;
+      hintbits = 2;
+      keybits = 1;
+      coinbits = 1;
+      packed = 1792;
+      seed = 32;
+      hint = 256;
+      opening = 1824;
+      reply = 2048;
+      coins = 32;
+      key = 32;
+    }
+
+-- Frodo, over n, q, the largest noise, the bits D of a packed number, the bits B of an entry's key, and the key bytes
+abbrev pub frodo : ℕ → ℕ → ℕ → ℕ → ℕ → ℕ → Fixed
+frodo n q largest D B key =
+    record {
+      n = n;
+      q = q;
+      largest = largest;
+      public = n * n;
+      secret = 8 * n;
+      noise = 8 * n;
+      mixed = 64;
+      groups = 64;
+      width = D;
+      hintbits = 1;
+      keybits = B;
+      coinbits = 0;
+      packed = n * D;
+      seed = 16;
+      hint = 8;
+      opening = 16 + n * D;
+      reply = n * D + 8;
+      coins = 0;
+      key = key;
+    }
+
+abbrev pub challenge : Fixed
+challenge = frodo 352 2048 3 11 1 8
+
+abbrev pub classical : Fixed
+classical = frodo 592 4096 4 12 2 16
+
+abbrev pub recommended : Fixed
+recommended = frodo 752 32768 5 15 4 32
+
+abbrev pub paranoid : Fixed
+paranoid = frodo 864 32768 6 15 4 32
+
+abbrev pub fixedOf : Scheme → Fixed
+fixedOf Bcns = bcns
+fixedOf NewHope = newHope
+fixedOf Challenge = challenge
+fixedOf Classical = classical
+fixedOf Recommended = recommended
+fixedOf Paranoid = paranoid
+
+abbrev pub numberOf : Scheme → ℕ
+numberOf Bcns = 0
+numberOf NewHope = 1
+numberOf Challenge = 2
+numberOf Classical = 3
+numberOf Recommended = 4
+numberOf Paranoid = 5
+
+-- 01, "Refusal numbers and their order", 1: the scheme is not 0 to 5
+abbrev pub schemeOf : ℕ → Named
+schemeOf k =
+    cond (eqb k 0) (Is Bcns)
+    (cond (eqb k 1) (Is NewHope)
+    (cond (eqb k 2) (Is Challenge)
+    (cond (eqb k 3) (Is Classical)
+    (cond (eqb k 4) (Is Recommended)
+    (cond (eqb k 5) (Is Paranoid)
+    Unknown)))))
+
+-- 01, "Bytes on the wire": every total fills whole bytes, and a message is the sum of its parts
+pub record Tied (f : Fixed) : Type 0 where
+  pub numbers : 8 * f .packed ≡ f .width * f .secret
+  pub hints : 8 * f .hint ≡ f .hintbits * f .mixed
+  pub keys : 8 * f .key ≡ f .keybits * f .groups
+  pub coins : 8 * f .coins ≡ f .coinbits * f .groups
+  pub noise : f .noise ≡ f .secret
+  pub opening : f .opening ≡ f .packed + f .seed
+  pub reply : f .reply ≡ f .packed + f .hint

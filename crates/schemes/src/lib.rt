@@ -1,0 +1,497 @@
+// The six schemes by name, each with its fixed numbers, written once: 01, "The three families and their numbers", "The calls"
+// and "Bytes on the wire". The definitions (`specs/Schemes.antt`) have the same numbers as a record for each scheme, and the proofs tie
+// the two: a number that is changed on one side alone fails the check.
+ghost use mathlib.Core.Path.{_≡_};
+ghost use Rattle.schemes.specs.Schemes.{bcns, newHope, challenge, classical, recommended, paranoid, fixedOf, numberOf, schemeOf};
+
+// What is fixed in a scheme. Lengths of bytes and counts of numbers are usize, widths in bits and bounds u32.
+pub struct Fixed {
+    // the size n, the modulus q, the largest noise
+    pub n: usize,
+    pub q: u32,
+    pub largest: u32,
+    // counts: the lent public numbers; s or s'; e or e'; e'', which is also that of the mixed values v and w; groups that give key bits
+    pub public: usize,
+    pub secret: usize,
+    pub noise: usize,
+    pub mixed: usize,
+    pub groups: usize,
+    // bits: of a packed number, of the hint of an entry, of a group's key (B in Frodo), of a group's coin
+    pub width: u32,
+    pub hintbits: u32,
+    pub keybits: u32,
+    pub coinbits: u32,
+    // bytes: the parts of the messages and the whole ones, the coins and the key
+    pub packed: usize,
+    pub seed: usize,
+    pub hint: usize,
+    pub opening: usize,
+    pub reply: usize,
+    pub coins: usize,
+    pub key: usize,
+}
+
+pub struct Bcns;
+
+impl Bcns {
+    pub const N: usize = 1024;
+
+    pub const Q: u32 = 4294967295;
+
+    pub const LARGEST: u32 = 51;
+
+    pub const PUBLIC: usize = Bcns::N;
+
+    pub const SECRET: usize = Bcns::N;
+
+    pub const NOISE: usize = Bcns::N;
+
+    pub const MIXED: usize = Bcns::N;
+
+    pub const GROUPS: usize = Bcns::N;
+
+    pub const WIDTH: u32 = 32;
+
+    pub const HINTBITS: u32 = 1;
+
+    pub const KEYBITS: u32 = 1;
+
+    pub const COINBITS: u32 = 2;
+
+    pub const PACKED: usize = 4096;
+
+    pub const SEED: usize = 0;
+
+    pub const HINT: usize = 128;
+
+    pub const OPENING: usize = Bcns::PACKED + Bcns::SEED;
+
+    pub const REPLY: usize = Bcns::PACKED + Bcns::HINT;
+
+    pub const COINS: usize = 256;
+
+    pub const KEY: usize = 128;
+
+    pub fn fixed() -> Fixed
+        ensures { λ r. ⌜ r ≡ bcns ⌝ }
+    {
+        Fixed {
+            n: Bcns::N,
+            q: Bcns::Q,
+            largest: Bcns::LARGEST,
+            public: Bcns::PUBLIC,
+            secret: Bcns::SECRET,
+            noise: Bcns::NOISE,
+            mixed: Bcns::MIXED,
+            groups: Bcns::GROUPS,
+            width: Bcns::WIDTH,
+            hintbits: Bcns::HINTBITS,
+            keybits: Bcns::KEYBITS,
+            coinbits: Bcns::COINBITS,
+            packed: Bcns::PACKED,
+            seed: Bcns::SEED,
+            hint: Bcns::HINT,
+            opening: Bcns::OPENING,
+            reply: Bcns::REPLY,
+            coins: Bcns::COINS,
+            key: Bcns::KEY,
+        }
+    }
+}
+
+pub struct NewHope;
+
+impl NewHope {
+    pub const N: usize = 1024;
+
+    pub const Q: u32 = 12289;
+
+    pub const LARGEST: u32 = 16;
+
+    pub const PUBLIC: usize = NewHope::N;
+
+    pub const SECRET: usize = NewHope::N;
+
+    pub const NOISE: usize = NewHope::N;
+
+    pub const MIXED: usize = NewHope::N;
+
+    pub const GROUPS: usize = NewHope::N / 4;
+
+    pub const WIDTH: u32 = 14;
+
+    pub const HINTBITS: u32 = 2;
+
+    pub const KEYBITS: u32 = 1;
+
+    pub const COINBITS: u32 = 1;
+
+    pub const PACKED: usize = 1792;
+
+    pub const SEED: usize = 32;
+
+    pub const HINT: usize = 256;
+
+    pub const OPENING: usize = NewHope::PACKED + NewHope::SEED;
+
+    pub const REPLY: usize = NewHope::PACKED + NewHope::HINT;
+
+    pub const COINS: usize = 32;
+
+    pub const KEY: usize = 32;
+
+    pub fn fixed() -> Fixed
+        ensures { λ r. ⌜ r ≡ newHope ⌝ }
+    {
+        Fixed {
+            n: NewHope::N,
+            q: NewHope::Q,
+            largest: NewHope::LARGEST,
+            public: NewHope::PUBLIC,
+            secret: NewHope::SECRET,
+            noise: NewHope::NOISE,
+            mixed: NewHope::MIXED,
+            groups: NewHope::GROUPS,
+            width: NewHope::WIDTH,
+            hintbits: NewHope::HINTBITS,
+            keybits: NewHope::KEYBITS,
+            coinbits: NewHope::COINBITS,
+            packed: NewHope::PACKED,
+            seed: NewHope::SEED,
+            hint: NewHope::HINT,
+            opening: NewHope::OPENING,
+            reply: NewHope::REPLY,
+            coins: NewHope::COINS,
+            key: NewHope::KEY,
+        }
+    }
+}
+
+pub struct FrodoChallenge;
+
+impl FrodoChallenge {
+    pub const N: usize = 352;
+
+    pub const Q: u32 = 2048;
+
+    pub const LARGEST: u32 = 3;
+
+    pub const PUBLIC: usize = FrodoChallenge::N * FrodoChallenge::N;
+
+    pub const SECRET: usize = 8 * FrodoChallenge::N;
+
+    pub const NOISE: usize = 8 * FrodoChallenge::N;
+
+    pub const MIXED: usize = 64;
+
+    pub const GROUPS: usize = 64;
+
+    pub const WIDTH: u32 = 11;
+
+    pub const HINTBITS: u32 = 1;
+
+    pub const KEYBITS: u32 = 1;
+
+    pub const COINBITS: u32 = 0;
+
+    pub const PACKED: usize = 11 * FrodoChallenge::N;
+
+    pub const SEED: usize = 16;
+
+    pub const HINT: usize = 8;
+
+    pub const OPENING: usize = FrodoChallenge::SEED + FrodoChallenge::PACKED;
+
+    pub const REPLY: usize = FrodoChallenge::PACKED + FrodoChallenge::HINT;
+
+    pub const COINS: usize = 0;
+
+    pub const KEY: usize = 8;
+
+    pub fn fixed() -> Fixed
+        ensures { λ r. ⌜ r ≡ challenge ⌝ }
+    {
+        Fixed {
+            n: FrodoChallenge::N,
+            q: FrodoChallenge::Q,
+            largest: FrodoChallenge::LARGEST,
+            public: FrodoChallenge::PUBLIC,
+            secret: FrodoChallenge::SECRET,
+            noise: FrodoChallenge::NOISE,
+            mixed: FrodoChallenge::MIXED,
+            groups: FrodoChallenge::GROUPS,
+            width: FrodoChallenge::WIDTH,
+            hintbits: FrodoChallenge::HINTBITS,
+            keybits: FrodoChallenge::KEYBITS,
+            coinbits: FrodoChallenge::COINBITS,
+            packed: FrodoChallenge::PACKED,
+            seed: FrodoChallenge::SEED,
+            hint: FrodoChallenge::HINT,
+            opening: FrodoChallenge::OPENING,
+            reply: FrodoChallenge::REPLY,
+            coins: FrodoChallenge::COINS,
+            key: FrodoChallenge::KEY,
+        }
+    }
+}
+
+pub struct FrodoClassical;
+
+impl FrodoClassical {
+    pub const N: usize = 592;
+
+    pub const Q: u32 = 4096;
+
+    pub const LARGEST: u32 = 4;
+
+    pub const PUBLIC: usize = FrodoClassical::N * FrodoClassical::N;
+
+    pub const SECRET: usize = 8 * FrodoClassical::N;
+
+    pub const NOISE: usize = 8 * FrodoClassical::N;
+
+    pub const MIXED: usize = 64;
+
+    pub const GROUPS: usize = 64;
+
+    pub const WIDTH: u32 = 12;
+
+    pub const HINTBITS: u32 = 1;
+
+    pub const KEYBITS: u32 = 2;
+
+    pub const COINBITS: u32 = 0;
+
+    pub const PACKED: usize = 12 * FrodoClassical::N;
+
+    pub const SEED: usize = 16;
+
+    pub const HINT: usize = 8;
+
+    pub const OPENING: usize = FrodoClassical::SEED + FrodoClassical::PACKED;
+
+    pub const REPLY: usize = FrodoClassical::PACKED + FrodoClassical::HINT;
+
+    pub const COINS: usize = 0;
+
+    pub const KEY: usize = 16;
+
+    pub fn fixed() -> Fixed
+        ensures { λ r. ⌜ r ≡ classical ⌝ }
+    {
+        Fixed {
+            n: FrodoClassical::N,
+            q: FrodoClassical::Q,
+            largest: FrodoClassical::LARGEST,
+            public: FrodoClassical::PUBLIC,
+            secret: FrodoClassical::SECRET,
+            noise: FrodoClassical::NOISE,
+            mixed: FrodoClassical::MIXED,
+            groups: FrodoClassical::GROUPS,
+            width: FrodoClassical::WIDTH,
+            hintbits: FrodoClassical::HINTBITS,
+            keybits: FrodoClassical::KEYBITS,
+            coinbits: FrodoClassical::COINBITS,
+            packed: FrodoClassical::PACKED,
+            seed: FrodoClassical::SEED,
+            hint: FrodoClassical::HINT,
+            opening: FrodoClassical::OPENING,
+            reply: FrodoClassical::REPLY,
+            coins: FrodoClassical::COINS,
+            key: FrodoClassical::KEY,
+        }
+    }
+}
+
+pub struct FrodoRecommended;
+
+impl FrodoRecommended {
+    pub const N: usize = 752;
+
+    pub const Q: u32 = 32768;
+
+    pub const LARGEST: u32 = 5;
+
+    pub const PUBLIC: usize = FrodoRecommended::N * FrodoRecommended::N;
+
+    pub const SECRET: usize = 8 * FrodoRecommended::N;
+
+    pub const NOISE: usize = 8 * FrodoRecommended::N;
+
+    pub const MIXED: usize = 64;
+
+    pub const GROUPS: usize = 64;
+
+    pub const WIDTH: u32 = 15;
+
+    pub const HINTBITS: u32 = 1;
+
+    pub const KEYBITS: u32 = 4;
+
+    pub const COINBITS: u32 = 0;
+
+    pub const PACKED: usize = 15 * FrodoRecommended::N;
+
+    pub const SEED: usize = 16;
+
+    pub const HINT: usize = 8;
+
+    pub const OPENING: usize = FrodoRecommended::SEED + FrodoRecommended::PACKED;
+
+    pub const REPLY: usize = FrodoRecommended::PACKED + FrodoRecommended::HINT;
+
+    pub const COINS: usize = 0;
+
+    pub const KEY: usize = 32;
+
+    pub fn fixed() -> Fixed
+        ensures { λ r. ⌜ r ≡ recommended ⌝ }
+    {
+        Fixed {
+            n: FrodoRecommended::N,
+            q: FrodoRecommended::Q,
+            largest: FrodoRecommended::LARGEST,
+            public: FrodoRecommended::PUBLIC,
+            secret: FrodoRecommended::SECRET,
+            noise: FrodoRecommended::NOISE,
+            mixed: FrodoRecommended::MIXED,
+            groups: FrodoRecommended::GROUPS,
+            width: FrodoRecommended::WIDTH,
+            hintbits: FrodoRecommended::HINTBITS,
+            keybits: FrodoRecommended::KEYBITS,
+            coinbits: FrodoRecommended::COINBITS,
+            packed: FrodoRecommended::PACKED,
+            seed: FrodoRecommended::SEED,
+            hint: FrodoRecommended::HINT,
+            opening: FrodoRecommended::OPENING,
+            reply: FrodoRecommended::REPLY,
+            coins: FrodoRecommended::COINS,
+            key: FrodoRecommended::KEY,
+        }
+    }
+}
+
+pub struct FrodoParanoid;
+
+impl FrodoParanoid {
+    pub const N: usize = 864;
+
+    pub const Q: u32 = 32768;
+
+    pub const LARGEST: u32 = 6;
+
+    pub const PUBLIC: usize = FrodoParanoid::N * FrodoParanoid::N;
+
+    pub const SECRET: usize = 8 * FrodoParanoid::N;
+
+    pub const NOISE: usize = 8 * FrodoParanoid::N;
+
+    pub const MIXED: usize = 64;
+
+    pub const GROUPS: usize = 64;
+
+    pub const WIDTH: u32 = 15;
+
+    pub const HINTBITS: u32 = 1;
+
+    pub const KEYBITS: u32 = 4;
+
+    pub const COINBITS: u32 = 0;
+
+    pub const PACKED: usize = 15 * FrodoParanoid::N;
+
+    pub const SEED: usize = 16;
+
+    pub const HINT: usize = 8;
+
+    pub const OPENING: usize = FrodoParanoid::SEED + FrodoParanoid::PACKED;
+
+    pub const REPLY: usize = FrodoParanoid::PACKED + FrodoParanoid::HINT;
+
+    pub const COINS: usize = 0;
+
+    pub const KEY: usize = 32;
+
+    pub fn fixed() -> Fixed
+        ensures { λ r. ⌜ r ≡ paranoid ⌝ }
+    {
+        Fixed {
+            n: FrodoParanoid::N,
+            q: FrodoParanoid::Q,
+            largest: FrodoParanoid::LARGEST,
+            public: FrodoParanoid::PUBLIC,
+            secret: FrodoParanoid::SECRET,
+            noise: FrodoParanoid::NOISE,
+            mixed: FrodoParanoid::MIXED,
+            groups: FrodoParanoid::GROUPS,
+            width: FrodoParanoid::WIDTH,
+            hintbits: FrodoParanoid::HINTBITS,
+            keybits: FrodoParanoid::KEYBITS,
+            coinbits: FrodoParanoid::COINBITS,
+            packed: FrodoParanoid::PACKED,
+            seed: FrodoParanoid::SEED,
+            hint: FrodoParanoid::HINT,
+            opening: FrodoParanoid::OPENING,
+            reply: FrodoParanoid::REPLY,
+            coins: FrodoParanoid::COINS,
+            key: FrodoParanoid::KEY,
+        }
+    }
+}
+
+pub enum Scheme {
+    Bcns,
+    NewHope,
+    Challenge,
+    Classical,
+    Recommended,
+    Paranoid,
+}
+
+impl Scheme {
+    pub fn fixed(self) -> Fixed
+        ensures { λ r. ⌜ r ≡ fixedOf self ⌝ }
+    {
+        match self {
+            Scheme::Bcns => Bcns::fixed(),
+            Scheme::NewHope => NewHope::fixed(),
+            Scheme::Challenge => FrodoChallenge::fixed(),
+            Scheme::Classical => FrodoClassical::fixed(),
+            Scheme::Recommended => FrodoRecommended::fixed(),
+            Scheme::Paranoid => FrodoParanoid::fixed(),
+        }
+    }
+
+    pub fn number(self) -> u32
+        ensures { λ r. ⌜ r ≡ numberOf self ⌝ }
+    {
+        match self {
+            Scheme::Bcns => 0,
+            Scheme::NewHope => 1,
+            Scheme::Challenge => 2,
+            Scheme::Classical => 3,
+            Scheme::Recommended => 4,
+            Scheme::Paranoid => 5,
+        }
+    }
+}
+
+// The scheme that a number names, if it names one.
+pub enum Named {
+    Is(Scheme),
+    Unknown,
+}
+
+pub fn scheme_of(no: u32) -> Named
+    ensures { λ r. ⌜ r ≡ schemeOf no ⌝ }
+{
+    match no {
+        0 => Named::Is(Scheme::Bcns),
+        1 => Named::Is(Scheme::NewHope),
+        2 => Named::Is(Scheme::Challenge),
+        3 => Named::Is(Scheme::Classical),
+        4 => Named::Is(Scheme::Recommended),
+        5 => Named::Is(Scheme::Paranoid),
+        _ => Named::Unknown,
+    }
+}
