@@ -1,0 +1,113 @@
+// Remainders of signed numbers, in i32 and in i64: 01, "Reconciliation", and its form "the signed remainder nearest to zero". The definitions
+// are `specs/Residue.antt`; the laws on sums, congruence and circular distance, which the crates above cite, stand in `proofs/`.
+// A modulus q is at least 1 and fits the signed type; nothing else is asked.
+ghost use mathlib.Core.Path.{_≡_};
+ghost use Prim.Native.Nat.{ℕ, _^_, _<_};
+ghost use lib.IntN.{ℤ, negℤ, natAbs};
+ghost use Rattle.numbers.specs.Residue.{residue, nearest, distance};
+
+// The remainder in 0 .. q - 1. The machine's own has the sign of x: where it is below 0, q is added once.
+pub fn residue32(x: i32, q: u32) -> u32
+    requires { ⌜ (0 < q) × (q < 2 ^ 31) ⌝ }
+    ensures { λ r. ⌜ r ≡ residue q x ⌝ }
+{
+    let r = x % (q as i32);
+    if r < 0 {
+        (r + (q as i32)) as u32
+    } else {
+        r as u32
+    }
+}
+
+// The remainder nearest to zero: -q <= 2r < q.
+pub fn nearest32(x: i32, q: u32) -> i32
+    requires { ⌜ (0 < q) × (q < 2 ^ 31) ⌝ }
+    ensures { λ r. ⌜ r ≡ nearest q x ⌝ }
+{
+    let m = residue32(x, q);
+    if 2 * m < q {
+        m as i32
+    } else {
+        (m as i32) - (q as i32)
+    }
+}
+
+// The remainder of -x nearest to zero. The remainder of x is negated, and not x, whose negative may not fit.
+pub fn negate32(x: i32, q: u32) -> i32
+    requires { ⌜ (0 < q) × (q < 2 ^ 31) ⌝ }
+    ensures { λ r. ⌜ r ≡ nearest q (negℤ x) ⌝ }
+{
+    nearest32(0 - nearest32(x, q), q)
+}
+
+// How far x lies from 0. One is added on the way: the least number's negative does not fit.
+pub fn size32(x: i32) -> u32
+    ensures { λ r. ⌜ r ≡ natAbs x ⌝ }
+{
+    if x < 0 {
+        (0 - (x + 1)) as u32 + 1
+    } else {
+        x as u32
+    }
+}
+
+// How far x lies from the nearest multiple of q.
+pub fn distance32(x: i32, q: u32) -> u32
+    requires { ⌜ (0 < q) × (q < 2 ^ 31) ⌝ }
+    ensures { λ r. ⌜ r ≡ distance q x ⌝ }
+{
+    size32(nearest32(x, q))
+}
+
+// The remainder in 0 .. q - 1. The machine's own has the sign of x: where it is below 0, q is added once.
+pub fn residue64(x: i64, q: u64) -> u64
+    requires { ⌜ (0 < q) × (q < 2 ^ 63) ⌝ }
+    ensures { λ r. ⌜ r ≡ residue q x ⌝ }
+{
+    let r = x % (q as i64);
+    if r < 0 {
+        (r + (q as i64)) as u64
+    } else {
+        r as u64
+    }
+}
+
+// The remainder nearest to zero: -q <= 2r < q.
+pub fn nearest64(x: i64, q: u64) -> i64
+    requires { ⌜ (0 < q) × (q < 2 ^ 63) ⌝ }
+    ensures { λ r. ⌜ r ≡ nearest q x ⌝ }
+{
+    let m = residue64(x, q);
+    if 2 * m < q {
+        m as i64
+    } else {
+        (m as i64) - (q as i64)
+    }
+}
+
+// The remainder of -x nearest to zero. The remainder of x is negated, and not x, whose negative may not fit.
+pub fn negate64(x: i64, q: u64) -> i64
+    requires { ⌜ (0 < q) × (q < 2 ^ 63) ⌝ }
+    ensures { λ r. ⌜ r ≡ nearest q (negℤ x) ⌝ }
+{
+    nearest64(0 - nearest64(x, q), q)
+}
+
+// How far x lies from 0. One is added on the way: the least number's negative does not fit.
+pub fn size64(x: i64) -> u64
+    ensures { λ r. ⌜ r ≡ natAbs x ⌝ }
+{
+    if x < 0 {
+        (0 - (x + 1)) as u64 + 1
+    } else {
+        x as u64
+    }
+}
+
+// How far x lies from the nearest multiple of q.
+pub fn distance64(x: i64, q: u64) -> u64
+    requires { ⌜ (0 < q) × (q < 2 ^ 63) ⌝ }
+    ensures { λ r. ⌜ r ≡ distance q x ⌝ }
+{
+    size64(nearest64(x, q))
+}
