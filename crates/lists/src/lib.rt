@@ -1,0 +1,128 @@
+// What every loop over lent slices needs: zeros over a whole buffer or behind an answer (01, "Refusal numbers and their order"), a copy, and the
+// search for the place of a refusal. Numbers are u32, secrets and noise values i32, all else bytes; the laws that the proofs cite are stated once over
+// the element. A function that writes fills the whole of the slice it is lent, so a caller lends the part it means.
+ghost use mathlib.Core.Path.{_≡_};
+ghost use mathlib.Core.List.{_++_};
+ghost use Prim.Native.Nat.{ℕ, _-_, _≤_};
+ghost use lib.ListN.{length, take, replicate};
+ghost use lib.IntN.{ℤ, pos};
+ghost use Rattle.lists.specs.First.{largest, firstOver, firstBeyond};
+
+pub fn zero_bytes(out: &mut [u8])
+    ensures { λ _. ⌜ now (out .exit) ≡ replicate (length (now (out .entry))) 0 ⌝ }
+{
+    let mut i: usize = 0;
+    while i < out.len() {
+        out[i] = 0;
+        i += 1;
+    }
+}
+
+// Zeros behind the first n.
+pub fn zero_bytes_behind(out: &mut [u8], n: usize)
+    requires { ⌜ n ≤ length (now out) ⌝ }
+    ensures { λ _. ⌜ now (out .exit) ≡ take n (now (out .entry)) ++ replicate (length (now (out .entry)) - n) 0 ⌝ }
+{
+    let end = out.len();
+    zero_bytes(&mut out[n..end]);
+}
+
+pub fn zero_numbers(out: &mut [u32])
+    ensures { λ _. ⌜ now (out .exit) ≡ replicate (length (now (out .entry))) 0 ⌝ }
+{
+    let mut i: usize = 0;
+    while i < out.len() {
+        out[i] = 0;
+        i += 1;
+    }
+}
+
+// Zeros behind the first n.
+pub fn zero_numbers_behind(out: &mut [u32], n: usize)
+    requires { ⌜ n ≤ length (now out) ⌝ }
+    ensures { λ _. ⌜ now (out .exit) ≡ take n (now (out .entry)) ++ replicate (length (now (out .entry)) - n) 0 ⌝ }
+{
+    let end = out.len();
+    zero_numbers(&mut out[n..end]);
+}
+
+pub fn zero_values(out: &mut [i32])
+    ensures { λ _. ⌜ now (out .exit) ≡ replicate (length (now (out .entry))) (pos 0) ⌝ }
+{
+    let mut i: usize = 0;
+    while i < out.len() {
+        out[i] = 0;
+        i += 1;
+    }
+}
+
+// Zeros behind the first n.
+pub fn zero_values_behind(out: &mut [i32], n: usize)
+    requires { ⌜ n ≤ length (now out) ⌝ }
+    ensures { λ _. ⌜ now (out .exit) ≡ take n (now (out .entry)) ++ replicate (length (now (out .entry)) - n) (pos 0) ⌝ }
+{
+    let end = out.len();
+    zero_values(&mut out[n..end]);
+}
+
+pub fn copy_bytes(src: &[u8], out: &mut [u8])
+    requires { ⌜ length (now src) ≡ length (now out) ⌝ }
+    ensures { λ _. ⌜ now (out .exit) ≡ now (src .entry) ⌝ }
+{
+    let mut i: usize = 0;
+    while i < out.len() {
+        out[i] = src[i];
+        i += 1;
+    }
+}
+
+// The largest number, 0 where there is none. Without an exit from its loop it runs many numbers at a time.
+fn largest_of(xs: &[u32]) -> u32
+    ensures { λ r. ⌜ r ≡ largest (now (xs .entry)) ⌝ }
+{
+    let mut most: u32 = 0;
+    let mut i: usize = 0;
+    while i < xs.len() {
+        let x = xs[i];
+        most = if most < x { x } else { most };
+        i += 1;
+    }
+    most
+}
+
+fn search_over(q: u32, xs: &[u32]) -> usize
+    ensures { λ r. ⌜ r ≡ firstOver q (now (xs .entry)) ⌝ }
+{
+    let mut i: usize = 0;
+    while i < xs.len() {
+        if q <= xs[i] {
+            return i;
+        }
+        i += 1;
+    }
+    i
+}
+
+// The index of the first number that is q or more, or the length where none is. Good input, however long, is passed at the speed of its largest.
+pub fn first_over(q: u32, xs: &[u32]) -> usize
+    ensures { λ r. ⌜ r ≡ firstOver q (now (xs .entry)) ⌝ }
+{
+    if largest_of(xs) < q {
+        return xs.len();
+    }
+    search_over(q, xs)
+}
+
+// The index of the first value that lies further than the bound from 0, or the length where none does.
+pub fn first_beyond(bound: u32, s: &[i32]) -> usize
+    ensures { λ r. ⌜ r ≡ firstBeyond bound (now (s .entry)) ⌝ }
+{
+    let mut i: usize = 0;
+    while i < s.len() {
+        if bound < numbers::size32(s[i]) {
+            return i;
+        }
+        i += 1;
+    }
+    i
+}
