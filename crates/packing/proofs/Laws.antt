@@ -1,0 +1,142 @@
+-- Laws of packing, once over the width and the base. Both directions go through the number that the digits make.
+--   pow-mul           the n-th power of b ^ m is b ^ (m * n)
+--   below-drop        what stands from place i on in a list below b is below b
+--   value-split       a number is its k lowest digits, and the others k places up
+--   value-next        the number of k + 1 digits from place i on is the first, and the k others one place up; past the end they read 0
+--   value-one         the number of one digit is that digit
+--   value-take-below  the number of at most k digits is below b ^ k
+--   value-below       the same of a list of at most k digits
+--   digits-length     n digits are n
+--   digits-below      each is below the base
+--   digits-append     m + n digits are the m lowest, then n of what is left
+--   digits-low        what is added n places up leaves the n lowest digits as they are
+--   digits-value      the digits of a list's number are the list
+--   value-digits      the number of v's n digits is v, where v has no more
+--   packed-length     n numbers of w bits take w * n / 8 bytes
+--   packed-below      each is a byte
+--   unpacked-length   n numbers come out
+--   unpacked-below    each of w bits
+--   unpack-pack       numbers packed and unpacked are the same numbers, wherever they fill whole bytes
+--   pack-unpack       bytes unpacked and packed are the same bytes, wherever whole numbers fill them
+-- Assumes nothing.
+use mathlib.Core.Path.{_≡_, refl, sym, ap, _∙_}
+use mathlib.Core.List.{List, [], _∷_, _++_}
+use Prim.Native.Nat.{ℕ, zero, suc, _+_, _*_, _/_, _^_, _≤_, _<_}
+use native.Mathlib.Nat.{mod-lt, div-add-mod', div-lt-iff-lt-mul, div-div-eq-div-mul, add-mul-div-left, add-mul-mod-self-left, one-le-pow, pow-zero, pow-suc, pow-succ', mul-zero, mul-suc, mul-assoc, add-zero, zero-add, suc-add, div-one}
+use native.Mathlib.Omega.{arith}
+use lib.ListN.{length, getD, take, drop}
+use lib.Seq.{getD-drop, drop-drop, take-all, take-nil}
+use lib.Pow.{pow-add, pow-pos}
+use lib.Arith.{digits-div, digits-mod, digits-lt, lt-one}
+use Rattle.lists.specs.Entries.{Below}
+use Rattle.packing.specs.Packing.{value, digits, packed, unpacked}
+
+pub pow-mul : (b m n : ℕ) → (b ^ m) ^ n ≡ b ^ (m * n)
+pow-mul b m zero = simp (mul-zero, pow-zero)
+pow-mul b m (suc n) = simp (pow-suc, mul-suc, pow-add, pow-mul b m n)
+
+tail-below : {b x : ℕ} {xs : List ℕ} → Below b (x ∷ xs) → Below b xs
+tail-below h = record { below = λ k. h .below (suc k) }
+
+pub below-drop : {b : ℕ} {xs : List ℕ} → Below b xs → (i : ℕ) → Below b (drop i xs)
+below-drop {b} {xs} h i = record { below = λ k. rw getD-drop (h .below (i + k)) }
+
+pub value-split : (b k : ℕ) (xs : List ℕ) → value b xs ≡ value b (take k xs) + b ^ k * value b (drop k xs)
+unfolding value
+value-split b zero xs = rw pow-zero (omega arith)
+value-split b (suc k) [] = omega arith
+value-split b (suc k) (x ∷ xs) = rw (value-split b k xs, pow-suc) (omega arith)
+
+value-first : (b k : ℕ) (xs : List ℕ) → value b (take (suc k) xs) ≡ getD xs 0 0 + b * value b (take k (drop 1 xs))
+unfolding value
+value-first b k [] = rw (take-nil {A = ℕ} k) (omega arith)
+value-first b k (x ∷ xs) = omega arith
+
+pub value-next : (b k : ℕ) (xs : List ℕ) (i : ℕ) → value b (take (suc k) (drop i xs)) ≡ getD xs i 0 + b * value b (take k (drop (i + 1) xs))
+value-next b k xs i = value-first b k (drop i xs) ∙ rw (getD-drop, drop-drop, add-zero)
+
+pub value-one : (b : ℕ) (xs : List ℕ) (i : ℕ) → value b (take 1 (drop i xs)) ≡ getD xs i 0
+unfolding value
+value-one b xs i = value-next b 0 xs i ∙ omega arith
+
+pub value-take-below : {b : ℕ} {xs : List ℕ} → Below b xs → (k : ℕ) → value b (take k xs) < b ^ k
+unfolding value
+value-take-below h zero = rw pow-zero (omega arith)
+value-take-below {b} {xs = []} h (suc k) = one-le-pow (suc k) b (h .below 0)
+value-take-below {b} {xs = x ∷ xs} h (suc k) = rw pow-suc (digits-lt (value-take-below (tail-below h) k) (h .below 0))
+
+pub value-below : {b : ℕ} {xs : List ℕ} → Below b xs → (k : ℕ) → length xs ≤ k → value b xs < b ^ k
+value-below {xs} h k l = rw take-all at (value-take-below h k)
+
+pub digits-length : (b n v : ℕ) → length (digits b n v) ≡ n
+unfolding digits
+digits-length b zero v = refl
+digits-length b (suc n) v = ap suc (digits-length b n (v / b))
+
+digit-below : (b n v : ℕ) → 0 < b → (k : ℕ) → getD (digits b n v) k 0 < b
+unfolding digits
+digit-below b zero v p k = p
+digit-below b (suc n) v p zero = mod-lt v p
+digit-below b (suc n) v p (suc k) = digit-below b n (v / b) p k
+
+pub digits-below : (b n v : ℕ) → 0 < b → Below b (digits b n v)
+digits-below b n v p = record { below = digit-below b n v p }
+
+pub digits-append : (b m n v : ℕ) → digits b (m + n) v ≡ digits b m v ++ digits b n (v / b ^ m)
+unfolding digits
+digits-append b zero n v = simp (zero-add, pow-zero, div-one)
+digits-append b (suc m) n v = rw (suc-add, pow-succ', ← div-div-eq-div-mul, digits-append b m n (v / b))
+
+pub digits-low : (b n v t : ℕ) → 0 < b → digits b n (v + b ^ n * t) ≡ digits b n v
+unfolding digits
+digits-low b zero v t p = refl
+digits-low b (suc n) v t p = rw (pow-succ', mul-assoc, add-mul-mod-self-left, add-mul-div-left, digits-low b n (v / b) t p)
+
+pub digits-value : {b : ℕ} {xs : List ℕ} → Below b xs → digits b (length xs) (value b xs) ≡ xs
+unfolding digits value
+digits-value {xs = []} h = refl
+digits-value {b} {xs = x ∷ xs} h =
+    rw (digits-mod (value b xs) (h .below 0), digits-div (value b xs) (h .below 0), digits-value (tail-below h))
+
+pub value-digits : (b n v : ℕ) → 0 < b → v < b ^ n → value b (digits b n v) ≡ v
+unfolding digits value
+value-digits b zero v p h = sym (lt-one (rw pow-zero at h))
+value-digits b (suc n) v p h =
+    rw (value-digits b n (v / b) p (div-lt-iff-lt-mul p .1 (rw pow-suc at h))) (div-add-mod' v b)
+
+pub packed-length : (w : ℕ) (xs : List ℕ) → length (packed w xs) ≡ w * length xs / 8
+unfolding packed
+packed-length w xs = digits-length 256 (w * length xs / 8) (value (2 ^ w) xs)
+
+pub packed-below : (w : ℕ) (xs : List ℕ) → Below 256 (packed w xs)
+unfolding packed
+packed-below w xs = digits-below 256 (w * length xs / 8) (value (2 ^ w) xs) (omega arith)
+
+pub unpacked-length : (w n : ℕ) (bs : List ℕ) → length (unpacked w n bs) ≡ n
+unfolding unpacked
+unpacked-length w n bs = digits-length (2 ^ w) n (value 256 bs)
+
+pub unpacked-below : (w n : ℕ) (bs : List ℕ) → Below (2 ^ w) (unpacked w n bs)
+unfolding unpacked
+unpacked-below w n bs = digits-below (2 ^ w) n (value 256 bs) (pow-pos w)
+
+-- n numbers of w bits that fill m bytes have as many values
+same-room : (w n m : ℕ) → w * n ≡ 8 * m → (2 ^ w) ^ n ≡ 256 ^ m
+same-room w n m e = rw (pow-mul 2 w n, e) (sym (pow-mul 2 8 m))
+
+-- digits in one base, through those in another that has room for as much, are the same digits
+there-back : (b c m : ℕ) (xs : List ℕ) → 0 < c → Below b xs → b ^ length xs ≡ c ^ m
+    → digits b (length xs) (value c (digits c m (value b xs))) ≡ xs
+there-back b c m xs p h e = rw (value-digits c m (value b xs) p (rw e at (value-below h (length xs) (omega arith)))) (digits-value h)
+
+pub unpack-pack : (w m : ℕ) (xs : List ℕ) → w * length xs ≡ 8 * m → Below (2 ^ w) xs → unpacked w (length xs) (packed w xs) ≡ xs
+unfolding packed unpacked
+unpack-pack w m xs e h =
+    let b : w * length xs / 8 ≡ m = omega arith in
+    rw b (there-back (2 ^ w) 256 m xs (omega arith) h (same-room w (length xs) m e))
+
+pub pack-unpack : (w n : ℕ) (bs : List ℕ) → w * n ≡ 8 * length bs → Below 256 bs → packed w (unpacked w n bs) ≡ bs
+unfolding packed unpacked
+pack-unpack w n bs e h =
+    let b : w * n / 8 ≡ length bs = omega arith in
+    rw (digits-length, b) (there-back 256 (2 ^ w) n bs (pow-pos w) h (sym (same-room w n (length bs) e)))

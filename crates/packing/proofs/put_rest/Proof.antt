@@ -1,0 +1,48 @@
+-- `packing::put_rest` meets its contract: what the digits that are left would complete stays the same from turn to turn.
+-- Assumes nothing.
+use mathlib.Core.Path.{_≡_, refl, sym, _∙_}
+use Prim.Native.Nat.{_-_, _≤_}
+use native.Mathlib.Nat.{add-zero, mul-zero}
+use native.Mathlib.Omega.{arith}
+use lib.ListN.{length, length-set}
+use Rattle.packing.proofs.Flow.{filled, fill, one, full}
+use Rattle.packing.proofs.put_rest.Statement.{statement}
+use Rattle.packing.proofs.put_rest.Tie as tie
+
+abbrev Inv-loop : tie.InvT-loop
+Inv-loop out₀ j₀ v₀ out j v = (length out ≡ length out₀) × (j ≤ length out₀) × (filled 256 v j out ≡ filled 256 v₀ j₀ out₀)
+
+abbrev μ-loop : tie.MeasureT-loop
+μ-loop out₀ j₀ v₀ out j v = length out₀ - j
+
+loop-holds : tie.Need-loop-holds Inv-loop μ-loop
+loop-holds c = (refl, c .pre, refl)
+
+cast-out : tie.Need-cast-out Inv-loop μ-loop
+cast-out c = omega arith
+
+slice-write-out : tie.Need-slice-write-out Inv-loop μ-loop
+slice-write-out c = omega arith
+
+add-j : tie.Need-add-j Inv-loop μ-loop
+add-j c = omega arith
+
+loop-less : tie.Need-loop-less Inv-loop μ-loop
+loop-less c = omega arith
+
+loop-again : tie.Need-loop-again Inv-loop μ-loop
+loop-again c =
+    let l = c .before .loop in
+    let less = simp (mul-zero, add-zero) at (fill 256 1 (l .v) (l .j) (l .out) (omega arith) 0 (omega arith)) in
+    (simp length-set (l .inv .0), omega arith, rw (one 256 (l .v) (l .j) (l .out) (omega arith)) (less ∙ l .inv .2))
+
+same-length : tie.Need-same-length Inv-loop μ-loop
+same-length c = c .before .loop .inv .0
+
+returns : tie.Need-returns Inv-loop μ-loop
+returns c =
+    let l = c .before .loop in
+    sym (full 256 (l .v) (l .j) (l .out) (omega arith)) ∙ l .inv .2
+
+pub put-rest-spec : {M : Type 1} → statement M
+put-rest-spec = tie.close (tie.spec Inv-loop μ-loop loop-holds cast-out slice-write-out add-j loop-less loop-again same-length returns)

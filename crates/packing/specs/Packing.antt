@@ -1,0 +1,23 @@
+-- Numbers of w bits each as bytes, and back: 01, "Bytes on the wire". A list of numbers below b is the digits, lowest first, of one number
+-- in base b. Packing takes that number's digits in base 256, and unpacking goes the other way round: so bits lie lowest first, in index order.
+--   value b xs        the number whose digits in base b are xs, the lowest first
+--   digits b n v      the n lowest digits of v in base b, the lowest first
+--   packed w xs       the bytes of numbers of w bits
+--   unpacked w n bs   the n numbers of w bits that bytes hold
+use mathlib.Core.List.{List, [], _∷_}
+use Prim.Native.Nat.{ℕ, zero, suc, _+_, _*_, _/_, _%_, _^_}
+use lib.ListN.{length}
+
+unfoldable pub value : ℕ → List ℕ → ℕ
+value b [] = 0
+value b (x ∷ xs) = value b xs * b + x
+
+unfoldable pub digits : ℕ → ℕ → ℕ → List ℕ
+digits b zero v = []
+digits b (suc n) v = v % b ∷ digits b n (v / b)
+
+unfoldable pub packed : ℕ → List ℕ → List ℕ
+packed w xs = digits 256 (w * length xs / 8) (value (2 ^ w) xs)
+
+unfoldable pub unpacked : ℕ → ℕ → List ℕ → List ℕ
+unpacked w n bs = digits (2 ^ w) n (value 256 bs)

@@ -1,0 +1,112 @@
+// Numbers of w bits as bytes and back, w from 1 to 32: 01, "Bytes on the wire". A bit accumulator in a machine word takes numbers in at one
+// end and gives bytes out at the other, four at a time; `unpack` is the same the other way round. Both fill the whole of `out`.
+// Between turns fewer than 32 bits are held, so 32 more still fit the accumulator.
+ghost use mathlib.Core.Path.{_≡_};
+ghost use mathlib.Core.List.{_++_};
+ghost use Prim.Native.Nat.{_+_, _-_, _*_, _^_, _≤_, _<_};
+ghost use lib.ListN.{length, getD, take, drop};
+ghost use Rattle.lists.specs.Entries.{Below};
+ghost use Rattle.packing.specs.Packing.{value, digits, packed, unpacked};
+
+// The bytes of the numbers, each below 2^w.
+pub fn pack(w: u32, xs: &[u32], out: &mut [u8])
+    requires { ⌜ (0 < w) × (w ≤ 32) × Below (2 ^ w) (now xs) ⌝ }
+    requires { ⌜ w * length (now xs) ≡ 8 * length (now out) ⌝ }
+    ensures { λ _. ⌜ now (out .exit) ≡ packed w (now (xs .entry)) ⌝ }
+{
+    let mut acc: u64 = 0;
+    let mut held: u32 = 0;
+    let mut i: usize = 0;
+    let mut j: usize = 0;
+    while i < xs.len() {
+        acc += (xs[i] as u64) << held;
+        held += w;
+        i += 1;
+        if 32 <= held {
+            put_word(out, j, acc);
+            acc = acc >> 32;
+            held -= 32;
+            j += 4;
+        }
+    }
+    put_rest(out, j, acc);
+}
+
+// The four lowest bytes of v, at j. Stores side by side, which compile to one.
+fn put_word(out: &mut [u8], j: usize, v: u64)
+    requires { ⌜ j + 4 ≤ length (now out) ⌝ }
+    ensures { λ _. ⌜ now (out .exit) ≡ take j (now (out .entry)) ++ digits 256 4 v ++ drop (j + 4) (now (out .entry)) ⌝ }
+{
+    out[j] = (v % 256) as u8;
+    out[j + 1] = (v / 256 % 256) as u8;
+    out[j + 2] = (v / 65536 % 256) as u8;
+    out[j + 3] = (v / 16777216 % 256) as u8;
+}
+
+// The lowest bytes of v, from j to the end: what is left when the numbers fill no whole word.
+fn put_rest(out: &mut [u8], mut j: usize, mut v: u64)
+    requires { ⌜ j ≤ length (now out) ⌝ }
+    ensures { λ _. ⌜ now (out .exit) ≡ take j (now (out .entry)) ++ digits 256 (length (now (out .entry)) - j) v ⌝ }
+{
+    while j < out.len() {
+        out[j] = (v % 256) as u8;
+        v = v / 256;
+        j += 1;
+    }
+}
+
+// The numbers that the bytes hold.
+pub fn unpack(w: u32, bytes: &[u8], out: &mut [u32])
+    requires { ⌜ (0 < w) × (w ≤ 32) ⌝ }
+    requires { ⌜ 8 * length (now bytes) ≡ w * length (now out) ⌝ }
+    ensures { λ _. ⌜ now (out .exit) ≡ unpacked w (length (now (out .entry))) (now (bytes .entry)) ⌝ }
+{
+    // a remainder by a shifted 1 compiles to a mask
+    let base: u64 = 1u64 << w;
+    let mut acc: u64 = 0;
+    let mut held: u32 = 0;
+    let mut i: usize = 0;
+    let mut j: usize = 0;
+    while j < out.len() {
+        if held < w {
+            acc += word(bytes, i) << held;
+            held += 32;
+            i += 4;
+        }
+        out[j] = (acc % base) as u32;
+        acc = acc >> w;
+        held -= w;
+        j += 1;
+    }
+}
+
+// The number of the four bytes from i on; past the end they read 0, so the last word needs no count of its own.
+fn word(bytes: &[u8], i: usize) -> u64
+    requires { ⌜ i ≤ length (now bytes) ⌝ }
+    ensures { λ r. ⌜ r ≡ value 256 (take 4 (drop i (now (bytes .entry)))) ⌝ }
+{
+    if i + 4 <= bytes.len() {
+        joined(bytes[i], bytes[i + 1], bytes[i + 2], bytes[i + 3])
+    } else {
+        joined(
+            byte(bytes, i),
+            byte(bytes, i + 1),
+            byte(bytes, i + 2),
+            byte(bytes, i + 3),
+        )
+    }
+}
+
+// Byte i, or 0 past the end.
+fn byte(bytes: &[u8], i: usize) -> u8
+    ensures { λ r. ⌜ r ≡ getD (now (bytes .entry)) i 0 ⌝ }
+{
+    if i < bytes.len() { bytes[i] } else { 0 }
+}
+
+// The number of four bytes, the lowest first. Of bytes that lie side by side it compiles to one load.
+fn joined(a: u8, b: u8, c: u8, d: u8) -> u64
+    ensures { λ r. ⌜ r ≡ a + 256 * b + 65536 * c + 16777216 * d ⌝ }
+{
+    a as u64 + 256 * b as u64 + 65536 * c as u64 + 16777216 * d as u64
+}
