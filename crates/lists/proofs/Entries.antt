@@ -4,7 +4,7 @@
 --   nums-tab                   an entry of a tabulated list of numbers
 --   below-tab, within-tab      a table of small entries
 -- Assumes nothing.
-use mathlib.Core.Path.{_≡_, refl, _∙_, sym, ap, ap₂}
+use mathlib.Core.Path.{_≡_, refl, ap, ap₂}
 use mathlib.Core.List.{List, [], _∷_}
 use Prim.Native.Nat.{ℕ, zero, suc, _<_, _≤_, suc-le-suc}
 use native.Mathlib.Omega.{arith}

@@ -4,14 +4,14 @@
 --   fill-old           an entry that is not yet made
 --   behind             zeros, or whatever was written, behind the first n
 -- Assumes nothing.
-use mathlib.Core.Path.{_≡_, refl, _∙_, sym, ap, ap₂}
+use mathlib.Core.Path.{_≡_, refl, _∙_, ap, ap₂}
 use mathlib.Core.List.{List, [], _∷_, _++_, append-nil}
 use Prim.Native.Nat.{ℕ, zero, suc, _+_, _-_, _<_, _≤_}
 use native.Mathlib.Numerals.{add-one}
 use native.Mathlib.Omega.{arith}
 use native.Mathlib.Nat.{not-suc-le-zero, le-of-suc-le-suc, le-of-eq}
 use lib.ListN.{length, getD, set, take, drop, replicate, length-set, length-drop, length-take, drop-of-length-le}
-use lib.Seq.{getD-append-add, getD-drop, take-all}
+use lib.Seq.{getD-append-add, getD-drop}
 use borrow.Rule.Slice.PartMut.{putMid}
 use Rattle.lists.specs.Entries.{tab}
 use Rattle.lists.proofs.Entries.{tab-length}

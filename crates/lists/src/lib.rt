@@ -3,9 +3,9 @@
 // the element. A function that writes fills the whole of the slice it is lent, so a caller lends the part it means.
 ghost use mathlib.Core.Path.{_≡_};
 ghost use mathlib.Core.List.{_++_};
-ghost use Prim.Native.Nat.{ℕ, _-_, _≤_};
+ghost use Prim.Native.Nat.{_-_, _≤_};
 ghost use lib.ListN.{length, take, replicate};
-ghost use lib.IntN.{ℤ, pos};
+ghost use lib.IntN.{pos};
 ghost use Rattle.lists.specs.First.{largest, firstOver, firstBeyond};
 
 pub fn zero_bytes(out: &mut [u8])

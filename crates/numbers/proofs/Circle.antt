@@ -3,13 +3,13 @@
 --   close-swap, close-join, close-scale   the other way; over a third number; k times as large
 --   apart-is                   what demand 3 measures: v - w, before or after a remainder
 -- Assumes nothing.
-use mathlib.Core.Path.{_≡_, refl, _∙_, sym, ap}
+use mathlib.Core.Path.{_≡_, _∙_, ap}
 use Prim.Native.Nat.{ℕ, suc, _+_, _*_, _-_, _%_, _<_, _≤_, min}
 use native.Mathlib.Omega.{arith}
 use native.Mathlib.Decide.{decLt, decLe}
 use native.Mathlib.Nat.{mod-eq-of-lt, mul-le-mul-left}
 use lib.IntN.{ℤ, pos, _-ℤ_}
-use Rattle.numbers.specs.Residue.{residue, distance, apart, _≅⟨_⟩_}
+use Rattle.numbers.specs.Residue.{residue, distance, apart}
 use Rattle.numbers.specs.Circle.{Close, direct, over, under}
 use Rattle.numbers.proofs.Difference.{diff-ge, diff-lt, pos-sub}
 use Rattle.numbers.proofs.Congruence.{residue-≅, sub-≅}

@@ -8,13 +8,13 @@
 --   mod-≅, same-mod            congruence among natural numbers
 -- Assumes nothing.
 use mathlib.Core.Path.{_≡_, refl, _∙_, sym, ap, ap₂}
-use Prim.Native.Nat.{ℕ, zero, suc, _+_, _*_, _-_, _/_, _%_, _<_, _≤_}
+use Prim.Native.Nat.{ℕ, zero, suc, _+_, _*_, _-_, _/_, _%_, _<_}
 use native.Mathlib.Omega.{arith}
-use native.Mathlib.Nat.{mod-lt, div-add-mod, suc-mul}
+use native.Mathlib.Nat.{mod-lt, div-add-mod}
 use lib.IntN.{ℤ, pos, negsuc, negℤ, _+ℤ_, _-ℤ_, _*ℤ_, *ℤ-comm}
 use Rattle.numbers.specs.Sum.{sum, sumℤ}
 use Rattle.numbers.specs.Residue.{residue, _≅⟨_⟩_}
-use Rattle.numbers.proofs.Difference.{diff, plus, minus, as-diff, pos-diff, negsuc-diff, pos-sub, diff-≡, diff-inj, diffs}
+use Rattle.numbers.proofs.Difference.{as-diff, pos-diff, negsuc-diff, pos-sub, diff-≡, diff-inj, diffs}
 
 -- the regroupings behind the laws: x y for numbers, k l for multiples, q for pos q
 group-refl : (x q : ℤ) → x ≡ x +ℤ pos 0 *ℤ q

@@ -6,11 +6,11 @@
 --   back, turned-fits, negated   the remainder nearest to zero, handed on and negated
 --   lift-fits, turn-fits, turn-is   the size of a number below 0
 -- Assumes nothing.
-use mathlib.Core.Path.{_≡_, refl, sym, ap, _∙_, subst}
-use mathlib.Core.Bool.{Bool, true, false}
-use Prim.Native.Nat.{ℕ, zero, suc, _+_, _*_, _-_, _/_, _%_, _^_, _≤_, _<_, zero-le}
+use mathlib.Core.Path.{_≡_, sym, ap, _∙_, subst}
+use mathlib.Core.Bool.{true, false}
+use Prim.Native.Nat.{ℕ, zero, suc, _*_, _-_, _/_, _%_, _^_, _≤_, _<_, zero-le}
 use native.Mathlib.Omega.{arith}
-use native.Mathlib.Nat.{zero-add, le-refl, le-suc, lt-of-le-of-lt, mod-lt, div-le-self, le-of-suc-le-suc}
+use native.Mathlib.Nat.{le-refl, le-suc, lt-of-le-of-lt, mod-lt, div-le-self, le-of-suc-le-suc}
 use lib.Dec.{T}
 use lib.IntN.{ℤ, pos, negsuc, negℤ, natAbs, _+ℤ_, _-ℤ_, +ℤ-idl, negℤ-negℤ}
 use lib.Signed.{mag, remZ, quotZ, ltZ, nonNeg, natAbs-le}
@@ -18,7 +18,7 @@ use mir.Syntax.{Width}
 use mir.Val.{SFits, toZ, ofZ, hbits}
 use mir.Facts.{toZ-ofZ}
 use borrow.Author.Tests.{ltb-true}
-use Rattle.numbers.specs.Residue.{residue, nearest, distance, _≅⟨_⟩_}
+use Rattle.numbers.specs.Residue.{residue, nearest, _≅⟨_⟩_}
 use Rattle.numbers.proofs.Difference.{diff-≡, diff-ge, neg-diff, negsuc-add}
 use Rattle.numbers.proofs.Size.{abs-neg}
 use Rattle.numbers.proofs.Congruence.{eq-≅, _⨾_, neg-≅, mod-≅, residue-lt, residue-is}

@@ -9,16 +9,16 @@
 --   distance-small               a small number is as far as it is large
 --   distance-neg, distance-add   of a negative, and of a sum at most
 -- Assumes nothing.
-use mathlib.Core.Path.{_≡_, refl, _∙_, sym, ap, ap₂, subst}
-use mathlib.Core.Bool.{Bool, true, false, cond}
-use Prim.Native.Nat.{ℕ, zero, suc, _+_, _*_, _-_, _/_, _%_, _<_, _≤_, min}
+use mathlib.Core.Path.{_≡_, refl, _∙_, sym, ap, subst}
+use mathlib.Core.Bool.{Bool, cond}
+use Prim.Native.Nat.{ℕ, suc, _+_, _*_, _-_, _%_, _<_, _≤_, min}
 use native.Mathlib.Omega.{arith}
 use native.Mathlib.Decide.{decLt}
 use native.Mathlib.Nat.{mod-lt, mod-le, mod-eq-of-lt}
 use borrow.Author.Tests.{lt-ltb, le-ltb}
 use lib.IntN.{ℤ, pos, negsuc, negℤ, natAbs, _+ℤ_, _-ℤ_, _*ℤ_, negℤ-negℤ, -ℤ-+ℤ-cancel}
 use Rattle.numbers.specs.Residue.{residue, _≅⟨_⟩_, nearest, distance, Near}
-use Rattle.numbers.proofs.Difference.{diff, diff-≡, diff-lt, as-diff, pos-diff, pos-sub, diffs}
+use Rattle.numbers.proofs.Difference.{diff-lt, pos-sub}
 use Rattle.numbers.proofs.Congruence.{eq-≅, sym-≅, _⨾_, add-≅, neg-≅, residue-lt, residue-≅, residue-is, same-residue}
 use Rattle.numbers.proofs.Size.{abs-add, abs-neg}
 

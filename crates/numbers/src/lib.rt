@@ -2,8 +2,8 @@
 // are `specs/Residue.antt`; the laws on sums, congruence and circular distance, which the crates above cite, stand in `proofs/`.
 // A modulus q is at least 1 and fits the signed type; nothing else is asked.
 ghost use mathlib.Core.Path.{_≡_};
-ghost use Prim.Native.Nat.{ℕ, _^_, _<_};
-ghost use lib.IntN.{ℤ, negℤ, natAbs};
+ghost use Prim.Native.Nat.{_^_, _<_};
+ghost use lib.IntN.{negℤ, natAbs};
 ghost use Rattle.numbers.specs.Residue.{residue, nearest, distance};
 
 // The remainder in 0 .. q - 1. The machine's own has the sign of x: where it is below 0, q is added once.

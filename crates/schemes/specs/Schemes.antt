@@ -1,6 +1,7 @@
 -- The schemes' fixed numbers as 01 has them, a record for each scheme, and the schemes' own numbers.
 --   bcns, newHope, frodo ..   what is fixed in each scheme, in the order of the struct `Fixed`
 --   fixedOf s                 the same, by the scheme
+--   familyOf s                the family of a scheme
 --   numberOf s                the number of a scheme, 0 to 5
 --   schemeOf k                the scheme that a number names, or that it names none
 --   Tied f                    how the lengths of a scheme hang together
@@ -9,6 +10,7 @@ use Prim.Native.Nat.{ℕ, _+_, _*_}
 use mathlib.Core.Bool.{cond}
 use lib.Dec.{eqb}
 use Rattle.schemes.specs.declared.Fixed.{Fixed}
+use Rattle.schemes.specs.declared.Family.{Family}
 use Rattle.schemes.specs.declared.Scheme.{Scheme}
 use Rattle.schemes.specs.declared.Scheme.the-variants.{Bcns, NewHope, Challenge, Classical, Recommended, Paranoid}
 use Rattle.schemes.specs.declared.Named.{Named}
@@ -107,6 +109,14 @@ fixedOf Challenge = challenge
 fixedOf Classical = classical
 fixedOf Recommended = recommended
 fixedOf Paranoid = paranoid
+
+abbrev pub familyOf : Scheme → Family
+familyOf Bcns = Family.Bcns
+familyOf NewHope = Family.NewHope
+familyOf Challenge = Family.Frodo
+familyOf Classical = Family.Frodo
+familyOf Recommended = Family.Frodo
+familyOf Paranoid = Family.Frodo
 
 abbrev pub numberOf : Scheme → ℕ
 numberOf Bcns = 0

@@ -2,7 +2,7 @@
 // and "Bytes on the wire". The definitions (`specs/Schemes.antt`) have the same numbers as a record for each scheme, and the proofs tie
 // the two: a number that is changed on one side alone fails the check.
 ghost use mathlib.Core.Path.{_≡_};
-ghost use Rattle.schemes.specs.Schemes.{bcns, newHope, challenge, classical, recommended, paranoid, fixedOf, numberOf, schemeOf};
+ghost use Rattle.schemes.specs.Schemes.{bcns, newHope, challenge, classical, recommended, paranoid, fixedOf, familyOf, numberOf, schemeOf};
 
 // What is fixed in a scheme. Lengths of bytes and counts of numbers are usize, widths in bits and bounds u32.
 pub struct Fixed {
@@ -439,6 +439,13 @@ impl FrodoParanoid {
     }
 }
 
+// The three families: in schemes 0 and 1 products are of polynomials, NewHope's through the transform; in Frodo they are of matrices.
+pub enum Family {
+    Bcns,
+    NewHope,
+    Frodo,
+}
+
 pub enum Scheme {
     Bcns,
     NewHope,
@@ -459,6 +466,19 @@ impl Scheme {
             Scheme::Classical => FrodoClassical::fixed(),
             Scheme::Recommended => FrodoRecommended::fixed(),
             Scheme::Paranoid => FrodoParanoid::fixed(),
+        }
+    }
+
+    pub fn family(self) -> Family
+        ensures { λ r. ⌜ r ≡ familyOf self ⌝ }
+    {
+        match self {
+            Scheme::Bcns => Family::Bcns,
+            Scheme::NewHope => Family::NewHope,
+            Scheme::Challenge => Family::Frodo,
+            Scheme::Classical => Family::Frodo,
+            Scheme::Recommended => Family::Frodo,
+            Scheme::Paranoid => Family::Frodo,
         }
     }
 

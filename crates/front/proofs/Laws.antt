@@ -1,0 +1,103 @@
+-- What the tests of a call say, once for all calls.
+--   both            where a sequence has passed, each of its tests has
+--   length-passed, up-to-passed, room-passed, publics-passed, message-passed, secrets-passed   what a test that has passed says
+--   stays, goes-on  one test more, after a failure and after none
+--   over, under     the unpack step's verdict, by the first number that is too large
+--   first, also     a sequence as the code goes through it
+--   then-assoc, failed, went-on   a sequence in two parts: the first fails, or the second decides
+-- Assumes nothing.
+use mathlib.Core.Path.{_≡_, refl, ap₂, _∙_}
+use mathlib.Core.Bool.{Bool, true, false, cond}
+use mathlib.Core.List.{List}
+use Prim.Native.Nat.{ℕ, _≤_, _<_}
+use native.Mathlib.Omega.{arith}
+use lib.ListN.{length}
+use lib.IntN.{ℤ}
+use borrow.Author.Tests.{eqb-true, leb-true, ltb-false, lt-ltb, le-ltb}
+use Rattle.lists.specs.Entries.{Below, Within}
+use Rattle.lists.specs.First.{firstOver}
+use Rattle.lists.proofs.First.{all-below, all-within}
+use Rattle.front.specs.Front.{_then_, lengthIs, lengthUpTo, roomFor, publicsIn, messageIn, secretsIn}
+use Rattle.front.specs.declared.Refusal.{Refusal}
+use Rattle.front.specs.declared.Refusal.the-variants.{MessageOver}
+use Rattle.front.specs.declared.Verdict.{Verdict}
+use Rattle.front.specs.declared.Verdict.the-variants.{Pass, Fail}
+
+differ : {X : Type 0} {r : Refusal} → Fail r ≡ Pass → X
+differ e = let z : _≡_ {A = ℕ} 0 1 = cc in absurd (omega arith)
+
+pub both : (v w : Verdict) → v then w ≡ Pass → (v ≡ Pass) × (w ≡ Pass)
+unfolding _then_
+both Pass w e = (refl, e)
+both (Fail r) w e = differ e
+
+if-pass : (t : Bool) (r : Refusal) → cond t Pass (Fail r) ≡ Pass → t ≡ true
+if-pass true r e = refl
+if-pass false r e = differ e
+
+if-not : (t : Bool) (r : Refusal) → cond t (Fail r) Pass ≡ Pass → t ≡ false
+if-not true r e = differ e
+if-not false r e = refl
+
+pub length-passed : (m n : ℕ) → lengthIs m n ≡ Pass → m ≡ n
+unfolding lengthIs
+length-passed m n e = eqb-true m n (if-pass _ _ e)
+
+pub up-to-passed : (m n : ℕ) → lengthUpTo m n ≡ Pass → m ≤ n
+unfolding lengthUpTo
+up-to-passed m n e = leb-true m n (if-pass _ _ e)
+
+pub room-passed : (room n : ℕ) → roomFor room n ≡ Pass → n ≤ room
+unfolding roomFor
+room-passed room n e = leb-true n room (if-pass _ _ e)
+
+pub secrets-passed : (B : ℕ) (s : List ℤ) → secretsIn B s ≡ Pass → Within B s
+unfolding secretsIn
+secrets-passed B s e = all-within B s (ltb-false _ _ (if-not _ _ e))
+
+-- one test more, after a failure and after none
+pub stays : {v : Verdict} {r : Refusal} (w : Verdict) → v ≡ Fail r → v ≡ v then w
+unfolding _then_
+stays w e = rw e
+
+pub goes-on : {v u w : Verdict} → v ≡ Pass → u ≡ w → u ≡ v then w
+unfolding _then_
+goes-on e f = rw e f
+
+pub over : (q : ℕ) (xs : List ℕ) (k : ℕ) → k ≡ firstOver q xs → k < length xs → Fail (MessageOver k) ≡ messageIn q xs
+unfolding messageIn
+over q xs k e h = rw (e, lt-ltb _ _ (rw e at h))
+
+pub under : (q : ℕ) (xs : List ℕ) (k : ℕ) → k ≡ firstOver q xs → length xs ≤ k → Pass ≡ messageIn q xs
+unfolding messageIn
+under q xs k e h = rw (le-ltb _ _ (rw e at h))
+
+pub message-passed : (q : ℕ) (xs : List ℕ) → 0 < q → messageIn q xs ≡ Pass → Below q xs
+unfolding messageIn
+message-passed q xs h e = all-below q xs h (ltb-false _ _ (if-not _ _ e))
+
+pub publics-passed : (q : ℕ) (xs : List ℕ) → 0 < q → publicsIn q xs ≡ Pass → Below q xs
+unfolding publicsIn
+publics-passed q xs h e = all-below q xs h (ltb-false _ _ (if-not _ _ e))
+
+-- a front by the code: the first test, and one more
+pub first : {u t t′ : Verdict} → u ≡ Pass then t → t ≡ t′ → u ≡ t′
+unfolding _then_
+first e f = e ∙ f
+
+pub also : {u v v′ t t′ : Verdict} → u ≡ v then t → v ≡ v′ → t ≡ t′ → u ≡ v′ then t′
+also e f g = e ∙ ap₂ (λ (x y : Verdict). x then y) f g
+
+pub then-assoc : (a b c : Verdict) → a then b then c ≡ a then (b then c)
+unfolding _then_
+then-assoc Pass b c = refl
+then-assoc (Fail r) b c = refl
+
+-- a test t whose verdict is v: where v fails, so does t and what follows; where it passes, the rest decides
+pub failed : {v t : Verdict} {r : Refusal} (w : Verdict) → v ≡ t → v ≡ Fail r → t then w ≡ Fail r
+unfolding _then_
+failed w e f = rw (← e, f)
+
+pub went-on : {v t : Verdict} (w : Verdict) → v ≡ t → v ≡ Pass → t then w ≡ w
+unfolding _then_
+went-on w e f = rw (← e, f)

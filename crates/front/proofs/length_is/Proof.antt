@@ -1,0 +1,28 @@
+-- `front::length_is` meets its contract.
+-- Assumes nothing.
+use borrow.Author.Tests.{eq-eqb, ne-eqb}
+use Rattle.front.specs.Front.{lengthIs}
+use Rattle.front.proofs.Laws.{stays, goes-on}
+use borrow.Author.Needs.{needs}
+use Rattle.front.proofs.length_is.Statement.{statement}
+use Rattle.front.proofs.length_is.Tie as tie
+
+enum-told : tie.Need-enum-told
+enum-told c = search needs
+
+enum-told-2 : tie.Need-enum-told-2
+enum-told-2 c = search needs
+
+returns : tie.Need-returns
+returns c = stays _ (c .enum-told2 .given .1)
+
+returns-2 : tie.Need-returns-2
+unfolding lengthIs
+returns-2 c = goes-on (c .before .enum-told .given .1) (rw (eq-eqb _ _ (c .if1 .taken)))
+
+returns-3 : tie.Need-returns-3
+unfolding lengthIs
+returns-3 c = goes-on (c .before .enum-told .given .1) (rw (ne-eqb _ _ (c .if1 .left)))
+
+pub length-is-spec : {M : Type 1} → statement M
+length-is-spec = tie.close (tie.spec enum-told enum-told-2 returns returns-2 returns-3)

@@ -1,0 +1,36 @@
+-- `front::publics_in` meets its contract.
+-- Assumes nothing.
+use borrow.Author.Tests.{lt-ltb, le-ltb}
+use Rattle.front.specs.Front.{publicsIn}
+use Rattle.front.proofs.Laws.{stays, goes-on}
+use borrow.Author.Needs.{needs}
+use Rattle.front.proofs.publics_in.Statement.{statement}
+use Rattle.front.proofs.publics_in.Tie as tie
+
+enum-told : tie.Need-enum-told
+enum-told c = search needs
+
+enum-told-2 : tie.Need-enum-told-2
+enum-told-2 c = search needs
+
+returns : tie.Need-returns
+returns c = stays _ (c .enum-told2 .given .1)
+
+first-over-requires : tie.Need-first-over-requires
+first-over-requires c κs = search needs
+
+returns-2 : tie.Need-returns-2
+unfolding publicsIn
+returns-2 c =
+    let e = c .before .first-over .ensures in
+    goes-on (c .before .before .enum-told .given .1) (rw (e, lt-ltb _ _ (rw e at (c .if1 .taken))))
+
+returns-3 : tie.Need-returns-3
+unfolding publicsIn
+returns-3 c =
+    let e = c .before .first-over .ensures in
+    goes-on (c .before .before .enum-told .given .1) (rw (le-ltb _ _ (rw e at (c .if1 .left))))
+
+pub publics-in-spec : {M : Type 1} → statement M
+publics-in-spec =
+    tie.close (tie.spec enum-told enum-told-2 returns first-over-requires returns-2 returns-3)

@@ -1,0 +1,36 @@
+-- `front::secrets_in` meets its contract.
+-- Assumes nothing.
+use borrow.Author.Tests.{lt-ltb, le-ltb}
+use Rattle.front.specs.Front.{secretsIn}
+use Rattle.front.proofs.Laws.{stays, goes-on}
+use borrow.Author.Needs.{needs}
+use Rattle.front.proofs.secrets_in.Statement.{statement}
+use Rattle.front.proofs.secrets_in.Tie as tie
+
+enum-told : tie.Need-enum-told
+enum-told c = search needs
+
+enum-told-2 : tie.Need-enum-told-2
+enum-told-2 c = search needs
+
+returns : tie.Need-returns
+returns c = stays _ (c .enum-told2 .given .1)
+
+first-beyond-requires : tie.Need-first-beyond-requires
+first-beyond-requires c κs = search needs
+
+returns-2 : tie.Need-returns-2
+unfolding secretsIn
+returns-2 c =
+    let e = c .before .first-beyond .ensures in
+    goes-on (c .before .before .enum-told .given .1) (rw (e, lt-ltb _ _ (rw e at (c .if1 .taken))))
+
+returns-3 : tie.Need-returns-3
+unfolding secretsIn
+returns-3 c =
+    let e = c .before .first-beyond .ensures in
+    goes-on (c .before .before .enum-told .given .1) (rw (le-ltb _ _ (rw e at (c .if1 .left))))
+
+pub secrets-in-spec : {M : Type 1} → statement M
+secrets-in-spec =
+    tie.close (tie.spec enum-told enum-told-2 returns first-beyond-requires returns-2 returns-3)

@@ -1,0 +1,80 @@
+-- The refusals, the tests that give them, and what an output holds: 01, "Refusal numbers and their order".
+--   numberOf r, placeOf r   the number and the place of a refusal
+--   numberIn v, placeIn v   those of a verdict: 0 where all tests passed
+--   countIn v n             what a call writes: n, and 0 after a refusal
+--   v then w                the first test that fails
+--   lengthIs m n            2: an input's length is not the fixed one
+--   lengthUpTo m n          2: it is over what is allowed
+--   roomFor room n          3: an output buffer is shorter than the answer
+--   publicsIn q xs          4: a lent public number is q or more
+--   messageIn q xs          5: an unpacked message number is q or more
+--   secretsIn B xs          6: a secret or noise value lies beyond the largest noise
+--   held v xs room z        an output at exit: the answer xs and zeros (z) behind it; zeros from end to end after a refusal
+use mathlib.Core.Bool.{cond}
+use mathlib.Core.List.{List, _++_}
+use Prim.Native.Nat.{ℕ, _-_}
+use lib.Dec.{eqb, leb, ltb}
+use lib.IntN.{ℤ}
+use lib.ListN.{length, replicate}
+use Rattle.lists.specs.First.{firstOver, firstBeyond}
+use Rattle.front.specs.declared.Refusal.{Refusal}
+use Rattle.front.specs.declared.Refusal.the-variants.{NoScheme, BadLength, Short, PublicOver, MessageOver, SecretBeyond, RanOut}
+use Rattle.front.specs.declared.Verdict.{Verdict}
+use Rattle.front.specs.declared.Verdict.the-variants.{Pass, Fail}
+
+abbrev pub numberOf : Refusal → ℕ
+numberOf NoScheme = 1
+numberOf BadLength = 2
+numberOf Short = 3
+numberOf (PublicOver k) = 4
+numberOf (MessageOver k) = 5
+numberOf (SecretBeyond k) = 6
+numberOf (RanOut k) = 7
+
+abbrev pub placeOf : Refusal → ℕ
+placeOf NoScheme = 0
+placeOf BadLength = 0
+placeOf Short = 0
+placeOf (PublicOver k) = k
+placeOf (MessageOver k) = k
+placeOf (SecretBeyond k) = k
+placeOf (RanOut k) = k
+
+abbrev pub numberIn : Verdict → ℕ
+numberIn Pass = 0
+numberIn (Fail r) = numberOf r
+
+abbrev pub placeIn : Verdict → ℕ
+placeIn Pass = 0
+placeIn (Fail r) = placeOf r
+
+abbrev pub countIn : Verdict → ℕ → ℕ
+countIn Pass n = n
+countIn (Fail r) n = 0
+
+infixl 20 _then_
+unfoldable pub _then_ : Verdict → Verdict → Verdict
+Pass then w = w
+Fail r then w = Fail r
+
+unfoldable pub lengthIs : ℕ → ℕ → Verdict
+lengthIs m n = cond (eqb m n) Pass (Fail BadLength)
+
+unfoldable pub lengthUpTo : ℕ → ℕ → Verdict
+lengthUpTo m n = cond (leb m n) Pass (Fail BadLength)
+
+unfoldable pub roomFor : ℕ → ℕ → Verdict
+roomFor room n = cond (leb n room) Pass (Fail Short)
+
+unfoldable pub publicsIn : ℕ → List ℕ → Verdict
+publicsIn q xs = cond (ltb (firstOver q xs) (length xs)) (Fail (PublicOver (firstOver q xs))) Pass
+
+unfoldable pub messageIn : ℕ → List ℕ → Verdict
+messageIn q xs = cond (ltb (firstOver q xs) (length xs)) (Fail (MessageOver (firstOver q xs))) Pass
+
+unfoldable pub secretsIn : ℕ → List ℤ → Verdict
+secretsIn B xs = cond (ltb (firstBeyond B xs) (length xs)) (Fail (SecretBeyond (firstBeyond B xs))) Pass
+
+unfoldable pub held : {A : Type 0} → Verdict → List A → ℕ → A → List A
+held Pass xs room z = xs ++ replicate (room - length xs) z
+held (Fail r) xs room z = replicate room z

@@ -1,0 +1,140 @@
+// The refusals by number and place, and the tests that give them, each once for all calls: 01, "Refusal numbers and their order". A call's tests are a
+// sequence of these in the order of its inputs; each takes the verdict so far and tests only where nothing was refused before it.
+ghost use mathlib.Core.Path.{_≡_};
+ghost use Prim.Native.Nat.{_*_, _≤_, _<_};
+ghost use lib.ListN.{length};
+ghost use Rattle.packing.specs.Packing.{unpacked};
+ghost use Rattle.front.specs.Front.{_then_, lengthIs, lengthUpTo, roomFor, publicsIn, messageIn, secretsIn, numberOf, placeOf};
+
+pub enum Refusal {
+    NoScheme,
+    BadLength,
+    Short,
+    PublicOver(usize),
+    MessageOver(usize),
+    SecretBeyond(usize),
+    RanOut(usize),
+}
+
+impl Refusal {
+    pub fn number(self) -> u32
+        ensures { λ r. ⌜ r ≡ numberOf self ⌝ }
+    {
+        match self {
+            Refusal::NoScheme => 1,
+            Refusal::BadLength => 2,
+            Refusal::Short => 3,
+            Refusal::PublicOver(_) => 4,
+            Refusal::MessageOver(_) => 5,
+            Refusal::SecretBeyond(_) => 6,
+            Refusal::RanOut(_) => 7,
+        }
+    }
+
+    pub fn place(self) -> usize
+        ensures { λ r. ⌜ r ≡ placeOf self ⌝ }
+    {
+        match self {
+            Refusal::NoScheme => 0,
+            Refusal::BadLength => 0,
+            Refusal::Short => 0,
+            Refusal::PublicOver(k) => k,
+            Refusal::MessageOver(k) => k,
+            Refusal::SecretBeyond(k) => k,
+            Refusal::RanOut(k) => k,
+        }
+    }
+}
+
+// The tests so far: none has failed, or the first that did.
+pub enum Verdict {
+    Pass,
+    Fail(Refusal),
+}
+
+// An input's length is the fixed one.
+pub fn length_is(v: Verdict, m: usize, n: usize) -> Verdict
+    ensures { λ r. ⌜ r ≡ v then lengthIs m n ⌝ }
+{
+    let Verdict::Pass = v else {
+        return v;
+    };
+    if m == n {
+        Verdict::Pass
+    } else {
+        Verdict::Fail(Refusal::BadLength)
+    }
+}
+
+// It is at most what is allowed.
+pub fn length_up_to(v: Verdict, m: usize, n: usize) -> Verdict
+    ensures { λ r. ⌜ r ≡ v then lengthUpTo m n ⌝ }
+{
+    let Verdict::Pass = v else {
+        return v;
+    };
+    if m <= n {
+        Verdict::Pass
+    } else {
+        Verdict::Fail(Refusal::BadLength)
+    }
+}
+
+// An output buffer has room for the answer.
+pub fn room_for(v: Verdict, room: usize, n: usize) -> Verdict
+    ensures { λ r. ⌜ r ≡ v then roomFor room n ⌝ }
+{
+    let Verdict::Pass = v else {
+        return v;
+    };
+    if n <= room {
+        Verdict::Pass
+    } else {
+        Verdict::Fail(Refusal::Short)
+    }
+}
+
+// No lent public number is q or more.
+pub fn publics_in(v: Verdict, q: u32, xs: &[u32]) -> Verdict
+    ensures { λ r. ⌜ r ≡ v then publicsIn q (now (xs .entry)) ⌝ }
+{
+    let Verdict::Pass = v else {
+        return v;
+    };
+    let at = lists::first_over(q, xs);
+    if at < xs.len() {
+        Verdict::Fail(Refusal::PublicOver(at))
+    } else {
+        Verdict::Pass
+    }
+}
+
+// No secret or noise value lies beyond the bound.
+pub fn secrets_in(v: Verdict, bound: u32, s: &[i32]) -> Verdict
+    ensures { λ r. ⌜ r ≡ v then secretsIn bound (now (s .entry)) ⌝ }
+{
+    let Verdict::Pass = v else {
+        return v;
+    };
+    let at = lists::first_beyond(bound, s);
+    if at < s.len() {
+        Verdict::Fail(Refusal::SecretBeyond(at))
+    } else {
+        Verdict::Pass
+    }
+}
+
+// The unpack step: the message's numbers, and whether each is below q.
+pub fn take_message(w: u32, q: u32, bytes: &[u8], nums: &mut [u32]) -> Verdict
+    requires { ⌜ (0 < w) × (w ≤ 32) × (8 * length (now bytes) ≡ w * length (now nums)) ⌝ }
+    ensures { λ r. ⌜ r ≡ messageIn q (unpacked w (length (now (nums .entry))) (now (bytes .entry))) ⌝ }
+    ensures { λ _. ⌜ now (nums .exit) ≡ unpacked w (length (now (nums .entry))) (now (bytes .entry)) ⌝ }
+{
+    packing::unpack(w, bytes, nums);
+    let at = lists::first_over(q, nums);
+    if at < nums.len() {
+        Verdict::Fail(Refusal::MessageOver(at))
+    } else {
+        Verdict::Pass
+    }
+}
