@@ -1,18 +1,22 @@
 -- Lists by their entries.
 --   tab-length, tab-at, tab-ext, tab-const   a tabulated list: its length, its entries, equal ones, of one value
 --   tab-getD                   a list is the table of its entries
---   nums-tab                   an entry of a tabulated list of numbers
+--   tab-append                 a table in two parts
+--   nums-tab, ints-tab         an entry of a tabulated list of numbers, or of secrets and noise
+--   entry-set                  an entry after one is written
 --   below-tab, within-tab      a table of small entries
 -- Assumes nothing.
-use mathlib.Core.Path.{_≡_, refl, ap, ap₂}
-use mathlib.Core.List.{List, [], _∷_}
-use Prim.Native.Nat.{ℕ, zero, suc, _<_, _≤_, suc-le-suc}
+use mathlib.Core.Path.{_≡_, refl, _∙_, ap, ap₂}
+use mathlib.Core.List.{List, [], _∷_, _++_}
+use mathlib.Core.Logic.{_≢_}
+use Prim.Native.Nat.{ℕ, zero, suc, _+_, _<_, _≤_, suc-le-suc}
 use native.Mathlib.Omega.{arith}
-use native.Mathlib.Decide.{decLt}
-use native.Mathlib.Nat.{not-suc-le-zero, le-of-suc-le-suc}
-use lib.ListN.{length, getD, replicate, List·getD-eq-default}
+use native.Mathlib.Decide.{decLt, ℕ-discrete}
+use native.Mathlib.Nat.{not-suc-le-zero, le-of-suc-le-suc, zero-add, suc-add}
+use lib.ListN.{length, getD, set, replicate, List·getD-eq-default}
+use lib.Seq.{getD-set-same, getD-set-other}
 use lib.IntN.{ℤ, pos, natAbs}
-use Rattle.lists.specs.Entries.{tab, nums, Below, Within}
+use Rattle.lists.specs.Entries.{tab, nums, ints, Below, Within}
 
 module _ {A : Type 0} where
   pub tab-length : (n : ℕ) (f : ℕ → A) → length (tab n f) ≡ n
@@ -43,6 +47,11 @@ module _ {A : Type 0} where
   tab-getD [] z = refl
   tab-getD (x ∷ xs) z = ap (λ (l : List A). x ∷ l) (tab-getD xs z)
 
+  pub tab-append : (n m : ℕ) (f : ℕ → A) → tab (n + m) f ≡ tab n f ++ tab m (λ k. f (n + k))
+  unfolding tab
+  tab-append zero m f = simp zero-add
+  tab-append (suc n) m f = simp suc-add (ap (λ (l : List A). f 0 ∷ l) (tab-append n m (λ k. f (suc k))))
+
   -- what holds of each made entry, and of what a list reads past its end
   tab-all : (P : A → Type 0) (n : ℕ) (f : ℕ → A) (z : A) → ((k : ℕ) → k < n → P (f k)) → P z → (k : ℕ) → P (getD (tab n f) k z)
   tab-all P n f z h o k = go (decLt k n)
@@ -54,6 +63,17 @@ module _ {A : Type 0} where
 pub nums-tab : (n : ℕ) (f : ℕ → ℕ) (k : ℕ) → k < n → nums (tab n f) k ≡ pos (f k)
 unfolding nums
 nums-tab n f k p = ap pos (tab-at n f k 0 p)
+
+pub ints-tab : (n : ℕ) (f : ℕ → ℤ) (k : ℕ) → k < n → ints (tab n f) k ≡ f k
+unfolding ints
+ints-tab n f k p = tab-at n f k (pos 0) p
+
+pub entry-set : {x : ℕ} (xs : List ℕ) (f : ℕ → ℕ) (j k : ℕ) → j < length xs → x ≡ f j → (k ≢ j → getD xs k 0 ≡ f k) → getD (set xs j x) k 0 ≡ f k
+entry-set {x} xs f j k h e o = go (ℕ-discrete k j)
+  where
+    go : Dec (k ≡ j) → getD (set xs j x) k 0 ≡ f k
+    go (yes p) = rw p (getD-set-same xs j x 0 h ∙ e)
+    go (no p) = getD-set-other xs j k x 0 p ∙ o p
 
 pub below-tab : (q n : ℕ) (f : ℕ → ℕ) → 0 < q → ((k : ℕ) → k < n → f k < q) → Below q (tab n f)
 below-tab q n f o h = record { below = tab-all (λ x. x < q) n f 0 h o }

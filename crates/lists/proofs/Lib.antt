@@ -1,4 +1,5 @@
 pub mod Entries
+pub mod Parts
 pub mod Fill
 pub mod First
 pub mod Table

@@ -1,3 +1,4 @@
+pub mod Natural
 pub mod Difference
 pub mod Ring
 pub mod Sums

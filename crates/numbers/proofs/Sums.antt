@@ -2,12 +2,13 @@
 --   sum-ext, sum-none, sum-only   by its terms: equal ones, all 0, all 0 but one
 --   sum-add, sum-mul, sum-mul-right   of sums, and of terms with a common factor
 --   sum-split, sum-double   m terms and then n; the even and the odd ones
+--   sum-first, sum-reverse  the first term apart; the terms backwards
 --   sum-swap                a sum of sums, in either order
 --   sum-neg, pos-sum        of negatives; of natural numbers among the whole ones
 -- Assumes nothing.
 use mathlib.Core.Path.{_≡_, refl, _∙_, sym, ap, ap₂}
 use mathlib.Core.Logic.{_≢_}
-use Prim.Native.Nat.{ℕ, zero, suc, _+_, _*_, _<_}
+use Prim.Native.Nat.{ℕ, zero, suc, _+_, _*_, _-_, _<_}
 use native.Mathlib.Omega.{arith}
 use native.Mathlib.Decide.{ℕ-discrete}
 use native.Mathlib.Nat.{not-suc-le-zero, add-zero, add-suc}
@@ -108,6 +109,20 @@ module _ {R : Kind} (L : Semiring R) where
       ∙ ap₂ (λ (x : R .Of) (k : ℕ). R .plus (R .plus x (f (2 * n))) (f k)) (sum-double n f) o
       ∙ L .assoc _ (f (2 * n)) (f (2 * n + 1))
       ∙ add-add (sum R n (λ j. f (2 * j))) (sum R n (λ j. f (2 * j + 1))) (f (2 * n)) (f (2 * n + 1))
+
+  pub sum-first : (n : ℕ) (f : ℕ → R .Of) → sum R (suc n) f ≡ R .plus (f 0) (sum R n (λ j. f (suc j)))
+  unfolding sum
+  sum-first zero f = L .comm (R .nil) (f 0)
+  sum-first (suc n) f = ap (λ (t : R .Of). R .plus t (f (suc n))) (sum-first n f) ∙ L .assoc (f 0) _ _
+
+  pub sum-reverse : (n : ℕ) (f : ℕ → R .Of) → sum R n f ≡ sum R n (λ j. f (n - suc j))
+  unfolding sum
+  sum-reverse zero f = refl
+  sum-reverse (suc n) f =
+      ap (λ (t : R .Of). R .plus t (f n)) (sum-reverse n f)
+      ∙ L .comm _ (f n)
+      ∙ ap₂ (R .plus) (ap f {x = n} (omega arith)) (sum-ext n _ _ (λ j p. ap f (omega arith)))
+      ∙ sym (sum-first n (λ j. f (suc n - suc j)))
 
   pub sum-swap : (m n : ℕ) (f : ℕ → ℕ → R .Of) → sum R m (λ i. sum R n (λ j. f i j)) ≡ sum R n (λ j. sum R m (λ i. f i j))
   unfolding sum

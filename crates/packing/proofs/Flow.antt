@@ -20,8 +20,9 @@ use lib.ListN.{length, take, drop, set, length-append, length-drop, drop-of-leng
 use lib.Seq.{append-snoc, drop-drop, length-take-le, set-split, take-all, take-at}
 use lib.Pow.{pow-add, pow-mono, pow-pos, shl-exact, shr-lt}
 use lib.Arith.{digits-lt}
+use Rattle.numbers.proofs.Natural.{power-power}
 use Rattle.packing.specs.Packing.{value, digits}
-use Rattle.packing.proofs.Laws.{pow-mul, value-split, digits-append, digits-length, digits-low}
+use Rattle.packing.proofs.Laws.{value-split, digits-append, digits-length, digits-low}
 
 abbrev pub written : ℕ → ℕ → ℕ → ℕ → List ℕ → List ℕ
 written b k v j out = take j out ++ digits b k v ++ drop (j + k) out
@@ -77,7 +78,7 @@ module _ {wi wo : ℕ} {xs : List ℕ} {n : ℕ} {out : List ℕ} {acc held i j 
   })
     where
       more : acc + x * 2 ^ held + 2 ^ (held + d) * value (2 ^ wi) (drop (i + k) xs) ≡ acc + 2 ^ held * value (2 ^ wi) (drop i xs)
-      more = rw (value-split (2 ^ wi) k (drop i xs), ← v, drop-drop, pow-mul, e, pow-add) (omega arith)
+      more = rw (value-split (2 ^ wi) k (drop i xs), ← v, drop-drop, power-power, e, pow-add) (omega arith)
 
   pub emit : (k d : ℕ) → wo * k ≡ d → d ≤ held → j + k ≤ n
       → Flow wi wo xs n (written (2 ^ wo) k acc j out) (acc / 2 ^ d) (held - d) i (j + k)
@@ -98,7 +99,7 @@ module _ {wi wo : ℕ} {xs : List ℕ} {n : ℕ} {out : List ℕ} {acc held i j 
       up = omega arith
 
       base : (2 ^ wo) ^ k ≡ 2 ^ d
-      base = rw (pow-mul, e)
+      base = rw (power-power, e)
 
       split : 2 ^ held * rest ≡ (2 ^ wo) ^ k * (2 ^ (held - d) * rest)
       split = rw (base, ap (λ (n : ℕ). 2 ^ n) up, pow-add) (omega arith)

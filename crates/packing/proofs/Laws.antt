@@ -1,6 +1,4 @@
 -- Laws of packing, once over the width and the base. Both directions go through the number that the digits make.
---   pow-mul           the n-th power of b ^ m is b ^ (m * n)
---   below-drop        what stands from place i on in a list below b is below b
 --   value-split       a number is its k lowest digits, and the others k places up
 --   value-next        the number of k + 1 digits from place i on is the first, and the k others one place up; past the end they read 0
 --   value-one         the number of one digit is that digit
@@ -22,24 +20,16 @@
 use mathlib.Core.Path.{_≡_, refl, sym, ap, _∙_}
 use mathlib.Core.List.{List, [], _∷_, _++_}
 use Prim.Native.Nat.{ℕ, zero, suc, _+_, _*_, _/_, _^_, _≤_, _<_}
-use native.Mathlib.Nat.{mod-lt, div-add-mod', div-lt-iff-lt-mul, div-div-eq-div-mul, add-mul-div-left, add-mul-mod-self-left, one-le-pow, pow-zero, pow-suc, pow-succ', mul-zero, mul-suc, mul-assoc, add-zero, zero-add, suc-add, div-one}
+use native.Mathlib.Nat.{mod-lt, div-add-mod', div-lt-iff-lt-mul, div-div-eq-div-mul, add-mul-div-left, add-mul-mod-self-left, one-le-pow, pow-zero, pow-suc, pow-succ', mul-assoc, add-zero, zero-add, suc-add, div-one}
 use native.Mathlib.Omega.{arith}
 use lib.ListN.{length, getD, take, drop}
 use lib.Seq.{getD-drop, drop-drop, take-all, take-nil}
-use lib.Pow.{pow-add, pow-pos}
+use lib.Pow.{pow-pos}
 use lib.Arith.{digits-div, digits-mod, digits-lt, lt-one}
+use Rattle.numbers.proofs.Natural.{power-power}
 use Rattle.lists.specs.Entries.{Below}
+use Rattle.lists.proofs.Parts.{below-tail}
 use Rattle.packing.specs.Packing.{value, digits, packed, unpacked}
-
-pub pow-mul : (b m n : ℕ) → (b ^ m) ^ n ≡ b ^ (m * n)
-pow-mul b m zero = simp (mul-zero, pow-zero)
-pow-mul b m (suc n) = simp (pow-suc, mul-suc, pow-add, pow-mul b m n)
-
-tail-below : {b x : ℕ} {xs : List ℕ} → Below b (x ∷ xs) → Below b xs
-tail-below h = record { below = λ k. h .below (suc k) }
-
-pub below-drop : {b : ℕ} {xs : List ℕ} → Below b xs → (i : ℕ) → Below b (drop i xs)
-below-drop {b} {xs} h i = record { below = λ k. rw getD-drop (h .below (i + k)) }
 
 pub value-split : (b k : ℕ) (xs : List ℕ) → value b xs ≡ value b (take k xs) + b ^ k * value b (drop k xs)
 unfolding value
@@ -63,7 +53,7 @@ pub value-take-below : {b : ℕ} {xs : List ℕ} → Below b xs → (k : ℕ) �
 unfolding value
 value-take-below h zero = rw pow-zero (omega arith)
 value-take-below {b} {xs = []} h (suc k) = one-le-pow (suc k) b (h .below 0)
-value-take-below {b} {xs = x ∷ xs} h (suc k) = rw pow-suc (digits-lt (value-take-below (tail-below h) k) (h .below 0))
+value-take-below {b} {xs = x ∷ xs} h (suc k) = rw pow-suc (digits-lt (value-take-below (below-tail h) k) (h .below 0))
 
 pub value-below : {b : ℕ} {xs : List ℕ} → Below b xs → (k : ℕ) → length xs ≤ k → value b xs < b ^ k
 value-below {xs} h k l = rw take-all at (value-take-below h k)
@@ -96,7 +86,7 @@ pub digits-value : {b : ℕ} {xs : List ℕ} → Below b xs → digits b (length
 unfolding digits value
 digits-value {xs = []} h = refl
 digits-value {b} {xs = x ∷ xs} h =
-    rw (digits-mod (value b xs) (h .below 0), digits-div (value b xs) (h .below 0), digits-value (tail-below h))
+    rw (digits-mod (value b xs) (h .below 0), digits-div (value b xs) (h .below 0), digits-value (below-tail h))
 
 pub value-digits : (b n v : ℕ) → 0 < b → v < b ^ n → value b (digits b n v) ≡ v
 unfolding digits value
@@ -122,7 +112,7 @@ unpacked-below w n bs = digits-below (2 ^ w) n (value 256 bs) (pow-pos w)
 
 -- n numbers of w bits that fill m bytes have as many values
 same-room : (w n m : ℕ) → w * n ≡ 8 * m → (2 ^ w) ^ n ≡ 256 ^ m
-same-room w n m e = rw (pow-mul 2 w n, e) (sym (pow-mul 2 8 m))
+same-room w n m e = rw (power-power 2 w n, e) (sym (power-power 2 8 m))
 
 -- digits in one base, through those in another that has room for as much, are the same digits
 there-back : (b c m : ℕ) (xs : List ℕ) → 0 < c → Below b xs → b ^ length xs ≡ c ^ m

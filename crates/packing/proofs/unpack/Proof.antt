@@ -8,8 +8,9 @@ use native.Mathlib.Omega.{arith}
 use lib.ListN.{length}
 use lib.Pow.{pow-mono, pow-pos, shl-exact}
 use Rattle.lists.specs.Entries.{Below}
+use Rattle.lists.proofs.Parts.{below-drop}
 use Rattle.packing.specs.Packing.{unpacked}
-use Rattle.packing.proofs.Laws.{below-drop, value-take-below}
+use Rattle.packing.proofs.Laws.{value-take-below}
 use Rattle.packing.proofs.Flow.{Flow, start, take-in, emit, one, fits, all-out}
 use Rattle.packing.proofs.unpack.Statement.{statement}
 use Rattle.packing.proofs.unpack.Tie as tie

@@ -1,0 +1,57 @@
+-- Hints and keys entry by entry: lengths, ranges, and the agreement of two lists.
+--   hints-length, keys-length, peers-length   as many as there are values
+--   key-below                                 a key is below 2 ^ B
+--   hints-below, keys-below, peers-below      hints below 2, keys below 2 ^ B
+--   agreement-entries                         entries at most a quarter of the interval apart: the initiator's keys are the replier's
+-- Assumes nothing.
+use mathlib.Core.Path.{_≡_, ap, _∙_}
+use mathlib.Core.List.{List}
+use Prim.Native.Nat.{ℕ, _*_, _/_, _%_, _^_, _≤_, _<_}
+use native.Mathlib.Nat.{mod-lt}
+use native.Mathlib.Omega.{arith}
+use lib.ListN.{length, getD}
+use lib.Pow.{pow-pos}
+use Rattle.numbers.specs.Residue.{apart}
+use Rattle.lists.specs.Entries.{tab, Below}
+use Rattle.lists.proofs.Entries.{tab-length, tab-at, tab-ext, below-tab}
+use Rattle.frodo.specs.Rounding.{hintOf, keyOf, peerOf, hintsOf, keysOf, peersOf}
+use Rattle.frodo.proofs.Rule.{hint-below, agreement}
+
+pub hints-length : (I : ℕ) (vs : List ℕ) → length (hintsOf I vs) ≡ length vs
+unfolding hintsOf
+hints-length I vs = tab-length (length vs) _
+
+pub keys-length : (I B : ℕ) (vs : List ℕ) → length (keysOf I B vs) ≡ length vs
+unfolding keysOf
+keys-length I B vs = tab-length (length vs) _
+
+pub peers-length : (I B : ℕ) (hs ws : List ℕ) → length (peersOf I B hs ws) ≡ length ws
+unfolding peersOf
+peers-length I B hs ws = tab-length (length ws) _
+
+pub key-below : (I B v : ℕ) → keyOf I B v < 2 ^ B
+unfolding keyOf
+key-below I B v = mod-lt _ (pow-pos B)
+
+pub hints-below : (I : ℕ) (vs : List ℕ) → Below 2 (hintsOf I vs)
+unfolding hintsOf
+hints-below I vs = below-tab 2 (length vs) _ (omega arith) (λ k l. hint-below I (getD vs k 0))
+
+pub keys-below : (I B : ℕ) (vs : List ℕ) → Below (2 ^ B) (keysOf I B vs)
+unfolding keysOf
+keys-below I B vs = below-tab (2 ^ B) (length vs) _ (pow-pos B) (λ k l. key-below I B (getD vs k 0))
+
+pub peers-below : (I B : ℕ) (hs ws : List ℕ) → Below (2 ^ B) (peersOf I B hs ws)
+unfolding peersOf peerOf
+peers-below I B hs ws = below-tab (2 ^ B) (length ws) _ (pow-pos B) (λ k l. key-below I B _)
+
+pub agreement-entries : (I B : ℕ) (vs ws : List ℕ) → 0 < I → I % 4 ≡ 0 → Below (I * 2 ^ B) vs → Below (I * 2 ^ B) ws → length vs ≡ length ws
+    → ((k : ℕ) → k < length vs → apart (I * 2 ^ B) (getD vs k 0) (getD ws k 0) ≤ I / 4) → peersOf I B (hintsOf I vs) ws ≡ keysOf I B vs
+unfolding peersOf hintsOf keysOf
+agreement-entries I B vs ws o e bv bw n d =
+    tab-ext (length ws) _ _
+    (λ k l.
+    let m : k < length vs = omega arith in
+    ap (λ (h : ℕ). peerOf I B h (getD ws k 0)) (tab-at (length vs) (λ j. hintOf I (getD vs j 0)) k 0 m)
+    ∙ agreement I B (getD vs k 0) (getD ws k 0) o e (bv .below k) (bw .below k) (d k m))
+    ∙ ap (λ (m : ℕ). tab m (λ k. keyOf I B (getD vs k 0))) (omega arith)

@@ -1,0 +1,52 @@
+-- Frodo's reconciliation: 01, "Reconciliation", over the rounding interval I and the number B of key bits of an entry; q is I * 2^B.
+--   hintOf I v        floor(2v / I) mod 2
+--   keyOf I B v       floor((2v + I) / (2I)) mod 2^B
+--   peerOf I B h w    the initiator's key: that of the z nearest to w, around the circle, among those with the hint h
+--   hintsOf, keysOf, peersOf   the same entry by entry
+--   Nearest           what `peerOf` looks for, as a rule: `Agreement.antt` says that it has one answer
+use mathlib.Core.Path.{_≡_}
+use mathlib.Core.Bool.{Bool, cond}
+use mathlib.Core.List.{List}
+use Prim.Native.Nat.{ℕ, zero, suc, _+_, _*_, _/_, _%_, _^_, _≤_, _<_}
+use lib.Dec.{eqb, ltb}
+use lib.ListN.{length, getD}
+use Rattle.numbers.specs.Residue.{apart}
+use Rattle.lists.specs.Entries.{tab}
+
+unfoldable pub hintOf : ℕ → ℕ → ℕ
+hintOf I v = 2 * v / I % 2
+
+unfoldable pub keyOf : ℕ → ℕ → ℕ → ℕ
+keyOf I B v = (2 * v + I) / (2 * I) % 2 ^ B
+
+-- the first number below n at which f is least among those with the mark p; n where none has it
+unfoldable pub choose : Bool → Bool → Bool → ℕ → ℕ → ℕ
+choose marked none nearer z n = cond marked (cond none n (cond nearer n z)) (cond none (suc n) z)
+
+unfoldable pub leastBelow : (ℕ → ℕ) → (ℕ → Bool) → ℕ → ℕ
+leastBelow f p zero = 0
+leastBelow f p (suc n) = choose (p n) (eqb (leastBelow f p n) n) (ltb (f n) (f (leastBelow f p n))) (leastBelow f p n) n
+
+unfoldable pub peerOf : ℕ → ℕ → ℕ → ℕ → ℕ
+peerOf I B h w = keyOf I B (leastBelow (λ z. apart (I * 2 ^ B) z w) (λ z. eqb (hintOf I z) h) (I * 2 ^ B))
+
+unfoldable pub hintsOf : ℕ → List ℕ → List ℕ
+hintsOf I vs = tab (length vs) (λ k. hintOf I (getD vs k 0))
+
+unfoldable pub keysOf : ℕ → ℕ → List ℕ → List ℕ
+keysOf I B vs = tab (length vs) (λ k. keyOf I B (getD vs k 0))
+
+unfoldable pub peersOf : ℕ → ℕ → List ℕ → List ℕ → List ℕ
+peersOf I B hs ws = tab (length ws) (λ k. peerOf I B (getD hs k 0) (getD ws k 0))
+
+-- z has the given hint, and of all that have it none is nearer to w around the circle
+pub record Nearest (I B h w z : ℕ) : Type 0 where
+  pub below : z < I * 2 ^ B
+  pub hinted : hintOf I z ≡ h
+  pub nearest : (y : ℕ) → y < I * 2 ^ B → hintOf I y ≡ h → apart (I * 2 ^ B) z w ≤ apart (I * 2 ^ B) y w
+
+-- an interval and a number of bits that can be reconciled, in 32 bits: I is divisible by 4, so I/2 is even
+pub record Round (I B : ℕ) : Type 0 where
+  pub some : 0 < I
+  pub quarters : I % 4 ≡ 0
+  pub room : I * 2 ^ B ≤ 65536

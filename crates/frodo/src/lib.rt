@@ -1,0 +1,74 @@
+// Frodo's reconciliation, over the rounding interval i and the number b of key bits of an entry: 01, "Reconciliation".
+// i is a multiple of 4 and i * 2^b, which is q, at most 65536, so every sum below fits 32 bits: 4w + 3i is the largest. i need not be a power of two, so an
+// entry costs one division.
+ghost use mathlib.Core.Path.{_≡_};
+ghost use Prim.Native.Nat.{_*_, _^_, _<_};
+ghost use lib.ListN.{length};
+ghost use Rattle.lists.specs.Entries.{Below};
+ghost use Rattle.frodo.specs.Rounding.{hintOf, keyOf, peerOf, hintsOf, keysOf, peersOf, Round};
+
+// The hint of the replier's value v: which half of its interval v stands in.
+pub fn hint(i: u32, b: u32, v: u32) -> u32
+    requires { ⌜ Round i b × (v < i * 2 ^ b) ⌝ }
+    ensures { λ r. ⌜ r ≡ hintOf i v ⌝ }
+{
+    2 * v / i % 2
+}
+
+// How many keys b bits hold. As a power of two it makes the remainders below a mask.
+fn values(b: u32) -> u32
+    requires { ⌜ b < 32 ⌝ }
+    ensures { λ r. ⌜ r ≡ 2 ^ b ⌝ }
+{
+    1 << b
+}
+
+// The replier's key.
+pub fn key(i: u32, b: u32, v: u32) -> u32
+    requires { ⌜ Round i b × (v < i * 2 ^ b) ⌝ }
+    ensures { λ r. ⌜ r ≡ keyOf i b v ⌝ }
+{
+    (2 * v + i) / (2 * i) % values(b)
+}
+
+// The initiator's key of w under the hint h: in place of a search for the nearest z its formula, which `Agreement.antt` states.
+pub fn peer(i: u32, b: u32, h: u32, w: u32) -> u32
+    requires { ⌜ Round i b × (h < 2) × (w < i * 2 ^ b) ⌝ }
+    ensures { λ r. ⌜ r ≡ peerOf i b h w ⌝ }
+{
+    (4 * w + (1 + 2 * h) * i) / (4 * i) % values(b)
+}
+
+pub fn hints(i: u32, b: u32, v: &[u32], out: &mut [u32])
+    requires { ⌜ Round i b × Below (i * 2 ^ b) (now v) × (length (now v) ≡ length (now out)) ⌝ }
+    ensures { λ _. ⌜ now (out .exit) ≡ hintsOf i (now (v .entry)) ⌝ }
+{
+    let mut k: usize = 0;
+    while k < out.len() {
+        out[k] = hint(i, b, v[k]);
+        k += 1;
+    }
+}
+
+pub fn keys(i: u32, b: u32, v: &[u32], out: &mut [u32])
+    requires { ⌜ Round i b × Below (i * 2 ^ b) (now v) × (length (now v) ≡ length (now out)) ⌝ }
+    ensures { λ _. ⌜ now (out .exit) ≡ keysOf i b (now (v .entry)) ⌝ }
+{
+    let mut k: usize = 0;
+    while k < out.len() {
+        out[k] = key(i, b, v[k]);
+        k += 1;
+    }
+}
+
+pub fn peers(i: u32, b: u32, hints: &[u32], w: &[u32], out: &mut [u32])
+    requires { ⌜ Round i b × Below (i * 2 ^ b) (now w) × (length (now w) ≡ length (now out)) ⌝ }
+    requires { ⌜ Below 2 (now hints) × (length (now hints) ≡ length (now w)) ⌝ }
+    ensures { λ _. ⌜ now (out .exit) ≡ peersOf i b (now (hints .entry)) (now (w .entry)) ⌝ }
+{
+    let mut k: usize = 0;
+    while k < out.len() {
+        out[k] = peer(i, b, hints[k], w[k]);
+        k += 1;
+    }
+}

@@ -1,0 +1,7 @@
+pub mod Turn
+pub mod Laws
+pub mod Size
+pub mod Mixing
+pub mod Kernel
+pub mod Window
+pub mod Cards
