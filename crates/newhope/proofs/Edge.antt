@@ -1,0 +1,17 @@
+-- The margin is sharp: at 9215 the bits can differ.
+-- Assumes nothing.
+use mathlib.Core.Path.{refl}
+use native.Mathlib.Omega.{arith}
+use Rattle.numbers.specs.Residue.{residue, nearest, distance, apart}
+use Rattle.newhope.specs.Group.{upOf, downOf, offOf, offsOf, kOf, pOf, lessOf, lastOf, hintOf, termOf, sumOf, bitOf, apartOf}
+use Rattle.newhope.specs.Agreement.{Sharp}
+
+pub sharp : Sharp
+unfolding upOf downOf offOf offsOf kOf pOf lessOf lastOf hintOf termOf sumOf bitOf apartOf residue nearest distance apart
+sharp =
+    record {
+      v = record { e0 = 765; e1 = 767; e2 = 6914; e3 = 3841 };
+      w = record { e0 = 10748; e1 = 10753; e2 = 4611; e3 = 1538 };
+      one-more = refl;
+      differ = λ e. omega arith;
+    }

@@ -1,0 +1,37 @@
+-- `newhope::minus` meets its contract: a difference of numbers below 2^30 fits.
+-- Assumes nothing.
+use mathlib.Core.Path.{_≡_}
+use native.Mathlib.Omega.{arith}
+use borrow.Author.Needs.{needs}
+use lib.IntN.{pos, _-ℤ_}
+use mir.Syntax.{w32}
+use mir.Val.{SFits, toZ}
+use mir.Facts.{toZ-ofZ}
+use Rattle.numbers.proofs.Machine.{fits-abs, toZ-pos}
+use Rattle.numbers.proofs.Size.{abs-difference}
+use Rattle.newhope.proofs.minus.Statement.{statement}
+use Rattle.newhope.proofs.minus.Tie as tie
+
+x-is : (c : tie.Start) → toZ w32 (c .args .x) ≡ pos (c .args .x)
+x-is c = toZ-pos w32 _ (omega (arith, c .pre .0))
+
+y-is : (c : tie.Start) → toZ w32 (c .args .y) ≡ pos (c .args .y)
+y-is c = toZ-pos w32 _ (omega (arith, c .pre .1))
+
+room : (c : tie.Start) → SFits w32 (pos (c .args .x) -ℤ pos (c .args .y))
+room c = fits-abs w32 (pos (c .args .x) -ℤ pos (c .args .y)) (omega (arith, abs-difference (c .args .x) (c .args .y), c .pre .0, c .pre .1))
+
+cast-result : tie.Need-cast-result
+cast-result c = search needs
+
+cast-result-2 : tie.Need-cast-result-2
+cast-result-2 c = search needs
+
+sub-result : tie.Need-sub-result
+sub-result c = rw (x-is c, y-is c) (room c)
+
+returns : tie.Need-returns
+returns c = rw (x-is c, y-is c) (toZ-ofZ (room c))
+
+pub minus-spec : {M : Type 1} → statement M
+minus-spec = tie.close (tie.spec cast-result cast-result-2 sub-result returns)

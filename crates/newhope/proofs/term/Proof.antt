@@ -1,0 +1,37 @@
+-- `newhope::term` meets its contract.
+-- Assumes nothing.
+use mathlib.Core.Path.{_∙_, ap}
+use Prim.Native.Nat.{_*_}
+use native.Mathlib.Omega.{arith}
+use borrow.Author.Needs.{needs}
+use lib.IntN.{pos, _-ℤ_}
+use mir.Syntax.{w32}
+use Rattle.numbers.specs.Residue.{distance, apart}
+use Rattle.numbers.proofs.Nearest.{distance-half}
+use Rattle.newhope.specs.Group.{termOf}
+use Rattle.numbers.proofs.Machine.{difference-handed}
+use Rattle.newhope.proofs.term.Statement.{statement}
+use Rattle.newhope.proofs.term.Tie as tie
+
+mul-minus : tie.Need-mul-minus
+mul-minus c = search needs
+
+mul-minus-2 : tie.Need-mul-minus-2
+mul-minus-2 c = search needs
+
+minus-requires : tie.Need-minus-requires
+minus-requires c κs = search needs
+
+distance32-requires : tie.Need-distance32-requires
+distance32-requires c κs = search needs
+
+returns : tie.Need-returns
+unfolding termOf apart
+returns c =
+    let a = c .before .before .args in
+    let e = c .distance32 .ensures
+    ∙ ap (distance 98312) (difference-handed w32 (8 * a .x) (12289 * a .c) (c .before .minus .ensures) (omega arith) (omega arith)) in
+    (e, omega (arith, e, distance-half 98312 (omega arith) (pos (8 * a .x) -ℤ pos (12289 * a .c))))
+
+pub term-spec : {M : Type 1} → statement M
+term-spec = tie.close (tie.spec mul-minus mul-minus-2 minus-requires distance32-requires returns)
