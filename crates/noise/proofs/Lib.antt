@@ -1,0 +1,3 @@
+pub mod Noise
+pub mod Stream
+pub mod Cards
