@@ -1,0 +1,9 @@
+pub mod Laws
+pub mod Rows
+pub mod Mixing
+pub mod Extra
+pub mod Product
+pub mod Quotient
+pub mod Steps
+pub mod Terms
+pub mod Whole

@@ -1,0 +1,32 @@
+-- `matrix::mix_left` meets its contract: it lends room for the sums.
+-- Assumes nothing.
+use mathlib.Core.Path.{sym}
+use Prim.Native.Nat.{_*_}
+use native.Mathlib.Omega.{arith}
+use borrow.Author.Needs.{needs}
+use Rattle.matrix.proofs.Whole.{prefix-long}
+use Rattle.matrix.proofs.mix_left.Statement.{statement}
+use Rattle.matrix.proofs.mix_left.Tie as tie
+
+mul-m : tie.Need-mul-m
+mul-m c = search needs
+
+array-borrow-prefix-sums : tie.Need-array-borrow-prefix-sums
+array-borrow-prefix-sums c = search needs
+
+slice-aggregate-left-on : tie.Need-slice-aggregate-left-on
+slice-aggregate-left-on c = prefix-long 6912 (8 * c .before .before .before .args .c) (omega arith)
+
+left-on-requires : tie.Need-left-on-requires
+left-on-requires c κs =
+    let a = c .before .before .before .before in
+    ((a .pre .0 .0, sym (prefix-long 6912 (8 * a .args .c) (omega arith)), a .pre .0 .1), a .pre .1)
+
+same-length : tie.Need-same-length
+same-length c = search needs
+
+returns : tie.Need-returns
+returns c = search needs
+
+pub mix-left-spec : {M : Type 1} → statement M
+mix-left-spec = tie.close (tie.spec mul-m array-borrow-prefix-sums slice-aggregate-left-on left-on-requires same-length returns)

@@ -1,0 +1,25 @@
+-- `matrix::multiply` meets its contract: XS + E where the noise is zeros.
+-- Assumes nothing.
+use mathlib.Core.Path.{refl}
+use borrow.Author.Needs.{needs}
+use Rattle.matrix.proofs.Whole.{zeros-within, bare-is}
+use Rattle.matrix.proofs.multiply.Statement.{statement}
+use Rattle.matrix.proofs.multiply.Tie as tie
+
+slice-aggregate-mix-right : tie.Need-slice-aggregate-mix-right
+slice-aggregate-mix-right c = search needs
+
+mix-right-requires : tie.Need-mix-right-requires
+mix-right-requires c κs = (c .before .before .before .before .pre, (refl, zeros-within 64))
+
+same-length : tie.Need-same-length
+same-length c = search needs
+
+returns : tie.Need-returns
+returns c =
+    let m = c .before .before in
+    let a = m .before .before .before .before .before .args in
+    bare-is (a .q) (a .n) (a .u .now) (a .s .now) (m .mix-right .ensures)
+
+pub multiply-spec : {M : Type 1} → statement M
+multiply-spec = tie.close (tie.spec slice-aggregate-mix-right mix-right-requires same-length returns)

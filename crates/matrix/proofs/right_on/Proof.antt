@@ -1,0 +1,31 @@
+-- `matrix::right_on` meets its contract.
+-- Assumes nothing.
+use borrow.Author.Needs.{needs}
+use Rattle.matrix.proofs.Whole.{fit-columns, right-is}
+use Rattle.matrix.proofs.right_on.Statement.{statement}
+use Rattle.matrix.proofs.right_on.Tie as tie
+
+columns-requires : tie.Need-columns-requires
+columns-requires c κs = search needs
+
+right-rows-requires : tie.Need-right-rows-requires
+right-rows-requires c κs =
+    let k = c .before .before .before in
+    let a = k .before .before .before .before in
+    ((fit-columns _ (k .columns .ensures) (a .pre .0 .0), a .pre .0 .2), a .pre .1)
+
+same-length : tie.Need-same-length
+same-length c = search needs
+
+same-length-2 : tie.Need-same-length-2
+same-length-2 c = search needs
+
+returns : tie.Need-returns
+returns c =
+    let w = c .before .before in
+    let k = w .before .before .before .before in
+    let a = k .before .before .before .before in
+    right-is (a .args .q) (a .args .n) (a .args .r) (a .args .x .now) (a .args .s .now) _ (a .args .e .now) (k .columns .ensures) (a .pre .1 .0) (w .right-rows .ensures)
+
+pub right-on-spec : {M : Type 1} → statement M
+right-on-spec = tie.close (tie.spec columns-requires right-rows-requires same-length same-length-2 returns)

@@ -1,0 +1,20 @@
+-- What the products ask of their inputs, so that every sum fits 32 bits.
+use mathlib.Core.Path.{_≡_}
+use mathlib.Core.List.{List}
+use Prim.Native.Nat.{ℕ, _*_, _<_, _≤_}
+use lib.ListN.{length}
+use lib.IntN.{ℤ}
+use Rattle.lists.specs.Entries.{Below, Within}
+
+-- r rows of n numbers below q, or n rows of r; and 8 n secrets of which none is larger than Frodo's largest noise
+pub record Fit (q n r : ℕ) (xs : List ℕ) (s : List ℤ) : Type 0 where
+  pub some : 0 < q
+  pub room : q ≤ 32768
+  pub many : 0 < n
+  pub few : n ≤ 864
+  pub rows-many : 0 < r
+  pub rows-few : r ≤ 864
+  pub xs-long : length xs ≡ r * n
+  pub s-long : length s ≡ 8 * n
+  pub xs-below : Below q xs
+  pub s-within : Within 6 s

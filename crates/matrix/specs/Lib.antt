@@ -1,0 +1,4 @@
+pub mod Matrix
+pub mod Mixing
+pub mod Fit
+pub mod Steps

@@ -1,0 +1,245 @@
+-- The levels of the fast transform: from sums of length m at the stride 4h to sums of length 4m at the stride h.
+--   part g a m s i o    the sum of length m over the entries o, o + s, o + 2s, .. of g, at the point 7^(s (a + 2i))
+--   Holds g a m s b xs  xs holds all of them modulo 12289, that of point i and offset o at i s + o, each below b times 12289
+--   holds-start, holds-level, holds-end   before, at each level, and after
+--   holds-room          what a level asks of its source
+-- Assumes nothing.
+use mathlib.Core.Path.{_≡_, refl, _∙_, sym, ap, ap₂}
+use mathlib.Core.List.{List}
+use Prim.Native.Nat.{ℕ, _+_, _-_, _*_, _/_, _%_, _^_, _<_, _≤_}
+use native.Mathlib.Omega.{arith}
+use native.Mathlib.Decide.{decLt}
+use native.Mathlib.Nat.{mul-left-comm, mul-assoc, mod-lt, mul-le-mul-right}
+use lib.Arith.{digits-div}
+use lib.IntN.{pos}
+use lib.ListN.{getD, List·getD-eq-default}
+use lib.Pow.{pow-add}
+use Rattle.numbers.specs.Sum.{sum, sumℕ}
+use Rattle.numbers.proofs.Sums.{natural, sum-ext, sum-mul, sum-double}
+use Rattle.numbers.proofs.Congruence.{eq-≅, refl-≅, sym-≅, _⨾_, add-≅, mul-≅, mod-≅, same-mod}
+use Rattle.lists.specs.Entries.{Below}
+use Rattle.lists.proofs.Entries.{tab-ext}
+use Rattle.transform.specs.Level.{low, high, Quarter, first, second, third, fourth, place, joined, entry, Joined, remainders, sums}
+use Rattle.transform.proofs.Extra.{more-≅, sumℕ-≅}
+use Rattle.transform.proofs.Seven.{_≈_, seven-turn, seven-minus}
+
+pub part : List ℕ → ℕ → ℕ → ℕ → ℕ → ℕ → ℕ
+part g a m s i o = sumℕ m (λ j. getD g (o + j * s) 0 * 7 ^ (s * j * (a + 2 * i)))
+
+pub record Holds (g : List ℕ) (a m s b : ℕ) (xs : List ℕ) : Type 0 where
+  pub small : Below (b * 12289) xs
+  pub holds : (i o : ℕ) → i < m → o < s → getD xs (i * s + o) 0 ≈ part g a m s i o
+
+-- ---- x + w y and x - w y
+
+less-≅ : (x t : ℕ) → t ≤ 12289 → x + 12289 - t ≈ x + 12288 * t
+less-≅ x t h =
+    let e : x + 12289 - t + t * 12289 ≡ x + 12288 * t + 1 * 12289 = omega arith in
+    sym-≅ (more-≅ (x + 12289 - t) t) ⨾ eq-≅ (ap pos e) ⨾ more-≅ (x + 12288 * t) 1
+
+module _ (b w x y : ℕ) (h : x < b * 12289) where
+  low-lt : low w x y < (b + 1) * 12289
+  unfolding low
+  low-lt = omega (arith, mod-lt (w * y) {m = 12289} (omega arith))
+
+  high-lt : high w x y < (b + 1) * 12289
+  unfolding high
+  high-lt = omega (arith, mod-lt (w * y) {m = 12289} (omega arith))
+
+-- ---- a sum from two of half its length
+
+module _ (g : List ℕ) (a : ℕ) where
+  -- the even terms are a sum of half the length, and the odd ones another, times a power
+  part-double : (m h i o : ℕ) → part g a (2 * m) h i o ≡ part g a m (2 * h) i o + 7 ^ (h * (a + 2 * i)) * part g a m (2 * h) i (o + h)
+  unfolding part
+  part-double m h i o =
+      sum-double natural m _ ∙ ap₂ (λ (x y : ℕ). x + y) (sum-ext natural m _ _ even) (sum-ext natural m _ _ odd ∙ sum-mul natural m (7 ^ (h * (a + 2 * i))) _)
+    where
+      even : (j : ℕ) → j < m → getD g (o + 2 * j * h) 0 * 7 ^ (h * (2 * j) * (a + 2 * i)) ≡ getD g (o + j * (2 * h)) 0 * 7 ^ (2 * h * j * (a + 2 * i))
+      even j l = ap₂ (λ (x y : ℕ). getD g x 0 * 7 ^ y) (omega arith) (omega arith)
+
+      odd : (j : ℕ) → j < m → getD g (o + (2 * j + 1) * h) 0 * 7 ^ (h * (2 * j + 1) * (a + 2 * i)) ≡ 7 ^ (h * (a + 2 * i)) * (getD g (o + h + j * (2 * h)) 0 * 7 ^ (2 * h * j * (a + 2 * i)))
+      odd j l =
+          let e : h * (2 * j + 1) * (a + 2 * i) ≡ h * (a + 2 * i) + 2 * h * j * (a + 2 * i) = omega arith in
+          ap₂ (λ (x y : ℕ). getD g x 0 * 7 ^ y) (omega arith) e
+          ∙ ap (λ (y : ℕ). getD g (o + h + j * (2 * h)) 0 * y) (pow-add 7 (h * (a + 2 * i)) (2 * h * j * (a + 2 * i)))
+          ∙ mul-left-comm _ _ _
+
+  -- the points repeat after m
+  part-period : (m s i o : ℕ) → m * s ≡ 1024 → part g a m s (m + i) o ≈ part g a m s i o
+  unfolding part
+  part-period m s i o fit = sumℕ-≅ m _ _ same
+    where
+      same : (j : ℕ) → j < m → getD g (o + j * s) 0 * 7 ^ (s * j * (a + 2 * (m + i))) ≈ getD g (o + j * s) 0 * 7 ^ (s * j * (a + 2 * i))
+      same j l =
+          let f : s * j * (a + 2 * (m + i)) ≡ s * j * (a + 2 * i) + 2 * (m * s) * j = omega arith in
+          let e : s * j * (a + 2 * (m + i)) ≡ s * j * (a + 2 * i) + 2048 * j = f ∙ ap (λ (n : ℕ). s * j * (a + 2 * i) + 2 * n * j) fit in
+          mul-≅ (refl-≅ (pos (getD g (o + j * s) 0))) (eq-≅ (ap (λ (n : ℕ). pos (7 ^ n)) e) ⨾ seven-turn (s * j * (a + 2 * i)) j)
+
+  module _ (m h i o w x y : ℕ) (hw : w ≈ 7 ^ (h * (a + 2 * i))) (hx : x ≈ part g a m (2 * h) i o) (hy : y ≈ part g a m (2 * h) i (o + h)) where
+    step-low : low w x y ≈ part g a (2 * m) h i o
+    unfolding low
+    step-low = add-≅ hx (mod-≅ 12289 (w * y) ⨾ mul-≅ hw hy) ⨾ eq-≅ (ap pos (sym (part-double m h i o)))
+
+    step-high : m * h ≡ 512 → high w x y ≈ part g a (2 * m) h (m + i) o
+    unfolding high
+    step-high fit =
+        let e : m * (2 * h) ≡ 1024 = omega arith in
+        let f : h * (a + 2 * (m + i)) ≡ 2 * (m * h) + h * (a + 2 * i) = omega arith in
+        let p : 7 ^ (h * (a + 2 * (m + i))) ≈ 12288 * 7 ^ (h * (a + 2 * i)) =
+        eq-≅ (ap (λ (n : ℕ). pos (7 ^ n)) (f ∙ ap (λ (n : ℕ). 2 * n + h * (a + 2 * i)) fit)) ⨾ seven-minus (h * (a + 2 * i)) in
+        less-≅ x (w * y % 12289) (omega (arith, mod-lt (w * y) {m = 12289} (omega arith)))
+        ⨾ add-≅ hx (mul-≅ (refl-≅ (pos 12288)) (mod-≅ 12289 (w * y) ⨾ mul-≅ hw hy))
+        ⨾ sym-≅
+        (eq-≅ (ap pos (part-double m h (m + i) o))
+        ⨾ add-≅ (part-period m (2 * h) i o e) (mul-≅ p (part-period m (2 * h) i (o + h) e) ⨾ eq-≅ (ap pos (mul-assoc 12288 _ _))))
+
+-- ---- a level: four of them, by two halvings
+
+-- the point of an entry, from that of the four it is made of
+block : ℕ → Quarter → ℕ → ℕ
+block m first i = i
+block m second i = m + i
+block m third i = 2 * m + i
+block m fourth i = 2 * m + (m + i)
+
+two-more : (b : ℕ) {x : ℕ} → x < (b + 1 + 1) * 12289 → x < (b + 2) * 12289
+two-more b h = omega arith
+
+joined-lt : (c : Quarter) (src : List ℕ) (b w v z r h : ℕ) → Below (b * 12289) src → joined c src w v z r h < (b + 2) * 12289
+unfolding joined
+joined-lt first src b w v z r h s = two-more b (low-lt (b + 1) v _ _ (low-lt b w _ _ (s .below r)))
+joined-lt second src b w v z r h s = two-more b (low-lt (b + 1) z _ _ (high-lt b w _ _ (s .below r)))
+joined-lt third src b w v z r h s = two-more b (high-lt (b + 1) v _ _ (low-lt b w _ _ (s .below r)))
+joined-lt fourth src b w v z r h s = two-more b (high-lt (b + 1) z _ _ (high-lt b w _ _ (s .below r)))
+
+module _ (g src : List ℕ) (a m h b : ℕ) (fit : m * h ≡ 256) (had : Holds g a m (2 * (2 * h)) b src) where
+  module _ (i o : ℕ) (hi : i < m) (ho : o < h) where
+    -- the four entries that are read
+    read : (d r : ℕ) → d < 2 * (2 * h) → r ≡ i * (2 * (2 * h)) + d → getD src r 0 ≈ part g a m (2 * (2 * h)) i d
+    read d r l e = eq-≅ (ap (λ (n : ℕ). pos (getD src n 0)) e) ⨾ had .holds i d hi l
+
+    module _ (w v z r : ℕ) (hr : r ≡ i * (2 * (2 * h)) + o) (hw : w ≈ 7 ^ (2 * h * (a + 2 * i))) (hv : v ≈ 7 ^ (h * (a + 2 * i))) (hz : z ≈ 7 ^ (h * (a + 2 * (m + i)))) where
+      x₀ : getD src r 0 ≈ part g a m (2 * (2 * h)) i o
+      x₀ = read o r (omega arith) hr
+
+      x₁ : getD src (r + h) 0 ≈ part g a m (2 * (2 * h)) i (o + h)
+      x₁ = read (o + h) (r + h) (omega arith) (omega arith)
+
+      x₂ : getD src (r + h + h) 0 ≈ part g a m (2 * (2 * h)) i (o + 2 * h)
+      x₂ = read (o + 2 * h) (r + h + h) (omega arith) (omega arith)
+
+      x₃ : getD src (r + h + h + h) 0 ≈ part g a m (2 * (2 * h)) i (o + h + 2 * h)
+      x₃ = read (o + h + 2 * h) (r + h + h + h) (omega arith) (omega arith)
+
+      twice : m * (2 * h) ≡ 512
+      twice = omega arith
+
+      half : 2 * m * h ≡ 512
+      half = omega arith
+
+      even : low w (getD src r 0) (getD src (r + h + h) 0) ≈ part g a (2 * m) (2 * h) i o
+      even = step-low g a m (2 * h) i o w _ _ hw x₀ x₂
+
+      even′ : low w (getD src (r + h) 0) (getD src (r + h + h + h) 0) ≈ part g a (2 * m) (2 * h) i (o + h)
+      even′ = step-low g a m (2 * h) i (o + h) w _ _ hw x₁ x₃
+
+      odd : high w (getD src r 0) (getD src (r + h + h) 0) ≈ part g a (2 * m) (2 * h) (m + i) o
+      odd = step-high g a m (2 * h) i o w _ _ hw x₀ x₂ twice
+
+      odd′ : high w (getD src (r + h) 0) (getD src (r + h + h + h) 0) ≈ part g a (2 * m) (2 * h) (m + i) (o + h)
+      odd′ = step-high g a m (2 * h) i (o + h) w _ _ hw x₁ x₃ twice
+
+      joined-≅ : (c : Quarter) → joined c src w v z r h ≈ part g a (2 * (2 * m)) h (block m c i) o
+      unfolding joined block
+      joined-≅ first = step-low g a (2 * m) h i o v _ _ hv even even′
+      joined-≅ second = step-low g a (2 * m) h (m + i) o z _ _ hz odd odd′
+      joined-≅ third = step-high g a (2 * m) h i o v _ _ hv even even′ half
+      joined-≅ fourth = step-high g a (2 * m) h (m + i) o z _ _ hz odd odd′ half
+
+    entry-≅ : (c : Quarter) → entry c src a h (i * h + o) ≈ part g a (2 * (2 * m)) h (block m c i) o
+    unfolding entry
+    entry-≅ c =
+        let d : (i * h + o) / h ≡ i = digits-div i ho in
+        let f : h * (a + 2 * (m + i)) ≡ h * (a + 2 * i) + 2 * (m * h) = omega arith in
+        rw d
+        (joined-≅ _ _ _ (i * h + o + 3 * (i * h)) (omega arith)
+        (mod-≅ 12289 _ ⨾ eq-≅ (ap (λ (n : ℕ). pos (7 ^ n)) (omega arith)))
+        (mod-≅ 12289 _)
+        (mod-≅ 12289 _ ⨾ eq-≅ (ap (λ (n : ℕ). pos (7 ^ n)) (sym (f ∙ ap (λ (n : ℕ). h * (a + 2 * i) + 2 * n) fit))))
+        c)
+
+  module _ (dst : List ℕ) (new : Joined src a h 256 dst) where
+    -- each entry stands in a quarter
+    at-≅ : (c : Quarter) (i o : ℕ) → i < m → o < h → getD dst (i * h + o + place c) 0 ≈ part g a (2 * (2 * m)) h (block m c i) o
+    at-≅ c i o hi ho =
+        let l : (i + 1) * h ≤ m * h = mul-le-mul-right h (omega arith) in
+        eq-≅ (ap pos (new .made c (i * h + o) (omega arith))) ⨾ entry-≅ i o hi ho c
+
+    moved : (c : Quarter) (i o j : ℕ) → j ≡ block m c i → i < m → o < h → i * h + o + place c ≡ j * h + o → getD dst (j * h + o) 0 ≈ part g a (2 * (2 * m)) h j o
+    moved c i o j e hi ho p =
+        eq-≅ (ap (λ (n : ℕ). pos (getD dst n 0)) (sym p)) ⨾ at-≅ c i o hi ho ⨾ eq-≅ (ap (λ (n : ℕ). pos (part g a (2 * (2 * m)) h n o)) (sym e))
+
+    all-≅ : (j o : ℕ) → j < 2 * (2 * m) → o < h → getD dst (j * h + o) 0 ≈ part g a (2 * (2 * m)) h j o
+    unfolding block place
+    all-≅ j o hj ho = go (decLt j m) (decLt j (2 * m)) (decLt j (2 * m + m))
+      where
+        go : Dec (j < m) → Dec (j < 2 * m) → Dec (j < 2 * m + m) → getD dst (j * h + o) 0 ≈ part g a (2 * (2 * m)) h j o
+        go (yes p) q r = moved first j o j refl p ho (omega arith)
+        go (no p) (yes q) r =
+            let e : j ≡ m + (j - m) = omega arith in
+            moved second (j - m) o j e (omega arith) ho (omega (arith, ap (λ (n : ℕ). n * h) e))
+        go (no p) (no q) (yes r) =
+            let e : j ≡ 2 * m + (j - 2 * m) = omega arith in
+            moved third (j - 2 * m) o j e (omega arith) ho (omega (arith, ap (λ (n : ℕ). n * h) e))
+        go (no p) (no q) (no r) =
+            let e : j ≡ 2 * m + (m + (j - 2 * m - m)) = omega arith in
+            moved fourth (j - 2 * m - m) o j e (omega arith) ho (omega (arith, ap (λ (n : ℕ). n * h) e))
+
+    made-lt : (c : Quarter) (j k : ℕ) → j < 256 → k ≡ j + place c → getD dst k 0 < (b + 2) * 12289
+    unfolding entry
+    made-lt c j k l e = rw (e, new .made c j l) (joined-lt c src b _ _ _ _ h (had .small))
+
+    all-lt : (k : ℕ) → getD dst k 0 < (b + 2) * 12289
+    unfolding place
+    all-lt k = go (decLt k 256) (decLt k 512) (decLt k 768) (decLt k 1024)
+      where
+        go : Dec (k < 256) → Dec (k < 512) → Dec (k < 768) → Dec (k < 1024) → getD dst k 0 < (b + 2) * 12289
+        go (yes p) q r s = made-lt first k k p (omega arith)
+        go (no p) (yes q) r s = made-lt second (k - 256) k (omega arith) (omega arith)
+        go (no p) (no q) (yes r) s = made-lt third (k - 512) k (omega arith) (omega arith)
+        go (no p) (no q) (no r) (yes s) = made-lt fourth (k - 768) k (omega arith) (omega arith)
+        go (no p) (no q) (no r) (no s) = rw (List·getD-eq-default dst 0 {n = k} (omega (arith, new .size))) (omega arith)
+
+    pub holds-level : Holds g a (2 * (2 * m)) h (b + 2) dst
+    holds-level = record { small = record { below = all-lt }; holds = all-≅ }
+
+-- ---- before the first level, and after the last
+
+-- a sum of length 1 is the entry itself
+pub holds-start : (g : List ℕ) (a : ℕ) → Below 12289 g → Holds g a 1 1024 1 g
+unfolding part sum
+holds-start g a s = record { small = record { below = λ k. omega (arith, s .below k) }; holds = λ i o p q. eq-≅ (ap pos (only i o p)) }
+  where
+    only : (i o : ℕ) → i < 1 → getD g (i * 1024 + o) 0 ≡ 0 + getD g (o + 0 * 1024) 0 * 7 ^ (1024 * 0 * (a + 2 * i))
+    only i o p =
+        let e : i * 1024 + o ≡ o + 0 * 1024 = omega arith in
+        let z : 1024 * 0 * (a + 2 * i) ≡ 0 = omega arith in
+        ap (λ (n : ℕ). getD g n 0) e ∙ sym (ap (λ (n : ℕ). 0 + getD g (o + 0 * 1024) 0 * 7 ^ n) z ∙ omega arith)
+
+-- a sum of length 1,024 is the whole
+pub holds-end : (g xs : List ℕ) (a b : ℕ) → Holds g a 1024 1 b xs → remainders xs ≡ sums a g
+unfolding part sums remainders
+holds-end g xs a b had = tab-ext 1024 _ _ same
+  where
+    each : (i j : ℕ) → getD g (0 + j * 1) 0 * 7 ^ (1 * j * (a + 2 * i)) ≡ getD g j 0 * 7 ^ (j * (a + 2 * i))
+    each i j = ap₂ (λ (x y : ℕ). getD g x 0 * 7 ^ y) (omega arith) (omega arith)
+
+    same : (i : ℕ) → i < 1024 → getD xs i 0 % 12289 ≡ sumℕ 1024 (λ j. getD g j 0 * 7 ^ (j * (a + 2 * i))) % 12289
+    same i p =
+        let e : i ≡ i * 1 + 0 = omega arith in
+        ap (λ (n : ℕ). getD xs n 0 % 12289) e
+        ∙ same-mod (omega arith) (had .holds i 0 p (omega arith) ⨾ eq-≅ (ap pos (sum-ext natural 1024 _ _ (λ j l. each i j))))
+
+pub holds-room : {g : List ℕ} {a m s b : ℕ} {xs : List ℕ} → Holds g a m s b xs → b ≤ 9 → Below 110601 xs
+holds-room had l = record { below = λ k. omega (arith, had .small .below k) }

@@ -1,0 +1,11 @@
+pub mod Extra
+pub mod Seven
+pub mod Levels
+pub mod Joins
+pub mod Roots
+pub mod Sizes
+pub mod Inverses
+pub mod Evaluate
+pub mod Products
+pub mod Mixing
+pub mod Entrywise

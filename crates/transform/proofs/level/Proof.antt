@@ -1,0 +1,51 @@
+-- `transform::level` meets its contract, run after run.
+-- Assumes nothing.
+use mathlib.Core.Path.{_≡_, _∙_}
+use Prim.Native.Nat.{_-_, _%_, _≤_}
+use native.Mathlib.Omega.{arith}
+use native.Mathlib.Nat.{add-mod-right, zero-mod}
+use Rattle.transform.specs.Level.{Joined, Room}
+use Rattle.transform.proofs.Joins.{joined-none, next-run}
+use Rattle.transform.proofs.level.Statement.{statement}
+use Rattle.transform.proofs.level.Tie as tie
+
+abbrev Inv-loop : tie.InvT-loop
+Inv-loop t src dst₀ a h c k₀ dst k = (k ≤ 256) × (k % c ≡ 0) × Joined src a h k dst
+
+abbrev μ-loop : tie.MeasureT-loop
+μ-loop t src dst₀ a h c k₀ dst k = 256 - k
+
+loop-holds : tie.Need-loop-holds Inv-loop μ-loop
+loop-holds c = (omega arith, zero-mod _, joined-none _ _ _ _ (c .pre .1 .2))
+
+-- the next run lies in one block
+within : (c : tie.In-loop Inv-loop μ-loop) → Room (c .before .before .args .h) (c .before .before .args .c) (c .before .loop .k)
+within c =
+    let a = c .before .before in
+    let l = c .before .loop in
+    next-run (a .args .h) (a .args .c) (l .k) (a .pre .0 .1) (a .pre .0 .2) (a .pre .0 .3) (a .pre .0 .4) (l .inv .1) (omega arith)
+
+run-requires : tie.Need-run-requires Inv-loop μ-loop
+run-requires c κs =
+    let a = c .before .before .before in
+    ((a .pre .0 .0, a .pre .0 .1, within (c .before)), (a .pre .1 .0, a .pre .1 .1, c .before .before .loop .inv .2))
+
+add-k : tie.Need-add-k Inv-loop μ-loop
+add-k c = omega (arith, within (c .before .before) .block, within (c .before .before) .quarter)
+
+loop-less : tie.Need-loop-less Inv-loop μ-loop
+loop-less c = omega (arith, within (c .before .before) .block, within (c .before .before) .quarter)
+
+loop-again : tie.Need-loop-again Inv-loop μ-loop
+loop-again c =
+    let l = c .before .before .before .loop in
+    (omega (arith, within (c .before .before) .block, within (c .before .before) .quarter), add-mod-right (l .k) _ ∙ l .inv .1, c .run .ensures)
+
+returns : tie.Need-returns Inv-loop μ-loop
+returns c =
+    let e : c .before .loop .k ≡ 256 = omega arith in
+    rw e at (c .before .loop .inv .2)
+
+pub level-spec : {M : Type 1} → statement M
+level-spec =
+    tie.close (tie.spec Inv-loop μ-loop loop-holds run-requires add-k loop-less loop-again returns)

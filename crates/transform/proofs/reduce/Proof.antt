@@ -1,0 +1,63 @@
+-- `transform::reduce` meets its contract: it fills with the remainders.
+-- Assumes nothing.
+use mathlib.Core.Path.{refl, _∙_, ap}
+use Prim.Native.Nat.{ℕ, _-_, _%_}
+use native.Mathlib.Omega.{arith}
+use lib.ListN.{getD}
+use Rattle.lists.specs.Entries.{tab}
+use Rattle.lists.proofs.Fill.{Filled, fill-start, fill-next, fill-end}
+use Rattle.transform.specs.Level.{remainders}
+use Rattle.transform.proofs.reduce.Statement.{statement}
+use Rattle.transform.proofs.reduce.Tie as tie
+
+abbrev Inv-loop : tie.InvT-loop
+Inv-loop src dst₀ k₀ dst k = Filled (λ k. getD src k 0 % 12289) dst₀ dst k
+
+abbrev μ-loop : tie.MeasureT-loop
+μ-loop src dst₀ k₀ dst k = 1024 - k
+
+loop-holds : tie.Need-loop-holds Inv-loop μ-loop
+loop-holds c = fill-start _ _
+
+mul-dst : tie.Need-mul-dst Inv-loop μ-loop
+mul-dst c = omega arith
+
+element-copy-out-dst : tie.Need-element-copy-out-dst Inv-loop μ-loop
+element-copy-out-dst c = omega arith
+
+mul-dst-2 : tie.Need-mul-dst-2 Inv-loop μ-loop
+mul-dst-2 c = omega arith
+
+element-write-dst : tie.Need-element-write-dst Inv-loop μ-loop
+element-write-dst c = omega arith
+
+add-k : tie.Need-add-k Inv-loop μ-loop
+add-k c = omega arith
+
+loop-less : tie.Need-loop-less Inv-loop μ-loop
+loop-less c = omega arith
+
+loop-again : tie.Need-loop-again Inv-loop μ-loop
+loop-again c = fill-next _ (c .before .before .loop .inv) (omega arith) refl
+
+returns : tie.Need-returns Inv-loop μ-loop
+unfolding remainders
+returns c =
+    let a = c .before .before in
+    fill-end (c .before .loop .inv) (omega arith) ∙ ap (λ (n : ℕ). tab n (λ k. getD (a .args .src .now) k 0 % 12289)) (a .pre)
+
+pub reduce-spec : {M : Type 1} → statement M
+reduce-spec =
+    tie.close
+    (tie.spec
+    Inv-loop
+    μ-loop
+    loop-holds
+    mul-dst
+    element-copy-out-dst
+    mul-dst-2
+    element-write-dst
+    add-k
+    loop-less
+    loop-again
+    returns)

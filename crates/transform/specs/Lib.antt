@@ -1,0 +1,3 @@
+pub mod Transform
+pub mod Mixing
+pub mod Level

@@ -1,0 +1,120 @@
+// What NewHope's ends compute, where the public polynomial, b and u lie transformed: 01, "The calls" and "The NewHope transform". Secrets and noise come
+// signed, in natural order.
+ghost use mathlib.Core.Path.{_≡_};
+ghost use lib.ListN.{length};
+ghost use Rattle.lists.specs.Entries.{Below};
+ghost use Rattle.transform.specs.Transform.{transformed, entrywise, summed};
+ghost use Rattle.transform.specs.Mixing.{reduced, mixedThrough, bareThrough, valueThrough};
+
+// Secrets or noise, each reduced to 0 .. q - 1.
+fn reduce(s: &[i32], out: &mut [u32; 1024])
+    requires { ⌜ (length (now s) ≡ 1024) × (length (now out) ≡ 1024) ⌝ }
+    ensures { λ _. ⌜ now (out .exit) ≡ reduced (now (s .entry)) ⌝ }
+{
+    let mut k: usize = 0;
+    while k < 1024 {
+        out[k] = numbers::residue32(s[k], 12289);
+        k += 1;
+    }
+}
+
+// Their transform.
+fn turn(s: &[i32], out: &mut [u32; 1024])
+    requires { ⌜ (length (now s) ≡ 1024) × (length (now out) ≡ 1024) ⌝ }
+    ensures { λ _. ⌜ now (out .exit) ≡ transformed (reduced (now (s .entry))) ⌝ }
+{
+    reduce(s, out);
+    crate::forward(out);
+}
+
+// a x + y, entry by entry.
+fn combine(a: &[u32], x: &[u32; 1024], y: &[u32; 1024], out: &mut [u32])
+    requires { ⌜ (length (now a) ≡ 1024) × Below 12289 (now a) × (length (now out) ≡ 1024) ⌝ }
+    requires { ⌜ Below 12289 (now x) × Below 12289 (now y) ⌝ }
+    ensures { λ _. ⌜ now (out .exit) ≡ summed (entrywise (now (a .entry)) (now (x .entry))) (now (y .entry)) ⌝ }
+{
+    let mut k: usize = 0;
+    while k < 1024 {
+        out[k] = (a[k] * x[k] + y[k]) % 12289;
+        k += 1;
+    }
+}
+
+// u x, entry by entry, into x.
+fn weigh(u: &[u32], x: &mut [u32; 1024])
+    requires { ⌜ (length (now u) ≡ 1024) × Below 12289 (now u) × (length (now x) ≡ 1024) × Below 12289 (now x) ⌝ }
+    ensures { λ _. ⌜ now (x .exit) ≡ entrywise (now (u .entry)) (now (x .entry)) ⌝ }
+{
+    let mut k: usize = 0;
+    while k < 1024 {
+        x[k] = u[k] * x[k] % 12289;
+        k += 1;
+    }
+}
+
+// us, into x.
+fn multiply_in(u: &[u32], s: &[i32], x: &mut [u32; 1024])
+    requires { ⌜ (length (now u) ≡ 1024) × Below 12289 (now u) × (length (now s) ≡ 1024) × (length (now x) ≡ 1024) ⌝ }
+    ensures { λ _. ⌜ now (x .exit) ≡ bareThrough (now (u .entry)) (now (s .entry)) ⌝ }
+{
+    turn(s, x);
+    weigh(u, x);
+    crate::inverse(x);
+}
+
+// x + e, into out.
+fn add_noise(x: &[u32; 1024], e: &[i32], out: &mut [u32])
+    requires { ⌜ Below 12289 (now x) × (length (now e) ≡ 1024) × (length (now out) ≡ 1024) ⌝ }
+    ensures { λ _. ⌜ now (out .exit) ≡ summed (now (x .entry)) (reduced (now (e .entry))) ⌝ }
+{
+    let mut k: usize = 0;
+    while k < 1024 {
+        out[k] = (x[k] + numbers::residue32(e[k], 12289)) % 12289;
+        k += 1;
+    }
+}
+
+fn put(x: &[u32; 1024], out: &mut [u32])
+    requires { ⌜ (length (now x) ≡ 1024) × (length (now out) ≡ 1024) ⌝ }
+    ensures { λ _. ⌜ now (out .exit) ≡ now (x .entry) ⌝ }
+{
+    let mut k: usize = 0;
+    while k < 1024 {
+        out[k] = x[k];
+        k += 1;
+    }
+}
+
+// The transform of as + e, of the transform of a: b and u as they travel.
+pub fn mix(a: &[u32], s: &[i32], e: &[i32], out: &mut [u32])
+    requires { ⌜ (length (now a) ≡ 1024) × Below 12289 (now a) × (length (now out) ≡ 1024) ⌝ }
+    requires { ⌜ (length (now s) ≡ 1024) × (length (now e) ≡ 1024) ⌝ }
+    ensures { λ _. ⌜ now (out .exit) ≡ mixedThrough (now (a .entry)) (now (s .entry)) (now (e .entry)) ⌝ }
+{
+    let mut x = [0u32; 1024];
+    let mut y = [0u32; 1024];
+    turn(s, &mut x);
+    turn(e, &mut y);
+    combine(a, &x, &y, out);
+}
+
+// us, of the transform of u: the initiator's w.
+pub fn multiply(u: &[u32], s: &[i32], out: &mut [u32])
+    requires { ⌜ (length (now u) ≡ 1024) × Below 12289 (now u) × (length (now s) ≡ 1024) × (length (now out) ≡ 1024) ⌝ }
+    ensures { λ _. ⌜ now (out .exit) ≡ bareThrough (now (u .entry)) (now (s .entry)) ⌝ }
+{
+    let mut x = [0u32; 1024];
+    multiply_in(u, s, &mut x);
+    put(&x, out);
+}
+
+// bs + e, of the transform of b: the replier's v.
+pub fn value(b: &[u32], s: &[i32], e: &[i32], out: &mut [u32])
+    requires { ⌜ (length (now b) ≡ 1024) × Below 12289 (now b) × (length (now s) ≡ 1024) ⌝ }
+    requires { ⌜ (length (now e) ≡ 1024) × (length (now out) ≡ 1024) ⌝ }
+    ensures { λ _. ⌜ now (out .exit) ≡ valueThrough (now (b .entry)) (now (s .entry)) (now (e .entry)) ⌝ }
+{
+    let mut x = [0u32; 1024];
+    multiply_in(b, s, &mut x);
+    add_noise(&x, e, out);
+}
