@@ -1,0 +1,4 @@
+pub mod Numbers
+pub mod Settling
+pub mod Valuing
+pub mod Ranges

@@ -1,0 +1,132 @@
+-- The fixed numbers of a scheme by its family.
+--   Bcns, NewHope, Frodo   what they are; in Frodo, what those of its four schemes have in common
+--   Numbers F f            the one of the three that belongs to the family
+--   numbers-of             each scheme has the numbers of its family
+--   numbers-in             so has a scheme of which the family is known
+--   key-bits               an entry's key has fewer than 32 bits
+--   packed-below           a number below q fits the width of a packed number
+-- Assumes nothing.
+use mathlib.Core.Path.{_≡_, refl, subst}
+use mathlib.Core.List.{List}
+use Prim.Native.Nat.{ℕ, _*_, _/_, _%_, _^_, _≤_, _<_}
+use native.Mathlib.Nat.{lt-of-lt-of-le}
+use native.Mathlib.Omega.{arith}
+use lib.Dec.{T, leb, lit≤}
+use Rattle.schemes.specs.Schemes.{familyOf, fixedOf, frodo}
+use Rattle.schemes.specs.declared.Family.{Family}
+use Rattle.schemes.specs.declared.Fixed.{Fixed}
+use Rattle.schemes.specs.declared.Scheme.{Scheme}
+use Rattle.lists.specs.Entries.{Below}
+use Rattle.frodo.specs.Rounding.{Round}
+use Rattle.ends.specs.Keys.{interval}
+
+pub record Bcns (f : Fixed) : Type 0 where
+  pub n : f .n ≡ 1024
+  pub q : f .q ≡ 4294967295
+  pub largest : f .largest ≡ 51
+  pub public : f .public ≡ 1024
+  pub secret : f .secret ≡ 1024
+  pub noise : f .noise ≡ 1024
+  pub mixed : f .mixed ≡ 1024
+  pub groups : f .groups ≡ 1024
+  pub hintbits : f .hintbits ≡ 1
+  pub keybits : f .keybits ≡ 1
+
+pub record NewHope (f : Fixed) : Type 0 where
+  pub q : f .q ≡ 12289
+  pub public : f .public ≡ 1024
+  pub secret : f .secret ≡ 1024
+  pub noise : f .noise ≡ 1024
+  pub mixed : f .mixed ≡ 1024
+  pub groups : f .groups ≡ 256
+  pub hintbits : f .hintbits ≡ 2
+  pub keybits : f .keybits ≡ 1
+  pub coinbits : f .coinbits ≡ 1
+
+pub record Frodo (f : Fixed) : Type 0 where
+  pub some : 0 < f .n
+  pub few : f .n ≤ 864
+  pub q-some : 0 < f .q
+  pub q-room : f .q ≤ 32768
+  pub small : f .largest ≤ 6
+  pub public : f .public ≡ f .n * f .n
+  pub secret : f .secret ≡ 8 * f .n
+  pub noise : f .noise ≡ 8 * f .n
+  pub mixed : f .mixed ≡ 64
+  pub groups : f .groups ≡ 64
+  pub hintbits : f .hintbits ≡ 1
+  pub whole : interval f * 2 ^ f .keybits ≡ f .q
+  pub round : Round (interval f) (f .keybits)
+
+abbrev pub Numbers : Family → Fixed → Type 0
+Numbers Family.Bcns f = Bcns f
+Numbers Family.NewHope f = NewHope f
+Numbers Family.Frodo f = Frodo f
+
+-- by tests that the checker computes
+frodo-numbers : (n q largest D B key : ℕ) → T (leb 1 n) → T (leb n 864) → T (leb 1 q) → T (leb q 32768) → T (leb largest 6)
+    → q / 2 ^ B * 2 ^ B ≡ q → T (leb 1 (q / 2 ^ B)) → q / 2 ^ B % 4 ≡ 0 → Frodo (frodo n q largest D B key)
+frodo-numbers n q largest D B key t0 t1 t2 t3 t4 e t5 d =
+    record {
+      some = lit≤ t0;
+      few = lit≤ t1;
+      q-some = lit≤ t2;
+      q-room = lit≤ t3;
+      small = lit≤ t4;
+      public = refl;
+      secret = refl;
+      noise = refl;
+      mixed = refl;
+      groups = refl;
+      hintbits = refl;
+      whole = e;
+      round = record { some = lit≤ t5; quarters = d; room = let r : q ≤ 32768 = lit≤ t3 in omega arith };
+    }
+
+pub numbers-of : (s : Scheme) → Numbers (familyOf s) (fixedOf s)
+numbers-of Scheme.Bcns =
+    record {
+      n = refl;
+      q = refl;
+      largest = refl;
+      public = refl;
+      secret = refl;
+      noise = refl;
+      mixed = refl;
+      groups = refl;
+      hintbits = refl;
+      keybits = refl;
+    }
+numbers-of Scheme.NewHope =
+    record {
+      q = refl;
+      public = refl;
+      secret = refl;
+      noise = refl;
+      mixed = refl;
+      groups = refl;
+      hintbits = refl;
+      keybits = refl;
+      coinbits = refl;
+    }
+numbers-of Scheme.Challenge = frodo-numbers 352 2048 3 11 1 8 tt tt tt tt tt refl tt refl
+numbers-of Scheme.Classical = frodo-numbers 592 4096 4 12 2 16 tt tt tt tt tt refl tt refl
+numbers-of Scheme.Recommended = frodo-numbers 752 32768 5 15 4 32 tt tt tt tt tt refl tt refl
+numbers-of Scheme.Paranoid = frodo-numbers 864 32768 6 15 4 32 tt tt tt tt tt refl tt refl
+
+pub numbers-in : (s : Scheme) {F : Family} → familyOf s ≡ F → Numbers F (fixedOf s)
+numbers-in s e = subst (λ (F : Family). Numbers F (fixedOf s)) e (numbers-of s)
+
+widths : (s : Scheme) → (fixedOf s .keybits < 32) × (fixedOf s .q ≤ 2 ^ fixedOf s .width)
+widths Scheme.Bcns = (lit≤ tt, lit≤ tt)
+widths Scheme.NewHope = (lit≤ tt, lit≤ tt)
+widths Scheme.Challenge = (lit≤ tt, lit≤ tt)
+widths Scheme.Classical = (lit≤ tt, lit≤ tt)
+widths Scheme.Recommended = (lit≤ tt, lit≤ tt)
+widths Scheme.Paranoid = (lit≤ tt, lit≤ tt)
+
+pub key-bits : (s : Scheme) → fixedOf s .keybits < 32
+key-bits s = widths s .0
+
+pub packed-below : (s : Scheme) {xs : List ℕ} → Below (fixedOf s .q) xs → Below (2 ^ fixedOf s .width) xs
+packed-below s h = record { below = λ k. lt-of-lt-of-le (h .below k) (widths s .1) }

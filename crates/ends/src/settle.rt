@@ -1,0 +1,69 @@
+// Hints and key entries, by the scheme.
+ghost use mathlib.Core.Path.{_≡_};
+ghost use Prim.Native.Nat.{_^_};
+ghost use lib.ListN.{length};
+ghost use Rattle.schemes.specs.Schemes.{familyOf, fixedOf};
+ghost use Rattle.ends.specs.Fit.{Counted};
+ghost use Rattle.ends.specs.Keys.{interval, hints, keys, peers};
+use schemes::Family;
+use schemes::Scheme;
+
+// Frodo's rounding interval.
+fn interval(scheme: Scheme) -> u32
+    ensures { λ r. ⌜ r ≡ interval (fixedOf scheme) ⌝ }
+{
+    let f = scheme.fixed();
+    f.q >> f.keybits
+}
+
+// The hints of the replier's value.
+pub fn hints(scheme: Scheme, coins: &[u32], v: &[u32], out: &mut [u32])
+    requires { ⌜ Counted (fixedOf scheme .mixed) (fixedOf scheme .q) (now v) × (length (now out) ≡ fixedOf scheme .mixed) ⌝ }
+    requires { ⌜ Counted (fixedOf scheme .groups) (2 ^ fixedOf scheme .coinbits) (now coins) ⌝ }
+    ensures { λ _. ⌜ now (out .exit) ≡ hints (familyOf scheme) (fixedOf scheme) (now (coins .entry)) (now (v .entry)) ⌝ }
+{
+    let family = scheme.family();
+    match family {
+        Family::Bcns => bcns::hints(coins, v, out),
+        Family::NewHope => newhope::hints(coins, v, out),
+        Family::Frodo => {
+            let f = scheme.fixed();
+            frodo::hints(interval(scheme), f.keybits, v, out)
+        }
+    }
+}
+
+// The key entries of the replier's value; in NewHope they are the bits of its own hints.
+pub fn keys(scheme: Scheme, coins: &[u32], own: &[u32], v: &[u32], out: &mut [u32])
+    requires { ⌜ Counted (fixedOf scheme .mixed) (fixedOf scheme .q) (now v) × (length (now out) ≡ fixedOf scheme .groups) ⌝ }
+    requires { ⌜ Counted (fixedOf scheme .groups) (2 ^ fixedOf scheme .coinbits) (now coins) ⌝ }
+    requires { ⌜ now own ≡ hints (familyOf scheme) (fixedOf scheme) (now coins) (now v) ⌝ }
+    ensures { λ _. ⌜ now (out .exit) ≡ keys (familyOf scheme) (fixedOf scheme) (now (coins .entry)) (now (v .entry)) ⌝ }
+{
+    let family = scheme.family();
+    match family {
+        Family::Bcns => bcns::keys(coins, v, out),
+        Family::NewHope => newhope::peers(own, v, out),
+        Family::Frodo => {
+            let f = scheme.fixed();
+            frodo::keys(interval(scheme), f.keybits, v, out)
+        }
+    }
+}
+
+// The key entries of the initiator's value under the hints.
+pub fn peers(scheme: Scheme, given: &[u32], w: &[u32], out: &mut [u32])
+    requires { ⌜ Counted (fixedOf scheme .mixed) (fixedOf scheme .q) (now w) × (length (now out) ≡ fixedOf scheme .groups) ⌝ }
+    requires { ⌜ Counted (fixedOf scheme .mixed) (2 ^ fixedOf scheme .hintbits) (now given) ⌝ }
+    ensures { λ _. ⌜ now (out .exit) ≡ peers (familyOf scheme) (fixedOf scheme) (now (given .entry)) (now (w .entry)) ⌝ }
+{
+    let family = scheme.family();
+    match family {
+        Family::Bcns => bcns::peers(given, w, out),
+        Family::NewHope => newhope::peers(given, w, out),
+        Family::Frodo => {
+            let f = scheme.fixed();
+            frodo::peers(interval(scheme), f.keybits, given, w, out)
+        }
+    }
+}

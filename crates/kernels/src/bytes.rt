@@ -1,0 +1,21 @@
+// Numbers as bytes and back.
+ghost use mathlib.Core.Path.{_≡_};
+ghost use Prim.Native.Nat.{_*_, _^_, _≤_, _<_};
+ghost use lib.ListN.{length};
+ghost use Rattle.lists.specs.Entries.{Below};
+
+#[no_mangle]
+pub extern "C" fn packing_pack(w: u32, xs: &[u32], out: &mut [u8])
+    requires { ⌜ (0 < w) × (w ≤ 32) × Below (2 ^ w) (now xs) ⌝ }
+    requires { ⌜ w * length (now xs) ≡ 8 * length (now out) ⌝ }
+{
+    packing::pack(w, xs, out);
+}
+
+#[no_mangle]
+pub extern "C" fn packing_unpack(w: u32, bytes: &[u8], out: &mut [u32])
+    requires { ⌜ (0 < w) × (w ≤ 32) ⌝ }
+    requires { ⌜ 8 * length (now bytes) ≡ w * length (now out) ⌝ }
+{
+    packing::unpack(w, bytes, out);
+}

@@ -1,0 +1,82 @@
+// The products of the three families.
+ghost use mathlib.Core.Path.{_≡_};
+ghost use Prim.Native.Nat.{_*_};
+ghost use lib.ListN.{length};
+ghost use Rattle.lists.specs.Entries.{Below, Within};
+ghost use Rattle.polynomial.specs.Fit as polynomial;
+ghost use Rattle.matrix.specs.Fit as matrix;
+
+#[no_mangle]
+pub extern "C" fn polynomial_mix(q: u32, a: &[u32], s: &[i32], e: &[i32], out: &mut [u32])
+    requires { ⌜ polynomial.Fit q (length (now out)) (now a) (now s) ⌝ }
+    requires { ⌜ (length (now e) ≡ length (now out)) × Within 51 (now e) ⌝ }
+{
+    polynomial::mix(q, a, s, e, out);
+}
+
+#[no_mangle]
+pub extern "C" fn polynomial_multiply(q: u32, u: &[u32], s: &[i32], out: &mut [u32])
+    requires { ⌜ polynomial.Fit q (length (now out)) (now u) (now s) ⌝ }
+{
+    polynomial::multiply(q, u, s, out);
+}
+
+#[no_mangle]
+pub extern "C" fn transform_forward(g: &mut [u32; 1024])
+    requires { ⌜ Below 12289 (now g) × (length (now g) ≡ 1024) ⌝ }
+{
+    transform::forward(g);
+}
+
+#[no_mangle]
+pub extern "C" fn transform_inverse(g: &mut [u32; 1024])
+    requires { ⌜ Below 12289 (now g) × (length (now g) ≡ 1024) ⌝ }
+{
+    transform::inverse(g);
+}
+
+#[no_mangle]
+pub extern "C" fn transform_product(a: &mut [u32; 1024], b: &mut [u32; 1024])
+    requires { ⌜ Below 12289 (now a) × (length (now a) ≡ 1024) × Below 12289 (now b) × (length (now b) ≡ 1024) ⌝ }
+{
+    transform::product(a, b);
+}
+
+#[no_mangle]
+pub extern "C" fn matrix_mix_right(
+    q: u32,
+    n: usize,
+    r: usize,
+    x: &[u32],
+    s: &[i32],
+    e: &[i32],
+    out: &mut [u32],
+)
+    requires { ⌜ matrix.Fit q n r (now x) (now s) × (length (now out) ≡ 8 * r) ⌝ }
+    requires { ⌜ (length (now e) ≡ 8 * r) × Within 6 (now e) ⌝ }
+{
+    matrix::mix_right(q, n, r, x, s, e, out);
+}
+
+#[no_mangle]
+pub extern "C" fn matrix_mix_left(
+    q: u32,
+    n: usize,
+    c: usize,
+    s: &[i32],
+    y: &[u32],
+    e: &[i32],
+    out: &mut [u32],
+)
+    requires { ⌜ matrix.Fit q n c (now y) (now s) × (length (now out) ≡ 8 * c) ⌝ }
+    requires { ⌜ (length (now e) ≡ 8 * c) × Within 6 (now e) ⌝ }
+{
+    matrix::mix_left(q, n, c, s, y, e, out);
+}
+
+#[no_mangle]
+pub extern "C" fn matrix_multiply(q: u32, n: usize, u: &[u32], s: &[i32], out: &mut [u32])
+    requires { ⌜ matrix.Fit q n 8 (now u) (now s) × (length (now out) ≡ 64) ⌝ }
+{
+    matrix::multiply(q, n, u, s, out);
+}
