@@ -1,29 +1,34 @@
 -- What the tests of a call say, once for all calls.
+--   differ          a failure is no pass
 --   both            where a sequence has passed, each of its tests has
 --   length-passed, up-to-passed, room-passed, publics-passed, message-passed, secrets-passed   what a test that has passed says
+--   within-passes, below-passes   and that values within the bound, and numbers below q, pass
 --   stays, goes-on  one test more, after a failure and after none
 --   over, under     the unpack step's verdict, by the first number that is too large
 --   first, also     a sequence as the code goes through it
+--   held-all        what holds of each entry of the answer, and of zero, holds of the whole output
 --   then-assoc, failed, went-on   a sequence in two parts: the first fails, or the second decides
 -- Assumes nothing.
 use mathlib.Core.Path.{_≡_, refl, ap₂, _∙_}
 use mathlib.Core.Bool.{Bool, true, false, cond}
 use mathlib.Core.List.{List}
-use Prim.Native.Nat.{ℕ, _≤_, _<_}
+use Prim.Native.Nat.{ℕ, _-_, _≤_, _<_}
 use native.Mathlib.Omega.{arith}
-use lib.ListN.{length}
-use lib.IntN.{ℤ}
-use borrow.Author.Tests.{eqb-true, leb-true, ltb-false, lt-ltb, le-ltb}
+use lib.Dec.{leb, ltb}
+use lib.ListN.{length, getD, replicate}
+use lib.IntN.{ℤ, pos, natAbs}
+use borrow.Author.Tests.{eqb-true, leb-true, ltb-false, lt-ltb, le-ltb, lt-leb}
 use Rattle.lists.specs.Entries.{Below, Within}
-use Rattle.lists.specs.First.{firstOver}
-use Rattle.lists.proofs.First.{all-below, all-within}
-use Rattle.front.specs.Front.{_then_, lengthIs, lengthUpTo, roomFor, publicsIn, messageIn, secretsIn}
+use Rattle.lists.specs.First.{firstOver, firstBeyond}
+use Rattle.lists.proofs.First.{all-below, all-within, none-found}
+use Rattle.lists.proofs.Same.{append-all, equal-all}
+use Rattle.front.specs.Front.{_then_, lengthIs, lengthUpTo, roomFor, publicsIn, messageIn, secretsIn, held}
 use Rattle.front.specs.declared.Refusal.{Refusal}
 use Rattle.front.specs.declared.Refusal.the-variants.{MessageOver}
 use Rattle.front.specs.declared.Verdict.{Verdict}
 use Rattle.front.specs.declared.Verdict.the-variants.{Pass, Fail}
 
-differ : {X : Type 0} {r : Refusal} → Fail r ≡ Pass → X
+pub differ : {X : Type 0} {r : Refusal} → Fail r ≡ Pass → X
 differ e = let z : _≡_ {A = ℕ} 0 1 = cc in absurd (omega arith)
 
 pub both : (v w : Verdict) → v then w ≡ Pass → (v ≡ Pass) × (w ≡ Pass)
@@ -101,3 +106,18 @@ failed w e f = rw (← e, f)
 pub went-on : {v t : Verdict} (w : Verdict) → v ≡ t → v ≡ Pass → t then w ≡ w
 unfolding _then_
 went-on w e f = rw (← e, f)
+
+pub within-passes : {B : ℕ} {s : List ℤ} → Within B s → secretsIn B s ≡ Pass
+unfolding secretsIn firstBeyond
+within-passes {B} {s} h =
+    rw (none-found (λ x. ltb B (natAbs x)) (pos 0) s (λ k. le-ltb _ _ (h .within k)), le-ltb (length s) (length s) (omega arith))
+
+pub below-passes : {q : ℕ} {xs : List ℕ} → Below q xs → publicsIn q xs ≡ Pass
+unfolding publicsIn firstOver
+below-passes {q} {xs} h =
+    rw (none-found (λ x. leb q x) 0 xs (λ k. lt-leb _ _ (h .below k)), le-ltb (length xs) (length xs) (omega arith))
+
+pub held-all : {A : Type 0} (P : A → Type 0) (z : A) (v : Verdict) (xs : List A) (room : ℕ) → P z → ((k : ℕ) → P (getD xs k z)) → (k : ℕ) → P (getD (held v xs room z) k z)
+unfolding held
+held-all P z Pass xs room o h = append-all P z xs (replicate (room - length xs) z) h (equal-all P z (room - length xs) o)
+held-all P z (Fail r) xs room o h = equal-all P z room o

@@ -5,8 +5,9 @@
 --   nums-tab, ints-tab         an entry of a tabulated list of numbers, or of secrets and noise
 --   entry-set                  an entry after one is written
 --   below-tab, within-tab      a table of small entries
+--   below-ext                  lists of numbers below q that are congruent entry by entry are equal
 -- Assumes nothing.
-use mathlib.Core.Path.{_≡_, refl, _∙_, ap, ap₂}
+use mathlib.Core.Path.{_≡_, refl, _∙_, sym, ap, ap₂}
 use mathlib.Core.List.{List, [], _∷_, _++_}
 use mathlib.Core.Logic.{_≢_}
 use Prim.Native.Nat.{ℕ, zero, suc, _+_, _<_, _≤_, suc-le-suc}
@@ -14,8 +15,10 @@ use native.Mathlib.Omega.{arith}
 use native.Mathlib.Decide.{decLt, ℕ-discrete}
 use native.Mathlib.Nat.{not-suc-le-zero, le-of-suc-le-suc, zero-add, suc-add}
 use lib.ListN.{length, getD, set, replicate, List·getD-eq-default}
-use lib.Seq.{getD-set-same, getD-set-other}
+use lib.Seq.{ext-getD, getD-set-same, getD-set-other}
 use lib.IntN.{ℤ, pos, natAbs}
+use Rattle.numbers.specs.Residue.{_≅⟨_⟩_}
+use Rattle.numbers.proofs.Congruence.{small-≅}
 use Rattle.lists.specs.Entries.{tab, nums, ints, Below, Within}
 
 module _ {A : Type 0} where
@@ -80,3 +83,9 @@ below-tab q n f o h = record { below = tab-all (λ x. x < q) n f 0 h o }
 
 pub within-tab : (B n : ℕ) (f : ℕ → ℤ) → ((k : ℕ) → k < n → natAbs (f k) ≤ B) → Within B (tab n f)
 within-tab B n f h = record { within = tab-all (λ x. natAbs x ≤ B) n f (pos 0) h (omega arith) }
+
+pub below-ext :
+    {q n : ℕ} (xs ys : List ℕ) → length xs ≡ n → length ys ≡ n → Below q xs → Below q ys → ((k : ℕ) → k < n → pos (getD xs k 0) ≅⟨ q ⟩ pos (getD ys k 0)) →
+    xs ≡ ys
+below-ext xs ys lx ly bx by p =
+    ext-getD 0 xs ys (lx ∙ sym ly) (λ k l. small-≅ (p k (rw lx at l)) (bx .below k) (by .below k))

@@ -2,6 +2,7 @@
 --   Passed p s z i   what holds when i entries are passed
 --   passed-none, passed-more, found, missing   before, at each turn, and at both ends
 --   none-passes      where the search ends at the length, no entry passes
+--   none-found       and the other way round
 --   all-below, all-within   so every number is below q, every value within the bound
 --   none-over        where the largest is below q, the search finds nothing
 --   Most, most-none, most-more, most-all   a loop that looks for the largest
@@ -66,6 +67,11 @@ module _ {A : Type 0} (p : A → Bool) (z : A) where
       go : Dec (k < length xs) → p (getD xs k z) ≡ false
       go (yes l) = none-passes xs h k l
       go (no l) = rw (List·getD-eq-default xs z {n = k} (omega arith)) o
+
+pub none-found : {A : Type 0} (p : A → Bool) (z : A) (xs : List A) → ((k : ℕ) → p (getD xs k z) ≡ false) → firstWhere p xs ≡ length xs
+unfolding firstWhere
+none-found p z [] h = refl
+none-found p z (x ∷ xs) h = rw (h 0) (ap suc (none-found p z xs (λ k. h (suc k))))
 
 pub all-below : (q : ℕ) (xs : List ℕ) → 0 < q → length xs ≤ firstOver q xs → Below q xs
 unfolding firstOver

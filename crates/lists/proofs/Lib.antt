@@ -1,5 +1,6 @@
 pub mod Entries
 pub mod Parts
+pub mod Same
 pub mod Fill
 pub mod First
 pub mod Table

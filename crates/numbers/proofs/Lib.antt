@@ -4,6 +4,7 @@ pub mod Ring
 pub mod Sums
 pub mod Size
 pub mod Congruence
+pub mod Modular
 pub mod Nearest
 pub mod Circle
 pub mod Machine

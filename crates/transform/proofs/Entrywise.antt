@@ -1,25 +1,20 @@
 -- What is computed entry by entry on the way through the transform.
---   fill-whole       a loop that filled a list of known length
 --   combine-fits     a product of reduced numbers, and one more
 --   combined         a x + y, where only the sum is reduced
 --   noised           x + e, where e is reduced entry by entry
 -- Assumes nothing.
 use mathlib.Core.Path.{_≡_, _∙_, sym, ap}
 use mathlib.Core.List.{List}
-use Prim.Native.Nat.{ℕ, _+_, _*_, _%_, _^_, _<_, _≤_}
+use Prim.Native.Nat.{ℕ, _+_, _*_, _%_, _^_, _<_}
 use native.Mathlib.Omega.{arith}
 use native.Mathlib.Nat.{mul-le-mul, mod-add-mod}
 use lib.IntN.{ℤ}
-use lib.ListN.{length, getD}
+use lib.ListN.{getD}
 use Rattle.numbers.specs.Residue.{residue}
 use Rattle.lists.specs.Entries.{tab, ints}
 use Rattle.lists.proofs.Entries.{tab-at, tab-ext}
-use Rattle.lists.proofs.Fill.{Filled, fill-end}
 use Rattle.transform.specs.Transform.{entrywise, summed}
 use Rattle.transform.specs.Mixing.{reduced}
-
-pub fill-whole : {A : Type 0} {f : ℕ → A} {d out : List A} {i n : ℕ} → Filled f d out i → length d ≡ n → n ≤ i → out ≡ tab n f
-fill-whole {A} {f} h e l = fill-end h (omega arith) ∙ ap (λ (k : ℕ). tab k f) e
 
 pub combine-fits : (x y z : ℕ) → x < 12289 → y < 12289 → z < 12289 → x * y + z < 2 ^ 32
 combine-fits x y z p q r = omega (arith, mul-le-mul {n₁ = x} {m₁ = y} {n₂ = 12288} {m₂ = 12288} (omega arith) (omega arith))

@@ -15,11 +15,11 @@ use lib.Pow.{pow-add}
 use Rattle.numbers.specs.Sum.{sumℕ}
 use Rattle.numbers.proofs.Sums.{natural, sum-ext, sum-mul, sum-mul-right, sum-swap}
 use Rattle.numbers.proofs.Congruence.{eq-≅, refl-≅, sym-≅, _⨾_, mul-≅, mod-≅, same-mod}
+use Rattle.numbers.proofs.Modular.{sumℕ-≅, only-≅}
 use Rattle.lists.specs.Entries.{Below}
-use Rattle.lists.proofs.Entries.{tab-at, tab-ext}
+use Rattle.lists.proofs.Entries.{tab-at, tab-ext, below-ext}
 use Rattle.transform.specs.Transform.{transformed, inverted}
 use Rattle.transform.specs.Level.{sums, scaled}
-use Rattle.transform.proofs.Extra.{sumℕ-≅, only-≅, below-ext}
 use Rattle.transform.proofs.Seven.{_≈_, seven-turn, seven-minus, forty-nine, seven-back, forty-nine-back}
 use Rattle.transform.proofs.Roots.{rootSum, roots-off, roots-on}
 use Rattle.transform.proofs.Sizes.{transformed-length, transformed-below, inverted-length, inverted-below}

@@ -17,10 +17,10 @@ use lib.Pow.{pow-add}
 use Rattle.numbers.specs.Sum.{sum, sumℕ}
 use Rattle.numbers.proofs.Sums.{natural, sum-ext, sum-mul, sum-double}
 use Rattle.numbers.proofs.Congruence.{eq-≅, refl-≅, sym-≅, _⨾_, add-≅, mul-≅, mod-≅, same-mod}
+use Rattle.numbers.proofs.Modular.{more-≅, sumℕ-≅}
 use Rattle.lists.specs.Entries.{Below}
 use Rattle.lists.proofs.Entries.{tab-ext}
 use Rattle.transform.specs.Level.{low, high, Quarter, first, second, third, fourth, place, joined, entry, Joined, remainders, sums}
-use Rattle.transform.proofs.Extra.{more-≅, sumℕ-≅}
 use Rattle.transform.proofs.Seven.{_≈_, seven-turn, seven-minus}
 
 pub part : List ℕ → ℕ → ℕ → ℕ → ℕ → ℕ → ℕ

@@ -1,4 +1,3 @@
-pub mod Extra
 pub mod Seven
 pub mod Levels
 pub mod Joins

@@ -13,14 +13,13 @@ use lib.ListN.{length, getD}
 use Rattle.numbers.specs.Residue.{_≅⟨_⟩_, distance, apart}
 use Rattle.numbers.proofs.Congruence.{eq-≅, refl-≅, sym-≅, _⨾_, add-≅, residue-≅, same-residue}
 use Rattle.lists.specs.Entries.{nums, ints, Below}
-use Rattle.lists.proofs.Entries.{tab-ext, nums-tab}
+use Rattle.lists.proofs.Entries.{tab-ext, nums-tab, below-ext}
 use Rattle.polynomial.specs.Product.{product}
 use Rattle.polynomial.specs.Mixing.{mixed, bare, difference}
 use Rattle.polynomial.proofs.Laws.{product-≅}
 use Rattle.polynomial.proofs.Mixing.{mixed-length, mixed-below, mixed-at, apart-difference}
 use Rattle.transform.specs.Transform.{transformed, inverted, entrywise, multiplied, summed}
 use Rattle.transform.specs.Mixing.{reduced, mixedThrough, bareThrough, valueThrough}
-use Rattle.transform.proofs.Extra.{below-ext}
 use Rattle.transform.proofs.Sizes.{summed-length, summed-below, mixedThrough-length, mixedThrough-below}
 use Rattle.transform.proofs.Inverses.{inverted-transformed, transformed-inverted}
 use Rattle.transform.proofs.Products.{multiplied-at, summed-at, transformed-multiplied, multiplied-through, transformed-summed}

@@ -13,11 +13,11 @@ use lib.Pow.{pow-add}
 use Rattle.numbers.specs.Residue.{_≅⟨_⟩_}
 use Rattle.numbers.proofs.Sums.{natural, sum-ext, sum-add, pos-sum}
 use Rattle.numbers.proofs.Congruence.{eq-≅, refl-≅, sym-≅, _⨾_, add-≅, mul-≅, mod-≅, residue-≅}
+use Rattle.numbers.proofs.Modular.{minus-≅, sumℕ-≅}
 use Rattle.lists.specs.Entries.{nums}
-use Rattle.lists.proofs.Entries.{tab-at, nums-tab}
+use Rattle.lists.proofs.Entries.{tab-at, nums-tab, below-ext}
 use Rattle.polynomial.specs.Product.{product}
 use Rattle.transform.specs.Transform.{transformed, inverted, entrywise, multiplied, summed}
-use Rattle.transform.proofs.Extra.{minus-≅, sumℕ-≅, below-ext}
 use Rattle.transform.proofs.Seven.{_≈_, seven-turn, seven-minus}
 use Rattle.transform.proofs.Evaluate.{value, Point, value-≅, value-product}
 use Rattle.transform.proofs.Sizes.{transformed-length, transformed-below, entrywise-length, entrywise-below, multiplied-length, multiplied-below, summed-length, summed-below}

@@ -10,9 +10,9 @@ use native.Mathlib.Decide.{ℕ-discrete}
 use lib.IntN.{pos}
 use lib.Pow.{pow-add}
 use Rattle.numbers.specs.Sum.{sumℕ}
-use Rattle.numbers.proofs.Sums.{natural, sum-ext, sum-mul, sum-split}
+use Rattle.numbers.proofs.Sums.{natural, sum-ext, sum-mul, sum-split, sum-ones}
 use Rattle.numbers.proofs.Congruence.{eq-≅, refl-≅, _⨾_, add-≅, mul-≅}
-use Rattle.transform.proofs.Extra.{more-≅, sumℕ-≅, sum-ones}
+use Rattle.numbers.proofs.Modular.{more-≅, sumℕ-≅}
 use Rattle.transform.proofs.Seven.{_≈_, seven-turn, seven-minus}
 
 -- the sum of n powers, at the step 2 s d, is 0 unless n divides d

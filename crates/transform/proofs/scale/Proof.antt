@@ -7,9 +7,8 @@ use native.Mathlib.Omega.{arith}
 use native.Mathlib.Nat.{mod-eq-of-lt}
 use lib.ListN.{length, getD, length-set}
 use Rattle.lists.specs.Entries.{tab}
-use Rattle.lists.proofs.Fill.{Filled, fill-next, fill-end}
+use Rattle.lists.proofs.Fill.{Filled, fill-next, fill-end, fill-first}
 use Rattle.transform.specs.Level.{scaled}
-use Rattle.transform.proofs.Extra.{fill-first}
 use Rattle.transform.proofs.Seven.{powers-at, powers-lt}
 use Rattle.transform.proofs.Joins.{product-fits}
 use Rattle.transform.proofs.scale.Statement.{statement}

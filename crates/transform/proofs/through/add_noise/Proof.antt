@@ -9,10 +9,10 @@ use mir.Facts.{toZ-ofZ}
 use Rattle.numbers.specs.Residue.{residue}
 use Rattle.numbers.proofs.Congruence.{residue-lt}
 use Rattle.lists.specs.Entries.{ints}
-use Rattle.lists.proofs.Fill.{Filled, fill-start, fill-next}
-use Rattle.transform.proofs.Entrywise.{fill-whole, noised}
+use Rattle.lists.proofs.Fill.{Filled, fill-start, fill-next, fill-whole}
 use Rattle.transform.proofs.through.add_noise.Statement.{statement}
 use Rattle.transform.proofs.through.add_noise.Tie as tie
+use Rattle.transform.proofs.Entrywise.{noised}
 
 abbrev Inv-loop : tie.InvT-loop
 Inv-loop x e out₀ k₀ out k = Filled (λ k. (getD x k 0 + residue 12289 (ints e k)) % 12289) out₀ out k

@@ -5,8 +5,7 @@ use Prim.Native.Nat.{_-_}
 use native.Mathlib.Omega.{arith}
 use lib.ListN.{getD}
 use Rattle.lists.proofs.Entries.{tab-getD}
-use Rattle.lists.proofs.Fill.{Filled, fill-start, fill-next}
-use Rattle.transform.proofs.Entrywise.{fill-whole}
+use Rattle.lists.proofs.Fill.{Filled, fill-start, fill-next, fill-whole}
 use Rattle.transform.proofs.through.put.Statement.{statement}
 use Rattle.transform.proofs.through.put.Tie as tie
 

@@ -4,10 +4,9 @@ use mathlib.Core.Path.{ap}
 use Prim.Native.Nat.{ℕ, _-_, _*_, _%_}
 use native.Mathlib.Omega.{arith}
 use lib.ListN.{getD}
-use Rattle.lists.proofs.Fill.{Filled, fill-start, fill-next, fill-old}
+use Rattle.lists.proofs.Fill.{Filled, fill-start, fill-next, fill-old, fill-whole}
 use Rattle.transform.specs.Transform.{entrywise}
 use Rattle.transform.proofs.Joins.{product-fits}
-use Rattle.transform.proofs.Entrywise.{fill-whole}
 use Rattle.transform.proofs.through.weigh.Statement.{statement}
 use Rattle.transform.proofs.through.weigh.Tie as tie
 
