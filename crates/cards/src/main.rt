@@ -1,0 +1,242 @@
+// The bench cards, run: 01, "Bench cards". A line has a card's inputs and what the library's functions give for them. It begins with `*` where 01 marks the card,
+// which is then a theorem on the definitions too (`specs/Table.antt`). `stdout` is what the second program prints, less its cards of the calls Reply and Finish.
+use exchange::Answer;
+use libc::STDOUT_FILENO;
+use newhope::Four;
+ghost use Prim.Native.Nat.{_<_};
+ghost use Rattle.lists.specs.Entries.{Below};
+
+fn text(t: &[u8]) {
+    io::write_all(STDOUT_FILENO, t);
+}
+
+fn number(n: u64) {
+    io::print_decimal(STDOUT_FILENO, n);
+}
+
+fn signed(z: i32) {
+    if z < 0 {
+        text(b"-");
+    }
+    number(numbers::size32(z) as u64);
+}
+
+// A name and its number.
+fn field(name: &[u8], n: u32) {
+    text(name);
+    number(n as u64);
+}
+
+// Entry i of a list, behind a comma unless it is the first.
+fn entry(i: usize, x: u32) {
+    if 0 < i {
+        text(b",");
+    }
+    number(x as u64);
+}
+
+// A name and its numbers.
+fn list(name: &[u8], xs: &[u32; 1024]) {
+    text(name);
+    let mut i: usize = 0;
+    while i < 1024 {
+        entry(i, xs[i]);
+        i += 1;
+    }
+}
+
+fn four(name: &[u8], x: Four) {
+    field(name, x.e0);
+    field(b",", x.e1);
+    field(b",", x.e2);
+    field(b",", x.e3);
+}
+
+// A hexadecimal digit, in upper case.
+fn digit(d: u8) -> u8
+    requires { ⌜ d < 16 ⌝ }
+{
+    if d < 10 { b'0' + d } else { b'A' - 10 + d }
+}
+
+fn byte(x: u8) {
+    text(&[digit(x / 16), digit(x % 16)]);
+}
+
+fn bcns_value(v: u32, coin: u32)
+    requires { ⌜ v < 4294967295 ⌝ }
+{
+    let z = bcns::double(coin, v);
+    field(b"* bcns v=", v);
+    field(b" coin=", coin);
+    field(b" : hint=", bcns::hint(z));
+    field(b" bit=", bcns::key(z));
+    text(b"\n");
+}
+
+fn bcns_peer(w: u32, h: u32)
+    requires { ⌜ (h < 2) × (w < 4294967295) ⌝ }
+{
+    field(b"* bcns w=", w);
+    field(b" hint=", h);
+    field(b" : bit=", bcns::peer(h, w));
+    text(b"\n");
+}
+
+// Frodo Recommended: q is 32768, an entry has 4 key bits, so the interval is 2048.
+fn frodo_value(v: u32)
+    requires { ⌜ v < 32768 ⌝ }
+{
+    field(b"* frodo scheme=4 v=", v);
+    field(b" : hint=", frodo::hint(2048, 4, v));
+    field(b" key=", frodo::key(2048, 4, v));
+    text(b"\n");
+}
+
+fn frodo_peer(w: u32, h: u32)
+    requires { ⌜ (h < 2) × (w < 32768) ⌝ }
+{
+    field(b"* frodo scheme=4 w=", w);
+    field(b" hint=", h);
+    field(b" : key=", frodo::peer(2048, 4, h, w));
+    text(b"\n");
+}
+
+// Four entries that are all x.
+fn newhope_group(x: u32, coin: u32)
+    requires { ⌜ (coin < 2) × (x < 12289) ⌝ }
+{
+    let group = Four {
+        e0: x,
+        e1: x,
+        e2: x,
+        e3: x,
+    };
+    let hint = newhope::hint(coin, group);
+    four(b"* newhope x=", group);
+    field(b" coin=", coin);
+    four(b" : hint=", hint);
+    field(b" bit=", newhope::bit(hint, group));
+    text(b"\n");
+}
+
+fn newhope_noise(a: u8, b: u8, c: u8, d: u8) {
+    let mut out = [0i32; 1];
+    noise::newhope(&[a, b, c, d], &mut out);
+    text(b"* noise scheme=1 bytes=");
+    byte(a);
+    byte(b);
+    byte(c);
+    byte(d);
+    text(b" : value=");
+    signed(out[0]);
+    text(b"\n");
+}
+
+// The word as its two bytes, the lower first.
+fn frodo_noise(word: u16) {
+    let mut out = [0i32; 1];
+    noise::recommended(&[(word % 256) as u8, (word / 256) as u8], &mut out);
+    field(b"* noise scheme=4 word=", word as u32);
+    text(b" : value=");
+    signed(out[0]);
+    text(b"\n");
+}
+
+// X^k.
+fn power(k: usize) -> [u32; 1024]
+    requires { ⌜ k < 1024 ⌝ }
+    ensures { λ r. ⌜ Below 12289 r ⌝ }
+{
+    let mut g = [0u32; 1024];
+    g[k] = 1;
+    g
+}
+
+// Of X^k, which is called by the name.
+fn transform_of(name: &[u8], k: usize)
+    requires { ⌜ k < 1024 ⌝ }
+{
+    let mut g = power(k);
+    transform::forward(&mut g);
+    text(b"- transform of=");
+    text(name);
+    list(b" : ", &g);
+    text(b"\n");
+}
+
+fn product_card() {
+    let mut a = power(1023);
+    let mut b = power(1);
+    transform::product(&mut a, &mut b);
+    list(b"- product of=X^1023,X : ", &a);
+    text(b"\n");
+}
+
+// A call's answer: that it passes, or the refusal with its place.
+fn told(answer: Answer) {
+    match answer {
+        Answer::Done(_) => text(b"passes"),
+        Answer::Refused(r) => {
+            field(b"refusal=", r.number());
+            text(b" place=");
+            number(r.place() as u64);
+        }
+    }
+}
+
+// Of the empty stream.
+fn expand_card() {
+    let stream = [0u8; 0];
+    let mut out = [0u32; 1024];
+    let answer = exchange::expand(&stream, &mut out);
+    text(b"- expand stream= : ");
+    told(answer);
+    text(b"\n");
+}
+
+fn bcns_cards() {
+    bcns_value(1073741824, 2);
+    bcns_peer(1610612735, 0);
+    bcns_peer(1610612736, 0);
+    bcns_value(1073741824, 0);
+    bcns_value(0, 2);
+}
+
+fn frodo_cards() {
+    frodo_value(1023);
+    frodo_peer(1535, 0);
+    frodo_peer(1536, 0);
+    frodo_value(32767);
+    frodo_peer(0, 1);
+}
+
+fn newhope_cards() {
+    newhope_group(0, 0);
+    newhope_group(0, 1);
+    newhope_group(6144, 0);
+    newhope_group(1536, 0);
+}
+
+fn noise_cards() {
+    newhope_noise(255, 255, 0, 0);
+    newhope_noise(1, 0, 3, 0);
+    frodo_noise(1205);
+    frodo_noise(1206);
+    frodo_noise(4095);
+}
+
+fn transform_cards() {
+    transform_of(b"1", 0);
+    transform_of(b"X", 1);
+    product_card();
+}
+
+fn main() {
+    bcns_cards();
+    frodo_cards();
+    newhope_cards();
+    noise_cards();
+    transform_cards();
+    expand_card();
+}

@@ -1,0 +1,105 @@
+-- The line program, from the input's bytes to the output's: 01, "The line program".
+--   question a b c d   the text of a question: four lines
+--   asked xs           the four numbers of a question, or that xs is other text
+--   settled a b c d    the answer's text: hint, key and the peer's key; or a refusal: 1, 9, 4, in that order
+--   answered xs        the output of every input: 8 for other text
+use mathlib.Core.Bool.{cond}
+use mathlib.Core.List.{List, [], _∷_, _++_}
+use Prim.Native.Nat.{ℕ}
+use lib.Dec.{eqb, ltb}
+use Rattle.lists.specs.Table.{both}
+use Rattle.bcns.specs.Rounding as bcns
+use Rattle.frodo.specs.Rounding as frodo
+use Rattle.line.specs.Text.{line, Read, number, other, fieldIn}
+
+-- the names, in bytes
+abbrev pub schemeName : List ℕ
+schemeName = 115 ∷ 99 ∷ 104 ∷ 101 ∷ 109 ∷ 101 ∷ []
+
+abbrev pub coinName : List ℕ
+coinName = 99 ∷ 111 ∷ 105 ∷ 110 ∷ []
+
+abbrev pub vName : List ℕ
+vName = 118 ∷ []
+
+abbrev pub wName : List ℕ
+wName = 119 ∷ []
+
+abbrev pub hintName : List ℕ
+hintName = 104 ∷ 105 ∷ 110 ∷ 116 ∷ []
+
+abbrev pub keyName : List ℕ
+keyName = 107 ∷ 101 ∷ 121 ∷ []
+
+abbrev pub peerName : List ℕ
+peerName = 112 ∷ 101 ∷ 101 ∷ 114 ∷ []
+
+abbrev pub refusalName : List ℕ
+refusalName = 114 ∷ 101 ∷ 102 ∷ 117 ∷ 115 ∷ 97 ∷ 108 ∷ []
+
+unfoldable pub question : ℕ → ℕ → ℕ → ℕ → List ℕ
+question a b c d = line schemeName a ++ line coinName b ++ line vName c ++ line wName d
+
+-- ---- reading: the four lines one after the other, and nothing behind them
+
+pub data Asked : Type 0 where
+  numbers : ℕ → ℕ → ℕ → ℕ → Asked
+  text : Asked
+
+unfoldable pub endIn : ℕ → ℕ → ℕ → Read → Asked
+endIn a b c (number d []) = numbers a b c d
+endIn a b c (number d (x ∷ xs)) = text
+endIn a b c other = text
+
+unfoldable pub wIn : ℕ → ℕ → Read → Asked
+wIn a b (number c xs) = endIn a b c (fieldIn wName xs)
+wIn a b other = text
+
+unfoldable pub vIn : ℕ → Read → Asked
+vIn a (number b xs) = wIn a b (fieldIn vName xs)
+vIn a other = text
+
+unfoldable pub coinIn : Read → Asked
+coinIn (number a xs) = vIn a (fieldIn coinName xs)
+coinIn other = text
+
+unfoldable pub asked : List ℕ → Asked
+asked xs = coinIn (fieldIn schemeName xs)
+
+-- ---- answering
+
+unfoldable pub refusal : ℕ → List ℕ
+refusal n = line refusalName n
+
+unfoldable pub shown : ℕ → ℕ → ℕ → List ℕ
+shown hint key peer = line hintName hint ++ line keyName key ++ line peerName peer
+
+unfoldable pub bcnsAnswer : ℕ → ℕ → ℕ → List ℕ
+bcnsAnswer coin v w =
+    cond (ltb 3 coin) (refusal 9)
+    (cond (both (ltb v bcns.q) (ltb w bcns.q))
+    (shown (bcns.hintOf (bcns.doubled coin v)) (bcns.keyOf (bcns.doubled coin v)) (bcns.peerOf (bcns.hintOf (bcns.doubled coin v)) w))
+    (refusal 4))
+
+-- over q, the interval I and the bits B
+unfoldable pub frodoAnswer : ℕ → ℕ → ℕ → ℕ → ℕ → ℕ → List ℕ
+frodoAnswer q I B coin v w =
+    cond (ltb 0 coin) (refusal 9)
+    (cond (both (ltb v q) (ltb w q)) (shown (frodo.hintOf I v) (frodo.keyOf I B v) (frodo.peerOf I B (frodo.hintOf I v) w)) (refusal 4))
+
+-- 1 for a scheme not 0 or 2..5
+unfoldable pub settled : ℕ → ℕ → ℕ → ℕ → List ℕ
+settled scheme coin v w =
+    cond (eqb scheme 0) (bcnsAnswer coin v w)
+    (cond (eqb scheme 2) (frodoAnswer 2048 1024 1 coin v w)
+    (cond (eqb scheme 3) (frodoAnswer 4096 1024 2 coin v w)
+    (cond (eqb scheme 4) (frodoAnswer 32768 2048 4 coin v w)
+    (cond (eqb scheme 5) (frodoAnswer 32768 2048 4 coin v w)
+    (refusal 1)))))
+
+unfoldable pub answerTo : Asked → List ℕ
+answerTo (numbers a b c d) = settled a b c d
+answerTo text = refusal 8
+
+unfoldable pub answered : List ℕ → List ℕ
+answered xs = answerTo (asked xs)
