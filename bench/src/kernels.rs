@@ -57,7 +57,7 @@ pub fn transform_product(a: &mut [u32; 1024], b: &mut [u32; 1024]) {
 }
 
 fn fits(q: u32, n: usize, rows: usize, numbers: &[u32], s: &[i32]) -> bool {
-    1 <= q && q <= 32768 && 1 <= n && n <= 864 && 1 <= rows && rows <= 864 && numbers.len() == rows * n && s.len() == 8 * n && below(q, numbers) && within(6, s)
+    1 <= q && q <= 32768 && 65536 % q == 0 && 1 <= n && n <= 864 && 1 <= rows && rows <= 864 && numbers.len() == rows * n && s.len() == 8 * n && below(q, numbers) && within(6, s)
 }
 
 /// X s + e, X of r rows of n numbers, s of n rows of 8.

@@ -128,7 +128,7 @@ fn frodo(n: usize, q: u32, a: &[u32], s: &[i32], e: &[i32]) {
 
 #[test]
 fn frodo_products() {
-    for (n, q) in [(352, 2048), (592, 4096), (752, 32768), (864, 32768), (8, 7), (9, 32767), (10, 2), (11, 1), (15, 12289)] {
+    for (n, q) in [(352, 2048), (592, 4096), (752, 32768), (864, 32768), (8, 8), (9, 32768), (10, 2), (11, 1), (15, 16384)] {
         let mut draw = Draw::new(n as u32);
         frodo(n, q, &draw.numbers(n * n, q), &draw.secrets(8 * n, 6), &draw.secrets(8 * n, 6));
     }

@@ -56,6 +56,7 @@ pub record Frodo (f : Fixed) : Type 0 where
   pub groups : f .groups ≡ 64
   pub hintbits : f .hintbits ≡ 1
   pub whole : interval f * 2 ^ f .keybits ≡ f .q
+  pub words : 65536 % f .q ≡ 0
   pub round : Round (interval f) (f .keybits)
 
 abbrev pub Numbers : Family → Fixed → Type 0
@@ -65,8 +66,8 @@ Numbers Family.Frodo f = Frodo f
 
 -- by tests that the checker computes
 frodo-numbers : (n q largest D B key : ℕ) → T (leb 1 n) → T (leb n 864) → T (leb 1 q) → T (leb q 32768) → T (leb largest 6)
-    → q / 2 ^ B * 2 ^ B ≡ q → T (leb 1 (q / 2 ^ B)) → q / 2 ^ B % 4 ≡ 0 → Frodo (frodo n q largest D B key)
-frodo-numbers n q largest D B key t0 t1 t2 t3 t4 e t5 d =
+    → q / 2 ^ B * 2 ^ B ≡ q → 65536 % q ≡ 0 → T (leb 1 (q / 2 ^ B)) → q / 2 ^ B % 4 ≡ 0 → Frodo (frodo n q largest D B key)
+frodo-numbers n q largest D B key t0 t1 t2 t3 t4 e w t5 d =
     record {
       some = lit≤ t0;
       few = lit≤ t1;
@@ -80,6 +81,7 @@ frodo-numbers n q largest D B key t0 t1 t2 t3 t4 e t5 d =
       groups = refl;
       hintbits = refl;
       whole = e;
+      words = w;
       round = record { some = lit≤ t5; quarters = d; room = let r : q ≤ 32768 = lit≤ t3 in omega arith };
     }
 
@@ -109,10 +111,10 @@ numbers-of Scheme.NewHope =
       keybits = refl;
       coinbits = refl;
     }
-numbers-of Scheme.Challenge = frodo-numbers 352 2048 3 11 1 8 tt tt tt tt tt refl tt refl
-numbers-of Scheme.Classical = frodo-numbers 592 4096 4 12 2 16 tt tt tt tt tt refl tt refl
-numbers-of Scheme.Recommended = frodo-numbers 752 32768 5 15 4 32 tt tt tt tt tt refl tt refl
-numbers-of Scheme.Paranoid = frodo-numbers 864 32768 6 15 4 32 tt tt tt tt tt refl tt refl
+numbers-of Scheme.Challenge = frodo-numbers 352 2048 3 11 1 8 tt tt tt tt tt refl refl tt refl
+numbers-of Scheme.Classical = frodo-numbers 592 4096 4 12 2 16 tt tt tt tt tt refl refl tt refl
+numbers-of Scheme.Recommended = frodo-numbers 752 32768 5 15 4 32 tt tt tt tt tt refl refl tt refl
+numbers-of Scheme.Paranoid = frodo-numbers 864 32768 6 15 4 32 tt tt tt tt tt refl refl tt refl
 
 pub numbers-in : (s : Scheme) {F : Family} → familyOf s ≡ F → Numbers F (fixedOf s)
 numbers-in s e = subst (λ (F : Family). Numbers F (fixedOf s)) e (numbers-of s)

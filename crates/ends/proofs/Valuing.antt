@@ -65,6 +65,7 @@ module _ {f g : Fixed} {a : List ℕ} {s : List ℤ} {l : ℕ} (d : g ≡ f) whe
         record {
           some = k .q-some;
           room = k .q-room;
+          whole = k .words;
           many = k .some;
           few = k .few;
           rows-many = o;

@@ -1,20 +1,23 @@
--- Parts of lists, as they are lent, once over the element.
+-- Parts of lists, as they are lent, once over the element; and congruence modulo a divisor.
 --   part-long, part-at     a part that is read: its length, its entries
---   part-below, part-within   and that they are as small as those of the list
+--   part-below             and that they are as small as those of the list
 --   tab-split              a table of a + n entries, in two
 --   rows-start, rows-next, fill-rest   a filling loop that writes n entries at a time: before, at each turn, and what it is still to make
+--   finer-≅                numbers that are congruent modulo a multiple of q are so modulo q
 -- Assumes nothing.
 use mathlib.Core.Path.{_≡_, _∙_, sym, ap, ap₂, subst}
 use mathlib.Core.List.{List, _∷_, _++_, append-assoc}
-use Prim.Native.Nat.{ℕ, zero, suc, _+_, _*_, _-_, _<_, _≤_}
+use Prim.Native.Nat.{ℕ, zero, suc, _+_, _*_, _-_, _/_, _%_, _<_, _≤_}
 use native.Mathlib.Omega.{arith}
 use native.Mathlib.Decide.{decLt}
-use native.Mathlib.Nat.{zero-add, zero-mul, suc-add, le-refl}
+use native.Mathlib.Nat.{zero-add, zero-mul, suc-add, le-refl, div-add-mod'}
 use lib.ListN.{length, getD, take, drop, length-take, length-drop, List·getD-eq-default}
 use lib.Seq.{getD-take, getD-drop, take-at, drop-at, drop-drop}
-use lib.IntN.{ℤ, pos, natAbs}
+use lib.IntN.{ℤ, pos, _+ℤ_, _*ℤ_}
 use borrow.Rule.Slice.PartMut.{putMid, same-len-mid}
-use Rattle.lists.specs.Entries.{tab, Below, Within}
+use Rattle.numbers.specs.Residue.{_≅⟨_⟩_}
+use Rattle.numbers.proofs.Ring.{mul-assoc}
+use Rattle.lists.specs.Entries.{tab, Below}
 use Rattle.lists.proofs.Entries.{tab-length, tab-ext}
 use Rattle.lists.proofs.Fill.{Filled, fill-start}
 
@@ -77,5 +80,11 @@ module _ {A : Type 0} where
 pub part-below : (b a n : ℕ) (l : List ℕ) → Below b l → Below b (take (a + n - a) (drop a l))
 part-below b a n l p = record { below = part-all (λ x. x < b) a n l 0 (p .below) }
 
-pub part-within : (b a n : ℕ) (l : List ℤ) → Within b l → Within b (take (a + n - a) (drop a l))
-part-within b a n l p = record { within = part-all (λ x. natAbs x ≤ b) a n l (pos 0) (p .within) }
+-- what is congruent modulo a multiple of q
+pub finer-≅ : {w q : ℕ} {x y : ℤ} → w % q ≡ 0 → x ≅⟨ w ⟩ y → x ≅⟨ q ⟩ y
+finer-≅ {w} {q} {x} {y} h f =
+    let m : w ≡ w / q * q = omega (arith, div-add-mod' w q) in
+    record {
+      times = f .times *ℤ pos (w / q);
+      equal = f .equal ∙ ap (λ (z : ℤ). y +ℤ z) (ap (λ (k : ℕ). f .times *ℤ pos k) m ∙ sym (mul-assoc (f .times) (pos (w / q)) (pos q)));
+    }

@@ -2,7 +2,6 @@ pub mod Laws
 pub mod Rows
 pub mod Mixing
 pub mod Extra
-pub mod Product
 pub mod Quotient
 pub mod Steps
 pub mod Terms

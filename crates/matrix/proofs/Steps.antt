@@ -1,109 +1,119 @@
--- Sums that start as the noise, gain products and are reduced once: what XS + E, SY + E and US have in common.
+-- Sums of words that start as the noise, gain products and are reduced once: what XS + E, SY + E and US have in common.
+--   words-length, words-at     secrets or noise as words: how many, and an entry
 --   gained-length, gained-at, gained-none   a list of sums: its length, its entries, and with no product yet
 --   gain-next, gained-next, gained-more   one product more for a sum; for each; n more
---   term-size, gain-size       the size of a product; of a sum, by bounds on what it started as and on its products
---   gained-within, gained-under   the same of a list of sums; where no product is larger than 32768 * 6
---   reduced-gained, mixed    its remainders, by place; by row and column
---   begin-within, steps-long, steps-within, steps-are   from the noise to the remainders, in three steps
+--   reduced-gained, steps-are  from the noise to the remainders, by place; in three steps
+--   mixed                      they are those of the whole sums, by row and column
 -- Assumes nothing.
 use mathlib.Core.Path.{_≡_, _∙_, sym, ap}
 use mathlib.Core.List.{List}
-use Prim.Native.Nat.{ℕ, _+_, _*_, _/_, _%_, _^_, _<_, _≤_}
+use Prim.Native.Nat.{ℕ, _+_, _*_, _/_, _%_, _<_}
 use native.Mathlib.Omega.{arith}
-use native.Mathlib.Nat.{mul-le-mul-right}
+use native.Mathlib.Nat.{mod-add-mod, div-add-mod'}
 use native.Mathlib.Numerals.{add-one}
-use lib.ListN.{length}
-use lib.IntN.{ℤ, pos, natAbs, _+ℤ_, _*ℤ_, +ℤ-idr, +ℤ-assoc}
-use Rattle.numbers.specs.Sum.{sum, sumℤ}
-use Rattle.numbers.specs.Residue.{residue}
-use Rattle.numbers.proofs.Sums.{whole, sum-split}
-use Rattle.numbers.proofs.Size.{abs-add, abs-mul-≤, abs-sum}
-use Rattle.lists.specs.Entries.{tab, nums, ints, Below, Within}
-use Rattle.lists.proofs.Entries.{tab-length, tab-at, tab-ext, tab-getD, within-tab}
-use Rattle.matrix.specs.Matrix.{rows}
-use Rattle.matrix.specs.Steps.{gained, reduced}
+use lib.ListN.{length, getD}
+use lib.IntN.{ℤ, pos, _+ℤ_, _*ℤ_, +ℤ-comm}
+use Rattle.numbers.specs.Sum.{sum, sumℕ, sumℤ}
+use Rattle.numbers.specs.Residue.{residue, _≅⟨_⟩_}
+use Rattle.numbers.proofs.Sums.{natural, sum-split, pos-sum}
+use Rattle.numbers.proofs.Congruence.{eq-≅, _⨾_, add-≅, sum-≅, mod-≅, residue-≅, same-residue}
+use Rattle.lists.specs.Entries.{tab, ints}
+use Rattle.lists.proofs.Entries.{tab-length, tab-at, tab-ext, tab-getD}
+use Rattle.matrix.specs.Matrix.{times, rows, intsAt}
+use Rattle.matrix.specs.Steps.{wordsOf, gained, reduced}
+use Rattle.matrix.proofs.Extra.{finer-≅}
 
-pub gained-length : (n : ℕ) (f : ℕ → ℕ → ℤ) (zs : List ℤ) → length (gained n f zs) ≡ length zs
+pub words-length : (zs : List ℤ) → length (wordsOf zs) ≡ length zs
+unfolding wordsOf
+words-length zs = tab-length (length zs) _
+
+pub words-at : (zs : List ℤ) (k : ℕ) → k < length zs → getD (wordsOf zs) k 0 ≡ residue 65536 (ints zs k)
+unfolding wordsOf
+words-at zs k p = tab-at (length zs) _ k 0 p
+
+-- ---- products
+
+pub gained-length : (n : ℕ) (f : ℕ → ℕ → ℕ) (ws : List ℕ) → length (gained n f ws) ≡ length ws
 unfolding gained
-gained-length n f zs = tab-length (length zs) _
+gained-length n f ws = tab-length (length ws) _
 
-pub gained-at : (n : ℕ) (f : ℕ → ℕ → ℤ) (zs : List ℤ) (k : ℕ) → k < length zs → ints (gained n f zs) k ≡ ints zs k +ℤ sumℤ n (f k)
-unfolding gained ints
-gained-at n f zs k p = tab-at (length zs) _ k (pos 0) p
+pub gained-at : (n : ℕ) (f : ℕ → ℕ → ℕ) (ws : List ℕ) (k : ℕ) → k < length ws → getD (gained n f ws) k 0 ≡ (getD ws k 0 + sumℕ n (f k)) % 65536
+unfolding gained
+gained-at n f ws k p = tab-at (length ws) _ k 0 p
 
-pub gained-none : (f : ℕ → ℕ → ℤ) (zs : List ℤ) → gained 0 f zs ≡ zs
-unfolding gained ints sum
-gained-none f zs = tab-ext (length zs) _ _ (λ k p. +ℤ-idr (ints zs k)) ∙ tab-getD zs (pos 0)
+pub gained-none : (f : ℕ → ℕ → ℕ) (ws : List ℕ) → ((k : ℕ) → getD ws k 0 < 65536) → gained 0 f ws ≡ ws
+unfolding gained sum
+gained-none f ws b = tab-ext (length ws) _ _ (λ k p. let h = b k in omega arith) ∙ tab-getD ws 0
 
-pub gain-next : (t : ℕ) (z : ℤ) (f : ℕ → ℤ) → (z +ℤ sumℤ t f) +ℤ f t ≡ z +ℤ sumℤ (t + 1) f
+-- a sum that wrapped before it gained x
+wrapped : (z s x : ℕ) → ((z + s) % 65536 + x) % 65536 ≡ (z + (s + x)) % 65536
+wrapped z s x = mod-add-mod (z + s) 65536 x ∙ ap (λ (k : ℕ). k % 65536) (omega arith)
+
+pub gain-next : (t z : ℕ) (f : ℕ → ℕ) → ((z + sumℕ t f) % 65536 + f t) % 65536 ≡ (z + sumℕ (t + 1) f) % 65536
 unfolding sum
-gain-next t z f = rw add-one (+ℤ-assoc z (sumℤ t f) (f t))
+gain-next t z f = rw add-one (wrapped z (sumℕ t f) (f t))
 
 -- of sums l that have gained t products
-pub gained-next : (t n : ℕ) (f : ℕ → ℕ → ℤ) (zs : List ℤ) {l m : List ℤ} → length zs ≡ n → l ≡ gained t f zs → m ≡ tab n (λ k. ints l k +ℤ f k t)
-    → m ≡ gained (t + 1) f zs
+pub gained-next : (t n : ℕ) (f : ℕ → ℕ → ℕ) (ws : List ℕ) {l m : List ℕ} → length ws ≡ n → l ≡ gained t f ws
+    → m ≡ tab n (λ k. (getD l k 0 + f k t) % 65536) → m ≡ gained (t + 1) f ws
 unfolding gained
-gained-next t n f zs s e d =
+gained-next t n f ws s e d =
     d
     ∙ rw (e, ← s)
-    (tab-ext (length zs) _ _ (λ k p. ap (λ (z : ℤ). z +ℤ f k t) (gained-at t f zs k p) ∙ gain-next t (ints zs k) (f k)))
+    (tab-ext (length ws) _ _ (λ k p. ap (λ (z : ℕ). (z + f k t) % 65536) (gained-at t f ws k p) ∙ gain-next t (getD ws k 0) (f k)))
 
-pub gained-more : (t n : ℕ) (f : ℕ → ℕ → ℤ) (zs : List ℤ) {l m : List ℤ} → l ≡ gained t f zs → m ≡ gained n (λ k u. f k (t + u)) l
-    → m ≡ gained (t + n) f zs
+pub gained-more : (t n : ℕ) (f : ℕ → ℕ → ℕ) (ws : List ℕ) {l m : List ℕ} → l ≡ gained t f ws → m ≡ gained n (λ k u. f k (t + u)) l
+    → m ≡ gained (t + n) f ws
 unfolding gained
-gained-more t n f zs e d =
+gained-more t n f ws e d =
     d
     ∙ ap (gained n (λ k u. f k (t + u))) e
-    ∙ ap (λ (l : ℕ). tab l (λ k. ints (gained t f zs) k +ℤ sumℤ n (λ u. f k (t + u)))) (gained-length t f zs)
-    ∙ tab-ext (length zs) _ _
+    ∙ ap (λ (l : ℕ). tab l (λ k. (getD (gained t f ws) k 0 + sumℕ n (λ u. f k (t + u))) % 65536)) (gained-length t f ws)
+    ∙ tab-ext (length ws) _ _
     (λ k p.
-    ap (λ (z : ℤ). z +ℤ sumℤ n (λ u. f k (t + u))) (gained-at t f zs k p)
-    ∙ +ℤ-assoc (ints zs k) (sumℤ t (f k)) (sumℤ n (λ u. f k (t + u)))
-    ∙ ap (λ (z : ℤ). ints zs k +ℤ z) (sym (sum-split whole t n (f k))))
+    ap (λ (z : ℕ). (z + sumℕ n (λ u. f k (t + u))) % 65536) (gained-at t f ws k p)
+    ∙ wrapped (getD ws k 0) (sumℕ t (f k)) (sumℕ n (λ u. f k (t + u)))
+    ∙ ap (λ (z : ℕ). (getD ws k 0 + z) % 65536) (sym (sum-split natural t n (f k))))
 
--- a product, and a sum that has gained m of them
-pub term-size : {q : ℕ} (B : ℕ) (xs : List ℕ) (s : List ℤ) → Below q xs → Within B s → (i j : ℕ) → natAbs (nums xs i *ℤ ints s j) ≤ q * B
-unfolding nums ints
-term-size {q} B xs s p r i j = let h = p .below i in abs-mul-≤ (nums xs i) (ints s j) {A = q} {B = B} (omega arith) (r .within j)
+-- ---- from the noise e to the remainders
 
-pub gain-size : (B C m : ℕ) (z : ℤ) (f : ℕ → ℤ) → natAbs z ≤ B → ((u : ℕ) → natAbs (f u) ≤ C) → natAbs (z +ℤ sumℤ m f) ≤ B + m * C
-gain-size B C m z f p r = omega (arith, abs-add z (sumℤ m f), abs-sum m C f (λ u l. r u))
-
-pub gained-within : (B C m : ℕ) (f : ℕ → ℕ → ℤ) (zs : List ℤ) → Within B zs → ((k u : ℕ) → natAbs (f k u) ≤ C) → Within (B + m * C) (gained m f zs)
-unfolding gained ints
-gained-within B C m f zs p r = within-tab (B + m * C) (length zs) _ (λ k l. gain-size B C m (ints zs k) (f k) (p .within k) (r k))
-
--- where each product is that of a number below 32768 with a secret, and there are at most 864
-pub gained-under : (B D m : ℕ) (f : ℕ → ℕ → ℤ) (zs : List ℤ) → B + 864 * (32768 * 6) ≤ D → m ≤ 864 → Within B zs
-    → ((k u : ℕ) → natAbs (f k u) ≤ 32768 * 6) → Within D (gained m f zs)
-gained-under B D m f zs d l p r = record { within = λ k. omega (arith, gained-within B (32768 * 6) m f zs p r .within k) }
-
-pub reduced-gained : (q n : ℕ) (f : ℕ → ℕ → ℤ) (zs : List ℤ)
-    → reduced q (gained n f zs) ≡ tab (length zs) (λ k. residue q (ints zs k +ℤ sumℤ n (f k)))
+pub reduced-gained : (q n : ℕ) (f : ℕ → ℕ → ℕ) (e : List ℤ)
+    → reduced q (gained n f (wordsOf e)) ≡ tab (length e) (λ k. (residue 65536 (ints e k) + sumℕ n (f k)) % 65536 % q)
 unfolding reduced
-reduced-gained q n f zs =
-    ap (λ (l : ℕ). tab l (λ k. residue q (ints (gained n f zs) k))) (gained-length n f zs)
-    ∙ tab-ext (length zs) _ _ (λ k p. ap (residue q) (gained-at n f zs k p))
+reduced-gained q n f e =
+    ap (λ (l : ℕ). tab l (λ k. getD (gained n f (wordsOf e)) k 0 % q)) (gained-length n f (wordsOf e) ∙ words-length e)
+    ∙ tab-ext (length e) _ _
+    (λ k p.
+    ap (λ (x : ℕ). x % q)
+    (gained-at n f (wordsOf e) k (rw (words-length e) p) ∙ ap (λ (x : ℕ). (x + sumℕ n (f k)) % 65536) (words-at e k p)))
 
-pub mixed : (q n r c : ℕ) (f g : ℕ → ℕ → ℤ) (zs : List ℤ) → length zs ≡ r * c
-    → ((k : ℕ) → k < r * c → ints zs k +ℤ sumℤ n (f k) ≡ g (k / c) (k % c)) → reduced q (gained n f zs) ≡ rows r c (λ i j. residue q (g i j))
-unfolding rows
-mixed q n r c f g zs e h =
-    reduced-gained q n f zs
-    ∙ ap (λ (l : ℕ). tab l (λ k. residue q (ints zs k +ℤ sumℤ n (f k)))) e
-    ∙ tab-ext (r * c) _ _ (λ k p. ap (residue q) (h k p))
+-- sums l that start as the noise, m with n products more, and out, their remainders
+pub steps-are : (q n : ℕ) (f : ℕ → ℕ → ℕ) (e : List ℤ) {l m out : List ℕ} → l ≡ wordsOf e → m ≡ gained n f l → out ≡ reduced q m
+    → out ≡ reduced q (gained n f (wordsOf e))
+steps-are q n f e s g d = d ∙ ap (reduced q) (g ∙ ap (gained n f) s)
 
--- ---- the three steps: sums l that start as the noise e, m with n products more, and out, their remainders
+-- a remainder of words is that of whole numbers which they are modulo 65536
+module _ (q n : ℕ) (o : 0 < q) (w : 65536 % q ≡ 0) where
+  sum-≅-words : (z : ℤ) (f : ℕ → ℕ) (g : ℕ → ℤ) → ((t : ℕ) → t < n → pos (f t) ≅⟨ 65536 ⟩ g t)
+      → pos ((residue 65536 z + sumℕ n f) % 65536) ≅⟨ q ⟩ z +ℤ sumℤ n g
+  sum-≅-words z f g h =
+      finer-≅ w (mod-≅ 65536 (residue 65536 z + sumℕ n f) ⨾ add-≅ (residue-≅ 65536 z (omega arith)) (eq-≅ (pos-sum n f) ⨾ sum-≅ n _ g h))
 
-pub begin-within : {e l : List ℤ} → l ≡ e → Within 6 e → Within (2 ^ 29) l
-begin-within s p = rw s (record { within = λ k. omega (arith, p .within k) })
+  total : (z : ℤ) (f : ℕ → ℕ) (g : ℕ → ℤ) → ((t : ℕ) → t < n → pos (f t) ≅⟨ 65536 ⟩ g t)
+      → (residue 65536 z + sumℕ n f) % 65536 % q ≡ residue q (z +ℤ sumℤ n g)
+  unfolding residue
+  total z f g h = same-residue o (sum-≅-words z f g h)
 
-module _ (q n : ℕ) (f : ℕ → ℕ → ℤ) {e l m : List ℤ} (s : l ≡ e) (g : m ≡ gained n f l) where
-  pub steps-long : length m ≡ length e
-  steps-long = rw (g, s) (gained-length n f e)
-
-  pub steps-within : 0 < q → n ≤ 864 → Within 6 e → ((k u : ℕ) → natAbs (f k u) ≤ q * 6) → Within (5190 * q) m
-  steps-within o h p r = rw (g, s) (record { within = λ k. omega (arith, gained-within 6 (q * 6) n f e p r .within k, mul-le-mul-right q h) })
-
-  pub steps-are : {out : List ℕ} → out ≡ reduced q m → out ≡ reduced q (gained n f e)
-  steps-are d = d ∙ ap (reduced q) (g ∙ ap (gained n f) s)
+  pub mixed :
+      (r c : ℕ) (f : ℕ → ℕ → ℕ) (a b : ℕ → ℕ → ℤ) (e : List ℤ) → length e ≡ r * c →
+      ((k t : ℕ) → k < r * c → t < n → pos (f k t) ≅⟨ 65536 ⟩ a (k / c) t *ℤ b t (k % c)) →
+      reduced q (gained n f (wordsOf e)) ≡ rows r c (λ i j. residue q (times n a b i j +ℤ intsAt c e i j))
+  unfolding rows times intsAt
+  mixed r c f a b e d h =
+      reduced-gained q n f e
+      ∙ ap (λ (l : ℕ). tab l (λ k. (residue 65536 (ints e k) + sumℕ n (f k)) % 65536 % q)) d
+      ∙ tab-ext (r * c) _ _
+      (λ k p.
+      total (ints e k) (f k) _ (λ t l. h k t p l)
+      ∙ ap (residue q)
+      (+ℤ-comm (ints e k) _ ∙ ap (λ (i : ℕ). sumℤ n (λ t. a (k / c) t *ℤ b t (k % c)) +ℤ ints e i) (sym (div-add-mod' k c))))

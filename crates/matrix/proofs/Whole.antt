@@ -1,71 +1,70 @@
 -- What the code makes of whole matrices is what the definitions say.
---   column-at, fit-columns   the columns of S: an entry; they fit where S does
---   zeros-within, prefix-long   zeros as noise; as many as are lent
+--   column-at              an entry of the columns of S
+--   lent-columns, lent-words   what fits is lent, with the columns of S, or its rows, as words
+--   zeros-within, prefix-long   zeros as noise; as many words as are lent
 --   right-is, left-is, bare-is   XS + E by rows of X and columns of S; SY + E by rows of Y; US as XS + E without noise
 -- Assumes nothing.
 use mathlib.Core.Path.{_≡_, refl, _∙_, sym, ap, ap₂}
 use mathlib.Core.List.{List}
 use Prim.Native.Nat.{ℕ, zero, suc, _+_, _*_, _/_, _%_, _<_, _≤_}
 use native.Mathlib.Omega.{arith}
-use native.Mathlib.Nat.{mod-lt, div-add-mod'}
+use native.Mathlib.Nat.{mod-lt, div-lt-iff-lt-mul}
 use lib.Arith.{digits-div, digits-mod, digits-lt}
-use lib.ListN.{length, take, replicate, length-replicate}
+use lib.ListN.{length, getD, take, replicate, length-replicate}
 use lib.Seq.{length-take-le}
-use lib.IntN.{ℤ, pos, _+ℤ_, _*ℤ_, +ℤ-idr, +ℤ-comm, *ℤ-comm}
-use Rattle.numbers.specs.Residue.{residue}
-use Rattle.numbers.proofs.Sums.{whole, sum-ext}
+use lib.IntN.{ℤ, pos, _+ℤ_, _*ℤ_, +ℤ-idr, *ℤ-comm}
+use Rattle.numbers.specs.Residue.{residue, _≅⟨_⟩_}
+use Rattle.numbers.proofs.Congruence.{eq-≅, refl-≅, _⨾_, mul-≅, residue-≅}
 use Rattle.lists.specs.Entries.{nums, ints, Within}
-use Rattle.lists.proofs.Entries.{tab-length, tab-at, tab-ext, within-tab}
+use Rattle.lists.proofs.Entries.{tab-length, tab-at, tab-ext}
 use Rattle.matrix.specs.Matrix.{times, rows, numsAt, intsAt}
 use Rattle.matrix.specs.Mixing.{rightMixed, leftMixed, bare}
 use Rattle.matrix.specs.Fit.{Fit}
-use Rattle.matrix.specs.Steps.{gained, reduced, columnsOf, rightTerm, leftTerm}
-use Rattle.matrix.proofs.Steps.{mixed}
+use Rattle.matrix.specs.Steps.{wordsOf, gained, reduced, columnsOf, rightTerm, leftTerm, Lent}
+use Rattle.matrix.proofs.Steps.{words-length, words-at, mixed}
 
-pub column-at : (n : ℕ) (s : List ℤ) (j t : ℕ) → j < 8 → t < n → ints (columnsOf n s) (j * n + t) ≡ ints s (t * 8 + j)
-unfolding columnsOf ints
+pub column-at : (n : ℕ) (s : List ℤ) (j t : ℕ) → j < 8 → t < n → getD (columnsOf n s) (j * n + t) 0 ≡ residue 65536 (ints s (t * 8 + j))
+unfolding columnsOf
 column-at n s j t p l =
-    tab-at (8 * n) _ (j * n + t) (pos 0) (digits-lt p l) ∙ ap₂ (λ (a b : ℕ). ints s (a * 8 + b)) (digits-mod j l) (digits-div j l)
+    tab-at (8 * n) _ (j * n + t) 0 (digits-lt p l) ∙ ap₂ (λ (a b : ℕ). residue 65536 (ints s (a * 8 + b))) (digits-mod j l) (digits-div j l)
 
-pub fit-columns : {q n r : ℕ} {x : List ℕ} {s : List ℤ} (l : List ℤ) → l ≡ columnsOf n s → Fit q n r x s → Fit q n r x l
-unfolding columnsOf ints
-fit-columns {q} {n} {r} {x} {s} l e f =
-    rw e
-    (record {
-      some = f .some;
-      room = f .room;
-      many = f .many;
-      few = f .few;
-      rows-many = f .rows-many;
-      rows-few = f .rows-few;
-      xs-long = f .xs-long;
-      s-long = tab-length (8 * n) _;
-      xs-below = f .xs-below;
-      s-within = within-tab 6 (8 * n) _ (λ k p. f .s-within .within (k % n * 8 + k / n));
-    })
+-- what fits is lent, with the secrets as words
+lent : {q n r : ℕ} {x : List ℕ} {s : List ℤ} {l : List ℕ} → length l ≡ 8 * n → Fit q n r x s → Lent n r x l
+lent e f = record { xs-long = f .xs-long; ws-long = e; xs-below = record { below = λ k. omega (arith, f .xs-below .below k, f .room) } }
 
--- an entry by its place, with its noise last
-place : (c k : ℕ) (e : List ℤ) (y z : ℤ) → y ≡ z → ints e k +ℤ y ≡ z +ℤ ints e (k / c * c + k % c)
-place c k e y z h = ap₂ (λ (i : ℕ) (s : ℤ). ints e i +ℤ s) (sym (div-add-mod' k c)) h ∙ +ℤ-comm (ints e (k / c * c + k % c)) z
+pub lent-columns : {q n r : ℕ} {x : List ℕ} {s : List ℤ} {l : List ℕ} → l ≡ columnsOf n s → Fit q n r x s → Lent n r x l
+unfolding columnsOf
+lent-columns {q} {n} e f = lent (rw e (tab-length (8 * n) _)) f
 
-pub right-is : (q n r : ℕ) (x : List ℕ) (s l e : List ℤ) → l ≡ columnsOf n s → length e ≡ 8 * r → {out : List ℕ}
-    → out ≡ reduced q (gained n (rightTerm n x l) e) → out ≡ rightMixed q r n 8 x s e
-unfolding rightMixed times numsAt intsAt rightTerm
-right-is q n r x s l e d h o =
+pub lent-words : {q n r : ℕ} {x : List ℕ} {s : List ℤ} {l : List ℕ} → l ≡ wordsOf s → Fit q n r x s → Lent n r x l
+lent-words {s = s} e f = lent (rw e (words-length s ∙ f .s-long)) f
+
+-- a number times a word that is a secret modulo 65536
+product-≅ : (x w : ℕ) (z : ℤ) → w ≡ residue 65536 z → pos (x * w) ≅⟨ 65536 ⟩ pos x *ℤ z
+product-≅ x w z e = mul-≅ (refl-≅ (pos x)) (eq-≅ (ap pos e) ⨾ residue-≅ 65536 z (omega arith))
+
+pub right-is :
+    {q n r : ℕ} {x : List ℕ} {s : List ℤ} (e : List ℤ) {l out : List ℕ} → Fit q n r x s → l ≡ columnsOf n s → length e ≡ 8 * r →
+    out ≡ reduced q (gained n (rightTerm n x l) (wordsOf e)) → out ≡ rightMixed q r n 8 x s e
+unfolding rightMixed numsAt intsAt rightTerm nums
+right-is {q} {n} {r} {x} {s} e f d h o =
     o
     ∙ rw d
-    (mixed q n r 8 _ _ e (omega arith)
-    (λ k p.
-    place 8 k e _ _
-    (sum-ext whole n _ _ (λ t b. ap (λ (z : ℤ). nums x (k / 8 * n + t) *ℤ z) (column-at n s (k % 8) t (mod-lt k (omega arith)) b)))))
+    (mixed q n (f .some) (f .whole) r 8 _ _ _ e (omega arith)
+    (λ k t p b. product-≅ (getD x (k / 8 * n + t) 0) _ _ (column-at n s (k % 8) t (mod-lt k (omega arith)) b)))
 
-pub left-is : (q n c : ℕ) (s : List ℤ) (y : List ℕ) (e : List ℤ) → length e ≡ 8 * c → {out : List ℕ}
-    → out ≡ reduced q (gained n (leftTerm n c s y) e) → out ≡ leftMixed q n c 8 s y e
-unfolding leftMixed times numsAt intsAt leftTerm
-left-is q n c s y e h o =
+pub left-is :
+    {q n c : ℕ} {s : List ℤ} {y : List ℕ} (e : List ℤ) {l out : List ℕ} → Fit q n c y s → l ≡ wordsOf s → length e ≡ 8 * c →
+    out ≡ reduced q (gained n (leftTerm n c l y) (wordsOf e)) → out ≡ leftMixed q n c 8 s y e
+unfolding leftMixed numsAt intsAt leftTerm nums
+left-is {q} {n} {c} {s} {y} e f d h o =
     o
-    ∙ mixed q n 8 c _ _ e h
-    (λ k p. place c k e _ _ (sum-ext whole n _ _ (λ t b. *ℤ-comm (nums y (t * c + k % c)) (ints s (k / c * n + t)))))
+    ∙ rw d
+    (mixed q n (f .some) (f .whole) 8 c _ _ _ e h
+    (λ k t p b.
+    let i : k / c < 8 = div-lt-iff-lt-mul (f .rows-many) .1 p in
+    product-≅ (getD y (t * c + k % c) 0) _ _ (words-at s (k / c * n + t) (rw (f .s-long) (digits-lt i b)))
+    ⨾ eq-≅ (*ℤ-comm (pos (getD y (t * c + k % c) 0)) (ints s (k / c * n + t)))))
 
 zero-at : (m k : ℕ) → ints (replicate m (pos 0)) k ≡ pos 0
 unfolding ints
@@ -88,5 +87,5 @@ bare-is q n u s o =
     ∙ +ℤ-idr (times n (numsAt n u) (intsAt 8 s) (k / 8) (k % 8))))
 
 -- the first n of m zeros, which the code lends
-pub prefix-long : (m n : ℕ) → n ≤ m → n ≡ length (take n (replicate m (pos 0)))
-prefix-long m n h = sym (length-take-le n (replicate m (pos 0)) (rw (length-replicate m (pos 0)) h))
+pub prefix-long : (m n : ℕ) → n ≤ m → n ≡ length {A = ℕ} (take n (replicate m 0))
+prefix-long m n h = sym (length-take-le {A = ℕ} n (replicate m 0) (rw (length-replicate {A = ℕ} m 0) h))

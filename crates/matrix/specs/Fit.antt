@@ -1,7 +1,7 @@
--- What the products ask of their inputs, so that every sum fits 32 bits.
+-- What the products ask of their inputs. The code works in words, which wrap at 65536: a multiple of q.
 use mathlib.Core.Path.{_≡_}
 use mathlib.Core.List.{List}
-use Prim.Native.Nat.{ℕ, _*_, _<_, _≤_}
+use Prim.Native.Nat.{ℕ, _*_, _%_, _<_, _≤_}
 use lib.ListN.{length}
 use lib.IntN.{ℤ}
 use Rattle.lists.specs.Entries.{Below, Within}
@@ -10,6 +10,7 @@ use Rattle.lists.specs.Entries.{Below, Within}
 pub record Fit (q n r : ℕ) (xs : List ℕ) (s : List ℤ) : Type 0 where
   pub some : 0 < q
   pub room : q ≤ 32768
+  pub whole : 65536 % q ≡ 0
   pub many : 0 < n
   pub few : n ≤ 864
   pub rows-many : 0 < r

@@ -1,47 +1,53 @@
--- How the code goes about a product: sums that start as the noise, gain n products each, and are reduced once.
---   gained n f zs       the sums zs, of which sum k has gained f k 0 + .. + f k (n - 1)
---   reduced q zs        the remainders of the sums in 0 .. q - 1
---   columnsOf n s       the 8 columns of S, one after the other
+-- How the code goes about a product: in words, which wrap at 65536, with sums that start as the noise, gain n products each, and are reduced once.
+--   wordsOf zs          secrets or noise as words: their remainders modulo 65536
+--   gained n f ws       the sums ws, of which sum k has gained f k 0 + .. + f k (n - 1)
+--   reduced q ws        the remainders of the sums in 0 .. q - 1
+--   columnsOf n s       the 8 columns of S, one after the other, as words
 --   dotTerm, rightTerm  the products of a row with column j; of the entry k of XS
---   blockTerm, leftTerm   the products of a block of rows of Y, each with its secret, at column j; of the entry k of SY
---   Block w y zs        a block of rows y with a secret w each, as wide as there are sums, and room in the sums for their products
---   blockGained w y zs  the sums with the products of the block
+--   blockTerm, partTerm, leftTerm   the products of a block y of rows of Y, each with its word of w, at column j; of the block that starts at row t, with
+--                       the words of S, for the entry k of SY; of all rows for that entry
+--   blockGained w y ws  the sums ws, a row of them, with the products of the block
+--   Lent n r xs ws      r rows of n numbers that are words, or n rows of r, and 8 n words
 use mathlib.Core.Path.{_≡_}
 use mathlib.Core.List.{List}
-use Prim.Native.Nat.{ℕ, _+_, _*_, _/_, _%_, _^_, _≤_}
-use lib.ListN.{length}
-use lib.IntN.{ℤ, _+ℤ_, _*ℤ_}
-use Rattle.numbers.specs.Sum.{sumℤ}
+use Prim.Native.Nat.{ℕ, _+_, _*_, _/_, _%_}
+use lib.ListN.{length, getD}
+use lib.IntN.{ℤ}
+use Rattle.numbers.specs.Sum.{sumℕ}
 use Rattle.numbers.specs.Residue.{residue}
-use Rattle.lists.specs.Entries.{tab, nums, ints, Below, Within}
+use Rattle.lists.specs.Entries.{tab, ints, Below}
 
-unfoldable pub gained : ℕ → (ℕ → ℕ → ℤ) → List ℤ → List ℤ
-gained n f zs = tab (length zs) (λ k. ints zs k +ℤ sumℤ n (f k))
+unfoldable pub wordsOf : List ℤ → List ℕ
+wordsOf zs = tab (length zs) (λ k. residue 65536 (ints zs k))
 
-unfoldable pub reduced : ℕ → List ℤ → List ℕ
-reduced q zs = tab (length zs) (λ k. residue q (ints zs k))
+unfoldable pub gained : ℕ → (ℕ → ℕ → ℕ) → List ℕ → List ℕ
+gained n f ws = tab (length ws) (λ k. (getD ws k 0 + sumℕ n (f k)) % 65536)
 
-unfoldable pub columnsOf : ℕ → List ℤ → List ℤ
-columnsOf n s = tab (8 * n) (λ k. ints s (k % n * 8 + k / n))
+unfoldable pub reduced : ℕ → List ℕ → List ℕ
+reduced q ws = tab (length ws) (λ k. getD ws k 0 % q)
 
-unfoldable pub dotTerm : ℕ → List ℕ → List ℤ → ℕ → ℕ → ℤ
-dotTerm n row cols j t = nums row t *ℤ ints cols (j * n + t)
+unfoldable pub columnsOf : ℕ → List ℤ → List ℕ
+columnsOf n s = tab (8 * n) (λ k. residue 65536 (ints s (k % n * 8 + k / n)))
 
-unfoldable pub rightTerm : ℕ → List ℕ → List ℤ → ℕ → ℕ → ℤ
-rightTerm n x cols k t = nums x (k / 8 * n + t) *ℤ ints cols (k % 8 * n + t)
+unfoldable pub dotTerm : ℕ → List ℕ → List ℕ → ℕ → ℕ → ℕ
+dotTerm n row cols j t = getD row t 0 * getD cols (j * n + t) 0
 
-unfoldable pub blockTerm : ℕ → List ℤ → List ℕ → ℕ → ℕ → ℤ
-blockTerm c w y j u = nums y (u * c + j) *ℤ ints w u
+unfoldable pub rightTerm : ℕ → List ℕ → List ℕ → ℕ → ℕ → ℕ
+rightTerm n x cols k t = getD x (k / 8 * n + t) 0 * getD cols (k % 8 * n + t) 0
 
-unfoldable pub leftTerm : ℕ → ℕ → List ℤ → List ℕ → ℕ → ℕ → ℤ
-leftTerm n c s y k t = nums y (t * c + k % c) *ℤ ints s (k / c * n + t)
+unfoldable pub blockTerm : ℕ → List ℕ → List ℕ → ℕ → ℕ → ℕ
+blockTerm c w y j u = getD y (u * c + j) 0 * getD w u 0
 
-pub record Block (w : List ℤ) (y : List ℕ) (zs : List ℤ) : Type 0 where
-  pub few : length w ≤ 864
-  pub y-long : length y ≡ length w * length zs
-  pub w-within : Within 6 w
-  pub y-below : Below 32768 y
-  pub zs-within : Within (2 ^ 29) zs
+unfoldable pub partTerm : ℕ → ℕ → ℕ → List ℕ → List ℕ → ℕ → ℕ → ℕ
+partTerm n c t s y k u = getD y (u * c + k % c) 0 * getD s (k / c * n + (t + u)) 0
 
-unfoldable pub blockGained : List ℤ → List ℕ → List ℤ → List ℤ
-blockGained w y zs = gained (length w) (blockTerm (length zs) w y) zs
+unfoldable pub leftTerm : ℕ → ℕ → List ℕ → List ℕ → ℕ → ℕ → ℕ
+leftTerm n c s y k t = getD y (t * c + k % c) 0 * getD s (k / c * n + t) 0
+
+unfoldable pub blockGained : List ℕ → List ℕ → List ℕ → List ℕ
+blockGained w y ws = gained (length w) (blockTerm (length ws) w y) ws
+
+pub record Lent (n r : ℕ) (xs ws : List ℕ) : Type 0 where
+  pub xs-long : length xs ≡ r * n
+  pub ws-long : length ws ≡ 8 * n
+  pub xs-below : Below 65536 xs

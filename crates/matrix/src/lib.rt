@@ -1,45 +1,66 @@
 // Frodo's products modulo q of matrices of public numbers with matrices of secrets, which are small and signed; all lie row after row: 01, "The
 // calls". The laws, and that the two ends differ by S'E + E'' - E'S, stand in `proofs/`, once over n and q.
 //
-// Every sum starts as the noise, gains n products and is reduced once. A sum is at most 864 * 32767 * 6 + 6 in size, so it fits i32. XS goes row by
-// row through X, with the columns of S laid side by side; SY goes through Y four rows at a time, into 8 rows of sums. So A, up to 3 MB, is read once.
+// All work is in words of 16 bits, eight to a vector, which wrap at 65,536: q divides it, so a remainder modulo 65,536 has the one modulo q in it.
+// Every sum starts as the noise, gains n products and is reduced once. XS goes row by row through X, with the columns of S laid side by side; SY goes
+// through Y four rows at a time, into 8 rows of sums. So A, up to 3 MB, is read once.
 ghost use mathlib.Core.Path.{_≡_};
-ghost use Prim.Native.Nat.{ℕ, _+_, _*_, _/_, _%_, _^_, _<_, _≤_};
+ghost use Prim.Native.Nat.{_+_, _*_, _/_, _%_, _<_, _≤_};
 ghost use lib.ListN.{length, getD};
-ghost use lib.IntN.{ℤ, pos, natAbs, _+ℤ_, _*ℤ_};
-ghost use Rattle.numbers.specs.Sum.{sumℤ};
+ghost use Rattle.numbers.specs.Sum.{sumℕ};
 ghost use Rattle.numbers.specs.Residue.{residue};
 ghost use Rattle.lists.specs.Entries.{tab, ints, Below, Within};
 ghost use Rattle.matrix.specs.Mixing.{rightMixed, leftMixed, bare};
 ghost use Rattle.matrix.specs.Fit.{Fit};
-ghost use Rattle.matrix.specs.Steps.{gained, reduced, columnsOf, dotTerm, rightTerm, blockTerm, leftTerm, Block, blockGained};
+ghost use Rattle.matrix.specs.Steps.{
+  wordsOf,
+  gained,
+  reduced,
+  columnsOf,
+  dotTerm,
+  rightTerm,
+  blockTerm,
+  partTerm,
+  leftTerm,
+  blockGained,
+  Lent,
+};
 
-// One product more. A number is below 2^31, so its cast costs nothing, and signed with signed is one multiplication.
-fn add_product(sum: i32, x: u32, s: i32) -> i32
-    requires { ⌜ (natAbs sum ≤ 2 ^ 30) × (x < 32768) × (natAbs s ≤ 6) ⌝ }
-    ensures { λ r. ⌜ (r ≡ sum +ℤ pos x *ℤ s) × (natAbs r < 2 ^ 31) ⌝ }
+// One product more. A sum of words is below 2^32, so nothing is lost before it wraps; the compiler makes one multiplication of 16 bits of it.
+fn add_product(sum: u16, x: u16, w: u16) -> u16
+    ensures { λ r. ⌜ r ≡ (sum + x * w) % 65536 ⌝ }
 {
-    sum + (x as i32) * s
+    ((sum as u32 + x as u32 * w as u32) % 65536) as u16
 }
 
-// The sums start as the noise.
-fn copy(noise: &[i32], sums: &mut [i32])
-    requires { ⌜ length (now noise) ≡ length (now sums) ⌝ }
-    ensures { λ _. ⌜ now (sums .exit) ≡ now (noise .entry) ⌝ }
+// A secret or a noise value as a word.
+fn word(z: i32) -> u16
+    ensures { λ r. ⌜ r ≡ residue 65536 z ⌝ }
+{
+    numbers::residue32(z, 65536) as u16
+}
+
+fn words(zs: &[i32], out: &mut [u16])
+    requires { ⌜ length (now zs) ≡ length (now out) ⌝ }
+    ensures { λ _. ⌜ now (out .exit) ≡ wordsOf (now (zs .entry)) ⌝ }
 {
     let mut k: usize = 0;
-    while k < sums.len() {
-        sums[k] = noise[k];
+    while k < out.len() {
+        out[k] = word(zs[k]);
         k += 1;
     }
 }
 
-// A number at or above 0 with the same remainder: no sum is larger than (864 * 6 + 6) q.
-fn raise(x: i32, q: u32) -> u32
-    requires { ⌜ (q ≤ 32768) × (natAbs x ≤ 5190 * q) ⌝ }
-    ensures { λ r. ⌜ pos r ≡ x +ℤ pos (5190 * q) ⌝ }
+// Numbers, which are words already, in 16 bits each.
+fn narrow(xs: &[u32], out: &mut [u16])
+    requires { ⌜ (length (now xs) ≡ length (now out)) × Below 65536 (now xs) ⌝ }
+    ensures { λ _. ⌜ now (out .exit) ≡ now (xs .entry) ⌝ }
 {
-    (x + (5190 * q) as i32) as u32
+    let mut k: usize = 0;
+    while k < out.len() {
+        out[k] = xs[k] as u16;
+        k += 1;
+    }
 }
 
 // The remainder without a division, so that it runs many numbers at a time. Where m is (2^32 - 1) / q, u m / 2^32 is the quotient or one less.
@@ -53,32 +74,32 @@ fn remainder(u: u32, q: u32, m: u32) -> u32
 }
 
 // The remainders of the sums in 0 .. q - 1.
-fn reduce(q: u32, sums: &[i32], out: &mut [u32])
-    requires { ⌜ (0 < q) × (q ≤ 32768) × Within (5190 * q) (now sums) × (length (now out) ≡ length (now sums)) ⌝ }
+fn reduce(q: u32, sums: &[u16], out: &mut [u32])
+    requires { ⌜ (0 < q) × (length (now out) ≡ length (now sums)) ⌝ }
     ensures { λ _. ⌜ now (out .exit) ≡ reduced q (now (sums .entry)) ⌝ }
 {
     let m = 4294967295 / q;
     let mut k: usize = 0;
     while k < out.len() {
-        out[k] = remainder(raise(sums[k], q), q, m);
+        out[k] = remainder(sums[k] as u32, q, m);
         k += 1;
     }
 }
 
-// Column j of S.
-fn column(s: &[i32], j: usize, out: &mut [i32])
+// Column j of S, as words.
+fn column(s: &[i32], j: usize, out: &mut [u16])
     requires { ⌜ (j < 8) × (length (now s) ≡ 8 * length (now out)) ⌝ }
-    ensures { λ _. ⌜ now (out .exit) ≡ tab (length (now (out .entry))) (λ t. ints (now (s .entry)) (t * 8 + j)) ⌝ }
+    ensures { λ _. ⌜ now (out .exit) ≡ tab (length (now (out .entry))) (λ t. residue 65536 (ints (now (s .entry)) (t * 8 + j))) ⌝ }
 {
     let mut t: usize = 0;
     while t < out.len() {
-        out[t] = s[t * 8 + j];
+        out[t] = word(s[t * 8 + j]);
         t += 1;
     }
 }
 
 // The columns of S, one after the other.
-fn columns(n: usize, s: &[i32], cols: &mut [i32])
+fn columns(n: usize, s: &[i32], cols: &mut [u16])
     requires { ⌜ (0 < n) × (length (now s) ≡ 8 * n) × (length (now cols) ≡ 8 * n) ⌝ }
     ensures { λ _. ⌜ now (cols .exit) ≡ columnsOf n (now (s .entry)) ⌝ }
 {
@@ -91,10 +112,9 @@ fn columns(n: usize, s: &[i32], cols: &mut [i32])
 }
 
 // The number x with what stands at t in each of the 8 columns. The loop is short and of a fixed length, so that the sums stay in registers.
-fn add_products(x: u32, n: usize, t: usize, cols: &[i32], sums: &mut [i32])
-    requires { ⌜ (x < 32768) × (t < n) × (length (now cols) ≡ 8 * n) × Within 6 (now cols) ⌝ }
-    requires { ⌜ (length (now sums) ≡ 8) × Within (2 ^ 30) (now sums) ⌝ }
-    ensures { λ _. ⌜ now (sums .exit) ≡ tab 8 (λ j. ints (now (sums .entry)) j +ℤ pos x *ℤ ints (now (cols .entry)) (j * n + t)) ⌝ }
+fn add_products(x: u16, n: usize, t: usize, cols: &[u16], sums: &mut [u16])
+    requires { ⌜ (t < n) × (length (now cols) ≡ 8 * n) × (length (now sums) ≡ 8) ⌝ }
+    ensures { λ _. ⌜ now (sums .exit) ≡ tab 8 (λ j. (getD (now (sums .entry)) j 0 + x * getD (now (cols .entry)) (j * n + t) 0) % 65536) ⌝ }
 {
     let mut j: usize = 0;
     while j < 8 {
@@ -104,35 +124,32 @@ fn add_products(x: u32, n: usize, t: usize, cols: &[i32], sums: &mut [i32])
 }
 
 // A row with each of the 8 columns: one load of the row serves 8 dot products.
-fn add_dots(n: usize, row: &[u32], cols: &[i32], sums: &mut [i32])
-    requires { ⌜ Fit 32768 n 1 (now row) (now cols) ⌝ }
-    requires { ⌜ (length (now sums) ≡ 8) × Within (2 ^ 29) (now sums) ⌝ }
+fn add_dots(n: usize, row: &[u32], cols: &[u16], sums: &mut [u16])
+    requires { ⌜ Lent n 1 (now row) (now cols) × (length (now sums) ≡ 8) ⌝ }
     ensures { λ _. ⌜ now (sums .exit) ≡ gained n (dotTerm n (now (row .entry)) (now (cols .entry))) (now (sums .entry)) ⌝ }
 {
     let mut t: usize = 0;
     while t < n {
-        add_products(row[t], n, t, cols, sums);
+        add_products(row[t] as u16, n, t, cols, sums);
         t += 1;
     }
 }
 
 // A row of XS + E.
-fn right_row(q: u32, n: usize, row: &[u32], cols: &[i32], e: &[i32], out: &mut [u32])
-    requires { ⌜ Fit q n 1 (now row) (now cols) × (length (now out) ≡ 8) ⌝ }
-    requires { ⌜ (length (now e) ≡ 8) × Within 6 (now e) ⌝ }
-    ensures { λ _. ⌜ now (out .exit) ≡ reduced q (gained n (dotTerm n (now (row .entry)) (now (cols .entry))) (now (e .entry))) ⌝ }
+fn right_row(q: u32, n: usize, row: &[u32], cols: &[u16], e: &[i32], out: &mut [u32])
+    requires { ⌜ (0 < q) × Lent n 1 (now row) (now cols) × (length (now e) ≡ 8) × (length (now out) ≡ 8) ⌝ }
+    ensures { λ _. ⌜ now (out .exit) ≡ reduced q (gained n (dotTerm n (now (row .entry)) (now (cols .entry))) (wordsOf (now (e .entry)))) ⌝ }
 {
-    let mut sums: [i32; 8] = [0; 8];
-    copy(e, &mut sums);
+    let mut sums: [u16; 8] = [0; 8];
+    words(e, &mut sums);
     add_dots(n, row, cols, &mut sums);
     reduce(q, &sums, out);
 }
 
 // XS + E, by rows of X and columns of S.
-fn right_rows(q: u32, n: usize, r: usize, x: &[u32], cols: &[i32], e: &[i32], out: &mut [u32])
-    requires { ⌜ Fit q n r (now x) (now cols) × (length (now out) ≡ 8 * r) ⌝ }
-    requires { ⌜ (length (now e) ≡ 8 * r) × Within 6 (now e) ⌝ }
-    ensures { λ _. ⌜ now (out .exit) ≡ reduced q (gained n (rightTerm n (now (x .entry)) (now (cols .entry))) (now (e .entry))) ⌝ }
+fn right_rows(q: u32, n: usize, r: usize, x: &[u32], cols: &[u16], e: &[i32], out: &mut [u32])
+    requires { ⌜ (0 < q) × Lent n r (now x) (now cols) × (length (now e) ≡ 8 * r) × (length (now out) ≡ 8 * r) ⌝ }
+    ensures { λ _. ⌜ now (out .exit) ≡ reduced q (gained n (rightTerm n (now (x .entry)) (now (cols .entry))) (wordsOf (now (e .entry)))) ⌝ }
 {
     let mut i: usize = 0;
     while i < r {
@@ -151,11 +168,10 @@ fn right_on(
     x: &[u32],
     s: &[i32],
     e: &[i32],
-    cols: &mut [i32],
+    cols: &mut [u16],
     out: &mut [u32],
 )
-    requires { ⌜ Fit q n r (now x) (now s) × (length (now cols) ≡ 8 * n) × (length (now out) ≡ 8 * r) ⌝ }
-    requires { ⌜ (length (now e) ≡ 8 * r) × Within 6 (now e) ⌝ }
+    requires { ⌜ Fit q n r (now x) (now s) × (length (now e) ≡ 8 * r) × (length (now cols) ≡ 8 * n) × (length (now out) ≡ 8 * r) ⌝ }
     ensures { λ _. ⌜ now (out .exit) ≡ rightMixed q r n 8 (now (x .entry)) (now (s .entry)) (now (e .entry)) ⌝ }
 {
     columns(n, s, cols);
@@ -168,13 +184,13 @@ pub fn mix_right(q: u32, n: usize, r: usize, x: &[u32], s: &[i32], e: &[i32], ou
     requires { ⌜ (length (now e) ≡ 8 * r) × Within 6 (now e) ⌝ }
     ensures { λ _. ⌜ now (out .exit) ≡ rightMixed q r n 8 (now (x .entry)) (now (s .entry)) (now (e .entry)) ⌝ }
 {
-    let mut cols: [i32; 6912] = [0; 6912];
+    let mut cols: [u16; 6912] = [0; 6912];
     let m = 8 * n;
     right_on(q, n, r, x, s, e, &mut cols[..m], out);
 }
 
 // The number at column j of the row that starts at a. Read through the row, each row of a block has a place of its own, and all share one index.
-fn number_at(y: &[u32], a: usize, c: usize, j: usize) -> u32
+fn number_at(y: &[u16], a: usize, c: usize, j: usize) -> u16
     requires { ⌜ (a + c ≤ length (now y)) × (j < c) ⌝ }
     ensures { λ r. ⌜ r ≡ getD (now (y .entry)) (a + j) 0 ⌝ }
 {
@@ -182,11 +198,10 @@ fn number_at(y: &[u32], a: usize, c: usize, j: usize) -> u32
     row[j]
 }
 
-// The sum at column j: each row of the block with its secret.
-fn weigh(start: i32, w: &[i32], y: &[u32], c: usize, j: usize) -> i32
-    requires { ⌜ (natAbs start ≤ 2 ^ 29) × (length (now w) ≤ 864) × Within 6 (now w) ⌝ }
-    requires { ⌜ (length (now y) ≡ length (now w) * c) × Below 32768 (now y) × (j < c) ⌝ }
-    ensures { λ r. ⌜ (r ≡ start +ℤ sumℤ (length (now (w .entry))) (blockTerm c (now (w .entry)) (now (y .entry)) j)) × (natAbs r < 2 ^ 31) ⌝ }
+// The sum at column j: each row of the block with its word.
+fn weigh(start: u16, w: &[u16], y: &[u16], c: usize, j: usize) -> u16
+    requires { ⌜ (length (now y) ≡ length (now w) * c) × (j < c) ⌝ }
+    ensures { λ r. ⌜ r ≡ (start + sumℕ (length (now (w .entry))) (blockTerm c (now (w .entry)) (now (y .entry)) j)) % 65536 ⌝ }
 {
     let mut sum = start;
     let mut u: usize = 0;
@@ -198,8 +213,8 @@ fn weigh(start: i32, w: &[i32], y: &[u32], c: usize, j: usize) -> i32
 }
 
 // A block of rows into one row of sums.
-fn add_rows(w: &[i32], y: &[u32], sums: &mut [i32])
-    requires { ⌜ Block (now w) (now y) (now sums) ⌝ }
+fn add_rows(w: &[u16], y: &[u16], sums: &mut [u16])
+    requires { ⌜ length (now y) ≡ length (now w) * length (now sums) ⌝ }
     ensures { λ _. ⌜ now (sums .exit) ≡ blockGained (now (w .entry)) (now (y .entry)) (now (sums .entry)) ⌝ }
 {
     let c = sums.len();
@@ -212,8 +227,8 @@ fn add_rows(w: &[i32], y: &[u32], sums: &mut [i32])
 
 // The same. Four rows, as nearly all blocks are, go in one pass with four products for each sum that is loaded and stored: here the compiler can
 // read that there are four.
-fn add_block(w: &[i32], y: &[u32], sums: &mut [i32])
-    requires { ⌜ Block (now w) (now y) (now sums) ⌝ }
+fn add_block(w: &[u16], y: &[u16], sums: &mut [u16])
+    requires { ⌜ length (now y) ≡ length (now w) * length (now sums) ⌝ }
     ensures { λ _. ⌜ now (sums .exit) ≡ blockGained (now (w .entry)) (now (y .entry)) (now (sums .entry)) ⌝ }
 {
     if w.len() == 4 {
@@ -223,46 +238,63 @@ fn add_block(w: &[i32], y: &[u32], sums: &mut [i32])
     }
 }
 
-// The m rows of Y from t on, into each of the 8 rows of sums.
-fn add_to_all(n: usize, c: usize, t: usize, m: usize, s: &[i32], y: &[u32], sums: &mut [i32])
-    requires { ⌜ Fit 32768 n c (now y) (now s) × (t + m ≤ n) ⌝ }
-    requires { ⌜ (length (now sums) ≡ 8 * c) × Within (2 ^ 29) (now sums) ⌝ }
-    ensures { λ _. ⌜ now (sums .exit) ≡ gained m (λ k u. leftTerm n c (now (s .entry)) (now (y .entry)) k (t + u)) (now (sums .entry)) ⌝ }
+// A block of m rows, the first of which is row t of Y, into each of the 8 rows of sums.
+fn add_to_all(n: usize, c: usize, t: usize, m: usize, s: &[u16], y: &[u16], sums: &mut [u16])
+    requires { ⌜ (length (now s) ≡ 8 * n) × (t + m ≤ n) × (length (now y) ≡ m * c) × (length (now sums) ≡ 8 * c) ⌝ }
+    ensures { λ _. ⌜ now (sums .exit) ≡ gained m (partTerm n c t (now (s .entry)) (now (y .entry))) (now (sums .entry)) ⌝ }
 {
-    let d = t * c;
-    let f = d + m * c;
     let mut i: usize = 0;
     while i < 8 {
         let a = i * c;
         let b = i * n + t;
-        add_block(&s[b..b + m], &y[d..f], &mut sums[a..a + c]);
+        add_block(&s[b..b + m], y, &mut sums[a..a + c]);
         i += 1;
     }
+}
+
+// The m rows of Y from t on, which are made narrow once for all 8 rows of sums.
+fn left_block(
+    n: usize,
+    c: usize,
+    t: usize,
+    m: usize,
+    s: &[u16],
+    y: &[u32],
+    block: &mut [u16],
+    sums: &mut [u16],
+)
+    requires { ⌜ Lent n c (now y) (now s) × (t + m ≤ n) × (length (now block) ≡ m * c) × (length (now sums) ≡ 8 * c) ⌝ }
+    ensures { λ _. ⌜ now (sums .exit) ≡ gained m (λ k u. leftTerm n c (now (s .entry)) (now (y .entry)) k (t + u)) (now (sums .entry)) ⌝ }
+{
+    let d = t * c;
+    let f = d + m * c;
+    narrow(&y[d..f], block);
+    add_to_all(n, c, t, m, s, block, sums);
 }
 
 // A block is four rows, or what is left of them.
 fn at_most_four(n: usize) -> usize
     requires { ⌜ 0 < n ⌝ }
-    ensures { λ r. ⌜ (0 < r) × (r ≤ n) ⌝ }
+    ensures { λ r. ⌜ (0 < r) × (r ≤ n) × (r ≤ 4) ⌝ }
 {
     if n < 4 { n } else { 4 }
 }
 
 // All rows of Y, a block at a time.
-fn left_rows(n: usize, c: usize, s: &[i32], y: &[u32], sums: &mut [i32])
-    requires { ⌜ Fit 32768 n c (now y) (now s) ⌝ }
-    requires { ⌜ (length (now sums) ≡ 8 * c) × Within 6 (now sums) ⌝ }
+fn left_rows(n: usize, c: usize, s: &[u16], y: &[u32], block: &mut [u16], sums: &mut [u16])
+    requires { ⌜ Lent n c (now y) (now s) × (4 * c ≤ length (now block)) × (length (now sums) ≡ 8 * c) ⌝ }
     ensures { λ _. ⌜ now (sums .exit) ≡ gained n (leftTerm n c (now (s .entry)) (now (y .entry))) (now (sums .entry)) ⌝ }
 {
     let mut t: usize = 0;
     while t < n {
         let m = at_most_four(n - t);
-        add_to_all(n, c, t, m, s, y, sums);
+        let l = m * c;
+        left_block(n, c, t, m, s, y, &mut block[..l], sums);
         t += m;
     }
 }
 
-// SY + E, with room for the sums.
+// SY + E, with room for the secrets as words, a block of Y and the sums.
 fn left_on(
     q: u32,
     n: usize,
@@ -270,15 +302,18 @@ fn left_on(
     s: &[i32],
     y: &[u32],
     e: &[i32],
-    sums: &mut [i32],
+    factors: &mut [u16],
+    block: &mut [u16],
+    sums: &mut [u16],
     out: &mut [u32],
 )
-    requires { ⌜ Fit q n c (now y) (now s) × (length (now sums) ≡ 8 * c) × (length (now out) ≡ 8 * c) ⌝ }
-    requires { ⌜ (length (now e) ≡ 8 * c) × Within 6 (now e) ⌝ }
+    requires { ⌜ Fit q n c (now y) (now s) × (length (now e) ≡ 8 * c) × (length (now out) ≡ 8 * c) ⌝ }
+    requires { ⌜ (length (now factors) ≡ 8 * n) × (4 * c ≤ length (now block)) × (length (now sums) ≡ 8 * c) ⌝ }
     ensures { λ _. ⌜ now (out .exit) ≡ leftMixed q n c 8 (now (s .entry)) (now (y .entry)) (now (e .entry)) ⌝ }
 {
-    copy(e, sums);
-    left_rows(n, c, s, y, sums);
+    words(s, factors);
+    words(e, sums);
+    left_rows(n, c, factors, y, block, sums);
     reduce(q, sums, out);
 }
 
@@ -288,9 +323,23 @@ pub fn mix_left(q: u32, n: usize, c: usize, s: &[i32], y: &[u32], e: &[i32], out
     requires { ⌜ (length (now e) ≡ 8 * c) × Within 6 (now e) ⌝ }
     ensures { λ _. ⌜ now (out .exit) ≡ leftMixed q n c 8 (now (s .entry)) (now (y .entry)) (now (e .entry)) ⌝ }
 {
-    let mut sums: [i32; 6912] = [0; 6912];
+    let mut factors: [u16; 6912] = [0; 6912];
+    let mut block: [u16; 3456] = [0; 3456];
+    let mut sums: [u16; 6912] = [0; 6912];
+    let k = 8 * n;
     let m = 8 * c;
-    left_on(q, n, c, s, y, e, &mut sums[..m], out);
+    left_on(
+        q,
+        n,
+        c,
+        s,
+        y,
+        e,
+        &mut factors[..k],
+        &mut block,
+        &mut sums[..m],
+        out,
+    );
 }
 
 // US, where U has 8 rows and n columns: B'S.

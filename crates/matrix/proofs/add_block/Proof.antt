@@ -1,4 +1,4 @@
--- `matrix::add_block` meets its contract: the four secrets that it lends are all.
+-- `matrix::add_block` meets its contract: the four words that it lends are all.
 -- Assumes nothing.
 use mathlib.Core.Path.{_≡_}
 use native.Mathlib.Omega.{arith}
@@ -8,14 +8,14 @@ use lib.Seq.{take-all}
 use Rattle.matrix.proofs.add_block.Statement.{statement}
 use Rattle.matrix.proofs.add_block.Tie as tie
 
-all : (c : tie.Then1) → take 4 (c .before .before .args .w .now) ≡ c .before .before .args .w .now
-all c = take-all 4 (c .before .before .args .w .now) (omega arith)
+all : (c : tie.Then1) → take 4 (c .before .before .before .before .args .w .now) ≡ c .before .before .before .before .args .w .now
+all c = take-all 4 (c .before .before .before .before .args .w .now) (omega arith)
 
 slice-aggregate-add-rows : tie.Need-slice-aggregate-add-rows
 slice-aggregate-add-rows c = rw (all (c .before)) (omega arith)
 
 add-rows-requires : tie.Need-add-rows-requires
-add-rows-requires c κs = rw (all (c .before .before)) (c .before .before .before .before .pre)
+add-rows-requires c κs = rw (all (c .before .before)) (c .before .before .before .before .before .before .pre)
 
 add-rows-requires-2 : tie.Need-add-rows-requires-2
 add-rows-requires-2 c κs = search needs
@@ -24,7 +24,7 @@ same-length : tie.Need-same-length
 same-length c = search needs
 
 returns : tie.Need-returns
-returns c = rw (all (c .before .before .before .before)) at (c .before .add-rows .ensures)
+returns c = rw (all (c .before .before .before .before .before)) at (c .before .before .add-rows .ensures)
 
 same-length-2 : tie.Need-same-length-2
 same-length-2 c = search needs
@@ -34,4 +34,5 @@ returns-2 c = search needs
 
 pub add-block-spec : {M : Type 1} → statement M
 add-block-spec =
-    tie.close (tie.spec slice-aggregate-add-rows add-rows-requires add-rows-requires-2 same-length returns same-length-2 returns-2)
+    tie.close
+    (tie.spec slice-aggregate-add-rows add-rows-requires add-rows-requires-2 same-length returns same-length-2 returns-2)

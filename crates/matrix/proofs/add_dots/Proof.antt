@@ -1,13 +1,11 @@
 -- `matrix::add_dots` meets its contract: after t numbers of the row each sum has gained t products.
 -- Assumes nothing.
 use mathlib.Core.Path.{_≡_, _∙_, sym, ap}
-use Prim.Native.Nat.{ℕ, _-_, _^_, _≤_}
+use Prim.Native.Nat.{ℕ, _-_, _≤_}
 use native.Mathlib.Omega.{arith}
 use lib.ListN.{length}
-use Rattle.lists.specs.Entries.{nums, Within}
 use Rattle.matrix.specs.Steps.{gained, dotTerm}
-use Rattle.matrix.proofs.Steps.{gained-length, gained-none, gained-next, gained-under}
-use Rattle.matrix.proofs.Terms.{dot-size}
+use Rattle.matrix.proofs.Steps.{gained-length, gained-none, gained-next}
 use Rattle.matrix.proofs.add_dots.Statement.{statement}
 use Rattle.matrix.proofs.add_dots.Tie as tie
 
@@ -18,17 +16,10 @@ abbrev μ-loop : tie.MeasureT-loop
 μ-loop n row cols sums₀ t₀ sums t = n - t
 
 loop-holds : tie.Need-loop-holds Inv-loop μ-loop
-loop-holds c = (omega arith, sym (gained-none _ _))
+loop-holds c = (omega arith, sym (gained-none _ _ (λ k. omega (arith, c .slice-known .given k))))
 
--- how long the sums are and how large, after t numbers
 long : (c : tie.At-loop Inv-loop μ-loop) → length (c .loop .sums) ≡ 8
-long c = rw (c .loop .inv .1) (gained-length _ _ _ ∙ c .before .before .pre .1 .0)
-
-small : (c : tie.At-loop Inv-loop μ-loop) → Within (2 ^ 30) (c .loop .sums)
-small c =
-    let a = c .before .before in
-    rw (c .loop .inv .1)
-    (gained-under (2 ^ 29) (2 ^ 30) (c .loop .t) _ _ (omega arith) (omega arith) (a .pre .1 .1) (dot-size (a .args .n) (a .args .row .now) (a .args .cols .now) (a .pre .0 .xs-below) (a .pre .0 .s-within)))
+long c = rw (c .loop .inv .1) (gained-length _ _ _ ∙ c .before .before .before .before .pre .1)
 
 mul-add-products : tie.Need-mul-add-products Inv-loop μ-loop
 mul-add-products c = omega arith
@@ -36,11 +27,13 @@ mul-add-products c = omega arith
 shared-slice-read-add-products : tie.Need-shared-slice-read-add-products Inv-loop μ-loop
 shared-slice-read-add-products c = omega arith
 
+cast-add-products : tie.Need-cast-add-products Inv-loop μ-loop
+cast-add-products c = record { fits = c .before .before .before .before .before .before .pre .0 .xs-below .below (c .before .before .loop .t) }
+
 add-products-requires : tie.Need-add-products-requires Inv-loop μ-loop
 add-products-requires c κs =
     let l = c .before .before .before in
-    let f = l .before .before .pre .0 in
-    ((f .xs-below .below (l .loop .t), omega arith, f .s-long, f .s-within), (long l, small l))
+    (omega arith, l .before .before .before .before .pre .0 .ws-long, long l)
 
 add-t : tie.Need-add-t Inv-loop μ-loop
 add-t c = omega arith
@@ -49,22 +42,21 @@ loop-less : tie.Need-loop-less Inv-loop μ-loop
 loop-less c = omega arith
 
 loop-again : tie.Need-loop-again Inv-loop μ-loop
-unfolding dotTerm nums
+unfolding dotTerm
 loop-again c =
-    let l = c .before .before .before .before .before in
-    let a = l .before .before in
-    (omega arith, gained-next (l .loop .t) 8 (dotTerm (a .args .n) (a .args .row .now) (a .args .cols .now)) _ (a .pre .1 .0) (l .loop .inv .1) (c .before .add-products .ensures))
+    let l = c .before .before .before .before .before .before in
+    let a = l .before .before .before .before in
+    (omega arith, gained-next (l .loop .t) 8 (dotTerm (a .args .n) (a .args .row .now) (a .args .cols .now)) _ (a .pre .1) (l .loop .inv .1) (c .before .before .add-products .ensures))
 
 same-length : tie.Need-same-length Inv-loop μ-loop
-same-length c = long (c .before) ∙ sym (c .before .before .before .pre .1 .0)
+same-length c = long (c .before) ∙ sym (c .before .before .before .before .before .pre .1)
 
 returns : tie.Need-returns Inv-loop μ-loop
 returns c =
-    let a = c .before .before .before in
-    c .before .loop .inv .1
-    ∙ ap (λ (t : ℕ). gained t (dotTerm (a .args .n) (a .args .row .now) (a .args .cols .now)) (a .args .sums .now)) (omega arith)
+    let a = c .before .before .before .before .before .args in
+    c .before .loop .inv .1 ∙ ap (λ (t : ℕ). gained t (dotTerm (a .n) (a .row .now) (a .cols .now)) (a .sums .now)) (omega arith)
 
 pub add-dots-spec : {M : Type 1} → statement M
 add-dots-spec =
     tie.close
-    (tie.spec Inv-loop μ-loop loop-holds mul-add-products shared-slice-read-add-products add-products-requires add-t loop-less loop-again same-length returns)
+    (tie.spec Inv-loop μ-loop loop-holds mul-add-products shared-slice-read-add-products cast-add-products add-products-requires add-t loop-less loop-again same-length returns)

@@ -2,59 +2,44 @@
 -- Assumes nothing.
 use mathlib.Core.Path.{_≡_, ap}
 use mathlib.Core.List.{List}
-use Prim.Native.Nat.{ℕ, _+_, _*_, _-_, _≤_}
+use Prim.Native.Nat.{ℕ, _+_, _*_, _-_, _%_, _≤_}
 use native.Mathlib.Omega.{arith}
 use borrow.Author.Needs.{needs}
-use lib.ListN.{length, take, drop}
-use lib.IntN.{ℤ, _+ℤ_}
-use Rattle.numbers.specs.Sum.{sumℤ}
-use Rattle.lists.specs.Entries.{ints}
+use lib.ListN.{length, getD, take, drop}
+use Rattle.numbers.specs.Sum.{sumℕ}
 use Rattle.lists.proofs.Fill.{Filled, fill-end}
-use Rattle.matrix.specs.Steps.{gained, leftTerm}
+use Rattle.matrix.specs.Steps.{gained, partTerm}
 use Rattle.matrix.proofs.Extra.{rows-start, rows-next, fill-rest}
-use Rattle.matrix.proofs.Terms.{row-in, in-y, in-s, fit-block, block-row}
+use Rattle.matrix.proofs.Terms.{row-in, in-s, block-long, block-row}
 use Rattle.matrix.proofs.add_to_all.Statement.{statement}
 use Rattle.matrix.proofs.add_to_all.Tie as tie
 
-abbrev from : ℕ → ℕ → ℕ → ℕ → List ℤ → List ℕ → List ℤ → ℕ → ℤ
-from n c t m s y sums k = ints sums k +ℤ sumℤ m (λ u. leftTerm n c s y k (t + u))
+abbrev from : ℕ → ℕ → ℕ → ℕ → List ℕ → List ℕ → List ℕ → ℕ → ℕ
+from n c t m s y sums k = (getD sums k 0 + sumℕ m (partTerm n c t s y k)) % 65536
 
 abbrev Inv-loop : tie.InvT-loop
-Inv-loop n c t m s y sums₀ d f i₀ sums i = (i ≤ 8) × Filled (from n c t m s y sums₀) sums₀ sums (i * c)
+Inv-loop n c t m s y sums₀ i₀ sums i = (i ≤ 8) × Filled (from n c t m s y sums₀) sums₀ sums (i * c)
 
 abbrev μ-loop : tie.MeasureT-loop
-μ-loop n c t m s y sums₀ d f i₀ sums i = 8 - i
-
--- the rows end inside Y
-rows : (a : tie.Start Inv-loop μ-loop) → a .args .t * a .args .c + a .args .m * a .args .c ≤ length (a .args .y .now)
-rows a = in-y (a .args .n) (a .args .c) (a .args .t) (a .args .m) (a .args .s .now) (a .args .y .now) (a .pre .0 .0) (a .pre .0 .1)
-
-mul-d : tie.Need-mul-d Inv-loop μ-loop
-mul-d c = omega (arith, rows (c .before))
-
-mul-f : tie.Need-mul-f Inv-loop μ-loop
-mul-f c = omega (arith, rows (c .before))
-
-add-f : tie.Need-add-f Inv-loop μ-loop
-add-f c = omega (arith, rows (c .before))
+μ-loop n c t m s y sums₀ i₀ sums i = 8 - i
 
 loop-holds : tie.Need-loop-holds Inv-loop μ-loop
-loop-holds c = (omega arith, rows-start _ _ (c .before .args .c))
+loop-holds c = (omega arith, rows-start _ _ (c .before .before .before .args .c))
 
 module _ (c : tie.In-loop Inv-loop μ-loop) where
   abbrev a : tie.Start Inv-loop μ-loop
-  a = c .before .before .before
+  a = c .before .before .before .before .before
 
   abbrev i : ℕ
   i = c .before .loop .i
 
-  -- their secrets end inside S, and the row of sums inside the sums
+  -- the words end inside S, and the row of sums inside the sums
   secrets : i * a .args .n + a .args .t + a .args .m ≤ length (a .args .s .now)
   secrets =
-      in-s (a .args .n) (a .args .c) (a .args .t) (a .args .m) (a .args .s .now) (a .args .y .now) (a .pre .0 .0) (a .pre .0 .1) i (c .loop-test .taken)
+      in-s (a .args .n) (a .args .c) (a .args .t) (a .args .m) (a .args .s .now) (a .args .y .now) (a .pre .0) (a .pre .1) (a .pre .2) i (c .loop-test .taken)
 
   first : i * a .args .c + a .args .c ≤ length (a .args .sums .now)
-  first = rw (a .pre .1 .0) (row-in 8 (a .args .c) i (c .loop-test .taken))
+  first = rw (a .pre .3) (row-in 8 (a .args .c) i (c .loop-test .taken))
 
   row : i * a .args .c + a .args .c ≤ length (c .before .loop .sums)
   row = rw (c .before .loop .inv .1 .long) first
@@ -88,8 +73,11 @@ part-add-block-start c = search needs
 part-add-block-end : tie.Need-part-add-block-end Inv-loop μ-loop
 part-add-block-end c = secrets c
 
+add-add-block-2 : tie.Need-add-add-block-2 Inv-loop μ-loop
+add-add-block-2 c = omega (arith, row (c .before))
+
 mul-add-block-2 : tie.Need-mul-add-block-2 Inv-loop μ-loop
-mul-add-block-2 c = omega (arith, rows (a (c .before)))
+mul-add-block-2 c = omega (arith, row (c .before))
 
 sub-add-block-2 : tie.Need-sub-add-block-2 Inv-loop μ-loop
 sub-add-block-2 c = omega arith
@@ -98,29 +86,14 @@ part-add-block-start-2 : tie.Need-part-add-block-start-2 Inv-loop μ-loop
 part-add-block-start-2 c = search needs
 
 part-add-block-end-2 : tie.Need-part-add-block-end-2 Inv-loop μ-loop
-part-add-block-end-2 c = rows (a (c .before))
-
-add-add-block-2 : tie.Need-add-add-block-2 Inv-loop μ-loop
-add-add-block-2 c = omega (arith, row (c .before .before))
-
-mul-add-block-3 : tie.Need-mul-add-block-3 Inv-loop μ-loop
-mul-add-block-3 c = omega (arith, row (c .before .before))
-
-sub-add-block-3 : tie.Need-sub-add-block-3 Inv-loop μ-loop
-sub-add-block-3 c = omega arith
-
-part-add-block-start-3 : tie.Need-part-add-block-start-3 Inv-loop μ-loop
-part-add-block-start-3 c = search needs
-
-part-add-block-end-3 : tie.Need-part-add-block-end-3 Inv-loop μ-loop
-part-add-block-end-3 c = row (c .before .before)
+part-add-block-end-2 c = row (c .before)
 
 add-block-requires : tie.Need-add-block-requires Inv-loop μ-loop
 add-block-requires c κs =
-    let b = c .before .before .before in
+    let b = c .before .before in
     let g = a b .args in
     let p = a b .pre in
-    fit-block (g .n) (g .c) (g .t) (g .m) (g .s .now) (g .y .now) (p .0 .0) (p .0 .1) (i b) (b .loop-test .taken) (g .sums .now) _ (p .1 .0) (same b) (p .1 .1)
+    block-long (g .n) (g .c) (g .t) (g .m) (g .s .now) (g .y .now) (p .0) (p .1) (p .2) (i b) (b .loop-test .taken) (g .sums .now) _ (p .3) (same b)
 
 add-i : tie.Need-add-i Inv-loop μ-loop
 add-i c = omega arith
@@ -130,13 +103,12 @@ loop-less c = omega arith
 
 loop-again : tie.Need-loop-again Inv-loop μ-loop
 loop-again c =
-    let r = c .before in
-    let b = r .before .before .before .before in
+    let b = c .before .before .before .before .before in
     let g = a b .args in
     let p = a b .pre in (
       omega arith,
       rows-next (i b) (g .c) _ (b .before .loop .inv .1) (first b)
-          (block-row (g .n) (g .c) (g .t) (g .m) (g .s .now) (g .y .now) (p .0 .0) (p .0 .1) (i b) (b .loop-test .taken) (g .sums .now) _ (p .1 .0) (same b) (r .add-block .ensures)),
+          (block-row (g .n) (g .c) (g .t) (g .m) (g .s .now) (g .y .now) (p .0) (p .1) (p .2) (i b) (b .loop-test .taken) (g .sums .now) _ (p .3) (same b) (c .before .before .add-block .ensures)),
     )
 
 same-length : tie.Need-same-length Inv-loop μ-loop
@@ -146,9 +118,8 @@ returns : tie.Need-returns Inv-loop μ-loop
 unfolding gained
 returns c =
     let l = c .before .loop in
-    let b = c .before .before .before in
     let k : l .i ≡ 8 = omega arith in
-    fill-end (l .inv .1) (rw (k, b .pre .1 .0) (omega arith))
+    fill-end (l .inv .1) (rw (k, c .before .before .before .before .before .pre .3) (omega arith))
 
 pub add-to-all-spec : {M : Type 1} → statement M
 add-to-all-spec =
@@ -156,9 +127,6 @@ add-to-all-spec =
     (tie.spec
     Inv-loop
     μ-loop
-    mul-d
-    mul-f
-    add-f
     loop-holds
     mul-a
     mul-b
@@ -168,15 +136,11 @@ add-to-all-spec =
     sub-add-block
     part-add-block-start
     part-add-block-end
+    add-add-block-2
     mul-add-block-2
     sub-add-block-2
     part-add-block-start-2
     part-add-block-end-2
-    add-add-block-2
-    mul-add-block-3
-    sub-add-block-3
-    part-add-block-start-3
-    part-add-block-end-3
     add-block-requires
     add-i
     loop-less

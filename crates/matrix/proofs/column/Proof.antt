@@ -1,18 +1,20 @@
--- `matrix::column` meets its contract: it fills with every eighth entry.
+-- `matrix::column` meets its contract: it fills with the words of every eighth value.
 -- Assumes nothing.
 use mathlib.Core.List.{List}
 use Prim.Native.Nat.{ℕ, _+_, _*_, _-_}
 use native.Mathlib.Omega.{arith}
+use borrow.Author.Needs.{needs}
 use lib.ListN.{length, length-set}
 use lib.IntN.{ℤ}
 use mir.Facts.{toZ-ofZ}
+use Rattle.numbers.specs.Residue.{residue}
 use Rattle.lists.specs.Entries.{ints}
 use Rattle.lists.proofs.Fill.{Filled, fill-start, fill-next, fill-end}
 use Rattle.matrix.proofs.column.Statement.{statement}
 use Rattle.matrix.proofs.column.Tie as tie
 
-abbrev from : List ℤ → ℕ → ℕ → ℤ
-from s j t = ints s (t * 8 + j)
+abbrev from : List ℤ → ℕ → ℕ → ℕ
+from s j t = residue 65536 (ints s (t * 8 + j))
 
 abbrev Inv-loop : tie.InvT-loop
 Inv-loop s j out₀ t₀ out t = Filled (from s j) out₀ out t
@@ -23,23 +25,26 @@ abbrev μ-loop : tie.MeasureT-loop
 loop-holds : tie.Need-loop-holds Inv-loop μ-loop
 loop-holds c = fill-start _ _
 
+mul-word : tie.Need-mul-word Inv-loop μ-loop
+mul-word c = omega arith
+
+add-word : tie.Need-add-word Inv-loop μ-loop
+add-word c = omega arith
+
+mul-word-2 : tie.Need-mul-word-2 Inv-loop μ-loop
+mul-word-2 c = omega arith
+
+shared-slice-copy-out-word : tie.Need-shared-slice-copy-out-word Inv-loop μ-loop
+shared-slice-copy-out-word c = omega arith
+
+word-requires : tie.Need-word-requires Inv-loop μ-loop
+word-requires c κs = search needs
+
 mul-out : tie.Need-mul-out Inv-loop μ-loop
 mul-out c = omega arith
 
-add-out : tie.Need-add-out Inv-loop μ-loop
-add-out c = omega arith
-
-mul-out-2 : tie.Need-mul-out-2 Inv-loop μ-loop
-mul-out-2 c = omega arith
-
-shared-slice-copy-out-out : tie.Need-shared-slice-copy-out-out Inv-loop μ-loop
-shared-slice-copy-out-out c = omega arith
-
-mul-t11 : tie.Need-mul-t11 Inv-loop μ-loop
-mul-t11 c = omega arith
-
-slice-set-from-out : tie.Need-slice-set-from-out Inv-loop μ-loop
-slice-set-from-out c = omega arith
+slice-write-out : tie.Need-slice-write-out Inv-loop μ-loop
+slice-write-out c = omega arith
 
 add-t : tie.Need-add-t Inv-loop μ-loop
 add-t c = omega arith
@@ -49,7 +54,9 @@ loop-less c = simp length-set (omega arith)
 
 loop-again : tie.Need-loop-again Inv-loop μ-loop
 unfolding ints
-loop-again c = fill-next _ (c .before .before .loop .inv) (omega arith) (toZ-ofZ (record { sfits = c .out .given }))
+loop-again c =
+    let l = c .before .before .before .loop in
+    fill-next _ (l .inv) (omega arith) (rw (toZ-ofZ (record { sfits = c .before .word-arg .given })) at (c .word .ensures))
 
 same-length : tie.Need-same-length Inv-loop μ-loop
 same-length c = c .before .loop .inv .long
@@ -60,4 +67,4 @@ returns c = fill-end (c .before .loop .inv) (omega arith)
 pub column-spec : {M : Type 1} → statement M
 column-spec =
     tie.close
-    (tie.spec Inv-loop μ-loop loop-holds mul-out add-out mul-out-2 shared-slice-copy-out-out mul-t11 slice-set-from-out add-t loop-less loop-again same-length returns)
+    (tie.spec Inv-loop μ-loop loop-holds mul-word add-word mul-word-2 shared-slice-copy-out-word word-requires mul-out slice-write-out add-t loop-less loop-again same-length returns)

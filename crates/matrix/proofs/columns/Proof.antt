@@ -7,6 +7,7 @@ use native.Mathlib.Omega.{arith}
 use borrow.Author.Needs.{needs}
 use lib.ListN.{length}
 use lib.IntN.{ℤ}
+use Rattle.numbers.specs.Residue.{residue}
 use Rattle.lists.specs.Entries.{tab, ints}
 use Rattle.lists.proofs.Fill.{Filled, fill-end}
 use Rattle.matrix.specs.Steps.{columnsOf}
@@ -15,8 +16,8 @@ use Rattle.matrix.proofs.Terms.{row-in, column-row}
 use Rattle.matrix.proofs.columns.Statement.{statement}
 use Rattle.matrix.proofs.columns.Tie as tie
 
-abbrev from : ℕ → List ℤ → ℕ → ℤ
-from n s k = ints s (k % n * 8 + k / n)
+abbrev from : ℕ → List ℤ → ℕ → ℕ
+from n s k = residue 65536 (ints s (k % n * 8 + k / n))
 
 abbrev Inv-loop : tie.InvT-loop
 Inv-loop n s cols₀ j₀ cols j = (j ≤ 8) × Filled (from n s) cols₀ cols (j * n)
@@ -25,11 +26,11 @@ abbrev μ-loop : tie.MeasureT-loop
 μ-loop n s cols₀ j₀ cols j = 8 - j
 
 loop-holds : tie.Need-loop-holds Inv-loop μ-loop
-loop-holds c = (omega arith, rows-start _ _ (c .args .n))
+loop-holds c = (omega arith, rows-start _ _ (c .before .args .n))
 
 -- column j ends inside
-inside : (c : tie.In-loop Inv-loop μ-loop) → c .before .loop .j * c .before .before .args .n + c .before .before .args .n ≤ length (c .before .loop .cols)
-inside c = omega (arith, row-in 8 (c .before .before .args .n) (c .before .loop .j) (c .loop-test .taken), c .before .loop .inv .1 .long)
+inside : (c : tie.In-loop Inv-loop μ-loop) → let n = c .before .before .before .args .n in c .before .loop .j * n + n ≤ length (c .before .loop .cols)
+inside c = omega (arith, row-in 8 (c .before .before .before .args .n) (c .before .loop .j) (c .loop-test .taken), c .before .loop .inv .1 .long)
 
 mul-a : tie.Need-mul-a Inv-loop μ-loop
 mul-a c = omega (arith, inside c)
@@ -52,7 +53,8 @@ part-column-end c = inside c
 column-requires : tie.Need-column-requires Inv-loop μ-loop
 column-requires c κs =
     let l = c .before .before in
-    (c .before .loop-test .taken, omega (arith, part-long (l .loop .j * l .before .args .n) (l .before .args .n) (l .loop .cols) (inside (c .before))))
+    let n = l .before .before .args .n in
+    (c .before .loop-test .taken, omega (arith, part-long (l .loop .j * n) n (l .loop .cols) (inside (c .before))))
 
 add-j : tie.Need-add-j Inv-loop μ-loop
 add-j c = omega arith
@@ -62,13 +64,13 @@ loop-less c = omega arith
 
 loop-again : tie.Need-loop-again Inv-loop μ-loop
 loop-again c =
-    let i = c .before .before .before in
+    let i = c .before .before .before .before in
     let l = i .before in
-    let n = l .before .args .n in
-    let s = l .before .args .s .now in (
+    let n = l .before .before .args .n in
+    let s = l .before .before .args .s .now in (
       omega arith,
       rows-next (l .loop .j) n _ (l .loop .inv .1) (omega (arith, inside i, l .loop .inv .1 .long))
-          (c .before .column .ensures ∙ column-row n _ (l .loop .j) s (part-long (l .loop .j * n) n (l .loop .cols) (inside i))),
+          (c .before .before .column .ensures ∙ column-row n _ (l .loop .j) s (part-long (l .loop .j * n) n (l .loop .cols) (inside i))),
     )
 
 same-length : tie.Need-same-length Inv-loop μ-loop
@@ -78,7 +80,7 @@ returns : tie.Need-returns Inv-loop μ-loop
 unfolding columnsOf
 returns c =
     let l = c .before in
-    let a = l .before in
+    let a = l .before .before in
     let j : l .loop .j ≡ 8 = omega arith in
     fill-end (l .loop .inv .1) (rw j (omega arith)) ∙ ap (λ (k : ℕ). tab k (from (a .args .n) (a .args .s .now))) (a .pre .2)
 

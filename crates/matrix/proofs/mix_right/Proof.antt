@@ -20,7 +20,7 @@ slice-aggregate-right-on c = prefix-long 6912 (8 * c .before .before .before .ar
 right-on-requires : tie.Need-right-on-requires
 right-on-requires c κs =
     let a = c .before .before .before .before in
-    ((a .pre .0 .0, sym (prefix-long 6912 (8 * a .args .n) (omega arith)), a .pre .0 .1), a .pre .1)
+    (a .pre .0 .0, a .pre .1 .0, sym (prefix-long 6912 (8 * a .args .n) (omega arith)), a .pre .0 .1)
 
 same-length : tie.Need-same-length
 same-length c = search needs
@@ -29,4 +29,6 @@ returns : tie.Need-returns
 returns c = search needs
 
 pub mix-right-spec : {M : Type 1} → statement M
-mix-right-spec = tie.close (tie.spec mul-m array-borrow-prefix-cols slice-aggregate-right-on right-on-requires same-length returns)
+mix-right-spec =
+    tie.close
+    (tie.spec mul-m array-borrow-prefix-cols slice-aggregate-right-on right-on-requires same-length returns)

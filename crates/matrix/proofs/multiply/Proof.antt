@@ -17,9 +17,9 @@ same-length c = search needs
 
 returns : tie.Need-returns
 returns c =
-    let m = c .before .before in
-    let a = m .before .before .before .before .before .args in
-    bare-is (a .q) (a .n) (a .u .now) (a .s .now) (m .mix-right .ensures)
+    let a = c .before .before .before .before .before .before .before .args in
+    bare-is (a .q) (a .n) (a .u .now) (a .s .now) (c .before .before .mix-right .ensures)
 
 pub multiply-spec : {M : Type 1} → statement M
-multiply-spec = tie.close (tie.spec slice-aggregate-mix-right mix-right-requires same-length returns)
+multiply-spec =
+    tie.close (tie.spec slice-aggregate-mix-right mix-right-requires same-length returns)

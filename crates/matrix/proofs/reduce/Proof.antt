@@ -2,21 +2,17 @@
 -- Assumes nothing.
 use mathlib.Core.Path.{refl, _∙_, ap}
 use mathlib.Core.List.{List}
-use Prim.Native.Nat.{ℕ, _-_}
+use Prim.Native.Nat.{ℕ, _-_, _%_}
 use native.Mathlib.Omega.{arith}
 use lib.ListN.{length, length-set, getD}
-use lib.IntN.{ℤ, pos}
-use mir.Facts.{toZ-ofZ}
-use Rattle.numbers.specs.Residue.{residue}
-use Rattle.lists.specs.Entries.{tab, ints}
+use Rattle.lists.specs.Entries.{tab}
 use Rattle.lists.proofs.Fill.{Filled, fill-start, fill-next, fill-end}
 use Rattle.matrix.specs.Steps.{reduced}
-use Rattle.matrix.proofs.Quotient.{raise-is}
 use Rattle.matrix.proofs.reduce.Statement.{statement}
 use Rattle.matrix.proofs.reduce.Tie as tie
 
-abbrev from : ℕ → List ℤ → ℕ → ℕ
-from q sums k = residue q (ints sums k)
+abbrev from : ℕ → List ℕ → ℕ → ℕ
+from q sums k = getD sums k 0 % q
 
 abbrev Inv-loop : tie.InvT-loop
 Inv-loop q sums out₀ m k₀ out k = Filled (from q sums) out₀ out k
@@ -30,16 +26,14 @@ div-m c = omega arith
 loop-holds : tie.Need-loop-holds Inv-loop μ-loop
 loop-holds c = fill-start _ _
 
-mul-raise : tie.Need-mul-raise Inv-loop μ-loop
-mul-raise c = omega arith
+mul-remainder : tie.Need-mul-remainder Inv-loop μ-loop
+mul-remainder c = omega arith
 
-shared-slice-copy-out-raise : tie.Need-shared-slice-copy-out-raise Inv-loop μ-loop
-shared-slice-copy-out-raise c = omega arith
+shared-slice-read-remainder : tie.Need-shared-slice-read-remainder Inv-loop μ-loop
+shared-slice-read-remainder c = omega arith
 
-raise-requires : tie.Need-raise-requires Inv-loop μ-loop
-raise-requires c κs =
-    let a = c .before .before .before .before in
-    (a .pre .1, rw (toZ-ofZ (record { sfits = c .raise-arg .given })) (a .pre .2 .within (c .before .before .loop .k)))
+cast-remainder : tie.Need-cast-remainder Inv-loop μ-loop
+cast-remainder c = omega (arith, c .shared-slice-known2 .given (c .before .before .loop .k))
 
 remainder-requires : tie.Need-remainder-requires Inv-loop μ-loop
 remainder-requires c κs = (c .before .before .before .before .before .pre .0, refl)
@@ -57,14 +51,7 @@ loop-less : tie.Need-loop-less Inv-loop μ-loop
 loop-less c = simp length-set (omega arith)
 
 loop-again : tie.Need-loop-again Inv-loop μ-loop
-unfolding ints
-loop-again c =
-    let a = c .before .before .before .before .before .before in
-    let l = c .before .before .before .before .loop in
-    fill-next _ (l .inv) (omega arith)
-    (c .remainder .ensures
-    ∙ raise-is (a .args .q) 5190 _ (getD (a .args .sums .now) (l .k) (pos 0)) (a .pre .0)
-    (rw (toZ-ofZ (record { sfits = c .before .before .raise-arg .given })) at (c .before .raise .ensures)))
+loop-again c = fill-next _ (c .before .before .before .loop .inv) (omega arith) (c .remainder .ensures)
 
 same-length : tie.Need-same-length Inv-loop μ-loop
 same-length c = c .before .loop .inv .long
@@ -72,10 +59,10 @@ same-length c = c .before .loop .inv .long
 returns : tie.Need-returns Inv-loop μ-loop
 unfolding reduced
 returns c =
-    let a = c .before .before .before in
-    fill-end (c .before .loop .inv) (omega arith) ∙ ap (λ (k : ℕ). tab k (from (a .args .q) (a .args .sums .now))) (a .pre .3)
+    let a = c .before .before .before .before in
+    fill-end (c .before .loop .inv) (omega arith) ∙ ap (λ (k : ℕ). tab k (from (a .args .q) (a .args .sums .now))) (a .pre .1)
 
 pub reduce-spec : {M : Type 1} → statement M
 reduce-spec =
     tie.close
-    (tie.spec Inv-loop μ-loop div-m loop-holds mul-raise shared-slice-copy-out-raise raise-requires remainder-requires mul-out slice-write-out add-k loop-less loop-again same-length returns)
+    (tie.spec Inv-loop μ-loop div-m loop-holds mul-remainder shared-slice-read-remainder cast-remainder remainder-requires mul-out slice-write-out add-k loop-less loop-again same-length returns)

@@ -1,7 +1,7 @@
 -- `matrix::right_on` meets its contract.
 -- Assumes nothing.
 use borrow.Author.Needs.{needs}
-use Rattle.matrix.proofs.Whole.{fit-columns, right-is}
+use Rattle.matrix.proofs.Whole.{lent-columns, right-is}
 use Rattle.matrix.proofs.right_on.Statement.{statement}
 use Rattle.matrix.proofs.right_on.Tie as tie
 
@@ -10,9 +10,9 @@ columns-requires c κs = search needs
 
 right-rows-requires : tie.Need-right-rows-requires
 right-rows-requires c κs =
-    let k = c .before .before .before in
-    let a = k .before .before .before .before in
-    ((fit-columns _ (k .columns .ensures) (a .pre .0 .0), a .pre .0 .2), a .pre .1)
+    let k = c .before .before .before .before in
+    let a = k .before .before .before .before .before in
+    (a .pre .0 .some, lent-columns (k .columns .ensures) (a .pre .0), a .pre .1, a .pre .3)
 
 same-length : tie.Need-same-length
 same-length c = search needs
@@ -23,9 +23,10 @@ same-length-2 c = search needs
 returns : tie.Need-returns
 returns c =
     let w = c .before .before in
-    let k = w .before .before .before .before in
-    let a = k .before .before .before .before in
-    right-is (a .args .q) (a .args .n) (a .args .r) (a .args .x .now) (a .args .s .now) _ (a .args .e .now) (k .columns .ensures) (a .pre .1 .0) (w .right-rows .ensures)
+    let k = w .before .before .before .before .before in
+    let a = k .before .before .before .before .before in
+    right-is (a .args .e .now) (a .pre .0) (k .columns .ensures) (a .pre .1) (w .right-rows .ensures)
 
 pub right-on-spec : {M : Type 1} → statement M
-right-on-spec = tie.close (tie.spec columns-requires right-rows-requires same-length same-length-2 returns)
+right-on-spec =
+    tie.close (tie.spec columns-requires right-rows-requires same-length same-length-2 returns)

@@ -2,24 +2,24 @@
 -- Assumes nothing.
 use mathlib.Core.Path.{_≡_, _∙_, sym, ap}
 use mathlib.Core.List.{List}
-use Prim.Native.Nat.{ℕ, _+_, _*_, _-_, _≤_}
+use Prim.Native.Nat.{ℕ, _+_, _*_, _-_, _%_, _≤_}
 use native.Mathlib.Omega.{arith}
 use borrow.Author.Needs.{needs}
 use lib.ListN.{length}
-use lib.IntN.{ℤ, _+ℤ_}
-use Rattle.numbers.specs.Sum.{sumℤ}
+use lib.IntN.{ℤ}
+use Rattle.numbers.specs.Sum.{sumℕ}
 use Rattle.numbers.specs.Residue.{residue}
 use Rattle.lists.specs.Entries.{tab, ints}
 use Rattle.lists.proofs.Fill.{Filled, fill-end}
 use Rattle.matrix.specs.Steps.{rightTerm}
-use Rattle.matrix.proofs.Extra.{part-long, part-within, rows-start, rows-next}
+use Rattle.matrix.proofs.Extra.{part-long, rows-start, rows-next}
 use Rattle.matrix.proofs.Steps.{reduced-gained}
-use Rattle.matrix.proofs.Terms.{row-in, fit-row, right-row}
+use Rattle.matrix.proofs.Terms.{row-in, lent-row, right-row}
 use Rattle.matrix.proofs.right_rows.Statement.{statement}
 use Rattle.matrix.proofs.right_rows.Tie as tie
 
-abbrev from : ℕ → ℕ → List ℕ → List ℤ → List ℤ → ℕ → ℕ
-from q n x cols e k = residue q (ints e k +ℤ sumℤ n (rightTerm n x cols k))
+abbrev from : ℕ → ℕ → List ℕ → List ℕ → List ℤ → ℕ → ℕ
+from q n x cols e k = (residue 65536 (ints e k) + sumℕ n (rightTerm n x cols k)) % 65536 % q
 
 abbrev Inv-loop : tie.InvT-loop
 Inv-loop q n r x cols e out₀ i₀ out i = (i ≤ r) × Filled (from q n x cols e) out₀ out (i * 8)
@@ -32,17 +32,17 @@ loop-holds c = (omega arith, rows-start _ _ 8)
 
 module _ (c : tie.In-loop Inv-loop μ-loop) where
   abbrev a : tie.Start Inv-loop μ-loop
-  a = c .before .before .before .before
+  a = c .before .before .before .before .before
 
   -- row i ends inside X, the noise and the output
   in-x : c .before .loop .i * a .args .n + a .args .n ≤ length (a .args .x .now)
-  in-x = rw (a .pre .0 .0 .xs-long) (row-in (a .args .r) (a .args .n) (c .before .loop .i) (c .loop-test .taken))
+  in-x = rw (a .pre .1 .xs-long) (row-in (a .args .r) (a .args .n) (c .before .loop .i) (c .loop-test .taken))
 
   in-e : c .before .loop .i * 8 + 8 ≤ length (a .args .e .now)
-  in-e = rw (a .pre .1 .0) (omega arith)
+  in-e = rw (a .pre .2) (omega arith)
 
   in-out : c .before .loop .i * 8 + 8 ≤ length (c .before .loop .out)
-  in-out = rw (c .before .loop .inv .1 .long, a .pre .0 .1) (omega arith)
+  in-out = rw (c .before .loop .inv .1 .long, a .pre .3) (omega arith)
 
 mul-a : tie.Need-mul-a Inv-loop μ-loop
 mul-a c = omega (arith, in-x c)
@@ -100,8 +100,10 @@ right-row-requires c κs =
     let t = c .before .before .before in
     let l = t .before .loop in
     let b = a t in (
-      (fit-row (l .i) (t .loop-test .taken) (b .pre .0 .0), part-long (l .i * 8) 8 (l .out) (in-out t)),
-      (part-long (l .i * 8) 8 (b .args .e .now) (in-e t), part-within 6 (l .i * 8) 8 (b .args .e .now) (b .pre .1 .1)),
+      b .pre .0,
+      lent-row (l .i) (t .loop-test .taken) (b .pre .1),
+      part-long (l .i * 8) 8 (b .args .e .now) (in-e t),
+      part-long (l .i * 8) 8 (l .out) (in-out t),
     )
 
 add-i : tie.Need-add-i Inv-loop μ-loop
@@ -112,13 +114,12 @@ loop-less c = omega arith
 
 loop-again : tie.Need-loop-again Inv-loop μ-loop
 loop-again c =
-    let r = c .before .before in
-    let t = r .before .before .before .before in
+    let t = c .before .before .before .before .before .before in
     let l = t .before .loop in
     let b = a t .args in (
       omega arith,
       rows-next (l .i) 8 _ (l .inv .1) (rw (← l .inv .1 .long) (in-out t))
-          (right-row (b .q) (b .n) (l .i) (b .x .now) (b .cols .now) (b .e .now) (in-e t) (r .right-row .ensures)),
+          (right-row (b .q) (b .n) (l .i) (b .x .now) (b .cols .now) (b .e .now) (in-e t) (c .before .before .right-row .ensures)),
     )
 
 same-length : tie.Need-same-length Inv-loop μ-loop
@@ -127,10 +128,10 @@ same-length c = c .before .loop .inv .1 .long
 returns : tie.Need-returns Inv-loop μ-loop
 returns c =
     let l = c .before .loop in
-    let b = c .before .before .before .before in
+    let b = c .before .before .before .before .before in
     let i : l .i ≡ b .args .r = omega arith in
-    fill-end (l .inv .1) (rw (i, b .pre .0 .1) (omega arith))
-    ∙ ap (λ (k : ℕ). tab k (from (b .args .q) (b .args .n) (b .args .x .now) (b .args .cols .now) (b .args .e .now))) (b .pre .0 .1 ∙ sym (b .pre .1 .0))
+    fill-end (l .inv .1) (rw (i, b .pre .3) (omega arith))
+    ∙ ap (λ (k : ℕ). tab k (from (b .args .q) (b .args .n) (b .args .x .now) (b .args .cols .now) (b .args .e .now))) (b .pre .3 ∙ sym (b .pre .2))
     ∙ sym (reduced-gained (b .args .q) (b .args .n) (rightTerm (b .args .n) (b .args .x .now) (b .args .cols .now)) (b .args .e .now))
 
 pub right-rows-spec : {M : Type 1} → statement M

@@ -1,0 +1,20 @@
+-- `matrix::word` meets its contract.
+-- Assumes nothing.
+use native.Mathlib.Omega.{arith}
+use borrow.Author.Needs.{needs}
+use mir.Facts.{toZ-ofZ}
+use Rattle.numbers.proofs.Congruence.{residue-lt}
+use Rattle.matrix.proofs.word.Statement.{statement}
+use Rattle.matrix.proofs.word.Tie as tie
+
+residue32-requires : tie.Need-residue32-requires
+residue32-requires c κs = search needs
+
+cast-result : tie.Need-cast-result
+cast-result c = record { fits = rw (c .residue32 .ensures) (residue-lt 65536 _ (omega arith)) }
+
+returns : tie.Need-returns
+returns c = rw (toZ-ofZ (c .before .fits .z)) at (c .residue32 .ensures)
+
+pub word-spec : {M : Type 1} → statement M
+word-spec = tie.close (tie.spec residue32-requires cast-result returns)

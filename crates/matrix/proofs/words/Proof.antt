@@ -1,0 +1,69 @@
+-- `matrix::words` meets its contract: it fills with the words of the values.
+-- Assumes nothing.
+use mathlib.Core.Path.{_∙_, ap}
+use mathlib.Core.List.{List}
+use Prim.Native.Nat.{ℕ, _-_}
+use native.Mathlib.Omega.{arith}
+use borrow.Author.Needs.{needs}
+use lib.ListN.{length, length-set}
+use lib.IntN.{ℤ}
+use mir.Facts.{toZ-ofZ}
+use Rattle.numbers.specs.Residue.{residue}
+use Rattle.lists.specs.Entries.{tab, ints}
+use Rattle.lists.proofs.Fill.{Filled, fill-start, fill-next, fill-end}
+use Rattle.matrix.specs.Steps.{wordsOf}
+use Rattle.matrix.proofs.words.Statement.{statement}
+use Rattle.matrix.proofs.words.Tie as tie
+
+abbrev from : List ℤ → ℕ → ℕ
+from zs k = residue 65536 (ints zs k)
+
+abbrev Inv-loop : tie.InvT-loop
+Inv-loop zs out₀ k₀ out k = Filled (from zs) out₀ out k
+
+abbrev μ-loop : tie.MeasureT-loop
+μ-loop zs out₀ k₀ out k = length out - k
+
+loop-holds : tie.Need-loop-holds Inv-loop μ-loop
+loop-holds c = fill-start _ _
+
+mul-word : tie.Need-mul-word Inv-loop μ-loop
+mul-word c = omega arith
+
+shared-slice-copy-out-word : tie.Need-shared-slice-copy-out-word Inv-loop μ-loop
+shared-slice-copy-out-word c = omega arith
+
+word-requires : tie.Need-word-requires Inv-loop μ-loop
+word-requires c κs = search needs
+
+mul-out : tie.Need-mul-out Inv-loop μ-loop
+mul-out c = omega arith
+
+slice-write-out : tie.Need-slice-write-out Inv-loop μ-loop
+slice-write-out c = omega arith
+
+add-k : tie.Need-add-k Inv-loop μ-loop
+add-k c = omega arith
+
+loop-less : tie.Need-loop-less Inv-loop μ-loop
+loop-less c = simp length-set (omega arith)
+
+loop-again : tie.Need-loop-again Inv-loop μ-loop
+unfolding ints
+loop-again c =
+    let l = c .before .before .before .loop in
+    fill-next _ (l .inv) (omega arith) (rw (toZ-ofZ (record { sfits = c .before .word-arg .given })) at (c .word .ensures))
+
+same-length : tie.Need-same-length Inv-loop μ-loop
+same-length c = c .before .loop .inv .long
+
+returns : tie.Need-returns Inv-loop μ-loop
+unfolding wordsOf
+returns c =
+    let a = c .before .before .before in
+    fill-end (c .before .loop .inv) (omega arith) ∙ ap (λ (k : ℕ). tab k (from (a .args .zs .now))) (omega arith)
+
+pub words-spec : {M : Type 1} → statement M
+words-spec =
+    tie.close
+    (tie.spec Inv-loop μ-loop loop-holds mul-word shared-slice-copy-out-word word-requires mul-out slice-write-out add-k loop-less loop-again same-length returns)
