@@ -1,6 +1,8 @@
 // The bench cards, run: 01, "Bench cards". A line has a card's inputs and what the library's functions give for them. It begins with `*` where 01 marks the card,
-// which is then a theorem on the definitions too (`specs/Table.antt`). `stdout` is what the second program prints, less its cards of the calls Reply and Finish.
+// which is then a theorem on the definitions too (`specs/Table.antt`). `stdout` is what the second program prints.
 use exchange::Answer;
+use exchange::Replied;
+use front::Refusal;
 use libc::STDOUT_FILENO;
 use newhope::Four;
 ghost use Prim.Native.Nat.{_<_};
@@ -173,16 +175,88 @@ fn product_card() {
     text(b"\n");
 }
 
-// A call's answer: that it passes, or the refusal with its place.
+// A refusal with its place.
+fn refused(r: Refusal) {
+    field(b"refusal=", r.number());
+    text(b" place=");
+    number(r.place() as u64);
+}
+
+// A call's answer: that it passes, or the refusal.
 fn told(answer: Answer) {
     match answer {
         Answer::Done(_) => text(b"passes"),
-        Answer::Refused(r) => {
-            field(b"refusal=", r.number());
-            text(b" place=");
-            number(r.place() as u64);
-        }
+        Answer::Refused(r) => refused(r),
     }
+}
+
+// An opening of NewHope whose first number is n, all else 0.
+fn opening(n: u32) -> [u8; 1824]
+    requires { ⌜ n < 16384 ⌝ }
+{
+    let mut bytes = [0u8; 1824];
+    bytes[0] = (n % 256) as u8;
+    bytes[1] = (n / 256) as u8;
+    bytes
+}
+
+// A reply of NewHope whose first number is n, all else 0.
+fn reply(n: u32) -> [u8; 2048]
+    requires { ⌜ n < 16384 ⌝ }
+{
+    let mut bytes = [0u8; 2048];
+    bytes[0] = (n % 256) as u8;
+    bytes[1] = (n / 256) as u8;
+    bytes
+}
+
+fn reply_card(n: u32)
+    requires { ⌜ n < 16384 ⌝ }
+{
+    let given = opening(n);
+    let a = [0u32; 1024];
+    let zeros = [0i32; 1024];
+    let coins = [0u8; 32];
+    let mut message = [0u8; 2048];
+    let mut key = [0u8; 32];
+    let answer = exchange::reply(
+        1,
+        &given,
+        &a,
+        &zeros,
+        &zeros,
+        &zeros,
+        &coins,
+        &mut message,
+        &mut key,
+    );
+    field(b"- reply scheme=1 index=0 number=", n);
+    text(b" : ");
+    match answer {
+        Replied::Done(_, _) => text(b"passes"),
+        Replied::Refused(r) => refused(r),
+    }
+    text(b"\n");
+}
+
+fn finish_card(n: u32)
+    requires { ⌜ n < 16384 ⌝ }
+{
+    let given = reply(n);
+    let secret = [0i32; 1024];
+    let mut key = [0u8; 32];
+    let answer = exchange::finish(1, &given, &secret, &mut key);
+    field(b"- finish scheme=1 index=0 number=", n);
+    text(b" : ");
+    told(answer);
+    text(b"\n");
+}
+
+fn message_cards() {
+    reply_card(12288);
+    finish_card(12288);
+    reply_card(12289);
+    finish_card(12289);
 }
 
 // Of the empty stream.
@@ -238,5 +312,6 @@ fn main() {
     newhope_cards();
     noise_cards();
     transform_cards();
+    message_cards();
     expand_card();
 }

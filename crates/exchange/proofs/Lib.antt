@@ -1,3 +1,11 @@
+pub mod Numbers
+pub mod Parts
 pub mod Answers
+pub mod Ended
+pub mod Offering
+pub mod Finishing
+pub mod Both
+pub mod Replying
+pub mod Only
 pub mod Sampling
 pub mod Sampled

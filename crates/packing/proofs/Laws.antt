@@ -14,15 +14,16 @@
 --   packed-below      each is a byte
 --   unpacked-length   n numbers come out
 --   unpacked-below    each of w bits
+--   no-bits           numbers of no bits are zeros
 --   unpack-pack       numbers packed and unpacked are the same numbers, wherever they fill whole bytes
 --   pack-unpack       bytes unpacked and packed are the same bytes, wherever whole numbers fill them
 -- Assumes nothing.
 use mathlib.Core.Path.{_≡_, refl, sym, ap, _∙_}
 use mathlib.Core.List.{List, [], _∷_, _++_}
 use Prim.Native.Nat.{ℕ, zero, suc, _+_, _*_, _/_, _^_, _≤_, _<_}
-use native.Mathlib.Nat.{mod-lt, div-add-mod', div-lt-iff-lt-mul, div-div-eq-div-mul, add-mul-div-left, add-mul-mod-self-left, one-le-pow, pow-zero, pow-suc, pow-succ', mul-assoc, add-zero, zero-add, suc-add, div-one}
+use native.Mathlib.Nat.{mod-lt, div-add-mod', div-lt-iff-lt-mul, div-div-eq-div-mul, add-mul-div-left, add-mul-mod-self-left, one-le-pow, pow-zero, pow-suc, pow-succ', mul-assoc, add-zero, zero-add, suc-add, div-one, mod-one}
 use native.Mathlib.Omega.{arith}
-use lib.ListN.{length, getD, take, drop}
+use lib.ListN.{length, getD, take, drop, replicate}
 use lib.Seq.{getD-drop, drop-drop, take-all, take-nil}
 use lib.Pow.{pow-pos}
 use lib.Arith.{digits-div, digits-mod, digits-lt, lt-one}
@@ -109,6 +110,16 @@ unpacked-length w n bs = digits-length (2 ^ w) n (value 256 bs)
 pub unpacked-below : (w n : ℕ) (bs : List ℕ) → Below (2 ^ w) (unpacked w n bs)
 unfolding unpacked
 unpacked-below w n bs = digits-below (2 ^ w) n (value 256 bs) (pow-pos w)
+
+-- one digit in base 1 is 0
+ones : (n v : ℕ) → digits 1 n v ≡ replicate n 0
+unfolding digits
+ones zero v = refl
+ones (suc n) v = rw (mod-one v, ones n (v / 1))
+
+pub no-bits : (n : ℕ) (bs : List ℕ) → unpacked 0 n bs ≡ replicate n 0
+unfolding unpacked
+no-bits n bs = ones n (value 256 bs)
 
 -- n numbers of w bits that fill m bytes have as many values
 same-room : (w n m : ℕ) → w * n ≡ 8 * m → (2 ^ w) ^ n ≡ 256 ^ m
