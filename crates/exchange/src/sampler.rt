@@ -85,7 +85,7 @@ fn noise_values(s: Scheme, bytes: &[u8], out: &mut [i32]) -> usize
 }
 
 // Noise in a known scheme: what is promised of the scheme's own number.
-pub fn noise_in(s: Scheme, bytes: &[u8], out: &mut [i32]) -> Answer
+pub(crate) fn noise_in(s: Scheme, bytes: &[u8], out: &mut [i32]) -> Answer
     requires { ⌜ now out ≡ replicate (length (now out)) (pos 0) ⌝ }
     ensures { λ r. ⌜ Sampled (numberOf s) (now (bytes .entry)) (length (now (out .entry))) r (now (out .exit)) ⌝ }
 {
@@ -97,7 +97,7 @@ pub fn noise_in(s: Scheme, bytes: &[u8], out: &mut [i32]) -> Answer
 }
 
 // Expand's tests of lengths.
-pub fn expand_sizes(m: usize, room: usize) -> Verdict
+pub(crate) fn expand_sizes(m: usize, room: usize) -> Verdict
     ensures { λ r. ⌜ r ≡ lengthUpTo m 65536 then roomFor room 1024 ⌝ }
 {
     let v = front::length_up_to(Verdict::Pass, m, 65536);
@@ -105,7 +105,7 @@ pub fn expand_sizes(m: usize, room: usize) -> Verdict
 }
 
 // Expand, where the lengths are allowed. Where the stream runs out, the numbers that were written are zeroed again.
-pub fn expand_in(stream: &[u8], out: &mut [u32]) -> Answer
+pub(crate) fn expand_in(stream: &[u8], out: &mut [u32]) -> Answer
     requires { ⌜ lengthUpTo (length (now stream)) 65536 then roomFor (length (now out)) 1024 ≡ Pass ⌝ }
     requires { ⌜ now out ≡ replicate (length (now out)) 0 ⌝ }
     ensures { λ r. ⌜ Expanded (now (stream .entry)) (length (now (out .entry))) r (now (out .exit)) ⌝ }
