@@ -3,11 +3,13 @@
 --   told-done, told-refused   the answer `Done n` where all tests passed, and the refusal of the test that failed
 --   same-answer               two answers with the same three numbers are the same
 --   same-replied              so are two of Reply's with the same four
+--   same-compared             and two of Bench's with the same three
 -- Assumes nothing.
-use mathlib.Core.Path.{_≡_, refl}
+use mathlib.Core.Path.{_≡_, refl, ap}
 use mathlib.Core.Bool.{cond}
-use Prim.Native.Nat.{ℕ}
-use lib.Dec.{eqb}
+use Prim.Native.Nat.{ℕ, _-_}
+use native.Mathlib.Omega.{arith}
+use lib.Dec.{eqb, eqb·suc-zero}
 use Rattle.front.specs.Front.{numberIn, placeIn, countIn}
 use Rattle.front.specs.declared.Refusal.{Refusal}
 use Rattle.front.specs.declared.Refusal.the-variants.{NoScheme, BadLength, Short, PublicOver, MessageOver, SecretBeyond, RanOut}
@@ -17,6 +19,9 @@ use Rattle.exchange.specs.Answers.{number, place, written, numberR, plac
 use Rattle.exchange.specs.declared.Answer.{Answer}
 use Rattle.exchange.specs.declared.Answer.the-variants.{Done, Refused}
 use Rattle.exchange.specs.declared.Replied.{Replied}
+use Rattle.exchange.specs.declared.Compared.{Compared}
+use Rattle.exchange.specs.declared.Compared.the-variants.{Agree, Differ}
+use Rattle.exchange.specs.Bench.{numberC, placeC, differC}
 
 pub record Told (v : Verdict) (n : ℕ) (a : Answer) : Type 0 where
   pub refusal : number a ≡ numberIn v
@@ -76,3 +81,23 @@ back-replied (Replied.Refused (RanOut k)) = refl
 
 pub same-replied : (a b : Replied) → numberR a ≡ numberR b → placeR a ≡ placeR b → writtenMessage a ≡ writtenMessage b → writtenKey a ≡ writtenKey b → a ≡ b
 same-replied a b e f g h = cc (back-replied a, back-replied b)
+
+-- ---- of Bench
+
+comparedBy : ℕ → ℕ → ℕ → Compared
+comparedBy k p d = cond (eqb k 0) (cond (eqb d 0) Agree (Differ (d - 1))) (Compared.Refused (refusalBy k p))
+
+back-compared : (a : Compared) → comparedBy (numberC a) (placeC a) (differC a) ≡ a
+unfolding comparedBy refusalBy
+back-compared Agree = refl
+back-compared (Differ i) = rw (eqb·suc-zero i) (ap Differ (omega arith))
+back-compared (Compared.Refused NoScheme) = refl
+back-compared (Compared.Refused BadLength) = refl
+back-compared (Compared.Refused Short) = refl
+back-compared (Compared.Refused (PublicOver k)) = refl
+back-compared (Compared.Refused (MessageOver k)) = refl
+back-compared (Compared.Refused (SecretBeyond k)) = refl
+back-compared (Compared.Refused (RanOut k)) = refl
+
+pub same-compared : (a b : Compared) → numberC a ≡ numberC b → placeC a ≡ placeC b → differC a ≡ differC b → a ≡ b
+same-compared a b e f g = cc (back-compared a, back-compared b)

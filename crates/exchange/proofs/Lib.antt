@@ -7,5 +7,8 @@ pub mod Finishing
 pub mod Both
 pub mod Replying
 pub mod Only
+pub mod Travel
+pub mod Comparing
+pub mod Never
 pub mod Sampling
 pub mod Sampled

@@ -41,14 +41,17 @@ pub record Sound (f : Fixed) : Type 0 where
   pub many : f .secret ≤ 6912
   pub values : f .mixed ≤ 1024
   pub few : f .groups ≤ 1024
+  pub openings : f .opening ≤ 12976
+  pub replies : f .reply ≤ 12968
+  pub keys : f .key ≤ 128
 
 pub sound : (s : Scheme) → Sound (fixedOf s)
-sound Bcns = record { some = lit≤ tt; width = lit≤ tt; width-room = lit≤ tt; q-room = lit≤ tt; hint = lit≤ tt; hint-room = lit≤ tt; key = lit≤ tt; key-room = lit≤ tt; coin-room = lit≤ tt; many = lit≤ tt; values = lit≤ tt; few = lit≤ tt }
-sound NewHope = record { some = lit≤ tt; width = lit≤ tt; width-room = lit≤ tt; q-room = lit≤ tt; hint = lit≤ tt; hint-room = lit≤ tt; key = lit≤ tt; key-room = lit≤ tt; coin-room = lit≤ tt; many = lit≤ tt; values = lit≤ tt; few = lit≤ tt }
-sound Challenge = record { some = lit≤ tt; width = lit≤ tt; width-room = lit≤ tt; q-room = lit≤ tt; hint = lit≤ tt; hint-room = lit≤ tt; key = lit≤ tt; key-room = lit≤ tt; coin-room = lit≤ tt; many = lit≤ tt; values = lit≤ tt; few = lit≤ tt }
-sound Classical = record { some = lit≤ tt; width = lit≤ tt; width-room = lit≤ tt; q-room = lit≤ tt; hint = lit≤ tt; hint-room = lit≤ tt; key = lit≤ tt; key-room = lit≤ tt; coin-room = lit≤ tt; many = lit≤ tt; values = lit≤ tt; few = lit≤ tt }
-sound Recommended = record { some = lit≤ tt; width = lit≤ tt; width-room = lit≤ tt; q-room = lit≤ tt; hint = lit≤ tt; hint-room = lit≤ tt; key = lit≤ tt; key-room = lit≤ tt; coin-room = lit≤ tt; many = lit≤ tt; values = lit≤ tt; few = lit≤ tt }
-sound Paranoid = record { some = lit≤ tt; width = lit≤ tt; width-room = lit≤ tt; q-room = lit≤ tt; hint = lit≤ tt; hint-room = lit≤ tt; key = lit≤ tt; key-room = lit≤ tt; coin-room = lit≤ tt; many = lit≤ tt; values = lit≤ tt; few = lit≤ tt }
+sound Bcns = record { some = lit≤ tt; width = lit≤ tt; width-room = lit≤ tt; q-room = lit≤ tt; hint = lit≤ tt; hint-room = lit≤ tt; key = lit≤ tt; key-room = lit≤ tt; coin-room = lit≤ tt; many = lit≤ tt; values = lit≤ tt; few = lit≤ tt; openings = lit≤ tt; replies = lit≤ tt; keys = lit≤ tt }
+sound NewHope = record { some = lit≤ tt; width = lit≤ tt; width-room = lit≤ tt; q-room = lit≤ tt; hint = lit≤ tt; hint-room = lit≤ tt; key = lit≤ tt; key-room = lit≤ tt; coin-room = lit≤ tt; many = lit≤ tt; values = lit≤ tt; few = lit≤ tt; openings = lit≤ tt; replies = lit≤ tt; keys = lit≤ tt }
+sound Challenge = record { some = lit≤ tt; width = lit≤ tt; width-room = lit≤ tt; q-room = lit≤ tt; hint = lit≤ tt; hint-room = lit≤ tt; key = lit≤ tt; key-room = lit≤ tt; coin-room = lit≤ tt; many = lit≤ tt; values = lit≤ tt; few = lit≤ tt; openings = lit≤ tt; replies = lit≤ tt; keys = lit≤ tt }
+sound Classical = record { some = lit≤ tt; width = lit≤ tt; width-room = lit≤ tt; q-room = lit≤ tt; hint = lit≤ tt; hint-room = lit≤ tt; key = lit≤ tt; key-room = lit≤ tt; coin-room = lit≤ tt; many = lit≤ tt; values = lit≤ tt; few = lit≤ tt; openings = lit≤ tt; replies = lit≤ tt; keys = lit≤ tt }
+sound Recommended = record { some = lit≤ tt; width = lit≤ tt; width-room = lit≤ tt; q-room = lit≤ tt; hint = lit≤ tt; hint-room = lit≤ tt; key = lit≤ tt; key-room = lit≤ tt; coin-room = lit≤ tt; many = lit≤ tt; values = lit≤ tt; few = lit≤ tt; openings = lit≤ tt; replies = lit≤ tt; keys = lit≤ tt }
+sound Paranoid = record { some = lit≤ tt; width = lit≤ tt; width-room = lit≤ tt; q-room = lit≤ tt; hint = lit≤ tt; hint-room = lit≤ tt; key = lit≤ tt; key-room = lit≤ tt; coin-room = lit≤ tt; many = lit≤ tt; values = lit≤ tt; few = lit≤ tt; openings = lit≤ tt; replies = lit≤ tt; keys = lit≤ tt }
 
 -- ---- by the struct that the code reads them from
 

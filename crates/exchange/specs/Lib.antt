@@ -6,3 +6,4 @@ pub mod Calls
 pub mod Ended
 pub mod Steps
 pub mod Sampling
+pub mod Bench

@@ -12,6 +12,8 @@
 --   messageFrom, ownKeyFrom                  its message and its key
 --   replyRest c m s' e' e''                  its tests after those of sizes and public numbers
 --   ReplyEnds v c m a s' e' e'' cs ..        how it ends under the verdict v
+--   BenchRest c m a s s' e' e'' cs r         Bench: how it ends after the opening m
+--   BenchEnds c x r                          how it ends
 use mathlib.Core.Path.{_≡_}
 use mathlib.Core.List.{List, _++_}
 use Prim.Native.Nat.{ℕ, _≤_}
@@ -28,11 +30,13 @@ use Rattle.ends.specs.Fit.{Counted, Small}
 use Rattle.ends.specs.Keys.{hints, keys, peers}
 use Rattle.ends.specs.Values.{replied, mixedValue, bareValue}
 use Rattle.exchange.specs.Wire.{openedIn, repliedIn, numbersIn, hintsIn, coinsIn}
-use Rattle.exchange.specs.Tests.{replySecrets}
+use Rattle.exchange.specs.Tests.{replySecrets, replyTests}
 use Rattle.exchange.specs.Messages.{replyOf, keyOf, peerKeyOf}
 use Rattle.exchange.specs.Ended.{Ended, EndedBoth}
+use Rattle.exchange.specs.Bench.{Run, differing, benchTests, ownIn, peerIn, Comparing}
 use Rattle.exchange.specs.declared.Answer.{Answer}
 use Rattle.exchange.specs.declared.Replied.{Replied}
+use Rattle.exchange.specs.declared.Compared.{Compared}
 
 -- ---- Offer
 
@@ -104,3 +108,13 @@ replyRest c m s' e' e'' = messageIn (fixedOf c .q) (numbersIn (fixedOf c) (opene
 abbrev pub ReplyEnds : Verdict → Scheme → List ℕ → List ℕ → List ℤ → List ℤ → List ℤ → List ℕ → ℕ → ℕ → Replied → List ℕ → List ℕ → Type 0
 ReplyEnds v c m a s' e' e'' cs room keyRoom r message key =
     EndedBoth v (replyOf (familyOf c) (fixedOf c) m a s' e' e'' cs) (keyOf (familyOf c) (fixedOf c) m s' e'' cs) room keyRoom r message key
+
+-- ---- Bench
+
+abbrev pub BenchRest : Scheme → List ℕ → List ℕ → List ℤ → List ℤ → List ℤ → List ℤ → List ℕ → Compared → Type 0
+BenchRest c m a s s' e' e'' cs r =
+    Comparing (replyTests (familyOf c) (fixedOf c) m a s' e' e'' cs (fixedOf c .reply) (fixedOf c .key))
+    (differing (keyOf (familyOf c) (fixedOf c) m s' e'' cs) (peerKeyOf (familyOf c) (fixedOf c) (replyOf (familyOf c) (fixedOf c) m a s' e' e'' cs) s)) r
+
+abbrev pub BenchEnds : Scheme → Run → Compared → Type 0
+BenchEnds c x r = Comparing (benchTests (familyOf c) (fixedOf c) x) (differing (ownIn (familyOf c) (fixedOf c) x) (peerIn (familyOf c) (fixedOf c) x)) r

@@ -3,7 +3,9 @@
 ghost use lib.ListN.{length};
 ghost use Rattle.exchange.specs.Sampling.{Sampled, Expanded};
 ghost use Rattle.exchange.specs.Calls.{Offered, Answered, Finished};
+ghost use Rattle.exchange.specs.Bench.{Benched, runOf};
 
+mod both_ends;
 mod initiator;
 mod messages;
 mod opener;
@@ -25,6 +27,13 @@ pub enum Answer {
 // What Reply gives: how much it wrote of the message and of the key, or the refusal.
 pub enum Replied {
     Done(usize, usize),
+    Refused(Refusal),
+}
+
+// What Bench gives: that the keys agree, the first bit at which they differ, or the refusal.
+pub enum Compared {
+    Agree,
+    Differ(usize),
     Refused(Refusal),
 }
 
@@ -100,4 +109,24 @@ pub fn expand(stream: &[u8], out: &mut [u32]) -> Answer
         Verdict::Fail(r) => Answer::Refused(r),
         Verdict::Pass => sampler::expand_in(stream, out),
     }
+}
+
+// Bench: both ends on lent secrets, from the public numbers a, the opener's s, e and seed, and the replier's s', e', e'' and coins.
+pub fn bench(
+    scheme: u32,
+    a: &[u32],
+    s: &[i32],
+    e: &[i32],
+    seed: &[u8],
+    s1: &[i32],
+    e1: &[i32],
+    e2: &[i32],
+    coins: &[u8],
+) -> Compared
+    ensures { λ r. ⌜ Benched scheme (runOf (now (a .entry)) (now (s .entry)) (now (e .entry)) (now (seed .entry)) (now (s1 .entry)) (now (e1 .entry)) (now (e2 .entry)) (now (coins .entry))) r ⌝ }
+{
+    let Named::Is(known) = schemes::scheme_of(scheme) else {
+        return Compared::Refused(Refusal::NoScheme);
+    };
+    both_ends::bench_in(known, a, s, e, seed, s1, e1, e2, coins)
 }
