@@ -1,7 +1,7 @@
 //! The independent second program, written from document 01 alone.
 //!
-//! It follows 01's words literally: plain sums, a search for the nearest z,
-//! a remainder at each step. It is slow on purpose.
+//! It follows 01's words literally: plain sums, a search for the nearest z. It
+//! is slow on purpose.
 //!
 //! `cargo test` runs all tests, the published NewHope vectors among them.
 
@@ -21,3 +21,4 @@ pub mod refusal;
 pub mod schemes;
 pub mod signed;
 pub mod transform;
+pub mod vectors;

@@ -1,4 +1,4 @@
-//! Prints expectations: `second line` and `second cards`.
+//! Prints expectations: `second line`, `second cards` and `second vectors`.
 
 use std::io::{self, Read, Write};
 use std::process::ExitCode;
@@ -6,8 +6,9 @@ use std::process::ExitCode;
 const HELP: &str = "\
 second, the independent second program
 
-  second line    the line program: standard input to standard output
-  second cards   all bench cards, one line each: inputs, a colon, outputs
+  second line      the line program: standard input to standard output
+  second cards     all bench cards, one line each: inputs, a colon, outputs
+  second vectors   all calls on good and damaged inputs, one line a case
 ";
 
 fn main() -> ExitCode {
@@ -15,7 +16,8 @@ fn main() -> ExitCode {
     let words: Vec<&str> = words.iter().map(String::as_str).collect();
     let done = match words[..] {
         ["line"] => line(),
-        ["cards"] => cards(),
+        ["cards"] => print(second::cards::cards()),
+        ["vectors"] => print(second::vectors::vectors()),
         _ => {
             eprint!("{HELP}");
             return ExitCode::from(2);
@@ -36,9 +38,9 @@ fn line() -> io::Result<()> {
     io::stdout().write_all(&second::line::line(&input))
 }
 
-fn cards() -> io::Result<()> {
-    for card in second::cards::cards() {
-        writeln!(io::stdout(), "{card}")?;
+fn print(lines: Vec<String>) -> io::Result<()> {
+    for line in lines {
+        writeln!(io::stdout(), "{line}")?;
     }
     Ok(())
 }

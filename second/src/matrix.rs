@@ -12,17 +12,16 @@ pub fn product(
     assert_eq!(left.len(), rows * inner);
     assert_eq!(right.len(), inner * columns);
     let mut answer = vec![0; rows * columns];
-    for row in 0..rows {
-        for column in 0..columns {
-            let mut entry = 0;
-            for k in 0..inner {
-                let term = left[row * inner + k] * right[k * columns + column];
-                entry = remainder(entry + term, q);
+    // Each row of the answer is the sum of the rows of right, each times its
+    // entry in the row of left.
+    for (entries, factors) in answer.chunks_mut(columns).zip(left.chunks(inner)) {
+        for (factor, terms) in factors.iter().zip(right.chunks(columns)) {
+            for (entry, term) in entries.iter_mut().zip(terms) {
+                *entry += factor * term;
             }
-            answer[row * columns + column] = entry;
         }
     }
-    answer
+    answer.iter().map(|&entry| remainder(entry, q)).collect()
 }
 
 /// AS: n by n times n by 8.

@@ -11,14 +11,14 @@ pub fn product(f: &[i128], g: &[i128], q: i128) -> Vec<i128> {
         for j in 0..n {
             let term = f[i] * g[j];
             if i + j < n {
-                answer[i + j] = remainder(answer[i + j] + term, q);
+                answer[i + j] += term;
             } else {
                 // X^n is -1.
-                answer[i + j - n] = remainder(answer[i + j - n] - term, q);
+                answer[i + j - n] -= term;
             }
         }
     }
-    answer
+    answer.iter().map(|&entry| remainder(entry, q)).collect()
 }
 
 /// The sum modulo q, entry by entry; also for matrices.

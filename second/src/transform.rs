@@ -20,38 +20,42 @@ pub fn inverse_of_7() -> i128 {
     (0..Q).find(|x| remainder(7 * x, Q) == 1).unwrap()
 }
 
+/// The powers 0 to 2047 of 7 or of its inverse.
+fn powers(base: i128) -> Vec<i128> {
+    let mut answer = vec![1; 2 * N];
+    for j in 1..2 * N {
+        answer[j] = remainder(answer[j - 1] * base, Q);
+    }
+    answer
+}
+
+/// Any power, from those: 7^1024 is -1, so they come round after 2048.
+fn power_of(powers: &[i128], exponent: usize) -> i128 {
+    powers[exponent % (2 * N)]
+}
+
 /// Entry i: the sum over j of 7^j g_j 49^(ij).
 pub fn transform(g: &[i128]) -> Vec<i128> {
     assert_eq!(g.len(), N);
-    let mut answer = vec![0; N];
-    for (i, entry) in answer.iter_mut().enumerate() {
-        // 7^j 49^(ij) is (7 times 49^i) to the power j.
-        let step = remainder(7 * power(49, i), Q);
-        let mut step_to_j = 1;
-        for g_j in g {
-            *entry = remainder(*entry + step_to_j * g_j, Q);
-            step_to_j = remainder(step_to_j * step, Q);
-        }
-    }
-    answer
+    let powers = powers(7);
+    let entry = |i| {
+        // 7^j 49^(ij) is 7 to the power j + 2ij.
+        let term = |j: usize| power_of(&powers, j + 2 * i * j) * g[j];
+        remainder((0..N).map(term).sum(), Q)
+    };
+    (0..N).map(entry).collect()
 }
 
 /// Entry j: 12277 times 7^(-j) times the sum over i of t_i 49^(-ij).
 pub fn inverse(t: &[i128]) -> Vec<i128> {
     assert_eq!(t.len(), N);
-    let seventh = inverse_of_7();
-    let mut answer = vec![0; N];
-    for (j, entry) in answer.iter_mut().enumerate() {
-        let step = power(seventh, 2 * j);
-        let mut step_to_i = 1;
-        for t_i in t {
-            *entry = remainder(*entry + step_to_i * t_i, Q);
-            step_to_i = remainder(step_to_i * step, Q);
-        }
-        *entry = remainder(*entry * 12277, Q);
-        *entry = remainder(*entry * power(seventh, j), Q);
-    }
-    answer
+    let powers = powers(inverse_of_7());
+    let entry = |j| {
+        let term = |i: usize| power_of(&powers, 2 * i * j) * t[i];
+        let sum: i128 = (0..N).map(term).sum();
+        remainder(12277 * power_of(&powers, j) * sum, Q)
+    };
+    (0..N).map(entry).collect()
 }
 
 /// The product through the transform: entry by entry.

@@ -1,7 +1,7 @@
 //! 01, "Reconciliation", under "Frodo".
 
 use crate::schemes::Scheme;
-use crate::signed::distance;
+use crate::signed::remainder;
 
 pub struct Rule {
     pub q: i128,
@@ -31,25 +31,21 @@ impl Rule {
     }
 
     /// The initiator's key: that of the z nearest to w, around the circle,
-    /// among those with the given hint. Where several are nearest, all have
-    /// the same key.
+    /// among those with the given hint. Where two are nearest, both have the
+    /// same key.
     pub fn peer(&self, w: i128, hint: u32) -> u32 {
-        let mut least = self.q;
-        let mut keys = vec![];
-        for z in (0..self.q).filter(|&z| self.hint(z) == hint) {
-            let away = distance(z - w, self.q);
-            if away < least {
-                least = away;
-                keys.clear();
-            }
-            if away == least {
-                keys.push(self.key(z));
+        // The two z at each distance from w, from the nearest on.
+        for away in 0..self.q {
+            let both = [w - away, w + away].map(|z| remainder(z, self.q));
+            let mut keys = both
+                .into_iter()
+                .filter(|&z| self.hint(z) == hint)
+                .map(|z| self.key(z));
+            if let Some(key) = keys.next() {
+                assert!(keys.all(|other| other == key), "no tie between keys");
+                return key;
             }
         }
-        assert!(
-            keys.iter().all(|key| *key == keys[0]),
-            "no tie between different keys"
-        );
-        keys[0]
+        panic!("each hint is given somewhere")
     }
 }

@@ -24,3 +24,4 @@ mod refusals;
 mod schemes;
 mod signed;
 mod transform;
+mod vectors;

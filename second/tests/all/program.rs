@@ -3,7 +3,7 @@
 use std::io::Write;
 use std::process::{Command, Output, Stdio};
 
-fn run(words: &[&str], input: &[u8]) -> Output {
+pub fn run(words: &[&str], input: &[u8]) -> Output {
     let mut child = Command::new(env!("CARGO_BIN_EXE_second"))
         .args(words)
         .stdin(Stdio::piped())
@@ -39,12 +39,19 @@ fn cards() {
 
 #[test]
 fn help_for_a_wrong_word() {
-    for words in [&[][..], &["lines"], &["line", "cards"], &[""]] {
+    for words in [
+        &[][..],
+        &["lines"],
+        &["line", "cards"],
+        &["vectors", ""],
+        &[""],
+    ] {
         let output = run(words, b"");
         assert_eq!(output.status.code(), Some(2));
         assert!(output.stdout.is_empty());
-        assert!(String::from_utf8(output.stderr)
-            .unwrap()
-            .contains("second line"));
+        let help = String::from_utf8(output.stderr).unwrap();
+        for word in ["line", "cards", "vectors"] {
+            assert!(help.contains(&format!("second {word} ")));
+        }
     }
 }

@@ -1,0 +1,264 @@
+//! docs/VECTORS.md: the cases of each call, in order.
+
+use super::draw::{drawn, Entries};
+use super::good::{Call, Good, COINS_OF_BENCH, E_OF_BENCH};
+use super::input::{Input, Kind};
+use crate::expand::COUNT;
+use crate::schemes::Scheme;
+
+/// How a call is made: with which scheme, which length of each input and room
+/// of each output, and which numbers made others.
+#[derive(Clone)]
+pub struct Case {
+    pub scheme: u64,
+    pub lengths: Vec<usize>,
+    pub rooms: Vec<usize>,
+    pub changes: Vec<Change>,
+}
+
+#[derive(Clone, Copy)]
+pub struct Change {
+    pub input: usize,
+    pub index: usize,
+    pub value: i64,
+}
+
+/// A number that no scheme has.
+const NO_SCHEME: u64 = 6;
+
+/// The cases of Offer, Reply, Finish or Bench.
+pub fn of_exchange(good: Good) -> (Good, Vec<Case>) {
+    let scheme = good.scheme.expect("the exchange has a scheme");
+    let cases = [
+        vec![good.case()],
+        lengths(&good),
+        rooms(&good),
+        values(scheme, &good),
+        SEVEN.map(|faults| faults.case(scheme, &good)).to_vec(),
+        match good.call {
+            Call::Bench => vec![eighth(scheme, &good)],
+            _ => vec![],
+        },
+    ];
+    (good, cases.concat())
+}
+
+/// The cases of Noise with one number of bytes.
+pub fn of_noise(good: Good) -> (Good, Vec<Case>) {
+    let mut both = good.case();
+    both.lengths[0] += 1;
+    both.rooms[0] = 0;
+    let mut no_scheme = both.clone();
+    no_scheme.scheme = NO_SCHEME;
+    let cases = [
+        vec![good.case()],
+        lengths(&good),
+        rooms(&good),
+        vec![both, no_scheme],
+    ];
+    (good, cases.concat())
+}
+
+/// Lengths or rooms other than the right one.
+fn others(right: usize) -> Vec<usize> {
+    match right {
+        0 => vec![1, 32],
+        _ => vec![0, right - 1, right + 1, right + 32],
+    }
+}
+
+/// Each input in order with each other length.
+fn lengths(good: &Good) -> Vec<Case> {
+    let mut cases = vec![];
+    for (at, input) in good.inputs.iter().enumerate() {
+        for length in others(input.n) {
+            let mut case = good.case();
+            case.lengths[at] = length;
+            cases.push(case);
+        }
+    }
+    cases
+}
+
+/// Each output in order with each other room.
+fn rooms(good: &Good) -> Vec<Case> {
+    let mut cases = vec![];
+    for (at, &answer) in good.answers.iter().enumerate() {
+        for room in others(answer) {
+            let mut case = good.case();
+            case.rooms[at] = room;
+            cases.push(case);
+        }
+    }
+    cases
+}
+
+/// Each input of numbers or values in order, at each of three indices, with
+/// each value at and beyond its bounds.
+fn values(scheme: &Scheme, good: &Good) -> Vec<Case> {
+    let mut cases = vec![];
+    for (input, lent) in good.inputs.iter().enumerate() {
+        let Some(n) = lent.count() else { continue };
+        for index in [0, n / 2, n - 1] {
+            for value in around_the_bounds(scheme, lent.kind) {
+                let mut case = good.case();
+                case.changes.push(Change {
+                    input,
+                    index,
+                    value,
+                });
+                cases.push(case);
+            }
+        }
+    }
+    cases
+}
+
+fn around_the_bounds(scheme: &Scheme, kind: Kind) -> Vec<i64> {
+    let q = scheme.q as i64;
+    let b = scheme.largest_noise as i64;
+    match kind {
+        Kind::PublicNumbers => vec![q - 1, q, 4294967295],
+        Kind::Message { width, .. } => vec![q - 1, q.min(all_ones(width)), all_ones(width)],
+        Kind::SecretsOrNoise => vec![b, -b, b + 1, -b - 1, 2147483647, -2147483648],
+        Kind::Bytes => vec![],
+    }
+}
+
+/// The largest number of so many bits.
+fn all_ones(width: usize) -> i64 {
+    (1 << width) - 1
+}
+
+/// Several faults at once.
+struct Faults {
+    scheme: bool,
+    lengths: bool,
+    rooms: bool,
+    /// So many of these are good after all: a, the message, the first input
+    /// of secrets.
+    good: usize,
+}
+
+const SEVEN: [Faults; 7] = [
+    faults(true, true, true, 0),
+    faults(false, true, true, 0),
+    faults(false, false, true, 0),
+    faults(false, false, false, 0),
+    faults(false, false, false, 1),
+    faults(false, false, false, 2),
+    faults(false, false, false, 3),
+];
+
+const fn faults(scheme: bool, lengths: bool, rooms: bool, good: usize) -> Faults {
+    Faults {
+        scheme,
+        lengths,
+        rooms,
+        good,
+    }
+}
+
+impl Faults {
+    fn case(&self, scheme: &Scheme, good: &Good) -> Case {
+        let mut case = good.case();
+        if self.scheme {
+            case.scheme = NO_SCHEME;
+        }
+        if self.lengths {
+            case.lengths.iter_mut().for_each(|length| *length += 1);
+        }
+        if self.rooms {
+            case.rooms.fill(0);
+        }
+        case.changes = self.values(scheme, good);
+        case
+    }
+
+    /// Two faulty values in each input that is not good after all.
+    fn values(&self, scheme: &Scheme, good: &Good) -> Vec<Change> {
+        let mut changes = vec![];
+        let mut j = 0;
+        for (input, lent) in good.inputs.iter().enumerate() {
+            let Some(n) = lent.count() else { continue };
+            let (turn, first, value) = match lent.kind {
+                Kind::PublicNumbers => (0, n / 2, scheme.q as i64),
+                Kind::Message { width, .. } => (1, n / 2, all_ones(width)),
+                Kind::SecretsOrNoise => (2 + j, j, scheme.largest_noise as i64 + 1),
+                Kind::Bytes => continue,
+            };
+            if let Kind::SecretsOrNoise = lent.kind {
+                j += 1;
+            }
+            if turn >= self.good {
+                changes.extend([first, n - 1].map(|index| Change {
+                    input,
+                    index,
+                    value,
+                }));
+            }
+        }
+        changes
+    }
+}
+
+/// Bench's case of a fault at each end. Offer's value comes before Reply's
+/// length, although lengths come before values within a call.
+fn eighth(scheme: &Scheme, good: &Good) -> Case {
+    let mut case = good.case();
+    case.lengths[COINS_OF_BENCH] += 1;
+    case.changes.push(Change {
+        input: E_OF_BENCH,
+        index: 1,
+        value: scheme.largest_noise as i64 + 1,
+    });
+    case
+}
+
+/// The cases of Expand: a stream, its lengths and rooms.
+pub fn of_expand() -> Vec<(Good, Vec<Case>)> {
+    let drawn = drawn(901, Entries::Bytes, LONGEST_STREAM);
+    let drawn_lengths = [
+        0, 1, 2, 100, 2047, 2048, 2600, 2668, 2669, 2670, 2800, 3000, 4096, 65535, 65536, 65537,
+        65600,
+    ];
+    let drawn_cases = [
+        drawn_lengths.map(|length| (length, 1024)).to_vec(),
+        [0, 1023, 1025, 1056].map(|room| (4096, room)).to_vec(),
+        vec![(65537, 0), (100, 1023), (100, 1056)],
+    ];
+    let taken = [2046, 2047, 2048, 2049, 65536].map(|length| (length, 1024));
+    let passed = [2, 2048, 65536].map(|length| (length, 1024));
+    vec![
+        with_stream(drawn, &drawn_cases.concat()),
+        with_stream(again_and_again([0, 240]), &taken),
+        with_stream(again_and_again([1, 48]), &passed),
+    ]
+}
+
+const LONGEST_STREAM: usize = 65600;
+
+fn again_and_again(two: [i64; 2]) -> Vec<i64> {
+    two.repeat(LONGEST_STREAM / 2)
+}
+
+/// Expand on one stream, by length and room.
+fn with_stream(stream: Vec<i64>, cases: &[(usize, usize)]) -> (Good, Vec<Case>) {
+    let good = Good {
+        call: Call::Expand,
+        scheme: None,
+        inputs: vec![Input {
+            kind: Kind::Bytes,
+            n: stream.len(),
+            entries: stream,
+        }],
+        answers: vec![COUNT],
+    };
+    let case = |&(length, room)| Case {
+        lengths: vec![length],
+        rooms: vec![room],
+        ..good.case()
+    };
+    let cases = cases.iter().map(case).collect();
+    (good, cases)
+}

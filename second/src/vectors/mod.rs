@@ -1,0 +1,54 @@
+//! docs/VECTORS.md: every call in every scheme on good and on damaged inputs,
+//! a line for each case.
+
+pub mod cases;
+pub mod draw;
+pub mod good;
+pub mod input;
+pub mod lines;
+pub mod run;
+
+use crate::schemes::{Scheme, SIX};
+use good::{Good, Lists};
+use lines::{line, numbered};
+use run::run;
+use std::thread;
+
+/// All lines in the page's order. The schemes run side by side.
+pub fn vectors() -> Vec<String> {
+    thread::scope(|scope| {
+        let schemes = SIX
+            .each_ref()
+            .map(|scheme| scope.spawn(|| of_scheme(scheme)));
+        let lines = schemes.into_iter().flat_map(|lines| lines.join().unwrap());
+        lines.chain(of_expand()).collect()
+    })
+}
+
+/// The lines of one scheme: all calls but Expand, then the wide cases.
+pub fn of_scheme(scheme: &'static Scheme) -> Vec<String> {
+    let mut lines = vec![];
+    for good in exchange(&Lists::drawn(scheme)) {
+        lines.extend(numbered(&[cases::of_exchange(good)]));
+    }
+    let noise: Vec<_> = good::noise(scheme).map(cases::of_noise).collect();
+    lines.extend(numbered(&noise));
+    for good in exchange(&Lists::wide(scheme)) {
+        lines.push(line(&good, "wide", &run(&good, &good.case())));
+    }
+    lines
+}
+
+/// The lines of Expand.
+pub fn of_expand() -> Vec<String> {
+    numbered(&cases::of_expand())
+}
+
+/// Offer, Reply, Finish and Bench, each message that of the call before.
+fn exchange(lists: &Lists) -> [Good; 4] {
+    let message = |good: &Good| run(good, &good.case()).outputs.swap_remove(0);
+    let offer = lists.offer();
+    let reply = lists.reply(message(&offer));
+    let finish = lists.finish(message(&reply));
+    [offer, reply, finish, lists.bench()]
+}

@@ -1,0 +1,130 @@
+//! Makes one call as a case has it.
+
+use super::cases::Case;
+use super::good::{Call, Good};
+use crate::calls::{self, Bench};
+use crate::refusal::Refusal;
+
+/// What a call gives: its written counts or a refusal, all of each output, and
+/// in Bench how the keys differ.
+pub struct Answer {
+    pub refusal: Option<Refusal>,
+    pub written: Vec<usize>,
+    pub outputs: Vec<Vec<i64>>,
+    /// 1 + the first differing bit; 0 where the keys agree or nothing is told.
+    pub differ: usize,
+}
+
+/// Every byte of an output before the call, and each byte of other entries.
+const BEFORE: u8 = 165;
+
+pub fn run(good: &Good, case: &Case) -> Answer {
+    let lent = lent(good, case);
+    let k = case.scheme;
+    let numbers = |at: usize| entries::<u32>(&lent[at]);
+    let values = |at: usize| entries::<i32>(&lent[at]);
+    let bytes = |at: usize| entries::<u8>(&lent[at]);
+    let room = |at: usize| vec![BEFORE; case.rooms[at]];
+    match good.call {
+        Call::Offer => {
+            let mut message = room(0);
+            let told = calls::offer(
+                k,
+                &numbers(0),
+                &values(1),
+                &values(2),
+                &bytes(3),
+                &mut message,
+            );
+            answer(told.map(|count| vec![count]), vec![whole(&message)])
+        }
+        Call::Reply => {
+            let (mut message, mut key) = (room(0), room(1));
+            let told = calls::reply(
+                k,
+                &bytes(0),
+                &numbers(1),
+                &values(2),
+                &values(3),
+                &values(4),
+                &bytes(5),
+                &mut message,
+                &mut key,
+            );
+            let outputs = vec![whole(&message), whole(&key)];
+            answer(told.map(|(message, key)| vec![message, key]), outputs)
+        }
+        Call::Finish => {
+            let mut key = room(0);
+            let told = calls::finish(k, &bytes(0), &values(1), &mut key);
+            answer(told.map(|count| vec![count]), vec![whole(&key)])
+        }
+        Call::Bench => {
+            let told = calls::bench(
+                k,
+                &numbers(0),
+                &values(1),
+                &values(2),
+                &bytes(3),
+                &values(4),
+                &values(5),
+                &values(6),
+                &bytes(7),
+            );
+            let differ = match told {
+                Ok(Bench::Differ(bit)) => 1 + bit,
+                Ok(Bench::Agree) | Err(_) => 0,
+            };
+            Answer {
+                differ,
+                ..answer(told.map(|_| vec![]), vec![])
+            }
+        }
+        Call::Noise => {
+            let mut values = vec![i32::from_ne_bytes([BEFORE; 4]); case.rooms[0]];
+            let told = calls::noise(k, &bytes(0), &mut values);
+            answer(told.map(|count| vec![count]), vec![whole(&values)])
+        }
+        Call::Expand => {
+            let mut numbers = vec![u32::from_ne_bytes([BEFORE; 4]); case.rooms[0]];
+            let told = calls::expand(&bytes(0), &mut numbers);
+            answer(told.map(|count| vec![count]), vec![whole(&numbers)])
+        }
+    }
+}
+
+/// The inputs as the case has them.
+fn lent(good: &Good, case: &Case) -> Vec<Vec<i64>> {
+    let mut inputs = good.inputs.clone();
+    for change in &case.changes {
+        inputs[change.input].change(change.index, change.value);
+    }
+    for (input, &length) in inputs.iter_mut().zip(&case.lengths) {
+        input.entries.truncate(length);
+    }
+    inputs.into_iter().map(|input| input.entries).collect()
+}
+
+/// A list as the call takes it.
+fn entries<T: TryFrom<i64>>(list: &[i64]) -> Vec<T> {
+    let entry = |&entry| T::try_from(entry).ok().expect("an entry fits its list");
+    list.iter().map(entry).collect()
+}
+
+/// An output as the call leaves it.
+fn whole<T: Copy + Into<i64>>(output: &[T]) -> Vec<i64> {
+    output.iter().map(|&entry| entry.into()).collect()
+}
+
+fn answer(told: Result<Vec<usize>, Refusal>, outputs: Vec<Vec<i64>>) -> Answer {
+    let (refusal, written) = match told {
+        Ok(written) => (None, written),
+        Err(refusal) => (Some(refusal), vec![0; outputs.len()]),
+    };
+    Answer {
+        refusal,
+        written,
+        outputs,
+        differ: 0,
+    }
+}

@@ -1,0 +1,376 @@
+//! `second vectors` held to docs/VECTORS.md, and its refusals to 01, by hand.
+
+use crate::program::run;
+use second::packing::unpack;
+use second::schemes::{FRODO_CHALLENGE, NEWHOPE, SIX};
+use second::vectors::cases::{of_exchange, Case};
+use second::vectors::draw::{drawn, Entries, Stream};
+use second::vectors::good::Lists;
+use second::vectors::input::Input;
+use second::vectors::lines::checksum;
+use second::vectors::run::run as make;
+use std::ops::Range;
+use std::sync::OnceLock;
+
+/// What the program prints.
+fn lines() -> &'static [String] {
+    static LINES: OnceLock<Vec<String>> = OnceLock::new();
+    LINES.get_or_init(|| {
+        let output = run(&["vectors"], b"");
+        assert!(output.status.success());
+        let text = String::from_utf8(output.stdout).unwrap();
+        text.lines().map(str::to_string).collect()
+    })
+}
+
+/// The lines of a call in a scheme, the wide case apart.
+fn of(call: &str, scheme: usize) -> Vec<&'static str> {
+    starting(&format!("{call} scheme={scheme} case="))
+        .into_iter()
+        .filter(|line| !line.contains("case=wide"))
+        .collect()
+}
+
+fn starting(start: &str) -> Vec<&'static str> {
+    let lines = lines().iter().map(String::as_str);
+    lines.filter(|line| line.starts_with(start)).collect()
+}
+
+/// What a line says under a name.
+fn under<'a>(line: &'a str, name: &str) -> &'a str {
+    let mut words = line.split(' ').filter_map(|word| word.split_once('='));
+    words.find(|word| word.0 == name).unwrap().1
+}
+
+/// Refusal and place of each line.
+fn told(lines: &[&str]) -> Vec<(u32, usize)> {
+    let told = |line: &&str| {
+        let number = under(line, "refusal").parse().unwrap();
+        (number, under(line, "place").parse().unwrap())
+    };
+    lines.iter().map(told).collect()
+}
+
+const GOOD: (u32, usize) = (0, 0);
+const LENGTH: (u32, usize) = (2, 0);
+
+/// Rooms 0, r - 1, r + 1, r + 32.
+const ROOMS: [(u32, usize); 4] = [(3, 0), (3, 0), GOOD, GOOD];
+
+/// The value one below the bound passes, the two others do not.
+fn numbers(number: u32, places: [usize; 3]) -> Vec<(u32, usize)> {
+    let three = |place| [GOOD, (number, place), (number, place)];
+    places.map(three).concat()
+}
+
+/// B and -B pass, the four others do not.
+fn values(places: [usize; 3]) -> Vec<(u32, usize)> {
+    let six = |at| [GOOD, GOOD, (6, at), (6, at), (6, at), (6, at)];
+    places.map(six).concat()
+}
+
+const POLYNOMIAL: [usize; 3] = [0, 512, 1023];
+
+// The first states of the stream are known from the literature: 48271,
+// 182605794, 1291394886, 1914720637.
+
+#[test]
+fn draws() {
+    let mut stream = Stream::new(1);
+    let far = 1 << 40;
+    let draws = [0; 4].map(|_| stream.below(far));
+    assert_eq!(draws, [917149, 3469510086, 24536502834, 36379692103]);
+    let q = 4294967295;
+    let public = drawn(1, Entries::PublicNumbers { q }, 4);
+    assert_eq!(public, [917149, 3469510086, 3061666359, 2019953743]);
+    assert_eq!(drawn(1, Entries::Bytes, 4), [157, 198, 50, 71]);
+    assert_eq!(drawn(1, Entries::ValuesOfAtMost(3), 4), [-1, -3, 1, 3]);
+    assert_eq!(drawn(1, Entries::ValuesOfAtMost(1), 4), [0, -1, -1, 0]);
+    // 48271 times 901 is 43492171.
+    assert_eq!(drawn(901, Entries::Bytes, 1), [826351249 % 256]);
+}
+
+#[test]
+fn nineteen_divides_no_bound_of_a_draw() {
+    for scheme in &SIX {
+        for m in [scheme.q, 256, 3, 2 * scheme.largest_noise + 1] {
+            assert_ne!(m % 19, 0);
+        }
+    }
+}
+
+#[test]
+fn checksums() {
+    assert_eq!(checksum(&[]), 1);
+    assert_eq!(checksum(&[5]), 65604);
+    assert_eq!(checksum(&[0, 0]), 8261510);
+    assert_eq!(checksum(&[165, 165]), 19085510);
+    // 65599 + 2^32 - 1 is 65603 more than 4294967291.
+    assert_eq!(checksum(&[-1]), 65603);
+    assert_eq!(checksum(&[4294967295]), 65603);
+}
+
+#[test]
+fn a_number_of_a_message_alone_is_changed() {
+    for (scheme, start) in [(&NEWHOPE, 0), (&FRODO_CHALLENGE, 16)] {
+        let packed = start..start + scheme.packed_bytes();
+        let bytes = |input: &Input, part: Range<usize>| -> Vec<u8> {
+            input.entries[part].iter().map(|&x| x as u8).collect()
+        };
+        for old in [0, 255] {
+            let message = vec![old; packed.end + 9];
+            let mut input = Input::message(scheme, start, message.clone());
+            let mut expected = unpack(&bytes(&input, packed.clone()), scheme.width);
+            for (index, number) in [(0, 1), (7, 1029), (expected.len() - 1, 1024)] {
+                input.change(index, i64::from(number));
+                expected[index] = number;
+            }
+            assert_eq!(
+                unpack(&bytes(&input, packed.clone()), scheme.width),
+                expected
+            );
+            assert_eq!(input.entries[..start], message[..start]);
+            assert_eq!(input.entries[packed.end..packed.end + 9], [old; 9]);
+            assert_eq!(input.entries[packed.end + 9..], [0; 32]);
+        }
+    }
+}
+
+#[test]
+fn how_many_cases() {
+    for scheme in 0..6 {
+        let counts =
+            ["offer", "reply", "finish", "bench", "noise"].map(|call| of(call, scheme).len());
+        let expected = match scheme {
+            // No seed: two lengths less in Offer and in Bench.
+            0 => [71, 112, 47, 138, 11],
+            1 => [73, 112, 47, 140, 11],
+            // No coins: two less in Reply and in Bench.
+            _ => [73, 110, 47, 138, 22],
+        };
+        assert_eq!(counts, expected);
+    }
+    assert_eq!(starting("expand case=").len(), 32);
+    assert_eq!(lines().len(), 2378);
+}
+
+#[test]
+fn the_order_of_the_lines() {
+    let mut expected = vec![];
+    for scheme in 0..6 {
+        for call in ["offer", "reply", "finish", "bench", "noise"] {
+            for case in 0..of(call, scheme).len() {
+                expected.push(format!("{call} scheme={scheme} case={case} "));
+            }
+        }
+        for call in ["offer", "reply", "finish", "bench"] {
+            expected.push(format!("{call} scheme={scheme} case=wide "));
+        }
+    }
+    expected.extend((0..32).map(|case| format!("expand case={case} ")));
+    assert_eq!(lines().len(), expected.len());
+    for (line, start) in lines().iter().zip(&expected) {
+        assert!(line.starts_with(start), "{line}");
+    }
+}
+
+#[test]
+fn the_form_of_a_line() {
+    for start in [
+        "offer scheme=1 case=0 refusal=0 place=0 written=1824 message=",
+        "reply scheme=1 case=0 refusal=0 place=0 message_written=2048 key_written=32 message=",
+        "finish scheme=1 case=0 refusal=0 place=0 written=32 key=",
+        "bench scheme=1 case=0 refusal=0 place=0 differ=0",
+        "noise scheme=1 case=0 refusal=0 place=0 written=1024 values=",
+        "offer scheme=5 case=wide refusal=0 place=0 written=12976 message=",
+    ] {
+        assert_eq!(starting(start).len(), 1, "{start}");
+    }
+    let zeros = checksum(&[0; 1024]);
+    let whole = format!("expand case=0 refusal=7 place=0 written=0 numbers={zeros}");
+    assert_eq!(starting("expand case=0 "), [whole]);
+}
+
+#[test]
+fn refused_outputs_are_zero_over_their_whole_room() {
+    // Reply in NewHope: rooms of the message are cases 25 to 28, of the key 29
+    // to 32; case 1 has an empty opening.
+    let lines = of("reply", 1);
+    let sums = |case: usize| [under(lines[case], "message"), under(lines[case], "key")];
+    let zeros = |rooms: [usize; 2]| rooms.map(|room| checksum(&vec![0; room]).to_string());
+    assert_eq!(sums(1), zeros([2048, 32]));
+    assert_eq!(sums(25), zeros([0, 32]));
+    assert_eq!(sums(26), zeros([2047, 32]));
+    assert_eq!(sums(29), zeros([2048, 0]));
+    assert_eq!(sums(30), zeros([2048, 31]));
+    assert_eq!(under(lines[25], "message"), "1");
+    for case in [1, 25, 26, 29, 30] {
+        assert_eq!(under(lines[case], "message_written"), "0");
+        assert_eq!(under(lines[case], "key_written"), "0");
+    }
+}
+
+#[test]
+fn offer() {
+    let seven = [(1, 0), LENGTH, (3, 0), (4, 512), (6, 0), (6, 0), (6, 1)];
+    let expected = [
+        vec![GOOD],
+        vec![LENGTH; 16],
+        ROOMS.to_vec(),
+        numbers(4, POLYNOMIAL),
+        values(POLYNOMIAL),
+        values(POLYNOMIAL),
+        seven.to_vec(),
+    ];
+    assert_eq!(told(&of("offer", 1)), expected.concat());
+}
+
+#[test]
+fn reply() {
+    // Among faulty values a's come first, then the message's.
+    let seven = [(1, 0), LENGTH, (3, 0), (4, 512), (5, 512), (6, 0), (6, 1)];
+    let expected = [
+        vec![GOOD],
+        vec![LENGTH; 24],
+        ROOMS.repeat(2),
+        numbers(5, POLYNOMIAL),
+        numbers(4, POLYNOMIAL),
+        values(POLYNOMIAL).repeat(3),
+        seven.to_vec(),
+    ];
+    assert_eq!(told(&of("reply", 1)), expected.concat());
+    assert_eq!(told(&of("reply", 0)), expected.concat());
+}
+
+#[test]
+fn reply_in_frodo() {
+    // A has 352 times 352 numbers, S' 352 times 8; refusal 5 can't arise.
+    let secrets = [0, 1408, 2815];
+    let seven = [(1, 0), LENGTH, (3, 0), (4, 61952), (6, 0), (6, 0), (6, 1)];
+    let expected = [
+        vec![GOOD],
+        vec![LENGTH; 22],
+        ROOMS.repeat(2),
+        vec![GOOD; 9],
+        numbers(4, [0, 61952, 123903]),
+        values(secrets).repeat(2),
+        values([0, 32, 63]),
+        seven.to_vec(),
+    ];
+    assert_eq!(told(&of("reply", 2)), expected.concat());
+}
+
+#[test]
+fn finish() {
+    // It has no a, and only one input of secrets.
+    let seven = [(1, 0), LENGTH, (3, 0), (5, 512), (5, 512), (6, 0), GOOD];
+    let expected = [
+        vec![GOOD],
+        vec![LENGTH; 8],
+        ROOMS.to_vec(),
+        numbers(5, POLYNOMIAL),
+        values(POLYNOMIAL),
+        seven.to_vec(),
+    ];
+    assert_eq!(told(&of("finish", 1)), expected.concat());
+    assert_eq!(told(&of("finish", 0)), expected.concat());
+}
+
+#[test]
+fn bench() {
+    // It has no outputs and no messages.
+    let seven = [(1, 0), LENGTH, (4, 512), (4, 512), (6, 0), (6, 0), (6, 1)];
+    let expected = [
+        vec![GOOD],
+        vec![LENGTH; 32],
+        numbers(4, POLYNOMIAL),
+        values(POLYNOMIAL).repeat(5),
+        seven.to_vec(),
+        vec![(6, 1)],
+    ];
+    let lines = of("bench", 1);
+    assert_eq!(told(&lines), expected.concat());
+    for line in lines.iter().filter(|line| !line.contains(" refusal=0 ")) {
+        assert_eq!(under(line, "differ"), "0");
+    }
+}
+
+#[test]
+fn a_fault_of_offer_comes_before_one_of_reply() {
+    for (number, scheme) in SIX.iter().enumerate() {
+        assert_eq!(told(&of("bench", number)).last(), Some(&(6, 1)));
+
+        let (good, cases) = of_exchange(Lists::drawn(scheme).bench());
+        let both = cases.last().unwrap();
+        let mut lengths = good.case().lengths;
+        lengths[7] = scheme.coin_bytes() + 1;
+        assert_eq!(both.lengths, lengths);
+        let [change] = both.changes[..] else { panic!() };
+        let beyond = scheme.largest_noise as i64 + 1;
+        assert_eq!((change.input, change.index, change.value), (2, 1, beyond));
+
+        // Without the fault in e the one in the coins is told, so it is there.
+        let coins = Case {
+            changes: vec![],
+            ..both.clone()
+        };
+        let refusal = make(&good, &coins).refusal.unwrap();
+        assert_eq!((refusal.number, refusal.place), LENGTH);
+    }
+}
+
+#[test]
+fn noise() {
+    let expected = [
+        vec![GOOD],
+        vec![LENGTH; 4],
+        ROOMS.to_vec(),
+        vec![LENGTH, (1, 0)],
+    ]
+    .concat();
+    assert_eq!(told(&of("noise", 0)), [(1, 0); 11]);
+    assert_eq!(told(&of("noise", 1)), expected);
+    for (scheme, fixed) in SIX.iter().enumerate().skip(2) {
+        let lines = of("noise", scheme);
+        assert_eq!(told(&lines), expected.repeat(2));
+        assert_eq!(under(lines[0], "written"), (8 * fixed.n).to_string());
+        assert_eq!(under(lines[11], "written"), "64");
+    }
+}
+
+#[test]
+fn expand() {
+    let told = told(&starting("expand "));
+    // 0 or 1 byte, then 65537 and 65600.
+    assert_eq!(told[..2], [(7, 0); 2]);
+    assert_eq!(told[14], GOOD);
+    assert_eq!(told[15..17], [LENGTH; 2]);
+    assert_eq!(told[17..21], ROOMS);
+    // 65537 with no room; 50 words with too little room, then with enough.
+    assert_eq!(told[21..23], [LENGTH, (3, 0)]);
+    assert_eq!(told[23], told[3]);
+    assert_eq!(told[23].0, 7);
+    // All words taken: 1024 of them are 2048 bytes. Then none taken.
+    assert_eq!(told[24..29], [(7, 1023), (7, 1023), GOOD, GOOD, GOOD]);
+    assert_eq!(told[29..], [(7, 0); 3]);
+}
+
+#[test]
+fn taken_numbers() {
+    let lines = starting("expand ");
+    let room = checksum(&[12288; 1024]).to_string();
+    for line in &lines[26..29] {
+        assert_eq!(under(line, "numbers"), room);
+    }
+}
+
+#[test]
+fn both_ends_have_the_key_where_bench_agrees() {
+    for scheme in 0..6 {
+        for case in ["0", "wide"] {
+            let one = |call: &str| starting(&format!("{call} scheme={scheme} case={case} "))[0];
+            let same = under(one("reply"), "key") == under(one("finish"), "key");
+            assert_eq!(under(one("bench"), "differ") == "0", same);
+        }
+    }
+}
