@@ -1,38 +1,33 @@
 -- Bench: two keys bit by bit, and how it ends by its verdict.
 --   Along, along-none, along-more, parted, met   the loop that looks for the first difference: before, at each turn, and at both ends
 --   told-apart, told-same     the answer of two keys that differ, and of two that do not
---   number-zero      a verdict without a number has passed
 --   refused-by, refused-first, went   the answer by the verdict of a part, and of two parts
---   held-whole       an answer that fills its output
 --   reply-long, own-long   a reply and its key are as long as the scheme says
---   message-passes, finish-passes     what Offer and Reply have let pass, Finish does not refuse
+--   finish-passes    what Offer and Reply have let pass, Finish does not refuse
 --   rest-..., ends-...     how Bench ends after Reply, and after Offer: refused, and otherwise
 --   bench-told, bench-unknown         its promise
 -- Assumes nothing.
 use mathlib.Core.Path.{_≡_, refl, _∙_, sym, ap}
-use mathlib.Core.List.{List, append-nil}
+use mathlib.Core.List.{List}
 use Prim.Native.Nat.{ℕ, suc, _+_, _-_, _*_, _≤_, _<_}
 use native.Mathlib.Nat.{le-refl}
 use native.Mathlib.Numerals.{add-one}
 use native.Mathlib.Omega.{arith}
-use lib.Dec.{leb}
 use lib.IntN.{ℤ}
 use lib.ListN.{length, getD, drop, drop-of-length-le}
 use lib.Seq.{drop-cons}
-use borrow.Author.Tests.{eq-eqb, ne-eqb, lt-ltb, le-ltb, le-leb, lt-leb}
-use Rattle.lists.specs.Entries.{Below}
-use Rattle.lists.specs.First.{firstOver}
-use Rattle.lists.proofs.First.{none-found}
+use borrow.Author.Tests.{eq-eqb, ne-eqb, lt-ltb, le-ltb}
 use Rattle.schemes.specs.Schemes.{familyOf, fixedOf, schemeOf}
 use Rattle.schemes.specs.declared.Named.the-variants.{Is, Unknown}
 use Rattle.schemes.specs.declared.Scheme.{Scheme}
 use Rattle.packing.specs.Packing.{unpacked}
-use Rattle.front.specs.Front.{_then_, numberOf, placeOf, numberIn, placeIn, lengthIs, roomFor, messageIn, held}
+use Rattle.front.specs.Front.{_then_, numberOf, placeOf, numberIn, placeIn}
 use Rattle.front.specs.declared.Refusal.{Refusal}
-use Rattle.front.specs.declared.Refusal.the-variants.{NoScheme, BadLength, Short, PublicOver, MessageOver, SecretBeyond, RanOut}
+use Rattle.front.specs.declared.Refusal.the-variants.{NoScheme}
 use Rattle.front.specs.declared.Verdict.{Verdict}
 use Rattle.front.specs.declared.Verdict.the-variants.{Pass, Fail}
-use Rattle.front.proofs.Laws.{under, within-passes}
+use Rattle.front.proofs.Laws.{some, number-zero, all-pass, length-passes, room-passes, message-passes, within-passes}
+use Rattle.front.proofs.Held.{held-whole}
 use Rattle.ends.specs.Fit.{Small}
 use Rattle.ends.proofs.Ranges.{replied-counted}
 use Rattle.exchange.specs.Tests.{offerTests, replyTests, finishSizes, finishTests}
@@ -97,19 +92,6 @@ module _ (own peer x y : List ℕ) (i : ℕ) (lx : length x ≡ 8 * length own) 
 
 -- ---- the answer by the verdict
 
-some : (r : Refusal) → 0 < numberOf r
-some NoScheme = omega arith
-some BadLength = omega arith
-some Short = omega arith
-some (PublicOver k) = omega arith
-some (MessageOver k) = omega arith
-some (SecretBeyond k) = omega arith
-some (RanOut k) = omega arith
-
-pub number-zero : (v : Verdict) → 0 ≡ numberIn v → v ≡ Pass
-number-zero Pass e = refl
-number-zero (Fail r) e = absurd (omega (arith, some r))
-
 module _ {d : ℕ} (r : Refusal) where
   pub refused-by : (v : Verdict) → numberOf r ≡ numberIn v → placeOf r ≡ placeIn v → Comparing v d (Compared.Refused r)
   refused-by Pass e f = absurd (omega (arith, some r))
@@ -124,12 +106,6 @@ pub went : {d : ℕ} {r : Compared} {v w : Verdict} → v ≡ Pass → Comparing
 unfolding _then_
 went e p = rw e p
 
-pub held-whole : (v : Verdict) (xs out : List ℕ) (room : ℕ) → v ≡ Pass → length xs ≡ room → out ≡ held v xs room 0 → out ≡ xs
-unfolding held
-held-whole v xs out room e l h =
-    let z : room - length xs ≡ 0 = omega arith in
-    h ∙ rw (e, z) (append-nil xs)
-
 -- ---- Finish after Offer and Reply
 
 module _ (c : Scheme) (m a : List ℕ) (s' e' e'' : List ℤ) (cs : List ℕ) where
@@ -138,22 +114,6 @@ module _ (c : Scheme) (m a : List ℕ) (s' e' e'' : List ℤ) (cs : List ℕ) wh
 
   pub own-long : length (keyOf (familyOf c) (fixedOf c) m s' e'' cs) ≡ fixedOf c .key
   own-long = ap length (sym (own-key-taken c m s' e'' cs refl)) ∙ own-key-length c _ s' e'' cs
-
-pub message-passes : {q : ℕ} {xs : List ℕ} → Below q xs → messageIn q xs ≡ Pass
-unfolding firstOver
-message-passes {q} {xs} h = sym (under q xs (length xs) (sym (none-found (λ x. leb q x) 0 xs (λ k. lt-leb _ _ (h .below k)))) (le-refl (length xs)))
-
-pub all-pass : {v w : Verdict} → v ≡ Pass → w ≡ Pass → v then w ≡ Pass
-unfolding _then_
-all-pass e f = rw e f
-
-pub length-passes : {m n : ℕ} → m ≡ n → lengthIs m n ≡ Pass
-unfolding lengthIs
-length-passes e = rw (eq-eqb _ _ e)
-
-pub room-passes : {room n : ℕ} → n ≤ room → roomFor room n ≡ Pass
-unfolding roomFor
-room-passes h = rw (le-leb _ _ h)
 
 pub finish-passes : (c : Scheme) (m a : List ℕ) (s s' e' e'' : List ℤ) (cs : List ℕ) → Small (fixedOf c .secret) (fixedOf c .largest) s
     → finishTests (fixedOf c) (replyOf (familyOf c) (fixedOf c) m a s' e' e'' cs) s (fixedOf c .key) ≡ Pass
@@ -185,10 +145,10 @@ module _ (c : Scheme) (m a : List ℕ) (s s' e' e'' : List ℤ) (cs : List ℕ) 
     passed = number-zero _ (rw d at (t .refusal))
 
     pub rest-message : message ≡ replyOf (familyOf c) (fixedOf c) m a s' e' e'' cs
-    rest-message = held-whole _ _ message room passed (reply-long c m a s' e' e'' cs ∙ sym lr) (t .holds)
+    rest-message = held-whole 0 _ _ message room passed (reply-long c m a s' e' e'' cs ∙ sym lr) (t .holds)
 
     pub rest-key : key ≡ keyOf (familyOf c) (fixedOf c) m s' e'' cs
-    rest-key = held-whole _ _ key keyRoom passed (own-long c m a s' e' e'' cs ∙ sym lk) (t .key-holds)
+    rest-key = held-whole 0 _ _ key keyRoom passed (own-long c m a s' e' e'' cs ∙ sym lk) (t .key-holds)
 
     pub rest-told : {r : Compared} → Comparing Pass (differing key (peerKeyOf (familyOf c) (fixedOf c) message s)) r → BenchRest c m a s s' e' e'' cs r
     rest-told p = rw (← tests, passed) (rw (rest-message, rest-key) at p)
@@ -209,7 +169,7 @@ module _ (c : Scheme) (a : List ℕ) (s e : List ℤ) (seed : List ℕ) (s' e' e
     ends-opens = offer-passed c a s e seed room allowed .0
 
     pub ends-opening : opened ≡ openingOf (familyOf c) (fixedOf c) a s e seed
-    ends-opening = held-whole _ _ opened room allowed (opening-length c a s e seed (ends-opens .seed-long) ∙ sym l) (t .holds)
+    ends-opening = held-whole 0 _ _ opened room allowed (opening-length c a s e seed (ends-opens .seed-long) ∙ sym l) (t .holds)
 
     pub ends-told : {r : Compared} → BenchRest c opened a s s' e' e'' cs r → BenchEnds c (runOf a s e seed s' e' e'' cs) r
     unfolding benchTests openingIn replyIn ownIn peerIn

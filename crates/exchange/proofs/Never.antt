@@ -34,7 +34,7 @@ use Rattle.exchange.specs.declared.Answer.{Answer}
 use Rattle.exchange.specs.declared.Compared.{Compared}
 use Rattle.exchange.specs.declared.Replied.{Replied}
 use Rattle.exchange.proofs.Offering.{offer-passed}
-use Rattle.exchange.proofs.Comparing.{message-passes, room-passes}
+use Rattle.front.proofs.Laws.{message-passes, room-passes}
 use Rattle.exchange.proofs.Travel.{opened-back}
 
 -- ---- what holds of the number of a chain of tests, if it holds of each test's

@@ -5,7 +5,7 @@
 --   held-length    it is as long as the buffer was
 -- Assumes nothing.
 use mathlib.Core.Path.{_≡_, _∙_, sym, ap}
-use mathlib.Core.List.{List, _++_}
+use mathlib.Core.List.{List, _++_, append-nil}
 use Prim.Native.Nat.{ℕ, zero, suc, _-_, _≤_}
 use native.Mathlib.Nat.{sub-zero, zero-sub, suc-sub-suc}
 use native.Mathlib.Omega.{arith}
@@ -30,6 +30,12 @@ module _ {A : Type 0} (z : A) where
   unfolding held
   held-written v xs old out n room e l o w =
       rw e (w ∙ ap (λ (t : List A). xs ++ t) (ap (drop n) o ∙ drop-zeros n room ∙ ap (λ (k : ℕ). replicate (room - k) z) (sym l)))
+
+  pub held-whole : (v : Verdict) (xs out : List A) (room : ℕ) → v ≡ Pass → length xs ≡ room → out ≡ held v xs room z → out ≡ xs
+  unfolding held
+  held-whole v xs out room e l h =
+      let z : room - length xs ≡ 0 = omega arith in
+      h ∙ rw (e, z) (append-nil xs)
 
   pub held-length : (v : Verdict) (xs : List A) (room : ℕ) → length xs ≤ room → length (held v xs room z) ≡ room
   unfolding held

@@ -1,8 +1,10 @@
 -- What the tests of a call say, once for all calls.
 --   differ          a failure is no pass
+--   some, number-zero   a refusal has a number, and a verdict without one has passed
 --   both            where a sequence has passed, each of its tests has
 --   length-passed, up-to-passed, room-passed, publics-passed, message-passed, secrets-passed   what a test that has passed says
---   within-passes, below-passes   and that values within the bound, and numbers below q, pass
+--   within-passes, below-passes, message-passes, length-passes, room-passes   and what passes
+--   all-pass        so does a sequence of such tests
 --   stays, goes-on  one test more, after a failure and after none
 --   over, under     the unpack step's verdict, by the first number that is too large
 --   first, also     a sequence as the code goes through it
@@ -17,19 +19,32 @@ use native.Mathlib.Omega.{arith}
 use lib.Dec.{leb, ltb}
 use lib.ListN.{length, getD, replicate}
 use lib.IntN.{ℤ, pos, natAbs}
-use borrow.Author.Tests.{eqb-true, leb-true, ltb-false, lt-ltb, le-ltb, lt-leb}
+use borrow.Author.Tests.{eqb-true, leb-true, ltb-false, lt-ltb, le-ltb, le-leb, lt-leb, eq-eqb}
 use Rattle.lists.specs.Entries.{Below, Within}
 use Rattle.lists.specs.First.{firstOver, firstBeyond}
 use Rattle.lists.proofs.First.{all-below, all-within, none-found}
 use Rattle.lists.proofs.Same.{append-all, equal-all}
-use Rattle.front.specs.Front.{_then_, lengthIs, lengthUpTo, roomFor, publicsIn, messageIn, secretsIn, held}
+use Rattle.front.specs.Front.{numberOf, numberIn, _then_, lengthIs, lengthUpTo, roomFor, publicsIn, messageIn, secretsIn, held}
 use Rattle.front.specs.declared.Refusal.{Refusal}
-use Rattle.front.specs.declared.Refusal.the-variants.{MessageOver}
+use Rattle.front.specs.declared.Refusal.the-variants.{NoScheme, BadLength, Short, PublicOver, MessageOver, SecretBeyond, RanOut}
 use Rattle.front.specs.declared.Verdict.{Verdict}
 use Rattle.front.specs.declared.Verdict.the-variants.{Pass, Fail}
 
 pub differ : {X : Type 0} {r : Refusal} → Fail r ≡ Pass → X
 differ e = let z : _≡_ {A = ℕ} 0 1 = cc in absurd (omega arith)
+
+pub some : (r : Refusal) → 0 < numberOf r
+some NoScheme = omega arith
+some BadLength = omega arith
+some Short = omega arith
+some (PublicOver k) = omega arith
+some (MessageOver k) = omega arith
+some (SecretBeyond k) = omega arith
+some (RanOut k) = omega arith
+
+pub number-zero : (v : Verdict) → 0 ≡ numberIn v → v ≡ Pass
+number-zero Pass e = refl
+number-zero (Fail r) e = absurd (omega (arith, some r))
 
 pub both : (v w : Verdict) → v then w ≡ Pass → (v ≡ Pass) × (w ≡ Pass)
 unfolding _then_
@@ -116,6 +131,23 @@ pub below-passes : {q : ℕ} {xs : List ℕ} → Below q xs → publicsIn q xs �
 unfolding publicsIn firstOver
 below-passes {q} {xs} h =
     rw (none-found (λ x. leb q x) 0 xs (λ k. lt-leb _ _ (h .below k)), le-ltb (length xs) (length xs) (omega arith))
+
+pub message-passes : {q : ℕ} {xs : List ℕ} → Below q xs → messageIn q xs ≡ Pass
+unfolding messageIn firstOver
+message-passes {q} {xs} h =
+    rw (none-found (λ x. leb q x) 0 xs (λ k. lt-leb _ _ (h .below k)), le-ltb (length xs) (length xs) (omega arith))
+
+pub all-pass : {v w : Verdict} → v ≡ Pass → w ≡ Pass → v then w ≡ Pass
+unfolding _then_
+all-pass e f = rw e f
+
+pub length-passes : {m n : ℕ} → m ≡ n → lengthIs m n ≡ Pass
+unfolding lengthIs
+length-passes e = rw (eq-eqb _ _ e)
+
+pub room-passes : {room n : ℕ} → n ≤ room → roomFor room n ≡ Pass
+unfolding roomFor
+room-passes h = rw (le-leb _ _ h)
 
 pub held-all : {A : Type 0} (P : A → Type 0) (z : A) (v : Verdict) (xs : List A) (room : ℕ) → P z → ((k : ℕ) → P (getD xs k z)) → (k : ℕ) → P (getD (held v xs room z) k z)
 unfolding held

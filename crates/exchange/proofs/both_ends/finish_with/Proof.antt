@@ -4,7 +4,8 @@ use mathlib.Core.Path.{sym, _∙_, ap, refl}
 use native.Mathlib.Omega.{arith}
 use lib.ListN.{length}
 use borrow.Author.Needs.{needs}
-use Rattle.exchange.proofs.Comparing.{held-whole, peer-long}
+use Rattle.front.proofs.Held.{held-whole}
+use Rattle.exchange.proofs.Comparing.{peer-long}
 use Rattle.exchange.proofs.Numbers.{sound}
 use Rattle.exchange.proofs.both_ends.finish_with.Statement.{statement}
 use Rattle.exchange.proofs.both_ends.finish_with.Tie as tie
@@ -22,7 +23,7 @@ compare-keys-requires c κs =
     let l = s .pre .1 .2 in
     let k = sound (s .args .scheme) .keys in
     let p = peer-long (s .args .scheme) (s .args .m .now) (s .args .s .now) in
-    (omega (arith, l, k), refl, l ∙ sym (ap length (held-whole _ _ _ _ (s .pre .0) (p ∙ sym (s .pre .1 .1)) (f .finish-in .ensures .holds)) ∙ p))
+    (omega (arith, l, k), refl, l ∙ sym (ap length (held-whole 0 _ _ _ _ (s .pre .0) (p ∙ sym (s .pre .1 .1)) (f .finish-in .ensures .holds)) ∙ p))
 
 same-length : tie.Need-same-length
 same-length c = search needs
@@ -32,7 +33,7 @@ returns c =
     let f = c .before .before .before .before in
     let s = f .before .before .before .before .before in
     let p = peer-long (s .args .scheme) (s .args .m .now) (s .args .s .now) in
-    rw (held-whole _ _ _ _ (s .pre .0) (p ∙ sym (s .pre .1 .1)) (f .finish-in .ensures .holds)) at (c .compare-keys .ensures)
+    rw (held-whole 0 _ _ _ _ (s .pre .0) (p ∙ sym (s .pre .1 .1)) (f .finish-in .ensures .holds)) at (c .compare-keys .ensures)
 
 pub finish-with-spec : {M : Type 1} → statement M
 finish-with-spec =
