@@ -1,4 +1,4 @@
-//! Links the archive that `bench/archive` writes.
+//! Links the archive that `native kernels` writes.
 
 fn main() {
     let root = std::env::var("CARGO_MANIFEST_DIR").expect("cargo sets it");

@@ -1,5 +1,7 @@
 //! All tests of the second program, one file for each of its modules.
 
+use second::calls;
+
 mod generator;
 mod inputs;
 mod standards;

@@ -1,7 +1,7 @@
 //! The designers' own NewHope vectors (tests/data/README.md).
 
+use crate::calls;
 use crate::standards::{chacha20, hex, sha3_256, shake128};
-use second::calls;
 
 struct Vector {
     seed_a: Vec<u8>,

@@ -1,0 +1,47 @@
+#include "draw.h"
+
+uint8_t draw_byte(uint64_t *state)
+{
+    *state ^= *state << 13;
+    *state ^= *state >> 7;
+    *state ^= *state << 17;
+    return (uint8_t)(*state >> 32);
+}
+
+void draw_bytes(uint64_t *state, uint8_t *out, size_t count)
+{
+    for (size_t i = 0; i < count; i++)
+        out[i] = draw_byte(state);
+}
+
+uint32_t draw_secrets(uint64_t *state, const struct scheme *scheme, int32_t *out, size_t count, size_t bytes)
+{
+    uint8_t random[WIM_MAX_S_BYTES];
+    uint64_t place, written;
+
+    if (scheme->number == WIM_BCNS) {
+        for (size_t i = 0; i < count; i++)
+            out[i] = draw_byte(state) % 5 - 2;
+        return WIM_DONE;
+    }
+    draw_bytes(state, random, bytes);
+    return wim_noise(scheme->number, random, bytes, out, count, &place, &written);
+}
+
+uint32_t draw_public(const struct scheme *scheme, uint32_t *a)
+{
+    uint64_t state = 0x5eed, place, written;
+    uint8_t stream[4096];
+
+    if (scheme->number == WIM_NEWHOPE) {
+        draw_bytes(&state, stream, sizeof stream);
+        return wim_expand(stream, sizeof stream, a, scheme->a, &place, &written);
+    }
+    for (size_t i = 0; i < scheme->a; i++) {
+        uint32_t word = 0;
+        for (int k = 0; k < 4; k++)
+            word = word << 8 | draw_byte(&state);
+        a[i] = word % scheme->q;
+    }
+    return WIM_DONE;
+}

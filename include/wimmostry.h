@@ -1,0 +1,259 @@
+/*
+ * Wimmostry: key exchange by BCNS, NewHope and Frodo, for two boxes that agree on a fresh key.
+ *
+ * The library does the arithmetic of one exchange and of its two messages. It is written in Rattle, and every function in it is proved to meet its contract:
+ * for all inputs whatsoever each call below ends, touches no memory but what it is lent, and gives exactly what this file says.
+ *
+ *     the initiator                                  the replier
+ *     wim_offer   a, s, e, seed  ->  opening   --->
+ *                                              <---  wim_reply   opening, a, s', e', e'', coins  ->  reply, key
+ *     wim_finish  reply, s       ->  key
+ *
+ * Both know the public numbers a; where a comes from is between them (NewHope's: wim_expand on a stream made from the seed). The seed travels in the opening
+ * and is not read. s, e, s', e' and e'' are secrets, drawn afresh for each exchange; wim_noise makes them from random bytes, except in BCNS, whose noise is
+ * lent ready. In names s1, e1 and e2 stand for s', e' and e''.
+ *
+ *
+ * LINKING
+ *
+ * On x86-64 `rt staticlib wimmostry` writes target/staticlib/libwimmostry.a; on Arm `./native wimmostry` writes target/native/libwimmostry.a. The archive
+ * needs memcpy and memset and nothing else. It has no state, takes no memory from a heap and starts nothing, so that any number of threads may call at once.
+ *
+ *
+ * RETURN VALUE, PLACE AND COUNTS
+ *
+ * A call returns 0, or the number of its refusal:
+ *
+ *     WIM_NO_SCHEME      1   the scheme is not 0 to 5 (wim_noise: not 1 to 5)                               place 0
+ *     WIM_LENGTH         2   an input's length is not the fixed one (wim_expand: over WIM_EXPAND_STREAM)    place 0
+ *     WIM_ROOM           3   an output buffer is shorter than the answer                                    place 0
+ *     WIM_PUBLIC_OVER    4   a lent public number is q or more                                              place: index of the first
+ *     WIM_MESSAGE_OVER   5   a number of the message is q or more (never in Frodo)                          place: index of the first
+ *     WIM_SECRET_BEYOND  6   a secret or noise value lies beyond the largest noise, above it or below       place: index of the first
+ *     WIM_RAN_OUT        7   wim_expand: the stream held fewer than 1,024 numbers                           place: how many it held
+ *
+ * The tests go in the order of these numbers, and within one number in the order in which the inputs stand in the call; the first that fails is the refusal.
+ * An index counts entries from 0 in its own input; in a message, the numbers of its packed part. *place is 0 after a success.
+ *
+ * After a success the answer stands at the start of its output, its length, in entries of that output, in *written, and the rest of the output is zero. An
+ * output may be longer than the answer. After a refusal each output is zero from end to end, whatever it held, and each count is 0.
+ *
+ *
+ * WHAT A CALLER MUST SEE TO
+ *
+ * - Each pointer is valid for its length, aligned for its type and not null, even where the length is 0. place and the counts each point to one number. A
+ *   length counts entries, not bytes.
+ * - No output, place or count shares memory with another argument. Inputs may share memory with each other.
+ * - No other thread writes to what is lent, or touches an output, during a call.
+ * - There is stack for the call: WIM_STACK bytes are enough.
+ *
+ * And beyond the memory:
+ *
+ * - Fresh secrets, noise and coins for every exchange, from a good random generator, and never used again: a peer can find out a secret that is used twice. s
+ *   is kept for wim_finish and then destroyed.
+ * - Who the peer is. The library knows nothing of certificates. Whoever can change messages on the way can sit between the two boxes, unless the messages are
+ *   signed or bound to the peers in some other way.
+ * - Key confirmation. The two keys agree unless the noise was uncommonly large, or a message was changed on the way into another that no test refuses. Only
+ *   tags made with the key show that they do. Compare tags in constant time; on a mismatch drop the keys and start again with fresh secrets.
+ * - The keys are raw. Hash them, together with both messages, before use.
+ * - Wiping. A refused call leaves nothing in its outputs. But parts of secrets and keys stay behind on the stack below the caller's frame, as after any
+ *   function, and the caller's own buffers are the caller's to wipe.
+ * - Time. Nothing is promised about how long a call takes, nor that its time does not depend on secrets.
+ *
+ *
+ * STACK
+ *
+ * What a call takes below its caller's frame at most, over all schemes, on Arm and on x86-64 alike, in KiB rounded up:
+ *
+ *     wim_offer 54    wim_reply 90    wim_finish 80    wim_noise 2    wim_expand 2    wim_bench 124
+ *
+ * Measured by filling a thread's stack with a pattern and looking, after an accepted call in each scheme, how deep the pattern is gone (examples/c/stack.c,
+ * which examples/c/run runs). All local arrays have fixed sizes, so that no input makes it more.
+ */
+#ifndef WIMMOSTRY_H
+#define WIMMOSTRY_H
+
+#include <stddef.h>
+#include <stdint.h>
+
+#ifdef __cplusplus
+extern "C" {
+#endif
+
+/* The schemes. */
+#define WIM_BCNS 0
+#define WIM_NEWHOPE 1
+#define WIM_FRODO_CHALLENGE 2
+#define WIM_FRODO_CLASSICAL 3
+#define WIM_FRODO_RECOMMENDED 4
+#define WIM_FRODO_PARANOID 5
+
+/* The refusals. */
+#define WIM_DONE 0
+#define WIM_NO_SCHEME 1
+#define WIM_LENGTH 2
+#define WIM_ROOM 3
+#define WIM_PUBLIC_OVER 4
+#define WIM_MESSAGE_OVER 5
+#define WIM_SECRET_BEYOND 6
+#define WIM_RAN_OUT 7
+
+/*
+ * The fixed numbers of each scheme, here X:
+ *
+ *     WIM_X_Q        public numbers and the numbers of a message are below it
+ *     WIM_X_NOISE    the largest noise: secrets and noise values lie from -WIM_X_NOISE to WIM_X_NOISE
+ *     WIM_X_A        entries of a; in Frodo the rows of A, n by n, one after another
+ *     WIM_X_S        entries of s, e, s' and e' each; in Frodo s and e are n by 8, s' and e' 8 by n, row after row
+ *     WIM_X_E2       entries of e''; in Frodo 8 by 8
+ *     WIM_X_SEED     bytes of the seed
+ *     WIM_X_COINS    bytes of the coins
+ *     WIM_X_OPENING  bytes of the opening message
+ *     WIM_X_REPLY    bytes of the reply message
+ *     WIM_X_KEY      bytes of the key
+ *     WIM_X_S_BYTES  random bytes from which wim_noise makes one of s, e, s' and e' (0: none)
+ *     WIM_X_E2_BYTES random bytes from which wim_noise makes e'' (0: none)
+ *
+ * WIM_MAX_.. is the largest over all schemes: buffers of these sizes serve each of them.
+ */
+#define WIM_BCNS_Q 4294967295u
+#define WIM_BCNS_NOISE 51
+#define WIM_BCNS_A 1024
+#define WIM_BCNS_S 1024
+#define WIM_BCNS_E2 1024
+#define WIM_BCNS_SEED 0
+#define WIM_BCNS_COINS 256
+#define WIM_BCNS_OPENING 4096
+#define WIM_BCNS_REPLY 4224
+#define WIM_BCNS_KEY 128
+#define WIM_BCNS_S_BYTES 0
+#define WIM_BCNS_E2_BYTES 0
+
+#define WIM_NEWHOPE_Q 12289u
+#define WIM_NEWHOPE_NOISE 16
+#define WIM_NEWHOPE_A 1024
+#define WIM_NEWHOPE_S 1024
+#define WIM_NEWHOPE_E2 1024
+#define WIM_NEWHOPE_SEED 32
+#define WIM_NEWHOPE_COINS 32
+#define WIM_NEWHOPE_OPENING 1824
+#define WIM_NEWHOPE_REPLY 2048
+#define WIM_NEWHOPE_KEY 32
+#define WIM_NEWHOPE_S_BYTES 4096
+#define WIM_NEWHOPE_E2_BYTES 4096
+
+#define WIM_FRODO_CHALLENGE_Q 2048u
+#define WIM_FRODO_CHALLENGE_NOISE 3
+#define WIM_FRODO_CHALLENGE_A 123904
+#define WIM_FRODO_CHALLENGE_S 2816
+#define WIM_FRODO_CHALLENGE_E2 64
+#define WIM_FRODO_CHALLENGE_SEED 16
+#define WIM_FRODO_CHALLENGE_COINS 0
+#define WIM_FRODO_CHALLENGE_OPENING 3888
+#define WIM_FRODO_CHALLENGE_REPLY 3880
+#define WIM_FRODO_CHALLENGE_KEY 8
+#define WIM_FRODO_CHALLENGE_S_BYTES 5632
+#define WIM_FRODO_CHALLENGE_E2_BYTES 128
+
+#define WIM_FRODO_CLASSICAL_Q 4096u
+#define WIM_FRODO_CLASSICAL_NOISE 4
+#define WIM_FRODO_CLASSICAL_A 350464
+#define WIM_FRODO_CLASSICAL_S 4736
+#define WIM_FRODO_CLASSICAL_E2 64
+#define WIM_FRODO_CLASSICAL_SEED 16
+#define WIM_FRODO_CLASSICAL_COINS 0
+#define WIM_FRODO_CLASSICAL_OPENING 7120
+#define WIM_FRODO_CLASSICAL_REPLY 7112
+#define WIM_FRODO_CLASSICAL_KEY 16
+#define WIM_FRODO_CLASSICAL_S_BYTES 9472
+#define WIM_FRODO_CLASSICAL_E2_BYTES 128
+
+#define WIM_FRODO_RECOMMENDED_Q 32768u
+#define WIM_FRODO_RECOMMENDED_NOISE 5
+#define WIM_FRODO_RECOMMENDED_A 565504
+#define WIM_FRODO_RECOMMENDED_S 6016
+#define WIM_FRODO_RECOMMENDED_E2 64
+#define WIM_FRODO_RECOMMENDED_SEED 16
+#define WIM_FRODO_RECOMMENDED_COINS 0
+#define WIM_FRODO_RECOMMENDED_OPENING 11296
+#define WIM_FRODO_RECOMMENDED_REPLY 11288
+#define WIM_FRODO_RECOMMENDED_KEY 32
+#define WIM_FRODO_RECOMMENDED_S_BYTES 12032
+#define WIM_FRODO_RECOMMENDED_E2_BYTES 128
+
+#define WIM_FRODO_PARANOID_Q 32768u
+#define WIM_FRODO_PARANOID_NOISE 6
+#define WIM_FRODO_PARANOID_A 746496
+#define WIM_FRODO_PARANOID_S 6912
+#define WIM_FRODO_PARANOID_E2 64
+#define WIM_FRODO_PARANOID_SEED 16
+#define WIM_FRODO_PARANOID_COINS 0
+#define WIM_FRODO_PARANOID_OPENING 12976
+#define WIM_FRODO_PARANOID_REPLY 12968
+#define WIM_FRODO_PARANOID_KEY 32
+#define WIM_FRODO_PARANOID_S_BYTES 13824
+#define WIM_FRODO_PARANOID_E2_BYTES 128
+
+#define WIM_MAX_A 746496
+#define WIM_MAX_S 6912
+#define WIM_MAX_E2 1024
+#define WIM_MAX_SEED 32
+#define WIM_MAX_COINS 256
+#define WIM_MAX_OPENING 12976
+#define WIM_MAX_REPLY 12968
+#define WIM_MAX_KEY 128
+#define WIM_MAX_S_BYTES 13824
+#define WIM_MAX_E2_BYTES 4096
+
+/* wim_expand: the length of its answer in numbers, and the longest stream in bytes. */
+#define WIM_EXPAND_NUMBERS 1024
+#define WIM_EXPAND_STREAM 65536
+
+/* Bytes of stack that are enough for any call on either machine. */
+#define WIM_STACK 163840
+
+/*
+ * Offer: scheme, public a, secret s, noise e, seed. Gives the opening message: as + e in packed bytes, and the seed (first in Frodo, last in NewHope).
+ * Refuses with 1, 2, 3, 4, 6.
+ */
+uint32_t wim_offer(uint32_t scheme, const uint32_t *a, size_t a_len, const int32_t *s, size_t s_len, const int32_t *e, size_t e_len, const uint8_t *seed,
+                   size_t seed_len, uint8_t *message, size_t message_len, uint64_t *place, uint64_t *written);
+
+/*
+ * Reply: scheme, opening message, public a, s', e', e'', coins. Gives the reply message (as' + e' in packed bytes, then the hints of bs' + e'') and the
+ * replier's key. Refuses with 1, 2, 3, 4, 5, 6; of 3, the message's room is tested first.
+ */
+uint32_t wim_reply(uint32_t scheme, const uint8_t *opening, size_t opening_len, const uint32_t *a, size_t a_len, const int32_t *s1, size_t s1_len,
+                   const int32_t *e1, size_t e1_len, const int32_t *e2, size_t e2_len, const uint8_t *coins, size_t coins_len, uint8_t *message,
+                   size_t message_len, uint8_t *key, size_t key_len, uint64_t *place, uint64_t *message_written, uint64_t *key_written);
+
+/* Finish: scheme, reply message, secret s. Gives the initiator's key. Refuses with 1, 2, 3, 5, 6. */
+uint32_t wim_finish(uint32_t scheme, const uint8_t *reply, size_t reply_len, const int32_t *s, size_t s_len, uint8_t *key, size_t key_len, uint64_t *place,
+                    uint64_t *written);
+
+/*
+ * Noise: scheme, random bytes. Gives WIM_X_S values from WIM_X_S_BYTES bytes, WIM_X_E2 values from WIM_X_E2_BYTES; no other length is taken. Refuses with 1
+ * (in BCNS too), 2, 3.
+ */
+uint32_t wim_noise(uint32_t scheme, const uint8_t *bytes, size_t bytes_len, int32_t *out, size_t out_len, uint64_t *place, uint64_t *written);
+
+/*
+ * Expand: a stream of bytes, read as 16-bit words, the lower byte first; the low 14 bits of a word are taken if they are below 12289. Gives the first 1,024
+ * numbers taken, public numbers for NewHope. Refuses with 2, 3, 7.
+ */
+uint32_t wim_expand(const uint8_t *stream, size_t stream_len, uint32_t *out, size_t out_len, uint64_t *place, uint64_t *written);
+
+/*
+ * Bench: both ends on lent secrets, the initiator's s, e and seed and the replier's s', e', e'' and coins. *differ is 0 where the two keys agree, and else 1
+ * + the first differing bit, counted lowest first through the bytes. Messages and keys stay inside, so that there is no output. Refuses with 1, 2, 4, 6: all
+ * of Offer's tests come first, then Reply's. After a refusal *differ is 0.
+ */
+uint32_t wim_bench(uint32_t scheme, const uint32_t *a, size_t a_len, const int32_t *s, size_t s_len, const int32_t *e, size_t e_len, const uint8_t *seed,
+                   size_t seed_len, const int32_t *s1, size_t s1_len, const int32_t *e1, size_t e1_len, const int32_t *e2, size_t e2_len, const uint8_t *coins,
+                   size_t coins_len, uint64_t *place, uint64_t *differ);
+
+#ifdef __cplusplus
+}
+#endif
+
+#endif

@@ -1,0 +1,128 @@
+/// The six schemes by name.
+#[derive(Clone, Copy, Debug, PartialEq, Eq, Hash)]
+pub enum Scheme {
+    Bcns,
+    NewHope,
+    FrodoChallenge,
+    FrodoClassical,
+    FrodoRecommended,
+    FrodoParanoid,
+}
+
+/// How many numbers [`crate::expand`] gives.
+pub const EXPAND_NUMBERS: usize = 1024;
+
+/// The longest stream that it takes, in bytes.
+pub const EXPAND_STREAM: usize = 65536;
+
+/// The fixed numbers of a scheme: what each input and output counts.
+#[derive(Clone, Copy, Debug, PartialEq, Eq)]
+pub struct Sizes {
+    /// Public numbers and the numbers of a message are below it.
+    pub q: u32,
+    /// Secrets and noise lie from -noise to noise.
+    pub noise: i32,
+    /// Entries of a; in Frodo the rows of A, one after another.
+    pub a: usize,
+    /// Entries of s, e, s' and e' each.
+    pub s: usize,
+    /// Entries of e''.
+    pub e2: usize,
+    /// Bytes of the seed.
+    pub seed: usize,
+    /// Bytes of the coins.
+    pub coins: usize,
+    /// Bytes of the opening message.
+    pub opening: usize,
+    /// Bytes of the reply message.
+    pub reply: usize,
+    /// Bytes of the key.
+    pub key: usize,
+    /// Random bytes for one of s, e, s' and e'; 0 in BCNS.
+    pub s_bytes: usize,
+    /// Random bytes for e''; 0 in BCNS.
+    pub e2_bytes: usize,
+}
+
+impl Scheme {
+    pub const ALL: [Scheme; 6] = [
+        Scheme::Bcns,
+        Scheme::NewHope,
+        Scheme::FrodoChallenge,
+        Scheme::FrodoClassical,
+        Scheme::FrodoRecommended,
+        Scheme::FrodoParanoid,
+    ];
+
+    /// The number by which a call knows the scheme, 0 to 5.
+    pub const fn number(self) -> u32 {
+        self as u32
+    }
+
+    /// The name as it is written.
+    pub const fn name(self) -> &'static str {
+        match self {
+            Scheme::Bcns => "BCNS",
+            Scheme::NewHope => "NewHope",
+            Scheme::FrodoChallenge => "Frodo Challenge",
+            Scheme::FrodoClassical => "Frodo Classical",
+            Scheme::FrodoRecommended => "Frodo Recommended",
+            Scheme::FrodoParanoid => "Frodo Paranoid",
+        }
+    }
+
+    pub const fn sizes(self) -> Sizes {
+        match self {
+            Scheme::Bcns => Sizes {
+                q: 4294967295,
+                noise: 51,
+                a: 1024,
+                s: 1024,
+                e2: 1024,
+                seed: 0,
+                coins: 256,
+                opening: 4096,
+                reply: 4096 + 128,
+                key: 128,
+                s_bytes: 0,
+                e2_bytes: 0,
+            },
+            Scheme::NewHope => Sizes {
+                q: 12289,
+                noise: 16,
+                a: 1024,
+                s: 1024,
+                e2: 1024,
+                seed: 32,
+                coins: 32,
+                opening: 1792 + 32,
+                reply: 1792 + 256,
+                key: 32,
+                s_bytes: 4096,
+                e2_bytes: 4096,
+            },
+            Scheme::FrodoChallenge => frodo(352, 2048, 3, 11, 8),
+            Scheme::FrodoClassical => frodo(592, 4096, 4, 12, 16),
+            Scheme::FrodoRecommended => frodo(752, 32768, 5, 15, 32),
+            Scheme::FrodoParanoid => frodo(864, 32768, 6, 15, 32),
+        }
+    }
+}
+
+/// Frodo over n, q, the largest noise, the bits of a packed number and the key.
+const fn frodo(n: usize, q: u32, noise: i32, width: usize, key: usize) -> Sizes {
+    Sizes {
+        q,
+        noise,
+        a: n * n,
+        s: 8 * n,
+        e2: 64,
+        seed: 16,
+        coins: 0,
+        opening: 16 + n * width,
+        reply: n * width + 8,
+        key,
+        s_bytes: 16 * n,
+        e2_bytes: 128,
+    }
+}

@@ -1,0 +1,62 @@
+//! Ways in which an input or an output's room goes wrong.
+
+use crate::generator::Generator;
+
+fn one_of<T: Copy>(g: &mut Generator, ways: &[T]) -> T {
+    ways[g.below(ways.len() as u64) as usize]
+}
+
+fn index(g: &mut Generator, length: usize) -> usize {
+    g.below(length as u64) as usize
+}
+
+/// Another length than the input has.
+pub fn length<T: Copy + Default>(g: &mut Generator, input: &mut Vec<T>) {
+    let n = input.len();
+    let other = [0, n.saturating_sub(1), n + 1, n / 2, n + 13];
+    input.resize(one_of(g, &other), T::default());
+}
+
+/// A public number of q or more.
+pub fn public(g: &mut Generator, a: &mut [u32], q: u32) {
+    if !a.is_empty() {
+        let at = index(g, a.len());
+        a[at] = one_of(g, &[q, q.saturating_add(1), u32::MAX]);
+    }
+}
+
+/// A value beyond the largest noise.
+pub fn secret(g: &mut Generator, s: &mut [i32], largest: i32) {
+    if !s.is_empty() {
+        let at = index(g, s.len());
+        s[at] = one_of(g, &[largest + 1, -largest - 1, i32::MAX, i32::MIN]);
+    }
+}
+
+/// Some bytes of a message changed, or a number of it as large as can be.
+pub fn message(g: &mut Generator, bytes: &mut [u8]) {
+    if bytes.is_empty() {
+        return;
+    }
+    if g.below(2) == 0 {
+        for _ in 0..=g.below(4) {
+            let at = index(g, bytes.len());
+            bytes[at] = g.byte();
+        }
+    } else {
+        let at = index(g, bytes.len()) / 4 * 4;
+        let end = bytes.len().min(at + 4);
+        bytes[at..end].fill(0xFF);
+    }
+}
+
+/// Less room than the answer takes, just enough, or more.
+pub fn room(g: &mut Generator, answer: usize) -> usize {
+    let rooms = [0, answer - 1, answer, answer + 1, answer + 77];
+    one_of(g, &rooms)
+}
+
+/// A number that names no scheme, or any other.
+pub fn scheme(g: &mut Generator) -> u32 {
+    one_of(g, &[0, 1, 2, 3, 4, 5, 6, 7, 255, 256, 1 << 31, u32::MAX])
+}

@@ -1,0 +1,22 @@
+//! The archive from Rust, held to the second program. The published vectors are
+//! those of the second program's own tests, here through the archive.
+//!
+//! `cargo test` makes 500 calls; `cargo test -- --ignored` makes 100,000, which
+//! takes some fifteen minutes.
+
+use wimmostry as calls;
+
+#[path = "../../../second/tests/all/generator.rs"]
+mod generator;
+#[allow(dead_code)]
+#[path = "../../../second/tests/all/inputs.rs"]
+mod inputs;
+#[path = "../../../second/tests/all/published.rs"]
+mod published;
+#[path = "../../../second/tests/all/standards.rs"]
+mod standards;
+
+mod damage;
+mod held;
+mod lent;
+mod sizes;

@@ -1,0 +1,92 @@
+//! The sizes in `include/wimmostry.h` and in this package are the second
+//! program's.
+
+use second::noise::lengths;
+use second::schemes::{Scheme, SIX};
+use std::collections::HashMap;
+
+/// The header's numbers by name.
+fn header() -> HashMap<&'static str, u64> {
+    let text = include_str!("../../../include/wimmostry.h");
+    let defined = |line: &'static str| {
+        let (name, value) = line.strip_prefix("#define WIM_")?.split_once(' ')?;
+        Some((name, value.trim_end_matches('u').parse().ok()?))
+    };
+    text.lines().filter_map(defined).collect()
+}
+
+/// Names in the header, and what the second program has for them.
+fn expected(s: &Scheme) -> Vec<(&'static str, u64)> {
+    let noise = if s.number == 0 {
+        vec![0, 0]
+    } else {
+        lengths(s).to_vec()
+    };
+    vec![
+        ("Q", s.q as u64),
+        ("NOISE", s.largest_noise as u64),
+        ("A", s.public_count() as u64),
+        ("S", s.secret_count() as u64),
+        ("S", s.noise_count() as u64),
+        ("E2", s.last_noise_count() as u64),
+        ("SEED", s.seed_bytes() as u64),
+        ("COINS", s.coin_bytes() as u64),
+        ("OPENING", s.opening_bytes() as u64),
+        ("REPLY", s.reply_bytes() as u64),
+        ("KEY", s.key_bytes as u64),
+        ("S_BYTES", noise[0] as u64),
+        ("E2_BYTES", noise[noise.len() - 1] as u64),
+    ]
+}
+
+#[test]
+fn of_the_header() {
+    let header = header();
+    let mut most = HashMap::new();
+    for s in &SIX {
+        let prefix = s.name.to_uppercase().replace(' ', "_");
+        assert_eq!(header[prefix.as_str()], s.number);
+        for (name, value) in expected(s) {
+            assert_eq!(header[format!("{prefix}_{name}").as_str()], value);
+            let largest = most.entry(name).or_insert(value);
+            *largest = value.max(*largest);
+        }
+    }
+    for (name, largest) in most {
+        if name != "Q" && name != "NOISE" {
+            assert_eq!(header[format!("MAX_{name}").as_str()], largest);
+        }
+    }
+    assert_eq!(header["EXPAND_NUMBERS"], second::expand::COUNT as u64);
+    assert_eq!(header["EXPAND_STREAM"], second::expand::LONGEST as u64);
+}
+
+#[test]
+fn of_this_package() {
+    let header = header();
+    for scheme in wimmostry::Scheme::ALL {
+        let prefix = scheme.name().to_uppercase().replace(' ', "_");
+        let of = |name: &str| header[format!("{prefix}_{name}").as_str()];
+        let sizes = scheme.sizes();
+        assert_eq!(header[prefix.as_str()], u64::from(scheme.number()));
+        assert_eq!(of("Q"), u64::from(sizes.q));
+        assert_eq!(of("NOISE"), sizes.noise as u64);
+        let counts = [
+            ("A", sizes.a),
+            ("S", sizes.s),
+            ("E2", sizes.e2),
+            ("SEED", sizes.seed),
+            ("COINS", sizes.coins),
+            ("OPENING", sizes.opening),
+            ("REPLY", sizes.reply),
+            ("KEY", sizes.key),
+            ("S_BYTES", sizes.s_bytes),
+            ("E2_BYTES", sizes.e2_bytes),
+        ];
+        for (name, count) in counts {
+            assert_eq!(of(name), count as u64, "{prefix}_{name}");
+        }
+    }
+    assert_eq!(wimmostry::EXPAND_NUMBERS, second::expand::COUNT);
+    assert_eq!(wimmostry::EXPAND_STREAM, second::expand::LONGEST);
+}
