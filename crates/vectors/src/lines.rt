@@ -1,0 +1,276 @@
+// A line for a case: docs/VECTORS.md, "A line". An output is fresh in each case, and is the front of its buffer that the case lends.
+use crate::calls;
+use crate::calls::Call;
+use crate::shape::KEY;
+use crate::shape::MESSAGE;
+use crate::shape::cut;
+use exchange::Answer;
+use exchange::Compared;
+use exchange::Replied;
+use front::Refusal;
+use libc::STDOUT_FILENO;
+
+// A case's name.
+pub enum Case {
+    Number(u32),
+    Wide,
+}
+
+pub fn text(t: &[u8]) {
+    io::write_all(STDOUT_FILENO, t);
+}
+
+pub fn field(name: &[u8], n: u64) {
+    text(name);
+    io::print_decimal(STDOUT_FILENO, n);
+}
+
+pub fn count(name: &[u8], n: usize) {
+    field(name, n as u64);
+}
+
+fn case_field(case: Case) {
+    match case {
+        Case::Number(n) => field(b" case=", n as u64),
+        Case::Wide => text(b" case=wide"),
+    }
+}
+
+pub fn head(call: &[u8], k: u32, case: Case) {
+    text(call);
+    field(b" scheme=", k as u64);
+    case_field(case);
+}
+
+pub fn accepted() {
+    text(b" refusal=0 place=0");
+}
+
+pub fn refused(r: Refusal) {
+    field(b" refusal=", r.number() as u64);
+    count(b" place=", r.place());
+}
+
+// What a call with one output says.
+pub fn told(answer: Answer) {
+    match answer {
+        Answer::Done(n) => {
+            accepted();
+            count(b" written=", n);
+        }
+        Answer::Refused(r) => {
+            refused(r);
+            text(b" written=0");
+        }
+    }
+}
+
+fn told_both(answer: Replied) {
+    match answer {
+        Replied::Done(n, m) => {
+            accepted();
+            count(b" message_written=", n);
+            count(b" key_written=", m);
+        }
+        Replied::Refused(r) => {
+            refused(r);
+            text(b" message_written=0 key_written=0");
+        }
+    }
+}
+
+fn offer_line(
+    k: u32,
+    scheme: u32,
+    case: Case,
+    lens: [usize; 12],
+    a: &[u32],
+    values: &[i32],
+    bytes: &[u8],
+    message: &mut [u8],
+) {
+    let answer = calls::offer(scheme, lens, a, values, bytes, message);
+    head(b"offer", k, case);
+    told(answer);
+    field(b" message=", draw::check_bytes(message));
+    text(b"\n");
+}
+
+fn offer_room(
+    k: u32,
+    scheme: u32,
+    case: Case,
+    lens: [usize; 12],
+    a: &[u32],
+    values: &[i32],
+    bytes: &[u8],
+    message: &mut [u8],
+) {
+    let n = cut(lens[MESSAGE], message.len());
+    offer_line(k, scheme, case, lens, a, values, bytes, &mut message[0..n]);
+}
+
+fn offer_case(
+    k: u32,
+    scheme: u32,
+    case: Case,
+    lens: [usize; 12],
+    a: &[u32],
+    values: &[i32],
+    bytes: &[u8],
+) {
+    let mut message = [165u8; 13008];
+    offer_room(k, scheme, case, lens, a, values, bytes, &mut message);
+}
+
+fn reply_line(
+    k: u32,
+    scheme: u32,
+    case: Case,
+    lens: [usize; 12],
+    a: &[u32],
+    values: &[i32],
+    bytes: &[u8],
+    message: &mut [u8],
+    key: &mut [u8],
+) {
+    let answer = calls::reply(scheme, lens, a, values, bytes, message, key);
+    head(b"reply", k, case);
+    told_both(answer);
+    field(b" message=", draw::check_bytes(message));
+    field(b" key=", draw::check_bytes(key));
+    text(b"\n");
+}
+
+fn reply_room(
+    k: u32,
+    scheme: u32,
+    case: Case,
+    lens: [usize; 12],
+    a: &[u32],
+    values: &[i32],
+    bytes: &[u8],
+    message: &mut [u8],
+    key: &mut [u8],
+) {
+    let n = cut(lens[MESSAGE], message.len());
+    let m = cut(lens[KEY], key.len());
+    reply_line(
+        k,
+        scheme,
+        case,
+        lens,
+        a,
+        values,
+        bytes,
+        &mut message[0..n],
+        &mut key[0..m],
+    );
+}
+
+fn reply_case(
+    k: u32,
+    scheme: u32,
+    case: Case,
+    lens: [usize; 12],
+    a: &[u32],
+    values: &[i32],
+    bytes: &[u8],
+) {
+    let mut message = [165u8; 13008];
+    let mut key = [165u8; 160];
+    reply_room(
+        k,
+        scheme,
+        case,
+        lens,
+        a,
+        values,
+        bytes,
+        &mut message,
+        &mut key,
+    );
+}
+
+fn finish_line(
+    k: u32,
+    scheme: u32,
+    case: Case,
+    lens: [usize; 12],
+    values: &[i32],
+    bytes: &[u8],
+    key: &mut [u8],
+) {
+    let answer = calls::finish(scheme, lens, values, bytes, key);
+    head(b"finish", k, case);
+    told(answer);
+    field(b" key=", draw::check_bytes(key));
+    text(b"\n");
+}
+
+fn finish_room(
+    k: u32,
+    scheme: u32,
+    case: Case,
+    lens: [usize; 12],
+    values: &[i32],
+    bytes: &[u8],
+    key: &mut [u8],
+) {
+    let n = cut(lens[KEY], key.len());
+    finish_line(k, scheme, case, lens, values, bytes, &mut key[0..n]);
+}
+
+fn finish_case(k: u32, scheme: u32, case: Case, lens: [usize; 12], values: &[i32], bytes: &[u8]) {
+    let mut key = [165u8; 160];
+    finish_room(k, scheme, case, lens, values, bytes, &mut key);
+}
+
+// The first differing bit counts from 1, 0 where the keys agree.
+fn told_compared(answer: Compared) {
+    match answer {
+        Compared::Agree => text(b" refusal=0 place=0 differ=0"),
+        Compared::Differ(i) => {
+            accepted();
+            count(b" differ=", std::num::wrapping_add_usize(i, 1));
+        }
+        Compared::Refused(r) => {
+            refused(r);
+            text(b" differ=0");
+        }
+    }
+}
+
+fn bench_case(
+    k: u32,
+    scheme: u32,
+    case: Case,
+    lens: [usize; 12],
+    a: &[u32],
+    values: &[i32],
+    bytes: &[u8],
+) {
+    let answer = calls::bench(scheme, lens, a, values, bytes);
+    head(b"bench", k, case);
+    told_compared(answer);
+    text(b"\n");
+}
+
+// A case of a call in the lines of scheme k; the call is told `scheme`.
+pub fn run(
+    call: Call,
+    k: u32,
+    scheme: u32,
+    case: Case,
+    lens: [usize; 12],
+    a: &[u32],
+    values: &[i32],
+    bytes: &[u8],
+) {
+    match call {
+        Call::Offer => offer_case(k, scheme, case, lens, a, values, bytes),
+        Call::Reply => reply_case(k, scheme, case, lens, a, values, bytes),
+        Call::Finish => finish_case(k, scheme, case, lens, values, bytes),
+        Call::Bench => bench_case(k, scheme, case, lens, a, values, bytes),
+    }
+}
