@@ -10,6 +10,7 @@ pub mod cards;
 pub mod coins;
 pub mod expand;
 pub mod line;
+pub mod margins;
 pub mod matrix;
 pub mod message;
 pub mod mix;

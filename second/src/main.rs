@@ -1,4 +1,5 @@
-//! Prints expectations: `second line`, `second cards` and `second vectors`.
+//! Prints expectations: `second line`, `second cards`, `second margins` and
+//! `second vectors`.
 
 use std::io::{self, Read, Write};
 use std::process::ExitCode;
@@ -8,6 +9,7 @@ second, the independent second program
 
   second line      the line program: standard input to standard output
   second cards     all bench cards, one line each: inputs, a colon, outputs
+  second margins   Bench near the margin, a line for each worked run
   second vectors   all calls on good and damaged inputs, one line a case
 ";
 
@@ -17,6 +19,7 @@ fn main() -> ExitCode {
     let done = match words[..] {
         ["line"] => line(),
         ["cards"] => print(second::cards::cards()),
+        ["margins"] => print(second::margins::margins()),
         ["vectors"] => print(second::vectors::vectors()),
         _ => {
             eprint!("{HELP}");

@@ -12,6 +12,7 @@ mod easy_to_get_wrong;
 mod exchange;
 mod expand;
 mod line;
+mod margins;
 mod matrix;
 mod message;
 mod noise;

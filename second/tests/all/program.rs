@@ -38,11 +38,23 @@ fn cards() {
 }
 
 #[test]
+fn margins() {
+    let output = run(&["margins"], b"");
+    assert!(output.status.success());
+    let expected: String = second::margins::margins()
+        .iter()
+        .map(|line| format!("{line}\n"))
+        .collect();
+    assert_eq!(output.stdout, expected.as_bytes());
+}
+
+#[test]
 fn help_for_a_wrong_word() {
     for words in [
         &[][..],
         &["lines"],
         &["line", "cards"],
+        &["margins", "at"],
         &["vectors", ""],
         &[""],
     ] {
@@ -50,7 +62,7 @@ fn help_for_a_wrong_word() {
         assert_eq!(output.status.code(), Some(2));
         assert!(output.stdout.is_empty());
         let help = String::from_utf8(output.stderr).unwrap();
-        for word in ["line", "cards", "vectors"] {
+        for word in ["line", "cards", "margins", "vectors"] {
             assert!(help.contains(&format!("second {word} ")));
         }
     }
