@@ -9,6 +9,7 @@ pub mod calls;
 pub mod cards;
 pub mod coins;
 pub mod expand;
+pub mod files;
 pub mod line;
 pub mod margins;
 pub mod matrix;

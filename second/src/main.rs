@@ -1,5 +1,5 @@
 //! Prints expectations: `second line`, `second cards`, `second margins` and
-//! `second vectors`.
+//! `second vectors`; `second box` makes the calls on files.
 
 use std::io::{self, Read, Write};
 use std::process::ExitCode;
@@ -11,6 +11,7 @@ second, the independent second program
   second cards     all bench cards, one line each: inputs, a colon, outputs
   second margins   Bench near the margin, a line for each worked run
   second vectors   all calls on good and damaged inputs, one line a case
+  second box ..    a call on files: the words of the command line
 ";
 
 fn main() -> ExitCode {
@@ -21,6 +22,7 @@ fn main() -> ExitCode {
         ["cards"] => print(second::cards::cards()),
         ["margins"] => print(second::margins::margins()),
         ["vectors"] => print(second::vectors::vectors()),
+        ["box", ref rest @ ..] => files(rest),
         _ => {
             eprint!("{HELP}");
             return ExitCode::from(2);
@@ -46,4 +48,8 @@ fn print(lines: Vec<String>) -> io::Result<()> {
         writeln!(io::stdout(), "{line}")?;
     }
     Ok(())
+}
+
+fn files(words: &[&str]) -> io::Result<()> {
+    io::stdout().write_all(second::files::run(words)?.as_bytes())
 }

@@ -1,15 +1,15 @@
 -- Writing into a buffer from a position on.
---   written-byte, written-two   one byte, two
+--   written-byte, written-two, written-copy   one byte, two, a text
 --   written-then           one text behind another
 --   written-as             the same text
 --   written-length         the buffer keeps its length
 --   one-digit, two-digits, decimal-short   the text of a number below 100
---   Lined, lined           a line: its label, its number, LF
+--   Lined, lined           a line: its label, a text, LF
 --   zeros-behind           over zeros, there are zeros behind
 -- Assumes nothing.
 use mathlib.Core.Path.{_≡_, refl, _∙_, sym, ap, ap₂}
 use mathlib.Core.List.{List, [], _∷_, _++_, append-assoc}
-use Prim.Native.Nat.{ℕ, _+_, _-_, _/_, _%_, _≤_, _<_}
+use Prim.Native.Nat.{ℕ, suc, _+_, _-_, _/_, _%_, _≤_, _<_}
 use native.Mathlib.Decide.{decLt}
 use native.Mathlib.Numerals.{add-one}
 use native.Mathlib.Omega.{arith}
@@ -19,14 +19,14 @@ use borrow.Author.Tests.{lt-ltb, le-ltb}
 use borrow.Rule.Slice.PartMut.{putMid}
 use Rattle.lists.proofs.Parts.{drop-same}
 use Rattle.line.specs.Text.{LF, digitsUpTo, decimal}
-use Rattle.line.specs.Steps.{labelled, put, Written}
+use Rattle.line.specs.Steps.{put, Written}
 
 pub written-byte : (d : List ℕ) (i x : ℕ) → i < length d → Written i (x ∷ []) d (set d i x) (i + 1)
 unfolding put
 written-byte d i x h = record { count = refl; text = set-split d i x h ∙ rw (append-assoc, add-one) }
 
 -- xs was written to the part of d from i on that is as long
-written-copy : (d : List ℕ) (i : ℕ) {p xs : List ℕ} → p ≡ xs → Written i xs d (putMid i (i + length xs - i) d p) (i + length xs)
+pub written-copy : (d : List ℕ) (i : ℕ) {p xs : List ℕ} → p ≡ xs → Written i xs d (putMid i (i + length xs - i) d p) (i + length xs)
 unfolding put
 written-copy d i {p} {xs} e =
     let l : i + length xs - i ≡ length xs = omega arith in
@@ -84,23 +84,21 @@ decimal-short n h = go (decLt n 10)
     go (yes l) = rw (one-digit n l) (omega arith)
     go (no l) = rw (two-digits n (omega arith) h) (omega arith)
 
--- a line: its label is copied, its number written behind that, which gives f and the position r, then LF
-pub record Lined (label d : List ℕ) (n at : ℕ) (f : List ℕ) (r : ℕ) : Type 0 where
-  pub room : r + 1 ≤ at + length label + 3
+-- a line: its label is copied, a text t of at most so many bytes is written behind that, which gives f and the position r, then LF
+pub record Lined (label t d : List ℕ) (most at : ℕ) (f : List ℕ) (r : ℕ) : Type 0 where
+  pub room : r + 1 ≤ at + length label + suc most
   pub long : length f ≡ length d
-  pub done : Written at (labelled label n) d (set f r LF) (r + 1)
+  pub done : Written at (label ++ t ++ LF ∷ []) d (set f r LF) (r + 1)
 
-pub lined : (label d : List ℕ) (n at : ℕ) {p f : List ℕ} {r : ℕ} → n < 100 → at + length label + 3 ≤ length d → p ≡ label
-    → Written (at + length label) (decimal n) (putMid at (at + length label - at) d p) f r → Lined label d n at f r
-unfolding labelled
-lined label d n at {p} {f} {r} b h e w =
-    let s : Written at (label ++ decimal n) d f r = written-then (written-copy d at e) (omega arith) w in
-    let k = decimal-short n b in
-    let l = written-length s (omega (arith, w .count, k)) in
+pub lined : (label t d : List ℕ) (most at : ℕ) {p f : List ℕ} {r : ℕ} → length t ≤ most → at + length label + suc most ≤ length d → p ≡ label
+    → Written (at + length label) t (putMid at (at + length label - at) d p) f r → Lined label t d most at f r
+lined label t d most at {p} {f} {r} k h e w =
+    let s : Written at (label ++ t) d f r = written-then (written-copy d at e) (omega arith) w in
+    let l = written-length s (omega (arith, w .count)) in
     record {
-      room = omega (arith, w .count, k);
+      room = omega (arith, w .count);
       long = l;
-      done = written-then s (omega (arith, w .count, k)) (written-byte f r LF (omega (arith, w .count, k, l)));
+      done = written-then s (omega (arith, w .count)) (written-byte f r LF (omega (arith, w .count, l)));
     }
 
 pub zeros-behind : {xs e : List ℕ} {r : ℕ} (n : ℕ) → Written 0 xs (replicate n 0) e r → e ≡ xs ++ replicate (n - r) 0

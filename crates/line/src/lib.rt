@@ -37,7 +37,7 @@ fn not_digit(c: u8) -> bool
 }
 
 // How many digits s begins with.
-fn digits(s: &[u8]) -> usize
+pub fn digits(s: &[u8]) -> usize
     ensures { λ r. ⌜ r ≡ run (now (s .entry)) ⌝ }
 {
     let mut i: usize = 0;
@@ -61,7 +61,7 @@ fn digit(c: u8) -> u64
 }
 
 // The number that at most ten digits make: below 23 * 10^10, whatever bytes they are.
-fn value(s: &[u8]) -> u64
+pub fn value(s: &[u8]) -> u64
     requires { ⌜ length (now s) ≤ 10 ⌝ }
     ensures { λ r. ⌜ r ≡ valueOf (now (s .entry)) 0 ⌝ }
 {
@@ -105,7 +105,7 @@ fn number(s: &[u8], at: usize) -> Found
     }
 }
 
-fn begins_with(label: &[u8], s: &[u8]) -> bool
+pub fn begins_with(label: &[u8], s: &[u8]) -> bool
     ensures { λ r. ⌜ r ≡ begins (now (label .entry)) (now (s .entry)) ⌝ }
 {
     let mut i: usize = 0;

@@ -3,7 +3,9 @@
 use native.Mathlib.Omega.{arith}
 use lib.ListN.{length-set}
 use borrow.Author.Needs.{needs}
-use Rattle.line.proofs.Writing.{Lined, lined}
+use Rattle.line.specs.Text.{decimal}
+use Rattle.line.specs.Steps.{labelled}
+use Rattle.line.proofs.Writing.{Lined, lined, decimal-short}
 use Rattle.line.proofs.write_line.Statement.{statement}
 use Rattle.line.proofs.write_line.Tie as tie
 
@@ -28,12 +30,12 @@ write-number-requires c κs = search needs
 made : (c : tie.After-slice-known3)
     → let w = c .before .before in
     let a = w .before .before .before .before .before .before .before .before .args in
-    Lined (a .label .now) (a .out .now) (a .n) (a .at) (w .write-number .last .1 .0) (w .write-number .result)
+    Lined (a .label .now) (decimal (a .n)) (a .out .now) 2 (a .at) (w .write-number .last .1 .0) (w .write-number .result)
 made c =
     let w = c .before .before in
     let b = w .before .before .before .before in
     let a = b .before .before .before .before in
-    lined (a .args .label .now) (a .args .out .now) (a .args .n) (a .args .at) (a .pre .0) (a .pre .1) (b .copy-bytes .ensures) (w .write-number .ensures)
+    lined (a .args .label .now) (decimal (a .args .n)) (a .args .out .now) 2 (a .args .at) (decimal-short _ (a .pre .0)) (a .pre .1) (b .copy-bytes .ensures) (w .write-number .ensures)
 
 slice-write-out : tie.Need-slice-write-out
 slice-write-out c = omega (arith, made c .room, made c .long)
@@ -45,6 +47,7 @@ same-length : tie.Need-same-length
 same-length c = simp length-set (made c .long)
 
 returns : tie.Need-returns
+unfolding labelled
 returns c = (made c .done, made c .room)
 
 pub write-line-spec : {M : Type 1} → statement M

@@ -1,0 +1,4 @@
+pub mod Wording
+pub mod Signs
+pub mod Digits
+pub mod Sizing

@@ -1,0 +1,17 @@
+-- `commands::words::choose` meets its contract.
+-- Assumes nothing.
+use borrow.Author.Needs.{needs}
+use Rattle.commands.proofs.words.choose.Statement.{statement}
+use Rattle.commands.proofs.words.choose.Tie as tie
+
+is-word-requires : tie.Need-is-word-requires
+is-word-requires c κs = search needs
+
+returns : tie.Need-returns
+returns c = rw (← c .before .is-word .ensures, c .if1 .taken)
+
+returns-2 : tie.Need-returns-2
+returns-2 c = rw (← c .before .is-word .ensures, c .if1 .left)
+
+pub choose-spec : {M : Type 1} → statement M
+choose-spec = tie.close (tie.spec is-word-requires returns returns-2)

@@ -1,0 +1,121 @@
+//! The calls on files, as the command line has them: `offer SCHEME A S E SEED
+//! MESSAGE` and so on. Numbers are 32 bits, the lowest byte first, `-` is no
+//! file. Returns what standard output gets. For good words and readable files
+//! only; the refusals are the calls' own.
+
+use crate::calls::{bench, expand, finish, noise, offer, reply, Bench};
+use crate::expand::COUNT;
+use crate::refusal::Refusal;
+use crate::schemes::scheme;
+use std::io::{self, Error};
+
+pub fn run(words: &[&str]) -> io::Result<String> {
+    match *words {
+        ["offer", no, a, s, e, seed, out] => {
+            let no = number(no)?;
+            let mut message = vec![0; scheme(no).map_or(0, |s| s.opening_bytes())];
+            let done = offer(
+                no,
+                &numbers(a)?,
+                &values(s)?,
+                &values(e)?,
+                &bytes(seed)?,
+                &mut message,
+            );
+            write(out, &message)?;
+            Ok(told(done.map(|n| format!("written={n}\n"))))
+        }
+        ["reply", no, opening, a, s1, e1, e2, coins, out, key_out] => {
+            let no = number(no)?;
+            let mut message = vec![0; scheme(no).map_or(0, |s| s.reply_bytes())];
+            let mut key = vec![0; scheme(no).map_or(0, |s| s.key_bytes)];
+            let (opening, a, coins) = (bytes(opening)?, numbers(a)?, bytes(coins)?);
+            let (s1, e1, e2) = (values(s1)?, values(e1)?, values(e2)?);
+            let done = reply(
+                no,
+                &opening,
+                &a,
+                &s1,
+                &e1,
+                &e2,
+                &coins,
+                &mut message,
+                &mut key,
+            );
+            write(out, &message)?;
+            write(key_out, &key)?;
+            Ok(told(done.map(|(n, k)| {
+                format!("message_written={n}\nkey_written={k}\n")
+            })))
+        }
+        ["finish", no, message, s, out] => {
+            let no = number(no)?;
+            let mut key = vec![0; scheme(no).map_or(0, |s| s.key_bytes)];
+            let done = finish(no, &bytes(message)?, &values(s)?, &mut key);
+            write(out, &key)?;
+            Ok(told(done.map(|n| format!("written={n}\n"))))
+        }
+        ["noise", no, random, out] => {
+            let random = bytes(random)?;
+            let mut drawn = vec![0; random.len()];
+            let done = noise(number(no)?, &random, &mut drawn);
+            // after a refusal it is not known which of the two lengths was meant
+            drawn.truncate(done.unwrap_or(0));
+            write(out, &words_of(drawn.iter().map(|&v| v as u32)))?;
+            Ok(told(done.map(|n| format!("written={n}\n"))))
+        }
+        ["expand", stream, out] => {
+            let mut taken = vec![0; COUNT];
+            let done = expand(&bytes(stream)?, &mut taken);
+            write(out, &words_of(taken))?;
+            Ok(told(done.map(|n| format!("written={n}\n"))))
+        }
+        ["bench", no, a, s, e, seed, s1, e1, e2, coins] => {
+            let (a, seed, coins) = (numbers(a)?, bytes(seed)?, bytes(coins)?);
+            let (s, e) = (values(s)?, values(e)?);
+            let (s1, e1, e2) = (values(s1)?, values(e1)?, values(e2)?);
+            let done = bench(number(no)?, &a, &s, &e, &seed, &s1, &e1, &e2, &coins);
+            Ok(told(done.map(|compared| match compared {
+                Bench::Agree => "agree\n".to_string(),
+                Bench::Differ(bit) => format!("differ={bit}\n"),
+            })))
+        }
+        _ => Err(Error::other("no such command")),
+    }
+}
+
+fn told(done: Result<String, Refusal>) -> String {
+    done.unwrap_or_else(|r| format!("refusal={}\nplace={}\n", r.number, r.place))
+}
+
+fn number(word: &str) -> io::Result<u64> {
+    word.parse().map_err(Error::other)
+}
+
+fn bytes(name: &str) -> io::Result<Vec<u8>> {
+    if name == "-" {
+        return Ok(vec![]);
+    }
+    std::fs::read(name)
+}
+
+fn numbers(name: &str) -> io::Result<Vec<u32>> {
+    let bytes = bytes(name)?;
+    let word = |four: &[u8]| u32::from_le_bytes([four[0], four[1], four[2], four[3]]);
+    Ok(bytes.chunks_exact(4).map(word).collect())
+}
+
+fn values(name: &str) -> io::Result<Vec<i32>> {
+    Ok(numbers(name)?.into_iter().map(|word| word as i32).collect())
+}
+
+fn words_of(numbers: impl IntoIterator<Item = u32>) -> Vec<u8> {
+    numbers.into_iter().flat_map(u32::to_le_bytes).collect()
+}
+
+fn write(name: &str, bytes: &[u8]) -> io::Result<()> {
+    if name == "-" {
+        return Ok(());
+    }
+    std::fs::write(name, bytes)
+}
