@@ -16,6 +16,10 @@ impl Draw {
         (0..count).map(|_| self.number(below)).collect()
     }
 
+    pub fn bytes(&mut self, count: usize) -> Vec<u8> {
+        (0..count).map(|_| self.number(256) as u8).collect()
+    }
+
     /// From -bound to bound.
     pub fn secrets(&mut self, count: usize, bound: u32) -> Vec<i32> {
         let zero = i32::try_from(bound).expect("a small bound");

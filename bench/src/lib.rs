@@ -1,6 +1,15 @@
-//! The proved kernels of Wimmostry from outside: `kernels` calls them, `plain`
-//! is what they are measured against, `draw` makes inputs.
+//! The proved kernels and calls of Wimmostry from outside: `kernels` and the
+//! package `wimmostry` call them, `plain` and `botan` are what they are
+//! measured against, `draw` and `lent` make inputs, `rows` has what is compared
+//! with what, and `measure` and `count` do it.
 
+#[cfg(botan)]
+pub mod botan;
+pub mod count;
 pub mod draw;
 pub mod kernels;
+pub mod lent;
+pub mod measure;
+pub mod ours;
 pub mod plain;
+pub mod rows;

@@ -1,9 +1,33 @@
 //! Numbers of w bits as bytes and back, through a 64-bit accumulator.
 
-pub fn pack(w: u32, xs: &[u32], out: &mut [u8]) {
+/// What a number is kept in.
+pub trait Word: Copy {
+    fn wide(self) -> u64;
+    fn low(x: u64) -> Self;
+}
+
+impl Word for u16 {
+    fn wide(self) -> u64 {
+        self.into()
+    }
+    fn low(x: u64) -> u16 {
+        x as u16
+    }
+}
+
+impl Word for u32 {
+    fn wide(self) -> u64 {
+        self.into()
+    }
+    fn low(x: u64) -> u32 {
+        x as u32
+    }
+}
+
+pub fn pack<T: Word>(w: u32, xs: &[T], out: &mut [u8]) {
     let (mut held, mut bits, mut j) = (0u64, 0, 0);
     for &x in xs {
-        held |= u64::from(x) << bits;
+        held |= x.wide() << bits;
         bits += w;
         if bits >= 32 {
             out[j..j + 4].copy_from_slice(&(held as u32).to_le_bytes());
@@ -16,7 +40,7 @@ pub fn pack(w: u32, xs: &[u32], out: &mut [u8]) {
     out[j..].copy_from_slice(&held.to_le_bytes()[..rest]);
 }
 
-pub fn unpack(w: u32, bytes: &[u8], out: &mut [u32]) {
+pub fn unpack<T: Word>(w: u32, bytes: &[u8], out: &mut [T]) {
     let mask = (1u64 << w) - 1;
     let (mut held, mut bits, mut i) = (0u64, 0, 0);
     for x in out {
@@ -28,7 +52,7 @@ pub fn unpack(w: u32, bytes: &[u8], out: &mut [u32]) {
             bits += 32;
             i += some;
         }
-        *x = (held & mask) as u32;
+        *x = T::low(held & mask);
         held >>= w;
         bits -= w;
     }

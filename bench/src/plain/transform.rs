@@ -2,14 +2,16 @@
 //! R = 2^18, Gentleman-Sande butterflies in place, 16-bit numbers, tables made
 //! before, and numbers that come in bit-reversed order.
 
-const Q: u32 = 12289;
-const N: usize = 1024;
+pub const Q: u32 = 12289;
+pub const N: usize = 1024;
+
+pub type Poly = [u16; N];
 
 pub struct Tables {
     omegas: [u16; N / 2],
     omegas_inverse: [u16; N / 2],
-    psis: [u16; N],
-    psis_inverse: [u16; N],
+    psis: Poly,
+    psis_inverse: Poly,
 }
 
 fn power(base: u32, exponent: u32) -> u32 {
@@ -45,7 +47,7 @@ fn barrett(a: u16) -> u16 {
     a - (u * Q) as u16
 }
 
-pub fn bit_reverse(a: &mut [u16; N]) {
+pub fn bit_reverse(a: &mut Poly) {
     for i in 0..N {
         let r = reversed(i, 10);
         if i < r {
@@ -54,13 +56,13 @@ pub fn bit_reverse(a: &mut [u16; N]) {
     }
 }
 
-fn scale(a: &mut [u16; N], by: &[u16; N]) {
+fn scale(a: &mut Poly, by: &Poly) {
     for (x, &y) in a.iter_mut().zip(by) {
         *x = montgomery(u32::from(*x) * u32::from(y));
     }
 }
 
-fn level(a: &mut [u16; N], omegas: &[u16; N / 2], distance: usize, reduce: bool) {
+fn level(a: &mut Poly, omegas: &[u16; N / 2], distance: usize, reduce: bool) {
     for start in 0..distance {
         let mut t = 0;
         let mut j = start;
@@ -75,34 +77,51 @@ fn level(a: &mut [u16; N], omegas: &[u16; N / 2], distance: usize, reduce: bool)
     }
 }
 
-fn butterflies(a: &mut [u16; N], omegas: &[u16; N / 2]) {
+fn butterflies(a: &mut Poly, omegas: &[u16; N / 2]) {
     for i in (0..10).step_by(2) {
         level(a, omegas, 1 << i, false);
         level(a, omegas, 2 << i, true);
     }
 }
 
+/// The products of two transforms' entries.
+pub fn pointwise(a: &Poly, b: &Poly) -> Poly {
+    let r = (1 << 18) % Q;
+    std::array::from_fn(|i| montgomery(u32::from(montgomery(r * r % Q * u32::from(b[i]))) * u32::from(a[i])))
+}
+
+pub fn add(a: &mut Poly, b: &Poly) {
+    for (x, &y) in a.iter_mut().zip(b) {
+        *x = barrett(*x + y);
+    }
+}
+
+/// Down to 0..q-1.
+pub fn freeze(a: &mut Poly) {
+    for x in a {
+        let below_2q = barrett(*x);
+        *x = below_2q.min(below_2q.wrapping_sub(Q as u16));
+    }
+}
+
 impl Tables {
     /// Of numbers in bit-reversed order.
-    pub fn forward(&self, a: &mut [u16; N]) {
+    pub fn forward(&self, a: &mut Poly) {
         scale(a, &self.psis);
         butterflies(a, &self.omegas);
     }
 
-    pub fn inverse(&self, a: &mut [u16; N]) {
+    pub fn inverse(&self, a: &mut Poly) {
         bit_reverse(a);
         butterflies(a, &self.omegas_inverse);
         scale(a, &self.psis_inverse);
     }
 
     /// The product in `a`, of factors in bit-reversed order.
-    pub fn product(&self, a: &mut [u16; N], b: &mut [u16; N]) {
-        let r = (1 << 18) % Q;
+    pub fn product(&self, a: &mut Poly, b: &mut Poly) {
         self.forward(a);
         self.forward(b);
-        for (x, &y) in a.iter_mut().zip(b.iter()) {
-            *x = montgomery(u32::from(montgomery(r * r % Q * u32::from(y))) * u32::from(*x));
-        }
+        *a = pointwise(a, b);
         self.inverse(a);
     }
 }

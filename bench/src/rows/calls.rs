@@ -1,0 +1,134 @@
+//! Every call in every scheme, as a program in another language makes it: the
+//! inputs are tested and the outputs zeroed. The plain code does neither.
+
+use super::Rows;
+use crate::draw::Draw;
+use crate::lent::Lent;
+use crate::ours::Ours;
+use crate::plain::bcns::Bcns;
+use crate::plain::frodo::Frodo;
+use crate::plain::newhope::NewHope;
+use crate::plain::{polynomial, sampling, Calls};
+use second::schemes::{Family, Scheme, SIX};
+
+/// What an exchange gives.
+#[derive(PartialEq)]
+struct Exchange {
+    opening: Vec<u8>,
+    reply: Vec<u8>,
+    key: Vec<u8>,
+    peer: Vec<u8>,
+}
+
+impl Exchange {
+    fn room(scheme: &Scheme) -> Exchange {
+        let key = vec![0; scheme.key_bytes];
+        Exchange { opening: vec![0; scheme.opening_bytes()], reply: vec![0; scheme.reply_bytes()], key: key.clone(), peer: key }
+    }
+
+    fn run(&mut self, calls: &dyn Calls) {
+        calls.offer(&mut self.opening);
+        calls.reply(&self.opening, &mut self.reply, &mut self.key);
+        calls.finish(&self.reply, &mut self.peer);
+    }
+}
+
+/// The three calls against one other program's, then Bench against all three.
+fn exchange(rows: &mut dyn Rows, lent: &Lent, peer: &str, plain: &dyn Calls) {
+    let ours = Ours(lent);
+    let (mut x, mut y) = (Exchange::room(lent.scheme), Exchange::room(lent.scheme));
+    x.run(&ours);
+    y.run(plain);
+    assert!(x == y, "the two give one exchange");
+    assert!(x.key == x.peer && ours.bench(), "both ends have one key");
+
+    let name = lent.scheme.name;
+    rows.row(&format!("{name}, Offer"), peer, &mut || ours.offer(&mut x.opening), &mut || plain.offer(&mut y.opening));
+    rows.row(&format!("{name}, Reply"), peer, &mut || ours.reply(&x.opening, &mut x.reply, &mut x.key), &mut || {
+        plain.reply(&y.opening, &mut y.reply, &mut y.key);
+    });
+    rows.row(&format!("{name}, Finish"), peer, &mut || ours.finish(&x.reply, &mut x.peer), &mut || plain.finish(&y.reply, &mut y.peer));
+    rows.row(&format!("{name}, Bench"), &format!("{peer}, the three calls"), &mut || assert!(ours.bench()), &mut || y.run(plain));
+}
+
+/// Finish against one that has the transform of s already.
+fn kept(rows: &mut dyn Rows, lent: &Lent, plain: &NewHope) {
+    let ours = Ours(lent);
+    let mut x = Exchange::room(lent.scheme);
+    x.run(&ours);
+    let (s, mut key) = (plain.kept(), vec![0; 32]);
+    plain.finish_kept(&x.reply, &s, &mut key);
+    assert!(key == x.peer, "the two give one key");
+    rows.row("NewHope, Finish", "the same, s kept transformed", &mut || ours.finish(&x.reply, &mut x.peer), &mut || {
+        plain.finish_kept(&x.reply, &s, &mut key);
+    });
+}
+
+/// Botan's whole calls: they draw a, noise and coins from a seed and hash the
+/// key, and Finish has the transform of s already.
+#[cfg(botan)]
+fn botan(rows: &mut dyn Rows, lent: &Lent, peer: &str, boring: bool) {
+    use crate::botan::Botan;
+    let ours = Ours(lent);
+    let mut x = Exchange::room(lent.scheme);
+    x.run(&ours);
+    let theirs = Botan::new(boring);
+    let (mut opening, mut reply, mut key, mut own) = ([0; 1824], [0; 2048], [0; 32], [0; 32]);
+    rows.row("NewHope, Offer", peer, &mut || ours.offer(&mut x.opening), &mut || theirs.offer(&mut opening));
+    theirs.offer(&mut opening);
+    rows.row("NewHope, Reply", peer, &mut || ours.reply(&x.opening, &mut x.reply, &mut x.key), &mut || theirs.reply(&opening, &mut reply, &mut key));
+    theirs.reply(&opening, &mut reply, &mut key);
+    rows.row("NewHope, Finish", peer, &mut || ours.finish(&x.reply, &mut x.peer), &mut || theirs.finish(&reply, &mut own));
+    theirs.finish(&reply, &mut own);
+    assert!(key == own, "Botan's ends have one key");
+}
+
+#[cfg(not(botan))]
+fn botan(_: &mut dyn Rows, _: &Lent, _: &str, _: bool) {}
+
+fn scheme(rows: &mut dyn Rows, scheme: &'static Scheme) {
+    let lent = Lent::drawn(scheme, 5);
+    match scheme.family {
+        Family::Bcns => {
+            exchange(rows, &lent, "plain rule", &Bcns { lent: &lent, mix: polynomial::mix });
+            exchange(rows, &lent, "the same windows", &Bcns { lent: &lent, mix: polynomial::mix_by_windows });
+        }
+        Family::NewHope => {
+            let plain = NewHope::of(&lent);
+            exchange(rows, &lent, "published method", &plain);
+            kept(rows, &lent, &plain);
+            botan(rows, &lent, "Botan, whole call", false);
+            botan(rows, &lent, "Botan with AES, whole call", true);
+        }
+        Family::Frodo => exchange(rows, &lent, "16-bit words", &Frodo::of(&lent)),
+    }
+}
+
+fn noise(rows: &mut dyn Rows, scheme: &Scheme) {
+    let count = scheme.secret_count();
+    let bytes = Draw::new(6).bytes(second::noise::lengths(scheme)[0]);
+    let (mut x, mut y) = (vec![0; count], vec![0; count]);
+    let mut ours = || assert!(wimmostry::noise(scheme.number as u32, &bytes, &mut x).is_ok());
+    let mut plain = || sampling::noise(scheme, &bytes, &mut y);
+    ours();
+    plain();
+    rows.row(&format!("{}, Noise", scheme.name), "published method", &mut ours, &mut plain);
+    assert!(x == y, "the two give one noise");
+}
+
+fn expand(rows: &mut dyn Rows) {
+    let stream = Draw::new(7).bytes(4096);
+    let (mut x, mut y) = ([0; 1024], [0; 1024]);
+    let mut ours = || assert!(wimmostry::expand(&stream, &mut x).is_ok());
+    let mut plain = || assert!(sampling::expand(&stream, &mut y) == 1024);
+    ours();
+    plain();
+    rows.row("Expand", "published method", &mut ours, &mut plain);
+    assert!(x == y, "the two give the same numbers");
+}
+
+pub fn rows(rows: &mut dyn Rows) {
+    SIX.iter().for_each(|it| scheme(rows, it));
+    SIX.iter().filter(|it| it.family != Family::Bcns).for_each(|it| noise(rows, it));
+    expand(rows);
+}

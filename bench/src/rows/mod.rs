@@ -1,0 +1,23 @@
+//! What is compared with what.
+
+mod calls;
+mod kernels;
+mod tests;
+
+/// Takes each pair: measures it, counts it, or just numbers it.
+pub trait Rows {
+    fn row(&mut self, what: &str, peer: &str, ours: &mut dyn FnMut(), theirs: &mut dyn FnMut());
+}
+
+pub struct Part {
+    pub name: &'static str,
+    pub ours: &'static str,
+    pub theirs: &'static str,
+    pub rows: fn(&mut dyn Rows),
+}
+
+pub static PARTS: [Part; 3] = [
+    Part { name: "kernels", ours: "kernel", theirs: "plain code", rows: kernels::rows },
+    Part { name: "calls", ours: "call", theirs: "against", rows: calls::rows },
+    Part { name: "tests", ours: "call refused by its last test", theirs: "against", rows: tests::rows },
+];

@@ -1,0 +1,107 @@
+//! The plain calls against the second program's, so that what is measured gives
+//! the same bytes. The proved calls are held to it in `rust/`.
+
+use bench::draw::Draw;
+use bench::lent::Lent;
+use bench::plain::bcns::Bcns;
+use bench::plain::frodo::Frodo;
+use bench::plain::newhope::NewHope;
+use bench::plain::{polynomial, sampling, Calls};
+use second::calls;
+use second::schemes::{Family, Scheme, SIX};
+
+struct Given {
+    opening: Vec<u8>,
+    reply: Vec<u8>,
+    key: Vec<u8>,
+    peer: Vec<u8>,
+}
+
+/// Room that holds something else.
+fn room(scheme: &Scheme) -> Given {
+    Given { opening: vec![9; scheme.opening_bytes()], reply: vec![9; scheme.reply_bytes()], key: vec![9; scheme.key_bytes], peer: vec![9; scheme.key_bytes] }
+}
+
+/// The second program's exchange.
+fn expected(l: &Lent) -> Given {
+    let (number, mut given) = (l.scheme.number, room(l.scheme));
+    calls::offer(number, &l.a, &l.s, &l.e, &l.seed, &mut given.opening).expect("good inputs");
+    calls::reply(number, &given.opening, &l.a, &l.s1, &l.e1, &l.e2, &l.coins, &mut given.reply, &mut given.key).expect("good inputs");
+    calls::finish(number, &given.reply, &l.s, &mut given.peer).expect("good inputs");
+    given
+}
+
+fn held(l: &Lent, expected: &Given, plain: &dyn Calls) {
+    let mut given = room(l.scheme);
+    plain.offer(&mut given.opening);
+    plain.reply(&expected.opening, &mut given.reply, &mut given.key);
+    plain.finish(&expected.reply, &mut given.peer);
+    let name = l.scheme.name;
+    assert!(given.opening == expected.opening, "{name}: the opening");
+    assert!(given.reply == expected.reply, "{name}: the reply");
+    assert!(given.key == expected.key, "{name}: the replier's key");
+    assert!(given.peer == expected.peer, "{name}: the initiator's key");
+}
+
+fn exchange(l: &Lent) {
+    let expected = expected(l);
+    match l.scheme.family {
+        Family::Bcns => {
+            held(l, &expected, &Bcns { lent: l, mix: polynomial::mix });
+            held(l, &expected, &Bcns { lent: l, mix: polynomial::mix_by_windows });
+        }
+        Family::NewHope => {
+            let plain = NewHope::of(l);
+            held(l, &expected, &plain);
+            let mut key = [9; 32];
+            plain.finish_kept(&expected.reply, &plain.kept(), &mut key);
+            assert!(key[..] == expected.peer, "the same with s kept transformed");
+        }
+        Family::Frodo => held(l, &expected, &Frodo::of(l)),
+    }
+}
+
+#[test]
+fn exchanges() {
+    for scheme in &SIX {
+        (0..3).for_each(|seed| exchange(&Lent::drawn(scheme, seed)));
+    }
+}
+
+/// Public numbers q - 1 and all noise at its largest, of either sign: the two
+/// ends' keys need not agree, and each is the second program's.
+#[test]
+fn exchanges_of_the_largest() {
+    for scheme in &SIX {
+        for side in [-1, 1] {
+            let mut lent = Lent::drawn(scheme, 0);
+            lent.a.fill(scheme.q as u32 - 1);
+            for values in [&mut lent.s, &mut lent.e, &mut lent.s1, &mut lent.e1, &mut lent.e2] {
+                values.fill(side * scheme.largest_noise as i32);
+            }
+            exchange(&lent);
+        }
+    }
+}
+
+#[test]
+fn noise() {
+    for scheme in SIX.iter().filter(|scheme| scheme.family != Family::Bcns) {
+        for length in second::noise::lengths(scheme) {
+            let bytes = Draw::new(length as u32).bytes(length);
+            let mut values = vec![99; length / second::noise::bytes_a_value(scheme)];
+            sampling::noise(scheme, &bytes, &mut values);
+            assert!(values == second::noise::values(scheme, &bytes), "{}", scheme.name);
+        }
+    }
+}
+
+#[test]
+fn expand() {
+    for (seed, length) in [(0, 0), (1, 1), (2, 2047), (3, 4096), (4, 65536)] {
+        let stream = Draw::new(seed).bytes(length);
+        let mut numbers = [9; 1024];
+        let taken = sampling::expand(&stream, &mut numbers);
+        assert!(numbers[..taken] == second::expand::taken(&stream));
+    }
+}
