@@ -5,8 +5,8 @@ ghost use mathlib.Core.Path.{_≡_};
 ghost use mathlib.Core.List.{_++_};
 ghost use Prim.Native.Nat.{_-_, _≤_};
 ghost use lib.ListN.{length, take, replicate};
-ghost use lib.IntN.{pos};
-ghost use Rattle.lists.specs.First.{largest, firstOver, firstBeyond};
+ghost use lib.IntN.{pos, natAbs};
+ghost use Rattle.lists.specs.First.{largestBy, firstOver, firstBeyond};
 
 pub fn zero_bytes(out: &mut [u8])
     ensures { λ _. ⌜ now (out .exit) ≡ replicate (length (now (out .entry))) 0 ⌝ }
@@ -78,7 +78,7 @@ pub fn copy_bytes(src: &[u8], out: &mut [u8])
 
 // The largest number, 0 where there is none. Without an exit from its loop it runs many numbers at a time.
 fn largest_of(xs: &[u32]) -> u32
-    ensures { λ r. ⌜ r ≡ largest (now (xs .entry)) ⌝ }
+    ensures { λ r. ⌜ r ≡ largestBy (λ x. x) (now (xs .entry)) ⌝ }
 {
     let mut most: u32 = 0;
     let mut i: usize = 0;
@@ -113,8 +113,21 @@ pub fn first_over(q: u32, xs: &[u32]) -> usize
     search_over(q, xs)
 }
 
-// The index of the first value that lies further than the bound from 0, or the length where none does.
-pub fn first_beyond(bound: u32, s: &[i32]) -> usize
+// The largest size of a value, 0 where there is none; many values at a time too.
+fn largest_size(s: &[i32]) -> u32
+    ensures { λ r. ⌜ r ≡ largestBy natAbs (now (s .entry)) ⌝ }
+{
+    let mut most: u32 = 0;
+    let mut i: usize = 0;
+    while i < s.len() {
+        let x = numbers::size32(s[i]);
+        most = if most < x { x } else { most };
+        i += 1;
+    }
+    most
+}
+
+fn search_beyond(bound: u32, s: &[i32]) -> usize
     ensures { λ r. ⌜ r ≡ firstBeyond bound (now (s .entry)) ⌝ }
 {
     let mut i: usize = 0;
@@ -125,4 +138,14 @@ pub fn first_beyond(bound: u32, s: &[i32]) -> usize
         i += 1;
     }
     i
+}
+
+// The index of the first value that lies further than the bound from 0, or the length where none does. Good values are passed at the speed of their largest.
+pub fn first_beyond(bound: u32, s: &[i32]) -> usize
+    ensures { λ r. ⌜ r ≡ firstBeyond bound (now (s .entry)) ⌝ }
+{
+    if largest_size(s) <= bound {
+        return s.len();
+    }
+    search_beyond(bound, s)
 }
