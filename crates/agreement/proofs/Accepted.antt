@@ -3,7 +3,6 @@
 --   ranged-by        inputs that pass the tests of Offer and Reply are in range
 --   Gave t, gave     an exchange: its inputs are in range, and its keys are those of the run
 --   numbered         Offer without a refusal was given the number of a scheme
--- Assumes nothing.
 use mathlib.Core.Path.{_≡_, refl, _∙_, sym}
 use mathlib.Core.Bool.{Bool, true, false, cond}
 use mathlib.Core.List.{List}

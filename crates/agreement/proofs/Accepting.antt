@@ -1,7 +1,6 @@
 -- What lengths and ranges say: no call refuses.
 --   bench-passes   the tests of Offer and Reply, each with just the room that it needs
 --   accepted       the theorem of `specs/Exchange.antt`
--- Assumes nothing.
 use mathlib.Core.Path.{_≡_, refl}
 use mathlib.Core.List.{_++_}
 use native.Mathlib.Nat.{le-refl}

@@ -2,7 +2,6 @@
 --   own-is      the replier's key is the published bits of its value
 --   keys-meet   where d is near, the initiator's key is the replier's, of the run's inputs
 --   measured-all, quarters, agreement, always   the theorems of `specs/Agreement.antt`
--- Assumes nothing.
 use mathlib.Core.Path.{_≡_, refl, _∙_, sym, ap, ap₂}
 use mathlib.Core.List.{List}
 use Prim.Native.Nat.{ℕ}

@@ -3,7 +3,6 @@
 --   bench-ranged     where Bench refuses nothing, its inputs are in range
 --   bench-gave       what it answers of inputs in range
 --   bench-accepts, bench-tells, bench-agrees   the theorems of `specs/Comparison.antt`
--- Assumes nothing.
 use mathlib.Core.Path.{_≡_, _∙_, sym, ap}
 use mathlib.Core.List.{List}
 use mathlib.Core.Logic.{_↔_}

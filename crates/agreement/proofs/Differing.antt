@@ -2,7 +2,6 @@
 --   same-apart, apart-before, apart-there   of two lists: where they are the same, below the first difference, and at it
 --   differing-none     two keys differ at no bit exactly where they are the same
 --   differing-at       they differ first at i exactly where i is the first bit that differs
--- Assumes nothing.
 use mathlib.Core.Path.{_≡_, refl, _∙_, sym, ap, subst}
 use mathlib.Core.Bool.{Bool, true, false, cond}
 use mathlib.Core.List.{List, [], _∷_}

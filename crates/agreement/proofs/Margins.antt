@@ -1,7 +1,6 @@
 -- From d to the keys, by the family.
 --   measured     the two values are as far apart as d is from a multiple of q
 --   same-keys    where d is near, the initiator's key entries are the replier's
--- Assumes nothing.
 use mathlib.Core.Path.{_≡_, _∙_, sym, ap, subst}
 use mathlib.Core.List.{List}
 use Prim.Native.Nat.{ℕ, _+_, _/_, _%_, _^_, _≤_, _<_}

@@ -3,7 +3,6 @@
 --   hints-at        a hint, of its coin and its value
 --   hints-below, keys-below, peers-below      each is 0 or 1
 --   lists-agree     entry by entry up to 536870911 apart: the initiator's bits are the replier's keys
--- Assumes nothing.
 use mathlib.Core.Path.{_≡_, _∙_, sym, ap}
 use mathlib.Core.List.{List}
 use Prim.Native.Nat.{ℕ, _≤_, _<_}

@@ -5,7 +5,6 @@
 --   Region, region     the four regions: (hint, key bit) is (0, 0), (1, 1), (0, 1), (1, 0)
 --   formulaOf h w, formula-is   the initiator's bit as a formula, by how many times 2147483648 goes into its sum
 --   near-same          2w is at most 1073741823 from z: the formula under z's hint is z's key bit
--- Assumes nothing.
 use mathlib.Core.Path.{_≡_, _∙_, sym, ap}
 use Prim.Native.Nat.{ℕ, _+_, _*_, _/_, _%_, _≤_, _<_}
 use native.Mathlib.Decide.{decLt}

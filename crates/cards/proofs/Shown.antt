@@ -1,5 +1,4 @@
 -- The table of bench cards holds, by one computed test. The initiator's rules are searches, and are computed by their formulas.
--- Assumes nothing.
 use mathlib.Core.Path.{_≡_, refl, _∙_, ap}
 use mathlib.Core.Bool.{Bool, true, false}
 use mathlib.Core.List.{List, [], _∷_}

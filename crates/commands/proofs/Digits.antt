@@ -3,7 +3,6 @@
 --   few                       a number of 64 bits has at most 20
 --   same-digits               the two are the same
 --   written-digits            a copy of them
--- Assumes nothing.
 use mathlib.Core.Path.{_≡_, refl, _∙_, sym, ap, subst}
 use mathlib.Core.List.{List, [], _∷_, _++_}
 use Prim.Native.Nat.{ℕ, zero, suc, _+_, _-_, _*_, _/_, _%_, _^_, _≤_, _<_}

@@ -3,7 +3,6 @@
 --   high-fits, lower-fits, lowered, high-is   or -m - 1, where m is 4294967295 - x
 --   below-size, below-is, above-is    a value's word from its size
 --   word-signed                       reading a value and writing it again gives the same word
--- Assumes nothing.
 use mathlib.Core.Path.{_≡_, refl, sym, ap, ap₂, _∙_}
 use mathlib.Core.Bool.{Bool, true, false}
 use Prim.Native.Nat.{ℕ, suc, _+_, _-_, _≤_, _<_}

@@ -1,5 +1,4 @@
 -- No scheme has more than a program makes room for.
--- Assumes nothing.
 use mathlib.Core.Path.{_≡_}
 use lib.Dec.{lit≤}
 use Rattle.schemes.specs.Schemes.{fixedOf}

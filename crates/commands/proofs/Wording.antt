@@ -3,7 +3,6 @@
 --   named-is                   a first word, by all of them from the last to the first
 --   not-digits, none, many, zero-led, large   no scheme's number: other bytes than digits, none, too many, a leading zero, more than 32 bits
 --   number-is                  a scheme's number
--- Assumes nothing.
 use mathlib.Core.Path.{_≡_, refl, sym}
 use mathlib.Core.Bool.{Bool, true, false, not, cond, _&&_}
 use mathlib.Core.List.{List}

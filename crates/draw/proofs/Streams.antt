@@ -4,7 +4,6 @@
 --   reached                    the state that a turn makes
 --   Summed f xs h i            h is the checksum of the first i entries
 --   sum-start, sum-next, sum-end   before, at each turn, and after
--- Assumes nothing.
 use mathlib.Core.Path.{_≡_, refl, sym, _∙_, ap}
 use mathlib.Core.List.{List}
 use Prim.Native.Nat.{ℕ, suc, _+_, _*_, _%_, _^_, _<_, _≤_}

@@ -5,7 +5,6 @@
 --   numbers-in             so has a scheme of which the family is known
 --   key-bits               an entry's key has fewer than 32 bits
 --   packed-below           a number below q fits the width of a packed number
--- Assumes nothing.
 use mathlib.Core.Path.{_≡_, refl, subst}
 use mathlib.Core.List.{List}
 use Prim.Native.Nat.{ℕ, _*_, _/_, _%_, _^_, _≤_, _<_}

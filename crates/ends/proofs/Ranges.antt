@@ -1,7 +1,6 @@
 -- The values of both ends: as many as the scheme has, each below q, of whatever they are computed.
 --   offered-counted, replied-counted   b and u, as they travel
 --   mixed-counted, bare-counted        v and w
--- Assumes nothing.
 use mathlib.Core.Path.{_≡_, _∙_, sym}
 use mathlib.Core.List.{List}
 use Prim.Native.Nat.{ℕ, _*_}

@@ -4,7 +4,6 @@
 --                    what the families' functions ask of their inputs, where these have the scheme's counts and ranges
 --   newhope-keys     the bits of NewHope's own hints are its keys
 --   hints-counted, keys-counted, peers-counted   as many as the scheme has, and each within its bits
--- Assumes nothing.
 use mathlib.Core.Path.{_≡_, refl, _∙_, sym, ap, subst}
 use mathlib.Core.List.{List}
 use Prim.Native.Nat.{ℕ, _*_, _^_}

@@ -3,7 +3,6 @@
 --   bcns-asks, bcns-noise-asks                             BCNS's products, bare and with noise
 --   newhope-asks, newhope-mix-asks, newhope-value-asks     NewHope's, bare, with noise as it travels, and with noise
 --   frodo-asks, frodo-mix-asks, frodo-value-asks           Frodo's of 8 rows, bare; of A and of 8 columns, with noise
--- Assumes nothing.
 use mathlib.Core.Path.{_≡_, refl, _∙_, sym}
 use mathlib.Core.List.{List}
 use Prim.Native.Nat.{ℕ, _*_, _<_, _≤_}

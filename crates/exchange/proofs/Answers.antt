@@ -4,7 +4,6 @@
 --   same-answer               two answers with the same three numbers are the same
 --   same-replied              so are two of Reply's with the same four
 --   same-compared             and two of Bench's with the same three
--- Assumes nothing.
 use mathlib.Core.Path.{_≡_, refl, ap}
 use mathlib.Core.Bool.{cond}
 use Prim.Native.Nat.{ℕ, _-_}

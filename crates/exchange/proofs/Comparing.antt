@@ -6,7 +6,6 @@
 --   finish-passes    what Offer and Reply have let pass, Finish does not refuse
 --   rest-..., ends-...     how Bench ends after Reply, and after Offer: refused, and otherwise
 --   bench-told, bench-unknown         its promise
--- Assumes nothing.
 use mathlib.Core.Path.{_≡_, refl, _∙_, sym, ap}
 use mathlib.Core.List.{List}
 use Prim.Native.Nat.{ℕ, suc, _+_, _-_, _*_, _≤_, _<_}

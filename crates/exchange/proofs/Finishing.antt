@@ -6,7 +6,6 @@
 --   finish-sized     what passed sizes say
 --   message-counted  numbers that are not refused are as many as the scheme has, each below q
 --   finish-unknown, finish-told   its promise, where the number names no scheme, and from how a known scheme's call has ended
--- Assumes nothing.
 use mathlib.Core.Path.{_≡_, refl, _∙_, sym, ap}
 use mathlib.Core.List.{List}
 use Prim.Native.Nat.{ℕ, _*_, _^_}

@@ -1,7 +1,6 @@
 -- What cannot arise: 01, "The calls" (Bench) and "Refusal numbers and their order".
 --   bench-never      refusals 3 and 5, in Bench
 --   reply-frodo, finish-frodo   refusal 5, in Frodo
--- Assumes nothing.
 use mathlib.Core.Path.{_≡_, refl}
 use mathlib.Core.Bool.{Bool, true, false, cond}
 use mathlib.Core.List.{List}

@@ -9,7 +9,6 @@
 --   entries-fit    the entries of a key fit their bits, and fill the key
 --   packed-by, opening-by     where an opening's packed part begins, and the opening, by the family of the scheme
 --   opening-part, opening-long   the packed part lies within the opening, and is as long as the scheme says
--- Assumes nothing.
 use mathlib.Core.Path.{_≡_, sym, ap, ap₂, _∙_}
 use mathlib.Core.List.{List}
 use Prim.Native.Nat.{ℕ, _+_, _-_, _*_, _^_, _≤_, _<_}

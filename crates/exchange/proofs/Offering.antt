@@ -3,7 +3,6 @@
 --   offer-passed     what passed tests say: the work can begin, and there is room for the opening
 --   opening-length   an opening is as long as the scheme says
 --   offer-unknown, offer-told   its promise, where the number names no scheme, and from how a known scheme's call has ended
--- Assumes nothing.
 use mathlib.Core.Path.{_≡_, refl, _∙_, ap}
 use mathlib.Core.List.{List}
 use Prim.Native.Nat.{ℕ, _+_, _*_, _≤_}

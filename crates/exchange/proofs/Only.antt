@@ -1,6 +1,5 @@
 -- No two results satisfy one promise.
 --   offer-only, reply-only, finish-only, bench-only   answers and outputs that are promised of the same inputs are the same
--- Assumes nothing.
 use mathlib.Core.Path.{_≡_}
 use mathlib.Core.List.{List}
 use Prim.Native.Nat.{ℕ}

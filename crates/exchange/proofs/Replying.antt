@@ -7,7 +7,6 @@
 --   reply-open       what the first part says where it has passed
 --   secrets-small    what the secrets' tests say
 --   reply-unknown, reply-told   its promise, where the number names no scheme, and from how a known scheme's call has ended
--- Assumes nothing.
 use mathlib.Core.Path.{_≡_, refl, _∙_, sym, ap}
 use mathlib.Core.List.{List}
 use Prim.Native.Nat.{ℕ, _*_, _^_}

@@ -3,7 +3,6 @@
 --   values-within                     the values of a scheme lie within its largest noise
 --   noise-within, noise-passes        so does the whole output of Noise, and no part of it is refused as a secret or as noise
 --   expand-below, expand-passes       the whole output of Expand is below 12289, and no part of it is refused as public numbers
--- Assumes nothing.
 use mathlib.Core.Path.{_≡_}
 use mathlib.Core.List.{List}
 use Prim.Native.Nat.{ℕ, _<_, _≤_}

@@ -9,7 +9,6 @@
 --   ran-out, full   its verdict where too few are taken, and where all are
 --   whole-part   numbers that fill their part
 --   expanded-told   Expand's promise from the answer and the output
--- Assumes nothing.
 use mathlib.Core.Path.{_≡_, refl, _∙_, sym, ap}
 use mathlib.Core.Bool.{Bool, true, false}
 use mathlib.Core.List.{List, _++_, append-nil}

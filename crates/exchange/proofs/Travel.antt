@@ -3,7 +3,6 @@
 --   replied-back     the numbers of a reply are those that Reply packed
 --   hints-back       its hints are those of the replier's value
 --   opening-again, reply-again   a message that is accepted comes back the same when it is unpacked and packed again (demand 2)
--- Assumes nothing.
 use mathlib.Core.Path.{_≡_, _∙_, sym, ap, ap₂}
 use mathlib.Core.List.{List, _++_}
 use Prim.Native.Nat.{ℕ, _+_, _*_}

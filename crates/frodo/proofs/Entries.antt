@@ -3,7 +3,6 @@
 --   key-below                                 a key is below 2 ^ B
 --   hints-below, keys-below, peers-below      hints below 2, keys below 2 ^ B
 --   agreement-entries                         entries at most a quarter of the interval apart: the initiator's keys are the replier's
--- Assumes nothing.
 use mathlib.Core.Path.{_≡_, ap, _∙_}
 use mathlib.Core.List.{List}
 use Prim.Native.Nat.{ℕ, _*_, _/_, _%_, _^_, _≤_, _<_}

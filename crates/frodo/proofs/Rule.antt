@@ -5,7 +5,6 @@
 --   chosen-nearest, peer-is   the search finds a nearest one, so the initiator's key is the formula's
 --   quarter      I = 4 * t, over which all this is stated
 --   no-tie, formula, agreement
--- Assumes nothing.
 use mathlib.Core.Path.{_≡_, sym, ap, _∙_}
 use Prim.Native.Nat.{ℕ, zero, suc, _+_, _*_, _-_, _/_, _%_, _^_, _≤_, _<_}
 use native.Mathlib.Decide.{ℕ-discrete, decLt}

@@ -3,7 +3,6 @@
 --   held-written   the answer written into zeros
 --   held-whole     where the answer fills the buffer, it is the answer
 --   held-length    it is as long as the buffer was
--- Assumes nothing.
 use mathlib.Core.Path.{_≡_, _∙_, sym, ap}
 use mathlib.Core.List.{List, _++_, append-nil}
 use Prim.Native.Nat.{ℕ, zero, suc, _-_, _≤_}

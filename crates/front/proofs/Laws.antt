@@ -10,7 +10,6 @@
 --   first, also     a sequence as the code goes through it
 --   held-all        what holds of each entry of the answer, and of zero, holds of the whole output
 --   then-assoc, failed, went-on   a sequence in two parts: the first fails, or the second decides
--- Assumes nothing.
 use mathlib.Core.Path.{_≡_, refl, ap₂, _∙_}
 use mathlib.Core.Bool.{Bool, true, false, cond}
 use mathlib.Core.List.{List}

@@ -52,6 +52,12 @@ pub enum Verdict {
     Fail(Refusal),
 }
 
+// What a call with one output gives: how much it wrote, or the refusal. A call with more has an enum of its own, whose `Done` holds a struct of its numbers.
+pub enum Answer {
+    Done(usize),
+    Refused(Refusal),
+}
+
 // An input's length is the fixed one.
 pub fn length_is(v: Verdict, m: usize, n: usize) -> Verdict
     ensures { λ r. ⌜ r ≡ v then lengthIs m n ⌝ }

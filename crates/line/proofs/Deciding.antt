@@ -4,7 +4,6 @@
 --   key-small, peer-small    a key in Frodo has at most two digits
 --   as-0, as-2, as-3, as-4-5, as-none   the answers, by the scheme
 --   other-text, some-behind, nothing-behind   the answers, by what was read of the lines
--- Assumes nothing.
 use mathlib.Core.Path.{_≡_, refl, _∙_, sym, ap}
 use mathlib.Core.Bool.{Bool, true, false, cond}
 use mathlib.Core.List.{List, [], _∷_, _++_}

@@ -3,7 +3,6 @@
 --   line-forth, line-back       the same of a line
 --   exactly                     and of a question
 --   question-short, enough      a question has at most 60 bytes, so the first 61 of a text tell
--- Assumes nothing.
 use mathlib.Core.Path.{_≡_, refl, _∙_, sym, ap, ap₂}
 use mathlib.Core.Bool.{Bool, true, false, cond}
 use mathlib.Core.List.{List, [], _∷_, _++_, append-assoc, append-nil}

@@ -6,7 +6,6 @@
 --   small           k digits make a number below 10^k
 --   some, runs, front   at least one; a text that begins with them begins with no more; a leading zero stands alone
 --   taken           the digits that a well-formed text begins with
--- Assumes nothing.
 use mathlib.Core.Path.{_≡_, refl, _∙_, ap, subst}
 use mathlib.Core.Bool.{Bool, true, false, cond}
 use mathlib.Core.List.{List, [], _∷_, _++_, append-assoc, append-nil}

@@ -8,7 +8,6 @@
 --   number-size, number-found, number-other   the number at a position, or other text
 --   label-room, label-found, label-other   the same of a line with its label
 --   next-room, next-other, next-read, all-four   one line more, and all four
--- Assumes nothing.
 use mathlib.Core.Path.{_≡_, refl, _∙_, sym, ap, subst}
 use mathlib.Core.Bool.{Bool, true, false, cond, not, _||_, _&&_}
 use mathlib.Core.List.{List, [], _∷_, _++_}

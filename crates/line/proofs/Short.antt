@@ -1,5 +1,4 @@
 -- An answer has at most 22 bytes (`specs/Exactly.antt`).
--- Assumes nothing.
 use mathlib.Core.Path.{_≡_, ap}
 use mathlib.Core.Bool.{Bool, cond}
 use mathlib.Core.List.{List}

@@ -6,7 +6,6 @@
 --   one-digit, two-digits, decimal-short   the text of a number below 100
 --   Lined, lined           a line: its label, a text, LF
 --   zeros-behind           over zeros, there are zeros behind
--- Assumes nothing.
 use mathlib.Core.Path.{_≡_, refl, _∙_, sym, ap, ap₂}
 use mathlib.Core.List.{List, [], _∷_, _++_, append-assoc}
 use Prim.Native.Nat.{ℕ, suc, _+_, _-_, _/_, _%_, _≤_, _<_}

@@ -1,10 +1,8 @@
-// What every loop over lent slices needs: zeros over a whole buffer or behind an answer (01, "Refusal numbers and their order"), a copy, and the
+// What every loop over lent slices needs: zeros over a whole buffer (01, "Refusal numbers and their order"), a copy, and the
 // search for the place of a refusal. Numbers are u32, secrets and noise values i32, all else bytes; the laws that the proofs cite are stated once over
 // the element. A function that writes fills the whole of the slice it is lent, so a caller lends the part it means.
 ghost use mathlib.Core.Path.{_≡_};
-ghost use mathlib.Core.List.{_++_};
-ghost use Prim.Native.Nat.{_-_, _≤_};
-ghost use lib.ListN.{length, take, replicate};
+ghost use lib.ListN.{length, replicate};
 ghost use lib.IntN.{pos, natAbs};
 ghost use Rattle.lists.specs.First.{largestBy, firstOver, firstBeyond};
 
@@ -18,15 +16,6 @@ pub fn zero_bytes(out: &mut [u8])
     }
 }
 
-// Zeros behind the first n.
-pub fn zero_bytes_behind(out: &mut [u8], n: usize)
-    requires { ⌜ n ≤ length (now out) ⌝ }
-    ensures { λ _. ⌜ now (out .exit) ≡ take n (now (out .entry)) ++ replicate (length (now (out .entry)) - n) 0 ⌝ }
-{
-    let end = out.len();
-    zero_bytes(&mut out[n..end]);
-}
-
 pub fn zero_numbers(out: &mut [u32])
     ensures { λ _. ⌜ now (out .exit) ≡ replicate (length (now (out .entry))) 0 ⌝ }
 {
@@ -37,15 +26,6 @@ pub fn zero_numbers(out: &mut [u32])
     }
 }
 
-// Zeros behind the first n.
-pub fn zero_numbers_behind(out: &mut [u32], n: usize)
-    requires { ⌜ n ≤ length (now out) ⌝ }
-    ensures { λ _. ⌜ now (out .exit) ≡ take n (now (out .entry)) ++ replicate (length (now (out .entry)) - n) 0 ⌝ }
-{
-    let end = out.len();
-    zero_numbers(&mut out[n..end]);
-}
-
 pub fn zero_values(out: &mut [i32])
     ensures { λ _. ⌜ now (out .exit) ≡ replicate (length (now (out .entry))) (pos 0) ⌝ }
 {
@@ -54,15 +34,6 @@ pub fn zero_values(out: &mut [i32])
         out[i] = 0;
         i += 1;
     }
-}
-
-// Zeros behind the first n.
-pub fn zero_values_behind(out: &mut [i32], n: usize)
-    requires { ⌜ n ≤ length (now out) ⌝ }
-    ensures { λ _. ⌜ now (out .exit) ≡ take n (now (out .entry)) ++ replicate (length (now (out .entry)) - n) (pos 0) ⌝ }
-{
-    let end = out.len();
-    zero_values(&mut out[n..end]);
 }
 
 pub fn copy_bytes(src: &[u8], out: &mut [u8])

@@ -2,7 +2,6 @@
 --   Fits, fits   a q of 32 bits above 1, some noise, a shift by the bits of a key; lists that fit the buffers of the runs
 --   in-buffer    a list that fits a new buffer of zeros
 --   quarter-lt   a quarter of the interval, and one more, are small
--- Assumes nothing.
 use Prim.Native.Nat.{ℕ, _+_, _/_, _^_, _≤_, _<_}
 use native.Mathlib.Nat.{div-le-self}
 use native.Mathlib.Omega.{arith}

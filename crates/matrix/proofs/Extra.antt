@@ -4,7 +4,6 @@
 --   tab-split              a table of a + n entries, in two
 --   rows-start, rows-next, fill-rest   a filling loop that writes n entries at a time: before, at each turn, and what it is still to make
 --   finer-≅                numbers that are congruent modulo a multiple of q are so modulo q
--- Assumes nothing.
 use mathlib.Core.Path.{_≡_, _∙_, sym, ap, ap₂, subst}
 use mathlib.Core.List.{List, _∷_, _++_, append-assoc}
 use Prim.Native.Nat.{ℕ, zero, suc, _+_, _*_, _-_, _/_, _%_, _<_, _≤_}

@@ -3,7 +3,6 @@
 --   times-add-left, times-add-right   it distributes over sums
 --   times-assoc       (a b) c = a (b c)
 --   times-size        an entry, by bounds on those of its factors
--- Assumes nothing.
 use mathlib.Core.Path.{_≡_, _∙_, sym}
 use Prim.Native.Nat.{ℕ, _*_, _<_, _≤_}
 use lib.IntN.{ℤ, natAbs, _+ℤ_, _*ℤ_}

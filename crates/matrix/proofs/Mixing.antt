@@ -4,7 +4,6 @@
 --   identity            the identity, of what the two ends compute
 --   apart-difference    how far V and W are apart is how far D is from a multiple of q
 --   difference-size     D is at most 2 n B B + B in size, where secrets and noise are at most B in size
--- Assumes nothing.
 use mathlib.Core.Path.{_≡_, refl, _∙_, ap}
 use mathlib.Core.List.{List}
 use Prim.Native.Nat.{ℕ, _+_, _*_, _<_, _≤_}

@@ -1,7 +1,6 @@
 -- The remainder without a division: with m = (2^32 - 1) / q and t = u m / 2^32, cut to whole numbers, t is u / q or one less.
 --   scaled-fits, times-fits, times-le   u m, t and t q fit
 --   rest-low, rest-high    the remainder of u is u - t q, or q less
--- Assumes nothing.
 use mathlib.Core.Path.{_≡_, _∙_, sym, ap}
 use Prim.Native.Nat.{ℕ, suc, _+_, _*_, _-_, _/_, _%_, _<_, _≤_}
 use native.Mathlib.Omega.{arith}

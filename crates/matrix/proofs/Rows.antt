@@ -1,6 +1,5 @@
 -- A matrix as a list, row after row.
 --   rows-length, rows-at, nums-rows, rows-below   its length, its entries, and that they are below q
--- Assumes nothing.
 use mathlib.Core.Path.{_≡_, _∙_, ap, ap₂}
 use Prim.Native.Nat.{ℕ, suc, _+_, _*_, _<_, _≤_}
 use native.Mathlib.Omega.{arith}

@@ -4,7 +4,6 @@
 --   gain-next, gained-next, gained-more   one product more for a sum; for each; n more
 --   reduced-gained, steps-are  from the noise to the remainders, by place; in three steps
 --   mixed                      they are those of the whole sums, by row and column
--- Assumes nothing.
 use mathlib.Core.Path.{_≡_, _∙_, sym, ap}
 use mathlib.Core.List.{List}
 use Prim.Native.Nat.{ℕ, _+_, _*_, _/_, _%_, _<_}

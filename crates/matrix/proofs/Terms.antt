@@ -4,7 +4,6 @@
 --   right-row              row i of XS + E
 --   in-s, block-long, block-row   a block of rows of Y and their words, for row i of SY
 --   in-y, part-terms       a block as it lies in Y
--- Assumes nothing.
 use mathlib.Core.Path.{_≡_, _∙_, sym, ap, ap₂}
 use mathlib.Core.List.{List}
 use Prim.Native.Nat.{ℕ, suc, _+_, _*_, _-_, _/_, _%_, _<_, _≤_}

@@ -3,7 +3,6 @@
 --   lent-columns, lent-words   what fits is lent, with the columns of S, or its rows, as words
 --   zeros-within, prefix-long   zeros as noise; as many words as are lent
 --   right-is, left-is, bare-is   XS + E by rows of X and columns of S; SY + E by rows of Y; US as XS + E without noise
--- Assumes nothing.
 use mathlib.Core.Path.{_≡_, refl, _∙_, sym, ap, ap₂}
 use mathlib.Core.List.{List}
 use Prim.Native.Nat.{ℕ, zero, suc, _+_, _*_, _/_, _%_, _<_, _≤_}

@@ -1,5 +1,4 @@
 -- The margin is sharp: at 9215 the bits can differ.
--- Assumes nothing.
 use mathlib.Core.Path.{refl}
 use native.Mathlib.Omega.{arith}
 use Rattle.numbers.specs.Residue.{residue, nearest, distance, apart}

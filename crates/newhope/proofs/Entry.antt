@@ -5,7 +5,6 @@
 --   opposite         the terms of c and of c + 4 sum to half of the circle at least
 --   own-up, own-down   the replier's own term: at most 2 |2X - qP| + 4b where k is 0, q - 2 |2X - qP| + 4b where it is 1
 --   off-half, up-five, down-five   |2X - qP| is at most half of q; P and Q are below 5
--- Assumes nothing.
 use mathlib.Core.Path.{_≡_, refl, _∙_, ap}
 use Prim.Native.Nat.{ℕ, _+_, _*_, _-_, _/_, _%_, _<_, _≤_}
 use native.Mathlib.Omega.{arith}

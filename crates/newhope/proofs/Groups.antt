@@ -6,7 +6,6 @@
 --   groups-agree         where each group is at most 9214 apart, all 256 bits agree
 --   hint-at, at-place    the hint at k, by its group and its place there
 --   hints-next, hints-end   the loop that writes the hints, at each turn and after
--- Assumes nothing.
 use mathlib.Core.Path.{_≡_, refl, _∙_, sym, ap, ap₂, subst}
 use mathlib.Core.Bool.{Bool, true, false, cond}
 use mathlib.Core.List.{List}

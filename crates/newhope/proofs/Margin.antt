@@ -2,7 +2,6 @@
 --   margin       8 times the distance and the replier's own 2q + 16 within 8q: the bit is 1 exactly where p3 is 2 or 3
 --   agreement    so both ends compute the same bit
 --   published    which is the published one
--- Assumes nothing.
 use mathlib.Core.Path.{_≡_, refl, _∙_, sym, ap}
 use mathlib.Core.Bool.{Bool, true, false, cond}
 use Prim.Native.Nat.{ℕ, zero, suc, _+_, _*_, _/_, _%_, _<_, _≤_}

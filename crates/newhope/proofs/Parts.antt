@@ -2,7 +2,6 @@
 --   hint-small   its entries are below 4
 --   hint-is      the parts, as the code computes them one after the other, are together the hint
 --   ranged       what equals the hint has its range
--- Assumes nothing.
 use mathlib.Core.Path.{_≡_, _∙_, sym, ap, ap₂, subst}
 use mathlib.Core.Bool.{cond}
 use Prim.Native.Nat.{ℕ, _+_, _*_, _%_, _<_}

@@ -1,7 +1,6 @@
 -- A loop over 256 groups that writes at each turn the four places of a group: i, i + 256, i + 512 and i + 768.
 --   Spread f out i   what holds when i groups are written: f k at each of their places k
 --   spread-start, spread-next, spread-end   before, at each turn, and after
--- Assumes nothing.
 use mathlib.Core.Path.{_≡_, _∙_, sym, ap}
 use mathlib.Core.List.{List}
 use Prim.Native.Nat.{ℕ, _+_, _%_, _<_, _≤_}

@@ -1,5 +1,4 @@
 -- 01, "Bytes on the wire": NewHope's 1, 2, 3, 4 packs to 01 80 00 30 00 10 00, and back.
--- Assumes nothing.
 use mathlib.Core.Path.{_≡_, refl}
 use mathlib.Core.List.{[], _∷_}
 use Rattle.packing.specs.Packing.{value, digits, packed, unpacked}

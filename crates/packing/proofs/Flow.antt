@@ -7,7 +7,6 @@
 --   start, take-in, emit  it holds at the start, after k digits are taken in, and after k are written
 --   fits, room            what is held fits the accumulator; what is held and written has room
 --   all-in, all-out       once all is taken in, the digits of what is held complete `out`; once all is written, it is complete
--- Assumes nothing.
 use mathlib.Core.Path.{_≡_, refl, sym, ap, _∙_}
 use mathlib.Core.List.{List, _++_, append-assoc, append-nil}
 use Prim.Native.Nat.{ℕ, _+_, _*_, _-_, _/_, _%_, _^_, _≤_, _<_}

@@ -17,7 +17,6 @@
 --   no-bits           numbers of no bits are zeros
 --   unpack-pack       numbers packed and unpacked are the same numbers, wherever they fill whole bytes
 --   pack-unpack       bytes unpacked and packed are the same bytes, wherever whole numbers fill them
--- Assumes nothing.
 use mathlib.Core.Path.{_≡_, refl, sym, ap, _∙_}
 use mathlib.Core.List.{List, [], _∷_, _++_}
 use Prim.Native.Nat.{ℕ, zero, suc, _+_, _*_, _/_, _^_, _≤_, _<_}

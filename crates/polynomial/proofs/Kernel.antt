@@ -5,7 +5,6 @@
 --   noise-fits, noise        the same with the noise
 --   dot-none, dot-next       the first i products of a dot product
 --   dot-small                and their size
--- Assumes nothing.
 use mathlib.Core.Path.{_≡_, refl, sym, ap₂, _∙_, subst}
 use mathlib.Core.List.{List}
 use Prim.Native.Nat.{ℕ, _+_, _*_, _^_, _≤_, _<_}

@@ -9,7 +9,6 @@
 --   against-product    the dot product that the code forms is the product modulo q
 --   slid-mixed         so what it computes is as + e
 --   mixed-bare         and us, where the noise is 0
--- Assumes nothing.
 use mathlib.Core.Path.{_≡_, _∙_, sym, ap}
 use mathlib.Core.List.{List}
 use Prim.Native.Nat.{ℕ, suc, _+_, _-_, _^_, _<_, _≤_}

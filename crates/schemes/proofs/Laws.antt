@@ -1,5 +1,4 @@
 -- The lengths of each scheme hang together, and a scheme is found by its number.
--- Assumes nothing.
 use mathlib.Core.Path.{_≡_, refl}
 use Rattle.schemes.specs.declared.Scheme.{Scheme}
 use Rattle.schemes.specs.declared.Scheme.the-variants.{Bcns, NewHope, Challenge, Classical, Recommended, Paranoid}

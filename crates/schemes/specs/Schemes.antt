@@ -2,6 +2,7 @@
 --   bcns, newHope, frodo ..   what is fixed in each scheme, in the order of the struct `Fixed`
 --   fixedOf s                 the same, by the scheme
 --   familyOf s                the family of a scheme
+--   by F bcns newHope frodo   what is meant in each family
 --   numberOf s                the number of a scheme, 0 to 5
 --   schemeOf k                the scheme that a number names, or that it names none
 --   Tied f                    how the lengths of a scheme hang together
@@ -117,6 +118,12 @@ familyOf Challenge = Family.Frodo
 familyOf Classical = Family.Frodo
 familyOf Recommended = Family.Frodo
 familyOf Paranoid = Family.Frodo
+
+-- what differs from family to family
+abbrev pub by : {A : Type 0} → Family → A → A → A → A
+by Family.Bcns bcns newHope frodo = bcns
+by Family.NewHope bcns newHope frodo = newHope
+by Family.Frodo bcns newHope frodo = frodo
 
 abbrev pub numberOf : Scheme → ℕ
 numberOf Bcns = 0

@@ -2,7 +2,6 @@
 --   combine-fits     a product of reduced numbers, and one more
 --   combined         a x + y, where only the sum is reduced
 --   noised           x + e, where e is reduced entry by entry
--- Assumes nothing.
 use mathlib.Core.Path.{_≡_, _∙_, sym, ap}
 use mathlib.Core.List.{List}
 use Prim.Native.Nat.{ℕ, _+_, _*_, _%_, _^_, _<_}

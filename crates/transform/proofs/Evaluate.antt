@@ -3,7 +3,6 @@
 --   Point         powers w of a number whose nth is -1
 --   value-≅       of congruent coefficients
 --   value-product   of a product
--- Assumes nothing.
 use mathlib.Core.Path.{_≡_, _∙_, sym, ap, ap₂}
 use Prim.Native.Nat.{ℕ, _+_, _-_, _<_}
 use native.Mathlib.Omega.{arith}

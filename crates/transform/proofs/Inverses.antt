@@ -2,7 +2,6 @@
 --   transformed-sums, transformed-at   the transform by powers of 7 alone, and an entry of it modulo 12289
 --   inverted-scaled                    the inverse as the code computes it
 --   inverted-transformed, transformed-inverted   each undoes the other
--- Assumes nothing.
 use mathlib.Core.Path.{_≡_, _∙_, sym, ap}
 use mathlib.Core.List.{List}
 use Prim.Native.Nat.{ℕ, _+_, _-_, _*_, _%_, _^_, _<_}

@@ -3,7 +3,6 @@
 --   joined-none, run-more      before, and after one more of a run
 --   product-fits, exponent-≤   the products, and the powers that a run reads
 --   next-run                   a run ends within its block
--- Assumes nothing.
 use mathlib.Core.Path.{_≡_, _∙_, ap, ap₂}
 use mathlib.Core.List.{List}
 use mathlib.Core.Logic.{_≢_}

@@ -3,7 +3,6 @@
 --   Holds g a m s b xs  xs holds all of them modulo 12289, that of point i and offset o at i s + o, each below b times 12289
 --   holds-start, holds-level, holds-end   before, at each level, and after
 --   holds-room          what a level asks of its source
--- Assumes nothing.
 use mathlib.Core.Path.{_≡_, refl, _∙_, sym, ap, ap₂}
 use mathlib.Core.List.{List}
 use Prim.Native.Nat.{ℕ, _+_, _-_, _*_, _/_, _%_, _^_, _<_, _≤_}

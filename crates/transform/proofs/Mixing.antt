@@ -3,7 +3,6 @@
 --   valueThrough-mixed   bs + e
 --   mixedThrough-mixed   the transform of as + e
 --   apart-through        NewHope's identity: how far v and w are apart is how far d = s'e + e'' - e's is from a multiple of 12289
--- Assumes nothing.
 use mathlib.Core.Path.{_≡_, _∙_, sym, ap, ap₂}
 use mathlib.Core.List.{List}
 use Prim.Native.Nat.{ℕ, _<_}

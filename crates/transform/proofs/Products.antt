@@ -2,7 +2,6 @@
 --   transformed-multiplied   the transform of a product has the products of the entries
 --   multiplied-through       so the product comes back from them
 --   transformed-summed       the transform of a sum has the sums of the entries
--- Assumes nothing.
 use mathlib.Core.Path.{_≡_, _∙_, sym, ap}
 use mathlib.Core.List.{List}
 use Prim.Native.Nat.{ℕ, _+_, _*_, _^_, _<_}

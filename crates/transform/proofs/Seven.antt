@@ -4,7 +4,6 @@
 --   seven-minus       1024 more are a minus, which is 12288
 --   forty-nine, seven-back, forty-nine-back   49, 8778 and 1254 as powers of 7
 --   powers-at, powers-lt   an entry of the table
--- Assumes nothing.
 use mathlib.Core.Path.{_≡_, _∙_, sym, ap}
 use mathlib.Core.List.{List}
 use Prim.Native.Nat.{ℕ, _+_, _*_, _%_, _^_, _<_}

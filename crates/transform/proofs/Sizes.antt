@@ -1,5 +1,4 @@
 -- What the transform, its inverse, the operations on polynomials and the two ends give has 1,024 entries, each below 12289: NAME-length and NAME-below of each.
--- Assumes nothing.
 use mathlib.Core.Path.{_≡_}
 use mathlib.Core.List.{List}
 use Prim.Native.Nat.{ℕ}

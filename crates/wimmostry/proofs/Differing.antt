@@ -2,7 +2,6 @@
 --   differing-within   by how much two keys differ, by the length of the first
 --   differs-few        of Bench, whatever the scheme
 --   told-few           so the number that tells it in an answer
--- Assumes nothing.
 use mathlib.Core.Path.{_≡_, refl}
 use mathlib.Core.Bool.{Bool, true, false, cond}
 use mathlib.Core.List.{List}

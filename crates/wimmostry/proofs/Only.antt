@@ -1,6 +1,5 @@
 -- No two results satisfy one promise of an exported call.
 --   returned-only, both-only, bench-only   numbers and outputs that are promised of the same inputs are the same: with one output, of Reply, of Bench
--- Assumes nothing.
 use mathlib.Core.Path.{_≡_}
 use mathlib.Core.List.{List}
 use Prim.Native.Nat.{ℕ}

@@ -1,5 +1,4 @@
 -- `box_main::with_numbers` is safe and ends.
--- Assumes nothing.
 use mathlib.Core.Path.{sym}
 use Prim.Native.Nat.{ℕ}
 use borrow.Author.Needs.{needs}

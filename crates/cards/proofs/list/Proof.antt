@@ -1,5 +1,4 @@
 -- `cards::list` is safe and ends: the measure is what is left of the numbers.
--- Assumes nothing.
 use Prim.Native.Nat.{_≤_, _-_}
 use borrow.Author.Needs.{needs}
 use Rattle.cards.proofs.list.Statement.{statement}

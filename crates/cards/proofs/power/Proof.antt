@@ -1,5 +1,4 @@
 -- `cards::power` meets its contract: zeros and a 1.
--- Assumes nothing.
 use Prim.Native.Nat.{ℕ}
 use native.Mathlib.Omega.{arith}
 use lib.ListN.{replicate, length-replicate}

@@ -1,5 +1,4 @@
 -- `draw::below` meets its contract.
--- Assumes nothing.
 use mathlib.Core.Path.{refl}
 use Prim.Native.Nat.{_*_}
 use native.Mathlib.Nat.{mod-lt}

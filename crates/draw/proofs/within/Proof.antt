@@ -1,5 +1,4 @@
 -- `draw::within` meets its contract: both numbers are below 2^31, and so their difference fits.
--- Assumes nothing.
 use mathlib.Core.Path.{_≡_, _∙_, ap, ap₂}
 use Prim.Native.Nat.{ℕ, _^_, _<_}
 use native.Mathlib.Omega.{arith}

@@ -1,5 +1,4 @@
 -- `exchange::bench` meets its contract: what the scheme by its name gives.
--- Assumes nothing.
 use mathlib.Core.Path.{sym, _∙_}
 use borrow.Author.Needs.{needs}
 use Rattle.exchange.specs.Bench.{runOf}

@@ -1,5 +1,4 @@
 -- `exchange::expand` meets its contract: the output is zeroed first.
--- Assumes nothing.
 use mathlib.Core.Path.{_∙_, sym}
 use lib.ListN.{length}
 use Rattle.front.proofs.Held.{held-refused}

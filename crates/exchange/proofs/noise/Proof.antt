@@ -1,5 +1,4 @@
 -- `exchange::noise` meets its contract: the output is zeroed first, and then holds what the scheme by its name gives.
--- Assumes nothing.
 use mathlib.Core.Path.{refl, _∙_, sym}
 use lib.IntN.{pos}
 use lib.ListN.{length}

@@ -1,5 +1,4 @@
 -- `exchange::reply` meets its contract: the outputs are zeroed first, and then hold what the scheme by its name gives.
--- Assumes nothing.
 use mathlib.Core.Path.{sym, _∙_}
 use borrow.Author.Needs.{needs}
 use lib.ListN.{length}

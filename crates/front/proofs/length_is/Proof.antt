@@ -1,5 +1,4 @@
 -- `front::length_is` meets its contract.
--- Assumes nothing.
 use borrow.Author.Tests.{eq-eqb, ne-eqb}
 use Rattle.front.specs.Front.{lengthIs}
 use Rattle.front.proofs.Laws.{stays, goes-on}

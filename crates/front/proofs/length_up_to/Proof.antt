@@ -1,5 +1,4 @@
 -- `front::length_up_to` meets its contract.
--- Assumes nothing.
 use borrow.Author.Tests.{le-leb, lt-leb}
 use Rattle.front.specs.Front.{lengthUpTo}
 use Rattle.front.proofs.Laws.{stays, goes-on}

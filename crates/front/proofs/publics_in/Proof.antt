@@ -1,5 +1,4 @@
 -- `front::publics_in` meets its contract.
--- Assumes nothing.
 use borrow.Author.Tests.{lt-ltb, le-ltb}
 use Rattle.front.specs.Front.{publicsIn}
 use Rattle.front.proofs.Laws.{stays, goes-on}

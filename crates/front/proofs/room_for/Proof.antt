@@ -1,5 +1,4 @@
 -- `front::room_for` meets its contract.
--- Assumes nothing.
 use borrow.Author.Tests.{le-leb, lt-leb}
 use Rattle.front.specs.Front.{roomFor}
 use Rattle.front.proofs.Laws.{stays, goes-on}

@@ -1,5 +1,4 @@
 -- `front::take_message` meets its contract.
--- Assumes nothing.
 use mathlib.Core.Path.{ap, _∙_}
 use Rattle.front.specs.Front.{messageIn}
 use Rattle.front.proofs.Laws.{over, under}

@@ -1,5 +1,4 @@
 -- `line::answer` meets its contract.
--- Assumes nothing.
 use mathlib.Core.Path.{_∙_, ap}
 use native.Mathlib.Nat.{zero-add}
 use lib.ListN.{length}

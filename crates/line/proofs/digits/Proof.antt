@@ -1,5 +1,4 @@
 -- `line::digits` meets its contract: it searches for the first byte that is no digit.
--- Assumes nothing.
 use mathlib.Core.Path.{_∙_, sym}
 use Prim.Native.Nat.{_-_}
 use native.Mathlib.Omega.{arith}

@@ -1,5 +1,4 @@
 -- `line::field` meets its contract.
--- Assumes nothing.
 use mathlib.Core.Path.{sym, _∙_}
 use borrow.Author.Needs.{needs}
 use Rattle.line.proofs.Reading.{label-room, label-found, label-other}

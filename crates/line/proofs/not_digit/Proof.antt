@@ -1,5 +1,4 @@
 -- `line::not_digit` meets its contract.
--- Assumes nothing.
 use Rattle.line.proofs.Reading.{not-digit}
 use Rattle.line.proofs.not_digit.Statement.{statement}
 use Rattle.line.proofs.not_digit.Tie as tie

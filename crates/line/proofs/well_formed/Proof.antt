@@ -1,5 +1,4 @@
 -- `line::well_formed` meets its contract: the tests one by one.
--- Assumes nothing.
 use native.Mathlib.Omega.{arith}
 use borrow.Author.Needs.{needs}
 use Rattle.line.proofs.Reading.{few, many, ended, formed}

@@ -1,5 +1,4 @@
 -- `line::write` meets its contract.
--- Assumes nothing.
 use mathlib.Core.Path.{ap, subst}
 use native.Mathlib.Omega.{arith}
 use borrow.Author.Needs.{needs}

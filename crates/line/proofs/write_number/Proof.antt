@@ -1,5 +1,4 @@
 -- `line::write_number` meets its contract.
--- Assumes nothing.
 use native.Mathlib.Omega.{arith}
 use lib.ListN.{length-set}
 use borrow.Author.Needs.{needs}

@@ -1,5 +1,4 @@
 -- `line::write_shown` meets its contract.
--- Assumes nothing.
 use native.Mathlib.Omega.{arith}
 use borrow.Author.Needs.{needs}
 use Rattle.line.specs.Text.{line}

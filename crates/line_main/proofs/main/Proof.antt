@@ -1,5 +1,4 @@
 -- `line_main::main` is safe and ends: what the answer says of its length lies within the array that it was written to.
--- Assumes nothing.
 use mathlib.Core.Path.{sym}
 use Prim.Native.Nat.{_≤_}
 use native.Mathlib.Omega.{arith}

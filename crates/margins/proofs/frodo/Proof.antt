@@ -1,5 +1,4 @@
 -- `margins::frodo` is safe: the fixed numbers of every scheme are what a run asks for.
--- Assumes nothing.
 use native.Mathlib.Omega.{arith}
 use borrow.Author.Needs.{needs}
 use Rattle.schemes.specs.Schemes.{fixedOf}

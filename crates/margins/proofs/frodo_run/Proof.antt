@@ -1,5 +1,4 @@
 -- `margins::frodo_run` is safe: the lists of every scheme fit the buffers.
--- Assumes nothing.
 use mathlib.Core.Path.{_≡_, sym}
 use Prim.Native.Nat.{ℕ}
 use lib.ListN.{length, take, replicate}

@@ -1,5 +1,4 @@
 -- `margins::full_terms` is safe and ends: the measure is what is left of the terms.
--- Assumes nothing.
 use mathlib.Core.Path.{_≡_}
 use Prim.Native.Nat.{_-_}
 use lib.ListN.{length}

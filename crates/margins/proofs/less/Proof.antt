@@ -1,5 +1,4 @@
 -- `margins::less` is safe: the difference of two numbers below 2^31 fits an i32.
--- Assumes nothing.
 use native.Mathlib.Omega.{arith}
 use mir.Syntax.{w32}
 use borrow.Author.Needs.{needs}

@@ -1,5 +1,4 @@
 -- `margins::part` meets its contract: the products are small.
--- Assumes nothing.
 use native.Mathlib.Omega.{arith}
 use native.Mathlib.Nat.{mul-le-mul}
 use borrow.Author.Needs.{needs}

@@ -1,5 +1,4 @@
 -- `margins::public_numbers` is safe and ends: the number to be written stays below q.
--- Assumes nothing.
 use mathlib.Core.Path.{_≡_}
 use Prim.Native.Nat.{_-_, _<_}
 use native.Mathlib.Omega.{arith}

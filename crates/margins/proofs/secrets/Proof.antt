@@ -1,5 +1,4 @@
 -- `margins::secrets` is safe: t's digits are below b, and there are no more terms than t.
--- Assumes nothing.
 use Prim.Native.Nat.{ℕ, _/_, _%_, _^_, _<_}
 use native.Mathlib.Nat.{lt-trans, mod-lt, div-le-self}
 use native.Mathlib.Omega.{arith}

@@ -1,5 +1,4 @@
 -- `margins::sixteens` is safe and ends: the measure is what is left of the 32 entries.
--- Assumes nothing.
 use mathlib.Core.Path.{_≡_}
 use Prim.Native.Nat.{_-_}
 use lib.ListN.{length}

@@ -1,5 +1,4 @@
 -- `matrix::add_block` meets its contract: the four words that it lends are all.
--- Assumes nothing.
 use mathlib.Core.Path.{_≡_}
 use native.Mathlib.Omega.{arith}
 use borrow.Author.Needs.{needs}

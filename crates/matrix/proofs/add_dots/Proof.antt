@@ -1,5 +1,4 @@
 -- `matrix::add_dots` meets its contract: after t numbers of the row each sum has gained t products.
--- Assumes nothing.
 use mathlib.Core.Path.{_≡_, _∙_, sym, ap}
 use Prim.Native.Nat.{ℕ, _-_, _≤_}
 use native.Mathlib.Omega.{arith}

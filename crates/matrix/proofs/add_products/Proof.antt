@@ -1,5 +1,4 @@
 -- `matrix::add_products` meets its contract: it fills with each sum and its product.
--- Assumes nothing.
 use mathlib.Core.Path.{_∙_, ap}
 use mathlib.Core.List.{List}
 use Prim.Native.Nat.{ℕ, _+_, _*_, _-_, _%_, _<_}

@@ -1,5 +1,4 @@
 -- `matrix::add_rows` meets its contract: it fills with each sum and its products.
--- Assumes nothing.
 use mathlib.Core.List.{List}
 use Prim.Native.Nat.{ℕ, _+_, _-_, _%_}
 use native.Mathlib.Omega.{arith}

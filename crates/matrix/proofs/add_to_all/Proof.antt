@@ -1,5 +1,4 @@
 -- `matrix::add_to_all` meets its contract: it fills a row of sums at a time.
--- Assumes nothing.
 use mathlib.Core.Path.{_≡_, ap}
 use mathlib.Core.List.{List}
 use Prim.Native.Nat.{ℕ, _+_, _*_, _-_, _%_, _≤_}

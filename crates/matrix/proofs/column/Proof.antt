@@ -1,5 +1,4 @@
 -- `matrix::column` meets its contract: it fills with the words of every eighth value.
--- Assumes nothing.
 use mathlib.Core.List.{List}
 use Prim.Native.Nat.{ℕ, _+_, _*_, _-_}
 use native.Mathlib.Omega.{arith}

@@ -1,5 +1,4 @@
 -- `matrix::left_block` meets its contract: the block is made narrow, and then serves all 8 rows of sums.
--- Assumes nothing.
 use mathlib.Core.Path.{_∙_, sym}
 use Prim.Native.Nat.{_+_, _*_, _≤_}
 use native.Mathlib.Omega.{arith}

@@ -1,5 +1,4 @@
 -- `matrix::left_rows` meets its contract: after t rows each sum has gained t products.
--- Assumes nothing.
 use mathlib.Core.Path.{_≡_, refl, _∙_, sym, ap}
 use Prim.Native.Nat.{ℕ, _*_, _-_, _≤_}
 use native.Mathlib.Omega.{arith}

@@ -1,5 +1,4 @@
 -- `matrix::mix_left` meets its contract: it lends room for the secrets as words, a block and the sums.
--- Assumes nothing.
 use mathlib.Core.Path.{sym}
 use Prim.Native.Nat.{_*_}
 use native.Mathlib.Omega.{arith}

@@ -1,5 +1,4 @@
 -- `matrix::mix_right` meets its contract: it lends room for the columns.
--- Assumes nothing.
 use mathlib.Core.Path.{sym}
 use Prim.Native.Nat.{_*_}
 use native.Mathlib.Omega.{arith}

@@ -1,5 +1,4 @@
 -- `matrix::multiply` meets its contract: XS + E where the noise is zeros.
--- Assumes nothing.
 use mathlib.Core.Path.{refl}
 use borrow.Author.Needs.{needs}
 use Rattle.matrix.proofs.Whole.{zeros-within, bare-is}

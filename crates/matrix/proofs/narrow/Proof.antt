@@ -1,5 +1,4 @@
 -- `matrix::narrow` meets its contract: it fills with the numbers.
--- Assumes nothing.
 use mathlib.Core.Path.{refl, _∙_, ap}
 use Prim.Native.Nat.{ℕ, _-_}
 use native.Mathlib.Omega.{arith}

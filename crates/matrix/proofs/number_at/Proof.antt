@@ -1,5 +1,4 @@
 -- `matrix::number_at` meets its contract.
--- Assumes nothing.
 use borrow.Author.Needs.{needs}
 use Rattle.matrix.proofs.Extra.{part-at}
 use Rattle.matrix.proofs.number_at.Statement.{statement}

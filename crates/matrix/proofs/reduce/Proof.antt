@@ -1,5 +1,4 @@
 -- `matrix::reduce` meets its contract: it fills with the remainders of the sums.
--- Assumes nothing.
 use mathlib.Core.Path.{refl, _∙_, ap}
 use mathlib.Core.List.{List}
 use Prim.Native.Nat.{ℕ, _-_, _%_}

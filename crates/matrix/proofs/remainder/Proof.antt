@@ -1,5 +1,4 @@
 -- `matrix::remainder` meets its contract.
--- Assumes nothing.
 use native.Mathlib.Omega.{arith}
 use Rattle.matrix.proofs.Quotient.{scaled-fits, times-le, times-fits, rest-low, rest-high}
 use Rattle.matrix.proofs.remainder.Statement.{statement}

@@ -1,5 +1,4 @@
 -- `matrix::right_on` meets its contract.
--- Assumes nothing.
 use borrow.Author.Needs.{needs}
 use Rattle.matrix.proofs.Whole.{lent-columns, right-is}
 use Rattle.matrix.proofs.right_on.Statement.{statement}

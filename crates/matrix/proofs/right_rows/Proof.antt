@@ -1,5 +1,4 @@
 -- `matrix::right_rows` meets its contract: it fills a row at a time.
--- Assumes nothing.
 use mathlib.Core.Path.{_≡_, _∙_, sym, ap}
 use mathlib.Core.List.{List}
 use Prim.Native.Nat.{ℕ, _+_, _*_, _-_, _%_, _≤_}

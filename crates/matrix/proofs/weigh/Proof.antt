@@ -1,5 +1,4 @@
 -- `matrix::weigh` meets its contract: after u rows the sum has gained u products.
--- Assumes nothing.
 use mathlib.Core.Path.{_≡_, _∙_, ap, ap₂}
 use Prim.Native.Nat.{ℕ, _+_, _*_, _-_, _%_, _≤_}
 use native.Mathlib.Omega.{arith}

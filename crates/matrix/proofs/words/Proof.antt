@@ -1,5 +1,4 @@
 -- `matrix::words` meets its contract: it fills with the words of the values.
--- Assumes nothing.
 use mathlib.Core.Path.{_∙_, ap}
 use mathlib.Core.List.{List}
 use Prim.Native.Nat.{ℕ, _-_}

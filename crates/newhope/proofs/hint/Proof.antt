@@ -1,5 +1,4 @@
 -- `newhope::hint` meets its contract.
--- Assumes nothing.
 use borrow.Author.Needs.{needs}
 use Rattle.newhope.proofs.Parts.{hint-is, ranged}
 use Rattle.newhope.proofs.hint.Statement.{statement}

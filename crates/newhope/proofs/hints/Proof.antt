@@ -1,5 +1,4 @@
 -- `newhope::hints` meets its contract: it writes the four places of each group.
--- Assumes nothing.
 use Prim.Native.Nat.{_-_}
 use native.Mathlib.Omega.{arith}
 use borrow.Author.Needs.{needs}

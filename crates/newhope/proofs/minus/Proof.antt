@@ -1,5 +1,4 @@
 -- `newhope::minus` meets its contract: a difference of numbers below 2^30 fits.
--- Assumes nothing.
 use mathlib.Core.Path.{_≡_}
 use native.Mathlib.Omega.{arith}
 use borrow.Author.Needs.{needs}

@@ -1,5 +1,4 @@
 -- `newhope::off` meets its contract.
--- Assumes nothing.
 use mathlib.Core.Path.{_∙_, ap}
 use Prim.Native.Nat.{ℕ, _+_, _*_}
 use native.Mathlib.Omega.{arith}

@@ -1,5 +1,4 @@
 -- `newhope::offs` meets its contract.
--- Assumes nothing.
 use native.Mathlib.Omega.{arith}
 use borrow.Author.Needs.{needs}
 use Rattle.newhope.specs.Group.{offsOf}

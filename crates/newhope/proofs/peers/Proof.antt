@@ -1,5 +1,4 @@
 -- `newhope::peers` meets its contract: it fills with the bits of the groups.
--- Assumes nothing.
 use mathlib.Core.Path.{_∙_, ap, ap₂}
 use Prim.Native.Nat.{ℕ, _-_}
 use native.Mathlib.Omega.{arith}

@@ -1,5 +1,4 @@
 -- `newhope::pick` meets its contract.
--- Assumes nothing.
 use borrow.Author.Needs.{needs}
 use borrow.Author.Tests.{lt-ltb, le-ltb}
 use Rattle.newhope.proofs.pick.Statement.{statement}

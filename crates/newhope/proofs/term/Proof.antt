@@ -1,5 +1,4 @@
 -- `newhope::term` meets its contract.
--- Assumes nothing.
 use mathlib.Core.Path.{_∙_, ap}
 use Prim.Native.Nat.{_*_}
 use native.Mathlib.Omega.{arith}

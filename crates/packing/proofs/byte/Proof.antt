@@ -1,5 +1,4 @@
 -- `packing::byte` meets its contract: past its end a list reads 0.
--- Assumes nothing.
 use mathlib.Core.Path.{sym}
 use borrow.Author.Needs.{needs}
 use lib.ListN.{List·getD-eq-default}

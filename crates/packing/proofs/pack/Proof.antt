@@ -1,5 +1,4 @@
 -- `packing::pack` meets its contract: the invariant is `Flow` at 8 bits out, with fewer than 32 bits held.
--- Assumes nothing.
 use mathlib.Core.Path.{_≡_, refl, sym, _∙_}
 use Prim.Native.Nat.{_+_, _*_, _-_, _/_, _%_, _^_, _≤_, _<_}
 use native.Mathlib.Nat.{mul-one}

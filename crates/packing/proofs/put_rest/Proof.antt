@@ -1,5 +1,4 @@
 -- `packing::put_rest` meets its contract: what the digits that are left would complete stays the same from turn to turn.
--- Assumes nothing.
 use mathlib.Core.Path.{_≡_, refl, sym, _∙_}
 use Prim.Native.Nat.{_-_, _≤_}
 use native.Mathlib.Nat.{add-zero, mul-zero}

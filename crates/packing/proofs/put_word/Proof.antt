@@ -1,5 +1,4 @@
 -- `packing::put_word` meets its contract: four stores side by side are one part of the list.
--- Assumes nothing.
 use mathlib.Core.List.{[], _∷_}
 use Prim.Native.Nat.{_/_, _%_}
 use native.Mathlib.Nat.{div-div-eq-div-mul}

@@ -1,5 +1,4 @@
 -- `packing::unpack` meets its contract: the invariant is `Flow` at 8 bits in, with fewer than 32 bits held.
--- Assumes nothing.
 use mathlib.Core.Path.{_≡_, refl, _∙_}
 use mathlib.Core.Logic.{⊎-elim}
 use Prim.Native.Nat.{ℕ, _+_, _*_, _-_, _%_, _^_, _≤_, _<_}

@@ -1,5 +1,4 @@
 -- `packing::word` meets its contract: the number of four digits, one after the other.
--- Assumes nothing.
 use mathlib.Core.Path.{_≡_}
 use mathlib.Core.List.{List}
 use Prim.Native.Nat.{ℕ, _+_, _*_}

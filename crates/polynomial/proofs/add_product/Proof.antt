@@ -1,5 +1,4 @@
 -- `polynomial::add_product` meets its contract.
--- Assumes nothing.
 use Rattle.polynomial.proofs.Kernel.{term-fits, more-fits, more}
 use Rattle.numbers.proofs.Machine.{wide-fits}
 use Rattle.polynomial.proofs.add_product.Statement.{statement}

@@ -1,5 +1,4 @@
 -- `polynomial::dot_product` meets its contract. The invariant: the sum is that of the first i products.
--- Assumes nothing.
 use mathlib.Core.Path.{_≡_, sym, ap, _∙_}
 use Prim.Native.Nat.{ℕ, _-_, _^_, _≤_}
 use native.Mathlib.Omega.{arith}

@@ -1,5 +1,4 @@
 -- `polynomial::entries` meets its contract: it fills with the entries of the product.
--- Assumes nothing.
 use mathlib.Core.Path.{_∙_, sym, ap, subst}
 use mathlib.Core.List.{List}
 use Prim.Native.Nat.{ℕ, _-_}

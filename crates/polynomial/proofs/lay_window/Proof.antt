@@ -1,5 +1,4 @@
 -- `polynomial::lay_window` meets its contract: it fills with the entries of [-a | a].
--- Assumes nothing.
 use mathlib.Core.Path.{_∙_, ap}
 use mathlib.Core.List.{List}
 use Prim.Native.Nat.{ℕ, _-_}

@@ -1,5 +1,4 @@
 -- `polynomial::mix` meets its contract: the two lists that it lends are as long as `mix_lent` asks.
--- Assumes nothing.
 use mathlib.Core.Path.{sym}
 use Prim.Native.Nat.{_+_}
 use native.Mathlib.Omega.{arith}

@@ -1,5 +1,4 @@
 -- `polynomial::mix_lent` meets its contract.
--- Assumes nothing.
 use mathlib.Core.Path.{_∙_}
 use borrow.Author.Needs.{needs}
 use Rattle.polynomial.proofs.Window.{laid, slid-mixed}

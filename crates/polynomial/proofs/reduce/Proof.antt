@@ -1,5 +1,4 @@
 -- `polynomial::reduce` meets its contract.
--- Assumes nothing.
 use mathlib.Core.Path.{_≡_, _∙_, ap}
 use native.Mathlib.Omega.{arith}
 use borrow.Author.Needs.{needs}

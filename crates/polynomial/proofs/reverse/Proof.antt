@@ -1,5 +1,4 @@
 -- `polynomial::reverse` meets its contract: it fills with the entries of the secret, the last one first.
--- Assumes nothing.
 use mathlib.Core.Path.{_∙_, ap}
 use mathlib.Core.List.{List}
 use Prim.Native.Nat.{ℕ, suc, _-_}

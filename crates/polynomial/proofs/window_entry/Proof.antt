@@ -1,5 +1,4 @@
 -- `polynomial::window_entry` meets its contract: below n it negates.
--- Assumes nothing.
 use mathlib.Core.Path.{_∙_, ap}
 use Prim.Native.Nat.{_-_, _^_, _<_}
 use native.Mathlib.Omega.{arith}

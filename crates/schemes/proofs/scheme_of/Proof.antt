@@ -1,5 +1,4 @@
 -- `schemes::scheme_of` meets its contract.
--- Assumes nothing.
 use borrow.Author.Tests.{ne-eqb}
 use Rattle.schemes.proofs.scheme_of.Statement.{statement}
 use Rattle.schemes.proofs.scheme_of.Tie as tie

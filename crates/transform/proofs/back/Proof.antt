@@ -1,5 +1,4 @@
 -- `transform::back` meets its contract.
--- Assumes nothing.
 use mathlib.Core.Path.{_∙_, sym, ap}
 use borrow.Author.Needs.{needs}
 use lib.ListN.{length}

@@ -1,5 +1,4 @@
 -- `transform::forward` meets its contract.
--- Assumes nothing.
 use mathlib.Core.Path.{_∙_, sym}
 use borrow.Author.Needs.{needs}
 use Rattle.transform.proofs.Inverses.{transformed-sums}

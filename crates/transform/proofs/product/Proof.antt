@@ -1,5 +1,4 @@
 -- `transform::product` meets its contract.
--- Assumes nothing.
 use mathlib.Core.Path.{_∙_, sym, ap, ap₂}
 use borrow.Author.Needs.{needs}
 use lib.ListN.{length}

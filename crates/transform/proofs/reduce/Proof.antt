@@ -1,5 +1,4 @@
 -- `transform::reduce` meets its contract: it fills with the remainders.
--- Assumes nothing.
 use mathlib.Core.Path.{refl, _∙_, ap}
 use Prim.Native.Nat.{ℕ, _-_, _%_}
 use native.Mathlib.Omega.{arith}

@@ -1,5 +1,4 @@
 -- `transform::run` meets its contract: each turn makes one more entry of each quarter.
--- Assumes nothing.
 use mathlib.Core.Path.{_≡_}
 use Prim.Native.Nat.{ℕ, _+_, _-_, _*_, _/_, _%_, _^_, _≤_, _<_}
 use native.Mathlib.Omega.{arith}

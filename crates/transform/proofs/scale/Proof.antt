@@ -1,5 +1,4 @@
 -- `transform::scale` meets its contract: it fills with the entries of the inverse.
--- Assumes nothing.
 use mathlib.Core.Path.{_≡_, _∙_, sym, ap, ap₂}
 use mathlib.Core.List.{List}
 use Prim.Native.Nat.{ℕ, _-_, _*_, _%_, _^_, _<_}

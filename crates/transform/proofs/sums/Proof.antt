@@ -1,5 +1,4 @@
 -- `transform::sums` meets its contract: five levels, each of which makes its sums four times as long, and the remainders.
--- Assumes nothing.
 use mathlib.Core.Path.{refl, _∙_}
 use mathlib.Core.List.{List}
 use Prim.Native.Nat.{ℕ}

@@ -1,5 +1,4 @@
 -- `transform::times` meets its contract: it fills with the products.
--- Assumes nothing.
 use mathlib.Core.Path.{_∙_, ap}
 use Prim.Native.Nat.{ℕ, _-_, _*_, _%_}
 use native.Mathlib.Omega.{arith}

@@ -1,5 +1,4 @@
 -- `vectors::with_public` is safe. `search` does not count so long an array.
--- Assumes nothing.
 use mathlib.Core.Path.{sym}
 use Prim.Native.Nat.{ℕ}
 use lib.ListN.{length-replicate}

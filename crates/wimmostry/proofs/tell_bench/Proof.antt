@@ -1,5 +1,4 @@
 -- `wimmostry::tell_bench` meets its contract, by the answer's case: a bit below 1,024 has a successor.
--- Assumes nothing.
 use mathlib.Core.Path.{_∙_}
 use native.Mathlib.Numerals.{add-one}
 use native.Mathlib.Omega.{arith}

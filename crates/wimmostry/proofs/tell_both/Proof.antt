@@ -1,5 +1,4 @@
 -- `wimmostry::tell_both` meets its contract, by the answer's case.
--- Assumes nothing.
 use mathlib.Core.Path.{refl}
 use borrow.Author.Needs.{needs}
 use Rattle.wimmostry.proofs.tell_both.Statement.{statement}

@@ -1,5 +1,4 @@
 -- `wimmostry::wim_bench` meets its contract.
--- Assumes nothing.
 use borrow.Author.Needs.{needs}
 use Rattle.wimmostry.proofs.Differing.{differs-few, told-few}
 use Rattle.wimmostry.proofs.wim_bench.Statement.{statement}

@@ -1,5 +1,4 @@
 -- `wimmostry::wim_reply` meets its contract: its numbers are the answer's, and the answer's are the verdict's.
--- Assumes nothing.
 use mathlib.Core.Path.{_∙_}
 use borrow.Author.Needs.{needs}
 use Rattle.wimmostry.proofs.wim_reply.Statement.{statement}

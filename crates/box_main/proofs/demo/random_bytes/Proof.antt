@@ -1,5 +1,4 @@
 -- `box_main::demo::random_bytes` is safe and ends.
--- Assumes nothing.
 use mathlib.Core.Path.{_≡_, refl}
 use Prim.Native.Nat.{_-_, _≤_}
 use native.Mathlib.Omega.{arith}

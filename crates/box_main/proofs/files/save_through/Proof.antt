@@ -1,5 +1,4 @@
 -- `box_main::files::save_through` is safe and ends.
--- Assumes nothing.
 use native.Mathlib.Omega.{arith}
 use borrow.Author.Needs.{needs}
 use Rattle.box_main.proofs.files.save_through.Statement.{statement}

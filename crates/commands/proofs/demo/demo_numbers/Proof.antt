@@ -1,5 +1,4 @@
 -- `commands::demo::demo_numbers` meets its contract.
--- Assumes nothing.
 use borrow.Author.Needs.{needs}
 use Rattle.commands.proofs.Sizing.{roomy-by}
 use Rattle.commands.proofs.demo.demo_numbers.Statement.{statement}

@@ -1,5 +1,4 @@
 -- `commands::demo::reduce` meets its contract.
--- Assumes nothing.
 use mathlib.Core.Path.{ap}
 use Prim.Native.Nat.{ℕ, _-_, _%_}
 use native.Mathlib.Omega.{arith}

@@ -1,5 +1,4 @@
 -- `commands::outputs::file_sizes` meets its contract.
--- Assumes nothing.
 use mathlib.Core.Path.{refl}
 use borrow.Author.Needs.{needs}
 use Rattle.commands.proofs.Sizing.{roomy}

@@ -1,5 +1,4 @@
 -- `commands::texts::write_answer` meets its contract.
--- Assumes nothing.
 use borrow.Author.Needs.{needs}
 use Rattle.commands.proofs.texts.write_answer.Statement.{statement}
 use Rattle.commands.proofs.texts.write_answer.Tie as tie

@@ -1,5 +1,4 @@
 -- `commands::texts::write_compared` meets its contract.
--- Assumes nothing.
 use borrow.Author.Needs.{needs}
 use Rattle.commands.proofs.texts.write_compared.Statement.{statement}
 use Rattle.commands.proofs.texts.write_compared.Tie as tie

@@ -1,5 +1,4 @@
 -- `commands::texts::write_number` meets its contract.
--- Assumes nothing.
 use native.Mathlib.Omega.{arith}
 use borrow.Author.Needs.{needs}
 use Rattle.commands.proofs.Digits.{few, written-digits}

@@ -1,5 +1,4 @@
 -- `commands::texts::write_refusal` meets its contract.
--- Assumes nothing.
 use borrow.Author.Needs.{needs}
 use Rattle.commands.specs.Texts.{refusalText}
 use Rattle.commands.proofs.texts.write_refusal.Statement.{statement}

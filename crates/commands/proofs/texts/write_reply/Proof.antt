@@ -1,5 +1,4 @@
 -- `commands::texts::write_reply` meets its contract.
--- Assumes nothing.
 use borrow.Author.Needs.{needs}
 use Rattle.commands.proofs.texts.write_reply.Statement.{statement}
 use Rattle.commands.proofs.texts.write_reply.Tie as tie

@@ -1,5 +1,4 @@
 -- `commands::texts::write_text` meets its contract.
--- Assumes nothing.
 use borrow.Author.Needs.{needs}
 use Rattle.line.proofs.Writing.{written-copy}
 use Rattle.commands.proofs.texts.write_text.Statement.{statement}

@@ -1,5 +1,4 @@
 -- `commands::texts::write_two` meets its contract.
--- Assumes nothing.
 use native.Mathlib.Omega.{arith}
 use borrow.Author.Needs.{needs}
 use Rattle.line.proofs.Writing.{written-then}

@@ -1,5 +1,4 @@
 -- `commands::values::to_word` meets its contract.
--- Assumes nothing.
 use native.Mathlib.Omega.{arith}
 use borrow.Author.Needs.{needs}
 use Rattle.commands.proofs.Signs.{below-size, below-is, above-is}

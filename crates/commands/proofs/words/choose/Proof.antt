@@ -1,5 +1,4 @@
 -- `commands::words::choose` meets its contract.
--- Assumes nothing.
 use borrow.Author.Needs.{needs}
 use Rattle.commands.proofs.words.choose.Statement.{statement}
 use Rattle.commands.proofs.words.choose.Tie as tie

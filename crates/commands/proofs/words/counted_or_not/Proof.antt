@@ -1,5 +1,4 @@
 -- `commands::words::counted_or_not` meets its contract.
--- Assumes nothing.
 use borrow.Author.Needs.{needs}
 use Rattle.commands.proofs.words.counted_or_not.Statement.{statement}
 use Rattle.commands.proofs.words.counted_or_not.Tie as tie

@@ -1,5 +1,4 @@
 -- `commands::words::first_word` meets its contract: the words one after the other.
--- Assumes nothing.
 use borrow.Author.Needs.{needs}
 use Rattle.commands.proofs.Wording.{named-is}
 use Rattle.commands.specs.Words.{named}

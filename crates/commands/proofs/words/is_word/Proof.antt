@@ -1,5 +1,4 @@
 -- `commands::words::is_word` meets its contract.
--- Assumes nothing.
 use borrow.Author.Needs.{needs}
 use Rattle.commands.proofs.Wording.{other-length, all-there}
 use Rattle.commands.proofs.words.is_word.Statement.{statement}

@@ -1,5 +1,4 @@
 -- `commands::words::parse` meets its contract.
--- Assumes nothing.
 use mathlib.Core.Path.{_∙_, ap, sym}
 use borrow.Author.Needs.{needs}
 use Rattle.commands.specs.Words.{withWords, commandOf}

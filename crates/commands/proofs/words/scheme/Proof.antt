@@ -1,5 +1,4 @@
 -- `commands::words::scheme` meets its contract.
--- Assumes nothing.
 use mathlib.Core.Path.{_∙_, sym}
 use native.Mathlib.Omega.{arith}
 use borrow.Author.Needs.{needs}

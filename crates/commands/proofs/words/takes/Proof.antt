@@ -1,5 +1,4 @@
 -- `commands::words::takes` meets its contract.
--- Assumes nothing.
 use borrow.Author.Needs.{needs}
 use Rattle.commands.proofs.words.takes.Statement.{statement}
 use Rattle.commands.proofs.words.takes.Tie as tie

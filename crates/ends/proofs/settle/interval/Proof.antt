@@ -1,5 +1,4 @@
 -- `ends::settle::interval` meets its contract: a shift by the key bits divides by their power of two.
--- Assumes nothing.
 use mathlib.Core.Path.{ap}
 use borrow.Author.Needs.{needs}
 use Rattle.ends.specs.Keys.{interval}

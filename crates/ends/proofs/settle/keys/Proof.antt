@@ -1,5 +1,4 @@
 -- `ends::settle::keys` meets its contract: in each arm the scheme's family is known, and with it the scheme's numbers; in NewHope the hints are its own.
--- Assumes nothing.
 use mathlib.Core.Path.{_∙_, sym}
 use borrow.Author.Needs.{needs}
 use Rattle.ends.specs.Keys.{hints, keys}

@@ -1,5 +1,4 @@
 -- `exchange::both_ends::bench_in` meets its contract.
--- Assumes nothing.
 use mathlib.Core.Path.{ap}
 use borrow.Author.Needs.{needs}
 use Rattle.schemes.specs.declared.Fixed.{Fixed}

@@ -1,5 +1,4 @@
 -- `exchange::both_ends::compare` meets its contract.
--- Assumes nothing.
 use mathlib.Core.Path.{_∙_, ap, ap₂}
 use native.Mathlib.Omega.{arith}
 use lib.ListN.{length}

@@ -1,5 +1,4 @@
 -- `exchange::both_ends::compare_keys` meets its contract: it lends room for the bits.
--- Assumes nothing.
 use mathlib.Core.Path.{sym, _∙_, ap}
 use Prim.Native.Nat.{ℕ, _*_}
 use borrow.Author.Needs.{needs}

@@ -1,5 +1,4 @@
 -- `exchange::both_ends::finish_in` meets its contract: it lends room for the key.
--- Assumes nothing.
 use mathlib.Core.Path.{sym, _∙_}
 use Prim.Native.Nat.{_≤_}
 use native.Mathlib.Omega.{arith}

@@ -1,5 +1,4 @@
 -- `exchange::both_ends::finish_with` meets its contract.
--- Assumes nothing.
 use mathlib.Core.Path.{sym, _∙_, ap, refl}
 use native.Mathlib.Omega.{arith}
 use lib.ListN.{length}

@@ -1,5 +1,4 @@
 -- `exchange::both_ends::first_apart` meets its contract.
--- Assumes nothing.
 use Prim.Native.Nat.{_-_}
 use native.Mathlib.Omega.{arith}
 use lib.ListN.{length}

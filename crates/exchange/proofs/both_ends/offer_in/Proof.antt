@@ -1,5 +1,4 @@
 -- `exchange::both_ends::offer_in` meets its contract: it lends room for the opening.
--- Assumes nothing.
 use mathlib.Core.Path.{sym, _∙_, ap}
 use Prim.Native.Nat.{ℕ, _≤_}
 use native.Mathlib.Omega.{arith}

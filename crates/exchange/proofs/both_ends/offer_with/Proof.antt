@@ -1,5 +1,4 @@
 -- `exchange::both_ends::offer_with` meets its contract.
--- Assumes nothing.
 use borrow.Author.Needs.{needs}
 use Rattle.schemes.specs.Schemes.{fixedOf}
 use Rattle.lists.proofs.Same.{zeros, zeros-long}

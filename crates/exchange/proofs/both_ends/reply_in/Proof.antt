@@ -1,5 +1,4 @@
 -- `exchange::both_ends::reply_in` meets its contract: it lends room for the reply and the key.
--- Assumes nothing.
 use mathlib.Core.Path.{sym, _∙_, ap}
 use Prim.Native.Nat.{ℕ, _≤_}
 use native.Mathlib.Omega.{arith}

@@ -1,5 +1,4 @@
 -- `exchange::both_ends::reply_with` meets its contract.
--- Assumes nothing.
 use mathlib.Core.Path.{_∙_, ap}
 use lib.ListN.{length}
 use borrow.Author.Needs.{needs}

@@ -1,5 +1,4 @@
 -- `exchange::initiator::derive` meets its contract: value, hints, entries, bytes.
--- Assumes nothing.
 use mathlib.Core.Path.{ap, ap₂, _∙_}
 use borrow.Author.Needs.{needs}
 use lib.ListN.{length}

@@ -1,5 +1,4 @@
 -- `exchange::initiator::finish_in` meets its contract: sizes, then the rest of the tests.
--- Assumes nothing.
 use mathlib.Core.Path.{_≡_, sym, ap, _∙_}
 use borrow.Author.Needs.{needs}
 use lib.ListN.{length}

@@ -1,5 +1,4 @@
 -- `exchange::initiator::with_message` meets its contract: a refused message ends the call, and otherwise the secret's test decides.
--- Assumes nothing.
 use borrow.Author.Needs.{needs}
 use Rattle.schemes.specs.Schemes.{fixedOf}
 use Rattle.front.specs.Front.{secretsIn}

@@ -1,5 +1,4 @@
 -- `exchange::initiator::with_room` meets its contract: it lends room for the reply's numbers.
--- Assumes nothing.
 use mathlib.Core.Path.{sym, _∙_}
 use Prim.Native.Nat.{_≤_}
 use native.Mathlib.Omega.{arith}

@@ -1,5 +1,4 @@
 -- `exchange::initiator::write` meets its contract: it lends room for what lies between.
--- Assumes nothing.
 use mathlib.Core.Path.{sym, _∙_}
 use Prim.Native.Nat.{_≤_}
 use native.Mathlib.Omega.{arith}

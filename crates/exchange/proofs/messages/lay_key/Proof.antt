@@ -1,5 +1,4 @@
 -- `exchange::messages::lay_key` meets its contract.
--- Assumes nothing.
 use mathlib.Core.Path.{ap, _∙_}
 use borrow.Author.Needs.{needs}
 use Rattle.schemes.specs.declared.Fixed.{Fixed}

@@ -1,5 +1,4 @@
 -- `exchange::messages::lay_opening` meets its contract: by the family.
--- Assumes nothing.
 use mathlib.Core.Path.{sym, _∙_}
 use borrow.Author.Needs.{needs}
 use Rattle.exchange.specs.Wire.{opening}

@@ -1,5 +1,4 @@
 -- `exchange::messages::lay_reply` meets its contract.
--- Assumes nothing.
 use mathlib.Core.Path.{ap, _∙_}
 use mathlib.Core.List.{_++_}
 use borrow.Author.Needs.{needs}

@@ -1,5 +1,4 @@
 -- `exchange::messages::packed_at` meets its contract: by the family.
--- Assumes nothing.
 use mathlib.Core.Path.{sym, _∙_}
 use borrow.Author.Needs.{needs}
 use Rattle.exchange.proofs.Numbers.{packed-by}

@@ -1,5 +1,4 @@
 -- `exchange::messages::take_coins` meets its contract: numbers of no bits are zeros.
--- Assumes nothing.
 use mathlib.Core.Path.{sym, ap, ap₂, _∙_}
 use Prim.Native.Nat.{ℕ}
 use native.Mathlib.Omega.{arith}

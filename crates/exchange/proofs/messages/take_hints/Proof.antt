@@ -1,5 +1,4 @@
 -- `exchange::messages::take_hints` meets its contract.
--- Assumes nothing.
 use mathlib.Core.Path.{ap, ap₂, _∙_}
 use Prim.Native.Nat.{ℕ}
 use borrow.Author.Needs.{needs}

@@ -1,5 +1,4 @@
 -- `exchange::messages::take_reply` meets its contract.
--- Assumes nothing.
 use mathlib.Core.Path.{_≡_, sym, ap₂, _∙_}
 use mathlib.Core.List.{List}
 use Prim.Native.Nat.{ℕ}

@@ -1,5 +1,4 @@
 -- `exchange::replier::lay` meets its contract: hints and entries, then the message, then the key.
--- Assumes nothing.
 use mathlib.Core.Path.{ap, _∙_}
 use mathlib.Core.List.{List, _++_}
 use Prim.Native.Nat.{ℕ}

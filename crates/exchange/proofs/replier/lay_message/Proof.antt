@@ -1,5 +1,4 @@
 -- `exchange::replier::lay_message` meets its contract.
--- Assumes nothing.
 use mathlib.Core.Path.{ap, _∙_}
 use mathlib.Core.List.{List, _++_}
 use Prim.Native.Nat.{ℕ}

@@ -1,5 +1,4 @@
 -- `exchange::replier::settle` meets its contract: value, coins, hints, entries.
--- Assumes nothing.
 use mathlib.Core.Path.{ap₂, _∙_}
 use borrow.Author.Needs.{needs}
 use Rattle.schemes.specs.Schemes.{familyOf, fixedOf}

@@ -1,5 +1,4 @@
 -- `exchange::replier::settle_all` meets its contract: it lends room for the coins and the value.
--- Assumes nothing.
 use mathlib.Core.Path.{sym, _∙_}
 use Prim.Native.Nat.{_≤_}
 use native.Mathlib.Omega.{arith}

@@ -1,5 +1,4 @@
 -- `exchange::replier::with_message` meets its contract: a refused message ends the call, and otherwise the secrets' tests decide.
--- Assumes nothing.
 use borrow.Author.Needs.{needs}
 use Rattle.schemes.specs.Schemes.{familyOf, fixedOf}
 use Rattle.exchange.specs.Tests.{replySecrets}

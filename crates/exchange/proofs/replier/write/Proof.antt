@@ -1,5 +1,4 @@
 -- `exchange::replier::write` meets its contract: it lends room for the hints and the entries.
--- Assumes nothing.
 use mathlib.Core.Path.{sym, _∙_}
 use Prim.Native.Nat.{_≤_}
 use native.Mathlib.Omega.{arith}

@@ -1,5 +1,4 @@
 -- `exchange::sampler::expand_in` meets its contract: the part that was lent is filled, or is zero again.
--- Assumes nothing.
 use mathlib.Core.Path.{_≡_, _∙_, sym, ap}
 use mathlib.Core.List.{List, _++_}
 use Prim.Native.Nat.{ℕ, _≤_}

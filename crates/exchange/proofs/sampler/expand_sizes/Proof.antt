@@ -1,5 +1,4 @@
 -- `exchange::sampler::expand_sizes` meets its contract.
--- Assumes nothing.
 use mathlib.Core.Path.{refl}
 use Rattle.front.proofs.Laws.{first, also}
 use borrow.Author.Needs.{needs}

@@ -1,5 +1,4 @@
 -- `exchange::sampler::length_either` meets its contract.
--- Assumes nothing.
 use borrow.Author.Tests.{eq-eqb, ne-eqb}
 use mathlib.Core.Path.{refl}
 use Rattle.front.proofs.Laws.{first}

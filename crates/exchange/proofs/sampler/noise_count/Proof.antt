@@ -1,5 +1,4 @@
 -- `exchange::sampler::noise_count` meets its contract.
--- Assumes nothing.
 use mathlib.Core.Path.{_∙_, sym}
 use Rattle.exchange.proofs.Sampling.{count-by}
 use borrow.Author.Needs.{needs}

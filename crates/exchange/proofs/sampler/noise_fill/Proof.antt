@@ -1,5 +1,4 @@
 -- `exchange::sampler::noise_fill` meets its contract: each name has its sampler.
--- Assumes nothing.
 use mathlib.Core.Path.{_≡_, _∙_, ap}
 use Prim.Native.Nat.{_*_}
 use lib.ListN.{length}

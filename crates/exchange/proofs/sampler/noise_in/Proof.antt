@@ -1,5 +1,4 @@
 -- `exchange::sampler::noise_in` meets its contract: zeros stay where a test fails, and are written over where none does.
--- Assumes nothing.
 use mathlib.Core.Path.{_∙_, sym}
 use lib.IntN.{pos}
 use lib.ListN.{length}

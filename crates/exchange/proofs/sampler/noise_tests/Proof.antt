@@ -1,5 +1,4 @@
 -- `exchange::sampler::noise_tests` meets its contract.
--- Assumes nothing.
 use mathlib.Core.Path.{_∙_, sym, ap}
 use native.Mathlib.Omega.{arith}
 use Rattle.schemes.specs.declared.Fixed.{Fixed}

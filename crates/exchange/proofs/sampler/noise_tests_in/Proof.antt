@@ -1,5 +1,4 @@
 -- `exchange::sampler::noise_tests_in` meets its contract.
--- Assumes nothing.
 use mathlib.Core.Path.{refl}
 use native.Mathlib.Omega.{arith}
 use native.Mathlib.Nat.{mul-le-mul}

@@ -1,5 +1,4 @@
 -- `exchange::sampler::noise_values` meets its contract: the part that is lent is filled, and what lies behind it stays.
--- Assumes nothing.
 use mathlib.Core.Path.{_∙_, sym, ap}
 use mathlib.Core.List.{List, _++_}
 use native.Mathlib.Omega.{arith}

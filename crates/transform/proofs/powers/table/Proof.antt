@@ -1,5 +1,4 @@
 -- `transform::powers::table` meets its contract: the rule of the table, computed at each of its 2,048 entries.
--- Assumes nothing.
 use mathlib.Core.Path.{refl}
 use Rattle.lists.specs.Entries.{tab}
 use Rattle.transform.specs.Transform.{powers}

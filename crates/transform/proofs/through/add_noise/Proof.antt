@@ -1,5 +1,4 @@
 -- `transform::through::add_noise` meets its contract: it fills with the sums.
--- Assumes nothing.
 use mathlib.Core.Path.{_≡_, _∙_, ap}
 use Prim.Native.Nat.{ℕ, _+_, _-_, _%_}
 use native.Mathlib.Omega.{arith}

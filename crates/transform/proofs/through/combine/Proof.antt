@@ -1,5 +1,4 @@
 -- `transform::through::combine` meets its contract: it fills with the sums.
--- Assumes nothing.
 use mathlib.Core.Path.{refl, _∙_}
 use Prim.Native.Nat.{_+_, _-_, _*_, _%_}
 use native.Mathlib.Omega.{arith}

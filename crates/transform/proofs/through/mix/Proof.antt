@@ -1,5 +1,4 @@
 -- `transform::through::mix` meets its contract.
--- Assumes nothing.
 use mathlib.Core.Path.{_∙_, ap₂}
 use mathlib.Core.List.{List}
 use Prim.Native.Nat.{ℕ}

@@ -1,5 +1,4 @@
 -- `transform::through::put` meets its contract: it fills with the entries.
--- Assumes nothing.
 use mathlib.Core.Path.{refl, _∙_, sym}
 use Prim.Native.Nat.{_-_}
 use native.Mathlib.Omega.{arith}

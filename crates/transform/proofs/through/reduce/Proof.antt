@@ -1,5 +1,4 @@
 -- `transform::through::reduce` meets its contract: it fills with the remainders.
--- Assumes nothing.
 use mathlib.Core.Path.{_≡_}
 use Prim.Native.Nat.{_-_}
 use native.Mathlib.Omega.{arith}

@@ -1,5 +1,4 @@
 -- `vectors::inputs::first_bit` meets its contract: a product of a width and an index is at most 32 * 10000.
--- Assumes nothing.
 use Prim.Native.Nat.{_*_, _≤_}
 use native.Mathlib.Nat.{mul-le-mul}
 use native.Mathlib.Omega.{arith}

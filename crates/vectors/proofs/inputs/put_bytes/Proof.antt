@@ -1,5 +1,4 @@
 -- `vectors::inputs::put_bytes` is safe and ends.
--- Assumes nothing.
 use Prim.Native.Nat.{_≤_, _-_}
 use borrow.Author.Needs.{needs}
 use lib.ListN.{length}

@@ -1,5 +1,4 @@
 -- `vectors::shape::down` is safe: a number below 100 fits with either sign.
--- Assumes nothing.
 use mathlib.Core.Path.{_≡_, _∙_, ap}
 use Prim.Native.Nat.{ℕ, _^_, _<_}
 use native.Mathlib.Omega.{arith}

@@ -1,0 +1,102 @@
+-- The parts of a promise.
+--   told-passed, wrote-passed, gave-passed      where nothing is refused
+--   told-failed, wrote-failed, gave-failed      where a test has failed
+--   wrote-kept                                  where a step has left a part as it was
+--   wrote-restored                              where a part was written before, and zeroed again
+--   told-only, wrote-only, gave-only            no two results satisfy one part
+--   same-refusal                                two refusals with the same number and place are the same
+--   same-answer                                 so are two answers with the same three numbers
+use mathlib.Core.Path.{_≡_, refl, _∙_, ap}
+use mathlib.Core.Bool.{cond}
+use mathlib.Core.List.{List, _++_}
+use Prim.Native.Nat.{ℕ, _-_, _≤_}
+use native.Mathlib.Omega.{arith}
+use lib.Dec.{eqb, eqb·suc-zero}
+use lib.ListN.{length, take, drop, replicate, take-append-drop}
+use Rattle.lists.proofs.Same.{restored}
+use Rattle.front.specs.Front.{numberOf, placeOf, countIn}
+use Rattle.front.specs.declared.Refusal.{Refusal}
+use Rattle.front.specs.declared.Refusal.the-variants.{NoScheme, BadLength, Short, PublicOver, MessageOver, SecretBeyond, RanOut}
+use Rattle.front.specs.declared.Verdict.{Verdict}
+use Rattle.front.specs.declared.Verdict.the-variants.{Pass, Fail}
+use Rattle.front.proofs.Laws.{some}
+use Rattle.front.proofs.Held.{held-refused, held-written}
+use Rattle.front.specs.Promise.{Told, Wrote, put, Gave}
+use Rattle.front.specs.Answers.{number, place, written}
+use Rattle.front.specs.declared.Answer.{Answer}
+use Rattle.front.specs.declared.Answer.the-variants.{Done, Refused}
+
+module _ {v : Verdict} (e : v ≡ Pass) where
+  pub told-passed : Told v 0 0
+  told-passed = record { refusal = rw e; at = rw e }
+
+  pub wrote-passed : {A : Type 0} {xs : List A} {z : A} {room n : ℕ} {out : List A} (old : List A)
+      → length xs ≡ n → old ≡ replicate room z → out ≡ xs ++ drop n old → Wrote v xs z room n out
+  wrote-passed {z = z} old l o w = record { counts = rw (e, l); holds = held-written z _ _ old _ _ _ e l o w }
+
+  pub gave-passed : {d n : ℕ} → n ≡ d → Gave v d n
+  gave-passed f = record { gives = rw e f }
+
+module _ {v : Verdict} {r : Refusal} (e : v ≡ Fail r) where
+  pub told-failed : Told v (numberOf r) (placeOf r)
+  told-failed = record { refusal = rw e; at = rw e }
+
+  pub wrote-failed : {A : Type 0} {xs : List A} {z : A} {room : ℕ} {out : List A} → out ≡ replicate room z → Wrote v xs z room 0 out
+  wrote-failed {z = z} o = record { counts = rw e; holds = held-refused z _ _ _ _ _ e o }
+
+  -- a step with the verdict w has left the part of k entries as it was
+  pub wrote-kept : {A : Type 0} {xs : List A} {z : A} {room : ℕ} {w : Verdict} (k : ℕ) (old : List A) {part : List A} → w ≡ Fail r
+      → part ≡ put w xs (take k old) → old ≡ replicate room z → Wrote v xs z room 0 (part ++ drop k old)
+  wrote-kept {A} k old f p o =
+      let q = rw f at p in
+      wrote-failed (ap (λ (t : List A). t ++ drop k old) q ∙ take-append-drop k old ∙ o)
+
+  -- n entries were written, and then zeroed
+  pub wrote-restored : {A : Type 0} {xs : List A} {z : A} {n room : ℕ} (old part : List A) {zs : List A} → old ≡ replicate room z → n ≤ room → length part ≡ n
+      → zs ≡ replicate (length (take n (part ++ drop n old))) z → Wrote v xs z room 0 (zs ++ drop n (part ++ drop n old))
+  wrote-restored {z = z} {n} {room} old part {zs} o h l w = wrote-failed (restored n room z old part zs o h l w)
+
+  pub gave-failed : {d : ℕ} → Gave v d 0
+  gave-failed = record { gives = rw e }
+
+-- ---- one result
+
+module _ {v : Verdict} where
+  pub told-only : {n n′ p p′ : ℕ} → Told v n p → Told v n′ p′ → (n ≡ n′) × (p ≡ p′)
+  told-only a b = (cc, cc)
+
+  pub wrote-only : {A : Type 0} {xs : List A} {z : A} {room n n′ : ℕ} {out out′ : List A} → Wrote v xs z room n out → Wrote v xs z room n′ out′
+      → (n ≡ n′) × (out ≡ out′)
+  wrote-only a b = (cc, cc)
+
+  pub gave-only : {d n n′ : ℕ} → Gave v d n → Gave v d n′ → n ≡ n′
+  gave-only a b = cc
+
+refusalBy : ℕ → ℕ → Refusal
+refusalBy k p =
+    cond (eqb k 1) NoScheme
+    (cond (eqb k 2) BadLength
+    (cond (eqb k 3) Short
+    (cond (eqb k 4) (PublicOver p)
+    (cond (eqb k 5) (MessageOver p)
+    (cond (eqb k 6) (SecretBeyond p)
+    (RanOut p))))))
+
+back : (r : Refusal) → refusalBy (numberOf r) (placeOf r) ≡ r
+unfolding refusalBy
+back NoScheme = refl
+back BadLength = refl
+back Short = refl
+back (PublicOver k) = refl
+back (MessageOver k) = refl
+back (SecretBeyond k) = refl
+back (RanOut k) = refl
+
+pub same-refusal : (a b : Refusal) → numberOf a ≡ numberOf b → placeOf a ≡ placeOf b → a ≡ b
+same-refusal a b e f = cc (back a, back b)
+
+pub same-answer : (a b : Answer) → number a ≡ number b → place a ≡ place b → written a ≡ written b → a ≡ b
+same-answer (Done m) (Done n) e f g = ap Done g
+same-answer (Done m) (Refused s) e f g = absurd (omega (arith, some s))
+same-answer (Refused r) (Done n) e f g = absurd (omega (arith, some r))
+same-answer (Refused r) (Refused s) e f g = ap Refused (same-refusal r s e f)
