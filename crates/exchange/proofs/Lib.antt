@@ -1,14 +1,3 @@
-pub mod Numbers
-pub mod Parts
-pub mod Answers
-pub mod Ended
 pub mod Offering
-pub mod Finishing
-pub mod Both
 pub mod Replying
-pub mod Only
-pub mod Travel
-pub mod Comparing
-pub mod Never
-pub mod Sampling
-pub mod Sampled
+pub mod Finishing

@@ -1,9 +1,5 @@
-pub mod Wire
-pub mod Tests
-pub mod Answers
-pub mod Messages
-pub mod Calls
-pub mod Ended
-pub mod Steps
-pub mod Sampling
-pub mod Bench
+pub mod Offer
+pub mod Reply
+pub mod Finish
+pub mod Inside
+pub mod Shown

@@ -2,107 +2,124 @@
 // the part of the output that it takes.
 ghost use mathlib.Core.Path.{_≡_};
 ghost use lib.ListN.{length, replicate};
-ghost use Rattle.schemes.specs.Schemes.{familyOf, fixedOf};
+ghost use Rattle.schemes.specs.Schemes.{fixedOf};
+ghost use Rattle.schemes.specs.declared.Named.the-variants.{Is};
+ghost use Rattle.lists.specs.Lent.{was, left};
 ghost use Rattle.front.specs.Front.{secretsIn};
+ghost use Rattle.front.specs.declared.Verdict.the-variants.{Pass};
 ghost use Rattle.ends.specs.Fit.{Counted};
-ghost use Rattle.exchange.specs.Tests.{finishTests};
-ghost use Rattle.exchange.specs.Ended.{Ended};
-ghost use Rattle.exchange.specs.Steps.{Sized, Finishes, keyFrom, finishRest, FinishEnds};
-use crate::Answer;
+ghost use Rattle.exchange.specs.Finish.{finishOf, finish, finishSizes, finishRest, peerKeyFrom, peerKeyOf, Finishes};
+ghost use Rattle.exchange.specs.Inside.{Laid, Derives, Finishing};
+use crate::FinishAnswer;
+use crate::FinishCounts;
 use front::Verdict;
 use schemes::Scheme;
 
-// The key of the reply m and its numbers u; w, hints and entries are room for what lies between.
+// The key of the reply and its numbers u; w, hints and entries are room for what lies between.
 fn derive(
     scheme: Scheme,
-    m: &[u8],
+    reply: &[u8],
     u: &[u32],
     s: &[i32],
     w: &mut [u32],
     hints: &mut [u32],
     entries: &mut [u32],
-    out: &mut [u8],
+    key: &mut [u8],
 )
-    requires { ⌜ Finishes (fixedOf scheme) (now m) (now u) (now s) × (length (now out) ≡ fixedOf scheme .key) ⌝ }
+    requires { ⌜ Derives scheme (finishOf (now reply) (now s)) (now u) × (length (now key) ≡ fixedOf scheme .key) ⌝ }
     requires { ⌜ (length (now w) ≡ fixedOf scheme .mixed) × (length (now hints) ≡ fixedOf scheme .mixed) × (length (now entries) ≡ fixedOf scheme .groups) ⌝ }
-    ensures { λ _. ⌜ now (out .exit) ≡ keyFrom (familyOf scheme) (fixedOf scheme) (now (m .entry)) (now (u .entry)) (now (s .entry)) ⌝ }
+    ensures { λ _. ⌜ left key ≡ peerKeyFrom scheme (was u) (finish reply s) ⌝ }
 {
     ends::values::multiply(scheme, u, s, w);
-    crate::messages::take_hints(scheme, m, hints);
+    wire::take_hints(scheme, reply, hints);
     ends::settle::peers(scheme, hints, w, entries);
-    crate::messages::lay_key(scheme, entries, out);
+    wire::lay_key(scheme, entries, key);
 }
 
 // The same with room for n values and g groups, of which no scheme has more than 1024.
-fn write(scheme: Scheme, n: usize, g: usize, m: &[u8], u: &[u32], s: &[i32], out: &mut [u8])
-    requires { ⌜ Finishes (fixedOf scheme) (now m) (now u) (now s) × (length (now out) ≡ fixedOf scheme .key) ⌝ }
+fn write(scheme: Scheme, n: usize, g: usize, reply: &[u8], u: &[u32], s: &[i32], key: &mut [u8])
+    requires { ⌜ Derives scheme (finishOf (now reply) (now s)) (now u) × (length (now key) ≡ fixedOf scheme .key) ⌝ }
     requires { ⌜ (n ≡ fixedOf scheme .mixed) × (g ≡ fixedOf scheme .groups) ⌝ }
-    ensures { λ _. ⌜ now (out .exit) ≡ keyFrom (familyOf scheme) (fixedOf scheme) (now (m .entry)) (now (u .entry)) (now (s .entry)) ⌝ }
+    ensures { λ _. ⌜ left key ≡ peerKeyFrom scheme (was u) (finish reply s) ⌝ }
 {
     let mut w = [0u32; 1024];
     let mut hints = [0u32; 1024];
     let mut entries = [0u32; 1024];
     derive(
         scheme,
-        m,
+        reply,
         u,
         s,
         &mut w[..n],
         &mut hints[..n],
         &mut entries[..g],
-        out,
+        key,
     );
 }
 
-// The secret's test, then the key.
-fn with_secret(scheme: Scheme, m: &[u8], u: &[u32], s: &[i32], key: &mut [u8]) -> Answer
-    requires { ⌜ Sized (fixedOf scheme) (now m) (now s) (length (now key)) × (now key ≡ replicate (length (now key)) 0) ⌝ }
-    requires { ⌜ Counted (fixedOf scheme .secret) (fixedOf scheme .q) (now u) ⌝ }
-    ensures { λ r. ⌜ Ended (secretsIn (fixedOf scheme .largest) (now (s .entry))) (keyFrom (familyOf scheme) (fixedOf scheme) (now (m .entry)) (now (u .entry)) (now (s .entry))) (length (now (key .entry))) r (now (key .exit)) ⌝ }
+// The secret's test, then the key. What is refused leaves zeros.
+fn with_secret(scheme: Scheme, reply: &[u8], u: &[u32], s: &[i32], key: &mut [u8]) -> Verdict
+    requires { ⌜ Finishing scheme (finishOf (now reply) (now s)) (now key) × Counted (fixedOf scheme .secret) (fixedOf scheme .q) (now u) ⌝ }
+    ensures { λ r. ⌜ r ≡ secretsIn (fixedOf scheme .largest) (was s) ⌝ }
+    ensures { λ r. ⌜ Laid r (peerKeyFrom scheme (was u) (finish reply s)) key ⌝ }
 {
     let f = scheme.fixed();
     let v = front::secrets_in(Verdict::Pass, f.largest, s);
     match v {
-        Verdict::Fail(r) => Answer::Refused(r),
+        Verdict::Fail(r) => Verdict::Fail(r),
         Verdict::Pass => {
-            let k = f.key;
-            write(scheme, f.mixed, f.groups, m, u, s, &mut key[..k]);
-            Answer::Done(k)
+            write(scheme, f.mixed, f.groups, reply, u, s, key);
+            Verdict::Pass
         }
     }
 }
 
 // The reply's numbers into u. A refused message ends the call here, with its place.
-fn with_message(scheme: Scheme, m: &[u8], s: &[i32], u: &mut [u32], key: &mut [u8]) -> Answer
-    requires { ⌜ Sized (fixedOf scheme) (now m) (now s) (length (now key)) × (now key ≡ replicate (length (now key)) 0) ⌝ }
-    requires { ⌜ length (now u) ≡ fixedOf scheme .secret ⌝ }
-    ensures { λ r. ⌜ FinishEnds (finishRest scheme (now (m .entry)) (now (s .entry))) scheme (now (m .entry)) (now (s .entry)) (length (now (key .entry))) r (now (key .exit)) ⌝ }
+fn with_reply(scheme: Scheme, reply: &[u8], s: &[i32], u: &mut [u32], key: &mut [u8]) -> Verdict
+    requires { ⌜ Finishing scheme (finishOf (now reply) (now s)) (now key) × (length (now u) ≡ fixedOf scheme .secret) ⌝ }
+    ensures { λ r. ⌜ r ≡ finishRest scheme (finish reply s) ⌝ }
+    ensures { λ r. ⌜ Laid r (peerKeyOf scheme (finish reply s)) key ⌝ }
 {
-    let v = crate::messages::take_reply(scheme, m, u);
+    let v = wire::take_reply(scheme, reply, u);
     let Verdict::Pass = v else {
-        return crate::refusals::refuse(v, key);
+        lists::zero_bytes(key);
+        return v;
     };
-    with_secret(scheme, m, u, s, key)
+    with_secret(scheme, reply, u, s, key)
 }
 
 // The same with room for n numbers, of which no scheme has more than 6912.
-fn with_room(scheme: Scheme, n: usize, m: &[u8], s: &[i32], key: &mut [u8]) -> Answer
-    requires { ⌜ Sized (fixedOf scheme) (now m) (now s) (length (now key)) × (now key ≡ replicate (length (now key)) 0) ⌝ }
-    requires { ⌜ n ≡ fixedOf scheme .secret ⌝ }
-    ensures { λ r. ⌜ FinishEnds (finishRest scheme (now (m .entry)) (now (s .entry))) scheme (now (m .entry)) (now (s .entry)) (length (now (key .entry))) r (now (key .exit)) ⌝ }
+fn key_in(scheme: Scheme, n: usize, reply: &[u8], s: &[i32], key: &mut [u8]) -> Verdict
+    requires { ⌜ Finishing scheme (finishOf (now reply) (now s)) (now key) × (n ≡ fixedOf scheme .secret) ⌝ }
+    ensures { λ r. ⌜ r ≡ finishRest scheme (finish reply s) ⌝ }
+    ensures { λ r. ⌜ Laid r (peerKeyOf scheme (finish reply s)) key ⌝ }
 {
     let mut u = [0u32; 6912];
-    with_message(scheme, m, s, &mut u[..n], key)
+    with_reply(scheme, reply, s, &mut u[..n], key)
 }
 
-pub(crate) fn finish_in(scheme: Scheme, m: &[u8], s: &[i32], key: &mut [u8]) -> Answer
+// Where the sizes have passed.
+fn finish_sized(scheme: Scheme, reply: &[u8], s: &[i32], key: &mut [u8]) -> FinishAnswer
+    requires { ⌜ finishSizes scheme (finishOf (now reply) (now s)) (length (now key)) ≡ Pass ⌝ }
     requires { ⌜ now key ≡ replicate (length (now key)) 0 ⌝ }
-    ensures { λ r. ⌜ FinishEnds (finishTests (fixedOf scheme) (now (m .entry)) (now (s .entry)) (length (now (key .entry)))) scheme (now (m .entry)) (now (s .entry)) (length (now (key .entry))) r (now (key .exit)) ⌝ }
+    ensures { λ r. ⌜ Finishes (Is scheme) reply s key r ⌝ }
 {
     let f = scheme.fixed();
-    let v = crate::tests::finish_sizes(f, m, s, key.len());
+    let k = f.key;
+    let v = key_in(scheme, f.secret, reply, s, &mut key[..k]);
     match v {
-        Verdict::Fail(r) => Answer::Refused(r),
-        Verdict::Pass => with_room(scheme, f.secret, m, s, key),
+        Verdict::Fail(r) => FinishAnswer::Refused(r),
+        Verdict::Pass => FinishAnswer::Done(FinishCounts { key: k }),
+    }
+}
+
+pub(crate) fn finish_in(scheme: Scheme, reply: &[u8], s: &[i32], key: &mut [u8]) -> FinishAnswer
+    requires { ⌜ now key ≡ replicate (length (now key)) 0 ⌝ }
+    ensures { λ r. ⌜ Finishes (Is scheme) reply s key r ⌝ }
+{
+    let v = crate::tests::finish_sizes(scheme, reply, s, key.len());
+    match v {
+        Verdict::Fail(r) => FinishAnswer::Refused(r),
+        Verdict::Pass => finish_sized(scheme, reply, s, key),
     }
 }

@@ -4,152 +4,128 @@ ghost use mathlib.Core.Path.{_≡_};
 ghost use mathlib.Core.List.{_++_};
 ghost use Prim.Native.Nat.{_^_};
 ghost use lib.ListN.{length, replicate};
-ghost use Rattle.schemes.specs.Schemes.{familyOf, fixedOf};
+ghost use Rattle.schemes.specs.Schemes.{fixedOf};
+ghost use Rattle.schemes.specs.declared.Named.the-variants.{Is};
+ghost use Rattle.lists.specs.Lent.{was, left};
 ghost use Rattle.packing.specs.Packing.{packed};
+ghost use Rattle.front.specs.declared.Verdict.the-variants.{Pass};
 ghost use Rattle.ends.specs.Fit.{Counted};
-ghost use Rattle.ends.specs.Values.{replied};
-ghost use Rattle.exchange.specs.Tests.{replySecrets, replyTests};
-ghost use Rattle.exchange.specs.Ended.{EndedBoth};
-ghost use Rattle.exchange.specs.Steps.{Open, Settles, Mixes, hintsFrom, entriesFrom, messageFrom, ownKeyFrom, replyRest, ReplyEnds};
-use crate::Replied;
+ghost use Rattle.ends.specs.Values.{replied, mixedValue};
+ghost use Rattle.ends.specs.Keys as settled;
+ghost use Rattle.wire.specs.Wire.{coinsIn};
+ghost use Rattle.exchange.specs.Reply.{replyOf, reply, replySizes, replySecrets, replyRest, messageFrom, keyFrom, messageOf, keyOf, Replies};
+ghost use Rattle.exchange.specs.Inside.{Laid, Settles, Mixes, Replying};
+use crate::ReplyAnswer;
+use crate::ReplyCounts;
 use front::Verdict;
 use schemes::Scheme;
 
-// The hints and the entries of the key, from the opening's numbers b; coins and v are room for what lies between.
+// The hints and the entries of the key, from the opening's numbers b; flips, as numbers of the coins, and v are room for what lies between.
 fn settle(
     scheme: Scheme,
     b: &[u32],
-    s: &[i32],
-    last: &[i32],
-    bytes: &[u8],
-    coins: &mut [u32],
+    s1: &[i32],
+    e2: &[i32],
+    coins: &[u8],
+    flips: &mut [u32],
     v: &mut [u32],
     hints: &mut [u32],
     entries: &mut [u32],
 )
-    requires { ⌜ Settles (fixedOf scheme) (now b) (now s) (now last) (now bytes) ⌝ }
-    requires { ⌜ (length (now coins) ≡ fixedOf scheme .groups) × (length (now v) ≡ fixedOf scheme .mixed) ⌝ }
+    requires { ⌜ Settles scheme (now b) (now s1) (now e2) (now coins) ⌝ }
+    requires { ⌜ (length (now flips) ≡ fixedOf scheme .groups) × (length (now v) ≡ fixedOf scheme .mixed) ⌝ }
     requires { ⌜ (length (now hints) ≡ fixedOf scheme .mixed) × (length (now entries) ≡ fixedOf scheme .groups) ⌝ }
-    ensures { λ _. ⌜ now (hints .exit) ≡ hintsFrom (familyOf scheme) (fixedOf scheme) (now (b .entry)) (now (s .entry)) (now (last .entry)) (now (bytes .entry)) ⌝ }
-    ensures { λ _. ⌜ now (entries .exit) ≡ entriesFrom (familyOf scheme) (fixedOf scheme) (now (b .entry)) (now (s .entry)) (now (last .entry)) (now (bytes .entry)) ⌝ }
+    ensures { λ _. ⌜ left hints ≡ settled.hints scheme (coinsIn scheme (was coins)) (mixedValue scheme (was b) (was s1) (was e2)) ⌝ }
+    ensures { λ _. ⌜ left entries ≡ settled.keys scheme (coinsIn scheme (was coins)) (mixedValue scheme (was b) (was s1) (was e2)) ⌝ }
 {
-    ends::values::mix(scheme, b, s, last, v);
-    crate::messages::take_coins(scheme, bytes, coins);
-    ends::settle::hints(scheme, coins, v, hints);
-    ends::settle::keys(scheme, coins, hints, v, entries);
-}
-
-// The same with room for n values and g groups, of which no scheme has more than 1024.
-fn settle_all(
-    scheme: Scheme,
-    n: usize,
-    g: usize,
-    b: &[u32],
-    s: &[i32],
-    last: &[i32],
-    bytes: &[u8],
-    hints: &mut [u32],
-    entries: &mut [u32],
-)
-    requires { ⌜ Settles (fixedOf scheme) (now b) (now s) (now last) (now bytes) ⌝ }
-    requires { ⌜ (n ≡ fixedOf scheme .mixed) × (g ≡ fixedOf scheme .groups) ⌝ }
-    requires { ⌜ (length (now hints) ≡ fixedOf scheme .mixed) × (length (now entries) ≡ fixedOf scheme .groups) ⌝ }
-    ensures { λ _. ⌜ now (hints .exit) ≡ hintsFrom (familyOf scheme) (fixedOf scheme) (now (b .entry)) (now (s .entry)) (now (last .entry)) (now (bytes .entry)) ⌝ }
-    ensures { λ _. ⌜ now (entries .exit) ≡ entriesFrom (familyOf scheme) (fixedOf scheme) (now (b .entry)) (now (s .entry)) (now (last .entry)) (now (bytes .entry)) ⌝ }
-{
-    let mut coins = [0u32; 1024];
-    let mut v = [0u32; 1024];
-    settle(
-        scheme,
-        b,
-        s,
-        last,
-        bytes,
-        &mut coins[..g],
-        &mut v[..n],
-        hints,
-        entries,
-    );
+    ends::values::mix(scheme, b, s1, e2, v);
+    wire::take_coins(scheme, coins, flips);
+    ends::settle::hints(scheme, flips, v, hints);
+    ends::settle::keys(scheme, flips, hints, v, entries);
 }
 
 // The message's numbers into u, then its bytes.
 fn lay_message(
     scheme: Scheme,
     a: &[u32],
-    s: &[i32],
-    e: &[i32],
+    s1: &[i32],
+    e1: &[i32],
     hints: &[u32],
     u: &mut [u32],
-    out: &mut [u8],
+    message: &mut [u8],
 )
-    requires { ⌜ Mixes (fixedOf scheme) (now a) (now s) (now e) × Counted (fixedOf scheme .mixed) (2 ^ fixedOf scheme .hintbits) (now hints) ⌝ }
-    requires { ⌜ (length (now u) ≡ fixedOf scheme .secret) × (length (now out) ≡ fixedOf scheme .reply) ⌝ }
-    ensures { λ _. ⌜ now (out .exit) ≡ packed (fixedOf scheme .width) (replied (familyOf scheme) (fixedOf scheme) (now (a .entry)) (now (s .entry)) (now (e .entry))) ++ packed (fixedOf scheme .hintbits) (now (hints .entry)) ⌝ }
+    requires { ⌜ Mixes scheme (now a) (now s1) (now e1) × Counted (fixedOf scheme .mixed) (2 ^ fixedOf scheme .hintbits) (now hints) ⌝ }
+    requires { ⌜ (length (now u) ≡ fixedOf scheme .secret) × (length (now message) ≡ fixedOf scheme .reply) ⌝ }
+    ensures { λ _. ⌜
+        left message ≡ packed (fixedOf scheme .width) (replied scheme (was a) (was s1) (was e1)) ++ packed (fixedOf scheme .hintbits) (was hints)
+        ⌝ }
 {
-    ends::values::reply(scheme, a, s, e, u);
-    crate::messages::lay_reply(scheme, u, hints, out);
+    ends::values::reply(scheme, a, s1, e1, u);
+    wire::lay_reply(scheme, u, hints, message);
 }
 
-// Message and key; the opening's numbers b, once they are read, give room for the message's. hints and entries are room for what lies between.
+// Message and key. The opening's numbers b, once they are read, give room for the message's; flips, v, hints and entries are room for what lies between.
 fn lay(
     scheme: Scheme,
-    n: usize,
-    g: usize,
     b: &mut [u32],
     a: &[u32],
-    s: &[i32],
-    e: &[i32],
-    last: &[i32],
-    bytes: &[u8],
+    s1: &[i32],
+    e1: &[i32],
+    e2: &[i32],
+    coins: &[u8],
+    flips: &mut [u32],
+    v: &mut [u32],
     hints: &mut [u32],
     entries: &mut [u32],
     message: &mut [u8],
     key: &mut [u8],
 )
-    requires { ⌜ Settles (fixedOf scheme) (now b) (now s) (now last) (now bytes) × Mixes (fixedOf scheme) (now a) (now s) (now e) ⌝ }
-    requires { ⌜ (n ≡ fixedOf scheme .mixed) × (g ≡ fixedOf scheme .groups) ⌝ }
+    requires { ⌜ Settles scheme (now b) (now s1) (now e2) (now coins) × Mixes scheme (now a) (now s1) (now e1) ⌝ }
+    requires { ⌜ (length (now flips) ≡ fixedOf scheme .groups) × (length (now v) ≡ fixedOf scheme .mixed) ⌝ }
     requires { ⌜ (length (now hints) ≡ fixedOf scheme .mixed) × (length (now entries) ≡ fixedOf scheme .groups) ⌝ }
     requires { ⌜ (length (now message) ≡ fixedOf scheme .reply) × (length (now key) ≡ fixedOf scheme .key) ⌝ }
-    ensures { λ _. ⌜ now (message .exit) ≡ messageFrom (familyOf scheme) (fixedOf scheme) (now (b .entry)) (now (a .entry)) (now (s .entry)) (now (e .entry)) (now (last .entry)) (now (bytes .entry)) ⌝ }
-    ensures { λ _. ⌜ now (key .exit) ≡ ownKeyFrom (familyOf scheme) (fixedOf scheme) (now (b .entry)) (now (s .entry)) (now (last .entry)) (now (bytes .entry)) ⌝ }
+    ensures { λ _. ⌜ left message ≡ messageFrom scheme (was b) (was a) (was s1) (was e1) (was e2) (was coins) ⌝ }
+    ensures { λ _. ⌜ left key ≡ keyFrom scheme (was b) (was s1) (was e2) (was coins) ⌝ }
 {
-    settle_all(scheme, n, g, b, s, last, bytes, hints, entries);
-    lay_message(scheme, a, s, e, hints, b, message);
-    crate::messages::lay_key(scheme, entries, key);
+    settle(scheme, b, s1, e2, coins, flips, v, hints, entries);
+    lay_message(scheme, a, s1, e1, hints, b, message);
+    wire::lay_key(scheme, entries, key);
 }
 
-// The same with room for n values and g groups.
+// The same with room for n values and g groups, of which no scheme has more than 1024.
 fn write(
     scheme: Scheme,
     n: usize,
     g: usize,
     b: &mut [u32],
     a: &[u32],
-    s: &[i32],
-    e: &[i32],
-    last: &[i32],
-    bytes: &[u8],
+    s1: &[i32],
+    e1: &[i32],
+    e2: &[i32],
+    coins: &[u8],
     message: &mut [u8],
     key: &mut [u8],
 )
-    requires { ⌜ Settles (fixedOf scheme) (now b) (now s) (now last) (now bytes) × Mixes (fixedOf scheme) (now a) (now s) (now e) ⌝ }
+    requires { ⌜ Settles scheme (now b) (now s1) (now e2) (now coins) × Mixes scheme (now a) (now s1) (now e1) ⌝ }
     requires { ⌜ (n ≡ fixedOf scheme .mixed) × (g ≡ fixedOf scheme .groups) ⌝ }
     requires { ⌜ (length (now message) ≡ fixedOf scheme .reply) × (length (now key) ≡ fixedOf scheme .key) ⌝ }
-    ensures { λ _. ⌜ now (message .exit) ≡ messageFrom (familyOf scheme) (fixedOf scheme) (now (b .entry)) (now (a .entry)) (now (s .entry)) (now (e .entry)) (now (last .entry)) (now (bytes .entry)) ⌝ }
-    ensures { λ _. ⌜ now (key .exit) ≡ ownKeyFrom (familyOf scheme) (fixedOf scheme) (now (b .entry)) (now (s .entry)) (now (last .entry)) (now (bytes .entry)) ⌝ }
+    ensures { λ _. ⌜ left message ≡ messageFrom scheme (was b) (was a) (was s1) (was e1) (was e2) (was coins) ⌝ }
+    ensures { λ _. ⌜ left key ≡ keyFrom scheme (was b) (was s1) (was e2) (was coins) ⌝ }
 {
+    let mut flips = [0u32; 1024];
+    let mut v = [0u32; 1024];
     let mut hints = [0u32; 1024];
     let mut entries = [0u32; 1024];
     lay(
         scheme,
-        n,
-        g,
         b,
         a,
-        s,
-        e,
-        last,
-        bytes,
+        s1,
+        e1,
+        e2,
+        coins,
+        &mut flips[..g],
+        &mut v[..n],
         &mut hints[..n],
         &mut entries[..g],
         message,
@@ -157,114 +133,150 @@ fn write(
     );
 }
 
-// The secrets' tests, then message and key.
+// The secrets' tests, then message and key. What is refused leaves zeros.
 fn with_secrets(
     scheme: Scheme,
-    m: &[u8],
     b: &mut [u32],
     a: &[u32],
-    s: &[i32],
-    e: &[i32],
-    last: &[i32],
-    bytes: &[u8],
+    s1: &[i32],
+    e1: &[i32],
+    e2: &[i32],
+    coins: &[u8],
     message: &mut [u8],
     key: &mut [u8],
-) -> Replied
-    requires { ⌜ Open (fixedOf scheme) (now m) (now a) (now s) (now e) (now last) (now bytes) (length (now message)) (length (now key)) ⌝ }
-    requires { ⌜ (now message ≡ replicate (length (now message)) 0) × (now key ≡ replicate (length (now key)) 0) ⌝ }
+) -> Verdict
+    requires { ⌜ Replying scheme (now a) (now s1) (now e1) (now e2) (now coins) (now message) (now key) ⌝ }
     requires { ⌜ Counted (fixedOf scheme .secret) (fixedOf scheme .q) (now b) ⌝ }
-    ensures { λ r. ⌜ EndedBoth (replySecrets (fixedOf scheme) (now (s .entry)) (now (e .entry)) (now (last .entry))) (messageFrom (familyOf scheme) (fixedOf scheme) (now (b .entry)) (now (a .entry)) (now (s .entry)) (now (e .entry)) (now (last .entry)) (now (bytes .entry))) (ownKeyFrom (familyOf scheme) (fixedOf scheme) (now (b .entry)) (now (s .entry)) (now (last .entry)) (now (bytes .entry))) (length (now (message .entry))) (length (now (key .entry))) r (now (message .exit)) (now (key .exit)) ⌝ }
+    ensures { λ r. ⌜ r ≡ replySecrets scheme (was s1) (was e1) (was e2) ⌝ }
+    ensures { λ r. ⌜ Laid r (messageFrom scheme (was b) (was a) (was s1) (was e1) (was e2) (was coins)) message ⌝ }
+    ensures { λ r. ⌜ Laid r (keyFrom scheme (was b) (was s1) (was e2) (was coins)) key ⌝ }
 {
-    let f = scheme.fixed();
-    let v = crate::tests::reply_secrets(f, s, e, last);
+    let v = crate::tests::reply_secrets(scheme, s1, e1, e2);
     match v {
-        Verdict::Fail(r) => Replied::Refused(r),
+        Verdict::Fail(r) => Verdict::Fail(r),
         Verdict::Pass => {
-            let n = f.reply;
-            let k = f.key;
-            write(
-                scheme,
-                f.mixed,
-                f.groups,
-                b,
-                a,
-                s,
-                e,
-                last,
-                bytes,
-                &mut message[..n],
-                &mut key[..k],
-            );
-            Replied::Done(n, k)
+            let f = scheme.fixed();
+            write(scheme, f.mixed, f.groups, b, a, s1, e1, e2, coins, message, key);
+            Verdict::Pass
         }
     }
 }
 
 // The opening's numbers into b. A refused message ends the call here, with its place.
-fn with_message(
+fn with_opening(
     scheme: Scheme,
-    m: &[u8],
+    opening: &[u8],
     b: &mut [u32],
     a: &[u32],
-    s: &[i32],
-    e: &[i32],
-    last: &[i32],
-    bytes: &[u8],
+    s1: &[i32],
+    e1: &[i32],
+    e2: &[i32],
+    coins: &[u8],
     message: &mut [u8],
     key: &mut [u8],
-) -> Replied
-    requires { ⌜ Open (fixedOf scheme) (now m) (now a) (now s) (now e) (now last) (now bytes) (length (now message)) (length (now key)) ⌝ }
-    requires { ⌜ (now message ≡ replicate (length (now message)) 0) × (now key ≡ replicate (length (now key)) 0) ⌝ }
-    requires { ⌜ length (now b) ≡ fixedOf scheme .secret ⌝ }
-    ensures { λ r. ⌜ ReplyEnds (replyRest scheme (now (m .entry)) (now (s .entry)) (now (e .entry)) (now (last .entry))) scheme (now (m .entry)) (now (a .entry)) (now (s .entry)) (now (e .entry)) (now (last .entry)) (now (bytes .entry)) (length (now (message .entry))) (length (now (key .entry))) r (now (message .exit)) (now (key .exit)) ⌝ }
+) -> Verdict
+    requires { ⌜ Replying scheme (now a) (now s1) (now e1) (now e2) (now coins) (now message) (now key) ⌝ }
+    requires { ⌜ (length (now opening) ≡ fixedOf scheme .opening) × (length (now b) ≡ fixedOf scheme .secret) ⌝ }
+    ensures { λ r. ⌜ r ≡ replyRest scheme (reply opening a s1 e1 e2 coins) ⌝ }
+    ensures { λ r. ⌜ Laid r (messageOf scheme (reply opening a s1 e1 e2 coins)) message ⌝ }
+    ensures { λ r. ⌜ Laid r (keyOf scheme (reply opening a s1 e1 e2 coins)) key ⌝ }
 {
-    let v = crate::messages::take_opening(scheme, m, b);
+    let v = wire::take_opening(scheme, opening, b);
     let Verdict::Pass = v else {
-        return crate::refusals::refuse_both(v, message, key);
+        lists::zero_bytes(message);
+        lists::zero_bytes(key);
+        return v;
     };
-    with_secrets(scheme, m, b, a, s, e, last, bytes, message, key)
+    with_secrets(scheme, b, a, s1, e1, e2, coins, message, key)
 }
 
 // The same with room for n numbers, of which no scheme has more than 6912.
-fn with_room(
+fn answer_in(
     scheme: Scheme,
     n: usize,
-    m: &[u8],
+    opening: &[u8],
     a: &[u32],
-    s: &[i32],
-    e: &[i32],
-    last: &[i32],
-    bytes: &[u8],
+    s1: &[i32],
+    e1: &[i32],
+    e2: &[i32],
+    coins: &[u8],
     message: &mut [u8],
     key: &mut [u8],
-) -> Replied
-    requires { ⌜ Open (fixedOf scheme) (now m) (now a) (now s) (now e) (now last) (now bytes) (length (now message)) (length (now key)) ⌝ }
-    requires { ⌜ (now message ≡ replicate (length (now message)) 0) × (now key ≡ replicate (length (now key)) 0) ⌝ }
-    requires { ⌜ n ≡ fixedOf scheme .secret ⌝ }
-    ensures { λ r. ⌜ ReplyEnds (replyRest scheme (now (m .entry)) (now (s .entry)) (now (e .entry)) (now (last .entry))) scheme (now (m .entry)) (now (a .entry)) (now (s .entry)) (now (e .entry)) (now (last .entry)) (now (bytes .entry)) (length (now (message .entry))) (length (now (key .entry))) r (now (message .exit)) (now (key .exit)) ⌝ }
+) -> Verdict
+    requires { ⌜ Replying scheme (now a) (now s1) (now e1) (now e2) (now coins) (now message) (now key) ⌝ }
+    requires { ⌜ (length (now opening) ≡ fixedOf scheme .opening) × (n ≡ fixedOf scheme .secret) ⌝ }
+    ensures { λ r. ⌜ r ≡ replyRest scheme (reply opening a s1 e1 e2 coins) ⌝ }
+    ensures { λ r. ⌜ Laid r (messageOf scheme (reply opening a s1 e1 e2 coins)) message ⌝ }
+    ensures { λ r. ⌜ Laid r (keyOf scheme (reply opening a s1 e1 e2 coins)) key ⌝ }
 {
     let mut b = [0u32; 6912];
-    with_message(scheme, m, &mut b[..n], a, s, e, last, bytes, message, key)
+    with_opening(scheme, opening, &mut b[..n], a, s1, e1, e2, coins, message, key)
+}
+
+// Where sizes and public numbers have passed.
+fn reply_sized(
+    scheme: Scheme,
+    opening: &[u8],
+    a: &[u32],
+    s1: &[i32],
+    e1: &[i32],
+    e2: &[i32],
+    coins: &[u8],
+    message: &mut [u8],
+    key: &mut [u8],
+) -> ReplyAnswer
+    requires { ⌜ replySizes scheme (replyOf (now opening) (now a) (now s1) (now e1) (now e2) (now coins)) (length (now message)) (length (now key)) ≡ Pass ⌝ }
+    requires { ⌜ (now message ≡ replicate (length (now message)) 0) × (now key ≡ replicate (length (now key)) 0) ⌝ }
+    ensures { λ r. ⌜ Replies (Is scheme) opening a s1 e1 e2 coins message key r ⌝ }
+{
+    let f = scheme.fixed();
+    let n = f.reply;
+    let k = f.key;
+    let v = answer_in(
+        scheme,
+        f.secret,
+        opening,
+        a,
+        s1,
+        e1,
+        e2,
+        coins,
+        &mut message[..n],
+        &mut key[..k],
+    );
+    match v {
+        Verdict::Fail(r) => ReplyAnswer::Refused(r),
+        Verdict::Pass => ReplyAnswer::Done(ReplyCounts { message: n, key: k }),
+    }
 }
 
 pub(crate) fn reply_in(
     scheme: Scheme,
-    m: &[u8],
+    opening: &[u8],
     a: &[u32],
-    s: &[i32],
-    e: &[i32],
-    last: &[i32],
-    bytes: &[u8],
+    s1: &[i32],
+    e1: &[i32],
+    e2: &[i32],
+    coins: &[u8],
     message: &mut [u8],
     key: &mut [u8],
-) -> Replied
+) -> ReplyAnswer
     requires { ⌜ (now message ≡ replicate (length (now message)) 0) × (now key ≡ replicate (length (now key)) 0) ⌝ }
-    ensures { λ r. ⌜ ReplyEnds (replyTests (familyOf scheme) (fixedOf scheme) (now (m .entry)) (now (a .entry)) (now (s .entry)) (now (e .entry)) (now (last .entry)) (now (bytes .entry)) (length (now (message .entry))) (length (now (key .entry)))) scheme (now (m .entry)) (now (a .entry)) (now (s .entry)) (now (e .entry)) (now (last .entry)) (now (bytes .entry)) (length (now (message .entry))) (length (now (key .entry))) r (now (message .exit)) (now (key .exit)) ⌝ }
+    ensures { λ r. ⌜ Replies (Is scheme) opening a s1 e1 e2 coins message key r ⌝ }
 {
-    let f = scheme.fixed();
-    let v = crate::tests::reply_sizes(f, m, a, s, e, last, bytes, message.len(), key.len());
+    let v = crate::tests::reply_sizes(
+        scheme,
+        opening,
+        a,
+        s1,
+        e1,
+        e2,
+        coins,
+        message.len(),
+        key.len(),
+    );
     match v {
-        Verdict::Fail(r) => Replied::Refused(r),
-        Verdict::Pass => with_room(scheme, f.secret, m, a, s, e, last, bytes, message, key),
+        Verdict::Fail(r) => ReplyAnswer::Refused(r),
+        Verdict::Pass => reply_sized(scheme, opening, a, s1, e1, e2, coins, message, key),
     }
 }

@@ -1,12 +1,23 @@
 // The tests of Offer, Reply and Finish, in 01's order.
 ghost use mathlib.Core.Path.{_≡_};
-ghost use Rattle.exchange.specs.Tests.{offerTests, replySizes, replySecrets, finishSizes};
+ghost use Rattle.lists.specs.Lent.{was};
+ghost use Rattle.exchange.specs.Offer.{offer, offerIn};
+ghost use Rattle.exchange.specs.Reply.{reply, replySizes, replySecrets};
+ghost use Rattle.exchange.specs.Finish.{finish, finishSizes};
 use front::Verdict;
-use schemes::Fixed;
+use schemes::Scheme;
 
-pub(crate) fn offer(f: Fixed, a: &[u32], s: &[i32], e: &[i32], seed: &[u8], room: usize) -> Verdict
-    ensures { λ r. ⌜ r ≡ offerTests f (now (a .entry)) (now (s .entry)) (now (e .entry)) (now (seed .entry)) room ⌝ }
+pub(crate) fn offer(
+    scheme: Scheme,
+    a: &[u32],
+    s: &[i32],
+    e: &[i32],
+    seed: &[u8],
+    room: usize,
+) -> Verdict
+    ensures { λ r. ⌜ r ≡ offerIn scheme (offer a s e seed) room ⌝ }
 {
+    let f = scheme.fixed();
     let v = front::length_is(Verdict::Pass, a.len(), f.public);
     let v = front::length_is(v, s.len(), f.secret);
     let v = front::length_is(v, e.len(), f.noise);
@@ -18,41 +29,44 @@ pub(crate) fn offer(f: Fixed, a: &[u32], s: &[i32], e: &[i32], seed: &[u8], room
 }
 
 pub(crate) fn reply_sizes(
-    f: Fixed,
-    m: &[u8],
+    scheme: Scheme,
+    opening: &[u8],
     a: &[u32],
-    s: &[i32],
-    e: &[i32],
-    last: &[i32],
+    s1: &[i32],
+    e1: &[i32],
+    e2: &[i32],
     coins: &[u8],
     room: usize,
     keyroom: usize,
 ) -> Verdict
-    ensures { λ r. ⌜ r ≡ replySizes f (now (m .entry)) (now (a .entry)) (now (s .entry)) (now (e .entry)) (now (last .entry)) (now (coins .entry)) room keyroom ⌝ }
+    ensures { λ r. ⌜ r ≡ replySizes scheme (reply opening a s1 e1 e2 coins) room keyroom ⌝ }
 {
-    let v = front::length_is(Verdict::Pass, m.len(), f.opening);
+    let f = scheme.fixed();
+    let v = front::length_is(Verdict::Pass, opening.len(), f.opening);
     let v = front::length_is(v, a.len(), f.public);
-    let v = front::length_is(v, s.len(), f.secret);
-    let v = front::length_is(v, e.len(), f.noise);
-    let v = front::length_is(v, last.len(), f.mixed);
+    let v = front::length_is(v, s1.len(), f.secret);
+    let v = front::length_is(v, e1.len(), f.noise);
+    let v = front::length_is(v, e2.len(), f.mixed);
     let v = front::length_is(v, coins.len(), f.coins);
     let v = front::room_for(v, room, f.reply);
     let v = front::room_for(v, keyroom, f.key);
     front::publics_in(v, f.q, a)
 }
 
-pub(crate) fn reply_secrets(f: Fixed, s: &[i32], e: &[i32], last: &[i32]) -> Verdict
-    ensures { λ r. ⌜ r ≡ replySecrets f (now (s .entry)) (now (e .entry)) (now (last .entry)) ⌝ }
+pub(crate) fn reply_secrets(scheme: Scheme, s1: &[i32], e1: &[i32], e2: &[i32]) -> Verdict
+    ensures { λ r. ⌜ r ≡ replySecrets scheme (was s1) (was e1) (was e2) ⌝ }
 {
-    let v = front::secrets_in(Verdict::Pass, f.largest, s);
-    let v = front::secrets_in(v, f.largest, e);
-    front::secrets_in(v, f.largest, last)
+    let f = scheme.fixed();
+    let v = front::secrets_in(Verdict::Pass, f.largest, s1);
+    let v = front::secrets_in(v, f.largest, e1);
+    front::secrets_in(v, f.largest, e2)
 }
 
-pub(crate) fn finish_sizes(f: Fixed, m: &[u8], s: &[i32], room: usize) -> Verdict
-    ensures { λ r. ⌜ r ≡ finishSizes f (now (m .entry)) (now (s .entry)) room ⌝ }
+pub(crate) fn finish_sizes(scheme: Scheme, reply: &[u8], s: &[i32], room: usize) -> Verdict
+    ensures { λ r. ⌜ r ≡ finishSizes scheme (finish reply s) room ⌝ }
 {
-    let v = front::length_is(Verdict::Pass, m.len(), f.reply);
+    let f = scheme.fixed();
+    let v = front::length_is(Verdict::Pass, reply.len(), f.reply);
     let v = front::length_is(v, s.len(), f.secret);
     front::room_for(v, room, f.key)
 }

@@ -3,12 +3,14 @@
 --   held-written   the answer written into zeros
 --   held-whole     where the answer fills the buffer, it is the answer
 --   held-length    it is as long as the buffer was
+--   blank-front    the part at the front of a zeroed output
 use mathlib.Core.Path.{_≡_, _∙_, sym, ap}
 use mathlib.Core.List.{List, _++_, append-nil}
 use Prim.Native.Nat.{ℕ, zero, suc, _-_, _≤_}
 use native.Mathlib.Nat.{sub-zero, zero-sub, suc-sub-suc}
 use native.Mathlib.Omega.{arith}
-use lib.ListN.{length, replicate, drop, length-replicate, length-append}
+use lib.ListN.{length, replicate, take, drop, length-replicate, length-append}
+use Rattle.lists.proofs.Same.{take-same}
 use Rattle.front.specs.Front.{held}
 use Rattle.front.specs.declared.Refusal.{Refusal}
 use Rattle.front.specs.declared.Verdict.{Verdict}
@@ -40,3 +42,6 @@ module _ {A : Type 0} (z : A) where
   unfolding held
   held-length Pass xs room h = length-append xs (replicate (room - length xs) z) ∙ omega (arith, length-replicate (room - length xs) z)
   held-length (Fail r) xs room h = length-replicate room z
+
+pub blank-front : {A : Type 0} (n : ℕ) (z : A) (l : List A) → n ≤ length l → l ≡ replicate (length l) z → take n l ≡ replicate n z
+blank-front n z l h e = ap (take n) e ∙ take-same n (length l) z h

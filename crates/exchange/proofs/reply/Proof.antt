@@ -1,56 +1,69 @@
 -- `exchange::reply` meets its contract: the outputs are zeroed first, and then hold what the scheme by its name gives.
 use mathlib.Core.Path.{sym, _∙_}
-use borrow.Author.Needs.{needs}
 use lib.ListN.{length}
 use Rattle.lists.proofs.Same.{zeros, zeros-long}
-use Rattle.exchange.proofs.Replying.{reply-told, reply-unknown}
+use Rattle.exchange.proofs.Replying.{reply-unknown, reply-refused}
+use borrow.Author.Needs.{needs}
 use Rattle.exchange.proofs.reply.Statement.{statement}
 use Rattle.exchange.proofs.reply.Tie as tie
 
-zero-bytes-requires : tie.Need-zero-bytes-requires
-zero-bytes-requires c κs = search needs
+-- the places, from the last to the first
+abbrev known : tie.After-reply-in → tie.After-known
+known c = search needs
 
-zero-bytes-requires-2 : tie.Need-zero-bytes-requires-2
-zero-bytes-requires-2 c κs = search needs
+abbrev named : tie.After-known → tie.After-scheme-of
+named c = search needs
 
-scheme-of-requires : tie.Need-scheme-of-requires
-scheme-of-requires c κs = search needs
+abbrev zeroed : tie.After-scheme-of → tie.After-zero-bytes2
+zeroed c = search needs
 
-enum-known-known : tie.Need-enum-known-known
-enum-known-known c = search needs
+abbrev first : tie.After-zero-bytes2 → tie.After-zero-bytes
+first c = search needs
 
-enum-told : tie.Need-enum-told
-enum-told c = search needs
-
-same-length : tie.Need-same-length
-same-length c = search needs
-
-same-length-2 : tie.Need-same-length-2
-same-length-2 c = search needs
+abbrev start : tie.After-zero-bytes → tie.Start
+start c = search needs
 
 returns : tie.Need-returns
 returns c =
-    reply-unknown (sym (c .before .before .scheme-of .ensures) ∙ c .enum-told .given .1) (c .before .before .before .before .before .before .before .before .before .zero-bytes .ensures) (c .before .before .before .before .before .zero-bytes2 .ensures)
+    let n : tie.After-scheme-of = search needs in
+    let y = zeroed n in
+    let z = first y in
+    reply-refused (reply-unknown _ _ _ (sym (n .scheme-of .ensures) ∙ c .enum-told .given .1)) (z .zero-bytes .ensures) (y .zero-bytes2 .ensures)
 
 reply-in-requires : tie.Need-reply-in-requires
 reply-in-requires c κs =
-    let a = c .before .before .before .before .before .before .before .before .before .before .before .before .before .before .before .before .before .before .before .args in
-    (zeros (length (a .message .now)) 0 (c .before .before .before .before .before .before .before .before .before .before .before .before .zero-bytes .ensures), zeros (length (a .key .now)) 0 (c .before .before .before .before .before .before .before .before .zero-bytes2 .ensures))
-
-same-length-3 : tie.Need-same-length-3
-same-length-3 c = search needs
-
-same-length-4 : tie.Need-same-length-4
-same-length-4 c = search needs
+    let k : tie.After-known = search needs in
+    let y = zeroed (named k) in
+    let z = first y in
+    let a = start z .args in
+    (zeros (length (a .message .now)) 0 (z .zero-bytes .ensures), zeros (length (a .key .now)) 0 (y .zero-bytes2 .ensures))
 
 returns-2 : tie.Need-returns-2
 returns-2 c =
-    let a = c .before .before .before .before .before .before .before .before .before .before .before .before .before .before .before .before .before .before .before .before .before .before .before .before .args in
-    let room = zeros-long (length (a .message .now)) 0 (c .before .before .before .before .before .before .before .before .before .before .before .before .before .before .before .before .before .zero-bytes .ensures) in
-    let key-room = zeros-long (length (a .key .now)) 0 (c .before .before .before .before .before .before .before .before .before .before .before .before .before .zero-bytes2 .ensures) in
-    reply-told _ (sym (c .before .before .before .before .before .before .before .before .before .before .scheme-of .ensures) ∙ c .before .before .before .before .before .before .before .before .known .given .1) (rw (room, key-room) at (c .before .before .before .before .reply-in .ensures))
+    let p : tie.After-reply-in = search needs in
+    let k = known p in
+    let n = named k in
+    let y = zeroed n in
+    let z = first y in
+    let a = start z .args in
+    let e = sym (n .scheme-of .ensures) ∙ k .known .given .1 in
+    let l = zeros-long (length (a .message .now)) 0 (z .zero-bytes .ensures) in
+    let m = zeros-long (length (a .key .now)) 0 (y .zero-bytes2 .ensures) in
+    rw (e, ← l, ← m) (p .reply-in .ensures)
 
 pub reply-spec : {M : Type 1} → statement M
 reply-spec =
     tie.close
-    (tie.spec zero-bytes-requires zero-bytes-requires-2 scheme-of-requires enum-known-known enum-told same-length same-length-2 returns reply-in-requires same-length-3 same-length-4 returns-2)
+    (tie.spec
+    (λ c κs. search needs)
+    (λ c κs. search needs)
+    (λ c κs. search needs)
+    (search needs)
+    (search needs)
+    (search needs)
+    (search needs)
+    returns
+    reply-in-requires
+    (search needs)
+    (search needs)
+    returns-2)

@@ -1,39 +1,33 @@
--- `exchange::opener::lay` meets its contract.
+-- `exchange::opener::lay` meets its contract: numbers, then bytes.
 use mathlib.Core.Path.{ap, _∙_}
 use mathlib.Core.List.{List}
 use Prim.Native.Nat.{ℕ}
-use borrow.Author.Needs.{needs}
-use Rattle.schemes.specs.Schemes.{familyOf, fixedOf}
+use Rattle.schemes.specs.Schemes.{fixedOf}
 use Rattle.packing.specs.Packing.{packed}
 use Rattle.ends.proofs.Ranges.{offered-counted}
-use Rattle.exchange.specs.Wire.{opening}
-use Rattle.exchange.specs.Messages.{openingOf}
+use Rattle.wire.specs.Wire.{opening}
+use Rattle.exchange.specs.Offer.{openingOf}
+use borrow.Author.Needs.{needs}
 use Rattle.exchange.proofs.opener.lay.Statement.{statement}
 use Rattle.exchange.proofs.opener.lay.Tie as tie
 
-offer-requires : tie.Need-offer-requires
-offer-requires c κs = search needs
-
 lay-opening-requires : tie.Need-lay-opening-requires
 lay-opening-requires c κs =
-    let s = c .before .before .before .before .before .before .before .before .before .before in
-    let e = c .before .before .before .before .offer .ensures in
-    let n = offered-counted (s .args .scheme) (s .args .a .now) (s .args .s .now) (s .args .e .now) in
-    ((rw e (n .long), rw e (n .below)), (s .pre .0 .seed-long, s .pre .1 .1))
-
-same-length : tie.Need-same-length
-same-length c = search needs
-
-same-length-2 : tie.Need-same-length-2
-same-length-2 c = search needs
+    let b : tie.Start = search needs in
+    let o : tie.After-offer = search needs in
+    let a = b .args in
+    let n = offered-counted (a .scheme) (a .a .now) (a .s .now) (a .e .now) in
+    ((rw (o .offer .ensures) (n .long), rw (o .offer .ensures) (n .below)), (b .pre .0 .seed-long, b .pre .1 .1))
 
 returns : tie.Need-returns
 unfolding openingOf
 returns c =
-    let a = c .before .before .before .before .before .before .before .before .before .before .before .before .before .args in
-    let f = fixedOf (a .scheme) in
-    c .before .before .lay-opening .ensures
-    ∙ ap (λ (xs : List ℕ). opening (familyOf (a .scheme)) (a .seed .now) (packed (f .width) xs)) (c .before .before .before .before .before .before .before .offer .ensures)
+    let o : tie.After-offer = search needs in
+    let l : tie.After-lay-opening = search needs in
+    let b : tie.Start = search needs in
+    let a = b .args in
+    l .lay-opening .ensures
+    ∙ ap (λ (xs : List ℕ). opening (a .scheme) (a .seed .now) (packed (fixedOf (a .scheme) .width) xs)) (o .offer .ensures)
 
 pub lay-spec : {M : Type 1} → statement M
-lay-spec = tie.close (tie.spec offer-requires lay-opening-requires same-length same-length-2 returns)
+lay-spec = tie.close (tie.spec (λ c κs. search needs) lay-opening-requires (search needs) (search needs) returns)

@@ -2,59 +2,72 @@
 use mathlib.Core.Path.{ap, _∙_}
 use mathlib.Core.List.{List, _++_}
 use Prim.Native.Nat.{ℕ}
-use borrow.Author.Needs.{needs}
-use Rattle.schemes.specs.Schemes.{familyOf, fixedOf}
+use Rattle.schemes.specs.Schemes.{fixedOf}
 use Rattle.packing.specs.Packing.{packed}
 use Rattle.ends.specs.Values.{replied}
-use Rattle.exchange.specs.Steps.{messageFrom, ownKeyFrom}
-use Rattle.exchange.proofs.Replying.{hints-from, entries-from}
+use Rattle.ends.proofs.Ranges.{mixed-counted}
+use Rattle.ends.proofs.Settling.{hints-counted, keys-counted}
+use Rattle.exchange.specs.Reply.{messageFrom, keyFrom}
+use borrow.Author.Needs.{needs}
 use Rattle.exchange.proofs.replier.lay.Statement.{statement}
 use Rattle.exchange.proofs.replier.lay.Tie as tie
 
-settle-all-requires : tie.Need-settle-all-requires
-settle-all-requires c κs = search needs
+-- the places, from the last to the first
+abbrev laid : tie.After-lay-key → tie.After-lay-message
+laid c = search needs
+
+abbrev settled : tie.After-lay-message → tie.After-settle
+settled c = search needs
+
+abbrev start : tie.After-settle → tie.Start
+start c = search needs
+
+settle-requires : tie.Need-settle-requires
+settle-requires c κs = let b : tie.Start = search needs in (b .pre .0 .0, (b .pre .1 .0, b .pre .1 .1 .0))
 
 lay-message-requires : tie.Need-lay-message-requires
 lay-message-requires c κs =
-    let s = c .before .before .before .before .before .before .before .before .before .before .before .before .before .before .before .before .before .before in
-    let a = s .args in
-    let p = s .pre in
-    ((p .0 .1, rw (c .before .before .before .before .before .before .before .settle-all .ensures .0) (hints-from (a .scheme) (a .b .now) (a .s .now) (a .last .now) (a .bytes .now))), (p .0 .0 .numbers .long, p .1 .1 .1 .0))
+    let t : tie.After-settle = search needs in
+    let b = start t in
+    let a = b .args in
+    let p = b .pre in
+    let l = mixed-counted (a .scheme) (a .b .now) (a .s1 .now) (a .e2 .now) .long in
+    ((p .0 .1, rw (t .settle .ensures .0) (hints-counted (a .scheme) _ _ l)), (p .0 .0 .numbers .long, p .1 .1 .1 .0))
 
 lay-key-requires : tie.Need-lay-key-requires
 lay-key-requires c κs =
-    let s = c .before .before .before .before .before .before .before .before .before .before .before .before .before .before .before .before .before .before .before .before .before .before .before .before .before in
-    let a = s .args in
-    (rw (c .before .before .before .before .before .before .before .before .before .before .before .before .before .before .settle-all .ensures .1) (entries-from (a .scheme) (a .b .now) (a .s .now) (a .last .now) (a .bytes .now)), s .pre .1 .1 .1 .1)
-
-same-length : tie.Need-same-length
-same-length c = search needs
-
-same-length-2 : tie.Need-same-length-2
-same-length-2 c = search needs
-
-same-length-3 : tie.Need-same-length-3
-same-length-3 c = search needs
-
-same-length-4 : tie.Need-same-length-4
-same-length-4 c = search needs
-
-same-length-5 : tie.Need-same-length-5
-same-length-5 c = search needs
+    let m : tie.After-lay-message = search needs in
+    let t = settled m in
+    let b = start t in
+    let a = b .args in
+    let l = mixed-counted (a .scheme) (a .b .now) (a .s1 .now) (a .e2 .now) .long in
+    (rw (t .settle .ensures .1) (keys-counted (a .scheme) _ _ l), b .pre .1 .1 .1 .1)
 
 returns : tie.Need-returns
-unfolding messageFrom ownKeyFrom
+unfolding messageFrom keyFrom
 returns c =
-    let a = c .before .before .before .before .before .before .before .before .before .before .before .before .before .before .before .before .before .before .before .before .before .before .before .before .before .before .before .before .args in
-    let F = familyOf (a .scheme) in
-    let f = fixedOf (a .scheme) in
-    let t = c .before .before .before .before .before .before .before .before .before .before .before .before .before .before .before .before .before .settle-all .ensures in (
-      c .before .before .before .before .before .before .before .before .before .lay-message .ensures
-          ∙ ap (λ (hs : List ℕ). packed (f .width) (replied F f (a .a .now) (a .s .now) (a .e .now)) ++ packed (f .hintbits) hs) (t .0),
-      c .before .before .lay-key .ensures ∙ ap (packed (f .keybits)) (t .1),
+    let k : tie.After-lay-key = search needs in
+    let m = laid k in
+    let t = settled m in
+    let a = start t .args in
+    let f = fixedOf (a .scheme) in (
+      m .lay-message .ensures
+          ∙ ap (λ (hs : List ℕ). packed (f .width) (replied (a .scheme) (a .a .now) (a .s1 .now) (a .e1 .now)) ++ packed (f .hintbits) hs) (t .settle .ensures .0),
+      k .lay-key .ensures ∙ ap (packed (f .keybits)) (t .settle .ensures .1),
     )
 
 pub lay-spec : {M : Type 1} → statement M
 lay-spec =
     tie.close
-    (tie.spec settle-all-requires lay-message-requires lay-key-requires same-length same-length-2 same-length-3 same-length-4 same-length-5 returns)
+    (tie.spec
+    settle-requires
+    lay-message-requires
+    lay-key-requires
+    (search needs)
+    (search needs)
+    (search needs)
+    (search needs)
+    (search needs)
+    (search needs)
+    (search needs)
+    returns)

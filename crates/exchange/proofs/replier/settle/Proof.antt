@@ -1,57 +1,67 @@
 -- `exchange::replier::settle` meets its contract: value, coins, hints, entries.
 use mathlib.Core.Path.{ap₂, _∙_}
-use borrow.Author.Needs.{needs}
-use Rattle.schemes.specs.Schemes.{familyOf, fixedOf}
 use Rattle.ends.specs.Keys.{hints, keys}
 use Rattle.ends.proofs.Ranges.{mixed-counted}
-use Rattle.exchange.specs.Steps.{hintsFrom, entriesFrom}
-use Rattle.exchange.proofs.Replying.{coins-given}
+use Rattle.wire.proofs.Travel.{coins-given}
+use borrow.Author.Needs.{needs}
 use Rattle.exchange.proofs.replier.settle.Statement.{statement}
 use Rattle.exchange.proofs.replier.settle.Tie as tie
 
-mix-requires : tie.Need-mix-requires
-mix-requires c κs = search needs
+-- the places, from the last to the first
+abbrev keyed : tie.After-keys → tie.After-hints
+keyed c = search needs
 
-take-coins-requires : tie.Need-take-coins-requires
-take-coins-requires c κs = search needs
+abbrev hinted : tie.After-hints → tie.After-take-coins
+hinted c = search needs
+
+abbrev flipped : tie.After-take-coins → tie.After-mix
+flipped c = search needs
+
+abbrev start : tie.After-mix → tie.Start
+start c = search needs
 
 hints-requires : tie.Need-hints-requires
 hints-requires c κs =
-    let s = c .before .before .before .before .before .before .before .before .before .before .before .before .before .before .before .before .before in
-    let a = s .args in
-    ((rw (c .before .before .before .before .before .before .before .before .before .mix .ensures) (mixed-counted (a .scheme) (a .b .now) (a .s .now) (a .last .now)), s .pre .1 .1 .0), rw (c .before .before .before .before .before .take-coins .ensures) (coins-given (a .scheme) (a .bytes .now)))
+    let t : tie.After-take-coins = search needs in
+    let m = flipped t in
+    let b = start m in
+    let a = b .args in (
+      (rw (m .mix .ensures) (mixed-counted (a .scheme) (a .b .now) (a .s1 .now) (a .e2 .now)), b .pre .1 .1 .0),
+      rw (t .take-coins .ensures) (coins-given (a .scheme) (a .coins .now)),
+    )
 
 keys-requires : tie.Need-keys-requires
 keys-requires c κs =
-    let s = c .before .before .before .before .before .before .before .before .before .before .before .before .before .before .before .before .before .before .before .before .before .before .before .before in
-    let a = s .args in (
-      (rw (c .before .before .before .before .before .before .before .before .before .before .before .before .before .before .before .before .mix .ensures) (mixed-counted (a .scheme) (a .b .now) (a .s .now) (a .last .now)), s .pre .1 .1 .1),
-      (rw (c .before .before .before .before .before .before .before .before .before .before .before .before .take-coins .ensures) (coins-given (a .scheme) (a .bytes .now)), c .before .before .before .before .before .before .hints .ensures),
+    let h : tie.After-hints = search needs in
+    let t = hinted h in
+    let m = flipped t in
+    let b = start m in
+    let a = b .args in (
+      (rw (m .mix .ensures) (mixed-counted (a .scheme) (a .b .now) (a .s1 .now) (a .e2 .now)), b .pre .1 .1 .1),
+      (rw (t .take-coins .ensures) (coins-given (a .scheme) (a .coins .now)), h .hints .ensures),
     )
 
-same-length : tie.Need-same-length
-same-length c = search needs
-
-same-length-2 : tie.Need-same-length-2
-same-length-2 c = search needs
-
-same-length-3 : tie.Need-same-length-3
-same-length-3 c = search needs
-
-same-length-4 : tie.Need-same-length-4
-same-length-4 c = search needs
-
 returns : tie.Need-returns
-unfolding hintsFrom entriesFrom
 returns c =
-    let a = c .before .before .before .before .before .before .before .before .before .before .before .before .before .before .before .before .before .before .before .before .before .before .before .before .before .before .before .args in
-    let F = familyOf (a .scheme) in
-    let f = fixedOf (a .scheme) in
-    let cs = c .before .before .before .before .before .before .before .before .before .before .before .before .before .before .before .take-coins .ensures in
-    let v = c .before .before .before .before .before .before .before .before .before .before .before .before .before .before .before .before .before .before .before .mix .ensures in
-    (c .before .before .before .before .before .before .before .before .before .hints .ensures ∙ ap₂ (hints F f) cs v, c .before .before .keys .ensures ∙ ap₂ (keys F f) cs v)
+    let k : tie.After-keys = search needs in
+    let h = keyed k in
+    let t = hinted h in
+    let m = flipped t in
+    let scheme = start m .args .scheme in (
+      h .hints .ensures ∙ ap₂ (hints scheme) (t .take-coins .ensures) (m .mix .ensures),
+      k .keys .ensures ∙ ap₂ (keys scheme) (t .take-coins .ensures) (m .mix .ensures),
+    )
 
 pub settle-spec : {M : Type 1} → statement M
 settle-spec =
     tie.close
-    (tie.spec mix-requires take-coins-requires hints-requires keys-requires same-length same-length-2 same-length-3 same-length-4 returns)
+    (tie.spec
+    (λ c κs. search needs)
+    (λ c κs. search needs)
+    hints-requires
+    keys-requires
+    (search needs)
+    (search needs)
+    (search needs)
+    (search needs)
+    returns)

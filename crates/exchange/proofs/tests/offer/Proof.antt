@@ -1,48 +1,43 @@
 -- `exchange::tests::offer` meets its contract: one test after the other.
 use mathlib.Core.Path.{refl}
-use borrow.Author.Needs.{needs}
 use Rattle.front.proofs.Laws.{first, also}
-use Rattle.exchange.specs.Tests.{offerTests}
+use Rattle.exchange.specs.Offer.{offerIn}
+use borrow.Author.Needs.{needs}
 use Rattle.exchange.proofs.tests.offer.Statement.{statement}
 use Rattle.exchange.proofs.tests.offer.Tie as tie
 
-length-is-requires : tie.Need-length-is-requires
-length-is-requires c κs = search needs
-
-length-is-requires-2 : tie.Need-length-is-requires-2
-length-is-requires-2 c κs = search needs
-
-length-is-requires-3 : tie.Need-length-is-requires-3
-length-is-requires-3 c κs = search needs
-
-length-is-requires-4 : tie.Need-length-is-requires-4
-length-is-requires-4 c κs = search needs
-
-room-for-requires : tie.Need-room-for-requires
-room-for-requires c κs = search needs
-
-publics-in-requires : tie.Need-publics-in-requires
-publics-in-requires c κs = search needs
-
-secrets-in-requires : tie.Need-secrets-in-requires
-secrets-in-requires c κs = search needs
-
-secrets-in-requires-2 : tie.Need-secrets-in-requires-2
-secrets-in-requires-2 c κs = search needs
-
 returns : tie.Need-returns
-unfolding offerTests
+unfolding offerIn
 returns c =
-    also (c .secrets-in2 .ensures)
-    (also (c .before .secrets-in .ensures)
-    (also (c .before .before .publics-in .ensures)
-    (also (c .before .before .before .room-for .ensures)
-    (also (c .before .before .before .before .length-is4 .ensures)
-    (also (c .before .before .before .before .before .length-is3 .ensures)
-    (also (c .before .before .before .before .before .before .length-is2 .ensures)
-    (first (c .before .before .before .before .before .before .before .length-is .ensures) refl) refl) refl) refl) refl) refl) refl) refl
+    let f : tie.After-fixed = search needs in
+    let l1 : tie.After-length-is = search needs in
+    let l2 : tie.After-length-is2 = search needs in
+    let l3 : tie.After-length-is3 = search needs in
+    let l4 : tie.After-length-is4 = search needs in
+    let m : tie.After-room-for = search needs in
+    let a : tie.After-publics-in = search needs in
+    let s : tie.After-secrets-in = search needs in
+    rw (f .fixed .ensures) at
+    (also (c .secrets-in2 .ensures)
+    (also (s .secrets-in .ensures)
+    (also (a .publics-in .ensures)
+    (also (m .room-for .ensures)
+    (also (l4 .length-is4 .ensures)
+    (also (l3 .length-is3 .ensures)
+    (also (l2 .length-is2 .ensures)
+    (first (l1 .length-is .ensures) refl) refl) refl) refl) refl) refl) refl) refl)
 
 pub offer-spec : {M : Type 1} → statement M
 offer-spec =
     tie.close
-    (tie.spec length-is-requires length-is-requires-2 length-is-requires-3 length-is-requires-4 room-for-requires publics-in-requires secrets-in-requires secrets-in-requires-2 returns)
+    (tie.spec
+    (λ c κs. search needs)
+    (λ c κs. search needs)
+    (λ c κs. search needs)
+    (λ c κs. search needs)
+    (λ c κs. search needs)
+    (λ c κs. search needs)
+    (λ c κs. search needs)
+    (λ c κs. search needs)
+    (λ c κs. search needs)
+    returns)

@@ -1,0 +1,89 @@
+-- `exchange::initiator::finish_sized` meets its contract: what the output holds, by the verdict of the tests after the sizes.
+use mathlib.Core.Path.{_≡_, sym, ap, _∙_}
+use mathlib.Core.List.{List, _++_}
+use Prim.Native.Nat.{ℕ, _≤_}
+use native.Mathlib.Omega.{arith}
+use lib.ListN.{length, take, drop, replicate}
+use Rattle.schemes.specs.Schemes.{fixedOf}
+use Rattle.schemes.specs.declared.Fixed.{Fixed}
+use Rattle.lists.proofs.Parts.{front-long}
+use Rattle.front.proofs.Held.{blank-front}
+use Rattle.front.proofs.Promise.{told-passed, wrote-passed, told-failed, wrote-kept}
+use Rattle.exchange.specs.Finish.{finishOf, finishKey}
+use Rattle.exchange.proofs.Finishing.{peer-key-length, finish-sized, finish-rest-decides}
+use borrow.Author.Needs.{needs}
+use Rattle.exchange.proofs.initiator.finish_sized.Statement.{statement}
+use Rattle.exchange.proofs.initiator.finish_sized.Tie as tie
+
+abbrev start : tie.After-fixed → tie.Start
+start c = search needs
+
+-- the part that the key takes
+module _ (c : tie.After-fixed) where
+  long : c .fixed .result .key ≡ fixedOf (start c .args .scheme) .key
+  long = ap (λ (g : Fixed). g .key) (c .fixed .ensures)
+
+  sized : let a = start c .args in
+      (length (a .reply .now) ≡ fixedOf (a .scheme) .reply) × (length (a .s .now) ≡ fixedOf (a .scheme) .secret) × (fixedOf (a .scheme) .key ≤ length (a .key .now))
+  sized = let a = start c .args in finish-sized (a .scheme) (finishOf (a .reply .now) (a .s .now)) (length (a .key .now)) (start c .pre .0)
+
+  roomy : c .fixed .result .key ≤ length (start c .args .key .now)
+  roomy = omega (arith, long, sized .2)
+
+slice-relend-prefix-key-in : tie.Need-slice-relend-prefix-key-in
+slice-relend-prefix-key-in c = roomy c
+
+slice-aggregate-key-in : tie.Need-slice-aggregate-key-in
+slice-aggregate-key-in c = let f : tie.After-fixed = search needs in sym (front-long _ (start f .args .key .now) (roomy f))
+
+key-in-requires : tie.Need-key-in-requires
+key-in-requires c κs =
+    let f : tie.After-fixed = search needs in
+    let b = start f in (
+      record {
+        reply-long = sized f .0;
+        secret-long = sized f .1;
+        key-blank = blank-front _ 0 _ (roomy f) (b .pre .1) ∙ ap (λ (n : ℕ). replicate n 0) (long f);
+      },
+      ap (λ (g : Fixed). g .secret) (f .fixed .ensures),
+    )
+
+returns : tie.Need-returns
+unfolding finishKey
+returns c =
+    let b : tie.Start = search needs in
+    let k : tie.After-key-in = search needs in
+    let v : tie.After-v = search needs in
+    let f : tie.After-fixed = search needs in
+    let e = finish-rest-decides _ _ _ (b .pre .0) (k .key-in .ensures .0) ∙ v .v .given .1 in
+    record { told = told-failed e; keys = wrote-kept e (f .fixed .result .key) (b .args .key .now) (v .v .given .1) (k .key-in .ensures .1) (b .pre .1) }
+
+returns-2 : tie.Need-returns-2
+unfolding finishKey
+returns-2 c =
+    let k : tie.After-key-in = search needs in
+    let f : tie.After-fixed = search needs in
+    let o : tie.After-enum-told = search needs in
+    let b = start f in
+    let e = finish-rest-decides _ _ _ (b .pre .0) (k .key-in .ensures .0) ∙ o .enum-told .given .1 in
+    let keyed = rw (o .enum-told .given .1) at (k .key-in .ensures .1) in
+    let n = peer-key-length (b .args .scheme) (finishOf (b .args .reply .now) (b .args .s .now)) ∙ sym (long f) in
+    record {
+      told = told-passed e;
+      keys = wrote-passed e (b .args .key .now) n (b .pre .1) (ap (λ (xs : List ℕ). xs ++ drop (f .fixed .result .key) (b .args .key .now)) keyed);
+    }
+
+pub finish-sized-spec : {M : Type 1} → statement M
+finish-sized-spec =
+    tie.close
+    (tie.spec
+    (λ c κs. search needs)
+    slice-relend-prefix-key-in
+    slice-aggregate-key-in
+    key-in-requires
+    (search needs)
+    (search needs)
+    (search needs)
+    returns
+    (search needs)
+    returns-2)

@@ -1,0 +1,92 @@
+-- `exchange::replier::with_opening` meets its contract: a refused message ends the call, and otherwise the secrets' tests decide.
+use mathlib.Core.Path.{_≡_, refl, sym, ap, _∙_}
+use mathlib.Core.List.{List}
+use Prim.Native.Nat.{ℕ}
+use Rattle.schemes.specs.Schemes.{fixedOf}
+use Rattle.lists.proofs.Same.{zeros}
+use Rattle.front.specs.Promise.{put}
+use Rattle.front.proofs.Laws.{failed, went-on}
+use Rattle.wire.specs.Wire.{openedIn}
+use Rattle.wire.proofs.Travel.{message-counted}
+use Rattle.exchange.specs.Reply.{replyOf, replyRest, openedOf}
+use Rattle.exchange.proofs.Replying.{message-taken, key-taken}
+use borrow.Author.Needs.{needs}
+use Rattle.exchange.proofs.replier.with_opening.Statement.{statement}
+use Rattle.exchange.proofs.replier.with_opening.Tie as tie
+
+-- the places, from the last to the first
+abbrev told : tie.After-with-secrets → tie.After-enum-told
+told c = search needs
+
+abbrev taken : tie.After-enum-told → tie.After-take-opening
+taken c = search needs
+
+abbrev refused : tie.After-zero-bytes2 → tie.After-zero-bytes
+refused c = search needs
+
+abbrev failing : tie.After-zero-bytes → tie.After-enum-told2
+failing c = search needs
+
+abbrev opened : tie.After-enum-told2 → tie.After-take-opening
+opened c = search needs
+
+abbrev start : tie.After-take-opening → tie.Start
+start c = search needs
+
+with-secrets-requires : tie.Need-with-secrets-requires
+with-secrets-requires c κs =
+    let o : tie.After-enum-told = search needs in
+    let t = taken o in
+    let b = start t in
+    let v = t .take-opening .ensures in
+    (b .pre .0, message-counted (b .args .scheme) (openedIn (b .args .scheme) (b .args .opening .now)) (v .1) (v .0) (o .enum-told .given .1))
+
+returns : tie.Need-returns
+unfolding replyRest openedOf
+returns c =
+    let y : tie.After-zero-bytes2 = search needs in
+    let z = refused y in
+    let o = failing z in
+    let t = opened o in
+    let b = start t in
+    let f = fixedOf (b .args .scheme) in
+    let e = o .enum-told2 .given .1 in (
+      e ∙ sym (failed _ (t .take-opening .ensures .0) e),
+      (rw e (z .zero-bytes .ensures ∙ sym (zeros (f .reply) 0 (b .pre .0 .message-blank))), rw e (y .zero-bytes2 .ensures ∙ sym (zeros (f .key) 0 (b .pre .0 .key-blank)))),
+    )
+
+returns-2 : tie.Need-returns-2
+unfolding replyRest openedOf
+returns-2 c =
+    let p : tie.After-with-secrets = search needs in
+    let o = told p in
+    let t = taken o in
+    let a = start t .args in
+    let x = replyOf (a .opening .now) (a .a .now) (a .s1 .now) (a .e1 .now) (a .e2 .now) (a .coins .now) in
+    let q = p .with-secrets .ensures in
+    let v = p .with-secrets .result in (
+      q .0 ∙ sym (went-on _ (t .take-opening .ensures .0) (o .enum-told .given .1)),
+      (
+        q .1 .0 ∙ ap (λ (xs : List ℕ). put v xs (a .message .now)) (message-taken (a .scheme) x (t .take-opening .ensures .1)),
+        q .1 .1 ∙ ap (λ (xs : List ℕ). put v xs (a .key .now)) (key-taken (a .scheme) x (t .take-opening .ensures .1)),
+      ),
+    )
+
+pub with-opening-spec : {M : Type 1} → statement M
+with-opening-spec =
+    tie.close
+    (tie.spec
+    (λ c κs. search needs)
+    (search needs)
+    (search needs)
+    (λ c κs. search needs)
+    (λ c κs. search needs)
+    (search needs)
+    (search needs)
+    (search needs)
+    returns
+    with-secrets-requires
+    (search needs)
+    (search needs)
+    (search needs)
+    returns-2)
