@@ -1,8 +1,8 @@
 -- Where the parts of a message stand.
---   packed-by, seed-by           where packed part and seed of an opening begin, by the family of the scheme
 --   packed-within, seed-within   both lie within the opening
 --   opened-long, replied-long, hints-long   how long the parts of a message are
 -- and by the struct f that the code reads the fixed numbers from:
+--   starts-by                    where packed part and seed of an opening begin, by the family of the scheme
 --   numbers-fit, hints-fit, entries-fit     what `pack` asks of numbers, hints and key entries
 --   packed-end, packed-part, opened         the packed part of an opening lies within it, is as long as f says, and is 01's
 --   seed-end, seed-fit           so does its seed, which fits there
@@ -10,13 +10,13 @@
 --   numbers-hold, taken          a packed part: what the unpack step asks, and what it gives
 --   replied, reply-split, reply-front       the packed part of a reply, which lies within it, and what is left for its hints
 --   hints-hold, hints-of, coins-hold, coins-of   hints and coins: what `unpack` asks, and what it gives
-use mathlib.Core.Path.{_≡_, sym, ap, _∙_}
+use mathlib.Core.Path.{_≡_, sym, ap, ap₂, _∙_}
 use mathlib.Core.List.{List, _++_, append-nil}
 use Prim.Native.Nat.{ℕ, _+_, _-_, _*_, _^_, _≤_, _<_}
 use native.Mathlib.Nat.{le-refl}
 use native.Mathlib.Omega.{arith}
 use lib.ListN.{length, take, drop, length-drop, drop-of-length-le}
-use lib.Seq.{take-at, drop-at, length-take-le}
+use lib.Seq.{take-at, drop-at, take-all, length-take-le}
 use borrow.Rule.Slice.PartMut.{putMid}
 use Rattle.lists.specs.Entries.{Below}
 use Rattle.lists.proofs.Parts.{part-long, joined}
@@ -34,13 +34,6 @@ use Rattle.wire.specs.Wire.{opening, packedAt, seedAt, openedIn, replied
 use Rattle.wire.proofs.Whole.{numbers, hints, keys, coins, fit, long, hold}
 
 -- ---- by the family
-
-module _ (c : Scheme) {F : Family} (d : familyOf c ≡ F) where
-  pub packed-by : by F 0 0 (fixedOf c .seed) ≡ packedAt c
-  packed-by = ap (λ (G : Family). by G 0 0 (fixedOf c .seed)) (sym d)
-
-  pub seed-by : by F (fixedOf c .packed) (fixedOf c .packed) 0 ≡ seedAt c
-  seed-by = ap (λ (G : Family). by G (fixedOf c .packed) (fixedOf c .packed) 0) (sym d)
 
 -- of a packed part of k entries and a seed of j
 packed-in : (F : Family) (k j : ℕ) → by F 0 0 j + k ≤ k + j
@@ -95,14 +88,18 @@ module _ {A : Type 0} (k j : ℕ) (d p s : List A) (lp : length p ≡ k) (ls : l
 -- ---- by the struct that the code reads them from
 
 module _ (c : Scheme) {f : Fixed} (e : f ≡ fixedOf c) where
+  pub starts-by : {F : Family} → familyOf c ≡ F → (by F 0 0 (f .seed) ≡ packedAt c) × (by F (f .packed) (f .packed) 0 ≡ seedAt c)
+  starts-by d =
+      (ap₂ (λ (F : Family) (g : Fixed). by F 0 0 (g .seed)) (sym d) e, ap₂ (λ (F : Family) (g : Fixed). by F (g .packed) (g .packed) 0) (sym d) e)
+
   -- what `pack` asks of numbers, hints and key entries, for a buffer of m bytes
   pub numbers-fit : {xs : List ℕ} {m : ℕ} → Counted (fixedOf c .secret) (fixedOf c .q) xs → m ≡ f .packed
       → ((0 < f .width) × (f .width ≤ 32) × Below (2 ^ f .width) xs) × (f .width * length xs ≡ 8 * m)
   numbers-fit h l = rw e (fit (numbers c) h (sound c .q-room) (rw e at l))
 
-  pub hints-fit : {xs : List ℕ} {m : ℕ} → Counted (fixedOf c .mixed) (2 ^ fixedOf c .hintbits) xs → m ≡ fixedOf c .hint
+  pub hints-fit : {xs : List ℕ} {m : ℕ} → Counted (fixedOf c .mixed) (2 ^ fixedOf c .hintbits) xs → m ≡ f .hint
       → ((0 < f .hintbits) × (f .hintbits ≤ 32) × Below (2 ^ f .hintbits) xs) × (f .hintbits * length xs ≡ 8 * m)
-  hints-fit h l = rw e (fit (hints c) h (le-refl _) l)
+  hints-fit h l = rw e (fit (hints c) h (le-refl _) (rw e at l))
 
   pub entries-fit : {xs : List ℕ} {m : ℕ} → Counted (fixedOf c .groups) (2 ^ fixedOf c .keybits) xs → m ≡ fixedOf c .key
       → ((0 < f .keybits) × (f .keybits ≤ 32) × Below (2 ^ f .keybits) xs) × (f .keybits * length xs ≡ 8 * m)
@@ -161,7 +158,7 @@ module _ (c : Scheme) {f : Fixed} (e : f ≡ fixedOf c) where
   unfolding repliedIn
   replied m = rw e
 
-  pub reply-split : {n : ℕ} → n ≡ fixedOf c .reply → n ≡ f .packed + fixedOf c .hint
+  pub reply-split : {n : ℕ} → n ≡ fixedOf c .reply → n ≡ f .packed + f .hint
   reply-split l = rw e (l ∙ tied c .reply)
 
   pub reply-front : {n : ℕ} → n ≡ fixedOf c .reply → f .packed ≤ n
@@ -177,13 +174,17 @@ module _ (c : Scheme) {f : Fixed} (e : f ≡ fixedOf c) where
       let ld : length d ≡ f .packed + length (packed (f .hintbits) ys) = rw e (omega (arith, long (hints c) g, tied c .reply)) in
       joined (f .packed) d _ _ _ _ ep er lp ld ∙ ap (λ (n : Fixed). packed (n .width) xs ++ packed (n .hintbits) ys) e
 
-  module _ (m : List ℕ) {p : List ℕ} (d : p ≡ drop (f .packed) m) where
-    pub hints-hold : {k : ℕ} → k ≡ fixedOf c .mixed → length m ≡ fixedOf c .reply → ((0 < f .hintbits) × (f .hintbits ≤ 32)) × (8 * length p ≡ f .hintbits * k)
-    hints-hold l o = rw (d, e) (hold (hints c) (hints-long c m o) l)
+  -- hints of n bytes, into room for k
+  module _ {k : ℕ} (l : k ≡ fixedOf c .mixed) where
+    pub hints-hold : {n : ℕ} → n ≡ f .hint → ((0 < f .hintbits) × (f .hintbits ≤ 32)) × (8 * n ≡ f .hintbits * k)
+    hints-hold o = rw e (hold (hints c) (rw e at o) l)
 
-    pub hints-of : {k : ℕ} → k ≡ fixedOf c .mixed → unpacked (f .hintbits) k p ≡ hintsIn c m
+    pub hints-of : (m : List ℕ) → length m ≡ fixedOf c .reply → unpacked (f .hintbits) k (take (f .packed + f .hint - f .packed) (drop (f .packed) m)) ≡ hintsIn c m
     unfolding hintsIn
-    hints-of l = rw (d, e, l)
+    hints-of m o =
+        let h : f .packed + f .hint - f .packed ≡ f .hint = omega arith in
+        let p : take (f .hint) (drop (f .packed) m) ≡ drop (f .packed) m = take-all (f .hint) (drop (f .packed) m) (omega (arith, length-drop (f .packed) m, reply-split o)) in
+        rw (h, p, e, l)
 
   -- ---- coins, into room for k
 

@@ -28,7 +28,7 @@ use Rattle.front.specs.declared.Verdict.{Verdict}
 use Rattle.front.specs.declared.Verdict.the-variants.{Pass}
 use Rattle.front.proofs.Laws.{message-passed}
 use Rattle.ends.specs.Fit.{Counted}
-use Rattle.wire.specs.Wire.{opening, packedAt, seedAt, openedIn, seedIn, repliedIn, numbersIn, hintsIn, coinsIn}
+use Rattle.wire.specs.Wire.{opening, packedAt, openedIn, seedIn, repliedIn, numbersIn, hintsIn, coinsIn}
 use Rattle.wire.specs.Again.{OpeningAgain, ReplyAgain, OpeningBack, ReplyBack}
 use Rattle.wire.proofs.Whole.{numbers, hints, keys, long, back, again}
 use Rattle.wire.proofs.Places.{opened-long, replied-long, hints-long}

@@ -10,30 +10,22 @@ ghost use Rattle.packing.specs.Packing.{packed};
 ghost use Rattle.ends.specs.Fit.{Counted};
 ghost use Rattle.front.specs.Front.{messageIn};
 ghost use Rattle.wire.specs.Wire.{opening, packedAt, seedAt, openedIn, repliedIn, numbersIn, hintsIn, coinsIn};
-
 use front::Verdict;
 use schemes::Family;
 use schemes::Scheme;
 
-// Where the packed part of an opening begins.
-fn packed_at(scheme: Scheme) -> usize
-    ensures { λ r. ⌜ r ≡ packedAt scheme ⌝ }
-{
-    match scheme.family() {
-        Family::Bcns => 0,
-        Family::NewHope => 0,
-        Family::Frodo => scheme.fixed().seed,
-    }
-}
+// Where the two parts of an opening begin, the packed one first.
+struct Starts(usize, usize);
 
-// Where its seed begins.
-fn seed_at(scheme: Scheme) -> usize
-    ensures { λ r. ⌜ r ≡ seedAt scheme ⌝ }
+// Frodo's seed stands before its packed part, the others' behind it.
+fn opening_starts(scheme: Scheme) -> Starts
+    ensures { λ r. ⌜ (r .0 ≡ packedAt scheme) × (r .1 ≡ seedAt scheme) ⌝ }
 {
+    let f = scheme.fixed();
     match scheme.family() {
-        Family::Bcns => scheme.fixed().packed,
-        Family::NewHope => scheme.fixed().packed,
-        Family::Frodo => 0,
+        Family::Bcns => Starts(0, f.packed),
+        Family::NewHope => Starts(0, f.packed),
+        Family::Frodo => Starts(f.seed, 0),
     }
 }
 
@@ -44,10 +36,11 @@ pub fn lay_opening(scheme: Scheme, numbers: &[u32], seed: &[u8], out: &mut [u8])
     ensures { λ _. ⌜ left out ≡ opening scheme (was seed) (packed (fixedOf scheme .width) (was numbers)) ⌝ }
 {
     let f = scheme.fixed();
-    let at = packed_at(scheme);
-    let end = at + f.packed;
-    packing::pack(f.width, numbers, &mut out[at..end]);
-    let from = seed_at(scheme);
+    let starts = opening_starts(scheme);
+    let start = starts.0;
+    let end = start + f.packed;
+    packing::pack(f.width, numbers, &mut out[start..end]);
+    let from = starts.1;
     let to = from + f.seed;
     lists::copy_bytes(seed, &mut out[from..to]);
 }
@@ -59,9 +52,10 @@ pub fn take_opening(scheme: Scheme, opening: &[u8], numbers: &mut [u32]) -> Verd
     ensures { λ _. ⌜ left numbers ≡ numbersIn scheme (openedIn scheme (was opening)) ⌝ }
 {
     let f = scheme.fixed();
-    let at = packed_at(scheme);
-    let end = at + f.packed;
-    front::take_message(f.width, f.q, &opening[at..end], numbers)
+    let starts = opening_starts(scheme);
+    let start = starts.0;
+    let end = start + f.packed;
+    front::take_message(f.width, f.q, &opening[start..end], numbers)
 }
 
 // The unpack step of Finish: the reply's numbers, and whether each is below q.
@@ -81,8 +75,9 @@ pub fn take_hints(scheme: Scheme, reply: &[u8], hints: &mut [u32])
     ensures { λ _. ⌜ left hints ≡ hintsIn scheme (was reply) ⌝ }
 {
     let f = scheme.fixed();
-    let k = f.packed;
-    packing::unpack(f.hintbits, &reply[k..], hints);
+    let at = f.packed;
+    let end = at + f.hint;
+    packing::unpack(f.hintbits, &reply[at..end], hints);
 }
 
 // The coins of all groups; Frodo has none, which reads as zeros.
