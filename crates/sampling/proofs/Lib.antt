@@ -1,0 +1,3 @@
+pub mod Noising
+pub mod Expanding
+pub mod Sampled

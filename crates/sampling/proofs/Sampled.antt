@@ -1,0 +1,58 @@
+-- What follows from the promises of Noise and Expand, and of whom it is stated in `specs/`.
+--   one-noise, one-expand           no two results satisfy one promise
+--   values-within, noise-within     the values of a scheme lie within its largest noise, and so does the whole output of Noise
+--   noise-passes                    so no part of it is refused
+--   expand-below, expand-passes     the whole output of Expand is below 12289, and no part of it is refused
+use mathlib.Core.List.{List}
+use Prim.Native.Nat.{ℕ, _<_, _≤_}
+use native.Mathlib.Omega.{arith}
+use lib.IntN.{ℤ, pos, natAbs}
+use Rattle.schemes.specs.Schemes.{fixedOf, newHope}
+use Rattle.schemes.specs.declared.Scheme.{Scheme}
+use Rattle.schemes.specs.declared.Scheme.the-variants.{Bcns, NewHope, Challenge, Classical, Recommended, Paranoid}
+use Rattle.schemes.specs.declared.Named.the-variants.{Is}
+use Rattle.lists.specs.Entries.{Below, Within}
+use Rattle.lists.proofs.Parts.{below-take, below-drop, part-within}
+use Rattle.front.proofs.Laws.{held-all, within-passes, below-passes}
+use Rattle.front.proofs.Promise.{same-answer}
+use Rattle.noise.specs.Noise.{d1, d2, d3, d4}
+use Rattle.noise.proofs.Noise.{newhope-within, frodo-within}
+use Rattle.noise.proofs.Stream.{first14-below}
+use Rattle.sampling.specs.Noise.{Noise, noiseValues, Noised, OneNoise, NoisePasses}
+use Rattle.sampling.specs.Expand.{Expand, expandNumbers, Expanded, OneExpand, ExpandPasses}
+
+pub one-noise : OneNoise
+one-noise c x r r′ out out′ p q = (same-answer r r′ (cc) (cc) (cc), cc)
+
+pub one-expand : OneExpand
+one-expand x r r′ out out′ p q = (same-answer r r′ (cc) (cc) (cc), cc)
+
+-- ---- what is written is not refused later
+
+pub values-within : (c : Scheme) (bytes : List ℕ) → Below 256 bytes → Within (fixedOf c .largest) (noiseValues (Is c) bytes)
+unfolding noiseValues
+values-within Bcns bytes b = record { within = λ k. omega arith }
+values-within NewHope bytes b = newhope-within bytes b
+values-within Challenge bytes b = frodo-within d1 7 bytes
+values-within Classical bytes b = frodo-within d2 11 bytes
+values-within Recommended bytes b = frodo-within d3 11 bytes
+values-within Paranoid bytes b = frodo-within d4 15 bytes
+
+pub noise-within : {c : Scheme} {x : Noise} {number place count : ℕ} {out : List ℤ} → Noised (Is c) x number place count out → Below 256 (x .bytes)
+    → Within (fixedOf c .largest) out
+noise-within {c} {x} p b =
+    record { within = rw (p .values .holds) (held-all (λ i. natAbs i ≤ fixedOf c .largest) (pos 0) _ _ _ (omega arith) (values-within c (x .bytes) b .within)) }
+
+pub noise-passes : NoisePasses
+noise-passes c x number place count out p b from many = within-passes (part-within (fixedOf c .largest) from many out (noise-within p b))
+
+numbers-below : (stream : List ℕ) → Below (newHope .q) (expandNumbers stream)
+unfolding expandNumbers
+numbers-below stream = first14-below stream
+
+pub expand-below : {x : Expand} {number place count : ℕ} {out : List ℕ} → Expanded x number place count out → Below (newHope .q) out
+expand-below {x} p =
+    record { below = rw (p .numbers .holds) (held-all (λ i. i < newHope .q) 0 _ _ _ (omega arith) (numbers-below (x .stream) .below)) }
+
+pub expand-passes : ExpandPasses
+expand-passes x number place count out p from many = below-passes (below-take (below-drop (expand-below p) from) many)

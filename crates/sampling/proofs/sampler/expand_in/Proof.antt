@@ -1,0 +1,82 @@
+-- `sampling::sampler::expand_in` meets its contract: the part that was lent is filled, or is zero again.
+use mathlib.Core.Path.{_≡_, _∙_, sym, ap}
+use mathlib.Core.List.{List, _++_}
+use Prim.Native.Nat.{ℕ, _≤_}
+use native.Mathlib.Omega.{arith}
+use lib.ListN.{length, drop, length-take}
+use lib.Seq.{length-take-le}
+use Rattle.front.proofs.Promise.{told-passed, wrote-passed, told-failed, wrote-restored}
+use Rattle.sampling.specs.Expand.{Expand, expandOf, expandNumbers}
+use Rattle.sampling.proofs.Expanding.{room-enough, ran-out, full, numbers-few, whole-part}
+use borrow.Author.Needs.{needs}
+use Rattle.sampling.proofs.sampler.expand_in.Statement.{statement}
+use Rattle.sampling.proofs.sampler.expand_in.Tie as tie
+
+abbrev lent : tie.Start → Expand
+lent b = expandOf (b .args .stream .now) (length (b .args .out .now))
+
+enough : (b : tie.Start) → 1024 ≤ length (b .args .out .now)
+enough b = room-enough (lent b) (b .pre .0)
+
+slice-relend-prefix-expand : tie.Need-slice-relend-prefix-expand
+slice-relend-prefix-expand c = let b : tie.Start = search needs in enough b
+
+slice-aggregate-expand : tie.Need-slice-aggregate-expand
+slice-aggregate-expand c = let b : tie.Start = search needs in sym (length-take-le 1024 (b .args .out .now) (enough b))
+
+expand-requires : tie.Need-expand-requires
+expand-requires c κs = let b : tie.Start = search needs in length-take-le 1024 (b .args .out .now) (enough b)
+
+slice-relend-prefix-zero-numbers : tie.Need-slice-relend-prefix-zero-numbers
+slice-relend-prefix-zero-numbers c =
+    let b : tie.Start = search needs in
+    let o : tie.After-out = search needs in
+    omega (arith, o .out .given .1, enough b)
+
+slice-aggregate-zero-numbers : tie.Need-slice-aggregate-zero-numbers
+slice-aggregate-zero-numbers c =
+    let b : tie.Start = search needs in
+    let o : tie.After-out = search needs in
+    simp length-take (omega (arith, o .out .given .1, enough b))
+
+returns : tie.Need-returns
+unfolding expandNumbers
+returns c =
+    let b : tie.Start = search needs in
+    let n : tie.After-expand = search needs in
+    let o : tie.After-out = search needs in
+    let i : tie.Then1 = search needs in
+    let e = ran-out (lent b) (b .pre .0) (n .expand .ensures .0) (i .if1 .taken) in
+    let l = o .out .given .0 ∙ length-take-le 1024 (b .args .out .now) (enough b) in
+    record { told = told-failed e; numbers = wrote-restored e (b .args .out .now) (n .expand .last .1 .0) (b .pre .1) (enough b) l (c .before .before .zero-numbers .ensures) }
+
+returns-2 : tie.Need-returns-2
+unfolding expandNumbers
+returns-2 c =
+    let b : tie.Start = search needs in
+    let n : tie.After-expand = search needs in
+    let xs = expandNumbers (b .args .stream .now) in
+    let l = c .if1 .left in
+    let e = full (lent b) (b .pre .0) (n .expand .ensures .0) l in
+    let long : length xs ≡ 1024 = omega (arith, n .expand .ensures .0, numbers-few (b .args .stream .now)) in
+    let w = whole-part xs (b .args .out .now) _ _ (n .expand .ensures .1) l in
+    let many = n .expand .ensures .0 ∙ long in
+    record {
+      told = told-passed e;
+      numbers = rw many (wrote-passed e (b .args .out .now) long (b .pre .1) (ap (λ (ys : List ℕ). ys ++ drop 1024 (b .args .out .now)) w));
+    }
+
+pub expand-in-spec : {M : Type 1} → statement M
+expand-in-spec =
+    tie.close
+    (tie.spec
+    slice-relend-prefix-expand
+    slice-aggregate-expand
+    expand-requires
+    slice-relend-prefix-zero-numbers
+    slice-aggregate-zero-numbers
+    (search needs)
+    (search needs)
+    returns
+    (search needs)
+    returns-2)

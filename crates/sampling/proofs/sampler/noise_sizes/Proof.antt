@@ -1,0 +1,41 @@
+-- `sampling::sampler::noise_sizes` meets its contract.
+use mathlib.Core.Path.{refl, _∙_, ap}
+use Prim.Native.Nat.{_*_}
+use native.Mathlib.Omega.{arith}
+use native.Mathlib.Nat.{mul-le-mul}
+use lib.ListN.{length}
+use Rattle.schemes.specs.declared.Fixed.{Fixed}
+use Rattle.schemes.proofs.Sound.{Sound, sound}
+use Rattle.front.proofs.Laws.{also}
+use Rattle.sampling.specs.Noise.{lengthEither, noiseSizes}
+use borrow.Author.Needs.{needs}
+use Rattle.sampling.proofs.sampler.noise_sizes.Statement.{statement}
+use Rattle.sampling.proofs.sampler.noise_sizes.Tie as tie
+
+mul-length-either : tie.Need-mul-length-either
+mul-length-either c =
+    let b : tie.Start = search needs in
+    let f : tie.After-fixed = search needs in
+    let z : Sound (f .fixed .result) = rw (f .fixed .ensures) (sound (b .args .s)) in
+    record { fits = omega (arith, mul-le-mul (b .pre .1) (z .noises)) }
+
+mul-length-either-2 : tie.Need-mul-length-either-2
+mul-length-either-2 c =
+    let b : tie.Start = search needs in
+    let f : tie.After-fixed = search needs in
+    let z : Sound (f .fixed .result) = rw (f .fixed .ensures) (sound (b .args .s)) in
+    record { fits = omega (arith, mul-le-mul (b .pre .1) (z .values)) }
+
+returns : tie.Need-returns
+unfolding noiseSizes
+returns c =
+    let b : tie.Start = search needs in
+    let f : tie.After-fixed = search needs in
+    let m = length (b .args .bytes .now) in
+    let each = b .args .each in
+    let g = ap (λ (g : Fixed). lengthEither m (each * g .noise) (each * g .mixed)) (f .fixed .ensures) in
+    also (c .room-for .ensures) (c .before .length-either .ensures ∙ g) refl
+
+pub noise-sizes-spec : {M : Type 1} → statement M
+noise-sizes-spec =
+    tie.close (tie.spec (search needs) mul-length-either mul-length-either-2 (search needs) (search needs) (search needs) returns)

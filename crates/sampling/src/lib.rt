@@ -1,0 +1,35 @@
+// Noise and Expand: values and public numbers from bytes that the caller lends (01, "Noise" and "The NewHope transform"). Neither has a `requires`: each ends
+// with an answer or a numbered refusal, given exactly when its condition holds; the whole output is zeroed first.
+ghost use Rattle.schemes.specs.Schemes.{schemeOf};
+ghost use Rattle.sampling.specs.Noise.{Noises};
+ghost use Rattle.sampling.specs.Expand.{Expands};
+
+mod sampler;
+
+use front::Answer;
+use front::Refusal;
+use front::Verdict;
+use schemes::Named;
+
+// Noise: scheme, bytes. The values that the bytes give, four bytes a value in NewHope, two in Frodo.
+pub fn noise(scheme: u32, bytes: &[u8], out: &mut [i32]) -> Answer
+    ensures { λ r. ⌜ Noises (schemeOf scheme) bytes out r ⌝ }
+{
+    lists::zero_values(out);
+    let Named::Is(s) = schemes::scheme_of(scheme) else {
+        return Answer::Refused(Refusal::NoScheme);
+    };
+    sampler::noise_in(s, bytes, out)
+}
+
+// Expand: stream. The first 1,024 numbers below 12289 that it holds.
+pub fn expand(stream: &[u8], out: &mut [u32]) -> Answer
+    ensures { λ r. ⌜ Expands stream out r ⌝ }
+{
+    lists::zero_numbers(out);
+    let v = sampler::expand_sizes(stream, out.len());
+    match v {
+        Verdict::Fail(r) => Answer::Refused(r),
+        Verdict::Pass => sampler::expand_in(stream, out),
+    }
+}

@@ -1,0 +1,120 @@
+// Noise and Expand, once the scheme is known and the output holds zeros: the tests in 01's order, then the work of crate `noise` into the part of the output
+// that the answer takes.
+ghost use mathlib.Core.Path.{_≡_};
+ghost use mathlib.Core.List.{_++_};
+ghost use Prim.Native.Nat.{_%_, _≤_, _<_};
+ghost use lib.ListN.{length, drop, replicate};
+ghost use lib.IntN.{pos};
+ghost use Rattle.schemes.specs.declared.Named.the-variants.{Is};
+ghost use Rattle.lists.specs.Lent.{was, left};
+ghost use Rattle.front.specs.declared.Verdict.the-variants.{Pass};
+ghost use Rattle.sampling.specs.Noise.{noiseOf, lengthEither, noiseSizes, noiseTests, noiseValues, Noises};
+ghost use Rattle.sampling.specs.Expand.{expandOf, expandSizes, Expands};
+use front::Answer;
+use front::Refusal;
+use front::Verdict;
+use schemes::Family;
+use schemes::NewHope;
+use schemes::Scheme;
+
+// An input's length is one of two.
+fn length_either(m: usize, x: usize, y: usize) -> Verdict
+    ensures { λ r. ⌜ r ≡ lengthEither m x y ⌝ }
+{
+    if m == x {
+        return Verdict::Pass;
+    }
+    front::length_is(Verdict::Pass, m, y)
+}
+
+// The tests of lengths, where a value takes 2 or 4 bytes.
+fn noise_sizes(s: Scheme, each: usize, bytes: &[u8], room: usize) -> Verdict
+    requires { ⌜ (0 < each) × (each ≤ 4) ⌝ }
+    ensures { λ r. ⌜ r ≡ noiseSizes s each (noiseOf (was bytes) room) ⌝ }
+{
+    let f = s.fixed();
+    let v = length_either(bytes.len(), each * f.noise, each * f.mixed);
+    front::room_for(v, room, bytes.len() / each)
+}
+
+// The noise of BCNS is lent ready. A value takes two words in NewHope, one in Frodo.
+fn noise_tests(s: Scheme, bytes: &[u8], room: usize) -> Verdict
+    ensures { λ r. ⌜ r ≡ noiseTests (Is s) (noiseOf (was bytes) room) ⌝ }
+{
+    match s.family() {
+        Family::Bcns => Verdict::Fail(Refusal::NoScheme),
+        Family::NewHope => noise_sizes(s, 4, bytes, room),
+        Family::Frodo => noise_sizes(s, 2, bytes, room),
+    }
+}
+
+// How many values the bytes give.
+fn noise_count(s: Scheme, bytes: &[u8]) -> usize
+    ensures { λ r. ⌜ r ≡ length (noiseValues (Is s) (was bytes)) ⌝ }
+{
+    match s.family() {
+        Family::Bcns => 0,
+        Family::NewHope => bytes.len() / 4,
+        Family::Frodo => bytes.len() / 2,
+    }
+}
+
+// The values, into the part that they fill. Each fixed length is a whole number of four bytes.
+fn noise_fill(s: Scheme, bytes: &[u8], out: &mut [i32])
+    requires { ⌜ (length (now bytes) % 4 ≡ 0) × (length (now out) ≡ length (noiseValues (Is s) (now bytes))) ⌝ }
+    ensures { λ _. ⌜ left out ≡ noiseValues (Is s) (was bytes) ⌝ }
+{
+    match s {
+        Scheme::Bcns => {}
+        Scheme::NewHope => noise::newhope(bytes, out),
+        Scheme::Challenge => noise::challenge(bytes, out),
+        Scheme::Classical => noise::classical(bytes, out),
+        Scheme::Recommended => noise::recommended(bytes, out),
+        Scheme::Paranoid => noise::paranoid(bytes, out),
+    }
+}
+
+// The values at the front of the output, and how many they are.
+fn noise_values(s: Scheme, bytes: &[u8], out: &mut [i32]) -> usize
+    requires { ⌜ (length (now bytes) % 4 ≡ 0) × (length (noiseValues (Is s) (now bytes)) ≤ length (now out)) ⌝ }
+    ensures { λ r. ⌜ r ≡ length (noiseValues (Is s) (was bytes)) ⌝ }
+    ensures { λ r. ⌜ left out ≡ noiseValues (Is s) (was bytes) ++ drop r (was out) ⌝ }
+{
+    let n = noise_count(s, bytes);
+    noise_fill(s, bytes, &mut out[..n]);
+    n
+}
+
+// Noise in a known scheme.
+pub(crate) fn noise_in(s: Scheme, bytes: &[u8], out: &mut [i32]) -> Answer
+    requires { ⌜ now out ≡ replicate (length (now out)) (pos 0) ⌝ }
+    ensures { λ r. ⌜ Noises (Is s) bytes out r ⌝ }
+{
+    let v = noise_tests(s, bytes, out.len());
+    match v {
+        Verdict::Fail(r) => Answer::Refused(r),
+        Verdict::Pass => Answer::Done(noise_values(s, bytes, out)),
+    }
+}
+
+// Expand's tests of lengths.
+pub(crate) fn expand_sizes(stream: &[u8], room: usize) -> Verdict
+    ensures { λ r. ⌜ r ≡ expandSizes (expandOf (was stream) room) ⌝ }
+{
+    let v = front::length_up_to(Verdict::Pass, stream.len(), 65536);
+    front::room_for(v, room, NewHope::PUBLIC)
+}
+
+// Expand, where the lengths are allowed. Where the stream runs out, the numbers that were written are zeroed again.
+pub(crate) fn expand_in(stream: &[u8], out: &mut [u32]) -> Answer
+    requires { ⌜ expandSizes (expandOf (now stream) (length (now out))) ≡ Pass ⌝ }
+    requires { ⌜ now out ≡ replicate (length (now out)) 0 ⌝ }
+    ensures { λ r. ⌜ Expands stream out r ⌝ }
+{
+    let n = noise::expand(stream, &mut out[..NewHope::PUBLIC]);
+    if n < NewHope::PUBLIC {
+        lists::zero_numbers(&mut out[..NewHope::PUBLIC]);
+        return Answer::Refused(Refusal::RanOut(n));
+    }
+    Answer::Done(n)
+}

@@ -1,0 +1,35 @@
+-- Messages there and back.
+--   OpeningAgain, ReplyAgain   a message of the scheme's length comes back the same when it is unpacked and packed again
+--   OpeningBack                the numbers and the seed that an opening was put together from come back
+--   ReplyBack                  so do the numbers and the hints of a reply
+use mathlib.Core.Path.{_≡_}
+use mathlib.Core.List.{List, _++_}
+use Prim.Native.Nat.{ℕ, _^_}
+use lib.ListN.{length}
+use Rattle.lists.specs.Entries.{Below}
+use Rattle.schemes.specs.Schemes.{fixedOf}
+use Rattle.schemes.specs.declared.Scheme.{Scheme}
+use Rattle.packing.specs.Packing.{packed}
+use Rattle.ends.specs.Fit.{Counted}
+use Rattle.wire.specs.Wire.{opening, openedIn, seedIn, repliedIn, numbersIn, hintsIn}
+
+abbrev pub OpeningAgain : Type 0
+OpeningAgain =
+    (c : Scheme) (m : List ℕ) → length m ≡ fixedOf c .opening → Below 256 m
+    → opening c (seedIn c m) (packed (fixedOf c .width) (numbersIn c (openedIn c m))) ≡ m
+
+abbrev pub ReplyAgain : Type 0
+ReplyAgain =
+    (c : Scheme) (m : List ℕ) → length m ≡ fixedOf c .reply → Below 256 m
+    → packed (fixedOf c .width) (numbersIn c (repliedIn c m)) ++ packed (fixedOf c .hintbits) (hintsIn c m) ≡ m
+
+abbrev pub OpeningBack : Type 0
+OpeningBack =
+    (c : Scheme) (seed xs : List ℕ) → length seed ≡ fixedOf c .seed → Counted (fixedOf c .secret) (fixedOf c .q) xs
+    → (numbersIn c (openedIn c (opening c seed (packed (fixedOf c .width) xs))) ≡ xs) × (seedIn c (opening c seed (packed (fixedOf c .width) xs)) ≡ seed)
+
+abbrev pub ReplyBack : Type 0
+ReplyBack =
+    (c : Scheme) (xs hs : List ℕ) → Counted (fixedOf c .secret) (fixedOf c .q) xs → Counted (fixedOf c .mixed) (2 ^ fixedOf c .hintbits) hs
+    → (numbersIn c (repliedIn c (packed (fixedOf c .width) xs ++ packed (fixedOf c .hintbits) hs)) ≡ xs)
+    × (hintsIn c (packed (fixedOf c .width) xs ++ packed (fixedOf c .hintbits) hs) ≡ hs)
