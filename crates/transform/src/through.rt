@@ -5,6 +5,7 @@ ghost use lib.ListN.{length};
 ghost use Rattle.lists.specs.Entries.{Below};
 ghost use Rattle.transform.specs.Transform.{transformed, entrywise, summed};
 ghost use Rattle.transform.specs.Mixing.{reduced, mixedThrough, bareThrough, valueThrough};
+use schemes::NewHope;
 
 // Secrets or noise, each reduced to 0 .. q - 1.
 fn reduce(s: &[i32], out: &mut [u32; 1024])
@@ -12,8 +13,8 @@ fn reduce(s: &[i32], out: &mut [u32; 1024])
     ensures { λ _. ⌜ now (out .exit) ≡ reduced (now (s .entry)) ⌝ }
 {
     let mut k: usize = 0;
-    while k < 1024 {
-        out[k] = numbers::residue32(s[k], 12289);
+    while k < NewHope::N {
+        out[k] = numbers::residue32(s[k], NewHope::Q);
         k += 1;
     }
 }
@@ -34,8 +35,8 @@ fn combine(a: &[u32], x: &[u32; 1024], y: &[u32; 1024], out: &mut [u32])
     ensures { λ _. ⌜ now (out .exit) ≡ summed (entrywise (now (a .entry)) (now (x .entry))) (now (y .entry)) ⌝ }
 {
     let mut k: usize = 0;
-    while k < 1024 {
-        out[k] = (a[k] * x[k] + y[k]) % 12289;
+    while k < NewHope::N {
+        out[k] = (a[k] * x[k] + y[k]) % NewHope::Q;
         k += 1;
     }
 }
@@ -46,8 +47,8 @@ fn weigh(u: &[u32], x: &mut [u32; 1024])
     ensures { λ _. ⌜ now (x .exit) ≡ entrywise (now (u .entry)) (now (x .entry)) ⌝ }
 {
     let mut k: usize = 0;
-    while k < 1024 {
-        x[k] = u[k] * x[k] % 12289;
+    while k < NewHope::N {
+        x[k] = u[k] * x[k] % NewHope::Q;
         k += 1;
     }
 }
@@ -68,8 +69,8 @@ fn add_noise(x: &[u32; 1024], e: &[i32], out: &mut [u32])
     ensures { λ _. ⌜ now (out .exit) ≡ summed (now (x .entry)) (reduced (now (e .entry))) ⌝ }
 {
     let mut k: usize = 0;
-    while k < 1024 {
-        out[k] = (x[k] + numbers::residue32(e[k], 12289)) % 12289;
+    while k < NewHope::N {
+        out[k] = (x[k] + numbers::residue32(e[k], NewHope::Q)) % NewHope::Q;
         k += 1;
     }
 }
@@ -79,7 +80,7 @@ fn put(x: &[u32; 1024], out: &mut [u32])
     ensures { λ _. ⌜ now (out .exit) ≡ now (x .entry) ⌝ }
 {
     let mut k: usize = 0;
-    while k < 1024 {
+    while k < NewHope::N {
         out[k] = x[k];
         k += 1;
     }
