@@ -1,6 +1,6 @@
 // The NewHope transform: 01, "The NewHope transform". `forward` yields 01's sums, `inverse` undoes them, and `product` is the product modulo X^1024 + 1, each in
-// place on 1,024 numbers below 12289 and with the table of the powers of 7 (`powers`). The theorems, that the two undo each other and that products and sums go
-// through the transform, stand in `proofs/` on the definitions.
+// place on 1,024 numbers below 12289 and with the table of the powers of 7 (`powers`). The theorems, that the table has the
+// powers, that the two undo each other and that products go through the transform, are stated in `specs/Theorems.antt`.
 // The sums are made by Stockham's method, decimation in time, two halvings at a time (`specs/Level.antt`): five levels between two buffers, all of whose powers stand
 // below the table's middle, so that no index is reduced. Only products are reduced on the way. A level adds at most 2 * 12289, so all stays below 11 * 12289.
 ghost use mathlib.Core.Path.{_≡_};
