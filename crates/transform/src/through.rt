@@ -90,8 +90,8 @@ fn put(x: &[u32; 1024], out: &mut [u32])
 
 // The transform of as + e, of the transform of a: b and u as they travel.
 pub fn mix(a: &[u32], s: &[i32], e: &[i32], out: &mut [u32])
-    requires { ⌜ (length (now a) ≡ 1024) × Below 12289 (now a) × (length (now out) ≡ 1024) ⌝ }
-    requires { ⌜ (length (now s) ≡ 1024) × (length (now e) ≡ 1024) ⌝ }
+    requires { ⌜ (length (now a) ≡ 1024) × Below 12289 (now a) × (length (now s) ≡ 1024) × (length (now out) ≡ 1024) ⌝ }
+    requires { ⌜ length (now e) ≡ 1024 ⌝ }
     ensures { λ _. ⌜ left out ≡ transformed (mixed 12289 1024 (inverted (was a)) (was s) (was e)) ⌝ }
 {
     let mut x = [0u32; 1024];
@@ -113,8 +113,8 @@ pub fn multiply(u: &[u32], s: &[i32], out: &mut [u32])
 
 // bs + e, of the transform of b: the replier's v.
 pub fn value(b: &[u32], s: &[i32], e: &[i32], out: &mut [u32])
-    requires { ⌜ (length (now b) ≡ 1024) × Below 12289 (now b) × (length (now s) ≡ 1024) ⌝ }
-    requires { ⌜ (length (now e) ≡ 1024) × (length (now out) ≡ 1024) ⌝ }
+    requires { ⌜ (length (now b) ≡ 1024) × Below 12289 (now b) × (length (now s) ≡ 1024) × (length (now out) ≡ 1024) ⌝ }
+    requires { ⌜ length (now e) ≡ 1024 ⌝ }
     ensures { λ _. ⌜ left out ≡ mixed 12289 1024 (inverted (was b)) (was s) (was e) ⌝ }
 {
     let mut x = [0u32; 1024];

@@ -14,7 +14,7 @@ combine-requires c κs =
     let b : tie.Start = search needs in
     let x : tie.After-turn = search needs in
     let y : tie.After-turn2 = search needs in
-    (b .pre .0, (rw (x .turn .ensures) (transformed-below _), rw (y .turn2 .ensures) (transformed-below _)))
+    ((b .pre .0 .0, b .pre .0 .1, b .pre .0 .3), (rw (x .turn .ensures) (transformed-below _), rw (y .turn2 .ensures) (transformed-below _)))
 
 returns : tie.Need-returns
 returns c =
