@@ -2,7 +2,7 @@
 --   counted          a count and a bound under another name
 --   hints-counted, keys-counted, peers-counted   as many as the scheme has, and each within its bits
 --   Hinting, Keying, Peering   what the functions are given: coins or hints xs, the replier's own hints, a value and room, with the scheme's counts and ranges
---   Told X           what a function knows in an arm: what it is given, what `scheme.family()` returned, and the interval and the key bits
+--   Told X, tell     what a function knows in an arm: what it is given, what `scheme.family()` returned, and the interval and the key bits
 --   frodo            the same, where these two are what Frodo's arm computed
 --   hints-asks, hints-made, keys-asks, keys-made, peers-asks, peers-made   in the arms; NewHope's keys are the bits of its own hints
 use mathlib.Core.Path.{_≡_, refl, _∙_, sym, ap, subst}
@@ -93,6 +93,25 @@ pub record Told (X : Scheme → List ℕ → List ℕ → List ℕ → ℕ → T
   pub wide : I ≡ interval c
   pub B : ℕ
   pub bits : B ≡ fixedOf c .keybits
+
+-- before the arm has computed them
+abbrev pub tell : {X : Scheme → List ℕ → List ℕ → List ℕ → ℕ → Type 0} (c : Scheme) (xs own v : List ℕ) (l : ℕ) {F : Family}
+    → F ≡ familyOf c → X c xs own v l → Told X
+tell c xs own v l {F} i h =
+    record {
+      c = c;
+      xs = xs;
+      own = own;
+      v = v;
+      room = l;
+      kind = F;
+      family = i;
+      given = h;
+      I = interval c;
+      wide = refl;
+      B = fixedOf c .keybits;
+      bits = refl;
+    }
 
 -- ---- in the arms
 

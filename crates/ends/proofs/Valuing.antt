@@ -1,6 +1,6 @@
 -- What is asked and what is made in the arms of the functions of `values`, F being the arm's family.
 --   Travelling, Mixing, Multiplying   what the functions are given: numbers, secrets, noise and room, with the scheme's counts and ranges
---   Told X                     what a function knows before its match: what it is given, and what `scheme.fixed()` and `scheme.family()` returned
+--   Told X, tell               what a function knows before its match: what it is given, and what `scheme.fixed()` and `scheme.family()` returned
 --   travel-asks                what is asked by the products that travel, b and u
 --   offer-made, reply-made     and what they are
 --   mix-asks, mix-made         the replier's value
@@ -57,6 +57,10 @@ pub record Told (X : Fixed → List ℕ → List ℤ → List ℤ → ℕ → Ty
   pub kind : Family
   pub family : kind ≡ familyOf c
   pub given : X (fixedOf c) a s e room
+
+abbrev pub tell : {X : Fixed → List ℕ → List ℤ → List ℤ → ℕ → Type 0} (c : Scheme) (a : List ℕ) (s e : List ℤ) (l : ℕ) {f : Fixed} {F : Family}
+    → f ≡ fixedOf c → F ≡ familyOf c → X (fixedOf c) a s e l → Told X
+tell c a s e l {f} {F} d i h = record { c = c; a = a; s = s; e = e; room = l; f = f; fixed = d; kind = F; family = i; given = h }
 
 -- ---- what each family's products ask of f's counts and ranges
 

@@ -1,26 +1,20 @@
 -- `ends::settle::hints` meets its contract: in each arm by what is asked and what is made there.
-use mathlib.Core.Path.{refl}
 use borrow.Author.Needs.{needs}
 use Rattle.schemes.specs.declared.Family.the-variants.{Bcns, NewHope, Frodo}
-use Rattle.ends.proofs.Settling.{Told, Hinting, frodo, hints-asks, hints-made}
+use Rattle.ends.proofs.Settling.{Told, tell, frodo, Hinting, hints-asks, hints-made}
 use Rattle.ends.proofs.settle.hints.Statement.{statement}
 use Rattle.ends.proofs.settle.hints.Tie as tie
 
 abbrev told : tie.After-family → Told Hinting
-told m =
-    let b : tie.Start = search needs in
-    record { c = b .args .scheme; xs = _; own = b .args .coins .now; v = _; room = _; kind = _; family = m .family .ensures; given = b .pre; I = _; wide = refl; B = _; bits = refl }
+told m = let b : tie.Start = search needs in tell (b .args .scheme) _ (b .args .coins .now) _ _ (m .family .ensures) (b .pre)
 
 abbrev known : tie.After-interval → Told Hinting
 known m = frodo (told (search needs)) (m .before .fixed .ensures) (m .interval .ensures)
 
 pub hints-spec : {M : Type 1} → statement M
-hints-spec =
-    tie.close
-    (tie.spec (search needs)
-    (search needs) (λ c κs. hints-asks Bcns (told (search needs)) (search needs))
-    (search needs) (λ c κs. hints-asks NewHope (told (search needs)) (search needs))
-    (search needs) (search needs) (search needs) (λ c κs. hints-asks Frodo (known (search needs)) (search needs))
+hints-spec = tie.close (tie.spec (search needs) (search needs) (λ c κs. hints-asks Bcns (told (search needs)) (search needs))
+    (search needs) (λ c κs. hints-asks NewHope (told (search needs)) (search needs)) (search needs) (search needs)
+    (search needs) (λ c κs. hints-asks Frodo (known (search needs)) (search needs))
     (search needs) (λ c. hints-made Bcns (told (search needs)) (search needs) (c .before .before .hints .ensures))
     (search needs) (λ c. hints-made NewHope (told (search needs)) (search needs) (c .before .before .hints2 .ensures))
     (search needs) (λ c. hints-made Frodo (known (search needs)) (search needs) (c .before .before .hints3 .ensures)))

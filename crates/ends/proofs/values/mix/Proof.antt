@@ -1,20 +1,16 @@
 -- `ends::values::mix` meets its contract: in each arm by what is asked and what is made there.
 use borrow.Author.Needs.{needs}
 use Rattle.schemes.specs.declared.Family.the-variants.{Bcns, NewHope, Frodo}
-use Rattle.ends.proofs.Valuing.{Told, Mixing, mix-asks, mix-made}
+use Rattle.ends.proofs.Valuing.{Told, tell, Mixing, mix-asks, mix-made}
 use Rattle.ends.proofs.values.mix.Statement.{statement}
 use Rattle.ends.proofs.values.mix.Tie as tie
 
 abbrev told : tie.After-family → Told Mixing
-told m =
-    let b : tie.Start = search needs in
-    record { c = b .args .scheme; a = _; s = _; e = _; room = _; f = _; fixed = m .before .fixed .ensures; kind = _; family = m .family .ensures; given = b .pre }
+told m = let b : tie.Start = search needs in tell (b .args .scheme) _ _ _ _ (m .before .fixed .ensures) (m .family .ensures) (b .pre)
 
 pub mix-spec : {M : Type 1} → statement M
 mix-spec =
-    tie.close
-    (tie.spec (search needs) (search needs)
-    (search needs) (λ c κs. mix-asks Bcns (told (search needs)) (search needs))
+    tie.close (tie.spec (search needs) (search needs) (search needs) (λ c κs. mix-asks Bcns (told (search needs)) (search needs))
     (search needs) (λ c κs. mix-asks NewHope (told (search needs)) (search needs))
     (search needs) (λ c κs. mix-asks Frodo (told (search needs)) (search needs))
     (search needs) (λ c. mix-made Bcns (told (search needs)) (search needs) (c .before .before .mix .ensures))
