@@ -1,5 +1,6 @@
 -- The fixed numbers of a scheme by its family, and what is meant by the family.
---   Bcns, NewHope, Frodo   what they are; in Frodo, what those of its four schemes have in common
+--   Same g f               f has the numbers that g has
+--   Bcns, NewHope, Frodo   what the numbers are; in Frodo, what those of its four schemes have in common
 --   Numbers F f            the one of the three that belongs to the family
 --   numbers-of             each scheme has the numbers of its family
 --   numbers-in             so has a scheme of which the family is known
@@ -14,7 +15,7 @@ use Prim.Native.Nat.{ℕ, _*_, _/_, _%_, _^_, _≤_, _<_}
 use native.Mathlib.Nat.{lt-of-lt-of-le}
 use native.Mathlib.Omega.{arith}
 use lib.Dec.{T, leb, lit≤}
-use Rattle.schemes.specs.Schemes.{by, familyOf, fixedOf, frodo}
+use Rattle.schemes.specs.Schemes.{by, familyOf, fixedOf, bcns, newHope, frodo}
 use Rattle.schemes.specs.declared.Family.{Family}
 use Rattle.schemes.specs.declared.Fixed.{Fixed}
 use Rattle.schemes.specs.declared.Scheme.{Scheme}
@@ -26,29 +27,25 @@ use Rattle.frodo.specs.Rounding.{Round}
 abbrev wide : Fixed → ℕ
 wide f = f .q / 2 ^ f .keybits
 
-pub record Bcns (f : Fixed) : Type 0 where
-  pub n : f .n ≡ 1024
-  pub q : f .q ≡ 4294967295
-  pub largest : f .largest ≡ 51
-  pub public : f .public ≡ 1024
-  pub secret : f .secret ≡ 1024
-  pub noise : f .noise ≡ 1024
-  pub mixed : f .mixed ≡ 1024
-  pub groups : f .groups ≡ 1024
-  pub hintbits : f .hintbits ≡ 1
-  pub keybits : f .keybits ≡ 1
+-- what the products and the rounding use of the numbers, as g has them
+pub record Same (g f : Fixed) : Type 0 where
+  pub n : f .n ≡ g .n
+  pub q : f .q ≡ g .q
+  pub largest : f .largest ≡ g .largest
+  pub public : f .public ≡ g .public
+  pub secret : f .secret ≡ g .secret
+  pub noise : f .noise ≡ g .noise
+  pub mixed : f .mixed ≡ g .mixed
+  pub groups : f .groups ≡ g .groups
+  pub hintbits : f .hintbits ≡ g .hintbits
+  pub keybits : f .keybits ≡ g .keybits
+  pub coinbits : f .coinbits ≡ g .coinbits
 
-pub record NewHope (f : Fixed) : Type 0 where
-  pub n : f .n ≡ 1024
-  pub q : f .q ≡ 12289
-  pub public : f .public ≡ 1024
-  pub secret : f .secret ≡ 1024
-  pub noise : f .noise ≡ 1024
-  pub mixed : f .mixed ≡ 1024
-  pub groups : f .groups ≡ 256
-  pub hintbits : f .hintbits ≡ 2
-  pub keybits : f .keybits ≡ 1
-  pub coinbits : f .coinbits ≡ 1
+abbrev pub Bcns : Fixed → Type 0
+Bcns f = Same bcns f
+
+abbrev pub NewHope : Fixed → Type 0
+NewHope f = Same newHope f
 
 pub record Frodo (f : Fixed) : Type 0 where
   pub some : 0 < f .n
@@ -92,8 +89,8 @@ frodo-numbers n q largest D B key t0 t1 t2 t3 t4 e w t5 d =
       round = record { some = lit≤ t5; quarters = d; room = let r : q ≤ 32768 = lit≤ t3 in omega arith };
     }
 
-pub numbers-of : (s : Scheme) → Numbers (familyOf s) (fixedOf s)
-numbers-of Scheme.Bcns =
+same : (g : Fixed) → Same g g
+same g =
     record {
       n = refl;
       q = refl;
@@ -105,20 +102,12 @@ numbers-of Scheme.Bcns =
       groups = refl;
       hintbits = refl;
       keybits = refl;
-    }
-numbers-of Scheme.NewHope =
-    record {
-      n = refl;
-      q = refl;
-      public = refl;
-      secret = refl;
-      noise = refl;
-      mixed = refl;
-      groups = refl;
-      hintbits = refl;
-      keybits = refl;
       coinbits = refl;
     }
+
+pub numbers-of : (s : Scheme) → Numbers (familyOf s) (fixedOf s)
+numbers-of Scheme.Bcns = same bcns
+numbers-of Scheme.NewHope = same newHope
 numbers-of Scheme.Challenge = frodo-numbers 352 2048 3 11 1 8 tt tt tt tt tt refl refl tt refl
 numbers-of Scheme.Classical = frodo-numbers 592 4096 4 12 2 16 tt tt tt tt tt refl refl tt refl
 numbers-of Scheme.Recommended = frodo-numbers 752 32768 5 15 4 32 tt tt tt tt tt refl refl tt refl
