@@ -2,3 +2,4 @@ pub mod Numbers
 pub mod Settling
 pub mod Valuing
 pub mod Ranges
+pub mod Meeting

@@ -2,7 +2,8 @@
 ghost use mathlib.Core.Path.{_≡_};
 ghost use Prim.Native.Nat.{_^_};
 ghost use lib.ListN.{length};
-ghost use Rattle.schemes.specs.Schemes.{familyOf, fixedOf};
+ghost use Rattle.schemes.specs.Schemes.{fixedOf};
+ghost use Rattle.lists.specs.Lent.{was, left};
 ghost use Rattle.ends.specs.Fit.{Counted};
 ghost use Rattle.ends.specs.Keys.{interval, hints, keys, peers};
 use schemes::Family;
@@ -10,7 +11,7 @@ use schemes::Scheme;
 
 // Frodo's rounding interval.
 fn interval(scheme: Scheme) -> u32
-    ensures { λ r. ⌜ r ≡ interval (fixedOf scheme) ⌝ }
+    ensures { λ r. ⌜ r ≡ interval scheme ⌝ }
 {
     let f = scheme.fixed();
     f.q >> f.keybits
@@ -20,7 +21,7 @@ fn interval(scheme: Scheme) -> u32
 pub fn hints(scheme: Scheme, coins: &[u32], v: &[u32], out: &mut [u32])
     requires { ⌜ Counted (fixedOf scheme .mixed) (fixedOf scheme .q) (now v) × (length (now out) ≡ fixedOf scheme .mixed) ⌝ }
     requires { ⌜ Counted (fixedOf scheme .groups) (2 ^ fixedOf scheme .coinbits) (now coins) ⌝ }
-    ensures { λ _. ⌜ now (out .exit) ≡ hints (familyOf scheme) (fixedOf scheme) (now (coins .entry)) (now (v .entry)) ⌝ }
+    ensures { λ _. ⌜ left out ≡ hints scheme (was coins) (was v) ⌝ }
 {
     let family = scheme.family();
     match family {
@@ -37,8 +38,8 @@ pub fn hints(scheme: Scheme, coins: &[u32], v: &[u32], out: &mut [u32])
 pub fn keys(scheme: Scheme, coins: &[u32], own: &[u32], v: &[u32], out: &mut [u32])
     requires { ⌜ Counted (fixedOf scheme .mixed) (fixedOf scheme .q) (now v) × (length (now out) ≡ fixedOf scheme .groups) ⌝ }
     requires { ⌜ Counted (fixedOf scheme .groups) (2 ^ fixedOf scheme .coinbits) (now coins) ⌝ }
-    requires { ⌜ now own ≡ hints (familyOf scheme) (fixedOf scheme) (now coins) (now v) ⌝ }
-    ensures { λ _. ⌜ now (out .exit) ≡ keys (familyOf scheme) (fixedOf scheme) (now (coins .entry)) (now (v .entry)) ⌝ }
+    requires { ⌜ now own ≡ hints scheme (now coins) (now v) ⌝ }
+    ensures { λ _. ⌜ left out ≡ keys scheme (was coins) (was v) ⌝ }
 {
     let family = scheme.family();
     match family {
@@ -55,7 +56,7 @@ pub fn keys(scheme: Scheme, coins: &[u32], own: &[u32], v: &[u32], out: &mut [u3
 pub fn peers(scheme: Scheme, given: &[u32], w: &[u32], out: &mut [u32])
     requires { ⌜ Counted (fixedOf scheme .mixed) (fixedOf scheme .q) (now w) × (length (now out) ≡ fixedOf scheme .groups) ⌝ }
     requires { ⌜ Counted (fixedOf scheme .mixed) (2 ^ fixedOf scheme .hintbits) (now given) ⌝ }
-    ensures { λ _. ⌜ now (out .exit) ≡ peers (familyOf scheme) (fixedOf scheme) (now (given .entry)) (now (w .entry)) ⌝ }
+    ensures { λ _. ⌜ left out ≡ peers scheme (was given) (was w) ⌝ }
 {
     let family = scheme.family();
     match family {

@@ -13,7 +13,7 @@ use Rattle.numbers.specs.Residue.{residue}
 use Rattle.lists.specs.Entries.{tab, ints}
 use Rattle.lists.proofs.Entries.{tab-at, tab-ext}
 use Rattle.transform.specs.Transform.{entrywise, summed}
-use Rattle.transform.specs.Mixing.{reduced}
+use Rattle.transform.specs.Level.{reduced}
 
 pub combine-fits : (x y z : ℕ) → x < 12289 → y < 12289 → z < 12289 → x * y + z < 2 ^ 32
 combine-fits x y z p q r = omega (arith, mul-le-mul {n₁ = x} {m₁ = y} {n₂ = 12288} {m₂ = 12288} (omega arith) (omega arith))

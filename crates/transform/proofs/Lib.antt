@@ -6,5 +6,6 @@ pub mod Sizes
 pub mod Inverses
 pub mod Evaluate
 pub mod Products
+pub mod Theorems
 pub mod Mixing
 pub mod Entrywise

@@ -1,8 +1,14 @@
--- What the two ends compute in NewHope, through the transform, is what they compute of polynomials (`polynomial`, `specs/Mixing.antt`).
---   bareThrough-bare     us
---   valueThrough-mixed   bs + e
---   mixedThrough-mixed   the transform of as + e
---   apart-through        NewHope's identity: how far v and w are apart is how far d = s'e + e'' - e's is from a multiple of 12289
+-- What NewHope's ends compute through the transform is what 01 says of polynomials (`polynomial`, `specs/Mixing.antt`); a, b and u lie transformed.
+-- The closed forms that run, entry by entry:
+--   mixedThrough a s e   a times the transform of s, and the transform of e
+--   bareThrough u s      the inverse of u times the transform of s
+--   valueThrough b s e   the same of b, and e
+-- What they are:
+--   mixed-through    the transform of as + e
+--   bare-through     us
+--   value-through    bs + e; summed-bare is its last step
+--   travelled        as + e travels transformed, and the inverse gives it back
+--   apart-through    NewHope's identity: how far v and w are apart is how far d = s'e + e'' - e's is from a multiple of 12289
 use mathlib.Core.Path.{_≡_, _∙_, sym, ap, ap₂}
 use mathlib.Core.List.{List}
 use Prim.Native.Nat.{ℕ, _<_}
@@ -18,10 +24,19 @@ use Rattle.polynomial.specs.Mixing.{mixed, bare, difference}
 use Rattle.polynomial.proofs.Laws.{product-≅}
 use Rattle.polynomial.proofs.Mixing.{mixed-length, mixed-below, mixed-at, apart-difference}
 use Rattle.transform.specs.Transform.{transformed, inverted, entrywise, multiplied, summed}
-use Rattle.transform.specs.Mixing.{reduced, mixedThrough, bareThrough, valueThrough}
-use Rattle.transform.proofs.Sizes.{summed-length, summed-below, mixedThrough-length, mixedThrough-below}
+use Rattle.transform.specs.Level.{reduced}
+use Rattle.transform.proofs.Sizes.{multiplied-length, multiplied-below, summed-length, summed-below}
 use Rattle.transform.proofs.Inverses.{inverted-transformed, transformed-inverted}
-use Rattle.transform.proofs.Products.{multiplied-at, summed-at, transformed-multiplied, multiplied-through, transformed-summed}
+use Rattle.transform.proofs.Products.{multiplied-at, summed-at, transformed-multiplied, transformed-summed}
+
+abbrev pub mixedThrough : List ℕ → List ℤ → List ℤ → List ℕ
+mixedThrough a s e = summed (entrywise a (transformed (reduced s))) (transformed (reduced e))
+
+abbrev pub bareThrough : List ℕ → List ℤ → List ℕ
+bareThrough u s = inverted (entrywise u (transformed (reduced s)))
+
+abbrev pub valueThrough : List ℕ → List ℤ → List ℤ → List ℕ
+valueThrough b s e = summed (bareThrough b s) (reduced e)
 
 -- ---- the same with secrets and noise reduced
 
@@ -45,46 +60,48 @@ summed-mixed a s e =
     ⨾ add-≅ (multiplied-at a (reduced s) k l ⨾ product-reduced a s k l) (reduced-at e k l)
     ⨾ sym-≅ (mixed-at 12289 1024 (omega arith) a s e k l))
 
+pub summed-bare : (a : List ℕ) (s e : List ℤ) → summed (bare 12289 1024 a s) (reduced e) ≡ mixed 12289 1024 a s e
+summed-bare a s e = ap (λ (x : List ℕ). summed x (reduced e)) (sym (multiplied-bare a s)) ∙ summed-mixed a s e
+
 -- ---- through the transform
 
--- what lies transformed times a secret
-entrywise-through : (a : List ℕ) (s : List ℤ) → Below 12289 a → length a ≡ 1024 → entrywise a (transformed (reduced s)) ≡ transformed (multiplied (inverted a) (reduced s))
-entrywise-through a s b l =
-    ap (λ (x : List ℕ). entrywise x (transformed (reduced s))) (sym (transformed-inverted a b l)) ∙ sym (transformed-multiplied (inverted a) (reduced s))
+module _ (a : List ℕ) (s : List ℤ) (b : Below 12289 a) (l : length a ≡ 1024) where
+  -- what lies transformed times a secret
+  entrywise-through : transformed (multiplied (inverted a) (reduced s)) ≡ entrywise a (transformed (reduced s))
+  entrywise-through =
+      transformed-multiplied (inverted a) (reduced s) ∙ ap (λ (x : List ℕ). entrywise x (transformed (reduced s))) (transformed-inverted a b l)
 
-bareThrough-multiplied : (u : List ℕ) (s : List ℤ) → Below 12289 u → length u ≡ 1024 → bareThrough u s ≡ multiplied (inverted u) (reduced s)
-unfolding bareThrough
-bareThrough-multiplied u s b l =
-    ap (λ (x : List ℕ). inverted (entrywise x (transformed (reduced s)))) (sym (transformed-inverted u b l)) ∙ multiplied-through (inverted u) (reduced s)
+  pub bare-through : bare 12289 1024 (inverted a) s ≡ bareThrough a s
+  bare-through =
+      sym (multiplied-bare (inverted a) s)
+      ∙ sym (inverted-transformed (multiplied (inverted a) (reduced s)) (multiplied-below _ _) (multiplied-length _ _))
+      ∙ ap inverted entrywise-through
 
-pub bareThrough-bare : (u : List ℕ) (s : List ℤ) → Below 12289 u → length u ≡ 1024 → bareThrough u s ≡ bare 12289 1024 (inverted u) s
-bareThrough-bare u s b l = bareThrough-multiplied u s b l ∙ multiplied-bare (inverted u) s
+  pub value-through : (e : List ℤ) → mixed 12289 1024 (inverted a) s e ≡ valueThrough a s e
+  value-through e = sym (summed-bare (inverted a) s e) ∙ ap (λ (x : List ℕ). summed x (reduced e)) bare-through
 
-pub valueThrough-mixed : (b : List ℕ) (s e : List ℤ) → Below 12289 b → length b ≡ 1024 → valueThrough b s e ≡ mixed 12289 1024 (inverted b) s e
-unfolding valueThrough
-valueThrough-mixed b s e h l = ap (λ (x : List ℕ). summed x (reduced e)) (bareThrough-multiplied b s h l) ∙ summed-mixed (inverted b) s e
-
-pub mixedThrough-mixed : (a : List ℕ) (s e : List ℤ) → Below 12289 a → length a ≡ 1024 → mixedThrough a s e ≡ transformed (mixed 12289 1024 (inverted a) s e)
-unfolding mixedThrough
-mixedThrough-mixed a s e b l =
-    ap (λ (x : List ℕ). summed x (transformed (reduced e))) (entrywise-through a s b l)
-    ∙ sym (transformed-summed (multiplied (inverted a) (reduced s)) (reduced e))
-    ∙ ap transformed (summed-mixed (inverted a) s e)
+  pub mixed-through : (e : List ℤ) → transformed (mixed 12289 1024 (inverted a) s e) ≡ mixedThrough a s e
+  mixed-through e =
+      ap transformed (sym (summed-mixed (inverted a) s e))
+      ∙ transformed-summed (multiplied (inverted a) (reduced s)) (reduced e)
+      ∙ ap (λ (x : List ℕ). summed x (transformed (reduced e))) entrywise-through
 
 -- ---- the identity
 
-module _ (a : List ℕ) (b : Below 12289 a) (l : length a ≡ 1024) where
-  -- what travels, transformed back
-  inverted-through : (s e : List ℤ) → inverted (mixedThrough a s e) ≡ mixed 12289 1024 (inverted a) s e
-  inverted-through s e =
-      ap inverted (mixedThrough-mixed a s e b l)
-      ∙ inverted-transformed (mixed 12289 1024 (inverted a) s e) (mixed-below 12289 1024 (inverted a) s e (omega arith)) (mixed-length 12289 1024 (inverted a) s e)
+pub travelled : (a : List ℕ) (s e : List ℤ) → inverted (transformed (mixed 12289 1024 a s e)) ≡ mixed 12289 1024 a s e
+travelled a s e =
+    inverted-transformed (mixed 12289 1024 a s e) (mixed-below 12289 1024 a s e (omega arith)) (mixed-length 12289 1024 a s e)
+
+-- of any a, lent transformed
+module _ (a : List ℕ) (s e s' e' e'' : List ℤ) where
+  abbrev sent : List ℤ → List ℤ → List ℕ
+  sent s e = inverted (transformed (mixed 12289 1024 (inverted a) s e))
 
   pub apart-through :
-      (s e s' e' e'' : List ℤ) (k : ℕ) → k < 1024 →
-      apart 12289 (getD (valueThrough (mixedThrough a s e) s' e'') k 0) (getD (bareThrough (mixedThrough a s' e') s) k 0) ≡ distance 12289 (difference 1024 s e s' e' e'' k)
-  apart-through s e s' e' e'' k h =
-      ap₂ (λ (x y : List ℕ). apart 12289 (getD x k 0) (getD y k 0))
-      (valueThrough-mixed _ s' e'' (mixedThrough-below a s e) (mixedThrough-length a s e) ∙ ap (λ (x : List ℕ). mixed 12289 1024 x s' e'') (inverted-through s e))
-      (bareThrough-bare _ s (mixedThrough-below a s' e') (mixedThrough-length a s' e') ∙ ap (λ (x : List ℕ). bare 12289 1024 x s) (inverted-through s' e'))
+      (k : ℕ) → k < 1024 →
+      apart 12289 (getD (mixed 12289 1024 (sent s e) s' e'') k 0) (getD (bare 12289 1024 (sent s' e') s) k 0)
+      ≡ distance 12289 (difference 1024 s e s' e' e'' k)
+  apart-through k h =
+      ap₂ (λ (x y : List ℕ). apart 12289 (getD (mixed 12289 1024 x s' e'') k 0) (getD (bare 12289 1024 y s) k 0))
+      (travelled (inverted a) s e) (travelled (inverted a) s' e')
       ∙ apart-difference 12289 1024 (omega arith) (inverted a) s e s' e' e'' k h

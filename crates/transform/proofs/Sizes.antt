@@ -1,4 +1,4 @@
--- What the transform, its inverse, the operations on polynomials and the two ends give has 1,024 entries, each below 12289: NAME-length and NAME-below of each.
+-- What the transform, its inverse, the operations on polynomials and what is computed on the way give has 1,024 entries, each below 12289: NAME-length and NAME-below of each.
 use mathlib.Core.Path.{_≡_}
 use mathlib.Core.List.{List}
 use Prim.Native.Nat.{ℕ}
@@ -10,8 +10,7 @@ use Rattle.numbers.proofs.Congruence.{residue-lt}
 use Rattle.lists.specs.Entries.{Below}
 use Rattle.lists.proofs.Entries.{tab-length, below-tab}
 use Rattle.transform.specs.Transform.{transformed, inverted, entrywise, multiplied, summed}
-use Rattle.transform.specs.Mixing.{reduced, mixedThrough, bareThrough, valueThrough}
-use Rattle.transform.specs.Level.{sums}
+use Rattle.transform.specs.Level.{sums, reduced}
 
 pub transformed-length : (g : List ℕ) → length (transformed g) ≡ 1024
 unfolding transformed
@@ -68,27 +67,3 @@ reduced-below s = below-tab 12289 1024 _ (omega arith) (λ k l. residue-lt 12289
 pub sums-below : (a : ℕ) (g : List ℕ) → Below 12289 (sums a g)
 unfolding sums
 sums-below a g = below-tab 12289 1024 _ (omega arith) (λ k l. mod-lt _ (omega arith))
-
-pub mixedThrough-length : (a : List ℕ) (s e : List ℤ) → length (mixedThrough a s e) ≡ 1024
-unfolding mixedThrough
-mixedThrough-length a s e = summed-length _ _
-
-pub bareThrough-length : (u : List ℕ) (s : List ℤ) → length (bareThrough u s) ≡ 1024
-unfolding bareThrough
-bareThrough-length u s = inverted-length _
-
-pub valueThrough-length : (b : List ℕ) (s e : List ℤ) → length (valueThrough b s e) ≡ 1024
-unfolding valueThrough
-valueThrough-length b s e = summed-length _ _
-
-pub mixedThrough-below : (a : List ℕ) (s e : List ℤ) → Below 12289 (mixedThrough a s e)
-unfolding mixedThrough
-mixedThrough-below a s e = summed-below _ _
-
-pub bareThrough-below : (u : List ℕ) (s : List ℤ) → Below 12289 (bareThrough u s)
-unfolding bareThrough
-bareThrough-below u s = inverted-below _
-
-pub valueThrough-below : (b : List ℕ) (s e : List ℤ) → Below 12289 (valueThrough b s e)
-unfolding valueThrough
-valueThrough-below b s e = summed-below _ _

@@ -10,12 +10,15 @@
 --   remainders f             the remainder of each entry
 --   sums a g                 what five levels come to: entry i is the sum over j of g_j 7^(j (a + 2i))
 --   scaled f                 entry k is entry 1024 - k of f times 12 7^(1024 - k)
+--   reduced s                secrets or noise, each reduced to 0 .. q - 1
 use mathlib.Core.Path.{_≡_}
 use mathlib.Core.List.{List}
 use Prim.Native.Nat.{ℕ, _+_, _-_, _*_, _/_, _%_, _^_, _<_, _≤_}
 use lib.ListN.{length, getD, set}
+use lib.IntN.{ℤ}
 use Rattle.numbers.specs.Sum.{sumℕ}
-use Rattle.lists.specs.Entries.{tab}
+use Rattle.numbers.specs.Residue.{residue}
+use Rattle.lists.specs.Entries.{tab, ints}
 
 unfoldable pub low : ℕ → ℕ → ℕ → ℕ
 low w x y = x + w * y % 12289
@@ -68,3 +71,6 @@ sums a g = tab 1024 (λ i. sumℕ 1024 (λ j. getD g j 0 * 7 ^ (j * (a + 2 * i))
 -- 1024 - 0 is read as 0
 unfoldable pub scaled : List ℕ → List ℕ
 scaled f = tab 1024 (λ k. getD f ((1024 - k) % 1024) 0 * (12 * (7 ^ (1024 - k) % 12289)) % 12289)
+
+unfoldable pub reduced : List ℤ → List ℕ
+reduced s = tab 1024 (λ k. residue 12289 (ints s k))

@@ -1,6 +1,6 @@
 // The NewHope transform: 01, "The NewHope transform". `forward` yields 01's sums, `inverse` undoes them, and `product` is the product modulo X^1024 + 1, each in
-// place on 1,024 numbers below 12289 and with the table of the powers of 7 (`powers`). The theorems, that the two undo each other and that products and sums go
-// through the transform, stand in `proofs/` on the definitions.
+// place on 1,024 numbers below 12289 and with the table of the powers of 7 (`powers`). The theorems, that the table has the
+// powers, that the two undo each other and that products go through the transform, are stated in `specs/Theorems.antt`.
 // The sums are made by Stockham's method, decimation in time, two halvings at a time (`specs/Level.antt`): five levels between two buffers, all of whose powers stand
 // below the table's middle, so that no index is reduced. Only products are reduced on the way. A level adds at most 2 * 12289, so all stays below 11 * 12289.
 ghost use mathlib.Core.Path.{_≡_};
@@ -9,6 +9,7 @@ ghost use lib.ListN.{length};
 ghost use Rattle.lists.specs.Entries.{Below};
 ghost use Rattle.transform.specs.Transform.{transformed, inverted, entrywise, multiplied, powers};
 ghost use Rattle.transform.specs.Level.{low, high, stored, Joined, Room, remainders, sums, scaled};
+use schemes::NewHope;
 
 mod powers;
 pub mod through;
@@ -18,7 +19,7 @@ fn low(w: u32, x: u32, y: u32) -> u32
     requires { ⌜ (w < 12289) × (x < 122890) × (y < 122890) ⌝ }
     ensures { λ r. ⌜ (r ≡ low w x y) × (r ≤ x + 12289) ⌝ }
 {
-    x + w * y % 12289
+    x + w * y % NewHope::Q
 }
 
 // x - w y, likewise.
@@ -26,7 +27,7 @@ fn high(w: u32, x: u32, y: u32) -> u32
     requires { ⌜ (w < 12289) × (x < 122890) × (y < 122890) ⌝ }
     ensures { λ r. ⌜ (r ≡ high w x y) × (r ≤ x + 12289) ⌝ }
 {
-    x + 12289 - w * y % 12289
+    x + NewHope::Q - w * y % NewHope::Q
 }
 
 // Four entries of the level before, each below 9 * 12289, make entry k of each quarter.
@@ -112,8 +113,8 @@ fn reduce(src: &[u32; 1024], dst: &mut [u32; 1024])
     ensures { λ _. ⌜ now (dst .exit) ≡ remainders (now (src .entry)) ⌝ }
 {
     let mut k: usize = 0;
-    while k < 1024 {
-        dst[k] = src[k] % 12289;
+    while k < NewHope::N {
+        dst[k] = src[k] % NewHope::Q;
         k += 1;
     }
 }
@@ -147,11 +148,11 @@ fn scale(t: &[u32; 2048], src: &[u32; 1024], dst: &mut [u32; 1024])
     requires { ⌜ (now t ≡ powers) × Below 12289 (now src) × (length (now dst) ≡ 1024) ⌝ }
     ensures { λ _. ⌜ now (dst .exit) ≡ scaled (now (src .entry)) ⌝ }
 {
-    dst[0] = src[0] * (12 * t[1024]) % 12289;
+    dst[0] = src[0] * (12 * t[NewHope::N]) % NewHope::Q;
     let mut k: usize = 1;
-    while k < 1024 {
-        let r = 1024 - k;
-        dst[k] = src[r] * (12 * t[r]) % 12289;
+    while k < NewHope::N {
+        let r = NewHope::N - k;
+        dst[k] = src[r] * (12 * t[r]) % NewHope::Q;
         k += 1;
     }
 }
@@ -180,8 +181,8 @@ fn times(f: &mut [u32; 1024], g: &[u32; 1024])
     ensures { λ _. ⌜ now (f .exit) ≡ entrywise (now (f .entry)) (now (g .entry)) ⌝ }
 {
     let mut k: usize = 0;
-    while k < 1024 {
-        f[k] = f[k] * g[k] % 12289;
+    while k < NewHope::N {
+        f[k] = f[k] * g[k] % NewHope::Q;
         k += 1;
     }
 }

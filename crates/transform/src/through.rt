@@ -1,19 +1,22 @@
 // What NewHope's ends compute, where the public polynomial, b and u lie transformed: 01, "The calls" and "The NewHope transform". Secrets and noise come
-// signed, in natural order.
+// signed, in natural order. The contracts speak of polynomials modulo X^1024 + 1; what runs are products entry by entry (`proofs/Mixing.antt` shows the two equal).
 ghost use mathlib.Core.Path.{_≡_};
 ghost use lib.ListN.{length};
 ghost use Rattle.lists.specs.Entries.{Below};
-ghost use Rattle.transform.specs.Transform.{transformed, entrywise, summed};
-ghost use Rattle.transform.specs.Mixing.{reduced, mixedThrough, bareThrough, valueThrough};
+ghost use Rattle.lists.specs.Lent.{was, left};
+ghost use Rattle.polynomial.specs.Mixing.{mixed, bare};
+ghost use Rattle.transform.specs.Transform.{transformed, inverted, entrywise, summed};
+ghost use Rattle.transform.specs.Level.{reduced};
+use schemes::NewHope;
 
 // Secrets or noise, each reduced to 0 .. q - 1.
 fn reduce(s: &[i32], out: &mut [u32; 1024])
     requires { ⌜ (length (now s) ≡ 1024) × (length (now out) ≡ 1024) ⌝ }
-    ensures { λ _. ⌜ now (out .exit) ≡ reduced (now (s .entry)) ⌝ }
+    ensures { λ _. ⌜ left out ≡ reduced (was s) ⌝ }
 {
     let mut k: usize = 0;
-    while k < 1024 {
-        out[k] = numbers::residue32(s[k], 12289);
+    while k < NewHope::N {
+        out[k] = numbers::residue32(s[k], NewHope::Q);
         k += 1;
     }
 }
@@ -21,7 +24,7 @@ fn reduce(s: &[i32], out: &mut [u32; 1024])
 // Their transform.
 fn turn(s: &[i32], out: &mut [u32; 1024])
     requires { ⌜ (length (now s) ≡ 1024) × (length (now out) ≡ 1024) ⌝ }
-    ensures { λ _. ⌜ now (out .exit) ≡ transformed (reduced (now (s .entry))) ⌝ }
+    ensures { λ _. ⌜ left out ≡ transformed (reduced (was s)) ⌝ }
 {
     reduce(s, out);
     crate::forward(out);
@@ -31,11 +34,11 @@ fn turn(s: &[i32], out: &mut [u32; 1024])
 fn combine(a: &[u32], x: &[u32; 1024], y: &[u32; 1024], out: &mut [u32])
     requires { ⌜ (length (now a) ≡ 1024) × Below 12289 (now a) × (length (now out) ≡ 1024) ⌝ }
     requires { ⌜ Below 12289 (now x) × Below 12289 (now y) ⌝ }
-    ensures { λ _. ⌜ now (out .exit) ≡ summed (entrywise (now (a .entry)) (now (x .entry))) (now (y .entry)) ⌝ }
+    ensures { λ _. ⌜ left out ≡ summed (entrywise (was a) (was x)) (was y) ⌝ }
 {
     let mut k: usize = 0;
-    while k < 1024 {
-        out[k] = (a[k] * x[k] + y[k]) % 12289;
+    while k < NewHope::N {
+        out[k] = (a[k] * x[k] + y[k]) % NewHope::Q;
         k += 1;
     }
 }
@@ -43,11 +46,11 @@ fn combine(a: &[u32], x: &[u32; 1024], y: &[u32; 1024], out: &mut [u32])
 // u x, entry by entry, into x.
 fn weigh(u: &[u32], x: &mut [u32; 1024])
     requires { ⌜ (length (now u) ≡ 1024) × Below 12289 (now u) × (length (now x) ≡ 1024) × Below 12289 (now x) ⌝ }
-    ensures { λ _. ⌜ now (x .exit) ≡ entrywise (now (u .entry)) (now (x .entry)) ⌝ }
+    ensures { λ _. ⌜ left x ≡ entrywise (was u) (was x) ⌝ }
 {
     let mut k: usize = 0;
-    while k < 1024 {
-        x[k] = u[k] * x[k] % 12289;
+    while k < NewHope::N {
+        x[k] = u[k] * x[k] % NewHope::Q;
         k += 1;
     }
 }
@@ -55,7 +58,7 @@ fn weigh(u: &[u32], x: &mut [u32; 1024])
 // us, into x.
 fn multiply_in(u: &[u32], s: &[i32], x: &mut [u32; 1024])
     requires { ⌜ (length (now u) ≡ 1024) × Below 12289 (now u) × (length (now s) ≡ 1024) × (length (now x) ≡ 1024) ⌝ }
-    ensures { λ _. ⌜ now (x .exit) ≡ bareThrough (now (u .entry)) (now (s .entry)) ⌝ }
+    ensures { λ _. ⌜ left x ≡ bare 12289 1024 (inverted (was u)) (was s) ⌝ }
 {
     turn(s, x);
     weigh(u, x);
@@ -65,21 +68,21 @@ fn multiply_in(u: &[u32], s: &[i32], x: &mut [u32; 1024])
 // x + e, into out.
 fn add_noise(x: &[u32; 1024], e: &[i32], out: &mut [u32])
     requires { ⌜ Below 12289 (now x) × (length (now e) ≡ 1024) × (length (now out) ≡ 1024) ⌝ }
-    ensures { λ _. ⌜ now (out .exit) ≡ summed (now (x .entry)) (reduced (now (e .entry))) ⌝ }
+    ensures { λ _. ⌜ left out ≡ summed (was x) (reduced (was e)) ⌝ }
 {
     let mut k: usize = 0;
-    while k < 1024 {
-        out[k] = (x[k] + numbers::residue32(e[k], 12289)) % 12289;
+    while k < NewHope::N {
+        out[k] = (x[k] + numbers::residue32(e[k], NewHope::Q)) % NewHope::Q;
         k += 1;
     }
 }
 
 fn put(x: &[u32; 1024], out: &mut [u32])
     requires { ⌜ (length (now x) ≡ 1024) × (length (now out) ≡ 1024) ⌝ }
-    ensures { λ _. ⌜ now (out .exit) ≡ now (x .entry) ⌝ }
+    ensures { λ _. ⌜ left out ≡ was x ⌝ }
 {
     let mut k: usize = 0;
-    while k < 1024 {
+    while k < NewHope::N {
         out[k] = x[k];
         k += 1;
     }
@@ -87,9 +90,9 @@ fn put(x: &[u32; 1024], out: &mut [u32])
 
 // The transform of as + e, of the transform of a: b and u as they travel.
 pub fn mix(a: &[u32], s: &[i32], e: &[i32], out: &mut [u32])
-    requires { ⌜ (length (now a) ≡ 1024) × Below 12289 (now a) × (length (now out) ≡ 1024) ⌝ }
-    requires { ⌜ (length (now s) ≡ 1024) × (length (now e) ≡ 1024) ⌝ }
-    ensures { λ _. ⌜ now (out .exit) ≡ mixedThrough (now (a .entry)) (now (s .entry)) (now (e .entry)) ⌝ }
+    requires { ⌜ (length (now a) ≡ 1024) × Below 12289 (now a) × (length (now s) ≡ 1024) × (length (now out) ≡ 1024) ⌝ }
+    requires { ⌜ length (now e) ≡ 1024 ⌝ }
+    ensures { λ _. ⌜ left out ≡ transformed (mixed 12289 1024 (inverted (was a)) (was s) (was e)) ⌝ }
 {
     let mut x = [0u32; 1024];
     let mut y = [0u32; 1024];
@@ -101,7 +104,7 @@ pub fn mix(a: &[u32], s: &[i32], e: &[i32], out: &mut [u32])
 // us, of the transform of u: the initiator's w.
 pub fn multiply(u: &[u32], s: &[i32], out: &mut [u32])
     requires { ⌜ (length (now u) ≡ 1024) × Below 12289 (now u) × (length (now s) ≡ 1024) × (length (now out) ≡ 1024) ⌝ }
-    ensures { λ _. ⌜ now (out .exit) ≡ bareThrough (now (u .entry)) (now (s .entry)) ⌝ }
+    ensures { λ _. ⌜ left out ≡ bare 12289 1024 (inverted (was u)) (was s) ⌝ }
 {
     let mut x = [0u32; 1024];
     multiply_in(u, s, &mut x);
@@ -110,9 +113,9 @@ pub fn multiply(u: &[u32], s: &[i32], out: &mut [u32])
 
 // bs + e, of the transform of b: the replier's v.
 pub fn value(b: &[u32], s: &[i32], e: &[i32], out: &mut [u32])
-    requires { ⌜ (length (now b) ≡ 1024) × Below 12289 (now b) × (length (now s) ≡ 1024) ⌝ }
-    requires { ⌜ (length (now e) ≡ 1024) × (length (now out) ≡ 1024) ⌝ }
-    ensures { λ _. ⌜ now (out .exit) ≡ valueThrough (now (b .entry)) (now (s .entry)) (now (e .entry)) ⌝ }
+    requires { ⌜ (length (now b) ≡ 1024) × Below 12289 (now b) × (length (now s) ≡ 1024) × (length (now out) ≡ 1024) ⌝ }
+    requires { ⌜ length (now e) ≡ 1024 ⌝ }
+    ensures { λ _. ⌜ left out ≡ mixed 12289 1024 (inverted (was b)) (was s) (was e) ⌝ }
 {
     let mut x = [0u32; 1024];
     multiply_in(b, s, &mut x);

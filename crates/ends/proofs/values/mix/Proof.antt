@@ -1,98 +1,18 @@
--- `ends::values::mix` meets its contract: in each arm the scheme's family is known, and with it the scheme's numbers.
-use mathlib.Core.Path.{_∙_, sym}
+-- `ends::values::mix` meets its contract: in each arm by what is asked and what is made there.
 use borrow.Author.Needs.{needs}
-use Rattle.ends.specs.Values.{mixedValue}
-use Rattle.ends.proofs.Numbers.{numbers-in}
-use Rattle.ends.proofs.Valuing.{bcns-noise-asks, newhope-value-asks, frodo-value-asks}
+use Rattle.schemes.specs.declared.Family.the-variants.{Bcns, NewHope, Frodo}
+use Rattle.ends.proofs.Valuing.{Told, tell, Mixing, mix-asks, mix-made}
 use Rattle.ends.proofs.values.mix.Statement.{statement}
 use Rattle.ends.proofs.values.mix.Tie as tie
 
-fixed-requires : tie.Need-fixed-requires
-fixed-requires c κs = search needs
-
-family-requires : tie.Need-family-requires
-family-requires c κs = search needs
-
-enum-told : tie.Need-enum-told
-enum-told c = search needs
-
-mix-requires : tie.Need-mix-requires
-mix-requires c κs =
-    let m = c .before .before .before in
-    let s = m .before .before .before .before in
-    let k = numbers-in (s .args .scheme) (sym (m .family .ensures) ∙ c .before .enum-told .given .1) in
-    bcns-noise-asks (m .before .fixed .ensures) k (k .secret) (k .mixed) (k .mixed) (s .pre)
-
-enum-told-2 : tie.Need-enum-told-2
-enum-told-2 c = search needs
-
-value-requires : tie.Need-value-requires
-value-requires c κs =
-    let m = c .before .before .before in
-    let s = m .before .before .before .before in
-    let k = numbers-in (s .args .scheme) (sym (m .family .ensures) ∙ c .before .enum-told2 .given .1) in
-    newhope-value-asks k (s .pre)
-
-enum-told-3 : tie.Need-enum-told-3
-enum-told-3 c = search needs
-
-mix-left-requires : tie.Need-mix-left-requires
-mix-left-requires c κs =
-    let m = c .before .before .before in
-    let s = m .before .before .before .before in
-    let k = numbers-in (s .args .scheme) (sym (m .family .ensures) ∙ c .before .enum-told3 .given .1) in
-    frodo-value-asks (m .before .fixed .ensures) k (s .pre)
-
-same-length : tie.Need-same-length
-same-length c = search needs
-
-returns : tie.Need-returns
-unfolding mixedValue
-returns c =
-    let a = c .before .before in
-    let m = a .before .before .before .before in
-    let s = m .before .before .before .before in
-    let e = sym (m .family .ensures) ∙ a .before .before .enum-told .given .1 in
-    let k = numbers-in (s .args .scheme) e in
-    rw (e, ← (s .pre .0 .1 ∙ k .mixed ∙ sym (k .n)), ← m .before .fixed .ensures) (a .mix .ensures)
-
-same-length-2 : tie.Need-same-length-2
-same-length-2 c = search needs
-
-returns-2 : tie.Need-returns-2
-unfolding mixedValue
-returns-2 c =
-    let a = c .before .before in
-    let m = a .before .before .before .before in
-    let e = sym (m .family .ensures) ∙ a .before .before .enum-told2 .given .1 in
-    rw e (a .value .ensures)
-
-same-length-3 : tie.Need-same-length-3
-same-length-3 c = search needs
-
-returns-3 : tie.Need-returns-3
-unfolding mixedValue
-returns-3 c =
-    let a = c .before .before in
-    let m = a .before .before .before .before in
-    let e = sym (m .family .ensures) ∙ a .before .before .enum-told3 .given .1 in
-    rw (e, ← m .before .fixed .ensures) (a .mix-left .ensures)
+abbrev told : tie.After-family → Told Mixing
+told m = let b : tie.Start = search needs in tell (b .args .scheme) _ _ _ _ (m .before .fixed .ensures) (m .family .ensures) (b .pre)
 
 pub mix-spec : {M : Type 1} → statement M
 mix-spec =
-    tie.close
-    (tie.spec
-    fixed-requires
-    family-requires
-    enum-told
-    mix-requires
-    enum-told-2
-    value-requires
-    enum-told-3
-    mix-left-requires
-    same-length
-    returns
-    same-length-2
-    returns-2
-    same-length-3
-    returns-3)
+    tie.close (tie.spec (search needs) (search needs) (search needs) (λ c κs. mix-asks Bcns (told (search needs)) (search needs))
+    (search needs) (λ c κs. mix-asks NewHope (told (search needs)) (search needs))
+    (search needs) (λ c κs. mix-asks Frodo (told (search needs)) (search needs))
+    (search needs) (λ c. mix-made Bcns (told (search needs)) (search needs) (c .before .before .mix .ensures))
+    (search needs) (λ c. mix-made NewHope (told (search needs)) (search needs) (c .before .before .value .ensures))
+    (search needs) (λ c. mix-made Frodo (told (search needs)) (search needs) (c .before .before .mix-left .ensures)))

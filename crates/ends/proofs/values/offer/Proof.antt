@@ -1,98 +1,18 @@
--- `ends::values::offer` meets its contract: in each arm the scheme's family is known, and with it the scheme's numbers.
-use mathlib.Core.Path.{_∙_, sym}
+-- `ends::values::offer` meets its contract: in each arm by what is asked and what is made there.
 use borrow.Author.Needs.{needs}
-use Rattle.ends.specs.Values.{offered}
-use Rattle.ends.proofs.Numbers.{numbers-in}
-use Rattle.ends.proofs.Valuing.{bcns-noise-asks, newhope-mix-asks, frodo-mix-asks}
+use Rattle.schemes.specs.declared.Family.the-variants.{Bcns, NewHope, Frodo}
+use Rattle.ends.proofs.Valuing.{Told, tell, Travelling, travel-asks, offer-made}
 use Rattle.ends.proofs.values.offer.Statement.{statement}
 use Rattle.ends.proofs.values.offer.Tie as tie
 
-fixed-requires : tie.Need-fixed-requires
-fixed-requires c κs = search needs
-
-family-requires : tie.Need-family-requires
-family-requires c κs = search needs
-
-enum-told : tie.Need-enum-told
-enum-told c = search needs
-
-mix-requires : tie.Need-mix-requires
-mix-requires c κs =
-    let m = c .before .before .before in
-    let s = m .before .before .before .before in
-    let k = numbers-in (s .args .scheme) (sym (m .family .ensures) ∙ c .before .enum-told .given .1) in
-    bcns-noise-asks (m .before .fixed .ensures) k (k .public) (k .secret) (k .noise) (s .pre)
-
-enum-told-2 : tie.Need-enum-told-2
-enum-told-2 c = search needs
-
-mix-requires-2 : tie.Need-mix-requires-2
-mix-requires-2 c κs =
-    let m = c .before .before .before in
-    let s = m .before .before .before .before in
-    let k = numbers-in (s .args .scheme) (sym (m .family .ensures) ∙ c .before .enum-told2 .given .1) in
-    newhope-mix-asks k (s .pre)
-
-enum-told-3 : tie.Need-enum-told-3
-enum-told-3 c = search needs
-
-mix-right-requires : tie.Need-mix-right-requires
-mix-right-requires c κs =
-    let m = c .before .before .before in
-    let s = m .before .before .before .before in
-    let k = numbers-in (s .args .scheme) (sym (m .family .ensures) ∙ c .before .enum-told3 .given .1) in
-    frodo-mix-asks (m .before .fixed .ensures) k (s .pre)
-
-same-length : tie.Need-same-length
-same-length c = search needs
-
-returns : tie.Need-returns
-unfolding offered
-returns c =
-    let a = c .before .before in
-    let m = a .before .before .before .before in
-    let s = m .before .before .before .before in
-    let e = sym (m .family .ensures) ∙ a .before .before .enum-told .given .1 in
-    let k = numbers-in (s .args .scheme) e in
-    rw (e, ← (s .pre .0 .1 ∙ k .secret ∙ sym (k .n)), ← m .before .fixed .ensures) (a .mix .ensures)
-
-same-length-2 : tie.Need-same-length-2
-same-length-2 c = search needs
-
-returns-2 : tie.Need-returns-2
-unfolding offered
-returns-2 c =
-    let a = c .before .before in
-    let m = a .before .before .before .before in
-    let e = sym (m .family .ensures) ∙ a .before .before .enum-told2 .given .1 in
-    rw e (a .mix2 .ensures)
-
-same-length-3 : tie.Need-same-length-3
-same-length-3 c = search needs
-
-returns-3 : tie.Need-returns-3
-unfolding offered
-returns-3 c =
-    let a = c .before .before in
-    let m = a .before .before .before .before in
-    let e = sym (m .family .ensures) ∙ a .before .before .enum-told3 .given .1 in
-    rw (e, ← m .before .fixed .ensures) (a .mix-right .ensures)
+abbrev told : tie.After-family → Told Travelling
+told m = let b : tie.Start = search needs in tell (b .args .scheme) _ _ _ _ (m .before .fixed .ensures) (m .family .ensures) (b .pre)
 
 pub offer-spec : {M : Type 1} → statement M
 offer-spec =
-    tie.close
-    (tie.spec
-    fixed-requires
-    family-requires
-    enum-told
-    mix-requires
-    enum-told-2
-    mix-requires-2
-    enum-told-3
-    mix-right-requires
-    same-length
-    returns
-    same-length-2
-    returns-2
-    same-length-3
-    returns-3)
+    tie.close (tie.spec (search needs) (search needs) (search needs) (λ c κs. travel-asks Bcns (told (search needs)) (search needs))
+    (search needs) (λ c κs. travel-asks NewHope (told (search needs)) (search needs))
+    (search needs) (λ c κs. travel-asks Frodo (told (search needs)) (search needs))
+    (search needs) (λ c. offer-made Bcns (told (search needs)) (search needs) (c .before .before .mix .ensures))
+    (search needs) (λ c. offer-made NewHope (told (search needs)) (search needs) (c .before .before .mix2 .ensures))
+    (search needs) (λ c. offer-made Frodo (told (search needs)) (search needs) (c .before .before .mix-right .ensures)))

@@ -1,37 +1,30 @@
--- `transform::through::mix` meets its contract.
-use mathlib.Core.Path.{_∙_, ap₂}
+-- `transform::through::mix` meets its contract: what it combines is the closed form of the transform of as + e.
+use mathlib.Core.Path.{_∙_, sym, ap₂}
 use mathlib.Core.List.{List}
 use Prim.Native.Nat.{ℕ}
 use borrow.Author.Needs.{needs}
 use Rattle.transform.specs.Transform.{entrywise, summed}
-use Rattle.transform.specs.Mixing.{mixedThrough}
 use Rattle.transform.proofs.Sizes.{transformed-below}
+use Rattle.transform.proofs.Mixing.{mixed-through}
 use Rattle.transform.proofs.through.mix.Statement.{statement}
 use Rattle.transform.proofs.through.mix.Tie as tie
 
-turn-requires : tie.Need-turn-requires
-turn-requires c κs = search needs
-
-turn-requires-2 : tie.Need-turn-requires-2
-turn-requires-2 c κs = search needs
-
 combine-requires : tie.Need-combine-requires
 combine-requires c κs =
-    let a = c .before .before .before .before .before .before .before .before .before in
-    let x = c .before .before .before .before .before .turn .ensures in
-    let y = c .before .before .before .turn2 .ensures in
-    (a .pre .0, (rw x (transformed-below _), rw y (transformed-below _)))
-
-same-length : tie.Need-same-length
-same-length c = search needs
+    let b : tie.Start = search needs in
+    let x : tie.After-turn = search needs in
+    let y : tie.After-turn2 = search needs in
+    ((b .pre .0 .0, b .pre .0 .1, b .pre .0 .3), (rw (x .turn .ensures) (transformed-below _), rw (y .turn2 .ensures) (transformed-below _)))
 
 returns : tie.Need-returns
-unfolding mixedThrough
 returns c =
-    let a = c .before .before .before .before .before .before .before .before .before .before .before .before in
-    c .before .before .combine .ensures
-    ∙ ap₂ (λ (x y : List ℕ). summed (entrywise (a .args .a .now) x) y) (c .before .before .before .before .before .before .before .before .turn .ensures)
-    (c .before .before .before .before .before .before .turn2 .ensures)
+    let b : tie.Start = search needs in
+    let x : tie.After-turn = search needs in
+    let y : tie.After-turn2 = search needs in
+    let m : tie.After-combine = search needs in
+    m .combine .ensures
+    ∙ ap₂ (λ (x y : List ℕ). summed (entrywise (b .args .a .now) x) y) (x .turn .ensures) (y .turn2 .ensures)
+    ∙ sym (mixed-through _ _ (b .pre .0 .1) (b .pre .0 .0) _)
 
 pub mix-spec : {M : Type 1} → statement M
-mix-spec = tie.close (tie.spec turn-requires turn-requires-2 combine-requires same-length returns)
+mix-spec = tie.close (tie.spec (search needs) (search needs) combine-requires (search needs) returns)

@@ -1,24 +1,22 @@
--- `transform::through::multiply` meets its contract.
+-- `transform::through::multiply` meets its contract: what is made in a local array is put out.
 use mathlib.Core.Path.{_∙_, ap}
 use borrow.Author.Needs.{needs}
 use lib.ListN.{length}
-use Rattle.transform.proofs.Sizes.{bareThrough-length}
+use Rattle.polynomial.proofs.Mixing.{bare-length}
 use Rattle.transform.proofs.through.multiply.Statement.{statement}
 use Rattle.transform.proofs.through.multiply.Tie as tie
 
-multiply-in-requires : tie.Need-multiply-in-requires
-multiply-in-requires c κs = search needs
-
 put-requires : tie.Need-put-requires
 put-requires c κs =
-    let a = c .before .before .before .before .before .before in
-    (ap length (c .before .before .multiply-in .ensures) ∙ bareThrough-length _ _, a .pre .3)
-
-same-length : tie.Need-same-length
-same-length c = search needs
+    let b : tie.Start = search needs in
+    let m : tie.After-multiply-in = search needs in
+    (ap length (m .multiply-in .ensures) ∙ bare-length 12289 1024 _ _, b .pre .3)
 
 returns : tie.Need-returns
-returns c = c .before .before .put .ensures ∙ c .before .before .before .before .before .multiply-in .ensures
+returns c =
+    let m : tie.After-multiply-in = search needs in
+    let p : tie.After-put = search needs in
+    p .put .ensures ∙ m .multiply-in .ensures
 
 pub multiply-spec : {M : Type 1} → statement M
-multiply-spec = tie.close (tie.spec multiply-in-requires put-requires same-length returns)
+multiply-spec = tie.close (tie.spec (λ c κs. search needs) put-requires (search needs) returns)

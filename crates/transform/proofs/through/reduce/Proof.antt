@@ -7,7 +7,7 @@ use mir.Facts.{toZ-ofZ}
 use Rattle.numbers.specs.Residue.{residue}
 use Rattle.lists.specs.Entries.{ints}
 use Rattle.lists.proofs.Fill.{Filled, fill-start, fill-next, fill-whole}
-use Rattle.transform.specs.Mixing.{reduced}
+use Rattle.transform.specs.Level.{reduced}
 use Rattle.transform.proofs.through.reduce.Statement.{statement}
 use Rattle.transform.proofs.through.reduce.Tie as tie
 

@@ -7,16 +7,16 @@ use Rattle.transform.proofs.Sizes.{reduced-length, reduced-below}
 use Rattle.transform.proofs.through.turn.Statement.{statement}
 use Rattle.transform.proofs.through.turn.Tie as tie
 
-reduce-requires : tie.Need-reduce-requires
-reduce-requires c κs = search needs
-
 forward-requires : tie.Need-forward-requires
 forward-requires c κs =
-    let e = c .before .reduce .ensures in
+    let r : tie.After-reduce = search needs in
+    let e = r .reduce .ensures in
     (rw e (reduced-below _), ap length e ∙ reduced-length _)
 
 returns : tie.Need-returns
-returns c = c .forward .ensures ∙ ap transformed (c .before .before .reduce .ensures)
+returns c =
+    let r : tie.After-reduce = search needs in
+    c .forward .ensures ∙ ap transformed (r .reduce .ensures)
 
 pub turn-spec : {M : Type 1} → statement M
-turn-spec = tie.close (tie.spec reduce-requires forward-requires returns)
+turn-spec = tie.close (tie.spec (search needs) forward-requires returns)
