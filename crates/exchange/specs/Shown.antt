@@ -1,1 +1,59 @@
+-- What is shown of Offer, Reply and Finish beside their promises.
+--   OneOffer, OneReply, OneFinish   no two results satisfy one promise
+--   OpeningComesBack, ReplyComesBack   demand 2: a message that is accepted comes back the same when it is unpacked and packed again
+--   Five                            which refusals a message of Frodo is never given: 01, "Refusal 5 can't arise in Frodo"
+use mathlib.Core.Path.{_≡_}
+use mathlib.Core.List.{List, _++_}
+use Prim.Native.Nat.{ℕ}
+use Rattle.schemes.specs.Schemes.{familyOf, fixedOf}
+use Rattle.schemes.specs.declared.Family.{Family}
+use Rattle.schemes.specs.declared.Scheme.{Scheme}
+use Rattle.schemes.specs.declared.Named.{Named}
+use Rattle.schemes.specs.declared.Named.the-variants.{Is}
+use Rattle.lists.specs.Entries.{Below}
+use Rattle.packing.specs.Packing.{packed}
+use Rattle.front.specs.Front.{numberIn}
+use Rattle.front.specs.Answers.{number, place, written}
+use Rattle.front.specs.declared.Answer.{Answer}
+use Rattle.front.specs.declared.Verdict.the-variants.{Pass}
+use Rattle.wire.specs.Wire.{opening, seedIn, hintsIn}
+use Rattle.exchange.specs.Offer.{Offer, Offered}
+use Rattle.exchange.specs.Reply.{Reply, replyTests, openedOf, Replied}
+use Rattle.exchange.specs.Reply as reply
+use Rattle.exchange.specs.Finish.{Finish, finishTests, repliedOf, Finished}
+use Rattle.exchange.specs.Finish as finish
+use Rattle.exchange.specs.declared.ReplyAnswer.{ReplyAnswer}
+use Rattle.exchange.specs.declared.FinishAnswer.{FinishAnswer}
 
+abbrev pub OneOffer : Type 0
+OneOffer =
+    (c : Named) (x : Offer) (n : ℕ) (r r′ : Answer) (message message′ : List ℕ) → Offered c x (number r) (place r) n (written r) message
+    → Offered c x (number r′) (place r′) n (written r′) message′ → (r ≡ r′) × (message ≡ message′)
+
+abbrev pub OneReply : Type 0
+OneReply =
+    (c : Named) (x : Reply) (n k : ℕ) (r r′ : ReplyAnswer) (message message′ key key′ : List ℕ)
+    → Replied c x (reply.number r) (reply.place r) n (reply.counts r .message) message k (reply.counts r .key) key
+    → Replied c x (reply.number r′) (reply.place r′) n (reply.counts r′ .message) message′ k (reply.counts r′ .key) key′
+    → (r ≡ r′) × (message ≡ message′) × (key ≡ key′)
+
+abbrev pub OneFinish : Type 0
+OneFinish =
+    (c : Named) (x : Finish) (k : ℕ) (r r′ : FinishAnswer) (key key′ : List ℕ)
+    → Finished c x (finish.number r) (finish.place r) k (finish.counts r .key) key
+    → Finished c x (finish.number r′) (finish.place r′) k (finish.counts r′ .key) key′ → (r ≡ r′) × (key ≡ key′)
+
+abbrev pub OpeningComesBack : Type 0
+OpeningComesBack =
+    (c : Scheme) (x : Reply) (n k : ℕ) → Below 256 (x .opening) → replyTests (Is c) x n k ≡ Pass
+    → opening c (seedIn c (x .opening)) (packed (fixedOf c .width) (openedOf c x)) ≡ x .opening
+
+abbrev pub ReplyComesBack : Type 0
+ReplyComesBack =
+    (c : Scheme) (x : Finish) (k : ℕ) → Below 256 (x .reply) → finishTests (Is c) x k ≡ Pass
+    → packed (fixedOf c .width) (repliedOf c x) ++ packed (fixedOf c .hintbits) (hintsIn c (x .reply)) ≡ x .reply
+
+abbrev pub Five : Type 0
+Five =
+    (c : Scheme) → familyOf c ≡ Family.Frodo
+    → ((x : Reply) (n k : ℕ) → numberIn (replyTests (Is c) x n k) ≡ 5 → ⊥) × ((x : Finish) (k : ℕ) → numberIn (finishTests (Is c) x k) ≡ 5 → ⊥)

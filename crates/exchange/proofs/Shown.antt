@@ -1,0 +1,111 @@
+-- What is stated in specs/Shown.
+use mathlib.Core.Path.{_≡_, refl, sym, ap, _∙_}
+use Prim.Native.Nat.{ℕ, _^_, _≤_}
+use native.Mathlib.Nat.{lt-of-lt-of-le}
+use native.Mathlib.Omega.{arith}
+use lib.Dec.{lit≤}
+use mathlib.Core.List.{List}
+use Rattle.schemes.specs.Schemes.{familyOf, fixedOf}
+use Rattle.schemes.specs.declared.Family.{Family}
+use Rattle.schemes.specs.declared.Scheme.{Scheme}
+use Rattle.schemes.specs.declared.Scheme.the-variants.{Bcns, NewHope, Challenge, Classical, Recommended, Paranoid}
+use Rattle.packing.proofs.Laws.{unpacked-below}
+use Rattle.front.specs.Front.{messageIn}
+use Rattle.front.specs.declared.Verdict.the-variants.{Pass}
+use Rattle.front.proofs.Laws.{some, both, message-passes}
+use Rattle.front.proofs.Promise.{same-refusal, same-answer}
+use Rattle.front.proofs.Number.{and, passes, lengths, rooms, publics, secrets}
+use Rattle.wire.specs.Wire.{numbersIn}
+use Rattle.wire.proofs.Travel.{opening-again, reply-again}
+use Rattle.exchange.specs.Reply.{replyTests, replySizes, replyRest, replySecrets, openedOf}
+use Rattle.exchange.specs.Reply as reply
+use Rattle.exchange.specs.Finish.{finishTests, finishSizes, finishRest, repliedOf}
+use Rattle.exchange.specs.Finish as finish
+use Rattle.exchange.specs.Shown.{OneOffer, OneReply, OneFinish, OpeningComesBack, ReplyComesBack, Five}
+use Rattle.exchange.specs.declared.ReplyCounts.{ReplyCounts}
+use Rattle.exchange.specs.declared.ReplyAnswer.{ReplyAnswer}
+use Rattle.exchange.specs.declared.FinishCounts.{FinishCounts}
+use Rattle.exchange.specs.declared.FinishAnswer.{FinishAnswer}
+use Rattle.exchange.proofs.Replying.{reply-sized}
+use Rattle.exchange.proofs.Finishing.{finish-sized}
+
+-- ---- one result
+
+pub one-offer : OneOffer
+one-offer c x n r r′ message message′ p q = (same-answer r r′ (cc) (cc) (cc), cc)
+
+reply-eta : (m : ReplyCounts) → record { message = m .message; key = m .key } ≡ m
+reply-eta m = refl
+
+same-reply : (a b : ReplyAnswer) → reply.number a ≡ reply.number b → reply.place a ≡ reply.place b → reply.counts a .message ≡ reply.counts b .message
+    → reply.counts a .key ≡ reply.counts b .key → a ≡ b
+same-reply (ReplyAnswer.Done m) (ReplyAnswer.Done n) e f g h = cc (reply-eta m, reply-eta n)
+same-reply (ReplyAnswer.Done m) (ReplyAnswer.Refused s) e f g h = absurd (omega (arith, some s))
+same-reply (ReplyAnswer.Refused r) (ReplyAnswer.Done n) e f g h = absurd (omega (arith, some r))
+same-reply (ReplyAnswer.Refused r) (ReplyAnswer.Refused s) e f g h = ap ReplyAnswer.Refused (same-refusal r s e f)
+
+pub one-reply : OneReply
+one-reply c x n k r r′ message message′ key key′ p q = (same-reply r r′ (cc) (cc) (cc) (cc), cc, cc)
+
+finish-eta : (m : FinishCounts) → record { key = m .key } ≡ m
+finish-eta m = refl
+
+same-finish : (a b : FinishAnswer) → finish.number a ≡ finish.number b → finish.place a ≡ finish.place b → finish.counts a .key ≡ finish.counts b .key → a ≡ b
+same-finish (FinishAnswer.Done m) (FinishAnswer.Done n) e f g = cc (finish-eta m, finish-eta n)
+same-finish (FinishAnswer.Done m) (FinishAnswer.Refused s) e f g = absurd (omega (arith, some s))
+same-finish (FinishAnswer.Refused r) (FinishAnswer.Done n) e f g = absurd (omega (arith, some r))
+same-finish (FinishAnswer.Refused r) (FinishAnswer.Refused s) e f g = ap FinishAnswer.Refused (same-refusal r s e f)
+
+pub one-finish : OneFinish
+one-finish c x k r r′ key key′ p q = (same-finish r r′ (cc) (cc) (cc), cc)
+
+-- ---- messages that are accepted
+
+pub opening-comes-back : OpeningComesBack
+unfolding replyTests openedOf
+opening-comes-back c x n k b t = opening-again c (x .opening) (reply-sized c x n k (both _ _ t .0) .opening-long) b
+
+pub reply-comes-back : ReplyComesBack
+unfolding finishTests repliedOf
+reply-comes-back c x k b t = reply-again c (x .reply) (finish-sized c x k (both _ _ t .0) .0) b
+
+-- ---- Frodo, whose q is all that a packed number can hold
+
+whole : (c : Scheme) → familyOf c ≡ Family.Frodo → 2 ^ fixedOf c .width ≤ fixedOf c .q
+whole Bcns e = let z : _≡_ {A = ℕ} 0 1 = cc in absurd (omega arith)
+whole NewHope e = let z : _≡_ {A = ℕ} 0 1 = cc in absurd (omega arith)
+whole Challenge e = lit≤ tt
+whole Classical e = lit≤ tt
+whole Recommended e = lit≤ tt
+whole Paranoid e = lit≤ tt
+
+fits : (c : Scheme) → familyOf c ≡ Family.Frodo → (p : List ℕ) → messageIn (fixedOf c .q) (numbersIn c p) ≡ Pass
+unfolding numbersIn
+fits c d p = message-passes (record { below = λ k. lt-of-lt-of-le (unpacked-below (fixedOf c .width) (fixedOf c .secret) p .below k) (whole c d) })
+
+abbrev Other : ℕ → Type 0
+Other k = k ≡ 5 → ⊥
+
+pub five : Five
+unfolding replyTests replySizes replyRest replySecrets openedOf finishTests finishSizes finishRest repliedOf
+five c d =
+    let l = lengths Other (λ e. omega arith) (λ e. omega arith) in
+    let m = rooms Other (λ e. omega arith) (λ e. omega arith) in
+    let a = publics Other (λ e. omega arith) (λ e. omega arith) in
+    let s = secrets Other (λ e. omega arith) (λ e. omega arith) in
+    (
+      λ x n k.
+      and Other _ _
+      (and Other _ _
+      (and Other _ _
+      (and Other _ _
+      (and Other _ _ (and Other _ _ (and Other _ _ (and Other _ _ (and Other _ _ (l _ _) (λ _. l _ _)) (λ _. l _ _)) (λ _. l _ _)) (λ _. l _ _)) (λ _. l _ _))
+      (λ _. m _ _))
+      (λ _. m _ _))
+      (λ _. a _ _))
+      (λ _. and Other _ _ (passes Other (fits c d _) (λ e. omega arith)) (λ _. and Other _ _ (and Other _ _ (s _ _) (λ _. s _ _)) (λ _. s _ _))),
+      λ x k.
+      and Other _ _
+      (and Other _ _ (and Other _ _ (l _ _) (λ _. l _ _)) (λ _. m _ _))
+      (λ _. and Other _ _ (passes Other (fits c d _) (λ e. omega arith)) (λ _. s _ _)),
+    )
