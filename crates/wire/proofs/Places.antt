@@ -1,5 +1,5 @@
 -- Where the parts of a message stand.
---   packed-within, seed-within   both lie within the opening
+--   packed-within, seed-within   packed part and seed of an opening lie within it
 --   opened-long, replied-long, hints-long   how long the parts of a message are
 -- and by the struct f that the code reads the fixed numbers from:
 --   starts-by                    where packed part and seed of an opening begin, by the family of the scheme

@@ -14,7 +14,7 @@ use front::Verdict;
 use schemes::Family;
 use schemes::Scheme;
 
-// Where the two parts of an opening begin, the packed one first.
+// Where the packed part of an opening begins, and where its seed does.
 struct Starts(usize, usize);
 
 // Frodo's seed stands before its packed part, the others' behind it.

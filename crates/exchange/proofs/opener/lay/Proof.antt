@@ -17,7 +17,7 @@ lay-opening-requires c κs =
     let o : tie.After-offer = search needs in
     let a = b .args in
     let n = offered-counted (a .scheme) (a .a .now) (a .s .now) (a .e .now) in
-    ((rw (o .offer .ensures) (n .long), rw (o .offer .ensures) (n .below)), (b .pre .0 .seed-long, b .pre .1 .1))
+    (rw (o .offer .ensures) n, (b .pre .0 .seed-long, b .pre .1 .1))
 
 returns : tie.Need-returns
 unfolding openingOf
