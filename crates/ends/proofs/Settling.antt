@@ -53,7 +53,9 @@ module _ (c : Scheme) (cs v : List ℕ) (l : length v ≡ fixedOf c .mixed) wher
       in-each Entries (familyOf c) (numbers-of c)
       (λ k. bits (k .mixed ∙ sym (k .groups)) (sym (k .keybits)) (record { long = bcns.keys-length cs v ∙ l; below = bcns.keys-below cs v }))
       (λ k. bits (sym (k .groups)) (sym (k .keybits)) (record { long = newhope.keys-length cs v; below = newhope.keys-below cs v }))
-      (λ k. bits (k .mixed ∙ sym (k .groups)) refl (record { long = frodo-laws.keys-length (interval c) b v ∙ l; below = frodo-laws.keys-below (interval c) b v }))
+      (λ k.
+      bits (k .mixed ∙ sym (k .groups)) refl
+      (record { long = frodo-laws.keys-length (interval c) b v ∙ l; below = frodo-laws.keys-below (interval c) b v }))
 
   -- cs are the hints, v the initiator's value
   pub peers-counted : Counted (fixedOf c .groups) (2 ^ fixedOf c .keybits) (peers c cs v)
@@ -63,7 +65,9 @@ module _ (c : Scheme) (cs v : List ℕ) (l : length v ≡ fixedOf c .mixed) wher
       in-each Entries (familyOf c) (numbers-of c)
       (λ k. bits (k .mixed ∙ sym (k .groups)) (sym (k .keybits)) (record { long = bcns.peers-length cs v ∙ l; below = bcns.peers-below cs v }))
       (λ k. bits (sym (k .groups)) (sym (k .keybits)) (record { long = newhope.peers-length cs v; below = newhope.peers-below cs v }))
-      (λ k. bits (k .mixed ∙ sym (k .groups)) refl (record { long = frodo-laws.peers-length (interval c) b cs v ∙ l; below = frodo-laws.peers-below (interval c) b cs v }))
+      (λ k.
+      bits (k .mixed ∙ sym (k .groups)) refl
+      (record { long = frodo-laws.peers-length (interval c) b cs v ∙ l; below = frodo-laws.peers-below (interval c) b cs v }))
 
 -- ---- what the functions know
 
@@ -193,7 +197,8 @@ module _ (F : Family) (t : Told Keying) (i : t .kind ≡ F) where
       (λ k. newhope-asks (h .0) k (k .groups) (bits (k .mixed) (k .hintbits) own))
       (λ k. frodo-asks t (h .0) k (k .groups))
 
-  pub keys-made : {out : List ℕ} → out ≡ by F (bcns-spec.keysOf (t .xs) (t .v)) (newhope-spec.peersOf (t .own) (t .v)) (frodo-spec.keysOf (t .I) (t .B) (t .v))
+  pub keys-made : {out : List ℕ} → out ≡ by F (bcns-spec.keysOf (t .xs) (t .v)) (newhope-spec.peersOf (t .own) (t .v))
+      (frodo-spec.keysOf (t .I) (t .B) (t .v))
       → out ≡ keys (t .c) (t .xs) (t .v)
   unfolding hints keys
   keys-made p =
@@ -217,7 +222,8 @@ module _ (F : Family) (t : Told Peering) (i : t .kind ≡ F) where
       let y = bits refl (k .hintbits) (h .1) in
       (frodo-asks t (h .0) k (k .groups), (y .below, y .long ∙ sym (h .0 .0 .long))))
 
-  pub peers-made : {out : List ℕ} → out ≡ by F (bcns-spec.peersOf (t .xs) (t .v)) (newhope-spec.peersOf (t .xs) (t .v)) (frodo-spec.peersOf (t .I) (t .B) (t .xs) (t .v))
+  pub peers-made : {out : List ℕ} → out ≡ by F (bcns-spec.peersOf (t .xs) (t .v)) (newhope-spec.peersOf (t .xs) (t .v))
+      (frodo-spec.peersOf (t .I) (t .B) (t .xs) (t .v))
       → out ≡ peers (t .c) (t .xs) (t .v)
   unfolding peers
   peers-made p = in-arm F (t .c) (sym (t .family) ∙ i) p (λ k. refl) (λ k. refl) (λ k. rw (t .wide, t .bits) refl)

@@ -167,23 +167,30 @@ module _ (F : Family) (t : Told Travelling) (i : t .kind ≡ F) where
       (λ k. (newhope-asks (h .0, h .1 .0) k (k .public) (k .secret), h .1 .1 .long ∙ k .noise))
       (λ k. rw (t .fixed) (frodo-fit (h .0, h .1 .0) _ k (k .some) (k .few) (k .public) (k .secret), noise (k .noise) (k .small) (h .1 .1)))
 
-  pub offer-made : {out : List ℕ}
+  -- as the code has it in BCNS and NewHope, and as the definitions have it; z and z' in Frodo
+  abbrev Run : List ℕ → List ℕ
+  Run z =
+      by F (polynomial.mixed (t .f .q) (t .room) (t .a) (t .s) (t .e)) (transformed (polynomial.mixed 12289 1024 (inverted (t .a)) (t .s) (t .e))) z
+
+  travel-made : {out z z' : List ℕ} → out ≡ Run z → z ≡ z'
       → out
-      ≡ by F (polynomial.mixed (t .f .q) (t .room) (t .a) (t .s) (t .e)) (transformed (polynomial.mixed 12289 1024 (inverted (t .a)) (t .s) (t .e)))
-      (matrix.rightMixed (t .f .q) (t .f .n) (t .f .n) 8 (t .a) (t .s) (t .e))
+      ≡ by (familyOf (t .c)) (polynomial.mixed (fixedOf (t .c) .q) (fixedOf (t .c) .n) (t .a) (t .s) (t .e))
+      (transformed (polynomial.mixed (fixedOf (t .c) .q) (fixedOf (t .c) .n) (inverted (t .a)) (t .s) (t .e))) z'
+  travel-made p o =
+      in-arm F (t .c) (sym (t .family) ∙ i) p
+      (λ k. bcns-words t (t .given .0 .1 ∙ k .secret ∙ sym (k .n)))
+      (λ k. ap transformed (newhope-words t k))
+      (λ k. o)
+
+  pub offer-made : {out : List ℕ} → out ≡ Run (matrix.rightMixed (t .f .q) (t .f .n) (t .f .n) 8 (t .a) (t .s) (t .e))
       → out ≡ offered (t .c) (t .a) (t .s) (t .e)
   unfolding offered
-  offer-made p =
-      in-arm F (t .c) (sym (t .family) ∙ i) p (λ k. bcns-words t (t .given .0 .1 ∙ k .secret ∙ sym (k .n))) (λ k. ap transformed (newhope-words t k)) (λ k. rw (t .fixed) refl)
+  offer-made p = travel-made p (rw (t .fixed) refl)
 
-  pub reply-made : {out : List ℕ}
-      → out
-      ≡ by F (polynomial.mixed (t .f .q) (t .room) (t .a) (t .s) (t .e)) (transformed (polynomial.mixed 12289 1024 (inverted (t .a)) (t .s) (t .e)))
-      (matrix.leftMixed (t .f .q) (t .f .n) (t .f .n) 8 (t .s) (t .a) (t .e))
+  pub reply-made : {out : List ℕ} → out ≡ Run (matrix.leftMixed (t .f .q) (t .f .n) (t .f .n) 8 (t .s) (t .a) (t .e))
       → out ≡ replied (t .c) (t .a) (t .s) (t .e)
   unfolding replied
-  reply-made p =
-      in-arm F (t .c) (sym (t .family) ∙ i) p (λ k. bcns-words t (t .given .0 .1 ∙ k .secret ∙ sym (k .n))) (λ k. ap transformed (newhope-words t k)) (λ k. rw (t .fixed) refl)
+  reply-made p = travel-made p (rw (t .fixed) refl)
 
 module _ (F : Family) (t : Told Mixing) (i : t .kind ≡ F) where
   pub mix-asks : Each F
@@ -204,4 +211,7 @@ module _ (F : Family) (t : Told Mixing) (i : t .kind ≡ F) where
       → out ≡ mixedValue (t .c) (t .a) (t .s) (t .e)
   unfolding mixedValue
   mix-made p =
-      in-arm F (t .c) (sym (t .family) ∙ i) p (λ k. bcns-words t (t .given .0 .1 ∙ k .mixed ∙ sym (k .n))) (λ k. newhope-words t k) (λ k. rw (t .fixed) refl)
+      in-arm F (t .c) (sym (t .family) ∙ i) p
+      (λ k. bcns-words t (t .given .0 .1 ∙ k .mixed ∙ sym (k .n)))
+      (λ k. newhope-words t k)
+      (λ k. rw (t .fixed) refl)

@@ -1,5 +1,6 @@
--- What each end computes, by the scheme: 01, "The calls": b = as + e; u = as' + e'; v = bs' + e''; w = us, all reduced to 0 .. q - 1. Polynomials are multiplied
--- modulo X^1024 + 1. In NewHope the lent a lies transformed, and b and u travel transformed (01, "Bytes on the wire"); in Frodo all are matrices.
+-- What each end computes, by the scheme: 01, "The calls": b = as + e; u = as' + e'; v = bs' + e''; w = us, all reduced to 0 .. q - 1.
+-- Polynomials are multiplied modulo X^1024 + 1; in Frodo all are matrices. In NewHope the lent a lies transformed, and b and u travel
+-- transformed (01, "The NewHope transform" and "Bytes on the wire").
 --   offered c a s e         b, as it travels
 --   replied c a s' e'       u, as it travels
 --   mixedValue c b s' e''   the replier's value v, of the b that travelled

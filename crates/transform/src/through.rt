@@ -1,5 +1,6 @@
-// What NewHope's ends compute, where the public polynomial, b and u lie transformed: 01, "The calls" and "The NewHope transform". Secrets and noise come
-// signed, in natural order. The contracts speak of polynomials modulo X^1024 + 1; what runs are products entry by entry (`proofs/Mixing.antt` shows the two equal).
+// What NewHope's ends compute, where the public polynomial, b and u lie transformed: 01, "The calls" and "The NewHope transform". Secrets
+// and noise come signed, in natural order. The contracts speak of polynomials modulo X^1024 + 1; what runs are products entry by entry
+// (`proofs/Mixing.antt` shows the two equal).
 ghost use mathlib.Core.Path.{_≡_};
 ghost use lib.ListN.{length};
 ghost use Rattle.lists.specs.Entries.{Below};
