@@ -92,20 +92,19 @@ five c d =
     let l = lengths Other (λ e. omega arith) (λ e. omega arith) in
     let m = rooms Other (λ e. omega arith) (λ e. omega arith) in
     let a = publics Other (λ e. omega arith) (λ e. omega arith) in
-    let s = secrets Other (λ e. omega arith) (λ e. omega arith) in
-    (
+    let s = secrets Other (λ e. omega arith) (λ e. omega arith) in (
       λ x n k.
-      and Other _ _
-      (and Other _ _
-      (and Other _ _
-      (and Other _ _
-      (and Other _ _ (and Other _ _ (and Other _ _ (and Other _ _ (and Other _ _ (l _ _) (λ _. l _ _)) (λ _. l _ _)) (λ _. l _ _)) (λ _. l _ _)) (λ _. l _ _))
-      (λ _. m _ _))
-      (λ _. m _ _))
-      (λ _. a _ _))
-      (λ _. and Other _ _ (passes Other (fits c d _) (λ e. omega arith)) (λ _. and Other _ _ (and Other _ _ (s _ _) (λ _. s _ _)) (λ _. s _ _))),
+          and Other _ _
+          (and Other _ _
+          (and Other _ _
+          (and Other _ _
+          (and Other _ _ (and Other _ _ (and Other _ _ (and Other _ _ (and Other _ _ (l _ _) (λ _. l _ _)) (λ _. l _ _)) (λ _. l _ _)) (λ _. l _ _)) (λ _. l _ _))
+          (λ _. m _ _))
+          (λ _. m _ _))
+          (λ _. a _ _))
+          (λ _. and Other _ _ (passes Other (fits c d _) (λ e. omega arith)) (λ _. and Other _ _ (and Other _ _ (s _ _) (λ _. s _ _)) (λ _. s _ _))),
       λ x k.
-      and Other _ _
-      (and Other _ _ (and Other _ _ (l _ _) (λ _. l _ _)) (λ _. m _ _))
-      (λ _. and Other _ _ (passes Other (fits c d _) (λ e. omega arith)) (λ _. s _ _)),
+          and Other _ _
+          (and Other _ _ (and Other _ _ (l _ _) (λ _. l _ _)) (λ _. m _ _))
+          (λ _. and Other _ _ (passes Other (fits c d _) (λ e. omega arith)) (λ _. s _ _)),
     )

@@ -156,7 +156,19 @@ fn with_secrets(
         Verdict::Fail(r) => Verdict::Fail(r),
         Verdict::Pass => {
             let f = scheme.fixed();
-            write(scheme, f.mixed, f.groups, b, a, s1, e1, e2, coins, message, key);
+            write(
+                scheme,
+                f.mixed,
+                f.groups,
+                b,
+                a,
+                s1,
+                e1,
+                e2,
+                coins,
+                message,
+                key,
+            );
             Verdict::Pass
         }
     }
@@ -210,7 +222,18 @@ fn answer_in(
     ensures { λ r. ⌜ Laid r (keyOf scheme (reply opening a s1 e1 e2 coins)) key ⌝ }
 {
     let mut b = [0u32; 6912];
-    with_opening(scheme, opening, &mut b[..n], a, s1, e1, e2, coins, message, key)
+    with_opening(
+        scheme,
+        opening,
+        &mut b[..n],
+        a,
+        s1,
+        e1,
+        e2,
+        coins,
+        message,
+        key,
+    )
 }
 
 // Where sizes and public numbers have passed.
