@@ -67,8 +67,7 @@ pub fn reply(
 ) -> ReplyAnswer
     ensures { λ r. ⌜ Replies (schemeOf scheme) opening a s1 e1 e2 coins message key r ⌝ }
 {
-    lists::zero_bytes(message);
-    lists::zero_bytes(key);
+    replier::zero_outputs(message, key);
     let Named::Is(known) = schemes::scheme_of(scheme) else {
         return ReplyAnswer::Refused(Refusal::NoScheme);
     };

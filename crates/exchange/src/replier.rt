@@ -6,7 +6,7 @@ ghost use Prim.Native.Nat.{_^_};
 ghost use lib.ListN.{length, replicate};
 ghost use Rattle.schemes.specs.Schemes.{fixedOf};
 ghost use Rattle.schemes.specs.declared.Named.the-variants.{Is};
-ghost use Rattle.lists.specs.Lent.{was, left};
+ghost use Rattle.lists.specs.Lent.{was, left, room};
 ghost use Rattle.packing.specs.Packing.{packed};
 ghost use Rattle.front.specs.declared.Verdict.the-variants.{Pass};
 ghost use Rattle.ends.specs.Fit.{Counted};
@@ -19,6 +19,15 @@ use crate::ReplyAnswer;
 use crate::ReplyCounts;
 use front::Verdict;
 use schemes::Scheme;
+
+// Whatever they held.
+pub(crate) fn zero_outputs(message: &mut [u8], key: &mut [u8])
+    ensures { λ _. ⌜ left message ≡ replicate (room message) 0 ⌝ }
+    ensures { λ _. ⌜ left key ≡ replicate (room key) 0 ⌝ }
+{
+    lists::zero_bytes(message);
+    lists::zero_bytes(key);
+}
 
 // The hints and the entries of the key, from the opening's numbers b; flips, as numbers of the coins, and v are room for what lies between.
 fn settle(
@@ -195,8 +204,7 @@ fn with_opening(
 {
     let v = wire::take_opening(scheme, opening, b);
     let Verdict::Pass = v else {
-        lists::zero_bytes(message);
-        lists::zero_bytes(key);
+        zero_outputs(message, key);
         return v;
     };
     with_secrets(scheme, b, a, s1, e1, e2, coins, message, key)

@@ -14,48 +14,41 @@ known c = search needs
 abbrev named : tie.After-known → tie.After-scheme-of
 named c = search needs
 
-abbrev zeroed : tie.After-scheme-of → tie.After-zero-bytes2
+abbrev zeroed : tie.After-scheme-of → tie.After-zero-outputs
 zeroed c = search needs
 
-abbrev first : tie.After-zero-bytes2 → tie.After-zero-bytes
-first c = search needs
-
-abbrev start : tie.After-zero-bytes → tie.Start
+abbrev start : tie.After-zero-outputs → tie.Start
 start c = search needs
 
 returns : tie.Need-returns
 returns c =
     let n : tie.After-scheme-of = search needs in
-    let y = zeroed n in
-    let z = first y in
-    reply-refused (reply-unknown _ _ _ (sym (n .scheme-of .ensures) ∙ c .enum-told .given .1)) (z .zero-bytes .ensures) (y .zero-bytes2 .ensures)
+    let z = zeroed n .zero-outputs .ensures in
+    reply-refused (reply-unknown _ _ _ (sym (n .scheme-of .ensures) ∙ c .enum-told .given .1)) (z .0) (z .1)
 
 reply-in-requires : tie.Need-reply-in-requires
 reply-in-requires c κs =
     let k : tie.After-known = search needs in
-    let y = zeroed (named k) in
-    let z = first y in
+    let z = zeroed (named k) in
     let a = start z .args in
-    (zeros (length (a .message .now)) 0 (z .zero-bytes .ensures), zeros (length (a .key .now)) 0 (y .zero-bytes2 .ensures))
+    (zeros (length (a .message .now)) 0 (z .zero-outputs .ensures .0), zeros (length (a .key .now)) 0 (z .zero-outputs .ensures .1))
 
 returns-2 : tie.Need-returns-2
 returns-2 c =
     let p : tie.After-reply-in = search needs in
     let k = known p in
     let n = named k in
-    let y = zeroed n in
-    let z = first y in
+    let z = zeroed n in
     let a = start z .args in
     let e = sym (n .scheme-of .ensures) ∙ k .known .given .1 in
-    let l = zeros-long (length (a .message .now)) 0 (z .zero-bytes .ensures) in
-    let m = zeros-long (length (a .key .now)) 0 (y .zero-bytes2 .ensures) in
+    let l = zeros-long (length (a .message .now)) 0 (z .zero-outputs .ensures .0) in
+    let m = zeros-long (length (a .key .now)) 0 (z .zero-outputs .ensures .1) in
     rw (e, ← l, ← m) (p .reply-in .ensures)
 
 pub reply-spec : {M : Type 1} → statement M
 reply-spec =
     tie.close
     (tie.spec
-    (λ c κs. search needs)
     (λ c κs. search needs)
     (λ c κs. search needs)
     (search needs)

@@ -21,10 +21,7 @@ told c = search needs
 abbrev taken : tie.After-enum-told → tie.After-take-opening
 taken c = search needs
 
-abbrev refused : tie.After-zero-bytes2 → tie.After-zero-bytes
-refused c = search needs
-
-abbrev failing : tie.After-zero-bytes → tie.After-enum-told2
+abbrev failing : tie.After-zero-outputs → tie.After-enum-told2
 failing c = search needs
 
 abbrev opened : tie.After-enum-told2 → tie.After-take-opening
@@ -44,15 +41,17 @@ with-secrets-requires c κs =
 returns : tie.Need-returns
 unfolding replyRest openedOf
 returns c =
-    let y : tie.After-zero-bytes2 = search needs in
-    let z = refused y in
+    let z : tie.After-zero-outputs = search needs in
     let o = failing z in
     let t = opened o in
     let b = start t in
     let f = fixedOf (b .args .scheme) in
     let e = o .enum-told2 .given .1 in (
       e ∙ sym (failed _ (t .take-opening .ensures .0) e),
-      (rw e (z .zero-bytes .ensures ∙ sym (zeros (f .reply) 0 (b .pre .0 .message-blank))), rw e (y .zero-bytes2 .ensures ∙ sym (zeros (f .key) 0 (b .pre .0 .key-blank)))),
+      (
+        rw e (z .zero-outputs .ensures .0 ∙ sym (zeros (f .reply) 0 (b .pre .0 .message-blank))),
+        rw e (z .zero-outputs .ensures .1 ∙ sym (zeros (f .key) 0 (b .pre .0 .key-blank))),
+      ),
     )
 
 returns-2 : tie.Need-returns-2
@@ -79,7 +78,6 @@ with-opening-spec =
     (λ c κs. search needs)
     (search needs)
     (search needs)
-    (λ c κs. search needs)
     (λ c κs. search needs)
     (search needs)
     (search needs)
