@@ -1,7 +1,8 @@
 // The bench cards, run: 01, "Bench cards". A line has a card's inputs and what the library's functions give for them. It begins with `*` where 01 marks the card,
 // which is then a theorem on the definitions too (`specs/Table.antt`). `stdout` is what the second program prints.
-use exchange::Answer;
-use exchange::Replied;
+use exchange::FinishAnswer;
+use exchange::ReplyAnswer;
+use front::Answer;
 use front::Refusal;
 use libc::STDOUT_FILENO;
 use newhope::Four;
@@ -233,8 +234,8 @@ fn reply_card(n: u32)
     field(b"- reply scheme=1 index=0 number=", n);
     text(b" : ");
     match answer {
-        Replied::Done(_, _) => text(b"passes"),
-        Replied::Refused(r) => refused(r),
+        ReplyAnswer::Done(_) => text(b"passes"),
+        ReplyAnswer::Refused(r) => refused(r),
     }
     text(b"\n");
 }
@@ -248,7 +249,10 @@ fn finish_card(n: u32)
     let answer = exchange::finish(1, &given, &secret, &mut key);
     field(b"- finish scheme=1 index=0 number=", n);
     text(b" : ");
-    told(answer);
+    match answer {
+        FinishAnswer::Done(_) => text(b"passes"),
+        FinishAnswer::Refused(r) => refused(r),
+    }
     text(b"\n");
 }
 
@@ -263,7 +267,7 @@ fn message_cards() {
 fn expand_card() {
     let stream = [0u8; 0];
     let mut out = [0u32; 1024];
-    let answer = exchange::expand(&stream, &mut out);
+    let answer = sampling::expand(&stream, &mut out);
     text(b"- expand stream= : ");
     told(answer);
     text(b"\n");

@@ -1,7 +1,7 @@
 // Bench near the margin, on both sides where that is possible: docs/AGREEMENT.md, "Worked runs", which has the inputs of each run. `stdout` is what the
 // second program prints. What is not written is zero. A whole number that is written is the difference of two natural ones.
 ghost use Prim.Native.Nat.{_^_, _≤_, _<_};
-use exchange::Compared;
+use bench::BenchAnswer;
 use libc::STDOUT_FILENO;
 use schemes::Scheme;
 
@@ -16,14 +16,14 @@ fn field(name: &[u8], n: u64) {
 }
 
 // A run's line.
-fn told(scheme: u32, name: &[u8], answer: Compared) {
+fn told(scheme: u32, name: &[u8], answer: BenchAnswer) {
     field(b"bench scheme=", scheme as u64);
     text(b" run=");
     text(name);
     match answer {
-        Compared::Agree => text(b" agree"),
-        Compared::Differ(bit) => field(b" differ=", bit as u64),
-        Compared::Refused(r) => {
+        BenchAnswer::Agree => text(b" agree"),
+        BenchAnswer::Differ(bit) => field(b" differ=", bit as u64),
+        BenchAnswer::Refused(r) => {
             field(b" refusal=", r.number() as u64);
             field(b" place=", r.place() as u64);
         }
@@ -53,7 +53,7 @@ fn bcns() {
     let least = [-51i32; 1024];
     let seed = [0u8; 0];
     let coins = [0u8; 256];
-    let answer = exchange::bench(0, &a, &most, &most, &seed, &most, &least, &most, &coins);
+    let answer = bench::bench(0, &a, &most, &most, &seed, &most, &least, &most, &coins);
     told(0, b"largest", answer);
 }
 
@@ -148,7 +148,7 @@ fn newhope_in(
     sixteens(s);
     put(s, 32, 1, 0);
     targets(third, e, e1, e2);
-    let answer = exchange::bench(1, &a, s, e, &seed, s1, e1, e2, &coins);
+    let answer = bench::bench(1, &a, s, e, &seed, s1, e1, e2, &coins);
     told(1, name, answer);
 }
 
@@ -225,7 +225,7 @@ fn frodo_in(
     let coins = [0u8; 0];
     public_numbers(q, a);
     secrets(t, b, s, e1);
-    let answer = exchange::bench(scheme, a, s, e, &seed, s1, e1, &e2, &coins);
+    let answer = bench::bench(scheme, a, s, e, &seed, s1, e1, &e2, &coins);
     told(scheme, name, answer);
 }
 

@@ -15,9 +15,10 @@ use crate::shape::bytes_region;
 use crate::shape::cut;
 use crate::shape::lengths;
 use crate::shape::secret_part;
-use exchange::Answer;
-use exchange::Compared;
-use exchange::Replied;
+use bench::BenchAnswer;
+use exchange::FinishAnswer;
+use exchange::ReplyAnswer;
+use front::Answer;
 use schemes::Fixed;
 
 pub enum Call {
@@ -67,7 +68,7 @@ pub fn reply(
     bytes: &[u8],
     message: &mut [u8],
     key: &mut [u8],
-) -> Replied {
+) -> ReplyAnswer {
     let n = cut(lens[A], a.len());
     let opening = bytes_part(OPENING, lens[OPENING], bytes.len());
     let coins = bytes_part(COINS, lens[COINS], bytes.len());
@@ -96,7 +97,7 @@ fn reply_secrets(
     coins: &[u8],
     message: &mut [u8],
     key: &mut [u8],
-) -> Replied {
+) -> ReplyAnswer {
     let s = secret_part(S1, lens[S1], values.len());
     let e = secret_part(E1, lens[E1], values.len());
     let v = secret_part(E2, lens[E2], values.len());
@@ -125,7 +126,7 @@ pub fn finish(
     values: &[i32],
     bytes: &[u8],
     key: &mut [u8],
-) -> Answer {
+) -> FinishAnswer {
     let reply = bytes_part(REPLY, lens[REPLY], bytes.len());
     let s = secret_part(S, lens[S], values.len());
     let r0 = reply.from;
@@ -135,7 +136,7 @@ pub fn finish(
     exchange::finish(scheme, &bytes[r0..r1], &values[s0..s1], key)
 }
 
-pub fn bench(scheme: u32, lens: [usize; 12], a: &[u32], values: &[i32], bytes: &[u8]) -> Compared {
+pub fn bench(scheme: u32, lens: [usize; 12], a: &[u32], values: &[i32], bytes: &[u8]) -> BenchAnswer {
     let n = cut(lens[A], a.len());
     let seed = bytes_part(SEED, lens[SEED], bytes.len());
     let coins = bytes_part(COINS, lens[COINS], bytes.len());
@@ -160,7 +161,7 @@ fn bench_initiator(
     values: &[i32],
     seed: &[u8],
     coins: &[u8],
-) -> Compared {
+) -> BenchAnswer {
     let s = secret_part(S, lens[S], values.len());
     let e = secret_part(E, lens[E], values.len());
     let s0 = s.from;
@@ -188,7 +189,7 @@ fn bench_secrets(
     seed: &[u8],
     values: &[i32],
     coins: &[u8],
-) -> Compared {
+) -> BenchAnswer {
     let t = secret_part(S1, lens[S1], values.len());
     let u = secret_part(E1, lens[E1], values.len());
     let v = secret_part(E2, lens[E2], values.len());
@@ -198,7 +199,7 @@ fn bench_secrets(
     let u1 = u.to;
     let v0 = v.from;
     let v1 = v.to;
-    exchange::bench(
+    bench::bench(
         scheme,
         a,
         s,

@@ -4,9 +4,10 @@ use crate::calls::Call;
 use crate::shape::KEY;
 use crate::shape::MESSAGE;
 use crate::shape::cut;
-use exchange::Answer;
-use exchange::Compared;
-use exchange::Replied;
+use bench::BenchAnswer;
+use exchange::FinishAnswer;
+use exchange::ReplyAnswer;
+use front::Answer;
 use front::Refusal;
 use libc::STDOUT_FILENO;
 
@@ -65,14 +66,21 @@ pub fn told(answer: Answer) {
     }
 }
 
-fn told_both(answer: Replied) {
+fn told_finish(answer: FinishAnswer) {
     match answer {
-        Replied::Done(n, m) => {
+        FinishAnswer::Done(n) => told(Answer::Done(n.key)),
+        FinishAnswer::Refused(r) => told(Answer::Refused(r)),
+    }
+}
+
+fn told_reply(answer: ReplyAnswer) {
+    match answer {
+        ReplyAnswer::Done(n) => {
             accepted();
-            count(b" message_written=", n);
-            count(b" key_written=", m);
+            count(b" message_written=", n.message);
+            count(b" key_written=", n.key);
         }
-        Replied::Refused(r) => {
+        ReplyAnswer::Refused(r) => {
             refused(r);
             text(b" message_written=0 key_written=0");
         }
@@ -136,7 +144,7 @@ fn reply_line(
 ) {
     let answer = calls::reply(scheme, lens, a, values, bytes, message, key);
     head(b"reply", k, case);
-    told_both(answer);
+    told_reply(answer);
     field(b" message=", draw::check_bytes(message));
     field(b" key=", draw::check_bytes(key));
     text(b"\n");
@@ -203,7 +211,7 @@ fn finish_line(
 ) {
     let answer = calls::finish(scheme, lens, values, bytes, key);
     head(b"finish", k, case);
-    told(answer);
+    told_finish(answer);
     field(b" key=", draw::check_bytes(key));
     text(b"\n");
 }
@@ -227,14 +235,14 @@ fn finish_case(k: u32, scheme: u32, case: Case, lens: [usize; 12], values: &[i32
 }
 
 // The first differing bit counts from 1, 0 where the keys agree.
-fn told_compared(answer: Compared) {
+fn told_bench(answer: BenchAnswer) {
     match answer {
-        Compared::Agree => text(b" refusal=0 place=0 differ=0"),
-        Compared::Differ(i) => {
+        BenchAnswer::Agree => text(b" refusal=0 place=0 differ=0"),
+        BenchAnswer::Differ(i) => {
             accepted();
             count(b" differ=", std::num::wrapping_add_usize(i, 1));
         }
-        Compared::Refused(r) => {
+        BenchAnswer::Refused(r) => {
             refused(r);
             text(b" differ=0");
         }
@@ -252,7 +260,7 @@ fn bench_case(
 ) {
     let answer = calls::bench(scheme, lens, a, values, bytes);
     head(b"bench", k, case);
-    told_compared(answer);
+    told_bench(answer);
     text(b"\n");
 }
 

@@ -4,7 +4,7 @@ mod calls;
 mod cases;
 mod inputs;
 mod lines;
-mod sampling;
+mod samples;
 mod shape;
 
 use calls::Call;
@@ -40,7 +40,7 @@ fn replies(k: u32, f: Fixed, a: &mut [u32], values: &mut [i32], bytes: &mut [u8]
 fn keys(k: u32, f: Fixed, a: &mut [u32], values: &mut [i32], bytes: &mut [u8]) {
     cases::all(setting(Call::Finish, k, f), a, values, bytes);
     cases::all(setting(Call::Bench, k, f), a, values, bytes);
-    sampling::noise_cases(k, f);
+    samples::noise_cases(k, f);
 }
 
 // The wide case of each call.
@@ -111,5 +111,5 @@ fn main() {
     scheme(3);
     scheme(4);
     scheme(5);
-    sampling::expand_cases();
+    samples::expand_cases();
 }

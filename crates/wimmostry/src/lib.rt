@@ -1,18 +1,27 @@
-// The library for programs in C and Rust: each exported function hands on to one call of `exchange` and tells its answer in numbers. It returns 0 or the
-// refusal's number, and has no `requires`. `include/wimmostry.h` says what a caller has to know.
+// The library for programs in C and Rust: each exported function hands on to one call and tells its answer in numbers. It returns 0 or the refusal's number,
+// has no `requires`, and promises what the call promises. `include/wimmostry.h` says what a caller has to know.
 ghost use mathlib.Core.Path.{_≡_};
 ghost use Prim.Native.Nat.{_≤_};
-ghost use lib.ListN.{length};
-ghost use Rattle.exchange.specs.Answers as answers;
-ghost use Rattle.exchange.specs.Bench.{runOf, numberC, placeC, differC};
-ghost use Rattle.wimmostry.specs.Calls.{OfferReturns, ReplyReturns, FinishReturns, NoiseReturns, ExpandReturns, BenchReturns};
-use exchange::Answer;
-use exchange::Compared;
-use exchange::Replied;
+ghost use Rattle.schemes.specs.Schemes.{schemeOf};
+ghost use Rattle.lists.specs.Lent.{left, room};
+ghost use Rattle.front.specs.Answers as answers;
+ghost use Rattle.sampling.specs.Noise.{noise, Noised};
+ghost use Rattle.sampling.specs.Expand.{expand, Expanded};
+ghost use Rattle.exchange.specs.Offer.{offer, Offered};
+ghost use Rattle.exchange.specs.Reply.{reply, Replied};
+ghost use Rattle.exchange.specs.Reply as replies;
+ghost use Rattle.exchange.specs.Finish.{finish, Finished};
+ghost use Rattle.exchange.specs.Finish as finishes;
+ghost use Rattle.bench.specs.Bench.{bench, Benched};
+ghost use Rattle.bench.specs.Bench as benches;
+use bench::BenchAnswer;
+use exchange::FinishAnswer;
+use exchange::ReplyAnswer;
+use front::Answer;
 
 // An answer in numbers.
 fn tell(answer: Answer, place: &mut u64, written: &mut u64) -> u32
-    ensures { λ r. ⌜ (r ≡ answers.number answer) × (now (place .exit) ≡ answers.place answer) × (now (written .exit) ≡ answers.written answer) ⌝ }
+    ensures { λ r. ⌜ (r ≡ answers.number answer) × (left place ≡ answers.place answer) × (left written ≡ answers.written answer) ⌝ }
 {
     match answer {
         Answer::Done(n) => {
@@ -29,30 +38,53 @@ fn tell(answer: Answer, place: &mut u64, written: &mut u64) -> u32
 }
 
 // The same of Reply, with its two counts.
-fn tell_both(answer: Replied, place: &mut u64, written: &mut u64, keyed: &mut u64) -> u32
-    ensures { λ r. ⌜ (r ≡ answers.numberR answer) × (now (place .exit) ≡ answers.placeR answer) × (now (written .exit) ≡ answers.writtenMessage answer) × (now (keyed .exit) ≡ answers.writtenKey answer) ⌝ }
+fn tell_reply(answer: ReplyAnswer, place: &mut u64, written: &mut u64, keyed: &mut u64) -> u32
+    ensures { λ r. ⌜ (r ≡ replies.number answer) × (left place ≡ replies.place answer) ⌝ }
+    ensures { λ r. ⌜ (left written ≡ replies.counts answer .message) × (left keyed ≡ replies.counts answer .key) ⌝ }
 {
     match answer {
-        Replied::Done(n, k) => {
-            *keyed = k as u64;
-            tell(Answer::Done(n), place, written)
+        ReplyAnswer::Done(n) => {
+            *place = 0;
+            *written = n.message as u64;
+            *keyed = n.key as u64;
+            0
         }
-        Replied::Refused(why) => {
+        ReplyAnswer::Refused(why) => {
+            *place = why.place() as u64;
+            *written = 0;
             *keyed = 0;
-            tell(Answer::Refused(why), place, written)
+            why.number()
+        }
+    }
+}
+
+// The same of Finish.
+fn tell_finish(answer: FinishAnswer, place: &mut u64, written: &mut u64) -> u32
+    ensures { λ r. ⌜ (r ≡ finishes.number answer) × (left place ≡ finishes.place answer) × (left written ≡ finishes.counts answer .key) ⌝ }
+{
+    match answer {
+        FinishAnswer::Done(n) => {
+            *place = 0;
+            *written = n.key as u64;
+            0
+        }
+        FinishAnswer::Refused(why) => {
+            *place = why.place() as u64;
+            *written = 0;
+            why.number()
         }
     }
 }
 
 // The same of Bench: 0 where the keys agree, else 1 + the first differing bit, of which a key has no more than 1024.
-fn tell_bench(answer: Compared, place: &mut u64, differ: &mut u64) -> u32
-    requires { ⌜ differC answer ≤ 1024 ⌝ }
-    ensures { λ r. ⌜ (r ≡ numberC answer) × (now (place .exit) ≡ placeC answer) × (now (differ .exit) ≡ differC answer) ⌝ }
+fn tell_bench(answer: BenchAnswer, place: &mut u64, differ: &mut u64) -> u32
+    requires { ⌜ benches.differ answer ≤ 1024 ⌝ }
+    ensures { λ r. ⌜ (r ≡ benches.number answer) × (left place ≡ benches.place answer) × (left differ ≡ benches.differ answer) ⌝ }
 {
     match answer {
-        Compared::Agree => tell(Answer::Done(0), place, differ),
-        Compared::Differ(bit) => tell(Answer::Done(bit + 1), place, differ),
-        Compared::Refused(why) => tell(Answer::Refused(why), place, differ),
+        BenchAnswer::Agree => tell(Answer::Done(0), place, differ),
+        BenchAnswer::Differ(bit) => tell(Answer::Done(bit + 1), place, differ),
+        BenchAnswer::Refused(why) => tell(Answer::Refused(why), place, differ),
     }
 }
 
@@ -68,7 +100,7 @@ pub extern "C" fn wim_offer(
     place: &mut u64,
     written: &mut u64,
 ) -> u32
-    ensures { λ r. ⌜ OfferReturns scheme (now (a .entry)) (now (s .entry)) (now (e .entry)) (now (seed .entry)) (length (now (message .entry))) r (now (place .exit)) (now (written .exit)) (now (message .exit)) ⌝ }
+    ensures { λ r. ⌜ Offered (schemeOf scheme) (offer a s e seed) r (left place) (room message) (left written) (left message) ⌝ }
 {
     let answer = exchange::offer(scheme, a, s, e, seed, message);
     tell(answer, place, written)
@@ -90,10 +122,12 @@ pub extern "C" fn wim_reply(
     written: &mut u64,
     keyed: &mut u64,
 ) -> u32
-    ensures { λ r. ⌜ ReplyReturns scheme (now (opening .entry)) (now (a .entry)) (now (s1 .entry)) (now (e1 .entry)) (now (e2 .entry)) (now (coins .entry)) (length (now (message .entry))) (length (now (key .entry))) r (now (place .exit)) (now (written .exit)) (now (keyed .exit)) (now (message .exit)) (now (key .exit)) ⌝ }
+    ensures { λ r. ⌜
+        Replied (schemeOf scheme) (reply opening a s1 e1 e2 coins) r (left place) (room message) (left written) (left message) (room key) (left keyed) (left key)
+        ⌝ }
 {
     let answer = exchange::reply(scheme, opening, a, s1, e1, e2, coins, message, key);
-    tell_both(answer, place, written, keyed)
+    tell_reply(answer, place, written, keyed)
 }
 
 // Finish: the initiator's key, from the reply message and the secret s.
@@ -106,10 +140,10 @@ pub extern "C" fn wim_finish(
     place: &mut u64,
     written: &mut u64,
 ) -> u32
-    ensures { λ r. ⌜ FinishReturns scheme (now (reply .entry)) (now (s .entry)) (length (now (key .entry))) r (now (place .exit)) (now (written .exit)) (now (key .exit)) ⌝ }
+    ensures { λ r. ⌜ Finished (schemeOf scheme) (finish reply s) r (left place) (room key) (left written) (left key) ⌝ }
 {
     let answer = exchange::finish(scheme, reply, s, key);
-    tell(answer, place, written)
+    tell_finish(answer, place, written)
 }
 
 // Noise: the values that the bytes give.
@@ -121,9 +155,9 @@ pub extern "C" fn wim_noise(
     place: &mut u64,
     written: &mut u64,
 ) -> u32
-    ensures { λ r. ⌜ NoiseReturns scheme (now (bytes .entry)) (length (now (out .entry))) r (now (place .exit)) (now (written .exit)) (now (out .exit)) ⌝ }
+    ensures { λ r. ⌜ Noised (schemeOf scheme) (noise bytes out) r (left place) (left written) (left out) ⌝ }
 {
-    let answer = exchange::noise(scheme, bytes, out);
+    let answer = sampling::noise(scheme, bytes, out);
     tell(answer, place, written)
 }
 
@@ -135,9 +169,9 @@ pub extern "C" fn wim_expand(
     place: &mut u64,
     written: &mut u64,
 ) -> u32
-    ensures { λ r. ⌜ ExpandReturns (now (stream .entry)) (length (now (out .entry))) r (now (place .exit)) (now (written .exit)) (now (out .exit)) ⌝ }
+    ensures { λ r. ⌜ Expanded (expand stream out) r (left place) (left written) (left out) ⌝ }
 {
-    let answer = exchange::expand(stream, out);
+    let answer = sampling::expand(stream, out);
     tell(answer, place, written)
 }
 
@@ -156,8 +190,8 @@ pub extern "C" fn wim_bench(
     place: &mut u64,
     differ: &mut u64,
 ) -> u32
-    ensures { λ r. ⌜ BenchReturns scheme (runOf (now (a .entry)) (now (s .entry)) (now (e .entry)) (now (seed .entry)) (now (s1 .entry)) (now (e1 .entry)) (now (e2 .entry)) (now (coins .entry))) r (now (place .exit)) (now (differ .exit)) ⌝ }
+    ensures { λ r. ⌜ Benched (schemeOf scheme) (bench a s e seed s1 e1 e2 coins) r (left place) (left differ) ⌝ }
 {
-    let answer = exchange::bench(scheme, a, s, e, seed, s1, e1, e2, coins);
+    let answer = bench::bench(scheme, a, s, e, seed, s1, e1, e2, coins);
     tell_bench(answer, place, differ)
 }

@@ -2,7 +2,8 @@
 use native.Mathlib.Omega.{arith}
 use borrow.Author.Needs.{needs}
 use Rattle.schemes.specs.Schemes.{fixedOf}
-use Rattle.margins.proofs.Numbers.{fits, quarter-lt}
+use Rattle.schemes.proofs.Sound.{sound}
+use Rattle.margins.proofs.Numbers.{quarter-lt}
 use Rattle.margins.proofs.frodo.Statement.{statement}
 use Rattle.margins.proofs.frodo.Tie as tie
 
@@ -13,7 +14,7 @@ number-requires : tie.Need-number-requires
 number-requires c κs = search needs
 
 shr-quarter : tie.Need-shr-quarter
-shr-quarter c = rw (c .before .before .fixed .ensures) (fits (c .before .before .before .args .scheme) .bits)
+shr-quarter c = rw (c .before .before .fixed .ensures) (omega (arith, sound (c .before .before .before .args .scheme) .key-room))
 
 slice-aggregate-frodo-run : tie.Need-slice-aggregate-frodo-run
 slice-aggregate-frodo-run c = search needs
@@ -22,9 +23,9 @@ frodo-run-requires : tie.Need-frodo-run-requires
 frodo-run-requires c κs =
     let s = c .before .before .before .before .args .scheme in
     let e = c .before .before .before .fixed .ensures in
-    let f = fits s in
-    let h = quarter-lt (fixedOf s .keybits) (f .room) in
-    rw e (omega arith, f .some, f .noise, f .small, f .public, f .secret)
+    let f = sound s in
+    let h = quarter-lt (fixedOf s .keybits) (f .q-word) in
+    rw e (omega arith, f .some, f .noisy, omega (arith, f .small), f .publics, f .secrets)
 
 slice-aggregate-frodo-run-2 : tie.Need-slice-aggregate-frodo-run-2
 slice-aggregate-frodo-run-2 c = search needs
@@ -33,15 +34,15 @@ add-frodo-run : tie.Need-add-frodo-run
 add-frodo-run c =
     let s = c .before .before .before .before .before .before .args .scheme in
     let e = c .before .before .before .before .before .fixed .ensures in
-    let h = quarter-lt (fixedOf s .keybits) (fits s .room) in
+    let h = quarter-lt (fixedOf s .keybits) (sound s .q-word) in
     rw e (record { fits = omega arith })
 
 frodo-run-requires-2 : tie.Need-frodo-run-requires-2
 frodo-run-requires-2 c κs =
     let s = c .before .before .before .before .before .before .args .scheme in
     let e = c .before .before .before .before .before .fixed .ensures in
-    let f = fits s in
-    rw e (quarter-lt (fixedOf s .keybits) (f .room), f .some, f .noise, f .small, f .public, f .secret)
+    let f = sound s in
+    rw e (quarter-lt (fixedOf s .keybits) (f .q-word), f .some, f .noisy, omega (arith, f .small), f .publics, f .secrets)
 
 returns : tie.Need-returns
 returns c = search needs

@@ -1,0 +1,43 @@
+-- No two results satisfy the promise of an exported call: its number, place and counts, and every output.
+--   OneOffer .. OneBench   of each call
+use mathlib.Core.Path.{_≡_}
+use mathlib.Core.List.{List}
+use Prim.Native.Nat.{ℕ}
+use lib.IntN.{ℤ}
+use Rattle.schemes.specs.declared.Named.{Named}
+use Rattle.sampling.specs.Noise.{Noise, Noised}
+use Rattle.sampling.specs.Expand.{Expand, Expanded}
+use Rattle.exchange.specs.Offer.{Offer, Offered}
+use Rattle.exchange.specs.Reply.{Reply, Replied}
+use Rattle.exchange.specs.Finish.{Finish, Finished}
+use Rattle.bench.specs.Bench.{Bench, Benched}
+
+abbrev pub OneOffer : Type 0
+OneOffer =
+    (c : Named) (x : Offer) (room r r′ p p′ w w′ : ℕ) (message message′ : List ℕ) → Offered c x r p room w message → Offered c x r′ p′ room w′ message′
+    → (r ≡ r′) × (p ≡ p′) × (w ≡ w′) × (message ≡ message′)
+
+abbrev pub OneReply : Type 0
+OneReply =
+    (c : Named) (x : Reply) (room keyRoom r r′ p p′ w w′ k k′ : ℕ) (message message′ key key′ : List ℕ)
+    → Replied c x r p room w message keyRoom k key → Replied c x r′ p′ room w′ message′ keyRoom k′ key′
+    → (r ≡ r′) × (p ≡ p′) × (w ≡ w′) × (k ≡ k′) × (message ≡ message′) × (key ≡ key′)
+
+abbrev pub OneFinish : Type 0
+OneFinish =
+    (c : Named) (x : Finish) (room r r′ p p′ w w′ : ℕ) (key key′ : List ℕ) → Finished c x r p room w key → Finished c x r′ p′ room w′ key′
+    → (r ≡ r′) × (p ≡ p′) × (w ≡ w′) × (key ≡ key′)
+
+abbrev pub OneNoise : Type 0
+OneNoise =
+    (c : Named) (x : Noise) (r r′ p p′ w w′ : ℕ) (out out′ : List ℤ) → Noised c x r p w out → Noised c x r′ p′ w′ out′
+    → (r ≡ r′) × (p ≡ p′) × (w ≡ w′) × (out ≡ out′)
+
+abbrev pub OneExpand : Type 0
+OneExpand =
+    (x : Expand) (r r′ p p′ w w′ : ℕ) (out out′ : List ℕ) → Expanded x r p w out → Expanded x r′ p′ w′ out′
+    → (r ≡ r′) × (p ≡ p′) × (w ≡ w′) × (out ≡ out′)
+
+abbrev pub OneBench : Type 0
+OneBench =
+    (c : Named) (x : Bench) (r r′ p p′ d d′ : ℕ) → Benched c x r p d → Benched c x r′ p′ d′ → (r ≡ r′) × (p ≡ p′) × (d ≡ d′)
