@@ -1,4 +1,0 @@
-pub mod Wording
-pub mod Signs
-pub mod Digits
-pub mod Sizing

@@ -1,4 +1,0 @@
-pub mod Words
-pub mod Values
-pub mod Texts
-pub mod Outputs
