@@ -182,12 +182,12 @@ const fn bytes(word: &'static str, length: Length, what: &'static str) -> Input 
 const SEED: Input = bytes(
     "SEED",
     Length::By(|z| z.seed),
-    "the seed, which travels in the opening unread",
+    "the seed, which travels in the opening unread; none in BCNS",
 );
 const COINS: Input = bytes(
     "COINS",
     Length::By(|z| z.coins),
-    "random bytes for the hints",
+    "random bytes for the hints; none in Frodo",
 );
 
 const fn message(word: &'static str, length: Length, what: &'static str) -> Input {

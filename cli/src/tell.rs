@@ -101,7 +101,7 @@ pub fn refusal(own: &OnFiles, scheme: u32, refused: Refused, given: &[Lent]) -> 
         2 => length(own, scheme, given),
         3 => room(own, scheme),
         4..=6 => entry(own, scheme, refused, given),
-        7 => Some(format!("input=stream expected={EXPAND_NUMBERS}")),
+        7 => ran_out(own),
         _ => None,
     };
     match detail {
@@ -151,6 +151,15 @@ fn room(own: &OnFiles, scheme: u32) -> Option<String> {
         "output={} expected={}",
         name(output.word),
         listed(&known)
+    ))
+}
+
+/// The stream, which is the first input, and how many numbers it should have held.
+fn ran_out(own: &OnFiles) -> Option<String> {
+    let input = own.inputs.first()?;
+    Some(format!(
+        "input={} expected={EXPAND_NUMBERS}",
+        name(input.word)
     ))
 }
 
