@@ -213,7 +213,7 @@ mod tests {
         secret.copy_from_slice(&[1, 2, 3, 4]);
         secret.truncate(1);
         // SAFETY: the vector still has room for four, all of them written.
-        let all = unsafe { std::slice::from_raw_parts(secret.as_ptr(), 4) };
+        let all = unsafe { std::slice::from_raw_parts(secret.0.as_ptr(), 4) };
         assert_eq!(all, [1, 0, 0, 0]);
     }
 }

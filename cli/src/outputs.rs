@@ -13,7 +13,7 @@ use crate::tell::{self, reason, Fault};
 use crate::words::Place;
 use std::fs::{self, File, OpenOptions};
 use std::io::{self, ErrorKind, Write};
-use std::os::unix::fs::OpenOptionsExt;
+use std::os::unix::fs::{MetadataExt, OpenOptionsExt};
 use std::path::{Path, PathBuf};
 
 pub struct Answer<'a> {
@@ -47,6 +47,10 @@ impl Beside {
                 .create_new(true)
                 .mode(if answer.secret { 0o600 } else { 0o666 })
                 .open(&beside.path)?;
+            // some drives, as sticks with FAT, keep no modes
+            if answer.secret && file.metadata()?.mode() & 0o077 != 0 {
+                return Err(io::Error::other("the drive keeps no file closed to others"));
+            }
             file.write_all(&answer.bytes)?;
             file.sync_all()
         };
