@@ -71,8 +71,9 @@ An output is written to a fresh file, brought to the disk and renamed into its p
 of a call or none; keys, secrets and noise have mode 600. It is replaced only by a whole answer,
 or, after a refusal, by zeros over the answer's length (by nothing, where there is no such scheme
 or the answer of noise has two lengths). Where a word or a file is wrong no output is touched: an
-old key is then still there. Outputs that are one file, or an input, are not taken; nor is a
-symbolic link, a pipe or a device, nor - where standard output is a terminal.
+old key is then still there. Nor is a file that is replaced overwritten on the disk: wipe a key
+that must be gone. Outputs that are one file, or an input, are not taken; nor is a symbolic link,
+a pipe or a device, nor - where standard output is a terminal.
 
 Status 0: done; written=N (of reply message_written=N and key_written=N), agree or differ=I.
 Status 1: refused; one line, as refusal=6 place=3 input=e value=7 largest=6
