@@ -56,6 +56,8 @@ pub fn sizes(scheme: u32) -> Option<Sizes> {
 }
 
 /// The end of every call: the stack is scrubbed before anything else is done.
+/// Inlined, so that no frame of its own covers what is to be overwritten.
+#[inline(always)]
 fn ended(done: Result<Answer, Refusal>) -> Result<Answer, Refused> {
     scrub();
     done.map_err(|refusal| Refused {

@@ -113,7 +113,8 @@ def modes(both, scheme, files):
 def full_pipe():
     """A pipe into which nothing more goes."""
     reader, writer = os.pipe()
-    fcntl.fcntl(writer, fcntl.F_SETPIPE_SZ, 4096)
+    # the name of this number is new in Python 3.10
+    fcntl.fcntl(writer, getattr(fcntl, "F_SETPIPE_SZ", 1031), 4096)
     os.set_blocking(writer, False)
     try:
         while True:
