@@ -1,5 +1,6 @@
 """The schemes, the commands, and what every part does: run, read, write, count."""
 import os
+import stat
 import struct
 import subprocess
 
@@ -57,6 +58,17 @@ def write(name, data):
 
 def mode(name):
     return os.stat(name).st_mode & 0o777
+
+
+def device(name):
+    """A device of the folder's own, like /dev/null; whether there is one, which takes root. Never
+    name one of the machine's as an output: run as root, a program that has got this wrong would
+    replace it."""
+    try:
+        os.mknod(name, stat.S_IFCHR | 0o600, os.makedev(1, 3))
+        return True
+    except PermissionError:
+        return False
 
 
 def temporaries(folder):

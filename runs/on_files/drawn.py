@@ -4,7 +4,7 @@ import re
 import shutil
 
 from .both import entries
-from .common import OLD, SCHEMES, hold, mode, read, run, write
+from .common import OLD, SCHEMES, device, hold, mode, read, run, write
 
 
 def drawn(both):
@@ -52,10 +52,14 @@ def drawn(both):
         hold("drawn", status == 3 and text == b"" and read(name) == OLD,
              f"wipe of a {other} link: {error!r}")
         os.remove(name + other)
-    for other in (both.folder, "/dev/null", both.name("nowhere")):
+    others = [both.folder, both.name("nowhere")]
+    others += [both.name("device")] if device(both.name("device")) else []
+    for other in others:
         status, text, error = run([both.box, "wipe", other])
         hold("drawn", status == 3 and text == b"" and b": not wiped: " in error,
              f"wipe {other}: {error!r}")
+    if len(others) > 2:
+        os.remove(both.name("device"))
     os.remove(name)
     # the exchange that help shows
     text = run([both.box, "help"])[1].decode()

@@ -7,7 +7,7 @@ import signal
 import subprocess
 import time
 
-from .common import OLD, SCHEMES, hold, mode, read, run, temporaries, write
+from .common import OLD, SCHEMES, device, hold, mode, read, run, temporaries, write
 
 ENDINGS = (signal.SIGTERM, signal.SIGINT, signal.SIGHUP)
 
@@ -22,6 +22,8 @@ def clash(both, scheme, files):
     os.symlink("BOTH", name("BOTH.soft"))
     os.symlink("nowhere", name("dangling"))
     os.mkfifo(name("pipe"))
+    # what /dev/stdout is
+    os.symlink("/proc/self/fd/1", name("stdout"))
     os.symlink(both.folder, name("inside/up"))
     before = {w: read(name(w)) for w in ("S", "REPLY", "OPENING", "BOTH")}
     two = lambda a, b: both.words("reply", scheme, out={"MESSAGE": a, "KEY": b})
@@ -49,8 +51,8 @@ def clash(both, scheme, files):
         (one(name("dangling")), 3, "is a symbolic link"),
         (one(name("inside")), 3, "is a folder"),
         (one(name("pipe")), 3, "is a pipe"),
-        (one("/dev/stdout"), 3, "or - for standard output"),
-        (one("/dev/null"), 3, "is a device"),
+        (one(name("stdout")), 3, "or - for standard output"),
+        *([(one(name("device")), 3, "is a device")] if device(name("device")) else []),
         (one(name("nowhere/x")), 3, "No such file"),
     ]:
         told, text, error = run(given, stdin=subprocess.DEVNULL)
@@ -60,7 +62,7 @@ def clash(both, scheme, files):
         same = all(read(name(w)) == data for w, data in before.items())
         hold("clash", same and not os.path.exists(name("new")), f"{given[1:]} touches a file")
     # standard output into a file: the answer's line must not get into it
-    for word, status in (("/dev/stdout", 3), ("/dev/fd/1", 3), ("/proc/self/fd/1", 3)):
+    for word, status in ((name("stdout"), 3), ("/dev/fd/1", 3), ("/proc/self/fd/1", 3)):
         with open(name("o.bin"), "wb") as out:
             told, _, error = run(one(word), stdout=out)
         hold("clash", told == status and read(name("o.bin")) == b"", f"{word}: {told} {error!r}")
@@ -77,8 +79,9 @@ def clash(both, scheme, files):
     told, text, error = run(both.words("offer", scheme, {"E": name("S")}))
     hold("clash", told == 0, f"one input twice: {error!r}")
     for w in ("new", "pipe", "dangling", "BOTH", "BOTH.hard", "BOTH.soft", "S.hard", "S.soft",
-              "inside/up", "o.bin"):
-        os.remove(name(w))
+              "inside/up", "o.bin", "stdout", "device"):
+        if os.path.lexists(name(w)):
+            os.remove(name(w))
     os.rmdir(inside)
 
 
