@@ -51,6 +51,10 @@ class Both:
 
     def __init__(self, box, second, folder):
         self.box, self.second, self.folder, self.data = box, second, folder, {"none": b""}
+        # the calls of both, which are many, go to the program behind the script
+        root = os.path.dirname(os.path.realpath(box))
+        behind = os.path.join(root, "target/cli/release/wimmostry")
+        self.program = behind if os.path.exists(behind) else box
 
     def name(self, word):
         return word if word in ("none", "-") else os.path.join(self.folder, word)
@@ -79,7 +83,7 @@ class Both:
         number = [str(scheme)] if scheme is not None else []
         before = [command, *number, *map(self.name, given)]
         results = []
-        for program, mark in (([self.box], "1"), ([self.second, "box"], "2")):
+        for program, mark in (([self.program], "1"), ([self.second, "box"], "2")):
             out = [self.name(w + mark) for w in sizes]
             for name in out:
                 write(name, OLD)

