@@ -1,7 +1,8 @@
 //! The calls on files, as the command line has them: `offer SCHEME A S E SEED
-//! MESSAGE` and so on. Numbers are 32 bits, the lowest byte first, `-` is no
-//! file. Returns what standard output gets. For good words and readable files
-//! only; the refusals are the calls' own.
+//! MESSAGE` and so on. Numbers are 32 bits, the lowest byte first, an input
+//! `none` is empty. Returns what standard output gets. For good words and
+//! readable files only; the refusals are the calls' own, and what explains them
+//! in the command line's line is not told here.
 
 use crate::calls::{bench, expand, finish, noise, offer, reply, Bench};
 use crate::expand::COUNT;
@@ -85,7 +86,7 @@ pub fn run(words: &[&str]) -> io::Result<String> {
 }
 
 fn told(done: Result<String, Refusal>) -> String {
-    done.unwrap_or_else(|r| format!("refusal={}\nplace={}\n", r.number, r.place))
+    done.unwrap_or_else(|r| format!("refusal={} place={}\n", r.number, r.place))
 }
 
 fn number(word: &str) -> io::Result<u64> {
@@ -93,7 +94,7 @@ fn number(word: &str) -> io::Result<u64> {
 }
 
 fn bytes(name: &str) -> io::Result<Vec<u8>> {
-    if name == "-" {
+    if name == "none" {
         return Ok(vec![]);
     }
     std::fs::read(name)
@@ -114,8 +115,5 @@ fn words_of(numbers: impl IntoIterator<Item = u32>) -> Vec<u8> {
 }
 
 fn write(name: &str, bytes: &[u8]) -> io::Result<()> {
-    if name == "-" {
-        return Ok(());
-    }
     std::fs::write(name, bytes)
 }

@@ -37,7 +37,7 @@ fn not_digit(c: u8) -> bool
 }
 
 // How many digits s begins with.
-pub fn digits(s: &[u8]) -> usize
+fn digits(s: &[u8]) -> usize
     ensures { λ r. ⌜ r ≡ run (now (s .entry)) ⌝ }
 {
     let mut i: usize = 0;
@@ -61,7 +61,7 @@ fn digit(c: u8) -> u64
 }
 
 // The number that at most ten digits make: below 23 * 10^10, whatever bytes they are.
-pub fn value(s: &[u8]) -> u64
+fn value(s: &[u8]) -> u64
     requires { ⌜ length (now s) ≤ 10 ⌝ }
     ensures { λ r. ⌜ r ≡ valueOf (now (s .entry)) 0 ⌝ }
 {
@@ -105,7 +105,7 @@ fn number(s: &[u8], at: usize) -> Found
     }
 }
 
-pub fn begins_with(label: &[u8], s: &[u8]) -> bool
+fn begins_with(label: &[u8], s: &[u8]) -> bool
     ensures { λ r. ⌜ r ≡ begins (now (label .entry)) (now (s .entry)) ⌝ }
 {
     let mut i: usize = 0;

@@ -1,0 +1,139 @@
+//! All that is used of the package `wimmostry`, and of it nothing is used
+//! elsewhere: each call on a list of inputs and a list of outputs, in the order
+//! in which the command names them.
+
+use crate::data::Data;
+use wimmostry as raw;
+use wimmostry::{Refusal, Scheme};
+
+pub use wimmostry::Sizes;
+
+/// What a call answered.
+pub enum Answer {
+    /// How many entries of each output.
+    Written(Vec<usize>),
+    /// The two keys agree.
+    Agree,
+    /// The first key bit that differs.
+    Differ(usize),
+}
+
+/// A refusal by its number and its place.
+#[derive(Clone, Copy)]
+pub struct Refused {
+    pub number: u32,
+    pub place: usize,
+}
+
+/// A scheme's number where the call has one, the inputs, the outputs.
+pub type Call = fn(u32, &[&Data], &mut [Data]) -> Result<Answer, Refused>;
+
+pub const EXPAND_NUMBERS: usize = wimmostry::EXPAND_NUMBERS;
+pub const EXPAND_STREAM: usize = wimmostry::EXPAND_STREAM;
+
+/// What the command line says of itself.
+pub fn version() -> &'static str {
+    env!("CARGO_PKG_VERSION")
+}
+
+/// Overwrites what a call may have left on the stack.
+fn scrub() {}
+
+/// How many schemes there are: they are numbered from 0.
+pub const SCHEMES: u32 = Scheme::ALL.len() as u32;
+
+fn named(scheme: u32) -> Option<Scheme> {
+    Scheme::ALL.get(usize::try_from(scheme).ok()?).copied()
+}
+
+pub fn name(scheme: u32) -> Option<&'static str> {
+    Some(named(scheme)?.name())
+}
+
+/// The fixed numbers of a scheme, where there is such a scheme.
+pub fn sizes(scheme: u32) -> Option<Sizes> {
+    Some(named(scheme)?.sizes())
+}
+
+/// The end of every call: the stack is scrubbed before anything else is done.
+/// Inlined, so that no frame of its own covers what is to be overwritten.
+#[inline(always)]
+fn ended(done: Result<Answer, Refusal>) -> Result<Answer, Refused> {
+    scrub();
+    done.map_err(|refusal| Refused {
+        number: refusal.number(),
+        place: refusal.place(),
+    })
+}
+
+/// The outputs of a call that has two.
+fn two(out: &mut [Data]) -> (&mut Data, &mut Data) {
+    let (first, rest) = out.split_at_mut(1);
+    (&mut first[0], &mut rest[0])
+}
+
+pub fn offer(scheme: u32, given: &[&Data], out: &mut [Data]) -> Result<Answer, Refused> {
+    let done = raw::offer(
+        scheme,
+        given[0].numbers(),
+        given[1].values(),
+        given[2].values(),
+        given[3].bytes(),
+        out[0].bytes_mut(),
+    );
+    ended(done.map(|n| Answer::Written(vec![n])))
+}
+
+pub fn reply(scheme: u32, given: &[&Data], out: &mut [Data]) -> Result<Answer, Refused> {
+    let (message, key) = two(out);
+    let done = raw::reply(
+        scheme,
+        given[0].bytes(),
+        given[1].numbers(),
+        given[2].values(),
+        given[3].values(),
+        given[4].values(),
+        given[5].bytes(),
+        message.bytes_mut(),
+        key.bytes_mut(),
+    );
+    ended(done.map(|(m, k)| Answer::Written(vec![m, k])))
+}
+
+pub fn finish(scheme: u32, given: &[&Data], out: &mut [Data]) -> Result<Answer, Refused> {
+    let done = raw::finish(
+        scheme,
+        given[0].bytes(),
+        given[1].values(),
+        out[0].bytes_mut(),
+    );
+    ended(done.map(|n| Answer::Written(vec![n])))
+}
+
+pub fn noise(scheme: u32, given: &[&Data], out: &mut [Data]) -> Result<Answer, Refused> {
+    let done = raw::noise(scheme, given[0].bytes(), out[0].values_mut());
+    ended(done.map(|n| Answer::Written(vec![n])))
+}
+
+pub fn expand(_: u32, given: &[&Data], out: &mut [Data]) -> Result<Answer, Refused> {
+    let done = raw::expand(given[0].bytes(), out[0].numbers_mut());
+    ended(done.map(|n| Answer::Written(vec![n])))
+}
+
+pub fn bench(scheme: u32, given: &[&Data], _: &mut [Data]) -> Result<Answer, Refused> {
+    let done = raw::bench(
+        scheme,
+        given[0].numbers(),
+        given[1].values(),
+        given[2].values(),
+        given[3].bytes(),
+        given[4].values(),
+        given[5].values(),
+        given[6].values(),
+        given[7].bytes(),
+    );
+    ended(done.map(|found| match found {
+        raw::Bench::Agree => Answer::Agree,
+        raw::Bench::Differ(bit) => Answer::Differ(bit),
+    }))
+}

@@ -1,0 +1,178 @@
+//! A whole exchange in memory, on random bytes of the system: what is drawn,
+//! how long each call takes, the two messages as a picture, and the two keys.
+
+use crate::calls::{self, Answer, Call, Refused, Sizes, EXPAND_NUMBERS, SCHEMES};
+use crate::data::{Data, Kind};
+use crate::draw::{self, BCNS, NEWHOPE};
+use crate::random;
+use crate::table::ALL_SCHEMES;
+use crate::tell::{self, Done, Fault, Voice};
+use crate::words;
+use std::ffi::OsString;
+use std::time::Instant;
+
+pub const WORDS: &str = "  SCHEME   one scheme; without it all six\n";
+
+pub const MORE: &str = "\
+It needs no file and leaves none. Keys are not shown, but a checksum of 64 bits of each (FNV-1a),
+for the eye alone. Whether the keys agree is what bench says of the same secrets.";
+
+pub fn run(given: &[OsString]) -> Done {
+    let asked = match given.first() {
+        Some(word) => Some(words::scheme(word)?),
+        None => None,
+    };
+    if let Some(scheme) = asked.filter(|&scheme| calls::sizes(scheme).is_none()) {
+        let detail = tell::no_scheme(ALL_SCHEMES, scheme).unwrap_or_default();
+        tell::say(Voice::Output, &format!("refusal=1 place=0 {detail}\n"))?;
+        return Ok(tell::REFUSED);
+    }
+    let heading = "A fingerprint is a checksum of a key, for the eye alone.\n";
+    tell::say(Voice::Output, heading)?;
+    for scheme in asked.map_or(0..SCHEMES, |scheme| scheme..scheme + 1) {
+        if let Some(sizes) = calls::sizes(scheme) {
+            tell::say(Voice::Output, &exchange(scheme, &sizes)?)?;
+        }
+    }
+    Ok(tell::DONE)
+}
+
+/// A call on what was just drawn for it, and how many microseconds it took.
+fn timed(call: Call, scheme: u32, given: &[&Data], out: &mut [Data]) -> (Answer, u128) {
+    let start = Instant::now();
+    match call(scheme, given, out) {
+        Ok(answer) => (answer, start.elapsed().as_micros()),
+        Err(Refused { number, place }) => unreachable!("refusal {number} at {place}"),
+    }
+}
+
+fn bytes(n: usize) -> Data {
+    Data::zeros(Kind::Bytes, n)
+}
+
+/// NewHope's public numbers through expand, from a stream that is long enough but
+/// for one time in 10^100.
+fn expanded() -> Result<Data, Fault> {
+    let stream = Data::Bytes(random::bytes(4096)?);
+    let mut out = [Data::zeros(Kind::Numbers, EXPAND_NUMBERS)];
+    timed(calls::expand, NEWHOPE, &[&stream], &mut out);
+    let [a] = out;
+    Ok(a)
+}
+
+/// The text of an exchange.
+fn exchange(scheme: u32, sizes: &Sizes) -> Result<String, Fault> {
+    let (s, e) = (draw::secret(scheme, sizes)?, draw::secret(scheme, sizes)?);
+    let (s1, e1) = (draw::secret(scheme, sizes)?, draw::secret(scheme, sizes)?);
+    let e2 = draw::last(scheme, sizes)?;
+    let a = match scheme {
+        NEWHOPE => expanded()?,
+        _ => draw::public(sizes)?,
+    };
+    let seed = Data::Bytes(random::bytes(sizes.seed)?);
+    let coins = Data::Bytes(random::bytes(sizes.coins)?);
+
+    let mut opened = [bytes(sizes.opening)];
+    let offered = [&a, &s, &e, &seed];
+    let (_, offer_time) = timed(calls::offer, scheme, &offered, &mut opened);
+    let [opening] = opened;
+    let mut replied = [bytes(sizes.reply), bytes(sizes.key)];
+    let lent = [&opening, &a, &s1, &e1, &e2, &coins];
+    let (_, reply_time) = timed(calls::reply, scheme, &lent, &mut replied);
+    let [reply, own] = replied;
+    let mut finished = [bytes(sizes.key)];
+    let (_, finish_time) = timed(calls::finish, scheme, &[&reply, &s], &mut finished);
+    let [key] = finished;
+    let all = [&a, &s, &e, &seed, &s1, &e1, &e2, &coins];
+    let (found, _) = timed(calls::bench, scheme, &all, &mut []);
+
+    let mut rows = vec![
+        format!("public numbers: {}, {}", a.len(), public(scheme)),
+        format!("secrets and noise: {}", noise(scheme, sizes)),
+        format!(
+            "offer:  opening of {} bytes, {offer_time} us",
+            opening.len()
+        ),
+        format!("reply:  message of {} bytes, {reply_time} us", reply.len()),
+        format!("        key of {} bytes", own.len()),
+        format!("finish: key of {} bytes, {finish_time} us", key.len()),
+    ];
+    rows.extend(picture(scheme, sizes));
+    rows.push(format!(
+        "replier's key:   fingerprint {:016x}",
+        fingerprint(own.bytes())
+    ));
+    rows.push(format!(
+        "initiator's key: fingerprint {:016x}",
+        fingerprint(key.bytes())
+    ));
+    rows.push(match found {
+        Answer::Differ(bit) => format!("keys differ at bit {bit}"),
+        _ => "keys agree".to_string(),
+    });
+    let name = calls::name(scheme).unwrap_or_default();
+    let rows: String = rows.iter().map(|row| format!("  {row}\n")).collect();
+    Ok(format!("scheme {scheme}, {name}\n{rows}"))
+}
+
+fn public(scheme: u32) -> &'static str {
+    match scheme {
+        NEWHOPE => "through expand from a random stream of 4096 bytes",
+        _ => "random and below q",
+    }
+}
+
+fn noise(scheme: u32, sizes: &Sizes) -> String {
+    match scheme {
+        BCNS => {
+            "by NewHope's sampler, up to 16; BCNS has its noise lent ready, up to 51".to_string()
+        }
+        _ => format!("through noise, from {} random bytes each", sizes.s_bytes),
+    }
+}
+
+/// The two messages with their parts, in bytes.
+fn picture(scheme: u32, sizes: &Sizes) -> [String; 5] {
+    let packed = sizes.opening - sizes.seed;
+    let numbers = format!("numbers {packed}");
+    let opening = match scheme {
+        BCNS => format!("[ {numbers} ]"),
+        NEWHOPE => format!("[ {numbers} | seed {} ]", sizes.seed),
+        _ => format!("[ seed {} | {numbers} ]", sizes.seed),
+    };
+    let reply = format!("[ {numbers} | hints {} ]", sizes.reply - packed);
+    [
+        format!("{:<55}replier", "initiator"),
+        format!("    |  {:-<48}>  |", format!("{opening} opening ")),
+        format!("    |  <{:->48}  |", format!(" reply {reply}")),
+        format!("    |  {:49}  |", ""),
+        format!("   key{:51}key", ""),
+    ]
+}
+
+/// FNV-1a.
+fn fingerprint(key: &[u8]) -> u64 {
+    key.iter().fold(0xcbf2_9ce4_8422_2325, |hash: u64, byte| {
+        (hash ^ u64::from(*byte)).wrapping_mul(0x100_0000_01b3)
+    })
+}
+
+#[cfg(test)]
+mod tests {
+    use super::*;
+
+    #[test]
+    fn a_checksum_of_the_published_kind() {
+        assert_eq!(fingerprint(b""), 0xcbf29ce484222325);
+        assert_eq!(fingerprint(b"foobar"), 0x85944171f73967e8);
+    }
+
+    #[test]
+    fn the_pictures_are_straight() {
+        for scheme in 0..SCHEMES {
+            let rows = picture(scheme, &calls::sizes(scheme).unwrap());
+            assert_eq!(rows[1].len(), rows[2].len());
+            assert_eq!(rows[1].len(), rows[3].len());
+        }
+    }
+}

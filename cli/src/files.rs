@@ -1,0 +1,268 @@
+//! The files that the words name: that no two are one, that each is a plain
+//! file, and what the inputs hold.
+
+use crate::data::{Data, Kind, Wiped};
+use crate::escape::shown;
+use crate::table::Input;
+use crate::tell::{self, reason, Fault};
+use crate::words::Place;
+use std::ffi::{OsStr, OsString};
+use std::fs::{File, FileType, Metadata, OpenOptions};
+use std::io::{self, ErrorKind, IsTerminal, Read};
+use std::os::fd::AsFd;
+use std::os::unix::fs::{FileTypeExt, MetadataExt, OpenOptionsExt};
+use std::path::Path;
+
+/// Opening a pipe that came in the place of a file must not wait for its other
+/// end. The number is the same on all Linux machines that Rust knows but MIPS
+/// and SPARC.
+#[cfg(any(target_os = "linux", target_os = "android"))]
+pub const NO_WAIT: i32 = 0o4000;
+#[cfg(not(any(target_os = "linux", target_os = "android")))]
+pub const NO_WAIT: i32 = 4;
+
+/// A named word: `KEY` and where it points.
+pub type Named<'a> = (&'a str, &'a Place);
+
+// ---- before anything is read
+
+/// That no output is another output or an input, that `-` stands once each way
+/// and that no answer goes to a terminal.
+pub fn no_clash(inputs: &[Named], outputs: &[Named]) -> Result<(), Fault> {
+    for (way, names) in [("input", inputs), ("output", outputs)] {
+        let mut twice = names.iter().filter(|(_, place)| **place == Place::Standard);
+        if let (Some((one, _)), Some((other, _))) = (twice.next(), twice.next()) {
+            return Err(tell::words(format!(
+                "{one} and {other} are both -, which is one {way} at most"
+            )));
+        }
+    }
+    let identities = |names: &[Named], way| -> Vec<Option<Identity>> {
+        names
+            .iter()
+            .map(|(_, place)| identity(place, way))
+            .collect()
+    };
+    let (from, to) = (identities(inputs, Way::In), identities(outputs, Way::Out));
+    for (i, (name, place)) in outputs.iter().enumerate() {
+        let same = |other: &Option<Identity>| other.is_some() && *other == to[i];
+        if let Some(k) = to[..i].iter().position(same) {
+            let (other, before) = outputs[k];
+            let word = file_word(place, before);
+            return Err(tell::words(format!(
+                "{other} and {name} are one file: '{word}'"
+            )));
+        }
+        if let Some(k) = from.iter().position(same) {
+            let (input, source) = inputs[k];
+            let word = file_word(place, source);
+            return Err(tell::words(format!(
+                "the output {name} is the input {input}: '{word}'"
+            )));
+        }
+        if **place == Place::Standard && io::stdout().is_terminal() {
+            return Err(tell::words(format!(
+                "{name} is -, and standard output is a terminal: name a file"
+            )));
+        }
+    }
+    Ok(())
+}
+
+/// The word of whichever of the two is a file.
+fn file_word(place: &Place, other: &Place) -> String {
+    let path = place.path().or(other.path());
+    path.map_or("-".to_string(), shown)
+}
+
+/// What a file is known by: the numbers that the system has for it, whatever
+/// its names; of one that is still to be made, its folder's and its name.
+#[derive(PartialEq)]
+enum Identity {
+    Known(u64, u64),
+    New(u64, u64, OsString),
+}
+
+/// Which way a file is used.
+#[derive(Clone, Copy, PartialEq)]
+pub enum Way {
+    In,
+    Out,
+}
+
+/// A standard stream counts where it is a plain file: a terminal may well be both.
+fn identity(place: &Place, way: Way) -> Option<Identity> {
+    let known = |file: Metadata| Identity::Known(file.dev(), file.ino());
+    match place {
+        Place::Nothing => None,
+        Place::Standard => {
+            let metadata = standard(way).ok()?.metadata().ok()?;
+            metadata.is_file().then(|| known(metadata))
+        }
+        Place::File(path) => match path.metadata() {
+            Ok(file) => Some(known(file)),
+            Err(_) => {
+                let folder = folder(path).metadata().ok()?;
+                let name = path.file_name()?.to_os_string();
+                Some(Identity::New(folder.dev(), folder.ino(), name))
+            }
+        },
+    }
+}
+
+/// Standard input or output as a file without a buffer of its own, which would
+/// keep a copy of what passes.
+pub fn standard(way: Way) -> io::Result<File> {
+    let stream = match way {
+        Way::In => io::stdin().as_fd().try_clone_to_owned(),
+        Way::Out => io::stdout().as_fd().try_clone_to_owned(),
+    };
+    stream.map(File::from)
+}
+
+/// The folder that a file stands in.
+pub fn folder(path: &Path) -> &Path {
+    match path.parent() {
+        Some(folder) if !folder.as_os_str().is_empty() => folder,
+        _ => Path::new("."),
+    }
+}
+
+/// What is not a plain file, in words.
+pub fn kind(kind: FileType) -> Option<&'static str> {
+    if kind.is_file() {
+        None
+    } else if kind.is_dir() {
+        Some("a folder")
+    } else if kind.is_symlink() {
+        Some("a symbolic link")
+    } else if kind.is_fifo() {
+        Some("a pipe")
+    } else if kind.is_socket() {
+        Some("a socket")
+    } else {
+        Some("a device")
+    }
+}
+
+/// That a file that was looked at is a plain one. Others have a way in and out
+/// by `-`.
+fn plain(path: &Path, found: &Metadata) -> Result<(), Fault> {
+    let advice = match kind(found.file_type()) {
+        None => return Ok(()),
+        Some(folder) if found.is_dir() => format!("is {folder}"),
+        Some(link) if found.is_symlink() => {
+            format!("is {link}: name the file itself, or - for standard output")
+        }
+        Some(other) => format!("is {other}: pipes and devices are taken by - alone"),
+    };
+    Err(tell::file(path, advice))
+}
+
+/// An output that is there already is a plain file, not a link to one.
+pub fn replaceable(place: &Place) -> Result<(), Fault> {
+    let Some(path) = place.path() else {
+        return Ok(());
+    };
+    match path.symlink_metadata() {
+        Ok(found) => plain(path, &found),
+        Err(error) if error.kind() == ErrorKind::NotFound => match path.file_name() {
+            Some(_) if folder(path).is_dir() => Ok(()),
+            _ => Err(tell::file(path, reason(&error))),
+        },
+        Err(error) => Err(tell::file(path, reason(&error))),
+    }
+}
+
+// ---- the inputs
+
+/// What was lent as an input.
+pub struct Lent {
+    pub data: Data,
+    /// How many entries the file has, where it was not read to its end.
+    beyond: Option<u64>,
+    /// Whether there may be more than that.
+    open: bool,
+}
+
+impl Lent {
+    fn nothing(kind: Kind) -> Lent {
+        Lent {
+            data: Data::zeros(kind, 0),
+            beyond: None,
+            open: false,
+        }
+    }
+
+    /// How many entries there are: of a stream that was not read to its end, as
+    /// `33..`.
+    pub fn there(&self) -> String {
+        let n = self.beyond.unwrap_or(self.data.len() as u64);
+        let more = if self.open { ".." } else { "" };
+        format!("{n}{more}")
+    }
+}
+
+/// Reads an input up to one entry beyond the largest of any scheme: a longer
+/// one is then refused by its length.
+pub fn read(input: &Input, place: &Place) -> Result<Lent, Fault> {
+    let name = match place {
+        Place::File(path) => path.as_os_str(),
+        _ => OsStr::new("standard input"),
+    };
+    let wrong = |error: io::Error| tell::file(name, reason(&error));
+    let mut file = match place {
+        Place::File(path) => open(path)?,
+        Place::Standard => standard(Way::In).map_err(wrong)?,
+        Place::Nothing => return Ok(Lent::nothing(input.kind)),
+    };
+    let entry = input.kind.entry();
+    let mut bytes = Wiped::zeros(entry * (input.length.largest() + 1));
+    let n = fill(&mut file, &mut bytes).map_err(wrong)?;
+    let full = n == bytes.len();
+    bytes.truncate(n);
+
+    // a file that was not read to its end has a length all the same
+    let all = match place.path() {
+        Some(_) if full => file.metadata().map_err(wrong)?.len().max(n as u64),
+        _ => n as u64,
+    };
+    if all % entry as u64 != 0 {
+        let line = format!("{all} bytes are no whole number of 32-bit numbers");
+        return Err(tell::file(name, line));
+    }
+    Ok(Lent {
+        data: Data::from_file(input.kind, bytes),
+        beyond: full.then_some(all / entry as u64),
+        open: full && place.path().is_none(),
+    })
+}
+
+/// A plain file, or a link to one, opened for reading. Its kind is looked at
+/// before, since opening alone can already do something to a device, and again
+/// behind the handle, should it have been changed in between.
+fn open(path: &Path) -> Result<File, Fault> {
+    let wrong = |error: io::Error| tell::file(path, reason(&error));
+    plain(path, &path.metadata().map_err(wrong)?)?;
+    let file = OpenOptions::new()
+        .read(true)
+        .custom_flags(NO_WAIT)
+        .open(path)
+        .map_err(wrong)?;
+    plain(path, &file.metadata().map_err(wrong)?)?;
+    Ok(file)
+}
+
+/// Reads until the room is full or the input ends; gives how many bytes.
+fn fill(file: &mut File, room: &mut [u8]) -> io::Result<usize> {
+    let mut n = 0;
+    while n < room.len() {
+        match file.read(&mut room[n..]) {
+            Ok(0) => break,
+            Ok(more) => n += more,
+            Err(error) if error.kind() == ErrorKind::Interrupted => {}
+            Err(error) => return Err(error),
+        }
+    }
+    Ok(n)
+}

@@ -1,0 +1,200 @@
+//! The help texts: an overview with a worked exchange, and a page a command,
+//! made from the table.
+
+use crate::calls::{self, SCHEMES};
+use crate::data::Kind;
+use crate::table::{Command, Form, Length, OnFiles, COMMANDS};
+use crate::tell::{self, Done, Voice};
+use crate::words;
+use std::ffi::OsString;
+use std::fmt::Write;
+
+pub fn run(given: &[OsString]) -> Done {
+    let text = match given.first() {
+        Some(word) => page(words::command(word)?),
+        None => overview(),
+    };
+    tell::say(Voice::Output, &text)?;
+    Ok(tell::DONE)
+}
+
+pub fn version(_: &[OsString]) -> Done {
+    tell::say(Voice::Output, &format!("wimmostry {}\n", calls::version()))?;
+    Ok(tell::DONE)
+}
+
+const ABOUT: &str = "\
+Two boxes agree on a fresh key by BCNS, NewHope or Frodo. This program makes the calls of the
+proved library on files.
+
+";
+
+const WORDS: &str = "
+SCHEME is 0 BCNS, 1 NewHope, 2 Frodo Challenge, 3 Frodo Classical, 4 Frodo Recommended,
+5 Frodo Paranoid. Every other word in capitals is a file, - for standard input or output (once
+each way), or, of an input, none for nothing at all: BCNS has no seed and Frodo no coins. A file
+that has such a name is ./- or ./none.
+
+Public numbers (A) and secrets and noise (S, E, S1, E1, E2) are 32 bits each, the lowest byte
+first, secrets and noise in two's complement. All else is bytes.
+
+An exchange between two folders, the initiator's left and the replier's right:
+
+";
+
+/// Lines of the shell. Standing alone they make two equal keys.
+pub const EXCHANGE: &str = "\
+\x20   mkdir left right
+    wimmostry draw 1 a left/a
+    wimmostry draw 1 s left/s
+    wimmostry draw 1 e left/e
+    wimmostry draw 1 seed left/seed
+    wimmostry offer 1 left/a left/s left/e left/seed left/opening
+    cp left/a left/opening right
+    wimmostry draw 1 s1 right/s1
+    wimmostry draw 1 e1 right/e1
+    wimmostry draw 1 e2 right/e2
+    wimmostry draw 1 coins right/coins
+    wimmostry reply 1 right/opening right/a right/s1 right/e1 right/e2 right/coins \\
+      right/reply right/key
+    cp right/reply left
+    wimmostry finish 1 left/reply left/s left/key
+    cmp left/key right/key
+    for f in left/s left/e right/s1 right/e1 right/e2 right/coins; do wimmostry wipe $f; done
+";
+
+const REST: &str = "
+Draw everything but a anew for each exchange. The keys are raw, and the peer is whoever sent the
+message: see that messages come from whom you think, confirm the keys, and hash them before use.
+
+An output is written to a fresh file, brought to the disk and renamed into its place, all outputs
+of a call or none; keys, secrets and noise have mode 600. It is replaced only by a whole answer,
+or, after a refusal, by zeros over the answer's length (by nothing, where there is no such scheme
+or the answer of noise has two lengths). Where a word or a file is wrong no output is touched: an
+old key is then still there. Nor is a file that is replaced overwritten on the disk: wipe a key
+that must be gone. Outputs that are one file, or an input, are not taken; nor is a symbolic link,
+a pipe or a device, nor - where standard output is a terminal.
+
+Status 0: done; written=N (of reply message_written=N and key_written=N), agree or differ=I.
+Status 1: refused; one line, as refusal=6 place=3 input=e value=7 largest=6
+          1 no such scheme            4 a public number is q or more
+          2 a wrong length            5 a number of the message is q or more
+          3 (not here)                6 a secret or noise is too large
+                                      7 the stream of expand ran out
+          place counts from 0. A length of 33.. is 33 or more. To - nothing is written.
+Status 2: wrong words. Status 3: a file. Both with lines on standard error.
+With an output to - the lines of an answer go to standard error too. Ended by a signal, the
+program leaves no temporary file, but for a kill -9 while it writes: then .wimmostry-* may stay.
+";
+
+fn overview() -> String {
+    let mut text = ABOUT.to_string();
+    for command in COMMANDS {
+        let usage = format!("  wimmostry {} {}", command.name, command.usage());
+        let _ = writeln!(text, "{}", usage.trim_end());
+        let _ = writeln!(text, "      {}", command.brief);
+    }
+    text + WORDS + EXCHANGE + REST
+}
+
+fn page(command: &Command) -> String {
+    let usage = format!("wimmostry {} {}", command.name, command.usage());
+    let mut text = format!("{}\n\n  {}\n\n", usage.trim_end(), command.brief);
+    match &command.form {
+        Form::Files(own) => files(own, &mut text),
+        Form::Words(own) => {
+            if own.usage.contains("SCHEME") && !own.words.contains("SCHEME") {
+                text.push_str(&schemes(0));
+            }
+            text.push_str(own.words);
+        }
+    }
+    if !text.ends_with("\n\n") {
+        text.push('\n');
+    }
+    let _ = write!(
+        text,
+        "{}\n\nExample:\n    {}\n",
+        command.more, command.example
+    );
+    text
+}
+
+/// `0 BCNS, 1 NewHope` and so on, in lines.
+fn schemes(first: u32) -> String {
+    let mut text = String::new();
+    for no in first..SCHEMES {
+        let word = if no == first { "SCHEME" } else { "" };
+        let _ = writeln!(
+            text,
+            "  {word:<9}{no} {}",
+            calls::name(no).unwrap_or_default()
+        );
+    }
+    text
+}
+
+fn files(own: &OnFiles, text: &mut String) {
+    if let Some((first, _)) = own.schemes {
+        text.push_str(&schemes(first));
+    }
+    for x in own.inputs {
+        entry(own, x.word, "in", x.kind, x.what, x.length, text);
+    }
+    for x in own.outputs {
+        let way = if x.secret { "out, mode 600" } else { "out" };
+        entry(own, x.word, way, x.kind, x.what, x.length, text);
+    }
+}
+
+fn entry(
+    own: &OnFiles,
+    word: &str,
+    way: &str,
+    kind: Kind,
+    what: &str,
+    length: Length,
+    text: &mut String,
+) {
+    let unit = match kind {
+        Kind::Numbers => "numbers",
+        Kind::Values => "values",
+        Kind::Bytes => "bytes",
+    };
+    let _ = writeln!(text, "  {word:<9}{way}: {what}");
+    let _ = writeln!(text, "           {unit}: {}", lengths(own, length));
+}
+
+/// How long in each scheme.
+fn lengths(own: &OnFiles, length: Length) -> String {
+    match length {
+        Length::Fixed(n) => n.to_string(),
+        Length::AtMost(n) => format!("at most {n}"),
+        Length::By(_) | Length::Either(..) => {
+            let (first, last) = own.schemes.unwrap_or((0, SCHEMES - 1));
+            let each: Vec<String> = (first..=last)
+                .map(|no| {
+                    let known = length.known(calls::sizes(no).as_ref());
+                    let texts: Vec<String> = known.iter().map(usize::to_string).collect();
+                    texts.join(" or ")
+                })
+                .collect();
+            format!("{} in schemes {first} to {last}", each.join(", "))
+        }
+    }
+}
+
+#[cfg(test)]
+mod tests {
+    use super::*;
+
+    #[test]
+    fn no_line_is_wider_than_a_page() {
+        for text in COMMANDS.iter().map(page).chain([overview()]) {
+            for line in text.lines() {
+                assert!(line.chars().count() <= 100, "{line}");
+                assert_eq!(line.trim_end(), line);
+            }
+        }
+    }
+}

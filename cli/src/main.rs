@@ -1,0 +1,54 @@
+//! `wimmostry`: the calls of the proved library on files. `wimmostry help` says
+//! all about it; the commands are the entries of `table.rs`.
+
+mod calls;
+mod data;
+mod demo;
+mod draw;
+mod escape;
+mod files;
+mod help;
+mod outputs;
+mod random;
+mod run;
+mod signals;
+mod table;
+mod tell;
+mod wipe;
+mod words;
+
+use std::ffi::OsString;
+use std::process::ExitCode;
+use table::Form;
+use tell::Done;
+
+fn main() -> ExitCode {
+    let words: Vec<OsString> = std::env::args_os().skip(1).collect();
+    let status = dispatch(&words).unwrap_or_else(|fault| {
+        tell::complain(&fault);
+        fault.status
+    });
+    ExitCode::from(status)
+}
+
+fn dispatch(words: &[OsString]) -> Done {
+    let Some((first, rest)) = words.split_first() else {
+        return help::run(&[]);
+    };
+    match (first.to_str(), rest) {
+        (Some("-h" | "--help"), []) => return help::run(&[]),
+        (Some("--version"), []) => return help::version(&[]),
+        _ => {}
+    }
+    let command = words::command(first)?;
+    if let [word] = rest {
+        if word == "-h" || word == "--help" {
+            return help::run(&words[..1]);
+        }
+    }
+    words::counted(command, rest.len())?;
+    match &command.form {
+        Form::Files(own) => run::run(own, rest),
+        Form::Words(own) => (own.run)(rest),
+    }
+}

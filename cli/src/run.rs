@@ -1,0 +1,108 @@
+//! A call on files: the words, the files, the call, the answer.
+
+use crate::calls;
+use crate::data::Data;
+use crate::files::{self, Lent, Named};
+use crate::outputs::{self, Answer};
+use crate::table::{Length, OnFiles, Output};
+use crate::tell::{self, Done, Fault, Voice};
+use crate::words::{self, Place};
+use std::ffi::OsString;
+
+pub fn run(own: &OnFiles, given: &[OsString]) -> Done {
+    let (scheme, given) = match own.schemes {
+        Some(_) => (words::scheme(&given[0])?, &given[1..]),
+        None => (0, given),
+    };
+    let (from, to) = given.split_at(own.inputs.len());
+    let sources = own.inputs.iter().zip(from);
+    let sources: Vec<Place> = sources
+        .map(|(x, word)| words::place(x.word, word))
+        .collect::<Result<_, _>>()?;
+    let targets = own.outputs.iter().zip(to);
+    let targets: Vec<Place> = targets
+        .map(|(x, word)| words::output(x.word, word))
+        .collect::<Result<_, _>>()?;
+
+    let named = |words: Vec<&'static str>, places| words.into_iter().zip(places).collect();
+    let inputs: Vec<Named> = named(own.inputs.iter().map(|x| x.word).collect(), &sources);
+    let outs: Vec<Named> = named(own.outputs.iter().map(|x| x.word).collect(), &targets);
+    files::no_clash(&inputs, &outs)?;
+    for target in &targets {
+        files::replaceable(target)?;
+    }
+    let lent = read(own, &sources)?;
+
+    let data: Vec<&Data> = lent.iter().map(|x| &x.data).collect();
+    let mut out: Vec<Data> = own.outputs.iter().map(|x| room(x, scheme)).collect();
+    let done = (own.call)(scheme, &data, &mut out);
+    match done {
+        Ok(answer) => {
+            if let calls::Answer::Written(counts) = &answer {
+                for (data, n) in out.iter_mut().zip(counts) {
+                    data.truncate(*n);
+                }
+            }
+            save(own, &targets, out, false)?;
+            tell::say(voice(&targets), &tell::answer(own, &answer))?;
+            Ok(tell::DONE)
+        }
+        Err(refused) => {
+            for (data, output) in out.iter_mut().zip(own.outputs) {
+                if let Length::Either(..) = output.length {
+                    data.truncate(0);
+                }
+            }
+            let saved = save(own, &targets, out, true);
+            let line = tell::refusal(own, scheme, refused, &lent);
+            tell::say(voice(&targets), &line)?;
+            saved?;
+            Ok(tell::REFUSED)
+        }
+    }
+}
+
+/// Reads all inputs; each that cannot be read has its line.
+fn read(own: &OnFiles, sources: &[Place]) -> Result<Vec<Lent>, Fault> {
+    let mut lent = vec![];
+    let mut lines = vec![];
+    for (input, place) in own.inputs.iter().zip(sources) {
+        match files::read(input, place) {
+            Ok(one) => lent.push(one),
+            Err(mut fault) => lines.append(&mut fault.lines),
+        }
+    }
+    match lines.is_empty() {
+        true => Ok(lent),
+        false => Err(Fault {
+            status: tell::FILE,
+            lines,
+        }),
+    }
+}
+
+/// Room for an output's answer: none where there is no such scheme.
+fn room(output: &Output, scheme: u32) -> Data {
+    let known = output.length.known(calls::sizes(scheme).as_ref());
+    Data::zeros(output.kind, known.into_iter().max().unwrap_or(0))
+}
+
+/// The lines go to standard error where an answer takes standard output.
+pub fn voice(targets: &[Place]) -> Voice {
+    match targets.contains(&Place::Standard) {
+        true => Voice::Error,
+        false => Voice::Output,
+    }
+}
+
+fn save(own: &OnFiles, targets: &[Place], out: Vec<Data>, refused: bool) -> Result<(), Fault> {
+    let all = own.outputs.iter().zip(targets).zip(out);
+    let answers: Vec<Answer> = all
+        .map(|((output, place), data)| Answer {
+            place,
+            bytes: data.to_file(),
+            secret: output.secret,
+        })
+        .collect();
+    outputs::put(&answers, refused)
+}

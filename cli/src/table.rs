@@ -1,0 +1,459 @@
+//! The commands. Each is one entry here: its words, its help and what it runs.
+//! Parsing, help, the lines of refusals and the handling of files follow from it.
+
+use crate::calls::{self, Call, Sizes, EXPAND_NUMBERS, EXPAND_STREAM, SCHEMES};
+use crate::data::Kind;
+use crate::tell::Done;
+use crate::{demo, draw, help, wipe};
+use std::ffi::OsString;
+
+/// How long an input or an output is, in entries.
+#[derive(Clone, Copy)]
+pub enum Length {
+    /// As the scheme has it.
+    By(fn(&Sizes) -> usize),
+    /// One of two, as the scheme has them.
+    Either(fn(&Sizes) -> usize, fn(&Sizes) -> usize),
+    /// The same in every scheme.
+    Fixed(usize),
+    /// Anything up to this.
+    AtMost(usize),
+}
+
+impl Length {
+    /// The lengths in a scheme. Where there is no such scheme only a length
+    /// that is the same in all of them is known.
+    pub fn known(self, sizes: Option<&Sizes>) -> Vec<usize> {
+        match (self, sizes) {
+            (Length::Fixed(n) | Length::AtMost(n), _) => vec![n],
+            (Length::By(of), Some(sizes)) => vec![of(sizes)],
+            (Length::Either(one, other), Some(sizes)) => {
+                let mut both = vec![one(sizes), other(sizes)];
+                both.dedup();
+                both
+            }
+            (Length::By(_) | Length::Either(..), None) => vec![],
+        }
+    }
+
+    pub fn fits(self, sizes: Option<&Sizes>, n: usize) -> bool {
+        let known = self.known(sizes);
+        match self {
+            Length::AtMost(most) => n <= most,
+            _ => known.contains(&n),
+        }
+    }
+
+    /// The largest in any scheme.
+    pub fn largest(self) -> usize {
+        let all = (0..SCHEMES).flat_map(|no| self.known(calls::sizes(no).as_ref()));
+        all.max().unwrap_or(0)
+    }
+}
+
+pub struct Input {
+    /// The word in capitals; in small letters it is the name in a refusal.
+    pub word: &'static str,
+    pub kind: Kind,
+    pub length: Length,
+    /// Whether it is a message, of whose packed numbers refusal 5 speaks.
+    pub message: bool,
+    pub what: &'static str,
+}
+
+#[derive(Clone, Copy)]
+pub struct Output {
+    pub word: &'static str,
+    pub kind: Kind,
+    pub length: Length,
+    /// Whether nobody else may read it.
+    pub secret: bool,
+    /// Before the number of entries in the answer's line.
+    pub label: &'static str,
+    pub what: &'static str,
+}
+
+/// A call of the library on files: SCHEME if it has one, inputs, outputs.
+pub struct OnFiles {
+    /// The first and the last scheme that it takes.
+    pub schemes: Option<(u32, u32)>,
+    pub inputs: &'static [Input],
+    pub outputs: &'static [Output],
+    pub call: Call,
+}
+
+/// A command that reads its words itself.
+pub struct OnWords {
+    pub usage: &'static str,
+    pub least: usize,
+    pub most: usize,
+    pub run: fn(&[OsString]) -> Done,
+    /// The part of its help that says what the words are.
+    pub words: &'static str,
+}
+
+pub enum Form {
+    Files(OnFiles),
+    Words(OnWords),
+}
+
+pub struct Command {
+    pub name: &'static str,
+    /// One line for the overview.
+    pub brief: &'static str,
+    pub form: Form,
+    /// What else there is to know.
+    pub more: &'static str,
+    pub example: &'static str,
+}
+
+impl Command {
+    /// The words that it takes.
+    pub fn usage(&self) -> String {
+        match &self.form {
+            Form::Words(own) => own.usage.to_string(),
+            Form::Files(own) => {
+                let scheme = own.schemes.iter().map(|_| "SCHEME");
+                let inputs = own.inputs.iter().map(|x| x.word);
+                let outputs = own.outputs.iter().map(|x| x.word);
+                let words: Vec<&str> = scheme.chain(inputs).chain(outputs).collect();
+                words.join(" ")
+            }
+        }
+    }
+
+    /// The least and the largest number of words.
+    pub fn counts(&self) -> (usize, usize) {
+        match &self.form {
+            Form::Words(own) => (own.least, own.most),
+            Form::Files(own) => {
+                let n = own.schemes.iter().count() + own.inputs.len() + own.outputs.len();
+                (n, n)
+            }
+        }
+    }
+}
+
+// ---- the inputs
+
+const A: Input = Input {
+    word: "A",
+    kind: Kind::Numbers,
+    length: Length::By(|z| z.a),
+    message: false,
+    what: "the public numbers a, below q, known to both ends",
+};
+
+const fn values(word: &'static str, what: &'static str) -> Input {
+    Input {
+        word,
+        kind: Kind::Values,
+        length: Length::By(|z| z.s),
+        message: false,
+        what,
+    }
+}
+
+const S: Input = values(
+    "S",
+    "the initiator's secret s, drawn for this exchange alone",
+);
+const E: Input = values("E", "the initiator's noise e");
+const S1: Input = values(
+    "S1",
+    "the replier's secret s', drawn for this exchange alone",
+);
+const E1: Input = values("E1", "the replier's noise e'");
+const E2: Input = Input {
+    length: Length::By(|z| z.e2),
+    ..values("E2", "the replier's noise e''")
+};
+
+const fn bytes(word: &'static str, length: Length, what: &'static str) -> Input {
+    Input {
+        word,
+        kind: Kind::Bytes,
+        length,
+        message: false,
+        what,
+    }
+}
+
+const SEED: Input = bytes(
+    "SEED",
+    Length::By(|z| z.seed),
+    "the seed, which travels in the opening unread; none in BCNS",
+);
+const COINS: Input = bytes(
+    "COINS",
+    Length::By(|z| z.coins),
+    "random bytes for the hints; none in Frodo",
+);
+
+const fn message(word: &'static str, length: Length, what: &'static str) -> Input {
+    Input {
+        message: true,
+        ..bytes(word, length, what)
+    }
+}
+
+// ---- the outputs
+
+const fn output(word: &'static str, length: Length, what: &'static str) -> Output {
+    Output {
+        word,
+        kind: Kind::Bytes,
+        length,
+        secret: false,
+        label: "written",
+        what,
+    }
+}
+
+const KEY: Output = Output {
+    secret: true,
+    ..output("KEY", Length::By(|z| z.key), "the raw key")
+};
+
+// ---- the commands
+
+pub const ALL_SCHEMES: Option<(u32, u32)> = Some((0, SCHEMES - 1));
+
+pub const COMMANDS: &[Command] = &[
+    Command {
+        name: "draw",
+        brief: "secrets, noise, seed, coins or public numbers from the system's randomness",
+        form: Form::Words(OnWords {
+            usage: "SCHEME WHAT OUT",
+            least: 3,
+            most: 3,
+            run: draw::run,
+            words: draw::WORDS,
+        }),
+        more: draw::MORE,
+        example: "wimmostry draw 1 s left/s",
+    },
+    Command {
+        name: "offer",
+        brief: "the initiator's first step: the opening message",
+        form: Form::Files(OnFiles {
+            schemes: ALL_SCHEMES,
+            inputs: &[A, S, E, SEED],
+            outputs: &[output(
+                "MESSAGE",
+                Length::By(|z| z.opening),
+                "the opening message, for the replier",
+            )],
+            call: calls::offer,
+        }),
+        more: "S is kept for finish and then wiped. E is wiped at once.",
+        example: "wimmostry offer 1 a left/s left/e left/seed left/opening",
+    },
+    Command {
+        name: "reply",
+        brief: "the replier's step: the reply message and the replier's key",
+        form: Form::Files(OnFiles {
+            schemes: ALL_SCHEMES,
+            inputs: &[
+                message("OPENING", Length::By(|z| z.opening), "the opening message"),
+                A,
+                S1,
+                E1,
+                E2,
+                COINS,
+            ],
+            outputs: &[
+                Output {
+                    label: "message_written",
+                    ..output(
+                        "MESSAGE",
+                        Length::By(|z| z.reply),
+                        "the reply message, for the initiator",
+                    )
+                },
+                Output {
+                    label: "key_written",
+                    ..KEY
+                },
+            ],
+            call: calls::reply,
+        }),
+        more: "S1, E1, E2 and COINS are wiped afterwards.",
+        example:
+            "wimmostry reply 1 right/opening a right/s1 right/e1 right/e2 right/coins \\\n      \
+                  right/reply right/key",
+    },
+    Command {
+        name: "finish",
+        brief: "the initiator's second step: the initiator's key",
+        form: Form::Files(OnFiles {
+            schemes: ALL_SCHEMES,
+            inputs: &[
+                message("REPLY", Length::By(|z| z.reply), "the reply message"),
+                S,
+            ],
+            outputs: &[KEY],
+            call: calls::finish,
+        }),
+        more: "S is wiped afterwards. The key is raw: hash it, together with both messages, and\n\
+               confirm it with the peer before use.",
+        example: "wimmostry finish 1 left/reply left/s left/key",
+    },
+    Command {
+        name: "noise",
+        brief: "secrets and noise from random bytes of your own",
+        form: Form::Files(OnFiles {
+            schemes: Some((1, SCHEMES - 1)),
+            inputs: &[bytes(
+                "BYTES",
+                Length::Either(|z| z.s_bytes, |z| z.e2_bytes),
+                "random bytes: as many as s, e, s1 or e1 take, or as e2 takes",
+            )],
+            outputs: &[Output {
+                kind: Kind::Values,
+                secret: true,
+                ..output(
+                    "OUT",
+                    Length::Either(|z| z.s, |z| z.e2),
+                    "the values that the bytes make",
+                )
+            }],
+            call: calls::noise,
+        }),
+        more:
+            "BCNS, scheme 0, has its noise lent ready and is refused by 1. draw does both steps\n\
+               with the system's randomness.",
+        example: "head -c 4096 /dev/urandom | wimmostry noise 1 - left/s",
+    },
+    Command {
+        name: "expand",
+        brief: "NewHope's public numbers from a stream of bytes",
+        form: Form::Files(OnFiles {
+            schemes: None,
+            inputs: &[bytes(
+                "STREAM",
+                Length::AtMost(EXPAND_STREAM),
+                "a stream of bytes that both ends have",
+            )],
+            outputs: &[Output {
+                kind: Kind::Numbers,
+                ..output(
+                    "OUT",
+                    Length::Fixed(EXPAND_NUMBERS),
+                    "public numbers below 12289",
+                )
+            }],
+            call: calls::expand,
+        }),
+        more:
+            "The low 14 bits of each 16-bit word are taken where they are below 12289: some 2,700\n\
+               bytes are enough as a rule, 4096 but for one time in 10^100.",
+        example: "wimmostry expand stream a",
+    },
+    Command {
+        name: "bench",
+        brief: "both ends on lent secrets: whether the two keys agree",
+        form: Form::Files(OnFiles {
+            schemes: ALL_SCHEMES,
+            inputs: &[A, S, E, SEED, S1, E1, E2, COINS],
+            outputs: &[],
+            call: calls::bench,
+        }),
+        more:
+            "Says agree, or differ=I with the first key bit that differs, counted lowest first.\n\
+               Messages and keys stay inside.",
+        example: "wimmostry bench 1 a left/s left/e left/seed \\\n      \
+                  right/s1 right/e1 right/e2 right/coins",
+    },
+    Command {
+        name: "wipe",
+        brief: "overwrites a file and removes it",
+        form: Form::Words(OnWords {
+            usage: "FILE",
+            least: 1,
+            most: 1,
+            run: wipe::run,
+            words: wipe::WORDS,
+        }),
+        more: wipe::MORE,
+        example: "wimmostry wipe left/s",
+    },
+    Command {
+        name: "demo",
+        brief: "a whole exchange in memory, in one scheme or in all six",
+        form: Form::Words(OnWords {
+            usage: "[SCHEME]",
+            least: 0,
+            most: 1,
+            run: demo::run,
+            words: demo::WORDS,
+        }),
+        more: demo::MORE,
+        example: "wimmostry demo 1",
+    },
+    Command {
+        name: "help",
+        brief: "this, or all about one command",
+        form: Form::Words(OnWords {
+            usage: "[COMMAND]",
+            least: 0,
+            most: 1,
+            run: help::run,
+            words: "  COMMAND  one of the commands; without it the overview\n",
+        }),
+        more: "wimmostry COMMAND --help is the same; -h and --help alone are the overview.",
+        example: "wimmostry help offer",
+    },
+    Command {
+        name: "version",
+        brief: "the version of the program",
+        form: Form::Words(OnWords {
+            usage: "",
+            least: 0,
+            most: 0,
+            run: help::version,
+            words: "",
+        }),
+        more: "--version is the same.",
+        example: "wimmostry version",
+    },
+];
+
+#[cfg(test)]
+mod tests {
+    use super::*;
+
+    #[test]
+    fn every_example_has_the_words_of_its_command() {
+        for command in COMMANDS {
+            let text = command.example.replace("\\\n", " ");
+            let (_, text) = text.split_once("wimmostry ").expect("the program");
+            let words: Vec<&str> = text.split_whitespace().collect();
+            assert_eq!(words[0], command.name);
+            let (least, most) = command.counts();
+            assert!(
+                (least..=most).contains(&(words.len() - 1)),
+                "{}",
+                command.name
+            );
+        }
+    }
+
+    #[test]
+    fn names_are_their_own() {
+        for (i, command) in COMMANDS.iter().enumerate() {
+            assert!(COMMANDS[..i].iter().all(|other| other.name != command.name));
+        }
+    }
+
+    #[test]
+    fn the_largest_is_that_of_all_schemes() {
+        assert_eq!(A.length.largest(), 864 * 864);
+        assert_eq!(COINS.length.largest(), 256);
+        assert_eq!(
+            Length::Either(|z| z.s_bytes, |z| z.e2_bytes).largest(),
+            13824
+        );
+        assert_eq!(Length::AtMost(EXPAND_STREAM).largest(), 65536);
+    }
+}

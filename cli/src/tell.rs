@@ -1,0 +1,236 @@
+//! What the program says: the lines of answers and refusals, and the lines on
+//! what is wrong, with the status that goes with each.
+
+use crate::calls::{self, Answer, Refused, EXPAND_NUMBERS};
+use crate::data::Data;
+use crate::escape::shown;
+use crate::files::Lent;
+use crate::table::{Length, OnFiles};
+use std::ffi::OsStr;
+use std::io::{self, ErrorKind, Write};
+
+pub const DONE: u8 = 0;
+pub const REFUSED: u8 = 1;
+pub const WORDS: u8 = 2;
+pub const FILE: u8 = 3;
+
+/// What is wrong, a line each, and the status.
+pub struct Fault {
+    pub status: u8,
+    pub lines: Vec<String>,
+}
+
+/// The status of a command that could be run.
+pub type Done = Result<u8, Fault>;
+
+/// Wrong words.
+pub fn words(line: String) -> Fault {
+    Fault {
+        status: WORDS,
+        lines: vec![line],
+    }
+}
+
+/// A file, and what is wrong with it.
+pub fn file(name: impl AsRef<OsStr>, why: impl std::fmt::Display) -> Fault {
+    Fault {
+        status: FILE,
+        lines: vec![format!("{}: {why}", shown(name))],
+    }
+}
+
+/// The system's reason without its number.
+pub fn reason(error: &io::Error) -> String {
+    let text = error.to_string();
+    match text.find(" (os error") {
+        Some(end) => text[..end].to_string(),
+        None => text,
+    }
+}
+
+/// Where the lines of an answer go.
+#[derive(Clone, Copy, PartialEq)]
+pub enum Voice {
+    Output,
+    /// Standard output is taken by an answer.
+    Error,
+}
+
+/// Says an answer's lines. A reader that has gone away wants no more of them.
+pub fn say(voice: Voice, text: &str) -> Result<(), Fault> {
+    let said = match voice {
+        Voice::Output => {
+            let mut out = io::stdout();
+            out.write_all(text.as_bytes()).and_then(|()| out.flush())
+        }
+        Voice::Error => io::stderr().write_all(text.as_bytes()),
+    };
+    match said {
+        Err(error) if error.kind() != ErrorKind::BrokenPipe => {
+            Err(file("standard output", reason(&error)))
+        }
+        _ => Ok(()),
+    }
+}
+
+/// Says what is wrong. Where that cannot be said, the status still tells.
+pub fn complain(fault: &Fault) {
+    for line in &fault.lines {
+        let _ = writeln!(io::stderr(), "wimmostry: {line}");
+    }
+}
+
+/// The lines of an answer.
+pub fn answer(own: &OnFiles, answer: &Answer) -> String {
+    match answer {
+        Answer::Written(counts) => {
+            let lines = own.outputs.iter().zip(counts);
+            lines.map(|(x, n)| format!("{}={n}\n", x.label)).collect()
+        }
+        Answer::Agree => "agree\n".to_string(),
+        Answer::Differ(bit) => format!("differ={bit}\n"),
+    }
+}
+
+/// A refusal in one line: its number and place, which are the call's, and what
+/// in the inputs explains them.
+pub fn refusal(own: &OnFiles, scheme: u32, refused: Refused, given: &[Lent]) -> String {
+    let Refused { number, place } = refused;
+    let detail = match number {
+        1 => no_scheme(own.schemes, scheme),
+        2 => length(own, scheme, given),
+        3 => room(own, scheme),
+        4..=6 => entry(own, scheme, refused, given),
+        7 => ran_out(own),
+        _ => None,
+    };
+    match detail {
+        Some(detail) => format!("refusal={number} place={place} {detail}\n"),
+        None => format!("refusal={number} place={place}\n"),
+    }
+}
+
+/// The detail of refusal 1.
+pub fn no_scheme(schemes: Option<(u32, u32)>, scheme: u32) -> Option<String> {
+    let (first, last) = schemes?;
+    Some(format!("scheme={scheme} expected={first}..{last}"))
+}
+
+fn name(word: &str) -> String {
+    word.to_lowercase()
+}
+
+/// 5632 or 128 as `5632,128`.
+fn listed(lengths: &[usize]) -> String {
+    let texts: Vec<String> = lengths.iter().map(usize::to_string).collect();
+    texts.join(",")
+}
+
+/// The first input that has not its length.
+fn length(own: &OnFiles, scheme: u32, given: &[Lent]) -> Option<String> {
+    let sizes = calls::sizes(scheme);
+    let mut pairs = own.inputs.iter().zip(given);
+    let (input, lent) = pairs.find(|(x, lent)| !x.length.fits(sizes.as_ref(), lent.data.len()))?;
+    let wanted = match input.length {
+        Length::AtMost(_) => "at-most",
+        _ => "expected",
+    };
+    let expected = listed(&input.length.known(sizes.as_ref()));
+    Some(format!(
+        "input={} length={} {wanted}={expected}",
+        name(input.word),
+        lent.there()
+    ))
+}
+
+/// An output has the room of its answer, so that this is never said.
+fn room(own: &OnFiles, scheme: u32) -> Option<String> {
+    let output = own.outputs.first()?;
+    let known = output.length.known(calls::sizes(scheme).as_ref());
+    Some(format!(
+        "output={} expected={}",
+        name(output.word),
+        listed(&known)
+    ))
+}
+
+/// The stream, which is the first input, and how many numbers it should have held.
+fn ran_out(own: &OnFiles) -> Option<String> {
+    let input = own.inputs.first()?;
+    Some(format!(
+        "input={} expected={EXPAND_NUMBERS}",
+        name(input.word)
+    ))
+}
+
+/// The first input with a bad entry of the refusal's kind, if it stands where
+/// the call says.
+fn entry(own: &OnFiles, scheme: u32, refused: Refused, given: &[Lent]) -> Option<String> {
+    let sizes = calls::sizes(scheme)?;
+    for (input, lent) in own.inputs.iter().zip(given) {
+        let (found, limit) = match (&lent.data, refused.number) {
+            (Data::Numbers(all), 4) => {
+                let found = all.iter().position(|&n| n >= sizes.q);
+                let found = found.map(|k| (k, i64::from(all[k])));
+                (found, format!("below={}", sizes.q))
+            }
+            (Data::Bytes(all), 5) if input.message => {
+                let found = first_over(all, sizes.opening - sizes.seed, sizes.q);
+                (found, format!("below={}", sizes.q))
+            }
+            (Data::Values(all), 6) => {
+                let largest = sizes.noise.unsigned_abs();
+                let found = all.iter().position(|v| v.unsigned_abs() > largest);
+                let found = found.map(|k| (k, i64::from(all[k])));
+                (found, format!("largest={}", sizes.noise))
+            }
+            _ => (None, String::new()),
+        };
+        let Some((place, value)) = found else {
+            continue;
+        };
+        if place != refused.place {
+            return None;
+        }
+        return Some(format!("input={} value={value} {limit}", name(input.word)));
+    }
+    None
+}
+
+/// The first packed number of a message that is q or more: in BCNS and NewHope,
+/// where alone there can be one, the packed part comes first. A number takes as
+/// many bits as q does.
+fn first_over(message: &[u8], packed: usize, q: u32) -> Option<(usize, i64)> {
+    let width = (u32::BITS - q.leading_zeros()) as usize;
+    let bit = |i: usize| u64::from(message[i / 8] >> (i % 8) & 1);
+    let number = |k: usize| (0..width).fold(0, |sum, i| sum | bit(k * width + i) << i);
+    let bits = 8 * packed.min(message.len());
+    let mut all = (0..bits / width).map(|k| (k, number(k)));
+    let (place, value) = all.find(|&(_, value)| value >= u64::from(q))?;
+    Some((place, value as i64))
+}
+
+#[cfg(test)]
+mod tests {
+    use super::*;
+
+    #[test]
+    fn packed_numbers_are_read_lowest_bit_first() {
+        // 01: NewHope's 1, 2, 3, 4 packs to 01 80 00 30 00 10 00
+        let packed = [1, 0x80, 0, 0x30, 0, 0x10, 0];
+        assert_eq!(first_over(&packed, 7, 12289), None);
+        let mut over = packed;
+        over[5..].copy_from_slice(&[0xfc, 0xff]);
+        assert_eq!(first_over(&over, 7, 12289), Some((3, 16383)));
+        assert_eq!(
+            first_over(&[0xff; 4], 4, u32::MAX),
+            Some((0, i64::from(u32::MAX)))
+        );
+    }
+
+    #[test]
+    fn a_reason_has_no_number() {
+        let error = io::Error::from_raw_os_error(2);
+        assert_eq!(reason(&error), "No such file or directory");
+    }
+}

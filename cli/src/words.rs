@@ -1,0 +1,123 @@
+//! Words of the command line: which command, which scheme, which file.
+
+use crate::calls::SCHEMES;
+use crate::escape::shown;
+use crate::table::{Command, COMMANDS};
+use crate::tell::{self, Fault};
+use std::ffi::OsStr;
+use std::path::{Path, PathBuf};
+
+pub fn command(word: &OsStr) -> Result<&'static Command, Fault> {
+    let found = COMMANDS.iter().find(|c| word == c.name);
+    found.ok_or_else(|| {
+        tell::words(format!(
+            "there is no command '{}'; 'wimmostry help' lists them",
+            shown(word)
+        ))
+    })
+}
+
+/// Whether a command can have so many words.
+pub fn counted(command: &Command, n: usize) -> Result<(), Fault> {
+    let (least, most) = command.counts();
+    if (least..=most).contains(&n) {
+        return Ok(());
+    }
+    let usage = match command.usage() {
+        usage if usage.is_empty() => "no words".to_string(),
+        usage => usage,
+    };
+    Err(tell::words(format!("{} takes {usage}", command.name)))
+}
+
+/// A scheme's number: decimal, 32 bits, no leading zero. Whether there is such
+/// a scheme is the call's to say.
+pub fn scheme(word: &OsStr) -> Result<u32, Fault> {
+    let digits = word.to_str().filter(|w| {
+        let plain = !w.is_empty() && w.bytes().all(|b| b.is_ascii_digit());
+        plain && (w.len() == 1 || !w.starts_with('0'))
+    });
+    let number = digits.and_then(|w| w.parse().ok());
+    number.ok_or_else(|| {
+        tell::words(format!(
+            "SCHEME is a number from 0 to {}, not '{}'",
+            SCHEMES - 1,
+            shown(word)
+        ))
+    })
+}
+
+/// Where an input comes from or an output goes to.
+#[derive(Clone, PartialEq)]
+pub enum Place {
+    /// `-`: standard input or output.
+    Standard,
+    /// `none`: an input that is empty.
+    Nothing,
+    File(PathBuf),
+}
+
+impl Place {
+    pub fn path(&self) -> Option<&Path> {
+        match self {
+            Place::File(path) => Some(path),
+            _ => None,
+        }
+    }
+}
+
+/// The word of an input or output, named in capitals.
+pub fn place(name: &str, word: &OsStr) -> Result<Place, Fault> {
+    match word.to_str() {
+        Some("") => Err(tell::words(format!("{name} is an empty word, no file"))),
+        Some("-") => Ok(Place::Standard),
+        Some("none") => Ok(Place::Nothing),
+        _ => Ok(Place::File(word.into())),
+    }
+}
+
+/// An output goes somewhere.
+pub fn output(name: &str, word: &OsStr) -> Result<Place, Fault> {
+    match place(name, word)? {
+        Place::Nothing => Err(tell::words(format!(
+            "{name} is an output, and none is for inputs; a file of that name is ./none"
+        ))),
+        place => Ok(place),
+    }
+}
+
+#[cfg(test)]
+mod tests {
+    use super::*;
+
+    #[test]
+    fn schemes() {
+        for (word, number) in [("0", 0), ("5", 5), ("99", 99), ("4294967295", u32::MAX)] {
+            assert_eq!(scheme(OsStr::new(word)).ok(), Some(number));
+        }
+        for word in [
+            "",
+            "x",
+            "-1",
+            "+1",
+            "01",
+            "00",
+            "1x",
+            " 1",
+            "4294967296",
+            "١",
+        ] {
+            assert!(scheme(OsStr::new(word)).is_err(), "{word}");
+        }
+    }
+
+    #[test]
+    fn places() {
+        let of = |word: &str| place("A", OsStr::new(word)).ok();
+        assert!(of("-") == Some(Place::Standard));
+        assert!(of("none") == Some(Place::Nothing));
+        assert!(of("./none") == Some(Place::File("./none".into())));
+        assert!(of("").is_none());
+        assert!(output("KEY", OsStr::new("none")).is_err());
+    }
+}

@@ -1,0 +1,110 @@
+//! The program as a whole, on files: what is cheap to try here. `runs/box` holds
+//! it to the second program.
+
+use std::fs;
+use std::os::unix::fs::{symlink, PermissionsExt};
+use std::path::PathBuf;
+use std::process::{Command, Output};
+
+/// An empty folder of its own for each test, in which the program is run.
+struct Room(PathBuf);
+
+impl Room {
+    fn new(name: &str) -> Room {
+        let room = std::env::temp_dir().join(format!("wimmostry-{name}-{}", std::process::id()));
+        let _ = fs::remove_dir_all(&room);
+        fs::create_dir(&room).unwrap();
+        Room(room)
+    }
+
+    fn run(&self, words: &str) -> Output {
+        Command::new(env!("CARGO_BIN_EXE_wimmostry"))
+            .args(words.split_whitespace())
+            .current_dir(&self.0)
+            .output()
+            .unwrap()
+    }
+
+    /// What it said on standard output, where it ended with this status.
+    fn says(&self, status: i32, words: &str) -> String {
+        let done = self.run(words);
+        assert_eq!(done.status.code(), Some(status), "{words}: {done:?}");
+        String::from_utf8(done.stdout).unwrap()
+    }
+
+    fn read(&self, name: &str) -> Vec<u8> {
+        fs::read(self.0.join(name)).unwrap()
+    }
+}
+
+impl Drop for Room {
+    fn drop(&mut self) {
+        let _ = fs::remove_dir_all(&self.0);
+    }
+}
+
+#[test]
+fn two_ends_hold_one_key() {
+    let room = Room::new("exchange");
+    for scheme in 0..6 {
+        for what in ["a", "s", "e", "seed", "s1", "e1", "e2", "coins"] {
+            room.says(0, &format!("draw {scheme} {what} {what}"));
+        }
+        room.says(0, &format!("offer {scheme} a s e seed opening"));
+        room.says(
+            0,
+            &format!("reply {scheme} opening a s1 e1 e2 coins reply right"),
+        );
+        room.says(0, &format!("finish {scheme} reply s left"));
+        let found = room.says(0, &format!("bench {scheme} a s e seed s1 e1 e2 coins"));
+        assert_eq!(found == "agree\n", room.read("left") == room.read("right"));
+    }
+    let mode = fs::metadata(room.0.join("left"))
+        .unwrap()
+        .permissions()
+        .mode();
+    assert_eq!(mode & 0o777, 0o600);
+}
+
+#[test]
+fn a_refusal_says_why_and_leaves_zeros() {
+    let room = Room::new("refusal");
+    room.says(0, "draw 1 s s");
+    fs::write(room.0.join("key"), "an old key").unwrap();
+    let line = room.says(1, "finish 1 none s key");
+    assert_eq!(
+        line,
+        "refusal=2 place=0 input=reply length=0 expected=2048\n"
+    );
+    assert_eq!(room.read("key"), [0; 32]);
+    let line = room.says(1, "finish 9 none s key");
+    assert_eq!(line, "refusal=1 place=0 scheme=9 expected=0..5\n");
+    assert_eq!(room.read("key"), []);
+}
+
+#[test]
+fn wrong_words_and_files_touch_nothing() {
+    let room = Room::new("wrong");
+    room.says(0, "draw 1 s s");
+    let secret = room.read("s");
+    // what /dev/stdout is; the machine's own is never named here, lest a program that has got this
+    // wrong replace it
+    symlink("/proc/self/fd/1", room.0.join("stdout")).unwrap();
+    for (status, words) in [
+        (2, "finish 1 none s s"),
+        (2, "reply 1 none none none none none none s s"),
+        (2, "finish x none s s"),
+        (2, "help me"),
+        (2, "demo x"),
+        (3, "finish 1 missing s key"),
+        (3, "finish 1 none s missing/key"),
+        (3, "finish 1 none s stdout"),
+    ] {
+        let done = room.run(words);
+        assert_eq!(done.status.code(), Some(status), "{words}: {done:?}");
+        assert!(done.stdout.is_empty(), "{words}");
+        assert!(done.stderr.starts_with(b"wimmostry: "), "{words}");
+        assert_eq!(room.read("s"), secret, "{words}");
+    }
+    assert_eq!(fs::read_dir(&room.0).unwrap().count(), 2);
+}

@@ -1,0 +1,108 @@
+"""A command run by both programs, and what the line of a refusal goes on with."""
+import os
+import re
+import struct
+
+from .common import INPUTS, NUMBERS, OLD, OUTPUTS, SCHEMES, hold, mode, read, run, write
+
+
+def entries(word, data):
+    if word not in NUMBERS:
+        return data
+    return struct.unpack(f"<{len(data) // 4}{'I' if word == 'A' else 'i'}", data)
+
+
+def lengths(scheme):
+    q, largest, key, public, secret, last, seed, coins, opening, reply, *drawn = SCHEMES[scheme]
+    return {"A": [public], "S": [secret], "E": [secret], "S1": [secret], "E1": [secret],
+            "E2": [last], "SEED": [seed], "COINS": [coins], "OPENING": [opening],
+            "REPLY": [reply], "BYTES": list(dict.fromkeys(drawn)), "STREAM": range(65537)}
+
+
+def detail(command, scheme, data, number, place):
+    """data has the bytes of each input by its word."""
+    given = [(w, entries(w, data[w])) for w in INPUTS[command]]
+    if number == 1:
+        return f"scheme={scheme} expected={1 if command == 'noise' else 0}..5"
+    q, largest, *_ = SCHEMES[scheme or 0]
+    if number == 2:
+        fixed = lengths(scheme or 0)
+        word, there = next((w, len(x)) for w, x in given if len(x) not in fixed[w])
+        if word == "STREAM":
+            return f"input=stream length={there} at-most=65536"
+        return f"input={word.lower()} length={there} expected={','.join(map(str, fixed[word]))}"
+    if number == 4:
+        return f"input=a value={entries('A', data['A'])[place]} below={q}"
+    if number == 5:
+        word, message = given[0]
+        bits = 32 if scheme == 0 else 14
+        value = int.from_bytes(message, "little") >> bits * place & (1 << bits) - 1
+        return f"input={word.lower()} value={value} below={q}"
+    if number == 6:
+        for word, values in given:
+            if word in NUMBERS - {"A"} and any(abs(x) > largest for x in values):
+                return f"input={word.lower()} value={values[place]} largest={largest}"
+    if number == 7:
+        return "input=stream expected=1024"
+
+
+class Both:
+    """A command run by both programs, each with its own output files."""
+
+    def __init__(self, box, second, folder):
+        self.box, self.second, self.folder, self.data = box, second, folder, {"none": b""}
+        # the calls of both, which are many, go to the program behind the script
+        root = os.path.dirname(os.path.realpath(box))
+        behind = os.path.join(root, "target/cli/release/wimmostry")
+        self.program = behind if os.path.exists(behind) else box
+
+    def name(self, word):
+        return word if word in ("none", "-") else os.path.join(self.folder, word)
+
+    def put(self, files):
+        for word, data in files.items():
+            write(self.name(word), data)
+            self.data[word] = data
+
+    def words(self, command, scheme, given=None, out=None):
+        """The words with the usual files, and those that are given in place of them."""
+        given = {w: (given or {}).get(w, self.name(w)) for w in INPUTS[command]}
+        out = {w: (out or {}).get(w, self.name(w + "1")) for w in OUTPUTS[command]}
+        return [self.box, command, str(scheme), *given.values(), *out.values()]
+
+    def old(self, command):
+        """The usual outputs with old bytes in them."""
+        names = [self.name(w + "1") for w in OUTPUTS[command]]
+        for name in names:
+            write(name, OLD)
+        return names
+
+    def __call__(self, kind, command, scheme, given, sizes, secrets=()):
+        """The words of the inputs; the outputs' words and lengths after a refusal. Returns what it
+        said and wrote."""
+        number = [str(scheme)] if scheme is not None else []
+        before = [command, *number, *map(self.name, given)]
+        results = []
+        for program, mark in (([self.program], "1"), ([self.second, "box"], "2")):
+            out = [self.name(w + mark) for w in sizes]
+            for name in out:
+                write(name, OLD)
+                os.chmod(name, 0o644)
+            results.append((run(program + before + out), [read(name) for name in out]))
+        (status, text, error), files = results[0]
+        (_, text2, error2), files2 = results[1]
+        what = f"{command} {scheme} {given}: {text!r} {error!r} but {text2!r} {error2!r}"
+        expected = text2
+        if refused := re.fullmatch(rb"refusal=(\d) place=(\d+)\n", text2):
+            data = dict(zip(INPUTS[command], (self.data[w] for w in given)))
+            more = detail(command, scheme, data, *map(int, refused.groups()))
+            expected = text2[:-1] + f" {more}\n".encode()
+        fine = text == expected and files == files2 and error == b"" and status == bool(refused)
+        hold(kind, fine, f"{what}: not {expected!r}, status {status}")
+        for (word, size), data in zip(sizes.items(), files):
+            if refused:
+                hold(kind, data == bytes(size),
+                     f"{what}: {word} has {len(data)} bytes, not {size} zeros")
+            if word in secrets:
+                hold(kind, mode(self.name(word + "1")) == 0o600, f"{what}: mode of {word}")
+        return text, files

@@ -1,0 +1,94 @@
+"""The calls: good exchanges, damaged inputs, noise and expand."""
+from .common import INPUTS, NUMBERS, OUTPUTS, SCHEMES, hold, run, words32
+
+
+def exchange(both, scheme, files):
+    """A good exchange; gives the sizes of the outputs."""
+    q, largest, key, public, secret, last, seed, coins, opening, reply, *_ = SCHEMES[scheme]
+    sizes = {"offer": {"MESSAGE": opening}, "reply": {"MESSAGE": reply, "KEY": key},
+             "finish": {"KEY": key}, "bench": {}}
+    given = {c: [w if files.get(w) != b"" else "none" for w in INPUTS[c]] for c in OUTPUTS}
+    both.put(files)
+    text, (message,) = both("good", "offer", scheme, given["offer"], sizes["offer"])
+    hold("good", text == b"written=%d\n" % opening and len(message) == opening, f"offer {scheme}")
+    files["OPENING"] = message
+    both.put(files)
+    text, (message, own) = both("good", "reply", scheme, given["reply"], sizes["reply"], ["KEY"])
+    lines = b"message_written=%d\nkey_written=%d\n" % (reply, key)
+    hold("good", text == lines and len(message) == reply, f"reply {scheme}")
+    files["REPLY"] = message
+    both.put(files)
+    text, (peer,) = both("good", "finish", scheme, given["finish"], sizes["finish"], ["KEY"])
+    hold("good", text == b"written=%d\n" % key and own == peer and len(peer) == key,
+         f"finish {scheme}: the keys differ")
+    text, _ = both("good", "bench", scheme, given["bench"], sizes["bench"])
+    hold("good", text == b"agree\n", f"bench {scheme}")
+    return sizes
+
+
+def damages(word, data, scheme):
+    """Damaged inputs."""
+    q, largest, *_ = SCHEMES[scheme]
+    entry = 4 if word in NUMBERS else 1
+    yield data[:-entry]
+    yield data + bytes(entry)
+    if data:
+        yield b""
+    if word in NUMBERS:
+        bad = q if word == "A" else largest + 1
+        for place in (0, len(data) // 8, len(data) // 4 - 1):
+            for value in (bad, -bad if word != "A" else 2**32 - 1, 2**31):
+                yield data[:4 * place] + words32([value]) + data[4 * place + 4:]
+    elif word in ("OPENING", "REPLY") and scheme < 2:
+        # BCNS: a word of ones; NewHope: 16383 as the last number of four
+        piece = b"\xff" * 4 if scheme == 0 else b"\x00\x00\x00\x00\x00\xfc\xff"
+        last = 4096 - 4 if scheme == 0 else 1792 - 7
+        for place in (0, last):
+            yield data[:place] + piece + data[place + len(piece):]
+
+
+def damaged(both, scheme, files, sizes, rand):
+    for command in OUTPUTS:
+        secrets = [w for w in sizes[command] if w == "KEY"]
+        for word in INPUTS[command]:
+            if scheme > 2 and (command == "bench" or (command == "reply" and word == "A")):
+                continue
+            for data in damages(word, files[word], scheme):
+                both.put({word: data})
+                both("damaged", command, scheme, INPUTS[command], sizes[command], secrets)
+            both.put({word: files[word]})
+    # two inputs at a time: the order of the tests decides, and the line names the one that is meant
+    for command in OUTPUTS:
+        for _ in range(12 if scheme < 2 else 3):
+            pair = rand.sample(INPUTS[command], 2)
+            both.put({w: rand.choice([*damages(w, files[w], scheme)]) for w in pair})
+            both("damaged", command, scheme, INPUTS[command], sizes[command])
+            both.put({w: files[w] for w in pair})
+    for command in OUTPUTS:
+        for other in (6, 99, 4294967295):
+            both("damaged", command, other, INPUTS[command], dict.fromkeys(sizes[command], 0))
+    # far beyond the largest of any scheme: what is there is told, of a stream as far as it was read
+    both.put({"SEED": bytes(100000), "S": bytes(400000)})
+    both("damaged", "offer", scheme, INPUTS["offer"], sizes["offer"])
+    both("damaged", "finish", scheme, INPUTS["finish"], sizes["finish"])
+    both.put({"S": files["S"]})
+    status, text, error = run(both.words("offer", scheme, {"SEED": "-"}), input=bytes(100000))
+    expected = f"refusal=2 place=0 input=seed length=33.. expected={len(files['SEED'])}\n".encode()
+    hold("damaged", (status, text, error) == (1, expected, b""),
+         f"a long stream: {text!r} {error!r}")
+    both.put({"SEED": files["SEED"]})
+
+
+def noise(both, rand):
+    for scheme in range(7):
+        good = list(SCHEMES[scheme][-2:]) if 1 <= scheme <= 5 else []
+        near = {x + d for x in good for d in (-2, -1, 1, 2)}
+        for length in sorted({*good, *near, 0, 64, 4096, 8192, 20000}):
+            both.put({"BYTES": rand.randbytes(length)})
+            text, _ = both("noise", "noise", scheme, ["BYTES"], {"OUT": 0}, ["OUT"])
+            hold("noise", text.startswith(b"written=") == (length in good),
+                 f"noise {scheme} {length}: {text!r}")
+    drawn = map(rand.randbytes, (2000, 2801, 4096, 65536, 65537, 90000))
+    for stream in (b"", *drawn, b"\xff" * 65536):
+        both.put({"STREAM": stream})
+        both("noise", "expand", None, ["STREAM"], {"OUT": 4096})

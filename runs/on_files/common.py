@@ -1,0 +1,93 @@
+"""The schemes, the commands, and what every part does: run, read, write, count."""
+import os
+import stat
+import struct
+import subprocess
+
+# q, largest noise, key bytes; counts of public numbers, of a secret and of e'';
+# bytes of seed, coins, opening and reply; random bytes for a secret and for e''
+SCHEMES = {
+    0: (4294967295, 51, 128, 1024, 1024, 1024, 0, 256, 4096, 4224, 0, 0),
+    1: (12289, 16, 32, 1024, 1024, 1024, 32, 32, 1824, 2048, 4096, 4096),
+}
+for number, n, q, largest, key, width in ((2, 352, 2048, 3, 8, 11), (3, 592, 4096, 4, 16, 12),
+                                          (4, 752, 32768, 5, 32, 15), (5, 864, 32768, 6, 32, 15)):
+    SCHEMES[number] = (q, largest, key, n * n, 8 * n, 64, 16, 0, 16 + width * n, width * n + 8,
+                       16 * n, 128)
+# the inputs of each command in their order, and the outputs
+INPUTS = {
+    "offer": ["A", "S", "E", "SEED"],
+    "reply": ["OPENING", "A", "S1", "E1", "E2", "COINS"],
+    "finish": ["REPLY", "S"],
+    "bench": ["A", "S", "E", "SEED", "S1", "E1", "E2", "COINS"],
+    "noise": ["BYTES"],
+    "expand": ["STREAM"],
+}
+OUTPUTS = {"offer": ["MESSAGE"], "reply": ["MESSAGE", "KEY"], "finish": ["KEY"], "bench": []}
+NUMBERS = {"A", "S", "E", "S1", "E1", "E2"}
+OLD = b"an old key that stays where it is" * 9
+
+counts, wrong = {}, []
+
+
+def hold(kind, fine, what):
+    counts[kind] = counts.get(kind, 0) + 1
+    if not fine:
+        wrong.append(what)
+        if len(wrong) <= 20:
+            print(f"{kind}: {what}")
+
+
+def run(words, **more):
+    given = {"stdin": subprocess.DEVNULL} if not {"stdin", "input"} & more.keys() else {}
+    if "stdout" not in more:
+        given.update(stdout=subprocess.PIPE)
+    done = subprocess.run(words, stderr=subprocess.PIPE, timeout=60, **given, **more)
+    return done.returncode, done.stdout, done.stderr
+
+
+def read(name):
+    with open(name, "rb") as f:
+        return f.read()
+
+
+def write(name, data):
+    with open(name, "wb") as f:
+        f.write(data)
+
+
+def mode(name):
+    return os.stat(name).st_mode & 0o777
+
+
+def device(name):
+    """A device of the folder's own, like /dev/null; whether there is one, which takes root. Never
+    name one of the machine's as an output: run as root, a program that has got this wrong would
+    replace it."""
+    try:
+        os.mknod(name, stat.S_IFCHR | 0o600, os.makedev(1, 3))
+        return True
+    except PermissionError:
+        return False
+
+
+def temporaries(folder):
+    return [name for _, _, names in os.walk(folder) for name in names if name.startswith(".")]
+
+
+def words32(numbers):
+    return struct.pack(f"<{len(numbers)}I", *(x % 2**32 for x in numbers))
+
+
+def inputs(scheme, rand):
+    """The files of one exchange, but for the messages."""
+    q, largest, key, public, secret, last, seed, coins, *_ = SCHEMES[scheme]
+    # noise that is small enough for the keys to agree
+    spread = min(largest, 3)
+    noise = lambda k: words32([rand.randint(-spread, spread) for _ in range(k)])
+    return {
+        "A": words32([rand.randrange(q) for _ in range(public)]),
+        "S": noise(secret), "E": noise(secret),
+        "S1": noise(secret), "E1": noise(secret), "E2": noise(last),
+        "SEED": rand.randbytes(seed), "COINS": rand.randbytes(coins),
+    }

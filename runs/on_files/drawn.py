@@ -1,0 +1,82 @@
+"""draw, wipe, and the exchange that help shows."""
+import os
+import re
+import shutil
+
+from .both import entries
+from .common import OLD, SCHEMES, device, hold, mode, read, run, write
+
+
+def drawn(both):
+    name = both.name("drawn")
+    for scheme, (q, largest, key, public, secret, last, seed, coins, *_) in SCHEMES.items():
+        each = {"a": public, "s": secret, "e": secret, "s1": secret, "e1": secret, "e2": last,
+                "seed": seed, "coins": coins}
+        for what, many in each.items():
+            write(name, OLD)
+            os.chmod(name, 0o666)
+            status, text, error = run([both.box, "draw", str(scheme), what, name], umask=0)
+            values = entries(what.upper(), read(name))
+            line = b"written=%d" % many
+            if scheme == 0 and what in ("s", "e", "s1", "e1", "e2"):
+                line += b" sampler=newhope largest=16"
+            fine = (status, text, error) == (0, line + b"\n", b"") and len(values) == many
+            fine = fine and mode(name) == (0o666 if what in ("a", "seed") else 0o600)
+            if what == "a":
+                fine = fine and q * 0.95 < max(values) < q and len(set(values)) > min(many, q) / 3
+            elif what not in ("seed", "coins"):
+                several = len(set(values)) > min(largest, 4)
+                fine = fine and several and max(map(abs, values)) <= largest
+            hold("drawn", fine, f"draw {scheme} {what}: {status} {text!r} {error!r}")
+    one, two = (run([both.box, "draw", "1", "coins", "-"])[1] for _ in range(2))
+    hold("drawn", len(one) == len(two) == 32 and one != two, "coins drawn twice are the same")
+    write(name, OLD)
+    done = run([both.box, "draw", "6", "s", name])
+    fine = done == (1, b"refusal=1 place=0 scheme=6 expected=0..5\n", b"") and read(name) == b""
+    hold("drawn", fine, f"draw 6: {done}")
+    # wipe
+    for data in (b"", OLD, OLD * 1000):
+        write(name, data)
+        status, text, error = run([both.box, "wipe", name])
+        fine = status == 0 and text.startswith(b"wiped=%d\n" % len(data))
+        fine = fine and b"flash drives" in text
+        hold("drawn", fine and not os.path.exists(name), f"wipe: {status} {text!r} {error!r}")
+    write(name, OLD)
+    with open(name, "rb") as handle:
+        run([both.box, "wipe", name])
+        hold("drawn", handle.read() == bytes(len(OLD)), "what is wiped can still be read")
+    write(name, OLD)
+    for other, make in (("hard", os.link), ("soft", os.symlink)):
+        make(name, name + other)
+        status, text, error = run([both.box, "wipe", name + other])
+        hold("drawn", status == 3 and text == b"" and read(name) == OLD,
+             f"wipe of a {other} link: {error!r}")
+        os.remove(name + other)
+    others = [both.folder, both.name("nowhere")]
+    others += [both.name("device")] if device(both.name("device")) else []
+    for other in others:
+        status, text, error = run([both.box, "wipe", other])
+        hold("drawn", status == 3 and text == b"" and b": not wiped: " in error,
+             f"wipe {other}: {error!r}")
+    if len(others) > 2:
+        os.remove(both.name("device"))
+    os.remove(name)
+    # the exchange that help shows
+    text = run([both.box, "help"])[1].decode()
+    script = re.search(r"^    mkdir left right\n(    .*\n)*", text, re.M).group()
+    for scheme in SCHEMES:
+        folder = both.name(f"exchange{scheme}")
+        os.mkdir(folder)
+        os.mkdir(folder + "/bin")
+        os.symlink(both.box, folder + "/bin/wimmostry")
+        path = folder + "/bin:" + os.environ["PATH"]
+        done = run(["sh", "-e", "-c", re.sub(r"(wimmostry \w+) 1 ", rf"\1 {scheme} ", script)],
+                   cwd=folder, env={**os.environ, "PATH": path})
+        keys = [read(f"{folder}/{side}/key") if done[0] == 0 else b"" for side in ("left", "right")]
+        fine = done[0] == 0 and done[2] == b"" and keys[0] == keys[1]
+        fine = fine and len(keys[0]) == SCHEMES[scheme][2]
+        hold("drawn", fine and any(keys[0]), f"the exchange of help in scheme {scheme}: {done}")
+        left = sorted(os.listdir(folder + "/left") + os.listdir(folder + "/right"))
+        public = sorted(2 * ["a", "key", "opening", "reply"] + ["seed"])
+        hold("drawn", left == public, f"left: {left}")
+        shutil.rmtree(folder)

@@ -1,0 +1,145 @@
+"""Inputs that cannot be read, wrong words, help, the demonstration and what is shown."""
+import os
+import re
+import socket
+import subprocess
+
+from .common import INPUTS, NUMBERS, OLD, OUTPUTS, hold, read, run, write
+
+
+def unread(both, scheme, files):
+    for command in OUTPUTS:
+        for word in INPUTS[command]:
+            for kind in ("missing", "folder", "pipe", "socket", "device", "odd"):
+                name = both.name(word)
+                os.remove(name)
+                if kind == "folder":
+                    os.mkdir(name)
+                elif kind == "pipe":
+                    # nobody writes to it: opening it would wait for ever
+                    os.mkfifo(name)
+                elif kind == "socket":
+                    socket.socket(socket.AF_UNIX).bind(name)
+                elif kind == "device":
+                    os.symlink("/dev/zero", name)
+                elif kind == "odd":
+                    if word not in NUMBERS:
+                        write(name, files[word])
+                        continue
+                    write(name, files[word][:13])
+                out = both.old(command)
+                status, text, error = run(both.words(command, scheme))
+                fine = status == 3 and text == b"" and error.count(b"\n") == 1
+                fine = fine and error.startswith(b"wimmostry: " + name.encode() + b": ")
+                if kind == "odd":
+                    line = b": 13 bytes are no whole number of 32-bit numbers\n"
+                    fine = fine and error.endswith(line)
+                if kind not in ("odd", "missing"):
+                    fine = fine and f": is a {kind}".encode() in error
+                same = all(read(x) == OLD for x in out)
+                hold("unread", fine and same,
+                     f"{command} {word} {kind}: {status} {text!r} {error!r}")
+                if kind == "folder":
+                    os.rmdir(name)
+                elif kind != "missing":
+                    os.remove(name)
+                write(name, files[word])
+    nowhere = {w: both.folder + "/nowhere" + w for w in INPUTS["finish"]}
+    status, text, error = run(both.words("finish", scheme, nowhere))
+    hold("unread", status == 3 and error.count(b"\n") == 2, f"two that are missing: {error!r}")
+
+
+def words(both):
+    files = ["x"] * 9
+    for given, said in [
+        (["x"], b"there is no command 'x'"),
+        (["Offer", *files[:6]], b"there is no command 'Offer'"),
+        ([""], b"there is no command ''"), (["help", "me"], b"there is no command 'me'"),
+        (["--help", "x"], b"there is no command '--help'"),
+        (["--version", "x"], b"there is no command"),
+        (["offer"], b"offer takes SCHEME A S E SEED MESSAGE\n"),
+        (["offer", *files[:5]], b"offer takes"), (["offer", *files[:7]], b"offer takes"),
+        (["reply", *files[:8]], b"reply takes"), (["finish", *files[:3]], b"finish takes"),
+        (["noise", *files[:2]], b"noise takes"), (["expand", "-"], b"expand takes"),
+        (["bench", *files[:8]], b"bench takes"), (["demo", "1", "2"], b"demo takes [SCHEME]\n"),
+        (["draw", "1", "s"], b"draw takes SCHEME WHAT OUT\n"), (["wipe"], b"wipe takes FILE\n"),
+        (["version", "x"], b"version takes no words\n"),
+        (["help", "a", "b"], b"help takes [COMMAND]\n"),
+        (["draw", "1", "key", "x"], b"WHAT is a, s, e, seed, s1, e1, e2 or coins, not 'key'"),
+        (["draw", "x", "s", "x"], b"SCHEME is"), (["wipe", "-"], b"wipe takes the name of a file"),
+        (["demo", "x"], b"SCHEME is a number"),
+        (["finish", "1", "", "y", "z"], b"REPLY is an empty word"),
+        (["finish", "1", "x", "y", "none"], b"KEY is an output, and none is for inputs"),
+        *((["finish", w, "x", "y", "z"], f"SCHEME is a number from 0 to 5, not '{w}'".encode())
+          for w in ("x", "", "-1", "01", "00", "1x", "4294967296", "12345678901")),
+    ]:
+        status, text, error = run([both.box, *given])
+        fine = status == 2 and text == b"" and error.startswith(b"wimmostry: " + said)
+        fine = fine and error.count(b"\n") == 1
+        hold("words", fine, f"{given}: {status} {text!r} {error!r}")
+    # a name that no system takes
+    status, text, error = run([both.box, "finish", "1", "n" * 5000, "none", both.name("KEY1")])
+    hold("words", status == 3 and text == b"", f"a long name: {status} {error!r}")
+    # wrong words leave all as it was
+    for given in (["fnish", "1"], ["finish", "x"]):
+        write(both.name("KEY1"), OLD)
+        status, _, _ = run([both.box, *given, *map(both.name, ("REPLY", "S", "KEY1"))])
+        hold("words", status == 2 and read(both.name("KEY1")) == OLD,
+             f"{given} touches the old key")
+    # nothing lent
+    status, text, error = run([both.box, "finish", "1", "none", "none", both.name("KEY1")])
+    expected = (1, b"refusal=2 place=0 input=reply length=0 expected=2048\n", b"")
+    hold("words", (status, text, error) == expected and read(both.name("KEY1")) == bytes(32),
+         f"nothing: {text!r}")
+    overview = run([both.box, "help"])
+    fine = overview[0] == 0 and overview[2] == b""
+    hold("words", fine and overview[1].startswith(b"Two boxes agree"), "help")
+    hold("words", b"o old key stays" not in overview[1], "help promises that no old key stays")
+    for given in ([], ["--help"], ["-h"]):
+        hold("words", run([both.box, *given]) == overview, f"{given} is not the overview")
+    for name in re.findall(r"^  wimmostry (\w+)", overview[1].decode(), re.M):
+        page = run([both.box, "help", name])
+        fine = page[0] == 0 and page[2] == b"" and page[1].startswith(b"wimmostry " + name.encode())
+        hold("words", fine and b"\nExample:\n" in page[1], f"help {name}: {page}")
+        hold("words", run([both.box, name, "--help"]) == page, f"{name} --help")
+        hold("words", max(map(len, page[1].split(b"\n"))) <= 100, f"help {name} is too wide")
+    told = [run([both.box, w]) for w in ("version", "--version")]
+    fine = told[0] == told[1] and told[0][0] == 0
+    fine = fine and re.fullmatch(rb"wimmostry \d+\.\d+\.\d+\n", told[0][1])
+    hold("words", fine, f"version: {told}")
+    # a reader that goes away is no mistake
+    done = run(["bash", "-c", f"'{both.box}' help | head -n 1"])
+    hold("words", done[2] == b"" and done[1].startswith(b"Two boxes"), f"help into head: {done}")
+
+
+def demo(both):
+    for given, many in ((["demo"], 6), (["demo", "0"], 1), (["demo", "1"], 1), (["demo", "5"], 1)):
+        status, text, error = run([both.box, *given], cwd=both.folder)
+        prints = re.findall(rb"^  .* fingerprint (\w{16})$", text, re.M)
+        told = text.count(b"  keys agree\n") + text.count(b"  keys differ at bit ")
+        same = sum(a == b for a, b in zip(prints[::2], prints[1::2]))
+        fine = status == 0 and error == b"" and told == many and len(prints) == 2 * many
+        fine = fine and len(re.findall(rb" bytes, \d+ us\n", text)) == 3 * many
+        fine = fine and text.count(b"] opening -") == text.count(b"- reply [") == many
+        hold("demo", fine and text.count(b"  keys agree\n") == same, f"{given}: {text!r} {error!r}")
+    status, text, error = run([both.box, "demo", "6"])
+    expected = (1, b"refusal=1 place=0 scheme=6 expected=0..5\n", b"")
+    hold("demo", (status, text, error) == expected, f"demo 6: {text!r}")
+
+
+def shown(both, scheme):
+    bad = b"a\x1b[2J\x07\r\n\x7f\xff\xc2\x9b\xe2\x80\xae\\"
+    said = rb"a\x1b[2J\x07\r\n\x7f\xff\xc2\x9b\xe2\x80\xae" + b"\\\\"
+    inside = os.path.join(both.folder.encode(), bad)
+    os.mkdir(inside)
+    for given in ([bad], ["help", bad], ["demo", bad], ["wipe", bad],
+                  ["draw", bad, "s", "x"], ["draw", "1", bad, "x"],
+                  ["finish", bad, "x", "x", "x"], ["finish", "1", bad, "none", "x"],
+                  ["finish", "1", "none", "none", inside],
+                  ["finish", "1", "none", "none", inside + b"/x/y"],
+                  ["reply", "1", *["none"] * 6, inside + b"/x", inside + b"/x"], ["wipe", inside]):
+        status, text, error = run([both.box, *given])
+        fine = status in (2, 3) and text == b"" and said in error and error.count(b"\n") == 1
+        hold("shown", fine and all(0x20 <= c < 0x7f for c in error[:-1]),
+             f"{given}: {text!r} {error!r}")
+    os.rmdir(inside)
