@@ -57,9 +57,8 @@
  *
  * WHAT A CALLER MUST SEE TO
  *
- * - Each pointer is valid for its length and aligned for its type. It may be
- *   null where the length is 0.
- *   place and the counts each
+ * - Each pointer is valid for its length and aligned for its type. It may be null
+ *   where the length is 0, as an empty vector's is (examples/c/empty.c). place and the counts each
  *   point to one number. A length counts entries, not bytes.
  * - No output, place or count shares memory with another argument. Inputs may share memory with
  *   each other.
@@ -105,6 +104,17 @@
  * Nothing of the caller's own is touched, and nothing is asked of the stack beyond
  * WIM_SCRUB_STACK. examples/c/residue.c looks on the stack for every secret, key and intermediate
  * value after each call, in all schemes, and finds some before the scrub and none after it.
+ *
+ *
+ * SECRETS AND TIME
+ *
+ * Measured and not proved: on accepted input no address depends on a secret, and the branches that
+ * do are the verdicts of the range tests (refusal 6), one an input: 2 in wim_offer, 3 in wim_reply,
+ * 1 in wim_finish, none in wim_noise. wim_bench has those of its parts, and branches on the numbers
+ * of the messages and on the keys, which it compares. A refused secret is searched value by value
+ * for its place. Nothing is divided but 2^32 - 1 by q. So it is in the archive for x86-64, by
+ * valgrind with the secrets marked as undefined, in all schemes (runs/secrets); another compiler
+ * may do otherwise, and what the processor makes of it is not measured.
  */
 #ifndef WIMMOSTRY_H
 #define WIMMOSTRY_H
