@@ -4,7 +4,7 @@
 //! `cargo test` makes 500 calls; `cargo test -- --ignored` makes 100,000, which
 //! takes some fifteen minutes.
 
-use wimmostry as calls;
+use wimmostry::raw as calls;
 
 #[path = "../../../second/tests/all/generator.rs"]
 mod generator;
@@ -20,3 +20,4 @@ mod damage;
 mod held;
 mod lent;
 mod sizes;
+mod typed;
