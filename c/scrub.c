@@ -37,6 +37,10 @@ OWN_FRAME ZERO_REGISTERS void wim_scrub(void)
     static const wide zero;
     volatile wide room[WIM_STACK / sizeof(wide)];
 
-    for (size_t i = 0; i < sizeof room / sizeof *room; i++)
+    for (size_t i = 0; i < sizeof room / sizeof *room; i += 4) {
         room[i] = zero;
+        room[i + 1] = zero;
+        room[i + 2] = zero;
+        room[i + 3] = zero;
+    }
 }
