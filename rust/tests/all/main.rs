@@ -19,5 +19,6 @@ mod standards;
 mod damage;
 mod held;
 mod lent;
+mod residue;
 mod sizes;
 mod typed;
