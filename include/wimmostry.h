@@ -57,9 +57,9 @@
  *
  * WHAT A CALLER MUST SEE TO
  *
- * - Each pointer is valid for its length and aligned for its type. It may be null
- *   where the length is 0, as an empty vector's is (examples/c/empty.c). place and the counts each
- *   point to one number. A length counts entries, not bytes.
+ * - Each pointer is valid for its length and aligned for its type. Where the length is 0 it may be
+ *   null, as an empty vector's may be; this is tested for every slice (examples/c/empty.c). place
+ *   and the counts each point to one number. A length counts entries, not bytes.
  * - No output, place or count shares memory with another argument. Inputs may share memory with
  *   each other.
  * - No other thread writes to what is lent, or touches an output, during a call.
@@ -98,12 +98,12 @@
  * scheme, how deep the pattern is gone (examples/c/stack.c, which examples/c/run runs). All local
  * arrays have fixed sizes, so that no input makes it more.
  *
- * Call wim_scrub after every call that had secrets or a key: on the same thread, and from the
- * function that made the call or from one that it returned to. It overwrites WIM_STACK bytes below
- * the caller's frame, which is more than any call takes; several calls in a row need it once.
- * Nothing of the caller's own is touched, and nothing is asked of the stack beyond
- * WIM_SCRUB_STACK. examples/c/residue.c looks on the stack for every secret, key and intermediate
- * value after each call, in all schemes, and finds some before the scrub and none after it.
+ * Call wim_scrub after every call that had secrets or a key, on the same thread and from the
+ * function that made the call. It overwrites WIM_STACK bytes below that function's frame, which is
+ * more than any call takes. A function further up may call it as well, where the frames in between
+ * and the call take no more than WIM_STACK together. Several calls in a row need it once.
+ * examples/c/residue.c looks on the stack for every secret, key and intermediate value after each
+ * call, in all schemes: it finds some before the scrub and none after it.
  *
  *
  * SECRETS AND TIME
@@ -340,8 +340,9 @@ WIM_MUST_USE uint32_t wim_bench(uint32_t scheme, const uint32_t *a, size_t a_len
 
 /*
  * Overwrites what a call may have left on the stack below the caller's frame; see STACK above. The
- * registers that a function may change are zeroed too, where the compiler that built the archive
- * can do that (GCC 11, clang 15).
+ * registers of the processor's base set that a function may change are zeroed too, where the
+ * compiler that built the archive can do that (GCC 11, clang 15); what memcpy leaves in wider ones
+ * stays.
  */
 void wim_scrub(void);
 
