@@ -25,6 +25,10 @@ pub(crate) fn count(n: u64) -> usize {
 
 /// Overwrites what a call may have left of secrets on the stack below its caller.
 /// Every function here does so itself; it is for callers of [`ffi`].
+///
+/// It is always inlined: a frame of its own would be left out of what is
+/// overwritten.
+#[inline(always)]
 pub fn scrub() {
     // SAFETY: it takes nothing, and writes only to the stack below its caller,
     // which no variable stands in. The header says how much of it must be there.
