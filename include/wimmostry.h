@@ -102,8 +102,9 @@
  * function that made the call. It overwrites WIM_STACK bytes below that function's frame, which is
  * more than any call takes. A function further up may call it as well, where the frames in between
  * and the call take no more than WIM_STACK together. Several calls in a row need it once.
- * examples/c/residue.c looks on the stack for every secret, key and intermediate value after each
- * call, in all schemes: it finds some before the scrub and none after it.
+ * examples/c/residue.c looks on the stack for secrets, keys and intermediate values after each
+ * call, in all schemes: it finds many before the scrub and none after it, and what the
+ * call used is then zero but for less than 64 bytes next to the caller's frame.
  *
  *
  * SECRETS AND TIME

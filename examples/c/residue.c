@@ -6,6 +6,10 @@
  * entries in a row, as 8, 16, 32 or 64 bits, as they are, modulo q and as the residue nearest to
  * 0, and in Frodo by rows and by columns. Without the scrub it finds some, which shows that the
  * search can find; with it it must find none. `residue all` tells each that it finds.
+ *
+ * Not every inner value has a name that can be searched for. So after the scrub the touched stack
+ * must besides be zero as a whole, but for NEAREST bytes next to the caller's frame, where the
+ * caller's own registers and the scrub's return address stand.
  */
 #define _POSIX_C_SOURCE 200809L
 
@@ -19,6 +23,7 @@
 
 #define SIZE ((size_t)1 << 20)
 #define PATTERN 0xA5
+#define NEAREST 64
 
 static struct lent lent;
 static struct inner inner;
@@ -127,6 +132,7 @@ static int stands(size_t count, size_t width, size_t run, size_t from, size_t de
 
 static int found, tells;
 static size_t from; /* below it nothing was touched */
+static size_t far;  /* the farthest after any call */
 
 /* One list in each form and width. */
 static void look(const char *name, const int64_t *values, size_t count, size_t run, size_t depth)
@@ -237,6 +243,16 @@ static void look_for_all(size_t depth)
     }
 }
 
+/* How far from the caller's frame the last byte lies that the scrub left other than zero. */
+static size_t farthest(size_t depth)
+{
+    size_t at = from;
+
+    while (at < depth && left[at] == 0)
+        at++;
+    return depth - at;
+}
+
 /* Finds what there is after each call in each scheme; -1 where a call could not be made. */
 static int count_all(uint8_t *stack)
 {
@@ -258,6 +274,8 @@ static int count_all(uint8_t *stack)
             for (from = 0; from < depth && left[from] == PATTERN;)
                 from++;
             look_for_all(depth);
+            if (scrubs && farthest(depth) > far)
+                far = farthest(depth);
         }
     }
     return found;
@@ -274,7 +292,9 @@ int main(int argc, char **argv)
     before = count_all(stack);
     scrubs = 1;
     after = count_all(stack);
-    printf("secret lists on the stack: %d before wim_scrub, %d after it\n", before, after);
+    printf("secret lists on the stack: %d before wim_scrub, %d after it, and zeros but for the "
+           "nearest %zu bytes\n",
+           before, after, far);
     free(stack);
-    return before > 0 && after == 0 ? EXIT_SUCCESS : EXIT_FAILURE;
+    return before > 0 && after == 0 && far <= NEAREST ? EXIT_SUCCESS : EXIT_FAILURE;
 }
