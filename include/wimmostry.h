@@ -1,74 +1,121 @@
 /*
  * Wimmostry: key exchange by BCNS, NewHope and Frodo, for two boxes that agree on a fresh key.
  *
- * The library does the arithmetic of one exchange and of its two messages. It is written in Rattle, and every function in it is proved to meet its contract:
- * for all inputs whatsoever each call below ends, touches no memory but what it is lent, and gives exactly what this file says.
+ * The library does the arithmetic of one exchange and of its two messages. It is written in
+ * Rattle, and every call below is proved to meet its contract: for all inputs whatsoever it ends,
+ * touches no memory but what it is lent, and gives exactly what this file says. Three small
+ * functions beside the calls are plain C: wim_scrub, wim_version and wim_refusal_text.
  *
- *     the initiator                                  the replier
- *     wim_offer   a, s, e, seed  ->  opening   --->
- *                                              <---  wim_reply   opening, a, s', e', e'', coins  ->  reply, key
- *     wim_finish  reply, s       ->  key
+ *     the initiator                             the replier
+ *     wim_offer   a, s, e, seed -> opening  -->
+ *                                           <-- wim_reply   opening, a, s', e', e'', coins
+ *                                                             -> reply, key
+ *     wim_finish  reply, s      -> key
  *
- * Both know the public numbers a; where a comes from is between them (NewHope's: wim_expand on a stream made from the seed). The seed travels in the opening
- * and is not read. s, e, s', e' and e'' are secrets, drawn afresh for each exchange; wim_noise makes them from random bytes, except in BCNS, whose noise is
- * lent ready. In names s1, e1 and e2 stand for s', e' and e''.
+ * Both know the public numbers a; where a comes from is between them (NewHope's: wim_expand on a
+ * stream made from the seed). The seed travels in the opening and is not read. s, e, s', e' and
+ * e'' are secrets, drawn afresh for each exchange; wim_noise makes them from random bytes, except
+ * in BCNS, whose noise is lent ready. In names s1, e1 and e2 stand for s', e' and e''.
  *
  *
  * LINKING
  *
- * On x86-64 `rt staticlib wimmostry` writes target/staticlib/libwimmostry.a; on Arm `./native wimmostry` writes target/native/libwimmostry.a. The archive
- * needs memcpy and memset and nothing else. It has no state, takes no memory from a heap and starts nothing, so that any number of threads may call at once.
+ * `./native wimmostry` writes target/native/libwimmostry.a for the machine at hand, x86-64 or Arm,
+ * and `./install` puts header and archive where
+ *
+ *     cc yours.c $(pkg-config --cflags --libs wimmostry)
+ *
+ * finds them. The archive needs memcpy and memset and nothing else. It has no state, takes no
+ * memory from a heap and starts nothing, so that any number of threads may call at once.
  *
  *
  * RETURN VALUE, PLACE AND COUNTS
  *
- * A call returns 0, or the number of its refusal:
+ * A call returns 0, or the number of its refusal; wim_refusal_text has the sentence:
  *
- *     WIM_NO_SCHEME      1   the scheme is not 0 to 5 (wim_noise: not 1 to 5)                               place 0
- *     WIM_LENGTH         2   an input's length is not the fixed one (wim_expand: over WIM_EXPAND_STREAM)    place 0
- *     WIM_ROOM           3   an output buffer is shorter than the answer                                    place 0
- *     WIM_PUBLIC_OVER    4   a lent public number is q or more                                              place: index of the first
- *     WIM_MESSAGE_OVER   5   a number of the message is q or more (never in Frodo)                          place: index of the first
- *     WIM_SECRET_BEYOND  6   a secret or noise value lies beyond the largest noise, above it or below       place: index of the first
- *     WIM_RAN_OUT        7   wim_expand: the stream held fewer than 1,024 numbers                           place: how many it held
+ *     WIM_NO_SCHEME      1   the scheme is not 0 to 5 (wim_noise: not 1 to 5)
+ *     WIM_LENGTH         2   an input's length is not the fixed one (wim_expand: over 65536)
+ *     WIM_ROOM           3   an output buffer is shorter than the answer
+ *     WIM_PUBLIC_OVER    4   a lent public number is q or more
+ *     WIM_MESSAGE_OVER   5   a number of the message is q or more
+ *     WIM_SECRET_BEYOND  6   a secret or noise value lies beyond the largest noise
+ *     WIM_RAN_OUT        7   the stream held fewer than 1024 numbers
  *
- * The tests go in the order of these numbers, and within one number in the order in which the inputs stand in the call; the first that fails is the refusal.
- * An index counts entries from 0 in its own input; in a message, the numbers of its packed part. *place is 0 after a success.
+ * 5 never arises in Frodo, 6 is for values above the largest noise or below its negative, and 7 is
+ * wim_expand's alone. *place is the index of the first bad entry after 4, 5 and 6, how many
+ * numbers the stream held after 7, and 0 after 1, 2, 3 and a success.
  *
- * After a success the answer stands at the start of its output, its length, in entries of that output, in *written, and the rest of the output is zero. An
- * output may be longer than the answer. After a refusal each output is zero from end to end, whatever it held, and each count is 0.
+ * The tests go in the order of these numbers, and within one number in the order in which the
+ * inputs stand in the call; the first that fails is the refusal. An index counts entries from 0 in
+ * its own input; in a message, the numbers of its packed part.
+ *
+ * After a success the answer stands at the start of its output, its length, in entries of that
+ * output, in *written, and the rest of the output is zero. An output may be longer than the
+ * answer. After a refusal each output is zero from end to end, whatever it held, and each count
+ * is 0.
  *
  *
  * WHAT A CALLER MUST SEE TO
  *
- * - Each pointer is valid for its length, aligned for its type and not null, even where the length is 0. place and the counts each point to one number. A
- *   length counts entries, not bytes.
- * - No output, place or count shares memory with another argument. Inputs may share memory with each other.
+ * - Each pointer is valid for its length and aligned for its type. Where the length is 0 it may be
+ *   null, as an empty vector's may be; this is tested for every slice (examples/c/empty.c). place
+ *   and the counts each point to one number. A length counts entries, not bytes.
+ * - No output, place or count shares memory with another argument. Inputs may share memory with
+ *   each other.
  * - No other thread writes to what is lent, or touches an output, during a call.
- * - There is stack for the call: WIM_STACK bytes are enough.
+ * - There is stack for the call: WIM_STACK bytes are enough, and for wim_scrub WIM_SCRUB_STACK.
  *
  * And beyond the memory:
  *
- * - Fresh secrets, noise and coins for every exchange, from a good random generator, and never used again: a peer can find out a secret that is used twice. s
- *   is kept for wim_finish and then destroyed.
- * - Who the peer is. The library knows nothing of certificates. Whoever can change messages on the way can sit between the two boxes, unless the messages are
- *   signed or bound to the peers in some other way.
- * - Key confirmation. The two keys agree unless the noise was uncommonly large, or a message was changed on the way into another that no test refuses. Only
- *   tags made with the key show that they do. Compare tags in constant time; on a mismatch drop the keys and start again with fresh secrets.
+ * - Fresh secrets, noise and coins for every exchange, from a good random generator, and never
+ *   used again: a peer can find out a secret that is used twice. s is kept for wim_finish and then
+ *   destroyed.
+ * - Who the peer is. The library knows nothing of certificates. Whoever can change messages on the
+ *   way can sit between the two boxes, unless the messages are signed or bound to the peers in
+ *   some other way.
+ * - Key confirmation. The two keys agree unless the noise was uncommonly large, or a message was
+ *   changed on the way into another that no test refuses. Differing public numbers, and another s
+ *   at wim_finish, also end in different keys. Only tags made with the key show that the keys
+ *   agree. Compare tags in constant time; on a mismatch drop the keys and start again with fresh
+ *   secrets.
  * - The keys are raw. Hash them, together with both messages, before use.
- * - Wiping. A refused call leaves nothing in its outputs. But parts of secrets and keys stay behind on the stack below the caller's frame, as after any
- *   function, and the caller's own buffers are the caller's to wipe.
- * - Time. Nothing is promised about how long a call takes, nor that its time does not depend on secrets.
+ * - Wiping. A refused call leaves nothing in its outputs. But parts of secrets and keys stay
+ *   behind on the stack below the caller's frame, as after any function, until wim_scrub
+ *   overwrites them; and the caller's own buffers are the caller's to wipe.
+ * - Time. Nothing is promised about how long a call takes, nor that its time does not depend on
+ *   secrets; SECRETS AND TIME below has what was measured.
  *
  *
  * STACK
  *
- * What a call takes below its caller's frame at most, over all schemes, on Arm and on x86-64 alike, in KiB rounded up:
+ * What a call takes below its caller's frame at most, over all schemes, on Arm and on x86-64
+ * alike, in KiB rounded up:
  *
- *     wim_offer 54    wim_reply 90    wim_finish 80    wim_noise 2    wim_expand 2    wim_bench 124
+ *     wim_offer 54    wim_reply 90    wim_finish 80
+ *     wim_noise 2     wim_expand 2    wim_bench 124
  *
- * Measured by filling a thread's stack with a pattern and looking, after an accepted call in each scheme, how deep the pattern is gone (examples/c/stack.c,
- * which examples/c/run runs). All local arrays have fixed sizes, so that no input makes it more.
+ * Measured by filling a thread's stack with a pattern and looking, after an accepted call in each
+ * scheme, how deep the pattern is gone (examples/c/stack.c, which examples/c/run runs). All local
+ * arrays have fixed sizes, so that no input makes it more.
+ *
+ * Call wim_scrub after every call that had secrets or a key, on the same thread and from the
+ * function that made the call. It overwrites WIM_STACK bytes below that function's frame, which is
+ * more than any call takes. A function further up may call it as well, where the frames in between
+ * and the call take no more than WIM_STACK together. Several calls in a row need it once.
+ * examples/c/residue.c looks on the stack for secrets, keys and intermediate values after each
+ * call, in all schemes: it finds many before the scrub and none after it, and what the
+ * call used is then zero but for less than 64 bytes next to the caller's frame.
+ *
+ *
+ * SECRETS AND TIME
+ *
+ * Measured and not proved: on accepted input no address depends on a secret, and the branches that
+ * do are the verdicts of the range tests (refusal 6), one an input: 2 in wim_offer, 3 in wim_reply,
+ * 1 in wim_finish, none in wim_noise. wim_bench has those of its parts, and branches on the numbers
+ * of the messages and on the keys, which it compares. A refused secret is searched value by value
+ * for its place. Nothing is divided but 2^32 - 1 by q. So it is in the archive for x86-64, by
+ * valgrind with the secrets marked as undefined, in all schemes (runs/secrets); another compiler
+ * may do otherwise, and what the processor makes of it is not measured.
  */
 #ifndef WIMMOSTRY_H
 #define WIMMOSTRY_H
@@ -78,6 +125,19 @@
 
 #ifdef __cplusplus
 extern "C" {
+#endif
+
+/* The version of header and archive; wim_version tells the archive's. */
+#define WIM_VERSION_MAJOR 0
+#define WIM_VERSION_MINOR 1
+#define WIM_VERSION_PATCH 0
+#define WIM_VERSION "0.1.0"
+
+/* A refusal that nobody looks at is a mistake: the compiler warns where it can. */
+#if defined(__GNUC__)
+#define WIM_MUST_USE __attribute__((warn_unused_result))
+#else
+#define WIM_MUST_USE
 #endif
 
 /* The schemes. */
@@ -102,9 +162,10 @@ extern "C" {
  * The fixed numbers of each scheme, here X:
  *
  *     WIM_X_Q        public numbers and the numbers of a message are below it
- *     WIM_X_NOISE    the largest noise: secrets and noise values lie from -WIM_X_NOISE to WIM_X_NOISE
+ *     WIM_X_NOISE    the largest noise: secrets and noise lie from -WIM_X_NOISE to WIM_X_NOISE
  *     WIM_X_A        entries of a; in Frodo the rows of A, n by n, one after another
- *     WIM_X_S        entries of s, e, s' and e' each; in Frodo s and e are n by 8, s' and e' 8 by n, row after row
+ *     WIM_X_S        entries of s, e, s' and e' each; in Frodo s and e are n by 8, s' and e' 8 by
+ *                    n, row after row
  *     WIM_X_E2       entries of e''; in Frodo 8 by 8
  *     WIM_X_SEED     bytes of the seed
  *     WIM_X_COINS    bytes of the coins
@@ -209,48 +270,88 @@ extern "C" {
 #define WIM_EXPAND_NUMBERS 1024
 #define WIM_EXPAND_STREAM 65536
 
-/* Bytes of stack that are enough for any call on either machine. */
+/* Bytes of stack that are enough for any call on either machine, and for wim_scrub. */
 #define WIM_STACK 163840
+#define WIM_SCRUB_STACK 164864
 
 /*
- * Offer: scheme, public a, secret s, noise e, seed. Gives the opening message: as + e in packed bytes, and the seed (first in Frodo, last in NewHope).
- * Refuses with 1, 2, 3, 4, 6.
+ * Offer: scheme, public a, secret s, noise e, seed. Gives the opening message: as + e in packed
+ * bytes, and the seed (first in Frodo, last in NewHope). Refuses with 1, 2, 3, 4, 6.
  */
-uint32_t wim_offer(uint32_t scheme, const uint32_t *a, size_t a_len, const int32_t *s, size_t s_len, const int32_t *e, size_t e_len, const uint8_t *seed,
-                   size_t seed_len, uint8_t *message, size_t message_len, uint64_t *place, uint64_t *written);
+WIM_MUST_USE uint32_t wim_offer(uint32_t scheme, const uint32_t *a, size_t a_len,
+                                const int32_t *s, size_t s_len, const int32_t *e, size_t e_len,
+                                const uint8_t *seed, size_t seed_len,
+                                uint8_t *message, size_t message_len,
+                                uint64_t *place, uint64_t *written);
 
 /*
- * Reply: scheme, opening message, public a, s', e', e'', coins. Gives the reply message (as' + e' in packed bytes, then the hints of bs' + e'') and the
- * replier's key. Refuses with 1, 2, 3, 4, 5, 6; of 3, the message's room is tested first.
+ * Reply: scheme, opening message, public a, s', e', e'', coins. Gives the reply message (as' + e'
+ * in packed bytes, then the hints of bs' + e'') and the replier's key. Refuses with 1, 2, 3, 4, 5,
+ * 6; of 3, the message's room is tested first.
  */
-uint32_t wim_reply(uint32_t scheme, const uint8_t *opening, size_t opening_len, const uint32_t *a, size_t a_len, const int32_t *s1, size_t s1_len,
-                   const int32_t *e1, size_t e1_len, const int32_t *e2, size_t e2_len, const uint8_t *coins, size_t coins_len, uint8_t *message,
-                   size_t message_len, uint8_t *key, size_t key_len, uint64_t *place, uint64_t *message_written, uint64_t *key_written);
-
-/* Finish: scheme, reply message, secret s. Gives the initiator's key. Refuses with 1, 2, 3, 5, 6. */
-uint32_t wim_finish(uint32_t scheme, const uint8_t *reply, size_t reply_len, const int32_t *s, size_t s_len, uint8_t *key, size_t key_len, uint64_t *place,
-                    uint64_t *written);
-
-/*
- * Noise: scheme, random bytes. Gives WIM_X_S values from WIM_X_S_BYTES bytes, WIM_X_E2 values from WIM_X_E2_BYTES; no other length is taken. Refuses with 1
- * (in BCNS too), 2, 3.
- */
-uint32_t wim_noise(uint32_t scheme, const uint8_t *bytes, size_t bytes_len, int32_t *out, size_t out_len, uint64_t *place, uint64_t *written);
+WIM_MUST_USE uint32_t wim_reply(uint32_t scheme, const uint8_t *opening, size_t opening_len,
+                                const uint32_t *a, size_t a_len,
+                                const int32_t *s1, size_t s1_len,
+                                const int32_t *e1, size_t e1_len,
+                                const int32_t *e2, size_t e2_len,
+                                const uint8_t *coins, size_t coins_len,
+                                uint8_t *message, size_t message_len,
+                                uint8_t *key, size_t key_len,
+                                uint64_t *place, uint64_t *message_written,
+                                uint64_t *key_written);
 
 /*
- * Expand: a stream of bytes, read as 16-bit words, the lower byte first; the low 14 bits of a word are taken if they are below 12289. Gives the first 1,024
- * numbers taken, public numbers for NewHope. Refuses with 2, 3, 7.
+ * Finish: scheme, reply message, secret s. Gives the initiator's key. Refuses with 1, 2, 3, 5, 6.
  */
-uint32_t wim_expand(const uint8_t *stream, size_t stream_len, uint32_t *out, size_t out_len, uint64_t *place, uint64_t *written);
+WIM_MUST_USE uint32_t wim_finish(uint32_t scheme, const uint8_t *reply, size_t reply_len,
+                                 const int32_t *s, size_t s_len, uint8_t *key, size_t key_len,
+                                 uint64_t *place, uint64_t *written);
 
 /*
- * Bench: both ends on lent secrets, the initiator's s, e and seed and the replier's s', e', e'' and coins. *differ is 0 where the two keys agree, and else 1
- * + the first differing bit, counted lowest first through the bytes. Messages and keys stay inside, so that there is no output. Refuses with 1, 2, 4, 6: all
- * of Offer's tests come first, then Reply's. After a refusal *differ is 0.
+ * Noise: scheme, random bytes. Gives WIM_X_S values from WIM_X_S_BYTES bytes, WIM_X_E2 values from
+ * WIM_X_E2_BYTES; no other length is taken. Refuses with 1 (in BCNS too), 2, 3.
  */
-uint32_t wim_bench(uint32_t scheme, const uint32_t *a, size_t a_len, const int32_t *s, size_t s_len, const int32_t *e, size_t e_len, const uint8_t *seed,
-                   size_t seed_len, const int32_t *s1, size_t s1_len, const int32_t *e1, size_t e1_len, const int32_t *e2, size_t e2_len, const uint8_t *coins,
-                   size_t coins_len, uint64_t *place, uint64_t *differ);
+WIM_MUST_USE uint32_t wim_noise(uint32_t scheme, const uint8_t *bytes, size_t bytes_len,
+                                int32_t *out, size_t out_len, uint64_t *place, uint64_t *written);
+
+/*
+ * Expand: a stream of bytes, read as 16-bit words, the lower byte first; the low 14 bits of a word
+ * are taken if they are below 12289. Gives the first 1,024 numbers taken, public numbers for
+ * NewHope. Refuses with 2, 3, 7.
+ */
+WIM_MUST_USE uint32_t wim_expand(const uint8_t *stream, size_t stream_len,
+                                 uint32_t *out, size_t out_len,
+                                 uint64_t *place, uint64_t *written);
+
+/*
+ * Bench: both ends on lent secrets, the initiator's s, e and seed and the replier's s', e', e''
+ * and coins. *differ is 0 where the two keys agree, and else 1 + the first differing bit, counted
+ * lowest first through the bytes. Messages and keys stay inside, so that there is no output.
+ * Refuses with 1, 2, 4, 6: all of Offer's tests come first, then Reply's. After a refusal *differ
+ * is 0.
+ */
+WIM_MUST_USE uint32_t wim_bench(uint32_t scheme, const uint32_t *a, size_t a_len,
+                                const int32_t *s, size_t s_len, const int32_t *e, size_t e_len,
+                                const uint8_t *seed, size_t seed_len,
+                                const int32_t *s1, size_t s1_len,
+                                const int32_t *e1, size_t e1_len,
+                                const int32_t *e2, size_t e2_len,
+                                const uint8_t *coins, size_t coins_len,
+                                uint64_t *place, uint64_t *differ);
+
+/*
+ * Overwrites what a call may have left on the stack below the caller's frame; see STACK above. The
+ * registers of the processor's base set that a function may change are zeroed too, where the
+ * compiler that built the archive can do that (GCC 11, clang 15); what memcpy leaves in wider ones
+ * stays.
+ */
+void wim_scrub(void);
+
+/* The archive's version, WIM_VERSION of the header that it was built with. */
+const char *wim_version(void);
+
+/* A sentence for a return value, "done" for 0 and "unknown refusal" for numbers beyond 7. */
+const char *wim_refusal_text(uint32_t refusal);
 
 #ifdef __cplusplus
 }

@@ -1,22 +1,25 @@
-//! Links the archive for the machine at hand: of `rt staticlib wimmostry` on
-//! x86-64, of `./native wimmostry` on Arm.
+//! Links the archive: of the folder that WIMMOSTRY_LIB_DIR names, as where it is
+//! installed, or else the one that `./native wimmostry` writes.
 
-use std::path::Path;
+use std::path::{Path, PathBuf};
+use std::process::exit;
 
 fn main() {
-    let root = std::env::var("CARGO_MANIFEST_DIR").expect("cargo sets it");
-    let machine = std::env::var("CARGO_CFG_TARGET_ARCH").expect("cargo sets it");
-    let folder = if machine == "x86_64" {
-        format!("{root}/../target/staticlib")
-    } else {
-        format!("{root}/../target/native")
+    println!("cargo:rerun-if-env-changed=WIMMOSTRY_LIB_DIR");
+    println!("cargo:rustc-check-cfg=cfg(wimmostry_unscrubbed)");
+    let root = std::env::var_os("CARGO_MANIFEST_DIR").expect("cargo sets it");
+    let folder = match std::env::var_os("WIMMOSTRY_LIB_DIR") {
+        Some(folder) => PathBuf::from(folder),
+        None => Path::new(&root).join("../target/native"),
     };
-    let archive = format!("{folder}/libwimmostry.a");
-    assert!(
-        Path::new(&archive).exists(),
-        "{archive} is missing: run ./native wimmostry at the root of the repository"
-    );
-    println!("cargo:rustc-link-search=native={folder}");
+    let archive = folder.join("libwimmostry.a");
+    if !archive.exists() {
+        eprintln!("wimmostry: there is no archive {}.", archive.display());
+        eprintln!("Run ./native wimmostry at the root of the repository, or set WIMMOSTRY_LIB_DIR");
+        eprintln!("to the folder of an installed one (./install PREFIX puts it into PREFIX/lib).");
+        exit(1);
+    }
+    println!("cargo:rustc-link-search=native={}", folder.display());
     println!("cargo:rustc-link-lib=static=wimmostry");
-    println!("cargo:rerun-if-changed={archive}");
+    println!("cargo:rerun-if-changed={}", archive.display());
 }

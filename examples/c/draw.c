@@ -14,7 +14,8 @@ void draw_bytes(uint64_t *state, uint8_t *out, size_t count)
         out[i] = draw_byte(state);
 }
 
-uint32_t draw_secrets(uint64_t *state, const struct scheme *scheme, int32_t *out, size_t count, size_t bytes)
+uint32_t draw_secrets(uint64_t *state, const struct scheme *scheme, int32_t *out, size_t count,
+                      size_t bytes)
 {
     uint8_t random[WIM_MAX_S_BYTES];
     uint64_t place, written;

@@ -1,5 +1,6 @@
 /*
- * What the boxes draw, for the examples alone: fixed bytes stand in for the system's generator, and one stream for how two boxes come to the same a.
+ * What the boxes draw, for the examples alone: fixed bytes stand in for the system's generator, and
+ * one stream for how two boxes come to the same a.
  */
 #ifndef DRAW_H
 #define DRAW_H
@@ -11,8 +12,10 @@ uint8_t draw_byte(uint64_t *state);
 
 void draw_bytes(uint64_t *state, uint8_t *out, size_t count);
 
-/* s, e, s' or e', or e'': count values, from as many random bytes as wim_noise takes; BCNS's noise is lent ready, here -2 to 2. 0 or the refusal. */
-uint32_t draw_secrets(uint64_t *state, const struct scheme *scheme, int32_t *out, size_t count, size_t bytes);
+/* s, e, s' or e', or e'': count values, from as many random bytes as wim_noise takes; BCNS's noise
+ * is lent ready, here -2 to 2. 0 or the refusal. */
+uint32_t draw_secrets(uint64_t *state, const struct scheme *scheme, int32_t *out, size_t count,
+                      size_t bytes);
 
 /* The public numbers: NewHope's by wim_expand. 0 or the refusal. */
 uint32_t draw_public(const struct scheme *scheme, uint32_t *a);

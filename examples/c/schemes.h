@@ -10,10 +10,11 @@ struct scheme {
     size_t a, s, e2, seed, coins, opening, reply, key, s_bytes, e2_bytes;
 };
 
-#define SCHEME(NAME, X)                                                                                                                                    \
-    {                                                                                                                                                      \
-        NAME, WIM_##X, WIM_##X##_Q, WIM_##X##_A, WIM_##X##_S, WIM_##X##_E2, WIM_##X##_SEED, WIM_##X##_COINS, WIM_##X##_OPENING, WIM_##X##_REPLY,           \
-            WIM_##X##_KEY, WIM_##X##_S_BYTES, WIM_##X##_E2_BYTES                                                                                           \
+#define SCHEME(NAME, X)                                                                          \
+    {                                                                                            \
+        NAME, WIM_##X, WIM_##X##_Q, WIM_##X##_A, WIM_##X##_S, WIM_##X##_E2, WIM_##X##_SEED,      \
+            WIM_##X##_COINS, WIM_##X##_OPENING, WIM_##X##_REPLY, WIM_##X##_KEY,                  \
+            WIM_##X##_S_BYTES, WIM_##X##_E2_BYTES                                                \
     }
 
 static const struct scheme schemes[6] = {

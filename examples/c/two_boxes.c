@@ -1,8 +1,9 @@
 /*
  * Two boxes agree on a key over a pair of sockets, a thread a box, in every scheme.
  *
- * It shows the calls and nothing else. A real box draws its bytes from the system's generator, knows who its peer is, hashes the raw key with both messages,
- * confirms it by tags, where this one compares keys in the open, and wipes its secrets.
+ * It shows the calls and nothing else. A real box draws its bytes from the system's generator,
+ * knows who its peer is, hashes the raw key with both messages, confirms it by tags, where this one
+ * compares keys in the open, and wipes its buffers.
  */
 #define _POSIX_C_SOURCE 200809L
 
@@ -47,25 +48,31 @@ static int receive_all(int line, uint8_t *bytes, size_t count)
     return 1;
 }
 
-/* Each end says what failed, or nothing. */
+/* Each end says what failed, or nothing. It scrubs the stack after each call that had secrets. */
 static const char *initiate(struct box *box)
 {
     const struct scheme *x = box->scheme;
     uint64_t state = 1, place, written;
     int32_t s[WIM_MAX_S], e[WIM_MAX_S];
     uint8_t seed[WIM_MAX_SEED], opening[WIM_MAX_OPENING], reply[WIM_MAX_REPLY];
+    uint32_t refusal;
 
-    if (draw_public(x, box->a) != WIM_DONE || draw_secrets(&state, x, s, x->s, x->s_bytes) != WIM_DONE ||
+    if (draw_public(x, box->a) != WIM_DONE ||
+        draw_secrets(&state, x, s, x->s, x->s_bytes) != WIM_DONE ||
         draw_secrets(&state, x, e, x->s, x->s_bytes) != WIM_DONE)
         return "the initiator's draws";
     draw_bytes(&state, seed, x->seed);
-    if (wim_offer(x->number, box->a, x->a, s, x->s, e, x->s, seed, x->seed, opening, sizeof opening, &place, &written) != WIM_DONE)
-        return "wim_offer";
+    refusal = wim_offer(x->number, box->a, x->a, s, x->s, e, x->s, seed, x->seed, opening,
+                        sizeof opening, &place, &written);
+    wim_scrub();
+    if (refusal != WIM_DONE)
+        return wim_refusal_text(refusal);
     if (!send_all(box->line, opening, written) || !receive_all(box->line, reply, x->reply))
         return "the initiator's line";
-    if (wim_finish(x->number, reply, x->reply, s, x->s, box->key, sizeof box->key, &place, &written) != WIM_DONE)
-        return "wim_finish";
-    return NULL;
+    refusal = wim_finish(x->number, reply, x->reply, s, x->s, box->key, sizeof box->key, &place,
+                         &written);
+    wim_scrub();
+    return refusal == WIM_DONE ? NULL : wim_refusal_text(refusal);
 }
 
 static const char *answer(struct box *box)
@@ -74,19 +81,23 @@ static const char *answer(struct box *box)
     uint64_t state = 2, place, written, key_written;
     int32_t s1[WIM_MAX_S], e1[WIM_MAX_S], e2[WIM_MAX_E2];
     uint8_t coins[WIM_MAX_COINS], opening[WIM_MAX_OPENING], reply[WIM_MAX_REPLY];
+    uint32_t refusal;
 
-    if (draw_public(x, box->a) != WIM_DONE || draw_secrets(&state, x, s1, x->s, x->s_bytes) != WIM_DONE ||
-        draw_secrets(&state, x, e1, x->s, x->s_bytes) != WIM_DONE || draw_secrets(&state, x, e2, x->e2, x->e2_bytes) != WIM_DONE)
+    if (draw_public(x, box->a) != WIM_DONE ||
+        draw_secrets(&state, x, s1, x->s, x->s_bytes) != WIM_DONE ||
+        draw_secrets(&state, x, e1, x->s, x->s_bytes) != WIM_DONE ||
+        draw_secrets(&state, x, e2, x->e2, x->e2_bytes) != WIM_DONE)
         return "the replier's draws";
     draw_bytes(&state, coins, x->coins);
     if (!receive_all(box->line, opening, x->opening))
         return "the replier's line";
-    if (wim_reply(x->number, opening, x->opening, box->a, x->a, s1, x->s, e1, x->s, e2, x->e2, coins, x->coins, reply, sizeof reply, box->key, sizeof box->key,
-                  &place, &written, &key_written) != WIM_DONE)
-        return "wim_reply";
-    if (!send_all(box->line, reply, written))
-        return "the replier's line";
-    return NULL;
+    refusal = wim_reply(x->number, opening, x->opening, box->a, x->a, s1, x->s, e1, x->s, e2, x->e2,
+                        coins, x->coins, reply, sizeof reply, box->key, sizeof box->key, &place,
+                        &written, &key_written);
+    wim_scrub();
+    if (refusal != WIM_DONE)
+        return wim_refusal_text(refusal);
+    return send_all(box->line, reply, written) ? NULL : "the replier's line";
 }
 
 /* Both ends close their line when they are through, so that the other does not wait for ever. */
@@ -115,7 +126,8 @@ static const char *run(struct box *one, struct box *other)
         return "socketpair";
     one->line = lines[0];
     other->line = lines[1];
-    if (pthread_create(&first, NULL, initiator, one) != 0 || pthread_create(&second, NULL, replier, other) != 0)
+    if (pthread_create(&first, NULL, initiator, one) != 0 ||
+        pthread_create(&second, NULL, replier, other) != 0)
         return "pthread_create";
     pthread_join(first, NULL);
     pthread_join(second, NULL);

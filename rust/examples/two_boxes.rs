@@ -3,13 +3,14 @@
 //!
 //! It shows the calls and nothing else. A real box draws its bytes from the
 //! system's generator, knows who its peer is, hashes the raw key with both
-//! messages, and confirms it by tags, where this one compares keys in the open.
+//! messages, and confirms it by tags, where this one takes the keys out of the
+//! types that would wipe them and compares them in the open.
 
 use std::error::Error;
 use std::io::{Read, Write};
 use std::os::unix::net::UnixStream;
 use std::thread;
-use wimmostry::{expand, finish, noise, offer, reply, Refusal, Scheme, EXPAND_NUMBERS};
+use wimmostry::{expand, Initiator, Refusal, Replier, Scheme, Secret, EXPAND_NUMBERS};
 
 type Outcome = Result<Vec<u8>, Box<dyn Error + Send + Sync>>;
 
@@ -32,16 +33,22 @@ impl Bytes {
         bytes
     }
 
-    /// The values of s, e, s' or e', or those of e'': `count` of them from
-    /// `bytes` bytes. BCNS's noise is lent ready; here it is -2 to 2.
-    fn secrets(&mut self, scheme: Scheme, count: usize, bytes: usize) -> Result<Vec<i32>, Refusal> {
+    /// The values of s, e, s' or e', or those of e'': as many as `room` takes,
+    /// from `bytes` bytes. BCNS's noise is lent ready; here it is -2 to 2.
+    fn secret<'b>(
+        &mut self,
+        scheme: Scheme,
+        bytes: usize,
+        room: &'b mut [i32],
+    ) -> Result<Secret<'b>, Refusal> {
         if scheme == Scheme::Bcns {
-            let small = |byte: &u8| i32::from(byte % 5) - 2;
-            return Ok(self.take(count).iter().map(small).collect());
+            let bytes = self.take(room.len());
+            for (value, byte) in room.iter_mut().zip(bytes) {
+                *value = i32::from(byte % 5) - 2;
+            }
+            return Ok(Secret::new(room));
         }
-        let mut values = vec![0; count];
-        noise(scheme.number(), &self.take(bytes), &mut values)?;
-        Ok(values)
+        Secret::noise(scheme, Secret::new(&mut self.take(bytes)), room)
     }
 }
 
@@ -65,45 +72,38 @@ fn public(scheme: Scheme) -> Result<Vec<u32>, Refusal> {
 fn initiator(scheme: Scheme, mut line: UnixStream) -> Outcome {
     let (sizes, mut bytes) = (scheme.sizes(), Bytes(1));
     let a = public(scheme)?;
-    let s = bytes.secrets(scheme, sizes.s, sizes.s_bytes)?;
-    let e = bytes.secrets(scheme, sizes.s, sizes.s_bytes)?;
+    let (mut s, mut e) = (vec![0; sizes.s], vec![0; sizes.s]);
+    let s = bytes.secret(scheme, sizes.s_bytes, &mut s)?;
+    let e = bytes.secret(scheme, sizes.s_bytes, &mut e)?;
     let seed = bytes.take(sizes.seed);
 
     let mut opening = vec![0; sizes.opening];
-    offer(scheme.number(), &a, &s, &e, &seed, &mut opening)?;
-    line.write_all(&opening)?;
+    let offered = Initiator::offer(scheme, &a, s, e, &seed, &mut opening)?;
+    line.write_all(offered.opening)?;
 
-    let mut answer = vec![0; sizes.reply];
-    line.read_exact(&mut answer)?;
+    let mut reply = vec![0; sizes.reply];
+    line.read_exact(&mut reply)?;
     let mut key = vec![0; sizes.key];
-    finish(scheme.number(), &answer, &s, &mut key)?;
-    Ok(key)
+    let finished = offered.initiator.finish(&reply, &mut key)?;
+    Ok(finished.key.bytes().to_vec())
 }
 
 fn replier(scheme: Scheme, mut line: UnixStream) -> Outcome {
     let (sizes, mut bytes) = (scheme.sizes(), Bytes(2));
     let a = public(scheme)?;
-    let s1 = bytes.secrets(scheme, sizes.s, sizes.s_bytes)?;
-    let e1 = bytes.secrets(scheme, sizes.s, sizes.s_bytes)?;
-    let e2 = bytes.secrets(scheme, sizes.e2, sizes.e2_bytes)?;
-    let coins = bytes.take(sizes.coins);
+    let (mut s1, mut e1, mut e2) = (vec![0; sizes.s], vec![0; sizes.s], vec![0; sizes.e2]);
+    let s1 = bytes.secret(scheme, sizes.s_bytes, &mut s1)?;
+    let e1 = bytes.secret(scheme, sizes.s_bytes, &mut e1)?;
+    let e2 = bytes.secret(scheme, sizes.e2_bytes, &mut e2)?;
+    let mut coins = bytes.take(sizes.coins);
+    let replier = Replier::new(scheme, s1, e1, e2, Secret::new(&mut coins));
 
     let mut opening = vec![0; sizes.opening];
     line.read_exact(&mut opening)?;
-    let (mut answer, mut key) = (vec![0; sizes.reply], vec![0; sizes.key]);
-    reply(
-        scheme.number(),
-        &opening,
-        &a,
-        &s1,
-        &e1,
-        &e2,
-        &coins,
-        &mut answer,
-        &mut key,
-    )?;
-    line.write_all(&answer)?;
-    Ok(key)
+    let (mut message, mut key) = (vec![0; sizes.reply], vec![0; sizes.key]);
+    let replied = replier.reply(&opening, &a, &mut message, &mut key)?;
+    line.write_all(replied.message)?;
+    Ok(replied.key.bytes().to_vec())
 }
 
 fn main() -> Result<(), Box<dyn Error + Send + Sync>> {

@@ -3,238 +3,98 @@
 //! Two boxes agree on a fresh key:
 //!
 //! ```text
-//! the initiator                           the replier
-//! offer(a, s, e, seed) -> opening   --->
-//!                                   <---  reply(opening, a, s', e', e'', coins) -> reply, key
-//! finish(reply, s) -> key
+//! the initiator                                the replier
+//! Initiator::offer(a, s, e, seed)   opening -->
+//!                                  <-- reply   Replier::new(s', e', e'', coins).reply(opening, a)
+//! initiator.finish(reply)                      has the key
+//! has the key
 //! ```
 //!
 //! Both know the public numbers a. The secrets s, e, s', e', e'' and the coins
-//! are drawn afresh for each exchange; [`noise`] makes secrets from random
-//! bytes. The example `two_boxes` runs an exchange in every scheme.
+//! are drawn afresh for each exchange; [`Secret::noise`] makes them from random
+//! bytes. A [`Secret`] is a lent buffer that is wiped when its owner is done
+//! with it; each call takes its secrets for good, so that one used twice does
+//! not compile. A [`Key`] is wiped likewise, and neither prints what it holds.
 //!
-//! Each function is one call of the archive, whose every function is proved:
-//! for all inputs it ends with an answer or with one [`Refusal`], given exactly
-//! when its condition holds. After a success an output holds the answer and
-//! zeros behind it, after a refusal zeros from end to end, whatever it held.
+//! ```
+//! use wimmostry::{expand, Initiator, Refusal, Replier, Scheme, Secret};
+//!
+//! # fn main() -> Result<(), Refusal> {
+//! # let mut state = 1u64;
+//! # let mut draw = |bytes: &mut [u8]| for byte in bytes {
+//! #     state = state.wrapping_mul(6364136223846793005).wrapping_add(1442695040888963407);
+//! #     *byte = (state >> 56) as u8;
+//! # };
+//! let scheme = Scheme::NewHope;
+//! let sizes = scheme.sizes();
+//!
+//! // Both make the public numbers from one stream; `draw` fills a buffer with random bytes.
+//! let (mut stream, mut a) = ([0; 4096], [0; 1024]);
+//! draw(&mut stream);
+//! expand(&stream, &mut a)?;
+//!
+//! // The initiator's secrets and its opening.
+//! let (mut bytes, mut s, mut e, mut seed) = ([0; 4096], [0; 1024], [0; 1024], [0; 32]);
+//! draw(&mut bytes);
+//! let s = Secret::noise(scheme, Secret::new(&mut bytes), &mut s)?;
+//! draw(&mut bytes);
+//! let e = Secret::noise(scheme, Secret::new(&mut bytes), &mut e)?;
+//! draw(&mut seed);
+//! let mut room = [0; 1824];
+//! let offered = Initiator::offer(scheme, &a, s, e, &seed, &mut room)?;
+//!
+//! // The replier's secrets, its message and its key.
+//! let (mut s1, mut e1, mut e2, mut coins) = ([0; 1024], [0; 1024], [0; 1024], [0; 32]);
+//! draw(&mut bytes);
+//! let s1 = Secret::noise(scheme, Secret::new(&mut bytes), &mut s1)?;
+//! draw(&mut bytes);
+//! let e1 = Secret::noise(scheme, Secret::new(&mut bytes), &mut e1)?;
+//! draw(&mut bytes);
+//! let e2 = Secret::noise(scheme, Secret::new(&mut bytes), &mut e2)?;
+//! draw(&mut coins);
+//! let replier = Replier::new(scheme, s1, e1, e2, Secret::new(&mut coins));
+//! let (mut message, mut key) = ([0; 2048], [0; 32]);
+//! let replied = replier.reply(offered.opening, &a, &mut message, &mut key)?;
+//!
+//! // The initiator's key, which is the same.
+//! let mut peer_key = [0; 32];
+//! let finished = offered.initiator.finish(replied.message, &mut peer_key)?;
+//! assert_eq!(finished.key.bytes(), replied.key.bytes());
+//! assert_eq!(finished.key.bytes().len(), sizes.key);
+//! # Ok(())
+//! # }
+//! ```
+//!
+//! Below it, [`raw`] has the calls on slices. Either way a call is one of the
+//! archive, whose every call is proved: for all inputs it ends with an answer or
+//! with one [`Refusal`], given exactly when its condition holds.
 //!
 //! What a caller must see to is in `include/wimmostry.h`: fresh secrets, who
-//! the peer is, key confirmation, hashing the raw keys, wiping, and 160 KiB of
-//! stack. That buffers do not overlap and pointers are valid, these functions
-//! see to.
+//! the peer is, key confirmation, hashing the raw keys, and 161 KiB of stack.
+//! That buffers do not overlap and pointers are valid, these functions see to;
+//! and after every call they scrub the stack of what it left there.
+//!
+//! The library needs no `std` and takes no memory from a heap: buffers are lent.
+//! [`Sizes::LARGEST`] has room for every scheme.
+#![no_std]
+#![warn(missing_docs)]
 
-mod raw;
+pub mod raw;
+
+mod exchange;
 mod refusal;
 mod schemes;
+mod secret;
 
+pub use exchange::{Finished, Initiator, Offered, Replied, Replier};
+pub use raw::{expand, scrub};
 pub use refusal::Refusal;
 pub use schemes::{Scheme, Sizes, EXPAND_NUMBERS, EXPAND_STREAM};
+pub use secret::{Entry, Key, Secret};
 
-/// The answer, or the refusal that a number other than 0 names.
-fn told<T>(number: u32, place: u64, answer: T) -> Result<T, Refusal> {
-    match number {
-        0 => Ok(answer),
-        _ => Err(Refusal::told(number, place)),
-    }
-}
-
-/// A count or an index: the archive keeps them in 64 bits.
-fn count(n: u64) -> usize {
-    usize::try_from(n).expect("no more than a slice has")
-}
-
-/// Offer: scheme, public a, secret s, noise e, seed. Gives the opening message
-/// and how many bytes of `message` it takes.
-///
-/// Refuses with 1, 2, 3, 4 and 6.
-pub fn offer(
-    scheme: u32,
-    a: &[u32],
-    s: &[i32],
-    e: &[i32],
-    seed: &[u8],
-    message: &mut [u8],
-) -> Result<usize, Refusal> {
-    let (mut place, mut written) = (0, 0);
-    let number = unsafe {
-        raw::wim_offer(
-            scheme,
-            a.as_ptr(),
-            a.len(),
-            s.as_ptr(),
-            s.len(),
-            e.as_ptr(),
-            e.len(),
-            seed.as_ptr(),
-            seed.len(),
-            message.as_mut_ptr(),
-            message.len(),
-            &mut place,
-            &mut written,
-        )
-    };
-    told(number, place, count(written))
-}
-
-/// Reply: scheme, opening message, public a, s', e', e'', coins. Gives the
-/// reply message and the replier's key, and how many bytes of `message` and of
-/// `key` they take.
-///
-/// Refuses with 1, 2, 3, 4, 5 and 6.
-#[allow(clippy::too_many_arguments)]
-pub fn reply(
-    scheme: u32,
-    opening: &[u8],
-    a: &[u32],
-    s1: &[i32],
-    e1: &[i32],
-    e2: &[i32],
-    coins: &[u8],
-    message: &mut [u8],
-    key: &mut [u8],
-) -> Result<(usize, usize), Refusal> {
-    let (mut place, mut message_written, mut key_written) = (0, 0, 0);
-    let number = unsafe {
-        raw::wim_reply(
-            scheme,
-            opening.as_ptr(),
-            opening.len(),
-            a.as_ptr(),
-            a.len(),
-            s1.as_ptr(),
-            s1.len(),
-            e1.as_ptr(),
-            e1.len(),
-            e2.as_ptr(),
-            e2.len(),
-            coins.as_ptr(),
-            coins.len(),
-            message.as_mut_ptr(),
-            message.len(),
-            key.as_mut_ptr(),
-            key.len(),
-            &mut place,
-            &mut message_written,
-            &mut key_written,
-        )
-    };
-    let written = (count(message_written), count(key_written));
-    told(number, place, written)
-}
-
-/// Finish: scheme, reply message, secret s. Gives the initiator's key and how
-/// many bytes of `key` it takes.
-///
-/// Refuses with 1, 2, 3, 5 and 6.
-pub fn finish(scheme: u32, reply: &[u8], s: &[i32], key: &mut [u8]) -> Result<usize, Refusal> {
-    let (mut place, mut written) = (0, 0);
-    let number = unsafe {
-        raw::wim_finish(
-            scheme,
-            reply.as_ptr(),
-            reply.len(),
-            s.as_ptr(),
-            s.len(),
-            key.as_mut_ptr(),
-            key.len(),
-            &mut place,
-            &mut written,
-        )
-    };
-    told(number, place, count(written))
-}
-
-/// Noise: scheme, random bytes. Gives as many values as the bytes make, which
-/// are those of s, e, s' or e' ([`Sizes::s_bytes`]) or those of e''
-/// ([`Sizes::e2_bytes`]).
-///
-/// Refuses with 1 (BCNS too, whose noise is lent ready), 2 and 3.
-pub fn noise(scheme: u32, bytes: &[u8], out: &mut [i32]) -> Result<usize, Refusal> {
-    let (mut place, mut written) = (0, 0);
-    let number = unsafe {
-        raw::wim_noise(
-            scheme,
-            bytes.as_ptr(),
-            bytes.len(),
-            out.as_mut_ptr(),
-            out.len(),
-            &mut place,
-            &mut written,
-        )
-    };
-    told(number, place, count(written))
-}
-
-/// Expand: a stream of bytes. Gives the first 1,024 numbers below 12289 in the
-/// low 14 bits of its 16-bit words, the lower byte first: NewHope's a.
-///
-/// Refuses with 2, 3 and 7.
-pub fn expand(stream: &[u8], out: &mut [u32]) -> Result<usize, Refusal> {
-    let (mut place, mut written) = (0, 0);
-    let number = unsafe {
-        raw::wim_expand(
-            stream.as_ptr(),
-            stream.len(),
-            out.as_mut_ptr(),
-            out.len(),
-            &mut place,
-            &mut written,
-        )
-    };
-    told(number, place, count(written))
-}
-
-/// What [`bench()`] finds of the two keys.
-#[derive(Clone, Copy, Debug, PartialEq, Eq, Hash)]
-pub enum Bench {
-    Agree,
-    /// The first differing bit, counted lowest first through the bytes.
-    Differ(usize),
-}
-
-/// Bench: both ends on lent secrets, the initiator's s, e and seed and the
-/// replier's s', e', e'' and coins. Messages and keys stay inside.
-///
-/// Refuses with 1, 2, 4 and 6; all of Offer's tests come first, then Reply's.
-#[allow(clippy::too_many_arguments)]
-pub fn bench(
-    scheme: u32,
-    a: &[u32],
-    s: &[i32],
-    e: &[i32],
-    seed: &[u8],
-    s1: &[i32],
-    e1: &[i32],
-    e2: &[i32],
-    coins: &[u8],
-) -> Result<Bench, Refusal> {
-    let (mut place, mut differ) = (0, 0);
-    let number = unsafe {
-        raw::wim_bench(
-            scheme,
-            a.as_ptr(),
-            a.len(),
-            s.as_ptr(),
-            s.len(),
-            e.as_ptr(),
-            e.len(),
-            seed.as_ptr(),
-            seed.len(),
-            s1.as_ptr(),
-            s1.len(),
-            e1.as_ptr(),
-            e1.len(),
-            e2.as_ptr(),
-            e2.len(),
-            coins.as_ptr(),
-            coins.len(),
-            &mut place,
-            &mut differ,
-        )
-    };
-    let found = match count(differ) {
-        0 => Bench::Agree,
-        bit => Bench::Differ(bit - 1),
-    };
-    told(number, place, found)
+/// The version of the archive that is linked.
+pub fn version() -> &'static str {
+    // SAFETY: it takes nothing and gives a constant text that ends with a zero.
+    let text = unsafe { core::ffi::CStr::from_ptr(raw::ffi::wim_version()) };
+    text.to_str().expect("digits and dots")
 }

@@ -1,90 +1,272 @@
-//! The archive's functions, as `include/wimmostry.h` has them.
+//! The calls on slices, as they stand in the header: a scheme is a number, every
+//! length is the caller's to get right, and secrets are the caller's to wipe.
+//!
+//! Each function is one call of the archive and scrubs the stack after it. For
+//! all inputs it ends with an answer or with one [`Refusal`]. After a success an
+//! output holds the answer and zeros behind it, after a refusal zeros from end
+//! to end, whatever it held.
 
-extern "C" {
-    pub fn wim_offer(
-        scheme: u32,
-        a: *const u32,
-        a_len: usize,
-        s: *const i32,
-        s_len: usize,
-        e: *const i32,
-        e_len: usize,
-        seed: *const u8,
-        seed_len: usize,
-        message: *mut u8,
-        message_len: usize,
-        place: *mut u64,
-        written: *mut u64,
-    ) -> u32;
-    pub fn wim_reply(
-        scheme: u32,
-        opening: *const u8,
-        opening_len: usize,
-        a: *const u32,
-        a_len: usize,
-        s1: *const i32,
-        s1_len: usize,
-        e1: *const i32,
-        e1_len: usize,
-        e2: *const i32,
-        e2_len: usize,
-        coins: *const u8,
-        coins_len: usize,
-        message: *mut u8,
-        message_len: usize,
-        key: *mut u8,
-        key_len: usize,
-        place: *mut u64,
-        message_written: *mut u64,
-        key_written: *mut u64,
-    ) -> u32;
-    pub fn wim_finish(
-        scheme: u32,
-        reply: *const u8,
-        reply_len: usize,
-        s: *const i32,
-        s_len: usize,
-        key: *mut u8,
-        key_len: usize,
-        place: *mut u64,
-        written: *mut u64,
-    ) -> u32;
-    pub fn wim_noise(
-        scheme: u32,
-        bytes: *const u8,
-        bytes_len: usize,
-        out: *mut i32,
-        out_len: usize,
-        place: *mut u64,
-        written: *mut u64,
-    ) -> u32;
-    pub fn wim_expand(
-        stream: *const u8,
-        stream_len: usize,
-        out: *mut u32,
-        out_len: usize,
-        place: *mut u64,
-        written: *mut u64,
-    ) -> u32;
-    pub fn wim_bench(
-        scheme: u32,
-        a: *const u32,
-        a_len: usize,
-        s: *const i32,
-        s_len: usize,
-        e: *const i32,
-        e_len: usize,
-        seed: *const u8,
-        seed_len: usize,
-        s1: *const i32,
-        s1_len: usize,
-        e1: *const i32,
-        e1_len: usize,
-        e2: *const i32,
-        e2_len: usize,
-        coins: *const u8,
-        coins_len: usize,
-        place: *mut u64,
-        differ: *mut u64,
-    ) -> u32;
+use crate::Refusal;
+
+pub mod ffi;
+
+/// The answer, or the refusal that a number other than 0 names.
+fn told<T>(number: u32, place: u64, answer: T) -> Result<T, Refusal> {
+    match number {
+        0 => Ok(answer),
+        _ => Err(Refusal::told(number, place)),
+    }
+}
+
+/// A count or an index: the archive keeps them in 64 bits.
+pub(crate) fn count(n: u64) -> usize {
+    usize::try_from(n).expect("no more than a slice has")
+}
+
+/// Overwrites what a call may have left of secrets on the stack below its caller.
+/// Every function here does so itself; it is for callers of [`ffi`].
+///
+/// It is always inlined: a frame of its own would be left out of what is
+/// overwritten.
+#[inline(always)]
+pub fn scrub() {
+    // SAFETY: it takes nothing, and writes only to the stack below its caller,
+    // which no variable stands in. The header says how much of it must be there.
+    #[cfg(not(wimmostry_unscrubbed))]
+    unsafe {
+        ffi::wim_scrub()
+    }
+}
+
+/// Offer: scheme, public a, secret s, noise e, seed. Gives the opening message
+/// and how many bytes of `message` it takes.
+///
+/// # Errors
+///
+/// Refuses with 1, 2, 3, 4 and 6.
+pub fn offer(
+    scheme: u32,
+    a: &[u32],
+    s: &[i32],
+    e: &[i32],
+    seed: &[u8],
+    message: &mut [u8],
+) -> Result<usize, Refusal> {
+    let (mut place, mut written) = (0, 0);
+    // SAFETY: each pointer and length are those of one slice, and place and the
+    // counts are numbers of this frame. No output shares memory with anything
+    // else, since it is borrowed mutably.
+    let number = unsafe {
+        ffi::wim_offer(
+            scheme,
+            a.as_ptr(),
+            a.len(),
+            s.as_ptr(),
+            s.len(),
+            e.as_ptr(),
+            e.len(),
+            seed.as_ptr(),
+            seed.len(),
+            message.as_mut_ptr(),
+            message.len(),
+            &mut place,
+            &mut written,
+        )
+    };
+    scrub();
+    told(number, place, count(written))
+}
+
+/// Reply: scheme, opening message, public a, s', e', e'', coins. Gives the
+/// reply message and the replier's key, and how many bytes of `message` and of
+/// `key` they take.
+///
+/// # Errors
+///
+/// Refuses with 1, 2, 3, 4, 5 and 6; of 3, the message's room is tested first.
+#[allow(clippy::too_many_arguments)]
+pub fn reply(
+    scheme: u32,
+    opening: &[u8],
+    a: &[u32],
+    s1: &[i32],
+    e1: &[i32],
+    e2: &[i32],
+    coins: &[u8],
+    message: &mut [u8],
+    key: &mut [u8],
+) -> Result<(usize, usize), Refusal> {
+    let (mut place, mut message_written, mut key_written) = (0, 0, 0);
+    // SAFETY: each pointer and length are those of one slice, and place and the
+    // counts are numbers of this frame. No output shares memory with anything
+    // else, since it is borrowed mutably.
+    let number = unsafe {
+        ffi::wim_reply(
+            scheme,
+            opening.as_ptr(),
+            opening.len(),
+            a.as_ptr(),
+            a.len(),
+            s1.as_ptr(),
+            s1.len(),
+            e1.as_ptr(),
+            e1.len(),
+            e2.as_ptr(),
+            e2.len(),
+            coins.as_ptr(),
+            coins.len(),
+            message.as_mut_ptr(),
+            message.len(),
+            key.as_mut_ptr(),
+            key.len(),
+            &mut place,
+            &mut message_written,
+            &mut key_written,
+        )
+    };
+    scrub();
+    let written = (count(message_written), count(key_written));
+    told(number, place, written)
+}
+
+/// Finish: scheme, reply message, secret s. Gives the initiator's key and how
+/// many bytes of `key` it takes.
+///
+/// # Errors
+///
+/// Refuses with 1, 2, 3, 5 and 6.
+pub fn finish(scheme: u32, reply: &[u8], s: &[i32], key: &mut [u8]) -> Result<usize, Refusal> {
+    let (mut place, mut written) = (0, 0);
+    // SAFETY: each pointer and length are those of one slice, and place and the
+    // counts are numbers of this frame. No output shares memory with anything
+    // else, since it is borrowed mutably.
+    let number = unsafe {
+        ffi::wim_finish(
+            scheme,
+            reply.as_ptr(),
+            reply.len(),
+            s.as_ptr(),
+            s.len(),
+            key.as_mut_ptr(),
+            key.len(),
+            &mut place,
+            &mut written,
+        )
+    };
+    scrub();
+    told(number, place, count(written))
+}
+
+/// Noise: scheme, random bytes. Gives as many values as the bytes make, which
+/// are those of s, e, s' or e' ([`s_bytes`](crate::Sizes::s_bytes)) or those of e''
+/// ([`e2_bytes`](crate::Sizes::e2_bytes)).
+///
+/// # Errors
+///
+/// Refuses with 1 (BCNS too, whose noise is lent ready), 2 and 3.
+pub fn noise(scheme: u32, bytes: &[u8], out: &mut [i32]) -> Result<usize, Refusal> {
+    let (mut place, mut written) = (0, 0);
+    // SAFETY: each pointer and length are those of one slice, and place and the
+    // counts are numbers of this frame. No output shares memory with anything
+    // else, since it is borrowed mutably.
+    let number = unsafe {
+        ffi::wim_noise(
+            scheme,
+            bytes.as_ptr(),
+            bytes.len(),
+            out.as_mut_ptr(),
+            out.len(),
+            &mut place,
+            &mut written,
+        )
+    };
+    scrub();
+    told(number, place, count(written))
+}
+
+/// Expand: a stream of bytes. Gives the first 1,024 numbers below 12289 in the
+/// low 14 bits of its 16-bit words, the lower byte first: NewHope's a.
+///
+/// # Errors
+///
+/// Refuses with 2, 3 and 7.
+pub fn expand(stream: &[u8], out: &mut [u32]) -> Result<usize, Refusal> {
+    let (mut place, mut written) = (0, 0);
+    // SAFETY: each pointer and length are those of one slice, and place and the
+    // counts are numbers of this frame. No output shares memory with anything
+    // else, since it is borrowed mutably.
+    let number = unsafe {
+        ffi::wim_expand(
+            stream.as_ptr(),
+            stream.len(),
+            out.as_mut_ptr(),
+            out.len(),
+            &mut place,
+            &mut written,
+        )
+    };
+    scrub();
+    told(number, place, count(written))
+}
+
+/// What [`bench()`] finds of the two keys.
+#[derive(Clone, Copy, Debug, PartialEq, Eq, Hash)]
+pub enum Bench {
+    /// The two keys are the same.
+    Agree,
+    /// The first differing bit, counted lowest first through the bytes.
+    Differ(usize),
+}
+
+/// Bench: both ends on lent secrets, the initiator's s, e and seed and the
+/// replier's s', e', e'' and coins. Messages and keys stay inside.
+///
+/// # Errors
+///
+/// Refuses with 1, 2, 4 and 6; all of Offer's tests come first, then Reply's.
+#[allow(clippy::too_many_arguments)]
+pub fn bench(
+    scheme: u32,
+    a: &[u32],
+    s: &[i32],
+    e: &[i32],
+    seed: &[u8],
+    s1: &[i32],
+    e1: &[i32],
+    e2: &[i32],
+    coins: &[u8],
+) -> Result<Bench, Refusal> {
+    let (mut place, mut differ) = (0, 0);
+    // SAFETY: each pointer and length are those of one slice, and place and the
+    // counts are numbers of this frame. No output shares memory with anything
+    // else, since it is borrowed mutably.
+    let number = unsafe {
+        ffi::wim_bench(
+            scheme,
+            a.as_ptr(),
+            a.len(),
+            s.as_ptr(),
+            s.len(),
+            e.as_ptr(),
+            e.len(),
+            seed.as_ptr(),
+            seed.len(),
+            s1.as_ptr(),
+            s1.len(),
+            e1.as_ptr(),
+            e1.len(),
+            e2.as_ptr(),
+            e2.len(),
+            coins.as_ptr(),
+            coins.len(),
+            &mut place,
+            &mut differ,
+        )
+    };
+    scrub();
+    let found = match count(differ) {
+        0 => Bench::Agree,
+        bit => Bench::Differ(bit - 1),
+    };
+    told(number, place, found)
 }

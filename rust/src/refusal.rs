@@ -1,4 +1,5 @@
-use std::fmt;
+use core::ffi::CStr;
+use core::fmt;
 
 /// Why a call was refused. The tests go in the order of the numbers, and
 /// within a number in the order of the inputs; the first that fails is told.
@@ -47,8 +48,16 @@ impl Refusal {
         }
     }
 
+    /// What it says, without the place: the header's sentence.
+    pub fn text(self) -> &'static str {
+        // SAFETY: any number is taken, and a constant text comes back that ends
+        // with a zero.
+        let text = unsafe { CStr::from_ptr(crate::raw::ffi::wim_refusal_text(self.number())) };
+        text.to_str().expect("plain letters")
+    }
+
     pub(crate) fn told(number: u32, place: u64) -> Refusal {
-        let place = crate::count(place);
+        let place = crate::raw::count(place);
         match number {
             1 => Refusal::NoScheme,
             2 => Refusal::Length,
@@ -64,16 +73,15 @@ impl Refusal {
 
 impl fmt::Display for Refusal {
     fn fmt(&self, f: &mut fmt::Formatter) -> fmt::Result {
+        write!(f, "refusal {}: {}", self.number(), self.text())?;
         match self {
-            Refusal::NoScheme => write!(f, "refusal 1: no such scheme"),
-            Refusal::Length => write!(f, "refusal 2: an input's length is not the fixed one"),
-            Refusal::Room => write!(f, "refusal 3: an output is shorter than the answer"),
-            Refusal::PublicOver(k) => write!(f, "refusal 4: public number {k} is q or more"),
-            Refusal::MessageOver(k) => write!(f, "refusal 5: message number {k} is q or more"),
-            Refusal::SecretBeyond(k) => write!(f, "refusal 6: secret {k} is too large"),
-            Refusal::RanOut(k) => write!(f, "refusal 7: the stream ran out after {k} numbers"),
+            Refusal::NoScheme | Refusal::Length | Refusal::Room => Ok(()),
+            Refusal::PublicOver(k) | Refusal::MessageOver(k) | Refusal::SecretBeyond(k) => {
+                write!(f, ", the first at {k}")
+            }
+            Refusal::RanOut(k) => write!(f, ", it held {k}"),
         }
     }
 }
 
-impl std::error::Error for Refusal {}
+impl core::error::Error for Refusal {}

@@ -1,15 +1,24 @@
+use crate::Refusal;
+use core::fmt;
+
 /// The six schemes by name.
 #[derive(Clone, Copy, Debug, PartialEq, Eq, Hash)]
 pub enum Scheme {
+    /// 0: BCNS.
     Bcns,
+    /// 1: NewHope.
     NewHope,
+    /// 2: Frodo Challenge.
     FrodoChallenge,
+    /// 3: Frodo Classical.
     FrodoClassical,
+    /// 4: Frodo Recommended.
     FrodoRecommended,
+    /// 5: Frodo Paranoid.
     FrodoParanoid,
 }
 
-/// How many numbers [`crate::expand`] gives.
+/// How many numbers [`expand`](crate::expand) gives.
 pub const EXPAND_NUMBERS: usize = 1024;
 
 /// The longest stream that it takes, in bytes.
@@ -45,6 +54,7 @@ pub struct Sizes {
 }
 
 impl Scheme {
+    /// All of them, in the order of their numbers.
     pub const ALL: [Scheme; 6] = [
         Scheme::Bcns,
         Scheme::NewHope,
@@ -71,6 +81,7 @@ impl Scheme {
         }
     }
 
+    /// Its fixed numbers.
     pub const fn sizes(self) -> Sizes {
         match self {
             Scheme::Bcns => Sizes {
@@ -124,5 +135,41 @@ const fn frodo(n: usize, q: u32, noise: i32, width: usize, key: usize) -> Sizes 
         key,
         s_bytes: 16 * n,
         e2_bytes: 128,
+    }
+}
+
+impl Sizes {
+    /// The largest of each over all schemes: buffers of these sizes serve any.
+    pub const LARGEST: Sizes = Sizes {
+        q: 4294967295,
+        noise: 51,
+        a: 864 * 864,
+        s: 8 * 864,
+        e2: 1024,
+        seed: 32,
+        coins: 256,
+        opening: 16 + 864 * 15,
+        reply: 864 * 15 + 8,
+        key: 128,
+        s_bytes: 16 * 864,
+        e2_bytes: 4096,
+    };
+}
+
+impl TryFrom<u32> for Scheme {
+    type Error = Refusal;
+
+    /// The scheme of a number, or refusal 1.
+    fn try_from(number: u32) -> Result<Scheme, Refusal> {
+        let known = usize::try_from(number)
+            .ok()
+            .and_then(|k| Scheme::ALL.get(k));
+        known.copied().ok_or(Refusal::NoScheme)
+    }
+}
+
+impl fmt::Display for Scheme {
+    fn fmt(&self, f: &mut fmt::Formatter) -> fmt::Result {
+        f.pad(self.name())
     }
 }

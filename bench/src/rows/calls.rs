@@ -108,7 +108,7 @@ fn noise(rows: &mut dyn Rows, scheme: &Scheme) {
     let count = scheme.secret_count();
     let bytes = Draw::new(6).bytes(second::noise::lengths(scheme)[0]);
     let (mut x, mut y) = (vec![0; count], vec![0; count]);
-    let mut ours = || assert!(wimmostry::noise(scheme.number as u32, &bytes, &mut x).is_ok());
+    let mut ours = || assert!(wimmostry::raw::noise(scheme.number as u32, &bytes, &mut x).is_ok());
     let mut plain = || sampling::noise(scheme, &bytes, &mut y);
     ours();
     plain();
@@ -119,7 +119,7 @@ fn noise(rows: &mut dyn Rows, scheme: &Scheme) {
 fn expand(rows: &mut dyn Rows) {
     let stream = Draw::new(7).bytes(4096);
     let (mut x, mut y) = ([0; 1024], [0; 1024]);
-    let mut ours = || assert!(wimmostry::expand(&stream, &mut x).is_ok());
+    let mut ours = || assert!(wimmostry::raw::expand(&stream, &mut x).is_ok());
     let mut plain = || assert!(sampling::expand(&stream, &mut y) == 1024);
     ours();
     plain();

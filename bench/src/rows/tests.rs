@@ -24,16 +24,16 @@ fn scheme(rows: &mut dyn Rows, scheme: &'static Scheme) {
     let (mut x, mut y, mut z) = (opening.clone(), reply.clone(), key.clone());
     let whole = "the whole call";
 
-    rows.row(&format!("{name}, Offer"), whole, &mut || assert!(wimmostry::offer(number, &l.a, &l.s, &e, &l.seed, &mut x).is_err()), &mut || {
+    rows.row(&format!("{name}, Offer"), whole, &mut || assert!(wimmostry::raw::offer(number, &l.a, &l.s, &e, &l.seed, &mut x).is_err()), &mut || {
         ours.offer(&mut opening);
     });
     rows.row(
         &format!("{name}, Reply"),
         whole,
-        &mut || assert!(wimmostry::reply(number, &opening, &l.a, &l.s1, &l.e1, &e2, &l.coins, &mut y, &mut z).is_err()),
+        &mut || assert!(wimmostry::raw::reply(number, &opening, &l.a, &l.s1, &l.e1, &e2, &l.coins, &mut y, &mut z).is_err()),
         &mut || ours.reply(&opening, &mut reply, &mut key),
     );
-    rows.row(&format!("{name}, Finish"), whole, &mut || assert!(wimmostry::finish(number, &reply, &s, &mut z).is_err()), &mut || {
+    rows.row(&format!("{name}, Finish"), whole, &mut || assert!(wimmostry::raw::finish(number, &reply, &s, &mut z).is_err()), &mut || {
         ours.finish(&reply, &mut key);
     });
 }

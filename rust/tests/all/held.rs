@@ -99,7 +99,7 @@ fn offer(g: &mut Generator, ready: &Ready) -> u32 {
     let mut expected = g.bytes(room);
     let mut message = Lent::new(&expected, 9);
     let told = same(
-        wimmostry::offer(
+        wimmostry::raw::offer(
             scheme,
             la.entries(),
             ls.entries(),
@@ -151,7 +151,7 @@ fn reply(g: &mut Generator, ready: &Ready) -> u32 {
     let mut message = Lent::new(&expected, 9);
     let mut key = Lent::new(&expected_key, 9);
     let told = same(
-        wimmostry::reply(
+        wimmostry::raw::reply(
             scheme,
             lopening.entries(),
             la.entries(),
@@ -204,7 +204,7 @@ fn finish(g: &mut Generator, ready: &Ready) -> u32 {
     let mut expected = g.bytes(room);
     let mut key = Lent::new(&expected, 9);
     let told = same(
-        wimmostry::finish(scheme, lreply.entries(), ls.entries(), key.entries_mut()),
+        wimmostry::raw::finish(scheme, lreply.entries(), ls.entries(), key.entries_mut()),
         second::calls::finish(scheme.into(), &reply, &s, &mut expected),
     );
     key.holds(&expected);
@@ -239,7 +239,7 @@ fn noise(g: &mut Generator, ready: &Ready) -> u32 {
     let mut expected: Vec<i32> = (0..room).map(|_| g.next() as i32).collect();
     let mut out = Lent::new(&expected, 9);
     let told = same(
-        wimmostry::noise(scheme, lbytes.entries(), out.entries_mut()),
+        wimmostry::raw::noise(scheme, lbytes.entries(), out.entries_mut()),
         second::calls::noise(scheme.into(), &bytes, &mut expected),
     );
     out.holds(&expected);
@@ -264,7 +264,7 @@ fn expand(g: &mut Generator) -> u32 {
     let mut expected: Vec<u32> = (0..room).map(|_| g.next() as u32).collect();
     let mut out = Lent::new(&expected, 9);
     let told = same(
-        wimmostry::expand(lstream.entries(), out.entries_mut()),
+        wimmostry::raw::expand(lstream.entries(), out.entries_mut()),
         second::calls::expand(&stream, &mut expected),
     );
     out.holds(&expected);
@@ -303,7 +303,7 @@ fn bench(g: &mut Generator, ready: &Ready) -> u32 {
     let (ls1, le1) = (Lent::new(&s1, 7), Lent::new(&e1, 7));
     let (le2, lseed) = (Lent::new(&e2, 7), Lent::new(&seed, 7));
     let lcoins = Lent::new(&coins, 7);
-    let answer = wimmostry::bench(
+    let answer = wimmostry::raw::bench(
         scheme,
         la.entries(),
         ls.entries(),
@@ -327,10 +327,10 @@ fn bench(g: &mut Generator, ready: &Ready) -> u32 {
     told
 }
 
-fn differing(found: wimmostry::Bench) -> Option<usize> {
+fn differing(found: wimmostry::raw::Bench) -> Option<usize> {
     match found {
-        wimmostry::Bench::Agree => None,
-        wimmostry::Bench::Differ(bit) => Some(bit),
+        wimmostry::raw::Bench::Agree => None,
+        wimmostry::raw::Bench::Differ(bit) => Some(bit),
     }
 }
 

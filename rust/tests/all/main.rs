@@ -4,7 +4,7 @@
 //! `cargo test` makes 500 calls; `cargo test -- --ignored` makes 100,000, which
 //! takes some fifteen minutes.
 
-use wimmostry as calls;
+use wimmostry::raw as calls;
 
 #[path = "../../../second/tests/all/generator.rs"]
 mod generator;
@@ -19,4 +19,6 @@ mod standards;
 mod damage;
 mod held;
 mod lent;
+mod residue;
 mod sizes;
+mod typed;

@@ -1,0 +1,32 @@
+/* What the archive tells of itself: its version, and a sentence for each refusal. */
+#include "wimmostry.h"
+
+const char *wim_version(void)
+{
+    return WIM_VERSION;
+}
+
+/* The sentences are those of the header's table, to the letter; runs/declared compares them. */
+const char *wim_refusal_text(uint32_t refusal)
+{
+    switch (refusal) {
+    case WIM_DONE:
+        return "done";
+    case WIM_NO_SCHEME:
+        return "the scheme is not 0 to 5 (wim_noise: not 1 to 5)";
+    case WIM_LENGTH:
+        return "an input's length is not the fixed one (wim_expand: over 65536)";
+    case WIM_ROOM:
+        return "an output buffer is shorter than the answer";
+    case WIM_PUBLIC_OVER:
+        return "a lent public number is q or more";
+    case WIM_MESSAGE_OVER:
+        return "a number of the message is q or more";
+    case WIM_SECRET_BEYOND:
+        return "a secret or noise value lies beyond the largest noise";
+    case WIM_RAN_OUT:
+        return "the stream held fewer than 1024 numbers";
+    default:
+        return "unknown refusal";
+    }
+}

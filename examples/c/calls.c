@@ -1,0 +1,73 @@
+#include "calls.h"
+
+static uint32_t offer(struct lent *l)
+{
+    const struct scheme *x = l->scheme;
+
+    return wim_offer(x->number, l->a, x->a, l->s, x->s, l->e, x->s, l->seed, x->seed, l->opening,
+                     sizeof l->opening, &l->place, &l->written);
+}
+
+static uint32_t reply(struct lent *l)
+{
+    const struct scheme *x = l->scheme;
+
+    return wim_reply(x->number, l->opening, x->opening, l->a, x->a, l->s1, x->s, l->e1, x->s, l->e2,
+                     x->e2, l->coins, x->coins, l->reply, sizeof l->reply, l->key, sizeof l->key,
+                     &l->place, &l->written, &l->key_written);
+}
+
+static uint32_t finish(struct lent *l)
+{
+    const struct scheme *x = l->scheme;
+
+    return wim_finish(x->number, l->reply, x->reply, l->s, x->s, l->peer_key, sizeof l->peer_key,
+                      &l->place, &l->written);
+}
+
+static uint32_t noise(struct lent *l)
+{
+    const struct scheme *x = l->scheme;
+
+    if (x->number == WIM_BCNS)
+        return WIM_DONE;
+    return wim_noise(x->number, l->bytes, x->s_bytes, l->values, WIM_MAX_S, &l->place, &l->written);
+}
+
+static uint32_t expand(struct lent *l)
+{
+    return wim_expand(l->stream, sizeof l->stream, l->numbers, WIM_EXPAND_NUMBERS, &l->place,
+                      &l->written);
+}
+
+static uint32_t bench(struct lent *l)
+{
+    const struct scheme *x = l->scheme;
+
+    return wim_bench(x->number, l->a, x->a, l->s, x->s, l->e, x->s, l->seed, x->seed, l->s1, x->s,
+                     l->e1, x->s, l->e2, x->e2, l->coins, x->coins, &l->place, &l->differ);
+}
+
+const struct call calls[CALLS] = {
+    {"wim_offer", offer}, {"wim_reply", reply},   {"wim_finish", finish},
+    {"wim_noise", noise}, {"wim_expand", expand}, {"wim_bench", bench},
+};
+
+uint32_t draw_all(struct lent *l, const struct scheme *x)
+{
+    int32_t *secrets[] = {l->s, l->e, l->s1, l->e1};
+    uint64_t state = 3;
+    uint32_t refusal;
+
+    l->scheme = x;
+    refusal = draw_public(x, l->a);
+    for (size_t i = 0; i < 4 && refusal == WIM_DONE; i++)
+        refusal = draw_secrets(&state, x, secrets[i], x->s, x->s_bytes);
+    if (refusal == WIM_DONE)
+        refusal = draw_secrets(&state, x, l->e2, x->e2, x->e2_bytes);
+    draw_bytes(&state, l->seed, sizeof l->seed);
+    draw_bytes(&state, l->coins, sizeof l->coins);
+    draw_bytes(&state, l->bytes, sizeof l->bytes);
+    draw_bytes(&state, l->stream, sizeof l->stream);
+    return refusal;
+}

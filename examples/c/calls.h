@@ -1,0 +1,34 @@
+/* All that the six calls take and give in one scheme, and the calls on it, for programs that make
+ * each of them. */
+#ifndef CALLS_H
+#define CALLS_H
+
+#include "draw.h"
+
+struct lent {
+    const struct scheme *scheme;
+    uint32_t a[WIM_MAX_A], numbers[WIM_EXPAND_NUMBERS];
+    int32_t s[WIM_MAX_S], e[WIM_MAX_S], s1[WIM_MAX_S], e1[WIM_MAX_S], e2[WIM_MAX_E2];
+    int32_t values[WIM_MAX_S];
+    uint8_t seed[WIM_MAX_SEED], coins[WIM_MAX_COINS], bytes[WIM_MAX_S_BYTES], stream[4096];
+    uint8_t opening[WIM_MAX_OPENING], reply[WIM_MAX_REPLY];
+    uint8_t key[WIM_MAX_KEY], peer_key[WIM_MAX_KEY];
+    uint64_t place, written, key_written, differ;
+};
+
+struct call {
+    const char *name;
+    uint32_t (*make)(struct lent *);
+};
+
+#define CALLS 6
+enum { OFFER, REPLY, FINISH, NOISE, EXPAND, BENCH };
+
+/* In this order, so that Reply finds an opening and Finish a reply. BCNS has no Noise: it is done
+ * without a call there. */
+extern const struct call calls[CALLS];
+
+/* Draws every input of a scheme. 0 or the refusal. */
+uint32_t draw_all(struct lent *lent, const struct scheme *scheme);
+
+#endif

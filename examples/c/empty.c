@@ -1,0 +1,128 @@
+/*
+ * A null pointer with length 0 is an empty slice like any other: each input and output of each
+ * call in turn, all of them at once, and the seed of BCNS and the coins of Frodo, which are empty
+ * in accepted calls. Fails where a call gives another refusal than the header says.
+ */
+#include "calls.h"
+
+#include <stdio.h>
+#include <stdlib.h>
+
+static struct lent lent;
+static const struct scheme *x;
+static uint64_t place, written, key_written;
+static int failures;
+
+static void held(const char *call, int nulls, uint32_t refusal, uint32_t expected)
+{
+    if (refusal == expected && (refusal == WIM_DONE || (place == 0 && written == 0)))
+        return;
+    printf("%s in %s, empty %x: %u in place of %u\n", call, x->name, (unsigned)nulls,
+           (unsigned)refusal, (unsigned)expected);
+    failures++;
+}
+
+/* A slice, or an empty one with a null pointer where its bit is set. */
+#define LEND(BIT, SLICE, LENGTH) \
+    (nulls >> (BIT) & 1 ? NULL : (SLICE)), (nulls >> (BIT) & 1 ? 0 : (size_t)(LENGTH))
+
+/* What inputs of these fixed lengths, or else an output, give with some of them empty. */
+static uint32_t expected(int nulls, const size_t *lengths, int inputs, int outputs)
+{
+    for (int i = 0; i < inputs; i++)
+        if ((nulls >> i & 1) != 0 && lengths[i] != 0)
+            return WIM_LENGTH;
+    return nulls >> inputs & ((1 << outputs) - 1) ? WIM_ROOM : WIM_DONE;
+}
+
+static void offer(int nulls)
+{
+    const size_t lengths[] = {x->a, x->s, x->s, x->seed};
+    uint32_t refusal = wim_offer(x->number, LEND(0, lent.a, x->a), LEND(1, lent.s, x->s),
+                                 LEND(2, lent.e, x->s), LEND(3, lent.seed, x->seed),
+                                 LEND(4, lent.opening, x->opening), &place, &written);
+
+    held("wim_offer", nulls, refusal, expected(nulls, lengths, 4, 1));
+}
+
+static void reply(int nulls)
+{
+    const size_t lengths[] = {x->opening, x->a, x->s, x->s, x->e2, x->coins};
+    uint32_t refusal =
+        wim_reply(x->number, LEND(0, lent.opening, x->opening), LEND(1, lent.a, x->a),
+                  LEND(2, lent.s1, x->s), LEND(3, lent.e1, x->s), LEND(4, lent.e2, x->e2),
+                  LEND(5, lent.coins, x->coins), LEND(6, lent.reply, x->reply),
+                  LEND(7, lent.key, x->key), &place, &written, &key_written);
+
+    held("wim_reply", nulls, refusal, expected(nulls, lengths, 6, 2));
+}
+
+static void finish(int nulls)
+{
+    const size_t lengths[] = {x->reply, x->s};
+    uint32_t refusal = wim_finish(x->number, LEND(0, lent.reply, x->reply), LEND(1, lent.s, x->s),
+                                  LEND(2, lent.key, x->key), &place, &written);
+
+    held("wim_finish", nulls, refusal, expected(nulls, lengths, 2, 1));
+}
+
+static void noise(int nulls)
+{
+    const size_t lengths[] = {x->s_bytes};
+    uint32_t refusal = wim_noise(x->number, LEND(0, lent.bytes, x->s_bytes),
+                                 LEND(1, lent.values, x->s), &place, &written);
+
+    held("wim_noise", nulls, refusal,
+         x->number == WIM_BCNS ? WIM_NO_SCHEME : expected(nulls, lengths, 1, 1));
+}
+
+/* An empty stream is no bad length: it runs out. */
+static void expand(int nulls)
+{
+    uint32_t refusal = wim_expand(LEND(0, lent.stream, sizeof lent.stream),
+                                  LEND(1, lent.numbers, WIM_EXPAND_NUMBERS), &place, &written);
+
+    held("wim_expand", nulls, refusal, nulls >> 1 ? WIM_ROOM : nulls ? WIM_RAN_OUT : WIM_DONE);
+}
+
+static void bench(int nulls)
+{
+    const size_t lengths[] = {x->a, x->s, x->s, x->seed, x->s, x->s, x->e2, x->coins};
+    uint32_t refusal =
+        wim_bench(x->number, LEND(0, lent.a, x->a), LEND(1, lent.s, x->s), LEND(2, lent.e, x->s),
+                  LEND(3, lent.seed, x->seed), LEND(4, lent.s1, x->s), LEND(5, lent.e1, x->s),
+                  LEND(6, lent.e2, x->e2), LEND(7, lent.coins, x->coins), &place, &written);
+
+    held("wim_bench", nulls, refusal, expected(nulls, lengths, 8, 0));
+}
+
+static int made;
+
+/* None empty, each of the slices in turn, and all of them. */
+static void each(void (*call)(int), int slices)
+{
+    call(0);
+    for (int i = 0; i < slices; i++)
+        call(1 << i);
+    call((1 << slices) - 1);
+    made += slices + 2;
+}
+
+int main(void)
+{
+    for (int k = 0; k < 6; k++) {
+        x = &schemes[k];
+        if (draw_all(&lent, x) != WIM_DONE)
+            return EXIT_FAILURE;
+        each(offer, 5);
+        offer(0); /* the last offer was refused, and left no opening */
+        each(reply, 8);
+        reply(0);
+        each(finish, 3);
+        each(noise, 2);
+        each(expand, 2);
+        each(bench, 8);
+    }
+    printf("null pointers at length 0: %d calls, %d wrong\n", made, failures);
+    return failures == 0 ? EXIT_SUCCESS : EXIT_FAILURE;
+}

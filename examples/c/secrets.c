@@ -1,0 +1,59 @@
+/*
+ * Which branches of a call depend on a secret. Run under valgrind's memcheck, with the secrets
+ * marked as undefined, each accepted call in each scheme: what memcheck then reports as a jump, a
+ * move or an address that depends on an undefined value depends on a secret. runs/secrets reads
+ * the lines.
+ */
+#include "calls.h"
+
+#include <stdio.h>
+#include <stdlib.h>
+#include <valgrind/memcheck.h>
+
+static struct lent lent;
+
+#define HIDE(SLICE, COUNT) VALGRIND_MAKE_MEM_UNDEFINED(SLICE, (COUNT) * sizeof *(SLICE))
+
+static void hide(size_t call)
+{
+    const struct scheme *x = lent.scheme;
+
+    if (call == OFFER || call == FINISH || call == BENCH)
+        HIDE(lent.s, x->s);
+    if (call == OFFER || call == BENCH)
+        HIDE(lent.e, x->s);
+    if (call == REPLY || call == BENCH) {
+        HIDE(lent.s1, x->s);
+        HIDE(lent.e1, x->s);
+        HIDE(lent.e2, x->e2);
+        HIDE(lent.coins, x->coins);
+    }
+    if (call == NOISE)
+        HIDE(lent.bytes, x->s_bytes);
+}
+
+int main(void)
+{
+    for (int k = 0; k < 6; k++) {
+        if (draw_all(&lent, &schemes[k]) != WIM_DONE)
+            return EXIT_FAILURE;
+        for (size_t i = 0; i < CALLS; i++) {
+            uint32_t refusal;
+            unsigned before, after;
+            if (i == EXPAND) /* a stream and its numbers are public */
+                continue;
+            VALGRIND_PRINTF("call %s, %s\n", lent.scheme->name, calls[i].name);
+            hide(i);
+            before = VALGRIND_COUNT_ERRORS;
+            refusal = calls[i].make(&lent);
+            after = VALGRIND_COUNT_ERRORS;
+            /* answers, refusal and secrets are looked at here, and by the next call */
+            VALGRIND_MAKE_MEM_DEFINED(&lent, sizeof lent);
+            VALGRIND_MAKE_MEM_DEFINED(&refusal, sizeof refusal);
+            printf("%s|%s|%u\n", lent.scheme->name, calls[i].name, after - before);
+            if (refusal != WIM_DONE)
+                return EXIT_FAILURE;
+        }
+    }
+    return EXIT_SUCCESS;
+}

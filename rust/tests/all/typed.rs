@@ -1,0 +1,156 @@
+//! The typed ends: the same bytes as the raw calls, and nothing left in a buffer
+//! whose owner is done with it.
+
+use crate::generator::Generator;
+use crate::inputs::Inputs;
+use second::schemes::SIX;
+use wimmostry::{Initiator, Offered, Refusal, Replier, Scheme, Secret, Sizes};
+
+fn scheme(inputs: &Inputs) -> Scheme {
+    Scheme::try_from(inputs.scheme.number as u32).expect("one of six")
+}
+
+/// A whole exchange; the buffers of the secrets are zero after it.
+fn exchange(mut i: Inputs) {
+    let (scheme, sizes) = (scheme(&i), scheme(&i).sizes());
+    let expected_opening = i.opening();
+    let (expected_reply, expected_key) = i.reply_and_key(&expected_opening);
+
+    let (mut room, mut message) = (vec![9; sizes.opening + 3], vec![9; sizes.reply + 3]);
+    let (mut key, mut peer_key) = (vec![9; sizes.key + 3], vec![9; sizes.key + 3]);
+    let s = Secret::new(&mut i.s);
+    let e = Secret::new(&mut i.e);
+    let Offered {
+        initiator, opening, ..
+    } = Initiator::offer(scheme, &i.a, s, e, &i.seed, &mut room).expect("good inputs");
+    assert_eq!(opening, expected_opening);
+    assert_eq!(i.e, vec![0; sizes.s], "e is wiped by the offer");
+
+    let replier = Replier::new(
+        scheme,
+        Secret::new(&mut i.s1),
+        Secret::new(&mut i.e1),
+        Secret::new(&mut i.e2),
+        Secret::new(&mut i.coins),
+    );
+    let replied = replier
+        .reply(opening, &i.a, &mut message, &mut key)
+        .expect("good inputs");
+    assert_eq!(replied.message, expected_reply);
+    assert_eq!(replied.key.bytes(), expected_key);
+    assert_eq!((i.s1, i.e1), (vec![0; sizes.s], vec![0; sizes.s]));
+    assert_eq!((i.e2, i.coins), (vec![0; sizes.e2], vec![0; sizes.coins]));
+
+    let finished = initiator
+        .finish(replied.message, &mut peer_key)
+        .expect("good inputs");
+    assert_eq!(finished.key.bytes(), replied.key.bytes());
+    assert_eq!(i.s, vec![0; sizes.s], "s is wiped by finish");
+    assert_eq!(format!("{:?}", finished.key), "Key(..)");
+    drop((finished, replied));
+    assert_eq!(key, vec![0; sizes.key + 3]);
+    assert_eq!(peer_key, vec![0; sizes.key + 3]);
+}
+
+#[test]
+fn exchanges() {
+    for scheme in &SIX {
+        exchange(Inputs::random(
+            scheme,
+            &mut Generator::new(77 + scheme.number),
+        ));
+    }
+}
+
+/// A refusal wipes the secrets as well.
+#[test]
+fn refusals() {
+    for fixed in &SIX {
+        let mut i = Inputs::random(fixed, &mut Generator::new(78));
+        let (scheme, sizes) = (scheme(&i), scheme(&i).sizes());
+        let mut room = vec![9; sizes.opening];
+        i.e[3] = sizes.noise + 1;
+        let (s, e) = (Secret::new(&mut i.s), Secret::new(&mut i.e));
+        let refused = Initiator::offer(scheme, &i.a, s, e, &i.seed, &mut room);
+        assert_eq!(refused.err(), Some(Refusal::SecretBeyond(3)));
+        assert_eq!((i.s, i.e), (vec![0; sizes.s], vec![0; sizes.s]));
+        assert_eq!(room, vec![0; sizes.opening]);
+
+        let replier = Replier::new(
+            scheme,
+            Secret::new(&mut i.s1),
+            Secret::new(&mut i.e1),
+            Secret::new(&mut i.e2),
+            Secret::new(&mut i.coins),
+        );
+        let (mut message, mut key) = (vec![9; sizes.reply], vec![9; sizes.key]);
+        let refused = replier.reply(&room[1..], &i.a, &mut message, &mut key);
+        assert_eq!(refused.err(), Some(Refusal::Length));
+        assert_eq!((i.s1, i.e1), (vec![0; sizes.s], vec![0; sizes.s]));
+    }
+}
+
+/// Noise wipes its bytes, and gives what the raw call gives.
+#[test]
+fn noise() {
+    for scheme in &Scheme::ALL[1..] {
+        let sizes = scheme.sizes();
+        for (count, length) in [(sizes.s, sizes.s_bytes), (sizes.e2, sizes.e2_bytes)] {
+            let mut bytes = Generator::new(79).bytes(length);
+            let mut expected = vec![9; count];
+            wimmostry::raw::noise(scheme.number(), &bytes, &mut expected).expect("good bytes");
+
+            let mut room = vec![9; count + 3];
+            let secret = Secret::noise(*scheme, Secret::new(&mut bytes), &mut room);
+            std::mem::forget(secret.expect("good bytes"));
+            assert_eq!(bytes, vec![0; length]);
+            assert_eq!(room[..count], expected);
+            assert_eq!(room[count..], [0; 3]);
+        }
+    }
+    let (mut bytes, mut room) = ([1; 4096], [9; 1024]);
+    let refused = Secret::noise(Scheme::Bcns, Secret::new(&mut bytes), &mut room);
+    assert_eq!(refused.err(), Some(Refusal::NoScheme));
+    assert_eq!((bytes, room), ([0; 4096], [0; 1024]));
+}
+
+#[test]
+fn schemes_by_number() {
+    for scheme in Scheme::ALL {
+        assert_eq!(Scheme::try_from(scheme.number()), Ok(scheme));
+    }
+    for number in [6, 7, 255, u32::MAX] {
+        assert_eq!(Scheme::try_from(number), Err(Refusal::NoScheme));
+    }
+    assert_eq!(format!("{:>8}", Scheme::NewHope), " NewHope");
+}
+
+#[test]
+fn largest_sizes() {
+    let most = |of: fn(Sizes) -> usize| Scheme::ALL.map(|s| of(s.sizes())).into_iter().max();
+    let largest = Sizes::LARGEST;
+    assert_eq!(most(|s| s.q as usize), Some(largest.q as usize));
+    assert_eq!(most(|s| s.noise as usize), Some(largest.noise as usize));
+    assert_eq!(most(|s| s.a), Some(largest.a));
+    assert_eq!(most(|s| s.s), Some(largest.s));
+    assert_eq!(most(|s| s.e2), Some(largest.e2));
+    assert_eq!(most(|s| s.seed), Some(largest.seed));
+    assert_eq!(most(|s| s.coins), Some(largest.coins));
+    assert_eq!(most(|s| s.opening), Some(largest.opening));
+    assert_eq!(most(|s| s.reply), Some(largest.reply));
+    assert_eq!(most(|s| s.key), Some(largest.key));
+    assert_eq!(most(|s| s.s_bytes), Some(largest.s_bytes));
+    assert_eq!(most(|s| s.e2_bytes), Some(largest.e2_bytes));
+}
+
+#[test]
+fn texts() {
+    assert_eq!(wimmostry::version(), env!("CARGO_PKG_VERSION"));
+    let told = Refusal::SecretBeyond(3).to_string();
+    let text = "a secret or noise value lies beyond the largest noise";
+    assert_eq!(told, format!("refusal 6: {text}, the first at 3"));
+    assert_eq!(
+        Refusal::NoScheme.to_string(),
+        "refusal 1: the scheme is not 0 to 5 (wim_noise: not 1 to 5)"
+    );
+}
