@@ -3,8 +3,7 @@
 //! in which the command names them.
 
 use crate::data::Data;
-use wimmostry as raw;
-use wimmostry::{Refusal, Scheme};
+use wimmostry::{raw, Refusal, Scheme};
 
 pub use wimmostry::Sizes;
 
@@ -33,11 +32,8 @@ pub const EXPAND_STREAM: usize = wimmostry::EXPAND_STREAM;
 
 /// What the command line says of itself.
 pub fn version() -> &'static str {
-    env!("CARGO_PKG_VERSION")
+    wimmostry::version()
 }
-
-/// Overwrites what a call may have left on the stack.
-fn scrub() {}
 
 /// How many schemes there are: they are numbered from 0.
 pub const SCHEMES: u32 = Scheme::ALL.len() as u32;
@@ -59,7 +55,7 @@ pub fn sizes(scheme: u32) -> Option<Sizes> {
 /// Inlined, so that no frame of its own covers what is to be overwritten.
 #[inline(always)]
 fn ended(done: Result<Answer, Refusal>) -> Result<Answer, Refused> {
-    scrub();
+    wimmostry::scrub();
     done.map_err(|refusal| Refused {
         number: refusal.number(),
         place: refusal.place(),

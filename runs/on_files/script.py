@@ -1,25 +1,23 @@
 """The script at the root: links, no kit, what it says while it proves, what it builds again."""
 import os
-import re
 import shutil
-import time
 
 from .common import hold, run, write
 
+# a prover that takes no time, and a cargo that makes a program of three lines
 FAKE = {
-    "native": """#!/bin/bash
-cd "$(dirname "$0")"
-mkdir -p target/native
-some="schemes numbers lists packing noise polynomial matrix bcns newhope frodo front transform"
-for name in $some ends exchange; do
+    "bin/rt": """#!/bin/bash
+[ "$1" = staticlib ] || { echo fake; exit 0; }
+for name in $CRATES; do
     for i in $(seq 40); do echo "fn $name::f$i: proved"; done
     [ "$name" != "${BREAK:-}" ] || { echo "error: $name NOT PROVED"; exit 1; }
     echo "rt: $name proved (1 s)"
-    sleep 0.1
-done >target/native/wimmostry.log 2>&1 || { tail -n 20 target/native/wimmostry.log; exit 1; }
-echo made >target/native/libwimmostry.a
+done
+mkdir -p target/staticlib
+rm -f target/staticlib/libwimmostry.a
+ar rc target/staticlib/libwimmostry.a
 """,
-    "bin/rt": "#!/bin/bash\n",
+    "bin/uname": "#!/bin/bash\necho x86_64\n",
     "bin/cargo": """#!/bin/bash
 root=$(dirname "$0")/..
 [ -z "${BREAK_CARGO:-}" ] || { echo "error: cargo"; exit 101; }
@@ -28,6 +26,35 @@ printf '#!/bin/bash\\necho "$@"\\nexit 7\\n' >"$root/target/cli/release/wimmostr
 chmod +x "$root/target/cli/release/wimmostry"
 """,
 }
+
+
+def library(crates):
+    """The crates that the library is made of, in the order in which rt takes them."""
+    needs = {}
+    with open(crates) as lines:
+        for line in lines:
+            if ":" in line and not line.startswith("#"):
+                name, rest = line.split(":")
+                needs[name] = rest.split()
+    level = {}
+
+    def visit(name):
+        if name not in level:
+            level[name] = max([visit(x) + 1 for x in needs[name] if x in needs], default=0)
+        return level[name]
+
+    visit("wimmostry")
+    order = []
+
+    def walk(name):
+        for x in needs[name]:
+            if x in needs and x not in order:
+                walk(x)
+        if name not in order:
+            order.append(name)
+
+    walk("wimmostry")
+    return sorted(order, key=lambda x: level[x])
 
 
 def script(both):
@@ -45,68 +72,51 @@ def script(both):
     # without the kit and without cargo
     tools = both.name("tools")
     os.mkdir(tools)
-    for tool in ("bash", "awk", "find", "dirname", "readlink", "mkdir", "grep", "sleep", "tail"):
+    for tool in ("bash", "dirname", "readlink"):
         os.symlink(shutil.which(tool), os.path.join(tools, tool))
     given = ["finish", "9", "none", "none", both.name("KEY1")]
     done = run([shutil.which("bash"), both.box, *given], env={"PATH": tools})
     expected = (1, b"refusal=1 place=0 scheme=9 expected=0..5\n", b"")
     hold("script", done == expected, f"without the kit: {done}")
-    # a tree in which nothing is built, with a prover that takes no time
+    # a tree in which nothing is built
     tree = both.name("tree")
     for name, text in FAKE.items():
         os.makedirs(os.path.dirname(os.path.join(tree, name)), exist_ok=True)
         write(os.path.join(tree, name), text.encode())
         os.chmod(os.path.join(tree, name), 0o755)
-    for name in ("box", "crates.txt"):
+    for name in ("box", "native", "crates.txt"):
         shutil.copy(os.path.join(root, name), tree)
-    for name in ("crates/matrix/src", "crates/matrix/must-fail", "cli/src", "rust/src"):
-        os.makedirs(os.path.join(tree, name))
-    for name in ("crates/matrix/src/lib.rt", "crates/matrix/must-fail/x.edit", "cli/src/main.rs",
-                 "cli/Cargo.toml", "rust/src/lib.rs", "rust/Cargo.toml", "rust/build.rs"):
-        write(os.path.join(tree, name), b"")
-    around = {**os.environ, "PATH": tree + "/bin:" + os.environ["PATH"]}
+    for name in ("c", "include"):
+        shutil.copytree(os.path.join(root, name), os.path.join(tree, name))
+    made = library(os.path.join(root, "crates.txt"))
+    for name in made:
+        os.makedirs(os.path.join(tree, "crates", name, "src"))
+        write(os.path.join(tree, "crates", name, "src/lib.rt"), b"")
+    around = {**os.environ, "PATH": tree + "/bin:" + os.environ["PATH"], "CRATES": " ".join(made)}
     start = lambda **more: run([os.path.join(tree, "box"), "some", "words"], env={**around, **more})
-    made = ["schemes", "numbers", "lists", "packing", "polynomial", "matrix", "bcns", "newhope",
-            "frodo", "noise", "transform", "front", "ends", "exchange", "wimmostry"]
 
     def proving(done, what):
         status, text, error = done
-        first, *lines = error.decode().splitlines()
-        fine = status == 7 and text == b"some words\n"
-        fine = fine and first == f"log: {tree}/target/native/wimmostry.log"
-        steps = [re.fullmatch(r"proving (\d+) of 15: (\w+)", line) for line in lines]
-        fine = fine and all(x and x.group(2) == made[int(x.group(1)) - 1] for x in steps)
-        numbers = [int(x.group(1)) for x in steps] if fine else []
-        hold("script", fine and len(numbers) >= 3 and numbers == sorted(set(numbers)),
-             f"{what}: {done}")
+        lines = error.decode().splitlines()
+        expected = ["native: the log is target/native/wimmostry.log"]
+        expected += [f"proving {i + 1} of {len(made)}: {x}" for i, x in enumerate(made)]
+        expected += ["compiling wimmostry"]
+        fine = status == 7 and text == b"some words\n" and lines == expected
+        hold("script", fine, f"{what}: {done}")
 
     broken = start(BREAK="matrix")
     fine = broken[0] == 4 and broken[1] == b"" and b"error: matrix NOT PROVED" in broken[2]
-    hold("script", fine and broken[2].count(b"\n") < 40, f"a proof that fails: {broken}")
+    hold("script", fine and broken[2].count(b"\n") < 60, f"a proof that fails: {broken}")
     broken = start(BREAK_CARGO="1")
     hold("script", broken[0] == 4 and b"error: cargo" in broken[2], f"a build that fails: {broken}")
     shutil.rmtree(os.path.join(tree, "target"))
     proving(start(), "first")
     hold("script", start() == (7, b"some words\n", b""), "it builds again what it has")
-    later = time.time() + 5
-
-    def touched(name):
-        os.utime(os.path.join(tree, name), (later, later))
-        done = start()
-        # as if all had been made after that
-        os.utime(os.path.join(tree, "target/native/libwimmostry.a"), (later + 1, later + 1))
-        os.utime(os.path.join(tree, "target/cli/release/wimmostry"), (later + 2, later + 2))
-        return done
-
-    proving(touched("crates/matrix/src/lib.rt"), "a source of the library")
-    later += 5
-    hold("script", touched("crates/matrix/must-fail/x.edit") == (7, b"some words\n", b""),
-         "an edit that must fail is no source")
-    write(os.path.join(tree, "target/cli/release/wimmostry"), b"#!/bin/bash\necho stale\n")
-    os.utime(os.path.join(tree, "target/cli/release/wimmostry"), (later, later))
-    later += 5
-    hold("script", touched("cli/src/main.rs") == (7, b"some words\n", b""),
-         "a source of the program")
+    write(os.path.join(tree, "crates/matrix/src/lib.rt"), b"changed")
+    proving(start(), "a source of the library")
+    os.makedirs(os.path.join(tree, "crates/matrix/must-fail"))
+    write(os.path.join(tree, "crates/matrix/must-fail/x.edit"), b"")
+    hold("script", start() == (7, b"some words\n", b""), "an edit that must fail is no source")
     shutil.rmtree(os.path.join(tree, "target"))
     done = run([shutil.which("bash"), os.path.join(tree, "box"), "x"], env={"PATH": tools})
     fine = done[0] == 4 and done[1] == b"" and done[2].startswith(b"box: nothing is built yet")
