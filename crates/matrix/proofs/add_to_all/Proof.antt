@@ -6,9 +6,8 @@ use native.Mathlib.Omega.{arith}
 use borrow.Author.Needs.{needs}
 use lib.ListN.{length, getD, take, drop}
 use Rattle.numbers.specs.Sum.{sumℕ}
-use Rattle.lists.proofs.Fill.{Filled, fill-end}
+use Rattle.lists.proofs.Fill.{Filled, fill-end, rows-start, rows-next, fill-rest}
 use Rattle.matrix.specs.Steps.{gained, partTerm}
-use Rattle.matrix.proofs.Extra.{rows-start, rows-next, fill-rest}
 use Rattle.matrix.proofs.Terms.{row-in, in-s, block-long, block-row}
 use Rattle.matrix.proofs.add_to_all.Statement.{statement}
 use Rattle.matrix.proofs.add_to_all.Tie as tie

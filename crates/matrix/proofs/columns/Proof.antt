@@ -8,9 +8,9 @@ use lib.ListN.{length}
 use lib.IntN.{ℤ}
 use Rattle.numbers.specs.Residue.{residue}
 use Rattle.lists.specs.Entries.{tab, ints}
-use Rattle.lists.proofs.Fill.{Filled, fill-end}
+use Rattle.lists.proofs.Fill.{Filled, fill-end, rows-start, rows-next}
 use Rattle.matrix.specs.Steps.{columnsOf}
-use Rattle.matrix.proofs.Extra.{part-long, rows-start, rows-next}
+use Rattle.lists.proofs.Parts.{slice-long}
 use Rattle.matrix.proofs.Terms.{row-in, column-row}
 use Rattle.matrix.proofs.columns.Statement.{statement}
 use Rattle.matrix.proofs.columns.Tie as tie
@@ -53,7 +53,7 @@ column-requires : tie.Need-column-requires Inv-loop μ-loop
 column-requires c κs =
     let l = c .before .before in
     let n = l .before .before .args .n in
-    (c .before .loop-test .taken, omega (arith, part-long (l .loop .j * n) n (l .loop .cols) (inside (c .before))))
+    (c .before .loop-test .taken, omega (arith, slice-long (l .loop .j * n) n (l .loop .cols) (inside (c .before))))
 
 add-j : tie.Need-add-j Inv-loop μ-loop
 add-j c = omega arith
@@ -69,7 +69,7 @@ loop-again c =
     let s = l .before .before .args .s .now in (
       omega arith,
       rows-next (l .loop .j) n _ (l .loop .inv .1) (omega (arith, inside i, l .loop .inv .1 .long))
-          (c .before .before .column .ensures ∙ column-row n _ (l .loop .j) s (part-long (l .loop .j * n) n (l .loop .cols) (inside i))),
+          (c .before .before .column .ensures ∙ column-row n _ (l .loop .j) s (slice-long (l .loop .j * n) n (l .loop .cols) (inside i))),
     )
 
 same-length : tie.Need-same-length Inv-loop μ-loop

@@ -4,7 +4,7 @@ use Prim.Native.Nat.{_+_, _*_, _≤_}
 use native.Mathlib.Omega.{arith}
 use borrow.Author.Needs.{needs}
 use lib.ListN.{length}
-use Rattle.matrix.proofs.Extra.{part-long, part-below}
+use Rattle.lists.proofs.Parts.{slice-long, slice-below}
 use Rattle.matrix.proofs.Terms.{in-y, part-terms}
 use Rattle.matrix.proofs.left_block.Statement.{statement}
 use Rattle.matrix.proofs.left_block.Tie as tie
@@ -38,7 +38,7 @@ narrow-requires : tie.Need-narrow-requires
 narrow-requires c κs =
     let a = c .before .before .before .before .before .before in
     let g = a .args in
-    (part-long (g .t * g .c) (g .m * g .c) (g .y .now) (rows a) ∙ sym (a .pre .2), part-below 65536 (g .t * g .c) (g .m * g .c) (g .y .now) (a .pre .0 .xs-below))
+    (slice-long (g .t * g .c) (g .m * g .c) (g .y .now) (rows a) ∙ sym (a .pre .2), slice-below (g .t * g .c) (g .m * g .c) (a .pre .0 .xs-below))
 
 add-to-all-requires : tie.Need-add-to-all-requires
 add-to-all-requires c κs = search needs

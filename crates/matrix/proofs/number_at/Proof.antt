@@ -1,6 +1,6 @@
 -- `matrix::number_at` meets its contract.
 use borrow.Author.Needs.{needs}
-use Rattle.matrix.proofs.Extra.{part-at}
+use Rattle.lists.proofs.Parts.{slice-at}
 use Rattle.matrix.proofs.number_at.Statement.{statement}
 use Rattle.matrix.proofs.number_at.Tie as tie
 
@@ -26,7 +26,7 @@ shared-slice-read-result : tie.Need-shared-slice-read-result
 shared-slice-read-result c = search needs
 
 returns : tie.Need-returns
-returns c = let a = c .before .before in part-at (a .args .a) (a .args .c) (a .args .y .now) 0 (a .args .j) (a .pre .1)
+returns c = let a = c .before .before in slice-at (a .args .a) (a .args .c) (a .args .y .now) 0 (a .args .j) (a .pre .1)
 
 pub number-at-spec : {M : Type 1} → statement M
 number-at-spec =

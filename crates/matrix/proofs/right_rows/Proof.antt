@@ -9,9 +9,9 @@ use lib.IntN.{ℤ}
 use Rattle.numbers.specs.Sum.{sumℕ}
 use Rattle.numbers.specs.Residue.{residue}
 use Rattle.lists.specs.Entries.{tab, ints}
-use Rattle.lists.proofs.Fill.{Filled, fill-end}
+use Rattle.lists.proofs.Fill.{Filled, fill-end, rows-start, rows-next}
 use Rattle.matrix.specs.Steps.{rightTerm}
-use Rattle.matrix.proofs.Extra.{part-long, rows-start, rows-next}
+use Rattle.lists.proofs.Parts.{slice-long}
 use Rattle.matrix.proofs.Steps.{reduced-gained}
 use Rattle.matrix.proofs.Terms.{row-in, lent-row, right-row}
 use Rattle.matrix.proofs.right_rows.Statement.{statement}
@@ -101,8 +101,8 @@ right-row-requires c κs =
     let b = a t in (
       b .pre .0,
       lent-row (l .i) (t .loop-test .taken) (b .pre .1),
-      part-long (l .i * 8) 8 (b .args .e .now) (in-e t),
-      part-long (l .i * 8) 8 (l .out) (in-out t),
+      slice-long (l .i * 8) 8 (b .args .e .now) (in-e t),
+      slice-long (l .i * 8) 8 (l .out) (in-out t),
     )
 
 add-i : tie.Need-add-i Inv-loop μ-loop
