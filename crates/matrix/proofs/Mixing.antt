@@ -9,13 +9,13 @@ use mathlib.Core.List.{List}
 use Prim.Native.Nat.{ℕ, _+_, _*_, _<_, _≤_}
 use lib.ListN.{getD}
 use lib.IntN.{ℤ, natAbs, _+ℤ_, _-ℤ_}
-use Rattle.numbers.specs.Residue.{residue, distance, apart, _≅⟨_⟩_}
+use Rattle.numbers.specs.Residue.{distance, apart, _≅⟨_⟩_}
 use Rattle.numbers.proofs.Ring.{cancel}
 use Rattle.numbers.proofs.Size.{abs-three}
 use Rattle.numbers.proofs.Congruence.{eq-≅, _⨾_, add-≅, sub-≅, residue-≅}
 use Rattle.numbers.proofs.Nearest.{distance-same}
 use Rattle.lists.specs.Entries.{nums, ints, Within}
-use Rattle.matrix.specs.Matrix.{times, rows, numsAt, intsAt}
+use Rattle.matrix.specs.Matrix.{times, numsAt, intsAt}
 use Rattle.matrix.specs.Mixing.{rightMixed, leftMixed, bare, difference, Identity}
 use Rattle.matrix.proofs.Laws.{times-≅, times-add-left, times-add-right, times-assoc, times-size}
 use Rattle.matrix.proofs.Rows.{nums-rows}

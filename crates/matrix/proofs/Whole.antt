@@ -3,9 +3,9 @@
 --   lent-columns, lent-words   what fits is lent, with the columns of S, or its rows, as words
 --   zeros-within           zeros as noise
 --   right-is, left-is, bare-is   XS + E by rows of X and columns of S; SY + E by rows of Y; US as XS + E without noise
-use mathlib.Core.Path.{_≡_, refl, _∙_, sym, ap, ap₂}
+use mathlib.Core.Path.{_≡_, refl, _∙_, ap, ap₂}
 use mathlib.Core.List.{List}
-use Prim.Native.Nat.{ℕ, zero, suc, _+_, _*_, _/_, _%_, _<_, _≤_}
+use Prim.Native.Nat.{ℕ, _+_, _*_, _/_, _%_, _<_, _≤_}
 use native.Mathlib.Omega.{arith}
 use native.Mathlib.Nat.{mod-lt, div-lt-iff-lt-mul}
 use lib.Arith.{digits-div, digits-mod, digits-lt}

@@ -40,12 +40,6 @@ add-column c = omega (arith, inside c)
 mul-column : tie.Need-mul-column Inv-loop μ-loop
 mul-column c = omega (arith, inside c)
 
-sub-column : tie.Need-sub-column Inv-loop μ-loop
-sub-column c = omega arith
-
-part-column-start : tie.Need-part-column-start Inv-loop μ-loop
-part-column-start c = search needs
-
 part-column-end : tie.Need-part-column-end Inv-loop μ-loop
 part-column-end c = inside c
 
@@ -54,12 +48,6 @@ column-requires c κs =
     let l = c .before .before in
     let n = l .before .before .args .n in
     (c .before .loop-test .taken, omega (arith, slice-long (l .loop .j * n) n (l .loop .cols) (inside (c .before))))
-
-add-j : tie.Need-add-j Inv-loop μ-loop
-add-j c = omega arith
-
-loop-less : tie.Need-loop-less Inv-loop μ-loop
-loop-less c = omega arith
 
 loop-again : tie.Need-loop-again Inv-loop μ-loop
 loop-again c =
@@ -86,4 +74,4 @@ returns c =
 pub columns-spec : {M : Type 1} → statement M
 columns-spec =
     tie.close
-    (tie.spec Inv-loop μ-loop loop-holds mul-a add-column mul-column sub-column part-column-start part-column-end column-requires add-j loop-less loop-again same-length returns)
+    (tie.spec Inv-loop μ-loop loop-holds mul-a add-column mul-column (search needs) (search needs) part-column-end column-requires (search needs) (search needs) loop-again same-length returns)

@@ -16,9 +16,6 @@ cast-residue64 c = wide-fits _ (c .fits .e)
 add-residue64 : tie.Need-add-residue64
 add-residue64 c = noise-fits _ _ (c .fits .sum) (c .fits .e) (c .pre .1)
 
-residue64-requires : tie.Need-residue64-requires
-residue64-requires c κs = search needs
-
 is : (c : tie.After-residue64) → let a = c .before .args in c .residue64 .result ≡ residue (a .q) (a .sum +ℤ a .e)
 is c =
     let s = c .before in
@@ -33,4 +30,4 @@ returns : tie.Need-returns
 returns c = is c
 
 pub reduce-spec : {M : Type 1} → statement M
-reduce-spec = tie.close (tie.spec cast-residue64 add-residue64 residue64-requires cast-result returns)
+reduce-spec = tie.close (tie.spec cast-residue64 add-residue64 (search needs) cast-result returns)
