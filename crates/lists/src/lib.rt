@@ -127,12 +127,12 @@ pub fn first_apart(xs: &[u32], ys: &[u32]) -> usize
     requires { ⌜ length (now xs) ≡ length (now ys) ⌝ }
     ensures { λ r. ⌜ r ≡ firstApart (was xs) (was ys) ⌝ }
 {
-    let mut i: usize = 0;
-    while i < xs.len() {
-        if xs[i] != ys[i] {
-            return i;
+    let mut at: usize = 0;
+    while at < xs.len() {
+        if xs[at] != ys[at] {
+            return at;
         }
-        i += 1;
+        at += 1;
     }
-    i
+    at
 }

@@ -1,17 +1,28 @@
 -- `polynomial::window_entry` meets its contract: below n it negates.
-use mathlib.Core.Path.{_∙_, ap}
-use Prim.Native.Nat.{_-_, _^_, _<_}
+use mathlib.Core.Path.{_≡_, _∙_, ap}
+use mathlib.Core.List.{List}
+use Prim.Native.Nat.{ℕ, _-_, _^_, _<_, _≤_}
 use native.Mathlib.Omega.{arith}
 use borrow.Author.Needs.{needs}
+use borrow.Author.Tests.{lt-ltb, le-ltb}
 use lib.ListN.{length, getD}
-use lib.IntN.{ℤ, negℤ}
+use lib.IntN.{ℤ, pos, negℤ}
 use mir.Syntax.{w64}
 use Rattle.numbers.specs.Residue.{nearest}
 use Rattle.numbers.proofs.Machine.{toZ-pos}
+use Rattle.lists.specs.Entries.{nums}
+use Rattle.polynomial.specs.Window.{both}
 use Rattle.polynomial.proofs.Kernel.{narrow-fits, narrow}
-use Rattle.polynomial.proofs.Window.{low-side, high-side}
 use Rattle.polynomial.proofs.window_entry.Statement.{statement}
 use Rattle.polynomial.proofs.window_entry.Tie as tie
+
+low-side : (q : ℕ) (a : List ℕ) (i : ℕ) → i < length a → nearest q (negℤ (pos (getD a i 0))) ≡ nearest q (both (length a) (nums a) i)
+unfolding both nums
+low-side q a i h = rw (lt-ltb i (length a) h)
+
+high-side : (q : ℕ) (a : List ℕ) (i : ℕ) → length a ≤ i → nearest q (pos (getD a (i - length a) 0)) ≡ nearest q (both (length a) (nums a) i)
+unfolding both nums
+high-side q a i h = rw (le-ltb i (length a) h)
 
 cast-negate64 : tie.Need-cast-negate64
 cast-negate64 c = record { sfits = omega (arith, c .shared-slice-known2 .given (c .before .before .before .args .i)) }
