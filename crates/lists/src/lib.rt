@@ -1,6 +1,6 @@
-// What every loop over lent slices needs: zeros over a whole buffer (01, "Refusal numbers and their order"), a copy, the
-// search for the place of a refusal, and that for the first difference of two lists. Numbers are u32, secrets and noise values i32, all else bytes; the laws that the proofs cite are stated once over
-// the element. A function that writes fills the whole of the slice it is lent, so a caller lends the part it means.
+// What every loop over lent slices needs: zeros over a whole buffer (01, "Refusal numbers and their order"), a copy, the search for the place of a
+// refusal, and that for the first difference of two lists. Numbers are u32, secrets and noise values i32, all else bytes; the laws that the proofs cite
+// are stated once over the element. A function that writes fills the whole of the slice it is lent, so a caller lends the part it means.
 ghost use mathlib.Core.Path.{_≡_};
 ghost use lib.ListN.{length, replicate};
 ghost use lib.IntN.{pos, natAbs};

@@ -17,8 +17,8 @@ use Rattle.numbers.specs.Residue.{residue}
 use Rattle.numbers.proofs.Sums.{natural, sum-ext}
 use Rattle.lists.specs.Entries.{tab, ints}
 use Rattle.lists.proofs.Entries.{tab-ext}
-use Rattle.matrix.specs.Steps.{wordsOf, gained, reduced, dotTerm, rightTerm, blockTerm, partTerm, leftTerm, blockGained, Lent}
 use Rattle.lists.proofs.Parts.{slice-long, slice-at, slice-below}
+use Rattle.matrix.specs.Steps.{wordsOf, gained, reduced, dotTerm, rightTerm, blockTerm, partTerm, leftTerm, blockGained, Lent}
 use Rattle.matrix.proofs.Steps.{reduced-gained}
 
 pub row-in : (r n i : ℕ) → i < r → i * n + n ≤ r * n

@@ -20,14 +20,14 @@ use Rattle.numbers.specs.Residue.{residue, nearest, _≅⟨_⟩_}
 use Rattle.numbers.proofs.Sums.{whole, sum-ext, sum-reverse}
 use Rattle.numbers.proofs.Congruence.{eq-≅, refl-≅, _⨾_, add-≅, mul-≅, sum-≅, same-residue}
 use Rattle.numbers.proofs.Nearest.{nearest-≅}
+use Rattle.numbers.proofs.Size.{abs-zero}
 use Rattle.lists.specs.Entries.{nums, ints, Within}
 use Rattle.lists.proofs.Entries.{tab-length, tab-ext, within-tab, ints-tab}
+use Rattle.lists.proofs.Parts.{slice-long, slice-at}
 use Rattle.polynomial.specs.Product.{turn, product}
 use Rattle.polynomial.specs.Mixing.{mixed, bare}
 use Rattle.polynomial.specs.Fit.{Fit}
 use Rattle.polynomial.specs.Window.{both, window, backwards, dot, against, slid, Laid}
-use Rattle.lists.proofs.Parts.{slice-long, slice-at}
-use Rattle.numbers.proofs.Size.{abs-zero}
 use Rattle.polynomial.proofs.Kernel.{nearest-small}
 use Rattle.polynomial.proofs.Turn.{turn-in, turn-over}
 use Rattle.polynomial.proofs.Laws.{product-comm}

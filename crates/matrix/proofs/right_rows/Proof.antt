@@ -10,8 +10,8 @@ use Rattle.numbers.specs.Sum.{sumℕ}
 use Rattle.numbers.specs.Residue.{residue}
 use Rattle.lists.specs.Entries.{tab, ints}
 use Rattle.lists.proofs.Fill.{Filled, fill-end, rows-start, rows-next}
-use Rattle.matrix.specs.Steps.{rightTerm}
 use Rattle.lists.proofs.Parts.{slice-long}
+use Rattle.matrix.specs.Steps.{rightTerm}
 use Rattle.matrix.proofs.Steps.{reduced-gained}
 use Rattle.matrix.proofs.Terms.{row-in, lent-row, right-row}
 use Rattle.matrix.proofs.right_rows.Statement.{statement}

@@ -5,8 +5,8 @@ use borrow.Author.Needs.{needs}
 use lib.IntN.{_+ℤ_}
 use Rattle.numbers.specs.Residue.{residue}
 use Rattle.numbers.proofs.Congruence.{residue-lt}
-use Rattle.polynomial.proofs.Kernel.{noise-fits, noise}
 use Rattle.numbers.proofs.Machine.{wide-fits}
+use Rattle.polynomial.proofs.Kernel.{noise-fits, noise}
 use Rattle.polynomial.proofs.reduce.Statement.{statement}
 use Rattle.polynomial.proofs.reduce.Tie as tie
 
