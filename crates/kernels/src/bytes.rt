@@ -2,12 +2,15 @@
 ghost use mathlib.Core.Path.{_≡_};
 ghost use Prim.Native.Nat.{_*_, _^_, _≤_, _<_};
 ghost use lib.ListN.{length};
+ghost use Rattle.lists.specs.Lent.{was, left, room};
 ghost use Rattle.lists.specs.Entries.{Below};
+ghost use Rattle.packing.specs.Packing.{packed, unpacked};
 
 #[no_mangle]
 pub extern "C" fn packing_pack(w: u32, xs: &[u32], out: &mut [u8])
     requires { ⌜ (0 < w) × (w ≤ 32) × Below (2 ^ w) (now xs) ⌝ }
     requires { ⌜ w * length (now xs) ≡ 8 * length (now out) ⌝ }
+    ensures { λ _. ⌜ left out ≡ packed w (was xs) ⌝ }
 {
     packing::pack(w, xs, out);
 }
@@ -16,6 +19,7 @@ pub extern "C" fn packing_pack(w: u32, xs: &[u32], out: &mut [u8])
 pub extern "C" fn packing_unpack(w: u32, bytes: &[u8], out: &mut [u32])
     requires { ⌜ (0 < w) × (w ≤ 32) ⌝ }
     requires { ⌜ 8 * length (now bytes) ≡ w * length (now out) ⌝ }
+    ensures { λ _. ⌜ left out ≡ unpacked w (room out) (was bytes) ⌝ }
 {
     packing::unpack(w, bytes, out);
 }

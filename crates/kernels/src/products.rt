@@ -2,14 +2,19 @@
 ghost use mathlib.Core.Path.{_≡_};
 ghost use Prim.Native.Nat.{_*_};
 ghost use lib.ListN.{length};
+ghost use Rattle.lists.specs.Lent.{was, left, room};
 ghost use Rattle.lists.specs.Entries.{Below, Within};
 ghost use Rattle.polynomial.specs.Fit as polynomial;
+ghost use Rattle.polynomial.specs.Mixing as polynomials;
+ghost use Rattle.transform.specs.Transform.{transformed, inverted, multiplied};
 ghost use Rattle.matrix.specs.Fit as matrix;
+ghost use Rattle.matrix.specs.Mixing as matrices;
 
 #[no_mangle]
 pub extern "C" fn polynomial_mix(q: u32, a: &[u32], s: &[i32], e: &[i32], out: &mut [u32])
     requires { ⌜ polynomial.Fit q (length (now out)) (now a) (now s) ⌝ }
     requires { ⌜ (length (now e) ≡ length (now out)) × Within 51 (now e) ⌝ }
+    ensures { λ _. ⌜ left out ≡ polynomials.mixed q (room out) (was a) (was s) (was e) ⌝ }
 {
     polynomial::mix(q, a, s, e, out);
 }
@@ -17,6 +22,7 @@ pub extern "C" fn polynomial_mix(q: u32, a: &[u32], s: &[i32], e: &[i32], out: &
 #[no_mangle]
 pub extern "C" fn polynomial_multiply(q: u32, u: &[u32], s: &[i32], out: &mut [u32])
     requires { ⌜ polynomial.Fit q (length (now out)) (now u) (now s) ⌝ }
+    ensures { λ _. ⌜ left out ≡ polynomials.bare q (room out) (was u) (was s) ⌝ }
 {
     polynomial::multiply(q, u, s, out);
 }
@@ -24,6 +30,7 @@ pub extern "C" fn polynomial_multiply(q: u32, u: &[u32], s: &[i32], out: &mut [u
 #[no_mangle]
 pub extern "C" fn transform_forward(g: &mut [u32; 1024])
     requires { ⌜ Below 12289 (now g) × (length (now g) ≡ 1024) ⌝ }
+    ensures { λ _. ⌜ left g ≡ transformed (was g) ⌝ }
 {
     transform::forward(g);
 }
@@ -31,6 +38,7 @@ pub extern "C" fn transform_forward(g: &mut [u32; 1024])
 #[no_mangle]
 pub extern "C" fn transform_inverse(g: &mut [u32; 1024])
     requires { ⌜ Below 12289 (now g) × (length (now g) ≡ 1024) ⌝ }
+    ensures { λ _. ⌜ left g ≡ inverted (was g) ⌝ }
 {
     transform::inverse(g);
 }
@@ -38,6 +46,7 @@ pub extern "C" fn transform_inverse(g: &mut [u32; 1024])
 #[no_mangle]
 pub extern "C" fn transform_product(a: &mut [u32; 1024], b: &mut [u32; 1024])
     requires { ⌜ Below 12289 (now a) × (length (now a) ≡ 1024) × Below 12289 (now b) × (length (now b) ≡ 1024) ⌝ }
+    ensures { λ _. ⌜ (left a ≡ multiplied (was a) (was b)) × (left b ≡ transformed (was b)) ⌝ }
 {
     transform::product(a, b);
 }
@@ -54,6 +63,7 @@ pub extern "C" fn matrix_mix_right(
 )
     requires { ⌜ matrix.Fit q n r (now x) (now s) × (length (now out) ≡ 8 * r) ⌝ }
     requires { ⌜ (length (now e) ≡ 8 * r) × Within 6 (now e) ⌝ }
+    ensures { λ _. ⌜ left out ≡ matrices.rightMixed q r n 8 (was x) (was s) (was e) ⌝ }
 {
     matrix::mix_right(q, n, r, x, s, e, out);
 }
@@ -70,6 +80,7 @@ pub extern "C" fn matrix_mix_left(
 )
     requires { ⌜ matrix.Fit q n c (now y) (now s) × (length (now out) ≡ 8 * c) ⌝ }
     requires { ⌜ (length (now e) ≡ 8 * c) × Within 6 (now e) ⌝ }
+    ensures { λ _. ⌜ left out ≡ matrices.leftMixed q n c 8 (was s) (was y) (was e) ⌝ }
 {
     matrix::mix_left(q, n, c, s, y, e, out);
 }
@@ -77,6 +88,7 @@ pub extern "C" fn matrix_mix_left(
 #[no_mangle]
 pub extern "C" fn matrix_multiply(q: u32, n: usize, u: &[u32], s: &[i32], out: &mut [u32])
     requires { ⌜ matrix.Fit q n 8 (now u) (now s) × (length (now out) ≡ 64) ⌝ }
+    ensures { λ _. ⌜ left out ≡ matrices.bare q n 8 (was u) (was s) ⌝ }
 {
     matrix::multiply(q, n, u, s, out);
 }

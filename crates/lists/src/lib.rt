@@ -1,10 +1,11 @@
-// What every loop over lent slices needs: zeros over a whole buffer (01, "Refusal numbers and their order"), a copy, and the
-// search for the place of a refusal. Numbers are u32, secrets and noise values i32, all else bytes; the laws that the proofs cite are stated once over
-// the element. A function that writes fills the whole of the slice it is lent, so a caller lends the part it means.
+// What every loop over lent slices needs: zeros over a whole buffer (01, "Refusal numbers and their order"), a copy, the search for the place of a
+// refusal, and that for the first difference of two lists. Numbers are u32, secrets and noise values i32, all else bytes; the laws that the proofs cite
+// are stated once over the element. A function that writes fills the whole of the slice it is lent, so a caller lends the part it means.
 ghost use mathlib.Core.Path.{_≡_};
 ghost use lib.ListN.{length, replicate};
 ghost use lib.IntN.{pos, natAbs};
-ghost use Rattle.lists.specs.First.{largestBy, firstOver, firstBeyond};
+ghost use Rattle.lists.specs.Lent.{was};
+ghost use Rattle.lists.specs.First.{largestBy, firstOver, firstBeyond, firstApart};
 
 pub fn zero_bytes(out: &mut [u8])
     ensures { λ _. ⌜ now (out .exit) ≡ replicate (length (now (out .entry))) 0 ⌝ }
@@ -119,4 +120,19 @@ pub fn first_beyond(bound: u32, s: &[i32]) -> usize
         return s.len();
     }
     search_beyond(bound, s)
+}
+
+// The first index at which two lists differ, or their length where they do not.
+pub fn first_apart(xs: &[u32], ys: &[u32]) -> usize
+    requires { ⌜ length (now xs) ≡ length (now ys) ⌝ }
+    ensures { λ r. ⌜ r ≡ firstApart (was xs) (was ys) ⌝ }
+{
+    let mut at: usize = 0;
+    while at < xs.len() {
+        if xs[at] != ys[at] {
+            return at;
+        }
+        at += 1;
+    }
+    at
 }

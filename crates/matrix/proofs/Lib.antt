@@ -1,7 +1,6 @@
 pub mod Laws
 pub mod Rows
 pub mod Mixing
-pub mod Extra
 pub mod Quotient
 pub mod Steps
 pub mod Terms

@@ -9,14 +9,14 @@ use mathlib.Core.List.{List}
 use Prim.Native.Nat.{ℕ, _+_, _*_, _<_, _≤_}
 use lib.ListN.{getD}
 use lib.IntN.{ℤ, natAbs, _+ℤ_, _-ℤ_}
-use Rattle.numbers.specs.Residue.{residue, distance, apart, _≅⟨_⟩_}
+use Rattle.numbers.specs.Residue.{distance, apart, _≅⟨_⟩_}
 use Rattle.numbers.proofs.Ring.{cancel}
 use Rattle.numbers.proofs.Size.{abs-three}
 use Rattle.numbers.proofs.Congruence.{eq-≅, _⨾_, add-≅, sub-≅, residue-≅}
 use Rattle.numbers.proofs.Nearest.{distance-same}
 use Rattle.lists.specs.Entries.{nums, ints, Within}
-use Rattle.matrix.specs.Matrix.{times, rows, numsAt, intsAt}
-use Rattle.matrix.specs.Mixing.{rightMixed, leftMixed, bare, difference}
+use Rattle.matrix.specs.Matrix.{times, numsAt, intsAt}
+use Rattle.matrix.specs.Mixing.{rightMixed, leftMixed, bare, difference, Identity}
 use Rattle.matrix.proofs.Laws.{times-≅, times-add-left, times-add-right, times-assoc, times-size}
 use Rattle.matrix.proofs.Rows.{nums-rows}
 
@@ -53,23 +53,20 @@ module _ (q n m : ℕ) (hq : 0 < q) where
   unfolding bare
   bare-at u s i j p h = eq-≅ (nums-rows m m _ i j p h) ⨾ residue-≅ q _ hq
 
-  pub identity :
-      (a : List ℕ) (s e s' e' e'' : List ℤ) (i j : ℕ) → i < m → j < m →
-      numsAt m (leftMixed q n m m s' (rightMixed q n n m a s e) e'') i j -ℤ numsAt m (bare q n m (leftMixed q n n m s' a e') s) i j
-      ≅⟨ q ⟩ difference n m s e s' e' e'' i j
-  unfolding difference
-  identity a s e s' e' e'' i j hi hj =
-      meet n (numsAt n a) (intsAt m s) (intsAt m e) (intsAt n s') (intsAt n e') (intsAt m e'')
-      (numsAt m (rightMixed q n n m a s e)) (numsAt n (leftMixed q n n m s' a e')) i j _ _
-      (λ t p. right-at n a s e t j p hj) (λ t p. left-at n s' a e' i t hi p)
-      (left-at m s' (rightMixed q n n m a s e) e'' i j hi hj) (bare-at (leftMixed q n n m s' a e') s i j hi hj)
+pub identity : Identity
+unfolding difference
+identity q n m hq a s e s' e' e'' i j hi hj =
+    meet n (numsAt n a) (intsAt m s) (intsAt m e) (intsAt n s') (intsAt n e') (intsAt m e'')
+    (numsAt m (rightMixed q n n m a s e)) (numsAt n (leftMixed q n n m s' a e')) i j _ _
+    (λ t p. right-at q n m hq n a s e t j p hj) (λ t p. left-at q n m hq n s' a e' i t hi p)
+    (left-at q n m hq m s' (rightMixed q n n m a s e) e'' i j hi hj) (bare-at q n m hq (leftMixed q n n m s' a e') s i j hi hj)
 
-  pub apart-difference :
-      (a : List ℕ) (s e s' e' e'' : List ℤ) (i j : ℕ) → i < m → j < m →
-      apart q (getD (leftMixed q n m m s' (rightMixed q n n m a s e) e'') (i * m + j) 0) (getD (bare q n m (leftMixed q n n m s' a e') s) (i * m + j) 0)
-      ≡ distance q (difference n m s e s' e' e'' i j)
-  unfolding apart numsAt nums
-  apart-difference a s e s' e' e'' i j hi hj = distance-same q hq (identity a s e s' e' e'' i j hi hj)
+pub apart-difference :
+    (q n m : ℕ) → 0 < q → (a : List ℕ) (s e s' e' e'' : List ℤ) (i j : ℕ) → i < m → j < m →
+    apart q (getD (leftMixed q n m m s' (rightMixed q n n m a s e) e'') (i * m + j) 0) (getD (bare q n m (leftMixed q n n m s' a e') s) (i * m + j) 0)
+    ≡ distance q (difference n m s e s' e' e'' i j)
+unfolding apart numsAt nums
+apart-difference q n m hq a s e s' e' e'' i j hi hj = distance-same q hq (identity q n m hq a s e s' e' e'' i j hi hj)
 
 pub difference-size :
     (n m B : ℕ) (s e s' e' e'' : List ℤ) → Within B s → Within B e → Within B s' → Within B e' → Within B e'' → (i j : ℕ) →

@@ -15,12 +15,11 @@ use lib.IntN.{ℤ, pos, _+ℤ_, _*ℤ_, +ℤ-comm}
 use Rattle.numbers.specs.Sum.{sum, sumℕ, sumℤ}
 use Rattle.numbers.specs.Residue.{residue, _≅⟨_⟩_}
 use Rattle.numbers.proofs.Sums.{natural, sum-split, pos-sum}
-use Rattle.numbers.proofs.Congruence.{eq-≅, _⨾_, add-≅, sum-≅, mod-≅, residue-≅, same-residue}
+use Rattle.numbers.proofs.Congruence.{finer-≅, eq-≅, _⨾_, add-≅, sum-≅, mod-≅, residue-≅, same-residue}
 use Rattle.lists.specs.Entries.{tab, ints}
 use Rattle.lists.proofs.Entries.{tab-length, tab-at, tab-ext, tab-getD}
 use Rattle.matrix.specs.Matrix.{times, rows, intsAt}
 use Rattle.matrix.specs.Steps.{wordsOf, gained, reduced}
-use Rattle.matrix.proofs.Extra.{finer-≅}
 
 pub words-length : (zs : List ℤ) → length (wordsOf zs) ≡ length zs
 unfolding wordsOf

@@ -17,8 +17,8 @@ use Rattle.numbers.specs.Residue.{residue}
 use Rattle.numbers.proofs.Sums.{natural, sum-ext}
 use Rattle.lists.specs.Entries.{tab, ints}
 use Rattle.lists.proofs.Entries.{tab-ext}
+use Rattle.lists.proofs.Parts.{slice-long, slice-at, slice-below}
 use Rattle.matrix.specs.Steps.{wordsOf, gained, reduced, dotTerm, rightTerm, blockTerm, partTerm, leftTerm, blockGained, Lent}
-use Rattle.matrix.proofs.Extra.{part-long, part-at, part-below}
 use Rattle.matrix.proofs.Steps.{reduced-gained}
 
 pub row-in : (r n i : ℕ) → i < r → i * n + n ≤ r * n
@@ -27,9 +27,9 @@ row-in r n i h = let m : suc i * n ≤ r * n = mul-le-mul-right n h in omega ari
 pub lent-row : {n r : ℕ} {x ws : List ℕ} (i : ℕ) → i < r → Lent n r x ws → Lent n 1 (take (i * n + n - i * n) (drop (i * n) x)) ws
 lent-row {n} {r} {x} {ws} i h f =
     record {
-      xs-long = part-long (i * n) n x (omega (arith, row-in r n i h, f .xs-long)) ∙ omega arith;
+      xs-long = slice-long (i * n) n x (omega (arith, row-in r n i h, f .xs-long)) ∙ omega arith;
       ws-long = f .ws-long;
-      xs-below = part-below 65536 (i * n) n x (f .xs-below);
+      xs-below = slice-below (i * n) n (f .xs-below);
     }
 
 pub column-row : (n m j : ℕ) (s : List ℤ) → m ≡ n
@@ -47,14 +47,14 @@ right-row q n i x cols e h o =
     o
     ∙ reduced-gained q n _ _
     ∙ ap (λ (k : ℕ). tab k (λ j. (residue 65536 (ints (take (i * 8 + 8 - i * 8) (drop (i * 8) e)) j) + sumℕ n (dotTerm n (take (i * n + n - i * n) (drop (i * n) x)) cols j)) % 65536 % q))
-    (part-long (i * 8) 8 e h)
+    (slice-long (i * 8) 8 e h)
     ∙ tab-ext 8 _ _
     (λ j p.
-    ap₂ (λ (z : ℤ) (s : ℕ). (residue 65536 z + s) % 65536 % q) (part-at (i * 8) 8 e (pos 0) j p)
+    ap₂ (λ (z : ℤ) (s : ℕ). (residue 65536 z + s) % 65536 % q) (slice-at (i * 8) 8 e (pos 0) j p)
     (sum-ext natural n _ _
     (λ t l.
     ap₂ (λ (a b : ℕ). a * b)
-    (part-at (i * n) n x 0 t l ∙ ap (λ (k : ℕ). getD x (k * n + t) 0) (sym (digits-div i p)))
+    (slice-at (i * n) n x 0 t l ∙ ap (λ (k : ℕ). getD x (k * n + t) 0) (sym (digits-div i p)))
     (ap (λ (k : ℕ). getD cols (k * n + t) 0) (sym (digits-mod i p))))))
 
 -- the block y of m rows, from row t of Y on, into row i of the 8 rows of sums
@@ -64,27 +64,27 @@ module _ (n c t m : ℕ) (s y : List ℕ) (hs : length s ≡ 8 * n) (b : t + m �
 
   module _ (sums l : List ℕ) (h : length sums ≡ 8 * c) (d : l ≡ take (i * c + c - i * c) (drop (i * c) sums)) where
     wide : length l ≡ c
-    wide = rw d (part-long (i * c) c sums (rw h (row-in 8 c i r)))
+    wide = rw d (slice-long (i * c) c sums (rw h (row-in 8 c i r)))
 
     pub block-long : length y ≡ length (take (i * n + t + m - (i * n + t)) (drop (i * n + t) s)) * length l
-    block-long = rw (part-long (i * n + t) m s in-s, wide) hy
+    block-long = rw (slice-long (i * n + t) m s in-s, wide) hy
 
     pub block-row : {p : List ℕ} → p ≡ blockGained (take (i * n + t + m - (i * n + t)) (drop (i * n + t) s)) y l
         → p ≡ tab c (λ j. (getD sums (i * c + j) 0 + sumℕ m (partTerm n c t s y (i * c + j))) % 65536)
     unfolding blockGained gained blockTerm partTerm
     block-row e =
         e
-        ∙ rw (wide, part-long (i * n + t) m s in-s)
+        ∙ rw (wide, slice-long (i * n + t) m s in-s)
         (tab-ext c _ _
         (λ j p.
         ap₂ (λ (z x : ℕ). (z + x) % 65536)
-        (ap (λ (k : List ℕ). getD k j 0) d ∙ part-at (i * c) c sums 0 j p)
+        (ap (λ (k : List ℕ). getD k j 0) d ∙ slice-at (i * c) c sums 0 j p)
         (sum-ext natural m _ _
         (λ u g.
         let e : i * n + t + u ≡ i * n + (t + u) = omega arith in
         ap₂ (λ (a b : ℕ). a * b)
         (ap (λ (k : ℕ). getD y (u * c + k) 0) (sym (digits-mod i p)))
-        (part-at (i * n + t) m s 0 u g ∙ ap (λ (k : ℕ). getD s k 0) e ∙ ap (λ (k : ℕ). getD s (k * n + (t + u)) 0) (sym (digits-div i p)))))))
+        (slice-at (i * n + t) m s 0 u g ∙ ap (λ (k : ℕ). getD s k 0) e ∙ ap (λ (k : ℕ). getD s (k * n + (t + u)) 0) (sym (digits-div i p)))))))
 
 module _ (n c t m : ℕ) (s y : List ℕ) (f : Lent n c y s) (b : t + m ≤ n) where
   pub in-y : t * c + m * c ≤ length y
@@ -104,4 +104,4 @@ module _ (n c t m : ℕ) (s y : List ℕ) (f : Lent n c y s) (b : t + m ≤ n) w
       let j : k % c < c = mod-lt k (omega arith) in
       let a : t * c + (u * c + k % c) ≡ (t + u) * c + k % c = omega arith in
       ap (λ (x : ℕ). x * getD s (k / c * n + (t + u)) 0)
-      (ap (λ (x : List ℕ). getD x (u * c + k % c) 0) e ∙ part-at (t * c) (m * c) y 0 (u * c + k % c) (digits-lt g j) ∙ ap (λ (x : ℕ). getD y x 0) a))))
+      (ap (λ (x : List ℕ). getD x (u * c + k % c) 0) e ∙ slice-at (t * c) (m * c) y 0 (u * c + k % c) (digits-lt g j) ∙ ap (λ (x : ℕ). getD y x 0) a))))

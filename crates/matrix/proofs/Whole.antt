@@ -1,21 +1,21 @@
 -- What the code makes of whole matrices is what the definitions say.
 --   column-at              an entry of the columns of S
 --   lent-columns, lent-words   what fits is lent, with the columns of S, or its rows, as words
---   zeros-within, prefix-long   zeros as noise; as many words as are lent
+--   zeros-within           zeros as noise
 --   right-is, left-is, bare-is   XS + E by rows of X and columns of S; SY + E by rows of Y; US as XS + E without noise
-use mathlib.Core.Path.{_≡_, refl, _∙_, sym, ap, ap₂}
+use mathlib.Core.Path.{_≡_, refl, _∙_, ap, ap₂}
 use mathlib.Core.List.{List}
-use Prim.Native.Nat.{ℕ, zero, suc, _+_, _*_, _/_, _%_, _<_, _≤_}
+use Prim.Native.Nat.{ℕ, _+_, _*_, _/_, _%_, _<_, _≤_}
 use native.Mathlib.Omega.{arith}
 use native.Mathlib.Nat.{mod-lt, div-lt-iff-lt-mul}
 use lib.Arith.{digits-div, digits-mod, digits-lt}
-use lib.ListN.{length, getD, take, replicate, length-replicate}
-use lib.Seq.{length-take-le}
-use lib.IntN.{ℤ, pos, _+ℤ_, _*ℤ_, +ℤ-idr, *ℤ-comm}
+use lib.ListN.{length, getD, replicate}
+use lib.IntN.{ℤ, pos, natAbs, _+ℤ_, _*ℤ_, +ℤ-idr, *ℤ-comm}
 use Rattle.numbers.specs.Residue.{residue, _≅⟨_⟩_}
 use Rattle.numbers.proofs.Congruence.{eq-≅, refl-≅, _⨾_, mul-≅, residue-≅}
 use Rattle.lists.specs.Entries.{nums, ints, Within}
 use Rattle.lists.proofs.Entries.{tab-length, tab-at, tab-ext}
+use Rattle.lists.proofs.Same.{equal-all}
 use Rattle.matrix.specs.Matrix.{times, rows, numsAt, intsAt}
 use Rattle.matrix.specs.Mixing.{rightMixed, leftMixed, bare}
 use Rattle.matrix.specs.Fit.{Fit}
@@ -65,26 +65,15 @@ left-is {q} {n} {c} {s} {y} e f d h o =
     product-≅ (getD y (t * c + k % c) 0) _ _ (words-at s (k / c * n + t) (rw (f .s-long) (digits-lt i b)))
     ⨾ eq-≅ (*ℤ-comm (pos (getD y (t * c + k % c) 0)) (ints s (k / c * n + t)))))
 
-zero-at : (m k : ℕ) → ints (replicate m (pos 0)) k ≡ pos 0
-unfolding ints
-zero-at zero k = refl
-zero-at (suc m) zero = refl
-zero-at (suc m) (suc k) = zero-at m k
-
 pub zeros-within : (m : ℕ) → Within 6 (replicate m (pos 0))
-unfolding ints
-zeros-within m = record { within = λ k. rw (zero-at m k) (omega arith) }
+zeros-within m = record { within = equal-all (λ z. natAbs z ≤ 6) (pos 0) m (omega arith) }
 
 pub bare-is : (q n : ℕ) (u : List ℕ) (s : List ℤ) {out : List ℕ} → out ≡ rightMixed q 8 n 8 u s (replicate 64 (pos 0)) → out ≡ bare q n 8 u s
-unfolding rightMixed bare rows intsAt
+unfolding rightMixed bare rows intsAt ints
 bare-is q n u s o =
     o
     ∙ tab-ext 64 _ _
     (λ k p.
     ap (residue q)
-    (ap (λ (z : ℤ). times n (numsAt n u) (intsAt 8 s) (k / 8) (k % 8) +ℤ z) (zero-at 64 (k / 8 * 8 + k % 8))
+    (ap (λ (z : ℤ). times n (numsAt n u) (intsAt 8 s) (k / 8) (k % 8) +ℤ z) (equal-all (λ z. z ≡ pos 0) (pos 0) 64 refl (k / 8 * 8 + k % 8))
     ∙ +ℤ-idr (times n (numsAt n u) (intsAt 8 s) (k / 8) (k % 8))))
-
--- the first n of m zeros, which the code lends
-pub prefix-long : (m n : ℕ) → n ≤ m → n ≡ length {A = ℕ} (take n (replicate m 0))
-prefix-long m n h = sym (length-take-le {A = ℕ} n (replicate m 0) (rw (length-replicate {A = ℕ} m 0) h))

@@ -15,8 +15,7 @@
 --   unpacked-length   n numbers come out
 --   unpacked-below    each of w bits
 --   no-bits           numbers of no bits are zeros
---   unpack-pack       numbers packed and unpacked are the same numbers, wherever they fill whole bytes
---   pack-unpack       bytes unpacked and packed are the same bytes, wherever whole numbers fill them
+--   unpack-pack, pack-unpack   packing and unpacking undo each other
 use mathlib.Core.Path.{_≡_, refl, sym, ap, _∙_}
 use mathlib.Core.List.{List, [], _∷_, _++_}
 use Prim.Native.Nat.{ℕ, zero, suc, _+_, _*_, _/_, _^_, _≤_, _<_}
@@ -29,7 +28,7 @@ use lib.Arith.{digits-div, digits-mod, digits-lt, lt-one}
 use Rattle.numbers.proofs.Natural.{power-power}
 use Rattle.lists.specs.Entries.{Below}
 use Rattle.lists.proofs.Parts.{below-tail}
-use Rattle.packing.specs.Packing.{value, digits, packed, unpacked}
+use Rattle.packing.specs.Packing.{value, digits, packed, unpacked, UnpackPack, PackUnpack}
 
 pub value-split : (b k : ℕ) (xs : List ℕ) → value b xs ≡ value b (take k xs) + b ^ k * value b (drop k xs)
 unfolding value
@@ -129,13 +128,13 @@ there-back : (b c m : ℕ) (xs : List ℕ) → 0 < c → Below b xs → b ^ leng
     → digits b (length xs) (value c (digits c m (value b xs))) ≡ xs
 there-back b c m xs p h e = rw (value-digits c m (value b xs) p (rw e at (value-below h (length xs) (omega arith)))) (digits-value h)
 
-pub unpack-pack : (w m : ℕ) (xs : List ℕ) → w * length xs ≡ 8 * m → Below (2 ^ w) xs → unpacked w (length xs) (packed w xs) ≡ xs
+pub unpack-pack : UnpackPack
 unfolding packed unpacked
 unpack-pack w m xs e h =
     let b : w * length xs / 8 ≡ m = omega arith in
     rw b (there-back (2 ^ w) 256 m xs (omega arith) h (same-room w (length xs) m e))
 
-pub pack-unpack : (w n : ℕ) (bs : List ℕ) → w * n ≡ 8 * length bs → Below 256 bs → packed w (unpacked w n bs) ≡ bs
+pub pack-unpack : PackUnpack
 unfolding packed unpacked
 pack-unpack w n bs e h =
     let b : w * n / 8 ≡ length bs = omega arith in

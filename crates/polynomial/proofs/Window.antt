@@ -2,7 +2,6 @@
 --   window-long, window-within         the entries of [-a | a]: how many, and how large where q is below 2^32
 --   backwards-long, backwards-within   the same of the secret, backwards
 --   laid               lists that are these two are what the dot products ask
---   low-side, high-side   an entry of [-a | a], by its half
 --   product-window     the product is the dot product of the secret, backwards, with the window of [-a | a] behind entry k
 --   window-≅           modulo q it is that of any numbers that are congruent to [-a | a], such as its signed remainders
 --   against-part       the dot product with the part of the window behind entry k, which the code lends
@@ -21,14 +20,14 @@ use Rattle.numbers.specs.Residue.{residue, nearest, _≅⟨_⟩_}
 use Rattle.numbers.proofs.Sums.{whole, sum-ext, sum-reverse}
 use Rattle.numbers.proofs.Congruence.{eq-≅, refl-≅, _⨾_, add-≅, mul-≅, sum-≅, same-residue}
 use Rattle.numbers.proofs.Nearest.{nearest-≅}
+use Rattle.numbers.proofs.Size.{abs-zero}
 use Rattle.lists.specs.Entries.{nums, ints, Within}
 use Rattle.lists.proofs.Entries.{tab-length, tab-ext, within-tab, ints-tab}
+use Rattle.lists.proofs.Parts.{slice-long, slice-at}
 use Rattle.polynomial.specs.Product.{turn, product}
 use Rattle.polynomial.specs.Mixing.{mixed, bare}
 use Rattle.polynomial.specs.Fit.{Fit}
 use Rattle.polynomial.specs.Window.{both, window, backwards, dot, against, slid, Laid}
-use Rattle.lists.proofs.Parts.{part-long, part-at}
-use Rattle.numbers.proofs.Size.{abs-zero}
 use Rattle.polynomial.proofs.Kernel.{nearest-small}
 use Rattle.polynomial.proofs.Turn.{turn-in, turn-over}
 use Rattle.polynomial.proofs.Laws.{product-comm}
@@ -67,30 +66,11 @@ laid q n a s w r f ew er =
 
 -- ---- the product
 
--- [-a | a]
-both-low : (n : ℕ) (a : ℕ → ℤ) (i : ℕ) → i < n → both n a i ≡ negℤ (a i)
+-- what comes round with a minus is read from -a
+turn-both : (n : ℕ) (a : ℕ → ℤ) (u k : ℕ) → u < n → k < n → Dec (u ≤ k) → turn n a u k ≡ both n a (n + k - u)
 unfolding both
-both-low n a i h = rw (lt-ltb i n h)
-
-both-high : (n : ℕ) (a : ℕ → ℤ) (i : ℕ) → n ≤ i → both n a i ≡ a (i - n)
-unfolding both
-both-high n a i h = rw (le-ltb i n h)
-
--- as the code reads it
-pub low-side : (q : ℕ) (a : List ℕ) (i : ℕ) → i < length a → nearest q (negℤ (pos (getD a i 0))) ≡ nearest q (both (length a) (nums a) i)
-unfolding nums
-low-side q a i h = ap (nearest q) (sym (both-low (length a) (nums a) i h))
-
-pub high-side : (q : ℕ) (a : List ℕ) (i : ℕ) → length a ≤ i → nearest q (pos (getD a (i - length a) 0)) ≡ nearest q (both (length a) (nums a) i)
-unfolding nums
-high-side q a i h = ap (nearest q) (sym (both-high (length a) (nums a) i h))
-
-turn-both : (n : ℕ) (a : ℕ → ℤ) (u k : ℕ) → u < n → k < n → turn n a u k ≡ both n a (n + k - u)
-turn-both n a u k hu hk = go (decLe u k)
-  where
-    go : Dec (u ≤ k) → turn n a u k ≡ both n a (n + k - u)
-    go (yes p) = turn-in n a u k p ∙ ap a (omega arith) ∙ sym (both-high n a (n + k - u) (omega arith))
-    go (no p) = turn-over n a u k (omega arith) ∙ sym (both-low n a (n + k - u) (omega arith))
+turn-both n a u k hu hk (yes p) = rw (le-ltb (n + k - u) n (omega arith)) (turn-in n a u k p ∙ ap a (omega arith))
+turn-both n a u k hu hk (no p) = rw (lt-ltb (n + k - u) n (omega arith)) (turn-over n a u k (omega arith))
 
 pub product-window : (n : ℕ) (a s : ℕ → ℤ) (k : ℕ) → k < n → product n a s k ≡ dot n (λ j. both n a (k + 1 + j)) (λ j. s (n - suc j))
 unfolding product dot
@@ -98,7 +78,7 @@ product-window n a s k h =
     product-comm n a s k h
     ∙ sum-reverse whole n _
     ∙ sum-ext whole n _ _ (λ j p.
-    ap (λ (t : ℤ). s (n - suc j) *ℤ t) (turn-both n a (n - suc j) k (omega arith) h ∙ ap (both n a) (omega arith))
+    ap (λ (t : ℤ). s (n - suc j) *ℤ t) (turn-both n a (n - suc j) k (omega arith) h (decLe (n - suc j) k) ∙ ap (both n a) (omega arith))
     ∙ *ℤ-comm (s (n - suc j)) (both n a (k + 1 + j)))
 
 -- the same of any numbers that are congruent to those of [-a | a]
@@ -119,9 +99,8 @@ pub against-part :
     dot (length part) (ints part) (ints s) ≡ against n w s k
 unfolding against dot ints
 against-part n w s k h l =
-    let m : k + 1 + n - (k + 1) ≡ n = omega arith in
-    rw (m, part-long (k + 1) n w (omega arith))
-    (sum-ext whole n _ _ (λ j p. ap (λ (t : ℤ). t *ℤ getD s j (pos 0)) (part-at (k + 1) n w (pos 0) j p)))
+    rw (slice-long (k + 1) n w (omega arith))
+    (sum-ext whole n _ _ (λ j p. ap (λ (t : ℤ). t *ℤ getD s j (pos 0)) (slice-at (k + 1) n w (pos 0) j p)))
 
 -- each entry of the window is congruent to that of [-a | a]
 window-at : (q n : ℕ) (a : List ℕ) (i : ℕ) → 0 < q → i < n + n → ints (window q n a) i ≅⟨ q ⟩ both n (nums a) i

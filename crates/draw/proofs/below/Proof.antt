@@ -7,12 +7,6 @@ use borrow.Author.Needs.{needs}
 use Rattle.draw.proofs.below.Statement.{statement}
 use Rattle.draw.proofs.below.Tie as tie
 
-mul-result : tie.Need-mul-result
-mul-result c = search needs
-
-rem-result : tie.Need-rem-result
-rem-result c = search needs
-
 cast-result : tie.Need-cast-result
 cast-result c = record { fits = omega (arith, c .fits .m .fits, mod-lt (19 * c .args .x) (c .pre .1)) }
 
@@ -20,4 +14,4 @@ returns : tie.Need-returns
 returns c = (refl, mod-lt (19 * c .args .x) (c .pre .1))
 
 pub below-spec : {M : Type 1} → statement M
-below-spec = tie.close (tie.spec mul-result rem-result cast-result returns)
+below-spec = tie.close (tie.spec (search needs) (search needs) cast-result returns)

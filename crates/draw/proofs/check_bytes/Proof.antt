@@ -1,6 +1,7 @@
 -- `draw::check_bytes` meets its contract.
 use Prim.Native.Nat.{_-_}
 use native.Mathlib.Omega.{arith}
+use borrow.Author.Needs.{needs}
 use lib.ListN.{length}
 use Rattle.draw.specs.Draw.{itself}
 use Rattle.draw.proofs.Streams.{Summed, sum-start, sum-next, sum-end}
@@ -16,20 +17,11 @@ abbrev μ-loop : tie.MeasureT-loop
 loop-holds : tie.Need-loop-holds Inv-loop μ-loop
 loop-holds c = sum-start _ _
 
-shared-slice-read-more : tie.Need-shared-slice-read-more Inv-loop μ-loop
-shared-slice-read-more c = omega arith
-
 cast-more : tie.Need-cast-more Inv-loop μ-loop
 cast-more c = record { fits = omega (arith, c .shared-slice-known2 .given (c .before .before .loop .i)) }
 
 more-requires : tie.Need-more-requires Inv-loop μ-loop
 more-requires c κs = (omega arith, omega (arith, c .shared-slice-known2 .given (c .before .before .loop .i)))
-
-add-i : tie.Need-add-i Inv-loop μ-loop
-add-i c = omega arith
-
-loop-less : tie.Need-loop-less Inv-loop μ-loop
-loop-less c = omega arith
 
 loop-again : tie.Need-loop-again Inv-loop μ-loop
 loop-again c = sum-next _ 0 (c .before .before .before .loop .inv) (omega arith) (c .more .ensures .0) (c .more .ensures .1)
@@ -38,4 +30,5 @@ returns : tie.Need-returns Inv-loop μ-loop
 returns c = sum-end (c .before .loop .inv) (omega arith)
 
 pub check-bytes-spec : {M : Type 1} → statement M
-check-bytes-spec = tie.close (tie.spec Inv-loop μ-loop loop-holds shared-slice-read-more cast-more more-requires add-i loop-less loop-again returns)
+check-bytes-spec = tie.close
+    (tie.spec Inv-loop μ-loop loop-holds (search needs) cast-more more-requires (search needs) (search needs) loop-again returns)

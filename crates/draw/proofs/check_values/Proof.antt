@@ -21,24 +21,6 @@ abbrev μ-loop : tie.MeasureT-loop
 loop-holds : tie.Need-loop-holds Inv-loop μ-loop
 loop-holds c = sum-start _ _
 
-mul-counted : tie.Need-mul-counted Inv-loop μ-loop
-mul-counted c = omega arith
-
-shared-slice-copy-out-counted : tie.Need-shared-slice-copy-out-counted Inv-loop μ-loop
-shared-slice-copy-out-counted c = omega arith
-
-counted-requires : tie.Need-counted-requires Inv-loop μ-loop
-counted-requires c κs = search needs
-
-more-requires : tie.Need-more-requires Inv-loop μ-loop
-more-requires c κs = search needs
-
-add-i : tie.Need-add-i Inv-loop μ-loop
-add-i c = omega arith
-
-loop-less : tie.Need-loop-less Inv-loop μ-loop
-loop-less c = omega arith
-
 loop-again : tie.Need-loop-again Inv-loop μ-loop
 loop-again c =
     sum-next _ (pos 0) (c .before .before .before .before .loop .inv) (omega arith)
@@ -49,4 +31,5 @@ returns : tie.Need-returns Inv-loop μ-loop
 returns c = sum-end (c .before .loop .inv) (omega arith)
 
 pub check-values-spec : {M : Type 1} → statement M
-check-values-spec = tie.close (tie.spec Inv-loop μ-loop loop-holds mul-counted shared-slice-copy-out-counted counted-requires more-requires add-i loop-less loop-again returns)
+check-values-spec = tie.close
+    (tie.spec Inv-loop μ-loop loop-holds (search needs) (search needs) (search needs) (search needs) (search needs) (search needs) loop-again returns)

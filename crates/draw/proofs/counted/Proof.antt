@@ -11,13 +11,10 @@ use Rattle.draw.proofs.counted.Tie as tie
 cast-residue64 : tie.Need-cast-residue64
 cast-residue64 c = wide-fits _ (c .fits .z)
 
-residue64-requires : tie.Need-residue64-requires
-residue64-requires c κs = search needs
-
 returns : tie.Need-returns
 returns c =
     let e = c .residue64 .ensures ∙ ap (residue 4294967296) (wide _ (c .before .fits .z)) in
     (e, omega (arith, e, residue-lt 4294967296 (c .before .args .z) (omega arith)))
 
 pub counted-spec : {M : Type 1} → statement M
-counted-spec = tie.close (tie.spec cast-residue64 residue64-requires returns)
+counted-spec = tie.close (tie.spec cast-residue64 (search needs) returns)

@@ -21,21 +21,6 @@ abbrev μ-loop : tie.MeasureT-loop
 loop-holds : tie.Need-loop-holds Inv-loop μ-loop
 loop-holds c = draw-start _ _ _ (omega arith)
 
-next-requires : tie.Need-next-requires Inv-loop μ-loop
-next-requires c κs = search needs
-
-within-requires : tie.Need-within-requires Inv-loop μ-loop
-within-requires c κs = search needs
-
-mul-t6 : tie.Need-mul-t6 Inv-loop μ-loop
-mul-t6 c = omega arith
-
-slice-set-from-out : tie.Need-slice-set-from-out Inv-loop μ-loop
-slice-set-from-out c = omega arith
-
-add-i : tie.Need-add-i Inv-loop μ-loop
-add-i c = omega arith
-
 loop-less : tie.Need-loop-less Inv-loop μ-loop
 loop-less c = simp length-set (omega arith)
 
@@ -55,4 +40,5 @@ returns : tie.Need-returns Inv-loop μ-loop
 returns c = fill-end (c .before .loop .inv .filled) (omega arith)
 
 pub values-spec : {M : Type 1} → statement M
-values-spec = tie.close (tie.spec Inv-loop μ-loop loop-holds next-requires within-requires mul-t6 slice-set-from-out add-i loop-less loop-again same-length returns)
+values-spec = tie.close
+    (tie.spec Inv-loop μ-loop loop-holds (search needs) (search needs) (search needs) (search needs) (search needs) loop-less loop-again same-length returns)

@@ -6,17 +6,8 @@ use borrow.Author.Needs.{needs}
 use Rattle.front.proofs.publics_in.Statement.{statement}
 use Rattle.front.proofs.publics_in.Tie as tie
 
-enum-told : tie.Need-enum-told
-enum-told c = search needs
-
-enum-told-2 : tie.Need-enum-told-2
-enum-told-2 c = search needs
-
 returns : tie.Need-returns
 returns c = stays _ (c .enum-told2 .given .1)
-
-first-over-requires : tie.Need-first-over-requires
-first-over-requires c κs = search needs
 
 returns-2 : tie.Need-returns-2
 unfolding publicsIn
@@ -31,5 +22,4 @@ returns-3 c =
     goes-on (c .before .before .enum-told .given .1) (rw (le-ltb _ _ (rw e at (c .if1 .left))))
 
 pub publics-in-spec : {M : Type 1} → statement M
-publics-in-spec =
-    tie.close (tie.spec enum-told enum-told-2 returns first-over-requires returns-2 returns-3)
+publics-in-spec = tie.close (tie.spec (search needs) (search needs) returns (search needs) returns-2 returns-3)

@@ -16,22 +16,8 @@ slice-aggregate-add-rows c = rw (all (c .before)) (omega arith)
 add-rows-requires : tie.Need-add-rows-requires
 add-rows-requires c κs = rw (all (c .before .before)) (c .before .before .before .before .before .before .pre)
 
-add-rows-requires-2 : tie.Need-add-rows-requires-2
-add-rows-requires-2 c κs = search needs
-
-same-length : tie.Need-same-length
-same-length c = search needs
-
 returns : tie.Need-returns
 returns c = rw (all (c .before .before .before .before .before)) at (c .before .before .add-rows .ensures)
 
-same-length-2 : tie.Need-same-length-2
-same-length-2 c = search needs
-
-returns-2 : tie.Need-returns-2
-returns-2 c = search needs
-
 pub add-block-spec : {M : Type 1} → statement M
-add-block-spec =
-    tie.close
-    (tie.spec slice-aggregate-add-rows add-rows-requires add-rows-requires-2 same-length returns same-length-2 returns-2)
+add-block-spec = tie.close (tie.spec slice-aggregate-add-rows add-rows-requires (search needs) (search needs) returns (search needs) (λ c. search needs))

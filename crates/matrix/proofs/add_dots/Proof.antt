@@ -2,6 +2,7 @@
 use mathlib.Core.Path.{_≡_, _∙_, sym, ap}
 use Prim.Native.Nat.{ℕ, _-_, _≤_}
 use native.Mathlib.Omega.{arith}
+use borrow.Author.Needs.{needs}
 use lib.ListN.{length}
 use Rattle.matrix.specs.Steps.{gained, dotTerm}
 use Rattle.matrix.proofs.Steps.{gained-length, gained-none, gained-next}
@@ -20,12 +21,6 @@ loop-holds c = (omega arith, sym (gained-none _ _ (λ k. omega (arith, c .slice-
 long : (c : tie.At-loop Inv-loop μ-loop) → length (c .loop .sums) ≡ 8
 long c = rw (c .loop .inv .1) (gained-length _ _ _ ∙ c .before .before .before .before .pre .1)
 
-mul-add-products : tie.Need-mul-add-products Inv-loop μ-loop
-mul-add-products c = omega arith
-
-shared-slice-read-add-products : tie.Need-shared-slice-read-add-products Inv-loop μ-loop
-shared-slice-read-add-products c = omega arith
-
 cast-add-products : tie.Need-cast-add-products Inv-loop μ-loop
 cast-add-products c = record { fits = c .before .before .before .before .before .before .pre .0 .xs-below .below (c .before .before .loop .t) }
 
@@ -33,12 +28,6 @@ add-products-requires : tie.Need-add-products-requires Inv-loop μ-loop
 add-products-requires c κs =
     let l = c .before .before .before in
     (omega arith, l .before .before .before .before .pre .0 .ws-long, long l)
-
-add-t : tie.Need-add-t Inv-loop μ-loop
-add-t c = omega arith
-
-loop-less : tie.Need-loop-less Inv-loop μ-loop
-loop-less c = omega arith
 
 loop-again : tie.Need-loop-again Inv-loop μ-loop
 unfolding dotTerm
@@ -58,4 +47,4 @@ returns c =
 pub add-dots-spec : {M : Type 1} → statement M
 add-dots-spec =
     tie.close
-    (tie.spec Inv-loop μ-loop loop-holds mul-add-products shared-slice-read-add-products cast-add-products add-products-requires add-t loop-less loop-again same-length returns)
+    (tie.spec Inv-loop μ-loop loop-holds (search needs) (search needs) cast-add-products add-products-requires (search needs) (search needs) loop-again same-length returns)

@@ -16,11 +16,5 @@ mul-result c = record { fits = omega (arith, small c) }
 add-result : tie.Need-add-result
 add-result c = record { fits = omega (arith, small c) }
 
-cast-result : tie.Need-cast-result
-cast-result c = search needs
-
-returns : tie.Need-returns
-returns c = search needs
-
 pub add-product-spec : {M : Type 1} → statement M
-add-product-spec = tie.close (tie.spec mul-result add-result cast-result returns)
+add-product-spec = tie.close (tie.spec mul-result add-result (search needs) (search needs))

@@ -27,12 +27,6 @@ loop-holds c = fill-start _ _
 place : (c : tie.In-loop Inv-loop μ-loop) → let a = c .before .before .before .before .args in c .before .loop .j * a .n + a .t < 8 * a .n
 place c = digits-lt (c .loop-test .taken) (c .before .before .before .before .pre .0)
 
-mul-add-product : tie.Need-mul-add-product Inv-loop μ-loop
-mul-add-product c = omega arith
-
-slice-read-add-product : tie.Need-slice-read-add-product Inv-loop μ-loop
-slice-read-add-product c = omega arith
-
 mul-add-product-2 : tie.Need-mul-add-product-2 Inv-loop μ-loop
 mul-add-product-2 c = omega (arith, place (c .before))
 
@@ -44,21 +38,6 @@ mul-add-product-3 c = omega (arith, place (c .before))
 
 shared-slice-read-add-product : tie.Need-shared-slice-read-add-product Inv-loop μ-loop
 shared-slice-read-add-product c = omega (arith, place (c .before .before))
-
-add-product-requires : tie.Need-add-product-requires Inv-loop μ-loop
-add-product-requires c κs = search needs
-
-mul-sums : tie.Need-mul-sums Inv-loop μ-loop
-mul-sums c = omega arith
-
-slice-write-sums : tie.Need-slice-write-sums Inv-loop μ-loop
-slice-write-sums c = omega arith
-
-add-j : tie.Need-add-j Inv-loop μ-loop
-add-j c = omega arith
-
-loop-less : tie.Need-loop-less Inv-loop μ-loop
-loop-less c = omega arith
 
 loop-again : tie.Need-loop-again Inv-loop μ-loop
 loop-again c =
@@ -76,21 +55,4 @@ returns c =
 pub add-products-spec : {M : Type 1} → statement M
 add-products-spec =
     tie.close
-    (tie.spec
-    Inv-loop
-    μ-loop
-    loop-holds
-    mul-add-product
-    slice-read-add-product
-    mul-add-product-2
-    add-add-product
-    mul-add-product-3
-    shared-slice-read-add-product
-    add-product-requires
-    mul-sums
-    slice-write-sums
-    add-j
-    loop-less
-    loop-again
-    same-length
-    returns)
+    (tie.spec Inv-loop μ-loop loop-holds (search needs) (search needs) mul-add-product-2 add-add-product mul-add-product-3 shared-slice-read-add-product (search needs) (search needs) (search needs) (search needs) (search needs) loop-again same-length returns)

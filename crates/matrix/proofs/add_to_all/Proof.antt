@@ -6,9 +6,8 @@ use native.Mathlib.Omega.{arith}
 use borrow.Author.Needs.{needs}
 use lib.ListN.{length, getD, take, drop}
 use Rattle.numbers.specs.Sum.{sumℕ}
-use Rattle.lists.proofs.Fill.{Filled, fill-end}
+use Rattle.lists.proofs.Fill.{Filled, fill-end, rows-start, rows-next, fill-rest}
 use Rattle.matrix.specs.Steps.{gained, partTerm}
-use Rattle.matrix.proofs.Extra.{rows-start, rows-next, fill-rest}
 use Rattle.matrix.proofs.Terms.{row-in, in-s, block-long, block-row}
 use Rattle.matrix.proofs.add_to_all.Statement.{statement}
 use Rattle.matrix.proofs.add_to_all.Tie as tie
@@ -63,12 +62,6 @@ add-add-block c = omega (arith, secrets c)
 mul-add-block : tie.Need-mul-add-block Inv-loop μ-loop
 mul-add-block c = omega (arith, secrets c)
 
-sub-add-block : tie.Need-sub-add-block Inv-loop μ-loop
-sub-add-block c = omega arith
-
-part-add-block-start : tie.Need-part-add-block-start Inv-loop μ-loop
-part-add-block-start c = search needs
-
 part-add-block-end : tie.Need-part-add-block-end Inv-loop μ-loop
 part-add-block-end c = secrets c
 
@@ -77,12 +70,6 @@ add-add-block-2 c = omega (arith, row (c .before))
 
 mul-add-block-2 : tie.Need-mul-add-block-2 Inv-loop μ-loop
 mul-add-block-2 c = omega (arith, row (c .before))
-
-sub-add-block-2 : tie.Need-sub-add-block-2 Inv-loop μ-loop
-sub-add-block-2 c = omega arith
-
-part-add-block-start-2 : tie.Need-part-add-block-start-2 Inv-loop μ-loop
-part-add-block-start-2 c = search needs
 
 part-add-block-end-2 : tie.Need-part-add-block-end-2 Inv-loop μ-loop
 part-add-block-end-2 c = row (c .before)
@@ -93,12 +80,6 @@ add-block-requires c κs =
     let g = a b .args in
     let p = a b .pre in
     block-long (g .n) (g .c) (g .t) (g .m) (g .s .now) (g .y .now) (p .0) (p .1) (p .2) (i b) (b .loop-test .taken) (g .sums .now) _ (p .3) (same b)
-
-add-i : tie.Need-add-i Inv-loop μ-loop
-add-i c = omega arith
-
-loop-less : tie.Need-loop-less Inv-loop μ-loop
-loop-less c = omega arith
 
 loop-again : tie.Need-loop-again Inv-loop μ-loop
 loop-again c =
@@ -123,26 +104,4 @@ returns c =
 pub add-to-all-spec : {M : Type 1} → statement M
 add-to-all-spec =
     tie.close
-    (tie.spec
-    Inv-loop
-    μ-loop
-    loop-holds
-    mul-a
-    mul-b
-    add-b
-    add-add-block
-    mul-add-block
-    sub-add-block
-    part-add-block-start
-    part-add-block-end
-    add-add-block-2
-    mul-add-block-2
-    sub-add-block-2
-    part-add-block-start-2
-    part-add-block-end-2
-    add-block-requires
-    add-i
-    loop-less
-    loop-again
-    same-length
-    returns)
+    (tie.spec Inv-loop μ-loop loop-holds mul-a mul-b add-b add-add-block mul-add-block (search needs) (search needs) part-add-block-end add-add-block-2 mul-add-block-2 (search needs) (search needs) part-add-block-end-2 add-block-requires (search needs) (search needs) loop-again same-length returns)

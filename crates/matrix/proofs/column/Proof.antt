@@ -24,30 +24,6 @@ abbrev μ-loop : tie.MeasureT-loop
 loop-holds : tie.Need-loop-holds Inv-loop μ-loop
 loop-holds c = fill-start _ _
 
-mul-word : tie.Need-mul-word Inv-loop μ-loop
-mul-word c = omega arith
-
-add-word : tie.Need-add-word Inv-loop μ-loop
-add-word c = omega arith
-
-mul-word-2 : tie.Need-mul-word-2 Inv-loop μ-loop
-mul-word-2 c = omega arith
-
-shared-slice-copy-out-word : tie.Need-shared-slice-copy-out-word Inv-loop μ-loop
-shared-slice-copy-out-word c = omega arith
-
-word-requires : tie.Need-word-requires Inv-loop μ-loop
-word-requires c κs = search needs
-
-mul-out : tie.Need-mul-out Inv-loop μ-loop
-mul-out c = omega arith
-
-slice-write-out : tie.Need-slice-write-out Inv-loop μ-loop
-slice-write-out c = omega arith
-
-add-t : tie.Need-add-t Inv-loop μ-loop
-add-t c = omega arith
-
 loop-less : tie.Need-loop-less Inv-loop μ-loop
 loop-less c = simp length-set (omega arith)
 
@@ -66,4 +42,4 @@ returns c = fill-end (c .before .loop .inv) (omega arith)
 pub column-spec : {M : Type 1} → statement M
 column-spec =
     tie.close
-    (tie.spec Inv-loop μ-loop loop-holds mul-word add-word mul-word-2 shared-slice-copy-out-word word-requires mul-out slice-write-out add-t loop-less loop-again same-length returns)
+    (tie.spec Inv-loop μ-loop loop-holds (search needs) (search needs) (search needs) (search needs) (search needs) (search needs) (search needs) (search needs) loop-less loop-again same-length returns)

@@ -8,9 +8,9 @@ use lib.ListN.{length}
 use lib.IntN.{ℤ}
 use Rattle.numbers.specs.Residue.{residue}
 use Rattle.lists.specs.Entries.{tab, ints}
-use Rattle.lists.proofs.Fill.{Filled, fill-end}
+use Rattle.lists.proofs.Fill.{Filled, fill-end, rows-start, rows-next}
+use Rattle.lists.proofs.Parts.{slice-long}
 use Rattle.matrix.specs.Steps.{columnsOf}
-use Rattle.matrix.proofs.Extra.{part-long, rows-start, rows-next}
 use Rattle.matrix.proofs.Terms.{row-in, column-row}
 use Rattle.matrix.proofs.columns.Statement.{statement}
 use Rattle.matrix.proofs.columns.Tie as tie
@@ -40,12 +40,6 @@ add-column c = omega (arith, inside c)
 mul-column : tie.Need-mul-column Inv-loop μ-loop
 mul-column c = omega (arith, inside c)
 
-sub-column : tie.Need-sub-column Inv-loop μ-loop
-sub-column c = omega arith
-
-part-column-start : tie.Need-part-column-start Inv-loop μ-loop
-part-column-start c = search needs
-
 part-column-end : tie.Need-part-column-end Inv-loop μ-loop
 part-column-end c = inside c
 
@@ -53,13 +47,7 @@ column-requires : tie.Need-column-requires Inv-loop μ-loop
 column-requires c κs =
     let l = c .before .before in
     let n = l .before .before .args .n in
-    (c .before .loop-test .taken, omega (arith, part-long (l .loop .j * n) n (l .loop .cols) (inside (c .before))))
-
-add-j : tie.Need-add-j Inv-loop μ-loop
-add-j c = omega arith
-
-loop-less : tie.Need-loop-less Inv-loop μ-loop
-loop-less c = omega arith
+    (c .before .loop-test .taken, omega (arith, slice-long (l .loop .j * n) n (l .loop .cols) (inside (c .before))))
 
 loop-again : tie.Need-loop-again Inv-loop μ-loop
 loop-again c =
@@ -69,7 +57,7 @@ loop-again c =
     let s = l .before .before .args .s .now in (
       omega arith,
       rows-next (l .loop .j) n _ (l .loop .inv .1) (omega (arith, inside i, l .loop .inv .1 .long))
-          (c .before .before .column .ensures ∙ column-row n _ (l .loop .j) s (part-long (l .loop .j * n) n (l .loop .cols) (inside i))),
+          (c .before .before .column .ensures ∙ column-row n _ (l .loop .j) s (slice-long (l .loop .j * n) n (l .loop .cols) (inside i))),
     )
 
 same-length : tie.Need-same-length Inv-loop μ-loop
@@ -86,4 +74,4 @@ returns c =
 pub columns-spec : {M : Type 1} → statement M
 columns-spec =
     tie.close
-    (tie.spec Inv-loop μ-loop loop-holds mul-a add-column mul-column sub-column part-column-start part-column-end column-requires add-j loop-less loop-again same-length returns)
+    (tie.spec Inv-loop μ-loop loop-holds mul-a add-column mul-column (search needs) (search needs) part-column-end column-requires (search needs) (search needs) loop-again same-length returns)

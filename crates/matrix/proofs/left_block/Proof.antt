@@ -4,7 +4,7 @@ use Prim.Native.Nat.{_+_, _*_, _≤_}
 use native.Mathlib.Omega.{arith}
 use borrow.Author.Needs.{needs}
 use lib.ListN.{length}
-use Rattle.matrix.proofs.Extra.{part-long, part-below}
+use Rattle.lists.proofs.Parts.{slice-long, slice-below}
 use Rattle.matrix.proofs.Terms.{in-y, part-terms}
 use Rattle.matrix.proofs.left_block.Statement.{statement}
 use Rattle.matrix.proofs.left_block.Tie as tie
@@ -16,20 +16,11 @@ rows a = in-y (a .args .n) (a .args .c) (a .args .t) (a .args .m) (a .args .s .n
 mul-d : tie.Need-mul-d
 mul-d c = omega (arith, rows (c .before .before .before .before))
 
-mul-f : tie.Need-mul-f
-mul-f c = search needs
-
 add-f : tie.Need-add-f
 add-f c = omega (arith, rows (c .before .before .before .before))
 
 mul-narrow : tie.Need-mul-narrow
 mul-narrow c = omega (arith, rows (c .before .before .before .before))
-
-sub-narrow : tie.Need-sub-narrow
-sub-narrow c = search needs
-
-part-narrow-start : tie.Need-part-narrow-start
-part-narrow-start c = search needs
 
 part-narrow-end : tie.Need-part-narrow-end
 part-narrow-end c = rows (c .before .before .before .before)
@@ -38,16 +29,7 @@ narrow-requires : tie.Need-narrow-requires
 narrow-requires c κs =
     let a = c .before .before .before .before .before .before in
     let g = a .args in
-    (part-long (g .t * g .c) (g .m * g .c) (g .y .now) (rows a) ∙ sym (a .pre .2), part-below 65536 (g .t * g .c) (g .m * g .c) (g .y .now) (a .pre .0 .xs-below))
-
-add-to-all-requires : tie.Need-add-to-all-requires
-add-to-all-requires c κs = search needs
-
-same-length : tie.Need-same-length
-same-length c = search needs
-
-same-length-2 : tie.Need-same-length-2
-same-length-2 c = search needs
+    (slice-long (g .t * g .c) (g .m * g .c) (g .y .now) (rows a) ∙ sym (a .pre .2), slice-below (g .t * g .c) (g .m * g .c) (a .pre .0 .xs-below))
 
 returns : tie.Need-returns
 returns c =
@@ -61,4 +43,4 @@ returns c =
 pub left-block-spec : {M : Type 1} → statement M
 left-block-spec =
     tie.close
-    (tie.spec mul-d mul-f add-f mul-narrow sub-narrow part-narrow-start part-narrow-end narrow-requires add-to-all-requires same-length same-length-2 returns)
+    (tie.spec mul-d (search needs) add-f mul-narrow (search needs) (search needs) part-narrow-end narrow-requires (search needs) (search needs) (search needs) returns)

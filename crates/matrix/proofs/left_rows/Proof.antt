@@ -20,12 +20,6 @@ abbrev μ-loop : tie.MeasureT-loop
 loop-holds : tie.Need-loop-holds Inv-loop μ-loop
 loop-holds c = (omega arith, refl, sym (gained-none _ _ (λ k. omega (arith, c .slice-known2 .given k))))
 
-sub-at-most-four : tie.Need-sub-at-most-four Inv-loop μ-loop
-sub-at-most-four c = omega arith
-
-at-most-four-requires : tie.Need-at-most-four-requires Inv-loop μ-loop
-at-most-four-requires c κs = omega arith
-
 -- the sums are as many as ever, and four rows fit the block
 long : (c : tie.At-loop Inv-loop μ-loop) → length (c .loop .sums) ≡ 8 * c .before .before .before .before .before .args .c
 long c = rw (c .loop .inv .2) (gained-length _ _ _ ∙ c .before .before .before .before .before .pre .2)
@@ -54,12 +48,6 @@ left-block-requires c κs =
     let d = c .before .before in
     (a d .pre .0, omega arith, part d, long (d .before .before))
 
-add-t : tie.Need-add-t Inv-loop μ-loop
-add-t c = omega arith
-
-loop-less : tie.Need-loop-less Inv-loop μ-loop
-loop-less c = omega arith
-
 loop-again : tie.Need-loop-again Inv-loop μ-loop
 loop-again c =
     let d = c .before .before .before .before .before .before .before in
@@ -85,4 +73,4 @@ returns c =
 pub left-rows-spec : {M : Type 1} → statement M
 left-rows-spec =
     tie.close
-    (tie.spec Inv-loop μ-loop loop-holds sub-at-most-four at-most-four-requires mul-l slice-relend-prefix-left-block slice-aggregate-left-block left-block-requires add-t loop-less loop-again same-length same-length-2 returns)
+    (tie.spec Inv-loop μ-loop loop-holds (search needs) (search needs) mul-l slice-relend-prefix-left-block slice-aggregate-left-block left-block-requires (search needs) (search needs) loop-again same-length same-length-2 returns)

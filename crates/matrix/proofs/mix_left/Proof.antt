@@ -3,45 +3,24 @@ use mathlib.Core.Path.{sym}
 use Prim.Native.Nat.{_*_}
 use native.Mathlib.Omega.{arith}
 use borrow.Author.Needs.{needs}
-use Rattle.matrix.proofs.Whole.{prefix-long}
+use Rattle.lists.proofs.Parts.{buffer-long}
 use Rattle.matrix.proofs.mix_left.Statement.{statement}
 use Rattle.matrix.proofs.mix_left.Tie as tie
 
-mul-k : tie.Need-mul-k
-mul-k c = search needs
-
-mul-m : tie.Need-mul-m
-mul-m c = search needs
-
-array-borrow-prefix-factors : tie.Need-array-borrow-prefix-factors
-array-borrow-prefix-factors c = search needs
-
 slice-aggregate-left-on : tie.Need-slice-aggregate-left-on
-slice-aggregate-left-on c = prefix-long 6912 (8 * c .before .before .before .args .n) (omega arith)
-
-slice-aggregate-left-on-2 : tie.Need-slice-aggregate-left-on-2
-slice-aggregate-left-on-2 c = search needs
-
-array-borrow-prefix-sums : tie.Need-array-borrow-prefix-sums
-array-borrow-prefix-sums c = search needs
+slice-aggregate-left-on c = sym (buffer-long (8 * c .before .before .before .args .n) 6912 (omega arith))
 
 slice-aggregate-left-on-3 : tie.Need-slice-aggregate-left-on-3
-slice-aggregate-left-on-3 c = prefix-long 6912 (8 * c .before .before .before .before .before .args .c) (omega arith)
+slice-aggregate-left-on-3 c = sym (buffer-long (8 * c .before .before .before .before .before .args .c) 6912 (omega arith))
 
 left-on-requires : tie.Need-left-on-requires
 left-on-requires c κs =
     let a = c .before .before .before .before .before .before in (
       (a .pre .0 .0, a .pre .1 .0, a .pre .0 .1),
-      (sym (prefix-long 6912 (8 * a .args .n) (omega arith)), omega arith, sym (prefix-long 6912 (8 * a .args .c) (omega arith))),
+      (buffer-long (8 * a .args .n) 6912 (omega arith), omega arith, buffer-long (8 * a .args .c) 6912 (omega arith)),
     )
-
-same-length : tie.Need-same-length
-same-length c = search needs
-
-returns : tie.Need-returns
-returns c = search needs
 
 pub mix-left-spec : {M : Type 1} → statement M
 mix-left-spec =
     tie.close
-    (tie.spec mul-k mul-m array-borrow-prefix-factors slice-aggregate-left-on slice-aggregate-left-on-2 array-borrow-prefix-sums slice-aggregate-left-on-3 left-on-requires same-length returns)
+    (tie.spec (search needs) (search needs) (search needs) slice-aggregate-left-on (search needs) (search needs) slice-aggregate-left-on-3 left-on-requires (search needs) (λ c. search needs))

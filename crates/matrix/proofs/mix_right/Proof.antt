@@ -3,31 +3,17 @@ use mathlib.Core.Path.{sym}
 use Prim.Native.Nat.{_*_}
 use native.Mathlib.Omega.{arith}
 use borrow.Author.Needs.{needs}
-use Rattle.matrix.proofs.Whole.{prefix-long}
+use Rattle.lists.proofs.Parts.{buffer-long}
 use Rattle.matrix.proofs.mix_right.Statement.{statement}
 use Rattle.matrix.proofs.mix_right.Tie as tie
 
-mul-m : tie.Need-mul-m
-mul-m c = search needs
-
-array-borrow-prefix-cols : tie.Need-array-borrow-prefix-cols
-array-borrow-prefix-cols c = search needs
-
 slice-aggregate-right-on : tie.Need-slice-aggregate-right-on
-slice-aggregate-right-on c = prefix-long 6912 (8 * c .before .before .before .args .n) (omega arith)
+slice-aggregate-right-on c = sym (buffer-long (8 * c .before .before .before .args .n) 6912 (omega arith))
 
 right-on-requires : tie.Need-right-on-requires
 right-on-requires c κs =
     let a = c .before .before .before .before in
-    (a .pre .0 .0, a .pre .1 .0, sym (prefix-long 6912 (8 * a .args .n) (omega arith)), a .pre .0 .1)
-
-same-length : tie.Need-same-length
-same-length c = search needs
-
-returns : tie.Need-returns
-returns c = search needs
+    (a .pre .0 .0, a .pre .1 .0, buffer-long (8 * a .args .n) 6912 (omega arith), a .pre .0 .1)
 
 pub mix-right-spec : {M : Type 1} → statement M
-mix-right-spec =
-    tie.close
-    (tie.spec mul-m array-borrow-prefix-cols slice-aggregate-right-on right-on-requires same-length returns)
+mix-right-spec = tie.close (tie.spec (search needs) (search needs) slice-aggregate-right-on right-on-requires (search needs) (λ c. search needs))

@@ -5,14 +5,8 @@ use Rattle.matrix.proofs.Whole.{zeros-within, bare-is}
 use Rattle.matrix.proofs.multiply.Statement.{statement}
 use Rattle.matrix.proofs.multiply.Tie as tie
 
-slice-aggregate-mix-right : tie.Need-slice-aggregate-mix-right
-slice-aggregate-mix-right c = search needs
-
 mix-right-requires : tie.Need-mix-right-requires
 mix-right-requires c κs = (c .before .before .before .before .pre, (refl, zeros-within 64))
-
-same-length : tie.Need-same-length
-same-length c = search needs
 
 returns : tie.Need-returns
 returns c =
@@ -20,5 +14,4 @@ returns c =
     bare-is (a .q) (a .n) (a .u .now) (a .s .now) (c .before .before .mix-right .ensures)
 
 pub multiply-spec : {M : Type 1} → statement M
-multiply-spec =
-    tie.close (tie.spec slice-aggregate-mix-right mix-right-requires same-length returns)
+multiply-spec = tie.close (tie.spec (search needs) mix-right-requires (search needs) returns)

@@ -3,6 +3,7 @@ use mathlib.Core.Path.{refl, _∙_, ap}
 use mathlib.Core.List.{List}
 use Prim.Native.Nat.{ℕ, _-_, _%_}
 use native.Mathlib.Omega.{arith}
+use borrow.Author.Needs.{needs}
 use lib.ListN.{length, length-set, getD}
 use Rattle.lists.specs.Entries.{tab}
 use Rattle.lists.proofs.Fill.{Filled, fill-start, fill-next, fill-end}
@@ -19,32 +20,14 @@ Inv-loop q sums out₀ m k₀ out k = Filled (from q sums) out₀ out k
 abbrev μ-loop : tie.MeasureT-loop
 μ-loop q sums out₀ m k₀ out k = length out - k
 
-div-m : tie.Need-div-m Inv-loop μ-loop
-div-m c = omega arith
-
 loop-holds : tie.Need-loop-holds Inv-loop μ-loop
 loop-holds c = fill-start _ _
-
-mul-remainder : tie.Need-mul-remainder Inv-loop μ-loop
-mul-remainder c = omega arith
-
-shared-slice-read-remainder : tie.Need-shared-slice-read-remainder Inv-loop μ-loop
-shared-slice-read-remainder c = omega arith
 
 cast-remainder : tie.Need-cast-remainder Inv-loop μ-loop
 cast-remainder c = omega (arith, c .shared-slice-known2 .given (c .before .before .loop .k))
 
 remainder-requires : tie.Need-remainder-requires Inv-loop μ-loop
 remainder-requires c κs = (c .before .before .before .before .before .pre .0, refl)
-
-mul-out : tie.Need-mul-out Inv-loop μ-loop
-mul-out c = omega arith
-
-slice-write-out : tie.Need-slice-write-out Inv-loop μ-loop
-slice-write-out c = omega arith
-
-add-k : tie.Need-add-k Inv-loop μ-loop
-add-k c = omega arith
 
 loop-less : tie.Need-loop-less Inv-loop μ-loop
 loop-less c = simp length-set (omega arith)
@@ -64,4 +47,4 @@ returns c =
 pub reduce-spec : {M : Type 1} → statement M
 reduce-spec =
     tie.close
-    (tie.spec Inv-loop μ-loop div-m loop-holds mul-remainder shared-slice-read-remainder cast-remainder remainder-requires mul-out slice-write-out add-k loop-less loop-again same-length returns)
+    (tie.spec Inv-loop μ-loop (search needs) loop-holds (search needs) (search needs) cast-remainder remainder-requires (search needs) (search needs) (search needs) loop-less loop-again same-length returns)

@@ -4,20 +4,11 @@ use Rattle.matrix.proofs.Whole.{lent-columns, right-is}
 use Rattle.matrix.proofs.right_on.Statement.{statement}
 use Rattle.matrix.proofs.right_on.Tie as tie
 
-columns-requires : tie.Need-columns-requires
-columns-requires c κs = search needs
-
 right-rows-requires : tie.Need-right-rows-requires
 right-rows-requires c κs =
     let k = c .before .before .before .before in
     let a = k .before .before .before .before .before in
     (a .pre .0 .some, lent-columns (k .columns .ensures) (a .pre .0), a .pre .1, a .pre .3)
-
-same-length : tie.Need-same-length
-same-length c = search needs
-
-same-length-2 : tie.Need-same-length-2
-same-length-2 c = search needs
 
 returns : tie.Need-returns
 returns c =
@@ -27,5 +18,4 @@ returns c =
     right-is (a .args .e .now) (a .pre .0) (k .columns .ensures) (a .pre .1) (w .right-rows .ensures)
 
 pub right-on-spec : {M : Type 1} → statement M
-right-on-spec =
-    tie.close (tie.spec columns-requires right-rows-requires same-length same-length-2 returns)
+right-on-spec = tie.close (tie.spec (search needs) right-rows-requires (search needs) (search needs) returns)

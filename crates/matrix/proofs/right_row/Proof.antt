@@ -5,28 +5,10 @@ use Rattle.matrix.proofs.Steps.{words-length, steps-are}
 use Rattle.matrix.proofs.right_row.Statement.{statement}
 use Rattle.matrix.proofs.right_row.Tie as tie
 
-slice-aggregate-words : tie.Need-slice-aggregate-words
-slice-aggregate-words c = search needs
-
-words-requires : tie.Need-words-requires
-words-requires c κs = search needs
-
-slice-aggregate-add-dots : tie.Need-slice-aggregate-add-dots
-slice-aggregate-add-dots c = search needs
-
 add-dots-requires : tie.Need-add-dots-requires
 add-dots-requires c κs =
     let a = c .before .before .before .before .before .before .before in
     (a .pre .1, rw (c .before .before .words .ensures) (words-length _ ∙ a .pre .2))
-
-slice-aggregate-reduce : tie.Need-slice-aggregate-reduce
-slice-aggregate-reduce c = search needs
-
-reduce-requires : tie.Need-reduce-requires
-reduce-requires c κs = search needs
-
-same-length : tie.Need-same-length
-same-length c = search needs
 
 returns : tie.Need-returns
 returns c =
@@ -39,4 +21,4 @@ returns c =
 pub right-row-spec : {M : Type 1} → statement M
 right-row-spec =
     tie.close
-    (tie.spec slice-aggregate-words words-requires slice-aggregate-add-dots add-dots-requires slice-aggregate-reduce reduce-requires same-length returns)
+    (tie.spec (search needs) (search needs) (search needs) add-dots-requires (search needs) (search needs) (search needs) returns)

@@ -9,9 +9,9 @@ use lib.IntN.{ℤ}
 use Rattle.numbers.specs.Sum.{sumℕ}
 use Rattle.numbers.specs.Residue.{residue}
 use Rattle.lists.specs.Entries.{tab, ints}
-use Rattle.lists.proofs.Fill.{Filled, fill-end}
+use Rattle.lists.proofs.Fill.{Filled, fill-end, rows-start, rows-next}
+use Rattle.lists.proofs.Parts.{slice-long}
 use Rattle.matrix.specs.Steps.{rightTerm}
-use Rattle.matrix.proofs.Extra.{part-long, rows-start, rows-next}
 use Rattle.matrix.proofs.Steps.{reduced-gained}
 use Rattle.matrix.proofs.Terms.{row-in, lent-row, right-row}
 use Rattle.matrix.proofs.right_rows.Statement.{statement}
@@ -55,12 +55,6 @@ add-right-row c = omega (arith, in-x c)
 mul-right-row : tie.Need-mul-right-row Inv-loop μ-loop
 mul-right-row c = omega (arith, in-x c)
 
-sub-right-row : tie.Need-sub-right-row Inv-loop μ-loop
-sub-right-row c = omega arith
-
-part-right-row-start : tie.Need-part-right-row-start Inv-loop μ-loop
-part-right-row-start c = search needs
-
 part-right-row-end : tie.Need-part-right-row-end Inv-loop μ-loop
 part-right-row-end c = in-x c
 
@@ -70,12 +64,6 @@ add-right-row-2 c = omega (arith, in-e (c .before))
 mul-right-row-2 : tie.Need-mul-right-row-2 Inv-loop μ-loop
 mul-right-row-2 c = omega (arith, in-e (c .before))
 
-sub-right-row-2 : tie.Need-sub-right-row-2 Inv-loop μ-loop
-sub-right-row-2 c = omega arith
-
-part-right-row-start-2 : tie.Need-part-right-row-start-2 Inv-loop μ-loop
-part-right-row-start-2 c = search needs
-
 part-right-row-end-2 : tie.Need-part-right-row-end-2 Inv-loop μ-loop
 part-right-row-end-2 c = in-e (c .before)
 
@@ -84,12 +72,6 @@ add-right-row-3 c = omega (arith, in-out (c .before .before))
 
 mul-right-row-3 : tie.Need-mul-right-row-3 Inv-loop μ-loop
 mul-right-row-3 c = omega (arith, in-out (c .before .before))
-
-sub-right-row-3 : tie.Need-sub-right-row-3 Inv-loop μ-loop
-sub-right-row-3 c = omega arith
-
-part-right-row-start-3 : tie.Need-part-right-row-start-3 Inv-loop μ-loop
-part-right-row-start-3 c = search needs
 
 part-right-row-end-3 : tie.Need-part-right-row-end-3 Inv-loop μ-loop
 part-right-row-end-3 c = in-out (c .before .before)
@@ -101,15 +83,9 @@ right-row-requires c κs =
     let b = a t in (
       b .pre .0,
       lent-row (l .i) (t .loop-test .taken) (b .pre .1),
-      part-long (l .i * 8) 8 (b .args .e .now) (in-e t),
-      part-long (l .i * 8) 8 (l .out) (in-out t),
+      slice-long (l .i * 8) 8 (b .args .e .now) (in-e t),
+      slice-long (l .i * 8) 8 (l .out) (in-out t),
     )
-
-add-i : tie.Need-add-i Inv-loop μ-loop
-add-i c = omega arith
-
-loop-less : tie.Need-loop-less Inv-loop μ-loop
-loop-less c = omega arith
 
 loop-again : tie.Need-loop-again Inv-loop μ-loop
 loop-again c =
@@ -136,30 +112,4 @@ returns c =
 pub right-rows-spec : {M : Type 1} → statement M
 right-rows-spec =
     tie.close
-    (tie.spec
-    Inv-loop
-    μ-loop
-    loop-holds
-    mul-a
-    mul-b
-    add-right-row
-    mul-right-row
-    sub-right-row
-    part-right-row-start
-    part-right-row-end
-    add-right-row-2
-    mul-right-row-2
-    sub-right-row-2
-    part-right-row-start-2
-    part-right-row-end-2
-    add-right-row-3
-    mul-right-row-3
-    sub-right-row-3
-    part-right-row-start-3
-    part-right-row-end-3
-    right-row-requires
-    add-i
-    loop-less
-    loop-again
-    same-length
-    returns)
+    (tie.spec Inv-loop μ-loop loop-holds mul-a mul-b add-right-row mul-right-row (search needs) (search needs) part-right-row-end add-right-row-2 mul-right-row-2 (search needs) (search needs) part-right-row-end-2 add-right-row-3 mul-right-row-3 (search needs) (search needs) part-right-row-end-3 right-row-requires (search needs) (search needs) loop-again same-length returns)

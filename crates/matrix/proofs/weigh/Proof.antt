@@ -29,21 +29,6 @@ number-at-requires c κs =
     let a = c .before .before .before .before in
     (omega (arith, mul-le-mul-right (a .args .c) (c .loop-test .taken)), a .pre .1)
 
-mul-add-product : tie.Need-mul-add-product Inv-loop μ-loop
-mul-add-product c = omega arith
-
-shared-slice-read-add-product : tie.Need-shared-slice-read-add-product Inv-loop μ-loop
-shared-slice-read-add-product c = omega arith
-
-add-product-requires : tie.Need-add-product-requires Inv-loop μ-loop
-add-product-requires c κs = search needs
-
-add-u : tie.Need-add-u Inv-loop μ-loop
-add-u c = omega arith
-
-loop-less : tie.Need-loop-less Inv-loop μ-loop
-loop-less c = omega arith
-
 loop-again : tie.Need-loop-again Inv-loop μ-loop
 unfolding blockTerm
 loop-again c =
@@ -63,4 +48,4 @@ returns c =
 pub weigh-spec : {M : Type 1} → statement M
 weigh-spec =
     tie.close
-    (tie.spec Inv-loop μ-loop loop-holds mul-number-at number-at-requires mul-add-product shared-slice-read-add-product add-product-requires add-u loop-less loop-again returns)
+    (tie.spec Inv-loop μ-loop loop-holds mul-number-at number-at-requires (search needs) (search needs) (search needs) (search needs) (search needs) loop-again returns)

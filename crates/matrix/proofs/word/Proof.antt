@@ -6,9 +6,6 @@ use Rattle.numbers.proofs.Congruence.{residue-lt}
 use Rattle.matrix.proofs.word.Statement.{statement}
 use Rattle.matrix.proofs.word.Tie as tie
 
-residue32-requires : tie.Need-residue32-requires
-residue32-requires c κs = search needs
-
 cast-result : tie.Need-cast-result
 cast-result c = record { fits = rw (c .residue32 .ensures) (residue-lt 65536 _ (omega arith)) }
 
@@ -16,4 +13,4 @@ returns : tie.Need-returns
 returns c = rw (toZ-ofZ (c .before .fits .z)) at (c .residue32 .ensures)
 
 pub word-spec : {M : Type 1} → statement M
-word-spec = tie.close (tie.spec residue32-requires cast-result returns)
+word-spec = tie.close (tie.spec (search needs) cast-result returns)

@@ -3,6 +3,7 @@ use mathlib.Core.Path.{_≡_, refl, sym, _∙_}
 use Prim.Native.Nat.{_+_, _*_, _-_, _/_, _%_, _^_, _≤_, _<_}
 use native.Mathlib.Nat.{mul-one}
 use native.Mathlib.Omega.{arith}
+use borrow.Author.Needs.{needs}
 use lib.ListN.{length, getD}
 use Rattle.packing.specs.Packing.{packed}
 use Rattle.packing.proofs.Laws.{value-one}
@@ -19,20 +20,8 @@ abbrev μ-loop : tie.MeasureT-loop
 loop-holds : tie.Need-loop-holds Inv-loop μ-loop
 loop-holds c = (omega arith, omega arith, start _ 8 _ _)
 
-mul-acc : tie.Need-mul-acc Inv-loop μ-loop
-mul-acc c = omega arith
-
-shared-slice-read-acc : tie.Need-shared-slice-read-acc Inv-loop μ-loop
-shared-slice-read-acc c = omega arith
-
 cast-acc : tie.Need-cast-acc Inv-loop μ-loop
 cast-acc c = omega (arith, c .shared-slice-known2 .given (c .before .before .loop .i))
-
-cast-acc-2 : tie.Need-cast-acc-2 Inv-loop μ-loop
-cast-acc-2 c = omega arith
-
-shl-acc : tie.Need-shl-acc Inv-loop μ-loop
-shl-acc c = omega arith
 
 -- what holds once the number is taken in
 taken : (c : tie.After-shared-slice-known2 Inv-loop μ-loop)
@@ -48,12 +37,6 @@ taken c =
 add-acc : tie.Need-add-acc Inv-loop μ-loop
 add-acc c = fits (taken c) (omega arith)
 
-add-held : tie.Need-add-held Inv-loop μ-loop
-add-held c = omega arith
-
-add-i : tie.Need-add-i Inv-loop μ-loop
-add-i c = omega arith
-
 -- where a word is held, there is room for it
 word-fits : (c : tie.Then1 Inv-loop μ-loop)
     → c .before .before .before .loop .j + 4 ≤ length (c .before .before .before .before .before .before .args .out .now)
@@ -65,17 +48,11 @@ put-word-requires c κs = omega (arith, word-fits (c .before), c .before .before
 add-j : tie.Need-add-j Inv-loop μ-loop
 add-j c = omega (arith, word-fits (c .before .before .before .before))
 
-loop-less : tie.Need-loop-less Inv-loop μ-loop
-loop-less c = omega arith
-
 loop-again : tie.Need-loop-again Inv-loop μ-loop
 loop-again c =
     let t = c .before .before .before .before in
     let f = emit (taken (t .before)) 4 32 refl (t .if1 .taken) (word-fits t) in
     (omega arith, omega arith, rw (c .before .before .put-word .ensures) f)
-
-loop-less-2 : tie.Need-loop-less-2 Inv-loop μ-loop
-loop-less-2 c = omega arith
 
 loop-again-2 : tie.Need-loop-again-2 Inv-loop μ-loop
 loop-again-2 c = (omega arith, omega arith, taken (c .before))
@@ -98,5 +75,4 @@ returns c =
 pub pack-spec : {M : Type 1} → statement M
 pack-spec =
     tie.close
-    (tie.spec Inv-loop μ-loop loop-holds mul-acc shared-slice-read-acc cast-acc cast-acc-2 shl-acc add-acc add-held add-i put-word-requires
-    add-j loop-less loop-again loop-less-2 loop-again-2 put-rest-requires same-length returns)
+    (tie.spec Inv-loop μ-loop loop-holds (search needs) (search needs) cast-acc (search needs) (search needs) add-acc (search needs) (search needs) put-word-requires add-j (search needs) loop-again (search needs) loop-again-2 put-rest-requires same-length returns)

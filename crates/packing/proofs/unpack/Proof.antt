@@ -4,6 +4,7 @@ use mathlib.Core.Logic.{⊎-elim}
 use Prim.Native.Nat.{ℕ, _+_, _*_, _-_, _%_, _^_, _≤_, _<_}
 use native.Mathlib.Nat.{mod-lt, mul-one, mul-le-mul-left, lt-of-lt-of-le, one-mul}
 use native.Mathlib.Omega.{arith}
+use borrow.Author.Needs.{needs}
 use lib.ListN.{length}
 use lib.Pow.{pow-mono, pow-pos, shl-exact}
 use Rattle.lists.specs.Entries.{Below}
@@ -24,9 +25,6 @@ abbrev μ-loop : tie.MeasureT-loop
 based : (w : ℕ) → w ≤ 32 → 1 * 2 ^ w % 2 ^ 64 ≡ 2 ^ w
 based w h = shl-exact 1 w 64 (omega arith) (omega arith) ∙ one-mul (2 ^ w)
 
-shl-base : tie.Need-shl-base Inv-loop μ-loop
-shl-base c = omega arith
-
 loop-holds : tie.Need-loop-holds Inv-loop μ-loop
 loop-holds c = (omega arith, omega arith, start 8 _ _ _)
 
@@ -40,12 +38,6 @@ byte-comes c =
 
 word-requires : tie.Need-word-requires Inv-loop μ-loop
 word-requires c κs = omega (arith, byte-comes c)
-
-cast-acc : tie.Need-cast-acc Inv-loop μ-loop
-cast-acc c = omega arith
-
-shl-acc : tie.Need-shl-acc Inv-loop μ-loop
-shl-acc c = omega arith
 
 -- what holds once a word is taken in
 taken : (c : tie.After-word Inv-loop μ-loop)
@@ -61,9 +53,6 @@ taken c =
 
 add-acc : tie.Need-add-acc Inv-loop μ-loop
 add-acc c = fits (taken c) (omega arith)
-
-add-held : tie.Need-add-held Inv-loop μ-loop
-add-held c = omega arith
 
 add-i : tie.Need-add-i Inv-loop μ-loop
 add-i c = omega (arith, byte-comes (c .before), c .before .before .before .before .before .before .good)
@@ -90,23 +79,8 @@ cast-out c =
     let below = lt-of-lt-of-le (mod-lt (c .before .if1 .acc) (pow-pos w)) (pow-mono {j = 32} (omega arith)) in
     rw (based w (omega arith)) (record { fits = below })
 
-mul-out : tie.Need-mul-out Inv-loop μ-loop
-mul-out c = omega arith
-
-slice-write-out : tie.Need-slice-write-out Inv-loop μ-loop
-slice-write-out c = omega arith
-
-shr-acc : tie.Need-shr-acc Inv-loop μ-loop
-shr-acc c = omega arith
-
 sub-held : tie.Need-sub-held Inv-loop μ-loop
 sub-held c = ready (c .before .before) .0
-
-add-j : tie.Need-add-j Inv-loop μ-loop
-add-j c = omega arith
-
-loop-less : tie.Need-loop-less Inv-loop μ-loop
-loop-less c = omega arith
 
 loop-again : tie.Need-loop-again Inv-loop μ-loop
 loop-again c =
@@ -126,5 +100,4 @@ returns c = all-out (c .before .loop .inv .2) (omega arith)
 pub unpack-spec : {M : Type 1} → statement M
 unpack-spec =
     tie.close
-    (tie.spec Inv-loop μ-loop shl-base loop-holds word-requires cast-acc shl-acc add-acc add-held add-i rem-out cast-out mul-out slice-write-out
-    shr-acc sub-held add-j loop-less loop-again same-length returns)
+    (tie.spec Inv-loop μ-loop (search needs) loop-holds word-requires (search needs) (search needs) add-acc (search needs) add-i rem-out cast-out (search needs) (search needs) (search needs) sub-held (search needs) (search needs) loop-again same-length returns)

@@ -1,6 +1,6 @@
 -- `polynomial::add_product` meets its contract.
-use Rattle.polynomial.proofs.Kernel.{term-fits, more-fits, more}
 use Rattle.numbers.proofs.Machine.{wide-fits}
+use Rattle.polynomial.proofs.Kernel.{term-fits, more-fits, more}
 use Rattle.polynomial.proofs.add_product.Statement.{statement}
 use Rattle.polynomial.proofs.add_product.Tie as tie
 

@@ -2,6 +2,7 @@
 use mathlib.Core.Path.{_≡_, sym, ap, _∙_}
 use Prim.Native.Nat.{ℕ, _-_, _^_, _≤_}
 use native.Mathlib.Omega.{arith}
+use borrow.Author.Needs.{needs}
 use lib.ListN.{length, getD}
 use lib.IntN.{pos, natAbs}
 use mir.Syntax.{w32, w64}
@@ -23,18 +24,6 @@ abbrev μ-loop : tie.MeasureT-loop
 loop-holds : tie.Need-loop-holds Inv-loop μ-loop
 loop-holds c = (omega arith, rw (dot-none (c .args .w .now) (c .args .s .now)))
 
-mul-add-product : tie.Need-mul-add-product Inv-loop μ-loop
-mul-add-product c = omega arith
-
-shared-slice-copy-out-add-product : tie.Need-shared-slice-copy-out-add-product Inv-loop μ-loop
-shared-slice-copy-out-add-product c = omega arith
-
-mul-add-product-2 : tie.Need-mul-add-product-2 Inv-loop μ-loop
-mul-add-product-2 c = omega arith
-
-shared-slice-copy-out-add-product-2 : tie.Need-shared-slice-copy-out-add-product-2 Inv-loop μ-loop
-shared-slice-copy-out-add-product-2 c = omega arith
-
 small : (c : tie.At-loop Inv-loop μ-loop) → let a = c .before .args in natAbs (dot (c .loop .i) (ints (a .w .now)) (ints (a .s .now))) ≤ 2 ^ 48
 small c =
     let b = c .before in
@@ -50,12 +39,6 @@ add-product-requires c κs =
       rw (toZ-ofZ (record { sfits = c .add-product-arg2 .given })) (b .pre .1 .1 .within (l .loop .i)),
       rw (sum-is l) (small l),
     )
-
-add-i : tie.Need-add-i Inv-loop μ-loop
-add-i c = omega arith
-
-loop-less : tie.Need-loop-less Inv-loop μ-loop
-loop-less c = omega arith
 
 loop-again : tie.Need-loop-again Inv-loop μ-loop
 loop-again c =
@@ -80,16 +63,4 @@ returns c =
 pub dot-product-spec : {M : Type 1} → statement M
 dot-product-spec =
     tie.close
-    (tie.spec
-    Inv-loop
-    μ-loop
-    loop-holds
-    mul-add-product
-    shared-slice-copy-out-add-product
-    mul-add-product-2
-    shared-slice-copy-out-add-product-2
-    add-product-requires
-    add-i
-    loop-less
-    loop-again
-    returns)
+    (tie.spec Inv-loop μ-loop loop-holds (search needs) (search needs) (search needs) (search needs) add-product-requires (search needs) (search needs) loop-again returns)

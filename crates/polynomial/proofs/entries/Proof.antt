@@ -3,6 +3,7 @@ use mathlib.Core.Path.{_∙_, sym, ap, subst}
 use mathlib.Core.List.{List}
 use Prim.Native.Nat.{ℕ, _-_}
 use native.Mathlib.Omega.{arith}
+use borrow.Author.Needs.{needs}
 use lib.ListN.{length, length-set}
 use lib.IntN.{ℤ, _+ℤ_}
 use Rattle.numbers.specs.Residue.{residue}
@@ -31,15 +32,6 @@ entry-requires c κs =
     let l = s .pre .0 .s-long in
     (subst (λ (n : ℕ). Laid (a .q) n (a .w .now) (a .s .now)) (sym l) (s .pre .0), omega (arith, l), omega (arith, l))
 
-mul-out : tie.Need-mul-out Inv-loop μ-loop
-mul-out c = omega arith
-
-slice-write-out : tie.Need-slice-write-out Inv-loop μ-loop
-slice-write-out c = omega arith
-
-add-k : tie.Need-add-k Inv-loop μ-loop
-add-k c = omega arith
-
 loop-less : tie.Need-loop-less Inv-loop μ-loop
 loop-less c = simp length-set (omega arith)
 
@@ -59,4 +51,5 @@ returns c =
 
 pub entries-spec : {M : Type 1} → statement M
 entries-spec =
-    tie.close (tie.spec Inv-loop μ-loop loop-holds entry-requires mul-out slice-write-out add-k loop-less loop-again same-length returns)
+    tie.close
+    (tie.spec Inv-loop μ-loop loop-holds entry-requires (search needs) (search needs) (search needs) loop-less loop-again same-length returns)

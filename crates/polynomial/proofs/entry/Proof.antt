@@ -15,36 +15,12 @@ use Rattle.polynomial.proofs.Window.{against-part}
 use Rattle.polynomial.proofs.entry.Statement.{statement}
 use Rattle.polynomial.proofs.entry.Tie as tie
 
-add-from : tie.Need-add-from
-add-from c = search needs
-
-add-dot-product : tie.Need-add-dot-product
-add-dot-product c = search needs
-
-mul-dot-product : tie.Need-mul-dot-product
-mul-dot-product c = search needs
-
-sub-dot-product : tie.Need-sub-dot-product
-sub-dot-product c = search needs
-
-part-dot-product-start : tie.Need-part-dot-product-start
-part-dot-product-start c = search needs
-
-part-dot-product-end : tie.Need-part-dot-product-end
-part-dot-product-end c = search needs
-
 dot-product-requires : tie.Need-dot-product-requires
 dot-product-requires c κs =
     let f = c .before .pre .0 in (
       (simp (length-take, length-drop) (omega (arith, f)), simp (length-take, length-drop) (omega (arith, f))),
       (search part-within, f .s-within),
     )
-
-mul-reduce : tie.Need-mul-reduce
-mul-reduce c = search needs
-
-shared-slice-copy-out-reduce : tie.Need-shared-slice-copy-out-reduce
-shared-slice-copy-out-reduce c = search needs
 
 held : (c : tie.After-dot-product) → toZ w64 (ofZ w64 (c .dot-product .result)) ≡ c .dot-product .result
 held c = toZ-ofZ (fits-abs w64 _ (omega (arith, c .dot-product .ensures .1)))
@@ -69,15 +45,4 @@ returns c =
 pub entry-spec : {M : Type 1} → statement M
 entry-spec =
     tie.close
-    (tie.spec
-    add-from
-    add-dot-product
-    mul-dot-product
-    sub-dot-product
-    part-dot-product-start
-    part-dot-product-end
-    dot-product-requires
-    mul-reduce
-    shared-slice-copy-out-reduce
-    reduce-requires
-    returns)
+    (tie.spec (search needs) (search needs) (search needs) (search needs) (search needs) (search needs) dot-product-requires (search needs) (search needs) reduce-requires returns)

@@ -3,6 +3,7 @@ use mathlib.Core.Path.{_∙_, ap}
 use mathlib.Core.List.{List}
 use Prim.Native.Nat.{ℕ, _-_}
 use native.Mathlib.Omega.{arith}
+use borrow.Author.Needs.{needs}
 use lib.ListN.{length, length-set}
 use lib.IntN.{ℤ}
 use Rattle.numbers.specs.Residue.{nearest}
@@ -25,18 +26,6 @@ abbrev μ-loop : tie.MeasureT-loop
 loop-holds : tie.Need-loop-holds Inv-loop μ-loop
 loop-holds c = fill-start _ _
 
-window-entry-requires : tie.Need-window-entry-requires Inv-loop μ-loop
-window-entry-requires c κs = omega arith
-
-mul-t5 : tie.Need-mul-t5 Inv-loop μ-loop
-mul-t5 c = omega arith
-
-slice-set-from-w : tie.Need-slice-set-from-w Inv-loop μ-loop
-slice-set-from-w c = omega arith
-
-add-i : tie.Need-add-i Inv-loop μ-loop
-add-i c = omega arith
-
 loop-less : tie.Need-loop-less Inv-loop μ-loop
 loop-less c = simp length-set (omega arith)
 
@@ -55,4 +44,5 @@ returns c =
     fill-end (c .before .loop .inv) (omega arith) ∙ ap (λ (k : ℕ). tab k (by (s .args .q) (s .args .a .now))) (s .pre .1)
 
 pub lay-window-spec : {M : Type 1} → statement M
-lay-window-spec = tie.close (tie.spec Inv-loop μ-loop loop-holds window-entry-requires mul-t5 slice-set-from-w add-i loop-less loop-again same-length returns)
+lay-window-spec = tie.close
+    (tie.spec Inv-loop μ-loop loop-holds (search needs) (search needs) (search needs) (search needs) loop-less loop-again same-length returns)

@@ -9,19 +9,10 @@ use Rattle.lists.proofs.Parts.{same-long}
 use Rattle.polynomial.proofs.mix.Statement.{statement}
 use Rattle.polynomial.proofs.mix.Tie as tie
 
-add-m : tie.Need-add-m
-add-m c = search needs
-
-array-borrow-prefix-w : tie.Need-array-borrow-prefix-w
-array-borrow-prefix-w c = search needs
-
 slice-aggregate-mix-lent : tie.Need-slice-aggregate-mix-lent
 slice-aggregate-mix-lent c =
     let n = length (c .before .before .before .args .out .now) in
     sym (same-long (n + n) 2048 (pos 0) (omega arith))
-
-array-borrow-prefix-r : tie.Need-array-borrow-prefix-r
-array-borrow-prefix-r c = search needs
 
 slice-aggregate-mix-lent-2 : tie.Need-slice-aggregate-mix-lent-2
 slice-aggregate-mix-lent-2 c = sym (same-long (length (c .before .before .before .before .args .out .now)) 1024 (pos 0) (omega arith))
@@ -32,13 +23,7 @@ mix-lent-requires c κs =
     let n = length (s .args .out .now) in
     ((s .pre .0, s .pre .1 .0), (same-long (n + n) 2048 (pos 0) (omega arith), same-long n 1024 (pos 0) (omega arith)))
 
-same-length : tie.Need-same-length
-same-length c = search needs
-
-returns : tie.Need-returns
-returns c = search needs
-
 pub mix-spec : {M : Type 1} → statement M
 mix-spec =
     tie.close
-    (tie.spec add-m array-borrow-prefix-w slice-aggregate-mix-lent array-borrow-prefix-r slice-aggregate-mix-lent-2 mix-lent-requires same-length returns)
+    (tie.spec (search needs) (search needs) slice-aggregate-mix-lent (search needs) slice-aggregate-mix-lent-2 mix-lent-requires (search needs) (λ c. search needs))

@@ -5,27 +5,12 @@ use Rattle.polynomial.proofs.Window.{laid, slid-mixed}
 use Rattle.polynomial.proofs.mix_lent.Statement.{statement}
 use Rattle.polynomial.proofs.mix_lent.Tie as tie
 
-lay-window-requires : tie.Need-lay-window-requires
-lay-window-requires c κs = search needs
-
-reverse-requires : tie.Need-reverse-requires
-reverse-requires c κs = search needs
-
 entries-requires : tie.Need-entries-requires
 entries-requires c κs =
     let r = c .before .before .before .before in
     let l = r .before .before .before in
     let s = l .before .before .before .before in
     (laid _ _ _ _ _ _ (s .pre .0 .0) (l .lay-window .ensures) (r .reverse .ensures), s .pre .0 .1)
-
-same-length : tie.Need-same-length
-same-length c = search needs
-
-same-length-2 : tie.Need-same-length-2
-same-length-2 c = search needs
-
-same-length-3 : tie.Need-same-length-3
-same-length-3 c = search needs
 
 returns : tie.Need-returns
 returns c =
@@ -36,4 +21,4 @@ returns c =
     e .entries .ensures ∙ slid-mixed _ _ _ _ _ _ _ (s .pre .0 .0) (l .lay-window .ensures) (r .reverse .ensures)
 
 pub mix-lent-spec : {M : Type 1} → statement M
-mix-lent-spec = tie.close (tie.spec lay-window-requires reverse-requires entries-requires same-length same-length-2 same-length-3 returns)
+mix-lent-spec = tie.close (tie.spec (search needs) (search needs) entries-requires (search needs) (search needs) (search needs) returns)

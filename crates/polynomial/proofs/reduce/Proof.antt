@@ -5,8 +5,8 @@ use borrow.Author.Needs.{needs}
 use lib.IntN.{_+ℤ_}
 use Rattle.numbers.specs.Residue.{residue}
 use Rattle.numbers.proofs.Congruence.{residue-lt}
-use Rattle.polynomial.proofs.Kernel.{noise-fits, noise}
 use Rattle.numbers.proofs.Machine.{wide-fits}
+use Rattle.polynomial.proofs.Kernel.{noise-fits, noise}
 use Rattle.polynomial.proofs.reduce.Statement.{statement}
 use Rattle.polynomial.proofs.reduce.Tie as tie
 
@@ -15,9 +15,6 @@ cast-residue64 c = wide-fits _ (c .fits .e)
 
 add-residue64 : tie.Need-add-residue64
 add-residue64 c = noise-fits _ _ (c .fits .sum) (c .fits .e) (c .pre .1)
-
-residue64-requires : tie.Need-residue64-requires
-residue64-requires c κs = search needs
 
 is : (c : tie.After-residue64) → let a = c .before .args in c .residue64 .result ≡ residue (a .q) (a .sum +ℤ a .e)
 is c =
@@ -33,4 +30,4 @@ returns : tie.Need-returns
 returns c = is c
 
 pub reduce-spec : {M : Type 1} → statement M
-reduce-spec = tie.close (tie.spec cast-residue64 add-residue64 residue64-requires cast-result returns)
+reduce-spec = tie.close (tie.spec cast-residue64 add-residue64 (search needs) cast-result returns)

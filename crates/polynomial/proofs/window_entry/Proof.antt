@@ -1,48 +1,41 @@
 -- `polynomial::window_entry` meets its contract: below n it negates.
-use mathlib.Core.Path.{_∙_, ap}
-use Prim.Native.Nat.{_-_, _^_, _<_}
+use mathlib.Core.Path.{_≡_, _∙_, ap}
+use mathlib.Core.List.{List}
+use Prim.Native.Nat.{ℕ, _-_, _^_, _<_, _≤_}
 use native.Mathlib.Omega.{arith}
 use borrow.Author.Needs.{needs}
+use borrow.Author.Tests.{lt-ltb, le-ltb}
 use lib.ListN.{length, getD}
-use lib.IntN.{ℤ, negℤ}
+use lib.IntN.{ℤ, pos, negℤ}
 use mir.Syntax.{w64}
 use Rattle.numbers.specs.Residue.{nearest}
 use Rattle.numbers.proofs.Machine.{toZ-pos}
+use Rattle.lists.specs.Entries.{nums}
+use Rattle.polynomial.specs.Window.{both}
 use Rattle.polynomial.proofs.Kernel.{narrow-fits, narrow}
-use Rattle.polynomial.proofs.Window.{low-side, high-side}
 use Rattle.polynomial.proofs.window_entry.Statement.{statement}
 use Rattle.polynomial.proofs.window_entry.Tie as tie
 
-mul-negate64 : tie.Need-mul-negate64
-mul-negate64 c = search needs
+low-side : (q : ℕ) (a : List ℕ) (i : ℕ) → i < length a → nearest q (negℤ (pos (getD a i 0))) ≡ nearest q (both (length a) (nums a) i)
+unfolding both nums
+low-side q a i h = rw (lt-ltb i (length a) h)
 
-shared-slice-read-negate64 : tie.Need-shared-slice-read-negate64
-shared-slice-read-negate64 c = search needs
+high-side : (q : ℕ) (a : List ℕ) (i : ℕ) → length a ≤ i → nearest q (pos (getD a (i - length a) 0)) ≡ nearest q (both (length a) (nums a) i)
+unfolding both nums
+high-side q a i h = rw (le-ltb i (length a) h)
 
 cast-negate64 : tie.Need-cast-negate64
 cast-negate64 c = record { sfits = omega (arith, c .shared-slice-known2 .given (c .before .before .before .args .i)) }
-
-negate64-requires : tie.Need-negate64-requires
-negate64-requires c κs = search needs
 
 cast-result : tie.Need-cast-result
 cast-result c =
     let s = c .before .before .before .before in
     narrow-fits _ _ _ (c .negate64 .ensures) (s .pre .0) (s .fits .q .fits)
 
-mul-nearest64 : tie.Need-mul-nearest64
-mul-nearest64 c = search needs
-
-shared-slice-read-nearest64 : tie.Need-shared-slice-read-nearest64
-shared-slice-read-nearest64 c = search needs
-
 cast-nearest64 : tie.Need-cast-nearest64
 cast-nearest64 c =
     let a = c .before .before .before .args in
     record { sfits = omega (arith, c .shared-slice-known3 .given (a .i - length (a .a .now))) }
-
-nearest64-requires : tie.Need-nearest64-requires
-nearest64-requires c κs = search needs
 
 cast-result-2 : tie.Need-cast-result-2
 cast-result-2 c =
@@ -72,16 +65,4 @@ returns-2 c =
 pub window-entry-spec : {M : Type 1} → statement M
 window-entry-spec =
     tie.close
-    (tie.spec
-    mul-negate64
-    shared-slice-read-negate64
-    cast-negate64
-    negate64-requires
-    cast-result
-    mul-nearest64
-    shared-slice-read-nearest64
-    cast-nearest64
-    nearest64-requires
-    cast-result-2
-    returns
-    returns-2)
+    (tie.spec (search needs) (search needs) cast-negate64 (search needs) cast-result (search needs) (search needs) cast-nearest64 (search needs) cast-result-2 returns returns-2)
