@@ -3,7 +3,7 @@
 --   small-group, hint-group   a group of small numbers, of hints
 --   hints-group          group i of the hints is the hint of group i
 --   own-keys             the replier's bits are those of its own hints
---   groups-agree         where each group is at most 9214 apart, all 256 bits agree
+--   groups-agree         where each group is within the margin, all 256 bits agree
 --   hint-at, at-place    the hint at k, by its group and its place there
 --   hints-next, hints-end   the loop that writes the hints, at each turn and after
 use mathlib.Core.Path.{_≡_, refl, _∙_, sym, ap, ap₂, subst}
@@ -16,7 +16,8 @@ use lib.ListN.{length, getD, set}
 use Rattle.lists.specs.Entries.{Below}
 use Rattle.lists.proofs.Entries.{tab-length, tab-at, tab-ext, below-tab}
 use Rattle.newhope.specs.declared.Four.{Four}
-use Rattle.newhope.specs.Group.{q, Small, Hint, hintOf, sumOf, bitOf, apartOf, groupOf, entryOf, hintsOf, keysOf, peersOf}
+use Rattle.newhope.specs.Group.{q, groups, Small, Hint, hintOf, sumOf, bitOf, groupOf, entryOf, hintsOf, keysOf, peersOf}
+use Rattle.newhope.specs.Agreement.{EveryGroup}
 use Rattle.newhope.proofs.Margin.{agreement}
 use Rattle.newhope.proofs.Parts.{hint-small}
 use Rattle.newhope.proofs.Spread.{Spread, spread-next, spread-end}
@@ -102,14 +103,13 @@ module _ (cs vs : List ℕ) where
   unfolding keysOf peersOf
   own-keys = tab-ext 256 _ _ (λ i l. ap (λ (h : Four). bitOf h (groupOf vs i)) (sym (hints-group i l)))
 
-  pub groups-agree : (ws : List ℕ) → Below 2 cs → Below q vs → Below q ws
-      → ((i : ℕ) → i < 256 → apartOf (groupOf vs i) (groupOf ws i) ≤ 9214) → peersOf (hintsOf cs vs) ws ≡ keysOf cs vs
-  unfolding keysOf peersOf
-  groups-agree ws hc hv hw d =
-      tab-ext 256 _ _
-      (λ i l.
-      ap (λ (h : Four). bitOf h (groupOf ws i)) (hints-group i l)
-      ∙ agreement (getD cs i 0) (groupOf vs i) (groupOf ws i) (hc .below i) (small-group i hv refl) (small-group i hw refl) (d i l))
+pub groups-agree : EveryGroup
+unfolding keysOf peersOf
+groups-agree cs vs ws hc hv hw d =
+    tab-ext groups _ _
+    (λ i l.
+    ap (λ (h : Four). bitOf h (groupOf ws i)) (hints-group cs vs i l)
+    ∙ agreement (getD cs i 0) (groupOf vs i) (groupOf ws i) (hc .below i) (small-group i hv refl) (small-group i hw refl) (d i l))
 
 -- ---- the loop that writes the hints: h is that of group i
 
