@@ -10,7 +10,7 @@ use Rattle.frodo.specs.Agreement.{EachScheme}
 pub each-scheme : EachScheme
 each-scheme Bcns e = let z : _≡_ {A = ℕ} 0 1 = cc in absurd (omega arith)
 each-scheme NewHope e = let z : _≡_ {A = ℕ} 0 1 = cc in absurd (omega arith)
-each-scheme Challenge e = record { round = record { some = lit≤ tt; quarters = refl; room = lit≤ tt }; whole = refl; few = lit≤ tt }
-each-scheme Classical e = record { round = record { some = lit≤ tt; quarters = refl; room = lit≤ tt }; whole = refl; few = lit≤ tt }
-each-scheme Recommended e = record { round = record { some = lit≤ tt; quarters = refl; room = lit≤ tt }; whole = refl; few = lit≤ tt }
-each-scheme Paranoid e = record { round = record { some = lit≤ tt; quarters = refl; room = lit≤ tt }; whole = refl; few = lit≤ tt }
+each-scheme Challenge e = record { round = record { some = lit≤ tt; quarters = refl; room = lit≤ tt }; whole = refl }
+each-scheme Classical e = record { round = record { some = lit≤ tt; quarters = refl; room = lit≤ tt }; whole = refl }
+each-scheme Recommended e = record { round = record { some = lit≤ tt; quarters = refl; room = lit≤ tt }; whole = refl }
+each-scheme Paranoid e = record { round = record { some = lit≤ tt; quarters = refl; room = lit≤ tt }; whole = refl }
