@@ -1,7 +1,7 @@
 // NewHope's reconciliation of groups of four entries: 01, "Reconciliation"; q, the size 1024 and the 256 groups are those of `schemes`.
 ghost use mathlib.Core.Path.{_≡_};
 ghost use mathlib.Core.Bool.{cond};
-ghost use Prim.Native.Nat.{_*_, _/_, _^_, _≤_, _<_};
+ghost use Prim.Native.Nat.{_+_, _*_, _/_, _^_, _≤_, _<_};
 ghost use lib.Dec.{ltb};
 ghost use lib.IntN.{pos, _-ℤ_};
 ghost use lib.ListN.{length};
@@ -9,7 +9,7 @@ ghost use Rattle.numbers.specs.Residue.{residue};
 ghost use Rattle.lists.specs.Entries.{Below};
 ghost use Rattle.newhope.specs.Group.{q, size, groups, Small, Hint, upOf, downOf, offOf, offsOf, termOf, hintOf, bitOf, groupOf, hintsOf, peersOf};
 
-// q, 2q and 8q; the number of groups, and twice and three times as many.
+// q, 2q and 8q, and the number of groups.
 const Q: u32 = schemes::NewHope::Q;
 
 const TWICE: u32 = 2 * Q;
@@ -17,10 +17,6 @@ const TWICE: u32 = 2 * Q;
 const EIGHT: u32 = 8 * Q;
 
 const GROUPS: usize = schemes::NewHope::GROUPS;
-
-const TWO: usize = 2 * GROUPS;
-
-const THREE: usize = 3 * GROUPS;
 
 // What a group has at its entries i, i + 256, i + 512 and i + 768.
 pub struct Four {
@@ -133,16 +129,24 @@ pub fn bit(h: Four, x: Four) -> u32
     if t0 + t1 + t2 + t3 <= EIGHT { 0 } else { 1 }
 }
 
+// Where entry j of group i stands: at i + 256 j.
+fn place(i: usize, j: usize) -> usize
+    requires { ⌜ (i < groups) × (j < 4) ⌝ }
+    ensures { λ r. ⌜ (r ≡ i + groups * j) × (r < size) ⌝ }
+{
+    i + GROUPS * j
+}
+
 // Group i of 1,024 numbers.
 fn group(xs: &[u32], i: usize) -> Four
     requires { ⌜ (length (now xs) ≡ size) × (i < groups) ⌝ }
     ensures { λ r. ⌜ r ≡ groupOf (now (xs .entry)) i ⌝ }
 {
     Four {
-        e0: xs[i],
-        e1: xs[i + GROUPS],
-        e2: xs[i + TWO],
-        e3: xs[i + THREE],
+        e0: xs[place(i, 0)],
+        e1: xs[place(i, 1)],
+        e2: xs[place(i, 2)],
+        e3: xs[place(i, 3)],
     }
 }
 
@@ -155,10 +159,10 @@ pub fn hints(coins: &[u32], v: &[u32], out: &mut [u32])
     let mut i: usize = 0;
     while i < GROUPS {
         let h = hint(coins[i], group(v, i));
-        out[i] = h.e0;
-        out[i + GROUPS] = h.e1;
-        out[i + TWO] = h.e2;
-        out[i + THREE] = h.e3;
+        out[place(i, 0)] = h.e0;
+        out[place(i, 1)] = h.e1;
+        out[place(i, 2)] = h.e2;
+        out[place(i, 3)] = h.e3;
         i += 1;
     }
 }
