@@ -2,16 +2,16 @@
 --   hints-length, keys-length, peers-length   as long as the values
 --   hints-at        a hint, of its coin and its value
 --   hints-below, keys-below, peers-below      each is 0 or 1
---   lists-agree     entry by entry up to 536870911 apart: the initiator's bits are the replier's keys
+--   lists-agree     entry by entry up to the margin apart: the initiator's bits are the replier's keys
 use mathlib.Core.Path.{_≡_, _∙_, sym, ap}
 use mathlib.Core.List.{List}
-use Prim.Native.Nat.{ℕ, _≤_, _<_}
+use Prim.Native.Nat.{ℕ, _<_}
 use native.Mathlib.Omega.{arith}
 use lib.ListN.{length, getD}
-use Rattle.numbers.specs.Residue.{apart}
 use Rattle.lists.specs.Entries.{tab, Below}
 use Rattle.lists.proofs.Entries.{tab-length, tab-at, tab-ext, below-tab}
-use Rattle.bcns.specs.Rounding.{q, doubled, hintOf, peerOf, hintsOf, keysOf, peersOf}
+use Rattle.bcns.specs.Rounding.{doubled, hintOf, peerOf, hintsOf, keysOf, peersOf}
+use Rattle.bcns.specs.Agreement.{EveryEntry}
 use Rattle.bcns.proofs.Regions.{hint-below, key-below}
 use Rattle.bcns.proofs.Formula.{peer-below}
 use Rattle.bcns.proofs.Margin.{meet}
@@ -46,9 +46,7 @@ module _ (hs ws : List ℕ) where
   unfolding peersOf
   peers-below = below-tab 2 (length ws) _ (omega arith) (λ k l. peer-below _ _)
 
--- whatever the coins are
-pub lists-agree : (cs vs ws : List ℕ) → length vs ≡ length ws → Below q vs → Below q ws
-    → ((k : ℕ) → k < length vs → apart q (getD vs k 0) (getD ws k 0) ≤ 536870911) → peersOf (hintsOf cs vs) ws ≡ keysOf cs vs
+pub lists-agree : EveryEntry
 unfolding peersOf keysOf
 lists-agree cs vs ws e hv hw d =
     ap (λ (n : ℕ). tab n (λ k. peerOf (getD (hintsOf cs vs) k 0) (getD ws k 0))) (sym e)

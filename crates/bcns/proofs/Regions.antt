@@ -3,7 +3,7 @@
 --   hint-below, key-below   each is 0 or 1
 --   key-low, key-middle, key-high   the key bit is 1 from 2147483648 up to below 6442450943
 --   Region, region     the four regions: (hint, key bit) is (0, 0), (1, 1), (0, 1), (1, 0)
---   formulaOf h w, formula-is   the initiator's bit as a formula, by how many times 2147483648 goes into its sum
+--   formula-is         the initiator's bit as a formula, by how many times 2147483648 goes into its sum
 --   near-same          2w is at most 1073741823 from z: the formula under z's hint is z's key bit
 use mathlib.Core.Path.{_≡_, _∙_, sym, ap}
 use Prim.Native.Nat.{ℕ, _+_, _*_, _/_, _%_, _≤_, _<_}
@@ -16,6 +16,7 @@ use Rattle.numbers.specs.Circle.{Close, direct, over, under}
 use Rattle.lists.specs.Table.{both}
 use Rattle.numbers.proofs.Natural.{quotient-is}
 use Rattle.bcns.specs.Rounding.{q, hintOf, keyOf}
+use Rattle.bcns.specs.Agreement.{formulaOf}
 use Rattle.lists.proofs.Table.{cond-all}
 
 -- the lowest bit of a quotient, from the multiples of d around s
@@ -60,9 +61,6 @@ region z u = go (decLt z 2147483648) (decLt z q) (decLt z 6442450943)
     go (no a) (yes b) c = second (omega arith) b (hint-is z 1 (omega arith) (omega arith)) (key-middle z (omega arith) (omega arith))
     go (no a) (no b) (yes c) = third (omega arith) c (hint-is z 2 (omega arith) (omega arith)) (key-middle z (omega arith) c)
     go (no a) (no b) (no c) = fourth (omega arith) (hint-is z 3 (omega arith) (omega arith)) (key-high z (omega arith))
-
-abbrev pub formulaOf : ℕ → ℕ → ℕ
-formulaOf h w = (w + (1 + 2 * h) * 536870912) / 2147483648 % 2
 
 pub formula-is : (h w k : ℕ) → k * 2147483648 ≤ w + (1 + 2 * h) * 536870912 → w + (1 + 2 * h) * 536870912 < (k + 1) * 2147483648 → formulaOf h w ≡ k % 2
 formula-is h w k l u = parity-is 2147483648 (w + (1 + 2 * h) * 536870912) k l u

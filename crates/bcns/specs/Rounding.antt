@@ -11,12 +11,14 @@ use Prim.Native.Nat.{ℕ, zero, suc, _+_, _*_, _-_, _/_, _%_}
 use lib.Dec.{leb, eqb}
 use lib.IntN.{ℤ, pos, negsuc, _-ℤ_}
 use lib.ListN.{length, getD}
+use Rattle.schemes.specs.Schemes.{fixedOf}
+use Rattle.schemes.specs.declared.Scheme.the-variants.{Bcns}
 use Rattle.numbers.specs.Residue.{residue, apart}
 use Rattle.lists.specs.Entries.{tab}
 use Rattle.lists.specs.Table.{both}
 
 abbrev pub q : ℕ
-q = 4294967295
+q = fixedOf Bcns .q
 
 unfoldable pub coinOf : ℕ → ℤ
 coinOf c = cond (eqb c 2) (pos 1) (cond (eqb c 3) (negsuc 0) (pos 0))

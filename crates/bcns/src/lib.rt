@@ -1,11 +1,22 @@
-// BCNS's reconciliation: 01, "Reconciliation"; q is 4294967295, and z lies in 0 .. 2q - 1. First one entry: z, its hint and its key bit at the replier,
+// BCNS's reconciliation: 01, "Reconciliation"; q is that of `schemes`, and z lies in 0 .. 2q - 1. First one entry: z, its hint and its key bit at the replier,
 // the bit of w at the initiator; then the same over lists. That both ends get the same bit is in `specs/Agreement.antt`.
 ghost use mathlib.Core.Path.{_≡_};
-ghost use Prim.Native.Nat.{ℕ, _≤_, _<_};
+ghost use Prim.Native.Nat.{ℕ, _*_, _≤_, _<_};
 ghost use lib.ListN.{length};
 ghost use lib.IntN.{natAbs};
 ghost use Rattle.lists.specs.Entries.{Below};
-ghost use Rattle.bcns.specs.Rounding.{coinOf, doubled, hintOf, keyOf, peerOf, hintsOf, keysOf, peersOf};
+ghost use Rattle.bcns.specs.Rounding.{q, coinOf, doubled, hintOf, keyOf, peerOf, hintsOf, keysOf, peersOf};
+
+// q, 2q, the first and the last z whose key bit is 1, and an eighth of the circle of w.
+const Q: u64 = schemes::Bcns::Q as u64;
+
+const TWICE: u64 = 2 * Q;
+
+const FIRST: u64 = (Q + 1) / 2;
+
+const LAST: u64 = (3 * Q - 1) / 2;
+
+const EIGHTH: u64 = (Q + 1) / 8;
 
 // What two coin bits give: 0, 1 or -1.
 fn coin_of(bits: u32) -> i64
@@ -16,38 +27,38 @@ fn coin_of(bits: u32) -> i64
 
 // z of the replier's value v and its coin: 2v - c modulo 2q. The signed remainder: for v = 0 and coin 2 it is that of -1.
 pub fn double(coin: u32, v: u32) -> u64
-    requires { ⌜ v < 4294967295 ⌝ }
+    requires { ⌜ v < q ⌝ }
     ensures { λ r. ⌜ r ≡ doubled coin v ⌝ }
-    ensures { λ r. ⌜ r < 8589934590 ⌝ }
+    ensures { λ r. ⌜ r < 2 * q ⌝ }
 {
-    numbers::residue64(2 * (v as i64) - coin_of(coin), 8589934590)
+    numbers::residue64(2 * (v as i64) - coin_of(coin), TWICE)
 }
 
 // The hint of z.
 pub fn hint(z: u64) -> u32
-    requires { ⌜ z < 8589934590 ⌝ }
+    requires { ⌜ z < 2 * q ⌝ }
     ensures { λ r. ⌜ r ≡ hintOf z ⌝ }
 {
-    (2 * z / 4294967295 % 2) as u32
+    (2 * z / Q % 2) as u32
 }
 
 // The replier's key bit of z.
 pub fn key(z: u64) -> u32
     ensures { λ r. ⌜ r ≡ keyOf z ⌝ }
 {
-    ((2147483648 <= z) & (z <= 6442450942)) as u32
+    ((FIRST <= z) & (z <= LAST)) as u32
 }
 
 // The initiator's bit of w under the hint h: 01's rule as a formula (`Formula`). The sum stays below 3 * 2^31.
 pub fn peer(h: u32, w: u32) -> u32
-    requires { ⌜ (h < 2) × (w < 4294967295) ⌝ }
+    requires { ⌜ (h < 2) × (w < q) ⌝ }
     ensures { λ r. ⌜ r ≡ peerOf h w ⌝ }
 {
-    (((w as u64) + (1 + 2 * (h as u64)) * 536870912) / 2147483648 % 2) as u32
+    (((w as u64) + (1 + 2 * (h as u64)) * EIGHTH) / FIRST % 2) as u32
 }
 
 pub fn hints(coins: &[u32], v: &[u32], out: &mut [u32])
-    requires { ⌜ Below 4294967295 (now v) × (length (now coins) ≡ length (now v)) × (length (now out) ≡ length (now v)) ⌝ }
+    requires { ⌜ Below q (now v) × (length (now coins) ≡ length (now v)) × (length (now out) ≡ length (now v)) ⌝ }
     ensures { λ _. ⌜ now (out .exit) ≡ hintsOf (now (coins .entry)) (now (v .entry)) ⌝ }
 {
     let mut i: usize = 0;
@@ -58,7 +69,7 @@ pub fn hints(coins: &[u32], v: &[u32], out: &mut [u32])
 }
 
 pub fn keys(coins: &[u32], v: &[u32], out: &mut [u32])
-    requires { ⌜ Below 4294967295 (now v) × (length (now coins) ≡ length (now v)) × (length (now out) ≡ length (now v)) ⌝ }
+    requires { ⌜ Below q (now v) × (length (now coins) ≡ length (now v)) × (length (now out) ≡ length (now v)) ⌝ }
     ensures { λ _. ⌜ now (out .exit) ≡ keysOf (now (coins .entry)) (now (v .entry)) ⌝ }
 {
     let mut i: usize = 0;
@@ -69,7 +80,7 @@ pub fn keys(coins: &[u32], v: &[u32], out: &mut [u32])
 }
 
 pub fn peers(hints: &[u32], w: &[u32], out: &mut [u32])
-    requires { ⌜ Below 4294967295 (now w) × Below 2 (now hints) × (length (now hints) ≡ length (now w)) × (length (now out) ≡ length (now w)) ⌝ }
+    requires { ⌜ Below q (now w) × Below 2 (now hints) × (length (now hints) ≡ length (now w)) × (length (now out) ≡ length (now w)) ⌝ }
     ensures { λ _. ⌜ now (out .exit) ≡ peersOf (now (hints .entry)) (now (w .entry)) ⌝ }
 {
     let mut i: usize = 0;

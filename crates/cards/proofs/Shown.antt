@@ -2,7 +2,7 @@
 use mathlib.Core.Path.{_≡_, refl, _∙_, ap}
 use mathlib.Core.Bool.{Bool, true, false}
 use mathlib.Core.List.{List, [], _∷_}
-use Prim.Native.Nat.{_+_, _*_, _/_, _%_, _^_}
+use Prim.Native.Nat.{_*_, _^_}
 use lib.Count.{ones}
 use lib.Dec.{T, eqb, ltb, eqb→eq, ltb→lt, lit<}
 use lib.IntN.{ℤ, pos, negsuc}
@@ -11,13 +11,15 @@ use Rattle.lists.specs.Entries.{tab}
 use Rattle.lists.specs.Table.{both}
 use Rattle.lists.proofs.Table.{both-T}
 use Rattle.bcns.specs.Rounding as bcns
+use Rattle.bcns.specs.Agreement as bcns-agreement
 use Rattle.frodo.specs.Rounding as frodo
+use Rattle.frodo.specs.Agreement as frodo-agreement
 use Rattle.newhope.specs.Group as newhope
 use Rattle.newhope.specs.declared.Four.{Four}
 use Rattle.noise.specs.Noise as noise
 use Rattle.bcns.proofs.Formula as bcnsFormula
 use Rattle.frodo.proofs.Rule as frodoRule
-use Rattle.cards.specs.Table.{Card, bcns-value, bcns-peer, frodo-value, frodo-peer, newhope-group, newhope-noise, frodo-noise, Says, All, table, four}
+use Rattle.cards.specs.Table.{Card, bcns-value, bcns-peer, frodo-value, frodo-peer, newhope-group, newhope-noise, frodo-noise, four, I, B, Says, All, table, Shown}
 
 -- two tests at once, as one name that stays put
 and : Bool → Bool → Bool
@@ -59,9 +61,9 @@ sameℤ-≡ (negsuc a) (negsuc b) t = ap negsuc (eqb→eq a b t)
 -- a card, tested
 right : Card → Bool
 right (bcns-value v coin hint bit) = and (eqb (bcns.hintOf (bcns.doubled coin v)) hint) (eqb (bcns.keyOf (bcns.doubled coin v)) bit)
-right (bcns-peer w hint bit) = and (ltb w bcns.q) (and (ltb hint 2) (eqb ((w + (1 + 2 * hint) * 536870912) / 2147483648 % 2) bit))
-right (frodo-value v hint key) = and (eqb (frodo.hintOf 2048 v) hint) (eqb (frodo.keyOf 2048 4 v) key)
-right (frodo-peer w hint key) = and (ltb w 32768) (and (ltb hint 2) (eqb ((4 * w + (1 + 2 * hint) * 2048) / 8192 % 2 ^ 4) key))
+right (bcns-peer w hint bit) = and (ltb w bcns.q) (and (ltb hint 2) (eqb (bcns-agreement.formulaOf hint w) bit))
+right (frodo-value v hint key) = and (eqb (frodo.hintOf I v) hint) (eqb (frodo.keyOf I B v) key)
+right (frodo-peer w hint key) = and (ltb w (I * 2 ^ B)) (and (ltb hint 2) (eqb (frodo-agreement.formulaOf I B hint w) key))
 right (newhope-group coin a b c d h0 h1 h2 h3 bit) =
     and (same (newhope.hintOf coin (four a b c d)) (four h0 h1 h2 h3)) (eqb (newhope.bitOf (four h0 h1 h2 h3) (four a b c d)) bit)
 right (newhope-noise a b c d z) = sameℤ (noise.onesLess (a ∷ b ∷ c ∷ d ∷ []) 0) z
@@ -78,7 +80,7 @@ sound (frodo-value v hint key) t = let u = parts _ _ t in (eqb→eq _ _ (u .0), 
 sound (frodo-peer w hint key) t =
     let u = parts _ _ t in
     let s = parts _ _ (u .1) in
-    frodoRule.formula 2048 4 hint w (lit< tt) refl (ltb→lt w 32768 (u .0)) (ltb→lt hint 2 (s .0)) ∙ eqb→eq _ _ (s .1)
+    frodoRule.formula I B hint w (lit< tt) refl (ltb→lt w (I * 2 ^ B) (u .0)) (ltb→lt hint 2 (s .0)) ∙ eqb→eq _ _ (s .1)
 sound (newhope-group coin a b c d h0 h1 h2 h3 bit) t = let u = parts _ _ t in (same-four _ _ (u .0), eqb→eq _ _ (u .1))
 sound (newhope-noise a b c d z) t = ap (λ (y : ℤ). y ∷ []) (sameℤ-≡ _ _ t)
 sound (frodo-noise word z) t = sameℤ-≡ _ _ t
@@ -93,6 +95,6 @@ all [] t = tt
 all (c ∷ cs) t = let u = parts _ _ t in (sound c (u .0), all cs (u .1))
 
 -- the one statement
-pub shown : All table
-unfolding and every right same sameℤ table bcns.doubled bcns.coinOf bcns.hintOf bcns.keyOf frodo.hintOf frodo.keyOf newhope.upOf newhope.downOf newhope.offOf newhope.offsOf newhope.kOf newhope.pOf newhope.lessOf newhope.lastOf newhope.hintOf newhope.termOf newhope.sumOf newhope.bitOf residue nearest distance apart noise.wordAt noise.onesLess noise.atMost noise.thresholdOf ones
+pub shown : Shown
+unfolding frodo-agreement.formulaOf and every right same sameℤ table bcns.doubled bcns.coinOf bcns.hintOf bcns.keyOf frodo.hintOf frodo.keyOf newhope.upOf newhope.downOf newhope.offOf newhope.offsOf newhope.kOf newhope.pOf newhope.lessOf newhope.lastOf newhope.hintOf newhope.termOf newhope.sumOf newhope.bitOf residue nearest distance apart noise.wordAt noise.onesLess noise.atMost noise.thresholdOf ones
 shown = all table tt

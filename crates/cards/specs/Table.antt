@@ -1,11 +1,14 @@
--- The bench cards that 01 marks, as one table (01, "Bench cards"); `shown` says that all of them hold.
+-- The bench cards that 01 marks, as one table: 01, "Bench cards".
 --   Card    one card: the inputs, then what they give
 --   Says    what a card says of the definitions
 --   table   the cards, in 01's order
+--   Shown   all of them hold
 use mathlib.Core.Path.{_≡_}
 use mathlib.Core.List.{List, [], _∷_}
 use Prim.Native.Nat.{ℕ}
 use lib.IntN.{ℤ, pos, negsuc}
+use Rattle.schemes.specs.declared.Scheme.the-variants.{Recommended}
+use Rattle.schemes.specs.Schemes.{fixedOf}
 use Rattle.bcns.specs.Rounding as bcns
 use Rattle.frodo.specs.Rounding as frodo
 use Rattle.newhope.specs.Group as newhope
@@ -29,11 +32,18 @@ pub data Card : Type 0 where
 abbrev pub four : ℕ → ℕ → ℕ → ℕ → Four
 four a b c d = record { e0 = a; e1 = b; e2 = c; e3 = d }
 
+-- Frodo's I and B
+abbrev pub I : ℕ
+I = frodo.interval (fixedOf Recommended)
+
+abbrev pub B : ℕ
+B = fixedOf Recommended .keybits
+
 abbrev pub Says : Card → Type 0
 Says (bcns-value v coin hint bit) = (bcns.hintOf (bcns.doubled coin v) ≡ hint) × (bcns.keyOf (bcns.doubled coin v) ≡ bit)
 Says (bcns-peer w hint bit) = bcns.peerOf hint w ≡ bit
-Says (frodo-value v hint key) = (frodo.hintOf 2048 v ≡ hint) × (frodo.keyOf 2048 4 v ≡ key)
-Says (frodo-peer w hint key) = frodo.peerOf 2048 4 hint w ≡ key
+Says (frodo-value v hint key) = (frodo.hintOf I v ≡ hint) × (frodo.keyOf I B v ≡ key)
+Says (frodo-peer w hint key) = frodo.peerOf I B hint w ≡ key
 Says (newhope-group coin a b c d h0 h1 h2 h3 bit) =
     (newhope.hintOf coin (four a b c d) ≡ four h0 h1 h2 h3) × (newhope.bitOf (four h0 h1 h2 h3) (four a b c d) ≡ bit)
 Says (newhope-noise a b c d z) = newHopeNoise (a ∷ b ∷ c ∷ d ∷ []) ≡ z ∷ []
@@ -65,3 +75,6 @@ table =
     ∷ frodo-noise 1206 (pos 1)
     ∷ frodo-noise 4095 (negsuc 4)
     ∷ []
+
+abbrev pub Shown : Type 0
+Shown = All table

@@ -6,7 +6,9 @@ use front::Answer;
 use front::Refusal;
 use libc::STDOUT_FILENO;
 use newhope::Four;
+use schemes::FrodoRecommended;
 ghost use Prim.Native.Nat.{_<_};
+ghost use Rattle.schemes.specs.Schemes.{bcns, newHope, recommended};
 ghost use Rattle.lists.specs.Entries.{Below};
 
 fn text(t: &[u8]) {
@@ -67,7 +69,7 @@ fn byte(x: u8) {
 }
 
 fn bcns_value(v: u32, coin: u32)
-    requires { ⌜ v < 4294967295 ⌝ }
+    requires { ⌜ v < bcns .q ⌝ }
 {
     let z = bcns::double(coin, v);
     field(b"* bcns v=", v);
@@ -78,7 +80,7 @@ fn bcns_value(v: u32, coin: u32)
 }
 
 fn bcns_peer(w: u32, h: u32)
-    requires { ⌜ (h < 2) × (w < 4294967295) ⌝ }
+    requires { ⌜ (h < 2) × (w < bcns .q) ⌝ }
 {
     field(b"* bcns w=", w);
     field(b" hint=", h);
@@ -86,28 +88,32 @@ fn bcns_peer(w: u32, h: u32)
     text(b"\n");
 }
 
-// Frodo Recommended: q is 32768, an entry has 4 key bits, so the interval is 2048.
+// Frodo Recommended: the bits of an entry's key, and the interval.
+const B: u32 = FrodoRecommended::KEYBITS;
+
+const I: u32 = FrodoRecommended::Q >> B;
+
 fn frodo_value(v: u32)
-    requires { ⌜ v < 32768 ⌝ }
+    requires { ⌜ v < recommended .q ⌝ }
 {
     field(b"* frodo scheme=4 v=", v);
-    field(b" : hint=", frodo::hint(2048, 4, v));
-    field(b" key=", frodo::key(2048, 4, v));
+    field(b" : hint=", frodo::hint(I, B, v));
+    field(b" key=", frodo::key(I, B, v));
     text(b"\n");
 }
 
 fn frodo_peer(w: u32, h: u32)
-    requires { ⌜ (h < 2) × (w < 32768) ⌝ }
+    requires { ⌜ (h < 2) × (w < recommended .q) ⌝ }
 {
     field(b"* frodo scheme=4 w=", w);
     field(b" hint=", h);
-    field(b" : key=", frodo::peer(2048, 4, h, w));
+    field(b" : key=", frodo::peer(I, B, h, w));
     text(b"\n");
 }
 
 // Four entries that are all x.
 fn newhope_group(x: u32, coin: u32)
-    requires { ⌜ (coin < 2) × (x < 12289) ⌝ }
+    requires { ⌜ (coin < 2) × (x < newHope .q) ⌝ }
 {
     let group = Four {
         e0: x,
@@ -149,7 +155,7 @@ fn frodo_noise(word: u16) {
 // X^k.
 fn power(k: usize) -> [u32; 1024]
     requires { ⌜ k < 1024 ⌝ }
-    ensures { λ r. ⌜ Below 12289 r ⌝ }
+    ensures { λ r. ⌜ Below (newHope .q) r ⌝ }
 {
     let mut g = [0u32; 1024];
     g[k] = 1;

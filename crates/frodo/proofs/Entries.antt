@@ -2,18 +2,18 @@
 --   hints-length, keys-length, peers-length   as many as there are values
 --   key-below                                 a key is below 2 ^ B
 --   hints-below, keys-below, peers-below      hints below 2, keys below 2 ^ B
---   agreement-entries                         entries at most a quarter of the interval apart: the initiator's keys are the replier's
+--   agreement-entries                         entries within the margin: the initiator's keys are the replier's
 use mathlib.Core.Path.{_≡_, ap, _∙_}
 use mathlib.Core.List.{List}
-use Prim.Native.Nat.{ℕ, _*_, _/_, _%_, _^_, _≤_, _<_}
+use Prim.Native.Nat.{ℕ, _^_, _<_}
 use native.Mathlib.Nat.{mod-lt}
 use native.Mathlib.Omega.{arith}
 use lib.ListN.{length, getD}
 use lib.Pow.{pow-pos}
-use Rattle.numbers.specs.Residue.{apart}
 use Rattle.lists.specs.Entries.{tab, Below}
 use Rattle.lists.proofs.Entries.{tab-length, tab-at, tab-ext, below-tab}
 use Rattle.frodo.specs.Rounding.{hintOf, keyOf, peerOf, hintsOf, keysOf, peersOf}
+use Rattle.frodo.specs.Agreement.{EveryEntry}
 use Rattle.frodo.proofs.Rule.{hint-below, agreement}
 
 pub hints-length : (I : ℕ) (vs : List ℕ) → length (hintsOf I vs) ≡ length vs
@@ -44,8 +44,7 @@ pub peers-below : (I B : ℕ) (hs ws : List ℕ) → Below (2 ^ B) (peersOf I B 
 unfolding peersOf peerOf
 peers-below I B hs ws = below-tab (2 ^ B) (length ws) _ (pow-pos B) (λ k l. key-below I B _)
 
-pub agreement-entries : (I B : ℕ) (vs ws : List ℕ) → 0 < I → I % 4 ≡ 0 → Below (I * 2 ^ B) vs → Below (I * 2 ^ B) ws → length vs ≡ length ws
-    → ((k : ℕ) → k < length vs → apart (I * 2 ^ B) (getD vs k 0) (getD ws k 0) ≤ I / 4) → peersOf I B (hintsOf I vs) ws ≡ keysOf I B vs
+pub agreement-entries : EveryEntry
 unfolding peersOf hintsOf keysOf
 agreement-entries I B vs ws o e bv bw n d =
     tab-ext (length ws) _ _

@@ -4,3 +4,4 @@ pub mod Rule
 pub mod Edge
 pub mod Entries
 pub mod Room
+pub mod Schemes

@@ -17,9 +17,9 @@ use Rattle.numbers.specs.Residue.{apart}
 use Rattle.numbers.specs.Circle.{Close, direct, over, under}
 use Rattle.numbers.proofs.Circle.{apart-close, close-apart}
 use Rattle.frodo.specs.Rounding.{hintOf, keyOf, peerOf, leastBelow, Nearest}
-use Rattle.frodo.specs.Agreement.{NoTie, Formula, Agreement}
+use Rattle.frodo.specs.Agreement.{NoTie, formulaOf, Formula, Agreement}
 use Rattle.frodo.proofs.Least.{least-below}
-use Rattle.frodo.proofs.Margin.{Half, half-of, hint-half, formulaOf, margin}
+use Rattle.frodo.proofs.Margin.{Half, half-of, hint-half, margin}
 
 pub hint-below : (I v : ℕ) → hintOf I v < 2
 unfolding hintOf
@@ -114,7 +114,6 @@ no-tie I B h w o e =
     })
 
 pub formula : Formula
-unfolding formulaOf
 formula I B h w o e = let p : 0 < I / 4 = omega arith in rw (quarter I e) (λ hw l. peer-is (I / 4) p B w hw h l)
 
 pub agreement : Agreement

@@ -1,4 +1,5 @@
 -- Frodo's reconciliation: 01, "Reconciliation", over the rounding interval I and the number B of key bits of an entry; q is I * 2^B.
+--   interval f        I = q / 2^B of a scheme's fixed numbers
 --   hintOf I v        floor(2v / I) mod 2
 --   keyOf I B v       floor((2v + I) / (2I)) mod 2^B
 --   peerOf I B h w    the initiator's key: that of the z nearest to w, around the circle, among those with the hint h
@@ -10,8 +11,12 @@ use mathlib.Core.List.{List}
 use Prim.Native.Nat.{ℕ, zero, suc, _+_, _*_, _/_, _%_, _^_, _≤_, _<_}
 use lib.Dec.{eqb, ltb}
 use lib.ListN.{length, getD}
+use Rattle.schemes.specs.declared.Fixed.{Fixed}
 use Rattle.numbers.specs.Residue.{apart}
 use Rattle.lists.specs.Entries.{tab}
+
+abbrev pub interval : Fixed → ℕ
+interval f = f .q / 2 ^ f .keybits
 
 unfoldable pub hintOf : ℕ → ℕ → ℕ
 hintOf I v = 2 * v / I % 2

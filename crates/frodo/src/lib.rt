@@ -4,8 +4,18 @@
 ghost use mathlib.Core.Path.{_≡_};
 ghost use Prim.Native.Nat.{_*_, _^_, _<_};
 ghost use lib.ListN.{length};
+ghost use Rattle.schemes.specs.Schemes.{fixedOf};
 ghost use Rattle.lists.specs.Entries.{Below};
-ghost use Rattle.frodo.specs.Rounding.{hintOf, keyOf, peerOf, hintsOf, keysOf, peersOf, Round};
+ghost use Rattle.frodo.specs.Rounding.{interval, hintOf, keyOf, peerOf, hintsOf, keysOf, peersOf, Round};
+use schemes::Scheme;
+
+// The interval of a scheme.
+pub fn interval(scheme: Scheme) -> u32
+    ensures { λ r. ⌜ r ≡ interval (fixedOf scheme) ⌝ }
+{
+    let f = scheme.fixed();
+    f.q >> f.keybits
+}
 
 // The hint of the replier's value v: which half of its interval v stands in.
 pub fn hint(i: u32, b: u32, v: u32) -> u32

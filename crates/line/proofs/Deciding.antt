@@ -1,27 +1,38 @@
 -- The decision: what the functions between a question's numbers and its verdict rest on.
 --   small, passed            a refusal has one digit; what it means that all tests pass
 --   bcns-shown, bcns-refused, frodo-shown, frodo-refused   the two families' answers, by the tests
+--   Ready, ready, fitted     what the numbers of a scheme of Frodo are fit for
 --   key-small, peer-small    a key in Frodo has at most two digits
---   as-0, as-2, as-3, as-4-5, as-none   the answers, by the scheme
+--   outside                  the test of v and w as the code has it
+--   beyond                   a number of more than 32 bits names no scheme
+--   unnamed, in-family       the answers, by the scheme
 --   other-text, some-behind, nothing-behind   the answers, by what was read of the lines
-use mathlib.Core.Path.{_≡_, refl, _∙_, sym, ap}
-use mathlib.Core.Bool.{Bool, true, false, cond}
+use mathlib.Core.Path.{_≡_, refl, _∙_, sym, ap, ap₂}
+use mathlib.Core.Bool.{Bool, true, false, cond, _||_}
 use mathlib.Core.List.{List, [], _∷_, _++_}
-use Prim.Native.Nat.{ℕ, _^_, _≤_, _<_}
-use native.Mathlib.Decide.{decLt}
+use Prim.Native.Nat.{ℕ, _*_, _^_, _≤_, _<_}
 use native.Mathlib.Nat.{pow-le-pow-right}
 use native.Mathlib.Omega.{arith}
-use lib.Dec.{ltb}
+use lib.Dec.{eqb, leb, ltb}
 use lib.ListN.{length, drop, drop-of-length-le}
 use lib.Seq.{drop-cons}
-use borrow.Author.Tests.{ltb-true, ltb-false, ne-eqb}
+use borrow.Author.Tests.{ltb-true, ltb-false, leb-true, leb-false, lt-ltb, le-ltb, ne-eqb}
+use Rattle.schemes.specs.declared.Family.{Family}
+use Rattle.schemes.specs.declared.Fixed.{Fixed}
+use Rattle.schemes.specs.declared.Named.{Named}
+use Rattle.schemes.specs.declared.Named.the-variants.{Is, Unknown}
+use Rattle.schemes.specs.declared.Scheme.{Scheme}
+use Rattle.schemes.specs.Schemes.{by, familyOf, fixedOf, schemeOf}
+use Rattle.schemes.proofs.Sound.{sound}
 use Rattle.lists.specs.Table.{both}
 use Rattle.bcns.specs.Rounding as bcns
 use Rattle.frodo.specs.Rounding as frodo
+use Rattle.frodo.specs.Rounding.{Round}
 use Rattle.frodo.proofs.Entries as frodo-entries
+use Rattle.frodo.proofs.Schemes.{each-scheme}
 use Rattle.line.specs.Text.{Read, number, other, fieldIn}
-use Rattle.line.specs.Line.{schemeName, coinName, vName, wName, Asked, numbers, text, endIn, wIn, vIn, coinIn, asked, refusal, bcnsAnswer, frodoAnswer, settled, answerTo, answered}
-use Rattle.line.specs.Steps.{labelIn, Part, four, none, partOf, Stands, shifted, moved, linesOf, tested, bcnsShown, frodoShown}
+use Rattle.line.specs.Line.{schemeName, coinName, vName, wName, Asked, numbers, text, endIn, wIn, vIn, coinIn, asked, refusal, bcnsShown, frodoShown, bcnsAnswer, frodoAnswer, settledIn, settled, answerTo, answered}
+use Rattle.line.specs.Steps.{labelIn, Part, four, none, partOf, Stands, shifted, moved, linesOf, tested}
 use Rattle.line.specs.declared.Lines.{Lines}
 use Rattle.line.specs.declared.Lines.the-variants as lines
 
@@ -64,25 +75,55 @@ module _ (most q coin v w : ℕ) where
       go false true false a b c e = absurd (omega arith)
       go false false t a b c e = absurd (omega arith)
 
+pub outside : (q v w : ℕ) → _≡_ {A = ℕ} (cond (leb q v || leb q w) 4 0) (cond (both (ltb v q) (ltb w q)) 0 4)
+outside q v w = go (leb q v) (leb q w) refl refl
+  where
+    go : (s t : Bool) → leb q v ≡ s → leb q w ≡ t → _≡_ {A = ℕ} (cond (s || t) 4 0) (cond (both (ltb v q) (ltb w q)) 0 4)
+    go true t a b = rw (le-ltb v q (leb-true q v a))
+    go false true a b = rw (lt-ltb v q (leb-false q v a), le-ltb w q (leb-true q w b))
+    go false false a b = rw (lt-ltb v q (leb-false q v a), lt-ltb w q (leb-false q w b))
+
 -- ---- the two families, with n what the tests gave
 
 module _ (coin v w : ℕ) {n : ℕ} (e : n ≡ tested 3 bcns.q coin v w) where
   pub bcns-shown : n ≡ 0 → bcnsShown coin v w ≡ bcnsAnswer coin v w
-  unfolding bcnsAnswer bcnsShown tested
+  unfolding bcnsAnswer tested
   bcns-shown o = shown-by (ltb 3 coin) (both (ltb v bcns.q) (ltb w bcns.q)) (bcnsShown coin v w) (sym e ∙ o)
 
   pub bcns-refused : (n ≡ 0 → ⊥) → refusal n ≡ bcnsAnswer coin v w
-  unfolding bcnsAnswer bcnsShown tested
+  unfolding bcnsAnswer tested
   bcns-refused o = ap refusal e ∙ refused-by (ltb 3 coin) (both (ltb v bcns.q) (ltb w bcns.q)) (bcnsShown coin v w) (λ z. o (e ∙ z))
 
-module _ (q I B coin v w : ℕ) {n : ℕ} (e : n ≡ tested 0 q coin v w) where
-  pub frodo-shown : n ≡ 0 → frodoShown I B v w ≡ frodoAnswer q I B coin v w
-  unfolding frodoAnswer frodoShown tested
-  frodo-shown o = shown-by (ltb 0 coin) (both (ltb v q) (ltb w q)) (frodoShown I B v w) (sym e ∙ o)
+-- f is what the scheme's numbers are, g and i what the code has of them
+module _ {f g : Fixed} {i : ℕ} (o : g ≡ f) (p : i ≡ frodo.interval f) (coin v w : ℕ) {n : ℕ} (e : n ≡ tested 0 (g .q) coin v w) where
+  same : n ≡ tested 0 (f .q) coin v w
+  same = e ∙ ap (λ (h : Fixed). tested 0 (h .q) coin v w) o
 
-  pub frodo-refused : (n ≡ 0 → ⊥) → refusal n ≡ frodoAnswer q I B coin v w
-  unfolding frodoAnswer frodoShown tested
-  frodo-refused o = ap refusal e ∙ refused-by (ltb 0 coin) (both (ltb v q) (ltb w q)) (frodoShown I B v w) (λ z. o (e ∙ z))
+  pub frodo-shown : n ≡ 0 → frodoShown i (g .keybits) v w ≡ frodoAnswer f coin v w
+  unfolding frodoAnswer tested
+  frodo-shown z =
+      ap₂ (λ (I : ℕ) (h : Fixed). frodoShown I (h .keybits) v w) p o
+      ∙ shown-by (ltb 0 coin) (both (ltb v (f .q)) (ltb w (f .q))) (frodoShown (frodo.interval f) (f .keybits) v w) (sym same ∙ z)
+
+  pub frodo-refused : (n ≡ 0 → ⊥) → refusal n ≡ frodoAnswer f coin v w
+  unfolding frodoAnswer tested
+  frodo-refused z =
+      ap refusal same
+      ∙ refused-by (ltb 0 coin) (both (ltb v (f .q)) (ltb w (f .q))) (frodoShown (frodo.interval f) (f .keybits) v w) (λ y. z (same ∙ y))
+
+pub record Ready (q i b : ℕ) : Type 0 where
+  pub round : Round i b
+  pub few : b ≤ 4
+  pub whole : q ≡ i * 2 ^ b
+
+pub ready : (s : Scheme) {g : Fixed} {i : ℕ} → familyOf s ≡ Family.Frodo → g ≡ fixedOf s → i ≡ frodo.interval (fixedOf s) → Ready (g .q) i (g .keybits)
+ready s m o p =
+    let r = each-scheme s m in
+    rw (o, p) (record { round = r .round; few = sound s .key-room; whole = sym (r .whole) })
+
+-- and the tests have passed
+pub fitted : (coin v w : ℕ) {q i b n : ℕ} → Ready q i b → n ≡ tested 0 q coin v w → n ≡ 0 → (v < i * 2 ^ b) × (w < i * 2 ^ b)
+fitted coin v w {q} {i} {b} r e z = let p = passed 0 q coin v w e z in (omega (arith, p, r .whole), omega (arith, p, r .whole))
 
 module _ (I B : ℕ) (b : B ≤ 4) where
   bits : 2 ^ B ≤ 16
@@ -97,31 +138,22 @@ module _ (I B : ℕ) (b : B ≤ 4) where
 
 -- ---- the schemes
 
-module _ (scheme coin v w : ℕ) {xs : List ℕ} where
-  pub as-0 : scheme ≡ 0 → xs ≡ bcnsAnswer coin v w → xs ≡ settled scheme coin v w
-  unfolding settled
-  as-0 e h = rw e h
+pub beyond : (k : ℕ) → 2 ^ 32 ≤ k → Unknown ≡ schemeOf k
+beyond k h =
+    let n : (m : ℕ) → m < 2 ^ 32 → eqb k m ≡ false = λ m l. ne-eqb k m (omega arith) in
+    rw (n 0 (omega arith), n 1 (omega arith), n 2 (omega arith), n 3 (omega arith), n 4 (omega arith), n 5 (omega arith))
 
-  pub as-2 : scheme ≡ 2 → xs ≡ frodoAnswer 2048 1024 1 coin v w → xs ≡ settled scheme coin v w
-  unfolding settled
-  as-2 e h = rw e h
+module _ (k coin v w : ℕ) {r : Named} (e : r ≡ schemeOf k) where
+  pub unnamed : r ≡ Unknown → refusal 1 ≡ settled k coin v w
+  unfolding settled settledIn
+  unnamed u = ap (λ (m : Named). settledIn m coin v w) (sym u ∙ e)
 
-  pub as-3 : scheme ≡ 3 → xs ≡ frodoAnswer 4096 1024 2 coin v w → xs ≡ settled scheme coin v w
-  unfolding settled
-  as-3 e h = rw e h
-
-  pub as-4-5 : 4 ≤ scheme → scheme ≤ 5 → xs ≡ frodoAnswer 32768 2048 4 coin v w → xs ≡ settled scheme coin v w
-  unfolding settled
-  as-4-5 l u h = go (decLt scheme 5)
-    where
-      go : Dec (scheme < 5) → xs ≡ settled scheme coin v w
-      go (yes p) = let e : scheme ≡ 4 = omega arith in rw e h
-      go (no p) = let e : scheme ≡ 5 = omega arith in rw e h
-
-module _ (scheme coin v w : ℕ) where
-  pub as-none : (scheme ≡ 0 → ⊥) → (scheme ≡ 2 → ⊥) → (scheme ≡ 3 → ⊥) → (scheme ≡ 4 → ⊥) → (scheme ≡ 5 → ⊥) → refusal 1 ≡ settled scheme coin v w
-  unfolding settled
-  as-none a b c d e = rw (ne-eqb scheme 0 a, ne-eqb scheme 2 b, ne-eqb scheme 3 c, ne-eqb scheme 4 d, ne-eqb scheme 5 e)
+  pub in-family : {s : Scheme} {F : Family} → r ≡ Is s → F ≡ familyOf s
+      → by F (bcnsAnswer coin v w) (refusal 1) (frodoAnswer (fixedOf s) coin v w) ≡ settled k coin v w
+  unfolding settled settledIn
+  in-family {s} g f =
+      ap (λ (F : Family). by F (bcnsAnswer coin v w) (refusal 1) (frodoAnswer (fixedOf s) coin v w)) f
+      ∙ ap (λ (m : Named). settledIn m coin v w) (sym g ∙ e)
 
 -- ---- the lines
 

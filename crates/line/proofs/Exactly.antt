@@ -19,7 +19,7 @@ use Rattle.lists.specs.First.{firstWhere}
 use Rattle.lists.specs.Table.{both}
 use Rattle.line.specs.Text.{LF, digitsUpTo, decimal, line, Read, number, other, isDigit, notDigit, run, valueOf, wellFormed, numberIn, begins, fieldIn}
 use Rattle.line.specs.Line.{schemeName, coinName, vName, wName, question, Asked, numbers, text, endIn, wIn, vIn, coinIn, asked, answerTo, answered}
-use Rattle.line.specs.Exactly.{Is, Exactly, Enough}
+use Rattle.line.specs.Exactly.{Is, Exactly, bytes, Enough}
 use Rattle.line.proofs.Reading.{Formed, formed-is, formed-room, begins-is}
 use Rattle.line.proofs.Numeral.{Numeral, made, made-length, only, value, small, some, runs, front, taken}
 
@@ -187,8 +187,8 @@ long xs h = go (asked xs) refl
 
 pub enough : Enough
 unfolding answered
-enough xs = go (decLe (length xs) 61)
+enough xs = go (decLe (length xs) bytes)
   where
-    go : Dec (length xs ≤ 61) → answered (take 61 xs) ≡ answered xs
-    go (yes l) = ap answered (take-all 61 xs l)
-    go (no l) = ap answerTo (long (take 61 xs) (rw length-take (omega arith)) ∙ sym (long xs (omega arith)))
+    go : Dec (length xs ≤ bytes) → answered (take bytes xs) ≡ answered xs
+    go (yes l) = ap answered (take-all bytes xs l)
+    go (no l) = ap answerTo (long (take bytes xs) (rw length-take (omega arith)) ∙ sym (long xs (omega arith)))

@@ -1,11 +1,18 @@
--- An answer has at most 22 bytes (`specs/Exactly.antt`).
-use mathlib.Core.Path.{_≡_, ap}
+-- An answer has at most 22 bytes, and a promise one result (`specs/Exactly.antt`).
+--   answered-short, one-answer
+use mathlib.Core.Path.{_≡_, _∙_, sym, ap}
 use mathlib.Core.Bool.{Bool, cond}
-use mathlib.Core.List.{List}
-use Prim.Native.Nat.{ℕ, _+_, _≤_, _<_}
+use mathlib.Core.List.{List, _++_}
+use Prim.Native.Nat.{ℕ, _+_, _-_, _≤_, _<_}
 use native.Mathlib.Omega.{arith}
-use lib.Dec.{eqb, ltb}
-use lib.ListN.{length, length-append}
+use lib.Dec.{ltb}
+use lib.ListN.{length, replicate, length-append}
+use Rattle.schemes.specs.declared.Family.{Family}
+use Rattle.schemes.specs.declared.Fixed.{Fixed}
+use Rattle.schemes.specs.declared.Named.{Named}
+use Rattle.schemes.specs.declared.Named.the-variants.{Is, Unknown}
+use Rattle.schemes.specs.Schemes.{by, familyOf, fixedOf, schemeOf}
+use Rattle.schemes.proofs.Sound.{sound}
 use Rattle.lists.specs.Table.{both}
 use Rattle.lists.proofs.Table.{cond-all}
 use Rattle.bcns.specs.Rounding as bcns
@@ -14,8 +21,8 @@ use Rattle.bcns.proofs.Formula.{peer-below}
 use Rattle.frodo.specs.Rounding as frodo
 use Rattle.frodo.proofs.Rule as rule
 use Rattle.line.specs.Text.{line, decimal}
-use Rattle.line.specs.Line.{Asked, numbers, text, asked, refusal, shown, bcnsAnswer, frodoAnswer, settled, answerTo, answered}
-use Rattle.line.specs.Exactly.{Short}
+use Rattle.line.specs.Line.{Asked, numbers, text, asked, refusal, shown, bcnsShown, frodoShown, bcnsAnswer, frodoAnswer, settledIn, settled, answerTo, answered}
+use Rattle.line.specs.Exactly.{Short, OneAnswer}
 use Rattle.line.proofs.Deciding.{key-small, peer-small}
 use Rattle.line.proofs.Writing.{one-digit, decimal-short}
 
@@ -44,33 +51,39 @@ picked : (r s : Bool) {xs : List ℕ} → Fits xs → Fits (cond r (refusal 9) (
 picked r s h = cond-all Fits r (refusal-fits (omega arith)) (cond-all Fits s h (refusal-fits (omega arith)))
 
 bcns-fits : (coin v w : ℕ) → Fits (bcnsAnswer coin v w)
-unfolding bcnsAnswer
+unfolding bcnsAnswer bcnsShown
 bcns-fits coin v w =
     let z = bcns.doubled coin v in
     picked (ltb 3 coin) (both (ltb v bcns.q) (ltb w bcns.q))
     (shown-fits (hint-below z) (omega (arith, key-below z)) (omega (arith, peer-below (bcns.hintOf z) w)))
 
-frodo-fits : (q I B coin v w : ℕ) → B ≤ 4 → Fits (frodoAnswer q I B coin v w)
-unfolding frodoAnswer
-frodo-fits q I B coin v w b =
-    picked (ltb 0 coin) (both (ltb v q) (ltb w q))
-    (shown-fits (rule.hint-below I v) (key-small I B b v) (peer-small I B b (frodo.hintOf I v) w))
+frodo-fits : (f : Fixed) (coin v w : ℕ) → f .keybits ≤ 4 → Fits (frodoAnswer f coin v w)
+unfolding frodoAnswer frodoShown
+frodo-fits f coin v w b =
+    let I = frodo.interval f in
+    picked (ltb 0 coin) (both (ltb v (f .q)) (ltb w (f .q)))
+    (shown-fits (rule.hint-below I v) (key-small I (f .keybits) b v) (peer-small I (f .keybits) b (frodo.hintOf I v) w))
 
-settled-fits : (scheme coin v w : ℕ) → Fits (settled scheme coin v w)
-unfolding settled
-settled-fits scheme coin v w =
-    cond-all Fits (eqb scheme 0) (bcns-fits coin v w)
-    (cond-all Fits (eqb scheme 2) (frodo-fits 2048 1024 1 coin v w (omega arith))
-    (cond-all Fits (eqb scheme 3) (frodo-fits 4096 1024 2 coin v w (omega arith))
-    (cond-all Fits (eqb scheme 4) (frodo-fits 32768 2048 4 coin v w (omega arith))
-    (cond-all Fits (eqb scheme 5) (frodo-fits 32768 2048 4 coin v w (omega arith))
-    (refusal-fits (omega arith))))))
+family-fits : (F : Family) (f : Fixed) (coin v w : ℕ) → f .keybits ≤ 4 → Fits (by F (bcnsAnswer coin v w) (refusal 1) (frodoAnswer f coin v w))
+family-fits Family.Bcns f coin v w b = bcns-fits coin v w
+family-fits Family.NewHope f coin v w b = refusal-fits (omega arith)
+family-fits Family.Frodo f coin v w b = frodo-fits f coin v w b
+
+settled-fits : (r : Named) (coin v w : ℕ) → Fits (settledIn r coin v w)
+unfolding settledIn
+settled-fits (Is s) coin v w = family-fits (familyOf s) (fixedOf s) coin v w (sound s .key-room)
+settled-fits Unknown coin v w = refusal-fits (omega arith)
 
 answer-fits : (r : Asked) → Fits (answerTo r)
-unfolding answerTo
-answer-fits (numbers a b c d) = settled-fits a b c d
+unfolding answerTo settled
+answer-fits (numbers a b c d) = settled-fits (schemeOf a) b c d
 answer-fits text = refusal-fits (omega arith)
 
 pub answered-short : Short
 unfolding answered
 answered-short xs = answer-fits (asked xs) .fits
+
+pub one-answer : OneAnswer
+one-answer xs r s out other p q =
+    let e : r ≡ s = p .count ∙ sym (q .count) in
+    (e, p .holds ∙ ap (λ (k : ℕ). answered xs ++ replicate (32 - k) 0) e ∙ sym (q .holds))

@@ -7,6 +7,10 @@ use mathlib.Core.Bool.{cond}
 use mathlib.Core.List.{List, [], _∷_, _++_}
 use Prim.Native.Nat.{ℕ}
 use lib.Dec.{eqb, ltb}
+use Rattle.schemes.specs.declared.Fixed.{Fixed}
+use Rattle.schemes.specs.declared.Named.{Named}
+use Rattle.schemes.specs.declared.Named.the-variants.{Is, Unknown}
+use Rattle.schemes.specs.Schemes.{by, familyOf, fixedOf, schemeOf}
 use Rattle.lists.specs.Table.{both}
 use Rattle.bcns.specs.Rounding as bcns
 use Rattle.frodo.specs.Rounding as frodo
@@ -74,28 +78,30 @@ refusal n = line refusalName n
 unfoldable pub shown : ℕ → ℕ → ℕ → List ℕ
 shown hint key peer = line hintName hint ++ line keyName key ++ line peerName peer
 
-unfoldable pub bcnsAnswer : ℕ → ℕ → ℕ → List ℕ
-bcnsAnswer coin v w =
-    cond (ltb 3 coin) (refusal 9)
-    (cond (both (ltb v bcns.q) (ltb w bcns.q))
-    (shown (bcns.hintOf (bcns.doubled coin v)) (bcns.keyOf (bcns.doubled coin v)) (bcns.peerOf (bcns.hintOf (bcns.doubled coin v)) w))
-    (refusal 4))
+-- what passes the tests: in BCNS, and in Frodo over the interval I and the bits B
+unfoldable pub bcnsShown : ℕ → ℕ → ℕ → List ℕ
+bcnsShown coin v w =
+    shown (bcns.hintOf (bcns.doubled coin v)) (bcns.keyOf (bcns.doubled coin v)) (bcns.peerOf (bcns.hintOf (bcns.doubled coin v)) w)
 
--- over q, the interval I and the bits B
-unfoldable pub frodoAnswer : ℕ → ℕ → ℕ → ℕ → ℕ → ℕ → List ℕ
-frodoAnswer q I B coin v w =
+unfoldable pub frodoShown : ℕ → ℕ → ℕ → ℕ → List ℕ
+frodoShown I B v w = shown (frodo.hintOf I v) (frodo.keyOf I B v) (frodo.peerOf I B (frodo.hintOf I v) w)
+
+unfoldable pub bcnsAnswer : ℕ → ℕ → ℕ → List ℕ
+bcnsAnswer coin v w = cond (ltb 3 coin) (refusal 9) (cond (both (ltb v bcns.q) (ltb w bcns.q)) (bcnsShown coin v w) (refusal 4))
+
+-- over the fixed numbers of a scheme
+unfoldable pub frodoAnswer : Fixed → ℕ → ℕ → ℕ → List ℕ
+frodoAnswer f coin v w =
     cond (ltb 0 coin) (refusal 9)
-    (cond (both (ltb v q) (ltb w q)) (shown (frodo.hintOf I v) (frodo.keyOf I B v) (frodo.peerOf I B (frodo.hintOf I v) w)) (refusal 4))
+    (cond (both (ltb v (f .q)) (ltb w (f .q))) (frodoShown (frodo.interval f) (f .keybits) v w) (refusal 4))
 
 -- 1 for a scheme not 0 or 2..5
+unfoldable pub settledIn : Named → ℕ → ℕ → ℕ → List ℕ
+settledIn (Is s) coin v w = by (familyOf s) (bcnsAnswer coin v w) (refusal 1) (frodoAnswer (fixedOf s) coin v w)
+settledIn Unknown coin v w = refusal 1
+
 unfoldable pub settled : ℕ → ℕ → ℕ → ℕ → List ℕ
-settled scheme coin v w =
-    cond (eqb scheme 0) (bcnsAnswer coin v w)
-    (cond (eqb scheme 2) (frodoAnswer 2048 1024 1 coin v w)
-    (cond (eqb scheme 3) (frodoAnswer 4096 1024 2 coin v w)
-    (cond (eqb scheme 4) (frodoAnswer 32768 2048 4 coin v w)
-    (cond (eqb scheme 5) (frodoAnswer 32768 2048 4 coin v w)
-    (refusal 1)))))
+settled scheme coin v w = settledIn (schemeOf scheme) coin v w
 
 unfoldable pub answerTo : Asked → List ℕ
 answerTo (numbers a b c d) = settled a b c d

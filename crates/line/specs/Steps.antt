@@ -4,21 +4,19 @@
 --   Part, partOf, reached     the same of the lines read so far: the last four numbers, and what stands behind
 --   moved label p             one line more
 --   linesOf xs                all four
+--   firstOf a x b y           x where the test a fails, else y where b fails, else 0
 --   tested most q coin v w    0, or the refusal of a coin over most (9), of v or w of q or more (4), in that order
---   bcnsShown, frodoShown     what is shown where the tests pass
 --   textOf r, Small r         the text of a verdict; its numbers have one or two digits
 --   labelled label n          `line` with the name and its '=' as one label
 --   put i xs d                xs written into d from i on
 --   Written i xs d out r      that was done, and r is the position behind xs
 use mathlib.Core.Path.{_≡_}
-use mathlib.Core.Bool.{cond}
+use mathlib.Core.Bool.{Bool, cond}
 use mathlib.Core.List.{List, [], _∷_, _++_}
 use Prim.Native.Nat.{ℕ, _+_, _<_, _≤_}
 use lib.Dec.{ltb}
 use lib.ListN.{length, take, drop}
 use Rattle.lists.specs.Table.{both}
-use Rattle.bcns.specs.Rounding as bcns
-use Rattle.frodo.specs.Rounding as frodo
 use Rattle.line.specs.Text.{LF, decimal, Read, number, other, begins, numberIn}
 use Rattle.line.specs.Line.{schemeName, coinName, vName, wName, shown, refusal}
 use Rattle.line.specs.declared.Found.{Found}
@@ -75,16 +73,11 @@ linesOf xs =
 
 -- ---- the decision
 
+abbrev pub firstOf : Bool → ℕ → Bool → ℕ → ℕ
+firstOf a x b y = cond a x (cond b y 0)
+
 unfoldable pub tested : ℕ → ℕ → ℕ → ℕ → ℕ → ℕ
 tested most q coin v w = cond (ltb most coin) 9 (cond (both (ltb v q) (ltb w q)) 0 4)
-
--- what passes the tests
-unfoldable pub bcnsShown : ℕ → ℕ → ℕ → List ℕ
-bcnsShown coin v w =
-    shown (bcns.hintOf (bcns.doubled coin v)) (bcns.keyOf (bcns.doubled coin v)) (bcns.peerOf (bcns.hintOf (bcns.doubled coin v)) w)
-
-unfoldable pub frodoShown : ℕ → ℕ → ℕ → ℕ → List ℕ
-frodoShown I B v w = shown (frodo.hintOf I v) (frodo.keyOf I B v) (frodo.peerOf I B (frodo.hintOf I v) w)
 
 abbrev pub textOf : Verdict → List ℕ
 textOf (verdict.Shown h k p) = shown h k p

@@ -2,13 +2,23 @@
 // the longest answer 22, so a program reads 61 bytes at most to tell. Reading goes by positions in the input, a line after the other; the decision gives a
 // verdict and no text; then the verdict is written.
 ghost use mathlib.Core.Path.{_≡_};
-ghost use mathlib.Core.List.{_++_};
 ghost use Prim.Native.Nat.{_+_, _-_, _*_, _^_, _≤_, _<_};
-ghost use lib.ListN.{length, drop, replicate};
+ghost use lib.ListN.{length, drop};
+ghost use Rattle.schemes.specs.declared.Family.{Family};
+ghost use Rattle.schemes.specs.Schemes.{bcns, familyOf, fixedOf, schemeOf};
 ghost use Rattle.frodo.specs.Rounding.{Round};
 ghost use Rattle.line.specs.Text.{notDigit, run, valueOf, wellFormed, begins, numberIn, decimal};
-ghost use Rattle.line.specs.Line.{shown, bcnsAnswer, frodoAnswer, settled, answered};
-ghost use Rattle.line.specs.Steps.{Reads, labelIn, reached, partOf, Stands, moved, linesOf, tested, bcnsShown, frodoShown, textOf, Small, labelled, Written};
+ghost use Rattle.line.specs.Line.{shown, bcnsShown, frodoShown, bcnsAnswer, frodoAnswer, settled, answered};
+ghost use Rattle.line.specs.Exactly.{Answers};
+ghost use Rattle.line.specs.Steps.{Reads, labelIn, reached, partOf, Stands, moved, linesOf, firstOf, tested, textOf, Small, labelled, Written};
+use schemes::Family;
+use schemes::Named;
+use schemes::Scheme;
+
+// q of BCNS, and how many numbers 32 bits hold.
+const BCNS: u64 = schemes::Bcns::Q as u64;
+
+const WORDS: u64 = 1 << 32;
 
 // What reading a number finds: the number and the position behind its line, or other text.
 enum Found {
@@ -159,24 +169,25 @@ fn four_lines(s: &[u8]) -> Lines
 
 // ---- the decision
 
+// Of two tests, each with its refusal, the first that fails; 0 where both pass.
+fn first(a: bool, x: u32, b: bool, y: u32) -> u32
+    ensures { λ r. ⌜ r ≡ firstOf a x b y ⌝ }
+{
+    if a {
+        return x;
+    }
+    if b { y } else { 0 }
+}
+
 // The tests of a scheme with the largest coin and q: 0 where all pass, or the refusal of the first that fails.
 fn test(most: u64, q: u64, coin: u64, v: u64, w: u64) -> u32
     ensures { λ r. ⌜ r ≡ tested most q coin v w ⌝ }
 {
-    if most < coin {
-        return 9;
-    }
-    if q <= v {
-        return 4;
-    }
-    if q <= w {
-        return 4;
-    }
-    0
+    first(most < coin, 9, (q <= v) | (q <= w), 4)
 }
 
 fn show_bcns(coin: u32, v: u32, w: u32) -> Verdict
-    requires { ⌜ (v < 4294967295) × (w < 4294967295) ⌝ }
+    requires { ⌜ (v < bcns .q) × (w < bcns .q) ⌝ }
     ensures { λ r. ⌜ (textOf r ≡ bcnsShown coin v w) × Small r ⌝ }
 {
     let z = bcns::double(coin, v);
@@ -187,7 +198,7 @@ fn show_bcns(coin: u32, v: u32, w: u32) -> Verdict
 fn settle_bcns(coin: u64, v: u64, w: u64) -> Verdict
     ensures { λ r. ⌜ (textOf r ≡ bcnsAnswer coin v w) × Small r ⌝ }
 {
-    let n = test(3, 4294967295, coin, v, w);
+    let n = test(3, BCNS, coin, v, w);
     if n == 0 {
         show_bcns(coin as u32, v as u32, w as u32)
     } else {
@@ -204,28 +215,42 @@ fn show_frodo(i: u32, b: u32, v: u32, w: u32) -> Verdict
     Verdict::Shown(h, frodo::key(i, b, v), frodo::peer(i, b, h, w))
 }
 
-fn settle_frodo(q: u64, i: u32, b: u32, coin: u64, v: u64, w: u64) -> Verdict
-    requires { ⌜ Round i b × (b ≤ 4) × (q ≡ i * 2 ^ b) ⌝ }
-    ensures { λ r. ⌜ (textOf r ≡ frodoAnswer q i b coin v w) × Small r ⌝ }
+fn settle_frodo(scheme: Scheme, coin: u64, v: u64, w: u64) -> Verdict
+    requires { ⌜ familyOf scheme ≡ Family.Frodo ⌝ }
+    ensures { λ r. ⌜ (textOf r ≡ frodoAnswer (fixedOf scheme) coin v w) × Small r ⌝ }
 {
-    let n = test(0, q, coin, v, w);
+    let f = scheme.fixed();
+    let i = frodo::interval(scheme);
+    let n = test(0, f.q as u64, coin, v, w);
     if n == 0 {
-        show_frodo(i, b, v as u32, w as u32)
+        show_frodo(i, f.keybits, v as u32, w as u32)
     } else {
         Verdict::Refused(n)
     }
 }
 
-// Scheme 0, and q, the interval and the bits of 2 to 5.
-fn settle(scheme: u64, coin: u64, v: u64, w: u64) -> Verdict
-    ensures { λ r. ⌜ (textOf r ≡ settled scheme coin v w) × Small r ⌝ }
+// The scheme of a number that may have more than 32 bits.
+fn named(no: u64) -> Named
+    ensures { λ r. ⌜ r ≡ schemeOf no ⌝ }
 {
-    match scheme {
-        0 => settle_bcns(coin, v, w),
-        2 => settle_frodo(2048, 1024, 1, coin, v, w),
-        3 => settle_frodo(4096, 1024, 2, coin, v, w),
-        4 | 5 => settle_frodo(32768, 2048, 4, coin, v, w),
-        _ => Verdict::Refused(1),
+    if no < WORDS {
+        schemes::scheme_of(no as u32)
+    } else {
+        Named::Unknown
+    }
+}
+
+fn settle(no: u64, coin: u64, v: u64, w: u64) -> Verdict
+    ensures { λ r. ⌜ (textOf r ≡ settled no coin v w) × Small r ⌝ }
+{
+    let Named::Is(scheme) = named(no) else {
+        return Verdict::Refused(1);
+    };
+    let family = scheme.family();
+    match family {
+        Family::Bcns => settle_bcns(coin, v, w),
+        Family::NewHope => Verdict::Refused(1),
+        Family::Frodo => settle_frodo(scheme, coin, v, w),
     }
 }
 
@@ -291,8 +316,7 @@ fn write(v: Verdict, out: &mut [u8]) -> usize
 
 // The answer, with zeros behind it, and how many bytes it has.
 pub fn answer(input: &[u8], out: &mut [u8; 32]) -> usize
-    ensures { λ r. ⌜ r ≡ length (answered (now (input .entry))) ⌝ }
-    ensures { λ r. ⌜ now (out .exit) ≡ answered (now (input .entry)) ++ replicate (32 - r) 0 ⌝ }
+    ensures { λ r. ⌜ Answers (now (input .entry)) r (now (out .exit)) ⌝ }
 {
     // The proof knows the length of a local array and not of one that is lent, so the text is made in a local one and stored whole.
     let mut text = [0u8; 32];

@@ -1,4 +1,4 @@
-// The line program: 01, "The line program". A question has at most 60 bytes, so the first 61 bytes of the input tell its answer: `enough` of
+// The line program: 01, "The line program". A question has at most 60 bytes, so the first 61 bytes of the input tell its answer: `Enough` of
 // `line`'s `specs/Exactly.antt`.
 use libc::STDIN_FILENO;
 use libc::STDOUT_FILENO;

@@ -3,8 +3,9 @@
 --   small-group, hint-group   a group of small numbers, of hints
 --   hints-group          group i of the hints is the hint of group i
 --   own-keys             the replier's bits are those of its own hints
---   groups-agree         where each group is at most 9214 apart, all 256 bits agree
+--   groups-agree         where each group is within the margin, all 256 bits agree
 --   hint-at, at-place    the hint at k, by its group and its place there
+--   group-at             a group read at its four places
 --   hints-next, hints-end   the loop that writes the hints, at each turn and after
 use mathlib.Core.Path.{_≡_, refl, _∙_, sym, ap, ap₂, subst}
 use mathlib.Core.Bool.{Bool, true, false, cond}
@@ -16,7 +17,8 @@ use lib.ListN.{length, getD, set}
 use Rattle.lists.specs.Entries.{Below}
 use Rattle.lists.proofs.Entries.{tab-length, tab-at, tab-ext, below-tab}
 use Rattle.newhope.specs.declared.Four.{Four}
-use Rattle.newhope.specs.Group.{q, Small, Hint, hintOf, sumOf, bitOf, apartOf, groupOf, entryOf, hintsOf, keysOf, peersOf}
+use Rattle.newhope.specs.Group.{q, groups, Small, Hint, hintOf, sumOf, bitOf, groupOf, entryOf, hintsOf, keysOf, peersOf}
+use Rattle.newhope.specs.Agreement.{EveryGroup}
 use Rattle.newhope.proofs.Margin.{agreement}
 use Rattle.newhope.proofs.Parts.{hint-small}
 use Rattle.newhope.proofs.Spread.{Spread, spread-next, spread-end}
@@ -102,26 +104,34 @@ module _ (cs vs : List ℕ) where
   unfolding keysOf peersOf
   own-keys = tab-ext 256 _ _ (λ i l. ap (λ (h : Four). bitOf h (groupOf vs i)) (sym (hints-group i l)))
 
-  pub groups-agree : (ws : List ℕ) → Below 2 cs → Below q vs → Below q ws
-      → ((i : ℕ) → i < 256 → apartOf (groupOf vs i) (groupOf ws i) ≤ 9214) → peersOf (hintsOf cs vs) ws ≡ keysOf cs vs
-  unfolding keysOf peersOf
-  groups-agree ws hc hv hw d =
-      tab-ext 256 _ _
-      (λ i l.
-      ap (λ (h : Four). bitOf h (groupOf ws i)) (hints-group i l)
-      ∙ agreement (getD cs i 0) (groupOf vs i) (groupOf ws i) (hc .below i) (small-group i hv refl) (small-group i hw refl) (d i l))
+pub groups-agree : EveryGroup
+unfolding keysOf peersOf
+groups-agree cs vs ws hc hv hw d =
+    tab-ext groups _ _
+    (λ i l.
+    ap (λ (h : Four). bitOf h (groupOf ws i)) (hints-group cs vs i l)
+    ∙ agreement (getD cs i 0) (groupOf vs i) (groupOf ws i) (hc .below i) (small-group i hv refl) (small-group i hw refl) (d i l))
 
--- ---- the loop that writes the hints: h is that of group i
+-- ---- the code: entry j of group i stands at i + 256 j
 
-pub hints-next : (cs vs : List ℕ) {out : List ℕ} {i : ℕ} {g h : Four} → Spread (hint-at cs vs) out i → i < 256
-    → g ≡ groupOf vs i → h ≡ hintOf (getD cs i 0) g
-    → Spread (hint-at cs vs) (set (set (set (set out i (h .e0)) (i + 256) (h .e1)) (i + 512) (h .e2)) (i + 768) (h .e3)) (i + 1)
+pub group-at : (xs : List ℕ) (i : ℕ) {p0 p1 p2 p3 : ℕ} → p0 ≡ i + groups * 0 → p1 ≡ i + groups * 1 → p2 ≡ i + groups * 2 → p3 ≡ i + groups * 3
+    → _≡_ {A = Four} (record { e0 = getD xs p0 0; e1 = getD xs p1 0; e2 = getD xs p2 0; e3 = getD xs p3 0 }) (groupOf xs i)
+unfolding groupOf
+group-at xs i {p0} r0 r1 r2 r3 = let first : p0 ≡ i = omega arith in rw (first, r1, r2, r3) refl
+
+-- the loop that writes the hints: h is that of group i
+
+pub hints-next : (cs vs : List ℕ) {out : List ℕ} {i p0 p1 p2 p3 : ℕ} {g h : Four} → Spread (hint-at cs vs) out i → i < groups
+    → g ≡ groupOf vs i → h ≡ hintOf (getD cs i 0) g → p0 ≡ i + groups * 0 → p1 ≡ i + groups * 1 → p2 ≡ i + groups * 2 → p3 ≡ i + groups * 3
+    → Spread (hint-at cs vs) (set (set (set (set out p0 (h .e0)) p1 (h .e1)) p2 (h .e2)) p3 (h .e3)) (i + 1)
 unfolding entryOf
-hints-next cs vs {out} {i} {g} {h} s l e f =
+hints-next cs vs {out} {i} {p0} {p1} {p2} {p3} {g} {h} s l e f r0 r1 r2 r3 =
+    let first : p0 ≡ i = omega arith in
     let at : (k j : ℕ) → k % 256 ≡ i → k / 256 ≡ j → entryOf h j ≡ hint-at cs vs k =
     λ k j p r. ap (λ (x : Four). entryOf x j) (f ∙ ap (hintOf (getD cs i 0)) e) ∙ sym (at-place cs vs k i j p r) in
-    spread-next s l (at i 0 (omega arith) (omega arith)) (at (i + 256) 1 (omega arith) (omega arith)) (at (i + 512) 2 (omega arith) (omega arith))
-    (at (i + 768) 3 (omega arith) (omega arith))
+    rw (first, r1, r2, r3)
+    (spread-next s l (at i 0 (omega arith) (omega arith)) (at (i + 256) 1 (omega arith) (omega arith)) (at (i + 512) 2 (omega arith) (omega arith))
+    (at (i + 768) 3 (omega arith) (omega arith)))
 
 pub hints-end : (cs vs : List ℕ) {out : List ℕ} {i : ℕ} → Spread (hint-at cs vs) out i → 256 ≤ i → out ≡ hintsOf cs vs
 unfolding hint-at hintsOf

@@ -1,21 +1,36 @@
 -- What is shown of NewHope's reconciliation.
+--   margin       how large the four distances between v and w may be together
+--   Agreement    up to there both ends compute the same bit
+--   Published    and the replier's is the published one
+--   Sharp        one more, and the bits can differ
+--   EveryGroup   the same of all 256 groups
 use mathlib.Core.Path.{_≡_}
+use mathlib.Core.List.{List}
 use mathlib.Core.Logic.{_↔_}
-use Prim.Native.Nat.{ℕ, _≤_, _<_}
+use Prim.Native.Nat.{ℕ, _+_, _≤_, _<_}
+use Rattle.lists.specs.Entries.{Below}
 use Rattle.newhope.specs.declared.Four.{Four}
-use Rattle.newhope.specs.Group.{Small, pOf, hintOf, bitOf, apartOf}
+use Rattle.newhope.specs.Group.{q, groups, Small, pOf, hintOf, bitOf, apartOf, groupOf, hintsOf, keysOf, peersOf}
 
--- the four distances sum to at most 9214: both ends compute the same bit
+abbrev pub margin : ℕ
+margin = 9214
+
 abbrev pub Agreement : Type 0
-Agreement = (b : ℕ) (v w : Four) → b < 2 → Small v → Small w → apartOf v w ≤ 9214 → bitOf (hintOf b v) w ≡ bitOf (hintOf b v) v
+Agreement = (b : ℕ) (v w : Four) → b < 2 → Small v → Small w → apartOf v w ≤ margin → bitOf (hintOf b v) w ≡ bitOf (hintOf b v) v
 
--- the replier's bit is the published one: 1 (far) exactly if p3 is 2 or 3
+-- 1 (far) exactly if p3 is 2 or 3
 abbrev pub Published : Type 0
 Published = (b : ℕ) (v : Four) → b < 2 → Small v → (bitOf (hintOf b v) v ≡ 1) ↔ ((2 ≤ pOf b v (v .e3)) × (pOf b v (v .e3) ≤ 3))
 
--- one more and the bits can differ
 pub record Sharp : Type 0 where
   pub v : Four
   pub w : Four
-  pub one-more : apartOf v w ≡ 9215
+  pub v-small : Small v
+  pub w-small : Small w
+  pub one-more : apartOf v w ≡ margin + 1
   pub differ : bitOf (hintOf 1 v) w ≡ bitOf (hintOf 1 v) v → ⊥
+
+abbrev pub EveryGroup : Type 0
+EveryGroup =
+    (cs vs ws : List ℕ) → Below 2 cs → Below q vs → Below q ws
+    → ((i : ℕ) → i < groups → apartOf (groupOf vs i) (groupOf ws i) ≤ margin) → peersOf (hintsOf cs vs) ws ≡ keysOf cs vs

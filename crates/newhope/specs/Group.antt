@@ -1,4 +1,5 @@
--- NewHope's reconciliation: 01, "Reconciliation"; q is 12289. A group is the entries i, i + 256, i + 512 and i + 768, with a coin bit b.
+-- NewHope's reconciliation: 01, "Reconciliation"; q, the size 1024 and the 256 groups are those of `schemes`.
+-- A group is the entries i, i + 256, i + 512 and i + 768, with a coin bit b.
 --   upOf b x, downOf b x   P = floor((4X + q)/(2q)) and Q = floor(2X/q), where X = 2x + b
 --   offOf b x, offsOf b v  |2X - qP|, and the sum of the four
 --   kOf b v, pOf b v x     k, and the vector's entry at x: P where the four sum below q, else Q
@@ -14,12 +15,20 @@ use Prim.Native.Nat.{ℕ, zero, suc, _+_, _*_, _/_, _%_, _<_}
 use lib.Dec.{ltb, leb}
 use lib.IntN.{pos, natAbs, _-ℤ_}
 use lib.ListN.{getD}
+use Rattle.schemes.specs.Schemes.{fixedOf}
+use Rattle.schemes.specs.declared.Scheme.the-variants.{NewHope}
 use Rattle.numbers.specs.Residue.{residue, apart}
 use Rattle.lists.specs.Entries.{tab}
 use Rattle.newhope.specs.declared.Four.{Four}
 
 abbrev pub q : ℕ
-q = 12289
+q = fixedOf NewHope .q
+
+abbrev pub size : ℕ
+size = fixedOf NewHope .n
+
+abbrev pub groups : ℕ
+groups = fixedOf NewHope .groups
 
 unfoldable pub upOf : ℕ → ℕ → ℕ
 upOf b x = (4 * (2 * x + b) + q) / (2 * q)
@@ -64,7 +73,7 @@ apartOf v w = apart q (v .e0) (w .e0) + apart q (v .e1) (w .e1) + apart q (v .e2
 -- ---- over all groups
 
 unfoldable pub groupOf : List ℕ → ℕ → Four
-groupOf xs i = record { e0 = getD xs i 0; e1 = getD xs (i + 256) 0; e2 = getD xs (i + 512) 0; e3 = getD xs (i + 768) 0 }
+groupOf xs i = record { e0 = getD xs i 0; e1 = getD xs (i + groups) 0; e2 = getD xs (i + 2 * groups) 0; e3 = getD xs (i + 3 * groups) 0 }
 
 -- entry j of a group
 unfoldable pub entryOf : Four → ℕ → ℕ
@@ -74,14 +83,14 @@ entryOf g (suc (suc zero)) = g .e2
 entryOf g (suc (suc (suc j))) = g .e3
 
 unfoldable pub hintsOf : List ℕ → List ℕ → List ℕ
-hintsOf cs vs = tab 1024 (λ k. entryOf (hintOf (getD cs (k % 256) 0) (groupOf vs (k % 256))) (k / 256))
+hintsOf cs vs = tab size (λ k. entryOf (hintOf (getD cs (k % groups) 0) (groupOf vs (k % groups))) (k / groups))
 
 -- the replier's bits, of its own hints; and the initiator's, of the hints that came
 unfoldable pub keysOf : List ℕ → List ℕ → List ℕ
-keysOf cs vs = tab 256 (λ i. bitOf (hintOf (getD cs i 0) (groupOf vs i)) (groupOf vs i))
+keysOf cs vs = tab groups (λ i. bitOf (hintOf (getD cs i 0) (groupOf vs i)) (groupOf vs i))
 
 unfoldable pub peersOf : List ℕ → List ℕ → List ℕ
-peersOf hs ws = tab 256 (λ i. bitOf (groupOf hs i) (groupOf ws i))
+peersOf hs ws = tab groups (λ i. bitOf (groupOf hs i) (groupOf ws i))
 
 -- ---- ranges
 

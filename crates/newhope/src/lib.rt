@@ -1,13 +1,22 @@
-// NewHope's reconciliation of groups of four entries: 01, "Reconciliation"; q is 12289.
+// NewHope's reconciliation of groups of four entries: 01, "Reconciliation"; q, the size 1024 and the 256 groups are those of `schemes`.
 ghost use mathlib.Core.Path.{_≡_};
 ghost use mathlib.Core.Bool.{cond};
-ghost use Prim.Native.Nat.{_^_, _≤_, _<_};
+ghost use Prim.Native.Nat.{_+_, _*_, _/_, _^_, _≤_, _<_};
 ghost use lib.Dec.{ltb};
 ghost use lib.IntN.{pos, _-ℤ_};
 ghost use lib.ListN.{length};
 ghost use Rattle.numbers.specs.Residue.{residue};
 ghost use Rattle.lists.specs.Entries.{Below};
-ghost use Rattle.newhope.specs.Group.{Small, Hint, upOf, downOf, offOf, offsOf, termOf, hintOf, bitOf, groupOf, hintsOf, peersOf};
+ghost use Rattle.newhope.specs.Group.{q, size, groups, Small, Hint, upOf, downOf, offOf, offsOf, termOf, hintOf, bitOf, groupOf, hintsOf, peersOf};
+
+// q, 2q and 8q, and the number of groups.
+const Q: u32 = schemes::NewHope::Q;
+
+const TWICE: u32 = 2 * Q;
+
+const EIGHT: u32 = 8 * Q;
+
+const GROUPS: usize = schemes::NewHope::GROUPS;
 
 // What a group has at its entries i, i + 256, i + 512 and i + 768.
 pub struct Four {
@@ -27,27 +36,27 @@ fn minus(x: u32, y: u32) -> i32
 
 // P of one entry, at most 4: X = 2x + b is below 2q.
 fn up(b: u32, x: u32) -> u32
-    requires { ⌜ (b < 2) × (x < 12289) ⌝ }
+    requires { ⌜ (b < 2) × (x < q) ⌝ }
     ensures { λ r. ⌜ (r ≡ upOf b x) × (r < 5) ⌝ }
 {
-    (4 * (2 * x + b) + 12289) / 24578
+    (4 * (2 * x + b) + Q) / TWICE
 }
 
 // Q of one entry, at most 3.
 fn down(b: u32, x: u32) -> u32
-    requires { ⌜ (b < 2) × (x < 12289) ⌝ }
+    requires { ⌜ (b < 2) × (x < q) ⌝ }
     ensures { λ r. ⌜ (r ≡ downOf b x) × (r < 5) ⌝ }
 {
-    2 * (2 * x + b) / 12289
+    2 * (2 * x + b) / Q
 }
 
 // |2X - qP|, at most half of q.
 fn off(b: u32, x: u32) -> u32
-    requires { ⌜ (b < 2) × (x < 12289) ⌝ }
-    ensures { λ r. ⌜ (r ≡ offOf b x) × (r ≤ 6144) ⌝ }
+    requires { ⌜ (b < 2) × (x < q) ⌝ }
+    ensures { λ r. ⌜ (r ≡ offOf b x) × (r ≤ q / 2) ⌝ }
 {
     let p = up(b, x);
-    numbers::size32(minus(2 * (2 * x + b), 12289 * p))
+    numbers::size32(minus(2 * (2 * x + b), Q * p))
 }
 
 // The sum of the four.
@@ -60,17 +69,17 @@ fn offs(b: u32, v: Four) -> u32
 
 // The vector's entry at x, where the four sum to s: P or Q.
 fn pick(b: u32, x: u32, s: u32) -> u32
-    requires { ⌜ (b < 2) × (x < 12289) ⌝ }
-    ensures { λ r. ⌜ (r ≡ cond (ltb s 12289) (upOf b x) (downOf b x)) × (r < 5) ⌝ }
+    requires { ⌜ (b < 2) × (x < q) ⌝ }
+    ensures { λ r. ⌜ (r ≡ cond (ltb s q) (upOf b x) (downOf b x)) × (r < 5) ⌝ }
 {
-    if s < 12289 { up(b, x) } else { down(b, x) }
+    if s < Q { up(b, x) } else { down(b, x) }
 }
 
 // k, where the four sum to s.
 fn side(s: u32) -> u32
-    ensures { λ r. ⌜ (r ≡ cond (ltb s 12289) 0 1) × (r < 2) ⌝ }
+    ensures { λ r. ⌜ (r ≡ cond (ltb s q) 0 1) × (r < 2) ⌝ }
 {
-    if s < 12289 { 0 } else { 1 }
+    if s < Q { 0 } else { 1 }
 }
 
 // p - r modulo 4.
@@ -102,10 +111,10 @@ pub fn hint(b: u32, v: Four) -> Four
 
 // How far 8x - qc lies from the nearest multiple of 8q: at most 4q.
 fn term(c: u32, x: u32) -> u32
-    requires { ⌜ (c < 16) × (x < 12289) ⌝ }
-    ensures { λ r. ⌜ (r ≡ termOf c x) × (r ≤ 49156) ⌝ }
+    requires { ⌜ (c < 16) × (x < q) ⌝ }
+    ensures { λ r. ⌜ (r ≡ termOf c x) × (r ≤ 4 * q) ⌝ }
 {
-    numbers::distance32(minus(8 * x, 12289 * c), 98312)
+    numbers::distance32(minus(8 * x, Q * c), EIGHT)
 }
 
 // The bit of either end: 0 near, 1 far.
@@ -117,47 +126,55 @@ pub fn bit(h: Four, x: Four) -> u32
     let t1 = term(2 * h.e1 + h.e3, x.e1);
     let t2 = term(2 * h.e2 + h.e3, x.e2);
     let t3 = term(h.e3, x.e3);
-    if t0 + t1 + t2 + t3 <= 98312 { 0 } else { 1 }
+    if t0 + t1 + t2 + t3 <= EIGHT { 0 } else { 1 }
+}
+
+// Where entry j of group i stands: at i + 256 j.
+fn place(i: usize, j: usize) -> usize
+    requires { ⌜ (i < groups) × (j < 4) ⌝ }
+    ensures { λ r. ⌜ (r ≡ i + groups * j) × (r < size) ⌝ }
+{
+    i + GROUPS * j
 }
 
 // Group i of 1,024 numbers.
 fn group(xs: &[u32], i: usize) -> Four
-    requires { ⌜ (length (now xs) ≡ 1024) × (i < 256) ⌝ }
+    requires { ⌜ (length (now xs) ≡ size) × (i < groups) ⌝ }
     ensures { λ r. ⌜ r ≡ groupOf (now (xs .entry)) i ⌝ }
 {
     Four {
-        e0: xs[i],
-        e1: xs[i + 256],
-        e2: xs[i + 512],
-        e3: xs[i + 768],
+        e0: xs[place(i, 0)],
+        e1: xs[place(i, 1)],
+        e2: xs[place(i, 2)],
+        e3: xs[place(i, 3)],
     }
 }
 
 // Of all 256 groups: hint j of group i at i + 256 j.
 pub fn hints(coins: &[u32], v: &[u32], out: &mut [u32])
-    requires { ⌜ (length (now coins) ≡ 256) × Below 2 (now coins) ⌝ }
-    requires { ⌜ (length (now v) ≡ 1024) × Below 12289 (now v) × (length (now out) ≡ 1024) ⌝ }
+    requires { ⌜ (length (now coins) ≡ groups) × Below 2 (now coins) ⌝ }
+    requires { ⌜ (length (now v) ≡ size) × Below q (now v) × (length (now out) ≡ size) ⌝ }
     ensures { λ _. ⌜ now (out .exit) ≡ hintsOf (now (coins .entry)) (now (v .entry)) ⌝ }
 {
     let mut i: usize = 0;
-    while i < 256 {
+    while i < GROUPS {
         let h = hint(coins[i], group(v, i));
-        out[i] = h.e0;
-        out[i + 256] = h.e1;
-        out[i + 512] = h.e2;
-        out[i + 768] = h.e3;
+        out[place(i, 0)] = h.e0;
+        out[place(i, 1)] = h.e1;
+        out[place(i, 2)] = h.e2;
+        out[place(i, 3)] = h.e3;
         i += 1;
     }
 }
 
 // The bits of all 256 groups under their hints: the initiator's, and with its own hints the replier's.
 pub fn peers(hints: &[u32], w: &[u32], out: &mut [u32])
-    requires { ⌜ (length (now hints) ≡ 1024) × Below 4 (now hints) ⌝ }
-    requires { ⌜ (length (now w) ≡ 1024) × Below 12289 (now w) × (length (now out) ≡ 256) ⌝ }
+    requires { ⌜ (length (now hints) ≡ size) × Below 4 (now hints) ⌝ }
+    requires { ⌜ (length (now w) ≡ size) × Below q (now w) × (length (now out) ≡ groups) ⌝ }
     ensures { λ _. ⌜ now (out .exit) ≡ peersOf (now (hints .entry)) (now (w .entry)) ⌝ }
 {
     let mut i: usize = 0;
-    while i < 256 {
+    while i < GROUPS {
         out[i] = bit(group(hints, i), group(w, i));
         i += 1;
     }

