@@ -70,7 +70,7 @@ module _ (c : Scheme) (x : Run) where
         let n = numbers-in c f in
         let e : (k : ℕ) → k < 1024 → apart 12289 (getD v k 0) (getD w k 0) ≡ away c x k =
         λ k m. ap (λ (q : ℕ). apart q (getD v k 0) (getD w k 0)) (sym (n .q)) ∙ d k (omega (arith, n .mixed)) in
-        let g : (i : ℕ) → i < 256 → fourAway c x i ≤ 9214 = rw f at near in
+        let g = rw f at near in
         omega (arith, e i (omega arith), e (i + 256) (omega arith), e (i + 512) (omega arith), e (i + 768) (omega arith), g i l)
 
     meet : (F : Family) → familyOf c ≡ F → peers c (hints c cs v) w ≡ keys c cs v
@@ -91,7 +91,7 @@ module _ (c : Scheme) (x : Run) where
         (counted (n .mixed) (n .q) hv .below) (counted (n .mixed) (n .q) hw .below) (group-near i))
     meet Family.Frodo i =
         let n = numbers-in c i in
-        let g : (k : ℕ) → k < 64 → away c x k ≤ interval c / 4 = rw i at near in
+        let g = rw i at near in
         rw i
         (frodo.agreement-entries (interval c) (fixedOf c .keybits) v w (n .round .some) (n .round .quarters)
         (rw (n .whole) (hv .below)) (rw (n .whole) (hw .below)) (hv .long ∙ sym (hw .long))
