@@ -1,108 +1,132 @@
--- What calls that refuse nothing have given, by their promises.
+-- Calls that refuse nothing, by their promises.
 --   offer-gave, reply-gave, finish-gave   the tests have passed, and the bytes that the call says it wrote are those of its definition
---   ranged-by        inputs that pass the tests of Offer and Reply are in range
 --   Gave t, gave     an exchange: its inputs are in range, and its keys are those of the run
---   numbered         Offer without a refusal was given the number of a scheme
+--   accepted, numbered, one-number   the theorems of specs/Exchange
 use mathlib.Core.Path.{_≡_, refl, _∙_, sym}
 use mathlib.Core.Bool.{Bool, true, false, cond}
-use mathlib.Core.List.{List}
+use mathlib.Core.List.{List, _++_}
 use Prim.Native.Nat.{ℕ}
+use native.Mathlib.Nat.{le-refl}
 use native.Mathlib.Omega.{arith}
 use lib.Dec.{eqb}
-use lib.IntN.{ℤ}
-use lib.ListN.{length, take}
-use lib.Seq.{take-append-seam}
+use lib.ListN.{take, drop, replicate}
+use lib.Seq.{take-at, take-append-seam}
 use borrow.Author.Tests.{eqb-true}
-use Rattle.schemes.specs.Schemes.{familyOf, fixedOf, numberOf, schemeOf}
+use Rattle.schemes.specs.Schemes.{fixedOf, numberOf, schemeOf}
 use Rattle.schemes.specs.declared.Named.{Named}
 use Rattle.schemes.specs.declared.Named.the-variants.{Is, Unknown}
 use Rattle.schemes.specs.declared.Scheme.{Scheme}
 use Rattle.schemes.specs.declared.Scheme.the-variants.{Bcns, NewHope, Challenge, Classical, Recommended, Paranoid}
 use Rattle.schemes.proofs.Laws.{by-number}
-use Rattle.front.specs.Front.{countIn, held}
+use Rattle.front.specs.Answers.{number}
+use Rattle.front.specs.Front.{held}
+use Rattle.front.specs.Promise.{Told, Wrote}
+use Rattle.front.specs.declared.Answer.the-variants.{Done}
 use Rattle.front.specs.declared.Verdict.{Verdict}
 use Rattle.front.specs.declared.Verdict.the-variants.{Pass}
-use Rattle.front.proofs.Laws.{both, number-zero}
-use Rattle.exchange.specs.Answers.{number, written, numberR, writtenMessage, writtenKey}
-use Rattle.exchange.specs.Bench.{Run, openingIn, replyIn, ownIn, peerIn}
-use Rattle.exchange.specs.Calls.{offerVerdict, offerBytes, replyVerdict, replyBytes, replyKey, finishVerdict, finishKey, Offered, Answered, Finished}
-use Rattle.exchange.specs.Messages.{openingOf, replyOf, keyOf, peerKeyOf}
-use Rattle.exchange.specs.Tests.{offerTests, replyTests}
-use Rattle.exchange.specs.declared.Answer.{Answer}
-use Rattle.exchange.specs.declared.Replied.{Replied}
-use Rattle.exchange.proofs.Offering.{offer-passed}
-use Rattle.exchange.proofs.Replying.{reply-open, secrets-small}
-use Rattle.agreement.specs.Exchange.{Ranged, Exchange, ownKey, peerKey, Numbered}
+use Rattle.front.proofs.Laws.{number-zero}
+use Rattle.front.proofs.Promise.{told-passed, wrote-passed}
+use Rattle.exchange.specs.Offer.{Offer, offerTests, openingOf, offerMessage, Offered}
+use Rattle.exchange.specs.Reply.{Reply, replyTests, messageOf, keyOf, replyMessage, replyKey, Replied}
+use Rattle.exchange.specs.Finish.{Finish, peerKeyOf, finishKey, Finished}
+use Rattle.exchange.specs.declared.ReplyAnswer.{ReplyAnswer}
+use Rattle.exchange.specs.declared.FinishAnswer.{FinishAnswer}
+use Rattle.exchange.proofs.Offering.{opening-long, offer-unknown}
+use Rattle.exchange.proofs.Replying.{key-length, message-length}
+use Rattle.exchange.proofs.Finishing.{peer-key-length}
+use Rattle.agreement.specs.Run.{Run, offering, replying, finishing}
+use Rattle.agreement.specs.Exchange.{Ranged, Exchange, ownKey, peerKey, Accepted, Numbered, OneNumber}
+use Rattle.agreement.proofs.Tests.{ranged-by, offer-passes, reply-passes, finish-passes}
 
--- the bytes that a call says it wrote, at the front of its output
-wrote : {v : Verdict} {n : ℕ} {out : List ℕ} (xs : List ℕ) (room : ℕ) → v ≡ Pass → n ≡ countIn v (length xs) → out ≡ held v xs room 0 → take n out ≡ xs
+-- ---- what a call gave
+
+-- its tests have passed, and the bytes that it says it wrote are the answer
+passed : {v : Verdict} {n p : ℕ} → Told v n p → n ≡ 0 → v ≡ Pass
+passed t z = number-zero _ (sym z ∙ t .refusal)
+
+wrote : {v : Verdict} {n room : ℕ} {xs out : List ℕ} → v ≡ Pass → Wrote v xs 0 room n out → take n out ≡ xs
 unfolding held
-wrote xs room p l h = rw (l, h, p) (take-append-seam xs _)
+wrote {xs = xs} e w = rw (w .counts, w .holds, e) (take-append-seam xs _)
 
--- ---- each call, where the number k names the scheme c
+module _ (c : Scheme) where
+  offer-gave : {x : Offer} {n p room m : ℕ} {out : List ℕ} → Offered (Is c) x n p room m out → n ≡ 0
+      → (offerTests (Is c) x room ≡ Pass) × (take m out ≡ openingOf c x)
+  unfolding offerMessage
+  offer-gave g z = let v = passed (g .told) z in (v, wrote v (g .messages))
 
-module _ {k : ℕ} (c : Scheme) (d : schemeOf k ≡ Is c) where
-  offer-gave : {a : List ℕ} {s e : List ℤ} {seed : List ℕ} {room : ℕ} {r : Answer} {out : List ℕ} → Offered k a s e seed room r out → number r ≡ 0
-      → (offerTests (fixedOf c) a s e seed room ≡ Pass) × (take (written r) out ≡ openingOf (familyOf c) (fixedOf c) a s e seed)
-  unfolding offerVerdict offerBytes
-  offer-gave p z =
-      let v = number-zero _ (sym z ∙ rw d at (p .refusal)) in
-      (v, wrote _ _ v (rw d at (p .count)) (rw d at (p .holds)))
+  reply-gave : {x : Reply} {n p room m keyRoom k : ℕ} {out key : List ℕ} → Replied (Is c) x n p room m out keyRoom k key → n ≡ 0
+      → (replyTests (Is c) x room keyRoom ≡ Pass) × (take m out ≡ messageOf c x) × (take k key ≡ keyOf c x)
+  unfolding replyMessage replyKey
+  reply-gave g z = let v = passed (g .told) z in (v, wrote v (g .messages), wrote v (g .keys))
 
-  reply-gave : {m a : List ℕ} {s' e' e'' : List ℤ} {cs : List ℕ} {room keyRoom : ℕ} {r : Replied} {out key : List ℕ}
-      → Answered k m a s' e' e'' cs room keyRoom r out key → numberR r ≡ 0
-      → (replyTests (familyOf c) (fixedOf c) m a s' e' e'' cs room keyRoom ≡ Pass)
-      × (take (writtenMessage r) out ≡ replyOf (familyOf c) (fixedOf c) m a s' e' e'' cs)
-      × (take (writtenKey r) key ≡ keyOf (familyOf c) (fixedOf c) m s' e'' cs)
-  unfolding replyVerdict replyBytes replyKey
-  reply-gave p z =
-      let v = number-zero _ (sym z ∙ rw d at (p .refusal)) in
-      (v, wrote _ _ v (rw d at (p .count)) (rw d at (p .holds)), wrote _ _ v (rw d at (p .key-count)) (rw d at (p .key-holds)))
-
-  finish-gave : {m : List ℕ} {s : List ℤ} {room : ℕ} {r : Answer} {key : List ℕ} → Finished k m s room r key → number r ≡ 0
-      → take (written r) key ≡ peerKeyOf (familyOf c) (fixedOf c) m s
-  unfolding finishVerdict finishKey
-  finish-gave p z =
-      let v = number-zero _ (sym z ∙ rw d at (p .refusal)) in
-      wrote _ _ v (rw d at (p .count)) (rw d at (p .holds))
-
--- ---- the exchange
-
-module _ (c : Scheme) (x : Run) where
-  pub ranged-by : (room replyRoom keyRoom : ℕ) (m : List ℕ) → offerTests (fixedOf c) (x .a) (x .s) (x .e) (x .seed) room ≡ Pass
-      → replyTests (familyOf c) (fixedOf c) m (x .a) (x .s') (x .e') (x .e'') (x .coins) replyRoom keyRoom ≡ Pass → Ranged (fixedOf c) x
-  unfolding replyTests
-  ranged-by room replyRoom keyRoom m o r =
-      let opens = offer-passed c (x .a) (x .s) (x .e) (x .seed) room o .0 in
-      let secrets = both _ _ r in
-      let sizes = reply-open c m (x .a) (x .s') (x .e') (x .e'') (x .coins) replyRoom keyRoom (both _ _ (secrets .0) .0) in
-      let small = secrets-small (fixedOf c) (x .s') (x .e') (x .e'') (secrets .1) in
-      record {
-        public = opens .public;
-        secret = opens .secret;
-        noise = opens .noise;
-        seed = opens .seed-long;
-        secret' = record { long = sizes .secret; within = small .0 };
-        noise' = record { long = sizes .noise; within = small .1 };
-        noise'' = record { long = sizes .last; within = small .2 };
-        coins = sizes .coins;
-      }
+  finish-gave : {x : Finish} {n p room k : ℕ} {key : List ℕ} → Finished (Is c) x n p room k key → n ≡ 0 → take k key ≡ peerKeyOf c x
+  unfolding finishKey
+  finish-gave g z = wrote (passed (g .told) z) (g .keys)
 
 pub record Gave {c : Scheme} {x : Run} (t : Exchange c x) : Type 0 where
-  pub ranged : Ranged (fixedOf c) x
-  pub own : ownKey t ≡ ownIn (familyOf c) (fixedOf c) x
-  pub peer : peerKey t ≡ peerIn (familyOf c) (fixedOf c) x
+  pub ranged : Ranged c x
+  pub own : ownKey t ≡ keyOf c (replying c x)
+  pub peer : peerKey t ≡ peerKeyOf c (finishing c x)
 
 pub gave : {c : Scheme} {x : Run} (t : Exchange c x) → Gave t
-unfolding openingIn replyIn ownIn peerIn
 gave {c} {x} t =
-    let k = by-number c in
-    let o = offer-gave c k (t .offers) (t .offer-accepted) in
-    let r = reply-gave c k (rw (o .1) at (t .replies)) (t .reply-accepted) in
-    let f = finish-gave c k (rw (r .1) at (t .finishes)) (t .finish-accepted) in
+    let o = offer-gave c (t .offers) (t .offer-accepted) in
+    let r = reply-gave c (rw (o .1) at (t .replies)) (t .reply-accepted) in
+    let f = finish-gave c (rw (r .1) at (t .finishes)) (t .finish-accepted) in
     record { ranged = ranged-by c x _ _ _ _ (o .0) (r .0); own = r .2; peer = f }
 
--- ---- the number of the scheme
+-- ---- inputs in range
+
+-- an output of just the room that the answer takes
+abbrev into : ℕ → List ℕ → List ℕ
+into n xs = xs ++ drop n (replicate n 0)
+
+module _ (c : Scheme) (x : Run) (h : Ranged c x) where
+  runs : Exchange c x
+  unfolding offerMessage replyMessage replyKey finishKey
+  runs =
+      let f = fixedOf c in
+      let o = offer-passes c x h in
+      let r = reply-passes c x h in
+      let k = finish-passes c x h (f .key) (le-refl _) in
+      let opened = opening-long c (offering x) (h .seed) in
+      let replied = message-length c (replying c x) in
+      record {
+        offerRoom = f .opening;
+        offer = Done (f .opening);
+        offerOut = into (f .opening) (openingOf c (offering x));
+        offers = record { told = told-passed o; messages = wrote-passed o (replicate (f .opening) 0) opened refl refl };
+        offer-accepted = refl;
+        replyRoom = f .reply;
+        keyRoom = f .key;
+        reply = ReplyAnswer.Done (record { message = f .reply; key = f .key });
+        replyOut = into (f .reply) (messageOf c (replying c x));
+        keyOut = into (f .key) (keyOf c (replying c x));
+        replies =
+            rw (take-at (openingOf c (offering x)) (drop (f .opening) (replicate (f .opening) 0)) (f .opening) opened)
+            (record {
+              told = told-passed r;
+              messages = wrote-passed r (replicate (f .reply) 0) replied refl refl;
+              keys = wrote-passed r (replicate (f .key) 0) (key-length c (replying c x)) refl refl;
+            });
+        reply-accepted = refl;
+        finishRoom = f .key;
+        finish = FinishAnswer.Done (record { key = f .key });
+        finishOut = into (f .key) (peerKeyOf c (finishing c x));
+        finishes =
+            rw (take-at (messageOf c (replying c x)) (drop (f .reply) (replicate (f .reply) 0)) (f .reply) replied)
+            (record { told = told-passed k; keys = wrote-passed k (replicate (f .key) 0) (peer-key-length c (finishing c x)) refl refl });
+        finish-accepted = refl;
+      }
+
+pub accepted : Accepted
+accepted c x = (λ t. gave t .ranged, runs c x)
+
+-- ---- the scheme and its number
+
+pub numbered : Numbered
+numbered (Is c) x room r out p z = (c, refl)
+numbered Unknown x room r out p z = let i : number r ≡ 1 = rw (offer-unknown x room refl) at (p .told .refusal) in absurd (omega arith)
 
 -- one number of the list more
 one : (k i : ℕ) (b : Scheme) (rest : Named) → i ≡ numberOf b → ((c : Scheme) → rest ≡ Is c → k ≡ numberOf c)
@@ -121,10 +145,5 @@ by-scheme k =
     none : (c : Scheme) → Unknown ≡ Is c → k ≡ numberOf c
     none c d = let z : _≡_ {A = ℕ} 0 1 = cc in absurd (omega arith)
 
-pub numbered : Numbered
-unfolding offerVerdict
-numbered k a s e seed room r out p z = go (schemeOf k) refl
-  where
-    go : (n : Named) → schemeOf k ≡ n → (c : Scheme) × (k ≡ numberOf c)
-    go Unknown d = let i : number r ≡ 1 = rw d at (p .refusal) in absurd (omega arith)
-    go (Is c) d = (c, by-scheme k c d)
+pub one-number : OneNumber
+one-number k c = (by-scheme k c, λ e. rw e (by-number c))

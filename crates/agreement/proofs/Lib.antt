@@ -1,6 +1,4 @@
+pub mod Tests
+pub mod Meeting
 pub mod Accepted
-pub mod Accepting
-pub mod Margins
 pub mod Agreement
-pub mod Differing
-pub mod Comparison

@@ -1,35 +1,41 @@
 -- One exchange between two boxes, by what the calls promise and nothing else: 01, "The calls", and demand 3.
---   Ranged f x     the inputs x have the lengths and the ranges of the scheme
+--   Ranged c x     the inputs x have the lengths and the ranges of the scheme
 --   Exchange c x   Offer and Finish in the one box and Reply in the other, in the scheme c and on the inputs x, and none of them refused
 --   ownKey t       the replier's key: the bytes that Reply says it wrote
 --   peerKey t      the initiator's key: those that Finish says it wrote
---   Numbered       a call that refuses nothing was given the number of a scheme
 --   Accepted       lengths and ranges decide, nothing else: the inputs of an exchange are in range, and on any in range there is an exchange
+--   Numbered       a call that refuses nothing was given a scheme
+--   OneNumber      which its number names, and no other number
 use mathlib.Core.Path.{_≡_}
 use mathlib.Core.List.{List}
 use mathlib.Core.Logic.{_↔_}
 use Prim.Native.Nat.{ℕ}
-use lib.IntN.{ℤ}
 use lib.ListN.{length, take}
-use Rattle.schemes.specs.Schemes.{fixedOf, numberOf}
-use Rattle.schemes.specs.declared.Fixed.{Fixed}
+use Rattle.schemes.specs.Schemes.{fixedOf, numberOf, schemeOf}
+use Rattle.schemes.specs.declared.Named.{Named}
+use Rattle.schemes.specs.declared.Named.the-variants.{Is}
 use Rattle.schemes.specs.declared.Scheme.{Scheme}
+use Rattle.front.specs.Answers.{number, place, written}
+use Rattle.front.specs.declared.Answer.{Answer}
 use Rattle.ends.specs.Fit.{Counted, Small}
-use Rattle.exchange.specs.Answers.{number, written, numberR, writtenMessage, writtenKey}
-use Rattle.exchange.specs.Bench.{Run}
-use Rattle.exchange.specs.Calls.{Offered, Answered, Finished}
-use Rattle.exchange.specs.declared.Answer.{Answer}
-use Rattle.exchange.specs.declared.Replied.{Replied}
+use Rattle.exchange.specs.Offer.{Offer, Offered}
+use Rattle.exchange.specs.Reply.{replyOf, Replied}
+use Rattle.exchange.specs.Reply as ofReply
+use Rattle.exchange.specs.Finish.{finishOf, Finished}
+use Rattle.exchange.specs.Finish as ofFinish
+use Rattle.exchange.specs.declared.ReplyAnswer.{ReplyAnswer}
+use Rattle.exchange.specs.declared.FinishAnswer.{FinishAnswer}
+use Rattle.agreement.specs.Run.{Run, offering}
 
-pub record Ranged (f : Fixed) (x : Run) : Type 0 where
-  pub public : Counted (f .public) (f .q) (x .a)
-  pub secret : Small (f .secret) (f .largest) (x .s)
-  pub noise : Small (f .noise) (f .largest) (x .e)
-  pub seed : length (x .seed) ≡ f .seed
-  pub secret' : Small (f .secret) (f .largest) (x .s')
-  pub noise' : Small (f .noise) (f .largest) (x .e')
-  pub noise'' : Small (f .mixed) (f .largest) (x .e'')
-  pub coins : length (x .coins) ≡ f .coins
+pub record Ranged (c : Scheme) (x : Run) : Type 0 where
+  pub public : Counted (fixedOf c .public) (fixedOf c .q) (x .a)
+  pub secret : Small (fixedOf c .secret) (fixedOf c .largest) (x .s)
+  pub noise : Small (fixedOf c .noise) (fixedOf c .largest) (x .e)
+  pub seed : length (x .seed) ≡ fixedOf c .seed
+  pub secret' : Small (fixedOf c .secret) (fixedOf c .largest) (x .s')
+  pub noise' : Small (fixedOf c .noise) (fixedOf c .largest) (x .e')
+  pub noise'' : Small (fixedOf c .mixed) (fixedOf c .largest) (x .e'')
+  pub coins : length (x .coins) ≡ fixedOf c .coins
 
 -- x has one list of public numbers, which both boxes take, and one secret s, which Offer and Finish take
 pub record Exchange (c : Scheme) (x : Run) : Type 0 where
@@ -37,34 +43,43 @@ pub record Exchange (c : Scheme) (x : Run) : Type 0 where
   pub offerRoom : ℕ
   pub offer : Answer
   pub offerOut : List ℕ
-  pub offers : Offered (numberOf c) (x .a) (x .s) (x .e) (x .seed) offerRoom offer offerOut
+  pub offers : Offered (Is c) (offering x) (number offer) (place offer) offerRoom (written offer) offerOut
   pub offer-accepted : number offer ≡ 0
   -- Reply, to the opening as Offer wrote it
   pub replyRoom : ℕ
   pub keyRoom : ℕ
-  pub reply : Replied
+  pub reply : ReplyAnswer
   pub replyOut : List ℕ
   pub keyOut : List ℕ
-  pub replies : Answered (numberOf c) (take (written offer) offerOut) (x .a) (x .s') (x .e') (x .e'') (x .coins) replyRoom keyRoom reply replyOut keyOut
-  pub reply-accepted : numberR reply ≡ 0
+  pub replies :
+      Replied (Is c) (replyOf (take (written offer) offerOut) (x .a) (x .s') (x .e') (x .e'') (x .coins)) (ofReply.number reply) (ofReply.place reply)
+      replyRoom (ofReply.counts reply .message) replyOut keyRoom (ofReply.counts reply .key) keyOut
+  pub reply-accepted : ofReply.number reply ≡ 0
   -- Finish, of the reply as Reply wrote it
   pub finishRoom : ℕ
-  pub finish : Answer
+  pub finish : FinishAnswer
   pub finishOut : List ℕ
-  pub finishes : Finished (numberOf c) (take (writtenMessage reply) replyOut) (x .s) finishRoom finish finishOut
-  pub finish-accepted : number finish ≡ 0
+  pub finishes :
+      Finished (Is c) (finishOf (take (ofReply.counts reply .message) replyOut) (x .s)) (ofFinish.number finish) (ofFinish.place finish)
+      finishRoom (ofFinish.counts finish .key) finishOut
+  pub finish-accepted : ofFinish.number finish ≡ 0
 
 module _ {c : Scheme} {x : Run} (t : Exchange c x) where
   abbrev pub ownKey : List ℕ
-  ownKey = take (writtenKey (t .reply)) (t .keyOut)
+  ownKey = take (ofReply.counts (t .reply) .key) (t .keyOut)
 
   abbrev pub peerKey : List ℕ
-  peerKey = take (written (t .finish)) (t .finishOut)
+  peerKey = take (ofFinish.counts (t .finish) .key) (t .finishOut)
+
+-- ---- what is shown
+
+abbrev pub Accepted : Type 0
+Accepted = (c : Scheme) (x : Run) → Exchange c x ↔ Ranged c x
 
 abbrev pub Numbered : Type 0
 Numbered =
-    (k : ℕ) (a : List ℕ) (s e : List ℤ) (seed : List ℕ) (room : ℕ) (r : Answer) (out : List ℕ) → Offered k a s e seed room r out → number r ≡ 0 →
-    (c : Scheme) × (k ≡ numberOf c)
+    (n : Named) (x : Offer) (room : ℕ) (r : Answer) (out : List ℕ) → Offered n x (number r) (place r) room (written r) out → number r ≡ 0 →
+    (c : Scheme) × (n ≡ Is c)
 
-abbrev pub Accepted : Type 0
-Accepted = (c : Scheme) (x : Run) → Exchange c x ↔ Ranged (fixedOf c) x
+abbrev pub OneNumber : Type 0
+OneNumber = (k : ℕ) (c : Scheme) → (schemeOf k ≡ Is c) ↔ (k ≡ numberOf c)

@@ -1,3 +1,3 @@
+pub mod Run
 pub mod Exchange
 pub mod Agreement
-pub mod Comparison

@@ -1,4 +1,4 @@
--- BCNS's reconciliation: 01, "Reconciliation"; q is 4294967295.
+-- BCNS's reconciliation: 01, "Reconciliation"; q is that of `schemes`.
 --   coinOf c        two coin bits: 0, 1 give 0; 2 gives 1; 3 gives -1
 --   doubled c v     z = 2v - c modulo 2q
 --   hintOf z        floor(2z / q) mod 2

@@ -19,25 +19,25 @@ use Rattle.noise.specs.Expand.{first14}
 use Rattle.noise.proofs.Stream.{expanded-length}
 use Rattle.sampling.specs.Expand.{Expand, expandNumbers, enough, expandSizes, expandTests}
 
-module _ (x : Expand) where
-  pub sizes-failed : {v : Verdict} {r : Refusal} → v ≡ expandSizes x → v ≡ Fail r → expandTests x ≡ Fail r
+module _ (x : Expand) (room : ℕ) where
+  pub sizes-failed : {v : Verdict} {r : Refusal} → v ≡ expandSizes x room → v ≡ Fail r → expandTests x room ≡ Fail r
   unfolding expandTests
   sizes-failed e f = failed _ e f
 
-  module _ (e : expandSizes x ≡ Pass) where
-    sizes-passed : expandTests x ≡ enough (length (expandNumbers (x .stream)))
+  module _ (e : expandSizes x room ≡ Pass) where
+    sizes-passed : expandTests x room ≡ enough (length (expandNumbers (x .stream)))
     unfolding expandTests
     sizes-passed = went-on _ refl e
 
-    pub room-enough : 1024 ≤ x .outRoom
+    pub room-enough : 1024 ≤ room
     unfolding expandSizes
-    room-enough = room-passed (x .outRoom) 1024 (both _ _ e .1)
+    room-enough = room-passed room 1024 (both _ _ e .1)
 
-    pub ran-out : {n : ℕ} → n ≡ length (expandNumbers (x .stream)) → n < 1024 → expandTests x ≡ Fail (RanOut n)
+    pub ran-out : {n : ℕ} → n ≡ length (expandNumbers (x .stream)) → n < 1024 → expandTests x room ≡ Fail (RanOut n)
     unfolding enough
     ran-out {n} t l = rw (sizes-passed, ← t, lt-leb 1024 n l)
 
-    pub full : {n : ℕ} → n ≡ length (expandNumbers (x .stream)) → 1024 ≤ n → expandTests x ≡ Pass
+    pub full : {n : ℕ} → n ≡ length (expandNumbers (x .stream)) → 1024 ≤ n → expandTests x room ≡ Pass
     unfolding enough
     full {n} t l = rw (sizes-passed, ← t, le-leb 1024 n l)
 

@@ -32,15 +32,15 @@ use Rattle.sampling.specs.Noise.{Noise, noiseOf, lengthEither, noiseSize
 
 -- ---- by the family
 
-abbrev testsIn : Family → Scheme → Noise → Verdict
-testsIn F c x = by F (Fail NoScheme) (noiseSizes c 4 x) (noiseSizes c 2 x)
+abbrev testsIn : Family → Scheme → Noise → ℕ → Verdict
+testsIn F c x n = by F (Fail NoScheme) (noiseSizes c 4 x n) (noiseSizes c 2 x n)
 
 abbrev countIn : Family → ℕ → ℕ
 countIn F m = by F 0 (m / 4) (m / 2)
 
-pub tests-by : (c : Scheme) (x : Noise) {F : Family} → familyOf c ≡ F → testsIn F c x ≡ noiseTests (Is c) x
+pub tests-by : (c : Scheme) (x : Noise) (n : ℕ) {F : Family} → familyOf c ≡ F → testsIn F c x n ≡ noiseTests (Is c) x n
 unfolding noiseTests
-tests-by c x e = ap (λ (F : Family). testsIn F c x) (sym e)
+tests-by c x n e = ap (λ (F : Family). testsIn F c x n) (sym e)
 
 count : (c : Scheme) (bytes : List ℕ) → length (noiseValues (Is c) bytes) ≡ countIn (familyOf c) (length bytes)
 unfolding noiseValues
@@ -61,20 +61,20 @@ unfolding lengthEither
 either-passed P m x y true e h p q = rw (eqb-true m x e) p
 either-passed P m x y false e h p q = rw (length-passed m y (rw e at h)) q
 
-module _ (c : Scheme) (x : Noise) where
-  sizes-passed : (each : ℕ) → each * fixedOf c .noise % 4 ≡ 0 → each * fixedOf c .mixed % 4 ≡ 0 → noiseSizes c each x ≡ Pass
-      → (length (x .bytes) % 4 ≡ 0) × (length (x .bytes) / each ≤ x .outRoom)
+module _ (c : Scheme) (x : Noise) (n : ℕ) where
+  sizes-passed : (each : ℕ) → each * fixedOf c .noise % 4 ≡ 0 → each * fixedOf c .mixed % 4 ≡ 0 → noiseSizes c each x n ≡ Pass
+      → (length (x .bytes) % 4 ≡ 0) × (length (x .bytes) / each ≤ n)
   unfolding noiseSizes
   sizes-passed each s m e =
       let t = both _ _ e in
-      (either-passed (λ k. k % 4 ≡ 0) (length (x .bytes)) (each * fixedOf c .noise) (each * fixedOf c .mixed) _ refl (t .0) s m, room-passed (x .outRoom) (length (x .bytes) / each) (t .1))
+      (either-passed (λ k. k % 4 ≡ 0) (length (x .bytes)) (each * fixedOf c .noise) (each * fixedOf c .mixed) _ refl (t .0) s m, room-passed n (length (x .bytes) / each) (t .1))
 
-  passed-in : (F : Family) → testsIn F c x ≡ Pass → (length (x .bytes) % 4 ≡ 0) × (countIn F (length (x .bytes)) ≤ x .outRoom)
+  passed-in : (F : Family) → testsIn F c x n ≡ Pass → (length (x .bytes) % 4 ≡ 0) × (countIn F (length (x .bytes)) ≤ n)
   passed-in Family.Bcns e = differ e
   passed-in Family.NewHope e = sizes-passed 4 (omega arith) (omega arith) e
   passed-in Family.Frodo e = sizes-passed 2 (omega (arith, sound c .noises-even)) (omega (arith, sound c .values-even)) e
 
-  pub tests-passed : noiseTests (Is c) x ≡ Pass → (length (x .bytes) % 4 ≡ 0) × (length (noiseValues (Is c) (x .bytes)) ≤ x .outRoom)
+  pub tests-passed : noiseTests (Is c) x n ≡ Pass → (length (x .bytes) % 4 ≡ 0) × (length (noiseValues (Is c) (x .bytes)) ≤ n)
   unfolding noiseTests
   tests-passed e = let p = passed-in (familyOf c) e in (p .0, rw (count c (x .bytes)) (p .1))
 
@@ -104,10 +104,10 @@ none bytes e h = rw e (empty _ (rw e at h))
 -- ---- the promise
 
 module _ {c : Named} {bytes : List ℕ} {n : ℕ} {out : List ℤ} where
-  pub noise-unknown : c ≡ Unknown → out ≡ replicate n (pos 0) → Noised c (noiseOf bytes n) 1 0 0 out
+  pub noise-unknown : c ≡ Unknown → out ≡ replicate n (pos 0) → Noised c (noiseOf bytes) 1 0 n 0 out
   unfolding noiseTests
   noise-unknown e o = rw e (record { told = told-failed refl; values = wrote-failed refl o })
 
-  pub noise-named : {d : Named} {m number place count : ℕ} → c ≡ d → m ≡ n → Noised d (noiseOf bytes m) number place count out
-      → Noised c (noiseOf bytes n) number place count out
+  pub noise-named : {d : Named} {m number place count : ℕ} → c ≡ d → m ≡ n → Noised d (noiseOf bytes) number place m count out
+      → Noised c (noiseOf bytes) number place n count out
   noise-named e f p = rw (e, ← f) p

@@ -22,10 +22,10 @@ use Rattle.sampling.specs.Noise.{Noise, noiseValues, Noised, OneNoise, N
 use Rattle.sampling.specs.Expand.{Expand, expandNumbers, Expanded, OneExpand, ExpandPasses}
 
 pub one-noise : OneNoise
-one-noise c x r r′ out out′ p q = (same-answer r r′ (cc) (cc) (cc), cc)
+one-noise c x n r r′ out out′ p q = (same-answer r r′ (cc) (cc) (cc), cc)
 
 pub one-expand : OneExpand
-one-expand x r r′ out out′ p q = (same-answer r r′ (cc) (cc) (cc), cc)
+one-expand x n r r′ out out′ p q = (same-answer r r′ (cc) (cc) (cc), cc)
 
 -- ---- what is written is not refused later
 
@@ -38,21 +38,21 @@ values-within Classical bytes b = frodo-within d2 11 bytes
 values-within Recommended bytes b = frodo-within d3 11 bytes
 values-within Paranoid bytes b = frodo-within d4 15 bytes
 
-pub noise-within : {c : Scheme} {x : Noise} {number place count : ℕ} {out : List ℤ} → Noised (Is c) x number place count out → Below 256 (x .bytes)
+pub noise-within : {c : Scheme} {x : Noise} {number place n count : ℕ} {out : List ℤ} → Noised (Is c) x number place n count out → Below 256 (x .bytes)
     → Within (fixedOf c .largest) out
 noise-within {c} {x} p b =
     record { within = rw (p .values .holds) (held-all (λ i. natAbs i ≤ fixedOf c .largest) (pos 0) _ _ _ (omega arith) (values-within c (x .bytes) b .within)) }
 
 pub noise-passes : NoisePasses
-noise-passes c x number place count out p b from many = within-passes (part-within (fixedOf c .largest) from many out (noise-within p b))
+noise-passes c x number place n count out p b from many = within-passes (part-within (fixedOf c .largest) from many out (noise-within p b))
 
 numbers-below : (stream : List ℕ) → Below (newHope .q) (expandNumbers stream)
 unfolding expandNumbers
 numbers-below stream = first14-below stream
 
-pub expand-below : {x : Expand} {number place count : ℕ} {out : List ℕ} → Expanded x number place count out → Below (newHope .q) out
+pub expand-below : {x : Expand} {number place n count : ℕ} {out : List ℕ} → Expanded x number place n count out → Below (newHope .q) out
 expand-below {x} p =
     record { below = rw (p .numbers .holds) (held-all (λ i. i < newHope .q) 0 _ _ _ (omega arith) (numbers-below (x .stream) .below)) }
 
 pub expand-passes : ExpandPasses
-expand-passes x number place count out p from many = below-passes (below-take (below-drop (expand-below p) from) many)
+expand-passes x number place n count out p from many = below-passes (below-take (below-drop (expand-below p) from) many)

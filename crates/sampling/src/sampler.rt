@@ -8,8 +8,8 @@ ghost use lib.IntN.{pos};
 ghost use Rattle.schemes.specs.declared.Named.the-variants.{Is};
 ghost use Rattle.lists.specs.Lent.{was, left};
 ghost use Rattle.front.specs.declared.Verdict.the-variants.{Pass};
-ghost use Rattle.sampling.specs.Noise.{noiseOf, lengthEither, noiseSizes, noiseTests, noiseValues, Noises};
-ghost use Rattle.sampling.specs.Expand.{expandOf, expandSizes, Expands};
+ghost use Rattle.sampling.specs.Noise.{noise, lengthEither, noiseSizes, noiseTests, noiseValues, Noises};
+ghost use Rattle.sampling.specs.Expand.{expandOf, expand, expandSizes, Expands};
 use front::Answer;
 use front::Refusal;
 use front::Verdict;
@@ -30,7 +30,7 @@ fn length_either(m: usize, x: usize, y: usize) -> Verdict
 // The tests of lengths, where a value takes 2 or 4 bytes.
 fn noise_sizes(s: Scheme, each: usize, bytes: &[u8], room: usize) -> Verdict
     requires { ⌜ (0 < each) × (each ≤ 4) ⌝ }
-    ensures { λ r. ⌜ r ≡ noiseSizes s each (noiseOf (was bytes) room) ⌝ }
+    ensures { λ r. ⌜ r ≡ noiseSizes s each (noise bytes) room ⌝ }
 {
     let f = s.fixed();
     let v = length_either(bytes.len(), each * f.noise, each * f.mixed);
@@ -39,7 +39,7 @@ fn noise_sizes(s: Scheme, each: usize, bytes: &[u8], room: usize) -> Verdict
 
 // The noise of BCNS is lent ready. A value takes two words in NewHope, one in Frodo.
 fn noise_tests(s: Scheme, bytes: &[u8], room: usize) -> Verdict
-    ensures { λ r. ⌜ r ≡ noiseTests (Is s) (noiseOf (was bytes) room) ⌝ }
+    ensures { λ r. ⌜ r ≡ noiseTests (Is s) (noise bytes) room ⌝ }
 {
     match s.family() {
         Family::Bcns => Verdict::Fail(Refusal::NoScheme),
@@ -99,7 +99,7 @@ pub(crate) fn noise_in(s: Scheme, bytes: &[u8], out: &mut [i32]) -> Answer
 
 // Expand's tests of lengths.
 pub(crate) fn expand_sizes(stream: &[u8], room: usize) -> Verdict
-    ensures { λ r. ⌜ r ≡ expandSizes (expandOf (was stream) room) ⌝ }
+    ensures { λ r. ⌜ r ≡ expandSizes (expand stream) room ⌝ }
 {
     let v = front::length_up_to(Verdict::Pass, stream.len(), 65536);
     front::room_for(v, room, NewHope::PUBLIC)
@@ -107,7 +107,7 @@ pub(crate) fn expand_sizes(stream: &[u8], room: usize) -> Verdict
 
 // Expand, where the lengths are allowed. Where the stream runs out, the numbers that were written are zeroed again.
 pub(crate) fn expand_in(stream: &[u8], out: &mut [u32]) -> Answer
-    requires { ⌜ expandSizes (expandOf (now stream) (length (now out))) ≡ Pass ⌝ }
+    requires { ⌜ expandSizes (expandOf (now stream)) (length (now out)) ≡ Pass ⌝ }
     requires { ⌜ now out ≡ replicate (length (now out)) 0 ⌝ }
     ensures { λ r. ⌜ Expands stream out r ⌝ }
 {

@@ -136,7 +136,13 @@ pub fn finish(
     exchange::finish(scheme, &bytes[r0..r1], &values[s0..s1], key)
 }
 
-pub fn bench(scheme: u32, lens: [usize; 12], a: &[u32], values: &[i32], bytes: &[u8]) -> BenchAnswer {
+pub fn bench(
+    scheme: u32,
+    lens: [usize; 12],
+    a: &[u32],
+    values: &[i32],
+    bytes: &[u8],
+) -> BenchAnswer {
     let n = cut(lens[A], a.len());
     let seed = bytes_part(SEED, lens[SEED], bytes.len());
     let coins = bytes_part(COINS, lens[COINS], bytes.len());

@@ -11,10 +11,10 @@ pub one-finish : OneFinish
 one-finish c x room r r′ p p′ w w′ key key′ a b = (cc, cc, cc, cc)
 
 pub one-noise : OneNoise
-one-noise c x r r′ p p′ w w′ out out′ a b = (cc, cc, cc, cc)
+one-noise c x room r r′ p p′ w w′ out out′ a b = (cc, cc, cc, cc)
 
 pub one-expand : OneExpand
-one-expand x r r′ p p′ w w′ out out′ a b = (cc, cc, cc, cc)
+one-expand x room r r′ p p′ w w′ out out′ a b = (cc, cc, cc, cc)
 
 pub one-bench : OneBench
 one-bench c x r r′ p p′ d d′ a b = (cc, cc, cc)

@@ -30,12 +30,12 @@ OneFinish =
 
 abbrev pub OneNoise : Type 0
 OneNoise =
-    (c : Named) (x : Noise) (r r′ p p′ w w′ : ℕ) (out out′ : List ℤ) → Noised c x r p w out → Noised c x r′ p′ w′ out′
+    (c : Named) (x : Noise) (room r r′ p p′ w w′ : ℕ) (out out′ : List ℤ) → Noised c x r p room w out → Noised c x r′ p′ room w′ out′
     → (r ≡ r′) × (p ≡ p′) × (w ≡ w′) × (out ≡ out′)
 
 abbrev pub OneExpand : Type 0
 OneExpand =
-    (x : Expand) (r r′ p p′ w w′ : ℕ) (out out′ : List ℕ) → Expanded x r p w out → Expanded x r′ p′ w′ out′
+    (x : Expand) (room r r′ p p′ w w′ : ℕ) (out out′ : List ℕ) → Expanded x r p room w out → Expanded x r′ p′ room w′ out′
     → (r ≡ r′) × (p ≡ p′) × (w ≡ w′) × (out ≡ out′)
 
 abbrev pub OneBench : Type 0

@@ -155,7 +155,7 @@ pub extern "C" fn wim_noise(
     place: &mut u64,
     written: &mut u64,
 ) -> u32
-    ensures { λ r. ⌜ Noised (schemeOf scheme) (noise bytes out) r (left place) (left written) (left out) ⌝ }
+    ensures { λ r. ⌜ Noised (schemeOf scheme) (noise bytes) r (left place) (room out) (left written) (left out) ⌝ }
 {
     let answer = sampling::noise(scheme, bytes, out);
     tell(answer, place, written)
@@ -169,7 +169,7 @@ pub extern "C" fn wim_expand(
     place: &mut u64,
     written: &mut u64,
 ) -> u32
-    ensures { λ r. ⌜ Expanded (expand stream out) r (left place) (left written) (left out) ⌝ }
+    ensures { λ r. ⌜ Expanded (expand stream) r (left place) (room out) (left written) (left out) ⌝ }
 {
     let answer = sampling::expand(stream, out);
     tell(answer, place, written)

@@ -21,7 +21,7 @@ returns c =
     let z : tie.After-zero-numbers = search needs in
     let t : tie.After-expand-sizes = search needs in
     let n = zeros-long (length (b .args .out .now)) 0 (z .zero-numbers .ensures) in
-    let e = sizes-failed _ (rw n at (t .expand-sizes .ensures)) (c .before .v .given .1) in
+    let e = sizes-failed _ _ (rw n at (t .expand-sizes .ensures)) (c .before .v .given .1) in
     record { told = told-failed e; numbers = wrote-failed e (z .zero-numbers .ensures) }
 
 returns-2 : tie.Need-returns-2

@@ -13,10 +13,10 @@ use Rattle.sampling.proofs.sampler.expand_in.Statement.{statement}
 use Rattle.sampling.proofs.sampler.expand_in.Tie as tie
 
 abbrev lent : tie.Start → Expand
-lent b = expandOf (b .args .stream .now) (length (b .args .out .now))
+lent b = expandOf (b .args .stream .now)
 
 enough : (b : tie.Start) → 1024 ≤ length (b .args .out .now)
-enough b = room-enough (lent b) (b .pre .0)
+enough b = room-enough (lent b) _ (b .pre .0)
 
 slice-relend-prefix-expand : tie.Need-slice-relend-prefix-expand
 slice-relend-prefix-expand c = let b : tie.Start = search needs in enough b
@@ -46,7 +46,7 @@ returns c =
     let n : tie.After-expand = search needs in
     let o : tie.After-out = search needs in
     let i : tie.Then1 = search needs in
-    let e = ran-out (lent b) (b .pre .0) (n .expand .ensures .0) (i .if1 .taken) in
+    let e = ran-out (lent b) _ (b .pre .0) (n .expand .ensures .0) (i .if1 .taken) in
     let l = o .out .given .0 ∙ length-take-le 1024 (b .args .out .now) (enough b) in
     record { told = told-failed e; numbers = wrote-restored e (b .args .out .now) (n .expand .last .1 .0) (b .pre .1) (enough b) l (c .before .before .zero-numbers .ensures) }
 
@@ -57,7 +57,7 @@ returns-2 c =
     let n : tie.After-expand = search needs in
     let xs = expandNumbers (b .args .stream .now) in
     let l = c .if1 .left in
-    let e = full (lent b) (b .pre .0) (n .expand .ensures .0) l in
+    let e = full (lent b) _ (b .pre .0) (n .expand .ensures .0) l in
     let long : length xs ≡ 1024 = omega (arith, n .expand .ensures .0, numbers-few (b .args .stream .now)) in
     let w = whole-part xs (b .args .out .now) _ _ (n .expand .ensures .1) l in
     let many = n .expand .ensures .0 ∙ long in

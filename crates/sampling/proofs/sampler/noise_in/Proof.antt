@@ -10,7 +10,7 @@ noise-values-requires : tie.Need-noise-values-requires
 noise-values-requires c κs =
     let b : tie.Start = search needs in
     let t : tie.After-noise-tests = search needs in
-    tests-passed (b .args .s) _ (sym (t .noise-tests .ensures) ∙ c .before .enum-told .given .1)
+    tests-passed (b .args .s) _ _ (sym (t .noise-tests .ensures) ∙ c .before .enum-told .given .1)
 
 returns : tie.Need-returns
 returns c =

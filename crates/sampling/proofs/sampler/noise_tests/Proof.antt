@@ -9,21 +9,21 @@ returns : tie.Need-returns
 returns c =
     let b : tie.Start = search needs in
     let f : tie.After-family = search needs in
-    tests-by (b .args .s) _ (sym (f .family .ensures) ∙ c .enum-told .given .1)
+    tests-by (b .args .s) _ _ (sym (f .family .ensures) ∙ c .enum-told .given .1)
 
 returns-2 : tie.Need-returns-2
 returns-2 c =
     let b : tie.Start = search needs in
     let f : tie.After-family = search needs in
     let t : tie.After-enum-told2 = search needs in
-    c .noise-sizes .ensures ∙ tests-by (b .args .s) _ (sym (f .family .ensures) ∙ t .enum-told2 .given .1)
+    c .noise-sizes .ensures ∙ tests-by (b .args .s) _ _ (sym (f .family .ensures) ∙ t .enum-told2 .given .1)
 
 returns-3 : tie.Need-returns-3
 returns-3 c =
     let b : tie.Start = search needs in
     let f : tie.After-family = search needs in
     let t : tie.After-enum-told3 = search needs in
-    c .noise-sizes2 .ensures ∙ tests-by (b .args .s) _ (sym (f .family .ensures) ∙ t .enum-told3 .given .1)
+    c .noise-sizes2 .ensures ∙ tests-by (b .args .s) _ _ (sym (f .family .ensures) ∙ t .enum-told3 .given .1)
 
 pub noise-tests-spec : {M : Type 1} → statement M
 noise-tests-spec =

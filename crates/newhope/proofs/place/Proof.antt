@@ -1,0 +1,9 @@
+-- `newhope::place` meets its contract.
+use mathlib.Core.Path.{refl}
+use native.Mathlib.Omega.{arith}
+use borrow.Author.Needs.{needs}
+use Rattle.newhope.proofs.place.Statement.{statement}
+use Rattle.newhope.proofs.place.Tie as tie
+
+pub place-spec : {M : Type 1} → statement M
+place-spec = tie.close (tie.spec (λ c. search needs) (λ c. search needs) (λ c. (refl, omega arith)))
