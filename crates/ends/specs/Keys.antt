@@ -4,7 +4,7 @@
 --   keys c cs v     the key entries of the replier's value
 --   peers c hs w    those of the initiator's value w under the hints
 use mathlib.Core.List.{List}
-use Prim.Native.Nat.{ℕ, _/_, _^_}
+use Prim.Native.Nat.{ℕ}
 use Rattle.schemes.specs.Schemes.{by, familyOf, fixedOf}
 use Rattle.schemes.specs.declared.Scheme.{Scheme}
 use Rattle.bcns.specs.Rounding as bcns
@@ -12,7 +12,7 @@ use Rattle.newhope.specs.Group as newhope
 use Rattle.frodo.specs.Rounding as frodo
 
 abbrev pub interval : Scheme → ℕ
-interval c = fixedOf c .q / 2 ^ fixedOf c .keybits
+interval c = frodo.interval (fixedOf c)
 
 unfoldable pub hints : Scheme → List ℕ → List ℕ → List ℕ
 hints c cs v = by (familyOf c) (bcns.hintsOf cs v) (newhope.hintsOf cs v) (frodo.hintsOf (interval c) v)
