@@ -5,17 +5,9 @@ ghost use lib.ListN.{length};
 ghost use Rattle.schemes.specs.Schemes.{fixedOf};
 ghost use Rattle.lists.specs.Lent.{was, left};
 ghost use Rattle.ends.specs.Fit.{Counted};
-ghost use Rattle.ends.specs.Keys.{interval, hints, keys, peers};
+ghost use Rattle.ends.specs.Keys.{hints, keys, peers};
 use schemes::Family;
 use schemes::Scheme;
-
-// Frodo's rounding interval.
-fn interval(scheme: Scheme) -> u32
-    ensures { λ r. ⌜ r ≡ interval scheme ⌝ }
-{
-    let f = scheme.fixed();
-    f.q >> f.keybits
-}
 
 // The hints of the replier's value.
 pub fn hints(scheme: Scheme, coins: &[u32], v: &[u32], out: &mut [u32])
@@ -29,7 +21,7 @@ pub fn hints(scheme: Scheme, coins: &[u32], v: &[u32], out: &mut [u32])
         Family::NewHope => newhope::hints(coins, v, out),
         Family::Frodo => {
             let f = scheme.fixed();
-            frodo::hints(interval(scheme), f.keybits, v, out)
+            frodo::hints(frodo::interval(scheme), f.keybits, v, out)
         }
     }
 }
@@ -47,7 +39,7 @@ pub fn keys(scheme: Scheme, coins: &[u32], own: &[u32], v: &[u32], out: &mut [u3
         Family::NewHope => newhope::peers(own, v, out),
         Family::Frodo => {
             let f = scheme.fixed();
-            frodo::keys(interval(scheme), f.keybits, v, out)
+            frodo::keys(frodo::interval(scheme), f.keybits, v, out)
         }
     }
 }
@@ -64,7 +56,7 @@ pub fn peers(scheme: Scheme, given: &[u32], w: &[u32], out: &mut [u32])
         Family::NewHope => newhope::peers(given, w, out),
         Family::Frodo => {
             let f = scheme.fixed();
-            frodo::peers(interval(scheme), f.keybits, given, w, out)
+            frodo::peers(frodo::interval(scheme), f.keybits, given, w, out)
         }
     }
 }

@@ -21,7 +21,7 @@ use Rattle.exchange.specs.Reply.{replyTests, replySizes, replyRest, repl
 use Rattle.exchange.specs.Reply as reply
 use Rattle.exchange.specs.Finish.{finishTests, finishSizes, finishRest, repliedOf}
 use Rattle.exchange.specs.Finish as finish
-use Rattle.exchange.specs.Shown.{OneOffer, OneReply, OneFinish, OpeningComesBack, ReplyComesBack, Five}
+use Rattle.exchange.specs.Shown.{OneOffer, OneReply, OneFinish, OpeningComesBack, ReplyComesBack, NeverFive}
 use Rattle.exchange.specs.declared.ReplyCounts.{ReplyCounts}
 use Rattle.exchange.specs.declared.ReplyAnswer.{ReplyAnswer}
 use Rattle.exchange.specs.declared.FinishCounts.{FinishCounts}
@@ -86,9 +86,9 @@ fits c d p = message-passes (record { below = λ k. lt-of-lt-of-le (unpacked-bel
 abbrev Other : ℕ → Type 0
 Other k = k ≡ 5 → ⊥
 
-pub five : Five
+pub never-five : NeverFive
 unfolding replyTests replySizes replyRest replySecrets openedOf finishTests finishSizes finishRest repliedOf
-five c d =
+never-five c d =
     let l = lengths Other (λ e. omega arith) (λ e. omega arith) in
     let m = rooms Other (λ e. omega arith) (λ e. omega arith) in
     let a = publics Other (λ e. omega arith) (λ e. omega arith) in

@@ -1,7 +1,7 @@
 -- What is shown of Offer, Reply and Finish beside their promises.
 --   OneOffer, OneReply, OneFinish   no two results satisfy one promise
 --   OpeningComesBack, ReplyComesBack   demand 2: a message that is accepted comes back the same when it is unpacked and packed again
---   Five                            which refusals a message of Frodo is never given: 01, "Refusal 5 can't arise in Frodo"
+--   NeverFive                       01: refusal 5 can't arise in Frodo
 use mathlib.Core.Path.{_≡_}
 use mathlib.Core.List.{List, _++_}
 use Prim.Native.Nat.{ℕ}
@@ -53,7 +53,7 @@ ReplyComesBack =
     (c : Scheme) (x : Finish) (k : ℕ) → Below 256 (x .reply) → finishTests (Is c) x k ≡ Pass
     → packed (fixedOf c .width) (repliedOf c x) ++ packed (fixedOf c .hintbits) (hintsIn c (x .reply)) ≡ x .reply
 
-abbrev pub Five : Type 0
-Five =
+abbrev pub NeverFive : Type 0
+NeverFive =
     (c : Scheme) → familyOf c ≡ Family.Frodo
     → ((x : Reply) (n k : ℕ) → numberIn (replyTests (Is c) x n k) ≡ 5 → ⊥) × ((x : Finish) (k : ℕ) → numberIn (finishTests (Is c) x k) ≡ 5 → ⊥)

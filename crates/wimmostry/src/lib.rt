@@ -44,16 +44,12 @@ fn tell_reply(answer: ReplyAnswer, place: &mut u64, written: &mut u64, keyed: &m
 {
     match answer {
         ReplyAnswer::Done(n) => {
-            *place = 0;
-            *written = n.message as u64;
             *keyed = n.key as u64;
-            0
+            tell(Answer::Done(n.message), place, written)
         }
         ReplyAnswer::Refused(why) => {
-            *place = why.place() as u64;
-            *written = 0;
             *keyed = 0;
-            why.number()
+            tell(Answer::Refused(why), place, written)
         }
     }
 }
@@ -63,16 +59,8 @@ fn tell_finish(answer: FinishAnswer, place: &mut u64, written: &mut u64) -> u32
     ensures { λ r. ⌜ (r ≡ finishes.number answer) × (left place ≡ finishes.place answer) × (left written ≡ finishes.counts answer .key) ⌝ }
 {
     match answer {
-        FinishAnswer::Done(n) => {
-            *place = 0;
-            *written = n.key as u64;
-            0
-        }
-        FinishAnswer::Refused(why) => {
-            *place = why.place() as u64;
-            *written = 0;
-            why.number()
-        }
+        FinishAnswer::Done(n) => tell(Answer::Done(n.key), place, written),
+        FinishAnswer::Refused(why) => tell(Answer::Refused(why), place, written),
     }
 }
 
