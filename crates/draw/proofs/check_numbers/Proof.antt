@@ -1,7 +1,6 @@
 -- `draw::check_numbers` meets its contract.
 use Prim.Native.Nat.{_-_}
 use native.Mathlib.Omega.{arith}
-use borrow.Author.Needs.{needs}
 use lib.ListN.{length}
 use Rattle.draw.specs.Draw.{itself}
 use Rattle.draw.proofs.Streams.{Summed, sum-start, sum-next, sum-end}
@@ -30,5 +29,6 @@ returns : tie.Need-returns Inv-loop μ-loop
 returns c = sum-end (c .before .loop .inv) (omega arith)
 
 pub check-numbers-spec : {M : Type 1} → statement M
-check-numbers-spec = tie.close
-    (tie.spec Inv-loop μ-loop loop-holds (search needs) (search needs) cast-more more-requires (search needs) (search needs) loop-again returns)
+check-numbers-spec =
+    tie.close
+    (tie.spec Inv-loop μ-loop loop-holds (λ c. omega arith) (λ c. omega arith) cast-more more-requires (λ c. omega arith) (λ c. omega arith) loop-again returns)

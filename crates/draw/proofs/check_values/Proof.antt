@@ -31,5 +31,6 @@ returns : tie.Need-returns Inv-loop μ-loop
 returns c = sum-end (c .before .loop .inv) (omega arith)
 
 pub check-values-spec : {M : Type 1} → statement M
-check-values-spec = tie.close
-    (tie.spec Inv-loop μ-loop loop-holds (search needs) (search needs) (search needs) (search needs) (search needs) (search needs) loop-again returns)
+check-values-spec =
+    tie.close
+    (tie.spec Inv-loop μ-loop loop-holds (λ c. omega arith) (λ c. omega arith) (search needs) (search needs) (λ c. omega arith) (λ c. omega arith) loop-again returns)

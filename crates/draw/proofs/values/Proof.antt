@@ -40,5 +40,6 @@ returns : tie.Need-returns Inv-loop μ-loop
 returns c = fill-end (c .before .loop .inv .filled) (omega arith)
 
 pub values-spec : {M : Type 1} → statement M
-values-spec = tie.close
-    (tie.spec Inv-loop μ-loop loop-holds (search needs) (search needs) (search needs) (search needs) (search needs) loop-less loop-again same-length returns)
+values-spec =
+    tie.close
+    (tie.spec Inv-loop μ-loop loop-holds (search needs) (search needs) (λ c. omega arith) (λ c. omega arith) (λ c. omega arith) loop-less loop-again same-length returns)

@@ -2,7 +2,6 @@
 use mathlib.Core.Path.{_≡_, _∙_, sym, ap}
 use Prim.Native.Nat.{ℕ, _-_, _≤_}
 use native.Mathlib.Omega.{arith}
-use borrow.Author.Needs.{needs}
 use lib.ListN.{length}
 use Rattle.matrix.specs.Steps.{gained, dotTerm}
 use Rattle.matrix.proofs.Steps.{gained-length, gained-none, gained-next}
@@ -47,4 +46,4 @@ returns c =
 pub add-dots-spec : {M : Type 1} → statement M
 add-dots-spec =
     tie.close
-    (tie.spec Inv-loop μ-loop loop-holds (search needs) (search needs) cast-add-products add-products-requires (search needs) (search needs) loop-again same-length returns)
+    (tie.spec Inv-loop μ-loop loop-holds (λ c. omega arith) (λ c. omega arith) cast-add-products add-products-requires (λ c. omega arith) (λ c. omega arith) loop-again same-length returns)

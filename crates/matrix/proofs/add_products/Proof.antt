@@ -55,4 +55,4 @@ returns c =
 pub add-products-spec : {M : Type 1} → statement M
 add-products-spec =
     tie.close
-    (tie.spec Inv-loop μ-loop loop-holds (search needs) (search needs) mul-add-product-2 add-add-product mul-add-product-3 shared-slice-read-add-product (search needs) (search needs) (search needs) (search needs) (search needs) loop-again same-length returns)
+    (tie.spec Inv-loop μ-loop loop-holds (λ c. omega arith) (λ c. omega arith) mul-add-product-2 add-add-product mul-add-product-3 shared-slice-read-add-product (search needs) (λ c. omega arith) (λ c. omega arith) (λ c. omega arith) (λ c. omega arith) loop-again same-length returns)

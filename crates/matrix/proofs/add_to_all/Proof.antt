@@ -104,4 +104,4 @@ returns c =
 pub add-to-all-spec : {M : Type 1} → statement M
 add-to-all-spec =
     tie.close
-    (tie.spec Inv-loop μ-loop loop-holds mul-a mul-b add-b add-add-block mul-add-block (search needs) (search needs) part-add-block-end add-add-block-2 mul-add-block-2 (search needs) (search needs) part-add-block-end-2 add-block-requires (search needs) (search needs) loop-again same-length returns)
+    (tie.spec Inv-loop μ-loop loop-holds mul-a mul-b add-b add-add-block mul-add-block (λ c. omega arith) (search needs) part-add-block-end add-add-block-2 mul-add-block-2 (λ c. omega arith) (search needs) part-add-block-end-2 add-block-requires (λ c. omega arith) (λ c. omega arith) loop-again same-length returns)

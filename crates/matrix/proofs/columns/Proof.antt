@@ -74,4 +74,4 @@ returns c =
 pub columns-spec : {M : Type 1} → statement M
 columns-spec =
     tie.close
-    (tie.spec Inv-loop μ-loop loop-holds mul-a add-column mul-column (search needs) (search needs) part-column-end column-requires (search needs) (search needs) loop-again same-length returns)
+    (tie.spec Inv-loop μ-loop loop-holds mul-a add-column mul-column (λ c. omega arith) (search needs) part-column-end column-requires (λ c. omega arith) (λ c. omega arith) loop-again same-length returns)

@@ -73,4 +73,4 @@ returns c =
 pub left-rows-spec : {M : Type 1} → statement M
 left-rows-spec =
     tie.close
-    (tie.spec Inv-loop μ-loop loop-holds (search needs) (search needs) mul-l slice-relend-prefix-left-block slice-aggregate-left-block left-block-requires (search needs) (search needs) loop-again same-length same-length-2 returns)
+    (tie.spec Inv-loop μ-loop loop-holds (λ c. omega arith) (λ c κs. omega arith) mul-l slice-relend-prefix-left-block slice-aggregate-left-block left-block-requires (λ c. omega arith) (λ c. omega arith) loop-again same-length same-length-2 returns)

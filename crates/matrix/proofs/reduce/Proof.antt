@@ -3,7 +3,6 @@ use mathlib.Core.Path.{refl, _∙_, ap}
 use mathlib.Core.List.{List}
 use Prim.Native.Nat.{ℕ, _-_, _%_}
 use native.Mathlib.Omega.{arith}
-use borrow.Author.Needs.{needs}
 use lib.ListN.{length, length-set, getD}
 use Rattle.lists.specs.Entries.{tab}
 use Rattle.lists.proofs.Fill.{Filled, fill-start, fill-next, fill-end}
@@ -47,4 +46,4 @@ returns c =
 pub reduce-spec : {M : Type 1} → statement M
 reduce-spec =
     tie.close
-    (tie.spec Inv-loop μ-loop (search needs) loop-holds (search needs) (search needs) cast-remainder remainder-requires (search needs) (search needs) (search needs) loop-less loop-again same-length returns)
+    (tie.spec Inv-loop μ-loop (λ c. omega arith) loop-holds (λ c. omega arith) (λ c. omega arith) cast-remainder remainder-requires (λ c. omega arith) (λ c. omega arith) (λ c. omega arith) loop-less loop-again same-length returns)

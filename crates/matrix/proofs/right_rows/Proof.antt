@@ -112,4 +112,4 @@ returns c =
 pub right-rows-spec : {M : Type 1} → statement M
 right-rows-spec =
     tie.close
-    (tie.spec Inv-loop μ-loop loop-holds mul-a mul-b add-right-row mul-right-row (search needs) (search needs) part-right-row-end add-right-row-2 mul-right-row-2 (search needs) (search needs) part-right-row-end-2 add-right-row-3 mul-right-row-3 (search needs) (search needs) part-right-row-end-3 right-row-requires (search needs) (search needs) loop-again same-length returns)
+    (tie.spec Inv-loop μ-loop loop-holds mul-a mul-b add-right-row mul-right-row (λ c. omega arith) (search needs) part-right-row-end add-right-row-2 mul-right-row-2 (λ c. omega arith) (search needs) part-right-row-end-2 add-right-row-3 mul-right-row-3 (λ c. omega arith) (search needs) part-right-row-end-3 right-row-requires (λ c. omega arith) (λ c. omega arith) loop-again same-length returns)

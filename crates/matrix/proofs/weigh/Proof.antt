@@ -48,4 +48,4 @@ returns c =
 pub weigh-spec : {M : Type 1} → statement M
 weigh-spec =
     tie.close
-    (tie.spec Inv-loop μ-loop loop-holds mul-number-at number-at-requires (search needs) (search needs) (search needs) (search needs) (search needs) loop-again returns)
+    (tie.spec Inv-loop μ-loop loop-holds mul-number-at number-at-requires (λ c. omega arith) (λ c. omega arith) (search needs) (λ c. omega arith) (λ c. omega arith) loop-again returns)

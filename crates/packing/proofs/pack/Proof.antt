@@ -75,4 +75,4 @@ returns c =
 pub pack-spec : {M : Type 1} → statement M
 pack-spec =
     tie.close
-    (tie.spec Inv-loop μ-loop loop-holds (search needs) (search needs) cast-acc (search needs) (search needs) add-acc (search needs) (search needs) put-word-requires add-j (search needs) loop-again (search needs) loop-again-2 put-rest-requires same-length returns)
+    (tie.spec Inv-loop μ-loop loop-holds (λ c. omega arith) (λ c. omega arith) cast-acc (λ c. omega arith) (λ c. omega arith) add-acc (λ c. omega arith) (λ c. omega arith) put-word-requires add-j (λ c. omega arith) loop-again (λ c. omega arith) loop-again-2 put-rest-requires same-length returns)

@@ -34,4 +34,4 @@ returns c =
 
 pub put-rest-spec : {M : Type 1} → statement M
 put-rest-spec = tie.close
-    (tie.spec Inv-loop μ-loop loop-holds (search needs) (search needs) (search needs) (search needs) loop-again same-length returns)
+    (tie.spec Inv-loop μ-loop loop-holds (λ c. omega arith) (λ c. omega arith) (λ c. omega arith) (λ c. omega arith) loop-again same-length returns)

@@ -100,4 +100,4 @@ returns c = all-out (c .before .loop .inv .2) (omega arith)
 pub unpack-spec : {M : Type 1} → statement M
 unpack-spec =
     tie.close
-    (tie.spec Inv-loop μ-loop (search needs) loop-holds word-requires (search needs) (search needs) add-acc (search needs) add-i rem-out cast-out (search needs) (search needs) (search needs) sub-held (search needs) (search needs) loop-again same-length returns)
+    (tie.spec Inv-loop μ-loop (λ c. omega arith) loop-holds word-requires (λ c. omega arith) (λ c. omega arith) add-acc (λ c. omega arith) add-i rem-out cast-out (λ c. omega arith) (λ c. omega arith) (λ c. omega arith) sub-held (λ c. omega arith) (λ c. omega arith) loop-again same-length returns)

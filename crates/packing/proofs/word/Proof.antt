@@ -5,9 +5,9 @@ use Prim.Native.Nat.{ℕ, _+_, _*_}
 use native.Mathlib.Nat.{add-assoc}
 use native.Mathlib.Omega.{arith}
 use lib.ListN.{getD, take, drop}
-use borrow.Author.Needs.{needs}
 use Rattle.packing.specs.Packing.{value}
 use Rattle.packing.proofs.Laws.{value-next}
+use borrow.Author.Needs.{needs}
 use Rattle.packing.proofs.word.Statement.{statement}
 use Rattle.packing.proofs.word.Tie as tie
 

@@ -3,7 +3,6 @@ use mathlib.Core.Path.{_∙_, sym, ap, subst}
 use mathlib.Core.List.{List}
 use Prim.Native.Nat.{ℕ, _-_}
 use native.Mathlib.Omega.{arith}
-use borrow.Author.Needs.{needs}
 use lib.ListN.{length, length-set}
 use lib.IntN.{ℤ, _+ℤ_}
 use Rattle.numbers.specs.Residue.{residue}
@@ -52,4 +51,4 @@ returns c =
 pub entries-spec : {M : Type 1} → statement M
 entries-spec =
     tie.close
-    (tie.spec Inv-loop μ-loop loop-holds entry-requires (search needs) (search needs) (search needs) loop-less loop-again same-length returns)
+    (tie.spec Inv-loop μ-loop loop-holds entry-requires (λ c. omega arith) (λ c. omega arith) (λ c. omega arith) loop-less loop-again same-length returns)

@@ -3,7 +3,6 @@ use mathlib.Core.Path.{_∙_, ap}
 use mathlib.Core.List.{List}
 use Prim.Native.Nat.{ℕ, _-_}
 use native.Mathlib.Omega.{arith}
-use borrow.Author.Needs.{needs}
 use lib.ListN.{length, length-set}
 use lib.IntN.{ℤ}
 use Rattle.numbers.specs.Residue.{nearest}
@@ -44,5 +43,6 @@ returns c =
     fill-end (c .before .loop .inv) (omega arith) ∙ ap (λ (k : ℕ). tab k (by (s .args .q) (s .args .a .now))) (s .pre .1)
 
 pub lay-window-spec : {M : Type 1} → statement M
-lay-window-spec = tie.close
-    (tie.spec Inv-loop μ-loop loop-holds (search needs) (search needs) (search needs) (search needs) loop-less loop-again same-length returns)
+lay-window-spec =
+    tie.close
+    (tie.spec Inv-loop μ-loop loop-holds (λ c κs. omega arith) (λ c. omega arith) (λ c. omega arith) (λ c. omega arith) loop-less loop-again same-length returns)
