@@ -1,0 +1,4 @@
+pub mod Comparing
+pub mod Passing
+pub mod Answering
+pub mod Shown

@@ -1,0 +1,40 @@
+-- `bench::compare::first_apart` meets its contract.
+use Prim.Native.Nat.{_-_}
+use native.Mathlib.Omega.{arith}
+use borrow.Author.Needs.{needs}
+use lib.ListN.{length}
+use Rattle.bench.proofs.Comparing.{Along, along-none, along-more, parted, met}
+use Rattle.bench.proofs.compare.first_apart.Statement.{statement}
+use Rattle.bench.proofs.compare.first_apart.Tie as tie
+
+abbrev Inv-loop : tie.InvT-loop
+Inv-loop xs ys at₀ at = Along xs ys at
+
+abbrev μ-loop : tie.MeasureT-loop
+μ-loop xs ys at₀ at = length xs - at
+
+loop-holds : tie.Need-loop-holds Inv-loop μ-loop
+loop-holds c = along-none _ _
+
+returns : tie.Need-returns Inv-loop μ-loop
+returns c =
+    let b : tie.Start Inv-loop μ-loop = search needs in
+    let l : tie.At-loop Inv-loop μ-loop = search needs in
+    parted (b .args .xs .now) (b .args .ys .now) (b .pre) (l .loop .at) (l .loop .inv) (omega arith) (c .if1 .taken)
+
+loop-again : tie.Need-loop-again Inv-loop μ-loop
+loop-again c =
+    let b : tie.Start Inv-loop μ-loop = search needs in
+    let l : tie.At-loop Inv-loop μ-loop = search needs in
+    along-more (b .args .xs .now) (b .args .ys .now) (b .pre) (l .loop .at) (l .loop .inv) (omega arith) (c .if1 .left)
+
+returns-2 : tie.Need-returns-2 Inv-loop μ-loop
+returns-2 c =
+    let b : tie.Start Inv-loop μ-loop = search needs in
+    let l : tie.At-loop Inv-loop μ-loop = search needs in
+    met (b .args .xs .now) (b .args .ys .now) (b .pre) (l .loop .at) (l .loop .inv) (c .loop-test .left)
+
+pub first-apart-spec : {M : Type 1} → statement M
+first-apart-spec =
+    tie.close
+    (tie.spec Inv-loop μ-loop loop-holds (search needs) (search needs) (search needs) (search needs) returns (search needs) (search needs) loop-again returns-2)

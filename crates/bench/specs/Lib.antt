@@ -1,0 +1,4 @@
+pub mod First
+pub mod Bench
+pub mod Inside
+pub mod Shown
