@@ -1,0 +1,31 @@
+-- Two keys bit by bit.
+--   told-apart, told-same   the answer of two keys that differ, and of two that do not
+use mathlib.Core.Path.{_≡_, refl}
+use mathlib.Core.List.{List}
+use Prim.Native.Nat.{ℕ, _*_, _≤_, _<_}
+use native.Mathlib.Omega.{arith}
+use lib.ListN.{length}
+use borrow.Author.Tests.{lt-ltb, le-ltb}
+use Rattle.packing.specs.Packing.{unpacked}
+use Rattle.front.specs.declared.Verdict.the-variants.{Pass}
+use Rattle.front.proofs.Promise.{told-passed, gave-passed}
+use Rattle.lists.specs.First.{firstApart}
+use Rattle.bench.specs.Bench.{bits, differing}
+use Rattle.bench.specs.Inside.{Compares}
+use Rattle.bench.specs.declared.BenchAnswer.the-variants.{Agree, Differ}
+
+-- ---- two keys, by as many bits of each as x and y have room for
+
+module _ (own peer x y : List ℕ) (i : ℕ) (lx : length x ≡ 8 * length own) (ly : length y ≡ 8 * length peer)
+    (e : i ≡ firstApart (unpacked 1 (length x) own) (unpacked 1 (length y) peer)) where
+  at-bits : i ≡ firstApart (bits own) (bits peer)
+  unfolding bits
+  at-bits = rw (← lx, ← ly) e
+
+  pub told-apart : i < length x → Compares Pass (differing own peer) (Differ i)
+  unfolding differing
+  told-apart h = record { told = told-passed refl; differs = gave-passed refl (rw (← at-bits, lt-ltb i (8 * length own) (omega arith))) }
+
+  pub told-same : length x ≤ i → Compares Pass (differing own peer) Agree
+  unfolding differing
+  told-same h = record { told = told-passed refl; differs = gave-passed refl (rw (← at-bits, le-ltb i (8 * length own) (omega arith))) }

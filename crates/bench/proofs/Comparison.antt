@@ -1,0 +1,117 @@
+-- What is stated in specs/Comparison.
+--   told-agree, told-differ   an answer without a refusal, by how two keys differ
+--   bench-ranged, bench-gave  where Bench refuses nothing, its inputs are in range; and what it answers of inputs in range
+--   differ-few                the number that tells how the keys differ, whatever the scheme
+use mathlib.Core.Path.{_≡_, refl, _∙_, sym, ap}
+use mathlib.Core.Bool.{Bool, true, false, cond}
+use mathlib.Core.List.{List}
+use mathlib.Core.Logic.{_↔_}
+use Prim.Native.Nat.{ℕ, suc, _*_, _≤_}
+use native.Mathlib.Omega.{arith}
+use lib.Dec.{ltb}
+use lib.ListN.{length}
+use borrow.Author.Tests.{ltb-true}
+use Rattle.schemes.specs.declared.Scheme.{Scheme}
+use Rattle.schemes.specs.declared.Named.{Named}
+use Rattle.schemes.specs.declared.Named.the-variants.{Is, Unknown}
+use Rattle.schemes.proofs.Sound.{sound}
+use Rattle.lists.specs.Entries.{Below}
+use Rattle.lists.specs.First.{firstApart}
+use Rattle.packing.proofs.Laws.{packed-below}
+use Rattle.front.specs.Front.{countIn}
+use Rattle.front.specs.Promise.{Told, Gave}
+use Rattle.front.specs.declared.Verdict.{Verdict}
+use Rattle.front.specs.declared.Verdict.the-variants.{Pass, Fail}
+use Rattle.front.proofs.Laws.{both, number-zero, all-pass}
+use Rattle.exchange.specs.Reply.{keyOf, keyFrom}
+use Rattle.exchange.specs.Finish.{peerKeyOf, peerKeyFrom}
+use Rattle.exchange.proofs.Replying.{key-length}
+use Rattle.exchange.proofs.Finishing.{peer-key-length}
+use Rattle.agreement.specs.Run.{replying, finishing}
+use Rattle.agreement.specs.Exchange.{Ranged}
+use Rattle.agreement.proofs.Tests.{ranged-by, offer-passes, reply-passes}
+use Rattle.agreement.proofs.Accepted.{gave, accepted}
+use Rattle.agreement.proofs.Agreement.{agreement}
+use Rattle.bench.specs.Bench.{Bench, bits, differing, benchIn, benchTests, benchDiffers, Benched, number, place, differ}
+use Rattle.bench.specs.Inside.{Compares}
+use Rattle.bench.specs.Comparison.{FirstBit, BenchAccepts, BenchTells, BenchAgrees}
+use Rattle.bench.specs.declared.BenchAnswer.{BenchAnswer}
+use Rattle.bench.specs.declared.BenchAnswer.the-variants.{Agree, Differ}
+use Rattle.bench.proofs.Differing.{differing-none, differing-at}
+use Rattle.bench.proofs.Shown.{same}
+
+-- ---- without a refusal, of two keys that are bytes and of one length
+
+module _ (r : BenchAnswer) {own peer : List ℕ} (p : Compares Pass (differing own peer) r)
+    (l : length own ≡ length peer) (ho : Below 256 own) (hp : Below 256 peer) where
+  told-agree : (r ≡ Agree) ↔ (own ≡ peer)
+  told-agree =
+      let n = differing-none own peer l ho hp in
+      (λ e. n .0 (sym (p .differs .gives) ∙ ap differ e), λ e. same r Agree (p .told .refusal) (p .told .at) (p .differs .gives ∙ n .1 e))
+
+  told-differ : (i : ℕ) → (r ≡ Differ i) ↔ FirstBit i own peer
+  told-differ i =
+      let n = differing-at own peer l ho hp i in
+      (λ e. n .0 (sym (p .differs .gives) ∙ ap differ e), λ e. same r (Differ i) (p .told .refusal) (p .told .at) (p .differs .gives ∙ n .1 e))
+
+module _ (c : Scheme) (x : Bench) where
+  same-long : length (keyOf c (replying c x)) ≡ length (peerKeyOf c (finishing c x))
+  same-long = key-length c (replying c x) ∙ sym (peer-key-length c (finishing c x))
+
+  own-bytes : Below 256 (keyOf c (replying c x))
+  unfolding keyOf keyFrom
+  own-bytes = packed-below _ _
+
+  peer-bytes : Below 256 (peerKeyOf c (finishing c x))
+  unfolding peerKeyOf peerKeyFrom
+  peer-bytes = packed-below _ _
+
+module _ (c : Scheme) (x : Bench) (r : BenchAnswer) (b : Benched (Is c) x (number r) (place r) (differ r)) where
+  bench-ranged : number r ≡ 0 → Ranged c x
+  unfolding benchTests benchIn
+  bench-ranged z = let t = both _ _ (number-zero _ (sym z ∙ b .told .refusal)) in ranged-by c x _ _ _ _ (t .0) (t .1)
+
+  bench-gave : Ranged c x → Compares Pass (differing (keyOf c (replying c x)) (peerKeyOf c (finishing c x))) r
+  unfolding benchTests benchIn benchDiffers
+  bench-gave h =
+      let e = all-pass (offer-passes c x h) (reply-passes c x h) in
+      record { told = rw e at (b .told); differs = rw e at (b .differs) }
+
+pub bench-accepts : BenchAccepts
+bench-accepts c x r b = (λ z. accepted c x .1 (bench-ranged c x r b z), λ t. bench-gave c x r b (gave t .ranged) .told .refusal)
+
+pub bench-tells : BenchTells
+bench-tells c x r b t =
+    let g = gave t in
+    let p = bench-gave c x r b (g .ranged) in
+    record {
+      agree = rw (g .own, g .peer) (told-agree r p (same-long c x) (own-bytes c x) (peer-bytes c x));
+      differ = λ i. rw (g .own, g .peer) (told-differ r p (same-long c x) (own-bytes c x) (peer-bytes c x) i);
+    }
+
+pub bench-agrees : BenchAgrees
+bench-agrees c x r b z near =
+    let t = bench-accepts c x r b .0 z in
+    bench-tells c x r b t .agree .1 (agreement c x t near .same)
+
+-- ---- how large the number is that tells a differing bit
+
+up-to : (a b : ℕ) (t : Bool) → ltb a b ≡ t → cond t (suc a) 0 ≤ b
+up-to a b true e = omega (arith, ltb-true a b e)
+up-to a b false e = omega arith
+
+within : (xs ys : List ℕ) → differing xs ys ≤ 8 * length xs
+unfolding differing
+within xs ys = up-to (firstApart (bits xs) (bits ys)) (8 * length xs) (ltb (firstApart (bits xs) (bits ys)) (8 * length xs)) refl
+
+few : (v : Verdict) {d : ℕ} → d ≤ 1024 → countIn v d ≤ 1024
+few Pass h = h
+few (Fail r) h = omega arith
+
+differs-few : (n : Named) (x : Bench) → benchDiffers n x ≤ 1024
+unfolding benchDiffers
+differs-few Unknown x = omega arith
+differs-few (Is c) x = omega (arith, within (keyOf c (replying c x)) (peerKeyOf c (finishing c x)), key-length c (replying c x), sound c .keys)
+
+pub differ-few : {n : Named} {x : Bench} {k p d : ℕ} → Benched n x k p d → d ≤ 1024
+differ-few {n} {x} b = rw (b .differs .gives) (few _ (differs-few n x))

@@ -1,0 +1,5 @@
+pub mod Comparing
+pub mod Answering
+pub mod Shown
+pub mod Differing
+pub mod Comparison

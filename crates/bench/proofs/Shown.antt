@@ -1,0 +1,120 @@
+-- What is stated in specs/Shown.
+--   one-bench             one answer a promise
+--   never-three-or-five   3 and 5 cannot arise
+--   finish-accepts        Finish refuses nothing there
+use mathlib.Core.Path.{_≡_, ap}
+use mathlib.Core.List.{List}
+use Prim.Native.Nat.{ℕ}
+use native.Mathlib.Nat.{le-refl}
+use native.Mathlib.Omega.{arith}
+use lib.IntN.{ℤ}
+use Rattle.schemes.specs.Schemes.{fixedOf}
+use Rattle.schemes.specs.declared.Scheme.{Scheme}
+use Rattle.schemes.specs.declared.Named.{Named}
+use Rattle.schemes.specs.declared.Named.the-variants.{Is, Unknown}
+use Rattle.front.specs.Front.{numberIn, lengthIs, roomFor, publicsIn, messageIn, secretsIn}
+use Rattle.front.specs.declared.Verdict.the-variants.{Pass}
+use Rattle.front.proofs.Laws.{some, both, room-passes, message-passes}
+use Rattle.front.proofs.Promise.{same-refusal}
+use Rattle.front.proofs.Number.{and, passes, lengths, publics, secrets}
+use Rattle.ends.proofs.Ranges.{offered-counted}
+use Rattle.wire.proofs.Travel.{opened-back}
+use Rattle.exchange.specs.Offer.{Offer, offerIn, offerTests, openingOf}
+use Rattle.exchange.specs.Reply.{Reply, replyTests, replySizes, replyRest, replySecrets, openedOf}
+use Rattle.exchange.proofs.Offering.{offer-opens}
+use Rattle.agreement.specs.Run.{offering, replying}
+use Rattle.agreement.proofs.Tests.{ranged-by, finish-passes}
+use Rattle.bench.specs.Bench.{Bench, benchIn, benchTests, number, place, differ}
+use Rattle.bench.specs.Shown.{OneBench, NeverThreeOrFive, FinishPasses}
+use Rattle.bench.specs.declared.BenchAnswer.{BenchAnswer}
+use Rattle.bench.specs.declared.BenchAnswer.the-variants.{Agree, Differ, Refused}
+
+-- ---- one answer
+
+pub same : (a b : BenchAnswer) → number a ≡ number b → place a ≡ place b → differ a ≡ differ b → a ≡ b
+same Agree Agree e f g = cc
+same Agree (Differ j) e f g = absurd (omega arith)
+same Agree (Refused s) e f g = absurd (omega (arith, some s))
+same (Differ i) Agree e f g = absurd (omega arith)
+same (Differ i) (Differ j) e f g = ap Differ (omega arith)
+same (Differ i) (Refused s) e f g = absurd (omega (arith, some s))
+same (Refused r) Agree e f g = absurd (omega (arith, some r))
+same (Refused r) (Differ j) e f g = absurd (omega (arith, some r))
+same (Refused r) (Refused s) e f g = ap Refused (same-refusal r s e f)
+
+pub one-bench : OneBench
+one-bench c x r r′ p q = same r r′ (cc) (cc) (cc)
+
+-- ---- neither 3 nor 5
+
+abbrev Inside : ℕ → Type 0
+Inside k = (k ≡ 3 → ⊥) × (k ≡ 5 → ⊥)
+
+zero-in : Inside 0
+zero-in = (λ e. omega arith, λ e. omega arith)
+
+-- each kind of test; an output has just the room that its answer takes
+length-in : (m n : ℕ) → Inside (numberIn (lengthIs m n))
+length-in m n = lengths Inside zero-in (λ e. omega arith, λ e. omega arith) m n
+
+room-in : (n : ℕ) → Inside (numberIn (roomFor n n))
+room-in n = passes Inside (room-passes (le-refl n)) zero-in
+
+public-in : (q : ℕ) (xs : List ℕ) → Inside (numberIn (publicsIn q xs))
+public-in q xs = publics Inside zero-in (λ e. omega arith, λ e. omega arith) q xs
+
+secret-in : (B : ℕ) (s : List ℤ) → Inside (numberIn (secretsIn B s))
+secret-in B s = secrets Inside zero-in (λ e. omega arith, λ e. omega arith) B s
+
+offer-in : (c : Scheme) (x : Offer) → Inside (numberIn (offerTests (Is c) x (fixedOf c .opening)))
+unfolding offerTests offerIn
+offer-in c x =
+    let l = length-in in
+    and Inside _ _
+    (and Inside _ _
+    (and Inside _ _
+    (and Inside _ _ (and Inside _ _ (and Inside _ _ (and Inside _ _ (l _ _) (λ _. l _ _)) (λ _. l _ _)) (λ _. l _ _)) (λ _. room-in (fixedOf c .opening)))
+    (λ _. public-in _ (x .a)))
+    (λ _. secret-in _ (x .s)))
+    (λ _. secret-in _ (x .e))
+
+-- the numbers of an opening that Offer has made are below q
+opened-passes : (c : Scheme) (x : Bench) → offerTests (Is c) (offering x) (fixedOf c .opening) ≡ Pass
+    → messageIn (fixedOf c .q) (openedOf c (replying c x)) ≡ Pass
+unfolding offerTests openedOf openingOf
+opened-passes c x e =
+    let b = offered-counted c (x .a) (x .s) (x .e) in
+    rw (opened-back c (x .seed) (offer-opens c (offering x) _ e .0 .seed-long) b) (message-passes (b .below))
+
+reply-in : (c : Scheme) (x : Reply) → messageIn (fixedOf c .q) (openedOf c x) ≡ Pass
+    → Inside (numberIn (replyTests (Is c) x (fixedOf c .reply) (fixedOf c .key)))
+unfolding replyTests replySizes replyRest replySecrets
+reply-in c x o =
+    let l = length-in in
+    and Inside _ _
+    (and Inside _ _
+    (and Inside _ _
+    (and Inside _ _
+    (and Inside _ _
+    (and Inside _ _ (and Inside _ _ (and Inside _ _ (and Inside _ _ (l _ _) (λ _. l _ _)) (λ _. l _ _)) (λ _. l _ _)) (λ _. l _ _))
+    (λ _. l _ _))
+    (λ _. room-in (fixedOf c .reply)))
+    (λ _. room-in (fixedOf c .key)))
+    (λ _. public-in _ (x .a)))
+    (λ _.
+    and Inside _ _ (passes Inside o zero-in)
+    (λ _. and Inside _ _ (and Inside _ _ (secret-in _ (x .s')) (λ _. secret-in _ (x .e'))) (λ _. secret-in _ (x .e''))))
+
+by-name : (c : Named) (x : Bench) → Inside (numberIn (benchTests c x))
+unfolding benchTests benchIn
+by-name Unknown x = (λ e. omega arith, λ e. omega arith)
+by-name (Is c) x = and Inside _ _ (offer-in c (offering x)) (λ e. reply-in c (replying c x) (opened-passes c x e))
+
+pub never-three-or-five : NeverThreeOrFive
+never-three-or-five c x n p d h = rw (h .told .refusal) (by-name c x)
+
+-- ---- Finish
+
+pub finish-accepts : FinishPasses
+unfolding benchIn
+finish-accepts c x k e h = let t = both _ _ e in finish-passes c x (ranged-by c x _ _ _ _ (t .0) (t .1)) k h

@@ -1,0 +1,90 @@
+-- `bench::bench_in` meets its contract: it lends each message and each key just the room that it takes, and Finish refuses nothing.
+use mathlib.Core.Path.{_≡_, sym, ap, _∙_}
+use Prim.Native.Nat.{_≤_}
+use native.Mathlib.Omega.{arith}
+use Rattle.schemes.specs.Schemes.{fixedOf}
+use Rattle.schemes.specs.declared.Fixed.{Fixed}
+use Rattle.schemes.proofs.Sound.{sound}
+use Rattle.lists.proofs.Parts.{buffer-long}
+use Rattle.bench.specs.Bench.{benchOf}
+use Rattle.bench.proofs.Answering.{bench-told}
+use borrow.Author.Needs.{needs}
+use Rattle.bench.proofs.bench_in.Statement.{statement}
+use Rattle.bench.proofs.bench_in.Tie as tie
+
+abbrev start : tie.After-fixed → tie.Start
+start c = search needs
+
+module _ (c : tie.After-fixed) where
+  opening-is : c .fixed .result .opening ≡ fixedOf (start c .args .scheme) .opening
+  opening-is = ap (λ (g : Fixed). g .opening) (c .fixed .ensures)
+
+  reply-is : c .fixed .result .reply ≡ fixedOf (start c .args .scheme) .reply
+  reply-is = ap (λ (g : Fixed). g .reply) (c .fixed .ensures)
+
+  key-is : c .fixed .result .key ≡ fixedOf (start c .args .scheme) .key
+  key-is = ap (λ (g : Fixed). g .key) (c .fixed .ensures)
+
+  opening-room : c .fixed .result .opening ≤ 12976
+  opening-room = omega (arith, opening-is, sound (start c .args .scheme) .openings)
+
+  reply-room : c .fixed .result .reply ≤ 12968
+  reply-room = omega (arith, reply-is, sound (start c .args .scheme) .replies)
+
+  key-room : c .fixed .result .key ≤ 128
+  key-room = omega (arith, key-is, sound (start c .args .scheme) .keys)
+
+array-borrow-prefix-opening : tie.Need-array-borrow-prefix-opening
+array-borrow-prefix-opening c = let f : tie.After-fixed = search needs in opening-room f
+
+slice-aggregate-from-offer : tie.Need-slice-aggregate-from-offer
+slice-aggregate-from-offer c = let f : tie.After-fixed = search needs in sym (buffer-long _ 12976 (opening-room f))
+
+array-borrow-prefix-reply : tie.Need-array-borrow-prefix-reply
+array-borrow-prefix-reply c = let f : tie.After-fixed = search needs in reply-room f
+
+slice-aggregate-from-offer-2 : tie.Need-slice-aggregate-from-offer-2
+slice-aggregate-from-offer-2 c = let f : tie.After-fixed = search needs in sym (buffer-long _ 12968 (reply-room f))
+
+array-borrow-prefix-own : tie.Need-array-borrow-prefix-own
+array-borrow-prefix-own c = let f : tie.After-fixed = search needs in key-room f
+
+slice-aggregate-from-offer-3 : tie.Need-slice-aggregate-from-offer-3
+slice-aggregate-from-offer-3 c = let f : tie.After-fixed = search needs in sym (buffer-long _ 128 (key-room f))
+
+array-borrow-prefix-peer : tie.Need-array-borrow-prefix-peer
+array-borrow-prefix-peer c = let f : tie.After-fixed = search needs in key-room f
+
+slice-aggregate-from-offer-4 : tie.Need-slice-aggregate-from-offer-4
+slice-aggregate-from-offer-4 c = let f : tie.After-fixed = search needs in sym (buffer-long _ 128 (key-room f))
+
+from-offer-requires : tie.Need-from-offer-requires
+from-offer-requires c κs =
+    let f : tie.After-fixed = search needs in
+    let g = f .fixed .result in
+    let k = buffer-long (g .key) 128 (key-room f) ∙ key-is f in
+    ((buffer-long (g .opening) 12976 (opening-room f) ∙ opening-is f, buffer-long (g .reply) 12968 (reply-room f) ∙ reply-is f), (k, k))
+
+returns : tie.Need-returns
+returns c =
+    let p : tie.After-from-offer = search needs in
+    let f : tie.After-fixed = search needs in
+    let a = start f .args in
+    let x = benchOf (a .a .now) (a .s .now) (a .e .now) (a .seed .now) (a .s1 .now) (a .e1 .now) (a .e2 .now) (a .coins .now) in
+    bench-told (a .scheme) x (p .from-offer .result) (p .from-offer .ensures)
+
+pub bench-in-spec : {M : Type 1} → statement M
+bench-in-spec =
+    tie.close
+    (tie.spec
+    (λ c κs. search needs)
+    array-borrow-prefix-opening
+    slice-aggregate-from-offer
+    array-borrow-prefix-reply
+    slice-aggregate-from-offer-2
+    array-borrow-prefix-own
+    slice-aggregate-from-offer-3
+    array-borrow-prefix-peer
+    slice-aggregate-from-offer-4
+    from-offer-requires
+    returns)

@@ -1,0 +1,4 @@
+pub mod Bench
+pub mod Inside
+pub mod Shown
+pub mod Comparison

@@ -1,0 +1,25 @@
+-- What is shown of Bench beside its promise.
+--   OneBench           no two answers satisfy one promise
+--   NeverThreeOrFive   01, "The calls": messages and keys stay inside it, so 3 and 5 can't arise
+--   FinishPasses       what Offer and Reply let pass, Finish does not refuse
+use mathlib.Core.Path.{_≡_}
+use Prim.Native.Nat.{ℕ, _≤_}
+use Rattle.schemes.specs.Schemes.{fixedOf}
+use Rattle.schemes.specs.declared.Scheme.{Scheme}
+use Rattle.schemes.specs.declared.Named.{Named}
+use Rattle.schemes.specs.declared.Named.the-variants.{Is}
+use Rattle.front.specs.declared.Verdict.the-variants.{Pass}
+use Rattle.exchange.specs.Finish.{finishTests}
+use Rattle.agreement.specs.Run.{finishing}
+use Rattle.bench.specs.Bench.{Bench, benchIn, Benched, number, place, differ}
+use Rattle.bench.specs.declared.BenchAnswer.{BenchAnswer}
+
+abbrev pub OneBench : Type 0
+OneBench =
+    (c : Named) (x : Bench) (r r′ : BenchAnswer) → Benched c x (number r) (place r) (differ r) → Benched c x (number r′) (place r′) (differ r′) → r ≡ r′
+
+abbrev pub NeverThreeOrFive : Type 0
+NeverThreeOrFive = (c : Named) (x : Bench) (n p d : ℕ) → Benched c x n p d → (n ≡ 3 → ⊥) × (n ≡ 5 → ⊥)
+
+abbrev pub FinishPasses : Type 0
+FinishPasses = (c : Scheme) (x : Bench) (k : ℕ) → benchIn c x ≡ Pass → fixedOf c .key ≤ k → finishTests (Is c) (finishing c x) k ≡ Pass

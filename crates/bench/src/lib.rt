@@ -1,0 +1,150 @@
+// Bench: both ends of an exchange on lent secrets, by the public calls of `exchange`, one after the other, and then the two keys bit by bit. It has no
+// `requires`: it answers agree, differ with the first differing key bit, or the first refusal of Offer or Reply. Messages and keys stay inside.
+ghost use mathlib.Core.Path.{_≡_};
+ghost use lib.ListN.{length};
+ghost use Rattle.schemes.specs.Schemes.{fixedOf, schemeOf};
+ghost use Rattle.schemes.specs.declared.Named.the-variants.{Is};
+ghost use Rattle.lists.specs.Lent.{was};
+ghost use Rattle.exchange.specs.Reply as lent;
+ghost use Rattle.exchange.specs.Finish.{finish};
+ghost use Rattle.bench.specs.Bench.{bench, Benches};
+ghost use Rattle.bench.specs.Inside.{FromFinish, FromReply, FromOffer};
+
+mod compare;
+
+use exchange::FinishAnswer;
+use exchange::ReplyAnswer;
+use front::Answer;
+use front::Refusal;
+use schemes::Named;
+use schemes::Scheme;
+
+// What Bench gives: the keys agree; they differ, first at this bit; or the refusal.
+pub enum BenchAnswer {
+    Agree,
+    Differ(usize),
+    Refused(Refusal),
+}
+
+// From Finish on: the initiator's key into peer, beside the replier's own.
+fn from_finish(scheme: Scheme, reply: &[u8], s: &[i32], own: &[u8], peer: &mut [u8]) -> BenchAnswer
+    requires { ⌜ (length (now own) ≡ fixedOf scheme .key) × (length (now peer) ≡ fixedOf scheme .key) ⌝ }
+    ensures { λ r. ⌜ FromFinish scheme (finish reply s) (was own) r ⌝ }
+{
+    let v = exchange::finish(scheme.number(), reply, s, peer);
+    match v {
+        FinishAnswer::Refused(r) => BenchAnswer::Refused(r),
+        FinishAnswer::Done(_) => compare::keys(own, peer),
+    }
+}
+
+// From Reply on: the reply message into reply, the replier's key into own.
+fn from_reply(
+    scheme: Scheme,
+    opening: &[u8],
+    a: &[u32],
+    s: &[i32],
+    s1: &[i32],
+    e1: &[i32],
+    e2: &[i32],
+    coins: &[u8],
+    reply: &mut [u8],
+    own: &mut [u8],
+    peer: &mut [u8],
+) -> BenchAnswer
+    requires { ⌜ length (now reply) ≡ fixedOf scheme .reply ⌝ }
+    requires { ⌜ (length (now own) ≡ fixedOf scheme .key) × (length (now peer) ≡ fixedOf scheme .key) ⌝ }
+    ensures { λ r. ⌜ FromReply scheme (lent.reply opening a s1 e1 e2 coins) (was s) r ⌝ }
+{
+    let v = exchange::reply(scheme.number(), opening, a, s1, e1, e2, coins, reply, own);
+    match v {
+        ReplyAnswer::Refused(r) => BenchAnswer::Refused(r),
+        ReplyAnswer::Done(_) => from_finish(scheme, reply, s, own, peer),
+    }
+}
+
+// From Offer on: the opening message into opening.
+fn from_offer(
+    scheme: Scheme,
+    a: &[u32],
+    s: &[i32],
+    e: &[i32],
+    seed: &[u8],
+    s1: &[i32],
+    e1: &[i32],
+    e2: &[i32],
+    coins: &[u8],
+    opening: &mut [u8],
+    reply: &mut [u8],
+    own: &mut [u8],
+    peer: &mut [u8],
+) -> BenchAnswer
+    requires { ⌜ (length (now opening) ≡ fixedOf scheme .opening) × (length (now reply) ≡ fixedOf scheme .reply) ⌝ }
+    requires { ⌜ (length (now own) ≡ fixedOf scheme .key) × (length (now peer) ≡ fixedOf scheme .key) ⌝ }
+    ensures { λ r. ⌜ FromOffer scheme (bench a s e seed s1 e1 e2 coins) r ⌝ }
+{
+    let v = exchange::offer(scheme.number(), a, s, e, seed, opening);
+    match v {
+        Answer::Refused(r) => BenchAnswer::Refused(r),
+        Answer::Done(_) => from_reply(scheme, opening, a, s, s1, e1, e2, coins, reply, own, peer),
+    }
+}
+
+// All of it, with room for messages and keys, each with just the bytes that it has in the scheme.
+fn bench_in(
+    scheme: Scheme,
+    a: &[u32],
+    s: &[i32],
+    e: &[i32],
+    seed: &[u8],
+    s1: &[i32],
+    e1: &[i32],
+    e2: &[i32],
+    coins: &[u8],
+) -> BenchAnswer
+    ensures { λ r. ⌜ Benches (Is scheme) a s e seed s1 e1 e2 coins r ⌝ }
+{
+    let f = scheme.fixed();
+    let m = f.opening;
+    let n = f.reply;
+    let k = f.key;
+    let mut opening = [0u8; 12976];
+    let mut reply = [0u8; 12968];
+    let mut own = [0u8; 128];
+    let mut peer = [0u8; 128];
+    from_offer(
+        scheme,
+        a,
+        s,
+        e,
+        seed,
+        s1,
+        e1,
+        e2,
+        coins,
+        &mut opening[..m],
+        &mut reply[..n],
+        &mut own[..k],
+        &mut peer[..k],
+    )
+}
+
+// Bench: both ends on lent secrets, from the public numbers a, the opener's s, e and seed, and the replier's s', e', e'' and coins.
+pub fn bench(
+    scheme: u32,
+    a: &[u32],
+    s: &[i32],
+    e: &[i32],
+    seed: &[u8],
+    s1: &[i32],
+    e1: &[i32],
+    e2: &[i32],
+    coins: &[u8],
+) -> BenchAnswer
+    ensures { λ r. ⌜ Benches (schemeOf scheme) a s e seed s1 e1 e2 coins r ⌝ }
+{
+    let Named::Is(known) = schemes::scheme_of(scheme) else {
+        return BenchAnswer::Refused(Refusal::NoScheme);
+    };
+    bench_in(known, a, s, e, seed, s1, e1, e2, coins)
+}
