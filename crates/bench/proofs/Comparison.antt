@@ -114,4 +114,4 @@ differs-few Unknown x = omega arith
 differs-few (Is c) x = omega (arith, within (keyOf c (replying c x)) (peerKeyOf c (finishing c x)), key-length c (replying c x), sound c .keys)
 
 pub differ-few : {n : Named} {x : Bench} {k p d : ℕ} → Benched n x k p d → d ≤ 1024
-differ-few {n} {x} b = rw (b .differs .gives) (few _ (differs-few n x))
+differ-few {n} {x} b = rw (b .differs .gives) (few (benchTests n x) (differs-few n x))

@@ -18,12 +18,11 @@ use Rattle.front.proofs.Laws.{some, both, room-passes, message-passes}
 use Rattle.front.proofs.Promise.{same-refusal}
 use Rattle.front.proofs.Number.{and, passes, lengths, publics, secrets}
 use Rattle.ends.proofs.Ranges.{offered-counted}
-use Rattle.wire.proofs.Travel.{opened-back}
-use Rattle.exchange.specs.Offer.{Offer, offerIn, offerTests, openingOf}
+use Rattle.exchange.specs.Offer.{Offer, offerIn, offerTests}
 use Rattle.exchange.specs.Reply.{Reply, replyTests, replySizes, replyRest, replySecrets, openedOf}
 use Rattle.exchange.proofs.Offering.{offer-opens}
 use Rattle.agreement.specs.Run.{offering, replying}
-use Rattle.agreement.proofs.Tests.{ranged-by, finish-passes}
+use Rattle.agreement.proofs.Tests.{ranged-by, finish-passes, opened-is}
 use Rattle.bench.specs.Bench.{Bench, benchIn, benchTests, number, place, differ}
 use Rattle.bench.specs.Shown.{OneBench, NeverThreeOrFive, FinishPasses}
 use Rattle.bench.specs.declared.BenchAnswer.{BenchAnswer}
@@ -81,10 +80,9 @@ offer-in c x =
 -- the numbers of an opening that Offer has made are below q
 opened-passes : (c : Scheme) (x : Bench) → offerTests (Is c) (offering x) (fixedOf c .opening) ≡ Pass
     → messageIn (fixedOf c .q) (openedOf c (replying c x)) ≡ Pass
-unfolding offerTests openedOf openingOf
+unfolding offerTests
 opened-passes c x e =
-    let b = offered-counted c (x .a) (x .s) (x .e) in
-    rw (opened-back c (x .seed) (offer-opens c (offering x) _ e .0 .seed-long) b) (message-passes (b .below))
+    rw (opened-is c x (offer-opens c (offering x) _ e .0 .seed-long)) (message-passes (offered-counted c (x .a) (x .s) (x .e) .below))
 
 reply-in : (c : Scheme) (x : Reply) → messageIn (fixedOf c .q) (openedOf c x) ≡ Pass
     → Inside (numberIn (replyTests (Is c) x (fixedOf c .reply) (fixedOf c .key)))
