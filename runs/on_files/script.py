@@ -72,7 +72,7 @@ def script(both):
     # without the kit and without cargo
     tools = both.name("tools")
     os.mkdir(tools)
-    for tool in ("bash", "dirname", "readlink"):
+    for tool in ("bash", "dirname", "readlink", "find"):
         os.symlink(shutil.which(tool), os.path.join(tools, tool))
     given = ["finish", "9", "none", "none", both.name("KEY1")]
     done = run([shutil.which("bash"), both.box, *given], env={"PATH": tools})
@@ -89,6 +89,10 @@ def script(both):
     for name in ("c", "include"):
         shutil.copytree(os.path.join(root, name), os.path.join(tree, name))
     made = library(os.path.join(root, "crates.txt"))
+    for name in ("rust/src", "cli/src"):
+        os.makedirs(os.path.join(tree, name))
+    for name in ("rust/build.rs", "cli/Cargo.toml"):
+        write(os.path.join(tree, name), b"")
     for name in made:
         os.makedirs(os.path.join(tree, "crates", name, "src"))
         write(os.path.join(tree, "crates", name, "src/lib.rt"), b"")
