@@ -18,8 +18,8 @@ use Rattle.ends.proofs.Ranges.{offered-counted, replied-counted, mixed-counted}
 use Rattle.ends.proofs.Settling.{hints-counted}
 use Rattle.wire.specs.Wire.{hintsIn, coinsIn}
 use Rattle.wire.proofs.Travel.{opened-back, replied-back, hints-back}
-use Rattle.exchange.specs.Offer.{offerIn, offerTests, openingOf}
-use Rattle.exchange.specs.Reply.{replyOf, replySizes, openedOf, replySecrets, replyRest, replyTests, messageFrom, messageOf}
+use Rattle.exchange.specs.Offer.{offerLengths, offerIn, offerTests, openingOf}
+use Rattle.exchange.specs.Reply.{replyOf, replyLengths, replySizes, openedOf, replySecrets, replyRest, replyTests, messageFrom, messageOf}
 use Rattle.exchange.specs.Finish.{finishSizes, repliedOf, finishRest, finishTests}
 use Rattle.exchange.proofs.Offering.{opening-long, offer-opens}
 use Rattle.exchange.proofs.Replying.{message-length, reply-sized, secrets-small}
@@ -67,7 +67,7 @@ module _ (c : Scheme) (x : Run) where
 
   module _ (h : Ranged c x) where
     pub offer-passes : offerTests (Is c) (offering x) (fixedOf c .opening) ≡ Pass
-    unfolding offerTests offerIn
+    unfolding offerTests offerIn offerLengths
     offer-passes =
         all-pass
         (all-pass
@@ -81,7 +81,7 @@ module _ (c : Scheme) (x : Run) where
         (within-passes (h .noise .within))
 
     sizes-pass : replySizes c (replying c x) (fixedOf c .reply) (fixedOf c .key) ≡ Pass
-    unfolding replySizes
+    unfolding replySizes replyLengths
     sizes-pass =
         all-pass
         (all-pass

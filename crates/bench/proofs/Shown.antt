@@ -18,8 +18,8 @@ use Rattle.front.proofs.Laws.{some, both, room-passes, message-passes}
 use Rattle.front.proofs.Promise.{same-refusal}
 use Rattle.front.proofs.Number.{and, passes, lengths, publics, secrets}
 use Rattle.ends.proofs.Ranges.{offered-counted}
-use Rattle.exchange.specs.Offer.{Offer, offerIn, offerTests}
-use Rattle.exchange.specs.Reply.{Reply, replyTests, replySizes, replyRest, replySecrets, openedOf}
+use Rattle.exchange.specs.Offer.{Offer, offerLengths, offerIn, offerTests}
+use Rattle.exchange.specs.Reply.{Reply, replyTests, replyLengths, replySizes, replyRest, replySecrets, openedOf}
 use Rattle.exchange.proofs.Offering.{offer-opens}
 use Rattle.agreement.specs.Run.{offering, replying}
 use Rattle.agreement.proofs.Tests.{ranged-by, finish-passes, opened-is}
@@ -66,7 +66,7 @@ secret-in : (B : ℕ) (s : List ℤ) → Inside (numberIn (secretsIn B s))
 secret-in B s = secrets Inside zero-in (λ e. omega arith, λ e. omega arith) B s
 
 offer-in : (c : Scheme) (x : Offer) → Inside (numberIn (offerTests (Is c) x (fixedOf c .opening)))
-unfolding offerTests offerIn
+unfolding offerTests offerIn offerLengths
 offer-in c x =
     let l = length-in in
     and Inside _ _
@@ -86,7 +86,7 @@ opened-passes c x e =
 
 reply-in : (c : Scheme) (x : Reply) → messageIn (fixedOf c .q) (openedOf c x) ≡ Pass
     → Inside (numberIn (replyTests (Is c) x (fixedOf c .reply) (fixedOf c .key)))
-unfolding replyTests replySizes replyRest replySecrets
+unfolding replyTests replySizes replyLengths replyRest replySecrets
 reply-in c x o =
     let l = length-in in
     and Inside _ _

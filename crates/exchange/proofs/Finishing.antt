@@ -4,7 +4,7 @@
 --   finish-sized        what passed sizes say: the lengths, and room for the key
 --   finish-sizes-failed, finish-rest-decides   its verdict by the test that decides
 --   finish-unknown      its tests where the number names no scheme
---   finish-refused      its promise after a refusal
+--   finish-refused      its promise after a refusal; finish-named: under another name and room
 use mathlib.Core.Path.{_≡_, refl, _∙_, sym}
 use mathlib.Core.List.{List}
 use Prim.Native.Nat.{ℕ, _≤_}
@@ -64,3 +64,7 @@ finish-unknown x k e = rw e
 pub finish-refused : {c : Named} {x : Finish} {k : ℕ} {r : Refusal} {key : List ℕ} → finishTests c x k ≡ Fail r → key ≡ replicate k 0
     → Finished c x (numberOf r) (placeOf r) k 0 key
 finish-refused e o = record { told = told-failed e; keys = wrote-failed e o }
+
+pub finish-named : {c d : Named} {x : Finish} {number place m n count : ℕ} {key : List ℕ} → c ≡ d → m ≡ n → Finished d x number place m count key
+    → Finished c x number place n count key
+finish-named e f p = rw (e, ← f) p

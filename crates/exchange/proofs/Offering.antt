@@ -2,7 +2,7 @@
 --   offer-opens      what passed tests say: the inputs are in range, and there is room for the opening
 --   opening-long     an opening is as long as the scheme says
 --   offer-unknown    its tests where the number names no scheme
---   offer-refused    its promise after a refusal
+--   offer-refused    its promise after a refusal; offer-named: under another name and room
 use mathlib.Core.Path.{_≡_}
 use mathlib.Core.List.{List}
 use Prim.Native.Nat.{ℕ, _≤_}
@@ -21,7 +21,7 @@ use Rattle.front.proofs.Laws.{both, length-passed, room-passed, publics-passed,
 use Rattle.front.proofs.Promise.{told-failed, wrote-failed}
 use Rattle.ends.proofs.Ranges.{offered-counted}
 use Rattle.wire.proofs.Travel.{opening-length, numbers-long}
-use Rattle.exchange.specs.Offer.{Offer, offerIn, offerTests, openingOf, Offered}
+use Rattle.exchange.specs.Offer.{Offer, offerLengths, offerIn, offerTests, openingOf, Offered}
 use Rattle.exchange.specs.Inside.{Opens}
 
 module _ (c : Scheme) (x : Offer) where
@@ -30,7 +30,7 @@ module _ (c : Scheme) (x : Offer) where
   opening-long l = opening-length c (x .seed) _ l (numbers-long c (offered-counted c (x .a) (x .s) (x .e)))
 
   pub offer-opens : (n : ℕ) → offerIn c x n ≡ Pass → Opens c x × (fixedOf c .opening ≤ n)
-  unfolding offerIn
+  unfolding offerIn offerLengths
   offer-opens n t =
       let noise = both _ _ t in
       let secret = both _ _ (noise .0) in
@@ -55,3 +55,7 @@ offer-unknown x n e = rw e
 pub offer-refused : {c : Named} {x : Offer} {n : ℕ} {r : Refusal} {message : List ℕ} → offerTests c x n ≡ Fail r → message ≡ replicate n 0
     → Offered c x (numberOf r) (placeOf r) n 0 message
 offer-refused e o = record { told = told-failed e; messages = wrote-failed e o }
+
+pub offer-named : {c d : Named} {x : Offer} {number place m n count : ℕ} {message : List ℕ} → c ≡ d → m ≡ n → Offered d x number place m count message
+    → Offered c x number place n count message
+offer-named e f p = rw (e, ← f) p

@@ -31,7 +31,7 @@ use Rattle.ends.proofs.Ranges.{replied-counted, mixed-counted}
 use Rattle.ends.proofs.Settling.{hints-counted, keys-counted}
 use Rattle.wire.specs.Wire.{coinsIn}
 use Rattle.wire.proofs.Travel.{key-long, reply-length}
-use Rattle.exchange.specs.Reply.{Reply, replySizes, openedOf, replySecrets, replyRest, replyTests, messageFrom, keyFrom, messageOf, keyOf, Replied}
+use Rattle.exchange.specs.Reply.{Reply, replyLengths, replySizes, openedOf, replySecrets, replyRest, replyTests, messageFrom, keyFrom, messageOf, keyOf, Replied}
 
 module _ (c : Scheme) (b : List ℕ) (s' e'' : List ℤ) (coins : List ℕ) where
   pub key-from-length : length (keyFrom c b s' e'' coins) ≡ fixedOf c .key
@@ -75,7 +75,7 @@ pub record Sized (c : Scheme) (x : Reply) (n k : ℕ) : Type 0 where
 
 module _ (c : Scheme) (x : Reply) where
   pub reply-sized : (n k : ℕ) → replySizes c x n k ≡ Pass → Sized c x n k
-  unfolding replySizes
+  unfolding replySizes replyLengths
   reply-sized n k t =
       let public = both _ _ t in
       let key = both _ _ (public .0) in

@@ -17,7 +17,7 @@ use Rattle.front.proofs.Promise.{same-refusal, same-answer}
 use Rattle.front.proofs.Number.{and, passes, lengths, rooms, publics, secrets}
 use Rattle.wire.specs.Wire.{numbersIn}
 use Rattle.wire.proofs.Travel.{opening-again, reply-again}
-use Rattle.exchange.specs.Reply.{replyTests, replySizes, replyRest, replySecrets, openedOf}
+use Rattle.exchange.specs.Reply.{replyTests, replyLengths, replySizes, replyRest, replySecrets, openedOf}
 use Rattle.exchange.specs.Reply as reply
 use Rattle.exchange.specs.Finish.{finishTests, finishSizes, finishRest, repliedOf}
 use Rattle.exchange.specs.Finish as finish
@@ -87,7 +87,7 @@ abbrev Other : ℕ → Type 0
 Other k = k ≡ 5 → ⊥
 
 pub never-five : NeverFive
-unfolding replyTests replySizes replyRest replySecrets openedOf finishTests finishSizes finishRest repliedOf
+unfolding replyTests replySizes replyLengths replyRest replySecrets openedOf finishTests finishSizes finishRest repliedOf
 never-five c d =
     let l = lengths Other (λ e. omega arith) (λ e. omega arith) in
     let m = rooms Other (λ e. omega arith) (λ e. omega arith) in

@@ -1,6 +1,6 @@
 -- What Offer promises: 01, "The calls", "Bytes on the wire" and "Refusal numbers and their order".
 --   Offer                    what it is lent: public a, secret s, noise e, seed
---   offerIn c x n, offerTests   its tests in 01's order, with room for n bytes: in a scheme, and by the scheme's number
+--   offerLengths c x, offerIn c x n, offerTests   its tests in 01's order, with room for n bytes: of lengths; all of them in a scheme, and by its number
 --   openingOf c x, offerMessage   the opening message: the seed, and b = as + e packed
 --   Offered                  its promise: what it tells, and what its output holds
 --   Offers                   the same of a call: the slices that it is lent, and its answer
@@ -30,10 +30,14 @@ pub record Offer : Type 0 where
   pub e : List ℤ
   pub seed : List ℕ
 
-unfoldable pub offerIn : Scheme → Offer → ℕ → Verdict
-offerIn c x n =
+unfoldable pub offerLengths : Scheme → Offer → Verdict
+offerLengths c x =
     lengthIs (length (x .a)) (fixedOf c .public) then lengthIs (length (x .s)) (fixedOf c .secret) then lengthIs (length (x .e)) (fixedOf c .noise)
     then lengthIs (length (x .seed)) (fixedOf c .seed)
+
+unfoldable pub offerIn : Scheme → Offer → ℕ → Verdict
+offerIn c x n =
+    offerLengths c x
     then roomFor n (fixedOf c .opening)
     then publicsIn (fixedOf c .q) (x .a)
     then secretsIn (fixedOf c .largest) (x .s) then secretsIn (fixedOf c .largest) (x .e)

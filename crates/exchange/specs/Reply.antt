@@ -1,7 +1,7 @@
 -- What Reply promises: 01, "The calls", "Bytes on the wire" and "Refusal numbers and their order".
 --   Reply                     what it is lent: opening message, public a, s', e', e'', coins
---   replySizes c x n k, replyRest c x, replyTests   its tests in 01's order, with room for n bytes of message and k of key: of lengths, rooms and public
---                             numbers; of the opening's numbers and the secrets; and all of them, by the scheme's number
+--   replyLengths c x, replySizes c x n k, replyRest c x, replyTests   its tests in 01's order, with room for n bytes of message and k of key: of lengths;
+--                             of these, rooms and public numbers; of the opening's numbers and the secrets; and all of them, by the scheme's number
 --   openedOf c x              b, the numbers of the opening
 --   messageFrom, keyFrom      message and key, of b: u = as' + e' packed, and the hints of v = bs' + e''; the published bits of v
 --   messageOf, keyOf c x      the same of the opening; replyMessage, replyKey: by the scheme's number
@@ -37,10 +37,14 @@ pub record Reply : Type 0 where
   pub e'' : List ℤ
   pub coins : List ℕ
 
-unfoldable pub replySizes : Scheme → Reply → ℕ → ℕ → Verdict
-replySizes c x n k =
+unfoldable pub replyLengths : Scheme → Reply → Verdict
+replyLengths c x =
     lengthIs (length (x .opening)) (fixedOf c .opening) then lengthIs (length (x .a)) (fixedOf c .public) then lengthIs (length (x .s')) (fixedOf c .secret)
     then lengthIs (length (x .e')) (fixedOf c .noise) then lengthIs (length (x .e'')) (fixedOf c .mixed) then lengthIs (length (x .coins)) (fixedOf c .coins)
+
+unfoldable pub replySizes : Scheme → Reply → ℕ → ℕ → Verdict
+replySizes c x n k =
+    replyLengths c x
     then roomFor n (fixedOf c .reply) then roomFor k (fixedOf c .key)
     then publicsIn (fixedOf c .q) (x .a)
 

@@ -1,6 +1,9 @@
 // Offer, Reply and Finish: the calls of 01 on lent slices. None has a `requires`: each ends with an answer or a numbered refusal, given exactly when its
 // condition holds; after a refusal every output is zero from end to end, and after a success what lies behind the answer is zero.
+ghost use mathlib.Core.Path.{_≡_};
+ghost use lib.ListN.{length, replicate};
 ghost use Rattle.schemes.specs.Schemes.{schemeOf};
+ghost use Rattle.lists.specs.Lent.{left, room};
 ghost use Rattle.exchange.specs.Offer.{Offers};
 ghost use Rattle.exchange.specs.Reply.{Replies};
 ghost use Rattle.exchange.specs.Finish.{Finishes};
@@ -35,6 +38,15 @@ pub enum FinishAnswer {
     Refused(Refusal),
 }
 
+// The scheme that a number names. The output is zeroed first, so that whatever ends a call leaves zeros.
+fn named(scheme: u32, out: &mut [u8]) -> Named
+    ensures { λ r. ⌜ (r ≡ schemeOf scheme) × (left out ≡ replicate (room out) 0) ⌝ }
+    ensures { λ _. ⌜ left out ≡ replicate (length (left out)) 0 ⌝ }
+{
+    lists::zero_bytes(out);
+    schemes::scheme_of(scheme)
+}
+
 // Offer: the opening message, from the public numbers a, the secret s, the noise e and the seed.
 pub fn offer(
     scheme: u32,
@@ -46,8 +58,7 @@ pub fn offer(
 ) -> Answer
     ensures { λ r. ⌜ Offers (schemeOf scheme) a s e seed message r ⌝ }
 {
-    lists::zero_bytes(message);
-    let Named::Is(known) = schemes::scheme_of(scheme) else {
+    let Named::Is(known) = named(scheme, message) else {
         return Answer::Refused(Refusal::NoScheme);
     };
     opener::offer_in(known, a, s, e, seed, message)
@@ -78,8 +89,7 @@ pub fn reply(
 pub fn finish(scheme: u32, reply: &[u8], s: &[i32], key: &mut [u8]) -> FinishAnswer
     ensures { λ r. ⌜ Finishes (schemeOf scheme) reply s key r ⌝ }
 {
-    lists::zero_bytes(key);
-    let Named::Is(known) = schemes::scheme_of(scheme) else {
+    let Named::Is(known) = named(scheme, key) else {
         return FinishAnswer::Refused(Refusal::NoScheme);
     };
     initiator::finish_in(known, reply, s, key)

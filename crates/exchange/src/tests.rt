@@ -1,11 +1,21 @@
 // The tests of Offer, Reply and Finish, in 01's order.
 ghost use mathlib.Core.Path.{_≡_};
 ghost use Rattle.lists.specs.Lent.{was};
-ghost use Rattle.exchange.specs.Offer.{offer, offerIn};
-ghost use Rattle.exchange.specs.Reply.{reply, replySizes, replySecrets};
+ghost use Rattle.exchange.specs.Offer.{offer, offerLengths, offerIn};
+ghost use Rattle.exchange.specs.Reply.{reply, replyLengths, replySizes, replySecrets};
 ghost use Rattle.exchange.specs.Finish.{finish, finishSizes};
 use front::Verdict;
 use schemes::Scheme;
+
+fn offer_lengths(scheme: Scheme, a: &[u32], s: &[i32], e: &[i32], seed: &[u8]) -> Verdict
+    ensures { λ r. ⌜ r ≡ offerLengths scheme (offer a s e seed) ⌝ }
+{
+    let f = scheme.fixed();
+    let v = front::length_is(Verdict::Pass, a.len(), f.public);
+    let v = front::length_is(v, s.len(), f.secret);
+    let v = front::length_is(v, e.len(), f.noise);
+    front::length_is(v, seed.len(), f.seed)
+}
 
 pub(crate) fn offer(
     scheme: Scheme,
@@ -18,14 +28,31 @@ pub(crate) fn offer(
     ensures { λ r. ⌜ r ≡ offerIn scheme (offer a s e seed) room ⌝ }
 {
     let f = scheme.fixed();
-    let v = front::length_is(Verdict::Pass, a.len(), f.public);
-    let v = front::length_is(v, s.len(), f.secret);
-    let v = front::length_is(v, e.len(), f.noise);
-    let v = front::length_is(v, seed.len(), f.seed);
+    let v = offer_lengths(scheme, a, s, e, seed);
     let v = front::room_for(v, room, f.opening);
     let v = front::publics_in(v, f.q, a);
     let v = front::secrets_in(v, f.largest, s);
     front::secrets_in(v, f.largest, e)
+}
+
+fn reply_lengths(
+    scheme: Scheme,
+    opening: &[u8],
+    a: &[u32],
+    s1: &[i32],
+    e1: &[i32],
+    e2: &[i32],
+    coins: &[u8],
+) -> Verdict
+    ensures { λ r. ⌜ r ≡ replyLengths scheme (reply opening a s1 e1 e2 coins) ⌝ }
+{
+    let f = scheme.fixed();
+    let v = front::length_is(Verdict::Pass, opening.len(), f.opening);
+    let v = front::length_is(v, a.len(), f.public);
+    let v = front::length_is(v, s1.len(), f.secret);
+    let v = front::length_is(v, e1.len(), f.noise);
+    let v = front::length_is(v, e2.len(), f.mixed);
+    front::length_is(v, coins.len(), f.coins)
 }
 
 pub(crate) fn reply_sizes(
@@ -42,12 +69,7 @@ pub(crate) fn reply_sizes(
     ensures { λ r. ⌜ r ≡ replySizes scheme (reply opening a s1 e1 e2 coins) room keyroom ⌝ }
 {
     let f = scheme.fixed();
-    let v = front::length_is(Verdict::Pass, opening.len(), f.opening);
-    let v = front::length_is(v, a.len(), f.public);
-    let v = front::length_is(v, s1.len(), f.secret);
-    let v = front::length_is(v, e1.len(), f.noise);
-    let v = front::length_is(v, e2.len(), f.mixed);
-    let v = front::length_is(v, coins.len(), f.coins);
+    let v = reply_lengths(scheme, opening, a, s1, e1, e2, coins);
     let v = front::room_for(v, room, f.reply);
     let v = front::room_for(v, keyroom, f.key);
     front::publics_in(v, f.q, a)

@@ -111,7 +111,8 @@ pub extern "C" fn wim_reply(
     keyed: &mut u64,
 ) -> u32
     ensures { λ r. ⌜
-        Replied (schemeOf scheme) (reply opening a s1 e1 e2 coins) r (left place) (room message) (left written) (left message) (room key) (left keyed) (left key)
+        Replied (schemeOf scheme) (reply opening a s1 e1 e2 coins)
+        r (left place) (room message) (left written) (left message) (room key) (left keyed) (left key)
         ⌝ }
 {
     let answer = exchange::reply(scheme, opening, a, s1, e1, e2, coins, message, key);

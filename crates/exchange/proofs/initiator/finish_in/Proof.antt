@@ -20,13 +20,4 @@ returns c =
     finish-refused (finish-sizes-failed _ _ _ (t .finish-sizes .ensures) (v .v .given .1)) (b .pre)
 
 pub finish-in-spec : {M : Type 1} → statement M
-finish-in-spec =
-    tie.close
-    (tie.spec
-    (λ c κs. search needs)
-    (search needs)
-    (search needs)
-    finish-sized-requires
-    returns
-    (search needs)
-    (λ c. search needs))
+finish-in-spec = tie.close (tie.spec (λ c κs. search needs) (search needs) (search needs) finish-sized-requires returns (search needs) (λ c. search needs))

@@ -21,11 +21,4 @@ with-reply-requires : tie.Need-with-reply-requires
 with-reply-requires c κs = let b : tie.Start = search needs in (b .pre .0, buffer-long (b .args .n) 6912 (few b) ∙ b .pre .1)
 
 pub key-in-spec : {M : Type 1} → statement M
-key-in-spec =
-    tie.close
-    (tie.spec
-    array-borrow-prefix-u
-    slice-aggregate-with-reply
-    with-reply-requires
-    (search needs)
-    (λ c. search needs))
+key-in-spec = tie.close (tie.spec array-borrow-prefix-u slice-aggregate-with-reply with-reply-requires (search needs) (λ c. search needs))

@@ -43,14 +43,4 @@ returns-2 c =
     (sym (o .enum-told .given .1) ∙ first (rw (f .fixed .ensures) at (t .secrets-in .ensures)) refl, w .write .ensures)
 
 pub with-secret-spec : {M : Type 1} → statement M
-with-secret-spec =
-    tie.close
-    (tie.spec
-    (λ c κs. search needs)
-    (λ c κs. search needs)
-    (search needs)
-    (search needs)
-    write-requires
-    returns
-    (search needs)
-    returns-2)
+with-secret-spec = tie.close (tie.spec (λ c κs. search needs) (λ c κs. search needs) (search needs) (search needs) write-requires returns (search needs) returns-2)

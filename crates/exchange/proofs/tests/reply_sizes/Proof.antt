@@ -9,38 +9,11 @@ use Rattle.exchange.proofs.tests.reply_sizes.Tie as tie
 returns : tie.Need-returns
 unfolding replySizes
 returns c =
-    let f : tie.After-fixed = search needs in
-    let l1 : tie.After-length-is = search needs in
-    let l2 : tie.After-length-is2 = search needs in
-    let l3 : tie.After-length-is3 = search needs in
-    let l4 : tie.After-length-is4 = search needs in
-    let l5 : tie.After-length-is5 = search needs in
-    let l6 : tie.After-length-is6 = search needs in
-    let m : tie.After-room-for = search needs in
     let k : tie.After-room-for2 = search needs in
-    rw (f .fixed .ensures) at
-    (also (c .publics-in .ensures)
-    (also (k .room-for2 .ensures)
-    (also (m .room-for .ensures)
-    (also (l6 .length-is6 .ensures)
-    (also (l5 .length-is5 .ensures)
-    (also (l4 .length-is4 .ensures)
-    (also (l3 .length-is3 .ensures)
-    (also (l2 .length-is2 .ensures)
-    (first (l1 .length-is .ensures) refl) refl) refl) refl) refl) refl) refl) refl) refl)
+    let m : tie.After-room-for = search needs in
+    let l : tie.After-reply-lengths = search needs in
+    let f : tie.After-fixed = search needs in
+    rw (f .fixed .ensures) at (also (c .publics-in .ensures) (also (k .room-for2 .ensures) (also (m .room-for .ensures) (l .reply-lengths .ensures) refl) refl) refl)
 
 pub reply-sizes-spec : {M : Type 1} → statement M
-reply-sizes-spec =
-    tie.close
-    (tie.spec
-    (λ c κs. search needs)
-    (λ c κs. search needs)
-    (λ c κs. search needs)
-    (λ c κs. search needs)
-    (λ c κs. search needs)
-    (λ c κs. search needs)
-    (λ c κs. search needs)
-    (λ c κs. search needs)
-    (λ c κs. search needs)
-    (λ c κs. search needs)
-    returns)
+reply-sizes-spec = tie.close (tie.spec (λ c κs. search needs) (λ c κs. search needs) (λ c κs. search needs) (λ c κs. search needs) (λ c κs. search needs) returns)
