@@ -29,7 +29,7 @@ bit-small : (h x : Four) → bitOf h x < 2
 unfolding bitOf
 bit-small h x = go (leb (sumOf h x) (8 * q))
   where
-    go : (t : Bool) → cond t 0 1 < 2
+    go : (t : Bool) → cond t 1 0 < 2
     go true = omega arith
     go false = omega arith
 
@@ -67,14 +67,6 @@ module _ (cs vs : List ℕ) where
   unfolding hintsOf
   hints-below = below-tab 4 1024 _ (omega arith) (λ k l. entry-small _ (hint-small _ _) (k / 256))
 
-  pub keys-below : Below 2 (keysOf cs vs)
-  unfolding keysOf
-  keys-below = below-tab 2 256 _ (omega arith) (λ k l. bit-small _ _)
-
-  pub peers-below : Below 2 (peersOf cs vs)
-  unfolding peersOf
-  peers-below = below-tab 2 256 _ (omega arith) (λ k l. bit-small _ _)
-
   -- ---- the hints, group by group
 
   -- what stands at k
@@ -103,6 +95,14 @@ module _ (cs vs : List ℕ) where
   pub own-keys : keysOf cs vs ≡ peersOf (hintsOf cs vs) vs
   unfolding keysOf peersOf
   own-keys = tab-ext 256 _ _ (λ i l. ap (λ (h : Four). bitOf h (groupOf vs i)) (sym (hints-group i l)))
+
+  pub keys-below : Below 2 (keysOf cs vs)
+  unfolding keysOf
+  keys-below = below-tab 2 256 _ (omega arith) (λ k l. bit-small _ _)
+
+  pub peers-below : Below 2 (peersOf cs vs)
+  unfolding peersOf
+  peers-below = below-tab 2 256 _ (omega arith) (λ k l. bit-small _ _)
 
 pub groups-agree : EveryGroup
 unfolding keysOf peersOf

@@ -1,10 +1,10 @@
 -- NewHope's margin on a group of four.
---   margin       8 times the distance and the replier's own 2q + 16 within 8q: the bit is 1 exactly where p3 is 2 or 3
+--   margin       8 times the distance and the replier's own 2q + 16 within 8q: the bit is 0 exactly where p3 is 2 or 3
 --   agreement    so both ends compute the same bit
 --   published    which is the published one
 use mathlib.Core.Path.{_≡_, refl, _∙_, sym, ap}
 use mathlib.Core.Bool.{Bool, true, false, cond}
-use Prim.Native.Nat.{ℕ, zero, suc, _+_, _*_, _/_, _%_, _<_, _≤_}
+use Prim.Native.Nat.{ℕ, zero, suc, _+_, _*_, _-_, _/_, _%_, _<_, _≤_}
 use native.Mathlib.Omega.{arith}
 use lib.Dec.{ltb}
 use lib.IntN.{pos, _-ℤ_, +ℤ-invr}
@@ -34,16 +34,20 @@ module _ (b : ℕ) (v : Four) where
       go true = up-five b x hb hx
       go false = down-five b x hb hx
 
-  -- the published bit: 1 where p3 is 2 or 3
-  key : ℕ
-  key = pOf b v (v .e3) / 2 % 2
+  -- 1 where p3 is 2 or 3; of p3 the hint has no more than whether it is odd
+  half : ℕ
+  half = pOf b v (v .e3) / 2 % 2
 
-  -- what the hint names, but for 4 times the bit
+  -- the published bit: 0 there
+  key : ℕ
+  key = 1 - half
+
+  -- what the hint names, but for 4 times the half
   c-of : ℕ → ℕ
   c-of x = 2 * pOf b v x + kOf b v
 
-  hinted : (x y : ℕ) → termOf (2 * lessOf b v x + lastOf b v) y ≡ termOf (c-of x + 4 * key) y
-  unfolding lessOf lastOf key c-of
+  hinted : (x y : ℕ) → termOf (2 * lessOf b v x + lastOf b v) y ≡ termOf (c-of x + 4 * half) y
+  unfolding lessOf lastOf half c-of
   hinted x y = term-same y (named (kOf b v) (pOf b v x) (pOf b v (v .e3)) two)
 
   -- the replier's four together
@@ -59,14 +63,14 @@ module _ (b : ℕ) (v : Four) where
       go false e = omega (arith, ltb-false (offsOf b v) q e, own-down b (v .e0), own-down b (v .e1), own-down b (v .e2), own-down b (v .e3))
 
   -- a term of w under the hint
-  near : key ≡ 0 → (x y : ℕ) → termOf (2 * lessOf b v x + lastOf b v) y ≤ 8 * apart q x y + termOf (c-of x) x
+  near : half ≡ 0 → (x y : ℕ) → termOf (2 * lessOf b v x + lastOf b v) y ≤ 8 * apart q x y + termOf (c-of x) x
   near e x y =
-      let c : termOf (c-of x + 4 * key) y ≡ termOf (c-of x) y = ap (λ (c : ℕ). termOf c y) (omega arith) in
+      let c : termOf (c-of x + 4 * half) y ≡ termOf (c-of x) y = ap (λ (c : ℕ). termOf c y) (omega arith) in
       omega (arith, hinted x y, moved (c-of x) x y)
 
-  far : key ≡ 1 → (x y : ℕ) → 4 * q ≤ 8 * apart q x y + termOf (c-of x) x + termOf (2 * lessOf b v x + lastOf b v) y
+  far : half ≡ 1 → (x y : ℕ) → 4 * q ≤ 8 * apart q x y + termOf (c-of x) x + termOf (2 * lessOf b v x + lastOf b v) y
   far e x y =
-      let c : termOf (c-of x + 4 * key) y ≡ termOf (c-of x + 4) y = ap (λ (c : ℕ). termOf c y) (omega arith) in
+      let c : termOf (c-of x + 4 * half) y ≡ termOf (c-of x + 4) y = ap (λ (c : ℕ). termOf c y) (omega arith) in
       omega (arith, hinted x y, opposite (c-of x) y, moved (c-of x) x y)
 
   -- the last entry's difference is 0
@@ -76,15 +80,15 @@ module _ (b : ℕ) (v : Four) where
       let e : residue 4 (pos (pOf b v (v .e3)) -ℤ pos (pOf b v (v .e3))) ≡ 0 = ap (residue 4) (+ℤ-invr (pos (pOf b v (v .e3)))) in
       ap (λ (c : ℕ). termOf c y) (omega arith)
 
-  key-two : key < 2
-  unfolding key
-  key-two = omega arith
+  half-two : half < 2
+  unfolding half
+  half-two = omega arith
 
   margin : b < 2 → (w : Four) → 8 * apartOf v w + (2 * q + 16) ≤ 8 * q → bitOf (hintOf b v) w ≡ key
-  unfolding bitOf sumOf hintOf apartOf
-  margin hb w d = go key refl key-two
+  unfolding key bitOf sumOf hintOf apartOf
+  margin hb w d = go half refl half-two
     where
-      go : (n : ℕ) → key ≡ n → n < 2 → bitOf (hintOf b v) w ≡ n
+      go : (n : ℕ) → half ≡ n → n < 2 → bitOf (hintOf b v) w ≡ 1 - n
       go zero e l =
           let t : sumOf (hintOf b v) w ≤ 8 * q =
           omega (arith, total hb, last (w .e3), near e (v .e0) (w .e0), near e (v .e1) (w .e1), near e (v .e2) (w .e2), near e (v .e3) (w .e3)) in
@@ -106,8 +110,8 @@ pub agreement : Agreement
 agreement b v w hb hv hw d = margin b v hb w (omega arith) ∙ sym (replier b v hb)
 
 pub published : Published
-unfolding key
+unfolding key half
 published b v hb hv =
-    let e : bitOf (hintOf b v) v ≡ pOf b v (v .e3) / 2 % 2 = replier b v hb in
+    let e : bitOf (hintOf b v) v ≡ 1 - pOf b v (v .e3) / 2 % 2 = replier b v hb in
     let h : pOf b v (v .e3) < 5 = five b v hb (v .e3) (hv .s3) in
     (λ k. (omega arith, omega arith), λ k. omega arith)

@@ -18,9 +18,9 @@ margin = 9214
 abbrev pub Agreement : Type 0
 Agreement = (b : ℕ) (v w : Four) → b < 2 → Small v → Small w → apartOf v w ≤ margin → bitOf (hintOf b v) w ≡ bitOf (hintOf b v) v
 
--- 1 (far) exactly if p3 is 2 or 3
+-- 0 (far) exactly if p3 is 2 or 3
 abbrev pub Published : Type 0
-Published = (b : ℕ) (v : Four) → b < 2 → Small v → (bitOf (hintOf b v) v ≡ 1) ↔ ((2 ≤ pOf b v (v .e3)) × (pOf b v (v .e3) ≤ 3))
+Published = (b : ℕ) (v : Four) → b < 2 → Small v → (bitOf (hintOf b v) v ≡ 0) ↔ ((2 ≤ pOf b v (v .e3)) × (pOf b v (v .e3) ≤ 3))
 
 pub record Sharp : Type 0 where
   pub v : Four

@@ -1,11 +1,11 @@
--- NewHope's reconciliation: 01, "Reconciliation"; q, the size 1024 and the 256 groups are those of `schemes`.
+-- NewHope's reconciliation: 01, "Reconciliation", as amended by request d (docs/AMENDMENTS.md); q, the size 1024 and the 256 groups are those of `schemes`.
 -- A group is the entries i, i + 256, i + 512 and i + 768, with a coin bit b.
 --   upOf b x, downOf b x   P = floor((4X + q)/(2q)) and Q = floor(2X/q), where X = 2x + b
 --   offOf b x, offsOf b v  |2X - qP|, and the sum of the four
 --   kOf b v, pOf b v x     k, and the vector's entry at x: P where the four sum below q, else Q
 --   hintOf b v             (p0 - p3, p1 - p3, p2 - p3, k + 2 p3) modulo 4
 --   termOf c x             how far 8x - qc lies from the nearest multiple of 8q
---   bitOf h x              0 (near) if the four sum to at most 8q, else 1 (far): both ends' bit
+--   bitOf h x              1 (near) if the four sum to at most 8q, else 0 (far): both ends' bit
 --   apartOf v w            the four distances between v and w, summed
 --   groupOf xs i           group i of a list of 1,024 numbers
 --   hintsOf, keysOf, peersOf   over all 256 groups: hint j of group i stands at i + 256 j
@@ -65,7 +65,7 @@ sumOf h x =
     termOf (2 * h .e0 + h .e3) (x .e0) + termOf (2 * h .e1 + h .e3) (x .e1) + termOf (2 * h .e2 + h .e3) (x .e2) + termOf (h .e3) (x .e3)
 
 unfoldable pub bitOf : Four → Four → ℕ
-bitOf h x = cond (leb (sumOf h x) (8 * q)) 0 1
+bitOf h x = cond (leb (sumOf h x) (8 * q)) 1 0
 
 unfoldable pub apartOf : Four → Four → ℕ
 apartOf v w = apart q (v .e0) (w .e0) + apart q (v .e1) (w .e1) + apart q (v .e2) (w .e2) + apart q (v .e3) (w .e3)

@@ -1,4 +1,5 @@
-// NewHope's reconciliation of groups of four entries: 01, "Reconciliation"; q, the size 1024 and the 256 groups are those of `schemes`.
+// NewHope's reconciliation of groups of four entries: 01, "Reconciliation", as amended by request d (docs/AMENDMENTS.md); q, the size 1024 and the 256
+// groups are those of `schemes`.
 ghost use mathlib.Core.Path.{_≡_};
 ghost use mathlib.Core.Bool.{cond};
 ghost use Prim.Native.Nat.{_+_, _*_, _/_, _^_, _≤_, _<_};
@@ -117,7 +118,7 @@ fn term(c: u32, x: u32) -> u32
     numbers::distance32(minus(8 * x, Q * c), EIGHT)
 }
 
-// The bit of either end: 0 near, 1 far.
+// The bit of either end: 1 near, 0 far.
 pub fn bit(h: Four, x: Four) -> u32
     requires { ⌜ Hint h × Small x ⌝ }
     ensures { λ r. ⌜ r ≡ bitOf h x ⌝ }
@@ -126,7 +127,7 @@ pub fn bit(h: Four, x: Four) -> u32
     let t1 = term(2 * h.e1 + h.e3, x.e1);
     let t2 = term(2 * h.e2 + h.e3, x.e2);
     let t3 = term(h.e3, x.e3);
-    if t0 + t1 + t2 + t3 <= EIGHT { 0 } else { 1 }
+    if t0 + t1 + t2 + t3 <= EIGHT { 1 } else { 0 }
 }
 
 // Where entry j of group i stands: at i + 256 j.
