@@ -1,5 +1,6 @@
-//! 01, "Bench cards": each card's inputs and what this program gives for them.
-//! Cards that 01 marks begin with `*`, the others with `-`.
+//! 01, "Bench cards", as amended by request d of 02 (docs/AMENDMENTS.md): each
+//! card's inputs and what this program gives for them. Cards that 01 marks begin
+//! with `*`, the others with `-`.
 
 use crate::calls;
 use crate::packing::pack;

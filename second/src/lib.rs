@@ -1,4 +1,4 @@
-//! The independent second program, written from document 01 alone.
+//! The independent second program, written from documents 01 and 02 alone.
 //!
 //! It follows 01's words literally: plain sums, a search for the nearest z. It
 //! is slow on purpose.

@@ -1,4 +1,5 @@
-//! 01, "Reconciliation", under "NewHope".
+//! 01, "Reconciliation", under "NewHope", as amended by request d of 02
+//! (docs/AMENDMENTS.md).
 
 use crate::schemes::NEWHOPE;
 use crate::signed::{distance, remainder};
@@ -41,7 +42,7 @@ pub fn hint(x: [i128; 4], coin: u32) -> [u32; 4] {
     answer.map(|h| remainder(h, 4) as u32)
 }
 
-/// The key bit of one group at either end: 0 is near, 1 is far.
+/// The key bit of one group at either end: 1 is near, 0 is far.
 pub fn key(x: [i128; 4], hint: [u32; 4]) -> u32 {
     let h = hint.map(i128::from);
     let points = [
@@ -52,8 +53,8 @@ pub fn key(x: [i128; 4], hint: [u32; 4]) -> u32 {
     ];
     let sum: i128 = points.iter().map(|&point| distance(point, 8 * Q)).sum();
     if sum <= 8 * Q {
-        0
-    } else {
         1
+    } else {
+        0
     }
 }

@@ -1,4 +1,5 @@
-//! 01, "Bench cards", all of them, with the answers that 01 gives.
+//! 01, "Bench cards", all of them, with the answers that 01 gives, in NewHope
+//! those of request d (docs/AMENDMENTS.md).
 
 use second::cards::cards;
 
@@ -32,16 +33,16 @@ fn frodo() {
 
 #[test]
 fn newhope() {
-    let zero = "hint=0,0,0,0 bit=0";
+    let zero = "hint=0,0,0,0 bit=1";
     assert_eq!(card("* newhope x=0,0,0,0 coin=0"), zero);
     assert_eq!(card("* newhope x=0,0,0,0 coin=1"), zero);
     assert_eq!(
         card("* newhope x=6144,6144,6144,6144 coin=0"),
-        "hint=0,0,0,0 bit=1"
+        "hint=0,0,0,0 bit=0"
     );
     assert_eq!(
         card("* newhope x=1536,1536,1536,1536 coin=0"),
-        "hint=0,0,0,1 bit=0"
+        "hint=0,0,0,1 bit=1"
     );
 }
 

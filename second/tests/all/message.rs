@@ -84,7 +84,9 @@ fn hints_and_key_of_a_zero_exchange() {
         let inputs = Inputs::zero(s);
         let (reply, key) = inputs.reply_and_key(&inputs.opening());
         assert_eq!(reply, vec![0; s.reply_bytes()]);
-        assert_eq!(key, vec![0; s.key_bytes]);
+        // In NewHope every group is near, which gives 1.
+        let byte = if s.number == 1 { 0xFF } else { 0 };
+        assert_eq!(key, vec![byte; s.key_bytes]);
         assert_eq!(inputs.peer(&reply), key);
     }
 }
@@ -141,8 +143,8 @@ fn newhope_groups_hints_and_keys() {
     let marked: Vec<usize> = (0..1024).filter(|&i| hints[i] != 0).collect();
     assert_eq!(marked, [100 + 256 * 3]);
     assert_eq!(hints[100 + 256 * 3], 1);
-    let bits: Vec<usize> = (0..256).filter(|&i| get_bit(&key, i)).collect();
-    assert_eq!(bits, [3]);
+    let far: Vec<usize> = (0..256).filter(|&i| !get_bit(&key, i)).collect();
+    assert_eq!(far, [3]);
 }
 
 #[test]

@@ -87,16 +87,11 @@ fn reproduces(vector: &Vector) {
     let answer = calls::reply(1, &opening, &a, &s1, &e1, &e2, &coins, &mut reply, &mut key);
     assert_eq!(answer, Ok((2048, 32)));
     assert_eq!(sha3_256(&reply), vector.output_b);
-    assert_eq!(sha3_256(&inverted(&key)), vector.shared_key);
+    assert_eq!(sha3_256(&key), vector.shared_key);
 
     let mut peer = vec![0; 32];
     assert_eq!(calls::finish(1, &reply, &s, &mut peer), Ok(32));
     assert_eq!(peer, key);
-}
-
-/// Near gives 1 in the published key, 0 in 01.
-fn inverted(key: &[u8]) -> Vec<u8> {
-    key.iter().map(|byte| !byte).collect()
 }
 
 #[test]

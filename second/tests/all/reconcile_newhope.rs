@@ -12,21 +12,21 @@ fn group(generator: &mut Generator) -> [i128; 4] {
 fn the_centre_and_the_corner() {
     for coin in [0, 1] {
         assert_eq!(hint([0; 4], coin), [0; 4]);
-        assert_eq!(key([0; 4], [0; 4]), 0);
+        assert_eq!(key([0; 4], [0; 4]), 1);
     }
     assert_eq!(hint([6144; 4], 0), [0; 4]);
-    assert_eq!(key([6144; 4], [0; 4]), 1);
+    assert_eq!(key([6144; 4], [0; 4]), 0);
     assert_eq!(hint([1536; 4], 0), [0, 0, 0, 1]);
-    assert_eq!(key([1536; 4], [0, 0, 0, 1]), 0);
+    assert_eq!(key([1536; 4], [0, 0, 0, 1]), 1);
 }
 
 #[test]
-fn near_is_0_up_to_8q() {
+fn near_is_1_up_to_8q() {
     // At hint 0 the distances are 8x each: 3072 + 3072 + 3072 + 3073 is q.
-    assert_eq!(key([3072, 3072, 3072, 3073], [0; 4]), 0);
-    assert_eq!(key([3072, 3072, 3073, 3073], [0; 4]), 1);
-    assert_eq!(key([Q - 3072, 3072, Q - 3072, 3073], [0; 4]), 0);
-    assert_eq!(key([Q - 3073, 3072, Q - 3072, 3073], [0; 4]), 1);
+    assert_eq!(key([3072, 3072, 3072, 3073], [0; 4]), 1);
+    assert_eq!(key([3072, 3072, 3073, 3073], [0; 4]), 0);
+    assert_eq!(key([Q - 3072, 3072, Q - 3072, 3073], [0; 4]), 1);
+    assert_eq!(key([Q - 3073, 3072, Q - 3072, 3073], [0; 4]), 0);
 }
 
 #[test]
