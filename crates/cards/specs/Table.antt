@@ -1,4 +1,4 @@
--- The bench cards that 01 marks, as one table: 01, "Bench cards".
+-- The bench cards that 01 marks, as one table: 01, "Bench cards", as amended by request d (docs/AMENDMENTS.md).
 --   Card    one card: the inputs, then what they give
 --   Says    what a card says of the definitions
 --   table   the cards, in 01's order
@@ -65,10 +65,10 @@ table =
     ∷ frodo-peer 1536 0 1
     ∷ frodo-value 32767 1 0
     ∷ frodo-peer 0 1 0
-    ∷ newhope-group 0 0 0 0 0 0 0 0 0 0
-    ∷ newhope-group 1 0 0 0 0 0 0 0 0 0
-    ∷ newhope-group 0 6144 6144 6144 6144 0 0 0 0 1
-    ∷ newhope-group 0 1536 1536 1536 1536 0 0 0 1 0
+    ∷ newhope-group 0 0 0 0 0 0 0 0 0 1
+    ∷ newhope-group 1 0 0 0 0 0 0 0 0 1
+    ∷ newhope-group 0 6144 6144 6144 6144 0 0 0 0 0
+    ∷ newhope-group 0 1536 1536 1536 1536 0 0 0 1 1
     ∷ newhope-noise 255 255 0 0 (pos 16)
     ∷ newhope-noise 1 0 3 0 (negsuc 0)
     ∷ frodo-noise 1205 (pos 0)
