@@ -122,13 +122,13 @@ fn helprec(v: &Poly, coins: &[u8]) -> Poly {
     hints
 }
 
-/// The key bit of group i.
+/// The key bit of group i: 1 near, 0 far.
 fn bit(x: &Poly, hints: &Poly, i: usize) -> u8 {
     let (q, at) = (Q as i32, [0, 1, 2, 3].map(|j| i + GROUPS * j));
     let (x, h) = (at.map(|k| i32::from(x[k])), at.map(|k| i32::from(hints[k])));
     let first: i32 = (0..3).map(|j| away(16 * q + 8 * x[j] - q * (2 * h[j] + h[3]))).sum();
     let sum = first + away(16 * q + 8 * x[3] - q * h[3]);
-    (((8 * q - sum) >> 31) & 1) as u8
+    (((sum - 8 * q - 1) >> 31) & 1) as u8
 }
 
 fn rec(x: &Poly, hints: &Poly, key: &mut [u8]) {
