@@ -25,7 +25,7 @@ use Rattle.lists.proofs.First.{all-below, all-within, none-found}
 use Rattle.lists.proofs.Same.{append-all, equal-all}
 use Rattle.front.specs.Front.{numberOf, numberIn, _then_, lengthIs, lengthUpTo, roomFor, publicsIn, messageIn, secretsIn, held}
 use Rattle.front.specs.declared.Refusal.{Refusal}
-use Rattle.front.specs.declared.Refusal.the-variants.{NoScheme, BadLength, Short, PublicOver, MessageOver, SecretBeyond, RanOut}
+use Rattle.front.specs.declared.Refusal.the-variants.{NoScheme, BadLength, Short, PublicOver, MessageOver, SecretBeyond, RanOut, NoRule}
 use Rattle.front.specs.declared.Verdict.{Verdict}
 use Rattle.front.specs.declared.Verdict.the-variants.{Pass, Fail}
 
@@ -40,6 +40,7 @@ some (PublicOver k) = omega arith
 some (MessageOver k) = omega arith
 some (SecretBeyond k) = omega arith
 some (RanOut k) = omega arith
+some NoRule = omega arith
 
 pub number-zero : (v : Verdict) → 0 ≡ numberIn v → v ≡ Pass
 number-zero Pass e = refl

@@ -18,7 +18,7 @@ use lib.IntN.{ℤ}
 use lib.ListN.{length, replicate}
 use Rattle.lists.specs.First.{firstOver, firstBeyond}
 use Rattle.front.specs.declared.Refusal.{Refusal}
-use Rattle.front.specs.declared.Refusal.the-variants.{NoScheme, BadLength, Short, PublicOver, MessageOver, SecretBeyond, RanOut}
+use Rattle.front.specs.declared.Refusal.the-variants.{NoScheme, BadLength, Short, PublicOver, MessageOver, SecretBeyond, RanOut, NoRule}
 use Rattle.front.specs.declared.Verdict.{Verdict}
 use Rattle.front.specs.declared.Verdict.the-variants.{Pass, Fail}
 
@@ -30,6 +30,7 @@ numberOf (PublicOver k) = 4
 numberOf (MessageOver k) = 5
 numberOf (SecretBeyond k) = 6
 numberOf (RanOut k) = 7
+numberOf NoRule = 12
 
 abbrev pub placeOf : Refusal → ℕ
 placeOf NoScheme = 0
@@ -39,6 +40,7 @@ placeOf (PublicOver k) = k
 placeOf (MessageOver k) = k
 placeOf (SecretBeyond k) = k
 placeOf (RanOut k) = k
+placeOf NoRule = 0
 
 abbrev pub numberIn : Verdict → ℕ
 numberIn Pass = 0

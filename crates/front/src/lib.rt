@@ -14,6 +14,7 @@ pub enum Refusal {
     MessageOver(usize),
     SecretBeyond(usize),
     RanOut(usize),
+    NoRule,
 }
 
 impl Refusal {
@@ -28,6 +29,7 @@ impl Refusal {
             Refusal::MessageOver(_) => 5,
             Refusal::SecretBeyond(_) => 6,
             Refusal::RanOut(_) => 7,
+            Refusal::NoRule => 12,
         }
     }
 
@@ -42,6 +44,7 @@ impl Refusal {
             Refusal::MessageOver(k) => k,
             Refusal::SecretBeyond(k) => k,
             Refusal::RanOut(k) => k,
+            Refusal::NoRule => 0,
         }
     }
 }

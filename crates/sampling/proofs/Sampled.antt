@@ -17,7 +17,9 @@ use Rattle.front.proofs.Laws.{held-all, within-passes, below-passes}
 use Rattle.front.proofs.Promise.{same-answer}
 use Rattle.noise.specs.Noise.{d1, d2, d3, d4}
 use Rattle.noise.proofs.Noise.{newhope-within, frodo-within}
-use Rattle.noise.proofs.Stream.{first14-below}
+use Rattle.noise.specs.declared.Ruled.{Ruled}
+use Rattle.noise.specs.declared.Ruled.the-variants.{By, Unknown}
+use Rattle.noise.proofs.Stream.{by-name-below}
 use Rattle.sampling.specs.Noise.{Noise, noiseValues, Noised, OneNoise, NoisePasses}
 use Rattle.sampling.specs.Expand.{Expand, expandNumbers, Expanded, OneExpand, ExpandPasses}
 
@@ -25,7 +27,7 @@ pub one-noise : OneNoise
 one-noise c x n r r′ out out′ p q = (same-answer r r′ (cc) (cc) (cc), cc)
 
 pub one-expand : OneExpand
-one-expand x n r r′ out out′ p q = (same-answer r r′ (cc) (cc) (cc), cc)
+one-expand k x n r r′ out out′ p q = (same-answer r r′ (cc) (cc) (cc), cc)
 
 -- ---- what is written is not refused later
 
@@ -46,13 +48,15 @@ noise-within {c} {x} p b =
 pub noise-passes : NoisePasses
 noise-passes c x number place n count out p b from many = within-passes (part-within (fixedOf c .largest) from many out (noise-within p b))
 
-numbers-below : (stream : List ℕ) → Below (newHope .q) (expandNumbers stream)
+numbers-below : (k : Ruled) (stream : List ℕ) → Below (newHope .q) (expandNumbers k stream)
 unfolding expandNumbers
-numbers-below stream = first14-below stream
+numbers-below Unknown stream = record { below = λ i. omega arith }
+numbers-below (By r) stream = by-name-below r stream
 
-pub expand-below : {x : Expand} {number place n count : ℕ} {out : List ℕ} → Expanded x number place n count out → Below (newHope .q) out
-expand-below {x} p =
-    record { below = rw (p .numbers .holds) (held-all (λ i. i < newHope .q) 0 _ _ _ (omega arith) (numbers-below (x .stream) .below)) }
+pub expand-below : {k : Ruled} {x : Expand} {number place n count : ℕ} {out : List ℕ} → Expanded k x number place n count out
+    → Below (newHope .q) out
+expand-below {k} {x} p =
+    record { below = rw (p .numbers .holds) (held-all (λ i. i < newHope .q) 0 _ _ _ (omega arith) (numbers-below k (x .stream) .below)) }
 
 pub expand-passes : ExpandPasses
-expand-passes x number place n count out p from many = below-passes (below-take (below-drop (expand-below p) from) many)
+expand-passes k x number place n count out p from many = below-passes (below-take (below-drop (expand-below p) from) many)

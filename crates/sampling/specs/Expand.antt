@@ -1,17 +1,17 @@
--- What Expand promises: 01, "The NewHope transform" and "Refusal numbers and their order".
+-- What Expand promises: 01, "The NewHope transform" and "Refusal numbers and their order", and its rule: 02, request g.
 --   Expand                   what it is lent: the stream
 --   expandOf, expand         the same from a list, and from what is lent in a contract
---   expandNumbers stream     the numbers: which words of the stream are taken, and what they give, is said here alone
+--   expandNumbers k stream   the numbers, by the rule that is named
 --   expandSizes x n          its tests of lengths, with room for n numbers
---   enough k                 7: the stream ran out, with so many accepted
---   expandTests x n          its tests in 01's order
---   Expanded x ..            its promise: the refusal's number and place, the count, and what the output holds
---   Expands stream out r     the same of what is lent and of an answer
+--   enough m                 7: the stream ran out, with so many accepted
+--   expandTests k x n        its tests in 01's order, 12 before them
+--   Expanded k x ..          its promise: the refusal's number and place, the count, and what the output holds
+--   Expands k stream out r   the same of what is lent and of an answer
 --   OneExpand                no two results satisfy one promise
 --   ExpandPasses             no part of what Expand writes is refused as public numbers of NewHope
 use mathlib.Core.Path.{_≡_}
 use mathlib.Core.Bool.{cond}
-use mathlib.Core.List.{List}
+use mathlib.Core.List.{List, []}
 use Prim.Native.Nat.{ℕ}
 use lib.Dec.{leb}
 use lib.ListN.{length, take, drop}
@@ -23,8 +23,10 @@ use Rattle.front.specs.Promise.{Told, Wrote}
 use Rattle.front.specs.declared.Answer.{Answer}
 use Rattle.front.specs.declared.Verdict.{Verdict}
 use Rattle.front.specs.declared.Verdict.the-variants.{Pass, Fail}
-use Rattle.front.specs.declared.Refusal.the-variants.{RanOut}
-use Rattle.noise.specs.Expand.{expanded, first14}
+use Rattle.front.specs.declared.Refusal.the-variants.{RanOut, NoRule}
+use Rattle.noise.specs.Expand.{expanded, rule}
+use Rattle.noise.specs.declared.Ruled.{Ruled}
+use Rattle.noise.specs.declared.Ruled.the-variants.{By, Unknown}
 
 pub record Expand : Type 0 where
   pub stream : List ℕ
@@ -35,33 +37,35 @@ expandOf stream = record { stream = stream }
 abbrev pub expand : Lent (List ℕ) → Expand
 expand stream = expandOf (was stream)
 
-unfoldable pub expandNumbers : List ℕ → List ℕ
-expandNumbers stream = expanded first14 stream
+unfoldable pub expandNumbers : Ruled → List ℕ → List ℕ
+expandNumbers Unknown stream = []
+expandNumbers (By r) stream = expanded (rule r) stream
 
 unfoldable pub expandSizes : Expand → ℕ → Verdict
 expandSizes x n = lengthUpTo (length (x .stream)) 65536 then roomFor n (newHope .public)
 
 unfoldable pub enough : ℕ → Verdict
-enough k = cond (leb (newHope .public) k) Pass (Fail (RanOut k))
+enough m = cond (leb (newHope .public) m) Pass (Fail (RanOut m))
 
-unfoldable pub expandTests : Expand → ℕ → Verdict
-expandTests x n = expandSizes x n then enough (length (expandNumbers (x .stream)))
+unfoldable pub expandTests : Ruled → Expand → ℕ → Verdict
+expandTests Unknown x n = Fail NoRule
+expandTests (By r) x n = expandSizes x n then enough (length (expandNumbers (By r) (x .stream)))
 
-pub record Expanded (x : Expand) (number place outRoom outWritten : ℕ) (out : List ℕ) : Type 0 where
-  pub told : Told (expandTests x outRoom) number place
-  pub numbers : Wrote (expandTests x outRoom) (expandNumbers (x .stream)) 0 outRoom outWritten out
+pub record Expanded (k : Ruled) (x : Expand) (number place outRoom outWritten : ℕ) (out : List ℕ) : Type 0 where
+  pub told : Told (expandTests k x outRoom) number place
+  pub numbers : Wrote (expandTests k x outRoom) (expandNumbers k (x .stream)) 0 outRoom outWritten out
 
-abbrev pub Expands : Lent (List ℕ) → Lent (List ℕ) → Answer → Type 0
-Expands stream out r = Expanded (expand stream) (number r) (place r) (room out) (written r) (left out)
+abbrev pub Expands : Ruled → Lent (List ℕ) → Lent (List ℕ) → Answer → Type 0
+Expands k stream out r = Expanded k (expand stream) (number r) (place r) (room out) (written r) (left out)
 
 -- ---- what follows
 
 abbrev pub OneExpand : Type 0
 OneExpand =
-    (x : Expand) (n : ℕ) (r r′ : Answer) (out out′ : List ℕ) → Expanded x (number r) (place r) n (written r) out
-    → Expanded x (number r′) (place r′) n (written r′) out′ → (r ≡ r′) × (out ≡ out′)
+    (k : Ruled) (x : Expand) (n : ℕ) (r r′ : Answer) (out out′ : List ℕ) → Expanded k x (number r) (place r) n (written r) out
+    → Expanded k x (number r′) (place r′) n (written r′) out′ → (r ≡ r′) × (out ≡ out′)
 
 abbrev pub ExpandPasses : Type 0
 ExpandPasses =
-    (x : Expand) (number place n count : ℕ) (out : List ℕ) → Expanded x number place n count out
+    (k : Ruled) (x : Expand) (number place n count : ℕ) (out : List ℕ) → Expanded k x number place n count out
     → (from many : ℕ) → publicsIn (newHope .q) (take many (drop from out)) ≡ Pass

@@ -1,6 +1,7 @@
 // Noise and Expand: values and public numbers from bytes that the caller lends (01, "Noise" and "The NewHope transform"). Neither has a `requires`: each ends
 // with an answer or a numbered refusal, given exactly when its condition holds; the whole output is zeroed first.
 ghost use Rattle.schemes.specs.Schemes.{schemeOf};
+ghost use Rattle.noise.specs.Expand.{ruleOf};
 ghost use Rattle.sampling.specs.Noise.{Noises};
 ghost use Rattle.sampling.specs.Expand.{Expands};
 
@@ -8,7 +9,7 @@ mod sampler;
 
 use front::Answer;
 use front::Refusal;
-use front::Verdict;
+use noise::Ruled;
 use schemes::Named;
 
 // Noise: scheme, bytes. The values that the bytes give, four bytes a value in NewHope, two in Frodo.
@@ -22,14 +23,13 @@ pub fn noise(scheme: u32, bytes: &[u8], out: &mut [i32]) -> Answer
     sampler::noise_in(s, bytes, out)
 }
 
-// Expand: stream. The first 1,024 numbers below 12289 that it holds.
-pub fn expand(stream: &[u8], out: &mut [u32]) -> Answer
-    ensures { λ r. ⌜ Expands stream out r ⌝ }
+// Expand: rule, stream. The first 1,024 numbers that the rule takes from it.
+pub fn expand(rule: u32, stream: &[u8], out: &mut [u32]) -> Answer
+    ensures { λ r. ⌜ Expands (ruleOf rule) stream out r ⌝ }
 {
     lists::zero_numbers(out);
-    let v = sampler::expand_sizes(stream, out.len());
-    match v {
-        Verdict::Fail(r) => Answer::Refused(r),
-        Verdict::Pass => sampler::expand_in(stream, out),
-    }
+    let Ruled::By(name) = noise::rule_of(rule) else {
+        return Answer::Refused(Refusal::NoRule);
+    };
+    sampler::expand_by(name, stream, out)
 }

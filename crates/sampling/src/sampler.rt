@@ -1,4 +1,4 @@
-// Noise and Expand, once the scheme is known and the output holds zeros: the tests in 01's order, then the work of crate `noise` into the part of the output
+// Noise and Expand, once the scheme or the rule is known and the output holds zeros: the tests in 01's order, then the work of crate `noise` into the part of the output
 // that the answer takes.
 ghost use mathlib.Core.Path.{_≡_};
 ghost use mathlib.Core.List.{_++_};
@@ -8,11 +8,13 @@ ghost use lib.IntN.{pos};
 ghost use Rattle.schemes.specs.declared.Named.the-variants.{Is};
 ghost use Rattle.lists.specs.Lent.{was, left};
 ghost use Rattle.front.specs.declared.Verdict.the-variants.{Pass};
+ghost use Rattle.noise.specs.declared.Ruled.the-variants.{By};
 ghost use Rattle.sampling.specs.Noise.{noise, lengthEither, noiseSizes, noiseTests, noiseValues, Noises};
 ghost use Rattle.sampling.specs.Expand.{expandOf, expand, expandSizes, Expands};
 use front::Answer;
 use front::Refusal;
 use front::Verdict;
+use noise::RuleName;
 use schemes::Family;
 use schemes::NewHope;
 use schemes::Scheme;
@@ -98,7 +100,7 @@ pub(crate) fn noise_in(s: Scheme, bytes: &[u8], out: &mut [i32]) -> Answer
 }
 
 // Expand's tests of lengths.
-pub(crate) fn expand_sizes(stream: &[u8], room: usize) -> Verdict
+fn expand_sizes(stream: &[u8], room: usize) -> Verdict
     ensures { λ r. ⌜ r ≡ expandSizes (expand stream) room ⌝ }
 {
     let v = front::length_up_to(Verdict::Pass, stream.len(), 65536);
@@ -106,15 +108,27 @@ pub(crate) fn expand_sizes(stream: &[u8], room: usize) -> Verdict
 }
 
 // Expand, where the lengths are allowed. Where the stream runs out, the numbers that were written are zeroed again.
-pub(crate) fn expand_in(stream: &[u8], out: &mut [u32]) -> Answer
+fn expand_in(name: RuleName, stream: &[u8], out: &mut [u32]) -> Answer
     requires { ⌜ expandSizes (expandOf (now stream)) (length (now out)) ≡ Pass ⌝ }
     requires { ⌜ now out ≡ replicate (length (now out)) 0 ⌝ }
-    ensures { λ r. ⌜ Expands stream out r ⌝ }
+    ensures { λ r. ⌜ Expands (By name) stream out r ⌝ }
 {
-    let n = noise::expand(stream, &mut out[..NewHope::PUBLIC]);
+    let n = noise::expand(name, stream, &mut out[..NewHope::PUBLIC]);
     if n < NewHope::PUBLIC {
         lists::zero_numbers(&mut out[..NewHope::PUBLIC]);
         return Answer::Refused(Refusal::RanOut(n));
     }
     Answer::Done(n)
+}
+
+// Expand by a known rule.
+pub(crate) fn expand_by(name: RuleName, stream: &[u8], out: &mut [u32]) -> Answer
+    requires { ⌜ now out ≡ replicate (length (now out)) 0 ⌝ }
+    ensures { λ r. ⌜ Expands (By name) stream out r ⌝ }
+{
+    let v = expand_sizes(stream, out.len());
+    match v {
+        Verdict::Fail(r) => Answer::Refused(r),
+        Verdict::Pass => expand_in(name, stream, out),
+    }
 }

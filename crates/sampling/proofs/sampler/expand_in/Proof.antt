@@ -6,6 +6,7 @@ use native.Mathlib.Omega.{arith}
 use lib.ListN.{length, drop, length-take}
 use lib.Seq.{length-take-le}
 use Rattle.front.proofs.Promise.{told-passed, wrote-passed, told-failed, wrote-restored}
+use Rattle.noise.specs.declared.Ruled.the-variants.{By}
 use Rattle.sampling.specs.Expand.{Expand, expandOf, expandNumbers}
 use Rattle.sampling.proofs.Expanding.{room-enough, ran-out, full, numbers-few, whole-part}
 use borrow.Author.Needs.{needs}
@@ -16,7 +17,7 @@ abbrev lent : tie.Start → Expand
 lent b = expandOf (b .args .stream .now)
 
 enough : (b : tie.Start) → 1024 ≤ length (b .args .out .now)
-enough b = room-enough (lent b) _ (b .pre .0)
+enough b = room-enough (b .args .name) (lent b) _ (b .pre .0)
 
 slice-relend-prefix-expand : tie.Need-slice-relend-prefix-expand
 slice-relend-prefix-expand c = let b : tie.Start = search needs in enough b
@@ -46,19 +47,19 @@ returns c =
     let n : tie.After-expand = search needs in
     let o : tie.After-out = search needs in
     let i : tie.Then1 = search needs in
-    let e = ran-out (lent b) _ (b .pre .0) (n .expand .ensures .0) (i .if1 .taken) in
+    let e = ran-out (b .args .name) (lent b) _ (b .pre .0) (n .expand .ensures .0) (i .if1 .taken) in
     let l = o .out .given .0 ∙ length-take-le 1024 (b .args .out .now) (enough b) in
-    record { told = told-failed e; numbers = wrote-restored e (b .args .out .now) (n .expand .last .1 .0) (b .pre .1) (enough b) l (c .before .before .zero-numbers .ensures) }
+    record { told = told-failed e; numbers = wrote-restored e (b .args .out .now) (n .expand .last .1 .1 .0) (b .pre .1) (enough b) l (c .before .before .zero-numbers .ensures) }
 
 returns-2 : tie.Need-returns-2
 unfolding expandNumbers
 returns-2 c =
     let b : tie.Start = search needs in
     let n : tie.After-expand = search needs in
-    let xs = expandNumbers (b .args .stream .now) in
+    let xs = expandNumbers (By (b .args .name)) (b .args .stream .now) in
     let l = c .if1 .left in
-    let e = full (lent b) _ (b .pre .0) (n .expand .ensures .0) l in
-    let long : length xs ≡ 1024 = omega (arith, n .expand .ensures .0, numbers-few (b .args .stream .now)) in
+    let e = full (b .args .name) (lent b) _ (b .pre .0) (n .expand .ensures .0) l in
+    let long : length xs ≡ 1024 = omega (arith, n .expand .ensures .0, numbers-few (b .args .name) (b .args .stream .now)) in
     let w = whole-part xs (b .args .out .now) _ _ (n .expand .ensures .1) l in
     let many = n .expand .ensures .0 ∙ long in
     record {
