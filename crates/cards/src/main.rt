@@ -273,7 +273,7 @@ fn message_cards() {
 fn expand_card() {
     let stream = [0u8; 0];
     let mut out = [0u32; 1024];
-    let answer = sampling::expand(&stream, &mut out);
+    let answer = sampling::expand(14, &stream, &mut out);
     text(b"- expand stream= : ");
     told(answer);
     text(b"\n");

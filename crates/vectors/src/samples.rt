@@ -1,15 +1,12 @@
 // The cases of Noise and of Expand: docs/VECTORS.md.
-ghost use Prim.Native.Nat.{_≤_};
 use crate::inputs::draw_noise;
 use crate::lines::Case;
 use crate::lines::field;
 use crate::lines::head;
 use crate::lines::text;
 use crate::lines::told;
-use crate::shape::Part;
 use crate::shape::cut;
 use crate::shape::less;
-use crate::shape::part_of;
 use schemes::Fixed;
 
 fn noise_line(k: u32, scheme: u32, case: u32, bytes: &[u8], out: &mut [i32]) {
@@ -66,183 +63,131 @@ pub fn noise_cases(k: u32, f: Fixed) {
     noise_with(k, f, &mut bytes);
 }
 
-// A stream of two bytes again and again.
-fn repeat(x: u8, y: u8, out: &mut [u8]) {
-    let mut i: usize = 0;
-    while i < out.len() {
-        out[i] = if i % 2 == 0 { x } else { y };
-        i += 1;
-    }
-}
-
-fn expand_line(case: usize, stream: &[u8], out: &mut [u32]) {
-    let answer = sampling::expand(stream, out);
-    field(b"expand case=", case as u64);
+fn expand_line(rule: u32, case: u32, stream: &[u8], out: &mut [u32]) {
+    let answer = sampling::expand(rule, stream, out);
+    field(b"expand rule=", rule as u64);
+    field(b" case=", case as u64);
     told(answer);
     field(b" numbers=", draw::check_numbers(out));
     text(b"\n");
 }
 
 // The first n bytes of a stream, room for r numbers.
-fn expand_room(case: usize, n: usize, r: usize, stream: &[u8], out: &mut [u32]) {
+fn expand_room(rule: u32, case: u32, n: usize, r: usize, stream: &[u8], out: &mut [u32]) {
     let m = cut(n, stream.len());
     let room = cut(r, out.len());
-    expand_line(case, &stream[0..m], &mut out[0..room]);
+    expand_line(rule, case, &stream[0..m], &mut out[0..room]);
 }
 
-fn expand_case(case: usize, n: usize, r: usize, stream: &[u8]) {
+fn expand_case(rule: u32, case: u32, n: usize, r: usize, stream: &[u8]) -> u32 {
     let mut out = [2779096485u32; 1056];
-    expand_room(case, n, r, stream, &mut out);
+    expand_room(rule, case, n, r, stream, &mut out);
+    std::num::wrapping_add_u32(case, 1)
 }
 
-// A case's stream, 0 drawn, 1 taken, 2 passed; its length; the room.
-const EXPAND: [usize; 96] = [
-    0,
-    0,
-    1024,
+// The lengths of the drawn stream.
+const LENGTHS: [usize; 19] = [
     0,
     1,
-    1024,
-    0,
     2,
-    1024,
-    0,
     100,
-    1024,
-    0,
     2047,
-    1024,
-    0,
     2048,
-    1024,
-    0,
+    2174,
+    2175,
+    2176,
     2600,
-    1024,
-    0,
     2668,
-    1024,
-    0,
     2669,
-    1024,
-    0,
     2670,
-    1024,
-    0,
-    2800,
-    1024,
-    0,
     3000,
-    1024,
-    0,
     4096,
-    1024,
-    0,
     65535,
-    1024,
-    0,
     65536,
-    1024,
-    0,
     65537,
-    1024,
-    0,
     65600,
-    1024,
-    0,
-    4096,
-    0,
-    0,
-    4096,
-    1023,
-    0,
-    4096,
-    1025,
-    0,
-    4096,
-    1056,
-    0,
-    65537,
-    0,
-    0,
-    100,
-    1023,
-    0,
-    100,
-    1056,
-    1,
-    2046,
-    1024,
-    1,
-    2047,
-    1024,
-    1,
-    2048,
-    1024,
-    1,
-    2049,
-    1024,
-    1,
-    65536,
-    1024,
-    2,
-    2,
-    1024,
-    2,
-    2048,
-    1024,
-    2,
-    65536,
-    1024,
 ];
 
-fn expand_all(streams: &[u8]) {
-    let table = EXPAND;
-    let mut case: usize = 0;
-    while case < 32 {
-        let which = table[3 * case];
-        let n = table[3 * case + 1];
-        let room = table[3 * case + 2];
-        expand_from(case, which, n, room, streams);
-        case += 1;
+fn expand_lengths(rule: u32, first: u32, drawn: &[u8]) -> u32 {
+    let lengths = LENGTHS;
+    let mut case = first;
+    let mut i: usize = 0;
+    while i < 19 {
+        case = expand_case(rule, case, lengths[i], 1024, drawn);
+        i += 1;
+    }
+    case
+}
+
+fn expand_rooms(rule: u32, first: u32, drawn: &[u8]) -> u32 {
+    let c1 = expand_case(rule, first, 4096, 0, drawn);
+    let c2 = expand_case(rule, c1, 4096, 1023, drawn);
+    let c3 = expand_case(rule, c2, 4096, 1025, drawn);
+    let c4 = expand_case(rule, c3, 4096, 1056, drawn);
+    let c5 = expand_case(rule, c4, 65537, 0, drawn);
+    let c6 = expand_case(rule, c5, 100, 1023, drawn);
+    expand_case(rule, c6, 100, 1056, drawn)
+}
+
+// A stream of one word again and again, its low byte first.
+fn repeat(low: u8, high: u8, out: &mut [u8]) {
+    let mut i: usize = 0;
+    while i < out.len() {
+        out[i] = if i % 2 == 0 { low } else { high };
+        i += 1;
     }
 }
 
-// Each stream has 65,600 bytes of the streams.
-fn stream(which: usize, most: usize) -> Part
-    ensures { λ r. ⌜ (r .from ≤ r .to) × (r .to ≤ most) ⌝ }
-{
-    part_of(65600 * cut(which, 2), 65600, most)
+fn expand_repeated(rule: u32, first: u32, low: u8, high: u8, stream: &mut [u8]) -> u32 {
+    repeat(low, high, stream);
+    let c1 = expand_case(rule, first, 2046, 1024, stream);
+    let c2 = expand_case(rule, c1, 2047, 1024, stream);
+    let c3 = expand_case(rule, c2, 2048, 1024, stream);
+    expand_case(rule, c3, 2049, 1024, stream)
 }
 
-fn expand_from(case: usize, which: usize, n: usize, room: usize, streams: &[u8]) {
-    let p = stream(which, streams.len());
-    let from = p.from;
-    let to = p.to;
-    expand_case(case, n, room, &streams[from..to]);
+fn expand_word(rule: u32, first: u32, low: u8, high: u8) -> u32 {
+    let mut stream = [0u8; 2049];
+    expand_repeated(rule, first, low, high, &mut stream)
 }
 
-fn draw_stream(streams: &mut [u8]) {
-    let p = stream(0, streams.len());
-    let from = p.from;
-    let to = p.to;
-    draw::bytes(901, &mut streams[from..to]);
+// The words 12288, 12289, 16383, 16384, 61440, 61444, 61445, 65535.
+fn expand_words(rule: u32, first: u32) -> u32 {
+    let c1 = expand_word(rule, first, 0, 48);
+    let c2 = expand_word(rule, c1, 1, 48);
+    let c3 = expand_word(rule, c2, 255, 63);
+    let c4 = expand_word(rule, c3, 0, 64);
+    let c5 = expand_word(rule, c4, 0, 240);
+    let c6 = expand_word(rule, c5, 4, 240);
+    let c7 = expand_word(rule, c6, 5, 240);
+    expand_word(rule, c7, 255, 255)
 }
 
-fn repeat_in(which: usize, x: u8, y: u8, streams: &mut [u8]) {
-    let p = stream(which, streams.len());
-    let from = p.from;
-    let to = p.to;
-    repeat(x, y, &mut streams[from..to]);
+fn expand_by(rule: u32, first: u32, drawn: &[u8]) -> u32 {
+    let lengths = expand_lengths(rule, first, drawn);
+    let rooms = expand_rooms(rule, lengths, drawn);
+    expand_words(rule, rooms)
 }
 
-fn expand_with(streams: &mut [u8]) {
-    draw_stream(streams);
-    repeat_in(1, 0, 240, streams);
-    repeat_in(2, 1, 48, streams);
-    expand_all(streams);
+// A rule that there is not, by itself and with other faults.
+fn expand_unknown(rule: u32, first: u32, drawn: &[u8]) -> u32 {
+    let next = expand_case(rule, first, 4096, 1024, drawn);
+    expand_case(rule, next, 65537, 0, drawn)
+}
+
+fn expand_with(drawn: &mut [u8]) {
+    draw::bytes(901, drawn);
+    let c1 = expand_by(14, 0, drawn);
+    let c2 = expand_by(16, c1, drawn);
+    let c3 = expand_unknown(0, c2, drawn);
+    let c4 = expand_unknown(1, c3, drawn);
+    let c5 = expand_unknown(13, c4, drawn);
+    let c6 = expand_unknown(15, c5, drawn);
+    let c7 = expand_unknown(17, c6, drawn);
+    expand_unknown(4294967295, c7, drawn);
 }
 
 pub fn expand_cases() {
-    let mut streams = [0u8; 196800];
-    expand_with(&mut streams);
+    let mut drawn = [0u8; 65600];
+    expand_with(&mut drawn);
 }

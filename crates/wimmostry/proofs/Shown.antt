@@ -14,7 +14,7 @@ pub one-noise : OneNoise
 one-noise c x room r r′ p p′ w w′ out out′ a b = (cc, cc, cc, cc)
 
 pub one-expand : OneExpand
-one-expand x room r r′ p p′ w w′ out out′ a b = (cc, cc, cc, cc)
+one-expand k x room r r′ p p′ w w′ out out′ a b = (cc, cc, cc, cc)
 
 pub one-bench : OneBench
 one-bench c x r r′ p p′ d d′ a b = (cc, cc, cc)

@@ -6,6 +6,7 @@ use Prim.Native.Nat.{ℕ}
 use lib.IntN.{ℤ}
 use Rattle.schemes.specs.declared.Named.{Named}
 use Rattle.sampling.specs.Noise.{Noise, Noised}
+use Rattle.noise.specs.declared.Ruled.{Ruled}
 use Rattle.sampling.specs.Expand.{Expand, Expanded}
 use Rattle.exchange.specs.Offer.{Offer, Offered}
 use Rattle.exchange.specs.Reply.{Reply, Replied}
@@ -35,7 +36,7 @@ OneNoise =
 
 abbrev pub OneExpand : Type 0
 OneExpand =
-    (x : Expand) (room r r′ p p′ w w′ : ℕ) (out out′ : List ℕ) → Expanded x r p room w out → Expanded x r′ p′ room w′ out′
+    (k : Ruled) (x : Expand) (room r r′ p p′ w w′ : ℕ) (out out′ : List ℕ) → Expanded k x r p room w out → Expanded k x r′ p′ room w′ out′
     → (r ≡ r′) × (p ≡ p′) × (w ≡ w′) × (out ≡ out′)
 
 abbrev pub OneBench : Type 0

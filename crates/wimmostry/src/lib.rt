@@ -6,6 +6,7 @@ ghost use Rattle.schemes.specs.Schemes.{schemeOf};
 ghost use Rattle.lists.specs.Lent.{left, room};
 ghost use Rattle.front.specs.Answers as answers;
 ghost use Rattle.sampling.specs.Noise.{noise, Noised};
+ghost use Rattle.noise.specs.Expand.{ruleOf};
 ghost use Rattle.sampling.specs.Expand.{expand, Expanded};
 ghost use Rattle.exchange.specs.Offer.{offer, Offered};
 ghost use Rattle.exchange.specs.Reply.{reply, Replied};
@@ -150,17 +151,18 @@ pub extern "C" fn wim_noise(
     tell(answer, place, written)
 }
 
-// Expand: the first 1,024 numbers below 12289 that the stream holds.
+// Expand: the first 1,024 numbers that the rule takes from the stream.
 #[no_mangle]
 pub extern "C" fn wim_expand(
+    rule: u32,
     stream: &[u8],
     out: &mut [u32],
     place: &mut u64,
     written: &mut u64,
 ) -> u32
-    ensures { λ r. ⌜ Expanded (expand stream) r (left place) (room out) (left written) (left out) ⌝ }
+    ensures { λ r. ⌜ Expanded (ruleOf rule) (expand stream) r (left place) (room out) (left written) (left out) ⌝ }
 {
-    let answer = sampling::expand(stream, out);
+    let answer = sampling::expand(rule, stream, out);
     tell(answer, place, written)
 }
 

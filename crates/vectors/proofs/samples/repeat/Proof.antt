@@ -8,10 +8,10 @@ use Rattle.vectors.proofs.samples.repeat.Statement.{statement}
 use Rattle.vectors.proofs.samples.repeat.Tie as tie
 
 abbrev Inv-loop : tie.InvT-loop
-Inv-loop x y out₀ i₀ out i = (i ≤ length out) × (length out ≡ length out₀)
+Inv-loop low high out₀ i₀ out i = (i ≤ length out) × (length out ≡ length out₀)
 
 abbrev μ-loop : tie.MeasureT-loop
-μ-loop x y out₀ i₀ out i = length out - i
+μ-loop low high out₀ i₀ out i = length out - i
 
 loop-holds : tie.Need-loop-holds Inv-loop μ-loop
 loop-holds c = omega arith
