@@ -116,7 +116,7 @@ fn message_cards() -> Vec<String> {
 }
 
 fn expand_cards() -> Vec<String> {
-    let answer = told(calls::expand(&[], &mut [0; 1024]).map(|_| ()));
+    let answer = told(calls::expand(14, &[], &mut [0; 1024]).map(|_| ()));
     vec![format!("- expand stream= : {answer}")]
 }
 

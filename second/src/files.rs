@@ -9,6 +9,8 @@ use crate::expand::COUNT;
 use crate::refusal::Refusal;
 use crate::schemes::scheme;
 use std::io::{self, Error};
+use std::num::ParseIntError;
+use std::str::FromStr;
 
 pub fn run(words: &[&str]) -> io::Result<String> {
     match *words {
@@ -65,9 +67,9 @@ pub fn run(words: &[&str]) -> io::Result<String> {
             write(out, &words_of(drawn.iter().map(|&v| v as u32)))?;
             Ok(told(done.map(|n| format!("written={n}\n"))))
         }
-        ["expand", stream, out] => {
+        ["expand", rule, stream, out] => {
             let mut taken = vec![0; COUNT];
-            let done = expand(&bytes(stream)?, &mut taken);
+            let done = expand(number(rule)?, &bytes(stream)?, &mut taken);
             write(out, &words_of(taken))?;
             Ok(told(done.map(|n| format!("written={n}\n"))))
         }
@@ -89,7 +91,7 @@ fn told(done: Result<String, Refusal>) -> String {
     done.unwrap_or_else(|r| format!("refusal={} place={}\n", r.number, r.place))
 }
 
-fn number(word: &str) -> io::Result<u64> {
+fn number<T: FromStr<Err = ParseIntError>>(word: &str) -> io::Result<T> {
     word.parse().map_err(Error::other)
 }
 

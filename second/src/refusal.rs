@@ -1,5 +1,6 @@
-//! 01, "Refusal numbers and their order".
+//! 01, "Refusal numbers and their order", with 12 of request g of 02.
 
+use crate::expand::Rule;
 use crate::schemes::{scheme, Scheme};
 
 #[derive(Clone, Copy, Debug, PartialEq, Eq)]
@@ -15,6 +16,11 @@ pub fn refusal(number: u32, place: usize) -> Refusal {
 /// 1: the scheme is not 0 to 5.
 pub fn no_scheme(number: u64) -> Result<&'static Scheme, Refusal> {
     scheme(number).ok_or(refusal(1, 0))
+}
+
+/// 12: the rule is not 14 or 16. Directly after 1.
+pub fn no_rule(number: u32) -> Result<Rule, Refusal> {
+    Rule::of(number).ok_or(refusal(12, 0))
 }
 
 /// 2: an input's length is not the fixed one.

@@ -215,37 +215,57 @@ fn eighth(scheme: &Scheme, good: &Good) -> Case {
     case
 }
 
-/// The cases of Expand: a stream, its lengths and rooms.
+/// The cases of Expand: by each rule its streams, then by numbers that no rule
+/// has.
 pub fn of_expand() -> Vec<(Good, Vec<Case>)> {
-    let drawn = drawn(901, Entries::Bytes, LONGEST_STREAM);
-    let drawn_lengths = [
-        0, 1, 2, 100, 2047, 2048, 2600, 2668, 2669, 2670, 2800, 3000, 4096, 65535, 65536, 65537,
-        65600,
+    let mut cases = vec![];
+    for rule in [14, 16] {
+        cases.push(with_stream(rule, drawn_stream(), &drawn_cases()));
+        for word in WORDS {
+            let lengths = [2046, 2047, 2048, 2049].map(|length| (length, 1024));
+            cases.push(with_stream(rule, again_and_again(word), &lengths));
+        }
+    }
+    for rule in NO_RULES {
+        let faults = [(4096, 1024), (65537, 0)];
+        cases.push(with_stream(rule, drawn_stream(), &faults));
+    }
+    cases
+}
+
+/// Numbers that no rule has.
+const NO_RULES: [u32; 6] = [0, 1, 13, 15, 17, 4294967295];
+
+/// Words at the bounds of both rules.
+const WORDS: [u16; 8] = [12288, 12289, 16383, 16384, 61440, 61444, 61445, 65535];
+
+fn drawn_stream() -> Vec<i64> {
+    drawn(901, Entries::Bytes, 65600)
+}
+
+/// Lengths and rooms on the drawn stream.
+fn drawn_cases() -> Vec<(usize, usize)> {
+    let lengths = [
+        0, 1, 2, 100, 2047, 2048, 2174, 2175, 2176, 2600, 2668, 2669, 2670, 3000, 4096, 65535,
+        65536, 65537, 65600,
     ];
-    let drawn_cases = [
-        drawn_lengths.map(|length| (length, 1024)).to_vec(),
+    [
+        lengths.map(|length| (length, 1024)).to_vec(),
         [0, 1023, 1025, 1056].map(|room| (4096, room)).to_vec(),
         vec![(65537, 0), (100, 1023), (100, 1056)],
-    ];
-    let taken = [2046, 2047, 2048, 2049, 65536].map(|length| (length, 1024));
-    let passed = [2, 2048, 65536].map(|length| (length, 1024));
-    vec![
-        with_stream(drawn, &drawn_cases.concat()),
-        with_stream(again_and_again([0, 240]), &taken),
-        with_stream(again_and_again([1, 48]), &passed),
     ]
+    .concat()
 }
 
-const LONGEST_STREAM: usize = 65600;
-
-fn again_and_again(two: [i64; 2]) -> Vec<i64> {
-    two.repeat(LONGEST_STREAM / 2)
+/// The stream of one word, its low byte first, as long as any case has it.
+fn again_and_again(word: u16) -> Vec<i64> {
+    word.to_le_bytes().map(i64::from).repeat(1025)
 }
 
-/// Expand on one stream, by length and room.
-fn with_stream(stream: Vec<i64>, cases: &[(usize, usize)]) -> (Good, Vec<Case>) {
+/// Expand by one rule on one stream, by length and room.
+fn with_stream(rule: u32, stream: Vec<i64>, cases: &[(usize, usize)]) -> (Good, Vec<Case>) {
     let good = Good {
-        call: Call::Expand,
+        call: Call::Expand { rule },
         scheme: None,
         inputs: vec![Input {
             kind: Kind::Bytes,

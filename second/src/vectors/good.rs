@@ -12,7 +12,7 @@ pub enum Call {
     Finish,
     Bench,
     Noise,
-    Expand,
+    Expand { rule: u32 },
 }
 
 /// Where e and the coins stand among Bench's inputs.

@@ -28,6 +28,9 @@ pub fn line(good: &Good, name: &str, answer: &Answer) -> String {
     if let Some(scheme) = good.scheme {
         words.push(format!("scheme={}", scheme.number));
     }
+    if let Call::Expand { rule } = good.call {
+        words.push(format!("rule={rule}"));
+    }
     words.push(format!("case={name} refusal={number} place={place}"));
     for (output, written) in outputs.iter().zip(&answer.written) {
         // Only where there are two is it said which.
@@ -54,7 +57,7 @@ fn names(call: Call) -> (&'static str, &'static [&'static str]) {
         Call::Finish => ("finish", &["key"]),
         Call::Bench => ("bench", &[]),
         Call::Noise => ("noise", &["values"]),
-        Call::Expand => ("expand", &["numbers"]),
+        Call::Expand { .. } => ("expand", &["numbers"]),
     }
 }
 

@@ -85,9 +85,9 @@ pub fn run(good: &Good, case: &Case) -> Answer {
             let told = calls::noise(k, &bytes(0), &mut values);
             answer(told.map(|count| vec![count]), vec![whole(&values)])
         }
-        Call::Expand => {
+        Call::Expand { rule } => {
             let mut numbers = vec![u32::from_ne_bytes([BEFORE; 4]); case.rooms[0]];
-            let told = calls::expand(&bytes(0), &mut numbers);
+            let told = calls::expand(rule, &bytes(0), &mut numbers);
             answer(told.map(|count| vec![count]), vec![whole(&numbers)])
         }
     }

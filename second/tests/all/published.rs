@@ -63,7 +63,7 @@ fn bit_reversed(values: Vec<i32>) -> Vec<i32> {
 fn reproduces(vector: &Vector) {
     let (seed, key_a) = vector.seed_a.split_at(32);
     let mut a = vec![0; 1024];
-    assert_eq!(calls::expand(&shake128(seed, 4096), &mut a), Ok(1024));
+    assert_eq!(calls::expand(14, &shake128(seed, 4096), &mut a), Ok(1024));
 
     let mut draws = Draws {
         key: key_a,

@@ -150,8 +150,13 @@ fn how_many_cases() {
         };
         assert_eq!(counts, expected);
     }
-    assert_eq!(starting("expand case=").len(), 32);
-    assert_eq!(lines().len(), 2378);
+    // 26 by length and room, four with each of the eight words; then two with
+    // each unknown rule.
+    for rule in [14, 16] {
+        assert_eq!(starting(&format!("expand rule={rule} ")).len(), 58);
+    }
+    assert_eq!(starting("expand ").len(), 128);
+    assert_eq!(lines().len(), 2474);
 }
 
 #[test]
@@ -167,7 +172,14 @@ fn the_order_of_the_lines() {
             expected.push(format!("{call} scheme={scheme} case=wide "));
         }
     }
-    expected.extend((0..32).map(|case| format!("expand case={case} ")));
+    let rules = [
+        vec![14; 58],
+        vec![16; 58],
+        NO_RULES.map(|rule| [rule; 2]).concat(),
+    ];
+    for (case, rule) in rules.concat().into_iter().enumerate() {
+        expected.push(format!("expand rule={rule} case={case} "));
+    }
     assert_eq!(lines().len(), expected.len());
     for (line, start) in lines().iter().zip(&expected) {
         assert!(line.starts_with(start), "{line}");
@@ -187,8 +199,8 @@ fn the_form_of_a_line() {
         assert_eq!(starting(start).len(), 1, "{start}");
     }
     let zeros = checksum(&[0; 1024]);
-    let whole = format!("expand case=0 refusal=7 place=0 written=0 numbers={zeros}");
-    assert_eq!(starting("expand case=0 "), [whole]);
+    let whole = format!("expand rule=14 case=0 refusal=7 place=0 written=0 numbers={zeros}");
+    assert_eq!(starting("expand rule=14 case=0 "), [whole]);
 }
 
 #[test]
@@ -338,29 +350,49 @@ fn noise() {
     }
 }
 
+const NO_RULES: [u32; 6] = [0, 1, 13, 15, 17, 4294967295];
+
 #[test]
 fn expand() {
-    let told = told(&starting("expand "));
-    // 0 or 1 byte, then 65537 and 65600.
-    assert_eq!(told[..2], [(7, 0); 2]);
-    assert_eq!(told[14], GOOD);
-    assert_eq!(told[15..17], [LENGTH; 2]);
-    assert_eq!(told[17..21], ROOMS);
-    // 65537 with no room; 50 words with too little room, then with enough.
-    assert_eq!(told[21..23], [LENGTH, (3, 0)]);
-    assert_eq!(told[23], told[3]);
-    assert_eq!(told[23].0, 7);
-    // All words taken: 1024 of them are 2048 bytes. Then none taken.
-    assert_eq!(told[24..29], [(7, 1023), (7, 1023), GOOD, GOOD, GOOD]);
-    assert_eq!(told[29..], [(7, 0); 3]);
+    for rule in [14, 16] {
+        let told = told(&starting(&format!("expand rule={rule} ")));
+        // 0 or 1 byte, then 65536, 65537 and 65600.
+        assert_eq!(told[..2], [(7, 0); 2]);
+        assert_eq!(told[16..19], [GOOD, LENGTH, LENGTH]);
+        assert_eq!(told[19..23], ROOMS);
+        // 65537 with no room; 50 words with too little room, then with enough.
+        assert_eq!(told[23..25], [LENGTH, (3, 0)]);
+        assert_eq!(told[25], told[3]);
+        assert_eq!(told[25].0, 7);
+    }
+    // The two lengths that just suffice, and one byte less.
+    let by_14 = told(&starting("expand rule=14 "));
+    assert_eq!(by_14[11..13], [(7, 1023), GOOD]);
+    let by_16 = told(&starting("expand rule=16 "));
+    assert_eq!(by_16[7..9], [(7, 1023), GOOD]);
+    for rule in NO_RULES {
+        let told = told(&starting(&format!("expand rule={rule} ")));
+        assert_eq!(told, [(12, 0); 2]);
+    }
 }
 
 #[test]
-fn taken_numbers() {
-    let lines = starting("expand ");
-    let room = checksum(&[12288; 1024]).to_string();
-    for line in &lines[26..29] {
-        assert_eq!(under(line, "numbers"), room);
+fn words_at_the_bounds() {
+    // -1 where the word is passed over.
+    let by_14 = [12288, -1, -1, 0, 12288, -1, -1, -1];
+    let by_16 = [12288, 0, 4094, 4095, 12284, 12288, -1, -1];
+    for (rule, numbers) in [(14, by_14), (16, by_16)] {
+        let lines = starting(&format!("expand rule={rule} "));
+        for (four, number) in lines[26..].chunks_exact(4).zip(numbers) {
+            // 1024 words are 2048 bytes.
+            let refusals = match number {
+                -1 => [(7, 0); 4],
+                _ => [(7, 1023), (7, 1023), GOOD, GOOD],
+            };
+            assert_eq!(told(four), refusals);
+            let sum = checksum(&[number.max(0); 1024]).to_string();
+            assert_eq!(under(four[2], "numbers"), sum);
+        }
     }
 }
 
