@@ -14,6 +14,8 @@ const char *wim_refusal_text(uint32_t refusal)
         return "done";
     case WIM_NO_SCHEME:
         return "the scheme is not 0 to 5 (wim_noise: not 1 to 5)";
+    case WIM_NO_RULE:
+        return "the rule is not 14 or 16";
     case WIM_LENGTH:
         return "an input's length is not the fixed one (wim_expand: over 65536)";
     case WIM_ROOM:

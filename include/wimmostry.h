@@ -34,6 +34,7 @@
  * A call returns 0, or the number of its refusal; wim_refusal_text has the sentence:
  *
  *     WIM_NO_SCHEME      1   the scheme is not 0 to 5 (wim_noise: not 1 to 5)
+ *     WIM_NO_RULE       12   the rule is not 14 or 16
  *     WIM_LENGTH         2   an input's length is not the fixed one (wim_expand: over 65536)
  *     WIM_ROOM           3   an output buffer is shorter than the answer
  *     WIM_PUBLIC_OVER    4   a lent public number is q or more
@@ -41,13 +42,13 @@
  *     WIM_SECRET_BEYOND  6   a secret or noise value lies beyond the largest noise
  *     WIM_RAN_OUT        7   the stream held fewer than 1024 numbers
  *
- * 5 never arises in Frodo, 6 is for values above the largest noise or below its negative, and 7 is
- * wim_expand's alone. *place is the index of the first bad entry after 4, 5 and 6, how many
- * numbers the stream held after 7, and 0 after 1, 2, 3 and a success.
+ * 5 never arises in Frodo, 6 is for values above the largest noise or below its negative, and 7 and
+ * 12 are wim_expand's alone. *place is the index of the first bad entry after 4, 5 and 6, how many
+ * numbers the stream held after 7, and 0 after 1, 12, 2, 3 and a success.
  *
- * The tests go in the order of these numbers, and within one number in the order in which the
- * inputs stand in the call; the first that fails is the refusal. An index counts entries from 0 in
- * its own input; in a message, the numbers of its packed part.
+ * The tests go in the order of this table, and within one number in the order in which the inputs
+ * stand in the call; the first that fails is the refusal. An index counts entries from 0 in its own
+ * input; in a message, the numbers of its packed part.
  *
  * After a success the answer stands at the start of its output, its length, in entries of that
  * output, in *written, and the rest of the output is zero. An output may be longer than the
@@ -148,6 +149,10 @@ extern "C" {
 #define WIM_FRODO_RECOMMENDED 4
 #define WIM_FRODO_PARANOID 5
 
+/* The rules of wim_expand. */
+#define WIM_RULE_LOW_BITS 14
+#define WIM_RULE_WHOLE_WORD 16
+
 /* The refusals. */
 #define WIM_DONE 0
 #define WIM_NO_SCHEME 1
@@ -157,6 +162,7 @@ extern "C" {
 #define WIM_MESSAGE_OVER 5
 #define WIM_SECRET_BEYOND 6
 #define WIM_RAN_OUT 7
+#define WIM_NO_RULE 12
 
 /*
  * The fixed numbers of each scheme, here X:
@@ -315,11 +321,13 @@ WIM_MUST_USE uint32_t wim_noise(uint32_t scheme, const uint8_t *bytes, size_t by
                                 int32_t *out, size_t out_len, uint64_t *place, uint64_t *written);
 
 /*
- * Expand: a stream of bytes, read as 16-bit words, the lower byte first; the low 14 bits of a word
- * are taken if they are below 12289. Gives the first 1,024 numbers taken, public numbers for
- * NewHope. Refuses with 2, 3, 7.
+ * Expand: rule, a stream of bytes, which is read as 16-bit words, the lower byte first. By rule 14
+ * the low 14 bits of a word are taken if they are below 12289; by rule 16 the whole word is taken
+ * if it is below 61445, and reduced modulo 12289. Gives the first 1,024 numbers taken, public
+ * numbers for NewHope; both ends must use the same rule, since two make different numbers of one
+ * stream. Refuses with 12, 2, 3, 7, in this order.
  */
-WIM_MUST_USE uint32_t wim_expand(const uint8_t *stream, size_t stream_len,
+WIM_MUST_USE uint32_t wim_expand(uint32_t rule, const uint8_t *stream, size_t stream_len,
                                  uint32_t *out, size_t out_len,
                                  uint64_t *place, uint64_t *written);
 
@@ -350,7 +358,7 @@ void wim_scrub(void);
 /* The archive's version, WIM_VERSION of the header that it was built with. */
 const char *wim_version(void);
 
-/* A sentence for a return value, "done" for 0 and "unknown refusal" for numbers beyond 7. */
+/* A sentence for a return value, "done" for 0 and "unknown refusal" for what is no refusal. */
 const char *wim_refusal_text(uint32_t refusal);
 
 #ifdef __cplusplus

@@ -34,10 +34,16 @@ static uint32_t noise(struct lent *l)
     return wim_noise(x->number, l->bytes, x->s_bytes, l->values, WIM_MAX_S, &l->place, &l->written);
 }
 
+/* By the one rule and then by the other. */
 static uint32_t expand(struct lent *l)
 {
-    return wim_expand(l->stream, sizeof l->stream, l->numbers, WIM_EXPAND_NUMBERS, &l->place,
-                      &l->written);
+    uint32_t refusal = wim_expand(WIM_RULE_LOW_BITS, l->stream, sizeof l->stream, l->numbers,
+                                  WIM_EXPAND_NUMBERS, &l->place, &l->written);
+
+    if (refusal != WIM_DONE)
+        return refusal;
+    return wim_expand(WIM_RULE_WHOLE_WORD, l->stream, sizeof l->stream, l->numbers,
+                      WIM_EXPAND_NUMBERS, &l->place, &l->written);
 }
 
 static uint32_t bench(struct lent *l)

@@ -36,7 +36,8 @@ uint32_t draw_public(const struct scheme *scheme, uint32_t *a)
 
     if (scheme->number == WIM_NEWHOPE) {
         draw_bytes(&state, stream, sizeof stream);
-        return wim_expand(stream, sizeof stream, a, scheme->a, &place, &written);
+        return wim_expand(WIM_RULE_LOW_BITS, stream, sizeof stream, a, scheme->a, &place,
+                          &written);
     }
     for (size_t i = 0; i < scheme->a; i++) {
         uint32_t word = 0;

@@ -17,7 +17,7 @@ void draw_bytes(uint64_t *state, uint8_t *out, size_t count);
 uint32_t draw_secrets(uint64_t *state, const struct scheme *scheme, int32_t *out, size_t count,
                       size_t bytes);
 
-/* The public numbers: NewHope's by wim_expand. 0 or the refusal. */
+/* The public numbers: NewHope's by wim_expand and rule 14. 0 or the refusal. */
 uint32_t draw_public(const struct scheme *scheme, uint32_t *a);
 
 #endif

@@ -76,13 +76,18 @@ static void noise(int nulls)
          x->number == WIM_BCNS ? WIM_NO_SCHEME : expected(nulls, lengths, 1, 1));
 }
 
+/* Both rules, and one that there is not. */
+static const uint32_t rules[] = {WIM_RULE_LOW_BITS, WIM_RULE_WHOLE_WORD, 15};
+static uint32_t rule;
+
 /* An empty stream is no bad length: it runs out. */
 static void expand(int nulls)
 {
-    uint32_t refusal = wim_expand(LEND(0, lent.stream, sizeof lent.stream),
+    uint32_t refusal = wim_expand(rule, LEND(0, lent.stream, sizeof lent.stream),
                                   LEND(1, lent.numbers, WIM_EXPAND_NUMBERS), &place, &written);
+    uint32_t known = nulls >> 1 ? WIM_ROOM : nulls ? WIM_RAN_OUT : WIM_DONE;
 
-    held("wim_expand", nulls, refusal, nulls >> 1 ? WIM_ROOM : nulls ? WIM_RAN_OUT : WIM_DONE);
+    held("wim_expand", nulls, refusal, rule == rules[2] ? WIM_NO_RULE : known);
 }
 
 static void bench(int nulls)
@@ -120,7 +125,10 @@ int main(void)
         reply(0);
         each(finish, 3);
         each(noise, 2);
-        each(expand, 2);
+        for (int i = 0; i < 3; i++) {
+            rule = rules[i];
+            each(expand, 2);
+        }
         each(bench, 8);
     }
     printf("null pointers at length 0: %d calls, %d wrong\n", made, failures);

@@ -3,7 +3,7 @@
 #include <string.h>
 #include <wimmostry.h>
 
-enum { N = WIM_NEWHOPE_S, NEWHOPE = WIM_NEWHOPE };
+enum { N = WIM_NEWHOPE_S, NEWHOPE = WIM_NEWHOPE, RULE = WIM_RULE_LOW_BITS };
 static uint64_t place, n, key_n; /* where a refusal is, and how long answers are */
 
 /* s, e, s', e' or e'' from the system's random bytes. */
@@ -30,7 +30,7 @@ int main(void)
         fread(seed, sizeof seed, 1, random) != 1 || fread(coins, sizeof coins, 1, random) != 1)
         return 1;
     if (/* a, which both boxes know; */
-        (no = wim_expand(stream, sizeof stream, a, N, &place, &n)) != WIM_DONE ||
+        (no = wim_expand(RULE, stream, sizeof stream, a, N, &place, &n)) != WIM_DONE ||
         /* the initiator's opening; */
         (no = draw(random, s)) != WIM_DONE || (no = draw(random, e)) != WIM_DONE ||
         (no = wim_offer(NEWHOPE, a, N, s, N, e, N, seed, sizeof seed, opening, sizeof opening,
