@@ -10,7 +10,7 @@ use std::error::Error;
 use std::io::{Read, Write};
 use std::os::unix::net::UnixStream;
 use std::thread;
-use wimmostry::{expand, Initiator, Refusal, Replier, Scheme, Secret, EXPAND_NUMBERS};
+use wimmostry::{expand, Initiator, Refusal, Replier, Rule, Scheme, Secret, EXPAND_NUMBERS};
 
 type Outcome = Result<Vec<u8>, Box<dyn Error + Send + Sync>>;
 
@@ -52,12 +52,13 @@ impl Bytes {
     }
 }
 
-/// The public numbers, which both boxes make from the same stream.
+/// The public numbers, which both boxes make from the same stream and, in
+/// NewHope, by the same rule.
 fn public(scheme: Scheme) -> Result<Vec<u32>, Refusal> {
     let mut stream = Bytes(0x5eed);
     if scheme == Scheme::NewHope {
         let mut a = vec![0; EXPAND_NUMBERS];
-        expand(&stream.take(4096), &mut a)?;
+        expand(Rule::LowBits, &stream.take(4096), &mut a)?;
         return Ok(a);
     }
     let sizes = scheme.sizes();

@@ -17,7 +17,7 @@
 //! not compile. A [`Key`] is wiped likewise, and neither prints what it holds.
 //!
 //! ```
-//! use wimmostry::{expand, Initiator, Refusal, Replier, Scheme, Secret};
+//! use wimmostry::{expand, Initiator, Refusal, Replier, Rule, Scheme, Secret};
 //!
 //! # fn main() -> Result<(), Refusal> {
 //! # let mut state = 1u64;
@@ -28,10 +28,11 @@
 //! let scheme = Scheme::NewHope;
 //! let sizes = scheme.sizes();
 //!
-//! // Both make the public numbers from one stream; `draw` fills a buffer with random bytes.
+//! // Both make the public numbers from one stream by one rule; `draw` fills a buffer with
+//! // random bytes.
 //! let (mut stream, mut a) = ([0; 4096], [0; 1024]);
 //! draw(&mut stream);
-//! expand(&stream, &mut a)?;
+//! expand(Rule::LowBits, &stream, &mut a)?;
 //!
 //! // The initiator's secrets and its opening.
 //! let (mut bytes, mut s, mut e, mut seed) = ([0; 4096], [0; 1024], [0; 1024], [0; 32]);
@@ -82,14 +83,16 @@
 pub mod raw;
 
 mod exchange;
+mod expand;
 mod refusal;
 mod schemes;
 mod secret;
 
 pub use exchange::{Finished, Initiator, Offered, Replied, Replier};
-pub use raw::{expand, scrub};
+pub use expand::{expand, Rule, EXPAND_NUMBERS, EXPAND_STREAM};
+pub use raw::scrub;
 pub use refusal::Refusal;
-pub use schemes::{Scheme, Sizes, EXPAND_NUMBERS, EXPAND_STREAM};
+pub use schemes::{Scheme, Sizes};
 pub use secret::{Entry, Key, Secret};
 
 /// The version of the archive that is linked.

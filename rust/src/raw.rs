@@ -1,5 +1,6 @@
-//! The calls on slices, as they stand in the header: a scheme is a number, every
-//! length is the caller's to get right, and secrets are the caller's to wipe.
+//! The calls on slices, as they stand in the header: a scheme or a rule is a
+//! number, every length is the caller's to get right, and secrets are the
+//! caller's to wipe.
 //!
 //! Each function is one call of the archive and scrubs the stack after it. For
 //! all inputs it ends with an answer or with one [`Refusal`]. After a success an
@@ -184,19 +185,20 @@ pub fn noise(scheme: u32, bytes: &[u8], out: &mut [i32]) -> Result<usize, Refusa
     told(number, place, count(written))
 }
 
-/// Expand: a stream of bytes. Gives the first 1,024 numbers below 12289 in the
-/// low 14 bits of its 16-bit words, the lower byte first: NewHope's a.
+/// Expand: rule ([`Rule`](crate::Rule)), a stream of bytes. Gives the first 1,024
+/// numbers that the rule takes of it: NewHope's a.
 ///
 /// # Errors
 ///
-/// Refuses with 2, 3 and 7.
-pub fn expand(stream: &[u8], out: &mut [u32]) -> Result<usize, Refusal> {
+/// Refuses with 12, 2, 3 and 7.
+pub fn expand(rule: u32, stream: &[u8], out: &mut [u32]) -> Result<usize, Refusal> {
     let (mut place, mut written) = (0, 0);
     // SAFETY: each pointer and length are those of one slice, and place and the
     // counts are numbers of this frame. No output shares memory with anything
     // else, since it is borrowed mutably.
     let number = unsafe {
         ffi::wim_expand(
+            rule,
             stream.as_ptr(),
             stream.len(),
             out.as_mut_ptr(),

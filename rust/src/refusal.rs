@@ -1,12 +1,14 @@
 use core::ffi::CStr;
 use core::fmt;
 
-/// Why a call was refused. The tests go in the order of the numbers, and
-/// within a number in the order of the inputs; the first that fails is told.
+/// Why a call was refused. The tests go in the order in which they stand here,
+/// and within a number in the order of the inputs; the first that fails is told.
 #[derive(Clone, Copy, Debug, PartialEq, Eq, Hash)]
 pub enum Refusal {
     /// 1: the scheme is not 0 to 5 (Noise: not 1 to 5).
     NoScheme,
+    /// 12: Expand's rule is not 14 or 16.
+    NoRule,
     /// 2: an input's length is not the fixed one (Expand: over 65,536).
     Length,
     /// 3: an output is shorter than the answer.
@@ -23,10 +25,11 @@ pub enum Refusal {
 }
 
 impl Refusal {
-    /// The number, 1 to 7.
+    /// The number, 1 to 7 or 12.
     pub fn number(self) -> u32 {
         match self {
             Refusal::NoScheme => 1,
+            Refusal::NoRule => 12,
             Refusal::Length => 2,
             Refusal::Room => 3,
             Refusal::PublicOver(_) => 4,
@@ -40,7 +43,7 @@ impl Refusal {
     /// numbers a stream held; 0 where there is none.
     pub fn place(self) -> usize {
         match self {
-            Refusal::NoScheme | Refusal::Length | Refusal::Room => 0,
+            Refusal::NoScheme | Refusal::NoRule | Refusal::Length | Refusal::Room => 0,
             Refusal::PublicOver(k)
             | Refusal::MessageOver(k)
             | Refusal::SecretBeyond(k)
@@ -60,6 +63,7 @@ impl Refusal {
         let place = crate::raw::count(place);
         match number {
             1 => Refusal::NoScheme,
+            12 => Refusal::NoRule,
             2 => Refusal::Length,
             3 => Refusal::Room,
             4 => Refusal::PublicOver(place),
@@ -75,7 +79,7 @@ impl fmt::Display for Refusal {
     fn fmt(&self, f: &mut fmt::Formatter) -> fmt::Result {
         write!(f, "refusal {}: {}", self.number(), self.text())?;
         match self {
-            Refusal::NoScheme | Refusal::Length | Refusal::Room => Ok(()),
+            Refusal::NoScheme | Refusal::NoRule | Refusal::Length | Refusal::Room => Ok(()),
             Refusal::PublicOver(k) | Refusal::MessageOver(k) | Refusal::SecretBeyond(k) => {
                 write!(f, ", the first at {k}")
             }

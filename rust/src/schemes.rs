@@ -18,12 +18,6 @@ pub enum Scheme {
     FrodoParanoid,
 }
 
-/// How many numbers [`expand`](crate::expand) gives.
-pub const EXPAND_NUMBERS: usize = 1024;
-
-/// The longest stream that it takes, in bytes.
-pub const EXPAND_STREAM: usize = 65536;
-
 /// The fixed numbers of a scheme: what each input and output counts.
 #[derive(Clone, Copy, Debug, PartialEq, Eq)]
 pub struct Sizes {

@@ -63,6 +63,7 @@ extern "C" {
         written: *mut u64,
     ) -> u32;
     pub fn wim_expand(
+        rule: u32,
         stream: *const u8,
         stream_len: usize,
         out: *mut u32,

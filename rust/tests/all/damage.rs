@@ -56,6 +56,11 @@ pub fn room(g: &mut Generator, answer: usize) -> usize {
     one_of(g, &rooms)
 }
 
+/// A number that names no rule, or any other.
+pub fn rule(g: &mut Generator) -> u32 {
+    one_of(g, &[14, 16, 0, 1, 13, 15, 17, 1 << 31, u32::MAX])
+}
+
 /// A number that names no scheme, or any other.
 pub fn scheme(g: &mut Generator) -> u32 {
     one_of(g, &[0, 1, 2, 3, 4, 5, 6, 7, 255, 256, 1 << 31, u32::MAX])

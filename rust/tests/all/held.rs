@@ -247,12 +247,20 @@ fn noise(g: &mut Generator, ready: &Ready) -> u32 {
     told
 }
 
-/// Streams around the length that 1,024 numbers take, and the longest.
+/// Streams around the length that 1,024 numbers take by either rule, and the
+/// longest.
 fn expand(g: &mut Generator) -> u32 {
+    let (mut rule, around) = match g.below(2) {
+        0 => (14, 2600),
+        _ => (16, 2050),
+    };
+    if g.below(8) == 0 {
+        rule = damage::rule(g);
+    }
     let length = match g.below(8) {
         0 => g.below(100),
         1 => 65534 + g.below(4),
-        _ => 2600 + g.below(300),
+        _ => around + g.below(300),
     };
     let mut stream = g.bytes(length as usize);
     if g.below(8) == 0 {
@@ -264,8 +272,8 @@ fn expand(g: &mut Generator) -> u32 {
     let mut expected: Vec<u32> = (0..room).map(|_| g.next() as u32).collect();
     let mut out = Lent::new(&expected, 9);
     let told = same(
-        wimmostry::raw::expand(lstream.entries(), out.entries_mut()),
-        second::calls::expand(&stream, &mut expected),
+        wimmostry::raw::expand(rule, lstream.entries(), out.entries_mut()),
+        second::calls::expand(rule, &stream, &mut expected),
     );
     out.holds(&expected);
     lstream.holds(&stream);
@@ -348,7 +356,7 @@ const EACH: [(&str, &[u32]); 6] = [
     ("finish", &[0, 1, 2, 3, 5, 6]),
     ("noise", &[0, 1, 2, 3]),
     ("bench", &[0, 1, 2, 4, 6]),
-    ("expand", &[0, 2, 3, 7]),
+    ("expand", &[0, 2, 3, 7, 12]),
 ];
 
 fn held(calls: u64) {

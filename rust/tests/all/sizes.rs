@@ -57,6 +57,12 @@ fn of_the_header() {
             assert_eq!(header[format!("MAX_{name}").as_str()], largest);
         }
     }
+    for (name, rule) in [
+        ("RULE_LOW_BITS", second::expand::Rule::LowBits),
+        ("RULE_WHOLE_WORD", second::expand::Rule::WholeWord),
+    ] {
+        assert_eq!(second::expand::Rule::of(header[name] as u32), Some(rule));
+    }
     assert_eq!(header["EXPAND_NUMBERS"], second::expand::COUNT as u64);
     assert_eq!(header["EXPAND_STREAM"], second::expand::LONGEST as u64);
 }
@@ -86,6 +92,11 @@ fn of_this_package() {
         for (name, count) in counts {
             assert_eq!(of(name), count as u64, "{prefix}_{name}");
         }
+    }
+    for rule in wimmostry::Rule::ALL {
+        let name = rule.name().to_uppercase().replace(' ', "_");
+        let of = header[format!("RULE_{name}").as_str()];
+        assert_eq!(of, u64::from(rule.number()));
     }
     assert_eq!(wimmostry::EXPAND_NUMBERS, second::expand::COUNT);
     assert_eq!(wimmostry::EXPAND_STREAM, second::expand::LONGEST);

@@ -4,7 +4,7 @@
 use crate::generator::Generator;
 use crate::inputs::Inputs;
 use second::schemes::SIX;
-use wimmostry::{Initiator, Offered, Refusal, Replier, Scheme, Secret, Sizes};
+use wimmostry::{expand, Initiator, Offered, Refusal, Replier, Rule, Scheme, Secret, Sizes};
 
 fn scheme(inputs: &Inputs) -> Scheme {
     Scheme::try_from(inputs.scheme.number as u32).expect("one of six")
@@ -126,6 +126,29 @@ fn schemes_by_number() {
 }
 
 #[test]
+fn rules_by_number() {
+    for rule in Rule::ALL {
+        assert_eq!(Rule::try_from(rule.number()), Ok(rule));
+    }
+    for number in [0, 1, 13, 15, 17, u32::MAX] {
+        assert_eq!(Rule::try_from(number), Err(Refusal::NoRule));
+    }
+    assert_eq!(format!("{:>11}", Rule::WholeWord), " whole word");
+}
+
+/// Each rule by its own number: the word 12289 is passed over by the one, and 0
+/// by the other.
+#[test]
+fn expands() {
+    let (words, mut a) = ([1, 48].repeat(1024), [9; 1024]);
+    let refused = expand(Rule::LowBits, &words, &mut a);
+    assert_eq!((refused, a), (Err(Refusal::RanOut(0)), [0; 1024]));
+    a.fill(9);
+    assert_eq!(expand(Rule::WholeWord, &words, &mut a), Ok(1024));
+    assert_eq!(a, [0; 1024]);
+}
+
+#[test]
 fn largest_sizes() {
     let most = |of: fn(Sizes) -> usize| Scheme::ALL.map(|s| of(s.sizes())).into_iter().max();
     let largest = Sizes::LARGEST;
@@ -152,5 +175,9 @@ fn texts() {
     assert_eq!(
         Refusal::NoScheme.to_string(),
         "refusal 1: the scheme is not 0 to 5 (wim_noise: not 1 to 5)"
+    );
+    assert_eq!(
+        Refusal::NoRule.to_string(),
+        "refusal 12: the rule is not 14 or 16"
     );
 }
