@@ -3,7 +3,7 @@
 //! in which the command names them.
 
 use crate::data::Data;
-use wimmostry::{raw, Refusal, Scheme};
+use wimmostry::{raw, Refusal, Rule, Scheme};
 
 pub use wimmostry::Sizes;
 
@@ -24,7 +24,7 @@ pub struct Refused {
     pub place: usize,
 }
 
-/// A scheme's number where the call has one, the inputs, the outputs.
+/// The scheme's number or, in expand, the rule's; the inputs, the outputs.
 pub type Call = fn(u32, &[&Data], &mut [Data]) -> Result<Answer, Refused>;
 
 pub const EXPAND_NUMBERS: usize = wimmostry::EXPAND_NUMBERS;
@@ -50,6 +50,14 @@ pub fn name(scheme: u32) -> Option<&'static str> {
 pub fn sizes(scheme: u32) -> Option<Sizes> {
     Some(named(scheme)?.sizes())
 }
+
+/// The rules' numbers and names.
+pub fn rules() -> [(u32, &'static str); 2] {
+    Rule::ALL.map(|rule| (rule.number(), rule.name()))
+}
+
+/// The rule that every box knows.
+pub const LOW_BITS: u32 = Rule::LowBits.number();
 
 /// The end of every call: the stack is scrubbed before anything else is done.
 /// Inlined, so that no frame of its own covers what is to be overwritten.
@@ -111,8 +119,8 @@ pub fn noise(scheme: u32, given: &[&Data], out: &mut [Data]) -> Result<Answer, R
     ended(done.map(|n| Answer::Written(vec![n])))
 }
 
-pub fn expand(_: u32, given: &[&Data], out: &mut [Data]) -> Result<Answer, Refused> {
-    let done = raw::expand(given[0].bytes(), out[0].numbers_mut());
+pub fn expand(rule: u32, given: &[&Data], out: &mut [Data]) -> Result<Answer, Refused> {
+    let done = raw::expand(rule, given[0].bytes(), out[0].numbers_mut());
     ended(done.map(|n| Answer::Written(vec![n])))
 }
 

@@ -1,7 +1,7 @@
 //! A whole exchange in memory, on random bytes of the system: what is drawn,
 //! how long each call takes, the two messages as a picture, and the two keys.
 
-use crate::calls::{self, Answer, Call, Refused, Sizes, EXPAND_NUMBERS, SCHEMES};
+use crate::calls::{self, Answer, Call, Refused, Sizes, EXPAND_NUMBERS, LOW_BITS, SCHEMES};
 use crate::data::{Data, Kind};
 use crate::draw::{self, BCNS, NEWHOPE};
 use crate::random;
@@ -23,7 +23,7 @@ pub fn run(given: &[OsString]) -> Done {
         None => None,
     };
     if let Some(scheme) = asked.filter(|&scheme| calls::sizes(scheme).is_none()) {
-        let detail = tell::no_scheme(ALL_SCHEMES, scheme).unwrap_or_default();
+        let detail = tell::unknown(ALL_SCHEMES, scheme);
         tell::say(Voice::Output, &format!("refusal=1 place=0 {detail}\n"))?;
         return Ok(tell::REFUSED);
     }
@@ -38,9 +38,9 @@ pub fn run(given: &[OsString]) -> Done {
 }
 
 /// A call on what was just drawn for it, and how many microseconds it took.
-fn timed(call: Call, scheme: u32, given: &[&Data], out: &mut [Data]) -> (Answer, u128) {
+fn timed(call: Call, by: u32, given: &[&Data], out: &mut [Data]) -> (Answer, u128) {
     let start = Instant::now();
-    match call(scheme, given, out) {
+    match call(by, given, out) {
         Ok(answer) => (answer, start.elapsed().as_micros()),
         Err(Refused { number, place }) => unreachable!("refusal {number} at {place}"),
     }
@@ -55,7 +55,7 @@ fn bytes(n: usize) -> Data {
 fn expanded() -> Result<Data, Fault> {
     let stream = Data::Bytes(random::bytes(4096)?);
     let mut out = [Data::zeros(Kind::Numbers, EXPAND_NUMBERS)];
-    timed(calls::expand, NEWHOPE, &[&stream], &mut out);
+    timed(calls::expand, LOW_BITS, &[&stream], &mut out);
     let [a] = out;
     Ok(a)
 }
@@ -115,10 +115,10 @@ fn exchange(scheme: u32, sizes: &Sizes) -> Result<String, Fault> {
     Ok(format!("scheme {scheme}, {name}\n{rows}"))
 }
 
-fn public(scheme: u32) -> &'static str {
+fn public(scheme: u32) -> String {
     match scheme {
-        NEWHOPE => "through expand from a random stream of 4096 bytes",
-        _ => "random and below q",
+        NEWHOPE => format!("through expand by rule {LOW_BITS} from a random stream of 4096 bytes"),
+        _ => "random and below q".to_string(),
     }
 }
 

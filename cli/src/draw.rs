@@ -73,7 +73,7 @@ pub fn run(given: &[OsString]) -> Done {
     };
     outputs::put(&[answer], refused)?;
     if refused {
-        let detail = tell::no_scheme(ALL_SCHEMES, scheme).unwrap_or_default();
+        let detail = tell::unknown(ALL_SCHEMES, scheme);
         tell::say(voice(&place), &format!("refusal=1 place=0 {detail}\n"))?;
         return Ok(tell::REFUSED);
     }

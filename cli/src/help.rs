@@ -3,7 +3,7 @@
 
 use crate::calls::{self, SCHEMES};
 use crate::data::Kind;
-use crate::table::{Command, Form, Length, OnFiles, COMMANDS};
+use crate::table::{By, Command, Form, Length, OnFiles, COMMANDS};
 use crate::tell::{self, Done, Voice};
 use crate::words;
 use std::ffi::OsString;
@@ -31,9 +31,9 @@ proved library on files.
 
 const WORDS: &str = "
 SCHEME is 0 BCNS, 1 NewHope, 2 Frodo Challenge, 3 Frodo Classical, 4 Frodo Recommended,
-5 Frodo Paranoid. Every other word in capitals is a file, - for standard input or output (once
-each way), or, of an input, none for nothing at all: BCNS has no seed and Frodo no coins. A file
-that has such a name is ./- or ./none.
+5 Frodo Paranoid. RULE is 14 low bits or 16 whole word, the same at both ends. Every other word in
+capitals is a file, - for standard input or output (once each way), or, of an input, none for
+nothing at all: BCNS has no seed and Frodo no coins. A file that has such a name is ./- or ./none.
 
 Public numbers (A) and secrets and noise (S, E, S1, E1, E2) are 32 bits each, the lowest byte
 first, secrets and noise in two's complement. All else is bytes.
@@ -78,9 +78,9 @@ a pipe or a device, nor - where standard output is a terminal.
 Status 0: done; written=N (of reply message_written=N and key_written=N), agree or differ=I.
 Status 1: refused; one line, as refusal=6 place=3 input=e value=7 largest=6
           1 no such scheme            4 a public number is q or more
-          2 a wrong length            5 a number of the message is q or more
-          3 (not here)                6 a secret or noise is too large
-                                      7 the stream of expand ran out
+         12 no such rule              5 a number of the message is q or more
+          2 a wrong length            6 a secret or noise is too large
+          3 (not here)                7 the stream of expand ran out
           place counts from 0. A length of 33.. is 33 or more. To - nothing is written.
 Status 2: wrong words. Status 3: a file. Both with lines on standard error.
 With an output to - the lines of an answer go to standard error too. Ended by a signal, the
@@ -122,22 +122,25 @@ fn page(command: &Command) -> String {
 
 /// `0 BCNS, 1 NewHope` and so on, in lines.
 fn schemes(first: u32) -> String {
+    let named = |no| (no, calls::name(no).unwrap_or_default());
+    numbered("SCHEME", (first..SCHEMES).map(named))
+}
+
+/// A word that is a number, and what each stands for.
+fn numbered(word: &str, each: impl IntoIterator<Item = (u32, &'static str)>) -> String {
     let mut text = String::new();
-    for no in first..SCHEMES {
-        let word = if no == first { "SCHEME" } else { "" };
-        let _ = writeln!(
-            text,
-            "  {word:<9}{no} {}",
-            calls::name(no).unwrap_or_default()
-        );
+    for (k, (no, name)) in each.into_iter().enumerate() {
+        let word = if k == 0 { word } else { "" };
+        let _ = writeln!(text, "  {word:<9}{no} {name}");
     }
     text
 }
 
 fn files(own: &OnFiles, text: &mut String) {
-    if let Some((first, _)) = own.schemes {
-        text.push_str(&schemes(first));
-    }
+    text.push_str(&match own.by {
+        By::Scheme(first, _) => schemes(first),
+        By::Rule => numbered("RULE", calls::rules()),
+    });
     for x in own.inputs {
         entry(own, x.word, "in", x.kind, x.what, x.length, text);
     }
@@ -171,7 +174,10 @@ fn lengths(own: &OnFiles, length: Length) -> String {
         Length::Fixed(n) => n.to_string(),
         Length::AtMost(n) => format!("at most {n}"),
         Length::By(_) | Length::Either(..) => {
-            let (first, last) = own.schemes.unwrap_or((0, SCHEMES - 1));
+            let (first, last) = match own.by {
+                By::Scheme(first, last) => (first, last),
+                By::Rule => (0, SCHEMES - 1),
+            };
             let each: Vec<String> = (first..=last)
                 .map(|no| {
                     let known = length.known(calls::sizes(no).as_ref());

@@ -1,6 +1,6 @@
 //! A call on files: the words, the files, the call, the answer.
 
-use crate::calls;
+use crate::calls::{self, Sizes};
 use crate::data::Data;
 use crate::files::{self, Lent, Named};
 use crate::outputs::{self, Answer};
@@ -10,11 +10,8 @@ use crate::words::{self, Place};
 use std::ffi::OsString;
 
 pub fn run(own: &OnFiles, given: &[OsString]) -> Done {
-    let (scheme, given) = match own.schemes {
-        Some(_) => (words::scheme(&given[0])?, &given[1..]),
-        None => (0, given),
-    };
-    let (from, to) = given.split_at(own.inputs.len());
+    let asked = own.by.number(&given[0])?;
+    let (from, to) = given[1..].split_at(own.inputs.len());
     let sources = own.inputs.iter().zip(from);
     let sources: Vec<Place> = sources
         .map(|(x, word)| words::place(x.word, word))
@@ -34,8 +31,10 @@ pub fn run(own: &OnFiles, given: &[OsString]) -> Done {
     let lent = read(own, &sources)?;
 
     let data: Vec<&Data> = lent.iter().map(|x| &x.data).collect();
-    let mut out: Vec<Data> = own.outputs.iter().map(|x| room(x, scheme)).collect();
-    let done = (own.call)(scheme, &data, &mut out);
+    let sizes = own.by.sizes(asked);
+    let room = |x: &Output| room(x, sizes.as_ref());
+    let mut out: Vec<Data> = own.outputs.iter().map(room).collect();
+    let done = (own.call)(asked, &data, &mut out);
     match done {
         Ok(answer) => {
             if let calls::Answer::Written(counts) = &answer {
@@ -54,7 +53,7 @@ pub fn run(own: &OnFiles, given: &[OsString]) -> Done {
                 }
             }
             let saved = save(own, &targets, out, true);
-            let line = tell::refusal(own, scheme, refused, &lent);
+            let line = tell::refusal(own, asked, refused, &lent);
             tell::say(voice(&targets), &line)?;
             saved?;
             Ok(tell::REFUSED)
@@ -82,8 +81,8 @@ fn read(own: &OnFiles, sources: &[Place]) -> Result<Vec<Lent>, Fault> {
 }
 
 /// Room for an output's answer: none where there is no such scheme.
-fn room(output: &Output, scheme: u32) -> Data {
-    let known = output.length.known(calls::sizes(scheme).as_ref());
+fn room(output: &Output, sizes: Option<&Sizes>) -> Data {
+    let known = output.length.known(sizes);
     Data::zeros(output.kind, known.into_iter().max().unwrap_or(0))
 }
 

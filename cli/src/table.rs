@@ -3,9 +3,9 @@
 
 use crate::calls::{self, Call, Sizes, EXPAND_NUMBERS, EXPAND_STREAM, SCHEMES};
 use crate::data::Kind;
-use crate::tell::Done;
-use crate::{demo, draw, help, wipe};
-use std::ffi::OsString;
+use crate::tell::{Done, Fault};
+use crate::{demo, draw, help, wipe, words};
+use std::ffi::{OsStr, OsString};
 
 /// How long an input or an output is, in entries.
 #[derive(Clone, Copy)]
@@ -73,10 +73,42 @@ pub struct Output {
     pub what: &'static str,
 }
 
-/// A call of the library on files: SCHEME if it has one, inputs, outputs.
+/// The number that comes before the inputs.
+#[derive(Clone, Copy)]
+pub enum By {
+    /// SCHEME, and the first and the last that the call takes.
+    Scheme(u32, u32),
+    /// RULE.
+    Rule,
+}
+
+impl By {
+    fn word(self) -> &'static str {
+        match self {
+            By::Scheme(..) => "SCHEME",
+            By::Rule => "RULE",
+        }
+    }
+
+    pub fn number(self, word: &OsStr) -> Result<u32, Fault> {
+        match self {
+            By::Scheme(..) => words::scheme(word),
+            By::Rule => words::rule(word),
+        }
+    }
+
+    /// The fixed numbers, where they go by a scheme and there is such a scheme.
+    pub fn sizes(self, number: u32) -> Option<Sizes> {
+        match self {
+            By::Scheme(..) => calls::sizes(number),
+            By::Rule => None,
+        }
+    }
+}
+
+/// A call of the library on files: SCHEME or RULE, inputs, outputs.
 pub struct OnFiles {
-    /// The first and the last scheme that it takes.
-    pub schemes: Option<(u32, u32)>,
+    pub by: By,
     pub inputs: &'static [Input],
     pub outputs: &'static [Output],
     pub call: Call,
@@ -113,10 +145,13 @@ impl Command {
         match &self.form {
             Form::Words(own) => own.usage.to_string(),
             Form::Files(own) => {
-                let scheme = own.schemes.iter().map(|_| "SCHEME");
                 let inputs = own.inputs.iter().map(|x| x.word);
                 let outputs = own.outputs.iter().map(|x| x.word);
-                let words: Vec<&str> = scheme.chain(inputs).chain(outputs).collect();
+                let words: Vec<&str> = [own.by.word()]
+                    .into_iter()
+                    .chain(inputs)
+                    .chain(outputs)
+                    .collect();
                 words.join(" ")
             }
         }
@@ -127,7 +162,7 @@ impl Command {
         match &self.form {
             Form::Words(own) => (own.least, own.most),
             Form::Files(own) => {
-                let n = own.schemes.iter().count() + own.inputs.len() + own.outputs.len();
+                let n = 1 + own.inputs.len() + own.outputs.len();
                 (n, n)
             }
         }
@@ -217,7 +252,7 @@ const KEY: Output = Output {
 
 // ---- the commands
 
-pub const ALL_SCHEMES: Option<(u32, u32)> = Some((0, SCHEMES - 1));
+pub const ALL_SCHEMES: By = By::Scheme(0, SCHEMES - 1);
 
 pub const COMMANDS: &[Command] = &[
     Command {
@@ -237,7 +272,7 @@ pub const COMMANDS: &[Command] = &[
         name: "offer",
         brief: "the initiator's first step: the opening message",
         form: Form::Files(OnFiles {
-            schemes: ALL_SCHEMES,
+            by: ALL_SCHEMES,
             inputs: &[A, S, E, SEED],
             outputs: &[output(
                 "MESSAGE",
@@ -253,7 +288,7 @@ pub const COMMANDS: &[Command] = &[
         name: "reply",
         brief: "the replier's step: the reply message and the replier's key",
         form: Form::Files(OnFiles {
-            schemes: ALL_SCHEMES,
+            by: ALL_SCHEMES,
             inputs: &[
                 message("OPENING", Length::By(|z| z.opening), "the opening message"),
                 A,
@@ -287,7 +322,7 @@ pub const COMMANDS: &[Command] = &[
         name: "finish",
         brief: "the initiator's second step: the initiator's key",
         form: Form::Files(OnFiles {
-            schemes: ALL_SCHEMES,
+            by: ALL_SCHEMES,
             inputs: &[
                 message("REPLY", Length::By(|z| z.reply), "the reply message"),
                 S,
@@ -303,7 +338,7 @@ pub const COMMANDS: &[Command] = &[
         name: "noise",
         brief: "secrets and noise from random bytes of your own",
         form: Form::Files(OnFiles {
-            schemes: Some((1, SCHEMES - 1)),
+            by: By::Scheme(1, SCHEMES - 1),
             inputs: &[bytes(
                 "BYTES",
                 Length::Either(|z| z.s_bytes, |z| z.e2_bytes),
@@ -329,7 +364,7 @@ pub const COMMANDS: &[Command] = &[
         name: "expand",
         brief: "NewHope's public numbers from a stream of bytes",
         form: Form::Files(OnFiles {
-            schemes: None,
+            by: By::Rule,
             inputs: &[bytes(
                 "STREAM",
                 Length::AtMost(EXPAND_STREAM),
@@ -346,15 +381,17 @@ pub const COMMANDS: &[Command] = &[
             call: calls::expand,
         }),
         more:
-            "The low 14 bits of each 16-bit word are taken where they are below 12289: some 2,700\n\
-               bytes are enough as a rule, 4096 but for one time in 10^100.",
-        example: "wimmostry expand stream a",
+            "By rule 14 the low 14 bits of each 16-bit word are taken where they are below 12289,\n\
+               by rule 16 the whole word where it is below 61445, reduced modulo 12289. Both ends\n\
+               must use the same rule. 3,000 bytes are enough by rule 14, and 2,300 by rule 16, but\n\
+               for one time in 10^8; 4096 are by either but for one in 10^100.",
+        example: "wimmostry expand 14 stream a",
     },
     Command {
         name: "bench",
         brief: "both ends on lent secrets: whether the two keys agree",
         form: Form::Files(OnFiles {
-            schemes: ALL_SCHEMES,
+            by: ALL_SCHEMES,
             inputs: &[A, S, E, SEED, S1, E1, E2, COINS],
             outputs: &[],
             call: calls::bench,

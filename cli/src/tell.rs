@@ -1,11 +1,11 @@
 //! What the program says: the lines of answers and refusals, and the lines on
 //! what is wrong, with the status that goes with each.
 
-use crate::calls::{self, Answer, Refused, EXPAND_NUMBERS};
+use crate::calls::{rules, Answer, Refused, Sizes, EXPAND_NUMBERS};
 use crate::data::Data;
 use crate::escape::shown;
 use crate::files::Lent;
-use crate::table::{Length, OnFiles};
+use crate::table::{By, Length, OnFiles};
 use std::ffi::OsStr;
 use std::io::{self, ErrorKind, Write};
 
@@ -93,14 +93,15 @@ pub fn answer(own: &OnFiles, answer: &Answer) -> String {
 }
 
 /// A refusal in one line: its number and place, which are the call's, and what
-/// in the inputs explains them.
-pub fn refusal(own: &OnFiles, scheme: u32, refused: Refused, given: &[Lent]) -> String {
+/// in the inputs explains them. The call was asked for this scheme or rule.
+pub fn refusal(own: &OnFiles, asked: u32, refused: Refused, given: &[Lent]) -> String {
     let Refused { number, place } = refused;
+    let sizes = own.by.sizes(asked);
     let detail = match number {
-        1 => no_scheme(own.schemes, scheme),
-        2 => length(own, scheme, given),
-        3 => room(own, scheme),
-        4..=6 => entry(own, scheme, refused, given),
+        1 | 12 => Some(unknown(own.by, asked)),
+        2 => length(own, sizes.as_ref(), given),
+        3 => room(own, sizes.as_ref()),
+        4..=6 => entry(own, sizes.as_ref(), refused, given),
         7 => ran_out(own),
         _ => None,
     };
@@ -110,10 +111,15 @@ pub fn refusal(own: &OnFiles, scheme: u32, refused: Refused, given: &[Lent]) -> 
     }
 }
 
-/// The detail of refusal 1.
-pub fn no_scheme(schemes: Option<(u32, u32)>, scheme: u32) -> Option<String> {
-    let (first, last) = schemes?;
-    Some(format!("scheme={scheme} expected={first}..{last}"))
+/// The detail of refusals 1 and 12.
+pub fn unknown(by: By, asked: u32) -> String {
+    match by {
+        By::Scheme(first, last) => format!("scheme={asked} expected={first}..{last}"),
+        By::Rule => {
+            let known = rules().map(|(number, _)| number);
+            format!("rule={asked} expected={}", listed(&known))
+        }
+    }
 }
 
 fn name(word: &str) -> String {
@@ -121,21 +127,20 @@ fn name(word: &str) -> String {
 }
 
 /// 5632 or 128 as `5632,128`.
-fn listed(lengths: &[usize]) -> String {
-    let texts: Vec<String> = lengths.iter().map(usize::to_string).collect();
+fn listed<T: ToString>(numbers: &[T]) -> String {
+    let texts: Vec<String> = numbers.iter().map(T::to_string).collect();
     texts.join(",")
 }
 
 /// The first input that has not its length.
-fn length(own: &OnFiles, scheme: u32, given: &[Lent]) -> Option<String> {
-    let sizes = calls::sizes(scheme);
+fn length(own: &OnFiles, sizes: Option<&Sizes>, given: &[Lent]) -> Option<String> {
     let mut pairs = own.inputs.iter().zip(given);
-    let (input, lent) = pairs.find(|(x, lent)| !x.length.fits(sizes.as_ref(), lent.data.len()))?;
+    let (input, lent) = pairs.find(|(x, lent)| !x.length.fits(sizes, lent.data.len()))?;
     let wanted = match input.length {
         Length::AtMost(_) => "at-most",
         _ => "expected",
     };
-    let expected = listed(&input.length.known(sizes.as_ref()));
+    let expected = listed(&input.length.known(sizes));
     Some(format!(
         "input={} length={} {wanted}={expected}",
         name(input.word),
@@ -144,9 +149,9 @@ fn length(own: &OnFiles, scheme: u32, given: &[Lent]) -> Option<String> {
 }
 
 /// An output has the room of its answer, so that this is never said.
-fn room(own: &OnFiles, scheme: u32) -> Option<String> {
+fn room(own: &OnFiles, sizes: Option<&Sizes>) -> Option<String> {
     let output = own.outputs.first()?;
-    let known = output.length.known(calls::sizes(scheme).as_ref());
+    let known = output.length.known(sizes);
     Some(format!(
         "output={} expected={}",
         name(output.word),
@@ -165,8 +170,8 @@ fn ran_out(own: &OnFiles) -> Option<String> {
 
 /// The first input with a bad entry of the refusal's kind, if it stands where
 /// the call says.
-fn entry(own: &OnFiles, scheme: u32, refused: Refused, given: &[Lent]) -> Option<String> {
-    let sizes = calls::sizes(scheme)?;
+fn entry(own: &OnFiles, sizes: Option<&Sizes>, refused: Refused, given: &[Lent]) -> Option<String> {
+    let sizes = sizes?;
     for (input, lent) in own.inputs.iter().zip(given) {
         let (found, limit) = match (&lent.data, refused.number) {
             (Data::Numbers(all), 4) => {

@@ -1,6 +1,6 @@
-//! Words of the command line: which command, which scheme, which file.
+//! Words of the command line: which command, which scheme or rule, which file.
 
-use crate::calls::SCHEMES;
+use crate::calls::{rules, SCHEMES};
 use crate::escape::shown;
 use crate::table::{Command, COMMANDS};
 use crate::tell::{self, Fault};
@@ -30,21 +30,30 @@ pub fn counted(command: &Command, n: usize) -> Result<(), Fault> {
     Err(tell::words(format!("{} takes {usage}", command.name)))
 }
 
-/// A scheme's number: decimal, 32 bits, no leading zero. Whether there is such
-/// a scheme is the call's to say.
-pub fn scheme(word: &OsStr) -> Result<u32, Fault> {
+/// A number: decimal, 32 bits, no leading zero. Whether there is such a scheme or
+/// rule is the call's to say.
+fn number(word: &OsStr) -> Option<u32> {
     let digits = word.to_str().filter(|w| {
         let plain = !w.is_empty() && w.bytes().all(|b| b.is_ascii_digit());
         plain && (w.len() == 1 || !w.starts_with('0'))
     });
-    let number = digits.and_then(|w| w.parse().ok());
-    number.ok_or_else(|| {
+    digits.and_then(|w| w.parse().ok())
+}
+
+pub fn scheme(word: &OsStr) -> Result<u32, Fault> {
+    number(word).ok_or_else(|| {
         tell::words(format!(
             "SCHEME is a number from 0 to {}, not '{}'",
             SCHEMES - 1,
             shown(word)
         ))
     })
+}
+
+pub fn rule(word: &OsStr) -> Result<u32, Fault> {
+    let [(one, _), (other, _)] = rules();
+    number(word)
+        .ok_or_else(|| tell::words(format!("RULE is {one} or {other}, not '{}'", shown(word))))
 }
 
 /// Where an input comes from or an output goes to.
@@ -91,9 +100,9 @@ mod tests {
     use super::*;
 
     #[test]
-    fn schemes() {
-        for (word, number) in [("0", 0), ("5", 5), ("99", 99), ("4294967295", u32::MAX)] {
-            assert_eq!(scheme(OsStr::new(word)).ok(), Some(number));
+    fn numbers() {
+        for (word, is) in [("0", 0), ("16", 16), ("99", 99), ("4294967295", u32::MAX)] {
+            assert_eq!(number(OsStr::new(word)), Some(is));
         }
         for word in [
             "",
@@ -107,7 +116,7 @@ mod tests {
             "4294967296",
             "١",
         ] {
-            assert!(scheme(OsStr::new(word)).is_err(), "{word}");
+            assert_eq!(number(OsStr::new(word)), None, "{word}");
         }
     }
 

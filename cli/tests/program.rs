@@ -83,6 +83,25 @@ fn a_refusal_says_why_and_leaves_zeros() {
 }
 
 #[test]
+fn expand_goes_by_its_rule() {
+    let room = Room::new("rule");
+    // 12289, which rule 14 passes over and rule 16 takes as 0
+    fs::write(room.0.join("stream"), [1, 48].repeat(1024)).unwrap();
+    let line = room.says(1, "expand 14 stream a");
+    assert_eq!(line, "refusal=7 place=0 input=stream expected=1024\n");
+    fs::write(room.0.join("a"), "old numbers").unwrap();
+    assert_eq!(room.says(0, "expand 16 stream a"), "written=1024\n");
+    assert_eq!(room.read("a"), [0; 4096]);
+    fs::write(room.0.join("a"), "old numbers").unwrap();
+    let line = room.says(1, "expand 15 stream a");
+    assert_eq!(line, "refusal=12 place=0 rule=15 expected=14,16\n");
+    assert_eq!(room.read("a"), [0; 4096]);
+    let done = room.run("expand x stream a");
+    assert_eq!(done.status.code(), Some(2));
+    assert_eq!(done.stderr, b"wimmostry: RULE is 14 or 16, not 'x'\n");
+}
+
+#[test]
 fn wrong_words_and_files_touch_nothing() {
     let room = Room::new("wrong");
     room.says(0, "draw 1 s s");

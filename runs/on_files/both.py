@@ -16,20 +16,26 @@ def lengths(scheme):
     q, largest, key, public, secret, last, seed, coins, opening, reply, *drawn = SCHEMES[scheme]
     return {"A": [public], "S": [secret], "E": [secret], "S1": [secret], "E1": [secret],
             "E2": [last], "SEED": [seed], "COINS": [coins], "OPENING": [opening],
-            "REPLY": [reply], "BYTES": list(dict.fromkeys(drawn)), "STREAM": range(65537)}
+            "REPLY": [reply], "BYTES": list(dict.fromkeys(drawn))}
+
+
+def of_expand(rule, stream, number):
+    return {12: f"rule={rule} expected=14,16",
+            2: f"input=stream length={len(stream)} at-most=65536",
+            7: "input=stream expected=1024"}[number]
 
 
 def detail(command, scheme, data, number, place):
     """data has the bytes of each input by its word."""
     given = [(w, entries(w, data[w])) for w in INPUTS[command]]
+    if command == "expand":
+        return of_expand(scheme, data["STREAM"], number)
     if number == 1:
         return f"scheme={scheme} expected={1 if command == 'noise' else 0}..5"
-    q, largest, *_ = SCHEMES[scheme or 0]
+    q, largest, *_ = SCHEMES[scheme]
     if number == 2:
-        fixed = lengths(scheme or 0)
+        fixed = lengths(scheme)
         word, there = next((w, len(x)) for w, x in given if len(x) not in fixed[w])
-        if word == "STREAM":
-            return f"input=stream length={there} at-most=65536"
         return f"input={word.lower()} length={there} expected={','.join(map(str, fixed[word]))}"
     if number == 4:
         return f"input=a value={entries('A', data['A'])[place]} below={q}"
@@ -42,8 +48,6 @@ def detail(command, scheme, data, number, place):
         for word, values in given:
             if word in NUMBERS - {"A"} and any(abs(x) > largest for x in values):
                 return f"input={word.lower()} value={values[place]} largest={largest}"
-    if number == 7:
-        return "input=stream expected=1024"
 
 
 class Both:
@@ -78,10 +82,9 @@ class Both:
         return names
 
     def __call__(self, kind, command, scheme, given, sizes, secrets=()):
-        """The words of the inputs; the outputs' words and lengths after a refusal. Returns what it
-        said and wrote."""
-        number = [str(scheme)] if scheme is not None else []
-        before = [command, *number, *map(self.name, given)]
+        """The scheme or, of expand, the rule; the words of the inputs; the outputs' words and
+        lengths after a refusal. Returns what it said and wrote."""
+        before = [command, str(scheme), *map(self.name, given)]
         results = []
         for program, mark in (([self.program], "1"), ([self.second, "box"], "2")):
             out = [self.name(w + mark) for w in sizes]
@@ -93,7 +96,7 @@ class Both:
         (_, text2, error2), files2 = results[1]
         what = f"{command} {scheme} {given}: {text!r} {error!r} but {text2!r} {error2!r}"
         expected = text2
-        if refused := re.fullmatch(rb"refusal=(\d) place=(\d+)\n", text2):
+        if refused := re.fullmatch(rb"refusal=(\d+) place=(\d+)\n", text2):
             data = dict(zip(INPUTS[command], (self.data[w] for w in given)))
             more = detail(command, scheme, data, *map(int, refused.groups()))
             expected = text2[:-1] + f" {more}\n".encode()

@@ -88,7 +88,21 @@ def noise(both, rand):
             text, _ = both("noise", "noise", scheme, ["BYTES"], {"OUT": 0}, ["OUT"])
             hold("noise", text.startswith(b"written=") == (length in good),
                  f"noise {scheme} {length}: {text!r}")
-    drawn = map(rand.randbytes, (2000, 2801, 4096, 65536, 65537, 90000))
+    expand(both, rand)
+
+
+def expand(both, rand):
+    drawn = [*map(rand.randbytes, (2000, 2176, 2250, 2801, 4096, 65536, 65537, 90000))]
     for stream in (b"", *drawn, b"\xff" * 65536):
         both.put({"STREAM": stream})
-        both("noise", "expand", None, ["STREAM"], {"OUT": 4096})
+        for rule in (14, 16, 0, 1, 13, 15, 17, 4294967295):
+            text, _ = both("expand", "expand", rule, ["STREAM"], {"OUT": 4096})
+            hold("expand", text.startswith(b"refusal=12 ") == (rule not in (14, 16)),
+                 f"expand {rule}: {text!r}")
+    # one word again and again, and its number by rule 14 and by rule 16; None: it is passed over
+    for word, *by in ((61440, 12288, 12284), (61444, None, 12288), (61445, None, None)):
+        both.put({"STREAM": word.to_bytes(2, "little") * 1024})
+        for rule, number in zip((14, 16), by):
+            text, (numbers,) = both("expand", "expand", rule, ["STREAM"], {"OUT": 4096})
+            taken = text == b"written=1024\n" and numbers == words32([number or 0] * 1024)
+            hold("expand", taken == (number is not None), f"expand {rule} on {word}: {text!r}")

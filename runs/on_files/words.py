@@ -60,7 +60,8 @@ def words(both):
         (["offer"], b"offer takes SCHEME A S E SEED MESSAGE\n"),
         (["offer", *files[:5]], b"offer takes"), (["offer", *files[:7]], b"offer takes"),
         (["reply", *files[:8]], b"reply takes"), (["finish", *files[:3]], b"finish takes"),
-        (["noise", *files[:2]], b"noise takes"), (["expand", "-"], b"expand takes"),
+        (["noise", *files[:2]], b"noise takes"),
+        (["expand", "x", "y"], b"expand takes RULE STREAM OUT\n"),
         (["bench", *files[:8]], b"bench takes"), (["demo", "1", "2"], b"demo takes [SCHEME]\n"),
         (["draw", "1", "s"], b"draw takes SCHEME WHAT OUT\n"), (["wipe"], b"wipe takes FILE\n"),
         (["version", "x"], b"version takes no words\n"),
@@ -72,6 +73,8 @@ def words(both):
         (["finish", "1", "x", "y", "none"], b"KEY is an output, and none is for inputs"),
         *((["finish", w, "x", "y", "z"], f"SCHEME is a number from 0 to 5, not '{w}'".encode())
           for w in ("x", "", "-1", "01", "00", "1x", "4294967296", "12345678901")),
+        *((["expand", w, "x", "y"], f"RULE is 14 or 16, not '{w}'".encode())
+          for w in ("x", "", "-14", "014", "16x", "low", "4294967296")),
     ]:
         status, text, error = run([both.box, *given])
         fine = status == 2 and text == b"" and error.startswith(b"wimmostry: " + said)
@@ -135,6 +138,7 @@ def shown(both, scheme):
     for given in ([bad], ["help", bad], ["demo", bad], ["wipe", bad],
                   ["draw", bad, "s", "x"], ["draw", "1", bad, "x"],
                   ["finish", bad, "x", "x", "x"], ["finish", "1", bad, "none", "x"],
+                  ["expand", bad, "x", "x"],
                   ["finish", "1", "none", "none", inside],
                   ["finish", "1", "none", "none", inside + b"/x/y"],
                   ["reply", "1", *["none"] * 6, inside + b"/x", inside + b"/x"], ["wipe", inside]):
