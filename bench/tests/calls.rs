@@ -8,6 +8,7 @@ use bench::plain::frodo::Frodo;
 use bench::plain::newhope::NewHope;
 use bench::plain::{polynomial, sampling, Calls};
 use second::calls;
+use second::expand::Rule;
 use second::schemes::{Family, Scheme, SIX};
 
 struct Given {
@@ -100,8 +101,18 @@ fn noise() {
 fn expand() {
     for (seed, length) in [(0, 0), (1, 1), (2, 2047), (3, 4096), (4, 65536)] {
         let stream = Draw::new(seed).bytes(length);
-        let mut numbers = [9; 1024];
-        let taken = sampling::expand(&stream, &mut numbers);
-        assert!(numbers[..taken] == second::expand::taken(&stream));
+        for rule in [Rule::LowBits, Rule::WholeWord] {
+            let mut numbers = [9; 1024];
+            let taken = sampling::expand(rule, &stream, &mut numbers);
+            assert!(numbers[..taken] == second::expand::taken(rule, &stream));
+        }
+    }
+    // every word by itself, so that every number of either rule comes up
+    for word in 0..=u16::MAX {
+        for rule in [Rule::LowBits, Rule::WholeWord] {
+            let mut numbers = [9];
+            let taken = sampling::expand(rule, &word.to_le_bytes(), &mut numbers);
+            assert!(numbers[..taken] == second::expand::taken(rule, &word.to_le_bytes()), "{word}");
+        }
     }
 }

@@ -1,5 +1,6 @@
 //! Noise and Expand.
 
+use second::expand::Rule;
 use second::schemes::{Family, Scheme};
 
 /// The scheme's noise of the bytes; BCNS's is lent ready.
@@ -44,13 +45,19 @@ fn by_table<const K: usize>(bits: u32, thresholds: &[u16; K], bytes: &[u8], out:
     }
 }
 
-/// How many numbers were taken.
-pub fn expand(stream: &[u8], out: &mut [u32]) -> usize {
+/// How many numbers were taken. Each rule has a loop of its own.
+pub fn expand(rule: Rule, stream: &[u8], out: &mut [u32]) -> usize {
+    match rule {
+        Rule::LowBits => first(stream, out, |word| Some(word & 0x3fff).filter(|&low| low < 12289)),
+        Rule::WholeWord => first(stream, out, |word| (word < 61445).then_some(word % 12289)),
+    }
+}
+
+fn first(stream: &[u8], out: &mut [u32], number: impl Fn(u16) -> Option<u16>) -> usize {
     let mut taken = 0;
     for pair in stream.chunks_exact(2) {
-        let number = u32::from(u16::from_le_bytes([pair[0], pair[1]]) & 0x3fff);
-        if number < 12289 {
-            out[taken] = number;
+        if let Some(number) = number(u16::from_le_bytes([pair[0], pair[1]])) {
+            out[taken] = u32::from(number);
             taken += 1;
             if taken == out.len() {
                 break;

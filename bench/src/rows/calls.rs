@@ -9,6 +9,7 @@ use crate::plain::bcns::Bcns;
 use crate::plain::frodo::Frodo;
 use crate::plain::newhope::NewHope;
 use crate::plain::{polynomial, sampling, Calls};
+use second::expand::Rule;
 use second::schemes::{Family, Scheme, SIX};
 
 /// What an exchange gives.
@@ -116,19 +117,21 @@ fn noise(rows: &mut dyn Rows, scheme: &Scheme) {
     assert!(x == y, "the two give one noise");
 }
 
-fn expand(rows: &mut dyn Rows) {
+/// The stream is the same for both rules; rule 16 passes over fewer of its words.
+fn expand(rows: &mut dyn Rows, number: u32) {
+    let rule = Rule::of(number).expect("one of two");
     let stream = Draw::new(7).bytes(4096);
     let (mut x, mut y) = ([0; 1024], [0; 1024]);
-    let mut ours = || assert!(wimmostry::raw::expand(&stream, &mut x).is_ok());
-    let mut plain = || assert!(sampling::expand(&stream, &mut y) == 1024);
+    let mut ours = || assert!(wimmostry::raw::expand(number, &stream, &mut x).is_ok());
+    let mut plain = || assert!(sampling::expand(rule, &stream, &mut y) == 1024);
     ours();
     plain();
-    rows.row("Expand", "published method", &mut ours, &mut plain);
+    rows.row(&format!("Expand by rule {number}"), "published method", &mut ours, &mut plain);
     assert!(x == y, "the two give the same numbers");
 }
 
 pub fn rows(rows: &mut dyn Rows) {
     SIX.iter().for_each(|it| scheme(rows, it));
     SIX.iter().filter(|it| it.family != Family::Bcns).for_each(|it| noise(rows, it));
-    expand(rows);
+    [14, 16].into_iter().for_each(|rule| expand(rows, rule));
 }
