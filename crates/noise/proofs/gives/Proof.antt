@@ -10,4 +10,4 @@ returns-2 : tie.Need-returns-2
 returns-2 c = rw (c .enum-told2 .given .1)
 
 pub gives-spec : {M : Type 1} → statement M
-gives-spec = tie.close (tie.spec (search needs) (search needs) (search needs) (search needs) returns returns-2)
+gives-spec = tie.close (tie.spec (search needs) (search needs) (search needs) returns returns-2)
