@@ -1,0 +1,42 @@
+-- `keccak::mix` meets its contract: every lane is the definition's, by computation.
+use mathlib.Core.Path.{refl}
+use borrow.Author.Needs.{needs}
+use Rattle.lists.specs.Entries.{tab}
+use Rattle.keccak.specs.Keccak.{theta, rho, pi}
+use Rattle.keccak.proofs.mix.Statement.{statement}
+use Rattle.keccak.proofs.mix.Tie as tie
+
+returns : tie.Need-returns
+unfolding theta rho pi tab
+returns c = refl
+
+pub mix-spec : {M : Type 1} → statement M
+mix-spec =
+    tie.close
+    (tie.spec
+    (search needs)
+    (search needs)
+    (search needs)
+    (search needs)
+    (search needs)
+    (search needs)
+    (search needs)
+    (search needs)
+    (search needs)
+    (search needs)
+    (search needs)
+    (search needs)
+    (search needs)
+    (search needs)
+    (search needs)
+    (search needs)
+    (search needs)
+    (search needs)
+    (search needs)
+    (search needs)
+    (search needs)
+    (search needs)
+    (search needs)
+    (search needs)
+    (search needs)
+    returns)

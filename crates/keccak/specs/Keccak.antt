@@ -1,0 +1,103 @@
+-- Keccak-f[1600]: FIPS 202, section 3. A state is the list of its 25 lanes; the standard's bit A[x, y, z] is bit z, of weight 2^z, of the lane at x + 5y.
+--   rot n a, flip a      a lane turned by n places (bit z goes to z + n modulo 64), and with every bit flipped
+--   state f, lane a x y  the state whose lane (x, y) is f x y, and the lane of a state at x and y modulo 5
+--   parity a x           3.2.1: the parities C[x] of the columns
+--   theta, rho, pi, chi, iota   3.2.1 to 3.2.5: the step mappings; iota by the round's constant
+--   round, rounds        3.3: a round, and one after the other by their constants
+--   keccakF a            3.4: the 24 rounds of Keccak-f[1600]
+--   offsets, constants   the tables of rho and iota
+--   OffsetsRule          rho's is what algorithm 2 gives
+--   ConstantsRule        and iota's what algorithms 5 and 6 give
+use mathlib.Core.Path.{_≡_}
+use mathlib.Core.List.{List, [], _∷_}
+use Prim.Native.Nat.{ℕ, zero, suc, _+_, _-_, _*_, _/_, _%_, _^_}
+use lib.Bits.{bitAnd, bitOr, bitXor}
+use lib.ListN.{getD, set}
+use Rattle.lists.specs.Entries.{tab}
+
+abbrev pub rot : ℕ → ℕ → ℕ
+rot zero a = a
+rot (suc n) a = bitOr (a * 2 ^ suc n % 2 ^ 64) (a / 2 ^ (64 - suc n))
+
+abbrev pub flip : ℕ → ℕ
+flip a = 2 ^ 64 - 1 - a
+
+abbrev pub state : (ℕ → ℕ → ℕ) → List ℕ
+state f = tab 25 (λ i. f (i % 5) (i / 5))
+
+abbrev pub lane : List ℕ → ℕ → ℕ → ℕ
+lane a x y = getD a (x % 5 + 5 * (y % 5)) 0
+
+-- ---- 3.2: the step mappings; x - 1 is x + 4 modulo 5
+
+abbrev pub parity : List ℕ → ℕ → ℕ
+parity a x = bitXor (bitXor (bitXor (bitXor (lane a x 0) (lane a x 1)) (lane a x 2)) (lane a x 3)) (lane a x 4)
+
+unfoldable pub theta : List ℕ → List ℕ
+theta a = state (λ x y. bitXor (lane a x y) (bitXor (parity a (x + 4)) (rot 1 (parity a (x + 1)))))
+
+-- a line for each y, from 0 up; in a line x from 0 up
+abbrev pub offsets : List ℕ
+offsets =
+    0 ∷ 1 ∷ 62 ∷ 28 ∷ 27 ∷
+    36 ∷ 44 ∷ 6 ∷ 55 ∷ 20 ∷
+    3 ∷ 10 ∷ 43 ∷ 25 ∷ 39 ∷
+    41 ∷ 45 ∷ 15 ∷ 21 ∷ 8 ∷
+    18 ∷ 2 ∷ 61 ∷ 56 ∷ 14 ∷ []
+
+unfoldable pub rho : List ℕ → List ℕ
+rho a = state (λ x y. rot (lane offsets x y) (lane a x y))
+
+unfoldable pub pi : List ℕ → List ℕ
+pi a = state (λ x y. lane a (x + 3 * y) x)
+
+unfoldable pub chi : List ℕ → List ℕ
+chi a = state (λ x y. bitXor (lane a x y) (bitAnd (flip (lane a (x + 1) y)) (lane a (x + 2) y)))
+
+unfoldable pub iota : ℕ → List ℕ → List ℕ
+iota rc a = set a 0 (bitXor (lane a 0 0) rc)
+
+-- ---- 3.3 and 3.4: the rounds
+
+unfoldable pub round : ℕ → List ℕ → List ℕ
+round rc a = iota rc (chi (pi (rho (theta a))))
+
+unfoldable pub rounds : List ℕ → List ℕ → List ℕ
+rounds [] a = a
+rounds (rc ∷ rcs) a = rounds rcs (round rc a)
+
+abbrev pub constants : List ℕ
+constants =
+    1 ∷ 32898 ∷ 9223372036854808714 ∷ 9223372039002292224 ∷ 32907 ∷ 2147483649 ∷ 9223372039002292353 ∷ 9223372036854808585 ∷ 138 ∷ 136 ∷
+    2147516425 ∷ 2147483658 ∷ 2147516555 ∷ 9223372036854775947 ∷ 9223372036854808713 ∷ 9223372036854808579 ∷ 9223372036854808578 ∷
+    9223372036854775936 ∷ 32778 ∷ 9223372039002259466 ∷ 9223372039002292353 ∷ 9223372036854808704 ∷ 2147483649 ∷ 9223372039002292232 ∷ []
+
+unfoldable pub keccakF : List ℕ → List ℕ
+keccakF a = rounds constants a
+
+-- ---- what gives the tables
+
+-- algorithm 2: from (1, 0) on, (x, y) gets (t + 1)(t + 2)/2 modulo 64, and (y, 2x + 3y) is next; n turns are left
+abbrev pub walk : ℕ → ℕ → ℕ → ℕ → List ℕ → List ℕ
+walk zero t x y l = l
+walk (suc n) t x y l = walk n (t + 1) y ((2 * x + 3 * y) % 5) (set l (x + 5 * y) ((t + 1) * (t + 2) / 2 % 64))
+
+abbrev pub OffsetsRule : Type 0
+OffsetsRule = offsets ≡ walk 24 0 1 0 (tab 25 (λ i. 0))
+
+-- algorithm 5: the register R after t turns as a number, the standard's R[i] of weight 2^i. A 1 that leaves R[7] is added to R[0], R[4], R[5] and R[6].
+abbrev pub register : ℕ → ℕ
+register zero = 1
+register (suc t) = bitXor (2 * register t % 256) (register t / 128 * (1 + 2 ^ 4 + 2 ^ 5 + 2 ^ 6))
+
+abbrev pub rc : ℕ → ℕ
+rc t = register (t % 255) % 2
+
+-- algorithm 6: RC[2^j - 1] is rc(j + 7i) in round i
+abbrev pub roundConstant : ℕ → ℕ
+roundConstant i =
+    2 ^ 0 * rc (0 + 7 * i) + 2 ^ 1 * rc (1 + 7 * i) + 2 ^ 3 * rc (2 + 7 * i) + 2 ^ 7 * rc (3 + 7 * i) + 2 ^ 15 * rc (4 + 7 * i)
+    + 2 ^ 31 * rc (5 + 7 * i) + 2 ^ 63 * rc (6 + 7 * i)
+
+abbrev pub ConstantsRule : Type 0
+ConstantsRule = constants ≡ tab 24 roundConstant
