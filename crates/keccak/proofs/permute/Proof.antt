@@ -1,6 +1,6 @@
 -- `keccak::permute` meets its contract: what the rounds that are left make of the state is what all of them make of the first.
 use mathlib.Core.Path.{_≡_, refl, sym, ap, _∙_}
-use Prim.Native.Nat.{ℕ, _≤_, _<_, _+_, _-_}
+use Prim.Native.Nat.{ℕ, _≤_, _+_, _-_}
 use native.Mathlib.Omega.{arith}
 use lib.ListN.{drop}
 use borrow.Author.Needs.{needs}

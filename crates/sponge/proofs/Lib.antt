@@ -1,0 +1,5 @@
+pub mod Lanes
+pub mod Ending
+pub mod Absorbing
+pub mod Squeezing
+pub mod Output
