@@ -1,0 +1,5 @@
+pub mod Bit
+pub mod Steps
+pub mod Kept
+pub mod Padding
+pub mod Strings

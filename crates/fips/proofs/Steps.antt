@@ -1,0 +1,112 @@
+-- The steps on lanes are the standard's on bits.
+--   lane-state                                  a state has the lanes that it is made of
+--   lane-below, parity-below, offset-below      lanes and parities have 64 bits; offsets are below 64, by one computed test
+--   theta-is, rho-is, pi-is, chi-is, iota-is    each step
+use mathlib.Core.Path.{_≡_, refl, ap, ap₂, _∙_}
+use mathlib.Core.List.{List}
+use Prim.Native.Nat.{ℕ, _+_, _-_, _*_, _/_, _%_, _^_, _<_}
+use native.Mathlib.Nat.{mod-eq-of-lt, le-of-eq}
+use native.Mathlib.Omega.{arith}
+use lib.Bits.{bitXor, bitAnd, xor-lt}
+use lib.ListN.{getD}
+use lib.Seq.{getD-set-same, getD-set-other}
+use Rattle.lists.specs.Entries.{Below}
+use Rattle.lists.specs.First.{firstOver, firstWhere}
+use Rattle.lists.proofs.Entries.{tab-at}
+use Rattle.lists.proofs.First.{all-below}
+use Rattle.keccak.specs.Keccak.{state, lane, rot, flip, parity, offsets, theta, rho, pi, chi, iota}
+use Rattle.fips.specs.Steps.{bit, bitAt, column, Lanes, ThetaIs, RhoIs, PiIs, ChiIs, IotaIs}
+use Rattle.fips.proofs.Bit.{bit-xor, bit-and, bit-flip, bit-rot}
+
+pub lane-state : (f : ℕ → ℕ → ℕ) (x y : ℕ) → x < 5 → y < 5 → lane (state f) x y ≡ f x y
+lane-state f x y hx hy =
+    let p : (x + 5 * y) % 5 ≡ x = omega arith in
+    let q : (x + 5 * y) / 5 ≡ y = omega arith in
+    ap₂ (λ (u v : ℕ). getD (state f) (u + 5 * v) 0) (mod-eq-of-lt hx) (mod-eq-of-lt hy)
+    ∙ tab-at 25 (λ i. f (i % 5) (i / 5)) (x + 5 * y) 0 (omega arith)
+    ∙ ap₂ f p q
+
+pub lane-below : {a : List ℕ} → Lanes a → (x y : ℕ) → lane a x y < 2 ^ 64
+lane-below h x y = h .below (x % 5 + 5 * (y % 5))
+
+pub parity-below : {a : List ℕ} → Lanes a → (x : ℕ) → parity a x < 2 ^ 64
+parity-below {a} h x =
+    let l = lane a x in
+    let b = lane-below h x in
+    xor-lt 64 (bitXor (bitXor (bitXor (l 0) (l 1)) (l 2)) (l 3)) (l 4)
+    (xor-lt 64 (bitXor (bitXor (l 0) (l 1)) (l 2)) (l 3) (xor-lt 64 (bitXor (l 0) (l 1)) (l 2) (xor-lt 64 (l 0) (l 1) (b 0) (b 1)) (b 2)) (b 3)) (b 4)
+
+-- ---- theta
+
+once : (m n : ℕ) → (m + n % 2) % 2 ≡ (m + n) % 2
+once m n = omega arith
+
+-- one bit of a sum, with a number beside it
+beside : (z a b n : ℕ) → (n + bit z (bitXor a b)) % 2 ≡ (n + bit z b + bit z a) % 2
+beside z a b n =
+    let e : n + (bit z a + bit z b) ≡ n + bit z b + bit z a = omega arith in
+    ap (λ (k : ℕ). (n + k) % 2) (bit-xor z a b) ∙ once n (bit z a + bit z b) ∙ ap (λ (k : ℕ). k % 2) e
+
+bit-parity : (a : List ℕ) (x z : ℕ) → bit z (parity a x) ≡ column a x z
+bit-parity a x z =
+    let l = lane a x in
+    let b : ℕ → ℕ = λ y. bit z (l y) in
+    let s1 = bitXor (l 0) (l 1) in
+    let s2 = bitXor s1 (l 2) in
+    let s3 = bitXor s2 (l 3) in
+    let o : bit z s3 + b 4 ≡ b 4 + bit z s3 = omega arith in
+    let e : b 4 + b 3 + b 2 + b 1 + b 0 ≡ b 0 + b 1 + b 2 + b 3 + b 4 = omega arith in
+    bit-xor z s3 (l 4)
+    ∙ ap (λ (k : ℕ). k % 2) o
+    ∙ beside z s2 (l 3) (b 4)
+    ∙ beside z s1 (l 2) (b 4 + b 3)
+    ∙ beside z (l 0) (l 1) (b 4 + b 3 + b 2)
+    ∙ ap (λ (k : ℕ). k % 2) e
+
+pub theta-is : ThetaIs
+unfolding theta
+theta-is a h x y z hx hy hz =
+    let c = parity a (x + 4) in
+    let d = rot 1 (parity a (x + 1)) in
+    let n = bitAt a x y z in
+    let e : n + (column a (x + 4) z + column a (x + 1) ((z + 63) % 64)) ≡ n + column a (x + 4) z + column a (x + 1) ((z + 63) % 64) = omega arith in
+    ap (bit z) (lane-state (λ x y. bitXor (lane a x y) (bitXor (parity a (x + 4)) (rot 1 (parity a (x + 1))))) x y hx hy)
+    ∙ bit-xor z (lane a x y) (bitXor c d)
+    ∙ ap (λ (k : ℕ). (n + k) % 2) (bit-xor z c d)
+    ∙ once n (bit z c + bit z d)
+    ∙ ap₂ (λ (p q : ℕ). (n + (p + q)) % 2) (bit-parity a (x + 4) z)
+    (bit-rot 1 z (parity a (x + 1)) (omega arith) hz (parity-below h (x + 1)) ∙ bit-parity a (x + 1) ((z + 63) % 64))
+    ∙ ap (λ (k : ℕ). k % 2) e
+
+-- ---- the others
+
+pub offset-below : Below 64 offsets
+unfolding firstOver firstWhere
+offset-below = all-below 64 offsets (omega arith) (le-of-eq refl)
+
+pub rho-is : RhoIs
+unfolding rho
+rho-is a h x y z hx hy hz =
+    ap (bit z) (lane-state (λ x y. rot (lane offsets x y) (lane a x y)) x y hx hy)
+    ∙ bit-rot (lane offsets x y) z (lane a x y) (offset-below .below (x % 5 + 5 * (y % 5))) hz (lane-below h x y)
+
+pub pi-is : PiIs
+unfolding pi
+pi-is a h x y z hx hy hz = ap (bit z) (lane-state (λ x y. lane a (x + 3 * y) x) x y hx hy)
+
+pub chi-is : ChiIs
+unfolding chi
+chi-is a h x y z hx hy hz =
+    let b = flip (lane a (x + 1) y) in
+    ap (bit z) (lane-state (λ x y. bitXor (lane a x y) (bitAnd (flip (lane a (x + 1) y)) (lane a (x + 2) y))) x y hx hy)
+    ∙ bit-xor z (lane a x y) (bitAnd b (lane a (x + 2) y))
+    ∙ ap (λ (k : ℕ). (bitAt a x y z + k) % 2)
+    (bit-and z b (lane a (x + 2) y) ∙ ap (λ (k : ℕ). k * bitAt a (x + 2) y z) (bit-flip z (lane a (x + 1) y) hz (lane-below h (x + 1) y)))
+
+pub iota-is : IotaIs
+unfolding iota
+iota-is =
+    record {
+      first = λ rc a z h. ap (bit z) (getD-set-same a 0 (bitXor (lane a 0 0) rc) 0 h) ∙ bit-xor z (lane a 0 0) rc;
+      others = λ rc a x y z hx hy h. ap (bit z) (getD-set-other a 0 (x % 5 + 5 * (y % 5)) (bitXor (lane a 0 0) rc) 0 (λ e. h (omega arith)));
+    }
