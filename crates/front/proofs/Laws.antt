@@ -3,7 +3,7 @@
 --   some, number-zero   a refusal has a number, and a verdict without one has passed
 --   both            where a sequence has passed, each of its tests has
 --   length-passed, up-to-passed, room-passed, publics-passed, message-passed, secrets-passed   what a test that has passed says
---   within-passes, below-passes, message-passes, length-passes, room-passes   and what passes
+--   within-passes, below-passes, message-passes, length-passes, up-to-passes, room-passes   and what passes
 --   all-pass        so does a sequence of such tests
 --   stays, goes-on  one test more, after a failure and after none
 --   over, under     the unpack step's verdict, by the first number that is too large
@@ -144,6 +144,10 @@ all-pass e f = rw e f
 pub length-passes : {m n : ℕ} → m ≡ n → lengthIs m n ≡ Pass
 unfolding lengthIs
 length-passes e = rw (eq-eqb _ _ e)
+
+pub up-to-passes : {m n : ℕ} → m ≤ n → lengthUpTo m n ≡ Pass
+unfolding lengthUpTo
+up-to-passes h = rw (le-leb _ _ h)
 
 pub room-passes : {room n : ℕ} → n ≤ room → roomFor room n ≡ Pass
 unfolding roomFor

@@ -1,6 +1,6 @@
 -- Expand.
 --   sizes-failed         its verdict where a test of lengths fails
---   room-enough          the room where they pass
+--   sizes-passed, room-enough   its verdict and the room where they pass
 --   ran-out, full        its verdict where too few are taken, and where all are
 --   numbers-few          no more are taken than the answer has
 --   whole-part           numbers that fill their part
@@ -30,7 +30,7 @@ module _ (k : RuleName) (x : Expand) (room : ℕ) where
   sizes-failed e f = failed _ e f
 
   module _ (e : expandSizes x room ≡ Pass) where
-    sizes-passed : expandTests (By k) x room ≡ enough (length (expandNumbers (By k) (x .stream)))
+    pub sizes-passed : expandTests (By k) x room ≡ enough (length (expandNumbers (By k) (x .stream)))
     unfolding expandTests
     sizes-passed = went-on _ refl e
 

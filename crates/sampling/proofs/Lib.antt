@@ -1,3 +1,4 @@
 pub mod Noising
 pub mod Expanding
+pub mod Growing
 pub mod Sampled

@@ -1,9 +1,10 @@
-// Noise and Expand: values and public numbers from bytes that the caller lends (01, "Noise" and "The NewHope transform"). Neither has a `requires`: each ends
+// Noise, Expand and Grow: values and public numbers from bytes that the caller lends (01, "Noise" and "The NewHope transform"; 02, request c). None has a `requires`: each ends
 // with an answer or a numbered refusal, given exactly when its condition holds; the whole output is zeroed first.
 ghost use Rattle.schemes.specs.Schemes.{schemeOf};
 ghost use Rattle.noise.specs.Expand.{ruleOf};
 ghost use Rattle.sampling.specs.Noise.{Noises};
 ghost use Rattle.sampling.specs.Expand.{Expands};
+ghost use Rattle.sampling.specs.Grow.{Grows};
 
 mod sampler;
 
@@ -32,4 +33,15 @@ pub fn expand(rule: u32, stream: &[u8], out: &mut [u32]) -> Answer
         return Answer::Refused(Refusal::NoRule);
     };
     sampler::expand_by(name, stream, out)
+}
+
+// Grow: rule, seed. The first 1,024 numbers that the rule takes from the blocks of SHAKE-128 of the seed.
+pub fn grow(rule: u32, seed: &[u8], out: &mut [u32]) -> Answer
+    ensures { λ r. ⌜ Grows (ruleOf rule) seed out r ⌝ }
+{
+    lists::zero_numbers(out);
+    let Ruled::By(name) = noise::rule_of(rule) else {
+        return Answer::Refused(Refusal::NoRule);
+    };
+    sampler::grow_by(name, seed, out)
 }

@@ -1,8 +1,8 @@
-// Noise and Expand, once the scheme or the rule is known and the output holds zeros: the tests in 01's order, then the work of crate `noise` into the part of the output
+// Noise, Expand and Grow, once the scheme or the rule is known and the output holds zeros: the tests in 01's order, then the work of crate `noise` into the part of the output
 // that the answer takes.
 ghost use mathlib.Core.Path.{_≡_};
 ghost use mathlib.Core.List.{_++_};
-ghost use Prim.Native.Nat.{_%_, _≤_, _<_};
+ghost use Prim.Native.Nat.{_*_, _%_, _≤_, _<_};
 ghost use lib.ListN.{length, drop, replicate};
 ghost use lib.IntN.{pos};
 ghost use Rattle.schemes.specs.declared.Named.the-variants.{Is};
@@ -11,6 +11,7 @@ ghost use Rattle.front.specs.declared.Verdict.the-variants.{Pass};
 ghost use Rattle.noise.specs.declared.Ruled.the-variants.{By};
 ghost use Rattle.sampling.specs.Noise.{noise, lengthEither, noiseSizes, noiseTests, noiseValues, Noises};
 ghost use Rattle.sampling.specs.Expand.{expandOf, expand, expandSizes, Expands};
+ghost use Rattle.sampling.specs.Grow.{growOf, grow, growSizes, Grows};
 use front::Answer;
 use front::Refusal;
 use front::Verdict;
@@ -130,5 +131,45 @@ pub(crate) fn expand_by(name: RuleName, stream: &[u8], out: &mut [u32]) -> Answe
     match v {
         Verdict::Fail(r) => Answer::Refused(r),
         Verdict::Pass => expand_in(name, stream, out),
+    }
+}
+
+// Grow's tests of lengths.
+fn grow_sizes(seed: &[u8], room: usize) -> Verdict
+    ensures { λ r. ⌜ r ≡ growSizes (grow seed) room ⌝ }
+{
+    let v = front::length_is(Verdict::Pass, seed.len(), NewHope::SEED);
+    front::room_for(v, room, NewHope::PUBLIC)
+}
+
+// The blocks of the seed, then their numbers.
+fn grow_from(name: RuleName, seed: &[u8], blocks: &mut [u8], out: &mut [u32]) -> Answer
+    requires { ⌜ (growSizes (growOf (now seed)) (length (now out)) ≡ Pass) × (length (now blocks) ≡ 24 * 168) ⌝ }
+    requires { ⌜ now out ≡ replicate (length (now out)) 0 ⌝ }
+    ensures { λ r. ⌜ Grows (By name) seed out r ⌝ }
+{
+    sponge::shake128(seed, blocks);
+    expand_in(name, blocks, out)
+}
+
+// The same with room for 24 blocks of 168 bytes, which are made once.
+fn grow_in(name: RuleName, seed: &[u8], out: &mut [u32]) -> Answer
+    requires { ⌜ growSizes (growOf (now seed)) (length (now out)) ≡ Pass ⌝ }
+    requires { ⌜ now out ≡ replicate (length (now out)) 0 ⌝ }
+    ensures { λ r. ⌜ Grows (By name) seed out r ⌝ }
+{
+    let mut blocks = [0u8; 4032];
+    grow_from(name, seed, &mut blocks, out)
+}
+
+// Grow by a known rule.
+pub(crate) fn grow_by(name: RuleName, seed: &[u8], out: &mut [u32]) -> Answer
+    requires { ⌜ now out ≡ replicate (length (now out)) 0 ⌝ }
+    ensures { λ r. ⌜ Grows (By name) seed out r ⌝ }
+{
+    let v = grow_sizes(seed, out.len());
+    match v {
+        Verdict::Fail(r) => Answer::Refused(r),
+        Verdict::Pass => grow_in(name, seed, out),
     }
 }

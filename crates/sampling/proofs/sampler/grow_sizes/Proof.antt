@@ -1,0 +1,14 @@
+-- `sampling::sampler::grow_sizes` meets its contract.
+use mathlib.Core.Path.{refl}
+use Rattle.front.proofs.Laws.{first, also}
+use Rattle.sampling.specs.Grow.{growSizes}
+use borrow.Author.Needs.{needs}
+use Rattle.sampling.proofs.sampler.grow_sizes.Statement.{statement}
+use Rattle.sampling.proofs.sampler.grow_sizes.Tie as tie
+
+returns : tie.Need-returns
+unfolding growSizes
+returns c = also (c .room-for .ensures) (first (c .before .length-is .ensures) refl) refl
+
+pub grow-sizes-spec : {M : Type 1} → statement M
+grow-sizes-spec = tie.close (tie.spec (search needs) (search needs) returns)
