@@ -12,11 +12,25 @@ use lib.Pow.{shr-shr, shr-lt, shl-shr, mod-pow-add, mod-mod-pow, high, low, fiel
 use Rattle.keccak.specs.Keccak.{rot, flip}
 use Rattle.fips.specs.Steps.{bit}
 
+pub bit-lt : (z a : ℕ) → bit z a < 2
+bit-lt z a = mod-lt (a / 2 ^ z) (omega arith)
+
 odd : (n r : ℕ) → (n * 2 + r) % 2 ≡ r % 2
 odd n r = omega arith
 
+-- ---- an operation that goes bit by bit, once for both
+
+module _ (op low : ℕ → ℕ → ℕ) (shr : (a b k : ℕ) → op a b / 2 ^ k ≡ op (a / 2 ^ k) (b / 2 ^ k))
+    (step : (a b : ℕ) → op a b ≡ op (a / 2) (b / 2) * 2 + low (a % 2) (b % 2)) (rule : ℕ → ℕ → ℕ)
+    (bits : (x y : ℕ) → x < 2 → y < 2 → low x y % 2 ≡ rule x y) where
+  bit-op : (z a b : ℕ) → bit z (op a b) ≡ rule (bit z a) (bit z b)
+  bit-op z a b =
+      let p = a / 2 ^ z in
+      let q = b / 2 ^ z in
+      ap (λ (k : ℕ). k % 2) (shr a b z ∙ step p q) ∙ odd (op (p / 2) (q / 2)) (low (p % 2) (q % 2)) ∙ bits (p % 2) (q % 2) (bit-lt z a) (bit-lt z b)
+
 differ-bits : (x y : ℕ) → x < 2 → y < 2 → differ x y % 2 ≡ (x + y) % 2
-differ-bits zero y hx hy = ap (λ k. k % 2) (omega arith)
+differ-bits zero y hx hy = ap (λ (k : ℕ). k % 2) (omega arith)
 differ-bits (suc zero) zero hx hy = refl
 differ-bits (suc zero) (suc zero) hx hy = refl
 differ-bits (suc zero) (suc (suc y)) hx hy = absurd (omega arith)
@@ -29,24 +43,13 @@ min-bits (suc zero) (suc zero) hx hy = refl
 min-bits (suc zero) (suc (suc y)) hx hy = absurd (omega arith)
 min-bits (suc (suc x)) y hx hy = absurd (omega arith)
 
-pub bit-lt : (z a : ℕ) → bit z a < 2
-bit-lt z a = mod-lt (a / 2 ^ z) (omega arith)
-
 pub bit-xor : (z a b : ℕ) → bit z (bitXor a b) ≡ (bit z a + bit z b) % 2
-bit-xor z a b =
-    let p = a / 2 ^ z in
-    let q = b / 2 ^ z in
-    ap (λ k. k % 2) (xor-shr a b z ∙ xor-step p q)
-    ∙ odd (bitXor (p / 2) (q / 2)) (differ (p % 2) (q % 2))
-    ∙ differ-bits (p % 2) (q % 2) (bit-lt z a) (bit-lt z b)
+bit-xor z a b = bit-op bitXor differ xor-shr xor-step (λ x y. (x + y) % 2) differ-bits z a b
 
 pub bit-and : (z a b : ℕ) → bit z (bitAnd a b) ≡ bit z a * bit z b
-bit-and z a b =
-    let p = a / 2 ^ z in
-    let q = b / 2 ^ z in
-    ap (λ k. k % 2) (and-shr a b z ∙ and-step p q)
-    ∙ odd (bitAnd (p / 2) (q / 2)) (min (p % 2) (q % 2))
-    ∙ min-bits (p % 2) (q % 2) (bit-lt z a) (bit-lt z b)
+bit-and z a b = bit-op bitAnd min and-shr and-step (λ x y. x * y) min-bits z a b
+
+-- ---- every bit flipped
 
 bit-suc : (z x : ℕ) → bit (suc z) x ≡ bit z (x / 2)
 bit-suc z x = let e : suc z ≡ 1 + z = omega arith in ap (λ k. x / 2 ^ k % 2) e ∙ ap (λ k. k % 2) (sym (shr-shr x 1 z))
