@@ -1,4 +1,4 @@
--- SHAKE-128 and SHA3-256 as calls. An output of n bytes has k of them still, once it is zeroed.
+-- SHAKE-128 and SHA3-256 as calls.
 --   shake-refused, shake-done     the promise of SHAKE-128, where its test fails and where the output is filled
 --   digest-refused, digest-done   that of SHA3-256, where a test fails and where the front of the zeros is written over
 --   room-enough                   the room where its tests pass
@@ -22,11 +22,10 @@ module _ (x : Hash) {n : ℕ} {v : Verdict} {out : List ℕ} (e : v ≡ shakeTes
   pub shake-refused : {r : Refusal} → v ≡ Fail r → out ≡ replicate n 0 → Shaken x (numberOf r) (placeOf r) n 0 out
   shake-refused f z = let g = sym e ∙ f in record { told = told-failed g; bytes = wrote-failed g z }
 
-  pub shake-done : {k : ℕ} → v ≡ Pass → k ≡ n → out ≡ shake128 (x .input) k → Shaken x 0 0 n (length out) out
-  shake-done f h w =
+  pub shake-done : v ≡ Pass → out ≡ shake128 (x .input) n → Shaken x 0 0 n (length out) out
+  shake-done f o =
       let g = sym e ∙ f in
       let xs = shake128 (x .input) n in
-      let o : out ≡ xs = w ∙ ap (shake128 (x .input)) h in
       let long : length out ≡ n = ap length o ∙ shake-length (x .input) n in
       let none : drop {A = ℕ} n (replicate n 0) ≡ [] = drop-of-length-le (replicate n 0) (le-of-eq (length-replicate n 0)) in
       rw long
@@ -35,6 +34,7 @@ module _ (x : Hash) {n : ℕ} {v : Verdict} {out : List ℕ} (e : v ≡ shakeTes
         bytes = wrote-passed g (replicate n 0) (shake-length (x .input) n) refl (o ∙ sym (append-nil xs) ∙ ap (λ (t : List ℕ). xs ++ t) (sym none));
       }
 
+-- an output of n bytes has k of them still, once it is zeroed
 module _ (x : Hash) {n k : ℕ} {v : Verdict} (h : k ≡ n) (e : v ≡ digestTests x k) where
   tests : v ≡ digestTests x n
   tests = e ∙ ap (digestTests x) h

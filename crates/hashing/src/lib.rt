@@ -1,5 +1,5 @@
 // SHAKE-128 and SHA3-256 as calls: 02, request c. Neither has a `requires`: each ends with an answer or a numbered refusal, given exactly when its condition
-// holds; the whole output is zeroed first.
+// holds.
 ghost use mathlib.Core.Path.{_≡_};
 ghost use Rattle.hashing.specs.Hashing.{hash, shakeTests, digestTests, Shakes, Digests};
 use front::Answer;
@@ -12,14 +12,16 @@ fn shake_tests(input: &[u8]) -> Verdict
     front::length_up_to(Verdict::Pass, input.len(), 65536)
 }
 
-// SHAKE-128: input. It fills the output, whatever its length.
+// SHAKE-128: input. It fills the output, whatever its length, so that there is nothing to zero but after a refusal.
 pub fn shake128(input: &[u8], out: &mut [u8]) -> Answer
     ensures { λ r. ⌜ Shakes input out r ⌝ }
 {
-    lists::zero_bytes(out);
     let v = shake_tests(input);
     match v {
-        Verdict::Fail(r) => Answer::Refused(r),
+        Verdict::Fail(r) => {
+            lists::zero_bytes(out);
+            Answer::Refused(r)
+        }
         Verdict::Pass => {
             sponge::shake128(input, out);
             Answer::Done(out.len())
@@ -35,7 +37,7 @@ fn digest_tests(input: &[u8], room: usize) -> Verdict
     front::room_for(front::length_up_to(Verdict::Pass, n, 65536), room, 32)
 }
 
-// SHA3-256: input. Its 32 bytes.
+// SHA3-256: input. Its 32 bytes; the whole output is zeroed first.
 pub fn sha3_256(input: &[u8], out: &mut [u8]) -> Answer
     ensures { λ r. ⌜ Digests input out r ⌝ }
 {

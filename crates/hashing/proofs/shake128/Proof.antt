@@ -1,6 +1,4 @@
--- `hashing::shake128` meets its contract: the output is zeroed first, and filled where nothing is refused.
-use lib.ListN.{length}
-use Rattle.lists.proofs.Same.{zeros-long}
+-- `hashing::shake128` meets its contract: the output is zeroed after a refusal, and filled where there is none.
 use Rattle.hashing.specs.Hashing.{hashOf}
 use Rattle.hashing.proofs.Hashed.{shake-refused, shake-done}
 use borrow.Author.Needs.{needs}
@@ -10,19 +8,18 @@ use Rattle.hashing.proofs.shake128.Tie as tie
 returns : tie.Need-returns
 returns c =
     let b : tie.Start = search needs in
-    let z : tie.After-zero-bytes = search needs in
     let t : tie.After-shake-tests = search needs in
-    shake-refused (hashOf (b .args .input .now)) (t .shake-tests .ensures) (c .before .v .given .1) (z .zero-bytes .ensures)
+    let p : tie.After-v = search needs in
+    let z : tie.After-zero-bytes = search needs in
+    shake-refused (hashOf (b .args .input .now)) (t .shake-tests .ensures) (p .v .given .1) (z .zero-bytes .ensures)
 
 returns-2 : tie.Need-returns-2
 returns-2 c =
     let b : tie.Start = search needs in
-    let z : tie.After-zero-bytes = search needs in
     let t : tie.After-shake-tests = search needs in
     let p : tie.After-enum-told = search needs in
     let w : tie.After-shake128 = search needs in
-    let n = zeros-long (length (b .args .out .now)) 0 (z .zero-bytes .ensures) in
-    shake-done (hashOf (b .args .input .now)) (t .shake-tests .ensures) (p .enum-told .given .1) n (w .shake128 .ensures)
+    shake-done (hashOf (b .args .input .now)) (t .shake-tests .ensures) (p .enum-told .given .1) (w .shake128 .ensures)
 
 pub shake128-spec : {M : Type 1} → statement M
 shake128-spec =
