@@ -1,10 +1,10 @@
 -- Finish.
 --   peer-key-length     a key is as long as the scheme says
 --   peer-key-taken      the key of the reply's own numbers is Finish's
---   finish-sized        what passed sizes say: the lengths, and room for the key
+--   finish-sized        what passed sizes say: the lengths, and room for key and digest
 --   finish-sizes-failed, finish-rest-decides   its verdict by the test that decides
 --   finish-unknown      its tests where the number names no scheme
---   finish-refused      its promise after a refusal; finish-named: under another name and room
+--   finish-refused      its promise after a refusal
 use mathlib.Core.Path.{_≡_, refl, _∙_, sym}
 use mathlib.Core.List.{List}
 use Prim.Native.Nat.{ℕ, _≤_}
@@ -42,29 +42,27 @@ module _ (c : Scheme) (x : Finish) where
 
   -- ---- its tests
 
-  pub finish-sized : (k : ℕ) → finishSizes c x k ≡ Pass → (length (x .reply) ≡ fixedOf c .reply) × (length (x .s) ≡ fixedOf c .secret) × (fixedOf c .key ≤ k)
+  pub finish-sized : (k d : ℕ) → finishSizes c x k d ≡ Pass
+      → (length (x .reply) ≡ fixedOf c .reply) × (length (x .s) ≡ fixedOf c .secret) × (fixedOf c .key ≤ k) × (32 ≤ d)
   unfolding finishSizes
-  finish-sized k t =
-      let roomy = both _ _ t in
-      let lengths = both _ _ (roomy .0) in
-      (length-passed _ _ (lengths .0), length-passed _ _ (lengths .1), room-passed _ _ (roomy .1))
+  finish-sized k d t =
+      let digest = both _ _ t in
+      let key = both _ _ (digest .0) in
+      let lengths = both _ _ (key .0) in
+      (length-passed _ _ (lengths .0), length-passed _ _ (lengths .1), room-passed _ _ (key .1), room-passed _ _ (digest .1))
 
-  pub finish-sizes-failed : (k : ℕ) {v : Verdict} {r : Refusal} → v ≡ finishSizes c x k → v ≡ Fail r → finishTests (Is c) x k ≡ Fail r
+  pub finish-sizes-failed : (k d : ℕ) {v : Verdict} {r : Refusal} → v ≡ finishSizes c x k d → v ≡ Fail r → finishTests (Is c) x k d ≡ Fail r
   unfolding finishTests
-  finish-sizes-failed k e f = failed _ e f
+  finish-sizes-failed k d e f = failed _ e f
 
-  pub finish-rest-decides : (k : ℕ) {v : Verdict} → finishSizes c x k ≡ Pass → v ≡ finishRest c x → finishTests (Is c) x k ≡ v
+  pub finish-rest-decides : (k d : ℕ) {v : Verdict} → finishSizes c x k d ≡ Pass → v ≡ finishRest c x → finishTests (Is c) x k d ≡ v
   unfolding finishTests
-  finish-rest-decides k t e = went-on _ refl t ∙ sym e
+  finish-rest-decides k d t e = went-on _ refl t ∙ sym e
 
-pub finish-unknown : {c : Named} (x : Finish) (k : ℕ) → c ≡ Unknown → finishTests c x k ≡ Fail NoScheme
+pub finish-unknown : {c : Named} (x : Finish) (k d : ℕ) → c ≡ Unknown → finishTests c x k d ≡ Fail NoScheme
 unfolding finishTests
-finish-unknown x k e = rw e
+finish-unknown x k d e = rw e
 
-pub finish-refused : {c : Named} {x : Finish} {k : ℕ} {r : Refusal} {key : List ℕ} → finishTests c x k ≡ Fail r → key ≡ replicate k 0
-    → Finished c x (numberOf r) (placeOf r) k 0 key
-finish-refused e o = record { told = told-failed e; keys = wrote-failed e o }
-
-pub finish-named : {c d : Named} {x : Finish} {number place m n count : ℕ} {key : List ℕ} → c ≡ d → m ≡ n → Finished d x number place m count key
-    → Finished c x number place n count key
-finish-named e f p = rw (e, ← f) p
+pub finish-refused : {c : Named} {x : Finish} {k d : ℕ} {r : Refusal} {key digest : List ℕ} → finishTests c x k d ≡ Fail r → key ≡ replicate k 0
+    → digest ≡ replicate d 0 → Finished c x (numberOf r) (placeOf r) k 0 key d 0 digest
+finish-refused e o p = record { told = told-failed e; keys = wrote-failed e o; digests = wrote-failed e p }

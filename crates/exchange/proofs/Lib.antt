@@ -1,3 +1,4 @@
+pub mod Digest
 pub mod Offering
 pub mod Replying
 pub mod Finishing

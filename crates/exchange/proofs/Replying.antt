@@ -1,7 +1,7 @@
 -- Reply.
 --   message-length, key-length   message and key are as long as the scheme says
 --   message-taken, key-taken     those of the opening's own numbers are Reply's
---   Sized, reply-sized           what passed sizes say: the lengths, the public numbers, and room for message and key
+--   Sized, reply-sized           what passed sizes say: the lengths, the public numbers, and room for message, key and digest
 --   secrets-small                what the secrets' tests say
 --   reply-sizes-failed, reply-rest-decides   its verdict by the test that decides
 --   reply-unknown                its tests where the number names no scheme
@@ -63,7 +63,7 @@ module _ (c : Scheme) (x : Reply) where
 
 -- ---- its tests
 
-pub record Sized (c : Scheme) (x : Reply) (n k : ℕ) : Type 0 where
+pub record Sized (c : Scheme) (x : Reply) (n k d : ℕ) : Type 0 where
   pub opening-long : length (x .opening) ≡ fixedOf c .opening
   pub public : Counted (fixedOf c .public) (fixedOf c .q) (x .a)
   pub secret-long : length (x .s') ≡ fixedOf c .secret
@@ -72,13 +72,15 @@ pub record Sized (c : Scheme) (x : Reply) (n k : ℕ) : Type 0 where
   pub coins-long : length (x .coins) ≡ fixedOf c .coins
   pub roomy : fixedOf c .reply ≤ n
   pub key-roomy : fixedOf c .key ≤ k
+  pub digest-roomy : 32 ≤ d
 
 module _ (c : Scheme) (x : Reply) where
-  pub reply-sized : (n k : ℕ) → replySizes c x n k ≡ Pass → Sized c x n k
+  pub reply-sized : (n k d : ℕ) → replySizes c x n k d ≡ Pass → Sized c x n k d
   unfolding replySizes replyLengths
-  reply-sized n k t =
+  reply-sized n k d t =
       let public = both _ _ t in
-      let key = both _ _ (public .0) in
+      let digest = both _ _ (public .0) in
+      let key = both _ _ (digest .0) in
       let roomy = both _ _ (key .0) in
       let coins = both _ _ (roomy .0) in
       let last = both _ _ (coins .0) in
@@ -94,15 +96,16 @@ module _ (c : Scheme) (x : Reply) where
         coins-long = length-passed _ _ (coins .1);
         roomy = room-passed _ _ (roomy .1);
         key-roomy = room-passed _ _ (key .1);
+        digest-roomy = room-passed _ _ (digest .1);
       }
 
-  pub reply-sizes-failed : (n k : ℕ) {v : Verdict} {r : Refusal} → v ≡ replySizes c x n k → v ≡ Fail r → replyTests (Is c) x n k ≡ Fail r
+  pub reply-sizes-failed : (n k d : ℕ) {v : Verdict} {r : Refusal} → v ≡ replySizes c x n k d → v ≡ Fail r → replyTests (Is c) x n k d ≡ Fail r
   unfolding replyTests
-  reply-sizes-failed n k e f = failed _ e f
+  reply-sizes-failed n k d e f = failed _ e f
 
-  pub reply-rest-decides : (n k : ℕ) {v : Verdict} → replySizes c x n k ≡ Pass → v ≡ replyRest c x → replyTests (Is c) x n k ≡ v
+  pub reply-rest-decides : (n k d : ℕ) {v : Verdict} → replySizes c x n k d ≡ Pass → v ≡ replyRest c x → replyTests (Is c) x n k d ≡ v
   unfolding replyTests
-  reply-rest-decides n k t e = went-on _ refl t ∙ sym e
+  reply-rest-decides n k d t e = went-on _ refl t ∙ sym e
 
 pub secrets-small : (c : Scheme) (s' e' e'' : List ℤ) → replySecrets c s' e' e'' ≡ Pass
     → Within (fixedOf c .largest) s' × Within (fixedOf c .largest) e' × Within (fixedOf c .largest) e''
@@ -112,10 +115,10 @@ secrets-small c s' e' e'' t =
     let first = both _ _ (last .0) in
     (secrets-passed _ s' (first .0), secrets-passed _ e' (first .1), secrets-passed _ e'' (last .1))
 
-pub reply-unknown : {c : Named} (x : Reply) (n k : ℕ) → c ≡ Unknown → replyTests c x n k ≡ Fail NoScheme
+pub reply-unknown : {c : Named} (x : Reply) (n k d : ℕ) → c ≡ Unknown → replyTests c x n k d ≡ Fail NoScheme
 unfolding replyTests
-reply-unknown x n k e = rw e
+reply-unknown x n k d e = rw e
 
-pub reply-refused : {c : Named} {x : Reply} {n k : ℕ} {r : Refusal} {message key : List ℕ} → replyTests c x n k ≡ Fail r → message ≡ replicate n 0
-    → key ≡ replicate k 0 → Replied c x (numberOf r) (placeOf r) n 0 message k 0 key
-reply-refused e o p = record { told = told-failed e; messages = wrote-failed e o; keys = wrote-failed e p }
+pub reply-refused : {c : Named} {x : Reply} {n k d : ℕ} {r : Refusal} {message key digest : List ℕ} → replyTests c x n k d ≡ Fail r
+    → message ≡ replicate n 0 → key ≡ replicate k 0 → digest ≡ replicate d 0 → Replied c x (numberOf r) (placeOf r) n 0 message k 0 key d 0 digest
+reply-refused e o p q = record { told = told-failed e; messages = wrote-failed e o; keys = wrote-failed e p; digests = wrote-failed e q }

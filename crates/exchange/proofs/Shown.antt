@@ -34,40 +34,41 @@ use Rattle.exchange.proofs.Finishing.{finish-sized}
 pub one-offer : OneOffer
 one-offer c x n r r′ message message′ p q = (same-answer r r′ (cc) (cc) (cc), cc)
 
-reply-eta : (m : ReplyCounts) → record { message = m .message; key = m .key } ≡ m
+reply-eta : (m : ReplyCounts) → record { message = m .message; key = m .key; digest = m .digest } ≡ m
 reply-eta m = refl
 
 same-reply : (a b : ReplyAnswer) → reply.number a ≡ reply.number b → reply.place a ≡ reply.place b → reply.counts a .message ≡ reply.counts b .message
-    → reply.counts a .key ≡ reply.counts b .key → a ≡ b
-same-reply (ReplyAnswer.Done m) (ReplyAnswer.Done n) e f g h = cc (reply-eta m, reply-eta n)
-same-reply (ReplyAnswer.Done m) (ReplyAnswer.Refused s) e f g h = absurd (omega (arith, some s))
-same-reply (ReplyAnswer.Refused r) (ReplyAnswer.Done n) e f g h = absurd (omega (arith, some r))
-same-reply (ReplyAnswer.Refused r) (ReplyAnswer.Refused s) e f g h = ap ReplyAnswer.Refused (same-refusal r s e f)
+    → reply.counts a .key ≡ reply.counts b .key → reply.counts a .digest ≡ reply.counts b .digest → a ≡ b
+same-reply (ReplyAnswer.Done m) (ReplyAnswer.Done n) e f g h i = cc (reply-eta m, reply-eta n)
+same-reply (ReplyAnswer.Done m) (ReplyAnswer.Refused s) e f g h i = absurd (omega (arith, some s))
+same-reply (ReplyAnswer.Refused r) (ReplyAnswer.Done n) e f g h i = absurd (omega (arith, some r))
+same-reply (ReplyAnswer.Refused r) (ReplyAnswer.Refused s) e f g h i = ap ReplyAnswer.Refused (same-refusal r s e f)
 
 pub one-reply : OneReply
-one-reply c x n k r r′ message message′ key key′ p q = (same-reply r r′ (cc) (cc) (cc) (cc), cc, cc)
+one-reply c x n k d r r′ message message′ key key′ digest digest′ p q = (same-reply r r′ (cc) (cc) (cc) (cc) (cc), cc, cc, cc)
 
-finish-eta : (m : FinishCounts) → record { key = m .key } ≡ m
+finish-eta : (m : FinishCounts) → record { key = m .key; digest = m .digest } ≡ m
 finish-eta m = refl
 
-same-finish : (a b : FinishAnswer) → finish.number a ≡ finish.number b → finish.place a ≡ finish.place b → finish.counts a .key ≡ finish.counts b .key → a ≡ b
-same-finish (FinishAnswer.Done m) (FinishAnswer.Done n) e f g = cc (finish-eta m, finish-eta n)
-same-finish (FinishAnswer.Done m) (FinishAnswer.Refused s) e f g = absurd (omega (arith, some s))
-same-finish (FinishAnswer.Refused r) (FinishAnswer.Done n) e f g = absurd (omega (arith, some r))
-same-finish (FinishAnswer.Refused r) (FinishAnswer.Refused s) e f g = ap FinishAnswer.Refused (same-refusal r s e f)
+same-finish : (a b : FinishAnswer) → finish.number a ≡ finish.number b → finish.place a ≡ finish.place b → finish.counts a .key ≡ finish.counts b .key
+    → finish.counts a .digest ≡ finish.counts b .digest → a ≡ b
+same-finish (FinishAnswer.Done m) (FinishAnswer.Done n) e f g h = cc (finish-eta m, finish-eta n)
+same-finish (FinishAnswer.Done m) (FinishAnswer.Refused s) e f g h = absurd (omega (arith, some s))
+same-finish (FinishAnswer.Refused r) (FinishAnswer.Done n) e f g h = absurd (omega (arith, some r))
+same-finish (FinishAnswer.Refused r) (FinishAnswer.Refused s) e f g h = ap FinishAnswer.Refused (same-refusal r s e f)
 
 pub one-finish : OneFinish
-one-finish c x k r r′ key key′ p q = (same-finish r r′ (cc) (cc) (cc), cc)
+one-finish c x k d r r′ key key′ digest digest′ p q = (same-finish r r′ (cc) (cc) (cc) (cc), cc, cc)
 
 -- ---- messages that are accepted
 
 pub opening-comes-back : OpeningComesBack
 unfolding replyTests openedOf
-opening-comes-back c x n k b t = opening-again c (x .opening) (reply-sized c x n k (both _ _ t .0) .opening-long) b
+opening-comes-back c x n k d b t = opening-again c (x .opening) (reply-sized c x n k d (both _ _ t .0) .opening-long) b
 
 pub reply-comes-back : ReplyComesBack
 unfolding finishTests repliedOf
-reply-comes-back c x k b t = reply-again c (x .reply) (finish-sized c x k (both _ _ t .0) .0) b
+reply-comes-back c x k d b t = reply-again c (x .reply) (finish-sized c x k d (both _ _ t .0) .0) b
 
 -- ---- Frodo, whose q is all that a packed number can hold
 
@@ -93,18 +94,20 @@ never-five c d =
     let m = rooms Other (λ e. omega arith) (λ e. omega arith) in
     let a = publics Other (λ e. omega arith) (λ e. omega arith) in
     let s = secrets Other (λ e. omega arith) (λ e. omega arith) in (
-      λ x n k.
+      λ x n k d′.
           and Other _ _
+          (and Other _ _
           (and Other _ _
           (and Other _ _
           (and Other _ _
           (and Other _ _ (and Other _ _ (and Other _ _ (and Other _ _ (and Other _ _ (l _ _) (λ _. l _ _)) (λ _. l _ _)) (λ _. l _ _)) (λ _. l _ _)) (λ _. l _ _))
           (λ _. m _ _))
           (λ _. m _ _))
+          (λ _. m _ _))
           (λ _. a _ _))
           (λ _. and Other _ _ (passes Other (fits c d _) (λ e. omega arith)) (λ _. and Other _ _ (and Other _ _ (s _ _) (λ _. s _ _)) (λ _. s _ _))),
-      λ x k.
+      λ x k d′.
           and Other _ _
-          (and Other _ _ (and Other _ _ (l _ _) (λ _. l _ _)) (λ _. m _ _))
+          (and Other _ _ (and Other _ _ (and Other _ _ (l _ _) (λ _. l _ _)) (λ _. m _ _)) (λ _. m _ _))
           (λ _. and Other _ _ (passes Other (fits c d _) (λ e. omega arith)) (λ _. s _ _)),
     )

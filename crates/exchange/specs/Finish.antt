@@ -1,10 +1,10 @@
--- What Finish promises: 01, "The calls", "Bytes on the wire" and "Refusal numbers and their order".
+-- What Finish promises: 01, "The calls", "Bytes on the wire" and "Refusal numbers and their order"; its digest: 02, request c.
 --   Finish                    what it is lent: reply message, secret s
---   finishSizes c x k, finishRest c x, finishTests   its tests in 01's order, with room for k bytes of key: of lengths and room; of the reply's numbers
---                             and the secret; and all of them, by the scheme's number
+--   finishSizes c x k d, finishRest c x, finishTests   its tests in 01's order, with room for k bytes of key and d of digest: of lengths and rooms; of the
+--                             reply's numbers and the secret; and all of them, by the scheme's number
 --   repliedOf c x             u, the numbers of the reply
 --   peerKeyFrom, peerKeyOf    the key, of u and of the reply: the bits of w = us under the hints; finishKey: by the scheme's number
---   Finished                  its promise: what it tells, and what its output holds
+--   Finished                  its promise: what it tells, and what each output holds
 --   Finishes                  the same of a call: the slices that it is lent, and its answer
 use mathlib.Core.List.{List, []}
 use Prim.Native.Nat.{ℕ}
@@ -21,6 +21,7 @@ use Rattle.front.specs.Promise.{Told, Wrote}
 use Rattle.front.specs.declared.Verdict.{Verdict}
 use Rattle.front.specs.declared.Verdict.the-variants.{Fail}
 use Rattle.front.specs.declared.Refusal.the-variants.{NoScheme}
+use Rattle.sponge.specs.Sponge.{sha3}
 use Rattle.ends.specs.Values.{bareValue}
 use Rattle.ends.specs.Keys.{peers}
 use Rattle.wire.specs.Wire.{repliedIn, numbersIn, hintsIn}
@@ -32,8 +33,10 @@ pub record Finish : Type 0 where
   pub reply : List ℕ
   pub s : List ℤ
 
-unfoldable pub finishSizes : Scheme → Finish → ℕ → Verdict
-finishSizes c x k = lengthIs (length (x .reply)) (fixedOf c .reply) then lengthIs (length (x .s)) (fixedOf c .secret) then roomFor k (fixedOf c .key)
+unfoldable pub finishSizes : Scheme → Finish → ℕ → ℕ → Verdict
+finishSizes c x k d =
+    lengthIs (length (x .reply)) (fixedOf c .reply) then lengthIs (length (x .s)) (fixedOf c .secret)
+    then roomFor k (fixedOf c .key) then roomFor d 32
 
 unfoldable pub repliedOf : Scheme → Finish → List ℕ
 repliedOf c x = numbersIn c (repliedIn c (x .reply))
@@ -41,9 +44,9 @@ repliedOf c x = numbersIn c (repliedIn c (x .reply))
 unfoldable pub finishRest : Scheme → Finish → Verdict
 finishRest c x = messageIn (fixedOf c .q) (repliedOf c x) then secretsIn (fixedOf c .largest) (x .s)
 
-unfoldable pub finishTests : Named → Finish → ℕ → Verdict
-finishTests Unknown x k = Fail NoScheme
-finishTests (Is c) x k = finishSizes c x k then finishRest c x
+unfoldable pub finishTests : Named → Finish → ℕ → ℕ → Verdict
+finishTests Unknown x k d = Fail NoScheme
+finishTests (Is c) x k d = finishSizes c x k d then finishRest c x
 
 unfoldable pub peerKeyFrom : Scheme → List ℕ → Finish → List ℕ
 peerKeyFrom c u x = packed (fixedOf c .keybits) (peers c (hintsIn c (x .reply)) (bareValue c u (x .s)))
@@ -55,9 +58,11 @@ unfoldable pub finishKey : Named → Finish → List ℕ
 finishKey Unknown x = []
 finishKey (Is c) x = peerKeyOf c x
 
-pub record Finished (c : Named) (x : Finish) (number place keyRoom keyWritten : ℕ) (key : List ℕ) : Type 0 where
-  pub told : Told (finishTests c x keyRoom) number place
-  pub keys : Wrote (finishTests c x keyRoom) (finishKey c x) 0 keyRoom keyWritten key
+pub record Finished
+    (c : Named) (x : Finish) (number place keyRoom keyWritten : ℕ) (key : List ℕ) (digestRoom digestWritten : ℕ) (digest : List ℕ) : Type 0 where
+  pub told : Told (finishTests c x keyRoom digestRoom) number place
+  pub keys : Wrote (finishTests c x keyRoom digestRoom) (finishKey c x) 0 keyRoom keyWritten key
+  pub digests : Wrote (finishTests c x keyRoom digestRoom) (sha3 (finishKey c x)) 0 digestRoom digestWritten digest
 
 -- ---- of a call
 
@@ -71,7 +76,7 @@ place (Refused r) = placeOf r
 
 abbrev pub counts : FinishAnswer → FinishCounts
 counts (Done n) = n
-counts (Refused r) = record { key = 0 }
+counts (Refused r) = record { key = 0; digest = 0 }
 
 abbrev pub finishOf : List ℕ → List ℤ → Finish
 finishOf reply s = record { reply = reply; s = s }
@@ -79,5 +84,6 @@ finishOf reply s = record { reply = reply; s = s }
 abbrev pub finish : Lent (List ℕ) → Lent (List ℤ) → Finish
 finish reply s = finishOf (was reply) (was s)
 
-abbrev pub Finishes : Named → Lent (List ℕ) → Lent (List ℤ) → Lent (List ℕ) → FinishAnswer → Type 0
-Finishes c reply s key r = Finished c (finish reply s) (number r) (place r) (room key) (counts r .key) (left key)
+abbrev pub Finishes : Named → Lent (List ℕ) → Lent (List ℤ) → Lent (List ℕ) → Lent (List ℕ) → FinishAnswer → Type 0
+Finishes c reply s key digest r =
+    Finished c (finish reply s) (number r) (place r) (room key) (counts r .key) (left key) (room digest) (counts r .digest) (left digest)

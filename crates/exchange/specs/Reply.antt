@@ -1,7 +1,7 @@
--- What Reply promises: 01, "The calls", "Bytes on the wire" and "Refusal numbers and their order".
+-- What Reply promises: 01, "The calls", "Bytes on the wire" and "Refusal numbers and their order"; its digest: 02, request c.
 --   Reply                     what it is lent: opening message, public a, s', e', e'', coins
---   replyLengths c x, replySizes c x n k, replyRest c x, replyTests   its tests in 01's order, with room for n bytes of message and k of key: of lengths;
---                             of these, rooms and public numbers; of the opening's numbers and the secrets; and all of them, by the scheme's number
+--   replyLengths c x, replySizes c x n k d, replyRest c x, replyTests   its tests in 01's order, with room for n bytes of message, k of key and d of
+--                             digest: of lengths; of these, rooms and public numbers; of the opening's numbers and the secrets; and all of them, by the scheme's number
 --   openedOf c x              b, the numbers of the opening
 --   messageFrom, keyFrom      message and key, of b: u = as' + e' packed, and the hints of v = bs' + e''; the published bits of v
 --   messageOf, keyOf c x      the same of the opening; replyMessage, replyKey: by the scheme's number
@@ -22,6 +22,7 @@ use Rattle.front.specs.Promise.{Told, Wrote}
 use Rattle.front.specs.declared.Verdict.{Verdict}
 use Rattle.front.specs.declared.Verdict.the-variants.{Fail}
 use Rattle.front.specs.declared.Refusal.the-variants.{NoScheme}
+use Rattle.sponge.specs.Sponge.{sha3}
 use Rattle.ends.specs.Values.{replied, mixedValue}
 use Rattle.ends.specs.Keys.{hints, keys}
 use Rattle.wire.specs.Wire.{openedIn, numbersIn, coinsIn}
@@ -42,10 +43,10 @@ replyLengths c x =
     lengthIs (length (x .opening)) (fixedOf c .opening) then lengthIs (length (x .a)) (fixedOf c .public) then lengthIs (length (x .s')) (fixedOf c .secret)
     then lengthIs (length (x .e')) (fixedOf c .noise) then lengthIs (length (x .e'')) (fixedOf c .mixed) then lengthIs (length (x .coins)) (fixedOf c .coins)
 
-unfoldable pub replySizes : Scheme → Reply → ℕ → ℕ → Verdict
-replySizes c x n k =
+unfoldable pub replySizes : Scheme → Reply → ℕ → ℕ → ℕ → Verdict
+replySizes c x n k d =
     replyLengths c x
-    then roomFor n (fixedOf c .reply) then roomFor k (fixedOf c .key)
+    then roomFor n (fixedOf c .reply) then roomFor k (fixedOf c .key) then roomFor d 32
     then publicsIn (fixedOf c .q) (x .a)
 
 unfoldable pub openedOf : Scheme → Reply → List ℕ
@@ -58,9 +59,9 @@ replySecrets c s' e' e'' = secretsIn (fixedOf c .largest) s' then secretsIn (fix
 unfoldable pub replyRest : Scheme → Reply → Verdict
 replyRest c x = messageIn (fixedOf c .q) (openedOf c x) then replySecrets c (x .s') (x .e') (x .e'')
 
-unfoldable pub replyTests : Named → Reply → ℕ → ℕ → Verdict
-replyTests Unknown x n k = Fail NoScheme
-replyTests (Is c) x n k = replySizes c x n k then replyRest c x
+unfoldable pub replyTests : Named → Reply → ℕ → ℕ → ℕ → Verdict
+replyTests Unknown x n k d = Fail NoScheme
+replyTests (Is c) x n k d = replySizes c x n k d then replyRest c x
 
 unfoldable pub messageFrom : Scheme → List ℕ → List ℕ → List ℤ → List ℤ → List ℤ → List ℕ → List ℕ
 messageFrom c b a s' e' e'' coins =
@@ -84,10 +85,12 @@ replyKey Unknown x = []
 replyKey (Is c) x = keyOf c x
 
 pub record Replied
-    (c : Named) (x : Reply) (number place messageRoom messageWritten : ℕ) (message : List ℕ) (keyRoom keyWritten : ℕ) (key : List ℕ) : Type 0 where
-  pub told : Told (replyTests c x messageRoom keyRoom) number place
-  pub messages : Wrote (replyTests c x messageRoom keyRoom) (replyMessage c x) 0 messageRoom messageWritten message
-  pub keys : Wrote (replyTests c x messageRoom keyRoom) (replyKey c x) 0 keyRoom keyWritten key
+    (c : Named) (x : Reply) (number place messageRoom messageWritten : ℕ) (message : List ℕ) (keyRoom keyWritten : ℕ) (key : List ℕ)
+    (digestRoom digestWritten : ℕ) (digest : List ℕ) : Type 0 where
+  pub told : Told (replyTests c x messageRoom keyRoom digestRoom) number place
+  pub messages : Wrote (replyTests c x messageRoom keyRoom digestRoom) (replyMessage c x) 0 messageRoom messageWritten message
+  pub keys : Wrote (replyTests c x messageRoom keyRoom digestRoom) (replyKey c x) 0 keyRoom keyWritten key
+  pub digests : Wrote (replyTests c x messageRoom keyRoom digestRoom) (sha3 (replyKey c x)) 0 digestRoom digestWritten digest
 
 -- ---- of a call
 
@@ -101,7 +104,7 @@ place (Refused r) = placeOf r
 
 abbrev pub counts : ReplyAnswer → ReplyCounts
 counts (Done n) = n
-counts (Refused r) = record { message = 0; key = 0 }
+counts (Refused r) = record { message = 0; key = 0; digest = 0 }
 
 abbrev pub replyOf : List ℕ → List ℕ → List ℤ → List ℤ → List ℤ → List ℕ → Reply
 replyOf opening a s' e' e'' coins = record { opening = opening; a = a; s' = s'; e' = e'; e'' = e''; coins = coins }
@@ -110,7 +113,8 @@ abbrev pub reply : Lent (List ℕ) → Lent (List ℕ) → Lent (List ℤ) → L
 reply opening a s1 e1 e2 coins = replyOf (was opening) (was a) (was s1) (was e1) (was e2) (was coins)
 
 abbrev pub Replies :
-    Named → Lent (List ℕ) → Lent (List ℕ) → Lent (List ℤ) → Lent (List ℤ) → Lent (List ℤ) → Lent (List ℕ) → Lent (List ℕ) → Lent (List ℕ) → ReplyAnswer →
-    Type 0
-Replies c opening a s1 e1 e2 coins message key r =
+    Named → Lent (List ℕ) → Lent (List ℕ) → Lent (List ℤ) → Lent (List ℤ) → Lent (List ℤ) → Lent (List ℕ) → Lent (List ℕ) → Lent (List ℕ) →
+    Lent (List ℕ) → ReplyAnswer → Type 0
+Replies c opening a s1 e1 e2 coins message key digest r =
     Replied c (reply opening a s1 e1 e2 coins) (number r) (place r) (room message) (counts r .message) (left message) (room key) (counts r .key) (left key)
+    (room digest) (counts r .digest) (left digest)

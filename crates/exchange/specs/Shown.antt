@@ -32,28 +32,29 @@ OneOffer =
 
 abbrev pub OneReply : Type 0
 OneReply =
-    (c : Named) (x : Reply) (n k : ℕ) (r r′ : ReplyAnswer) (message message′ key key′ : List ℕ)
-    → Replied c x (reply.number r) (reply.place r) n (reply.counts r .message) message k (reply.counts r .key) key
-    → Replied c x (reply.number r′) (reply.place r′) n (reply.counts r′ .message) message′ k (reply.counts r′ .key) key′
-    → (r ≡ r′) × (message ≡ message′) × (key ≡ key′)
+    (c : Named) (x : Reply) (n k d : ℕ) (r r′ : ReplyAnswer) (message message′ key key′ digest digest′ : List ℕ)
+    → Replied c x (reply.number r) (reply.place r) n (reply.counts r .message) message k (reply.counts r .key) key d (reply.counts r .digest) digest
+    → Replied c x (reply.number r′) (reply.place r′) n (reply.counts r′ .message) message′ k (reply.counts r′ .key) key′ d (reply.counts r′ .digest) digest′
+    → (r ≡ r′) × (message ≡ message′) × (key ≡ key′) × (digest ≡ digest′)
 
 abbrev pub OneFinish : Type 0
 OneFinish =
-    (c : Named) (x : Finish) (k : ℕ) (r r′ : FinishAnswer) (key key′ : List ℕ)
-    → Finished c x (finish.number r) (finish.place r) k (finish.counts r .key) key
-    → Finished c x (finish.number r′) (finish.place r′) k (finish.counts r′ .key) key′ → (r ≡ r′) × (key ≡ key′)
+    (c : Named) (x : Finish) (k d : ℕ) (r r′ : FinishAnswer) (key key′ digest digest′ : List ℕ)
+    → Finished c x (finish.number r) (finish.place r) k (finish.counts r .key) key d (finish.counts r .digest) digest
+    → Finished c x (finish.number r′) (finish.place r′) k (finish.counts r′ .key) key′ d (finish.counts r′ .digest) digest′
+    → (r ≡ r′) × (key ≡ key′) × (digest ≡ digest′)
 
 abbrev pub OpeningComesBack : Type 0
 OpeningComesBack =
-    (c : Scheme) (x : Reply) (n k : ℕ) → Below 256 (x .opening) → replyTests (Is c) x n k ≡ Pass
+    (c : Scheme) (x : Reply) (n k d : ℕ) → Below 256 (x .opening) → replyTests (Is c) x n k d ≡ Pass
     → opening c (seedIn c (x .opening)) (packed (fixedOf c .width) (openedOf c x)) ≡ x .opening
 
 abbrev pub ReplyComesBack : Type 0
 ReplyComesBack =
-    (c : Scheme) (x : Finish) (k : ℕ) → Below 256 (x .reply) → finishTests (Is c) x k ≡ Pass
+    (c : Scheme) (x : Finish) (k d : ℕ) → Below 256 (x .reply) → finishTests (Is c) x k d ≡ Pass
     → packed (fixedOf c .width) (repliedOf c x) ++ packed (fixedOf c .hintbits) (hintsIn c (x .reply)) ≡ x .reply
 
 abbrev pub NeverFive : Type 0
 NeverFive =
     (c : Scheme) → familyOf c ≡ Family.Frodo
-    → ((x : Reply) (n k : ℕ) → numberIn (replyTests (Is c) x n k) ≡ 5 → ⊥) × ((x : Finish) (k : ℕ) → numberIn (finishTests (Is c) x k) ≡ 5 → ⊥)
+    → ((x : Reply) (n k d : ℕ) → numberIn (replyTests (Is c) x n k d) ≡ 5 → ⊥) × ((x : Finish) (k d : ℕ) → numberIn (finishTests (Is c) x k d) ≡ 5 → ⊥)

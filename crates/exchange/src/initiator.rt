@@ -1,5 +1,5 @@
-// Finish, once the scheme is known and the output holds zeros: lengths and room, then the reply's numbers, then the secret, in 01's order; then the key into
-// the part of the output that it takes.
+// Finish, once the scheme is known and both outputs hold zeros: lengths and rooms, then the reply's numbers, then the secret, in 01's order; then the key into
+// the part of the output that it takes, and its digest.
 ghost use mathlib.Core.Path.{_≡_};
 ghost use lib.ListN.{length, replicate};
 ghost use Rattle.schemes.specs.Schemes.{fixedOf};
@@ -99,27 +99,42 @@ fn key_in(scheme: Scheme, n: usize, reply: &[u8], s: &[i32], key: &mut [u8]) -> 
 }
 
 // Where the sizes have passed.
-fn finish_sized(scheme: Scheme, reply: &[u8], s: &[i32], key: &mut [u8]) -> FinishAnswer
-    requires { ⌜ finishSizes scheme (finishOf (now reply) (now s)) (length (now key)) ≡ Pass ⌝ }
-    requires { ⌜ now key ≡ replicate (length (now key)) 0 ⌝ }
-    ensures { λ r. ⌜ Finishes (Is scheme) reply s key r ⌝ }
+fn finish_sized(
+    scheme: Scheme,
+    reply: &[u8],
+    s: &[i32],
+    key: &mut [u8],
+    digest: &mut [u8],
+) -> FinishAnswer
+    requires { ⌜ finishSizes scheme (finishOf (now reply) (now s)) (length (now key)) (length (now digest)) ≡ Pass ⌝ }
+    requires { ⌜ (now key ≡ replicate (length (now key)) 0) × (now digest ≡ replicate (length (now digest)) 0) ⌝ }
+    ensures { λ r. ⌜ Finishes (Is scheme) reply s key digest r ⌝ }
 {
     let f = scheme.fixed();
     let k = f.key;
     let v = key_in(scheme, f.secret, reply, s, &mut key[..k]);
     match v {
         Verdict::Fail(r) => FinishAnswer::Refused(r),
-        Verdict::Pass => FinishAnswer::Done(FinishCounts { key: k }),
+        Verdict::Pass => {
+            crate::lay_digest(&key[..k], digest);
+            FinishAnswer::Done(FinishCounts { key: k, digest: 32 })
+        }
     }
 }
 
-pub(crate) fn finish_in(scheme: Scheme, reply: &[u8], s: &[i32], key: &mut [u8]) -> FinishAnswer
-    requires { ⌜ now key ≡ replicate (length (now key)) 0 ⌝ }
-    ensures { λ r. ⌜ Finishes (Is scheme) reply s key r ⌝ }
+pub(crate) fn finish_in(
+    scheme: Scheme,
+    reply: &[u8],
+    s: &[i32],
+    key: &mut [u8],
+    digest: &mut [u8],
+) -> FinishAnswer
+    requires { ⌜ (now key ≡ replicate (length (now key)) 0) × (now digest ≡ replicate (length (now digest)) 0) ⌝ }
+    ensures { λ r. ⌜ Finishes (Is scheme) reply s key digest r ⌝ }
 {
-    let v = crate::tests::finish_sizes(scheme, reply, s, key.len());
+    let v = crate::tests::finish_sizes(scheme, reply, s, key.len(), digest.len());
     match v {
         Verdict::Fail(r) => FinishAnswer::Refused(r),
-        Verdict::Pass => finish_sized(scheme, reply, s, key),
+        Verdict::Pass => finish_sized(scheme, reply, s, key, digest),
     }
 }

@@ -1,5 +1,5 @@
-// Reply, once the scheme is known and both outputs hold zeros: lengths, rooms and public numbers, then the opening's numbers, then the secrets, in 01's
-// order; then message and key into the parts of the outputs that they take.
+// Reply, once the scheme is known and all outputs hold zeros: lengths, rooms and public numbers, then the opening's numbers, then the secrets, in 01's
+// order; then message and key into the parts of the outputs that they take, and the key's digest.
 ghost use mathlib.Core.Path.{_≡_};
 ghost use mathlib.Core.List.{_++_};
 ghost use Prim.Native.Nat.{_^_};
@@ -255,10 +255,15 @@ fn reply_sized(
     coins: &[u8],
     message: &mut [u8],
     key: &mut [u8],
+    digest: &mut [u8],
 ) -> ReplyAnswer
-    requires { ⌜ replySizes scheme (replyOf (now opening) (now a) (now s1) (now e1) (now e2) (now coins)) (length (now message)) (length (now key)) ≡ Pass ⌝ }
+    requires { ⌜
+        replySizes scheme (replyOf (now opening) (now a) (now s1) (now e1) (now e2) (now coins)) (length (now message)) (length (now key)) (length (now digest))
+        ≡ Pass
+        ⌝ }
     requires { ⌜ (now message ≡ replicate (length (now message)) 0) × (now key ≡ replicate (length (now key)) 0) ⌝ }
-    ensures { λ r. ⌜ Replies (Is scheme) opening a s1 e1 e2 coins message key r ⌝ }
+    requires { ⌜ now digest ≡ replicate (length (now digest)) 0 ⌝ }
+    ensures { λ r. ⌜ Replies (Is scheme) opening a s1 e1 e2 coins message key digest r ⌝ }
 {
     let f = scheme.fixed();
     let n = f.reply;
@@ -277,7 +282,14 @@ fn reply_sized(
     );
     match v {
         Verdict::Fail(r) => ReplyAnswer::Refused(r),
-        Verdict::Pass => ReplyAnswer::Done(ReplyCounts { message: n, key: k }),
+        Verdict::Pass => {
+            crate::lay_digest(&key[..k], digest);
+            ReplyAnswer::Done(ReplyCounts {
+                message: n,
+                key: k,
+                digest: 32,
+            })
+        }
     }
 }
 
@@ -291,9 +303,11 @@ pub(crate) fn reply_in(
     coins: &[u8],
     message: &mut [u8],
     key: &mut [u8],
+    digest: &mut [u8],
 ) -> ReplyAnswer
     requires { ⌜ (now message ≡ replicate (length (now message)) 0) × (now key ≡ replicate (length (now key)) 0) ⌝ }
-    ensures { λ r. ⌜ Replies (Is scheme) opening a s1 e1 e2 coins message key r ⌝ }
+    requires { ⌜ now digest ≡ replicate (length (now digest)) 0 ⌝ }
+    ensures { λ r. ⌜ Replies (Is scheme) opening a s1 e1 e2 coins message key digest r ⌝ }
 {
     let v = crate::tests::reply_sizes(
         scheme,
@@ -305,9 +319,12 @@ pub(crate) fn reply_in(
         coins,
         message.len(),
         key.len(),
+        digest.len(),
     );
     match v {
         Verdict::Fail(r) => ReplyAnswer::Refused(r),
-        Verdict::Pass => reply_sized(scheme, opening, a, s1, e1, e2, coins, message, key),
+        Verdict::Pass => {
+            reply_sized(scheme, opening, a, s1, e1, e2, coins, message, key, digest)
+        }
     }
 }

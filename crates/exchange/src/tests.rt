@@ -65,13 +65,15 @@ pub(crate) fn reply_sizes(
     coins: &[u8],
     room: usize,
     keyroom: usize,
+    digestroom: usize,
 ) -> Verdict
-    ensures { λ r. ⌜ r ≡ replySizes scheme (reply opening a s1 e1 e2 coins) room keyroom ⌝ }
+    ensures { λ r. ⌜ r ≡ replySizes scheme (reply opening a s1 e1 e2 coins) room keyroom digestroom ⌝ }
 {
     let f = scheme.fixed();
     let v = reply_lengths(scheme, opening, a, s1, e1, e2, coins);
     let v = front::room_for(v, room, f.reply);
     let v = front::room_for(v, keyroom, f.key);
+    let v = front::room_for(v, digestroom, 32);
     front::publics_in(v, f.q, a)
 }
 
@@ -84,11 +86,18 @@ pub(crate) fn reply_secrets(scheme: Scheme, s1: &[i32], e1: &[i32], e2: &[i32]) 
     front::secrets_in(v, f.largest, e2)
 }
 
-pub(crate) fn finish_sizes(scheme: Scheme, reply: &[u8], s: &[i32], room: usize) -> Verdict
-    ensures { λ r. ⌜ r ≡ finishSizes scheme (finish reply s) room ⌝ }
+pub(crate) fn finish_sizes(
+    scheme: Scheme,
+    reply: &[u8],
+    s: &[i32],
+    room: usize,
+    digestroom: usize,
+) -> Verdict
+    ensures { λ r. ⌜ r ≡ finishSizes scheme (finish reply s) room digestroom ⌝ }
 {
     let f = scheme.fixed();
     let v = front::length_is(Verdict::Pass, reply.len(), f.reply);
     let v = front::length_is(v, s.len(), f.secret);
-    front::room_for(v, room, f.key)
+    let v = front::room_for(v, room, f.key);
+    front::room_for(v, digestroom, 32)
 }

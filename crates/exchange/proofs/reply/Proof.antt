@@ -14,7 +14,10 @@ known c = search needs
 abbrev named : tie.After-known → tie.After-scheme-of
 named c = search needs
 
-abbrev zeroed : tie.After-scheme-of → tie.After-zero-outputs
+abbrev blank : tie.After-scheme-of → tie.After-zero-bytes
+blank c = search needs
+
+abbrev zeroed : tie.After-zero-bytes → tie.After-zero-outputs
 zeroed c = search needs
 
 abbrev start : tie.After-zero-outputs → tie.Start
@@ -23,27 +26,33 @@ start c = search needs
 returns : tie.Need-returns
 returns c =
     let n : tie.After-scheme-of = search needs in
-    let z = zeroed n .zero-outputs .ensures in
-    reply-refused (reply-unknown _ _ _ (sym (n .scheme-of .ensures) ∙ c .enum-told .given .1)) (z .0) (z .1)
+    let d = blank n in
+    let z = zeroed d .zero-outputs .ensures in
+    reply-refused (reply-unknown _ _ _ _ (sym (n .scheme-of .ensures) ∙ c .enum-told .given .1)) (z .0) (z .1) (d .zero-bytes .ensures)
 
 reply-in-requires : tie.Need-reply-in-requires
 reply-in-requires c κs =
     let k : tie.After-known = search needs in
-    let z = zeroed (named k) in
-    let a = start z .args in
-    (zeros (length (a .message .now)) 0 (z .zero-outputs .ensures .0), zeros (length (a .key .now)) 0 (z .zero-outputs .ensures .1))
+    let d = blank (named k) in
+    let z = zeroed d in
+    let a = start z .args in (
+      (zeros (length (a .message .now)) 0 (z .zero-outputs .ensures .0), zeros (length (a .key .now)) 0 (z .zero-outputs .ensures .1)),
+      zeros (length (a .digest .now)) 0 (d .zero-bytes .ensures),
+    )
 
 returns-2 : tie.Need-returns-2
 returns-2 c =
     let p : tie.After-reply-in = search needs in
     let k = known p in
     let n = named k in
-    let z = zeroed n in
+    let d = blank n in
+    let z = zeroed d in
     let a = start z .args in
     let e = sym (n .scheme-of .ensures) ∙ k .known .given .1 in
     let l = zeros-long (length (a .message .now)) 0 (z .zero-outputs .ensures .0) in
     let m = zeros-long (length (a .key .now)) 0 (z .zero-outputs .ensures .1) in
-    rw (e, ← l, ← m) (p .reply-in .ensures)
+    let o = zeros-long (length (a .digest .now)) 0 (d .zero-bytes .ensures) in
+    rw (e, ← l, ← m, ← o) (p .reply-in .ensures)
 
 pub reply-spec : {M : Type 1} → statement M
 reply-spec =
@@ -51,12 +60,15 @@ reply-spec =
     (tie.spec
     (λ c κs. search needs)
     (λ c κs. search needs)
+    (λ c κs. search needs)
+    (search needs)
     (search needs)
     (search needs)
     (search needs)
     (search needs)
     returns
     reply-in-requires
+    (search needs)
     (search needs)
     (search needs)
     returns-2)

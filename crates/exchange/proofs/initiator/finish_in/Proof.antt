@@ -17,7 +17,7 @@ returns c =
     let b : tie.Start = search needs in
     let t : tie.After-finish-sizes = search needs in
     let v : tie.After-v = search needs in
-    finish-refused (finish-sizes-failed _ _ _ (t .finish-sizes .ensures) (v .v .given .1)) (b .pre)
+    finish-refused (finish-sizes-failed _ _ _ _ (t .finish-sizes .ensures) (v .v .given .1)) (b .pre .0) (b .pre .1)
 
 pub finish-in-spec : {M : Type 1} → statement M
-finish-in-spec = tie.close (tie.spec (λ c κs. search needs) (search needs) (search needs) finish-sized-requires returns (search needs) (λ c. search needs))
+finish-in-spec = tie.close (tie.spec (λ c κs. search needs) (search needs) (search needs) finish-sized-requires returns (search needs) (search needs) (λ c. search needs))

@@ -3,13 +3,15 @@ use mathlib.Core.Path.{_≡_, sym, ap, _∙_}
 use mathlib.Core.List.{List, _++_}
 use Prim.Native.Nat.{ℕ, _≤_}
 use native.Mathlib.Omega.{arith}
-use lib.ListN.{length, take, drop, replicate}
+use lib.ListN.{length, take, drop, replicate, length-take}
 use Rattle.schemes.specs.Schemes.{fixedOf}
 use Rattle.schemes.specs.declared.Fixed.{Fixed}
 use Rattle.lists.proofs.Parts.{front-long}
+use Rattle.sponge.proofs.Output.{sha3-length}
 use Rattle.front.proofs.Held.{blank-front}
-use Rattle.front.proofs.Promise.{told-passed, wrote-passed, told-failed, wrote-kept}
+use Rattle.front.proofs.Promise.{told-passed, wrote-passed, told-failed, wrote-failed, wrote-kept}
 use Rattle.exchange.specs.Finish.{finishOf, finishKey}
+use Rattle.exchange.proofs.Digest.{digest-laid}
 use Rattle.exchange.proofs.Finishing.{peer-key-length, finish-sized, finish-rest-decides}
 use borrow.Author.Needs.{needs}
 use Rattle.exchange.proofs.initiator.finish_sized.Statement.{statement}
@@ -25,7 +27,8 @@ module _ (c : tie.After-fixed) where
 
   sized : let a = start c .args in
       (length (a .reply .now) ≡ fixedOf (a .scheme) .reply) × (length (a .s .now) ≡ fixedOf (a .scheme) .secret) × (fixedOf (a .scheme) .key ≤ length (a .key .now))
-  sized = let a = start c .args in finish-sized (a .scheme) (finishOf (a .reply .now) (a .s .now)) (length (a .key .now)) (start c .pre .0)
+      × (32 ≤ length (a .digest .now))
+  sized = let a = start c .args in finish-sized (a .scheme) (finishOf (a .reply .now) (a .s .now)) (length (a .key .now)) (length (a .digest .now)) (start c .pre .0)
 
   roomy : c .fixed .result .key ≤ length (start c .args .key .now)
   roomy = omega (arith, long, sized .2)
@@ -43,7 +46,7 @@ key-in-requires c κs =
       record {
         reply-long = sized f .0;
         secret-long = sized f .1;
-        key-blank = blank-front _ 0 _ (roomy f) (b .pre .1) ∙ ap (λ (n : ℕ). replicate n 0) (long f);
+        key-blank = blank-front _ 0 _ (roomy f) (b .pre .1 .0) ∙ ap (λ (n : ℕ). replicate n 0) (long f);
       },
       ap (λ (g : Fixed). g .secret) (f .fixed .ensures),
     )
@@ -55,22 +58,39 @@ returns c =
     let k : tie.After-key-in = search needs in
     let v : tie.After-v = search needs in
     let f : tie.After-fixed = search needs in
-    let e = finish-rest-decides _ _ _ (b .pre .0) (k .key-in .ensures .0) ∙ v .v .given .1 in
-    record { told = told-failed e; keys = wrote-kept e (f .fixed .result .key) (b .args .key .now) (v .v .given .1) (k .key-in .ensures .1) (b .pre .1) }
+    let e = finish-rest-decides _ _ _ _ (b .pre .0) (k .key-in .ensures .0) ∙ v .v .given .1 in
+    record { told = told-failed e; keys = wrote-kept e (f .fixed .result .key) (b .args .key .now) (v .v .given .1) (k .key-in .ensures .1) (b .pre .1 .0); digests = wrote-failed e (b .pre .1 .1) }
+
+slice-reshare-prefix-lay-digest : tie.Need-slice-reshare-prefix-lay-digest
+slice-reshare-prefix-lay-digest c =
+    let o : tie.After-key = search needs in
+    let f : tie.After-fixed = search needs in
+    omega (arith, o .key .given .1, roomy f)
+
+slice-aggregate-lay-digest : tie.Need-slice-aggregate-lay-digest
+slice-aggregate-lay-digest c =
+    let o : tie.After-key = search needs in
+    let f : tie.After-fixed = search needs in
+    simp length-take (omega (arith, o .key .given .1, roomy f))
+
+lay-digest-requires : tie.Need-lay-digest-requires
+lay-digest-requires c κs = let f : tie.After-fixed = search needs in sized f .3
 
 returns-2 : tie.Need-returns-2
 unfolding finishKey
 returns-2 c =
+    let d : tie.After-lay-digest = search needs in
     let k : tie.After-key-in = search needs in
     let f : tie.After-fixed = search needs in
     let o : tie.After-enum-told = search needs in
     let b = start f in
-    let e = finish-rest-decides _ _ _ (b .pre .0) (k .key-in .ensures .0) ∙ o .enum-told .given .1 in
+    let e = finish-rest-decides _ _ _ _ (b .pre .0) (k .key-in .ensures .0) ∙ o .enum-told .given .1 in
     let keyed = rw (o .enum-told .given .1) at (k .key-in .ensures .1) in
     let n = peer-key-length (b .args .scheme) (finishOf (b .args .reply .now) (b .args .s .now)) ∙ sym (long f) in
     record {
       told = told-passed e;
-      keys = wrote-passed e (b .args .key .now) n (b .pre .1) (ap (λ (xs : List ℕ). xs ++ drop (f .fixed .result .key) (b .args .key .now)) keyed);
+      keys = wrote-passed e (b .args .key .now) n (b .pre .1 .0) (ap (λ (xs : List ℕ). xs ++ drop (f .fixed .result .key) (b .args .key .now)) keyed);
+      digests = wrote-passed e (b .args .digest .now) (sha3-length _) (b .pre .1 .1) (digest-laid _ _ (b .args .digest .now) _ keyed n (d .lay-digest .ensures));
     }
 
 pub finish-sized-spec : {M : Type 1} → statement M
@@ -83,7 +103,11 @@ finish-sized-spec =
     key-in-requires
     (search needs)
     (search needs)
+    slice-reshare-prefix-lay-digest
+    slice-aggregate-lay-digest
+    lay-digest-requires
     (search needs)
     returns
+    (search needs)
     (search needs)
     returns-2)

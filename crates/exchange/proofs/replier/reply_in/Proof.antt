@@ -17,7 +17,7 @@ returns c =
     let v : tie.After-v = search needs in
     let t : tie.After-reply-sizes = search needs in
     let b : tie.Start = search needs in
-    reply-refused (reply-sizes-failed _ _ _ _ (t .reply-sizes .ensures) (v .v .given .1)) (b .pre .0) (b .pre .1)
+    reply-refused (reply-sizes-failed _ _ _ _ _ (t .reply-sizes .ensures) (v .v .given .1)) (b .pre .0 .0) (b .pre .0 .1) (b .pre .1)
 
 pub reply-in-spec : {M : Type 1} → statement M
 reply-in-spec =
@@ -28,6 +28,7 @@ reply-in-spec =
     (search needs)
     reply-sized-requires
     returns
+    (search needs)
     (search needs)
     (search needs)
     (λ c. search needs))

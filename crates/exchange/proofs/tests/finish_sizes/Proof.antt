@@ -12,7 +12,8 @@ returns c =
     let f : tie.After-fixed = search needs in
     let l : tie.After-length-is = search needs in
     let m : tie.After-length-is2 = search needs in
-    rw (f .fixed .ensures) at (also (c .room-for .ensures) (also (m .length-is2 .ensures) (first (l .length-is .ensures) refl) refl) refl)
+    let k : tie.After-room-for = search needs in
+    rw (f .fixed .ensures) at (also (c .room-for2 .ensures) (also (k .room-for .ensures) (also (m .length-is2 .ensures) (first (l .length-is .ensures) refl) refl) refl) refl)
 
 pub finish-sizes-spec : {M : Type 1} → statement M
-finish-sizes-spec = tie.close (tie.spec (λ c κs. search needs) (λ c κs. search needs) (λ c κs. search needs) (λ c κs. search needs) returns)
+finish-sizes-spec = tie.close (tie.spec (λ c κs. search needs) (λ c κs. search needs) (λ c κs. search needs) (λ c κs. search needs) (λ c κs. search needs) returns)
