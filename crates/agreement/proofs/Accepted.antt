@@ -26,6 +26,8 @@ use Rattle.front.specs.declared.Verdict.{Verdict}
 use Rattle.front.specs.declared.Verdict.the-variants.{Pass}
 use Rattle.front.proofs.Laws.{number-zero}
 use Rattle.front.proofs.Promise.{told-passed, wrote-passed}
+use Rattle.sponge.specs.Sponge.{sha3}
+use Rattle.sponge.proofs.Output.{sha3-length}
 use Rattle.exchange.specs.Offer.{Offer, offerTests, openingOf, offerMessage, Offered}
 use Rattle.exchange.specs.Reply.{Reply, replyTests, messageOf, keyOf, replyMessage, replyKey, Replied}
 use Rattle.exchange.specs.Finish.{Finish, peerKeyOf, finishKey, Finished}
@@ -35,7 +37,7 @@ use Rattle.exchange.proofs.Offering.{opening-long, offer-unknown}
 use Rattle.exchange.proofs.Replying.{key-length, message-length}
 use Rattle.exchange.proofs.Finishing.{peer-key-length}
 use Rattle.agreement.specs.Run.{Run, offering, replying, finishing}
-use Rattle.agreement.specs.Exchange.{Ranged, Exchange, ownKey, peerKey, Accepted, Numbered, OneNumber}
+use Rattle.agreement.specs.Exchange.{Ranged, Exchange, ownKey, peerKey, ownDigest, peerDigest, Accepted, Numbered, OneNumber}
 use Rattle.agreement.proofs.Tests.{ranged-by, offer-passes, reply-passes, finish-passes}
 
 -- ---- what a call gave
@@ -54,26 +56,30 @@ module _ (c : Scheme) where
   unfolding offerMessage
   offer-gave g z = let v = passed (g .told) z in (v, wrote v (g .messages))
 
-  reply-gave : {x : Reply} {n p room m keyRoom k : ℕ} {out key : List ℕ} → Replied (Is c) x n p room m out keyRoom k key → n ≡ 0
-      → (replyTests (Is c) x room keyRoom ≡ Pass) × (take m out ≡ messageOf c x) × (take k key ≡ keyOf c x)
+  reply-gave : {x : Reply} {n p room m keyRoom k digestRoom d : ℕ} {out key digest : List ℕ} → Replied (Is c) x n p room m out keyRoom k key digestRoom d digest
+      → n ≡ 0
+      → (replyTests (Is c) x room keyRoom digestRoom ≡ Pass) × (take m out ≡ messageOf c x) × (take k key ≡ keyOf c x) × (take d digest ≡ sha3 (keyOf c x))
   unfolding replyMessage replyKey
-  reply-gave g z = let v = passed (g .told) z in (v, wrote v (g .messages), wrote v (g .keys))
+  reply-gave g z = let v = passed (g .told) z in (v, wrote v (g .messages), wrote v (g .keys), wrote v (g .digests))
 
-  finish-gave : {x : Finish} {n p room k : ℕ} {key : List ℕ} → Finished (Is c) x n p room k key → n ≡ 0 → take k key ≡ peerKeyOf c x
+  finish-gave : {x : Finish} {n p room k digestRoom d : ℕ} {key digest : List ℕ} → Finished (Is c) x n p room k key digestRoom d digest → n ≡ 0
+      → (take k key ≡ peerKeyOf c x) × (take d digest ≡ sha3 (peerKeyOf c x))
   unfolding finishKey
-  finish-gave g z = wrote (passed (g .told) z) (g .keys)
+  finish-gave g z = let v = passed (g .told) z in (wrote v (g .keys), wrote v (g .digests))
 
 pub record Gave {c : Scheme} {x : Run} (t : Exchange c x) : Type 0 where
   pub ranged : Ranged c x
   pub own : ownKey t ≡ keyOf c (replying c x)
   pub peer : peerKey t ≡ peerKeyOf c (finishing c x)
+  pub own-digest : ownDigest t ≡ sha3 (keyOf c (replying c x))
+  pub peer-digest : peerDigest t ≡ sha3 (peerKeyOf c (finishing c x))
 
 pub gave : {c : Scheme} {x : Run} (t : Exchange c x) → Gave t
 gave {c} {x} t =
     let o = offer-gave c (t .offers) (t .offer-accepted) in
     let r = reply-gave c (rw (o .1) at (t .replies)) (t .reply-accepted) in
     let f = finish-gave c (rw (r .1) at (t .finishes)) (t .finish-accepted) in
-    record { ranged = ranged-by c x _ _ _ _ (o .0) (r .0); own = r .2; peer = f }
+    record { ranged = ranged-by c x _ _ _ _ _ (o .0) (r .0); own = r .2; peer = f .0; own-digest = r .3; peer-digest = f .1 }
 
 -- ---- inputs in range
 
@@ -88,7 +94,7 @@ module _ (c : Scheme) (x : Run) (h : Ranged c x) where
       let f = fixedOf c in
       let o = offer-passes c x h in
       let r = reply-passes c x h in
-      let k = finish-passes c x h (f .key) (le-refl _) in
+      let k = finish-passes c x h (f .key) 32 (le-refl _) (le-refl _) in
       let opened = opening-long c (offering x) (h .seed) in
       let replied = message-length c (replying c x) in
       record {
@@ -99,23 +105,32 @@ module _ (c : Scheme) (x : Run) (h : Ranged c x) where
         offer-accepted = refl;
         replyRoom = f .reply;
         keyRoom = f .key;
-        reply = ReplyAnswer.Done (record { message = f .reply; key = f .key });
+        digestRoom = 32;
+        reply = ReplyAnswer.Done (record { message = f .reply; key = f .key; digest = 32 });
         replyOut = into (f .reply) (messageOf c (replying c x));
         keyOut = into (f .key) (keyOf c (replying c x));
+        digestOut = into 32 (sha3 (keyOf c (replying c x)));
         replies =
             rw (take-at (openingOf c (offering x)) (drop (f .opening) (replicate (f .opening) 0)) (f .opening) opened)
             (record {
               told = told-passed r;
               messages = wrote-passed r (replicate (f .reply) 0) replied refl refl;
               keys = wrote-passed r (replicate (f .key) 0) (key-length c (replying c x)) refl refl;
+              digests = wrote-passed r (replicate 32 0) (sha3-length _) refl refl;
             });
         reply-accepted = refl;
-        finishRoom = f .key;
-        finish = FinishAnswer.Done (record { key = f .key });
-        finishOut = into (f .key) (peerKeyOf c (finishing c x));
+        peerKeyRoom = f .key;
+        peerDigestRoom = 32;
+        finish = FinishAnswer.Done (record { key = f .key; digest = 32 });
+        peerKeyOut = into (f .key) (peerKeyOf c (finishing c x));
+        peerDigestOut = into 32 (sha3 (peerKeyOf c (finishing c x)));
         finishes =
             rw (take-at (messageOf c (replying c x)) (drop (f .reply) (replicate (f .reply) 0)) (f .reply) replied)
-            (record { told = told-passed k; keys = wrote-passed k (replicate (f .key) 0) (peer-key-length c (finishing c x)) refl refl });
+            (record {
+              told = told-passed k;
+              keys = wrote-passed k (replicate (f .key) 0) (peer-key-length c (finishing c x)) refl refl;
+              digests = wrote-passed k (replicate 32 0) (sha3-length _) refl refl;
+            });
         finish-accepted = refl;
       }
 

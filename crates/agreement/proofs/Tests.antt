@@ -28,13 +28,13 @@ use Rattle.agreement.specs.Exchange.{Ranged}
 
 module _ (c : Scheme) (x : Run) where
   -- of any opening m
-  pub ranged-by : (n i k : ℕ) (m : List ℕ) → offerTests (Is c) (offering x) n ≡ Pass
-      → replyTests (Is c) (replyOf m (x .a) (x .s') (x .e') (x .e'') (x .coins)) i k ≡ Pass → Ranged c x
+  pub ranged-by : (n i k d : ℕ) (m : List ℕ) → offerTests (Is c) (offering x) n ≡ Pass
+      → replyTests (Is c) (replyOf m (x .a) (x .s') (x .e') (x .e'') (x .coins)) i k d ≡ Pass → Ranged c x
   unfolding offerTests replyTests replyRest
-  ranged-by n i k m o r =
+  ranged-by n i k d m o r =
       let opens = offer-opens c (offering x) n o .0 in
       let t = both _ _ r in
-      let sizes = reply-sized c _ i k (t .0) in
+      let sizes = reply-sized c _ i k d (t .0) in
       let small = secrets-small c (x .s') (x .e') (x .e'') (both _ _ (t .1) .1) in
       record {
         public = opens .public;
@@ -80,10 +80,11 @@ module _ (c : Scheme) (x : Run) where
         (within-passes (h .secret .within)))
         (within-passes (h .noise .within))
 
-    sizes-pass : replySizes c (replying c x) (fixedOf c .reply) (fixedOf c .key) ≡ Pass
+    sizes-pass : replySizes c (replying c x) (fixedOf c .reply) (fixedOf c .key) 32 ≡ Pass
     unfolding replySizes replyLengths
     sizes-pass =
         all-pass
+        (all-pass
         (all-pass
         (all-pass
         (all-pass
@@ -95,18 +96,19 @@ module _ (c : Scheme) (x : Run) where
         (length-passes (h .coins)))
         (room-passes (le-refl _)))
         (room-passes (le-refl _)))
+        (room-passes (le-refl _)))
         (below-passes (h .public .below))
 
-    pub reply-passes : replyTests (Is c) (replying c x) (fixedOf c .reply) (fixedOf c .key) ≡ Pass
+    pub reply-passes : replyTests (Is c) (replying c x) (fixedOf c .reply) (fixedOf c .key) 32 ≡ Pass
     unfolding replyTests replyRest replySecrets
     reply-passes =
         all-pass sizes-pass
         (all-pass (rw (opened-is (h .seed)) (message-passes (offered-counted c (x .a) (x .s) (x .e) .below)))
         (all-pass (all-pass (within-passes (h .secret' .within)) (within-passes (h .noise' .within))) (within-passes (h .noise'' .within))))
 
-    pub finish-passes : (k : ℕ) → fixedOf c .key ≤ k → finishTests (Is c) (finishing c x) k ≡ Pass
+    pub finish-passes : (k d : ℕ) → fixedOf c .key ≤ k → 32 ≤ d → finishTests (Is c) (finishing c x) k d ≡ Pass
     unfolding finishTests finishSizes finishRest
-    finish-passes k l =
+    finish-passes k d l m =
         all-pass
-        (all-pass (all-pass (length-passes (message-length c (replying c x))) (length-passes (h .secret .long))) (room-passes l))
+        (all-pass (all-pass (all-pass (length-passes (message-length c (replying c x))) (length-passes (h .secret .long))) (room-passes l)) (room-passes m))
         (all-pass (rw replied-is (message-passes (replied-counted c (x .a) (x .s') (x .e') .below))) (within-passes (h .secret .within)))

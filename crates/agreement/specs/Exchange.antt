@@ -3,6 +3,7 @@
 --   Exchange c x   Offer and Finish in the one box and Reply in the other, in the scheme c and on the inputs x, and none of them refused
 --   ownKey t       the replier's key: the bytes that Reply says it wrote
 --   peerKey t      the initiator's key: those that Finish says it wrote
+--   ownDigest, peerDigest t   the digests, likewise
 --   Accepted       lengths and ranges decide, nothing else: the inputs of an exchange are in range, and on any in range there is an exchange
 --   Numbered       a call that refuses nothing was given a scheme
 --   OneNumber      which its number names, and no other number
@@ -48,20 +49,24 @@ pub record Exchange (c : Scheme) (x : Run) : Type 0 where
   -- Reply, to the opening as Offer wrote it
   pub replyRoom : ℕ
   pub keyRoom : ℕ
+  pub digestRoom : ℕ
   pub reply : ReplyAnswer
   pub replyOut : List ℕ
   pub keyOut : List ℕ
+  pub digestOut : List ℕ
   pub replies :
       Replied (Is c) (replyOf (take (written offer) offerOut) (x .a) (x .s') (x .e') (x .e'') (x .coins)) (ofReply.number reply) (ofReply.place reply)
-      replyRoom (ofReply.counts reply .message) replyOut keyRoom (ofReply.counts reply .key) keyOut
+      replyRoom (ofReply.counts reply .message) replyOut keyRoom (ofReply.counts reply .key) keyOut digestRoom (ofReply.counts reply .digest) digestOut
   pub reply-accepted : ofReply.number reply ≡ 0
   -- Finish, of the reply as Reply wrote it
-  pub finishRoom : ℕ
+  pub peerKeyRoom : ℕ
+  pub peerDigestRoom : ℕ
   pub finish : FinishAnswer
-  pub finishOut : List ℕ
+  pub peerKeyOut : List ℕ
+  pub peerDigestOut : List ℕ
   pub finishes :
       Finished (Is c) (finishOf (take (ofReply.counts reply .message) replyOut) (x .s)) (ofFinish.number finish) (ofFinish.place finish)
-      finishRoom (ofFinish.counts finish .key) finishOut
+      peerKeyRoom (ofFinish.counts finish .key) peerKeyOut peerDigestRoom (ofFinish.counts finish .digest) peerDigestOut
   pub finish-accepted : ofFinish.number finish ≡ 0
 
 module _ {c : Scheme} {x : Run} (t : Exchange c x) where
@@ -69,7 +74,13 @@ module _ {c : Scheme} {x : Run} (t : Exchange c x) where
   ownKey = take (ofReply.counts (t .reply) .key) (t .keyOut)
 
   abbrev pub peerKey : List ℕ
-  peerKey = take (ofFinish.counts (t .finish) .key) (t .finishOut)
+  peerKey = take (ofFinish.counts (t .finish) .key) (t .peerKeyOut)
+
+  abbrev pub ownDigest : List ℕ
+  ownDigest = take (ofReply.counts (t .reply) .digest) (t .digestOut)
+
+  abbrev pub peerDigest : List ℕ
+  peerDigest = take (ofFinish.counts (t .finish) .digest) (t .peerDigestOut)
 
 -- ---- what is shown
 
