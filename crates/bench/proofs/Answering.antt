@@ -74,13 +74,13 @@ named c e = ap schemeOf e ∙ by-number c
 
 -- ---- from Finish on
 
-module _ (c : Scheme) (x : Finish) {n : Named} (e : n ≡ Is c) {k : ℕ} (l : k ≡ fixedOf c .key) (v : FinishAnswer) {key : List ℕ}
-    (t : Finished n x (finish.number v) (finish.place v) k (finish.counts v .key) key) where
-  finish-given : Finished (Is c) x (finish.number v) (finish.place v) (fixedOf c .key) (finish.counts v .key) key
-  finish-given = rw (← l, ← e) t
+module _ (c : Scheme) (x : Finish) {n : Named} (e : n ≡ Is c) {k d : ℕ} (l : (k ≡ fixedOf c .key) × (d ≡ 32)) (v : FinishAnswer)
+    {key digest : List ℕ} (t : Finished n x (finish.number v) (finish.place v) k (finish.counts v .key) key d (finish.counts v .digest) digest) where
+  finish-given : Finished (Is c) x (finish.number v) (finish.place v) (fixedOf c .key) (finish.counts v .key) key 32 (finish.counts v .digest) digest
+  finish-given = rw (← l .0, ← l .1, ← e) t
 
-  pub finish-refused : {d : ℕ} {r : Refusal} → v ≡ FinishAnswer.Refused r → Compares (testsFromFinish c x) d (Refused r)
-  finish-refused {d} {r} h = rw (alone _) at (refused {d = d} {r = r} (testsFromFinish c x) Pass (rw h at (finish-given .told)))
+  pub finish-refused : {i : ℕ} {r : Refusal} → v ≡ FinishAnswer.Refused r → Compares (testsFromFinish c x) i (Refused r)
+  finish-refused {i} {r} h = rw (alone _) at (refused {d = i} {r = r} (testsFromFinish c x) Pass (rw h at (finish-given .told)))
 
   module _ {m : FinishCounts} (h : v ≡ FinishAnswer.Done m) where
     finish-passed : testsFromFinish c x ≡ Pass
@@ -95,12 +95,12 @@ module _ (c : Scheme) (x : Finish) {n : Named} (e : n ≡ Is c) {k : ℕ} (l : k
 
 -- ---- from Reply on
 
-module _ (c : Scheme) (x : Reply) (s : List ℤ) {n : Named} (e : n ≡ Is c) {j k : ℕ} (lj : j ≡ fixedOf c .reply) (lk : k ≡ fixedOf c .key)
-    (v : ReplyAnswer) {message key : List ℕ}
-    (t : Replied n x (reply.number v) (reply.place v) j (reply.counts v .message) message k (reply.counts v .key) key) where
+module _ (c : Scheme) (x : Reply) (s : List ℤ) {n : Named} (e : n ≡ Is c) {j k d : ℕ} (l : (j ≡ fixedOf c .reply) × (k ≡ fixedOf c .key) × (d ≡ 32))
+    (v : ReplyAnswer) {message key digest : List ℕ}
+    (t : Replied n x (reply.number v) (reply.place v) j (reply.counts v .message) message k (reply.counts v .key) key d (reply.counts v .digest) digest) where
   reply-given : Replied (Is c) x (reply.number v) (reply.place v) (fixedOf c .reply) (reply.counts v .message) message
-      (fixedOf c .key) (reply.counts v .key) key
-  reply-given = rw (← lj, ← lk, ← e) t
+      (fixedOf c .key) (reply.counts v .key) key 32 (reply.counts v .digest) digest
+  reply-given = rw (← l .0, ← l .1, ← l .2, ← e) t
 
   pub reply-refused : {r : Refusal} → v ≡ ReplyAnswer.Refused r → FromReply c x s (Refused r)
   reply-refused h = refused _ _ (rw h at (reply-given .told))
@@ -137,7 +137,7 @@ module _ (c : Scheme) (x : Bench) {n : Named} (e : n ≡ Is c) {j : ℕ} (l : j 
 -- Finish refuses nothing there
 same-tests : (c : Scheme) (x : Bench) → testsFromOffer c x ≡ benchIn c x
 unfolding benchIn
-same-tests c x = without-last _ _ _ (λ o r. finish-passes c x (ranged-by c x _ _ _ _ o r) _ (le-refl _))
+same-tests c x = without-last _ _ _ (λ o r. finish-passes c x (ranged-by c x _ _ _ _ _ o r) _ _ (le-refl _) (le-refl _))
 
 pub bench-told : (c : Scheme) (x : Bench) (r : BenchAnswer) → FromOffer c x r → Benched (Is c) x (number r) (place r) (differ r)
 unfolding benchTests benchDiffers

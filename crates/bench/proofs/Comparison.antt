@@ -69,7 +69,7 @@ module _ (c : Scheme) (x : Bench) where
 module _ (c : Scheme) (x : Bench) (r : BenchAnswer) (b : Benched (Is c) x (number r) (place r) (differ r)) where
   bench-ranged : number r ≡ 0 → Ranged c x
   unfolding benchTests benchIn
-  bench-ranged z = let t = both _ _ (number-zero _ (sym z ∙ b .told .refusal)) in ranged-by c x _ _ _ _ (t .0) (t .1)
+  bench-ranged z = let t = both _ _ (number-zero _ (sym z ∙ b .told .refusal)) in ranged-by c x _ _ _ _ _ (t .0) (t .1)
 
   bench-gave : Ranged c x → Compares Pass (differing (keyOf c (replying c x)) (peerKeyOf c (finishing c x))) r
   unfolding benchTests benchIn benchDiffers

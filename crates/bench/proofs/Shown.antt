@@ -85,7 +85,7 @@ opened-passes c x e =
     rw (opened-is c x (offer-opens c (offering x) _ e .0 .seed-long)) (message-passes (offered-counted c (x .a) (x .s) (x .e) .below))
 
 reply-in : (c : Scheme) (x : Reply) → messageIn (fixedOf c .q) (openedOf c x) ≡ Pass
-    → Inside (numberIn (replyTests (Is c) x (fixedOf c .reply) (fixedOf c .key)))
+    → Inside (numberIn (replyTests (Is c) x (fixedOf c .reply) (fixedOf c .key) 32))
 unfolding replyTests replySizes replyLengths replyRest replySecrets
 reply-in c x o =
     let l = length-in in
@@ -94,10 +94,12 @@ reply-in c x o =
     (and Inside _ _
     (and Inside _ _
     (and Inside _ _
+    (and Inside _ _
     (and Inside _ _ (and Inside _ _ (and Inside _ _ (and Inside _ _ (l _ _) (λ _. l _ _)) (λ _. l _ _)) (λ _. l _ _)) (λ _. l _ _))
     (λ _. l _ _))
     (λ _. room-in (fixedOf c .reply)))
     (λ _. room-in (fixedOf c .key)))
+    (λ _. room-in 32))
     (λ _. public-in _ (x .a)))
     (λ _.
     and Inside _ _ (passes Inside o zero-in)
@@ -115,4 +117,4 @@ never-three-or-five c x n p d h = rw (h .told .refusal) (by-name c x)
 
 pub finish-accepts : FinishPasses
 unfolding benchIn
-finish-accepts c x k e h = let t = both _ _ e in finish-passes c x (ranged-by c x _ _ _ _ (t .0) (t .1)) k h
+finish-accepts c x k d e h l = let t = both _ _ e in finish-passes c x (ranged-by c x _ _ _ _ _ (t .0) (t .1)) k d h l

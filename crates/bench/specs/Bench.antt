@@ -44,9 +44,9 @@ differing xs ys = cond (ltb (firstApart (bits xs) (bits ys)) (8 * length xs)) (s
 
 -- ---- its tests and its answer
 
--- messages and keys stay inside, each with just the room that it takes
+-- messages, keys and digests stay inside, each with just the room that it takes
 unfoldable pub benchIn : Scheme → Bench → Verdict
-benchIn c x = offerTests (Is c) (offering x) (fixedOf c .opening) then replyTests (Is c) (replying c x) (fixedOf c .reply) (fixedOf c .key)
+benchIn c x = offerTests (Is c) (offering x) (fixedOf c .opening) then replyTests (Is c) (replying c x) (fixedOf c .reply) (fixedOf c .key) 32
 
 unfoldable pub benchTests : Named → Bench → Verdict
 benchTests Unknown x = Fail NoScheme

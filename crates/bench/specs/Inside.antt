@@ -25,10 +25,10 @@ pub record Compares (v : Verdict) (d : ℕ) (r : BenchAnswer) : Type 0 where
   pub differs : Gave v d (differ r)
 
 abbrev pub testsFromFinish : Scheme → Finish → Verdict
-testsFromFinish c x = finishTests (Is c) x (fixedOf c .key)
+testsFromFinish c x = finishTests (Is c) x (fixedOf c .key) 32
 
 abbrev pub testsFromReply : Scheme → Reply → List ℤ → Verdict
-testsFromReply c x s = replyTests (Is c) x (fixedOf c .reply) (fixedOf c .key) then testsFromFinish c (finishOf (messageOf c x) s)
+testsFromReply c x s = replyTests (Is c) x (fixedOf c .reply) (fixedOf c .key) 32 then testsFromFinish c (finishOf (messageOf c x) s)
 
 abbrev pub testsFromOffer : Scheme → Bench → Verdict
 testsFromOffer c x = offerTests (Is c) (offering x) (fixedOf c .opening) then testsFromReply c (replying c x) (x .s)

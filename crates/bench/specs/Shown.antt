@@ -22,4 +22,5 @@ abbrev pub NeverThreeOrFive : Type 0
 NeverThreeOrFive = (c : Named) (x : Bench) (n p d : ℕ) → Benched c x n p d → (n ≡ 3 → ⊥) × (n ≡ 5 → ⊥)
 
 abbrev pub FinishPasses : Type 0
-FinishPasses = (c : Scheme) (x : Bench) (k : ℕ) → benchIn c x ≡ Pass → fixedOf c .key ≤ k → finishTests (Is c) (finishing c x) k ≡ Pass
+FinishPasses =
+    (c : Scheme) (x : Bench) (k d : ℕ) → benchIn c x ≡ Pass → fixedOf c .key ≤ k → 32 ≤ d → finishTests (Is c) (finishing c x) k d ≡ Pass

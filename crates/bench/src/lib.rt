@@ -1,5 +1,5 @@
 // Bench: both ends of an exchange on lent secrets, by the public calls of `exchange`, one after the other, and then the two keys bit by bit. It has no
-// `requires`: it answers agree, differ with the first differing key bit, or the first refusal of Offer or Reply. Messages and keys stay inside.
+// `requires`: it answers agree, differ with the first differing key bit, or the first refusal of Offer or Reply. Messages, keys and digests stay inside.
 ghost use mathlib.Core.Path.{_≡_};
 ghost use lib.ListN.{length};
 ghost use Rattle.schemes.specs.Schemes.{fixedOf, schemeOf};
@@ -27,11 +27,18 @@ pub enum BenchAnswer {
 }
 
 // From Finish on: the initiator's key into peer, beside the replier's own.
-fn from_finish(scheme: Scheme, reply: &[u8], s: &[i32], own: &[u8], peer: &mut [u8]) -> BenchAnswer
-    requires { ⌜ (length (now own) ≡ fixedOf scheme .key) × (length (now peer) ≡ fixedOf scheme .key) ⌝ }
+fn from_finish(
+    scheme: Scheme,
+    reply: &[u8],
+    s: &[i32],
+    own: &[u8],
+    peer: &mut [u8],
+    digest: &mut [u8],
+) -> BenchAnswer
+    requires { ⌜ (length (now own) ≡ fixedOf scheme .key) × (length (now peer) ≡ fixedOf scheme .key) × (length (now digest) ≡ 32) ⌝ }
     ensures { λ r. ⌜ FromFinish scheme (finish reply s) (was own) r ⌝ }
 {
-    let v = exchange::finish(scheme.number(), reply, s, peer);
+    let v = exchange::finish(scheme.number(), reply, s, peer, digest);
     match v {
         FinishAnswer::Refused(r) => BenchAnswer::Refused(r),
         FinishAnswer::Done(_) => compare::keys(own, peer),
@@ -51,15 +58,27 @@ fn from_reply(
     reply: &mut [u8],
     own: &mut [u8],
     peer: &mut [u8],
+    digest: &mut [u8],
 ) -> BenchAnswer
     requires { ⌜ length (now reply) ≡ fixedOf scheme .reply ⌝ }
-    requires { ⌜ (length (now own) ≡ fixedOf scheme .key) × (length (now peer) ≡ fixedOf scheme .key) ⌝ }
+    requires { ⌜ (length (now own) ≡ fixedOf scheme .key) × (length (now peer) ≡ fixedOf scheme .key) × (length (now digest) ≡ 32) ⌝ }
     ensures { λ r. ⌜ FromReply scheme (lent.reply opening a s1 e1 e2 coins) (was s) r ⌝ }
 {
-    let v = exchange::reply(scheme.number(), opening, a, s1, e1, e2, coins, reply, own);
+    let v = exchange::reply(
+        scheme.number(),
+        opening,
+        a,
+        s1,
+        e1,
+        e2,
+        coins,
+        reply,
+        own,
+        digest,
+    );
     match v {
         ReplyAnswer::Refused(r) => BenchAnswer::Refused(r),
-        ReplyAnswer::Done(_) => from_finish(scheme, reply, s, own, peer),
+        ReplyAnswer::Done(_) => from_finish(scheme, reply, s, own, peer, digest),
     }
 }
 
@@ -78,19 +97,33 @@ fn from_offer(
     reply: &mut [u8],
     own: &mut [u8],
     peer: &mut [u8],
+    digest: &mut [u8],
 ) -> BenchAnswer
     requires { ⌜ (length (now opening) ≡ fixedOf scheme .opening) × (length (now reply) ≡ fixedOf scheme .reply) ⌝ }
-    requires { ⌜ (length (now own) ≡ fixedOf scheme .key) × (length (now peer) ≡ fixedOf scheme .key) ⌝ }
+    requires { ⌜ (length (now own) ≡ fixedOf scheme .key) × (length (now peer) ≡ fixedOf scheme .key) × (length (now digest) ≡ 32) ⌝ }
     ensures { λ r. ⌜ FromOffer scheme (bench a s e seed s1 e1 e2 coins) r ⌝ }
 {
     let v = exchange::offer(scheme.number(), a, s, e, seed, opening);
     match v {
         Answer::Refused(r) => BenchAnswer::Refused(r),
-        Answer::Done(_) => from_reply(scheme, opening, a, s, s1, e1, e2, coins, reply, own, peer),
+        Answer::Done(_) => from_reply(
+            scheme,
+            opening,
+            a,
+            s,
+            s1,
+            e1,
+            e2,
+            coins,
+            reply,
+            own,
+            peer,
+            digest,
+        ),
     }
 }
 
-// All of it, with room for messages and keys, each with just the bytes that it has in the scheme.
+// All of it, with room for messages and keys, each with just the bytes that it has in the scheme, and for one digest, which both ends write.
 fn bench_in(
     scheme: Scheme,
     a: &[u32],
@@ -112,6 +145,7 @@ fn bench_in(
     let mut reply = [0u8; 12968];
     let mut own = [0u8; 128];
     let mut peer = [0u8; 128];
+    let mut digest = [0u8; 32];
     from_offer(
         scheme,
         a,
@@ -126,6 +160,7 @@ fn bench_in(
         &mut reply[..n],
         &mut own[..k],
         &mut peer[..k],
+        &mut digest,
     )
 }
 

@@ -1,5 +1,5 @@
 -- `bench::bench_in` meets its contract: it lends each message and each key just the room that it takes, and Finish refuses nothing.
-use mathlib.Core.Path.{_≡_, sym, ap, _∙_}
+use mathlib.Core.Path.{_≡_, refl, sym, ap, _∙_}
 use Prim.Native.Nat.{_≤_}
 use native.Mathlib.Omega.{arith}
 use Rattle.schemes.specs.Schemes.{fixedOf}
@@ -63,7 +63,7 @@ from-offer-requires c κs =
     let f : tie.After-fixed = search needs in
     let g = f .fixed .result in
     let k = buffer-long (g .key) 128 (key-room f) ∙ key-is f in
-    ((buffer-long (g .opening) 12976 (opening-room f) ∙ opening-is f, buffer-long (g .reply) 12968 (reply-room f) ∙ reply-is f), (k, k))
+    ((buffer-long (g .opening) 12976 (opening-room f) ∙ opening-is f, buffer-long (g .reply) 12968 (reply-room f) ∙ reply-is f), (k, k, refl))
 
 returns : tie.Need-returns
 returns c =
@@ -86,5 +86,6 @@ bench-in-spec =
     slice-aggregate-from-offer-3
     array-borrow-prefix-peer
     slice-aggregate-from-offer-4
+    (search needs)
     from-offer-requires
     returns)

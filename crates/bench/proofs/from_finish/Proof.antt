@@ -25,7 +25,7 @@ keys-requires c κs =
     let b = start n in
     let a = b .args in
     let x = finishOf (a .reply .now) (a .s .now) in
-    let k = finish-key (a .scheme) x (named (a .scheme) (n .number .ensures)) (b .pre .1) _ (f .finish .ensures) (o .enum-told .given .1) in
+    let k = finish-key (a .scheme) x (named (a .scheme) (n .number .ensures)) (b .pre .1, b .pre .2) _ (f .finish .ensures) (o .enum-told .given .1) in
     (omega (arith, b .pre .0, sound (a .scheme) .keys), b .pre .0 ∙ sym (ap length k ∙ peer-key-length (a .scheme) x))
 
 returns : tie.Need-returns
@@ -35,7 +35,7 @@ returns c =
     let n = asked f in
     let b = start n in
     let a = b .args in
-    finish-refused (a .scheme) (finishOf (a .reply .now) (a .s .now)) (named (a .scheme) (n .number .ensures)) (b .pre .1) _ (f .finish .ensures)
+    finish-refused (a .scheme) (finishOf (a .reply .now) (a .s .now)) (named (a .scheme) (n .number .ensures)) (b .pre .1, b .pre .2) _ (f .finish .ensures)
     (v .v .given .1)
 
 returns-2 : tie.Need-returns-2
@@ -46,7 +46,7 @@ returns-2 c =
     let n = asked f in
     let b = start n in
     let a = b .args in
-    finish-told (a .scheme) (finishOf (a .reply .now) (a .s .now)) (named (a .scheme) (n .number .ensures)) (b .pre .1) _ (f .finish .ensures)
+    finish-told (a .scheme) (finishOf (a .reply .now) (a .s .now)) (named (a .scheme) (n .number .ensures)) (b .pre .1, b .pre .2) _ (f .finish .ensures)
     (o .enum-told .given .1) (a .own .now) (k .keys .ensures)
 
 pub from-finish-spec : {M : Type 1} → statement M
@@ -59,6 +59,8 @@ from-finish-spec =
     (search needs)
     keys-requires
     (search needs)
+    (search needs)
     returns
+    (search needs)
     (search needs)
     returns-2)

@@ -51,4 +51,5 @@ from-offer-spec =
     (search needs)
     (search needs)
     (search needs)
+    (search needs)
     returns-2)
