@@ -8,6 +8,8 @@ use Rattle.schemes.specs.declared.Named.{Named}
 use Rattle.sampling.specs.Noise.{Noise, Noised}
 use Rattle.noise.specs.declared.Ruled.{Ruled}
 use Rattle.sampling.specs.Expand.{Expand, Expanded}
+use Rattle.sampling.specs.Grow.{Grow, Grown}
+use Rattle.hashing.specs.Hashing.{Hash, Shaken, Digested}
 use Rattle.exchange.specs.Offer.{Offer, Offered}
 use Rattle.exchange.specs.Reply.{Reply, Replied}
 use Rattle.exchange.specs.Finish.{Finish, Finished}
@@ -20,14 +22,15 @@ OneOffer =
 
 abbrev pub OneReply : Type 0
 OneReply =
-    (c : Named) (x : Reply) (room keyRoom r r′ p p′ w w′ k k′ : ℕ) (message message′ key key′ : List ℕ)
-    → Replied c x r p room w message keyRoom k key → Replied c x r′ p′ room w′ message′ keyRoom k′ key′
-    → (r ≡ r′) × (p ≡ p′) × (w ≡ w′) × (k ≡ k′) × (message ≡ message′) × (key ≡ key′)
+    (c : Named) (x : Reply) (room keyRoom digestRoom r r′ p p′ w w′ k k′ d d′ : ℕ) (message message′ key key′ digest digest′ : List ℕ)
+    → Replied c x r p room w message keyRoom k key digestRoom d digest → Replied c x r′ p′ room w′ message′ keyRoom k′ key′ digestRoom d′ digest′
+    → (r ≡ r′) × (p ≡ p′) × (w ≡ w′) × (k ≡ k′) × (d ≡ d′) × (message ≡ message′) × (key ≡ key′) × (digest ≡ digest′)
 
 abbrev pub OneFinish : Type 0
 OneFinish =
-    (c : Named) (x : Finish) (room r r′ p p′ w w′ : ℕ) (key key′ : List ℕ) → Finished c x r p room w key → Finished c x r′ p′ room w′ key′
-    → (r ≡ r′) × (p ≡ p′) × (w ≡ w′) × (key ≡ key′)
+    (c : Named) (x : Finish) (room digestRoom r r′ p p′ k k′ d d′ : ℕ) (key key′ digest digest′ : List ℕ)
+    → Finished c x r p room k key digestRoom d digest → Finished c x r′ p′ room k′ key′ digestRoom d′ digest′
+    → (r ≡ r′) × (p ≡ p′) × (k ≡ k′) × (d ≡ d′) × (key ≡ key′) × (digest ≡ digest′)
 
 abbrev pub OneNoise : Type 0
 OneNoise =
@@ -37,6 +40,21 @@ OneNoise =
 abbrev pub OneExpand : Type 0
 OneExpand =
     (k : Ruled) (x : Expand) (room r r′ p p′ w w′ : ℕ) (out out′ : List ℕ) → Expanded k x r p room w out → Expanded k x r′ p′ room w′ out′
+    → (r ≡ r′) × (p ≡ p′) × (w ≡ w′) × (out ≡ out′)
+
+abbrev pub OneGrow : Type 0
+OneGrow =
+    (k : Ruled) (x : Grow) (room r r′ p p′ w w′ : ℕ) (out out′ : List ℕ) → Grown k x r p room w out → Grown k x r′ p′ room w′ out′
+    → (r ≡ r′) × (p ≡ p′) × (w ≡ w′) × (out ≡ out′)
+
+abbrev pub OneShake : Type 0
+OneShake =
+    (x : Hash) (room r r′ p p′ w w′ : ℕ) (out out′ : List ℕ) → Shaken x r p room w out → Shaken x r′ p′ room w′ out′
+    → (r ≡ r′) × (p ≡ p′) × (w ≡ w′) × (out ≡ out′)
+
+abbrev pub OneDigest : Type 0
+OneDigest =
+    (x : Hash) (room r r′ p p′ w w′ : ℕ) (out out′ : List ℕ) → Digested x r p room w out → Digested x r′ p′ room w′ out′
     → (r ≡ r′) × (p ≡ p′) × (w ≡ w′) × (out ≡ out′)
 
 abbrev pub OneBench : Type 0

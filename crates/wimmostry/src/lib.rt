@@ -8,6 +8,8 @@ ghost use Rattle.front.specs.Answers as answers;
 ghost use Rattle.sampling.specs.Noise.{noise, Noised};
 ghost use Rattle.noise.specs.Expand.{ruleOf};
 ghost use Rattle.sampling.specs.Expand.{expand, Expanded};
+ghost use Rattle.sampling.specs.Grow.{grow, Grown};
+ghost use Rattle.hashing.specs.Hashing.{hash, Shaken, Digested};
 ghost use Rattle.exchange.specs.Offer.{offer, Offered};
 ghost use Rattle.exchange.specs.Reply.{reply, Replied};
 ghost use Rattle.exchange.specs.Reply as replies;
@@ -38,30 +40,46 @@ fn tell(answer: Answer, place: &mut u64, written: &mut u64) -> u32
     }
 }
 
-// The same of Reply, with its two counts.
-fn tell_reply(answer: ReplyAnswer, place: &mut u64, written: &mut u64, keyed: &mut u64) -> u32
+// The same of Reply, with its three counts.
+fn tell_reply(
+    answer: ReplyAnswer,
+    place: &mut u64,
+    written: &mut u64,
+    keyed: &mut u64,
+    digested: &mut u64,
+) -> u32
     ensures { λ r. ⌜ (r ≡ replies.number answer) × (left place ≡ replies.place answer) ⌝ }
     ensures { λ r. ⌜ (left written ≡ replies.counts answer .message) × (left keyed ≡ replies.counts answer .key) ⌝ }
+    ensures { λ r. ⌜ left digested ≡ replies.counts answer .digest ⌝ }
 {
     match answer {
         ReplyAnswer::Done(n) => {
             *keyed = n.key as u64;
+            *digested = n.digest as u64;
             tell(Answer::Done(n.message), place, written)
         }
         ReplyAnswer::Refused(why) => {
             *keyed = 0;
+            *digested = 0;
             tell(Answer::Refused(why), place, written)
         }
     }
 }
 
-// The same of Finish.
-fn tell_finish(answer: FinishAnswer, place: &mut u64, written: &mut u64) -> u32
-    ensures { λ r. ⌜ (r ≡ finishes.number answer) × (left place ≡ finishes.place answer) × (left written ≡ finishes.counts answer .key) ⌝ }
+// The same of Finish, with its two.
+fn tell_finish(answer: FinishAnswer, place: &mut u64, keyed: &mut u64, digested: &mut u64) -> u32
+    ensures { λ r. ⌜ (r ≡ finishes.number answer) × (left place ≡ finishes.place answer) ⌝ }
+    ensures { λ r. ⌜ (left keyed ≡ finishes.counts answer .key) × (left digested ≡ finishes.counts answer .digest) ⌝ }
 {
     match answer {
-        FinishAnswer::Done(n) => tell(Answer::Done(n.key), place, written),
-        FinishAnswer::Refused(why) => tell(Answer::Refused(why), place, written),
+        FinishAnswer::Done(n) => {
+            *digested = n.digest as u64;
+            tell(Answer::Done(n.key), place, keyed)
+        }
+        FinishAnswer::Refused(why) => {
+            *digested = 0;
+            tell(Answer::Refused(why), place, keyed)
+        }
     }
 }
 
@@ -95,7 +113,7 @@ pub extern "C" fn wim_offer(
     tell(answer, place, written)
 }
 
-// Reply: the reply message and the replier's key, from the opening message, the public numbers a, the secret s', the noise e' and e'' and the coins.
+// Reply: the reply message, the replier's key and its digest, from the opening message, the public numbers a, the secret s', the noise e' and e'' and the coins.
 #[no_mangle]
 pub extern "C" fn wim_reply(
     scheme: u32,
@@ -107,33 +125,39 @@ pub extern "C" fn wim_reply(
     coins: &[u8],
     message: &mut [u8],
     key: &mut [u8],
+    digest: &mut [u8],
     place: &mut u64,
     written: &mut u64,
     keyed: &mut u64,
+    digested: &mut u64,
 ) -> u32
     ensures { λ r. ⌜
         Replied (schemeOf scheme) (reply opening a s1 e1 e2 coins)
-        r (left place) (room message) (left written) (left message) (room key) (left keyed) (left key)
+        r (left place) (room message) (left written) (left message) (room key) (left keyed) (left key) (room digest) (left digested) (left digest)
         ⌝ }
 {
-    let answer = exchange::reply(scheme, opening, a, s1, e1, e2, coins, message, key);
-    tell_reply(answer, place, written, keyed)
+    let answer = exchange::reply(scheme, opening, a, s1, e1, e2, coins, message, key, digest);
+    tell_reply(answer, place, written, keyed, digested)
 }
 
-// Finish: the initiator's key, from the reply message and the secret s.
+// Finish: the initiator's key and its digest, from the reply message and the secret s.
 #[no_mangle]
 pub extern "C" fn wim_finish(
     scheme: u32,
     reply: &[u8],
     s: &[i32],
     key: &mut [u8],
+    digest: &mut [u8],
     place: &mut u64,
-    written: &mut u64,
+    keyed: &mut u64,
+    digested: &mut u64,
 ) -> u32
-    ensures { λ r. ⌜ Finished (schemeOf scheme) (finish reply s) r (left place) (room key) (left written) (left key) ⌝ }
+    ensures { λ r. ⌜
+        Finished (schemeOf scheme) (finish reply s) r (left place) (room key) (left keyed) (left key) (room digest) (left digested) (left digest)
+        ⌝ }
 {
-    let answer = exchange::finish(scheme, reply, s, key);
-    tell_finish(answer, place, written)
+    let answer = exchange::finish(scheme, reply, s, key, digest);
+    tell_finish(answer, place, keyed, digested)
 }
 
 // Noise: the values that the bytes give.
@@ -163,6 +187,49 @@ pub extern "C" fn wim_expand(
     ensures { λ r. ⌜ Expanded (ruleOf rule) (expand stream) r (left place) (room out) (left written) (left out) ⌝ }
 {
     let answer = sampling::expand(rule, stream, out);
+    tell(answer, place, written)
+}
+
+// Grow: the first 1,024 numbers that the rule takes from the blocks of SHAKE-128 of the seed.
+#[no_mangle]
+pub extern "C" fn wim_grow(
+    rule: u32,
+    seed: &[u8],
+    out: &mut [u32],
+    place: &mut u64,
+    written: &mut u64,
+) -> u32
+    ensures { λ r. ⌜ Grown (ruleOf rule) (grow seed) r (left place) (room out) (left written) (left out) ⌝ }
+{
+    let answer = sampling::grow(rule, seed, out);
+    tell(answer, place, written)
+}
+
+// SHAKE-128: it fills the output.
+#[no_mangle]
+pub extern "C" fn wim_shake128(
+    input: &[u8],
+    out: &mut [u8],
+    place: &mut u64,
+    written: &mut u64,
+) -> u32
+    ensures { λ r. ⌜ Shaken (hash input) r (left place) (room out) (left written) (left out) ⌝ }
+{
+    let answer = hashing::shake128(input, out);
+    tell(answer, place, written)
+}
+
+// SHA3-256: its 32 bytes.
+#[no_mangle]
+pub extern "C" fn wim_sha3_256(
+    input: &[u8],
+    out: &mut [u8],
+    place: &mut u64,
+    written: &mut u64,
+) -> u32
+    ensures { λ r. ⌜ Digested (hash input) r (left place) (room out) (left written) (left out) ⌝ }
+{
+    let answer = hashing::sha3_256(input, out);
     tell(answer, place, written)
 }
 

@@ -8,13 +8,13 @@ returns : tie.Need-returns
 returns c =
     let t = c .tell .ensures in
     let a : tie.After-answer = search needs in
-    rw (a .answer .given .1) ((t .0, t .1), (t .2, refl))
+    rw (a .answer .given .1) ((t .0, t .1), ((t .2, refl), refl))
 
 returns-2 : tie.Need-returns-2
 returns-2 c =
     let t = c .tell2 .ensures in
     let a : tie.After-answer2 = search needs in
-    rw (a .answer2 .given .1) ((t .0, t .1), (t .2, refl))
+    rw (a .answer2 .given .1) ((t .0, t .1), ((t .2, refl), refl))
 
 pub tell-reply-spec : {M : Type 1} → statement M
 tell-reply-spec = tie.close (tie.spec (search needs) (λ c κs. search needs) (search needs) (λ c κs. search needs) returns returns-2)
