@@ -127,8 +127,18 @@ fn reply_to(number: u32) -> Result<(), Refusal> {
     let mut reply = vec![0; fixed.reply_bytes()];
     let mut key = vec![0; fixed.key_bytes];
     let (a, zeros, coins) = ([0; 1024], [0; 1024], [0; 32]);
+    let mut digest = [0; 32];
     calls::reply(
-        1, &opening, &a, &zeros, &zeros, &zeros, &coins, &mut reply, &mut key,
+        1,
+        &opening,
+        &a,
+        &zeros,
+        &zeros,
+        &zeros,
+        &coins,
+        &mut reply,
+        &mut key,
+        &mut digest,
     )?;
     Ok(())
 }
@@ -137,7 +147,7 @@ fn reply_to(number: u32) -> Result<(), Refusal> {
 fn finish_of(number: u32) -> Result<(), Refusal> {
     let fixed = &NEWHOPE;
     let reply = [packed(fixed, number), vec![0; fixed.hint_bytes()]].concat();
-    calls::finish(1, &reply, &[0; 1024], &mut [0; 32])?;
+    calls::finish(1, &reply, &[0; 1024], &mut [0; 32], &mut [0; 32])?;
     Ok(())
 }
 

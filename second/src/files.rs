@@ -4,8 +4,9 @@
 //! readable files only; the refusals are the calls' own, and what explains them
 //! in the command line's line is not told here.
 
-use crate::calls::{bench, expand, finish, noise, offer, reply, Bench};
+use crate::calls::{bench, expand, finish, grow, noise, offer, reply, sha3_256, shake128, Bench};
 use crate::expand::COUNT;
+use crate::hash::DIGEST;
 use crate::refusal::Refusal;
 use crate::schemes::scheme;
 use std::io::{self, Error};
@@ -28,10 +29,11 @@ pub fn run(words: &[&str]) -> io::Result<String> {
             write(out, &message)?;
             Ok(told(done.map(|n| format!("written={n}\n"))))
         }
-        ["reply", no, opening, a, s1, e1, e2, coins, out, key_out] => {
+        ["reply", no, opening, a, s1, e1, e2, coins, out, key_out, digest_out] => {
             let no = number(no)?;
             let mut message = vec![0; scheme(no).map_or(0, |s| s.reply_bytes())];
             let mut key = vec![0; scheme(no).map_or(0, |s| s.key_bytes)];
+            let mut digest = [0; DIGEST];
             let (opening, a, coins) = (bytes(opening)?, numbers(a)?, bytes(coins)?);
             let (s1, e1, e2) = (values(s1)?, values(e1)?, values(e2)?);
             let done = reply(
@@ -44,19 +46,25 @@ pub fn run(words: &[&str]) -> io::Result<String> {
                 &coins,
                 &mut message,
                 &mut key,
+                &mut digest,
             );
             write(out, &message)?;
             write(key_out, &key)?;
-            Ok(told(done.map(|(n, k)| {
-                format!("message_written={n}\nkey_written={k}\n")
+            write(digest_out, &digest)?;
+            Ok(told(done.map(|(n, k, d)| {
+                format!("message_written={n}\nkey_written={k}\ndigest_written={d}\n")
             })))
         }
-        ["finish", no, message, s, out] => {
+        ["finish", no, message, s, key_out, digest_out] => {
             let no = number(no)?;
             let mut key = vec![0; scheme(no).map_or(0, |s| s.key_bytes)];
-            let done = finish(no, &bytes(message)?, &values(s)?, &mut key);
-            write(out, &key)?;
-            Ok(told(done.map(|n| format!("written={n}\n"))))
+            let mut digest = [0; DIGEST];
+            let done = finish(no, &bytes(message)?, &values(s)?, &mut key, &mut digest);
+            write(key_out, &key)?;
+            write(digest_out, &digest)?;
+            Ok(told(done.map(|(k, d)| {
+                format!("key_written={k}\ndigest_written={d}\n")
+            })))
         }
         ["noise", no, random, out] => {
             let random = bytes(random)?;
@@ -71,6 +79,24 @@ pub fn run(words: &[&str]) -> io::Result<String> {
             let mut taken = vec![0; COUNT];
             let done = expand(number(rule)?, &bytes(stream)?, &mut taken);
             write(out, &words_of(taken))?;
+            Ok(told(done.map(|n| format!("written={n}\n"))))
+        }
+        ["grow", rule, seed, out] => {
+            let mut grown = vec![0; COUNT];
+            let done = grow(number(rule)?, &bytes(seed)?, &mut grown);
+            write(out, &words_of(grown))?;
+            Ok(told(done.map(|n| format!("written={n}\n"))))
+        }
+        ["hash", "shake128", length, input, out] => {
+            let mut output = vec![0; number(length)?];
+            let done = shake128(&bytes(input)?, &mut output);
+            write(out, &output)?;
+            Ok(told(done.map(|n| format!("written={n}\n"))))
+        }
+        ["hash", "sha3-256", input, out] => {
+            let mut output = [0; DIGEST];
+            let done = sha3_256(&bytes(input)?, &mut output);
+            write(out, &output)?;
             Ok(told(done.map(|n| format!("written={n}\n"))))
         }
         ["bench", no, a, s, e, seed, s1, e1, e2, coins] => {

@@ -1,7 +1,8 @@
-//! The independent second program, written from documents 01 and 02 alone.
+//! The independent second program, written from documents 01 and 02 and, for
+//! the two hashes, FIPS 202 alone.
 //!
-//! It follows 01's words literally: plain sums, a search for the nearest z. It
-//! is slow on purpose.
+//! It follows their words literally: plain sums, a search for the nearest z,
+//! Keccak bit by bit. It is slow on purpose.
 //!
 //! `cargo test` runs all tests, the published NewHope vectors among them.
 
@@ -10,6 +11,9 @@ pub mod cards;
 pub mod coins;
 pub mod expand;
 pub mod files;
+pub mod grow;
+pub mod hash;
+pub mod keccak;
 pub mod line;
 pub mod margins;
 pub mod matrix;

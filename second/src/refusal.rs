@@ -32,6 +32,15 @@ pub fn wrong_length(given: usize, fixed: usize) -> Result<(), Refusal> {
     }
 }
 
+/// 2: a stream or a hash's input is over the longest.
+pub fn too_long(given: usize, longest: usize) -> Result<(), Refusal> {
+    if given > longest {
+        Err(refusal(2, 0))
+    } else {
+        Ok(())
+    }
+}
+
 /// 3: an output buffer is shorter than the answer.
 pub fn short_output(room: usize, answer: usize) -> Result<(), Refusal> {
     if room < answer {

@@ -1,4 +1,5 @@
 use super::{finish, offer, reply};
+use crate::hash::DIGEST;
 use crate::packing::get_bit;
 use crate::refusal::{self, Refusal};
 
@@ -28,6 +29,7 @@ pub fn bench(
     let mut answer = vec![0; fixed.reply_bytes()];
     let mut key = vec![0; fixed.key_bytes];
     let mut peer = vec![0; fixed.key_bytes];
+    let mut digest = [0; DIGEST];
     offer(scheme, a, s, e, seed, &mut opening)?;
     reply(
         scheme,
@@ -39,8 +41,9 @@ pub fn bench(
         coins,
         &mut answer,
         &mut key,
+        &mut digest,
     )?;
-    finish(scheme, &answer, s, &mut peer)?;
+    finish(scheme, &answer, s, &mut peer, &mut digest)?;
     Ok(compare(&key, &peer))
 }
 

@@ -1,16 +1,25 @@
 use super::{signed, write};
+use crate::hash::{sha3_256, DIGEST};
 use crate::reconcile::initiator;
 use crate::refusal::{self, Refusal};
 use crate::{message, mix};
 
-/// Finish: scheme, reply message, s. Gives the key.
-pub fn finish(scheme: u64, reply: &[u8], s: &[i32], key: &mut [u8]) -> Result<usize, Refusal> {
+/// Finish: scheme, reply message, s. Gives the key and the key's SHA3-256.
+pub fn finish(
+    scheme: u64,
+    reply: &[u8],
+    s: &[i32],
+    key: &mut [u8],
+    digest: &mut [u8],
+) -> Result<(usize, usize), Refusal> {
     key.fill(0);
+    digest.fill(0);
 
     let scheme = refusal::no_scheme(scheme)?;
     refusal::wrong_length(reply.len(), scheme.reply_bytes())?;
     refusal::wrong_length(s.len(), scheme.secret_count())?;
     refusal::short_output(key.len(), scheme.key_bytes)?;
+    refusal::short_output(digest.len(), DIGEST)?;
     let numbers = message::reply_numbers(scheme, reply);
     refusal::large_in_message(scheme, &numbers)?;
     refusal::beyond_noise(scheme, s)?;
@@ -19,5 +28,5 @@ pub fn finish(scheme: u64, reply: &[u8], s: &[i32], key: &mut [u8]) -> Result<us
     let w = mix::w(scheme, &u, &signed(s));
     let entries = initiator(scheme, &w, &message::reply_hints(scheme, reply));
     let answer = message::key(scheme, &entries);
-    Ok(write(&answer, key))
+    Ok((write(&answer, key), write(&sha3_256(&answer), digest)))
 }

@@ -1,10 +1,12 @@
-//! 01, "The calls". A call answers with its written counts or refuses with a
+//! 01, "The calls", with those of 02. A call answers with its written counts or refuses with a
 //! number and a place. Each output is zeroed first, so that after a refusal it
 //! is zero over its whole length, and after a success behind the answer.
 
 mod bench;
 mod expand;
 mod finish;
+mod grow;
+mod hash;
 mod noise;
 mod offer;
 mod reply;
@@ -12,9 +14,22 @@ mod reply;
 pub use bench::{bench, Bench};
 pub use expand::expand;
 pub use finish::finish;
+pub use grow::grow;
+pub use hash::{sha3_256, shake128};
 pub use noise::noise;
 pub use offer::offer;
 pub use reply::reply;
+
+use crate::expand::COUNT;
+use crate::refusal::{refusal, Refusal};
+
+/// 7: fewer than 1024 numbers were taken.
+fn enough(answer: Vec<u32>) -> Result<Vec<u32>, Refusal> {
+    match answer.len() {
+        COUNT => Ok(answer),
+        fewer => Err(refusal(7, fewer)),
+    }
+}
 
 /// Writes the answer at the start of the output; the written count.
 fn write<T: Copy>(answer: &[T], output: &mut [T]) -> usize {

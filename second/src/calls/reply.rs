@@ -1,10 +1,11 @@
 use super::{signed, write};
+use crate::hash::{sha3_256, DIGEST};
 use crate::reconcile::replier;
 use crate::refusal::{self, Refusal};
 use crate::{message, mix};
 
 /// Reply: scheme, opening message, public a, s', e', e'', coins. Gives the
-/// reply message and the key.
+/// reply message, the key and the key's SHA3-256.
 #[allow(clippy::too_many_arguments)]
 pub fn reply(
     scheme: u64,
@@ -16,9 +17,11 @@ pub fn reply(
     coins: &[u8],
     reply: &mut [u8],
     key: &mut [u8],
-) -> Result<(usize, usize), Refusal> {
+    digest: &mut [u8],
+) -> Result<(usize, usize, usize), Refusal> {
     reply.fill(0);
     key.fill(0);
+    digest.fill(0);
 
     let scheme = refusal::no_scheme(scheme)?;
     refusal::wrong_length(opening.len(), scheme.opening_bytes())?;
@@ -29,6 +32,7 @@ pub fn reply(
     refusal::wrong_length(coins.len(), scheme.coin_bytes())?;
     refusal::short_output(reply.len(), scheme.reply_bytes())?;
     refusal::short_output(key.len(), scheme.key_bytes)?;
+    refusal::short_output(digest.len(), DIGEST)?;
     refusal::large_public(scheme, a)?;
     let numbers = message::opening_numbers(scheme, opening);
     refusal::large_in_message(scheme, &numbers)?;
@@ -42,5 +46,9 @@ pub fn reply(
     let (hints, entries) = replier(scheme, &v, coins);
     let answer = message::reply(scheme, &u, &hints);
     let key_answer = message::key(scheme, &entries);
-    Ok((write(&answer, reply), write(&key_answer, key)))
+    Ok((
+        write(&answer, reply),
+        write(&key_answer, key),
+        write(&sha3_256(&key_answer), digest),
+    ))
 }

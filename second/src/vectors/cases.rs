@@ -3,7 +3,6 @@
 use super::draw::{drawn, Entries};
 use super::good::{Call, Good, COINS_OF_BENCH, E_OF_BENCH};
 use super::input::{Input, Kind};
-use crate::expand::COUNT;
 use crate::schemes::Scheme;
 
 /// How a call is made: with which scheme, which length of each input and room
@@ -220,15 +219,16 @@ fn eighth(scheme: &Scheme, good: &Good) -> Case {
 pub fn of_expand() -> Vec<(Good, Vec<Case>)> {
     let mut cases = vec![];
     for rule in [14, 16] {
-        cases.push(with_stream(rule, drawn_stream(), &drawn_cases()));
+        let expand = Call::Expand { rule };
+        cases.push(on_bytes(expand, drawn_stream(), &drawn_cases()));
         for word in WORDS {
             let lengths = [2046, 2047, 2048, 2049].map(|length| (length, 1024));
-            cases.push(with_stream(rule, again_and_again(word), &lengths));
+            cases.push(on_bytes(expand, again_and_again(word), &lengths));
         }
     }
     for rule in NO_RULES {
         let faults = [(4096, 1024), (65537, 0)];
-        cases.push(with_stream(rule, drawn_stream(), &faults));
+        cases.push(on_bytes(Call::Expand { rule }, drawn_stream(), &faults));
     }
     cases
 }
@@ -262,17 +262,79 @@ fn again_and_again(word: u16) -> Vec<i64> {
     word.to_le_bytes().map(i64::from).repeat(1025)
 }
 
-/// Expand by one rule on one stream, by length and room.
-fn with_stream(rule: u32, stream: Vec<i64>, cases: &[(usize, usize)]) -> (Good, Vec<Case>) {
+/// The cases of Grow: by each rule its seeds, then by numbers that no rule has.
+pub fn of_grow() -> Vec<(Good, Vec<Case>)> {
+    let mut cases = vec![];
+    for rule in [14, 16] {
+        let grow = Call::Grow { rule };
+        for seed in 902..=909 {
+            cases.push(on_bytes(
+                grow,
+                drawn(seed, Entries::Bytes, 32),
+                &[(32, 1024)],
+            ));
+        }
+        let faults = [
+            [0, 31, 33, 64].map(|length| (length, 1024)).to_vec(),
+            [0, 1023, 1025, 1056].map(|room| (32, room)).to_vec(),
+            vec![(33, 0)],
+        ];
+        cases.push(on_bytes(grow, first_seed(), &faults.concat()));
+    }
+    for rule in NO_RULES {
+        let faults = [(32, 1024), (33, 0)];
+        cases.push(on_bytes(Call::Grow { rule }, first_seed(), &faults));
+    }
+    cases
+}
+
+/// The first of the seeds, as long as any case has it.
+fn first_seed() -> Vec<i64> {
+    drawn(902, Entries::Bytes, 64)
+}
+
+/// The cases of SHAKE-128, whose room is its answer.
+pub fn of_shake128() -> Vec<(Good, Vec<Case>)> {
+    let inputs = [
+        0, 1, 135, 136, 137, 167, 168, 169, 335, 336, 337, 1000, 65535, 65536, 65537,
+    ];
+    let outputs = [0, 1, 32, 167, 168, 169, 336, 337, 4032];
+    let cases = [
+        inputs.map(|length| (length, 200)).to_vec(),
+        outputs.map(|room| (32, room)).to_vec(),
+    ];
+    vec![on_bytes(Call::Shake128, hashed(), &cases.concat())]
+}
+
+/// The cases of SHA3-256.
+pub fn of_sha3_256() -> Vec<(Good, Vec<Case>)> {
+    let inputs = [
+        0, 1, 135, 136, 137, 167, 168, 271, 272, 273, 1000, 65535, 65536, 65537,
+    ];
+    let cases = [
+        inputs.map(|length| (length, 32)).to_vec(),
+        [0, 31, 33, 64].map(|room| (32, room)).to_vec(),
+        vec![(65537, 0)],
+    ];
+    vec![on_bytes(Call::Sha3256, hashed(), &cases.concat())]
+}
+
+/// The input of the hashes, as long as any case has it.
+fn hashed() -> Vec<i64> {
+    drawn(911, Entries::Bytes, 65537)
+}
+
+/// A call without a scheme on one input of bytes, by length and room.
+fn on_bytes(call: Call, bytes: Vec<i64>, cases: &[(usize, usize)]) -> (Good, Vec<Case>) {
     let good = Good {
-        call: Call::Expand { rule },
+        call,
         scheme: None,
         inputs: vec![Input {
             kind: Kind::Bytes,
-            n: stream.len(),
-            entries: stream,
+            n: bytes.len(),
+            entries: bytes,
         }],
-        answers: vec![COUNT],
+        answers: vec![],
     };
     let case = |&(length, room)| Case {
         lengths: vec![length],

@@ -3,6 +3,7 @@
 use super::cases::Case;
 use super::draw::Entries;
 use super::input::Input;
+use crate::hash::DIGEST;
 use crate::schemes::{Family, Scheme};
 
 #[derive(Clone, Copy, Debug, PartialEq, Eq)]
@@ -13,6 +14,9 @@ pub enum Call {
     Bench,
     Noise,
     Expand { rule: u32 },
+    Grow { rule: u32 },
+    Shake128,
+    Sha3256,
 }
 
 /// Where e and the coins stand among Bench's inputs.
@@ -22,7 +26,7 @@ pub const COINS_OF_BENCH: usize = 7;
 /// A call, its good inputs and the length of each answer.
 pub struct Good {
     pub call: Call,
-    /// None in Expand.
+    /// None in Expand, Grow and the hashes.
     pub scheme: Option<&'static Scheme>,
     pub inputs: Vec<Input>,
     pub answers: Vec<usize>,
@@ -99,14 +103,14 @@ impl Lists {
         };
         let opening = Input::message(self.scheme, start, opening);
         let inputs = [&opening, &self.a, &self.s1, &self.e1, &self.e2, &self.coins];
-        let answers = vec![self.scheme.reply_bytes(), self.scheme.key_bytes];
+        let answers = vec![self.scheme.reply_bytes(), self.scheme.key_bytes, DIGEST];
         self.good(Call::Reply, &inputs, answers)
     }
 
     pub fn finish(&self, reply: Vec<i64>) -> Good {
         let reply = Input::message(self.scheme, 0, reply);
         let inputs = [&reply, &self.s];
-        self.good(Call::Finish, &inputs, vec![self.scheme.key_bytes])
+        self.good(Call::Finish, &inputs, vec![self.scheme.key_bytes, DIGEST])
     }
 
     pub fn bench(&self) -> Good {

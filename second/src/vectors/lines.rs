@@ -28,12 +28,12 @@ pub fn line(good: &Good, name: &str, answer: &Answer) -> String {
     if let Some(scheme) = good.scheme {
         words.push(format!("scheme={}", scheme.number));
     }
-    if let Call::Expand { rule } = good.call {
+    if let Call::Expand { rule } | Call::Grow { rule } = good.call {
         words.push(format!("rule={rule}"));
     }
     words.push(format!("case={name} refusal={number} place={place}"));
     for (output, written) in outputs.iter().zip(&answer.written) {
-        // Only where there are two is it said which.
+        // Only where there are several is it said which.
         let whose = match outputs.len() {
             1 => String::new(),
             _ => format!("{output}_"),
@@ -53,11 +53,14 @@ pub fn line(good: &Good, name: &str, answer: &Answer) -> String {
 fn names(call: Call) -> (&'static str, &'static [&'static str]) {
     match call {
         Call::Offer => ("offer", &["message"]),
-        Call::Reply => ("reply", &["message", "key"]),
-        Call::Finish => ("finish", &["key"]),
+        Call::Reply => ("reply", &["message", "key", "digest"]),
+        Call::Finish => ("finish", &["key", "digest"]),
         Call::Bench => ("bench", &[]),
         Call::Noise => ("noise", &["values"]),
         Call::Expand { .. } => ("expand", &["numbers"]),
+        Call::Grow { .. } => ("grow", &["numbers"]),
+        Call::Shake128 => ("shake128", &["bytes"]),
+        Call::Sha3256 => ("sha3_256", &["bytes"]),
     }
 }
 

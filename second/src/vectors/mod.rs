@@ -21,11 +21,11 @@ pub fn vectors() -> Vec<String> {
             .each_ref()
             .map(|scheme| scope.spawn(|| of_scheme(scheme)));
         let lines = schemes.into_iter().flat_map(|lines| lines.join().unwrap());
-        lines.chain(of_expand()).collect()
+        lines.chain(of_no_scheme()).collect()
     })
 }
 
-/// The lines of one scheme: all calls but Expand, then the wide cases.
+/// The lines of one scheme: all calls that have one, then the wide cases.
 pub fn of_scheme(scheme: &'static Scheme) -> Vec<String> {
     let mut lines = vec![];
     for good in exchange(&Lists::drawn(scheme)) {
@@ -39,9 +39,15 @@ pub fn of_scheme(scheme: &'static Scheme) -> Vec<String> {
     lines
 }
 
-/// The lines of Expand.
-pub fn of_expand() -> Vec<String> {
-    numbered(&cases::of_expand())
+/// The lines of the calls without a scheme.
+pub fn of_no_scheme() -> Vec<String> {
+    let calls = [
+        cases::of_expand(),
+        cases::of_grow(),
+        cases::of_shake128(),
+        cases::of_sha3_256(),
+    ];
+    calls.iter().flat_map(|cases| numbered(cases)).collect()
 }
 
 /// Offer, Reply, Finish and Bench, each message that of the call before.

@@ -39,7 +39,7 @@ pub fn run(good: &Good, case: &Case) -> Answer {
             answer(told.map(|count| vec![count]), vec![whole(&message)])
         }
         Call::Reply => {
-            let (mut message, mut key) = (room(0), room(1));
+            let (mut message, mut key, mut digest) = (room(0), room(1), room(2));
             let told = calls::reply(
                 k,
                 &bytes(0),
@@ -50,14 +50,16 @@ pub fn run(good: &Good, case: &Case) -> Answer {
                 &bytes(5),
                 &mut message,
                 &mut key,
+                &mut digest,
             );
-            let outputs = vec![whole(&message), whole(&key)];
-            answer(told.map(|(message, key)| vec![message, key]), outputs)
+            let outputs = [message, key, digest].map(|output| whole(&output));
+            answer(told.map(|(m, k, d)| vec![m, k, d]), outputs.to_vec())
         }
         Call::Finish => {
-            let mut key = room(0);
-            let told = calls::finish(k, &bytes(0), &values(1), &mut key);
-            answer(told.map(|count| vec![count]), vec![whole(&key)])
+            let (mut key, mut digest) = (room(0), room(1));
+            let told = calls::finish(k, &bytes(0), &values(1), &mut key, &mut digest);
+            let outputs = vec![whole(&key), whole(&digest)];
+            answer(told.map(|(k, d)| vec![k, d]), outputs)
         }
         Call::Bench => {
             let told = calls::bench(
@@ -89,6 +91,21 @@ pub fn run(good: &Good, case: &Case) -> Answer {
             let mut numbers = vec![u32::from_ne_bytes([BEFORE; 4]); case.rooms[0]];
             let told = calls::expand(rule, &bytes(0), &mut numbers);
             answer(told.map(|count| vec![count]), vec![whole(&numbers)])
+        }
+        Call::Grow { rule } => {
+            let mut numbers = vec![u32::from_ne_bytes([BEFORE; 4]); case.rooms[0]];
+            let told = calls::grow(rule, &bytes(0), &mut numbers);
+            answer(told.map(|count| vec![count]), vec![whole(&numbers)])
+        }
+        Call::Shake128 => {
+            let mut output = room(0);
+            let told = calls::shake128(&bytes(0), &mut output);
+            answer(told.map(|count| vec![count]), vec![whole(&output)])
+        }
+        Call::Sha3256 => {
+            let mut output = room(0);
+            let told = calls::sha3_256(&bytes(0), &mut output);
+            answer(told.map(|count| vec![count]), vec![whole(&output)])
         }
     }
 }
