@@ -34,16 +34,18 @@ fn ff_ff_ff_ff_is_refused_not_0() {
     for place in [0, 1, 1023] {
         let mut message = vec![0; 4096];
         message[4 * place..4 * place + 4].fill(0xFF);
-        let (mut reply, mut key) = ([7; 4224], [7; 128]);
-        let answer = inputs.reply(&message, &mut reply, &mut key);
+        let (mut reply, mut key, mut digest) = ([7; 4224], [7; 128], [7; 32]);
+        let answer = inputs.reply(&message, &mut reply, &mut key, &mut digest);
         assert_eq!(answer, Err(refusal(5, place)));
-        assert_eq!((reply, key), ([0; 4224], [0; 128]));
+        assert_eq!((reply, key, digest), ([0; 4224], [0; 128], [0; 32]));
         message.extend([0; 128]);
-        let mut key = [7; 128];
-        assert_eq!(inputs.finish(&message, &mut key), Err(refusal(5, place)));
-        assert_eq!(key, [0; 128]);
+        let (mut key, mut digest) = ([7; 128], [7; 32]);
+        let answer = inputs.finish(&message, &mut key, &mut digest);
+        assert_eq!(answer, Err(refusal(5, place)));
+        assert_eq!((key, digest), ([0; 128], [0; 32]));
         message[4 * place] = 0xFE;
-        assert_eq!(inputs.finish(&message, &mut key), Ok(128));
+        let answer = inputs.finish(&message, &mut key, &mut digest);
+        assert_eq!(answer, Ok((128, 32)));
     }
 }
 

@@ -3,6 +3,7 @@
 use crate::generator::Generator;
 use crate::inputs::Inputs;
 use second::calls::Bench;
+use second::hash::sha3_256;
 use second::schemes::{Scheme, SIX};
 
 fn agrees(scheme: &'static Scheme, rounds: u64) {
@@ -78,14 +79,19 @@ fn the_same_answer_whatever_the_outputs_held() {
 
         let mut longer = generator.bytes(s.reply_bytes() + 7);
         let mut longer_key = generator.bytes(s.key_bytes + 5);
-        let written = (s.reply_bytes(), s.key_bytes);
-        let answer = inputs.reply(&opening, &mut longer, &mut longer_key);
+        let mut longer_digest = generator.bytes(32 + 2);
+        let written = (s.reply_bytes(), s.key_bytes, 32);
+        let answer = inputs.reply(&opening, &mut longer, &mut longer_key, &mut longer_digest);
         assert_eq!(answer, Ok(written));
         assert_eq!(longer, [&reply[..], &[0; 7]].concat());
         assert_eq!(longer_key, [&key[..], &[0; 5]].concat());
+        assert_eq!(longer_digest, [&sha3_256(&key)[..], &[0; 2]].concat());
 
         let mut longer_key = generator.bytes(s.key_bytes + 3);
-        assert_eq!(inputs.finish(&reply, &mut longer_key), Ok(s.key_bytes));
+        let mut longer_digest = generator.bytes(32 + 4);
+        let answer = inputs.finish(&reply, &mut longer_key, &mut longer_digest);
+        assert_eq!(answer, Ok((s.key_bytes, 32)));
         assert_eq!(longer_key, [&key[..], &[0; 3]].concat());
+        assert_eq!(longer_digest, [&sha3_256(&key)[..], &[0; 4]].concat());
     }
 }

@@ -2,6 +2,7 @@
 
 use crate::generator::Generator;
 use second::calls::{self, Bench};
+use second::hash::sha3_256;
 use second::refusal::Refusal;
 use second::schemes::{Family, Scheme};
 
@@ -61,16 +62,22 @@ impl Inputs {
         opening: &[u8],
         reply: &mut [u8],
         key: &mut [u8],
-    ) -> Result<(usize, usize), Refusal> {
+        digest: &mut [u8],
+    ) -> Result<(usize, usize, usize), Refusal> {
         let i = self;
         let number = i.scheme.number;
         calls::reply(
-            number, opening, &i.a, &i.s1, &i.e1, &i.e2, &i.coins, reply, key,
+            number, opening, &i.a, &i.s1, &i.e1, &i.e2, &i.coins, reply, key, digest,
         )
     }
 
-    pub fn finish(&self, reply: &[u8], key: &mut [u8]) -> Result<usize, Refusal> {
-        calls::finish(self.scheme.number, reply, &self.s, key)
+    pub fn finish(
+        &self,
+        reply: &[u8],
+        key: &mut [u8],
+        digest: &mut [u8],
+    ) -> Result<(usize, usize), Refusal> {
+        calls::finish(self.scheme.number, reply, &self.s, key, digest)
     }
 
     pub fn bench(&self) -> Result<Bench, Refusal> {
@@ -88,19 +95,25 @@ impl Inputs {
         opening
     }
 
-    /// The reply and the key; no refusal expected.
+    /// The reply and the key; no refusal expected, and the key's digest.
     pub fn reply_and_key(&self, opening: &[u8]) -> (Vec<u8>, Vec<u8>) {
         let mut reply = vec![0xAA; self.scheme.reply_bytes()];
         let mut key = vec![0xAA; self.scheme.key_bytes];
-        let written = (reply.len(), key.len());
-        assert_eq!(self.reply(opening, &mut reply, &mut key), Ok(written));
+        let mut digest = [0xAA; 32];
+        let written = (reply.len(), key.len(), 32);
+        let answer = self.reply(opening, &mut reply, &mut key, &mut digest);
+        assert_eq!(answer, Ok(written));
+        assert_eq!(digest, sha3_256(&key)[..]);
         (reply, key)
     }
 
-    /// The initiator's key; no refusal expected.
+    /// The initiator's key; no refusal expected, and the key's digest.
     pub fn peer(&self, reply: &[u8]) -> Vec<u8> {
         let mut key = vec![0xAA; self.scheme.key_bytes];
-        assert_eq!(self.finish(reply, &mut key), Ok(key.len()));
+        let mut digest = [0xAA; 32];
+        let written = (key.len(), 32);
+        assert_eq!(self.finish(reply, &mut key, &mut digest), Ok(written));
+        assert_eq!(digest, sha3_256(&key)[..]);
         key
     }
 }

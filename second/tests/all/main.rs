@@ -11,6 +11,8 @@ mod cards;
 mod easy_to_get_wrong;
 mod exchange;
 mod expand;
+mod grow;
+mod hash;
 mod line;
 mod margins;
 mod matrix;

@@ -1,7 +1,7 @@
 //! The designers' own NewHope vectors (tests/data/README.md).
 
 use crate::calls;
-use crate::standards::{chacha20, hex, sha3_256, shake128};
+use crate::standards::{chacha20, hex};
 
 struct Vector {
     seed_a: Vec<u8>,
@@ -60,10 +60,16 @@ fn bit_reversed(values: Vec<i32>) -> Vec<i32> {
     answer
 }
 
+fn hashed(message: &[u8]) -> [u8; 32] {
+    let mut digest = [0; 32];
+    assert_eq!(calls::sha3_256(message, &mut digest), Ok(32));
+    digest
+}
+
 fn reproduces(vector: &Vector) {
     let (seed, key_a) = vector.seed_a.split_at(32);
     let mut a = vec![0; 1024];
-    assert_eq!(calls::expand(14, &shake128(seed, 4096), &mut a), Ok(1024));
+    assert_eq!(calls::grow(14, seed, &mut a), Ok(1024));
 
     let mut draws = Draws {
         key: key_a,
@@ -73,7 +79,7 @@ fn reproduces(vector: &Vector) {
     let e = bit_reversed(draws.noise());
     let mut opening = vec![0; 1824];
     assert_eq!(calls::offer(1, &a, &s, &e, seed, &mut opening), Ok(1824));
-    assert_eq!(sha3_256(&opening), vector.output_a);
+    assert_eq!(hashed(&opening), vector.output_a[..]);
 
     let mut draws = Draws {
         key: &vector.seed_b,
@@ -83,15 +89,27 @@ fn reproduces(vector: &Vector) {
     let e1 = bit_reversed(draws.noise());
     let e2 = draws.noise();
     let coins = draws.bytes(32);
-    let (mut reply, mut key) = (vec![0; 2048], vec![0; 32]);
-    let answer = calls::reply(1, &opening, &a, &s1, &e1, &e2, &coins, &mut reply, &mut key);
-    assert_eq!(answer, Ok((2048, 32)));
-    assert_eq!(sha3_256(&reply), vector.output_b);
-    assert_eq!(sha3_256(&key), vector.shared_key);
+    let (mut reply, mut key, mut digest) = (vec![0; 2048], [0; 32], [0; 32]);
+    let answer = calls::reply(
+        1,
+        &opening,
+        &a,
+        &s1,
+        &e1,
+        &e2,
+        &coins,
+        &mut reply,
+        &mut key,
+        &mut digest,
+    );
+    assert_eq!(answer, Ok((2048, 32, 32)));
+    assert_eq!(hashed(&reply), vector.output_b[..]);
+    assert_eq!(digest, vector.shared_key[..]);
 
-    let mut peer = vec![0; 32];
-    assert_eq!(calls::finish(1, &reply, &s, &mut peer), Ok(32));
-    assert_eq!(peer, key);
+    let (mut peer, mut peer_digest) = ([0; 32], [0; 32]);
+    let answer = calls::finish(1, &reply, &s, &mut peer, &mut peer_digest);
+    assert_eq!(answer, Ok((32, 32)));
+    assert_eq!((peer, peer_digest), (key, digest));
 }
 
 #[test]

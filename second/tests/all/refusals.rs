@@ -25,18 +25,22 @@ fn reply_refuses(inputs: &Inputs, message: &[u8], expected: Refusal) {
     for room in rooms(inputs.scheme.reply_bytes()) {
         let mut reply = vec![0x55; room];
         let mut key = vec![0x66; inputs.scheme.key_bytes + 1];
-        let answer = inputs.reply(message, &mut reply, &mut key);
+        let mut digest = [0x77; 33];
+        let answer = inputs.reply(message, &mut reply, &mut key, &mut digest);
         assert_eq!(answer, Err(expected));
         assert_eq!(reply, vec![0; room]);
         assert_eq!(key, vec![0; key.len()]);
+        assert_eq!(digest, [0; 33]);
     }
 }
 
 fn finish_refuses(inputs: &Inputs, message: &[u8], expected: Refusal) {
     for room in rooms(inputs.scheme.key_bytes) {
-        let mut key = vec![0x55; room];
-        assert_eq!(inputs.finish(message, &mut key), Err(expected));
+        let (mut key, mut digest) = (vec![0x55; room], [0x77; 33]);
+        let answer = inputs.finish(message, &mut key, &mut digest);
+        assert_eq!(answer, Err(expected));
         assert_eq!(key, vec![0; room]);
+        assert_eq!(digest, [0; 33]);
     }
 }
 
@@ -74,6 +78,7 @@ fn number_1() {
         assert_eq!(first, [0; 5000]);
 
         first.fill(0x55);
+        let mut digest = [0x77; 40];
         let answer = calls::reply(
             scheme,
             &[0; 4096],
@@ -84,15 +89,19 @@ fn number_1() {
             &i.coins,
             &mut first,
             &mut second,
+            &mut digest,
         );
         assert_eq!(answer, Err(refusal(1, 0)));
         assert_eq!(first, [0; 5000]);
         assert_eq!(second, [0; 200]);
+        assert_eq!(digest, [0; 40]);
 
         second.fill(0x66);
-        let answer = calls::finish(scheme, &[0; 4224], &i.s, &mut second);
+        digest.fill(0x77);
+        let answer = calls::finish(scheme, &[0; 4224], &i.s, &mut second, &mut digest);
         assert_eq!(answer, Err(refusal(1, 0)));
         assert_eq!(second, [0; 200]);
+        assert_eq!(digest, [0; 40]);
     }
     assert_eq!(
         calls::offer(6, &[], &[], &[], &[], &mut []),
@@ -189,28 +198,34 @@ fn number_3() {
     for s in &SIX {
         let good = Inputs::zero(s);
         let (opening, reply) = messages(s);
-        for missing in [1, 2, s.key_bytes] {
+        let [r, k] = [s.reply_bytes(), s.key_bytes];
+        for missing in [1, 2, k] {
             let mut output = vec![0x55; s.opening_bytes() - missing];
             assert_eq!(good.offer(&mut output), Err(refusal(3, 0)));
             assert_eq!(output, vec![0; output.len()]);
 
-            let mut output = vec![0x55; s.reply_bytes() - missing];
-            let mut key = vec![0x66; s.key_bytes + 2];
-            let answer = good.reply(&opening, &mut output, &mut key);
-            assert_eq!(answer, Err(refusal(3, 0)));
-            assert_eq!(output, vec![0; output.len()]);
-            assert_eq!(key, vec![0; key.len()]);
+            let left = 32 - missing.min(32);
+            for [reply_room, key_room, room] in [
+                [r - missing, k + 2, 34],
+                [r + 2, k - missing, 34],
+                [r + 2, k + 2, left],
+            ] {
+                let mut output = vec![0x55; reply_room];
+                let (mut key, mut digest) = (vec![0x66; key_room], vec![0x77; room]);
+                let answer = good.reply(&opening, &mut output, &mut key, &mut digest);
+                assert_eq!(answer, Err(refusal(3, 0)));
+                assert_eq!(output, vec![0; reply_room]);
+                assert_eq!(key, vec![0; key_room]);
+                assert_eq!(digest, vec![0; room]);
+            }
 
-            let mut output = vec![0x55; s.reply_bytes() + 2];
-            let mut key = vec![0x66; s.key_bytes - missing];
-            let answer = good.reply(&opening, &mut output, &mut key);
-            assert_eq!(answer, Err(refusal(3, 0)));
-            assert_eq!(output, vec![0; output.len()]);
-            assert_eq!(key, vec![0; key.len()]);
-
-            let mut key = vec![0x66; s.key_bytes - missing];
-            assert_eq!(good.finish(&reply, &mut key), Err(refusal(3, 0)));
-            assert_eq!(key, vec![0; key.len()]);
+            for [key_room, room] in [[k - missing, 34], [k + 2, left]] {
+                let (mut key, mut digest) = (vec![0x66; key_room], vec![0x77; room]);
+                let answer = good.finish(&reply, &mut key, &mut digest);
+                assert_eq!(answer, Err(refusal(3, 0)));
+                assert_eq!(key, vec![0; key_room]);
+                assert_eq!(digest, vec![0; room]);
+            }
         }
     }
 }
@@ -360,12 +375,15 @@ fn order_in_reply() {
         bad.a[5] = s.q as u32;
         reply_refuses(&bad, &opening, refusal(4, 5));
         let (mut reply, mut key) = (vec![1; s.reply_bytes()], vec![1; s.key_bytes]);
-        let answer = bad.reply(&opening, &mut reply, &mut key[1..]);
+        let mut digest = [1; 32];
+        let answer = bad.reply(&opening, &mut reply, &mut key, &mut digest[1..]);
         assert_eq!(answer, Err(refusal(3, 0)));
-        let answer = bad.reply(&opening, &mut reply[1..], &mut key);
+        let answer = bad.reply(&opening, &mut reply, &mut key[1..], &mut digest);
+        assert_eq!(answer, Err(refusal(3, 0)));
+        let answer = bad.reply(&opening, &mut reply[1..], &mut key, &mut digest);
         assert_eq!(answer, Err(refusal(3, 0)));
         bad.coins.push(1);
-        let answer = bad.reply(&opening, &mut reply[1..], &mut key);
+        let answer = bad.reply(&opening, &mut reply, &mut key, &mut digest[1..]);
         assert_eq!(answer, Err(refusal(2, 0)));
     }
 }
@@ -381,10 +399,14 @@ fn order_in_finish() {
             set(s, &mut reply, 0, 2, s.q as u32);
             finish_refuses(&bad, &reply, refusal(5, 2));
         }
-        assert_eq!(bad.finish(&reply, &mut [1; 7]), Err(refusal(3, 0)));
+        let answer = bad.finish(&reply, &mut [1; 7], &mut [1; 32]);
+        assert_eq!(answer, Err(refusal(3, 0)));
+        let answer = bad.finish(&reply, &mut [1; 128], &mut [1; 31]);
+        assert_eq!(answer, Err(refusal(3, 0)));
         bad.s.pop();
-        assert_eq!(bad.finish(&reply, &mut [1; 7]), Err(refusal(2, 0)));
-        let answer = calls::finish(6, &reply, &bad.s, &mut [1; 7]);
+        let answer = bad.finish(&reply, &mut [1; 128], &mut [1; 31]);
+        assert_eq!(answer, Err(refusal(2, 0)));
+        let answer = calls::finish(6, &reply, &bad.s, &mut [1; 7], &mut [1; 31]);
         assert_eq!(answer, Err(refusal(1, 0)));
     }
 }

@@ -1,96 +1,5 @@
-//! SHAKE-128, SHA3-256 (FIPS 202) and ChaCha20 with an 8-byte nonce, for the
-//! published vectors alone, each with test vectors of its own.
-
-/// Keccak-f[1600] on lanes x + 5y.
-fn keccak(lanes: &mut [u64; 25]) {
-    let mut lfsr = 1u8;
-    for _ in 0..24 {
-        theta(lanes);
-        rho_and_pi(lanes);
-        chi(lanes);
-        iota(lanes, &mut lfsr);
-    }
-}
-
-fn theta(lanes: &mut [u64; 25]) {
-    let mut parity = [0; 5];
-    for x in 0..5 {
-        for y in 0..5 {
-            parity[x] ^= lanes[x + 5 * y];
-        }
-    }
-    for x in 0..5 {
-        let d = parity[(x + 4) % 5] ^ parity[(x + 1) % 5].rotate_left(1);
-        for y in 0..5 {
-            lanes[x + 5 * y] ^= d;
-        }
-    }
-}
-
-fn rho_and_pi(lanes: &mut [u64; 25]) {
-    let before = *lanes;
-    let (mut x, mut y) = (1, 0);
-    for t in 0..24u32 {
-        let turn = (t + 1) * (t + 2) / 2 % 64;
-        let (next_x, next_y) = (y, (2 * x + 3 * y) % 5);
-        lanes[next_x + 5 * next_y] = before[x + 5 * y].rotate_left(turn);
-        (x, y) = (next_x, next_y);
-    }
-}
-
-fn chi(lanes: &mut [u64; 25]) {
-    let before = *lanes;
-    for y in 0..5 {
-        for x in 0..5 {
-            let (next, after) = (before[(x + 1) % 5 + 5 * y], before[(x + 2) % 5 + 5 * y]);
-            lanes[x + 5 * y] = before[x + 5 * y] ^ (!next & after);
-        }
-    }
-}
-
-fn iota(lanes: &mut [u64; 25], lfsr: &mut u8) {
-    for j in 0..7 {
-        if *lfsr & 1 == 1 {
-            lanes[0] ^= 1 << ((1u32 << j) - 1);
-        }
-        let high = *lfsr >> 7;
-        *lfsr = (*lfsr << 1) ^ (high * 0x71);
-    }
-}
-
-/// The sponge: rate in bytes, suffix bits, output length.
-fn sponge(input: &[u8], rate: usize, suffix: u8, length: usize) -> Vec<u8> {
-    let mut padded = input.to_vec();
-    padded.push(suffix);
-    while !padded.len().is_multiple_of(rate) {
-        padded.push(0);
-    }
-    *padded.last_mut().unwrap() |= 0x80;
-
-    let mut lanes = [0u64; 25];
-    for block in padded.chunks_exact(rate) {
-        for (lane, bytes) in lanes.iter_mut().zip(block.chunks_exact(8)) {
-            *lane ^= u64::from_le_bytes(bytes.try_into().unwrap());
-        }
-        keccak(&mut lanes);
-    }
-    let mut output = vec![];
-    while output.len() < length {
-        let bytes = lanes.iter().flat_map(|lane| lane.to_le_bytes());
-        output.extend(bytes.take(rate));
-        keccak(&mut lanes);
-    }
-    output.truncate(length);
-    output
-}
-
-pub fn shake128(input: &[u8], length: usize) -> Vec<u8> {
-    sponge(input, 168, 0x1F, length)
-}
-
-pub fn sha3_256(input: &[u8]) -> Vec<u8> {
-    sponge(input, 136, 0x06, 32)
-}
+//! ChaCha20 with an 8-byte nonce, for the published vectors alone, with test
+//! vectors of its own.
 
 /// The first bytes of the key stream from block 0 on.
 pub fn chacha20(key: &[u8], nonce: [u8; 8], length: usize) -> Vec<u8> {
@@ -142,27 +51,6 @@ fn quarter(words: &mut [u32; 16], [a, b, c, d]: [usize; 4]) {
 pub fn hex(text: &str) -> Vec<u8> {
     let digit = |at: usize| u8::from_str_radix(&text[at..at + 2], 16).unwrap();
     (0..text.len()).step_by(2).map(digit).collect()
-}
-
-#[test]
-fn sha3_256_vectors() {
-    let empty = "a7ffc6f8bf1ed76651c14756a061d662f580ff4de43b49fa82d80a4b80f8434a";
-    assert_eq!(sha3_256(b""), hex(empty));
-    let abc = "3a985da74fe225b2045c172d6bd390bd855f086e3e9d525b46bfe24511431532";
-    assert_eq!(sha3_256(b"abc"), hex(abc));
-    let long = "79f38adec5c20307a98ef76e8324afbfd46cfd81b22e3973c65fa1bd9de31787";
-    assert_eq!(sha3_256(&[0xA3; 200]), hex(long));
-}
-
-#[test]
-fn shake128_vectors() {
-    let empty = "7f9c2ba4e88f827d616045507605853ed73b8093f6efbc88eb1a6eacfa66ef26";
-    assert_eq!(shake128(b"", 32), hex(empty));
-    let long = "131ab8d2b594946b9c81333f9bb6e0ce75c3b93104fa3469d3917457385da037";
-    assert_eq!(shake128(&[0xA3; 200], 32), hex(long));
-    // Bytes 480 to 511 of the same, in the third and fourth block of output.
-    let later = "44c9fb359fd56ac0a9a75a743cff6862f17d7259ab075216c0699511643b6439";
-    assert_eq!(shake128(&[0xA3; 200], 512)[480..], hex(later));
 }
 
 #[test]

@@ -143,10 +143,10 @@ fn how_many_cases() {
             ["offer", "reply", "finish", "bench", "noise"].map(|call| of(call, scheme).len());
         let expected = match scheme {
             // No seed: two lengths less in Offer and in Bench.
-            0 => [71, 112, 47, 138, 11],
-            1 => [73, 112, 47, 140, 11],
+            0 => [71, 116, 51, 138, 11],
+            1 => [73, 116, 51, 140, 11],
             // No coins: two less in Reply and in Bench.
-            _ => [73, 110, 47, 138, 22],
+            _ => [73, 114, 51, 138, 22],
         };
         assert_eq!(counts, expected);
     }
@@ -156,7 +156,13 @@ fn how_many_cases() {
         assert_eq!(starting(&format!("expand rule={rule} ")).len(), 58);
     }
     assert_eq!(starting("expand ").len(), 128);
-    assert_eq!(lines().len(), 2474);
+    for rule in [14, 16] {
+        assert_eq!(starting(&format!("grow rule={rule} ")).len(), 17);
+    }
+    assert_eq!(starting("grow ").len(), 46);
+    assert_eq!(starting("shake128 ").len(), 24);
+    assert_eq!(starting("sha3_256 ").len(), 19);
+    assert_eq!(lines().len(), 2611);
 }
 
 #[test]
@@ -172,13 +178,18 @@ fn the_order_of_the_lines() {
             expected.push(format!("{call} scheme={scheme} case=wide "));
         }
     }
-    let rules = [
-        vec![14; 58],
-        vec![16; 58],
-        NO_RULES.map(|rule| [rule; 2]).concat(),
-    ];
-    for (case, rule) in rules.concat().into_iter().enumerate() {
-        expected.push(format!("expand rule={rule} case={case} "));
+    for (call, count) in [("expand", 58), ("grow", 17)] {
+        let rules = [
+            vec![14; count],
+            vec![16; count],
+            NO_RULES.map(|rule| [rule; 2]).concat(),
+        ];
+        for (case, rule) in rules.concat().into_iter().enumerate() {
+            expected.push(format!("{call} rule={rule} case={case} "));
+        }
+    }
+    for (call, count) in [("shake128", 24), ("sha3_256", 19)] {
+        expected.extend((0..count).map(|case| format!("{call} case={case} ")));
     }
     assert_eq!(lines().len(), expected.len());
     for (line, start) in lines().iter().zip(&expected) {
@@ -190,10 +201,14 @@ fn the_order_of_the_lines() {
 fn the_form_of_a_line() {
     for start in [
         "offer scheme=1 case=0 refusal=0 place=0 written=1824 message=",
-        "reply scheme=1 case=0 refusal=0 place=0 message_written=2048 key_written=32 message=",
-        "finish scheme=1 case=0 refusal=0 place=0 written=32 key=",
+        "reply scheme=1 case=0 refusal=0 place=0 message_written=2048 key_written=32 \
+         digest_written=32 message=",
+        "finish scheme=1 case=0 refusal=0 place=0 key_written=32 digest_written=32 key=",
         "bench scheme=1 case=0 refusal=0 place=0 differ=0",
         "noise scheme=1 case=0 refusal=0 place=0 written=1024 values=",
+        "grow rule=14 case=0 refusal=0 place=0 written=1024 numbers=",
+        "shake128 case=0 refusal=0 place=0 written=200 bytes=",
+        "sha3_256 case=0 refusal=0 place=0 written=32 bytes=",
         "offer scheme=5 case=wide refusal=0 place=0 written=12976 message=",
     ] {
         assert_eq!(starting(start).len(), 1, "{start}");
@@ -201,24 +216,33 @@ fn the_form_of_a_line() {
     let zeros = checksum(&[0; 1024]);
     let whole = format!("expand rule=14 case=0 refusal=7 place=0 written=0 numbers={zeros}");
     assert_eq!(starting("expand rule=14 case=0 "), [whole]);
+    for call in ["reply", "finish"] {
+        let line = starting(&format!("{call} scheme=1 case=0 "))[0];
+        let (_, outputs) = line.split_once(" key=").unwrap();
+        assert!(outputs.contains(" digest="));
+    }
 }
 
 #[test]
 fn refused_outputs_are_zero_over_their_whole_room() {
     // Reply in NewHope: rooms of the message are cases 25 to 28, of the key 29
-    // to 32; case 1 has an empty opening.
+    // to 32, of the digest 33 to 36; case 1 has an empty opening.
     let lines = of("reply", 1);
-    let sums = |case: usize| [under(lines[case], "message"), under(lines[case], "key")];
-    let zeros = |rooms: [usize; 2]| rooms.map(|room| checksum(&vec![0; room]).to_string());
-    assert_eq!(sums(1), zeros([2048, 32]));
-    assert_eq!(sums(25), zeros([0, 32]));
-    assert_eq!(sums(26), zeros([2047, 32]));
-    assert_eq!(sums(29), zeros([2048, 0]));
-    assert_eq!(sums(30), zeros([2048, 31]));
+    let outputs = ["message", "key", "digest"];
+    let sums = |case: usize| outputs.map(|output| under(lines[case], output));
+    let zeros = |rooms: [usize; 3]| rooms.map(|room| checksum(&vec![0; room]).to_string());
+    assert_eq!(sums(1), zeros([2048, 32, 32]));
+    assert_eq!(sums(25), zeros([0, 32, 32]));
+    assert_eq!(sums(26), zeros([2047, 32, 32]));
+    assert_eq!(sums(29), zeros([2048, 0, 32]));
+    assert_eq!(sums(30), zeros([2048, 31, 32]));
+    assert_eq!(sums(33), zeros([2048, 32, 0]));
+    assert_eq!(sums(34), zeros([2048, 32, 31]));
     assert_eq!(under(lines[25], "message"), "1");
-    for case in [1, 25, 26, 29, 30] {
-        assert_eq!(under(lines[case], "message_written"), "0");
-        assert_eq!(under(lines[case], "key_written"), "0");
+    for case in [1, 25, 26, 29, 30, 33, 34] {
+        for output in outputs {
+            assert_eq!(under(lines[case], &format!("{output}_written")), "0");
+        }
     }
 }
 
@@ -244,7 +268,7 @@ fn reply() {
     let expected = [
         vec![GOOD],
         vec![LENGTH; 24],
-        ROOMS.repeat(2),
+        ROOMS.repeat(3),
         numbers(5, POLYNOMIAL),
         numbers(4, POLYNOMIAL),
         values(POLYNOMIAL).repeat(3),
@@ -262,7 +286,7 @@ fn reply_in_frodo() {
     let expected = [
         vec![GOOD],
         vec![LENGTH; 22],
-        ROOMS.repeat(2),
+        ROOMS.repeat(3),
         vec![GOOD; 9],
         numbers(4, [0, 61952, 123903]),
         values(secrets).repeat(2),
@@ -279,7 +303,7 @@ fn finish() {
     let expected = [
         vec![GOOD],
         vec![LENGTH; 8],
-        ROOMS.to_vec(),
+        ROOMS.repeat(2),
         numbers(5, POLYNOMIAL),
         values(POLYNOMIAL),
         seven.to_vec(),
@@ -377,6 +401,30 @@ fn expand() {
 }
 
 #[test]
+fn grow() {
+    let expected = [vec![GOOD; 8], vec![LENGTH; 4], ROOMS.to_vec(), vec![LENGTH]];
+    for rule in [14, 16] {
+        let told = told(&starting(&format!("grow rule={rule} ")));
+        assert_eq!(told, expected.concat());
+    }
+    for rule in NO_RULES {
+        let told = told(&starting(&format!("grow rule={rule} ")));
+        assert_eq!(told, [(12, 0); 2]);
+    }
+}
+
+#[test]
+fn hashes() {
+    let shake128 = [vec![GOOD; 14], vec![LENGTH], vec![GOOD; 9]];
+    assert_eq!(told(&starting("shake128 ")), shake128.concat());
+    let sha3_256 = [vec![GOOD; 13], vec![LENGTH], ROOMS.to_vec(), vec![LENGTH]];
+    assert_eq!(told(&starting("sha3_256 ")), sha3_256.concat());
+    let written = |line: &str| under(line, "written").parse().unwrap();
+    let counts: Vec<usize> = starting("shake128 ").into_iter().map(written).collect();
+    assert_eq!(counts[15..], [0, 1, 32, 167, 168, 169, 336, 337, 4032]);
+}
+
+#[test]
 fn words_at_the_bounds() {
     // -1 where the word is passed over.
     let by_14 = [12288, -1, -1, 0, 12288, -1, -1, -1];
@@ -401,8 +449,10 @@ fn both_ends_have_the_key_where_bench_agrees() {
     for scheme in 0..6 {
         for case in ["0", "wide"] {
             let one = |call: &str| starting(&format!("{call} scheme={scheme} case={case} "))[0];
-            let same = under(one("reply"), "key") == under(one("finish"), "key");
-            assert_eq!(under(one("bench"), "differ") == "0", same);
+            for output in ["key", "digest"] {
+                let same = under(one("reply"), output) == under(one("finish"), output);
+                assert_eq!(under(one("bench"), "differ") == "0", same);
+            }
         }
     }
 }
