@@ -17,7 +17,7 @@ const char *wim_refusal_text(uint32_t refusal)
     case WIM_NO_RULE:
         return "the rule is not 14 or 16";
     case WIM_LENGTH:
-        return "an input's length is not the fixed one (wim_expand: over 65536)";
+        return "an input's length is not the fixed one (streams, hashes: over 65536)";
     case WIM_ROOM:
         return "an output buffer is shorter than the answer";
     case WIM_PUBLIC_OVER:

@@ -9,13 +9,18 @@
  *     the initiator                             the replier
  *     wim_offer   a, s, e, seed -> opening  -->
  *                                           <-- wim_reply   opening, a, s', e', e'', coins
- *                                                             -> reply, key
- *     wim_finish  reply, s      -> key
+ *                                                             -> reply, key, digest
+ *     wim_finish  reply, s      -> key, digest
  *
- * Both know the public numbers a; where a comes from is between them (NewHope's: wim_expand on a
- * stream made from the seed). The seed travels in the opening and is not read. s, e, s', e' and
- * e'' are secrets, drawn afresh for each exchange; wim_noise makes them from random bytes, except
- * in BCNS, whose noise is lent ready. In names s1, e1 and e2 stand for s', e' and e''.
+ * Both know the public numbers a; where a comes from is between them. NewHope's grow from the seed:
+ * wim_grow makes them of its 32 bytes at either end, so that no file of numbers has to be carried,
+ * and the replier finds the seed at the end of the opening. wim_expand makes them of a stream that
+ * both have. The calls of the exchange carry the seed and do not read it. s, e, s', e' and e'' are
+ * secrets, drawn afresh for each exchange; wim_noise makes them from random bytes, except in BCNS,
+ * whose noise is lent ready. In names s1, e1 and e2 stand for s', e' and e''.
+ *
+ * The digest beside a key is its SHA3-256. Equal keys have equal digests, and other keys other ones
+ * as far as anyone knows, so that two boxes can show or compare digests and never show a key.
  *
  *
  * LINKING
@@ -35,7 +40,7 @@
  *
  *     WIM_NO_SCHEME      1   the scheme is not 0 to 5 (wim_noise: not 1 to 5)
  *     WIM_NO_RULE       12   the rule is not 14 or 16
- *     WIM_LENGTH         2   an input's length is not the fixed one (wim_expand: over 65536)
+ *     WIM_LENGTH         2   an input's length is not the fixed one (streams, hashes: over 65536)
  *     WIM_ROOM           3   an output buffer is shorter than the answer
  *     WIM_PUBLIC_OVER    4   a lent public number is q or more
  *     WIM_MESSAGE_OVER   5   a number of the message is q or more
@@ -43,17 +48,18 @@
  *     WIM_RAN_OUT        7   the stream held fewer than 1024 numbers
  *
  * 5 never arises in Frodo, 6 is for values above the largest noise or below its negative, and 7 and
- * 12 are wim_expand's alone. *place is the index of the first bad entry after 4, 5 and 6, how many
- * numbers the stream held after 7, and 0 after 1, 12, 2, 3 and a success.
+ * 12 are those of wim_expand and wim_grow alone; no seed is known for which wim_grow gives 7.
+ * *place is the index of the first bad entry after 4, 5 and 6, how many numbers the stream held
+ * after 7, and 0 after 1, 12, 2, 3 and a success.
  *
- * The tests go in the order of this table, and within one number in the order in which the inputs
- * stand in the call; the first that fails is the refusal. An index counts entries from 0 in its own
- * input; in a message, the numbers of its packed part.
+ * The tests go in the order of this table, and within one number in the order in which the inputs,
+ * or for 3 the outputs, stand in the call; the first that fails is the refusal. An index counts
+ * entries from 0 in its own input; in a message, the numbers of its packed part.
  *
  * After a success the answer stands at the start of its output, its length, in entries of that
- * output, in *written, and the rest of the output is zero. An output may be longer than the
- * answer. After a refusal each output is zero from end to end, whatever it held, and each count
- * is 0.
+ * output, in *written (where there are several, in the count with the output's name), and the rest
+ * of the output is zero. An output may be longer than the answer. After a refusal each output is
+ * zero from end to end, whatever it held, and each count is 0.
  *
  *
  * WHAT A CALLER MUST SEE TO
@@ -76,10 +82,12 @@
  *   some other way.
  * - Key confirmation. The two keys agree unless the noise was uncommonly large, or a message was
  *   changed on the way into another that no test refuses. Differing public numbers, and another s
- *   at wim_finish, also end in different keys. Only tags made with the key show that the keys
- *   agree. Compare tags in constant time; on a mismatch drop the keys and start again with fresh
- *   secrets.
- * - The keys are raw. Hash them, together with both messages, before use.
+ *   at wim_finish, also end in different keys. Only what is made with the key shows that the keys
+ *   agree: tags, or the digests, where nobody on the way can change them. Compare tags in constant
+ *   time; on a mismatch drop the keys and start again with fresh secrets.
+ * - The keys are raw. Hash them, together with both messages, before use. A digest is of the key
+ *   alone: it can be the key that is used, as the print of NewHope has it, or be shown, not both.
+ *   Whoever sees one can try keys against it, and Frodo Challenge's have 8 bytes.
  * - Wiping. A refused call leaves nothing in its outputs. But parts of secrets and keys stay
  *   behind on the stack below the caller's frame, as after any function, until wim_scrub
  *   overwrites them; and the caller's own buffers are the caller's to wipe.
@@ -112,11 +120,12 @@
  *
  * Measured and not proved: on accepted input no address depends on a secret, and the branches that
  * do are the verdicts of the range tests (refusal 6), one an input: 2 in wim_offer, 3 in wim_reply,
- * 1 in wim_finish, none in wim_noise. wim_bench has those of its parts, and branches on the numbers
- * of the messages and on the keys, which it compares. A refused secret is searched value by value
- * for its place. Nothing is divided but 2^32 - 1 by q. So it is in the archive for x86-64, by
- * valgrind with the secrets marked as undefined, in all schemes (runs/secrets); another compiler
- * may do otherwise, and what the processor makes of it is not measured.
+ * 1 in wim_finish, none in wim_noise and the two hashes. wim_bench has those of its parts, and
+ * branches on the numbers of the messages and on the keys, which it compares. A refused secret is
+ * searched value by value for its place. Nothing is divided but 2^32 - 1 by q. So it is in the
+ * archive for x86-64, by valgrind with the secrets marked as undefined, in all schemes
+ * (runs/secrets); another compiler may do otherwise, and what the processor makes of it is not
+ * measured.
  */
 #ifndef WIMMOSTRY_H
 #define WIMMOSTRY_H
@@ -149,7 +158,7 @@ extern "C" {
 #define WIM_FRODO_RECOMMENDED 4
 #define WIM_FRODO_PARANOID 5
 
-/* The rules of wim_expand. */
+/* The rules of wim_expand and wim_grow. */
 #define WIM_RULE_LOW_BITS 14
 #define WIM_RULE_WHOLE_WORD 16
 
@@ -272,9 +281,14 @@ extern "C" {
 #define WIM_MAX_S_BYTES 13824
 #define WIM_MAX_E2_BYTES 4096
 
-/* wim_expand: the length of its answer in numbers, and the longest stream in bytes. */
+/* wim_expand: the length of its answer in numbers, which is wim_grow's too, and the longest stream
+ * in bytes. */
 #define WIM_EXPAND_NUMBERS 1024
 #define WIM_EXPAND_STREAM 65536
+
+/* Bytes of a digest, and the longest input of wim_shake128 and wim_sha3_256. */
+#define WIM_DIGEST 32
+#define WIM_HASH_INPUT 65536
 
 /* Bytes of stack that are enough for any call on either machine, and for wim_scrub. */
 #define WIM_STACK 163840
@@ -292,8 +306,8 @@ WIM_MUST_USE uint32_t wim_offer(uint32_t scheme, const uint32_t *a, size_t a_len
 
 /*
  * Reply: scheme, opening message, public a, s', e', e'', coins. Gives the reply message (as' + e'
- * in packed bytes, then the hints of bs' + e'') and the replier's key. Refuses with 1, 2, 3, 4, 5,
- * 6; of 3, the message's room is tested first.
+ * in packed bytes, then the hints of bs' + e''), the replier's key and the key's SHA3-256. Refuses
+ * with 1, 2, 3, 4, 5, 6; of 3, the message's room is tested first and the digest's last.
  */
 WIM_MUST_USE uint32_t wim_reply(uint32_t scheme, const uint8_t *opening, size_t opening_len,
                                 const uint32_t *a, size_t a_len,
@@ -303,15 +317,20 @@ WIM_MUST_USE uint32_t wim_reply(uint32_t scheme, const uint8_t *opening, size_t 
                                 const uint8_t *coins, size_t coins_len,
                                 uint8_t *message, size_t message_len,
                                 uint8_t *key, size_t key_len,
+                                uint8_t *digest, size_t digest_len,
                                 uint64_t *place, uint64_t *message_written,
-                                uint64_t *key_written);
+                                uint64_t *key_written, uint64_t *digest_written);
 
 /*
- * Finish: scheme, reply message, secret s. Gives the initiator's key. Refuses with 1, 2, 3, 5, 6.
+ * Finish: scheme, reply message, secret s. Gives the initiator's key and the key's SHA3-256.
+ * Refuses with 1, 2, 3, 5, 6; of 3, the key's room is tested first.
  */
 WIM_MUST_USE uint32_t wim_finish(uint32_t scheme, const uint8_t *reply, size_t reply_len,
-                                 const int32_t *s, size_t s_len, uint8_t *key, size_t key_len,
-                                 uint64_t *place, uint64_t *written);
+                                 const int32_t *s, size_t s_len,
+                                 uint8_t *key, size_t key_len,
+                                 uint8_t *digest, size_t digest_len,
+                                 uint64_t *place, uint64_t *key_written,
+                                 uint64_t *digest_written);
 
 /*
  * Noise: scheme, random bytes. Gives WIM_X_S values from WIM_X_S_BYTES bytes, WIM_X_E2 values from
@@ -330,6 +349,30 @@ WIM_MUST_USE uint32_t wim_noise(uint32_t scheme, const uint8_t *bytes, size_t by
 WIM_MUST_USE uint32_t wim_expand(uint32_t rule, const uint8_t *stream, size_t stream_len,
                                  uint32_t *out, size_t out_len,
                                  uint64_t *place, uint64_t *written);
+
+/*
+ * Grow: rule, seed. Gives what wim_expand by that rule gives of the first 24 blocks of 168 bytes of
+ * SHAKE-128 of the seed, which is WIM_NEWHOPE_SEED bytes long: NewHope's public numbers. Both ends
+ * must use the same rule. Refuses with 12, 2, 3, 7, in this order.
+ */
+WIM_MUST_USE uint32_t wim_grow(uint32_t rule, const uint8_t *seed, size_t seed_len,
+                               uint32_t *out, size_t out_len, uint64_t *place, uint64_t *written);
+
+/*
+ * SHAKE-128 by FIPS 202: the input. Fills the output, however long it is. Refuses with 2 where the
+ * input is over WIM_HASH_INPUT bytes.
+ */
+WIM_MUST_USE uint32_t wim_shake128(const uint8_t *input, size_t input_len,
+                                   uint8_t *out, size_t out_len,
+                                   uint64_t *place, uint64_t *written);
+
+/*
+ * SHA3-256 by FIPS 202: the input. Gives WIM_DIGEST bytes. Refuses with 2 where the input is over
+ * WIM_HASH_INPUT bytes, and with 3.
+ */
+WIM_MUST_USE uint32_t wim_sha3_256(const uint8_t *input, size_t input_len,
+                                   uint8_t *out, size_t out_len,
+                                   uint64_t *place, uint64_t *written);
 
 /*
  * Bench: both ends on lent secrets, the initiator's s, e and seed and the replier's s', e', e''

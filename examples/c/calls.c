@@ -14,7 +14,8 @@ static uint32_t reply(struct lent *l)
 
     return wim_reply(x->number, l->opening, x->opening, l->a, x->a, l->s1, x->s, l->e1, x->s, l->e2,
                      x->e2, l->coins, x->coins, l->reply, sizeof l->reply, l->key, sizeof l->key,
-                     &l->place, &l->written, &l->key_written);
+                     l->digest, sizeof l->digest, &l->place, &l->written, &l->key_written,
+                     &l->digest_written);
 }
 
 static uint32_t finish(struct lent *l)
@@ -22,7 +23,8 @@ static uint32_t finish(struct lent *l)
     const struct scheme *x = l->scheme;
 
     return wim_finish(x->number, l->reply, x->reply, l->s, x->s, l->peer_key, sizeof l->peer_key,
-                      &l->place, &l->written);
+                      l->peer_digest, sizeof l->peer_digest, &l->place, &l->key_written,
+                      &l->digest_written);
 }
 
 static uint32_t noise(struct lent *l)
@@ -46,6 +48,30 @@ static uint32_t expand(struct lent *l)
                       WIM_EXPAND_NUMBERS, &l->place, &l->written);
 }
 
+/* By both rules, as above. */
+static uint32_t grow(struct lent *l)
+{
+    uint32_t refusal = wim_grow(WIM_RULE_LOW_BITS, l->seed, WIM_NEWHOPE_SEED, l->numbers,
+                                WIM_EXPAND_NUMBERS, &l->place, &l->written);
+
+    if (refusal != WIM_DONE)
+        return refusal;
+    return wim_grow(WIM_RULE_WHOLE_WORD, l->seed, WIM_NEWHOPE_SEED, l->numbers, WIM_EXPAND_NUMBERS,
+                    &l->place, &l->written);
+}
+
+static uint32_t shake128(struct lent *l)
+{
+    return wim_shake128(l->bytes, sizeof l->bytes, l->shaken, sizeof l->shaken, &l->place,
+                        &l->written);
+}
+
+static uint32_t sha3_256(struct lent *l)
+{
+    return wim_sha3_256(l->bytes, sizeof l->bytes, l->hashed, sizeof l->hashed, &l->place,
+                        &l->written);
+}
+
 static uint32_t bench(struct lent *l)
 {
     const struct scheme *x = l->scheme;
@@ -56,7 +82,8 @@ static uint32_t bench(struct lent *l)
 
 const struct call calls[CALLS] = {
     {"wim_offer", offer}, {"wim_reply", reply},   {"wim_finish", finish},
-    {"wim_noise", noise}, {"wim_expand", expand}, {"wim_bench", bench},
+    {"wim_noise", noise}, {"wim_expand", expand}, {"wim_grow", grow},
+    {"wim_shake128", shake128}, {"wim_sha3_256", sha3_256}, {"wim_bench", bench},
 };
 
 uint32_t draw_all(struct lent *l, const struct scheme *x)
@@ -66,12 +93,12 @@ uint32_t draw_all(struct lent *l, const struct scheme *x)
     uint32_t refusal;
 
     l->scheme = x;
-    refusal = draw_public(x, l->a);
+    draw_bytes(&state, l->seed, sizeof l->seed);
+    refusal = draw_public(x, l->seed, l->a);
     for (size_t i = 0; i < 4 && refusal == WIM_DONE; i++)
         refusal = draw_secrets(&state, x, secrets[i], x->s, x->s_bytes);
     if (refusal == WIM_DONE)
         refusal = draw_secrets(&state, x, l->e2, x->e2, x->e2_bytes);
-    draw_bytes(&state, l->seed, sizeof l->seed);
     draw_bytes(&state, l->coins, sizeof l->coins);
     draw_bytes(&state, l->bytes, sizeof l->bytes);
     draw_bytes(&state, l->stream, sizeof l->stream);

@@ -1,4 +1,4 @@
-/* All that the six calls take and give in one scheme, and the calls on it, for programs that make
+/* All that the calls take and give in one scheme, and the calls on it, for programs that make
  * each of them. */
 #ifndef CALLS_H
 #define CALLS_H
@@ -13,7 +13,9 @@ struct lent {
     uint8_t seed[WIM_MAX_SEED], coins[WIM_MAX_COINS], bytes[WIM_MAX_S_BYTES], stream[4096];
     uint8_t opening[WIM_MAX_OPENING], reply[WIM_MAX_REPLY];
     uint8_t key[WIM_MAX_KEY], peer_key[WIM_MAX_KEY];
-    uint64_t place, written, key_written, differ;
+    uint8_t digest[WIM_DIGEST], peer_digest[WIM_DIGEST];
+    uint8_t shaken[500], hashed[WIM_DIGEST];
+    uint64_t place, written, key_written, digest_written, differ;
 };
 
 struct call {
@@ -21,8 +23,8 @@ struct call {
     uint32_t (*make)(struct lent *);
 };
 
-#define CALLS 6
-enum { OFFER, REPLY, FINISH, NOISE, EXPAND, BENCH };
+#define CALLS 9
+enum { OFFER, REPLY, FINISH, NOISE, EXPAND, GROW, SHAKE128, SHA3_256, BENCH };
 
 /* In this order, so that Reply finds an opening and Finish a reply. BCNS has no Noise: it is done
  * without a call there. */

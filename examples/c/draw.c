@@ -29,16 +29,12 @@ uint32_t draw_secrets(uint64_t *state, const struct scheme *scheme, int32_t *out
     return wim_noise(scheme->number, random, bytes, out, count, &place, &written);
 }
 
-uint32_t draw_public(const struct scheme *scheme, uint32_t *a)
+uint32_t draw_public(const struct scheme *scheme, const uint8_t *seed, uint32_t *a)
 {
     uint64_t state = 0x5eed, place, written;
-    uint8_t stream[4096];
 
-    if (scheme->number == WIM_NEWHOPE) {
-        draw_bytes(&state, stream, sizeof stream);
-        return wim_expand(WIM_RULE_LOW_BITS, stream, sizeof stream, a, scheme->a, &place,
-                          &written);
-    }
+    if (scheme->number == WIM_NEWHOPE)
+        return wim_grow(WIM_RULE_LOW_BITS, seed, scheme->seed, a, scheme->a, &place, &written);
     for (size_t i = 0; i < scheme->a; i++) {
         uint32_t word = 0;
         for (int k = 0; k < 4; k++)

@@ -1,6 +1,6 @@
 /*
- * What the boxes draw, for the examples alone: fixed bytes stand in for the system's generator, and
- * one stream for how two boxes come to the same a.
+ * What the boxes draw, for the examples alone: fixed bytes stand in for the system's generator and,
+ * but in NewHope, for how two boxes come to the same a.
  */
 #ifndef DRAW_H
 #define DRAW_H
@@ -17,7 +17,7 @@ void draw_bytes(uint64_t *state, uint8_t *out, size_t count);
 uint32_t draw_secrets(uint64_t *state, const struct scheme *scheme, int32_t *out, size_t count,
                       size_t bytes);
 
-/* The public numbers: NewHope's by wim_expand and rule 14. 0 or the refusal. */
-uint32_t draw_public(const struct scheme *scheme, uint32_t *a);
+/* The public numbers: NewHope's grown from the seed by rule 14. 0 or the refusal. */
+uint32_t draw_public(const struct scheme *scheme, const uint8_t *seed, uint32_t *a);
 
 #endif

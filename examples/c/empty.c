@@ -10,7 +10,7 @@
 
 static struct lent lent;
 static const struct scheme *x;
-static uint64_t place, written, key_written;
+static uint64_t place, written, key_written, digest_written;
 static int failures;
 
 static void held(const char *call, int nulls, uint32_t refusal, uint32_t expected)
@@ -52,18 +52,20 @@ static void reply(int nulls)
         wim_reply(x->number, LEND(0, lent.opening, x->opening), LEND(1, lent.a, x->a),
                   LEND(2, lent.s1, x->s), LEND(3, lent.e1, x->s), LEND(4, lent.e2, x->e2),
                   LEND(5, lent.coins, x->coins), LEND(6, lent.reply, x->reply),
-                  LEND(7, lent.key, x->key), &place, &written, &key_written);
+                  LEND(7, lent.key, x->key), LEND(8, lent.digest, WIM_DIGEST), &place, &written,
+                  &key_written, &digest_written);
 
-    held("wim_reply", nulls, refusal, expected(nulls, lengths, 6, 2));
+    held("wim_reply", nulls, refusal, expected(nulls, lengths, 6, 3));
 }
 
 static void finish(int nulls)
 {
     const size_t lengths[] = {x->reply, x->s};
     uint32_t refusal = wim_finish(x->number, LEND(0, lent.reply, x->reply), LEND(1, lent.s, x->s),
-                                  LEND(2, lent.key, x->key), &place, &written);
+                                  LEND(2, lent.key, x->key), LEND(3, lent.digest, WIM_DIGEST),
+                                  &place, &written, &digest_written);
 
-    held("wim_finish", nulls, refusal, expected(nulls, lengths, 2, 1));
+    held("wim_finish", nulls, refusal, expected(nulls, lengths, 2, 2));
 }
 
 static void noise(int nulls)
@@ -88,6 +90,33 @@ static void expand(int nulls)
     uint32_t known = nulls >> 1 ? WIM_ROOM : nulls ? WIM_RAN_OUT : WIM_DONE;
 
     held("wim_expand", nulls, refusal, rule == rules[2] ? WIM_NO_RULE : known);
+}
+
+static void grow(int nulls)
+{
+    const size_t lengths[] = {WIM_NEWHOPE_SEED};
+    uint32_t refusal = wim_grow(rule, LEND(0, lent.seed, WIM_NEWHOPE_SEED),
+                                LEND(1, lent.numbers, WIM_EXPAND_NUMBERS), &place, &written);
+
+    held("wim_grow", nulls, refusal,
+         rule == rules[2] ? WIM_NO_RULE : expected(nulls, lengths, 1, 1));
+}
+
+/* An empty input has a hash, and an empty output is full. */
+static void shake128(int nulls)
+{
+    uint32_t refusal = wim_shake128(LEND(0, lent.bytes, sizeof lent.bytes),
+                                    LEND(1, lent.shaken, sizeof lent.shaken), &place, &written);
+
+    held("wim_shake128", nulls, refusal, WIM_DONE);
+}
+
+static void sha3_256(int nulls)
+{
+    uint32_t refusal = wim_sha3_256(LEND(0, lent.bytes, sizeof lent.bytes),
+                                    LEND(1, lent.hashed, WIM_DIGEST), &place, &written);
+
+    held("wim_sha3_256", nulls, refusal, nulls >> 1 ? WIM_ROOM : WIM_DONE);
 }
 
 static void bench(int nulls)
@@ -121,14 +150,17 @@ int main(void)
             return EXIT_FAILURE;
         each(offer, 5);
         offer(0); /* the last offer was refused, and left no opening */
-        each(reply, 8);
+        each(reply, 9);
         reply(0);
-        each(finish, 3);
+        each(finish, 4);
         each(noise, 2);
         for (int i = 0; i < 3; i++) {
             rule = rules[i];
             each(expand, 2);
+            each(grow, 2);
         }
+        each(shake128, 2);
+        each(sha3_256, 2);
         each(bench, 8);
     }
     printf("null pointers at length 0: %d calls, %d wrong\n", made, failures);

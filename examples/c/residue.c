@@ -230,6 +230,9 @@ static void look_for_all(size_t depth)
     look_values("noise", lent.values, x->s_bytes ? x->s : 0, 8, depth);
     look_bytes("key", lent.key, x->key, key_bits, depth);
     look_bytes("the peer's key", lent.peer_key, x->key, key_bits, depth);
+    look_bytes("the digest", lent.digest, WIM_DIGEST, 0, depth);
+    look_bytes("SHAKE-128", lent.shaken, sizeof lent.shaken, 0, depth);
+    look_bytes("SHA3-256", lent.hashed, sizeof lent.hashed, 0, depth);
     look_both("as", inner.as, inner.count, 8, depth);
     look_both("as'", inner.as1, inner.count, n, depth);
     look_both("bs'", inner.bs1, inner.mixed, 8, depth);

@@ -1,9 +1,9 @@
 /*
  * Two boxes agree on a key over a pair of sockets, a thread a box, in every scheme.
  *
- * It shows the calls and nothing else. A real box draws its bytes from the system's generator,
- * knows who its peer is, hashes the raw key with both messages, confirms it by tags, where this one
- * compares keys in the open, and wipes its buffers.
+ * It shows the calls and nothing else. In NewHope the replier grows the public numbers from the
+ * seed that came in the opening. A real box draws its bytes from the system's generator, knows who
+ * its peer is, hashes the raw key with both messages and wipes its buffers.
  */
 #define _POSIX_C_SOURCE 200809L
 
@@ -20,7 +20,7 @@ struct box {
     const struct scheme *scheme;
     int line;
     uint32_t *a;
-    uint8_t key[WIM_MAX_KEY];
+    uint8_t key[WIM_MAX_KEY], digest[WIM_DIGEST];
     const char *failed;
 };
 
@@ -52,16 +52,16 @@ static int receive_all(int line, uint8_t *bytes, size_t count)
 static const char *initiate(struct box *box)
 {
     const struct scheme *x = box->scheme;
-    uint64_t state = 1, place, written;
+    uint64_t state = 1, place, written, key_written;
     int32_t s[WIM_MAX_S], e[WIM_MAX_S];
     uint8_t seed[WIM_MAX_SEED], opening[WIM_MAX_OPENING], reply[WIM_MAX_REPLY];
     uint32_t refusal;
 
-    if (draw_public(x, box->a) != WIM_DONE ||
+    draw_bytes(&state, seed, x->seed);
+    if (draw_public(x, seed, box->a) != WIM_DONE ||
         draw_secrets(&state, x, s, x->s, x->s_bytes) != WIM_DONE ||
         draw_secrets(&state, x, e, x->s, x->s_bytes) != WIM_DONE)
         return "the initiator's draws";
-    draw_bytes(&state, seed, x->seed);
     refusal = wim_offer(x->number, box->a, x->a, s, x->s, e, x->s, seed, x->seed, opening,
                         sizeof opening, &place, &written);
     wim_scrub();
@@ -69,8 +69,8 @@ static const char *initiate(struct box *box)
         return wim_refusal_text(refusal);
     if (!send_all(box->line, opening, written) || !receive_all(box->line, reply, x->reply))
         return "the initiator's line";
-    refusal = wim_finish(x->number, reply, x->reply, s, x->s, box->key, sizeof box->key, &place,
-                         &written);
+    refusal = wim_finish(x->number, reply, x->reply, s, x->s, box->key, sizeof box->key,
+                         box->digest, sizeof box->digest, &place, &key_written, &written);
     wim_scrub();
     return refusal == WIM_DONE ? NULL : wim_refusal_text(refusal);
 }
@@ -78,22 +78,24 @@ static const char *initiate(struct box *box)
 static const char *answer(struct box *box)
 {
     const struct scheme *x = box->scheme;
-    uint64_t state = 2, place, written, key_written;
+    uint64_t state = 2, place, written, key_written, digest_written;
     int32_t s1[WIM_MAX_S], e1[WIM_MAX_S], e2[WIM_MAX_E2];
     uint8_t coins[WIM_MAX_COINS], opening[WIM_MAX_OPENING], reply[WIM_MAX_REPLY];
     uint32_t refusal;
 
-    if (draw_public(x, box->a) != WIM_DONE ||
-        draw_secrets(&state, x, s1, x->s, x->s_bytes) != WIM_DONE ||
+    if (draw_secrets(&state, x, s1, x->s, x->s_bytes) != WIM_DONE ||
         draw_secrets(&state, x, e1, x->s, x->s_bytes) != WIM_DONE ||
         draw_secrets(&state, x, e2, x->e2, x->e2_bytes) != WIM_DONE)
         return "the replier's draws";
     draw_bytes(&state, coins, x->coins);
     if (!receive_all(box->line, opening, x->opening))
         return "the replier's line";
+    if (draw_public(x, opening + x->opening - x->seed, box->a) != WIM_DONE)
+        return "the replier's public numbers";
     refusal = wim_reply(x->number, opening, x->opening, box->a, x->a, s1, x->s, e1, x->s, e2, x->e2,
-                        coins, x->coins, reply, sizeof reply, box->key, sizeof box->key, &place,
-                        &written, &key_written);
+                        coins, x->coins, reply, sizeof reply, box->key, sizeof box->key,
+                        box->digest, sizeof box->digest, &place, &written, &key_written,
+                        &digest_written);
     wim_scrub();
     if (refusal != WIM_DONE)
         return wim_refusal_text(refusal);
@@ -133,7 +135,17 @@ static const char *run(struct box *one, struct box *other)
     pthread_join(second, NULL);
     if (one->failed != NULL || other->failed != NULL)
         return one->failed != NULL ? one->failed : other->failed;
-    return memcmp(one->key, other->key, sizeof one->key) == 0 ? NULL : "the keys differ";
+    return memcmp(one->digest, other->digest, WIM_DIGEST) == 0 ? NULL : "the digests differ";
+}
+
+/* What both boxes can show of their key. */
+static void show(const struct box *box)
+{
+    printf("%s: both boxes have a key of %zu bytes with the digest ", box->scheme->name,
+           box->scheme->key);
+    for (size_t i = 0; i < WIM_DIGEST; i++)
+        printf("%02x", box->digest[i]);
+    putchar('\n');
 }
 
 int main(void)
@@ -149,7 +161,7 @@ int main(void)
         one.scheme = other.scheme = &schemes[k];
         failed = run(&one, &other);
         if (failed == NULL)
-            printf("%s: both boxes have the same %zu bytes\n", schemes[k].name, schemes[k].key);
+            show(&one);
         else
             printf("%s: %s\n", schemes[k].name, failed);
     }
