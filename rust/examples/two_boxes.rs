@@ -1,18 +1,19 @@
 //! Two boxes agree on a key over a pair of sockets, a thread a box, in every
 //! scheme: `cargo run --example two_boxes`.
 //!
-//! It shows the calls and nothing else. A real box draws its bytes from the
-//! system's generator, knows who its peer is, hashes the raw key with both
-//! messages, and confirms it by tags, where this one takes the keys out of the
-//! types that would wipe them and compares them in the open.
+//! It shows the calls and nothing else. In NewHope the replier grows the public
+//! numbers from the seed that came in the opening. A real box draws its bytes
+//! from the system's generator, knows who its peer is, and hashes the raw key
+//! with both messages.
 
 use std::error::Error;
 use std::io::{Read, Write};
 use std::os::unix::net::UnixStream;
 use std::thread;
-use wimmostry::{expand, Initiator, Refusal, Replier, Rule, Scheme, Secret, EXPAND_NUMBERS};
+use wimmostry::{grow, Digest, Initiator, Refusal, Replier, Rule, Scheme, Secret};
 
-type Outcome = Result<Vec<u8>, Box<dyn Error + Send + Sync>>;
+/// The digest of the key, which is wiped where its box is done.
+type Outcome = Result<Digest, Box<dyn Error + Send + Sync>>;
 
 /// Stands in for the system's generator: fixed bytes, for the example alone.
 struct Bytes(u64);
@@ -52,18 +53,18 @@ impl Bytes {
     }
 }
 
-/// The public numbers, which both boxes make from the same stream and, in
-/// NewHope, by the same rule.
-fn public(scheme: Scheme) -> Result<Vec<u32>, Refusal> {
-    let mut stream = Bytes(0x5eed);
+/// The public numbers: NewHope's both boxes grow from one seed by one rule, the
+/// others they have from the same fixed bytes.
+fn public(scheme: Scheme, seed: &[u8]) -> Result<Vec<u32>, Refusal> {
+    let sizes = scheme.sizes();
     if scheme == Scheme::NewHope {
-        let mut a = vec![0; EXPAND_NUMBERS];
-        expand(Rule::LowBits, &stream.take(4096), &mut a)?;
+        let seed = seed.try_into().map_err(|_| Refusal::Length)?;
+        let mut a = vec![0; sizes.a];
+        grow(Rule::LowBits, seed, &mut a)?;
         return Ok(a);
     }
-    let sizes = scheme.sizes();
     let word = |four: &[u8]| u32::from_le_bytes([four[0], four[1], four[2], four[3]]);
-    let bytes = stream.take(4 * sizes.a);
+    let bytes = Bytes(0x5eed).take(4 * sizes.a);
     Ok(bytes
         .chunks_exact(4)
         .map(|four| word(four) % sizes.q)
@@ -72,11 +73,11 @@ fn public(scheme: Scheme) -> Result<Vec<u32>, Refusal> {
 
 fn initiator(scheme: Scheme, mut line: UnixStream) -> Outcome {
     let (sizes, mut bytes) = (scheme.sizes(), Bytes(1));
-    let a = public(scheme)?;
+    let seed = bytes.take(sizes.seed);
+    let a = public(scheme, &seed)?;
     let (mut s, mut e) = (vec![0; sizes.s], vec![0; sizes.s]);
     let s = bytes.secret(scheme, sizes.s_bytes, &mut s)?;
     let e = bytes.secret(scheme, sizes.s_bytes, &mut e)?;
-    let seed = bytes.take(sizes.seed);
 
     let mut opening = vec![0; sizes.opening];
     let offered = Initiator::offer(scheme, &a, s, e, &seed, &mut opening)?;
@@ -86,12 +87,11 @@ fn initiator(scheme: Scheme, mut line: UnixStream) -> Outcome {
     line.read_exact(&mut reply)?;
     let mut key = vec![0; sizes.key];
     let finished = offered.initiator.finish(&reply, &mut key)?;
-    Ok(finished.key.bytes().to_vec())
+    Ok(finished.digest)
 }
 
 fn replier(scheme: Scheme, mut line: UnixStream) -> Outcome {
     let (sizes, mut bytes) = (scheme.sizes(), Bytes(2));
-    let a = public(scheme)?;
     let (mut s1, mut e1, mut e2) = (vec![0; sizes.s], vec![0; sizes.s], vec![0; sizes.e2]);
     let s1 = bytes.secret(scheme, sizes.s_bytes, &mut s1)?;
     let e1 = bytes.secret(scheme, sizes.s_bytes, &mut e1)?;
@@ -101,10 +101,11 @@ fn replier(scheme: Scheme, mut line: UnixStream) -> Outcome {
 
     let mut opening = vec![0; sizes.opening];
     line.read_exact(&mut opening)?;
+    let a = public(scheme, &opening[sizes.opening - sizes.seed..])?;
     let (mut message, mut key) = (vec![0; sizes.reply], vec![0; sizes.key]);
     let replied = replier.reply(&opening, &a, &mut message, &mut key)?;
     line.write_all(replied.message)?;
-    Ok(replied.key.bytes().to_vec())
+    Ok(replied.digest)
 }
 
 fn main() -> Result<(), Box<dyn Error + Send + Sync>> {
@@ -112,16 +113,13 @@ fn main() -> Result<(), Box<dyn Error + Send + Sync>> {
         let (one, other) = UnixStream::pair()?;
         let box_a = thread::spawn(move || initiator(scheme, one));
         let box_b = thread::spawn(move || replier(scheme, other));
-        let key_a = box_a.join().expect("the initiator's thread")?;
-        let key_b = box_b.join().expect("the replier's thread")?;
-        if key_a != key_b {
-            return Err(format!("{}: the keys differ", scheme.name()).into());
+        let digest_a = box_a.join().expect("the initiator's thread")?;
+        let digest_b = box_b.join().expect("the replier's thread")?;
+        if digest_a != digest_b {
+            return Err(format!("{scheme}: the digests differ").into());
         }
-        println!(
-            "{}: both boxes have the same {} bytes",
-            scheme.name(),
-            key_a.len()
-        );
+        let bytes = scheme.sizes().key;
+        println!("{scheme}: both boxes have a key of {bytes} bytes with the digest {digest_a}");
     }
     Ok(())
 }

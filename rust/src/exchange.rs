@@ -1,6 +1,6 @@
 //! The two ends of an exchange, each of which takes its secrets for good.
 
-use crate::{raw, Key, Refusal, Scheme, Secret};
+use crate::{raw, Digest, Key, Refusal, Scheme, Secret};
 
 /// The initiator after its offer: it holds s until [`finish`](Initiator::finish)
 /// takes it, or until it is dropped. Either wipes s.
@@ -50,6 +50,8 @@ pub struct Offered<'s, 'm> {
 pub struct Finished<'k> {
     /// The initiator's key.
     pub key: Key<'k>,
+    /// Its SHA3-256.
+    pub digest: Digest,
 }
 
 impl<'s> Initiator<'s> {
@@ -81,16 +83,24 @@ impl<'s> Initiator<'s> {
     }
 
     /// Finish: reply message. Writes the initiator's key to `key`, which may be
-    /// longer. s is wiped.
+    /// longer, and gives its digest. s is wiped.
     ///
     /// # Errors
     ///
     /// Refuses with 2, 3 and 5; with 6 never, since the offer has tested s. s is
     /// wiped, and the exchange is over.
     pub fn finish<'k>(self, reply: &[u8], key: &'k mut [u8]) -> Result<Finished<'k>, Refusal> {
-        let written = raw::finish(self.scheme.number(), reply, self.s.entries(), key)?;
+        let mut digest = [0; 32];
+        let (written, _) = raw::finish(
+            self.scheme.number(),
+            reply,
+            self.s.entries(),
+            key,
+            &mut digest,
+        )?;
         Ok(Finished {
             key: Key::new(&mut key[..written]),
+            digest: Digest(digest),
         })
     }
 }
@@ -125,6 +135,8 @@ pub struct Replied<'m, 'k> {
     pub message: &'m [u8],
     /// The replier's key.
     pub key: Key<'k>,
+    /// Its SHA3-256.
+    pub digest: Digest,
 }
 
 impl<'s> Replier<'s> {
@@ -152,8 +164,8 @@ impl<'s> Replier<'s> {
     }
 
     /// Reply: opening message, public a. Writes the reply message and the
-    /// replier's key to `message` and `key`, which may be longer. The secrets
-    /// are wiped.
+    /// replier's key to `message` and `key`, which may be longer, and gives the
+    /// key's digest. The secrets are wiped.
     ///
     /// # Errors
     ///
@@ -165,7 +177,8 @@ impl<'s> Replier<'s> {
         message: &'m mut [u8],
         key: &'k mut [u8],
     ) -> Result<Replied<'m, 'k>, Refusal> {
-        let (written, key_written) = raw::reply(
+        let mut digest = [0; 32];
+        let (written, key_written, _) = raw::reply(
             self.scheme.number(),
             opening,
             a,
@@ -175,10 +188,12 @@ impl<'s> Replier<'s> {
             self.coins.entries(),
             message,
             key,
+            &mut digest,
         )?;
         Ok(Replied {
             message: &message[..written],
             key: Key::new(&mut key[..key_written]),
+            digest: Digest(digest),
         })
     }
 }

@@ -1,9 +1,9 @@
-//! NewHope's public numbers from a stream, by one of two rules.
+//! NewHope's public numbers from a stream or from their seed, by one of two rules.
 
 use crate::{raw, Refusal};
 use core::fmt;
 
-/// How [`expand`] takes the 16-bit words of a stream.
+/// How [`expand`] and [`grow`] take the 16-bit words of a stream.
 #[derive(Clone, Copy, Debug, PartialEq, Eq, Hash)]
 pub enum Rule {
     /// 14: the low 14 bits of a word if they are below 12289. Older boxes know
@@ -51,10 +51,10 @@ impl fmt::Display for Rule {
     }
 }
 
-/// How many numbers [`expand`] gives.
+/// How many numbers [`expand`] and [`grow`] give.
 pub const EXPAND_NUMBERS: usize = 1024;
 
-/// The longest stream that it takes, in bytes.
+/// The longest stream that [`expand`] takes, in bytes.
 pub const EXPAND_STREAM: usize = 65536;
 
 /// Expand: a rule and a stream of bytes, whose 16-bit words have the lower byte
@@ -66,4 +66,15 @@ pub const EXPAND_STREAM: usize = 65536;
 /// Refuses with 2, 3 and 7.
 pub fn expand(rule: Rule, stream: &[u8], out: &mut [u32]) -> Result<usize, Refusal> {
     raw::expand(rule.number(), stream, out)
+}
+
+/// Grow: a rule and NewHope's seed. Gives NewHope's a: what [`expand`] gives of
+/// the first 24 blocks of 168 bytes of SHAKE-128 of the seed. Both ends must use
+/// the same rule.
+///
+/// # Errors
+///
+/// Refuses with 3; no seed is known for which it refuses with 7.
+pub fn grow(rule: Rule, seed: &[u8; 32], out: &mut [u32]) -> Result<usize, Refusal> {
+    raw::grow(rule.number(), seed, out)
 }

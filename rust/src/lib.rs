@@ -6,18 +6,20 @@
 //! the initiator                                the replier
 //! Initiator::offer(a, s, e, seed)   opening -->
 //!                                  <-- reply   Replier::new(s', e', e'', coins).reply(opening, a)
-//! initiator.finish(reply)                      has the key
-//! has the key
+//! initiator.finish(reply)                      has the key and its digest
+//! has the key and its digest
 //! ```
 //!
-//! Both know the public numbers a. The secrets s, e, s', e', e'' and the coins
+//! Both know the public numbers a; NewHope's are [`grow`]n from the seed. The
+//! secrets s, e, s', e', e'' and the coins
 //! are drawn afresh for each exchange; [`Secret::noise`] makes them from random
 //! bytes. A [`Secret`] is a lent buffer that is wiped when its owner is done
 //! with it; each call takes its secrets for good, so that one used twice does
 //! not compile. A [`Key`] is wiped likewise, and neither prints what it holds.
+//! The [`Digest`] beside a key is its SHA3-256, which can be shown.
 //!
 //! ```
-//! use wimmostry::{expand, Initiator, Refusal, Replier, Rule, Scheme, Secret};
+//! use wimmostry::{grow, Initiator, Refusal, Replier, Rule, Scheme, Secret};
 //!
 //! # fn main() -> Result<(), Refusal> {
 //! # let mut state = 1u64;
@@ -28,23 +30,22 @@
 //! let scheme = Scheme::NewHope;
 //! let sizes = scheme.sizes();
 //!
-//! // Both make the public numbers from one stream by one rule; `draw` fills a buffer with
+//! // Both grow the public numbers from one seed by one rule; `draw` fills a buffer with
 //! // random bytes.
-//! let (mut stream, mut a) = ([0; 4096], [0; 1024]);
-//! draw(&mut stream);
-//! expand(Rule::LowBits, &stream, &mut a)?;
+//! let (mut seed, mut a) = ([0; 32], [0; 1024]);
+//! draw(&mut seed);
+//! grow(Rule::LowBits, &seed, &mut a)?;
 //!
-//! // The initiator's secrets and its opening.
-//! let (mut bytes, mut s, mut e, mut seed) = ([0; 4096], [0; 1024], [0; 1024], [0; 32]);
+//! // The initiator's secrets and its opening, which has the seed at its end.
+//! let (mut bytes, mut s, mut e) = ([0; 4096], [0; 1024], [0; 1024]);
 //! draw(&mut bytes);
 //! let s = Secret::noise(scheme, Secret::new(&mut bytes), &mut s)?;
 //! draw(&mut bytes);
 //! let e = Secret::noise(scheme, Secret::new(&mut bytes), &mut e)?;
-//! draw(&mut seed);
 //! let mut room = [0; 1824];
 //! let offered = Initiator::offer(scheme, &a, s, e, &seed, &mut room)?;
 //!
-//! // The replier's secrets, its message and its key.
+//! // The replier's secrets, its message, its key and the key's digest.
 //! let (mut s1, mut e1, mut e2, mut coins) = ([0; 1024], [0; 1024], [0; 1024], [0; 32]);
 //! draw(&mut bytes);
 //! let s1 = Secret::noise(scheme, Secret::new(&mut bytes), &mut s1)?;
@@ -60,7 +61,7 @@
 //! // The initiator's key, which is the same.
 //! let mut peer_key = [0; 32];
 //! let finished = offered.initiator.finish(replied.message, &mut peer_key)?;
-//! assert_eq!(finished.key.bytes(), replied.key.bytes());
+//! assert_eq!(finished.digest, replied.digest);
 //! assert_eq!(finished.key.bytes().len(), sizes.key);
 //! # Ok(())
 //! # }
@@ -84,12 +85,14 @@ pub mod raw;
 
 mod exchange;
 mod expand;
+mod hash;
 mod refusal;
 mod schemes;
 mod secret;
 
 pub use exchange::{Finished, Initiator, Offered, Replied, Replier};
-pub use expand::{expand, Rule, EXPAND_NUMBERS, EXPAND_STREAM};
+pub use expand::{expand, grow, Rule, EXPAND_NUMBERS, EXPAND_STREAM};
+pub use hash::{sha3_256, shake128, Digest, HASH_INPUT};
 pub use raw::scrub;
 pub use refusal::Refusal;
 pub use schemes::{Scheme, Sizes};

@@ -79,12 +79,13 @@ pub fn offer(
 }
 
 /// Reply: scheme, opening message, public a, s', e', e'', coins. Gives the
-/// reply message and the replier's key, and how many bytes of `message` and of
-/// `key` they take.
+/// reply message, the replier's key and the key's SHA3-256, and how many bytes
+/// of `message`, of `key` and of `digest` they take.
 ///
 /// # Errors
 ///
-/// Refuses with 1, 2, 3, 4, 5 and 6; of 3, the message's room is tested first.
+/// Refuses with 1, 2, 3, 4, 5 and 6; of 3, the message's room is tested first
+/// and the digest's last.
 #[allow(clippy::too_many_arguments)]
 pub fn reply(
     scheme: u32,
@@ -96,8 +97,9 @@ pub fn reply(
     coins: &[u8],
     message: &mut [u8],
     key: &mut [u8],
-) -> Result<(usize, usize), Refusal> {
-    let (mut place, mut message_written, mut key_written) = (0, 0, 0);
+    digest: &mut [u8],
+) -> Result<(usize, usize, usize), Refusal> {
+    let (mut place, mut message_written, mut key_written, mut digest_written) = (0, 0, 0, 0);
     // SAFETY: each pointer and length are those of one slice, and place and the
     // counts are numbers of this frame. No output shares memory with anything
     // else, since it is borrowed mutably.
@@ -120,24 +122,37 @@ pub fn reply(
             message.len(),
             key.as_mut_ptr(),
             key.len(),
+            digest.as_mut_ptr(),
+            digest.len(),
             &mut place,
             &mut message_written,
             &mut key_written,
+            &mut digest_written,
         )
     };
     scrub();
-    let written = (count(message_written), count(key_written));
+    let written = (
+        count(message_written),
+        count(key_written),
+        count(digest_written),
+    );
     told(number, place, written)
 }
 
-/// Finish: scheme, reply message, secret s. Gives the initiator's key and how
-/// many bytes of `key` it takes.
+/// Finish: scheme, reply message, secret s. Gives the initiator's key and the
+/// key's SHA3-256, and how many bytes of `key` and of `digest` they take.
 ///
 /// # Errors
 ///
-/// Refuses with 1, 2, 3, 5 and 6.
-pub fn finish(scheme: u32, reply: &[u8], s: &[i32], key: &mut [u8]) -> Result<usize, Refusal> {
-    let (mut place, mut written) = (0, 0);
+/// Refuses with 1, 2, 3, 5 and 6; of 3, the key's room is tested first.
+pub fn finish(
+    scheme: u32,
+    reply: &[u8],
+    s: &[i32],
+    key: &mut [u8],
+    digest: &mut [u8],
+) -> Result<(usize, usize), Refusal> {
+    let (mut place, mut key_written, mut digest_written) = (0, 0, 0);
     // SAFETY: each pointer and length are those of one slice, and place and the
     // counts are numbers of this frame. No output shares memory with anything
     // else, since it is borrowed mutably.
@@ -150,12 +165,15 @@ pub fn finish(scheme: u32, reply: &[u8], s: &[i32], key: &mut [u8]) -> Result<us
             s.len(),
             key.as_mut_ptr(),
             key.len(),
+            digest.as_mut_ptr(),
+            digest.len(),
             &mut place,
-            &mut written,
+            &mut key_written,
+            &mut digest_written,
         )
     };
     scrub();
-    told(number, place, count(written))
+    told(number, place, (count(key_written), count(digest_written)))
 }
 
 /// Noise: scheme, random bytes. Gives as many values as the bytes make, which
@@ -201,6 +219,80 @@ pub fn expand(rule: u32, stream: &[u8], out: &mut [u32]) -> Result<usize, Refusa
             rule,
             stream.as_ptr(),
             stream.len(),
+            out.as_mut_ptr(),
+            out.len(),
+            &mut place,
+            &mut written,
+        )
+    };
+    scrub();
+    told(number, place, count(written))
+}
+
+/// Grow: rule ([`Rule`](crate::Rule)), NewHope's seed. Gives what [`expand`] gives
+/// of the first 24 blocks of 168 bytes of SHAKE-128 of the seed: NewHope's a.
+///
+/// # Errors
+///
+/// Refuses with 12, 2, 3 and 7.
+pub fn grow(rule: u32, seed: &[u8], out: &mut [u32]) -> Result<usize, Refusal> {
+    let (mut place, mut written) = (0, 0);
+    // SAFETY: each pointer and length are those of one slice, and place and the
+    // counts are numbers of this frame. No output shares memory with anything
+    // else, since it is borrowed mutably.
+    let number = unsafe {
+        ffi::wim_grow(
+            rule,
+            seed.as_ptr(),
+            seed.len(),
+            out.as_mut_ptr(),
+            out.len(),
+            &mut place,
+            &mut written,
+        )
+    };
+    scrub();
+    told(number, place, count(written))
+}
+
+/// SHAKE-128: the input. Fills `out`, and tells its length.
+///
+/// # Errors
+///
+/// Refuses with 2.
+pub fn shake128(input: &[u8], out: &mut [u8]) -> Result<usize, Refusal> {
+    let (mut place, mut written) = (0, 0);
+    // SAFETY: each pointer and length are those of one slice, and place and the
+    // counts are numbers of this frame. No output shares memory with anything
+    // else, since it is borrowed mutably.
+    let number = unsafe {
+        ffi::wim_shake128(
+            input.as_ptr(),
+            input.len(),
+            out.as_mut_ptr(),
+            out.len(),
+            &mut place,
+            &mut written,
+        )
+    };
+    scrub();
+    told(number, place, count(written))
+}
+
+/// SHA3-256: the input. Gives 32 bytes.
+///
+/// # Errors
+///
+/// Refuses with 2 and 3.
+pub fn sha3_256(input: &[u8], out: &mut [u8]) -> Result<usize, Refusal> {
+    let (mut place, mut written) = (0, 0);
+    // SAFETY: each pointer and length are those of one slice, and place and the
+    // counts are numbers of this frame. No output shares memory with anything
+    // else, since it is borrowed mutably.
+    let number = unsafe {
+        ffi::wim_sha3_256(
+            input.as_ptr(),
+            input.len(),
             out.as_mut_ptr(),
             out.len(),
             &mut place,

@@ -7,9 +7,10 @@ use core::fmt;
 pub enum Refusal {
     /// 1: the scheme is not 0 to 5 (Noise: not 1 to 5).
     NoScheme,
-    /// 12: Expand's rule is not 14 or 16.
+    /// 12: the rule of Expand or Grow is not 14 or 16.
     NoRule,
-    /// 2: an input's length is not the fixed one (Expand: over 65,536).
+    /// 2: an input's length is not the fixed one (Expand and the hashes: over
+    /// 65,536).
     Length,
     /// 3: an output is shorter than the answer.
     Room,
@@ -20,7 +21,7 @@ pub enum Refusal {
     /// 6: a secret or noise value lies beyond the largest noise; the index of
     /// the first.
     SecretBeyond(usize),
-    /// 7: Expand's stream ran out; how many numbers it held.
+    /// 7: the stream of Expand or Grow ran out; how many numbers it held.
     RanOut(usize),
 }
 

@@ -94,7 +94,8 @@ impl<T: Entry> fmt::Debug for Secret<'_, T> {
 /// A raw key in a lent buffer, which is wiped when the key is dropped. Hash it,
 /// together with both messages, before use.
 ///
-/// It cannot be copied, compared or printed; [`Key::bytes`] is the one way in.
+/// It cannot be copied, compared or printed; [`Key::bytes`] is the one way in,
+/// and what can be compared and shown is its [`Digest`](crate::Digest).
 pub struct Key<'b>(&'b mut [u8]);
 
 impl<'b> Key<'b> {

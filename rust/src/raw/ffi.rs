@@ -38,9 +38,12 @@ extern "C" {
         message_len: usize,
         key: *mut u8,
         key_len: usize,
+        digest: *mut u8,
+        digest_len: usize,
         place: *mut u64,
         message_written: *mut u64,
         key_written: *mut u64,
+        digest_written: *mut u64,
     ) -> u32;
     pub fn wim_finish(
         scheme: u32,
@@ -50,8 +53,11 @@ extern "C" {
         s_len: usize,
         key: *mut u8,
         key_len: usize,
+        digest: *mut u8,
+        digest_len: usize,
         place: *mut u64,
-        written: *mut u64,
+        key_written: *mut u64,
+        digest_written: *mut u64,
     ) -> u32;
     pub fn wim_noise(
         scheme: u32,
@@ -67,6 +73,31 @@ extern "C" {
         stream: *const u8,
         stream_len: usize,
         out: *mut u32,
+        out_len: usize,
+        place: *mut u64,
+        written: *mut u64,
+    ) -> u32;
+    pub fn wim_grow(
+        rule: u32,
+        seed: *const u8,
+        seed_len: usize,
+        out: *mut u32,
+        out_len: usize,
+        place: *mut u64,
+        written: *mut u64,
+    ) -> u32;
+    pub fn wim_shake128(
+        input: *const u8,
+        input_len: usize,
+        out: *mut u8,
+        out_len: usize,
+        place: *mut u64,
+        written: *mut u64,
+    ) -> u32;
+    pub fn wim_sha3_256(
+        input: *const u8,
+        input_len: usize,
+        out: *mut u8,
         out_len: usize,
         place: *mut u64,
         written: *mut u64,

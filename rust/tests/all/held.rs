@@ -121,12 +121,12 @@ fn reply(g: &mut Generator, ready: &Ready) -> u32 {
     let (i, fixed) = (&ready.inputs, ready.inputs.scheme);
     let (q, largest) = (fixed.q as u32, fixed.largest_noise as i32);
     let (mut scheme, mut room) = (number(fixed), fixed.reply_bytes() + 3);
-    let mut key_room = fixed.key_bytes + 3;
+    let (mut key_room, mut digest_room) = (fixed.key_bytes + 3, 32 + 3);
     let (mut opening, mut a) = (ready.opening.clone(), i.a.clone());
     let (mut s1, mut e1, mut e2) = (i.s1.clone(), i.e1.clone(), i.e2.clone());
     let mut coins = i.coins.clone();
     for _ in 0..damages(g, fixed) {
-        match g.below(18) {
+        match g.below(19) {
             0 => scheme = damage::scheme(g),
             1 => damage::length(g, &mut opening),
             2 => damage::length(g, &mut a),
@@ -140,6 +140,7 @@ fn reply(g: &mut Generator, ready: &Ready) -> u32 {
             10 => damage::secret(g, &mut s1, largest),
             11 => damage::secret(g, &mut e1, largest),
             12 => damage::secret(g, &mut e2, largest),
+            13 => digest_room = damage::room(g, 32),
             _ => damage::message(g, &mut opening),
         }
     }
@@ -148,8 +149,10 @@ fn reply(g: &mut Generator, ready: &Ready) -> u32 {
     let (ls1, le1) = (Lent::new(&s1, 7), Lent::new(&e1, 7));
     let (le2, lcoins) = (Lent::new(&e2, 7), Lent::new(&coins, 7));
     let (mut expected, mut expected_key) = (g.bytes(room), g.bytes(key_room));
+    let mut expected_digest = g.bytes(digest_room);
     let mut message = Lent::new(&expected, 9);
     let mut key = Lent::new(&expected_key, 9);
+    let mut digest = Lent::new(&expected_digest, 9);
     let told = same(
         wimmostry::raw::reply(
             scheme,
@@ -161,6 +164,7 @@ fn reply(g: &mut Generator, ready: &Ready) -> u32 {
             lcoins.entries(),
             message.entries_mut(),
             key.entries_mut(),
+            digest.entries_mut(),
         ),
         second::calls::reply(
             scheme.into(),
@@ -172,10 +176,12 @@ fn reply(g: &mut Generator, ready: &Ready) -> u32 {
             &coins,
             &mut expected,
             &mut expected_key,
+            &mut expected_digest,
         ),
     );
     message.holds(&expected);
     key.holds(&expected_key);
+    digest.holds(&expected_digest);
     lopening.holds(&opening);
     la.holds(&a);
     ls1.holds(&s1);
@@ -188,26 +194,42 @@ fn reply(g: &mut Generator, ready: &Ready) -> u32 {
 fn finish(g: &mut Generator, ready: &Ready) -> u32 {
     let fixed = ready.inputs.scheme;
     let (mut scheme, mut room) = (number(fixed), fixed.key_bytes + 3);
+    let mut digest_room = 32 + 3;
     let (mut reply, mut s) = (ready.reply.clone(), ready.inputs.s.clone());
     for _ in 0..damages(g, fixed) {
-        match g.below(8) {
+        match g.below(9) {
             0 => scheme = damage::scheme(g),
             1 => damage::length(g, &mut reply),
             2 => damage::length(g, &mut s),
             3 => room = damage::room(g, fixed.key_bytes),
             4 => damage::secret(g, &mut s, fixed.largest_noise as i32),
+            5 => digest_room = damage::room(g, 32),
             _ => damage::message(g, &mut reply),
         }
     }
 
     let (lreply, ls) = (Lent::new(&reply, 7), Lent::new(&s, 7));
-    let mut expected = g.bytes(room);
+    let (mut expected, mut expected_digest) = (g.bytes(room), g.bytes(digest_room));
     let mut key = Lent::new(&expected, 9);
+    let mut digest = Lent::new(&expected_digest, 9);
     let told = same(
-        wimmostry::raw::finish(scheme, lreply.entries(), ls.entries(), key.entries_mut()),
-        second::calls::finish(scheme.into(), &reply, &s, &mut expected),
+        wimmostry::raw::finish(
+            scheme,
+            lreply.entries(),
+            ls.entries(),
+            key.entries_mut(),
+            digest.entries_mut(),
+        ),
+        second::calls::finish(
+            scheme.into(),
+            &reply,
+            &s,
+            &mut expected,
+            &mut expected_digest,
+        ),
     );
     key.holds(&expected);
+    digest.holds(&expected_digest);
     lreply.holds(&reply);
     ls.holds(&s);
     told
@@ -280,6 +302,66 @@ fn expand(g: &mut Generator) -> u32 {
     told
 }
 
+fn grow(g: &mut Generator) -> u32 {
+    let mut rule = 14 + 2 * g.below(2) as u32;
+    let (mut seed, mut room) = (g.bytes(32), 1024 + 3);
+    match g.below(5) {
+        0 => rule = damage::rule(g),
+        1 => damage::length(g, &mut seed),
+        2 => room = damage::room(g, 1024),
+        _ => {}
+    }
+
+    let lseed = Lent::new(&seed, 7);
+    let mut expected: Vec<u32> = (0..room).map(|_| g.next() as u32).collect();
+    let mut out = Lent::new(&expected, 9);
+    let told = same(
+        wimmostry::raw::grow(rule, lseed.entries(), out.entries_mut()),
+        second::calls::grow(rule, &seed, &mut expected),
+    );
+    out.holds(&expected);
+    lseed.holds(&seed);
+    told
+}
+
+/// Inputs of some blocks, the longest, and one byte more.
+fn hashed(g: &mut Generator) -> Vec<u8> {
+    let length = match g.below(8) {
+        0 => 65536,
+        1 => 65537,
+        _ => g.below(700),
+    };
+    g.bytes(length as usize)
+}
+
+fn shake128(g: &mut Generator) -> u32 {
+    let (input, room) = (hashed(g), g.below(700) as usize);
+    let linput = Lent::new(&input, 7);
+    let mut expected = g.bytes(room);
+    let mut out = Lent::new(&expected, 9);
+    let told = same(
+        wimmostry::raw::shake128(linput.entries(), out.entries_mut()),
+        second::calls::shake128(&input, &mut expected),
+    );
+    out.holds(&expected);
+    linput.holds(&input);
+    told
+}
+
+fn sha3_256(g: &mut Generator) -> u32 {
+    let (input, room) = (hashed(g), damage::room(g, 32));
+    let linput = Lent::new(&input, 7);
+    let mut expected = g.bytes(room);
+    let mut out = Lent::new(&expected, 9);
+    let told = same(
+        wimmostry::raw::sha3_256(linput.entries(), out.entries_mut()),
+        second::calls::sha3_256(&input, &mut expected),
+    );
+    out.holds(&expected);
+    linput.holds(&input);
+    told
+}
+
 fn bench(g: &mut Generator, ready: &Ready) -> u32 {
     let (i, fixed) = (&ready.inputs, ready.inputs.scheme);
     let (q, largest) = (fixed.q as u32, fixed.largest_noise as i32);
@@ -349,14 +431,18 @@ fn second_differing(found: second::calls::Bench) -> Option<usize> {
     }
 }
 
-/// The calls by name, with every refusal that each can give, and 0.
-const EACH: [(&str, &[u32]); 6] = [
+/// The calls by name, with every refusal that each can give, and 0; but no seed
+/// is known that Grow refuses with 7.
+const EACH: [(&str, &[u32]); 9] = [
     ("offer", &[0, 1, 2, 3, 4, 6]),
     ("reply", &[0, 1, 2, 3, 4, 5, 6]),
     ("finish", &[0, 1, 2, 3, 5, 6]),
     ("noise", &[0, 1, 2, 3]),
     ("bench", &[0, 1, 2, 4, 6]),
     ("expand", &[0, 2, 3, 7, 12]),
+    ("grow", &[0, 2, 3, 12]),
+    ("shake128", &[0, 2]),
+    ("sha3_256", &[0, 2, 3]),
 ];
 
 fn held(calls: u64) {
@@ -365,14 +451,17 @@ fn held(calls: u64) {
     for call in 0..calls {
         let g = &mut Generator::new(1000 + call);
         let ready = &ready[g.below(ready.len() as u64) as usize];
-        let which = g.below(6) as usize;
+        let which = g.below(9) as usize;
         let told = match which {
             0 => offer(g, ready),
             1 => reply(g, ready),
             2 => finish(g, ready),
             3 => noise(g, ready),
             4 => bench(g, ready),
-            _ => expand(g),
+            5 => expand(g),
+            6 => grow(g),
+            7 => shake128(g),
+            _ => sha3_256(g),
         };
         seen.insert((EACH[which].0, told));
     }
@@ -383,7 +472,7 @@ fn held(calls: u64) {
 
 #[test]
 fn some_calls() {
-    held(500);
+    held(750);
 }
 
 #[test]

@@ -1,7 +1,7 @@
 //! The archive from Rust, held to the second program. The published vectors are
 //! those of the second program's own tests, here through the archive.
 //!
-//! `cargo test` makes 500 calls; `cargo test -- --ignored` makes 100,000, which
+//! `cargo test` makes 750 calls; `cargo test -- --ignored` makes 100,000, which
 //! takes some fifteen minutes.
 
 use wimmostry::raw as calls;

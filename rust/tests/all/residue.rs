@@ -51,9 +51,10 @@ fn none_is_left() {
     let number = fixed.number as u32;
     let columns = by_columns(&i.s);
     let (mut message, mut answer, mut key) = (opening.clone(), reply.clone(), [0; 8]);
+    let mut digest = [0; 32];
 
     // The archive alone leaves s' there, which shows that it would be found.
-    let (mut place, mut written, mut keyed) = (0, 0, 0);
+    let (mut place, mut written, mut keyed, mut digested) = (0, 0, 0, 0);
     // SAFETY: as in `raw::reply`.
     let refusal = unsafe {
         raw::ffi::wim_reply(
@@ -74,9 +75,12 @@ fn none_is_left() {
             answer.len(),
             key.as_mut_ptr(),
             key.len(),
+            digest.as_mut_ptr(),
+            digest.len(),
             &mut place,
             &mut written,
             &mut keyed,
+            &mut digested,
         )
     };
     let after = left();
@@ -97,11 +101,12 @@ fn none_is_left() {
         &i.coins,
         &mut answer,
         &mut key,
+        &mut digest,
     );
     let after = left();
     assert!(done.is_ok() && !stands(&after, &i.s1), "reply");
 
-    let done = raw::finish(number, &reply, &i.s, &mut key);
+    let done = raw::finish(number, &reply, &i.s, &mut key, &mut digest);
     let after = left();
     assert!(done.is_ok() && !stands(&after, &columns), "finish");
 

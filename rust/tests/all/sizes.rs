@@ -65,6 +65,8 @@ fn of_the_header() {
     }
     assert_eq!(header["EXPAND_NUMBERS"], second::expand::COUNT as u64);
     assert_eq!(header["EXPAND_STREAM"], second::expand::LONGEST as u64);
+    assert_eq!(header["DIGEST"], second::hash::DIGEST as u64);
+    assert_eq!(header["HASH_INPUT"], second::hash::LONGEST as u64);
 }
 
 #[test]
@@ -100,4 +102,5 @@ fn of_this_package() {
     }
     assert_eq!(wimmostry::EXPAND_NUMBERS, second::expand::COUNT);
     assert_eq!(wimmostry::EXPAND_STREAM, second::expand::LONGEST);
+    assert_eq!(wimmostry::HASH_INPUT, second::hash::LONGEST);
 }

@@ -4,7 +4,8 @@
 use crate::generator::Generator;
 use crate::inputs::Inputs;
 use second::schemes::SIX;
-use wimmostry::{expand, Initiator, Offered, Refusal, Replier, Rule, Scheme, Secret, Sizes};
+use wimmostry::{expand, grow, sha3_256, shake128, Digest};
+use wimmostry::{Initiator, Offered, Refusal, Replier, Rule, Scheme, Secret, Sizes};
 
 fn scheme(inputs: &Inputs) -> Scheme {
     Scheme::try_from(inputs.scheme.number as u32).expect("one of six")
@@ -15,6 +16,7 @@ fn exchange(mut i: Inputs) {
     let (scheme, sizes) = (scheme(&i), scheme(&i).sizes());
     let expected_opening = i.opening();
     let (expected_reply, expected_key) = i.reply_and_key(&expected_opening);
+    let expected_digest = second::hash::sha3_256(&expected_key);
 
     let (mut room, mut message) = (vec![9; sizes.opening + 3], vec![9; sizes.reply + 3]);
     let (mut key, mut peer_key) = (vec![9; sizes.key + 3], vec![9; sizes.key + 3]);
@@ -38,6 +40,7 @@ fn exchange(mut i: Inputs) {
         .expect("good inputs");
     assert_eq!(replied.message, expected_reply);
     assert_eq!(replied.key.bytes(), expected_key);
+    assert_eq!(replied.digest.0[..], expected_digest);
     assert_eq!((i.s1, i.e1), (vec![0; sizes.s], vec![0; sizes.s]));
     assert_eq!((i.e2, i.coins), (vec![0; sizes.e2], vec![0; sizes.coins]));
 
@@ -45,6 +48,7 @@ fn exchange(mut i: Inputs) {
         .finish(replied.message, &mut peer_key)
         .expect("good inputs");
     assert_eq!(finished.key.bytes(), replied.key.bytes());
+    assert_eq!(finished.digest, replied.digest);
     assert_eq!(i.s, vec![0; sizes.s], "s is wiped by finish");
     assert_eq!(format!("{:?}", finished.key), "Key(..)");
     drop((finished, replied));
@@ -146,6 +150,35 @@ fn expands() {
     a.fill(9);
     assert_eq!(expand(Rule::WholeWord, &words, &mut a), Ok(1024));
     assert_eq!(a, [0; 1024]);
+}
+
+#[test]
+fn grows() {
+    let seed = [7; 32];
+    for (rule, known) in [(Rule::LowBits, 14), (Rule::WholeWord, 16)] {
+        let (mut a, mut expected) = ([9; 1025], [0; 1025]);
+        assert_eq!(grow(rule, &seed, &mut a), Ok(1024));
+        second::calls::grow(known, &seed, &mut expected).expect("a good seed");
+        assert_eq!(a, expected);
+        assert_eq!(grow(rule, &seed, &mut a[..1023]), Err(Refusal::Room));
+    }
+}
+
+#[test]
+fn hashes() {
+    let mut out = [9; 200];
+    assert_eq!(shake128(b"abc", &mut out), Ok(()));
+    assert_eq!(out[..], second::hash::shake128(b"abc", 200));
+    assert_eq!(shake128(&[0; 65537], &mut out), Err(Refusal::Length));
+    assert_eq!(out, [0; 200]);
+
+    let digest = sha3_256(b"abc").expect("a short input");
+    assert_eq!(digest.0[..], second::hash::sha3_256(b"abc"));
+    assert_eq!(sha3_256(&[0; 65537]), Err(Refusal::Length));
+    let mut counted = [0; 32];
+    counted[..3].copy_from_slice(&[0x0f, 0xa0, 0xff]);
+    let text = format!("{}", Digest(counted));
+    assert_eq!(text, format!("0fa0ff{}", "0".repeat(58)));
 }
 
 #[test]
