@@ -3,7 +3,7 @@
 //! in which the command names them.
 
 use crate::data::Data;
-use wimmostry::{raw, Refusal, Rule, Scheme};
+use wimmostry::{raw, Digest, Refusal, Rule, Scheme};
 
 pub use wimmostry::Sizes;
 
@@ -24,11 +24,17 @@ pub struct Refused {
     pub place: usize,
 }
 
-/// The scheme's number or, in expand, the rule's; the inputs, the outputs.
+/// What was asked for: the scheme's number, the rule's or a length; the inputs,
+/// the outputs.
 pub type Call = fn(u32, &[&Data], &mut [Data]) -> Result<Answer, Refused>;
 
 pub const EXPAND_NUMBERS: usize = wimmostry::EXPAND_NUMBERS;
 pub const EXPAND_STREAM: usize = wimmostry::EXPAND_STREAM;
+pub const HASH_INPUT: usize = wimmostry::HASH_INPUT;
+
+/// Bytes of NewHope's seed and of a digest.
+pub const GROW_SEED: usize = Scheme::NewHope.sizes().seed;
+pub const DIGEST: usize = std::mem::size_of::<Digest>();
 
 /// What the command line says of itself.
 pub fn version() -> &'static str {
@@ -70,10 +76,9 @@ fn ended(done: Result<Answer, Refusal>) -> Result<Answer, Refused> {
     })
 }
 
-/// The outputs of a call that has two.
-fn two(out: &mut [Data]) -> (&mut Data, &mut Data) {
-    let (first, rest) = out.split_at_mut(1);
-    (&mut first[0], &mut rest[0])
+/// The outputs of a call that has several.
+fn several<const N: usize>(out: &mut [Data]) -> &mut [Data; N] {
+    out.try_into().expect("as many as the table has")
 }
 
 pub fn offer(scheme: u32, given: &[&Data], out: &mut [Data]) -> Result<Answer, Refused> {
@@ -89,7 +94,7 @@ pub fn offer(scheme: u32, given: &[&Data], out: &mut [Data]) -> Result<Answer, R
 }
 
 pub fn reply(scheme: u32, given: &[&Data], out: &mut [Data]) -> Result<Answer, Refused> {
-    let (message, key) = two(out);
+    let [message, key, digest] = several(out);
     let done = raw::reply(
         scheme,
         given[0].bytes(),
@@ -100,18 +105,21 @@ pub fn reply(scheme: u32, given: &[&Data], out: &mut [Data]) -> Result<Answer, R
         given[5].bytes(),
         message.bytes_mut(),
         key.bytes_mut(),
+        digest.bytes_mut(),
     );
-    ended(done.map(|(m, k)| Answer::Written(vec![m, k])))
+    ended(done.map(|(m, k, d)| Answer::Written(vec![m, k, d])))
 }
 
 pub fn finish(scheme: u32, given: &[&Data], out: &mut [Data]) -> Result<Answer, Refused> {
+    let [key, digest] = several(out);
     let done = raw::finish(
         scheme,
         given[0].bytes(),
         given[1].values(),
-        out[0].bytes_mut(),
+        key.bytes_mut(),
+        digest.bytes_mut(),
     );
-    ended(done.map(|n| Answer::Written(vec![n])))
+    ended(done.map(|(k, d)| Answer::Written(vec![k, d])))
 }
 
 pub fn noise(scheme: u32, given: &[&Data], out: &mut [Data]) -> Result<Answer, Refused> {
@@ -121,6 +129,21 @@ pub fn noise(scheme: u32, given: &[&Data], out: &mut [Data]) -> Result<Answer, R
 
 pub fn expand(rule: u32, given: &[&Data], out: &mut [Data]) -> Result<Answer, Refused> {
     let done = raw::expand(rule, given[0].bytes(), out[0].numbers_mut());
+    ended(done.map(|n| Answer::Written(vec![n])))
+}
+
+pub fn grow(rule: u32, given: &[&Data], out: &mut [Data]) -> Result<Answer, Refused> {
+    let done = raw::grow(rule, given[0].bytes(), out[0].numbers_mut());
+    ended(done.map(|n| Answer::Written(vec![n])))
+}
+
+pub fn shake128(_: u32, given: &[&Data], out: &mut [Data]) -> Result<Answer, Refused> {
+    let done = raw::shake128(given[0].bytes(), out[0].bytes_mut());
+    ended(done.map(|n| Answer::Written(vec![n])))
+}
+
+pub fn sha3_256(_: u32, given: &[&Data], out: &mut [Data]) -> Result<Answer, Refused> {
+    let done = raw::sha3_256(given[0].bytes(), out[0].bytes_mut());
     ended(done.map(|n| Answer::Written(vec![n])))
 }
 

@@ -1,11 +1,11 @@
 //! A whole exchange in memory, on random bytes of the system: what is drawn,
 //! how long each call takes, the two messages as a picture, and the two keys.
 
-use crate::calls::{self, Answer, Call, Refused, Sizes, EXPAND_NUMBERS, LOW_BITS, SCHEMES};
+use crate::calls::{self, Answer, Call, Refused, Sizes};
+use crate::calls::{DIGEST, EXPAND_NUMBERS, LOW_BITS, SCHEMES};
 use crate::data::{Data, Kind};
 use crate::draw::{self, BCNS, NEWHOPE};
 use crate::random;
-use crate::table::ALL_SCHEMES;
 use crate::tell::{self, Done, Fault, Voice};
 use crate::words;
 use std::ffi::OsString;
@@ -14,8 +14,8 @@ use std::time::Instant;
 pub const WORDS: &str = "  SCHEME   one scheme; without it all six\n";
 
 pub const MORE: &str = "\
-It needs no file and leaves none. Keys are not shown, but a checksum of 64 bits of each (FNV-1a),
-for the eye alone. Whether the keys agree is what bench says of the same secrets.";
+It needs no file and leaves none. Keys are not shown, but the digest of each, its SHA3-256, which
+is the same where the keys are. Whether they agree is what bench says of the same secrets.";
 
 pub fn run(given: &[OsString]) -> Done {
     let asked = match given.first() {
@@ -23,11 +23,11 @@ pub fn run(given: &[OsString]) -> Done {
         None => None,
     };
     if let Some(scheme) = asked.filter(|&scheme| calls::sizes(scheme).is_none()) {
-        let detail = tell::unknown(ALL_SCHEMES, scheme);
+        let detail = tell::no_scheme(scheme, 0, SCHEMES - 1);
         tell::say(Voice::Output, &format!("refusal=1 place=0 {detail}\n"))?;
         return Ok(tell::REFUSED);
     }
-    let heading = "A fingerprint is a checksum of a key, for the eye alone.\n";
+    let heading = "A digest is the SHA3-256 of a key: the same where the keys are the same.\n";
     tell::say(Voice::Output, heading)?;
     for scheme in asked.map_or(0..SCHEMES, |scheme| scheme..scheme + 1) {
         if let Some(sizes) = calls::sizes(scheme) {
@@ -50,14 +50,12 @@ fn bytes(n: usize) -> Data {
     Data::zeros(Kind::Bytes, n)
 }
 
-/// NewHope's public numbers through expand, from a stream that is long enough but
-/// for one time in 10^100.
-fn expanded() -> Result<Data, Fault> {
-    let stream = Data::Bytes(random::bytes(4096)?);
+/// NewHope's public numbers, and how long they took.
+fn grown(seed: &Data) -> (Data, u128) {
     let mut out = [Data::zeros(Kind::Numbers, EXPAND_NUMBERS)];
-    timed(calls::expand, LOW_BITS, &[&stream], &mut out);
+    let (_, time) = timed(calls::grow, LOW_BITS, &[seed], &mut out);
     let [a] = out;
-    Ok(a)
+    (a, time)
 }
 
 /// The text of an exchange.
@@ -65,29 +63,33 @@ fn exchange(scheme: u32, sizes: &Sizes) -> Result<String, Fault> {
     let (s, e) = (draw::secret(scheme, sizes)?, draw::secret(scheme, sizes)?);
     let (s1, e1) = (draw::secret(scheme, sizes)?, draw::secret(scheme, sizes)?);
     let e2 = draw::last(scheme, sizes)?;
-    let a = match scheme {
-        NEWHOPE => expanded()?,
-        _ => draw::public(sizes)?,
-    };
     let seed = Data::Bytes(random::bytes(sizes.seed)?);
+    let (a, public) = match scheme {
+        NEWHOPE => {
+            let (a, time) = grown(&seed);
+            let told = format!("grown from the seed by rule {LOW_BITS}, {time} us");
+            (a, told)
+        }
+        _ => (draw::public(sizes)?, "random and below q".to_string()),
+    };
     let coins = Data::Bytes(random::bytes(sizes.coins)?);
 
     let mut opened = [bytes(sizes.opening)];
     let offered = [&a, &s, &e, &seed];
     let (_, offer_time) = timed(calls::offer, scheme, &offered, &mut opened);
     let [opening] = opened;
-    let mut replied = [bytes(sizes.reply), bytes(sizes.key)];
+    let mut replied = [bytes(sizes.reply), bytes(sizes.key), bytes(DIGEST)];
     let lent = [&opening, &a, &s1, &e1, &e2, &coins];
     let (_, reply_time) = timed(calls::reply, scheme, &lent, &mut replied);
-    let [reply, own] = replied;
-    let mut finished = [bytes(sizes.key)];
+    let [reply, own, own_digest] = replied;
+    let mut finished = [bytes(sizes.key), bytes(DIGEST)];
     let (_, finish_time) = timed(calls::finish, scheme, &[&reply, &s], &mut finished);
-    let [key] = finished;
+    let [key, digest] = finished;
     let all = [&a, &s, &e, &seed, &s1, &e1, &e2, &coins];
     let (found, _) = timed(calls::bench, scheme, &all, &mut []);
 
     let mut rows = vec![
-        format!("public numbers: {}, {}", a.len(), public(scheme)),
+        format!("public numbers: {}, {public}", a.len()),
         format!("secrets and noise: {}", noise(scheme, sizes)),
         format!(
             "offer:  opening of {} bytes, {offer_time} us",
@@ -98,14 +100,8 @@ fn exchange(scheme: u32, sizes: &Sizes) -> Result<String, Fault> {
         format!("finish: key of {} bytes, {finish_time} us", key.len()),
     ];
     rows.extend(picture(scheme, sizes));
-    rows.push(format!(
-        "replier's key:   fingerprint {:016x}",
-        fingerprint(own.bytes())
-    ));
-    rows.push(format!(
-        "initiator's key: fingerprint {:016x}",
-        fingerprint(key.bytes())
-    ));
+    rows.push(format!("replier's key:   digest {}", hex(&own_digest)));
+    rows.push(format!("initiator's key: digest {}", hex(&digest)));
     rows.push(match found {
         Answer::Differ(bit) => format!("keys differ at bit {bit}"),
         _ => "keys agree".to_string(),
@@ -113,13 +109,6 @@ fn exchange(scheme: u32, sizes: &Sizes) -> Result<String, Fault> {
     let name = calls::name(scheme).unwrap_or_default();
     let rows: String = rows.iter().map(|row| format!("  {row}\n")).collect();
     Ok(format!("scheme {scheme}, {name}\n{rows}"))
-}
-
-fn public(scheme: u32) -> String {
-    match scheme {
-        NEWHOPE => format!("through expand by rule {LOW_BITS} from a random stream of 4096 bytes"),
-        _ => "random and below q".to_string(),
-    }
 }
 
 fn noise(scheme: u32, sizes: &Sizes) -> String {
@@ -150,22 +139,15 @@ fn picture(scheme: u32, sizes: &Sizes) -> [String; 5] {
     ]
 }
 
-/// FNV-1a.
-fn fingerprint(key: &[u8]) -> u64 {
-    key.iter().fold(0xcbf2_9ce4_8422_2325, |hash: u64, byte| {
-        (hash ^ u64::from(*byte)).wrapping_mul(0x100_0000_01b3)
-    })
+/// Bytes in hexadecimal digits.
+fn hex(data: &Data) -> String {
+    let digits = data.bytes().iter().map(|byte| format!("{byte:02x}"));
+    digits.collect()
 }
 
 #[cfg(test)]
 mod tests {
     use super::*;
-
-    #[test]
-    fn a_checksum_of_the_published_kind() {
-        assert_eq!(fingerprint(b""), 0xcbf29ce484222325);
-        assert_eq!(fingerprint(b"foobar"), 0x85944171f73967e8);
-    }
 
     #[test]
     fn the_pictures_are_straight() {

@@ -1,14 +1,13 @@
 //! What an exchange needs of randomness: secrets and noise through Noise,
 //! public numbers below q, seed and coins.
 
-use crate::calls::{self, Answer, Refused, Sizes};
+use crate::calls::{self, Answer, Refused, Sizes, SCHEMES};
 use crate::data::{Data, Kind, Wiped};
 use crate::escape::shown;
 use crate::files;
 use crate::outputs;
 use crate::random;
 use crate::run::voice;
-use crate::table::ALL_SCHEMES;
 use crate::tell::{self, Done, Fault};
 use crate::words;
 use std::ffi::{OsStr, OsString};
@@ -73,7 +72,7 @@ pub fn run(given: &[OsString]) -> Done {
     };
     outputs::put(&[answer], refused)?;
     if refused {
-        let detail = tell::unknown(ALL_SCHEMES, scheme);
+        let detail = tell::no_scheme(scheme, 0, SCHEMES - 1);
         tell::say(voice(&place), &format!("refusal=1 place=0 {detail}\n"))?;
         return Ok(tell::REFUSED);
     }

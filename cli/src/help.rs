@@ -10,9 +10,12 @@ use std::ffi::OsString;
 use std::fmt::Write;
 
 pub fn run(given: &[OsString]) -> Done {
-    let text = match given.first() {
-        Some(word) => page(words::command(word)?),
-        None => overview(),
+    let text = match given {
+        [] => overview(),
+        name => {
+            let pages: Vec<String> = words::about(name)?.into_iter().map(page).collect();
+            pages.join("\n")
+        }
     };
     tell::say(Voice::Output, &text)?;
     Ok(tell::DONE)
@@ -31,9 +34,10 @@ proved library on files.
 
 const WORDS: &str = "
 SCHEME is 0 BCNS, 1 NewHope, 2 Frodo Challenge, 3 Frodo Classical, 4 Frodo Recommended,
-5 Frodo Paranoid. RULE is 14 low bits or 16 whole word, the same at both ends. Every other word in
-capitals is a file, - for standard input or output (once each way), or, of an input, none for
-nothing at all: BCNS has no seed and Frodo no coins. A file that has such a name is ./- or ./none.
+5 Frodo Paranoid. RULE is 14 low bits or 16 whole word, the same at both ends, LENGTH a number of
+bytes. Every other word in capitals is a file, - for standard input or output (once each way), or,
+of an input, none for nothing at all: BCNS has no seed and Frodo no coins. A file that has such a
+name is ./- or ./none.
 
 Public numbers (A) and secrets and noise (S, E, S1, E1, E2) are 32 bits each, the lowest byte
 first, secrets and noise in two's complement. All else is bytes.
@@ -42,45 +46,49 @@ An exchange between two folders, the initiator's left and the replier's right:
 
 ";
 
-/// Lines of the shell. Standing alone they make two equal keys.
+/// Lines of the shell. Standing alone they make two equal keys, by NewHope.
 pub const EXCHANGE: &str = "\
 \x20   mkdir left right
-    wimmostry draw 1 a left/a
+    wimmostry draw 1 seed left/seed
+    wimmostry grow 14 left/seed left/a
     wimmostry draw 1 s left/s
     wimmostry draw 1 e left/e
-    wimmostry draw 1 seed left/seed
     wimmostry offer 1 left/a left/s left/e left/seed left/opening
-    cp left/a left/opening right
+    cp left/opening right
+    tail -c 32 right/opening >right/seed
+    wimmostry grow 14 right/seed right/a
     wimmostry draw 1 s1 right/s1
     wimmostry draw 1 e1 right/e1
     wimmostry draw 1 e2 right/e2
     wimmostry draw 1 coins right/coins
     wimmostry reply 1 right/opening right/a right/s1 right/e1 right/e2 right/coins \\
-      right/reply right/key
+      right/reply right/key right/digest
     cp right/reply left
-    wimmostry finish 1 left/reply left/s left/key
-    cmp left/key right/key
+    wimmostry finish 1 left/reply left/s left/key left/digest
+    cmp left/digest right/digest
     for f in left/s left/e right/s1 right/e1 right/e2 right/coins; do wimmostry wipe $f; done
 ";
 
 const REST: &str = "
-Draw everything but a anew for each exchange. The keys are raw, and the peer is whoever sent the
-message: see that messages come from whom you think, confirm the keys, and hash them before use.
+Only NewHope's public numbers grow from a seed: in another scheme the initiator draws them (draw 0 a
+left/a), and they go to the replier as well. Draw everything but a anew for each exchange. The keys
+are raw, and the peer is whoever sent the message: see that messages come from whom you think,
+confirm the keys, and hash them before use.
 
 An output is written to a fresh file, brought to the disk and renamed into its place, all outputs
-of a call or none; keys, secrets and noise have mode 600. It is replaced only by a whole answer,
-or, after a refusal, by zeros over the answer's length (by nothing, where there is no such scheme
-or the answer of noise has two lengths). Where a word or a file is wrong no output is touched: an
-old key is then still there. Nor is a file that is replaced overwritten on the disk: wipe a key
-that must be gone. Outputs that are one file, or an input, are not taken; nor is a symbolic link,
-a pipe or a device, nor - where standard output is a terminal.
+of a call or none; keys, digests, hashes, secrets and noise have mode 600. It is replaced only by a
+whole answer, or, after a refusal, by zeros over the answer's length (by nothing, where no scheme
+tells that length or the answer of noise has two). Where a word or a file is wrong no output is
+touched: an old key is then still there. Nor is a file that is replaced overwritten on the disk:
+wipe a key that must be gone. Outputs that are one file, or an input, are not taken; nor is a
+symbolic link, a pipe or a device, nor - where standard output is a terminal.
 
-Status 0: done; written=N (of reply message_written=N and key_written=N), agree or differ=I.
+Status 0: done; written=N (of reply and finish key_written=N and so on), agree or differ=I.
 Status 1: refused; one line, as refusal=6 place=3 input=e value=7 largest=6
           1 no such scheme            4 a public number is q or more
          12 no such rule              5 a number of the message is q or more
           2 a wrong length            6 a secret or noise is too large
-          3 (not here)                7 the stream of expand ran out
+          3 (not here)                7 the stream of expand or grow ran out
           place counts from 0. A length of 33.. is 33 or more. To - nothing is written.
 Status 2: wrong words. Status 3: a file. Both with lines on standard error.
 With an output to - the lines of an answer go to standard error too. Ended by a signal, the
@@ -140,6 +148,8 @@ fn files(own: &OnFiles, text: &mut String) {
     text.push_str(&match own.by {
         By::Scheme(first, _) => schemes(first),
         By::Rule => numbered("RULE", calls::rules()),
+        By::Length => format!("  LENGTH   bytes of OUT, at most {}\n", words::LONGEST),
+        By::Nothing => String::new(),
     });
     for x in own.inputs {
         entry(own, x.word, "in", x.kind, x.what, x.length, text);
@@ -173,10 +183,11 @@ fn lengths(own: &OnFiles, length: Length) -> String {
     match length {
         Length::Fixed(n) => n.to_string(),
         Length::AtMost(n) => format!("at most {n}"),
+        Length::Asked => "LENGTH".to_string(),
         Length::By(_) | Length::Either(..) => {
             let (first, last) = match own.by {
                 By::Scheme(first, last) => (first, last),
-                By::Rule => (0, SCHEMES - 1),
+                By::Rule | By::Length | By::Nothing => (0, SCHEMES - 1),
             };
             let each: Vec<String> = (first..=last)
                 .map(|no| {

@@ -32,20 +32,17 @@ fn main() -> ExitCode {
 }
 
 fn dispatch(words: &[OsString]) -> Done {
-    let Some((first, rest)) = words.split_first() else {
+    let Some((last, before)) = words.split_last() else {
         return help::run(&[]);
     };
-    match (first.to_str(), rest) {
-        (Some("-h" | "--help"), []) => return help::run(&[]),
-        (Some("--version"), []) => return help::version(&[]),
-        _ => {}
+    let asks = last == "-h" || last == "--help";
+    if asks && (before.is_empty() || words::about(before).is_ok()) {
+        return help::run(before);
     }
-    let command = words::command(first)?;
-    if let [word] = rest {
-        if word == "-h" || word == "--help" {
-            return help::run(&words[..1]);
-        }
+    if last == "--version" && before.is_empty() {
+        return help::version(&[]);
     }
+    let (command, rest) = words::command(words)?;
     words::counted(command, rest.len())?;
     match &command.form {
         Form::Files(own) => run::run(own, rest),

@@ -10,8 +10,8 @@ use crate::words::{self, Place};
 use std::ffi::OsString;
 
 pub fn run(own: &OnFiles, given: &[OsString]) -> Done {
-    let asked = own.by.number(&given[0])?;
-    let (from, to) = given[1..].split_at(own.inputs.len());
+    let (asked, places) = own.by.number(given)?;
+    let (from, to) = places.split_at(own.inputs.len());
     let sources = own.inputs.iter().zip(from);
     let sources: Vec<Place> = sources
         .map(|(x, word)| words::place(x.word, word))
@@ -32,7 +32,7 @@ pub fn run(own: &OnFiles, given: &[OsString]) -> Done {
 
     let data: Vec<&Data> = lent.iter().map(|x| &x.data).collect();
     let sizes = own.by.sizes(asked);
-    let room = |x: &Output| room(x, sizes.as_ref());
+    let room = |x: &Output| room(x, asked, sizes.as_ref());
     let mut out: Vec<Data> = own.outputs.iter().map(room).collect();
     let done = (own.call)(asked, &data, &mut out);
     match done {
@@ -81,9 +81,12 @@ fn read(own: &OnFiles, sources: &[Place]) -> Result<Vec<Lent>, Fault> {
 }
 
 /// Room for an output's answer: none where there is no such scheme.
-fn room(output: &Output, sizes: Option<&Sizes>) -> Data {
-    let known = output.length.known(sizes);
-    Data::zeros(output.kind, known.into_iter().max().unwrap_or(0))
+fn room(output: &Output, asked: u32, sizes: Option<&Sizes>) -> Data {
+    let room = match output.length {
+        Length::Asked => asked as usize,
+        length => length.known(sizes).into_iter().max().unwrap_or(0),
+    };
+    Data::zeros(output.kind, room)
 }
 
 /// The lines go to standard error where an answer takes standard output.

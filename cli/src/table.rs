@@ -1,7 +1,8 @@
 //! The commands. Each is one entry here: its words, its help and what it runs.
 //! Parsing, help, the lines of refusals and the handling of files follow from it.
 
-use crate::calls::{self, Call, Sizes, EXPAND_NUMBERS, EXPAND_STREAM, SCHEMES};
+use crate::calls::{self, Call, Sizes, DIGEST, EXPAND_NUMBERS, EXPAND_STREAM};
+use crate::calls::{GROW_SEED, HASH_INPUT, SCHEMES};
 use crate::data::Kind;
 use crate::tell::{Done, Fault};
 use crate::{demo, draw, help, wipe, words};
@@ -18,6 +19,8 @@ pub enum Length {
     Fixed(usize),
     /// Anything up to this.
     AtMost(usize),
+    /// As LENGTH says.
+    Asked,
 }
 
 impl Length {
@@ -32,7 +35,7 @@ impl Length {
                 both.dedup();
                 both
             }
-            (Length::By(_) | Length::Either(..), None) => vec![],
+            (Length::By(_) | Length::Either(..), None) | (Length::Asked, _) => vec![],
         }
     }
 
@@ -80,33 +83,43 @@ pub enum By {
     Scheme(u32, u32),
     /// RULE.
     Rule,
+    /// LENGTH, that of the output.
+    Length,
+    /// There is none.
+    Nothing,
 }
 
 impl By {
-    fn word(self) -> &'static str {
+    fn word(self) -> Option<&'static str> {
         match self {
-            By::Scheme(..) => "SCHEME",
-            By::Rule => "RULE",
+            By::Scheme(..) => Some("SCHEME"),
+            By::Rule => Some("RULE"),
+            By::Length => Some("LENGTH"),
+            By::Nothing => None,
         }
     }
 
-    pub fn number(self, word: &OsStr) -> Result<u32, Fault> {
-        match self {
-            By::Scheme(..) => words::scheme(word),
-            By::Rule => words::rule(word),
-        }
+    /// The number, and the words behind it.
+    pub fn number(self, given: &[OsString]) -> Result<(u32, &[OsString]), Fault> {
+        let number = match self {
+            By::Scheme(..) => words::scheme(&given[0])?,
+            By::Rule => words::rule(&given[0])?,
+            By::Length => words::length(&given[0])?,
+            By::Nothing => return Ok((0, given)),
+        };
+        Ok((number, &given[1..]))
     }
 
     /// The fixed numbers, where they go by a scheme and there is such a scheme.
     pub fn sizes(self, number: u32) -> Option<Sizes> {
         match self {
             By::Scheme(..) => calls::sizes(number),
-            By::Rule => None,
+            By::Rule | By::Length | By::Nothing => None,
         }
     }
 }
 
-/// A call of the library on files: SCHEME or RULE, inputs, outputs.
+/// A call of the library on files: a number if it has one, inputs, outputs.
 pub struct OnFiles {
     pub by: By,
     pub inputs: &'static [Input],
@@ -130,6 +143,7 @@ pub enum Form {
 }
 
 pub struct Command {
+    /// One word, or of a hash two.
     pub name: &'static str,
     /// One line for the overview.
     pub brief: &'static str,
@@ -140,6 +154,15 @@ pub struct Command {
 }
 
 impl Command {
+    /// Whether these words are its name or the beginning of it.
+    pub fn begins(&self, words: &[OsString]) -> bool {
+        let name: Vec<&str> = self.name.split(' ').take(words.len()).collect();
+        words
+            .iter()
+            .map(OsString::as_os_str)
+            .eq(name.iter().map(OsStr::new))
+    }
+
     /// The words that it takes.
     pub fn usage(&self) -> String {
         match &self.form {
@@ -147,7 +170,9 @@ impl Command {
             Form::Files(own) => {
                 let inputs = own.inputs.iter().map(|x| x.word);
                 let outputs = own.outputs.iter().map(|x| x.word);
-                let words: Vec<&str> = [own.by.word()]
+                let words: Vec<&str> = own
+                    .by
+                    .word()
                     .into_iter()
                     .chain(inputs)
                     .chain(outputs)
@@ -162,7 +187,7 @@ impl Command {
         match &self.form {
             Form::Words(own) => (own.least, own.most),
             Form::Files(own) => {
-                let n = 1 + own.inputs.len() + own.outputs.len();
+                let n = own.by.word().iter().len() + own.inputs.len() + own.outputs.len();
                 (n, n)
             }
         }
@@ -232,6 +257,8 @@ const fn message(word: &'static str, length: Length, what: &'static str) -> Inpu
     }
 }
 
+const HASHED: Input = bytes("INPUT", Length::AtMost(HASH_INPUT), "what is hashed");
+
 // ---- the outputs
 
 const fn output(word: &'static str, length: Length, what: &'static str) -> Output {
@@ -247,12 +274,29 @@ const fn output(word: &'static str, length: Length, what: &'static str) -> Outpu
 
 const KEY: Output = Output {
     secret: true,
+    label: "key_written",
     ..output("KEY", Length::By(|z| z.key), "the raw key")
+};
+
+/// It can be the key that is used, so it is closed to others like one.
+const DIGEST_OF_KEY: Output = Output {
+    secret: true,
+    label: "digest_written",
+    ..output("DIGEST", Length::Fixed(DIGEST), "the key's SHA3-256")
+};
+
+const GROWN: Output = Output {
+    kind: Kind::Numbers,
+    ..output(
+        "OUT",
+        Length::Fixed(EXPAND_NUMBERS),
+        "public numbers below 12289",
+    )
 };
 
 // ---- the commands
 
-pub const ALL_SCHEMES: By = By::Scheme(0, SCHEMES - 1);
+const ALL_SCHEMES: By = By::Scheme(0, SCHEMES - 1);
 
 pub const COMMANDS: &[Command] = &[
     Command {
@@ -286,7 +330,7 @@ pub const COMMANDS: &[Command] = &[
     },
     Command {
         name: "reply",
-        brief: "the replier's step: the reply message and the replier's key",
+        brief: "the replier's step: the reply message, the replier's key and its digest",
         form: Form::Files(OnFiles {
             by: ALL_SCHEMES,
             inputs: &[
@@ -306,33 +350,33 @@ pub const COMMANDS: &[Command] = &[
                         "the reply message, for the initiator",
                     )
                 },
-                Output {
-                    label: "key_written",
-                    ..KEY
-                },
+                KEY,
+                DIGEST_OF_KEY,
             ],
             call: calls::reply,
         }),
-        more: "S1, E1, E2 and COINS are wiped afterwards.",
+        more: "S1, E1, E2 and COINS are wiped afterwards. DIGEST is as finish has it.",
         example:
             "wimmostry reply 1 right/opening a right/s1 right/e1 right/e2 right/coins \\\n      \
-                  right/reply right/key",
+                  right/reply right/key right/digest",
     },
     Command {
         name: "finish",
-        brief: "the initiator's second step: the initiator's key",
+        brief: "the initiator's second step: the initiator's key and its digest",
         form: Form::Files(OnFiles {
             by: ALL_SCHEMES,
             inputs: &[
                 message("REPLY", Length::By(|z| z.reply), "the reply message"),
                 S,
             ],
-            outputs: &[KEY],
+            outputs: &[KEY, DIGEST_OF_KEY],
             call: calls::finish,
         }),
         more: "S is wiped afterwards. The key is raw: hash it, together with both messages, and\n\
-               confirm it with the peer before use.",
-        example: "wimmostry finish 1 left/reply left/s left/key",
+               confirm it with the peer before use. Equal keys have equal digests, so that both\n\
+               ends can show or compare DIGEST and never show a key; a digest that is used as the\n\
+               key is not shown.",
+        example: "wimmostry finish 1 left/reply left/s left/key left/digest",
     },
     Command {
         name: "noise",
@@ -370,14 +414,7 @@ pub const COMMANDS: &[Command] = &[
                 Length::AtMost(EXPAND_STREAM),
                 "a stream of bytes that both ends have",
             )],
-            outputs: &[Output {
-                kind: Kind::Numbers,
-                ..output(
-                    "OUT",
-                    Length::Fixed(EXPAND_NUMBERS),
-                    "public numbers below 12289",
-                )
-            }],
+            outputs: &[GROWN],
             call: calls::expand,
         }),
         more:
@@ -386,6 +423,54 @@ pub const COMMANDS: &[Command] = &[
                must use the same rule. 3,000 bytes are enough by rule 14, and 2,300 by rule 16, but\n\
                for one time in 10^8; 4096 are by either but for one in 10^100.",
         example: "wimmostry expand 14 stream a",
+    },
+    Command {
+        name: "grow",
+        brief: "NewHope's public numbers from its seed",
+        form: Form::Files(OnFiles {
+            by: By::Rule,
+            inputs: &[bytes(
+                "SEED",
+                Length::Fixed(GROW_SEED),
+                "NewHope's seed, the last bytes of the opening",
+            )],
+            outputs: &[GROWN],
+            call: calls::grow,
+        }),
+        more: "What expand by the rule gives of the first 24 blocks of 168 bytes of SHAKE-128 of\n\
+               the seed. Both ends grow the same numbers of one seed by one rule, so that no file\n\
+               of numbers has to be carried: tail -c 32 right/opening >right/seed",
+        example: "wimmostry grow 14 left/seed left/a",
+    },
+    Command {
+        name: "hash sha3-256",
+        brief: "the SHA3-256 of a file, by FIPS 202",
+        form: Form::Files(OnFiles {
+            by: By::Nothing,
+            inputs: &[HASHED],
+            outputs: &[Output {
+                secret: true,
+                ..output("OUT", Length::Fixed(DIGEST), "the hash")
+            }],
+            call: calls::sha3_256,
+        }),
+        more: "reply and finish give it of their key already.",
+        example: "wimmostry hash sha3-256 left/opening left/hash",
+    },
+    Command {
+        name: "hash shake128",
+        brief: "as many bytes of the SHAKE-128 of a file as are asked for, by FIPS 202",
+        form: Form::Files(OnFiles {
+            by: By::Length,
+            inputs: &[HASHED],
+            outputs: &[Output {
+                secret: true,
+                ..output("OUT", Length::Asked, "the bytes")
+            }],
+            call: calls::shake128,
+        }),
+        more: "A longer output begins with a shorter one.",
+        example: "wimmostry hash shake128 4032 left/seed left/stream",
     },
     Command {
         name: "bench",
@@ -434,9 +519,9 @@ pub const COMMANDS: &[Command] = &[
         form: Form::Words(OnWords {
             usage: "[COMMAND]",
             least: 0,
-            most: 1,
+            most: 2,
             run: help::run,
-            words: "  COMMAND  one of the commands; without it the overview\n",
+            words: "  COMMAND  one of the commands, or hash for both; without it the overview\n",
         }),
         more: "wimmostry COMMAND --help is the same; -h and --help alone are the overview.",
         example: "wimmostry help offer",
@@ -465,14 +550,13 @@ mod tests {
         for command in COMMANDS {
             let text = command.example.replace("\\\n", " ");
             let (_, text) = text.split_once("wimmostry ").expect("the program");
-            let words: Vec<&str> = text.split_whitespace().collect();
-            assert_eq!(words[0], command.name);
+            let words: Vec<OsString> = text.split_whitespace().map(OsString::from).collect();
+            let Ok((found, rest)) = words::command(&words) else {
+                panic!("{text}")
+            };
+            assert_eq!(found.name, command.name);
             let (least, most) = command.counts();
-            assert!(
-                (least..=most).contains(&(words.len() - 1)),
-                "{}",
-                command.name
-            );
+            assert!((least..=most).contains(&rest.len()), "{}", command.name);
         }
     }
 
@@ -492,5 +576,6 @@ mod tests {
             13824
         );
         assert_eq!(Length::AtMost(EXPAND_STREAM).largest(), 65536);
+        assert_eq!(HASHED.length.largest(), 65536);
     }
 }

@@ -98,7 +98,7 @@ pub fn refusal(own: &OnFiles, asked: u32, refused: Refused, given: &[Lent]) -> S
     let Refused { number, place } = refused;
     let sizes = own.by.sizes(asked);
     let detail = match number {
-        1 | 12 => Some(unknown(own.by, asked)),
+        1 | 12 => unknown(own.by, asked),
         2 => length(own, sizes.as_ref(), given),
         3 => room(own, sizes.as_ref()),
         4..=6 => entry(own, sizes.as_ref(), refused, given),
@@ -112,14 +112,19 @@ pub fn refusal(own: &OnFiles, asked: u32, refused: Refused, given: &[Lent]) -> S
 }
 
 /// The detail of refusals 1 and 12.
-pub fn unknown(by: By, asked: u32) -> String {
+fn unknown(by: By, asked: u32) -> Option<String> {
     match by {
-        By::Scheme(first, last) => format!("scheme={asked} expected={first}..{last}"),
+        By::Scheme(first, last) => Some(no_scheme(asked, first, last)),
         By::Rule => {
             let known = rules().map(|(number, _)| number);
-            format!("rule={asked} expected={}", listed(&known))
+            Some(format!("rule={asked} expected={}", listed(&known)))
         }
+        By::Length | By::Nothing => None,
     }
+}
+
+pub fn no_scheme(asked: u32, first: u32, last: u32) -> String {
+    format!("scheme={asked} expected={first}..{last}")
 }
 
 fn name(word: &str) -> String {
@@ -159,7 +164,8 @@ fn room(own: &OnFiles, sizes: Option<&Sizes>) -> Option<String> {
     ))
 }
 
-/// The stream, which is the first input, and how many numbers it should have held.
+/// The stream or seed, which is the first input, and how many numbers it should
+/// have held.
 fn ran_out(own: &OnFiles) -> Option<String> {
     let input = own.inputs.first()?;
     Some(format!(

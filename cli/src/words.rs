@@ -1,20 +1,45 @@
-//! Words of the command line: which command, which scheme or rule, which file.
+//! Words of the command line: which command, which number, which file.
 
 use crate::calls::{rules, SCHEMES};
 use crate::escape::shown;
 use crate::table::{Command, COMMANDS};
 use crate::tell::{self, Fault};
-use std::ffi::OsStr;
+use std::ffi::{OsStr, OsString};
 use std::path::{Path, PathBuf};
 
-pub fn command(word: &OsStr) -> Result<&'static Command, Fault> {
-    let found = COMMANDS.iter().find(|c| word == c.name);
-    found.ok_or_else(|| {
-        tell::words(format!(
+/// The command whose name the words begin with, and the words behind it.
+pub fn command(words: &[OsString]) -> Result<(&'static Command, &[OsString]), Fault> {
+    for count in 1..=words.len().min(LONGEST_NAME) {
+        let (name, rest) = words.split_at(count);
+        let whole = |c: &&Command| c.begins(name) && c.name.split(' ').count() == count;
+        if let Some(command) = COMMANDS.iter().find(whole) {
+            return Ok((command, rest));
+        }
+    }
+    let several = about(&words[..1])?.into_iter();
+    let usages = several.map(|c| format!("{} {}", c.name, c.usage()));
+    let usages: Vec<String> = usages.collect();
+    Err(tell::words(format!(
+        "{} is one of several: {}",
+        shown(&words[0]),
+        usages.join("; ")
+    )))
+}
+
+/// Words in the longest name of a command.
+const LONGEST_NAME: usize = 2;
+
+/// The commands whose names begin with these words.
+pub fn about(name: &[OsString]) -> Result<Vec<&'static Command>, Fault> {
+    let found: Vec<&Command> = COMMANDS.iter().filter(|c| c.begins(name)).collect();
+    if found.is_empty() {
+        let words: Vec<String> = name.iter().map(shown).collect();
+        return Err(tell::words(format!(
             "there is no command '{}'; 'wimmostry help' lists them",
-            shown(word)
-        ))
-    })
+            words.join(" ")
+        )));
+    }
+    Ok(found)
 }
 
 /// Whether a command can have so many words.
@@ -54,6 +79,19 @@ pub fn rule(word: &OsStr) -> Result<u32, Fault> {
     let [(one, _), (other, _)] = rules();
     number(word)
         .ok_or_else(|| tell::words(format!("RULE is {one} or {other}, not '{}'", shown(word))))
+}
+
+/// The longest output that is made: it is held in memory whole.
+pub const LONGEST: u32 = 1 << 24;
+
+pub fn length(word: &OsStr) -> Result<u32, Fault> {
+    let fitting = number(word).filter(|&n| n <= LONGEST);
+    fitting.ok_or_else(|| {
+        tell::words(format!(
+            "LENGTH is a number from 0 to {LONGEST}, not '{}'",
+            shown(word)
+        ))
+    })
 }
 
 /// Where an input comes from or an output goes to.

@@ -53,9 +53,18 @@ fn two_ends_hold_one_key() {
         room.says(0, &format!("offer {scheme} a s e seed opening"));
         room.says(
             0,
-            &format!("reply {scheme} opening a s1 e1 e2 coins reply right"),
+            &format!("reply {scheme} opening a s1 e1 e2 coins reply right right.digest"),
         );
-        room.says(0, &format!("finish {scheme} reply s left"));
+        let told = room.says(0, &format!("finish {scheme} reply s left left.digest"));
+        let key = room.read("left").len();
+        assert_eq!(told, format!("key_written={key}\ndigest_written=32\n"));
+        let digests = [room.read("left.digest"), room.read("right.digest")];
+        room.says(0, "hash sha3-256 left hash");
+        assert_eq!(room.read("hash"), digests[0]);
+        assert_eq!(
+            digests[0] == digests[1],
+            room.read("left") == room.read("right")
+        );
         let found = room.says(0, &format!("bench {scheme} a s e seed s1 e1 e2 coins"));
         assert_eq!(found == "agree\n", room.read("left") == room.read("right"));
     }
@@ -71,15 +80,22 @@ fn a_refusal_says_why_and_leaves_zeros() {
     let room = Room::new("refusal");
     room.says(0, "draw 1 s s");
     fs::write(room.0.join("key"), "an old key").unwrap();
-    let line = room.says(1, "finish 1 none s key");
+    fs::write(room.0.join("digest"), "an old digest").unwrap();
+    let line = room.says(1, "finish 1 none s key digest");
     assert_eq!(
         line,
         "refusal=2 place=0 input=reply length=0 expected=2048\n"
     );
-    assert_eq!(room.read("key"), [0; 32]);
-    let line = room.says(1, "finish 9 none s key");
+    assert_eq!(
+        (room.read("key"), room.read("digest")),
+        (vec![0; 32], vec![0; 32])
+    );
+    let line = room.says(1, "finish 9 none s key digest");
     assert_eq!(line, "refusal=1 place=0 scheme=9 expected=0..5\n");
-    assert_eq!(room.read("key"), []);
+    assert_eq!(
+        (room.read("key"), room.read("digest")),
+        (vec![], vec![0; 32])
+    );
 }
 
 #[test]
@@ -102,6 +118,49 @@ fn expand_goes_by_its_rule() {
 }
 
 #[test]
+fn grow_is_expand_on_24_blocks() {
+    let room = Room::new("grow");
+    room.says(0, "draw 1 seed seed");
+    let line = room.says(0, "hash shake128 4032 seed stream");
+    assert_eq!(line, "written=4032\n");
+    for rule in [14, 16] {
+        let line = room.says(0, &format!("grow {rule} seed grown"));
+        assert_eq!(line, "written=1024\n");
+        room.says(0, &format!("expand {rule} stream expanded"));
+        assert_eq!(room.read("grown"), room.read("expanded"));
+    }
+    let line = room.says(1, "grow 14 stream grown");
+    assert_eq!(
+        line,
+        "refusal=2 place=0 input=seed length=4032 expected=32\n"
+    );
+    assert_eq!(room.read("grown"), [0; 4096]);
+    let line = room.says(1, "grow 15 none grown");
+    assert_eq!(line, "refusal=12 place=0 rule=15 expected=14,16\n");
+}
+
+#[test]
+fn hashes() {
+    let room = Room::new("hash");
+    assert_eq!(room.says(0, "hash sha3-256 none out"), "written=32\n");
+    assert_eq!(room.read("out")[..4], [0xa7, 0xff, 0xc6, 0xf8]);
+    assert_eq!(room.says(0, "hash shake128 0 none out"), "written=0\n");
+    assert_eq!(room.read("out"), []);
+    fs::write(room.0.join("long"), [7; 70000]).unwrap();
+    let told = "refusal=2 place=0 input=input length=70000 at-most=65536\n";
+    assert_eq!(room.says(1, "hash sha3-256 long out"), told);
+    assert_eq!(room.read("out"), [0; 32]);
+    assert_eq!(room.says(1, "hash shake128 5 long out"), told);
+    assert_eq!(room.read("out"), [0; 5]);
+    for words in ["hash", "hash md5 none out", "hash shake128 -1 none out"] {
+        assert_eq!(room.run(words).status.code(), Some(2), "{words}");
+    }
+    let both = room.says(0, "help hash");
+    let pages = ["sha3-256", "shake128"].map(|name| room.says(0, &format!("hash {name} --help")));
+    assert_eq!(both, pages.join("\n"));
+}
+
+#[test]
 fn wrong_words_and_files_touch_nothing() {
     let room = Room::new("wrong");
     room.says(0, "draw 1 s s");
@@ -110,14 +169,16 @@ fn wrong_words_and_files_touch_nothing() {
     // wrong replace it
     symlink("/proc/self/fd/1", room.0.join("stdout")).unwrap();
     for (status, words) in [
-        (2, "finish 1 none s s"),
-        (2, "reply 1 none none none none none none s s"),
-        (2, "finish x none s s"),
+        (2, "finish 1 none s s digest"),
+        (2, "finish 1 none s key s"),
+        (2, "reply 1 none none none none none none s s digest"),
+        (2, "finish x none s s digest"),
         (2, "help me"),
         (2, "demo x"),
-        (3, "finish 1 missing s key"),
-        (3, "finish 1 none s missing/key"),
-        (3, "finish 1 none s stdout"),
+        (2, "hash sha3-256 s s"),
+        (3, "finish 1 missing s key digest"),
+        (3, "finish 1 none s missing/key digest"),
+        (3, "finish 1 none s stdout digest"),
     ] {
         let done = room.run(words);
         assert_eq!(done.status.code(), Some(status), "{words}: {done:?}");
