@@ -19,17 +19,20 @@ def lengths(scheme):
             "REPLY": [reply], "BYTES": list(dict.fromkeys(drawn))}
 
 
-def of_expand(rule, stream, number):
-    return {12: f"rule={rule} expected=14,16",
-            2: f"input=stream length={len(stream)} at-most=65536",
-            7: "input=stream expected=1024"}[number]
+def without_scheme(command, asked, data, number):
+    """The detail of a call that has no scheme and one input."""
+    (word,) = INPUTS[command]
+    length = "expected=32" if command == "grow" else "at-most=65536"
+    return {12: f"rule={asked} expected=14,16",
+            2: f"input={word.lower()} length={len(data[word])} {length}",
+            7: f"input={word.lower()} expected=1024"}[number]
 
 
 def detail(command, scheme, data, number, place):
     """data has the bytes of each input by its word."""
     given = [(w, entries(w, data[w])) for w in INPUTS[command]]
-    if command == "expand":
-        return of_expand(scheme, data["STREAM"], number)
+    if command not in OUTPUTS and command != "noise":
+        return without_scheme(command, scheme, data, number)
     if number == 1:
         return f"scheme={scheme} expected={1 if command == 'noise' else 0}..5"
     q, largest, *_ = SCHEMES[scheme]
@@ -82,9 +85,10 @@ class Both:
         return names
 
     def __call__(self, kind, command, scheme, given, sizes, secrets=()):
-        """The scheme or, of expand, the rule; the words of the inputs; the outputs' words and
-        lengths after a refusal. Returns what it said and wrote."""
-        before = [command, str(scheme), *map(self.name, given)]
+        """The scheme, the rule, the length asked for or nothing; the words of the inputs; the
+        outputs' words and lengths after a refusal. Returns what it said and wrote."""
+        asked = [] if scheme is None else [str(scheme)]
+        before = [*command.split(), *asked, *map(self.name, given)]
         results = []
         for program, mark in (([self.program], "1"), ([self.second, "box"], "2")):
             out = [self.name(w + mark) for w in sizes]

@@ -1,25 +1,32 @@
-"""The calls: good exchanges, damaged inputs, noise and expand."""
+"""The calls: good exchanges, damaged inputs, noise, expand, grow and the hashes."""
+import hashlib
+
 from .common import INPUTS, NUMBERS, OUTPUTS, SCHEMES, hold, run, words32
 
 
 def exchange(both, scheme, files):
     """A good exchange; gives the sizes of the outputs."""
     q, largest, key, public, secret, last, seed, coins, opening, reply, *_ = SCHEMES[scheme]
-    sizes = {"offer": {"MESSAGE": opening}, "reply": {"MESSAGE": reply, "KEY": key},
-             "finish": {"KEY": key}, "bench": {}}
+    sizes = {"offer": {"MESSAGE": opening}, "reply": {"MESSAGE": reply, "KEY": key, "DIGEST": 32},
+             "finish": {"KEY": key, "DIGEST": 32}, "bench": {}}
+    secrets = ["KEY", "DIGEST"]
     given = {c: [w if files.get(w) != b"" else "none" for w in INPUTS[c]] for c in OUTPUTS}
     both.put(files)
     text, (message,) = both("good", "offer", scheme, given["offer"], sizes["offer"])
     hold("good", text == b"written=%d\n" % opening and len(message) == opening, f"offer {scheme}")
     files["OPENING"] = message
     both.put(files)
-    text, (message, own) = both("good", "reply", scheme, given["reply"], sizes["reply"], ["KEY"])
-    lines = b"message_written=%d\nkey_written=%d\n" % (reply, key)
+    text, (message, own, digest) = both("good", "reply", scheme, given["reply"], sizes["reply"],
+                                        secrets)
+    lines = b"message_written=%d\nkey_written=%d\ndigest_written=32\n" % (reply, key)
     hold("good", text == lines and len(message) == reply, f"reply {scheme}")
+    hold("good", digest == hashlib.sha3_256(own).digest(), f"reply {scheme}: the digest")
     files["REPLY"] = message
     both.put(files)
-    text, (peer,) = both("good", "finish", scheme, given["finish"], sizes["finish"], ["KEY"])
-    hold("good", text == b"written=%d\n" % key and own == peer and len(peer) == key,
+    text, (peer, peer_digest) = both("good", "finish", scheme, given["finish"], sizes["finish"],
+                                     secrets)
+    lines = b"key_written=%d\ndigest_written=32\n" % key
+    hold("good", text == lines and (own, digest) == (peer, peer_digest) and len(peer) == key,
          f"finish {scheme}: the keys differ")
     text, _ = both("good", "bench", scheme, given["bench"], sizes["bench"])
     hold("good", text == b"agree\n", f"bench {scheme}")
@@ -49,7 +56,7 @@ def damages(word, data, scheme):
 
 def damaged(both, scheme, files, sizes, rand):
     for command in OUTPUTS:
-        secrets = [w for w in sizes[command] if w == "KEY"]
+        secrets = [w for w in sizes[command] if w != "MESSAGE"]
         for word in INPUTS[command]:
             if scheme > 2 and (command == "bench" or (command == "reply" and word == "A")):
                 continue
@@ -66,7 +73,8 @@ def damaged(both, scheme, files, sizes, rand):
             both.put({w: files[w] for w in pair})
     for command in OUTPUTS:
         for other in (6, 99, 4294967295):
-            both("damaged", command, other, INPUTS[command], dict.fromkeys(sizes[command], 0))
+            left = {w: 32 if w == "DIGEST" else 0 for w in sizes[command]}
+            both("damaged", command, other, INPUTS[command], left)
     # far beyond the largest of any scheme: what is there is told, of a stream as far as it was read
     both.put({"SEED": bytes(100000), "S": bytes(400000)})
     both("damaged", "offer", scheme, INPUTS["offer"], sizes["offer"])
@@ -89,6 +97,32 @@ def noise(both, rand):
             hold("noise", text.startswith(b"written=") == (length in good),
                  f"noise {scheme} {length}: {text!r}")
     expand(both, rand)
+    grow(both, rand)
+    hashes(both, rand)
+
+
+def grow(both, rand):
+    for length in (32, 32, 32, 0, 31, 33, 64, 5000):
+        seed = rand.randbytes(length)
+        both.put({"SEED": seed})
+        for rule in (14, 16, 0, 1, 13, 15, 17, 4294967295):
+            text, (numbers,) = both("grow", "grow", rule, ["SEED"], {"OUT": 4096})
+            number = 12 if rule not in (14, 16) else 0 if length == 32 else 2
+            expected = b"refusal=%d " % number if number else b"written=1024\n"
+            hold("grow", text.startswith(expected), f"grow {rule} {length}: {text!r}")
+            if not number:
+                both.put({"STREAM": hashlib.shake_128(seed).digest(24 * 168)})
+                _, (taken,) = both("grow", "expand", rule, ["STREAM"], {"OUT": 4096})
+                hold("grow", numbers == taken, f"grow {rule}: not what expand gives")
+
+
+def hashes(both, rand):
+    """Some lengths; runs/hashes has them all."""
+    for length in (0, 1, 136, 168, 1000, 65536, 65537, 90000):
+        both.put({"INPUT": rand.randbytes(length)})
+        both("hash", "hash sha3-256", None, ["INPUT"], {"OUT": 32}, ["OUT"])
+        for asked in (0, 1, 168, 169, 4032):
+            both("hash", "hash shake128", asked, ["INPUT"], {"OUT": asked}, ["OUT"])
 
 
 def expand(both, rand):

@@ -22,8 +22,12 @@ INPUTS = {
     "bench": ["A", "S", "E", "SEED", "S1", "E1", "E2", "COINS"],
     "noise": ["BYTES"],
     "expand": ["STREAM"],
+    "grow": ["SEED"],
+    "hash sha3-256": ["INPUT"],
+    "hash shake128": ["INPUT"],
 }
-OUTPUTS = {"offer": ["MESSAGE"], "reply": ["MESSAGE", "KEY"], "finish": ["KEY"], "bench": []}
+OUTPUTS = {"offer": ["MESSAGE"], "reply": ["MESSAGE", "KEY", "DIGEST"], "finish": ["KEY", "DIGEST"],
+           "bench": []}
 NUMBERS = {"A", "S", "E", "S1", "E1", "E2"}
 OLD = b"an old key that stays where it is" * 9
 

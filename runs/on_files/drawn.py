@@ -63,20 +63,26 @@ def drawn(both):
     os.remove(name)
     # the exchange that help shows
     text = run([both.box, "help"])[1].decode()
-    script = re.search(r"^    mkdir left right\n(    .*\n)*", text, re.M).group()
+    newhope = re.search(r"^    mkdir left right\n(    .*\n)*", text, re.M).group()
     for scheme in SCHEMES:
+        script = re.sub(r"(wimmostry \w+) 1 ", rf"\1 {scheme} ", newhope)
+        if scheme != 1:
+            # only NewHope's numbers grow: the others are drawn, and go to the replier as well
+            script = script.replace("grow 14 left/seed left/a", f"draw {scheme} a left/a")
+            script = script.replace("tail -c 32 right/opening >right/seed", "cp left/a right")
+            script = script.replace("wimmostry grow 14 right/seed right/a", "")
         folder = both.name(f"exchange{scheme}")
         os.mkdir(folder)
         os.mkdir(folder + "/bin")
         os.symlink(both.box, folder + "/bin/wimmostry")
         path = folder + "/bin:" + os.environ["PATH"]
-        done = run(["sh", "-e", "-c", re.sub(r"(wimmostry \w+) 1 ", rf"\1 {scheme} ", script)],
-                   cwd=folder, env={**os.environ, "PATH": path})
+        done = run(["sh", "-e", "-c", script], cwd=folder, env={**os.environ, "PATH": path})
         keys = [read(f"{folder}/{side}/key") if done[0] == 0 else b"" for side in ("left", "right")]
         fine = done[0] == 0 and done[2] == b"" and keys[0] == keys[1]
         fine = fine and len(keys[0]) == SCHEMES[scheme][2]
         hold("drawn", fine and any(keys[0]), f"the exchange of help in scheme {scheme}: {done}")
         left = sorted(os.listdir(folder + "/left") + os.listdir(folder + "/right"))
-        public = sorted(2 * ["a", "key", "opening", "reply"] + ["seed"])
+        seeds = (2 if scheme == 1 else 1) * ["seed"]
+        public = sorted(2 * ["a", "digest", "key", "opening", "reply"] + seeds)
         hold("drawn", left == public, f"left: {left}")
         shutil.rmtree(folder)

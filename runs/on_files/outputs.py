@@ -86,8 +86,17 @@ def clash(both, scheme, files):
 
 
 def modes(both, scheme, files):
-    name = both.name("KEY1")
-    key = SCHEMES[scheme][2]
+    for word, size in (("KEY1", SCHEMES[scheme][2]), ("DIGEST1", 32)):
+        closed(both, scheme, both.name(word), size)
+    # a message is for others too, as far as the umask goes
+    for mask in (0, 0o022, 0o077):
+        os.remove(both.name("MESSAGE1")) if os.path.exists(both.name("MESSAGE1")) else None
+        run(both.words("offer", scheme), umask=mask)
+        hold("modes", mode(both.name("MESSAGE1")) == 0o666 & ~mask, f"a message under {mask:o}")
+
+
+def closed(both, scheme, name, size):
+    """An output of finish, of this size, is for nobody else, whatever stood there."""
     for refused in (False, True):
         given = {"S": "none"} if refused else {}
         write(name, OLD)
@@ -97,7 +106,7 @@ def modes(both, scheme, files):
         with open(name, "rb") as handle:
             status, text, error = run(both.words("finish", scheme, given), umask=0)
             there = os.stat(name)
-            fine = there.st_mode & 0o777 == 0o600 and there.st_size == key
+            fine = there.st_mode & 0o777 == 0o600 and there.st_size == size
             fine = fine and there.st_uid == os.getuid()
             hold("modes", fine and status == refused,
                  f"a key over a file of mode 666: {there} {text!r}")
@@ -106,11 +115,6 @@ def modes(both, scheme, files):
         status, text, error = run(both.words("finish", scheme, given), umask=0)
         hold("modes", mode(name) == 0o600 and status == refused,
              f"a new key: {mode(name):o} {text!r}")
-    # a message is for others too, as far as the umask goes
-    for mask in (0, 0o022, 0o077):
-        os.remove(both.name("MESSAGE1")) if os.path.exists(both.name("MESSAGE1")) else None
-        run(both.words("offer", scheme), umask=mask)
-        hold("modes", mode(both.name("MESSAGE1")) == 0o666 & ~mask, f"a message under {mask:o}")
 
 
 def full_pipe():
@@ -182,18 +186,19 @@ def whole(both, scheme, files):
             status = program.wait(20)
         fine = status == -ending and read(name("KEY1")) == OLD
         hold("whole", fine and temporaries(folder) == [], f"{ending!r} while reading: {status}")
-    # ended while an output waits for its reader: the fresh file of the key is there, closed to
-    # others, and goes away
+    # ended while an output waits for its reader: the fresh files of key and digest are there,
+    # closed to others, and go away
     for ending in ENDINGS:
         both.old("reply")
         reader, writer = full_pipe()
         words = both.words("reply", scheme, out={"MESSAGE": "-"})
         with started(words, stdout=writer, umask=0) as program:
-            found = waited(lambda: temporaries(folder))
-            hold("whole", len(found) == 1 and mode(os.path.join(folder, found[0])) == 0o600,
-                 f"while writing: {found}")
-            # until it waits for the pipe, the file may still be empty
-            waited(lambda: os.stat(os.path.join(folder, found[0])).st_size == key)
+            waited(lambda: len(temporaries(folder)) == 2)
+            found = [os.path.join(folder, x) for x in temporaries(folder)]
+            fine = len(found) == 2 and all(mode(x) == 0o600 for x in found)
+            hold("whole", fine, f"while writing: {found}")
+            # until it waits for the pipe, a file may still be empty
+            waited(lambda: sum(os.stat(x).st_size for x in found) == key + 32)
             program.send_signal(ending)
             status = program.wait(20)
         os.close(reader)
@@ -225,7 +230,8 @@ def streams(both, scheme, files):
     expected = read(name("KEY1"))
     # out of standard output comes the key and nothing else
     status, text, error = run(both.words("finish", scheme, out={"KEY": "-"}))
-    hold("streams", (status, text, error) == (0, expected, b"written=%d\n" % key),
+    lines = b"key_written=%d\ndigest_written=32\n" % key
+    hold("streams", (status, text, error) == (0, expected, lines),
          f"- as output: {text!r} {error!r}")
     with open(name("o.bin"), "wb") as out:
         status, _, error = run(both.words("finish", scheme, out={"KEY": "-"}), stdout=out)
@@ -234,7 +240,7 @@ def streams(both, scheme, files):
     status, text, error = run(given, input=files["S"])
     hold("streams", (status, text) == (0, expected), f"- both ways: {text!r} {error!r}")
     status, text, error = run(both.words("reply", scheme, out={"MESSAGE": "-"}))
-    lines = b"message_written=%d\nkey_written=%d\n" % (len(files["REPLY"]), key)
+    lines = b"message_written=%d\n" % len(files["REPLY"]) + lines
     fine = (status, text, error) == (0, files["REPLY"], lines) and read(name("KEY1")) == expected
     hold("streams", fine, f"a message to -: {error!r}")
     # a refusal writes nothing there

@@ -74,7 +74,7 @@ def script(both):
     os.mkdir(tools)
     for tool in ("bash", "dirname", "readlink", "find"):
         os.symlink(shutil.which(tool), os.path.join(tools, tool))
-    given = ["finish", "9", "none", "none", both.name("KEY1")]
+    given = ["finish", "9", "none", "none", both.name("KEY1"), both.name("DIGEST1")]
     done = run([shutil.which("bash"), both.box, *given], env={"PATH": tools})
     expected = (1, b"refusal=1 place=0 scheme=9 expected=0..5\n", b"")
     hold("script", done == expected, f"without the kit: {done}")

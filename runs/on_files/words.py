@@ -59,38 +59,54 @@ def words(both):
         (["--version", "x"], b"there is no command"),
         (["offer"], b"offer takes SCHEME A S E SEED MESSAGE\n"),
         (["offer", *files[:5]], b"offer takes"), (["offer", *files[:7]], b"offer takes"),
-        (["reply", *files[:8]], b"reply takes"), (["finish", *files[:3]], b"finish takes"),
+        (["reply", *files], b"reply takes"), (["finish", *files[:4]], b"finish takes"),
         (["noise", *files[:2]], b"noise takes"),
         (["expand", "x", "y"], b"expand takes RULE STREAM OUT\n"),
+        (["grow", "14", "x"], b"grow takes RULE SEED OUT\n"),
+        (["hash"], b"hash is one of several: hash sha3-256 INPUT OUT; hash shake128 LENGTH INPUT"),
+        (["hash", "md5", "x", "y"], b"hash is one of several: "),
+        (["hash", "sha3-256", "x"], b"hash sha3-256 takes INPUT OUT\n"),
+        (["hash", "shake128", "x", "y"], b"hash shake128 takes LENGTH INPUT OUT\n"),
+        (["sha3-256", "x", "y"], b"there is no command 'sha3-256'"),
         (["bench", *files[:8]], b"bench takes"), (["demo", "1", "2"], b"demo takes [SCHEME]\n"),
         (["draw", "1", "s"], b"draw takes SCHEME WHAT OUT\n"), (["wipe"], b"wipe takes FILE\n"),
         (["version", "x"], b"version takes no words\n"),
-        (["help", "a", "b"], b"help takes [COMMAND]\n"),
+        (["help", "a", "b"], b"there is no command 'a b'"),
+        (["help", "hash", "md5"], b"there is no command 'hash md5'"),
+        (["help", "a", "b", "c"], b"help takes [COMMAND]\n"),
         (["draw", "1", "key", "x"], b"WHAT is a, s, e, seed, s1, e1, e2 or coins, not 'key'"),
         (["draw", "x", "s", "x"], b"SCHEME is"), (["wipe", "-"], b"wipe takes the name of a file"),
         (["demo", "x"], b"SCHEME is a number"),
-        (["finish", "1", "", "y", "z"], b"REPLY is an empty word"),
-        (["finish", "1", "x", "y", "none"], b"KEY is an output, and none is for inputs"),
-        *((["finish", w, "x", "y", "z"], f"SCHEME is a number from 0 to 5, not '{w}'".encode())
+        (["finish", "1", "", "y", "z", "d"], b"REPLY is an empty word"),
+        (["finish", "1", "x", "y", "none", "d"], b"KEY is an output, and none is for inputs"),
+        (["finish", "1", "x", "y", "z", "none"], b"DIGEST is an output, and none is for inputs"),
+        *((["finish", w, "x", "y", "z", "d"], f"SCHEME is a number from 0 to 5, not '{w}'".encode())
           for w in ("x", "", "-1", "01", "00", "1x", "4294967296", "12345678901")),
-        *((["expand", w, "x", "y"], f"RULE is 14 or 16, not '{w}'".encode())
+        *(([command, w, "x", "y"], f"RULE is 14 or 16, not '{w}'".encode())
+          for command in ("expand", "grow")
           for w in ("x", "", "-14", "014", "16x", "low", "4294967296")),
+        *((["hash", "shake128", w, "x", "y"],
+           f"LENGTH is a number from 0 to 16777216, not '{w}'".encode())
+          for w in ("x", "", "-1", "032", "32x", "16777217", "4294967296")),
     ]:
         status, text, error = run([both.box, *given])
         fine = status == 2 and text == b"" and error.startswith(b"wimmostry: " + said)
         fine = fine and error.count(b"\n") == 1
         hold("words", fine, f"{given}: {status} {text!r} {error!r}")
     # a name that no system takes
-    status, text, error = run([both.box, "finish", "1", "n" * 5000, "none", both.name("KEY1")])
+    status, text, error = run([both.box, "finish", "1", "n" * 5000, "none",
+                               both.name("KEY1"), both.name("DIGEST1")])
     hold("words", status == 3 and text == b"", f"a long name: {status} {error!r}")
     # wrong words leave all as it was
     for given in (["fnish", "1"], ["finish", "x"]):
         write(both.name("KEY1"), OLD)
-        status, _, _ = run([both.box, *given, *map(both.name, ("REPLY", "S", "KEY1"))])
+        names = map(both.name, ("REPLY", "S", "KEY1", "DIGEST1"))
+        status, _, _ = run([both.box, *given, *names])
         hold("words", status == 2 and read(both.name("KEY1")) == OLD,
              f"{given} touches the old key")
     # nothing lent
-    status, text, error = run([both.box, "finish", "1", "none", "none", both.name("KEY1")])
+    status, text, error = run([both.box, "finish", "1", "none", "none", both.name("KEY1"),
+                               both.name("DIGEST1")])
     expected = (1, b"refusal=2 place=0 input=reply length=0 expected=2048\n", b"")
     hold("words", (status, text, error) == expected and read(both.name("KEY1")) == bytes(32),
          f"nothing: {text!r}")
@@ -100,11 +116,13 @@ def words(both):
     hold("words", b"o old key stays" not in overview[1], "help promises that no old key stays")
     for given in ([], ["--help"], ["-h"]):
         hold("words", run([both.box, *given]) == overview, f"{given} is not the overview")
-    for name in re.findall(r"^  wimmostry (\w+)", overview[1].decode(), re.M):
-        page = run([both.box, "help", name])
+    names = re.findall(r"^  wimmostry ([a-z]\S*(?: [a-z]\S*)?)", overview[1].decode(), re.M)
+    hold("words", {"hash shake128", "hash sha3-256", "grow"} <= {*names}, f"commands: {names}")
+    for name in [*names, "hash"]:
+        page = run([both.box, "help", *name.split()])
         fine = page[0] == 0 and page[2] == b"" and page[1].startswith(b"wimmostry " + name.encode())
         hold("words", fine and b"\nExample:\n" in page[1], f"help {name}: {page}")
-        hold("words", run([both.box, name, "--help"]) == page, f"{name} --help")
+        hold("words", run([both.box, *name.split(), "--help"]) == page, f"{name} --help")
         hold("words", max(map(len, page[1].split(b"\n"))) <= 100, f"help {name} is too wide")
     told = [run([both.box, w]) for w in ("version", "--version")]
     fine = told[0] == told[1] and told[0][0] == 0
@@ -118,12 +136,14 @@ def words(both):
 def demo(both):
     for given, many in ((["demo"], 6), (["demo", "0"], 1), (["demo", "1"], 1), (["demo", "5"], 1)):
         status, text, error = run([both.box, *given], cwd=both.folder)
-        prints = re.findall(rb"^  .* fingerprint (\w{16})$", text, re.M)
+        prints = re.findall(rb"^  .* digest ([0-9a-f]{64})$", text, re.M)
         told = text.count(b"  keys agree\n") + text.count(b"  keys differ at bit ")
         same = sum(a == b for a, b in zip(prints[::2], prints[1::2]))
         fine = status == 0 and error == b"" and told == many and len(prints) == 2 * many
         fine = fine and len(re.findall(rb" bytes, \d+ us\n", text)) == 3 * many
         fine = fine and text.count(b"] opening -") == text.count(b"- reply [") == many
+        grown = text.count(b"  public numbers: 1024, grown from the seed by rule 14, ")
+        fine = fine and grown == (given in (["demo"], ["demo", "1"]))
         hold("demo", fine and text.count(b"  keys agree\n") == same, f"{given}: {text!r} {error!r}")
     status, text, error = run([both.box, "demo", "6"])
     expected = (1, b"refusal=1 place=0 scheme=6 expected=0..5\n", b"")
@@ -137,11 +157,13 @@ def shown(both, scheme):
     os.mkdir(inside)
     for given in ([bad], ["help", bad], ["demo", bad], ["wipe", bad],
                   ["draw", bad, "s", "x"], ["draw", "1", bad, "x"],
-                  ["finish", bad, "x", "x", "x"], ["finish", "1", bad, "none", "x"],
-                  ["expand", bad, "x", "x"],
-                  ["finish", "1", "none", "none", inside],
-                  ["finish", "1", "none", "none", inside + b"/x/y"],
-                  ["reply", "1", *["none"] * 6, inside + b"/x", inside + b"/x"], ["wipe", inside]):
+                  ["finish", bad, "x", "x", "x", "d"], ["finish", "1", bad, "none", "x", "d"],
+                  ["expand", bad, "x", "x"], ["grow", bad, "x", "x"],
+                  ["hash", "shake128", bad, "x", "y"], ["help", "hash", bad],
+                  ["finish", "1", "none", "none", inside, "d"],
+                  ["finish", "1", "none", "none", inside + b"/x/y", "d"],
+                  ["reply", "1", *["none"] * 6, inside + b"/x", inside + b"/x", "d"],
+                  ["wipe", inside]):
         status, text, error = run([both.box, *given])
         fine = status in (2, 3) and text == b"" and said in error and error.count(b"\n") == 1
         hold("shown", fine and all(0x20 <= c < 0x7f for c in error[:-1]),
