@@ -50,12 +50,12 @@ fn bytes(n: usize) -> Data {
     Data::zeros(Kind::Bytes, n)
 }
 
-/// NewHope's public numbers, and how long they took.
-fn grown(seed: &Data) -> (Data, u128) {
+/// NewHope's public numbers.
+fn grown(seed: &Data) -> Data {
     let mut out = [Data::zeros(Kind::Numbers, EXPAND_NUMBERS)];
-    let (_, time) = timed(calls::grow, LOW_BITS, &[seed], &mut out);
+    timed(calls::grow, LOW_BITS, &[seed], &mut out);
     let [a] = out;
-    (a, time)
+    a
 }
 
 /// The text of an exchange.
@@ -64,13 +64,9 @@ fn exchange(scheme: u32, sizes: &Sizes) -> Result<String, Fault> {
     let (s1, e1) = (draw::secret(scheme, sizes)?, draw::secret(scheme, sizes)?);
     let e2 = draw::last(scheme, sizes)?;
     let seed = Data::Bytes(random::bytes(sizes.seed)?);
-    let (a, public) = match scheme {
-        NEWHOPE => {
-            let (a, time) = grown(&seed);
-            let told = format!("grown from the seed by rule {LOW_BITS}, {time} us");
-            (a, told)
-        }
-        _ => (draw::public(sizes)?, "random and below q".to_string()),
+    let a = match scheme {
+        NEWHOPE => grown(&seed),
+        _ => draw::public(sizes)?,
     };
     let coins = Data::Bytes(random::bytes(sizes.coins)?);
 
@@ -89,7 +85,7 @@ fn exchange(scheme: u32, sizes: &Sizes) -> Result<String, Fault> {
     let (found, _) = timed(calls::bench, scheme, &all, &mut []);
 
     let mut rows = vec![
-        format!("public numbers: {}, {public}", a.len()),
+        format!("public numbers: {}, {}", a.len(), public(scheme)),
         format!("secrets and noise: {}", noise(scheme, sizes)),
         format!(
             "offer:  opening of {} bytes, {offer_time} us",
@@ -109,6 +105,13 @@ fn exchange(scheme: u32, sizes: &Sizes) -> Result<String, Fault> {
     let name = calls::name(scheme).unwrap_or_default();
     let rows: String = rows.iter().map(|row| format!("  {row}\n")).collect();
     Ok(format!("scheme {scheme}, {name}\n{rows}"))
+}
+
+fn public(scheme: u32) -> String {
+    match scheme {
+        NEWHOPE => format!("grown from the seed by rule {LOW_BITS}"),
+        _ => "random and below q".to_string(),
+    }
 }
 
 fn noise(scheme: u32, sizes: &Sizes) -> String {

@@ -142,7 +142,7 @@ def demo(both):
         fine = status == 0 and error == b"" and told == many and len(prints) == 2 * many
         fine = fine and len(re.findall(rb" bytes, \d+ us\n", text)) == 3 * many
         fine = fine and text.count(b"] opening -") == text.count(b"- reply [") == many
-        grown = text.count(b"  public numbers: 1024, grown from the seed by rule 14, ")
+        grown = text.count(b"  public numbers: 1024, grown from the seed by rule 14\n")
         fine = fine and grown == (given in (["demo"], ["demo", "1"]))
         hold("demo", fine and text.count(b"  keys agree\n") == same, f"{given}: {text!r} {error!r}")
     status, text, error = run([both.box, "demo", "6"])
