@@ -1,12 +1,13 @@
 //! The proved kernels and calls of Wimmostry from outside: `kernels` and the
 //! package `wimmostry` call them, `plain` and `botan` are what they are
-//! measured against, `draw` and `lent` make inputs, `rows` has what is compared
+//! measured against, `draw`, `lent` and `grown` make inputs, `rows` has what is compared
 //! with what, and `measure` and `count` do it.
 
 #[cfg(botan)]
 pub mod botan;
 pub mod count;
 pub mod draw;
+pub mod grown;
 pub mod kernels;
 pub mod lent;
 pub mod measure;

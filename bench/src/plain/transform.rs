@@ -18,7 +18,7 @@ fn power(base: u32, exponent: u32) -> u32 {
     (0..exponent).fold(1, |x, _| x * base % Q)
 }
 
-fn reversed(i: usize, bits: u32) -> usize {
+pub fn reversed(i: usize, bits: u32) -> usize {
     i.reverse_bits() >> (usize::BITS - bits)
 }
 

@@ -65,20 +65,25 @@ fn kept(rows: &mut dyn Rows, lent: &Lent, plain: &NewHope) {
     });
 }
 
-/// Botan's whole calls: they draw a, noise and coins from a seed and hash the
-/// key, and Finish has the transform of s already.
+/// Botan's whole calls: they make a from the seed and noise from random bytes,
+/// and Finish has the transform of s already. Both hash the key.
 #[cfg(botan)]
 fn botan(rows: &mut dyn Rows, lent: &Lent, peer: &str, boring: bool) {
     use crate::botan::Botan;
+    use crate::grown::{seeds, Random};
     let ours = Ours(lent);
     let mut x = Exchange::room(lent.scheme);
     x.run(&ours);
-    let theirs = Botan::new(boring);
+    let (random, seeds) = (Random::drawn(10), seeds());
+    let theirs = Botan::new(boring, &random);
+    let openings = theirs.openings(&seeds);
+    let (mut seed, mut received) = (seeds.iter().cycle(), openings.iter().cycle());
     let (mut opening, mut reply, mut key, mut own) = ([0; 1824], [0; 2048], [0; 32], [0; 32]);
-    rows.row("NewHope, Offer", peer, &mut || ours.offer(&mut x.opening), &mut || theirs.offer(&mut opening));
-    theirs.offer(&mut opening);
-    rows.row("NewHope, Reply", peer, &mut || ours.reply(&x.opening, &mut x.reply, &mut x.key), &mut || theirs.reply(&opening, &mut reply, &mut key));
-    theirs.reply(&opening, &mut reply, &mut key);
+    rows.row("NewHope, Offer", peer, &mut || ours.offer(&mut x.opening), &mut || theirs.offer(seed.next().unwrap(), &mut opening));
+    rows.row("NewHope, Reply", peer, &mut || ours.reply(&x.opening, &mut x.reply, &mut x.key), &mut || {
+        theirs.reply(received.next().unwrap(), &mut reply, &mut key);
+    });
+    theirs.reply(&openings[0], &mut reply, &mut key);
     rows.row("NewHope, Finish", peer, &mut || ours.finish(&x.reply, &mut x.peer), &mut || theirs.finish(&reply, &mut own));
     theirs.finish(&reply, &mut own);
     assert!(key == own, "Botan's ends have one key");
