@@ -14,6 +14,7 @@ impl Ours<'_> {
     }
 }
 
+/// The digest of the key comes beside it.
 impl Calls for Ours<'_> {
     fn offer(&self, message: &mut [u8]) {
         let l = self.0;
@@ -23,12 +24,12 @@ impl Calls for Ours<'_> {
 
     fn reply(&self, opening: &[u8], message: &mut [u8], key: &mut [u8]) {
         let l = self.0;
-        let done = wimmostry::raw::reply(l.number(), opening, &l.a, &l.s1, &l.e1, &l.e2, &l.coins, message, key);
+        let done = wimmostry::raw::reply(l.number(), opening, &l.a, &l.s1, &l.e1, &l.e2, &l.coins, message, key, &mut [0; 32]);
         assert!(done.is_ok());
     }
 
     fn finish(&self, reply: &[u8], key: &mut [u8]) {
-        let done = wimmostry::raw::finish(self.0.number(), reply, &self.0.s, key);
+        let done = wimmostry::raw::finish(self.0.number(), reply, &self.0.s, key, &mut [0; 32]);
         assert!(done.is_ok());
     }
 }

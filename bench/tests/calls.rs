@@ -6,7 +6,7 @@ use bench::lent::Lent;
 use bench::plain::bcns::Bcns;
 use bench::plain::frodo::Frodo;
 use bench::plain::newhope::NewHope;
-use bench::plain::{polynomial, sampling, Calls};
+use bench::plain::{keccak, polynomial, sampling, Calls};
 use second::calls;
 use second::expand::Rule;
 use second::schemes::{Family, Scheme, SIX};
@@ -27,8 +27,8 @@ fn room(scheme: &Scheme) -> Given {
 fn expected(l: &Lent) -> Given {
     let (number, mut given) = (l.scheme.number, room(l.scheme));
     calls::offer(number, &l.a, &l.s, &l.e, &l.seed, &mut given.opening).expect("good inputs");
-    calls::reply(number, &given.opening, &l.a, &l.s1, &l.e1, &l.e2, &l.coins, &mut given.reply, &mut given.key).expect("good inputs");
-    calls::finish(number, &given.reply, &l.s, &mut given.peer).expect("good inputs");
+    calls::reply(number, &given.opening, &l.a, &l.s1, &l.e1, &l.e2, &l.coins, &mut given.reply, &mut given.key, &mut [0; 32]).expect("good inputs");
+    calls::finish(number, &given.reply, &l.s, &mut given.peer, &mut [0; 32]).expect("good inputs");
     given
 }
 
@@ -114,5 +114,20 @@ fn expand() {
             let taken = sampling::expand(rule, &word.to_le_bytes(), &mut numbers);
             assert!(numbers[..taken] == second::expand::taken(rule, &word.to_le_bytes()), "{word}");
         }
+    }
+}
+
+/// Around the blocks of both hashes, in and out.
+#[test]
+fn hashes() {
+    for length in [0, 1, 7, 8, 32, 135, 136, 137, 167, 168, 169, 271, 272, 273, 335, 336, 337, 1000] {
+        let input = Draw::new(length as u32).bytes(length);
+        let (mut digest, mut bytes) = ([9; 32], vec![9; length]);
+        keccak::sha3_256(&input, &mut digest);
+        assert!(digest[..] == second::hash::sha3_256(&input), "{length}");
+        keccak::shake128(&input[..length.min(32)], &mut bytes);
+        assert!(bytes == second::hash::shake128(&input[..length.min(32)], length), "{length}");
+        keccak::shake128(&input, &mut digest);
+        assert!(digest[..] == second::hash::shake128(&input, 32), "{length}");
     }
 }

@@ -4,6 +4,7 @@
 
 pub mod bcns;
 pub mod frodo;
+pub mod keccak;
 pub mod matrix;
 pub mod newhope;
 pub mod packing;

@@ -2,6 +2,7 @@
 
 mod calls;
 mod kernels;
+mod seeds;
 mod tests;
 
 /// Takes each pair: measures it, counts it, or just numbers it.
@@ -16,8 +17,9 @@ pub struct Part {
     pub rows: fn(&mut dyn Rows),
 }
 
-pub static PARTS: [Part; 3] = [
+pub static PARTS: [Part; 4] = [
     Part { name: "kernels", ours: "kernel", theirs: "plain code", rows: kernels::rows },
     Part { name: "calls", ours: "call", theirs: "against", rows: calls::rows },
+    Part { name: "seeds", ours: "hash, or call from bytes", theirs: "against", rows: seeds::rows },
     Part { name: "tests", ours: "call refused by its last test", theirs: "against", rows: tests::rows },
 ];

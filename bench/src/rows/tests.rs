@@ -21,7 +21,7 @@ fn scheme(rows: &mut dyn Rows, scheme: &'static Scheme) {
     ours.offer(&mut opening);
     ours.reply(&opening, &mut reply, &mut key);
     let (s, e, e2) = (spoiled(&l.s), spoiled(&l.e), spoiled(&l.e2));
-    let (mut x, mut y, mut z) = (opening.clone(), reply.clone(), key.clone());
+    let (mut x, mut y, mut z, mut digest) = (opening.clone(), reply.clone(), key.clone(), [0; 32]);
     let whole = "the whole call";
 
     rows.row(&format!("{name}, Offer"), whole, &mut || assert!(wimmostry::raw::offer(number, &l.a, &l.s, &e, &l.seed, &mut x).is_err()), &mut || {
@@ -30,10 +30,10 @@ fn scheme(rows: &mut dyn Rows, scheme: &'static Scheme) {
     rows.row(
         &format!("{name}, Reply"),
         whole,
-        &mut || assert!(wimmostry::raw::reply(number, &opening, &l.a, &l.s1, &l.e1, &e2, &l.coins, &mut y, &mut z).is_err()),
+        &mut || assert!(wimmostry::raw::reply(number, &opening, &l.a, &l.s1, &l.e1, &e2, &l.coins, &mut y, &mut z, &mut digest).is_err()),
         &mut || ours.reply(&opening, &mut reply, &mut key),
     );
-    rows.row(&format!("{name}, Finish"), whole, &mut || assert!(wimmostry::raw::finish(number, &reply, &s, &mut z).is_err()), &mut || {
+    rows.row(&format!("{name}, Finish"), whole, &mut || assert!(wimmostry::raw::finish(number, &reply, &s, &mut z, &mut digest).is_err()), &mut || {
         ours.finish(&reply, &mut key);
     });
 }
