@@ -43,7 +43,7 @@ pub enum FinishAnswer {
     Refused(Refusal),
 }
 
-// The scheme that a number names. The output is zeroed first, so that whatever ends a call leaves zeros.
+// The scheme that a number names. The output, a call's last, is zeroed first, so that whatever ends the call leaves zeros.
 fn named(scheme: u32, out: &mut [u8]) -> Named
     ensures { λ r. ⌜ (r ≡ schemeOf scheme) × (left out ≡ replicate (room out) 0) ⌝ }
     ensures { λ _. ⌜ left out ≡ replicate (length (left out)) 0 ⌝ }
@@ -93,8 +93,7 @@ pub fn reply(
     ensures { λ r. ⌜ Replies (schemeOf scheme) opening a s1 e1 e2 coins message key digest r ⌝ }
 {
     replier::zero_outputs(message, key);
-    lists::zero_bytes(digest);
-    let Named::Is(known) = schemes::scheme_of(scheme) else {
+    let Named::Is(known) = named(scheme, digest) else {
         return ReplyAnswer::Refused(Refusal::NoScheme);
     };
     replier::reply_in(known, opening, a, s1, e1, e2, coins, message, key, digest)

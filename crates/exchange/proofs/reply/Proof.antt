@@ -11,13 +11,10 @@ use Rattle.exchange.proofs.reply.Tie as tie
 abbrev known : tie.After-reply-in → tie.After-known
 known c = search needs
 
-abbrev named : tie.After-known → tie.After-scheme-of
+abbrev named : tie.After-known → tie.After-named
 named c = search needs
 
-abbrev blank : tie.After-scheme-of → tie.After-zero-bytes
-blank c = search needs
-
-abbrev zeroed : tie.After-zero-bytes → tie.After-zero-outputs
+abbrev zeroed : tie.After-named → tie.After-zero-outputs
 zeroed c = search needs
 
 abbrev start : tie.After-zero-outputs → tie.Start
@@ -25,19 +22,19 @@ start c = search needs
 
 returns : tie.Need-returns
 returns c =
-    let n : tie.After-scheme-of = search needs in
-    let d = blank n in
-    let z = zeroed d .zero-outputs .ensures in
-    reply-refused (reply-unknown _ _ _ _ (sym (n .scheme-of .ensures) ∙ c .enum-told .given .1)) (z .0) (z .1) (d .zero-bytes .ensures)
+    let n : tie.After-named = search needs in
+    let m = n .named .ensures .0 in
+    let z = zeroed n .zero-outputs .ensures in
+    reply-refused (reply-unknown _ _ _ _ (sym (m .0) ∙ c .enum-told .given .1)) (z .0) (z .1) (m .1)
 
 reply-in-requires : tie.Need-reply-in-requires
 reply-in-requires c κs =
     let k : tie.After-known = search needs in
-    let d = blank (named k) in
-    let z = zeroed d in
+    let n = named k in
+    let z = zeroed n in
     let a = start z .args in (
       (zeros (length (a .message .now)) 0 (z .zero-outputs .ensures .0), zeros (length (a .key .now)) 0 (z .zero-outputs .ensures .1)),
-      zeros (length (a .digest .now)) 0 (d .zero-bytes .ensures),
+      n .named .ensures .1,
     )
 
 returns-2 : tie.Need-returns-2
@@ -45,20 +42,18 @@ returns-2 c =
     let p : tie.After-reply-in = search needs in
     let k = known p in
     let n = named k in
-    let d = blank n in
-    let z = zeroed d in
+    let z = zeroed n in
     let a = start z .args in
-    let e = sym (n .scheme-of .ensures) ∙ k .known .given .1 in
+    let e = sym (n .named .ensures .0 .0) ∙ k .known .given .1 in
     let l = zeros-long (length (a .message .now)) 0 (z .zero-outputs .ensures .0) in
     let m = zeros-long (length (a .key .now)) 0 (z .zero-outputs .ensures .1) in
-    let o = zeros-long (length (a .digest .now)) 0 (d .zero-bytes .ensures) in
+    let o = zeros-long (length (a .digest .now)) 0 (n .named .ensures .0 .1) in
     rw (e, ← l, ← m, ← o) (p .reply-in .ensures)
 
 pub reply-spec : {M : Type 1} → statement M
 reply-spec =
     tie.close
     (tie.spec
-    (λ c κs. search needs)
     (λ c κs. search needs)
     (λ c κs. search needs)
     (search needs)
