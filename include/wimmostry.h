@@ -97,11 +97,12 @@
  *
  * STACK
  *
- * What a call takes below its caller's frame at most, over all schemes, on Arm and on x86-64
- * alike, in KiB rounded up:
+ * What a call takes below its caller's frame at most, over all schemes, in KiB rounded up, on
+ * x86-64; on Arm no more, as far as it was measured there (wim_grow and the hashes were not):
  *
- *     wim_offer 54    wim_reply 90    wim_finish 80
- *     wim_noise 2     wim_expand 2    wim_bench 124
+ *     wim_offer 54      wim_reply 90       wim_finish 80
+ *     wim_noise 2       wim_expand 2       wim_grow 6
+ *     wim_shake128 2    wim_sha3_256 2     wim_bench 124
  *
  * Measured by filling a thread's stack with a pattern and looking, after an accepted call in each
  * scheme, how deep the pattern is gone (examples/c/stack.c, which examples/c/run runs). All local
