@@ -226,6 +226,7 @@ fn reply_card(n: u32)
     let coins = [0u8; 32];
     let mut message = [0u8; 2048];
     let mut key = [0u8; 32];
+    let mut digest = [0u8; 32];
     let answer = exchange::reply(
         1,
         &given,
@@ -236,6 +237,7 @@ fn reply_card(n: u32)
         &coins,
         &mut message,
         &mut key,
+        &mut digest,
     );
     field(b"- reply scheme=1 index=0 number=", n);
     text(b" : ");
@@ -252,7 +254,8 @@ fn finish_card(n: u32)
     let given = reply(n);
     let secret = [0i32; 1024];
     let mut key = [0u8; 32];
-    let answer = exchange::finish(1, &given, &secret, &mut key);
+    let mut digest = [0u8; 32];
+    let answer = exchange::finish(1, &given, &secret, &mut key, &mut digest);
     field(b"- finish scheme=1 index=0 number=", n);
     text(b" : ");
     match answer {
