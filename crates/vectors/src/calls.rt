@@ -30,7 +30,7 @@ pub enum Call {
 
 pub fn offer(
     scheme: u32,
-    lens: [usize; 12],
+    lens: [usize; 13],
     a: &[u32],
     values: &[i32],
     bytes: &[u8],
@@ -45,7 +45,7 @@ pub fn offer(
 
 fn offer_secrets(
     scheme: u32,
-    lens: [usize; 12],
+    lens: [usize; 13],
     a: &[u32],
     values: &[i32],
     seed: &[u8],
@@ -62,12 +62,13 @@ fn offer_secrets(
 
 pub fn reply(
     scheme: u32,
-    lens: [usize; 12],
+    lens: [usize; 13],
     a: &[u32],
     values: &[i32],
     bytes: &[u8],
     message: &mut [u8],
     key: &mut [u8],
+    digest: &mut [u8],
 ) -> ReplyAnswer {
     let n = cut(lens[A], a.len());
     let opening = bytes_part(OPENING, lens[OPENING], bytes.len());
@@ -85,18 +86,20 @@ pub fn reply(
         &bytes[c0..c1],
         message,
         key,
+        digest,
     )
 }
 
 fn reply_secrets(
     scheme: u32,
-    lens: [usize; 12],
+    lens: [usize; 13],
     opening: &[u8],
     a: &[u32],
     values: &[i32],
     coins: &[u8],
     message: &mut [u8],
     key: &mut [u8],
+    digest: &mut [u8],
 ) -> ReplyAnswer {
     let s = secret_part(S1, lens[S1], values.len());
     let e = secret_part(E1, lens[E1], values.len());
@@ -117,15 +120,17 @@ fn reply_secrets(
         coins,
         message,
         key,
+        digest,
     )
 }
 
 pub fn finish(
     scheme: u32,
-    lens: [usize; 12],
+    lens: [usize; 13],
     values: &[i32],
     bytes: &[u8],
     key: &mut [u8],
+    digest: &mut [u8],
 ) -> FinishAnswer {
     let reply = bytes_part(REPLY, lens[REPLY], bytes.len());
     let s = secret_part(S, lens[S], values.len());
@@ -133,12 +138,12 @@ pub fn finish(
     let r1 = reply.to;
     let s0 = s.from;
     let s1 = s.to;
-    exchange::finish(scheme, &bytes[r0..r1], &values[s0..s1], key)
+    exchange::finish(scheme, &bytes[r0..r1], &values[s0..s1], key, digest)
 }
 
 pub fn bench(
     scheme: u32,
-    lens: [usize; 12],
+    lens: [usize; 13],
     a: &[u32],
     values: &[i32],
     bytes: &[u8],
@@ -162,7 +167,7 @@ pub fn bench(
 
 fn bench_initiator(
     scheme: u32,
-    lens: [usize; 12],
+    lens: [usize; 13],
     a: &[u32],
     values: &[i32],
     seed: &[u8],
@@ -188,7 +193,7 @@ fn bench_initiator(
 
 fn bench_secrets(
     scheme: u32,
-    lens: [usize; 12],
+    lens: [usize; 13],
     a: &[u32],
     s: &[i32],
     e: &[i32],
@@ -237,8 +242,18 @@ fn put_reply(
     bytes: &mut [u8],
     message: &mut [u8],
     key: &mut [u8],
+    digest: &mut [u8],
 ) {
-    reply(k, lengths(Call::Reply, f), a, values, bytes, message, key);
+    reply(
+        k,
+        lengths(Call::Reply, f),
+        a,
+        values,
+        bytes,
+        message,
+        key,
+        digest,
+    );
     put_bytes(message, bytes_region(REPLY), bytes);
 }
 
@@ -246,5 +261,6 @@ fn put_reply(
 pub fn make_reply(k: u32, f: Fixed, a: &[u32], values: &[i32], bytes: &mut [u8]) {
     let mut message = [0u8; 13008];
     let mut key = [0u8; 160];
-    put_reply(k, f, a, values, bytes, &mut message, &mut key);
+    let mut digest = [0u8; 64];
+    put_reply(k, f, a, values, bytes, &mut message, &mut key, &mut digest);
 }

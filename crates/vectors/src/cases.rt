@@ -37,7 +37,7 @@ pub struct Setting {
     pub f: Fixed,
 }
 
-fn fixed_lengths(g: Setting) -> [usize; 12] {
+fn fixed_lengths(g: Setting) -> [usize; 13] {
     let call = g.call;
     lengths(call, g.f)
 }
@@ -47,7 +47,7 @@ fn numbered(
     g: Setting,
     scheme: u32,
     case: u32,
-    lens: [usize; 12],
+    lens: [usize; 13],
     a: &[u32],
     values: &[i32],
     bytes: &[u8],
@@ -129,7 +129,7 @@ fn length_case(
 fn length_cases(g: Setting, first: u32, a: &[u32], values: &[i32], bytes: &[u8]) -> u32 {
     let mut case = first;
     let mut t: usize = 0;
-    while t < 48 {
+    while t < 52 {
         case = length_case(g, case, t / 4, t % 4, a, values, bytes);
         t += 1;
     }
@@ -245,7 +245,7 @@ fn while_below(c: usize, end: usize, slot: usize) -> usize {
     if c < end { slot } else { SLOTS }
 }
 
-fn fault_lengths(g: Setting, c: usize) -> [usize; 12] {
+fn fault_lengths(g: Setting, c: usize) -> [usize; 13] {
     let lens = fixed_lengths(g);
     match c {
         0 | 1 => no_rooms(longer(lens)),

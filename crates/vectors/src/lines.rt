@@ -1,6 +1,7 @@
 // A line for a case: docs/VECTORS.md, "A line". An output is fresh in each case, and is the front of its buffer that the case lends.
 use crate::calls;
 use crate::calls::Call;
+use crate::shape::DIGEST;
 use crate::shape::KEY;
 use crate::shape::MESSAGE;
 use crate::shape::cut;
@@ -66,10 +67,22 @@ pub fn told(answer: Answer) {
     }
 }
 
+// How much is written of a key and of its digest.
+fn key_written(key: usize, digest: usize) {
+    count(b" key_written=", key);
+    count(b" digest_written=", digest);
+}
+
 fn told_finish(answer: FinishAnswer) {
     match answer {
-        FinishAnswer::Done(n) => told(Answer::Done(n.key)),
-        FinishAnswer::Refused(r) => told(Answer::Refused(r)),
+        FinishAnswer::Done(n) => {
+            accepted();
+            key_written(n.key, n.digest);
+        }
+        FinishAnswer::Refused(r) => {
+            refused(r);
+            key_written(0, 0);
+        }
     }
 }
 
@@ -78,20 +91,28 @@ fn told_reply(answer: ReplyAnswer) {
         ReplyAnswer::Done(n) => {
             accepted();
             count(b" message_written=", n.message);
-            count(b" key_written=", n.key);
+            key_written(n.key, n.digest);
         }
         ReplyAnswer::Refused(r) => {
             refused(r);
-            text(b" message_written=0 key_written=0");
+            text(b" message_written=0");
+            key_written(0, 0);
         }
     }
+}
+
+// The end of a line with a key and its digest.
+fn key_fields(key: &[u8], digest: &[u8]) {
+    field(b" key=", draw::check_bytes(key));
+    field(b" digest=", draw::check_bytes(digest));
+    text(b"\n");
 }
 
 fn offer_line(
     k: u32,
     scheme: u32,
     case: Case,
-    lens: [usize; 12],
+    lens: [usize; 13],
     a: &[u32],
     values: &[i32],
     bytes: &[u8],
@@ -108,7 +129,7 @@ fn offer_room(
     k: u32,
     scheme: u32,
     case: Case,
-    lens: [usize; 12],
+    lens: [usize; 13],
     a: &[u32],
     values: &[i32],
     bytes: &[u8],
@@ -122,7 +143,7 @@ fn offer_case(
     k: u32,
     scheme: u32,
     case: Case,
-    lens: [usize; 12],
+    lens: [usize; 13],
     a: &[u32],
     values: &[i32],
     bytes: &[u8],
@@ -135,34 +156,36 @@ fn reply_line(
     k: u32,
     scheme: u32,
     case: Case,
-    lens: [usize; 12],
+    lens: [usize; 13],
     a: &[u32],
     values: &[i32],
     bytes: &[u8],
     message: &mut [u8],
     key: &mut [u8],
+    digest: &mut [u8],
 ) {
-    let answer = calls::reply(scheme, lens, a, values, bytes, message, key);
+    let answer = calls::reply(scheme, lens, a, values, bytes, message, key, digest);
     head(b"reply", k, case);
     told_reply(answer);
     field(b" message=", draw::check_bytes(message));
-    field(b" key=", draw::check_bytes(key));
-    text(b"\n");
+    key_fields(key, digest);
 }
 
 fn reply_room(
     k: u32,
     scheme: u32,
     case: Case,
-    lens: [usize; 12],
+    lens: [usize; 13],
     a: &[u32],
     values: &[i32],
     bytes: &[u8],
     message: &mut [u8],
     key: &mut [u8],
+    digest: &mut [u8],
 ) {
     let n = cut(lens[MESSAGE], message.len());
     let m = cut(lens[KEY], key.len());
+    let d = cut(lens[DIGEST], digest.len());
     reply_line(
         k,
         scheme,
@@ -173,6 +196,7 @@ fn reply_room(
         bytes,
         &mut message[0..n],
         &mut key[0..m],
+        &mut digest[0..d],
     );
 }
 
@@ -180,13 +204,14 @@ fn reply_case(
     k: u32,
     scheme: u32,
     case: Case,
-    lens: [usize; 12],
+    lens: [usize; 13],
     a: &[u32],
     values: &[i32],
     bytes: &[u8],
 ) {
     let mut message = [165u8; 13008];
     let mut key = [165u8; 160];
+    let mut digest = [165u8; 64];
     reply_room(
         k,
         scheme,
@@ -197,6 +222,7 @@ fn reply_case(
         bytes,
         &mut message,
         &mut key,
+        &mut digest,
     );
 }
 
@@ -204,34 +230,46 @@ fn finish_line(
     k: u32,
     scheme: u32,
     case: Case,
-    lens: [usize; 12],
+    lens: [usize; 13],
     values: &[i32],
     bytes: &[u8],
     key: &mut [u8],
+    digest: &mut [u8],
 ) {
-    let answer = calls::finish(scheme, lens, values, bytes, key);
+    let answer = calls::finish(scheme, lens, values, bytes, key, digest);
     head(b"finish", k, case);
     told_finish(answer);
-    field(b" key=", draw::check_bytes(key));
-    text(b"\n");
+    key_fields(key, digest);
 }
 
 fn finish_room(
     k: u32,
     scheme: u32,
     case: Case,
-    lens: [usize; 12],
+    lens: [usize; 13],
     values: &[i32],
     bytes: &[u8],
     key: &mut [u8],
+    digest: &mut [u8],
 ) {
     let n = cut(lens[KEY], key.len());
-    finish_line(k, scheme, case, lens, values, bytes, &mut key[0..n]);
+    let m = cut(lens[DIGEST], digest.len());
+    finish_line(
+        k,
+        scheme,
+        case,
+        lens,
+        values,
+        bytes,
+        &mut key[0..n],
+        &mut digest[0..m],
+    );
 }
 
-fn finish_case(k: u32, scheme: u32, case: Case, lens: [usize; 12], values: &[i32], bytes: &[u8]) {
+fn finish_case(k: u32, scheme: u32, case: Case, lens: [usize; 13], values: &[i32], bytes: &[u8]) {
     let mut key = [165u8; 160];
-    finish_room(k, scheme, case, lens, values, bytes, &mut key);
+    let mut digest = [165u8; 64];
+    finish_room(k, scheme, case, lens, values, bytes, &mut key, &mut digest);
 }
 
 // The first differing bit counts from 1, 0 where the keys agree.
@@ -253,7 +291,7 @@ fn bench_case(
     k: u32,
     scheme: u32,
     case: Case,
-    lens: [usize; 12],
+    lens: [usize; 13],
     a: &[u32],
     values: &[i32],
     bytes: &[u8],
@@ -270,7 +308,7 @@ pub fn run(
     k: u32,
     scheme: u32,
     case: Case,
-    lens: [usize; 12],
+    lens: [usize; 13],
     a: &[u32],
     values: &[i32],
     bytes: &[u8],

@@ -29,7 +29,9 @@ pub const MESSAGE: usize = 10;
 
 pub const KEY: usize = 11;
 
-pub const SLOTS: usize = 12;
+pub const DIGEST: usize = 12;
+
+pub const SLOTS: usize = 13;
 
 // What a list holds: packed numbers; public numbers; secrets or noise; bytes that are carried unread or are an output.
 pub enum Kind {
@@ -56,11 +58,11 @@ pub fn has(call: Call, slot: usize) -> bool {
             _ => false,
         },
         Call::Reply => match slot {
-            0 | 2 | 6 | 7 | 8 | 9 | 10 | 11 => true,
+            0 | 2 | 6 | 7 | 8 | 9 | 10 | 11 | 12 => true,
             _ => false,
         },
         Call::Finish => match slot {
-            1 | 3 | 11 => true,
+            1 | 3 | 11 | 12 => true,
             _ => false,
         },
         Call::Bench => match slot {
@@ -71,7 +73,7 @@ pub fn has(call: Call, slot: usize) -> bool {
 }
 
 // The fixed lengths, and the rooms that a call's answers take.
-pub fn lengths(call: Call, f: Fixed) -> [usize; 12] {
+pub fn lengths(call: Call, f: Fixed) -> [usize; 13] {
     [
         f.opening,
         f.reply,
@@ -85,6 +87,7 @@ pub fn lengths(call: Call, f: Fixed) -> [usize; 12] {
         f.coins,
         message_of(call, f),
         f.key,
+        32,
     ]
 }
 
@@ -107,14 +110,14 @@ pub fn count(slot: usize, f: Fixed) -> usize {
     }
 }
 
-pub fn length_of(lens: [usize; 12], slot: usize) -> usize {
-    if slot < 12 { lens[slot] } else { 0 }
+pub fn length_of(lens: [usize; 13], slot: usize) -> usize {
+    if slot < 13 { lens[slot] } else { 0 }
 }
 
 // The lengths with one changed.
-pub fn with_length(lens: [usize; 12], slot: usize, n: usize) -> [usize; 12] {
+pub fn with_length(lens: [usize; 13], slot: usize, n: usize) -> [usize; 13] {
     let mut l = lens;
-    if slot < 12 {
+    if slot < 13 {
         l[slot] = n;
     }
     l
@@ -183,7 +186,7 @@ pub fn bytes_part(slot: usize, n: usize, most: usize) -> Part
 }
 
 // Every input one longer.
-pub fn longer(lens: [usize; 12]) -> [usize; 12] {
+pub fn longer(lens: [usize; 13]) -> [usize; 13] {
     [
         one_more(lens[0]),
         one_more(lens[1]),
@@ -197,6 +200,7 @@ pub fn longer(lens: [usize; 12]) -> [usize; 12] {
         one_more(lens[9]),
         lens[10],
         lens[11],
+        lens[12],
     ]
 }
 
@@ -210,8 +214,12 @@ pub fn less(n: usize) -> usize {
 }
 
 // Every output with room 0.
-pub fn no_rooms(lens: [usize; 12]) -> [usize; 12] {
-    with_length(with_length(lens, MESSAGE, 0), KEY, 0)
+pub fn no_rooms(lens: [usize; 13]) -> [usize; 13] {
+    with_length(
+        with_length(with_length(lens, MESSAGE, 0), KEY, 0),
+        DIGEST,
+        0,
+    )
 }
 
 // The message that a call takes. A call that takes none does not read it.

@@ -6,10 +6,10 @@ use Rattle.vectors.proofs.cases.length_cases.Statement.{statement}
 use Rattle.vectors.proofs.cases.length_cases.Tie as tie
 
 abbrev Inv-loop : tie.InvT-loop
-Inv-loop g first a values bytes case₀ t₀ case t = t ≤ 48
+Inv-loop g first a values bytes case₀ t₀ case t = t ≤ 52
 
 abbrev μ-loop : tie.MeasureT-loop
-μ-loop g first a values bytes case₀ t₀ case t = 48 - t
+μ-loop g first a values bytes case₀ t₀ case t = 52 - t
 
 loop-holds : tie.Need-loop-holds Inv-loop μ-loop
 loop-holds c = search needs
