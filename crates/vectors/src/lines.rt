@@ -31,7 +31,7 @@ pub fn count(name: &[u8], n: usize) {
     field(name, n as u64);
 }
 
-fn case_field(case: Case) {
+pub fn case_field(case: Case) {
     match case {
         Case::Number(n) => field(b" case=", n as u64),
         Case::Wide => text(b" case=wide"),

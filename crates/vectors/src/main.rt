@@ -2,10 +2,13 @@
 // What a program prints is run and not proved; each function here is proved safe: a part of a list is cut to what is there, and a store tests its index.
 mod calls;
 mod cases;
+mod hashes;
 mod inputs;
 mod lines;
 mod samples;
 mod shape;
+mod streams;
+mod walks;
 
 use calls::Call;
 use calls::make_opening;
@@ -111,5 +114,7 @@ fn main() {
     scheme(3);
     scheme(4);
     scheme(5);
-    samples::expand_cases();
+    streams::expand_cases();
+    streams::grow_cases();
+    hashes::cases();
 }

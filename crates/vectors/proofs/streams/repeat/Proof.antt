@@ -1,11 +1,11 @@
--- `vectors::samples::repeat` is safe and ends.
+-- `vectors::streams::repeat` is safe and ends.
 use Prim.Native.Nat.{_≤_, _-_}
 use borrow.Author.Needs.{needs}
 use lib.ListN.{length, length-set}
 use mathlib.Core.Path.{_≡_}
 use native.Mathlib.Omega.{arith}
-use Rattle.vectors.proofs.samples.repeat.Statement.{statement}
-use Rattle.vectors.proofs.samples.repeat.Tie as tie
+use Rattle.vectors.proofs.streams.repeat.Statement.{statement}
+use Rattle.vectors.proofs.streams.repeat.Tie as tie
 
 abbrev Inv-loop : tie.InvT-loop
 Inv-loop low high out₀ i₀ out i = (i ≤ length out) × (length out ≡ length out₀)
