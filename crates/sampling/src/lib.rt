@@ -1,6 +1,9 @@
 // Noise, Expand and Grow: values and public numbers from bytes that the caller lends (01, "Noise" and "The NewHope transform"; 02, request c). None has a `requires`: each ends
 // with an answer or a numbered refusal, given exactly when its condition holds; the whole output is zeroed first.
+ghost use mathlib.Core.Path.{_≡_};
+ghost use lib.ListN.{length, replicate};
 ghost use Rattle.schemes.specs.Schemes.{schemeOf};
+ghost use Rattle.lists.specs.Lent.{left, room};
 ghost use Rattle.noise.specs.Expand.{ruleOf};
 ghost use Rattle.sampling.specs.Noise.{Noises};
 ghost use Rattle.sampling.specs.Expand.{Expands};
@@ -24,12 +27,20 @@ pub fn noise(scheme: u32, bytes: &[u8], out: &mut [i32]) -> Answer
     sampler::noise_in(s, bytes, out)
 }
 
+// The rule that a number names. The output is zeroed first, so that whatever ends a call leaves zeros.
+fn named(rule: u32, out: &mut [u32]) -> Ruled
+    ensures { λ r. ⌜ (r ≡ ruleOf rule) × (left out ≡ replicate (room out) 0) ⌝ }
+    ensures { λ _. ⌜ left out ≡ replicate (length (left out)) 0 ⌝ }
+{
+    lists::zero_numbers(out);
+    noise::rule_of(rule)
+}
+
 // Expand: rule, stream. The first 1,024 numbers that the rule takes from it.
 pub fn expand(rule: u32, stream: &[u8], out: &mut [u32]) -> Answer
     ensures { λ r. ⌜ Expands (ruleOf rule) stream out r ⌝ }
 {
-    lists::zero_numbers(out);
-    let Ruled::By(name) = noise::rule_of(rule) else {
+    let Ruled::By(name) = named(rule, out) else {
         return Answer::Refused(Refusal::NoRule);
     };
     sampler::expand_by(name, stream, out)
@@ -39,8 +50,7 @@ pub fn expand(rule: u32, stream: &[u8], out: &mut [u32]) -> Answer
 pub fn grow(rule: u32, seed: &[u8], out: &mut [u32]) -> Answer
     ensures { λ r. ⌜ Grows (ruleOf rule) seed out r ⌝ }
 {
-    lists::zero_numbers(out);
-    let Ruled::By(name) = noise::rule_of(rule) else {
+    let Ruled::By(name) = named(rule, out) else {
         return Answer::Refused(Refusal::NoRule);
     };
     sampler::grow_by(name, seed, out)
