@@ -7,13 +7,14 @@
 --   all-pass        so does a sequence of such tests
 --   stays, goes-on  one test more, after a failure and after none
 --   over, under     the unpack step's verdict, by the first number that is too large
+--   blank-fails, not-blank-passes, not-blank-passed, not-blank-packed   a part that is blank, and one that is not; numbers tested for their bytes
 --   first, also     a sequence as the code goes through it
 --   held-all        what holds of each entry of the answer, and of zero, holds of the whole output
 --   then-assoc, failed, went-on   a sequence in two parts: the first fails, or the second decides
 use mathlib.Core.Path.{_≡_, refl, ap₂, _∙_}
 use mathlib.Core.Bool.{Bool, true, false, cond}
 use mathlib.Core.List.{List}
-use Prim.Native.Nat.{ℕ, _-_, _≤_, _<_}
+use Prim.Native.Nat.{ℕ, _-_, _*_, _^_, _≤_, _<_}
 use native.Mathlib.Omega.{arith}
 use lib.Dec.{leb, ltb}
 use lib.ListN.{length, getD, replicate}
@@ -23,9 +24,12 @@ use Rattle.lists.specs.Entries.{Below, Within}
 use Rattle.lists.specs.First.{firstOver, firstBeyond}
 use Rattle.lists.proofs.First.{all-below, all-within, none-found}
 use Rattle.lists.proofs.Same.{append-all, equal-all}
-use Rattle.front.specs.Front.{numberOf, numberIn, _then_, lengthIs, lengthUpTo, roomFor, publicsIn, messageIn, secretsIn, held}
+use Rattle.packing.specs.Packing.{packed}
+use Rattle.blank.specs.Blank.{blank}
+use Rattle.blank.proofs.Laws.{blank-packed}
+use Rattle.front.specs.Front.{numberOf, numberIn, _then_, lengthIs, lengthUpTo, roomFor, publicsIn, messageIn, notBlank, secretsIn, held}
 use Rattle.front.specs.declared.Refusal.{Refusal}
-use Rattle.front.specs.declared.Refusal.the-variants.{NoScheme, BadLength, Short, PublicOver, MessageOver, SecretBeyond, RanOut, NoRule}
+use Rattle.front.specs.declared.Refusal.the-variants.{NoScheme, BadLength, Short, PublicOver, MessageOver, SecretBeyond, RanOut, NoRule, Blank}
 use Rattle.front.specs.declared.Verdict.{Verdict}
 use Rattle.front.specs.declared.Verdict.the-variants.{Pass, Fail}
 
@@ -41,6 +45,7 @@ some (MessageOver k) = omega arith
 some (SecretBeyond k) = omega arith
 some (RanOut k) = omega arith
 some NoRule = omega arith
+some Blank = omega arith
 
 pub number-zero : (v : Verdict) → 0 ≡ numberIn v → v ≡ Pass
 number-zero Pass e = refl
@@ -91,6 +96,24 @@ over q xs k e h = rw (e, lt-ltb _ _ (rw e at h))
 pub under : (q : ℕ) (xs : List ℕ) (k : ℕ) → k ≡ firstOver q xs → length xs ≤ k → Pass ≡ messageIn q xs
 unfolding messageIn
 under q xs k e h = rw (le-ltb _ _ (rw e at h))
+
+-- ---- blank parts
+
+pub blank-fails : (part : List ℕ) → blank part ≡ true → notBlank part ≡ Fail Blank
+unfolding notBlank
+blank-fails part e = rw e
+
+pub not-blank-passes : (part : List ℕ) → blank part ≡ false → notBlank part ≡ Pass
+unfolding notBlank
+not-blank-passes part e = rw e
+
+pub not-blank-passed : (part : List ℕ) → notBlank part ≡ Pass → blank part ≡ false
+unfolding notBlank
+not-blank-passed part e = if-not _ _ e
+
+pub not-blank-packed : (w m : ℕ) (xs : List ℕ) → w * length xs ≡ 8 * m → Below (2 ^ w) xs → notBlank (packed w xs) ≡ notBlank xs
+unfolding notBlank
+not-blank-packed w m xs e h = rw (blank-packed w m xs e h)
 
 pub message-passed : (q : ℕ) (xs : List ℕ) → 0 < q → messageIn q xs ≡ Pass → Below q xs
 unfolding messageIn

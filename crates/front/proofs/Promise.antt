@@ -16,7 +16,7 @@ use lib.ListN.{length, take, drop, replicate, take-append-drop}
 use Rattle.lists.proofs.Same.{restored}
 use Rattle.front.specs.Front.{numberOf, placeOf, countIn}
 use Rattle.front.specs.declared.Refusal.{Refusal}
-use Rattle.front.specs.declared.Refusal.the-variants.{NoScheme, BadLength, Short, PublicOver, MessageOver, SecretBeyond, RanOut, NoRule}
+use Rattle.front.specs.declared.Refusal.the-variants.{NoScheme, BadLength, Short, PublicOver, MessageOver, SecretBeyond, RanOut, NoRule, Blank}
 use Rattle.front.specs.declared.Verdict.{Verdict}
 use Rattle.front.specs.declared.Verdict.the-variants.{Pass, Fail}
 use Rattle.front.proofs.Laws.{some}
@@ -81,7 +81,8 @@ refusalBy k p =
     (cond (eqb k 5) (MessageOver p)
     (cond (eqb k 6) (SecretBeyond p)
     (cond (eqb k 7) (RanOut p)
-    NoRule))))))
+    (cond (eqb k 12) NoRule
+    Blank)))))))
 
 back : (r : Refusal) → refusalBy (numberOf r) (placeOf r) ≡ r
 unfolding refusalBy
@@ -93,6 +94,7 @@ back (MessageOver k) = refl
 back (SecretBeyond k) = refl
 back (RanOut k) = refl
 back NoRule = refl
+back Blank = refl
 
 pub same-refusal : (a b : Refusal) → numberOf a ≡ numberOf b → placeOf a ≡ placeOf b → a ≡ b
 same-refusal a b e f = cc (back a, back b)

@@ -1,4 +1,4 @@
--- The refusals, the tests that give them, and what an output holds: 01, "Refusal numbers and their order".
+-- The refusals, the tests that give them, and what an output holds: 01, "Refusal numbers and their order", and 02.
 --   numberOf r, placeOf r   the number and the place of a refusal
 --   numberIn v, placeIn v   those of a verdict: 0 where all tests passed
 --   countIn v n             what a call writes: n, and 0 after a refusal
@@ -8,6 +8,8 @@
 --   roomFor room n          3: an output buffer is shorter than the answer
 --   publicsIn q xs          4: a lent public number is q or more
 --   messageIn q xs          5: an unpacked message number is q or more
+--   notBlank part           17: a packed part is blank
+--   receivedIn q part xs    the tests of a part that has come, with the numbers xs: 5, then 17
 --   secretsIn B xs          6: a secret or noise value lies beyond the largest noise
 --   held v xs room z        an output at exit: the answer xs and zeros (z) behind it; zeros from end to end after a refusal
 use mathlib.Core.Bool.{cond}
@@ -17,8 +19,9 @@ use lib.Dec.{eqb, leb, ltb}
 use lib.IntN.{ℤ}
 use lib.ListN.{length, replicate}
 use Rattle.lists.specs.First.{firstOver, firstBeyond}
+use Rattle.blank.specs.Blank.{blank}
 use Rattle.front.specs.declared.Refusal.{Refusal}
-use Rattle.front.specs.declared.Refusal.the-variants.{NoScheme, BadLength, Short, PublicOver, MessageOver, SecretBeyond, RanOut, NoRule}
+use Rattle.front.specs.declared.Refusal.the-variants.{NoScheme, BadLength, Short, PublicOver, MessageOver, SecretBeyond, RanOut, NoRule, Blank}
 use Rattle.front.specs.declared.Verdict.{Verdict}
 use Rattle.front.specs.declared.Verdict.the-variants.{Pass, Fail}
 
@@ -31,6 +34,7 @@ numberOf (MessageOver k) = 5
 numberOf (SecretBeyond k) = 6
 numberOf (RanOut k) = 7
 numberOf NoRule = 12
+numberOf Blank = 17
 
 abbrev pub placeOf : Refusal → ℕ
 placeOf NoScheme = 0
@@ -41,6 +45,7 @@ placeOf (MessageOver k) = k
 placeOf (SecretBeyond k) = k
 placeOf (RanOut k) = k
 placeOf NoRule = 0
+placeOf Blank = 0
 
 abbrev pub numberIn : Verdict → ℕ
 numberIn Pass = 0
@@ -73,6 +78,12 @@ publicsIn q xs = cond (ltb (firstOver q xs) (length xs)) (Fail (PublicOver (firs
 
 unfoldable pub messageIn : ℕ → List ℕ → Verdict
 messageIn q xs = cond (ltb (firstOver q xs) (length xs)) (Fail (MessageOver (firstOver q xs))) Pass
+
+unfoldable pub notBlank : List ℕ → Verdict
+notBlank part = cond (blank part) (Fail Blank) Pass
+
+unfoldable pub receivedIn : ℕ → List ℕ → List ℕ → Verdict
+receivedIn q part xs = messageIn q xs then notBlank part
 
 unfoldable pub secretsIn : ℕ → List ℤ → Verdict
 secretsIn B xs = cond (ltb (firstBeyond B xs) (length xs)) (Fail (SecretBeyond (firstBeyond B xs))) Pass

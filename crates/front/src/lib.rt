@@ -4,7 +4,7 @@ ghost use mathlib.Core.Path.{_≡_};
 ghost use Prim.Native.Nat.{_*_, _≤_, _<_};
 ghost use lib.ListN.{length};
 ghost use Rattle.packing.specs.Packing.{unpacked};
-ghost use Rattle.front.specs.Front.{_then_, lengthIs, lengthUpTo, roomFor, publicsIn, messageIn, secretsIn, numberOf, placeOf};
+ghost use Rattle.front.specs.Front.{_then_, lengthIs, lengthUpTo, roomFor, publicsIn, notBlank, receivedIn, secretsIn, numberOf, placeOf};
 
 pub enum Refusal {
     NoScheme,
@@ -15,6 +15,7 @@ pub enum Refusal {
     SecretBeyond(usize),
     RanOut(usize),
     NoRule,
+    Blank,
 }
 
 impl Refusal {
@@ -30,6 +31,7 @@ impl Refusal {
             Refusal::SecretBeyond(_) => 6,
             Refusal::RanOut(_) => 7,
             Refusal::NoRule => 12,
+            Refusal::Blank => 17,
         }
     }
 
@@ -45,6 +47,7 @@ impl Refusal {
             Refusal::SecretBeyond(k) => k,
             Refusal::RanOut(k) => k,
             Refusal::NoRule => 0,
+            Refusal::Blank => 0,
         }
     }
 }
@@ -133,10 +136,32 @@ pub fn secrets_in(v: Verdict, bound: u32, s: &[i32]) -> Verdict
     }
 }
 
-// The unpack step: the message's numbers, and whether each is below q.
+// Numbers that are about to be packed and sent are not all 0.
+pub fn not_blank(xs: &[u32]) -> Verdict
+    ensures { λ r. ⌜ r ≡ notBlank (now (xs .entry)) ⌝ }
+{
+    if blank::numbers(xs) {
+        Verdict::Fail(Refusal::Blank)
+    } else {
+        Verdict::Pass
+    }
+}
+
+// Nor are the bytes of a part that has come.
+fn part_not_blank(part: &[u8]) -> Verdict
+    ensures { λ r. ⌜ r ≡ notBlank (now (part .entry)) ⌝ }
+{
+    if blank::bytes(part) {
+        Verdict::Fail(Refusal::Blank)
+    } else {
+        Verdict::Pass
+    }
+}
+
+// The unpack step: the message's numbers, whether each is below q, and then whether its part is blank.
 pub fn take_message(w: u32, q: u32, bytes: &[u8], nums: &mut [u32]) -> Verdict
     requires { ⌜ (0 < w) × (w ≤ 32) × (8 * length (now bytes) ≡ w * length (now nums)) ⌝ }
-    ensures { λ r. ⌜ r ≡ messageIn q (unpacked w (length (now (nums .entry))) (now (bytes .entry))) ⌝ }
+    ensures { λ r. ⌜ r ≡ receivedIn q (now (bytes .entry)) (unpacked w (length (now (nums .entry))) (now (bytes .entry))) ⌝ }
     ensures { λ _. ⌜ now (nums .exit) ≡ unpacked w (length (now (nums .entry))) (now (bytes .entry)) ⌝ }
 {
     packing::unpack(w, bytes, nums);
@@ -144,6 +169,6 @@ pub fn take_message(w: u32, q: u32, bytes: &[u8], nums: &mut [u32]) -> Verdict
     if at < nums.len() {
         Verdict::Fail(Refusal::MessageOver(at))
     } else {
-        Verdict::Pass
+        part_not_blank(bytes)
     }
 }

@@ -27,7 +27,7 @@ use Rattle.schemes.specs.declared.Scheme.{Scheme}
 use Rattle.schemes.proofs.Laws.{tied}
 use Rattle.schemes.proofs.Sound.{sound}
 use Rattle.packing.specs.Packing.{packed, unpacked}
-use Rattle.front.specs.Front.{messageIn}
+use Rattle.front.specs.Front.{receivedIn}
 use Rattle.front.specs.declared.Verdict.{Verdict}
 use Rattle.ends.specs.Fit.{Counted}
 use Rattle.wire.specs.Wire.{opening, packedAt, seedAt, openedIn, repliedIn, numbersIn, hintsIn, coinsIn}
@@ -147,8 +147,8 @@ module _ (c : Scheme) {f : Fixed} (e : f ≡ fixedOf c) where
     numbers-hold o = let h = hold (numbers c) (ap length d ∙ o) l in rw e (h .0 .0, h .0 .1, h .1)
 
     -- the verdict v of the unpack step, and the numbers u that it has left
-    pub taken : {v : Verdict} {u : List ℕ} → (v ≡ messageIn (f .q) (unpacked (f .width) k p)) × (u ≡ unpacked (f .width) k p)
-        → (v ≡ messageIn (fixedOf c .q) (numbersIn c p′)) × (u ≡ numbersIn c p′)
+    pub taken : {v : Verdict} {u : List ℕ} → (v ≡ receivedIn (f .q) p (unpacked (f .width) k p)) × (u ≡ unpacked (f .width) k p)
+        → (v ≡ receivedIn (fixedOf c .q) p′ (numbersIn c p′)) × (u ≡ numbersIn c p′)
     unfolding numbersIn
     taken t = rw (← l, ← d, ← e) t
 

@@ -2,8 +2,9 @@
 --   numbers-long, key-long       the packed numbers of a message, and a key, are as long as the scheme says
 --   opening-length, reply-length   so are an opening and a reply
 --   numbers-back                 numbers come back from their packed part
---   opened-back, seed-back       those of an opening, and its seed
---   replied-back, hints-back     those of a reply, and its hints
+--   numbers-blank                they are blank where their packed part is
+--   opened-part, opened-back, seed-back      the packed part of an opening, its numbers, and its seed
+--   replied-part, replied-back, hints-back   those of a reply, and its hints
 --   opening-back, reply-back, opening-again, reply-again   what is stated in specs/Again
 --   hints-given, coins-given     hints and coins are as many as the scheme has, each within its bits
 --   message-counted              numbers that are not refused are as many as the scheme has, each below q
@@ -23,14 +24,14 @@ use Rattle.schemes.proofs.Laws.{tied}
 use Rattle.schemes.proofs.Sound.{sound}
 use Rattle.packing.specs.Packing.{packed, unpacked}
 use Rattle.packing.proofs.Laws.{unpacked-length, unpacked-below}
-use Rattle.front.specs.Front.{messageIn}
+use Rattle.front.specs.Front.{notBlank, receivedIn}
 use Rattle.front.specs.declared.Verdict.{Verdict}
 use Rattle.front.specs.declared.Verdict.the-variants.{Pass}
-use Rattle.front.proofs.Laws.{message-passed}
+use Rattle.front.proofs.Laws.{both, message-passed}
 use Rattle.ends.specs.Fit.{Counted}
 use Rattle.wire.specs.Wire.{opening, packedAt, openedIn, seedIn, repliedIn, numbersIn, hintsIn, coinsIn}
 use Rattle.wire.specs.Again.{OpeningAgain, ReplyAgain, OpeningBack, ReplyBack}
-use Rattle.wire.proofs.Whole.{numbers, hints, keys, long, back, again}
+use Rattle.wire.proofs.Whole.{numbers, hints, keys, long, back, as-blank, again}
 use Rattle.wire.proofs.Places.{opened-long, replied-long, hints-long}
 
 -- ---- an opening of a packed part p of k entries and a seed of j, by the family
@@ -75,6 +76,9 @@ module _ (c : Scheme) where
     unfolding numbersIn
     numbers-back = back (numbers c) h (sound c .q-room)
 
+    pub numbers-blank : notBlank (packed (fixedOf c .width) xs) ≡ notBlank xs
+    numbers-blank = as-blank (numbers c) h (sound c .q-room)
+
     -- ---- an opening
 
     module _ (seed : List ℕ) (ls : length seed ≡ fixedOf c .seed) where
@@ -82,9 +86,9 @@ module _ (c : Scheme) where
       unfolding seedIn opening
       seed-back = laid-seed (fixedOf c .packed) (fixedOf c .seed) seed (packed (fixedOf c .width) xs) ls numbers-long (familyOf c)
 
-      numbers-opened : numbersIn c (openedIn c (opening c seed (packed (fixedOf c .width) xs))) ≡ xs
+      part-opened : openedIn c (opening c seed (packed (fixedOf c .width) xs)) ≡ packed (fixedOf c .width) xs
       unfolding openedIn opening
-      numbers-opened = ap (numbersIn c) (laid-packed (fixedOf c .packed) (fixedOf c .seed) seed (packed (fixedOf c .width) xs) ls numbers-long (familyOf c)) ∙ numbers-back
+      part-opened = laid-packed (fixedOf c .packed) (fixedOf c .seed) seed (packed (fixedOf c .width) xs) ls numbers-long (familyOf c)
 
     -- ---- a reply
 
@@ -92,9 +96,12 @@ module _ (c : Scheme) where
       pub reply-length : length (packed (fixedOf c .width) xs ++ packed (fixedOf c .hintbits) hs) ≡ fixedOf c .reply
       reply-length = length-append (packed (fixedOf c .width) xs) (packed (fixedOf c .hintbits) hs) ∙ omega (arith, numbers-long, long (hints c) g, tied c .reply)
 
-      pub replied-back : numbersIn c (repliedIn c (packed (fixedOf c .width) xs ++ packed (fixedOf c .hintbits) hs)) ≡ xs
+      pub replied-part : repliedIn c (packed (fixedOf c .width) xs ++ packed (fixedOf c .hintbits) hs) ≡ packed (fixedOf c .width) xs
       unfolding repliedIn
-      replied-back = ap (numbersIn c) (take-at (packed (fixedOf c .width) xs) (packed (fixedOf c .hintbits) hs) (fixedOf c .packed) numbers-long) ∙ numbers-back
+      replied-part = take-at (packed (fixedOf c .width) xs) (packed (fixedOf c .hintbits) hs) (fixedOf c .packed) numbers-long
+
+      pub replied-back : numbersIn c (repliedIn c (packed (fixedOf c .width) xs ++ packed (fixedOf c .hintbits) hs)) ≡ xs
+      replied-back = ap (numbersIn c) replied-part ∙ numbers-back
 
       pub hints-back : hintsIn c (packed (fixedOf c .width) xs ++ packed (fixedOf c .hintbits) hs) ≡ hs
       unfolding hintsIn
@@ -102,9 +109,12 @@ module _ (c : Scheme) where
           ap (unpacked (fixedOf c .hintbits) (fixedOf c .mixed)) (drop-at (packed (fixedOf c .width) xs) (packed (fixedOf c .hintbits) hs) (fixedOf c .packed) numbers-long)
           ∙ back (hints c) g (le-refl _)
 
-  pub opened-back : (seed : List ℕ) {xs : List ℕ} → length seed ≡ fixedOf c .seed → Counted (fixedOf c .secret) (fixedOf c .q) xs
-      → numbersIn c (openedIn c (opening c seed (packed (fixedOf c .width) xs))) ≡ xs
-  opened-back seed ls h = numbers-opened h seed ls
+  module _ (seed : List ℕ) {xs : List ℕ} (ls : length seed ≡ fixedOf c .seed) (h : Counted (fixedOf c .secret) (fixedOf c .q) xs) where
+    pub opened-part : openedIn c (opening c seed (packed (fixedOf c .width) xs)) ≡ packed (fixedOf c .width) xs
+    opened-part = part-opened h seed ls
+
+    pub opened-back : numbersIn c (openedIn c (opening c seed (packed (fixedOf c .width) xs))) ≡ xs
+    opened-back = ap (numbersIn c) opened-part ∙ numbers-back h
 
   -- ---- what is taken from a message
 
@@ -117,11 +127,15 @@ module _ (c : Scheme) where
   coins-given coins = record { long = unpacked-length _ _ _; below = unpacked-below _ _ _ }
 
   -- u, taken from the packed part p with the verdict v
-  pub message-counted : (p : List ℕ) {u : List ℕ} {v : Verdict} → u ≡ numbersIn c p → v ≡ messageIn (fixedOf c .q) (numbersIn c p) → v ≡ Pass
+  pub message-counted : (p : List ℕ) {u : List ℕ} {v : Verdict} → u ≡ numbersIn c p → v ≡ receivedIn (fixedOf c .q) p (numbersIn c p) → v ≡ Pass
       → Counted (fixedOf c .secret) (fixedOf c .q) u
-  unfolding numbersIn
+  unfolding numbersIn receivedIn
   message-counted p e t h =
-      rw e (record { long = unpacked-length (fixedOf c .width) (fixedOf c .secret) p; below = message-passed _ _ (omega (arith, sound c .some)) (sym t ∙ h) })
+      rw e
+      (record {
+        long = unpacked-length (fixedOf c .width) (fixedOf c .secret) p;
+        below = message-passed _ _ (omega (arith, sound c .some)) (both _ _ (sym t ∙ h) .0);
+      })
 
 -- ---- there and back
 

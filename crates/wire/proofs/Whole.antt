@@ -5,6 +5,7 @@
 --   hold           what `unpack` asks: such bytes, and a buffer for their numbers
 --   long           how many bytes they take
 --   back           numbers packed and unpacked are the same
+--   as-blank       they are blank where their bytes are
 --   again          bytes unpacked and packed are the same
 use mathlib.Core.Path.{_≡_, sym, ap, _∙_}
 use mathlib.Core.List.{List}
@@ -19,6 +20,8 @@ use Rattle.schemes.proofs.Laws.{tied}
 use Rattle.schemes.proofs.Sound.{sound}
 use Rattle.packing.specs.Packing.{packed, unpacked}
 use Rattle.packing.proofs.Laws.{packed-length, unpack-pack, pack-unpack}
+use Rattle.front.specs.Front.{notBlank}
+use Rattle.front.proofs.Laws.{not-blank-packed}
 use Rattle.ends.specs.Fit.{Counted}
 
 pub record Whole (w n b : ℕ) : Type 0 where
@@ -59,6 +62,9 @@ module _ {w n b : ℕ} (h : Whole w n b) where
 
       pub back : unpacked w n (packed w xs) ≡ xs
       back = ap (λ (i : ℕ). unpacked w i (packed w xs)) (sym (p .long)) ∙ unpack-pack w b xs filled small
+
+      pub as-blank : notBlank (packed w xs) ≡ notBlank xs
+      as-blank = not-blank-packed w b xs filled small
 
   pub again : {p : List ℕ} → Below 256 p → length p ≡ b → packed w (unpacked w n p) ≡ p
   again {p} d l = pack-unpack w n p (omega (arith, h .whole)) d

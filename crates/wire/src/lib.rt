@@ -8,7 +8,7 @@ ghost use Rattle.lists.specs.Lent.{was, left};
 ghost use Rattle.schemes.specs.Schemes.{fixedOf};
 ghost use Rattle.packing.specs.Packing.{packed};
 ghost use Rattle.ends.specs.Fit.{Counted};
-ghost use Rattle.front.specs.Front.{messageIn};
+ghost use Rattle.front.specs.Front.{receivedIn};
 ghost use Rattle.wire.specs.Wire.{opening, packedAt, seedAt, openedIn, repliedIn, numbersIn, hintsIn, coinsIn};
 use front::Verdict;
 use schemes::Family;
@@ -45,10 +45,10 @@ pub fn lay_opening(scheme: Scheme, numbers: &[u32], seed: &[u8], out: &mut [u8])
     lists::copy_bytes(seed, &mut out[from..to]);
 }
 
-// The unpack step of Reply: the opening's numbers, and whether each is below q.
+// The unpack step of Reply: the opening's numbers, whether each is below q, and whether its packed part is blank.
 pub fn take_opening(scheme: Scheme, opening: &[u8], numbers: &mut [u32]) -> Verdict
     requires { ⌜ (length (now opening) ≡ fixedOf scheme .opening) × (length (now numbers) ≡ fixedOf scheme .secret) ⌝ }
-    ensures { λ r. ⌜ r ≡ messageIn (fixedOf scheme .q) (numbersIn scheme (openedIn scheme (was opening))) ⌝ }
+    ensures { λ r. ⌜ r ≡ receivedIn (fixedOf scheme .q) (openedIn scheme (was opening)) (numbersIn scheme (openedIn scheme (was opening))) ⌝ }
     ensures { λ _. ⌜ left numbers ≡ numbersIn scheme (openedIn scheme (was opening)) ⌝ }
 {
     let f = scheme.fixed();
@@ -58,10 +58,10 @@ pub fn take_opening(scheme: Scheme, opening: &[u8], numbers: &mut [u32]) -> Verd
     front::take_message(f.width, f.q, &opening[start..end], numbers)
 }
 
-// The unpack step of Finish: the reply's numbers, and whether each is below q.
+// The unpack step of Finish: the same of the reply.
 pub fn take_reply(scheme: Scheme, reply: &[u8], numbers: &mut [u32]) -> Verdict
     requires { ⌜ (length (now reply) ≡ fixedOf scheme .reply) × (length (now numbers) ≡ fixedOf scheme .secret) ⌝ }
-    ensures { λ r. ⌜ r ≡ messageIn (fixedOf scheme .q) (numbersIn scheme (repliedIn scheme (was reply))) ⌝ }
+    ensures { λ r. ⌜ r ≡ receivedIn (fixedOf scheme .q) (repliedIn scheme (was reply)) (numbersIn scheme (repliedIn scheme (was reply))) ⌝ }
     ensures { λ _. ⌜ left numbers ≡ numbersIn scheme (repliedIn scheme (was reply)) ⌝ }
 {
     let f = scheme.fixed();
