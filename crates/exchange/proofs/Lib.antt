@@ -1,4 +1,5 @@
 pub mod Digest
+pub mod Laid
 pub mod Offering
 pub mod Replying
 pub mod Finishing

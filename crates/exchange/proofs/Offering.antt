@@ -1,27 +1,29 @@
 -- Offer.
---   offer-opens      what passed tests say: the inputs are in range, and there is room for the opening
+--   offer-opens      what passed tests of what is lent say: the inputs are in range, and there is room for the opening
+--   offer-failed, offer-last-decides   its verdict by the test that decides
 --   opening-long     an opening is as long as the scheme says
 --   offer-unknown    its tests where the number names no scheme
 --   offer-refused    its promise after a refusal; offer-named: under another name and room
-use mathlib.Core.Path.{_≡_}
+use mathlib.Core.Path.{_≡_, refl, sym, _∙_}
 use mathlib.Core.List.{List}
 use Prim.Native.Nat.{ℕ, _≤_}
 use native.Mathlib.Omega.{arith}
 use lib.ListN.{length, replicate}
 use Rattle.schemes.specs.Schemes.{fixedOf}
 use Rattle.schemes.specs.declared.Named.{Named}
-use Rattle.schemes.specs.declared.Named.the-variants.{Unknown}
+use Rattle.schemes.specs.declared.Named.the-variants.{Is, Unknown}
 use Rattle.schemes.specs.declared.Scheme.{Scheme}
 use Rattle.schemes.proofs.Sound.{sound}
-use Rattle.front.specs.Front.{numberOf, placeOf}
+use Rattle.front.specs.Front.{numberOf, placeOf, notBlank}
+use Rattle.front.specs.declared.Verdict.{Verdict}
 use Rattle.front.specs.declared.Verdict.the-variants.{Pass, Fail}
 use Rattle.front.specs.declared.Refusal.{Refusal}
 use Rattle.front.specs.declared.Refusal.the-variants.{NoScheme}
-use Rattle.front.proofs.Laws.{both, length-passed, room-passed, publics-passed, secrets-passed}
+use Rattle.front.proofs.Laws.{both, length-passed, room-passed, publics-passed, secrets-passed, failed, went-on}
 use Rattle.front.proofs.Promise.{told-failed, wrote-failed}
 use Rattle.ends.proofs.Ranges.{offered-counted}
 use Rattle.wire.proofs.Travel.{opening-length, numbers-long}
-use Rattle.exchange.specs.Offer.{Offer, offerLengths, offerIn, offerTests, openingOf, Offered}
+use Rattle.exchange.specs.Offer.{Offer, offerLengths, offerIn, offeredPart, offerTests, openingOf, Offered}
 use Rattle.exchange.specs.Inside.{Opens}
 
 module _ (c : Scheme) (x : Offer) where
@@ -47,6 +49,14 @@ module _ (c : Scheme) (x : Offer) where
         },
         room-passed _ _ (roomy .1),
       )
+
+  pub offer-failed : (n : ℕ) {v : Verdict} {r : Refusal} → v ≡ offerIn c x n → v ≡ Fail r → offerTests (Is c) x n ≡ Fail r
+  unfolding offerTests
+  offer-failed n e f = failed _ e f
+
+  pub offer-last-decides : (n : ℕ) {v : Verdict} → offerIn c x n ≡ Pass → v ≡ notBlank (offeredPart c x) → offerTests (Is c) x n ≡ v
+  unfolding offerTests
+  offer-last-decides n t e = went-on _ refl t ∙ sym e
 
 pub offer-unknown : {c : Named} (x : Offer) (n : ℕ) → c ≡ Unknown → offerTests c x n ≡ Fail NoScheme
 unfolding offerTests

@@ -10,14 +10,14 @@ use Rattle.schemes.specs.declared.Family.{Family}
 use Rattle.schemes.specs.declared.Scheme.{Scheme}
 use Rattle.schemes.specs.declared.Scheme.the-variants.{Bcns, NewHope, Challenge, Classical, Recommended, Paranoid}
 use Rattle.packing.proofs.Laws.{unpacked-below}
-use Rattle.front.specs.Front.{messageIn}
+use Rattle.front.specs.Front.{messageIn, receivedIn}
 use Rattle.front.specs.declared.Verdict.the-variants.{Pass}
 use Rattle.front.proofs.Laws.{some, both, message-passes}
 use Rattle.front.proofs.Promise.{same-refusal, same-answer}
-use Rattle.front.proofs.Number.{and, passes, lengths, rooms, publics, secrets}
+use Rattle.front.proofs.Number.{and, passes, lengths, rooms, publics, secrets, blanks}
 use Rattle.wire.specs.Wire.{numbersIn}
 use Rattle.wire.proofs.Travel.{opening-again, reply-again}
-use Rattle.exchange.specs.Reply.{replyTests, replyLengths, replySizes, replyRest, replySecrets, openedOf}
+use Rattle.exchange.specs.Reply.{replyTests, replyLengths, replySizes, replyRest, replySecrets, replyLast, openedOf}
 use Rattle.exchange.specs.Reply as reply
 use Rattle.exchange.specs.Finish.{finishTests, finishSizes, finishRest, repliedOf}
 use Rattle.exchange.specs.Finish as finish
@@ -88,12 +88,13 @@ abbrev Other : ℕ → Type 0
 Other k = k ≡ 5 → ⊥
 
 pub never-five : NeverFive
-unfolding replyTests replySizes replyLengths replyRest replySecrets openedOf finishTests finishSizes finishRest repliedOf
+unfolding replyTests replySizes replyLengths replyRest replySecrets replyLast openedOf finishTests finishSizes finishRest repliedOf receivedIn
 never-five c d =
     let l = lengths Other (λ e. omega arith) (λ e. omega arith) in
     let m = rooms Other (λ e. omega arith) (λ e. omega arith) in
     let a = publics Other (λ e. omega arith) (λ e. omega arith) in
-    let s = secrets Other (λ e. omega arith) (λ e. omega arith) in (
+    let s = secrets Other (λ e. omega arith) (λ e. omega arith) in
+    let w = blanks Other (λ e. omega arith) (λ e. omega arith) in (
       λ x n k d′.
           and Other _ _
           (and Other _ _
@@ -105,9 +106,11 @@ never-five c d =
           (λ _. m _ _))
           (λ _. m _ _))
           (λ _. a _ _))
-          (λ _. and Other _ _ (passes Other (fits c d _) (λ e. omega arith)) (λ _. and Other _ _ (and Other _ _ (s _ _) (λ _. s _ _)) (λ _. s _ _))),
+          (λ _.
+          and Other _ _ (and Other _ _ (passes Other (fits c d _) (λ e. omega arith)) (λ _. w _))
+          (λ _. and Other _ _ (and Other _ _ (and Other _ _ (s _ _) (λ _. s _ _)) (λ _. s _ _)) (λ _. w _))),
       λ x k d′.
           and Other _ _
           (and Other _ _ (and Other _ _ (and Other _ _ (l _ _) (λ _. l _ _)) (λ _. m _ _)) (λ _. m _ _))
-          (λ _. and Other _ _ (passes Other (fits c d _) (λ e. omega arith)) (λ _. s _ _)),
+          (λ _. and Other _ _ (and Other _ _ (passes Other (fits c d _) (λ e. omega arith)) (λ _. w _)) (λ _. s _ _)),
     )

@@ -1,7 +1,7 @@
--- What Finish promises: 01, "The calls", "Bytes on the wire" and "Refusal numbers and their order"; its digest: 02, request c.
+-- What Finish promises: 01, "The calls", "Bytes on the wire" and "Refusal numbers and their order"; its digest and a blank part: 02, requests c and l.
 --   Finish                    what it is lent: reply message, secret s
 --   finishSizes c x k d, finishRest c x, finishTests   its tests in 01's order, with room for k bytes of key and d of digest: of lengths and rooms; of the
---                             reply's numbers and the secret; and all of them, by the scheme's number
+--                             reply and the secret; and all of them, by the scheme's number
 --   repliedOf c x             u, the numbers of the reply
 --   peerKeyFrom, peerKeyOf    the key, of u and of the reply: the bits of w = us under the hints; finishKey: by the scheme's number
 --   Finished                  its promise: what it tells, and what each output holds
@@ -16,7 +16,7 @@ use Rattle.schemes.specs.declared.Named.{Named}
 use Rattle.schemes.specs.declared.Named.the-variants.{Is, Unknown}
 use Rattle.lists.specs.Lent.{Lent, was, left, room}
 use Rattle.packing.specs.Packing.{packed}
-use Rattle.front.specs.Front.{numberOf, placeOf, _then_, lengthIs, roomFor, messageIn, secretsIn}
+use Rattle.front.specs.Front.{numberOf, placeOf, _then_, lengthIs, roomFor, receivedIn, secretsIn}
 use Rattle.front.specs.Promise.{Told, Wrote}
 use Rattle.front.specs.declared.Verdict.{Verdict}
 use Rattle.front.specs.declared.Verdict.the-variants.{Fail}
@@ -42,7 +42,7 @@ unfoldable pub repliedOf : Scheme → Finish → List ℕ
 repliedOf c x = numbersIn c (repliedIn c (x .reply))
 
 unfoldable pub finishRest : Scheme → Finish → Verdict
-finishRest c x = messageIn (fixedOf c .q) (repliedOf c x) then secretsIn (fixedOf c .largest) (x .s)
+finishRest c x = receivedIn (fixedOf c .q) (repliedIn c (x .reply)) (repliedOf c x) then secretsIn (fixedOf c .largest) (x .s)
 
 unfoldable pub finishTests : Named → Finish → ℕ → ℕ → Verdict
 finishTests Unknown x k d = Fail NoScheme

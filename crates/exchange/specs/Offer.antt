@@ -1,7 +1,9 @@
--- What Offer promises: 01, "The calls", "Bytes on the wire" and "Refusal numbers and their order".
+-- What Offer promises: 01, "The calls", "Bytes on the wire" and "Refusal numbers and their order"; a blank part: 02, request l.
 --   Offer                    what it is lent: public a, secret s, noise e, seed
---   offerLengths c x, offerIn c x n, offerTests   its tests in 01's order, with room for n bytes: of lengths; all of them in a scheme, and by its number
---   openingOf c x, offerMessage   the opening message: the seed, and b = as + e packed
+--   offerLengths c x, offerIn c x n, offerTests   its tests in 01's order, with room for n bytes: of lengths; of these, room and ranges; and all of them,
+--                            by the scheme's number, the part about to be sent last
+--   offeredPart c x          b = as + e packed
+--   openingOf c x, offerMessage   the opening message: the seed and that part
 --   Offered                  its promise: what it tells, and what its output holds
 --   Offers                   the same of a call: the slices that it is lent, and its answer
 use mathlib.Core.List.{List, []}
@@ -14,7 +16,7 @@ use Rattle.schemes.specs.declared.Named.{Named}
 use Rattle.schemes.specs.declared.Named.the-variants.{Is, Unknown}
 use Rattle.lists.specs.Lent.{Lent, was, left, room}
 use Rattle.packing.specs.Packing.{packed}
-use Rattle.front.specs.Front.{_then_, lengthIs, roomFor, publicsIn, secretsIn}
+use Rattle.front.specs.Front.{_then_, lengthIs, roomFor, publicsIn, notBlank, secretsIn}
 use Rattle.front.specs.Promise.{Told, Wrote}
 use Rattle.front.specs.Answers.{number, place, written}
 use Rattle.front.specs.declared.Answer.{Answer}
@@ -42,12 +44,15 @@ offerIn c x n =
     then publicsIn (fixedOf c .q) (x .a)
     then secretsIn (fixedOf c .largest) (x .s) then secretsIn (fixedOf c .largest) (x .e)
 
+abbrev pub offeredPart : Scheme → Offer → List ℕ
+offeredPart c x = packed (fixedOf c .width) (offered c (x .a) (x .s) (x .e))
+
 unfoldable pub offerTests : Named → Offer → ℕ → Verdict
 offerTests Unknown x n = Fail NoScheme
-offerTests (Is c) x n = offerIn c x n
+offerTests (Is c) x n = offerIn c x n then notBlank (offeredPart c x)
 
 unfoldable pub openingOf : Scheme → Offer → List ℕ
-openingOf c x = opening c (x .seed) (packed (fixedOf c .width) (offered c (x .a) (x .s) (x .e)))
+openingOf c x = opening c (x .seed) (offeredPart c x)
 
 unfoldable pub offerMessage : Named → Offer → List ℕ
 offerMessage Unknown x = []

@@ -1,8 +1,9 @@
--- What Reply promises: 01, "The calls", "Bytes on the wire" and "Refusal numbers and their order"; its digest: 02, request c.
+-- What Reply promises: 01, "The calls", "Bytes on the wire" and "Refusal numbers and their order"; its digest and a blank part: 02, requests c and l.
 --   Reply                     what it is lent: opening message, public a, s', e', e'', coins
 --   replyLengths c x, replySizes c x n k d, replyRest c x, replyTests   its tests in 01's order, with room for n bytes of message, k of key and d of
---                             digest: of lengths; of these, rooms and public numbers; of the opening's numbers and the secrets; and all of them, by the scheme's number
+--                             digest: of lengths; of these, rooms and public numbers; of the opening, the secrets and the part about to be sent; and all of them, by the scheme's number
 --   openedOf c x              b, the numbers of the opening
+--   repliedPart               u = as' + e' packed
 --   messageFrom, keyFrom      message and key, of b: u = as' + e' packed, and the hints of v = bs' + e''; the published bits of v
 --   messageOf, keyOf c x      the same of the opening; replyMessage, replyKey: by the scheme's number
 --   Replied                   its promise: what it tells, and what each output holds
@@ -17,7 +18,7 @@ use Rattle.schemes.specs.declared.Named.{Named}
 use Rattle.schemes.specs.declared.Named.the-variants.{Is, Unknown}
 use Rattle.lists.specs.Lent.{Lent, was, left, room}
 use Rattle.packing.specs.Packing.{packed}
-use Rattle.front.specs.Front.{numberOf, placeOf, _then_, lengthIs, roomFor, publicsIn, messageIn, secretsIn}
+use Rattle.front.specs.Front.{numberOf, placeOf, _then_, lengthIs, roomFor, publicsIn, notBlank, receivedIn, secretsIn}
 use Rattle.front.specs.Promise.{Told, Wrote}
 use Rattle.front.specs.declared.Verdict.{Verdict}
 use Rattle.front.specs.declared.Verdict.the-variants.{Fail}
@@ -56,8 +57,15 @@ openedOf c x = numbersIn c (openedIn c (x .opening))
 unfoldable pub replySecrets : Scheme → List ℤ → List ℤ → List ℤ → Verdict
 replySecrets c s' e' e'' = secretsIn (fixedOf c .largest) s' then secretsIn (fixedOf c .largest) e' then secretsIn (fixedOf c .largest) e''
 
+abbrev pub repliedPart : Scheme → List ℕ → List ℤ → List ℤ → List ℕ
+repliedPart c a s' e' = packed (fixedOf c .width) (replied c a s' e')
+
+-- and behind them that of the part about to be sent
+unfoldable pub replyLast : Scheme → List ℕ → List ℤ → List ℤ → List ℤ → Verdict
+replyLast c a s' e' e'' = replySecrets c s' e' e'' then notBlank (repliedPart c a s' e')
+
 unfoldable pub replyRest : Scheme → Reply → Verdict
-replyRest c x = messageIn (fixedOf c .q) (openedOf c x) then replySecrets c (x .s') (x .e') (x .e'')
+replyRest c x = receivedIn (fixedOf c .q) (openedIn c (x .opening)) (openedOf c x) then replyLast c (x .a) (x .s') (x .e') (x .e'')
 
 unfoldable pub replyTests : Named → Reply → ℕ → ℕ → ℕ → Verdict
 replyTests Unknown x n k d = Fail NoScheme
@@ -65,7 +73,7 @@ replyTests (Is c) x n k d = replySizes c x n k d then replyRest c x
 
 unfoldable pub messageFrom : Scheme → List ℕ → List ℕ → List ℤ → List ℤ → List ℤ → List ℕ → List ℕ
 messageFrom c b a s' e' e'' coins =
-    packed (fixedOf c .width) (replied c a s' e') ++ packed (fixedOf c .hintbits) (hints c (coinsIn c coins) (mixedValue c b s' e''))
+    repliedPart c a s' e' ++ packed (fixedOf c .hintbits) (hints c (coinsIn c coins) (mixedValue c b s' e''))
 
 unfoldable pub keyFrom : Scheme → List ℕ → List ℤ → List ℤ → List ℕ → List ℕ
 keyFrom c b s' e'' coins = packed (fixedOf c .keybits) (keys c (coinsIn c coins) (mixedValue c b s' e''))

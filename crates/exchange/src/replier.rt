@@ -1,5 +1,5 @@
-// Reply, once the scheme is known and all outputs hold zeros: lengths, rooms and public numbers, then the opening's numbers, then the secrets, in 01's
-// order; then message and key into the parts of the outputs that they take, and the key's digest.
+// Reply, once the scheme is known and all outputs hold zeros: lengths, rooms and public numbers, then the opening, then the secrets, in 01's order; then
+// the message's numbers, and, where they are not all 0, message and key into the parts of the outputs that they take, and the key's digest.
 ghost use mathlib.Core.Path.{_≡_};
 ghost use mathlib.Core.List.{_++_};
 ghost use Prim.Native.Nat.{_^_};
@@ -8,12 +8,13 @@ ghost use Rattle.schemes.specs.Schemes.{fixedOf};
 ghost use Rattle.schemes.specs.declared.Named.the-variants.{Is};
 ghost use Rattle.lists.specs.Lent.{was, left, room};
 ghost use Rattle.packing.specs.Packing.{packed};
+ghost use Rattle.front.specs.Front.{notBlank};
 ghost use Rattle.front.specs.declared.Verdict.the-variants.{Pass};
 ghost use Rattle.ends.specs.Fit.{Counted};
-ghost use Rattle.ends.specs.Values.{replied, mixedValue};
+ghost use Rattle.ends.specs.Values.{mixedValue};
 ghost use Rattle.ends.specs.Keys as settled;
 ghost use Rattle.wire.specs.Wire.{coinsIn};
-ghost use Rattle.exchange.specs.Reply.{replyOf, reply, replySizes, replySecrets, replyRest, messageFrom, keyFrom, messageOf, keyOf, Replies};
+ghost use Rattle.exchange.specs.Reply.{replyOf, reply, replySizes, repliedPart, replyLast, replyRest, messageFrom, keyFrom, messageOf, keyOf, Replies};
 ghost use Rattle.exchange.specs.Inside.{Laid, Settles, Mixes, Replying};
 use crate::ReplyAnswer;
 use crate::ReplyCounts;
@@ -53,7 +54,7 @@ fn settle(
     ends::settle::keys(scheme, flips, hints, v, entries);
 }
 
-// The message's numbers into u, then its bytes.
+// The message's numbers into u, then its bytes. A blank part is refused before anything is written.
 fn lay_message(
     scheme: Scheme,
     a: &[u32],
@@ -62,15 +63,21 @@ fn lay_message(
     hints: &[u32],
     u: &mut [u32],
     message: &mut [u8],
-)
+) -> Verdict
     requires { ⌜ Mixes scheme (now a) (now s1) (now e1) × Counted (fixedOf scheme .mixed) (2 ^ fixedOf scheme .hintbits) (now hints) ⌝ }
     requires { ⌜ (length (now u) ≡ fixedOf scheme .secret) × (length (now message) ≡ fixedOf scheme .reply) ⌝ }
-    ensures { λ _. ⌜
-        left message ≡ packed (fixedOf scheme .width) (replied scheme (was a) (was s1) (was e1)) ++ packed (fixedOf scheme .hintbits) (was hints)
-        ⌝ }
+    ensures { λ r. ⌜ r ≡ notBlank (repliedPart scheme (was a) (was s1) (was e1)) ⌝ }
+    ensures { λ r. ⌜ Laid r (repliedPart scheme (was a) (was s1) (was e1) ++ packed (fixedOf scheme .hintbits) (was hints)) message ⌝ }
 {
     ends::values::reply(scheme, a, s1, e1, u);
-    wire::lay_reply(scheme, u, hints, message);
+    let v = front::not_blank(u);
+    match v {
+        Verdict::Fail(r) => Verdict::Fail(r),
+        Verdict::Pass => {
+            wire::lay_reply(scheme, u, hints, message);
+            Verdict::Pass
+        }
+    }
 }
 
 // Message and key. The opening's numbers b, once they are read, give room for the message's; flips, v, hints and entries are room for what lies between.
@@ -88,17 +95,24 @@ fn lay(
     entries: &mut [u32],
     message: &mut [u8],
     key: &mut [u8],
-)
+) -> Verdict
     requires { ⌜ Settles scheme (now b) (now s1) (now e2) (now coins) × Mixes scheme (now a) (now s1) (now e1) ⌝ }
     requires { ⌜ (length (now flips) ≡ fixedOf scheme .groups) × (length (now v) ≡ fixedOf scheme .mixed) ⌝ }
     requires { ⌜ (length (now hints) ≡ fixedOf scheme .mixed) × (length (now entries) ≡ fixedOf scheme .groups) ⌝ }
     requires { ⌜ (length (now message) ≡ fixedOf scheme .reply) × (length (now key) ≡ fixedOf scheme .key) ⌝ }
-    ensures { λ _. ⌜ left message ≡ messageFrom scheme (was b) (was a) (was s1) (was e1) (was e2) (was coins) ⌝ }
-    ensures { λ _. ⌜ left key ≡ keyFrom scheme (was b) (was s1) (was e2) (was coins) ⌝ }
+    ensures { λ r. ⌜ r ≡ notBlank (repliedPart scheme (was a) (was s1) (was e1)) ⌝ }
+    ensures { λ r. ⌜ Laid r (messageFrom scheme (was b) (was a) (was s1) (was e1) (was e2) (was coins)) message ⌝ }
+    ensures { λ r. ⌜ Laid r (keyFrom scheme (was b) (was s1) (was e2) (was coins)) key ⌝ }
 {
     settle(scheme, b, s1, e2, coins, flips, v, hints, entries);
-    lay_message(scheme, a, s1, e1, hints, b, message);
-    wire::lay_key(scheme, entries, key);
+    let sent = lay_message(scheme, a, s1, e1, hints, b, message);
+    match sent {
+        Verdict::Fail(r) => Verdict::Fail(r),
+        Verdict::Pass => {
+            wire::lay_key(scheme, entries, key);
+            Verdict::Pass
+        }
+    }
 }
 
 // The same with room for n values and g groups, of which no scheme has more than 1024.
@@ -114,12 +128,13 @@ fn write(
     coins: &[u8],
     message: &mut [u8],
     key: &mut [u8],
-)
+) -> Verdict
     requires { ⌜ Settles scheme (now b) (now s1) (now e2) (now coins) × Mixes scheme (now a) (now s1) (now e1) ⌝ }
     requires { ⌜ (n ≡ fixedOf scheme .mixed) × (g ≡ fixedOf scheme .groups) ⌝ }
     requires { ⌜ (length (now message) ≡ fixedOf scheme .reply) × (length (now key) ≡ fixedOf scheme .key) ⌝ }
-    ensures { λ _. ⌜ left message ≡ messageFrom scheme (was b) (was a) (was s1) (was e1) (was e2) (was coins) ⌝ }
-    ensures { λ _. ⌜ left key ≡ keyFrom scheme (was b) (was s1) (was e2) (was coins) ⌝ }
+    ensures { λ r. ⌜ r ≡ notBlank (repliedPart scheme (was a) (was s1) (was e1)) ⌝ }
+    ensures { λ r. ⌜ Laid r (messageFrom scheme (was b) (was a) (was s1) (was e1) (was e2) (was coins)) message ⌝ }
+    ensures { λ r. ⌜ Laid r (keyFrom scheme (was b) (was s1) (was e2) (was coins)) key ⌝ }
 {
     let mut flips = [0u32; 1024];
     let mut v = [0u32; 1024];
@@ -139,7 +154,7 @@ fn write(
         &mut entries[..g],
         message,
         key,
-    );
+    )
 }
 
 // The secrets' tests, then message and key. What is refused leaves zeros.
@@ -156,7 +171,7 @@ fn with_secrets(
 ) -> Verdict
     requires { ⌜ Replying scheme (now a) (now s1) (now e1) (now e2) (now coins) (now message) (now key) ⌝ }
     requires { ⌜ Counted (fixedOf scheme .secret) (fixedOf scheme .q) (now b) ⌝ }
-    ensures { λ r. ⌜ r ≡ replySecrets scheme (was s1) (was e1) (was e2) ⌝ }
+    ensures { λ r. ⌜ r ≡ replyLast scheme (was a) (was s1) (was e1) (was e2) ⌝ }
     ensures { λ r. ⌜ Laid r (messageFrom scheme (was b) (was a) (was s1) (was e1) (was e2) (was coins)) message ⌝ }
     ensures { λ r. ⌜ Laid r (keyFrom scheme (was b) (was s1) (was e2) (was coins)) key ⌝ }
 {
@@ -177,8 +192,7 @@ fn with_secrets(
                 coins,
                 message,
                 key,
-            );
-            Verdict::Pass
+            )
         }
     }
 }

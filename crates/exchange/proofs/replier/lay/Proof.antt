@@ -1,13 +1,13 @@
--- `exchange::replier::lay` meets its contract: hints and entries, then the message, then the key.
-use mathlib.Core.Path.{ap, _∙_}
+-- `exchange::replier::lay` meets its contract: hints and entries, then the message, then, where its part is not blank, the key.
+use mathlib.Core.Path.{refl, sym, ap, _∙_}
 use mathlib.Core.List.{List, _++_}
 use Prim.Native.Nat.{ℕ}
 use Rattle.schemes.specs.Schemes.{fixedOf}
 use Rattle.packing.specs.Packing.{packed}
-use Rattle.ends.specs.Values.{replied}
 use Rattle.ends.proofs.Ranges.{mixed-counted}
 use Rattle.ends.proofs.Settling.{hints-counted, keys-counted}
-use Rattle.exchange.specs.Reply.{messageFrom, keyFrom}
+use Rattle.exchange.proofs.Laid.{laid-on}
+use Rattle.exchange.specs.Reply.{repliedPart, messageFrom, keyFrom}
 use borrow.Author.Needs.{needs}
 use Rattle.exchange.proofs.replier.lay.Statement.{statement}
 use Rattle.exchange.proofs.replier.lay.Tie as tie
@@ -46,14 +46,29 @@ lay-key-requires c κs =
 returns : tie.Need-returns
 unfolding messageFrom keyFrom
 returns c =
+    let s : tie.After-sent = search needs in
+    let m : tie.After-lay-message = search needs in
+    let w = s .sent .given .1 in
+    let q = m .lay-message .ensures in
+    (sym w ∙ q .0, (rw w at (q .1), refl))
+
+returns-2 : tie.Need-returns-2
+unfolding messageFrom keyFrom
+returns-2 c =
     let k : tie.After-lay-key = search needs in
+    let o : tie.After-enum-told = search needs in
     let m = laid k in
     let t = settled m in
     let a = start t .args in
-    let f = fixedOf (a .scheme) in (
-      m .lay-message .ensures
-          ∙ ap (λ (hs : List ℕ). packed (f .width) (replied (a .scheme) (a .a .now) (a .s1 .now) (a .e1 .now)) ++ packed (f .hintbits) hs) (t .settle .ensures .0),
-      k .lay-key .ensures ∙ ap (packed (f .keybits)) (t .settle .ensures .1),
+    let f = fixedOf (a .scheme) in
+    let w = o .enum-told .given .1 in
+    let q = m .lay-message .ensures in
+    let n = laid-on _ _ w (q .1) in (
+      sym w ∙ q .0,
+      (
+        n ∙ ap (λ (hs : List ℕ). repliedPart (a .scheme) (a .a .now) (a .s1 .now) (a .e1 .now) ++ packed (f .hintbits) hs) (t .settle .ensures .0),
+        k .lay-key .ensures ∙ ap (packed (f .keybits)) (t .settle .ensures .1),
+      ),
     )
 
 pub lay-spec : {M : Type 1} → statement M
@@ -62,6 +77,8 @@ lay-spec =
     (tie.spec
     settle-requires
     lay-message-requires
+    (search needs)
+    (search needs)
     lay-key-requires
     (search needs)
     (search needs)
@@ -69,5 +86,12 @@ lay-spec =
     (search needs)
     (search needs)
     (search needs)
+    returns
     (search needs)
-    returns)
+    (search needs)
+    (search needs)
+    (search needs)
+    (search needs)
+    (search needs)
+    (search needs)
+    returns-2)

@@ -1,9 +1,11 @@
--- `exchange::replier::with_secrets` meets its contract: the secrets' tests decide.
+-- `exchange::replier::with_secrets` meets its contract: the secrets' tests, then that of the part about to be sent.
 use mathlib.Core.Path.{_≡_, refl, sym, ap, _∙_}
 use Rattle.schemes.specs.Schemes.{fixedOf}
 use Rattle.schemes.specs.declared.Fixed.{Fixed}
 use Rattle.lists.proofs.Same.{zeros-long}
+use Rattle.front.proofs.Laws.{failed, went-on}
 use Rattle.ends.specs.Fit.{Small}
+use Rattle.exchange.specs.Reply.{replyLast}
 use Rattle.exchange.proofs.Replying.{secrets-small}
 use borrow.Author.Needs.{needs}
 use Rattle.exchange.proofs.replier.with_secrets.Statement.{statement}
@@ -30,17 +32,20 @@ write-requires c κs =
     )
 
 returns : tie.Need-returns
+unfolding replyLast
 returns c =
     let t : tie.After-reply-secrets = search needs in
     let v : tie.After-v = search needs in
-    (sym (v .v .given .1) ∙ t .reply-secrets .ensures, (refl, refl))
+    (sym (failed _ (t .reply-secrets .ensures) (v .v .given .1)), (refl, refl))
 
 returns-2 : tie.Need-returns-2
+unfolding replyLast
 returns-2 c =
     let w : tie.After-write = search needs in
     let o : tie.After-enum-told = search needs in
     let t : tie.After-reply-secrets = search needs in
-    (sym (o .enum-told .given .1) ∙ t .reply-secrets .ensures, w .write .ensures)
+    let q = w .write .ensures in
+    (q .0 ∙ sym (went-on _ (t .reply-secrets .ensures) (o .enum-told .given .1)), q .1)
 
 pub with-secrets-spec : {M : Type 1} → statement M
 with-secrets-spec =
