@@ -37,8 +37,8 @@ use Rattle.exchange.proofs.Offering.{opening-long, offer-unknown}
 use Rattle.exchange.proofs.Replying.{key-length, message-length}
 use Rattle.exchange.proofs.Finishing.{peer-key-length}
 use Rattle.agreement.specs.Run.{Run, offering, replying, finishing}
-use Rattle.agreement.specs.Exchange.{Ranged, Exchange, ownKey, peerKey, ownDigest, peerDigest, Accepted, Numbered, OneNumber}
-use Rattle.agreement.proofs.Tests.{ranged-by, offer-passes, reply-passes, finish-passes}
+use Rattle.agreement.specs.Exchange.{Sendable, Exchange, ownKey, peerKey, ownDigest, peerDigest, Accepted, Numbered, OneNumber}
+use Rattle.agreement.proofs.Tests.{sendable-by, offer-passes, reply-passes, finish-passes}
 
 -- ---- what a call gave
 
@@ -68,7 +68,7 @@ module _ (c : Scheme) where
   finish-gave g z = let v = passed (g .told) z in (wrote v (g .keys), wrote v (g .digests))
 
 pub record Gave {c : Scheme} {x : Run} (t : Exchange c x) : Type 0 where
-  pub ranged : Ranged c x
+  pub sendable : Sendable c x
   pub own : ownKey t ≡ keyOf c (replying c x)
   pub peer : peerKey t ≡ peerKeyOf c (finishing c x)
   pub own-digest : ownDigest t ≡ sha3 (keyOf c (replying c x))
@@ -79,7 +79,7 @@ gave {c} {x} t =
     let o = offer-gave c (t .offers) (t .offer-accepted) in
     let r = reply-gave c (rw (o .1) at (t .replies)) (t .reply-accepted) in
     let f = finish-gave c (rw (r .1) at (t .finishes)) (t .finish-accepted) in
-    record { ranged = ranged-by c x _ _ _ _ _ (o .0) (r .0); own = r .2; peer = f .0; own-digest = r .3; peer-digest = f .1 }
+    record { sendable = sendable-by c x _ _ _ _ _ (o .0) (r .0); own = r .2; peer = f .0; own-digest = r .3; peer-digest = f .1 }
 
 -- ---- inputs in range
 
@@ -87,7 +87,7 @@ gave {c} {x} t =
 abbrev into : ℕ → List ℕ → List ℕ
 into n xs = xs ++ drop n (replicate n 0)
 
-module _ (c : Scheme) (x : Run) (h : Ranged c x) where
+module _ (c : Scheme) (x : Run) (h : Sendable c x) where
   runs : Exchange c x
   unfolding offerMessage replyMessage replyKey finishKey
   runs =
@@ -95,7 +95,7 @@ module _ (c : Scheme) (x : Run) (h : Ranged c x) where
       let o = offer-passes c x h in
       let r = reply-passes c x h in
       let k = finish-passes c x h (f .key) 32 (le-refl _) (le-refl _) in
-      let opened = opening-long c (offering x) (h .seed) in
+      let opened = opening-long c (offering x) (h .ranged .seed) in
       let replied = message-length c (replying c x) in
       record {
         offerRoom = f .opening;
@@ -135,7 +135,7 @@ module _ (c : Scheme) (x : Run) (h : Ranged c x) where
       }
 
 pub accepted : Accepted
-accepted c x = (λ t. gave t .ranged, runs c x)
+accepted c x = (λ t. gave t .sendable, runs c x)
 
 -- ---- the scheme and its number
 

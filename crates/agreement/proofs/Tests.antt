@@ -1,8 +1,10 @@
 -- What the tests of the calls say of a run's inputs.
---   ranged-by        inputs that pass the tests of Offer and Reply are in range
+--   sendable-by      inputs that pass the tests of Offer and Reply are in range, and neither packed part is blank
 --   opened-is, replied-is, hints-are   the numbers and the hints of the run's messages come back
---   offer-passes, reply-passes, finish-passes   inputs in range pass the tests of each call, each with the room that it needs
+--   opening-received an opening that Offer has made passes the tests of a part that has come
+--   offer-passes, reply-passes, finish-passes   such inputs pass the tests of each call, each with the room that it needs
 use mathlib.Core.Path.{_≡_}
+use mathlib.Core.Bool.{false}
 use mathlib.Core.List.{List}
 use Prim.Native.Nat.{ℕ, _≤_}
 use native.Mathlib.Nat.{le-refl}
@@ -10,33 +12,37 @@ use lib.ListN.{length}
 use Rattle.schemes.specs.Schemes.{fixedOf}
 use Rattle.schemes.specs.declared.Named.the-variants.{Is}
 use Rattle.schemes.specs.declared.Scheme.{Scheme}
+use Rattle.blank.specs.Blank.{blank}
+use Rattle.front.specs.Front.{receivedIn}
 use Rattle.front.specs.declared.Verdict.the-variants.{Pass}
-use Rattle.front.proofs.Laws.{both, all-pass, length-passes, room-passes, below-passes, message-passes, within-passes}
+use Rattle.front.proofs.Laws.{both, all-pass, length-passes, room-passes, below-passes, message-passes, within-passes, not-blank-passes, not-blank-passed}
 use Rattle.ends.specs.Keys.{hints}
 use Rattle.ends.specs.Values.{offered, replied, mixedValue}
 use Rattle.ends.proofs.Ranges.{offered-counted, replied-counted, mixed-counted}
 use Rattle.ends.proofs.Settling.{hints-counted}
-use Rattle.wire.specs.Wire.{hintsIn, coinsIn}
-use Rattle.wire.proofs.Travel.{opened-back, replied-back, hints-back}
-use Rattle.exchange.specs.Offer.{offerLengths, offerIn, offerTests, openingOf}
-use Rattle.exchange.specs.Reply.{replyOf, replyLengths, replySizes, openedOf, replySecrets, replyRest, replyTests, messageFrom, messageOf}
+use Rattle.wire.specs.Wire.{openedIn, repliedIn, hintsIn, coinsIn}
+use Rattle.wire.proofs.Travel.{opened-part, opened-back, replied-part, replied-back, hints-back}
+use Rattle.exchange.specs.Offer.{offerLengths, offerIn, offeredPart, offerTests, openingOf}
+use Rattle.exchange.specs.Reply.{replyOf, replyLengths, replySizes, openedOf, replySecrets, repliedPart, replyLast, replyRest, replyTests, messageFrom, messageOf}
 use Rattle.exchange.specs.Finish.{finishSizes, repliedOf, finishRest, finishTests}
 use Rattle.exchange.proofs.Offering.{opening-long, offer-opens}
 use Rattle.exchange.proofs.Replying.{message-length, reply-sized, secrets-small}
 use Rattle.agreement.specs.Run.{Run, offering, replying, finishing}
-use Rattle.agreement.specs.Exchange.{Ranged}
+use Rattle.agreement.specs.Exchange.{Ranged, Sendable}
 
 module _ (c : Scheme) (x : Run) where
   -- of any opening m
-  pub ranged-by : (n i k d : ℕ) (m : List ℕ) → offerTests (Is c) (offering x) n ≡ Pass
-      → replyTests (Is c) (replyOf m (x .a) (x .s') (x .e') (x .e'') (x .coins)) i k d ≡ Pass → Ranged c x
-  unfolding offerTests replyTests replyRest
-  ranged-by n i k d m o r =
-      let opens = offer-opens c (offering x) n o .0 in
+  pub sendable-by : (n i k d : ℕ) (m : List ℕ) → offerTests (Is c) (offering x) n ≡ Pass
+      → replyTests (Is c) (replyOf m (x .a) (x .s') (x .e') (x .e'') (x .coins)) i k d ≡ Pass → Sendable c x
+  unfolding offerTests replyTests replyRest replyLast
+  sendable-by n i k d m o r =
+      let lent = both _ _ o in
+      let opens = offer-opens c (offering x) n (lent .0) .0 in
       let t = both _ _ r in
+      let last = both _ _ (both _ _ (t .1) .1) in
       let sizes = reply-sized c _ i k d (t .0) in
-      let small = secrets-small c (x .s') (x .e') (x .e'') (both _ _ (t .1) .1) in
-      record {
+      let small = secrets-small c (x .s') (x .e') (x .e'') (last .0) in
+      let ranged : Ranged c x = record {
         public = opens .public;
         secret = opens .secret;
         noise = opens .noise;
@@ -45,13 +51,24 @@ module _ (c : Scheme) (x : Run) where
         noise' = record { long = sizes .noise-long; within = small .1 };
         noise'' = record { long = sizes .last-long; within = small .2 };
         coins = sizes .coins-long;
-      }
+      } in
+      record { ranged = ranged; opening = not-blank-passed _ (lent .1); reply = not-blank-passed _ (last .1) }
 
   -- ---- what comes back
 
   pub opened-is : length (x .seed) ≡ fixedOf c .seed → openedOf c (replying c x) ≡ offered c (x .a) (x .s) (x .e)
   unfolding openedOf openingOf
   opened-is l = opened-back c (x .seed) l (offered-counted c (x .a) (x .s) (x .e))
+
+  -- the packed parts, as they came
+  opened-part-is : length (x .seed) ≡ fixedOf c .seed → openedIn c (openingOf c (offering x)) ≡ offeredPart c (offering x)
+  unfolding openingOf
+  opened-part-is l = opened-part c (x .seed) l (offered-counted c (x .a) (x .s) (x .e))
+
+  replied-part-is : repliedIn c (messageOf c (replying c x)) ≡ repliedPart c (x .a) (x .s') (x .e')
+  unfolding messageOf messageFrom
+  replied-part-is =
+      replied-part c (replied-counted c (x .a) (x .s') (x .e')) (hints-counted c (coinsIn c (x .coins)) _ (mixed-counted c _ (x .s') (x .e'') .long))
 
   pub replied-is : repliedOf c (finishing c x) ≡ replied c (x .a) (x .s') (x .e')
   unfolding repliedOf messageOf messageFrom
@@ -65,11 +82,21 @@ module _ (c : Scheme) (x : Run) where
 
   -- ---- what passes
 
-  module _ (h : Ranged c x) where
+  pub opening-received : length (x .seed) ≡ fixedOf c .seed → blank (offeredPart c (offering x)) ≡ false
+      → receivedIn (fixedOf c .q) (openedIn c (openingOf c (offering x))) (openedOf c (replying c x)) ≡ Pass
+  unfolding receivedIn
+  opening-received l b =
+      all-pass (rw (opened-is l) (message-passes (offered-counted c (x .a) (x .s) (x .e) .below))) (rw (opened-part-is l) (not-blank-passes _ b))
+
+  module _ (s : Sendable c x) where
+    h : Ranged c x
+    h = s .ranged
+
     pub offer-passes : offerTests (Is c) (offering x) (fixedOf c .opening) ≡ Pass
     unfolding offerTests offerIn offerLengths
     offer-passes =
         all-pass
+        (all-pass
         (all-pass
         (all-pass
         (all-pass
@@ -78,7 +105,8 @@ module _ (c : Scheme) (x : Run) where
         (room-passes (le-refl _)))
         (below-passes (h .public .below)))
         (within-passes (h .secret .within)))
-        (within-passes (h .noise .within))
+        (within-passes (h .noise .within)))
+        (not-blank-passes _ (s .opening))
 
     sizes-pass : replySizes c (replying c x) (fixedOf c .reply) (fixedOf c .key) 32 ≡ Pass
     unfolding replySizes replyLengths
@@ -99,16 +127,22 @@ module _ (c : Scheme) (x : Run) where
         (room-passes (le-refl _)))
         (below-passes (h .public .below))
 
+    reply-received : receivedIn (fixedOf c .q) (repliedIn c (messageOf c (replying c x))) (repliedOf c (finishing c x)) ≡ Pass
+    unfolding receivedIn
+    reply-received =
+        all-pass (rw replied-is (message-passes (replied-counted c (x .a) (x .s') (x .e') .below))) (rw replied-part-is (not-blank-passes _ (s .reply)))
+
     pub reply-passes : replyTests (Is c) (replying c x) (fixedOf c .reply) (fixedOf c .key) 32 ≡ Pass
-    unfolding replyTests replyRest replySecrets
+    unfolding replyTests replyRest replySecrets replyLast
     reply-passes =
         all-pass sizes-pass
-        (all-pass (rw (opened-is (h .seed)) (message-passes (offered-counted c (x .a) (x .s) (x .e) .below)))
-        (all-pass (all-pass (within-passes (h .secret' .within)) (within-passes (h .noise' .within))) (within-passes (h .noise'' .within))))
+        (all-pass (opening-received (h .seed) (s .opening))
+        (all-pass (all-pass (all-pass (within-passes (h .secret' .within)) (within-passes (h .noise' .within))) (within-passes (h .noise'' .within)))
+        (not-blank-passes _ (s .reply))))
 
     pub finish-passes : (k d : ℕ) → fixedOf c .key ≤ k → 32 ≤ d → finishTests (Is c) (finishing c x) k d ≡ Pass
     unfolding finishTests finishSizes finishRest
     finish-passes k d l m =
         all-pass
         (all-pass (all-pass (all-pass (length-passes (message-length c (replying c x))) (length-passes (h .secret .long))) (room-passes l)) (room-passes m))
-        (all-pass (rw replied-is (message-passes (replied-counted c (x .a) (x .s') (x .e') .below))) (within-passes (h .secret .within)))
+        (all-pass reply-received (within-passes (h .secret .within)))

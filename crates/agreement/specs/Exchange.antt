@@ -1,13 +1,15 @@
 -- One exchange between two boxes, by what the calls promise and nothing else: 01, "The calls", and demand 3.
 --   Ranged c x     the inputs x have the lengths and the ranges of the scheme
+--   Sendable c x   they are, and neither packed part is blank (02, request l)
 --   Exchange c x   Offer and Finish in the one box and Reply in the other, in the scheme c and on the inputs x, and none of them refused
 --   ownKey t       the replier's key: the bytes that Reply says it wrote
 --   peerKey t      the initiator's key: those that Finish says it wrote
 --   ownDigest, peerDigest t   the digests, likewise
---   Accepted       lengths and ranges decide, nothing else: the inputs of an exchange are in range, and on any in range there is an exchange
+--   Accepted       lengths, ranges and blank parts decide, nothing else: the inputs of an exchange are sendable, and on any such there is an exchange
 --   Numbered       a call that refuses nothing was given a scheme
 --   OneNumber      which its number names, and no other number
 use mathlib.Core.Path.{_≡_}
+use mathlib.Core.Bool.{false}
 use mathlib.Core.List.{List}
 use mathlib.Core.Logic.{_↔_}
 use Prim.Native.Nat.{ℕ}
@@ -19,8 +21,9 @@ use Rattle.schemes.specs.declared.Scheme.{Scheme}
 use Rattle.front.specs.Answers.{number, place, written}
 use Rattle.front.specs.declared.Answer.{Answer}
 use Rattle.ends.specs.Fit.{Counted, Small}
-use Rattle.exchange.specs.Offer.{Offer, Offered}
-use Rattle.exchange.specs.Reply.{replyOf, Replied}
+use Rattle.blank.specs.Blank.{blank}
+use Rattle.exchange.specs.Offer.{Offer, offeredPart, Offered}
+use Rattle.exchange.specs.Reply.{replyOf, repliedPart, Replied}
 use Rattle.exchange.specs.Reply as ofReply
 use Rattle.exchange.specs.Finish.{finishOf, Finished}
 use Rattle.exchange.specs.Finish as ofFinish
@@ -37,6 +40,11 @@ pub record Ranged (c : Scheme) (x : Run) : Type 0 where
   pub noise' : Small (fixedOf c .noise) (fixedOf c .largest) (x .e')
   pub noise'' : Small (fixedOf c .mixed) (fixedOf c .largest) (x .e'')
   pub coins : length (x .coins) ≡ fixedOf c .coins
+
+pub record Sendable (c : Scheme) (x : Run) : Type 0 where
+  pub ranged : Ranged c x
+  pub opening : blank (offeredPart c (offering x)) ≡ false
+  pub reply : blank (repliedPart c (x .a) (x .s') (x .e')) ≡ false
 
 -- x has one list of public numbers, which both boxes take, and one secret s, which Offer and Finish take
 pub record Exchange (c : Scheme) (x : Run) : Type 0 where
@@ -85,7 +93,7 @@ module _ {c : Scheme} {x : Run} (t : Exchange c x) where
 -- ---- what is shown
 
 abbrev pub Accepted : Type 0
-Accepted = (c : Scheme) (x : Run) → Exchange c x ↔ Ranged c x
+Accepted = (c : Scheme) (x : Run) → Exchange c x ↔ Sendable c x
 
 abbrev pub Numbered : Type 0
 Numbered =

@@ -24,7 +24,7 @@ use Rattle.front.specs.declared.Refusal.{Refusal}
 use Rattle.front.specs.declared.Refusal.the-variants.{NoScheme}
 use Rattle.front.specs.declared.Verdict.{Verdict}
 use Rattle.front.specs.declared.Verdict.the-variants.{Pass, Fail}
-use Rattle.front.proofs.Laws.{some, number-zero}
+use Rattle.front.proofs.Laws.{some, number-zero, both}
 use Rattle.front.proofs.Held.{held-whole}
 use Rattle.front.proofs.Promise.{told-failed, gave-failed}
 use Rattle.exchange.specs.Offer.{offerTests, offerMessage, Offered}
@@ -40,7 +40,7 @@ use Rattle.exchange.proofs.Offering.{offer-opens, opening-long}
 use Rattle.exchange.proofs.Replying.{message-length, key-length}
 use Rattle.exchange.proofs.Finishing.{peer-key-length}
 use Rattle.agreement.specs.Run.{offering}
-use Rattle.agreement.proofs.Tests.{ranged-by, finish-passes}
+use Rattle.agreement.proofs.Tests.{sendable-by, finish-passes}
 use Rattle.bench.specs.Bench.{Bench, benchIn, benchTests, benchDiffers, differing, Benched, number, place, differ}
 use Rattle.bench.specs.Inside.{Compares, testsFromFinish, testsFromOffer, FromFinish, FromReply, FromOffer}
 use Rattle.bench.specs.declared.BenchAnswer.{BenchAnswer}
@@ -128,7 +128,7 @@ module _ (c : Scheme) (x : Bench) {n : Named} (e : n ≡ Is c) {j : ℕ} (l : j 
   unfolding offerTests offerMessage
   offer-told h p =
       let o = number-zero _ (rw h at (offer-given .told .refusal)) in
-      let seeds = offer-opens c (offering x) _ o .0 .seed-long in
+      let seeds = offer-opens c (offering x) _ (both _ _ o .0) .0 .seed-long in
       let w = held-whole 0 _ _ opening _ o (opening-long c (offering x) seeds) (offer-given .messages .holds) in
       went o (rw w at p)
 
@@ -137,7 +137,7 @@ module _ (c : Scheme) (x : Bench) {n : Named} (e : n ≡ Is c) {j : ℕ} (l : j 
 -- Finish refuses nothing there
 same-tests : (c : Scheme) (x : Bench) → testsFromOffer c x ≡ benchIn c x
 unfolding benchIn
-same-tests c x = without-last _ _ _ (λ o r. finish-passes c x (ranged-by c x _ _ _ _ _ o r) _ _ (le-refl _) (le-refl _))
+same-tests c x = without-last _ _ _ (λ o r. finish-passes c x (sendable-by c x _ _ _ _ _ o r) _ _ (le-refl _) (le-refl _))
 
 pub bench-told : (c : Scheme) (x : Bench) (r : BenchAnswer) → FromOffer c x r → Benched (Is c) x (number r) (place r) (differ r)
 unfolding benchTests benchDiffers

@@ -1,6 +1,6 @@
 -- What is stated in specs/Comparison.
 --   told-agree, told-differ   an answer without a refusal, by how two keys differ
---   bench-ranged, bench-gave  where Bench refuses nothing, its inputs are in range; and what it answers of inputs in range
+--   bench-sendable, bench-gave  where Bench refuses nothing, its inputs are sendable; and what it answers of such inputs
 --   differ-few                the number that tells how the keys differ, whatever the scheme
 use mathlib.Core.Path.{_≡_, refl, _∙_, sym, ap}
 use mathlib.Core.Bool.{Bool, true, false, cond}
@@ -28,8 +28,8 @@ use Rattle.exchange.specs.Finish.{peerKeyOf, peerKeyFrom}
 use Rattle.exchange.proofs.Replying.{key-length}
 use Rattle.exchange.proofs.Finishing.{peer-key-length}
 use Rattle.agreement.specs.Run.{replying, finishing}
-use Rattle.agreement.specs.Exchange.{Ranged}
-use Rattle.agreement.proofs.Tests.{ranged-by, offer-passes, reply-passes}
+use Rattle.agreement.specs.Exchange.{Sendable}
+use Rattle.agreement.proofs.Tests.{sendable-by, offer-passes, reply-passes}
 use Rattle.agreement.proofs.Accepted.{gave, accepted}
 use Rattle.agreement.proofs.Agreement.{agreement}
 use Rattle.bench.specs.Bench.{Bench, bits, differing, benchIn, benchTests, benchDiffers, Benched, number, place, differ}
@@ -67,23 +67,23 @@ module _ (c : Scheme) (x : Bench) where
   peer-bytes = packed-below _ _
 
 module _ (c : Scheme) (x : Bench) (r : BenchAnswer) (b : Benched (Is c) x (number r) (place r) (differ r)) where
-  bench-ranged : number r ≡ 0 → Ranged c x
+  bench-sendable : number r ≡ 0 → Sendable c x
   unfolding benchTests benchIn
-  bench-ranged z = let t = both _ _ (number-zero _ (sym z ∙ b .told .refusal)) in ranged-by c x _ _ _ _ _ (t .0) (t .1)
+  bench-sendable z = let t = both _ _ (number-zero _ (sym z ∙ b .told .refusal)) in sendable-by c x _ _ _ _ _ (t .0) (t .1)
 
-  bench-gave : Ranged c x → Compares Pass (differing (keyOf c (replying c x)) (peerKeyOf c (finishing c x))) r
+  bench-gave : Sendable c x → Compares Pass (differing (keyOf c (replying c x)) (peerKeyOf c (finishing c x))) r
   unfolding benchTests benchIn benchDiffers
   bench-gave h =
       let e = all-pass (offer-passes c x h) (reply-passes c x h) in
       record { told = rw e at (b .told); differs = rw e at (b .differs) }
 
 pub bench-accepts : BenchAccepts
-bench-accepts c x r b = (λ z. accepted c x .1 (bench-ranged c x r b z), λ t. bench-gave c x r b (gave t .ranged) .told .refusal)
+bench-accepts c x r b = (λ z. accepted c x .1 (bench-sendable c x r b z), λ t. bench-gave c x r b (gave t .sendable) .told .refusal)
 
 pub bench-tells : BenchTells
 bench-tells c x r b t =
     let g = gave t in
-    let p = bench-gave c x r b (g .ranged) in
+    let p = bench-gave c x r b (g .sendable) in
     record {
       agree = rw (g .own, g .peer) (told-agree r p (same-long c x) (own-bytes c x) (peer-bytes c x));
       differ = λ i. rw (g .own, g .peer) (told-differ r p (same-long c x) (own-bytes c x) (peer-bytes c x) i);

@@ -1,6 +1,7 @@
 -- What is stated in specs/Shown.
 --   one-bench             one answer a promise
 --   never-three-or-five   3 and 5 cannot arise
+--   opening-passes        an opening that Offer has made is not refused
 --   finish-accepts        Finish refuses nothing there
 use mathlib.Core.Path.{_≡_, ap}
 use mathlib.Core.List.{List}
@@ -12,19 +13,19 @@ use Rattle.schemes.specs.Schemes.{fixedOf}
 use Rattle.schemes.specs.declared.Scheme.{Scheme}
 use Rattle.schemes.specs.declared.Named.{Named}
 use Rattle.schemes.specs.declared.Named.the-variants.{Is, Unknown}
-use Rattle.front.specs.Front.{numberIn, lengthIs, roomFor, publicsIn, messageIn, secretsIn}
+use Rattle.front.specs.Front.{numberIn, lengthIs, roomFor, publicsIn, notBlank, receivedIn, secretsIn}
 use Rattle.front.specs.declared.Verdict.the-variants.{Pass}
-use Rattle.front.proofs.Laws.{some, both, room-passes, message-passes}
+use Rattle.front.proofs.Laws.{some, both, room-passes, not-blank-passed}
 use Rattle.front.proofs.Promise.{same-refusal}
-use Rattle.front.proofs.Number.{and, passes, lengths, publics, secrets}
-use Rattle.ends.proofs.Ranges.{offered-counted}
+use Rattle.front.proofs.Number.{and, passes, lengths, publics, secrets, blanks}
+use Rattle.wire.specs.Wire.{openedIn}
 use Rattle.exchange.specs.Offer.{Offer, offerLengths, offerIn, offerTests}
-use Rattle.exchange.specs.Reply.{Reply, replyTests, replyLengths, replySizes, replyRest, replySecrets, openedOf}
+use Rattle.exchange.specs.Reply.{Reply, replyTests, replyLengths, replySizes, replyRest, replySecrets, replyLast, openedOf}
 use Rattle.exchange.proofs.Offering.{offer-opens}
 use Rattle.agreement.specs.Run.{offering, replying}
-use Rattle.agreement.proofs.Tests.{ranged-by, finish-passes, opened-is}
+use Rattle.agreement.proofs.Tests.{sendable-by, opening-received, finish-passes}
 use Rattle.bench.specs.Bench.{Bench, benchIn, benchTests, number, place, differ}
-use Rattle.bench.specs.Shown.{OneBench, NeverThreeOrFive, FinishPasses}
+use Rattle.bench.specs.Shown.{OneBench, NeverThreeOrFive, OpeningPasses, FinishPasses}
 use Rattle.bench.specs.declared.BenchAnswer.{BenchAnswer}
 use Rattle.bench.specs.declared.BenchAnswer.the-variants.{Agree, Differ, Refused}
 
@@ -65,6 +66,9 @@ public-in q xs = publics Inside zero-in (λ e. omega arith, λ e. omega arith) q
 secret-in : (B : ℕ) (s : List ℤ) → Inside (numberIn (secretsIn B s))
 secret-in B s = secrets Inside zero-in (λ e. omega arith, λ e. omega arith) B s
 
+blank-in : (part : List ℕ) → Inside (numberIn (notBlank part))
+blank-in part = blanks Inside zero-in (λ e. omega arith, λ e. omega arith) part
+
 offer-in : (c : Scheme) (x : Offer) → Inside (numberIn (offerTests (Is c) x (fixedOf c .opening)))
 unfolding offerTests offerIn offerLengths
 offer-in c x =
@@ -72,21 +76,23 @@ offer-in c x =
     and Inside _ _
     (and Inside _ _
     (and Inside _ _
+    (and Inside _ _
     (and Inside _ _ (and Inside _ _ (and Inside _ _ (and Inside _ _ (l _ _) (λ _. l _ _)) (λ _. l _ _)) (λ _. l _ _)) (λ _. room-in (fixedOf c .opening)))
     (λ _. public-in _ (x .a)))
     (λ _. secret-in _ (x .s)))
-    (λ _. secret-in _ (x .e))
+    (λ _. secret-in _ (x .e)))
+    (λ _. blank-in _)
 
--- the numbers of an opening that Offer has made are below q
-opened-passes : (c : Scheme) (x : Bench) → offerTests (Is c) (offering x) (fixedOf c .opening) ≡ Pass
-    → messageIn (fixedOf c .q) (openedOf c (replying c x)) ≡ Pass
+-- an opening that Offer has made
+pub opening-passes : OpeningPasses
 unfolding offerTests
-opened-passes c x e =
-    rw (opened-is c x (offer-opens c (offering x) _ e .0 .seed-long)) (message-passes (offered-counted c (x .a) (x .s) (x .e) .below))
+opening-passes c x e =
+    let t = both _ _ e in
+    opening-received c x (offer-opens c (offering x) _ (t .0) .0 .seed-long) (not-blank-passed _ (t .1))
 
-reply-in : (c : Scheme) (x : Reply) → messageIn (fixedOf c .q) (openedOf c x) ≡ Pass
+reply-in : (c : Scheme) (x : Reply) → receivedIn (fixedOf c .q) (openedIn c (x .opening)) (openedOf c x) ≡ Pass
     → Inside (numberIn (replyTests (Is c) x (fixedOf c .reply) (fixedOf c .key) 32))
-unfolding replyTests replySizes replyLengths replyRest replySecrets
+unfolding replyTests replySizes replyLengths replyRest replySecrets replyLast
 reply-in c x o =
     let l = length-in in
     and Inside _ _
@@ -103,12 +109,12 @@ reply-in c x o =
     (λ _. public-in _ (x .a)))
     (λ _.
     and Inside _ _ (passes Inside o zero-in)
-    (λ _. and Inside _ _ (and Inside _ _ (secret-in _ (x .s')) (λ _. secret-in _ (x .e'))) (λ _. secret-in _ (x .e''))))
+    (λ _. and Inside _ _ (and Inside _ _ (and Inside _ _ (secret-in _ (x .s')) (λ _. secret-in _ (x .e'))) (λ _. secret-in _ (x .e''))) (λ _. blank-in _)))
 
 by-name : (c : Named) (x : Bench) → Inside (numberIn (benchTests c x))
 unfolding benchTests benchIn
 by-name Unknown x = (λ e. omega arith, λ e. omega arith)
-by-name (Is c) x = and Inside _ _ (offer-in c (offering x)) (λ e. reply-in c (replying c x) (opened-passes c x e))
+by-name (Is c) x = and Inside _ _ (offer-in c (offering x)) (λ e. reply-in c (replying c x) (opening-passes c x e))
 
 pub never-three-or-five : NeverThreeOrFive
 never-three-or-five c x n p d h = rw (h .told .refusal) (by-name c x)
@@ -117,4 +123,4 @@ never-three-or-five c x n p d h = rw (h .told .refusal) (by-name c x)
 
 pub finish-accepts : FinishPasses
 unfolding benchIn
-finish-accepts c x k d e h l = let t = both _ _ e in finish-passes c x (ranged-by c x _ _ _ _ _ (t .0) (t .1)) k d h l
+finish-accepts c x k d e h l = let t = both _ _ e in finish-passes c x (sendable-by c x _ _ _ _ _ (t .0) (t .1)) k d h l

@@ -1,6 +1,7 @@
 -- What is shown of Bench beside its promise.
 --   OneBench           no two answers satisfy one promise
 --   NeverThreeOrFive   01, "The calls": messages and keys stay inside it, so 3 and 5 can't arise
+--   OpeningPasses      nor is the opening refused that Offer has made: no 5, and no 17 of a part that has come
 --   FinishPasses       what Offer and Reply let pass, Finish does not refuse
 use mathlib.Core.Path.{_≡_}
 use Prim.Native.Nat.{ℕ, _≤_}
@@ -8,9 +9,13 @@ use Rattle.schemes.specs.Schemes.{fixedOf}
 use Rattle.schemes.specs.declared.Scheme.{Scheme}
 use Rattle.schemes.specs.declared.Named.{Named}
 use Rattle.schemes.specs.declared.Named.the-variants.{Is}
+use Rattle.front.specs.Front.{receivedIn}
 use Rattle.front.specs.declared.Verdict.the-variants.{Pass}
+use Rattle.wire.specs.Wire.{openedIn}
+use Rattle.exchange.specs.Offer.{offerTests, openingOf}
+use Rattle.exchange.specs.Reply.{openedOf}
 use Rattle.exchange.specs.Finish.{finishTests}
-use Rattle.agreement.specs.Run.{finishing}
+use Rattle.agreement.specs.Run.{offering, replying, finishing}
 use Rattle.bench.specs.Bench.{Bench, benchIn, Benched, number, place, differ}
 use Rattle.bench.specs.declared.BenchAnswer.{BenchAnswer}
 
@@ -20,6 +25,11 @@ OneBench =
 
 abbrev pub NeverThreeOrFive : Type 0
 NeverThreeOrFive = (c : Named) (x : Bench) (n p d : ℕ) → Benched c x n p d → (n ≡ 3 → ⊥) × (n ≡ 5 → ⊥)
+
+abbrev pub OpeningPasses : Type 0
+OpeningPasses =
+    (c : Scheme) (x : Bench) → offerTests (Is c) (offering x) (fixedOf c .opening) ≡ Pass
+    → receivedIn (fixedOf c .q) (openedIn c (openingOf c (offering x))) (openedOf c (replying c x)) ≡ Pass
 
 abbrev pub FinishPasses : Type 0
 FinishPasses =
