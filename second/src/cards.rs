@@ -120,20 +120,23 @@ fn expand_cards() -> Vec<String> {
     vec![format!("- expand stream= : {answer}")]
 }
 
-/// Reply to an opening whose first number is the given one, all else zero.
+/// Reply to an opening whose first number is the given one, all else zero but
+/// one value of e', or the reply would be blank (02, request l).
 fn reply_to(number: u32) -> Result<(), Refusal> {
     let fixed = &NEWHOPE;
     let opening = [packed(fixed, number), vec![0; fixed.seed_bytes()]].concat();
     let mut reply = vec![0; fixed.reply_bytes()];
     let mut key = vec![0; fixed.key_bytes];
     let (a, zeros, coins) = ([0; 1024], [0; 1024], [0; 32]);
+    let mut e1 = zeros;
+    e1[0] = 1;
     let mut digest = [0; 32];
     calls::reply(
         1,
         &opening,
         &a,
         &zeros,
-        &zeros,
+        &e1,
         &zeros,
         &coins,
         &mut reply,

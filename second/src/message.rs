@@ -13,13 +13,12 @@ pub fn opening(scheme: &Scheme, b: &[i128], seed: &[u8]) -> Vec<u8> {
     }
 }
 
-/// The numbers packed in an opening message; its seed is unread.
-pub fn opening_numbers(scheme: &Scheme, opening: &[u8]) -> Vec<u32> {
-    let packed = match scheme.family {
+/// The packed part of an opening message; its seed is unread.
+pub fn opening_packed<'a>(scheme: &Scheme, opening: &'a [u8]) -> &'a [u8] {
+    match scheme.family {
         Family::Bcns | Family::NewHope => &opening[..scheme.packed_bytes()],
         Family::Frodo => &opening[scheme.seed_bytes()..],
-    };
-    unpack(packed, scheme.width)
+    }
 }
 
 /// The reply message: u and the hints.
@@ -29,9 +28,14 @@ pub fn reply(scheme: &Scheme, u: &[i128], hints: &[u32]) -> Vec<u8> {
     [packed, hints].concat()
 }
 
-/// The numbers packed in a reply message.
-pub fn reply_numbers(scheme: &Scheme, reply: &[u8]) -> Vec<u32> {
-    unpack(&reply[..scheme.packed_bytes()], scheme.width)
+/// The packed part of a reply message.
+pub fn reply_packed<'a>(scheme: &Scheme, reply: &'a [u8]) -> &'a [u8] {
+    &reply[..scheme.packed_bytes()]
+}
+
+/// The numbers of a packed part.
+pub fn numbers(scheme: &Scheme, packed: &[u8]) -> Vec<u32> {
+    unpack(packed, scheme.width)
 }
 
 /// The hints of a reply message.

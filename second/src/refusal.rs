@@ -1,4 +1,5 @@
-//! 01, "Refusal numbers and their order", with 12 of request g of 02.
+//! 01, "Refusal numbers and their order", with 12 of request g of 02 and 17 of
+//! request l.
 
 use crate::expand::Rule;
 use crate::schemes::{scheme, Scheme};
@@ -58,6 +59,16 @@ pub fn large_public(scheme: &Scheme, a: &[u32]) -> Result<(), Refusal> {
 /// 5: an unpacked message number is q or more.
 pub fn large_in_message(scheme: &Scheme, numbers: &[u32]) -> Result<(), Refusal> {
     first(numbers, 5, |&number| i128::from(number) >= scheme.q)
+}
+
+/// 17: every byte of a message's packed part is zero. After 5 and before 6 for a
+/// part received, after 6 for one about to be sent.
+pub fn blank_part(packed: &[u8]) -> Result<(), Refusal> {
+    if packed.iter().all(|&byte| byte == 0) {
+        Err(refusal(17, 0))
+    } else {
+        Ok(())
+    }
 }
 
 /// 6: a secret or noise value lies beyond the largest noise.

@@ -20,8 +20,10 @@ pub fn finish(
     refusal::wrong_length(s.len(), scheme.secret_count())?;
     refusal::short_output(key.len(), scheme.key_bytes)?;
     refusal::short_output(digest.len(), DIGEST)?;
-    let numbers = message::reply_numbers(scheme, reply);
+    let packed = message::reply_packed(scheme, reply);
+    let numbers = message::numbers(scheme, packed);
     refusal::large_in_message(scheme, &numbers)?;
+    refusal::blank_part(packed)?;
     refusal::beyond_noise(scheme, s)?;
 
     let u = message::plain(scheme, &numbers);

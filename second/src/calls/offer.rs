@@ -26,5 +26,6 @@ pub fn offer(
     let a = message::plain(scheme, a);
     let b = mix::b(scheme, &a, &signed(s), &signed(e));
     let answer = message::opening(scheme, &b, seed);
+    refusal::blank_part(message::opening_packed(scheme, &answer))?;
     Ok(write(&answer, opening))
 }

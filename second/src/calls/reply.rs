@@ -34,8 +34,10 @@ pub fn reply(
     refusal::short_output(key.len(), scheme.key_bytes)?;
     refusal::short_output(digest.len(), DIGEST)?;
     refusal::large_public(scheme, a)?;
-    let numbers = message::opening_numbers(scheme, opening);
+    let packed = message::opening_packed(scheme, opening);
+    let numbers = message::numbers(scheme, packed);
     refusal::large_in_message(scheme, &numbers)?;
+    refusal::blank_part(packed)?;
     refusal::beyond_noise(scheme, s1)?;
     refusal::beyond_noise(scheme, e1)?;
     refusal::beyond_noise(scheme, e2)?;
@@ -45,6 +47,7 @@ pub fn reply(
     let v = mix::v(scheme, &b, &signed(s1), &signed(e2));
     let (hints, entries) = replier(scheme, &v, coins);
     let answer = message::reply(scheme, &u, &hints);
+    refusal::blank_part(message::reply_packed(scheme, &answer))?;
     let key_answer = message::key(scheme, &entries);
     Ok((
         write(&answer, reply),

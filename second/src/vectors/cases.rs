@@ -6,12 +6,13 @@ use super::input::{Input, Kind};
 use crate::schemes::Scheme;
 
 /// How a call is made: with which scheme, which length of each input and room
-/// of each output, and which numbers made others.
+/// of each output, which inputs zero, and which numbers then made others.
 #[derive(Clone)]
 pub struct Case {
     pub scheme: u64,
     pub lengths: Vec<usize>,
     pub rooms: Vec<usize>,
+    pub zeros: Vec<usize>,
     pub changes: Vec<Change>,
 }
 
@@ -40,6 +41,94 @@ pub fn of_exchange(good: Good) -> (Good, Vec<Case>) {
         },
     ];
     (good, cases.concat())
+}
+
+/// The blank cases of Offer, Reply, Finish or Bench.
+pub fn of_blank(good: &Good) -> Vec<Case> {
+    let fixed = good.scheme.expect("the exchange has a scheme");
+    let (q, beyond) = (fixed.q as i64, fixed.largest_noise as i64 + 1);
+    let zero = |zeros: &[usize]| Case {
+        zeros: zeros.to_vec(),
+        ..good.case()
+    };
+    // Of an input's n entries the first, the middle or the last is the value.
+    let with = |zeros: &[usize], input: usize, at: fn(usize) -> usize, value| {
+        let mut case = zero(zeros);
+        let index = at(good.inputs[input].n);
+        case.changes.push(Change {
+            input,
+            index,
+            value,
+        });
+        case
+    };
+    let [first, middle, last]: [fn(usize) -> usize; 3] = [|_| 0, |n| n / 2, |n| n - 1];
+    match good.call {
+        Call::Offer => {
+            let [a, s, e] = [0, 1, 2];
+            vec![
+                zero(&[s]),
+                zero(&[e]),
+                zero(&[s, e]),
+                with(&[s, e], a, middle, q),
+                with(&[s, e], e, last, beyond),
+            ]
+        }
+        Call::Reply => {
+            let [opening, a, s1, e1, e2] = [0, 1, 2, 3, 4];
+            let mut cases = vec![zero(&[opening])];
+            cases.extend(one_byte(good));
+            cases.extend([
+                with(&[opening], s1, first, beyond),
+                with(&[opening], a, middle, q),
+                zero(&[s1]),
+                zero(&[e1]),
+                zero(&[s1, e1]),
+                with(&[s1, e1], e2, last, beyond),
+                zero(&[s1, e1, opening]),
+            ]);
+            cases
+        }
+        Call::Finish => {
+            let [reply, s] = [0, 1];
+            let mut longer = zero(&[reply]);
+            longer.lengths[reply] += 1;
+            let mut cases = vec![zero(&[reply])];
+            cases.extend(one_byte(good));
+            cases.extend([with(&[reply], s, first, beyond), longer]);
+            cases
+        }
+        Call::Bench => {
+            let [s, e, s1, e1] = [1, 2, 4, 5];
+            vec![
+                zero(&[s, e]),
+                zero(&[s1, e1]),
+                zero(&[s, s1]),
+                with(&[s, e], s1, first, beyond),
+            ]
+        }
+        _ => panic!("a call without blank cases"),
+    }
+}
+
+/// The message, the first input, zero but for one byte of its packed part.
+fn one_byte(good: &Good) -> [Case; 3] {
+    let Kind::Message { width, count, .. } = good.inputs[0].kind else {
+        panic!("the first input is a message");
+    };
+    let m = width * count / 8;
+    [0, m / 2, m - 1].map(|byte| {
+        // The lowest bit of the byte, in the number that holds it.
+        let (index, bit) = (8 * byte / width, 8 * byte % width);
+        let mut case = good.case();
+        case.zeros.push(0);
+        case.changes.push(Change {
+            input: 0,
+            index,
+            value: 1 << bit,
+        });
+        case
+    })
 }
 
 /// The cases of Noise with one number of bytes.

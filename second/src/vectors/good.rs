@@ -40,6 +40,7 @@ impl Good {
             scheme: self.scheme.map_or(0, |scheme| scheme.number),
             lengths: self.inputs.iter().map(|input| input.n).collect(),
             rooms: self.answers.clone(),
+            zeros: vec![],
             changes: vec![],
         }
     }

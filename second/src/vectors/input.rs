@@ -62,6 +62,19 @@ impl Input {
         }
     }
 
+    /// Makes all its numbers or values zero; in a message the packed part alone.
+    pub fn zero(&mut self) {
+        match self.kind {
+            Kind::PublicNumbers | Kind::SecretsOrNoise => self.entries.fill(0),
+            Kind::Bytes => panic!("mere bytes have no numbers"),
+            Kind::Message {
+                start,
+                width,
+                count,
+            } => self.entries[start..start + width * count / 8].fill(0),
+        }
+    }
+
     /// Makes one of its numbers or values another.
     pub fn change(&mut self, index: usize, value: i64) {
         match self.kind {

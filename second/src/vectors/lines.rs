@@ -16,6 +16,13 @@ pub fn numbered(groups: &[(Good, Vec<Case>)]) -> Vec<String> {
     lines
 }
 
+/// The lines of one call's blank cases.
+pub fn blank(good: &Good, cases: &[Case]) -> Vec<String> {
+    let cases = cases.iter().enumerate();
+    let named = cases.map(|(at, case)| line(good, &format!("blank{at}"), &run(good, case)));
+    named.collect()
+}
+
 /// The line of a call's case with this name. Its scheme is the one whose cases
 /// these are, also where the call is lent another.
 pub fn line(good: &Good, name: &str, answer: &Answer) -> String {

@@ -10,7 +10,7 @@ pub mod run;
 
 use crate::schemes::{Scheme, SIX};
 use good::{Good, Lists};
-use lines::{line, numbered};
+use lines::{blank, line, numbered};
 use run::run;
 use std::thread;
 
@@ -25,10 +25,12 @@ pub fn vectors() -> Vec<String> {
     })
 }
 
-/// The lines of one scheme: all calls that have one, then the wide cases.
+/// The lines of one scheme: all calls that have one, then the wide cases, then
+/// the blank ones.
 pub fn of_scheme(scheme: &'static Scheme) -> Vec<String> {
-    let mut lines = vec![];
+    let (mut lines, mut blanks) = (vec![], vec![]);
     for good in exchange(&Lists::drawn(scheme)) {
+        blanks.extend(blank(&good, &cases::of_blank(&good)));
         lines.extend(numbered(&[cases::of_exchange(good)]));
     }
     let noise: Vec<_> = good::noise(scheme).map(cases::of_noise).collect();
@@ -36,6 +38,7 @@ pub fn of_scheme(scheme: &'static Scheme) -> Vec<String> {
     for good in exchange(&Lists::wide(scheme)) {
         lines.push(line(&good, "wide", &run(&good, &good.case())));
     }
+    lines.extend(blanks);
     lines
 }
 

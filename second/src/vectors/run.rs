@@ -111,8 +111,11 @@ pub fn run(good: &Good, case: &Case) -> Answer {
 }
 
 /// The inputs as the case has them.
-fn lent(good: &Good, case: &Case) -> Vec<Vec<i64>> {
+pub fn lent(good: &Good, case: &Case) -> Vec<Vec<i64>> {
     let mut inputs = good.inputs.clone();
+    for &input in &case.zeros {
+        inputs[input].zero();
+    }
     for change in &case.changes {
         inputs[change.input].change(change.index, change.value);
     }

@@ -10,17 +10,17 @@ use second::transform::transform;
 #[test]
 fn zero_secrets_agree_in_all_schemes() {
     for s in &SIX {
-        assert_eq!(Inputs::zero(s).bench(), Ok(Bench::Agree));
+        assert_eq!(Inputs::sparse(s).bench(), Ok(Bench::Agree));
     }
 }
 
-// With A and S zero, V is S'E + E'' and W is 0.
+// With A and S zero, V is S'E + E'' and W is 0, whatever E' is.
 
 #[test]
 fn differ_with_the_first_differing_bit() {
     for (row, column, bit) in [(3, 5, 29), (0, 0, 0), (7, 7, 63)] {
         let s = &SIX[2];
-        let mut inputs = Inputs::zero(s);
+        let mut inputs = Inputs::sparse(s);
         // 114 terms of 9 make 1026 at one entry: hint 0 and key 1 there.
         for k in 0..114 {
             inputs.s1[row * s.n + k] = 3;
@@ -34,7 +34,7 @@ fn differ_with_the_first_differing_bit() {
 fn the_bit_counts_within_the_packed_key() {
     // Frodo 4 has four bits an entry; row 1, column 2 is entry 10.
     let s = &SIX[4];
-    let mut inputs = Inputs::zero(s);
+    let mut inputs = Inputs::sparse(s);
     // 164 terms of 25 make 4100: hint 0 and key 2, where 0 gives key 0.
     for k in 0..164 {
         inputs.s1[s.n + k] = 5;
@@ -52,7 +52,7 @@ fn the_bit_counts_within_the_packed_key() {
 fn newhope_differs_at_its_first_differing_group() {
     // s' is 16 at 0 to 23, e is 16 at the 24 entries up to 100 + 256j: s'e
     // rises by 256 an entry up to 6144 at 100 + 256j, then falls.
-    let mut inputs = Inputs::zero(&SIX[1]);
+    let mut inputs = Inputs::sparse(&SIX[1]);
     inputs.s1[..24].fill(16);
     for j in 0..4 {
         inputs.e[77 + 256 * j..=100 + 256 * j].fill(16);
@@ -68,7 +68,7 @@ fn newhope_differs_at_its_first_differing_group() {
 
 #[test]
 fn newhope_agrees_within_the_bound() {
-    let mut inputs = Inputs::zero(&SIX[1]);
+    let mut inputs = Inputs::sparse(&SIX[1]);
     inputs.s1[0] = 16;
     inputs.e.fill(16);
     assert_eq!(inputs.bench(), Ok(Bench::Agree));
@@ -76,10 +76,10 @@ fn newhope_agrees_within_the_bound() {
 
 #[test]
 fn offers_refusals_come_before_replys() {
-    let s = &SIX[1];
-    let good = Inputs::zero(s);
-    let mut bad = good.clone();
+    let mut bad = Inputs::sparse(&SIX[1]);
     // From the last test to the first, each before all that follow.
+    bad.e1.fill(0);
+    assert_eq!(bad.bench(), Err(refusal(17, 0)));
     bad.e2[9] = 17;
     assert_eq!(bad.bench(), Err(refusal(6, 9)));
     bad.e1[8] = -17;
@@ -88,6 +88,8 @@ fn offers_refusals_come_before_replys() {
     assert_eq!(bad.bench(), Err(refusal(6, 7)));
     bad.coins.push(0);
     assert_eq!(bad.bench(), Err(refusal(2, 0)));
+    bad.e.fill(0);
+    assert_eq!(bad.bench(), Err(refusal(17, 0)));
     bad.e[6] = -17;
     assert_eq!(bad.bench(), Err(refusal(6, 6)));
     bad.s[5] = i32::MIN;
@@ -104,7 +106,7 @@ fn offers_refusals_come_before_replys() {
 #[test]
 fn each_length_in_each_scheme() {
     for s in &SIX {
-        let good = Inputs::zero(s);
+        let good = Inputs::sparse(s);
         let bads: [fn(&mut Inputs); 8] = [
             |i| i.a.push(0),
             |i| i.s.push(0),
@@ -129,7 +131,7 @@ fn each_length_in_each_scheme() {
 #[test]
 fn each_value_in_each_scheme() {
     for s in &SIX {
-        let good = Inputs::zero(s);
+        let good = Inputs::sparse(s);
         let beyond = s.largest_noise as i32 + 1;
         let mut bad = good.clone();
         bad.a[3] = s.q as u32;

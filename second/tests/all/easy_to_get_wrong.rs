@@ -77,7 +77,7 @@ fn frodos_mixed_values_lie_row_after_row() {
     for s in &SIX[2..] {
         let n = s.n;
         let half = (s.q / 2) as u32;
-        let mut inputs = Inputs::zero(s);
+        let mut inputs = Inputs::sparse(s);
         inputs.s1[3 * n + 2] = 1;
         let mut b = vec![0; 8 * n];
         b[2 * 8 + 7] = half;
@@ -118,7 +118,7 @@ fn twice_w_is_compared_in_bcns() {
 fn a_negative_difference_is_not_cut_toward_zero() {
     let answer = line(b"scheme=0\ncoin=2\nv=0\nw=0\n");
     assert_eq!(answer, b"hint=1\nkey=0\npeer=0\n");
-    let mut inputs = Inputs::zero(&SIX[0]);
+    let mut inputs = Inputs::sparse(&SIX[0]);
     inputs.coins.fill(0b1010_1010);
     let (reply, key) = inputs.reply_and_key(&inputs.opening());
     assert_eq!(reply[4096..], [0xFF; 128]);

@@ -52,6 +52,14 @@ impl Inputs {
         }
     }
 
+    /// All zero but the last values of e and e': else both messages were blank.
+    pub fn sparse(scheme: &'static Scheme) -> Inputs {
+        let mut inputs = Inputs::zero(scheme);
+        let last = scheme.noise_count() - 1;
+        (inputs.e[last], inputs.e1[last]) = (1, 1);
+        inputs
+    }
+
     pub fn offer(&self, opening: &mut [u8]) -> Result<usize, Refusal> {
         let i = self;
         calls::offer(i.scheme.number, &i.a, &i.s, &i.e, &i.seed, opening)

@@ -7,6 +7,7 @@ mod inputs;
 mod standards;
 
 mod bench;
+mod blank;
 mod cards;
 mod easy_to_get_wrong;
 mod exchange;

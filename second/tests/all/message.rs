@@ -23,15 +23,18 @@ fn narrow(values: &[i128]) -> Vec<u32> {
 #[test]
 fn the_seed_is_carried_unread() {
     for s in &SIX {
-        let mut inputs = Inputs::zero(s);
+        let mut inputs = Inputs::sparse(s);
+        let without = inputs.opening();
         inputs.seed = (1..=s.seed_bytes() as u8).collect();
         let opening = inputs.opening();
         let place = if s.number == 1 { 1792 } else { 0 };
-        let mut expected = vec![0; s.opening_bytes()];
+        let mut expected = without.clone();
         expected[place..place + s.seed_bytes()].copy_from_slice(&inputs.seed);
         assert_eq!(opening, expected);
-        let zero = vec![0; s.opening_bytes()];
-        assert_eq!(inputs.reply_and_key(&opening), inputs.reply_and_key(&zero));
+        assert_eq!(
+            inputs.reply_and_key(&opening),
+            inputs.reply_and_key(&without)
+        );
     }
 }
 
@@ -79,11 +82,11 @@ fn newhope_multiplies_transformed_numbers() {
 }
 
 #[test]
-fn hints_and_key_of_a_zero_exchange() {
+fn hints_and_key_of_zero_secrets() {
     for s in &SIX {
-        let inputs = Inputs::zero(s);
+        let inputs = Inputs::sparse(s);
         let (reply, key) = inputs.reply_and_key(&inputs.opening());
-        assert_eq!(reply, vec![0; s.reply_bytes()]);
+        assert_eq!(reply[s.packed_bytes()..], vec![0; s.hint_bytes()]);
         // In NewHope every group is near, which gives 1.
         let byte = if s.number == 1 { 0xFF } else { 0 };
         assert_eq!(key, vec![byte; s.key_bytes]);
@@ -95,7 +98,7 @@ fn hints_and_key_of_a_zero_exchange() {
 fn bcns_coins_hints_and_keys_stand_at_their_bits() {
     // At v = 0 coin 2 gives hint 1, each other coin hint 0; all bits are 0.
     let s = &SIX[0];
-    let mut inputs = Inputs::zero(s);
+    let mut inputs = Inputs::sparse(s);
     let mut generator = Generator::new(31);
     inputs.coins = generator.bytes(256);
     let (reply, key) = inputs.reply_and_key(&inputs.opening());
@@ -111,7 +114,7 @@ fn bcns_coins_hints_and_keys_stand_at_their_bits() {
 fn bcns_entries_of_the_mixed_value() {
     // With s' = 1 the mixed value is what the opening holds.
     let s = &SIX[0];
-    let mut inputs = Inputs::zero(s);
+    let mut inputs = Inputs::sparse(s);
     inputs.s1[0] = 1;
     let mut v = vec![0; 1024];
     v[5] = 1073741824;
@@ -129,7 +132,7 @@ fn bcns_entries_of_the_mixed_value() {
 fn newhope_groups_hints_and_keys() {
     // With s' = 1 the mixed value is what the opening holds, transformed.
     let s = &SIX[1];
-    let mut inputs = Inputs::zero(s);
+    let mut inputs = Inputs::sparse(s);
     inputs.s1[0] = 1;
     let mut v = vec![0; 1024];
     for j in 0..4 {
@@ -151,7 +154,7 @@ fn newhope_groups_hints_and_keys() {
 fn frodo_entries_hints_and_keys() {
     // S' has a 1 at (row, row), so row r of V is row r of B.
     for s in &SIX[2..] {
-        let mut inputs = Inputs::zero(s);
+        let mut inputs = Inputs::sparse(s);
         for row in 0..8 {
             inputs.s1[row * s.n + row] = 1;
         }

@@ -1,5 +1,6 @@
 //! Each refusal of Offer, Reply and Finish in each scheme where it can arise,
-//! with its place, the order among them, and zeros in every output.
+//! with its place, the order among them, and zeros in every output. Number 17 is
+//! in `blank`.
 
 use crate::inputs::Inputs;
 use second::calls;
@@ -13,7 +14,7 @@ fn rooms(answer: usize) -> [usize; 2] {
 }
 
 /// Offer refuses so, whatever the room, and zeroes.
-fn offer_refuses(inputs: &Inputs, expected: Refusal) {
+pub fn offer_refuses(inputs: &Inputs, expected: Refusal) {
     for room in rooms(inputs.scheme.opening_bytes()) {
         let mut opening = vec![0x55; room];
         assert_eq!(inputs.offer(&mut opening), Err(expected));
@@ -21,7 +22,7 @@ fn offer_refuses(inputs: &Inputs, expected: Refusal) {
     }
 }
 
-fn reply_refuses(inputs: &Inputs, message: &[u8], expected: Refusal) {
+pub fn reply_refuses(inputs: &Inputs, message: &[u8], expected: Refusal) {
     for room in rooms(inputs.scheme.reply_bytes()) {
         let mut reply = vec![0x55; room];
         let mut key = vec![0x66; inputs.scheme.key_bytes + 1];
@@ -34,7 +35,7 @@ fn reply_refuses(inputs: &Inputs, message: &[u8], expected: Refusal) {
     }
 }
 
-fn finish_refuses(inputs: &Inputs, message: &[u8], expected: Refusal) {
+pub fn finish_refuses(inputs: &Inputs, message: &[u8], expected: Refusal) {
     for room in rooms(inputs.scheme.key_bytes) {
         let (mut key, mut digest) = (vec![0x55; room], [0x77; 33]);
         let answer = inputs.finish(message, &mut key, &mut digest);
@@ -44,13 +45,14 @@ fn finish_refuses(inputs: &Inputs, message: &[u8], expected: Refusal) {
     }
 }
 
-/// An opening and a reply of the right lengths, all zero.
+/// An opening and a reply of the right lengths, every byte 1, so that neither is
+/// blank.
 fn messages(s: &Scheme) -> (Vec<u8>, Vec<u8>) {
-    (vec![0; s.opening_bytes()], vec![0; s.reply_bytes()])
+    (vec![1; s.opening_bytes()], vec![1; s.reply_bytes()])
 }
 
 /// Where the packed part of an opening starts.
-fn start(s: &Scheme) -> usize {
+pub fn start(s: &Scheme) -> usize {
     if s.family == Family::Frodo {
         16
     } else {
@@ -59,7 +61,7 @@ fn start(s: &Scheme) -> usize {
 }
 
 /// Sets a packed number of a message.
-fn set(s: &Scheme, message: &mut [u8], start: usize, index: usize, number: u32) {
+pub fn set(s: &Scheme, message: &mut [u8], start: usize, index: usize, number: u32) {
     let packed = &mut message[start..start + s.packed_bytes()];
     let mut numbers = unpack(packed, s.width);
     numbers[index] = number;
@@ -269,7 +271,7 @@ fn number_5_in_bcns_and_newhope() {
 #[test]
 fn number_5_never_in_frodo() {
     for s in &SIX[2..] {
-        let good = Inputs::zero(s);
+        let good = Inputs::sparse(s);
         let (opening, reply) = messages(s);
         good.reply_and_key(&vec![0xFF; opening.len()]);
         good.peer(&vec![0xFF; reply.len()]);
@@ -282,10 +284,10 @@ fn the_largest_numbers_pass() {
         let largest = s.largest_noise as i32;
         let mut inputs = Inputs::zero(s);
         inputs.a.fill((s.q - 1) as u32);
-        for values in [&mut inputs.s, &mut inputs.e, &mut inputs.s1] {
+        for values in [&mut inputs.s, &mut inputs.s1] {
             values.fill(largest);
         }
-        for values in [&mut inputs.e1, &mut inputs.e2] {
+        for values in [&mut inputs.e, &mut inputs.e1, &mut inputs.e2] {
             values.fill(-largest);
         }
         inputs.opening();
@@ -341,6 +343,7 @@ fn order_in_offer() {
     for s in &SIX {
         let largest = s.largest_noise as i32;
         let mut bad = Inputs::zero(s);
+        offer_refuses(&bad, refusal(17, 0));
         bad.e[1] = largest + 1;
         offer_refuses(&bad, refusal(6, 1));
         bad.s[2] = largest + 1;
@@ -362,12 +365,15 @@ fn order_in_reply() {
         let largest = s.largest_noise as i32;
         let (mut opening, _) = messages(s);
         let mut bad = Inputs::zero(s);
+        reply_refuses(&bad, &opening, refusal(17, 0));
         bad.e2[1] = largest + 1;
         reply_refuses(&bad, &opening, refusal(6, 1));
         bad.e1[2] = largest + 1;
         reply_refuses(&bad, &opening, refusal(6, 2));
         bad.s1[3] = largest + 1;
         reply_refuses(&bad, &opening, refusal(6, 3));
+        opening.fill(0);
+        reply_refuses(&bad, &opening, refusal(17, 0));
         if s.family != Family::Frodo {
             set(s, &mut opening, 0, 4, s.q as u32);
             reply_refuses(&bad, &opening, refusal(5, 4));
@@ -395,6 +401,8 @@ fn order_in_finish() {
         let mut bad = Inputs::zero(s);
         bad.s[1] = s.largest_noise as i32 + 1;
         finish_refuses(&bad, &reply, refusal(6, 1));
+        reply.fill(0);
+        finish_refuses(&bad, &reply, refusal(17, 0));
         if s.family != Family::Frodo {
             set(s, &mut reply, 0, 2, s.q as u32);
             finish_refuses(&bad, &reply, refusal(5, 2));

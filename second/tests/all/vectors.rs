@@ -1,14 +1,15 @@
 //! `second vectors` held to docs/VECTORS.md, and its refusals to 01, by hand.
 
 use crate::program::run;
+use crate::refusals::start;
 use second::packing::unpack;
 use second::schemes::{FRODO_CHALLENGE, NEWHOPE, SIX};
-use second::vectors::cases::{of_exchange, Case};
+use second::vectors::cases::{of_blank, of_exchange, Case};
 use second::vectors::draw::{drawn, Entries, Stream};
 use second::vectors::good::Lists;
 use second::vectors::input::Input;
 use second::vectors::lines::checksum;
-use second::vectors::run::run as make;
+use second::vectors::run::{lent, run as make};
 use std::ops::Range;
 use std::sync::OnceLock;
 
@@ -23,11 +24,11 @@ fn lines() -> &'static [String] {
     })
 }
 
-/// The lines of a call in a scheme, the wide case apart.
+/// The lines of a call in a scheme, the wide case and the blank ones apart.
 fn of(call: &str, scheme: usize) -> Vec<&'static str> {
     starting(&format!("{call} scheme={scheme} case="))
         .into_iter()
-        .filter(|line| !line.contains("case=wide"))
+        .filter(|line| !line.contains("case=wide") && !line.contains("case=blank"))
         .collect()
 }
 
@@ -162,7 +163,13 @@ fn how_many_cases() {
     assert_eq!(starting("grow ").len(), 46);
     assert_eq!(starting("shake128 ").len(), 24);
     assert_eq!(starting("sha3_256 ").len(), 19);
-    assert_eq!(lines().len(), 2611);
+    for (call, count) in BLANK {
+        for scheme in 0..6 {
+            let blank = starting(&format!("{call} scheme={scheme} case=blank"));
+            assert_eq!(blank.len(), count);
+        }
+    }
+    assert_eq!(lines().len(), 2767);
 }
 
 #[test]
@@ -176,6 +183,10 @@ fn the_order_of_the_lines() {
         }
         for call in ["offer", "reply", "finish", "bench"] {
             expected.push(format!("{call} scheme={scheme} case=wide "));
+        }
+        for (call, count) in BLANK {
+            let blank = |case| format!("{call} scheme={scheme} case=blank{case} ");
+            expected.extend((0..count).map(blank));
         }
     }
     for (call, count) in [("expand", 58), ("grow", 17)] {
@@ -352,6 +363,73 @@ fn a_fault_of_offer_comes_before_one_of_reply() {
         };
         let refusal = make(&good, &coins).refusal.unwrap();
         assert_eq!((refusal.number, refusal.place), LENGTH);
+    }
+}
+
+/// How many blank cases each call has in a scheme.
+const BLANK: [(&str, usize); 4] = [("offer", 5), ("reply", 11), ("finish", 6), ("bench", 4)];
+
+#[test]
+fn blank() {
+    let blank = (17, 0);
+    for (number, scheme) in SIX.iter().enumerate() {
+        let middle = scheme.public_count() / 2;
+        let [last, last_e2] = [scheme.noise_count() - 1, scheme.last_noise_count() - 1];
+        let expected = [
+            vec![GOOD, GOOD, blank, (4, middle), (6, last)],
+            vec![
+                blank,
+                GOOD,
+                GOOD,
+                GOOD,
+                blank,
+                (4, middle),
+                GOOD,
+                GOOD,
+                blank,
+                (6, last_e2),
+                blank,
+            ],
+            vec![blank, GOOD, GOOD, GOOD, blank, LENGTH],
+            vec![blank, blank, GOOD, blank],
+        ];
+        for ((call, _), expected) in BLANK.into_iter().zip(expected) {
+            let lines = starting(&format!("{call} scheme={number} case=blank"));
+            assert_eq!(told(&lines), expected);
+        }
+    }
+}
+
+#[test]
+fn a_blank_message_keeps_seed_and_hints() {
+    for (scheme, start) in [(&NEWHOPE, 0), (&FRODO_CHALLENGE, 16)] {
+        let end = start + scheme.packed_bytes();
+        let mut input = Input::message(scheme, start, vec![7; end + 9]);
+        input.zero();
+        assert_eq!(input.entries[..start], [7; 16][..start]);
+        assert!(input.entries[start..end].iter().all(|&byte| byte == 0));
+        assert_eq!(input.entries[end..end + 9], [7; 9]);
+    }
+}
+
+#[test]
+fn one_byte_of_a_blank_message_is_1() {
+    for scheme in &SIX {
+        let lists = Lists::drawn(scheme);
+        let m = scheme.packed_bytes();
+        let calls = [
+            (lists.reply(vec![3; scheme.opening_bytes()]), start(scheme)),
+            (lists.finish(vec![3; scheme.reply_bytes()]), 0),
+        ];
+        for (good, start) in calls {
+            let cases = of_blank(&good);
+            for (case, at) in cases[1..4].iter().zip([0, m / 2, m - 1]) {
+                let mut expected = vec![3; good.inputs[0].n];
+                expected[start..start + m].fill(0);
+                expected[start + at] = 1;
+                assert_eq!(lent(&good, case)[0], expected);
+            }
+        }
     }
 }
 
