@@ -24,6 +24,8 @@ const char *wim_refusal_text(uint32_t refusal)
         return "a lent public number is q or more";
     case WIM_MESSAGE_OVER:
         return "a number of the message is q or more";
+    case WIM_BLANK:
+        return "a message's packed part is all zero bytes";
     case WIM_SECRET_BEYOND:
         return "a secret or noise value lies beyond the largest noise";
     case WIM_RAN_OUT:

@@ -44,17 +44,22 @@
  *     WIM_ROOM           3   an output buffer is shorter than the answer
  *     WIM_PUBLIC_OVER    4   a lent public number is q or more
  *     WIM_MESSAGE_OVER   5   a number of the message is q or more
+ *     WIM_BLANK         17   a message's packed part is all zero bytes
  *     WIM_SECRET_BEYOND  6   a secret or noise value lies beyond the largest noise
  *     WIM_RAN_OUT        7   the stream held fewer than 1024 numbers
  *
  * 5 never arises in Frodo, 6 is for values above the largest noise or below its negative, and 7 and
- * 12 are those of wim_expand and wim_grow alone; no seed is known for which wim_grow gives 7.
+ * 12 are those of wim_expand and wim_grow alone; no seed is known for which wim_grow gives 7. 17 is
+ * for a message without content, as a dead card sends it: seed and hints don't count. It is given
+ * for a message received, and for one about to be sent, which is zero where secret and noise are;
+ * a zero secret with some noise passes.
  * *place is the index of the first bad entry after 4, 5 and 6, how many numbers the stream held
- * after 7, and 0 after 1, 12, 2, 3 and a success.
+ * after 7, and 0 after 1, 12, 2, 3, 17 and a success.
  *
  * The tests go in the order of this table, and within one number in the order in which the inputs,
- * or for 3 the outputs, stand in the call; the first that fails is the refusal. An index counts
- * entries from 0 in its own input; in a message, the numbers of its packed part.
+ * or for 3 the outputs, stand in the call; the first that fails is the refusal. 17 stands there for
+ * a part received, after 5 and before 6; that of a part about to be sent comes last, after 6. An
+ * index counts entries from 0 in its own input; in a message, the numbers of its packed part.
  *
  * After a success the answer stands at the start of its output, its length, in entries of that
  * output, in *written (where there are several, in the count with the output's name), and the rest
@@ -121,10 +126,11 @@
  *
  * Measured and not proved: on accepted input no address depends on a secret, and the branches that
  * do are the verdicts of the range tests (refusal 6), one an input: 2 in wim_offer, 3 in wim_reply,
- * 1 in wim_finish, none in wim_noise and the two hashes. wim_bench has those of its parts, and
- * branches on the numbers of the messages and on the keys, which it compares. A refused secret is
- * searched value by value for its place. Nothing is divided but 2^32 - 1 by q. So it is in the
- * archive for x86-64, by valgrind with the secrets marked as undefined, in all schemes
+ * 1 in wim_finish, none in wim_noise and the two hashes. wim_offer and wim_reply have one more, on
+ * the first number that is sent (refusal 17), which the peer sees anyway. wim_bench has those of
+ * its parts, and branches on the numbers of the messages and on the keys, which it compares. A
+ * refused secret is searched value by value for its place. Nothing is divided but 2^32 - 1 by q. So
+ * it is in the archive for x86-64, by valgrind with the secrets marked as undefined, in all schemes
  * (runs/secrets); another compiler may do otherwise, and what the processor makes of it is not
  * measured.
  */
@@ -173,6 +179,7 @@ extern "C" {
 #define WIM_SECRET_BEYOND 6
 #define WIM_RAN_OUT 7
 #define WIM_NO_RULE 12
+#define WIM_BLANK 17
 
 /*
  * The fixed numbers of each scheme, here X:
@@ -297,7 +304,8 @@ extern "C" {
 
 /*
  * Offer: scheme, public a, secret s, noise e, seed. Gives the opening message: as + e in packed
- * bytes, and the seed (first in Frodo, last in NewHope). Refuses with 1, 2, 3, 4, 6.
+ * bytes, and the seed (first in Frodo, last in NewHope). Refuses with 1, 2, 3, 4, 6, 17: the last
+ * where as + e is zero, as it is where s and e are.
  */
 WIM_MUST_USE uint32_t wim_offer(uint32_t scheme, const uint32_t *a, size_t a_len,
                                 const int32_t *s, size_t s_len, const int32_t *e, size_t e_len,
@@ -308,7 +316,8 @@ WIM_MUST_USE uint32_t wim_offer(uint32_t scheme, const uint32_t *a, size_t a_len
 /*
  * Reply: scheme, opening message, public a, s', e', e'', coins. Gives the reply message (as' + e'
  * in packed bytes, then the hints of bs' + e''), the replier's key and the key's SHA3-256. Refuses
- * with 1, 2, 3, 4, 5, 6; of 3, the message's room is tested first and the digest's last.
+ * with 1, 2, 3, 4, 5, 17 (the opening), 6, 17 (the reply, where as' + e' is zero), in this order;
+ * of 3, the message's room is tested first and the digest's last.
  */
 WIM_MUST_USE uint32_t wim_reply(uint32_t scheme, const uint8_t *opening, size_t opening_len,
                                 const uint32_t *a, size_t a_len,
@@ -324,7 +333,7 @@ WIM_MUST_USE uint32_t wim_reply(uint32_t scheme, const uint8_t *opening, size_t 
 
 /*
  * Finish: scheme, reply message, secret s. Gives the initiator's key and the key's SHA3-256.
- * Refuses with 1, 2, 3, 5, 6; of 3, the key's room is tested first.
+ * Refuses with 1, 2, 3, 5, 17, 6, in this order; of 3, the key's room is tested first.
  */
 WIM_MUST_USE uint32_t wim_finish(uint32_t scheme, const uint8_t *reply, size_t reply_len,
                                  const int32_t *s, size_t s_len,
@@ -379,8 +388,8 @@ WIM_MUST_USE uint32_t wim_sha3_256(const uint8_t *input, size_t input_len,
  * Bench: both ends on lent secrets, the initiator's s, e and seed and the replier's s', e', e''
  * and coins. *differ is 0 where the two keys agree, and else 1 + the first differing bit, counted
  * lowest first through the bytes. Messages and keys stay inside, so that there is no output.
- * Refuses with 1, 2, 4, 6: all of Offer's tests come first, then Reply's. After a refusal *differ
- * is 0.
+ * Refuses with 1, 2, 4, 6, 17: all of Offer's tests come first, then Reply's. After a refusal
+ * *differ is 0.
  */
 WIM_MUST_USE uint32_t wim_bench(uint32_t scheme, const uint32_t *a, size_t a_len,
                                 const int32_t *s, size_t s_len, const int32_t *e, size_t e_len,
