@@ -60,7 +60,8 @@ impl<'s> Initiator<'s> {
     ///
     /// # Errors
     ///
-    /// Refuses with 2, 3, 4 and 6. Both secrets are then wiped.
+    /// Refuses with 2, 3, 4, 6 and 17, the last where the opening would be blank.
+    /// Both secrets are then wiped.
     pub fn offer<'m>(
         scheme: Scheme,
         a: &[u32],
@@ -87,8 +88,8 @@ impl<'s> Initiator<'s> {
     ///
     /// # Errors
     ///
-    /// Refuses with 2, 3 and 5; with 6 never, since the offer has tested s. s is
-    /// wiped, and the exchange is over.
+    /// Refuses with 2, 3, 5 and 17, the last where the reply is blank; with 6
+    /// never, since the offer has tested s. s is wiped, and the exchange is over.
     pub fn finish<'k>(self, reply: &[u8], key: &'k mut [u8]) -> Result<Finished<'k>, Refusal> {
         let mut digest = [0; 32];
         let (written, _) = raw::finish(
@@ -169,7 +170,9 @@ impl<'s> Replier<'s> {
     ///
     /// # Errors
     ///
-    /// Refuses with 2, 3, 4, 5 and 6. The secrets are wiped all the same.
+    /// Refuses with 2, 3, 4, 5, 17, 6 and 17, in this order: first where the
+    /// opening is blank, last where the reply would be. The secrets are wiped all
+    /// the same.
     pub fn reply<'m, 'k>(
         self,
         opening: &[u8],

@@ -44,7 +44,7 @@ pub fn scrub() {
 ///
 /// # Errors
 ///
-/// Refuses with 1, 2, 3, 4 and 6.
+/// Refuses with 1, 2, 3, 4, 6 and 17.
 pub fn offer(
     scheme: u32,
     a: &[u32],
@@ -84,8 +84,8 @@ pub fn offer(
 ///
 /// # Errors
 ///
-/// Refuses with 1, 2, 3, 4, 5 and 6; of 3, the message's room is tested first
-/// and the digest's last.
+/// Refuses with 1, 2, 3, 4, 5, 17 (the opening), 6 and 17 (the reply), in this
+/// order; of 3, the message's room is tested first and the digest's last.
 #[allow(clippy::too_many_arguments)]
 pub fn reply(
     scheme: u32,
@@ -144,7 +144,8 @@ pub fn reply(
 ///
 /// # Errors
 ///
-/// Refuses with 1, 2, 3, 5 and 6; of 3, the key's room is tested first.
+/// Refuses with 1, 2, 3, 5, 17 and 6, in this order; of 3, the key's room is
+/// tested first.
 pub fn finish(
     scheme: u32,
     reply: &[u8],
@@ -317,7 +318,7 @@ pub enum Bench {
 ///
 /// # Errors
 ///
-/// Refuses with 1, 2, 4 and 6; all of Offer's tests come first, then Reply's.
+/// Refuses with 1, 2, 4, 6 and 17; all of Offer's tests come first, then Reply's.
 #[allow(clippy::too_many_arguments)]
 pub fn bench(
     scheme: u32,

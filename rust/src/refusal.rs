@@ -3,6 +3,8 @@ use core::fmt;
 
 /// Why a call was refused. The tests go in the order in which they stand here,
 /// and within a number in the order of the inputs; the first that fails is told.
+/// [`Blank`](Refusal::Blank) stands here for a message received; for one about to
+/// be sent it comes last.
 #[derive(Clone, Copy, Debug, PartialEq, Eq, Hash)]
 pub enum Refusal {
     /// 1: the scheme is not 0 to 5 (Noise: not 1 to 5).
@@ -18,6 +20,9 @@ pub enum Refusal {
     PublicOver(usize),
     /// 5: a number of the message is q or more; the index of the first.
     MessageOver(usize),
+    /// 17: the packed part of a message, received or about to be sent, is all
+    /// zero bytes; seed and hints don't count.
+    Blank,
     /// 6: a secret or noise value lies beyond the largest noise; the index of
     /// the first.
     SecretBeyond(usize),
@@ -26,7 +31,7 @@ pub enum Refusal {
 }
 
 impl Refusal {
-    /// The number, 1 to 7 or 12.
+    /// The number, 1 to 7, 12 or 17.
     pub fn number(self) -> u32 {
         match self {
             Refusal::NoScheme => 1,
@@ -35,6 +40,7 @@ impl Refusal {
             Refusal::Room => 3,
             Refusal::PublicOver(_) => 4,
             Refusal::MessageOver(_) => 5,
+            Refusal::Blank => 17,
             Refusal::SecretBeyond(_) => 6,
             Refusal::RanOut(_) => 7,
         }
@@ -44,7 +50,11 @@ impl Refusal {
     /// numbers a stream held; 0 where there is none.
     pub fn place(self) -> usize {
         match self {
-            Refusal::NoScheme | Refusal::NoRule | Refusal::Length | Refusal::Room => 0,
+            Refusal::NoScheme
+            | Refusal::NoRule
+            | Refusal::Length
+            | Refusal::Room
+            | Refusal::Blank => 0,
             Refusal::PublicOver(k)
             | Refusal::MessageOver(k)
             | Refusal::SecretBeyond(k)
@@ -69,6 +79,7 @@ impl Refusal {
             3 => Refusal::Room,
             4 => Refusal::PublicOver(place),
             5 => Refusal::MessageOver(place),
+            17 => Refusal::Blank,
             6 => Refusal::SecretBeyond(place),
             7 => Refusal::RanOut(place),
             _ => unreachable!("the archive has no other refusal"),
@@ -80,7 +91,11 @@ impl fmt::Display for Refusal {
     fn fmt(&self, f: &mut fmt::Formatter) -> fmt::Result {
         write!(f, "refusal {}: {}", self.number(), self.text())?;
         match self {
-            Refusal::NoScheme | Refusal::NoRule | Refusal::Length | Refusal::Room => Ok(()),
+            Refusal::NoScheme
+            | Refusal::NoRule
+            | Refusal::Length
+            | Refusal::Room
+            | Refusal::Blank => Ok(()),
             Refusal::PublicOver(k) | Refusal::MessageOver(k) | Refusal::SecretBeyond(k) => {
                 write!(f, ", the first at {k}")
             }

@@ -1,6 +1,7 @@
 //! Ways in which an input or an output's room goes wrong.
 
 use crate::generator::Generator;
+use std::ops::Range;
 
 fn one_of<T: Copy>(g: &mut Generator, ways: &[T]) -> T {
     ways[g.below(ways.len() as u64) as usize]
@@ -47,6 +48,28 @@ pub fn message(g: &mut Generator, bytes: &mut [u8]) {
         let at = index(g, bytes.len()) / 4 * 4;
         let end = bytes.len().min(at + 4);
         bytes[at..end].fill(0xFF);
+    }
+}
+
+/// The packed part of a message zero, or zero but for one byte.
+pub fn blank(g: &mut Generator, bytes: &mut [u8], packed: Range<usize>) {
+    let end = packed.end.min(bytes.len());
+    if packed.start < end {
+        let part = &mut bytes[packed.start..end];
+        part.fill(0);
+        let at = index(g, part.len());
+        part[at] = one_of(g, &[0, 0, 1, 128]);
+    }
+}
+
+/// A secret and its noise zero, or zero but for one value.
+pub fn zero(g: &mut Generator, s: &mut [i32], e: &mut [i32]) {
+    s.fill(0);
+    e.fill(0);
+    let one = if g.below(4) == 0 { s } else { e };
+    if !one.is_empty() {
+        let at = index(g, one.len());
+        one[at] = one_of(g, &[0, 0, 1, -1]);
     }
 }
 

@@ -8,6 +8,7 @@ use crate::lent::Lent;
 use second::schemes::{Family, Scheme, SIX};
 use std::collections::BTreeSet;
 use std::fmt::Debug;
+use std::ops::Range;
 
 /// Inputs of all calls of a scheme, and the messages that they give.
 struct Ready {
@@ -74,6 +75,19 @@ fn number(scheme: &Scheme) -> u32 {
     scheme.number as u32
 }
 
+/// Where the packed part of an opening starts.
+fn start(scheme: &Scheme) -> usize {
+    match scheme.family {
+        Family::Frodo => scheme.seed_bytes(),
+        _ => 0,
+    }
+}
+
+/// A message's packed part.
+fn packed(scheme: &Scheme, start: usize) -> Range<usize> {
+    start..start + scheme.packed_bytes()
+}
+
 fn offer(g: &mut Generator, ready: &Ready) -> u32 {
     let (i, fixed) = (&ready.inputs, ready.inputs.scheme);
     let (q, largest) = (fixed.q as u32, fixed.largest_noise as i32);
@@ -81,7 +95,7 @@ fn offer(g: &mut Generator, ready: &Ready) -> u32 {
     let (mut a, mut s, mut e) = (i.a.clone(), i.s.clone(), i.e.clone());
     let mut seed = i.seed.clone();
     for _ in 0..damages(g, fixed) {
-        match g.below(10) {
+        match g.below(11) {
             0 => scheme = damage::scheme(g),
             1 => damage::length(g, &mut a),
             2 => damage::length(g, &mut s),
@@ -90,7 +104,8 @@ fn offer(g: &mut Generator, ready: &Ready) -> u32 {
             5 => damage::public(g, &mut a, q),
             6 => damage::secret(g, &mut s, largest),
             7 => damage::secret(g, &mut e, largest),
-            _ => room = damage::room(g, fixed.opening_bytes()),
+            8 => room = damage::room(g, fixed.opening_bytes()),
+            _ => damage::zero(g, &mut s, &mut e),
         }
     }
 
@@ -126,7 +141,7 @@ fn reply(g: &mut Generator, ready: &Ready) -> u32 {
     let (mut s1, mut e1, mut e2) = (i.s1.clone(), i.e1.clone(), i.e2.clone());
     let mut coins = i.coins.clone();
     for _ in 0..damages(g, fixed) {
-        match g.below(19) {
+        match g.below(21) {
             0 => scheme = damage::scheme(g),
             1 => damage::length(g, &mut opening),
             2 => damage::length(g, &mut a),
@@ -141,6 +156,8 @@ fn reply(g: &mut Generator, ready: &Ready) -> u32 {
             11 => damage::secret(g, &mut e1, largest),
             12 => damage::secret(g, &mut e2, largest),
             13 => digest_room = damage::room(g, 32),
+            14 | 15 => damage::zero(g, &mut s1, &mut e1),
+            16 | 17 => damage::blank(g, &mut opening, packed(fixed, start(fixed))),
             _ => damage::message(g, &mut opening),
         }
     }
@@ -197,13 +214,14 @@ fn finish(g: &mut Generator, ready: &Ready) -> u32 {
     let mut digest_room = 32 + 3;
     let (mut reply, mut s) = (ready.reply.clone(), ready.inputs.s.clone());
     for _ in 0..damages(g, fixed) {
-        match g.below(9) {
+        match g.below(10) {
             0 => scheme = damage::scheme(g),
             1 => damage::length(g, &mut reply),
             2 => damage::length(g, &mut s),
             3 => room = damage::room(g, fixed.key_bytes),
             4 => damage::secret(g, &mut s, fixed.largest_noise as i32),
             5 => digest_room = damage::room(g, 32),
+            6 | 7 => damage::blank(g, &mut reply, packed(fixed, 0)),
             _ => damage::message(g, &mut reply),
         }
     }
@@ -370,7 +388,7 @@ fn bench(g: &mut Generator, ready: &Ready) -> u32 {
     let (mut s1, mut e1, mut e2) = (i.s1.clone(), i.e1.clone(), i.e2.clone());
     let (mut seed, mut coins) = (i.seed.clone(), i.coins.clone());
     for _ in 0..damages(g, fixed) {
-        match g.below(15) {
+        match g.below(17) {
             0 => scheme = damage::scheme(g),
             1 => damage::length(g, &mut a),
             2 => damage::length(g, &mut s),
@@ -385,6 +403,8 @@ fn bench(g: &mut Generator, ready: &Ready) -> u32 {
             11 => damage::secret(g, &mut e, largest),
             12 => damage::secret(g, &mut s1, largest),
             13 => damage::secret(g, &mut e1, largest),
+            14 => damage::zero(g, &mut s, &mut e),
+            15 => damage::zero(g, &mut s1, &mut e1),
             _ => damage::secret(g, &mut e2, largest),
         }
     }
@@ -434,11 +454,11 @@ fn second_differing(found: second::calls::Bench) -> Option<usize> {
 /// The calls by name, with every refusal that each can give, and 0; but no seed
 /// is known that Grow refuses with 7.
 const EACH: [(&str, &[u32]); 9] = [
-    ("offer", &[0, 1, 2, 3, 4, 6]),
-    ("reply", &[0, 1, 2, 3, 4, 5, 6]),
-    ("finish", &[0, 1, 2, 3, 5, 6]),
+    ("offer", &[0, 1, 2, 3, 4, 6, 17]),
+    ("reply", &[0, 1, 2, 3, 4, 5, 6, 17]),
+    ("finish", &[0, 1, 2, 3, 5, 6, 17]),
     ("noise", &[0, 1, 2, 3]),
-    ("bench", &[0, 1, 2, 4, 6]),
+    ("bench", &[0, 1, 2, 4, 6, 17]),
     ("expand", &[0, 2, 3, 7, 12]),
     ("grow", &[0, 2, 3, 12]),
     ("shake128", &[0, 2]),

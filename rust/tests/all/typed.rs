@@ -94,6 +94,75 @@ fn refusals() {
     }
 }
 
+/// A blank message, sent or received, is refused at each of the three places,
+/// and the secrets are wiped. One value of the noise is enough to be sent.
+#[test]
+fn blanks() {
+    for fixed in &SIX {
+        let good = Inputs::random(fixed, &mut Generator::new(80));
+        let (scheme, sizes) = (scheme(&good), scheme(&good).sizes());
+        let (mut room, mut message) = (vec![9; sizes.opening], vec![9; sizes.reply]);
+        let mut key = vec![9; sizes.key];
+        let offer = |i: &mut Inputs, room: &mut [u8]| {
+            let (s, e) = (Secret::new(&mut i.s), Secret::new(&mut i.e));
+            Initiator::offer(scheme, &i.a, s, e, &i.seed, room)
+                .map(|_| ())
+                .err()
+        };
+        let mut reply = |i: &mut Inputs, opening: &[u8]| {
+            let (s1, e1) = (Secret::new(&mut i.s1), Secret::new(&mut i.e1));
+            let (e2, coins) = (Secret::new(&mut i.e2), Secret::new(&mut i.coins));
+            let replier = Replier::new(scheme, s1, e1, e2, coins);
+            let replied = replier.reply(opening, &i.a, &mut message, &mut key);
+            let told = replied.map(|_| ()).err();
+            assert_eq!(key, vec![0; sizes.key], "refused, or wiped");
+            (told, message.clone())
+        };
+
+        let mut i = good.clone();
+        i.s.fill(0);
+        i.e.fill(0);
+        assert_eq!(offer(&mut i, &mut room), Some(Refusal::Blank));
+        assert_eq!(room, vec![0; sizes.opening]);
+        i.e[sizes.s - 1] = 1;
+        assert_eq!(offer(&mut i, &mut room), None);
+
+        // The opening has its seed and no number.
+        let packed = fixed.packed_bytes();
+        let start = if fixed.number < 2 { 0 } else { sizes.seed };
+        let mut blank = good.opening();
+        blank[start..start + packed].fill(0);
+        let mut i = good.clone();
+        let (told, message) = reply(&mut i, &blank);
+        assert_eq!(told, Some(Refusal::Blank));
+        assert_eq!(message, vec![0; sizes.reply]);
+        assert_eq!((i.s1, i.e2), (vec![0; sizes.s], vec![0; sizes.e2]));
+
+        // The reply would have none.
+        let mut i = good.clone();
+        i.s1.fill(0);
+        i.e1.fill(0);
+        let (told, message) = reply(&mut i, &good.opening());
+        assert_eq!(told, Some(Refusal::Blank));
+        assert_eq!(message, vec![0; sizes.reply]);
+        i = good.clone();
+        i.s1.fill(0);
+        assert_eq!(reply(&mut i, &good.opening()).0, None);
+
+        // The reply has its hints and no number.
+        let mut i = good.clone();
+        let (mut blank, _) = i.reply_and_key(&i.opening());
+        blank[..packed].fill(0);
+        let (s, e) = (Secret::new(&mut i.s), Secret::new(&mut i.e));
+        let offered = Initiator::offer(scheme, &i.a, s, e, &i.seed, &mut room);
+        let initiator = offered.expect("good inputs").initiator;
+        let mut peer_key = vec![9; sizes.key];
+        let refused = initiator.finish(&blank, &mut peer_key).map(|_| ());
+        assert_eq!(refused.err(), Some(Refusal::Blank));
+        assert_eq!((i.s, peer_key), (vec![0; sizes.s], vec![0; sizes.key]));
+    }
+}
+
 /// Noise wipes its bytes, and gives what the raw call gives.
 #[test]
 fn noise() {
@@ -212,5 +281,9 @@ fn texts() {
     assert_eq!(
         Refusal::NoRule.to_string(),
         "refusal 12: the rule is not 14 or 16"
+    );
+    assert_eq!(
+        Refusal::Blank.to_string(),
+        "refusal 17: a message's packed part is all zero bytes"
     );
 }
