@@ -87,8 +87,11 @@ Status 0: done; written=N (of reply and finish key_written=N and so on), agree o
 Status 1: refused; one line, as refusal=6 place=3 input=e value=7 largest=6
           1 no such scheme            4 a public number is q or more
          12 no such rule              5 a number of the message is q or more
-          2 a wrong length            6 a secret or noise is too large
-          3 (not here)                7 the stream of expand or grow ran out
+          2 a wrong length           17 a message is blank: all its packed bytes are zero
+          3 (not here)                6 a secret or noise is too large
+                                      7 the stream of expand or grow ran out
+          A blank message is an input, as a dead card sends it, or the answer, where a secret and
+          its noise are zero.
           place counts from 0. A length of 33.. is 33 or more. To - nothing is written.
 Status 2: wrong words. Status 3: a file. Both with lines on standard error.
 With an output to - the lines of an answer go to standard error too. Ended by a signal, the

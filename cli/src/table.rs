@@ -59,9 +59,18 @@ pub struct Input {
     pub word: &'static str,
     pub kind: Kind,
     pub length: Length,
-    /// Whether it is a message, of whose packed numbers refusal 5 speaks.
-    pub message: bool,
+    /// Of a message, where its packed part begins, of which refusals 5 and 17
+    /// speak.
+    pub packed: Option<fn(&Sizes) -> usize>,
     pub what: &'static str,
+}
+
+impl Input {
+    /// The packed part of a message that is long enough to have one.
+    pub fn packed<'a>(&self, sizes: &Sizes, message: &'a [u8]) -> Option<&'a [u8]> {
+        let start = self.packed?(sizes);
+        message.get(start..start + sizes.opening - sizes.seed)
+    }
 }
 
 #[derive(Clone, Copy)]
@@ -200,7 +209,7 @@ const A: Input = Input {
     word: "A",
     kind: Kind::Numbers,
     length: Length::By(|z| z.a),
-    message: false,
+    packed: None,
     what: "the public numbers a, below q, known to both ends",
 };
 
@@ -209,7 +218,7 @@ const fn values(word: &'static str, what: &'static str) -> Input {
         word,
         kind: Kind::Values,
         length: Length::By(|z| z.s),
-        message: false,
+        packed: None,
         what,
     }
 }
@@ -234,7 +243,7 @@ const fn bytes(word: &'static str, length: Length, what: &'static str) -> Input 
         word,
         kind: Kind::Bytes,
         length,
-        message: false,
+        packed: None,
         what,
     }
 }
@@ -250,12 +259,15 @@ const COINS: Input = bytes(
     "random bytes for the hints; none in Frodo",
 );
 
-const fn message(word: &'static str, length: Length, what: &'static str) -> Input {
-    Input {
-        message: true,
-        ..bytes(word, length, what)
-    }
-}
+const OPENING: Input = Input {
+    // Frodo, which alone has no coins, puts the seed first
+    packed: Some(|z| if z.coins == 0 { z.seed } else { 0 }),
+    ..bytes("OPENING", Length::By(|z| z.opening), "the opening message")
+};
+const REPLY: Input = Input {
+    packed: Some(|_| 0),
+    ..bytes("REPLY", Length::By(|z| z.reply), "the reply message")
+};
 
 const HASHED: Input = bytes("INPUT", Length::AtMost(HASH_INPUT), "what is hashed");
 
@@ -325,7 +337,8 @@ pub const COMMANDS: &[Command] = &[
             )],
             call: calls::offer,
         }),
-        more: "S is kept for finish and then wiped. E is wiped at once.",
+        more: "S is kept for finish and then wiped. E is wiped at once. Where both are zero the\n\
+               message would be blank, and is refused by 17.",
         example: "wimmostry offer 1 a left/s left/e left/seed left/opening",
     },
     Command {
@@ -333,14 +346,7 @@ pub const COMMANDS: &[Command] = &[
         brief: "the replier's step: the reply message, the replier's key and its digest",
         form: Form::Files(OnFiles {
             by: ALL_SCHEMES,
-            inputs: &[
-                message("OPENING", Length::By(|z| z.opening), "the opening message"),
-                A,
-                S1,
-                E1,
-                E2,
-                COINS,
-            ],
+            inputs: &[OPENING, A, S1, E1, E2, COINS],
             outputs: &[
                 Output {
                     label: "message_written",
@@ -355,7 +361,9 @@ pub const COMMANDS: &[Command] = &[
             ],
             call: calls::reply,
         }),
-        more: "S1, E1, E2 and COINS are wiped afterwards. DIGEST is as finish has it.",
+        more: "S1, E1, E2 and COINS are wiped afterwards. DIGEST is as finish has it. A blank\n\
+               opening is refused by 17; so are S1 and E1 that are both zero, whose reply would be\n\
+               blank.",
         example:
             "wimmostry reply 1 right/opening a right/s1 right/e1 right/e2 right/coins \\\n      \
                   right/reply right/key right/digest",
@@ -365,17 +373,14 @@ pub const COMMANDS: &[Command] = &[
         brief: "the initiator's second step: the initiator's key and its digest",
         form: Form::Files(OnFiles {
             by: ALL_SCHEMES,
-            inputs: &[
-                message("REPLY", Length::By(|z| z.reply), "the reply message"),
-                S,
-            ],
+            inputs: &[REPLY, S],
             outputs: &[KEY, DIGEST_OF_KEY],
             call: calls::finish,
         }),
-        more: "S is wiped afterwards. The key is raw: hash it, together with both messages, and\n\
-               confirm it with the peer before use. Equal keys have equal digests, so that both\n\
-               ends can show or compare DIGEST and never show a key; a digest that is used as the\n\
-               key is not shown.",
+        more: "S is wiped afterwards. A blank reply is refused by 17. The key is raw: hash it,\n\
+               together with both messages, and confirm it with the peer before use. Equal keys\n\
+               have equal digests, so that both ends can show or compare DIGEST and never show a\n\
+               key; a digest that is used as the key is not shown.",
         example: "wimmostry finish 1 left/reply left/s left/key left/digest",
     },
     Command {

@@ -5,7 +5,7 @@ use crate::calls::{rules, Answer, Refused, Sizes, EXPAND_NUMBERS};
 use crate::data::Data;
 use crate::escape::shown;
 use crate::files::Lent;
-use crate::table::{By, Length, OnFiles};
+use crate::table::{By, Input, Length, OnFiles};
 use std::ffi::OsStr;
 use std::io::{self, ErrorKind, Write};
 
@@ -103,6 +103,7 @@ pub fn refusal(own: &OnFiles, asked: u32, refused: Refused, given: &[Lent]) -> S
         3 => room(own, sizes.as_ref()),
         4..=6 => entry(own, sizes.as_ref(), refused, given),
         7 => ran_out(own),
+        17 => blank(own, sizes.as_ref(), given),
         _ => None,
     };
     match detail {
@@ -185,8 +186,9 @@ fn entry(own: &OnFiles, sizes: Option<&Sizes>, refused: Refused, given: &[Lent])
                 let found = found.map(|k| (k, i64::from(all[k])));
                 (found, format!("below={}", sizes.q))
             }
-            (Data::Bytes(all), 5) if input.message => {
-                let found = first_over(all, sizes.opening - sizes.seed, sizes.q);
+            (Data::Bytes(all), 5) => {
+                let packed = input.packed(sizes, all);
+                let found = packed.and_then(|part| first_over(part, sizes.q));
                 (found, format!("below={}", sizes.q))
             }
             (Data::Values(all), 6) => {
@@ -208,17 +210,44 @@ fn entry(own: &OnFiles, sizes: Option<&Sizes>, refused: Refused, given: &[Lent])
     None
 }
 
-/// The first packed number of a message that is q or more: in BCNS and NewHope,
-/// where alone there can be one, the packed part comes first. A number takes as
-/// many bits as q does.
-fn first_over(message: &[u8], packed: usize, q: u32) -> Option<(usize, i64)> {
+/// The first packed number that is q or more, in BCNS and NewHope, where alone
+/// there can be one. A number takes as many bits as q does.
+fn first_over(packed: &[u8], q: u32) -> Option<(usize, i64)> {
     let width = (u32::BITS - q.leading_zeros()) as usize;
-    let bit = |i: usize| u64::from(message[i / 8] >> (i % 8) & 1);
+    let bit = |i: usize| u64::from(packed[i / 8] >> (i % 8) & 1);
     let number = |k: usize| (0..width).fold(0, |sum, i| sum | bit(k * width + i) << i);
-    let bits = 8 * packed.min(message.len());
-    let mut all = (0..bits / width).map(|k| (k, number(k)));
+    let mut all = (0..8 * packed.len() / width).map(|k| (k, number(k)));
     let (place, value) = all.find(|&(_, value)| value >= u64::from(q))?;
     Some((place, value as i64))
+}
+
+/// The message that was received and how many zero bytes its packed part is; or
+/// else the one that was to be sent, and the secret and noise that are zero.
+fn blank(own: &OnFiles, sizes: Option<&Sizes>, given: &[Lent]) -> Option<String> {
+    let sizes = sizes?;
+    let inputs = own.inputs.iter().zip(given);
+    for (input, lent) in inputs.clone() {
+        let Data::Bytes(all) = &lent.data else {
+            continue;
+        };
+        let packed = input.packed(sizes, all);
+        if let Some(part) = packed.filter(|part| part.iter().all(|&byte| byte == 0)) {
+            return Some(format!("input={} zeros={}", name(input.word), part.len()));
+        }
+    }
+    let sent = own.outputs.first();
+    let sent = sent.map(|output| format!("output={}", name(output.word)));
+    let values = |(input, lent): (&Input, &Lent)| match &lent.data {
+        Data::Values(all) => Some((name(input.word), all.iter().all(|&value| value == 0))),
+        _ => None,
+    };
+    // s and e, s' and e': a secret and, behind it, its noise; e'' is in no packed part
+    let values: Vec<(String, bool)> = inputs.filter_map(values).collect();
+    let mut pairs = values.chunks_exact(2);
+    let zero = pairs.find(|pair| pair.iter().all(|(_, zero)| *zero));
+    let zero = zero.map(|pair| format!("zero={},{}", pair[0].0, pair[1].0));
+    let both: Vec<String> = [sent, zero].into_iter().flatten().collect();
+    Some(both.join(" ")).filter(|detail| !detail.is_empty())
 }
 
 #[cfg(test)]
@@ -229,12 +258,12 @@ mod tests {
     fn packed_numbers_are_read_lowest_bit_first() {
         // 01: NewHope's 1, 2, 3, 4 packs to 01 80 00 30 00 10 00
         let packed = [1, 0x80, 0, 0x30, 0, 0x10, 0];
-        assert_eq!(first_over(&packed, 7, 12289), None);
+        assert_eq!(first_over(&packed, 12289), None);
         let mut over = packed;
         over[5..].copy_from_slice(&[0xfc, 0xff]);
-        assert_eq!(first_over(&over, 7, 12289), Some((3, 16383)));
+        assert_eq!(first_over(&over, 12289), Some((3, 16383)));
         assert_eq!(
-            first_over(&[0xff; 4], 4, u32::MAX),
+            first_over(&[0xff; 4], u32::MAX),
             Some((0, i64::from(u32::MAX)))
         );
     }

@@ -99,6 +99,73 @@ fn a_refusal_says_why_and_leaves_zeros() {
 }
 
 #[test]
+fn a_blank_message_is_turned_away() {
+    let room = Room::new("blank");
+    let zero = |name: &str, part: std::ops::Range<usize>| {
+        let mut bytes = room.read(name);
+        bytes[part].fill(0);
+        fs::write(room.0.join("blank"), bytes).unwrap();
+    };
+    // where the packed part begins in an opening, and its bytes; the entries of s
+    for (scheme, start, packed, n) in [(0, 0, 4096, 1024), (1, 0, 1792, 1024), (2, 16, 3872, 2816)]
+    {
+        for what in ["a", "s", "e", "seed", "s1", "e1", "e2", "coins"] {
+            room.says(0, &format!("draw {scheme} {what} {what}"));
+        }
+        room.says(0, &format!("offer {scheme} a s e seed opening"));
+        let reply = |opening: &str, s1: &str, e1: &str| {
+            format!("reply {scheme} {opening} a {s1} {e1} e2 coins reply key digest")
+        };
+        room.says(0, &reply("opening", "s1", "e1"));
+
+        // received, with the seed or the hints there
+        zero("reply", 0..packed);
+        let line = room.says(1, &format!("finish {scheme} blank s key digest"));
+        assert_eq!(
+            line,
+            format!("refusal=17 place=0 input=reply zeros={packed}\n")
+        );
+        zero("opening", start..start + packed);
+        let line = room.says(1, &reply("blank", "s1", "e1"));
+        let told = format!("refusal=17 place=0 input=opening zeros={packed}\n");
+        assert_eq!(line, told);
+        assert!(room.read("reply").iter().all(|&byte| byte == 0));
+        assert!(room.read("key").iter().all(|&byte| byte == 0));
+
+        // about to be sent: a zero secret passes where there is noise
+        fs::write(room.0.join("zeros"), vec![0; 4 * n]).unwrap();
+        room.says(0, &format!("offer {scheme} a zeros e seed out"));
+        let line = room.says(1, &format!("offer {scheme} a zeros zeros seed out"));
+        assert_eq!(line, "refusal=17 place=0 output=message zero=s,e\n");
+        assert!(room.read("out").iter().all(|&byte| byte == 0));
+        room.says(0, &reply("opening", "zeros", "e1"));
+        let line = room.says(1, &reply("opening", "zeros", "zeros"));
+        assert_eq!(line, "refusal=17 place=0 output=message zero=s1,e1\n");
+        // what was received is told first
+        assert_eq!(room.says(1, &reply("blank", "zeros", "zeros")), told);
+
+        // in bench there is no message to name
+        let bench = |s: &str, e: &str, s1: &str, e1: &str| {
+            format!("bench {scheme} a {s} {e} seed {s1} {e1} e2 coins")
+        };
+        let line = room.says(1, &bench("zeros", "zeros", "zeros", "zeros"));
+        assert_eq!(line, "refusal=17 place=0 zero=s,e\n");
+        let line = room.says(1, &bench("s", "e", "zeros", "zeros"));
+        assert_eq!(line, "refusal=17 place=0 zero=s1,e1\n");
+    }
+    // nothing is sent, though neither is zero: a is 1, and e is -s
+    let mut one = vec![0; 4096];
+    one[0] = 1;
+    fs::write(room.0.join("one"), &one).unwrap();
+    one[..4].fill(255);
+    fs::write(room.0.join("minus"), &one).unwrap();
+    let line = room.says(1, "offer 0 one one minus none out");
+    assert_eq!(line, "refusal=17 place=0 output=message\n");
+    let line = room.says(1, "bench 0 one one minus none one one one none");
+    assert_eq!(line, "refusal=17 place=0\n");
+}
+
+#[test]
 fn expand_goes_by_its_rule() {
     let room = Room::new("rule");
     // 12289, which rule 14 passes over and rule 16 takes as 0

@@ -19,6 +19,13 @@ def lengths(scheme):
             "REPLY": [reply], "BYTES": list(dict.fromkeys(drawn))}
 
 
+def packed(word, scheme):
+    """Where the packed part of a message stands: behind the seed in Frodo's opening, else first."""
+    seed, opening = SCHEMES[scheme][6], SCHEMES[scheme][8]
+    start = seed if word == "OPENING" and scheme >= 2 else 0
+    return slice(start, start + opening - seed)
+
+
 def without_scheme(command, asked, data, number):
     """The detail of a call that has no scheme and one input."""
     (word,) = INPUTS[command]
@@ -51,6 +58,20 @@ def detail(command, scheme, data, number, place):
         for word, values in given:
             if word in NUMBERS - {"A"} and any(abs(x) > largest for x in values):
                 return f"input={word.lower()} value={values[place]} largest={largest}"
+    if number == 17:
+        return blank(command, scheme, data)
+
+
+def blank(command, scheme, data):
+    """The message that came, or else the one that was to be sent and what of it is zero."""
+    for word in {"OPENING", "REPLY"} & data.keys():
+        part = packed(word, scheme)
+        if not any(data[word][part]):
+            return f"input={word.lower()} zeros={part.stop - part.start}"
+    sent = ["output=message"] if "MESSAGE" in OUTPUTS[command] else []
+    pairs = [pair for pair in (("S", "E"), ("S1", "E1")) if data.keys() >= {*pair}]
+    zero = next((pair for pair in pairs if not any(data[pair[0]] + data[pair[1]])), None)
+    return " ".join(sent + ([f"zero={','.join(zero).lower()}"] if zero else []))
 
 
 class Both:

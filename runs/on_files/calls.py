@@ -1,6 +1,7 @@
 """The calls: good exchanges, damaged inputs, noise, expand, grow and the hashes."""
 import hashlib
 
+from .both import packed
 from .common import INPUTS, NUMBERS, OUTPUTS, SCHEMES, hold, run, words32
 
 
@@ -52,6 +53,44 @@ def damages(word, data, scheme):
         last = 4096 - 4 if scheme == 0 else 1792 - 7
         for place in (0, last):
             yield data[:place] + piece + data[place + len(piece):]
+
+
+def blank(both, scheme, files, sizes):
+    """A dead card's messages, with seed and hints and without, and some that are all but blank;
+    zero secrets and noise."""
+    for command, word in (("reply", "OPENING"), ("finish", "REPLY")):
+        part, message = packed(word, scheme), files[word]
+        bare = message[:part.start] + bytes(part.stop - part.start) + message[part.stop:]
+        for data, number in ((bare, 17), (bytes(len(message)), 17), *(
+                (bare[:at] + b"\x01" + bare[at + 1:], 0)
+                for at in (part.start, (part.start + part.stop) // 2, part.stop - 1))):
+            both.put({word: data})
+            told(both, command, scheme, sizes, number)
+        # other faults before and after it
+        both.put({word: bytes(len(message)), "S": files["S"][:-4] + words32([99]),
+                  "E1": files["E1"][:-4] + words32([99])})
+        told(both, command, scheme, sizes, 17)
+        both.put({word: bytes(len(message) + 1)})
+        told(both, command, scheme, sizes, 2)
+        both.put({w: files[w] for w in (word, "S", "E1")})
+    for command, s, e in (("offer", "S", "E"), ("reply", "S1", "E1"), ("bench", "S", "E"),
+                          ("bench", "S1", "E1")):
+        if scheme > 2 and command == "bench":
+            continue
+        zeros = bytes(len(files[s]))
+        for zero, number in (({s}, 0), ({e}, 0), ({s, e}, 17)):
+            both.put({w: zeros if w in zero else files[w] for w in (s, e)})
+            told(both, command, scheme, sizes, number)
+        both.put({e: zeros[:-4] + words32([99])})
+        told(both, command, scheme, sizes, 6)
+        both.put({e: files[e], s: files[s]})
+
+
+def told(both, command, scheme, sizes, number):
+    text, _ = both("blank", command, scheme, INPUTS[command], sizes[command])
+    refused = b"refusal=%d " % number
+    hold("blank", text.startswith(refused) if number else not text.startswith(b"refusal"),
+         f"{command} {scheme}: {text!r} and not {number}")
 
 
 def damaged(both, scheme, files, sizes, rand):
