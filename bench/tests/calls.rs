@@ -69,16 +69,21 @@ fn exchanges() {
     }
 }
 
-/// Public numbers q - 1 and all noise at its largest, of either sign: the two
-/// ends' keys need not agree, and each is the second program's.
+/// Public numbers q - 1 and all noise at its largest, of either sign, that of e,
+/// e' and e'' the other, or NewHope's messages would be blank: the two ends' keys
+/// need not agree, and each is the second program's.
 #[test]
 fn exchanges_of_the_largest() {
     for scheme in &SIX {
         for side in [-1, 1] {
             let mut lent = Lent::drawn(scheme, 0);
             lent.a.fill(scheme.q as u32 - 1);
-            for values in [&mut lent.s, &mut lent.e, &mut lent.s1, &mut lent.e1, &mut lent.e2] {
-                values.fill(side * scheme.largest_noise as i32);
+            let largest = side * scheme.largest_noise as i32;
+            for values in [&mut lent.s, &mut lent.s1] {
+                values.fill(largest);
+            }
+            for values in [&mut lent.e, &mut lent.e1, &mut lent.e2] {
+                values.fill(-largest);
             }
             exchange(&lent);
         }

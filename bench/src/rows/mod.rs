@@ -1,5 +1,6 @@
 //! What is compared with what.
 
+mod blank;
 mod calls;
 mod kernels;
 mod seeds;
@@ -17,9 +18,10 @@ pub struct Part {
     pub rows: fn(&mut dyn Rows),
 }
 
-pub static PARTS: [Part; 4] = [
+pub static PARTS: [Part; 5] = [
     Part { name: "kernels", ours: "kernel", theirs: "plain code", rows: kernels::rows },
     Part { name: "calls", ours: "call", theirs: "against", rows: calls::rows },
     Part { name: "seeds", ours: "hash, or call from bytes", theirs: "against", rows: seeds::rows },
-    Part { name: "tests", ours: "call refused by its last test", theirs: "against", rows: tests::rows },
+    Part { name: "tests", ours: "call refused by its last range test", theirs: "against", rows: tests::rows },
+    Part { name: "blank", ours: "call on messages all but blank", theirs: "against", rows: blank::rows },
 ];

@@ -1,5 +1,6 @@
 //! What the tests and the zeroing cost: each call with its very last value bad,
-//! so that every test is made and nothing else, against the whole call.
+//! so that every test is made and nothing else, against the whole call. What is
+//! about to be sent is tested after the work; `blank` has that.
 
 use super::Rows;
 use crate::lent::Lent;
