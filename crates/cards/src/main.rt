@@ -217,12 +217,14 @@ fn reply(n: u32) -> [u8; 2048]
     bytes
 }
 
+// With some noise, since zeros alone would make a blank part.
 fn reply_card(n: u32)
     requires { ⌜ n < 16384 ⌝ }
 {
     let given = opening(n);
     let a = [0u32; 1024];
     let zeros = [0i32; 1024];
+    let noise = [1i32; 1024];
     let coins = [0u8; 32];
     let mut message = [0u8; 2048];
     let mut key = [0u8; 32];
@@ -232,7 +234,7 @@ fn reply_card(n: u32)
         &given,
         &a,
         &zeros,
-        &zeros,
+        &noise,
         &zeros,
         &coins,
         &mut message,
