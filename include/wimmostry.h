@@ -126,7 +126,7 @@
  *
  * Measured and not proved: on accepted input no address depends on a secret, and the branches that
  * do are the verdicts of the range tests (refusal 6), one an input: 2 in wim_offer, 3 in wim_reply,
- * 1 in wim_finish, none in wim_noise and the two hashes. wim_offer and wim_reply have one more, on
+ * 1 in wim_finish, none in wim_noise and the two hashes. wim_offer and wim_reply have two more, on
  * the first number that is sent (refusal 17), which the peer sees anyway. wim_bench has those of
  * its parts, and branches on the numbers of the messages and on the keys, which it compares. A
  * refused secret is searched value by value for its place. Nothing is divided but 2^32 - 1 by q. So
