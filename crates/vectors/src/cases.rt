@@ -3,6 +3,7 @@
 use crate::calls::Call;
 use crate::inputs::Entry;
 use crate::inputs::draw_secrets;
+use crate::inputs::over;
 use crate::inputs::spoil_secrets;
 use crate::inputs::trade;
 use crate::inputs::trade_two;
@@ -28,6 +29,7 @@ use crate::shape::no_rooms;
 use crate::shape::top;
 use crate::shape::up;
 use crate::shape::with_length;
+use crate::shape::with_one_more;
 use schemes::Fixed;
 
 // A call in the lines of scheme k, and what is fixed there.
@@ -313,11 +315,9 @@ fn fault_cases(g: Setting, first: u32, a: &mut [u32], values: &mut [i32], bytes:
 
 // Bench's eighth: a fault at each end. Offer's refusals come first.
 fn eighth(g: Setting, case: u32, a: &mut [u32], values: &mut [i32], bytes: &mut [u8]) {
-    let lens = fixed_lengths(g);
-    let n = std::num::wrapping_add_usize(length_of(lens, COINS), 1);
-    let over = Entry::Value(up(std::num::wrapping_add_u32(g.f.largest, 1)));
-    let old = trade(E, g.f, 1, over, a, values, bytes);
-    numbered(g, g.k, case, with_length(lens, COINS, n), a, values, bytes);
+    let lens = with_one_more(fixed_lengths(g), COINS);
+    let old = trade(E, g.f, 1, Entry::Value(over(g.f)), a, values, bytes);
+    numbered(g, g.k, case, lens, a, values, bytes);
     trade(E, g.f, 1, old, a, values, bytes);
 }
 

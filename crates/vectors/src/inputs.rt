@@ -271,9 +271,14 @@ pub fn trade_two(
     }
 }
 
+// B + 1.
+pub fn over(f: Fixed) -> i32 {
+    up(std::num::wrapping_add_u32(f.largest, 1))
+}
+
 // Entry j and the last of a list of secrets or noise lie beyond the largest noise.
 fn spoil(slot: usize, f: Fixed, j: usize, values: &mut [i32]) {
-    let z = up(std::num::wrapping_add_u32(f.largest, 1));
+    let z = over(f);
     trade_in_values(slot, j, z, values);
     trade_in_values(slot, less(count(slot, f)), z, values);
 }

@@ -208,6 +208,11 @@ fn one_more(n: usize) -> usize {
     std::num::wrapping_add_usize(n, 1)
 }
 
+// One list one longer.
+pub fn with_one_more(lens: [usize; 13], slot: usize) -> [usize; 13] {
+    with_length(lens, slot, one_more(length_of(lens, slot)))
+}
+
 // n - 1.
 pub fn less(n: usize) -> usize {
     std::num::wrapping_sub_usize(n, 1)
