@@ -39,7 +39,7 @@ pub struct Setting {
     pub f: Fixed,
 }
 
-fn fixed_lengths(g: Setting) -> [usize; 13] {
+pub fn fixed_lengths(g: Setting) -> [usize; 13] {
     let call = g.call;
     lengths(call, g.f)
 }
@@ -175,7 +175,7 @@ fn entry_of(slot: usize, f: Fixed, v: usize) -> Entry {
 }
 
 // The first, the middle and the last index.
-fn index_of(n: usize, i: usize) -> usize {
+pub fn index_of(n: usize, i: usize) -> usize {
     match i {
         0 => 0,
         1 => n / 2,

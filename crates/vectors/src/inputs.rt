@@ -5,6 +5,7 @@ use crate::shape::COINS;
 use crate::shape::E;
 use crate::shape::E1;
 use crate::shape::E2;
+use crate::shape::Kind;
 use crate::shape::OPENING;
 use crate::shape::S;
 use crate::shape::S1;
@@ -13,7 +14,9 @@ use crate::shape::bytes_part;
 use crate::shape::bytes_region;
 use crate::shape::count;
 use crate::shape::cut;
+use crate::shape::kind_of;
 use crate::shape::less;
+use crate::shape::part_of;
 use crate::shape::region;
 use crate::shape::secret_part;
 use crate::shape::up;
@@ -201,6 +204,35 @@ fn before(slot: usize, f: Fixed) -> usize {
         0
     };
     std::num::wrapping_add_usize(bytes_region(slot), head)
+}
+
+// Byte i of a message's packed part.
+pub fn put_in_message(slot: usize, f: Fixed, i: usize, x: u8, bytes: &mut [u8]) {
+    put_byte(bytes, std::num::wrapping_add_usize(before(slot, f), i), x);
+}
+
+// A list of secrets or noise that is zero, or a message whose packed part is. Of another slot nothing changes.
+pub fn clear(slot: usize, f: Fixed, values: &mut [i32], bytes: &mut [u8]) {
+    let which = kind_of(slot);
+    match which {
+        Kind::Message => clear_packed(slot, f, bytes),
+        Kind::Secret => clear_values(slot, values),
+        _ => (),
+    }
+}
+
+fn clear_packed(slot: usize, f: Fixed, bytes: &mut [u8]) {
+    let p = part_of(before(slot, f), f.packed, bytes.len());
+    let from = p.from;
+    let to = p.to;
+    lists::zero_bytes(&mut bytes[from..to]);
+}
+
+fn clear_values(slot: usize, values: &mut [i32]) {
+    let p = secret_part(slot, 6944, values.len());
+    let from = p.from;
+    let to = p.to;
+    lists::zero_values(&mut values[from..to]);
 }
 
 fn trade_in_numbers(

@@ -16,6 +16,7 @@ use libc::STDOUT_FILENO;
 pub enum Case {
     Number(u32),
     Wide,
+    Blank(u32),
 }
 
 pub fn text(t: &[u8]) {
@@ -35,6 +36,7 @@ pub fn case_field(case: Case) {
     match case {
         Case::Number(n) => field(b" case=", n as u64),
         Case::Wide => text(b" case=wide"),
+        Case::Blank(n) => field(b" case=blank", n as u64),
     }
 }
 

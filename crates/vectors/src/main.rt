@@ -1,5 +1,6 @@
 // The runs of docs/VECTORS.md: every call in every scheme on good and on damaged inputs, a line for each case. `stdout` is what the second program prints.
 // What a program prints is run and not proved; each function here is proved safe: a part of a list is cut to what is there, and a store tests its index.
+mod blanks;
 mod calls;
 mod cases;
 mod hashes;
@@ -64,13 +65,25 @@ fn wide(k: u32, f: Fixed, a: &[u32], values: &[i32], bytes: &mut [u8]) {
     cases::wide(setting(Call::Bench, k, f), a, values, bytes);
 }
 
+// The blank cases of each call.
+fn blank_keys(k: u32, f: Fixed, a: &mut [u32], values: &mut [i32], bytes: &mut [u8]) {
+    blanks::finishes(setting(Call::Finish, k, f), a, values, bytes);
+    blanks::benches(setting(Call::Bench, k, f), a, values, bytes);
+}
+
+fn blank(k: u32, f: Fixed, a: &mut [u32], values: &mut [i32], bytes: &mut [u8]) {
+    blanks::offers(setting(Call::Offer, k, f), a, values, bytes);
+    blanks::replies(setting(Call::Reply, k, f), a, values, bytes);
+    blank_keys(k, f, a, values, bytes);
+}
+
 fn draw_lists(k: u32, f: Fixed, a: &mut [u32], values: &mut [i32], bytes: &mut [u8]) {
     draw_public(k, f, a);
     draw_secrets(k, 0, 1, values);
     draw_bytes(k, bytes);
 }
 
-// All of a scheme's lines but the wide cases. A case leaves each list as it found it.
+// All of a scheme's lines but the wide and the blank cases. A case leaves each list as it found it.
 fn narrow(k: u32, f: Fixed, a: &mut [u32], values: &mut [i32], bytes: &mut [u8]) {
     offers(k, f, a, values, bytes);
     replies(k, f, a, values, bytes);
@@ -82,6 +95,7 @@ fn all(k: u32, f: Fixed, a: &mut [u32], values: &mut [i32], bytes: &mut [u8]) {
     narrow(k, f, a, values, bytes);
     draw_secrets(k, 10, f.largest, values);
     wide(k, f, a, values, bytes);
+    blank(k, f, a, values, bytes);
 }
 
 // The lists, each with 32 entries more than the longest of any scheme; a function each, so that no proof holds two of them at length.
