@@ -1,7 +1,8 @@
 -- What Reply promises: 01, "The calls", "Bytes on the wire" and "Refusal numbers and their order"; its digest and a blank part: 02, requests c and l.
 --   Reply                     what it is lent: opening message, public a, s', e', e'', coins
 --   replyLengths c x, replySizes c x n k d, replyRest c x, replyTests   its tests in 01's order, with room for n bytes of message, k of key and d of
---                             digest: of lengths; of these, rooms and public numbers; of the opening, the secrets and the part about to be sent; and all of them, by the scheme's number
+--                             digest: of lengths; of these, rooms and public numbers; of the opening and what follows; and all, by the scheme's number
+--   replySecrets, replyLast   the last of these: of the secrets; and of the part about to be sent
 --   openedOf c x              b, the numbers of the opening
 --   repliedPart               u = as' + e' packed
 --   messageFrom, keyFrom      message and key, of b: u = as' + e' packed, and the hints of v = bs' + e''; the published bits of v

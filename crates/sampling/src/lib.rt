@@ -1,5 +1,5 @@
-// Noise, Expand and Grow: values and public numbers from bytes that the caller lends (01, "Noise" and "The NewHope transform"; 02, request c). None has a `requires`: each ends
-// with an answer or a numbered refusal, given exactly when its condition holds; the whole output is zeroed first.
+// Noise, Expand and Grow: values and public numbers from bytes that the caller lends (01, "Noise" and "The NewHope transform"; 02, requests g and c). None has
+// a `requires`: each ends with an answer or a numbered refusal, given exactly when its condition holds; the whole output is zeroed first.
 ghost use mathlib.Core.Path.{_≡_};
 ghost use lib.ListN.{length, replicate};
 ghost use Rattle.schemes.specs.Schemes.{schemeOf};

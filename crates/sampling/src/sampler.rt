@@ -1,5 +1,5 @@
-// Noise, Expand and Grow, once the scheme or the rule is known and the output holds zeros: the tests in 01's order, then the work of crate `noise` into the part of the output
-// that the answer takes.
+// Noise, Expand and Grow, once the scheme or the rule is known and the output holds zeros: the tests in 01's order, then the work of crate `noise` into the
+// part of the output that the answer takes.
 ghost use mathlib.Core.Path.{_≡_};
 ghost use mathlib.Core.List.{_++_};
 ghost use Prim.Native.Nat.{_*_, _%_, _≤_, _<_};
