@@ -1,20 +1,26 @@
--- Hints and keys entry by entry: lengths, ranges, and the agreement of two lists.
+-- Hints, keys and slacks entry by entry: lengths, ranges, and the agreement of two lists.
 --   hints-length, keys-length, peers-length   as many as there are values
 --   key-below                                 a key is below 2 ^ B
 --   hints-below, keys-below, peers-below      hints below 2, keys below 2 ^ B
 --   agreement-entries                         entries within the margin: the initiator's keys are the replier's
+--   slacks-length                             as many slacks as there are values
+--   slacks-apart                              under the replier's hints each is at most the distance of the two values
+--   slacks-most                               and under any hints at most the largest that a slack can be
 use mathlib.Core.Path.{_≡_, ap, _∙_}
 use mathlib.Core.List.{List}
-use Prim.Native.Nat.{ℕ, _^_, _<_}
+use Prim.Native.Nat.{ℕ, _*_, _^_, _≤_, _<_}
 use native.Mathlib.Nat.{mod-lt}
 use native.Mathlib.Omega.{arith}
 use lib.ListN.{length, getD}
 use lib.Pow.{pow-pos}
+use Rattle.numbers.specs.Residue.{apart}
 use Rattle.lists.specs.Entries.{tab, Below}
 use Rattle.lists.proofs.Entries.{tab-length, tab-at, tab-ext, below-tab}
-use Rattle.frodo.specs.Rounding.{hintOf, keyOf, peerOf, hintsOf, keysOf, peersOf}
+use Rattle.frodo.specs.Rounding.{hintOf, keyOf, peerOf, hintsOf, keysOf, peersOf, Round}
 use Rattle.frodo.specs.Agreement.{EveryEntry}
+use Rattle.frodo.specs.Slack.{slackOf, slacksOf, mostSlack}
 use Rattle.frodo.proofs.Rule.{hint-below, agreement}
+use Rattle.frodo.proofs.Away.{slack-apart, slack-bound}
 
 pub hints-length : (I : ℕ) (vs : List ℕ) → length (hintsOf I vs) ≡ length vs
 unfolding hintsOf
@@ -53,3 +59,24 @@ agreement-entries I B vs ws o e bv bw n d =
     ap (λ (h : ℕ). peerOf I B h (getD ws k 0)) (tab-at (length vs) (λ j. hintOf I (getD vs j 0)) k 0 m)
     ∙ agreement I B (getD vs k 0) (getD ws k 0) o e (bv .below k) (bw .below k) (d k m))
     ∙ ap (λ (m : ℕ). tab m (λ k. keyOf I B (getD vs k 0))) (omega arith)
+
+pub slacks-length : (I B : ℕ) (hs ws : List ℕ) → length (slacksOf I B hs ws) ≡ length ws
+unfolding slacksOf
+slacks-length I B hs ws = tab-length (length ws) _
+
+slacks-at : (I B : ℕ) (hs ws : List ℕ) (k : ℕ) → k < length ws → getD (slacksOf I B hs ws) k 0 ≡ slackOf I B (getD hs k 0) (getD ws k 0)
+unfolding slacksOf
+slacks-at I B hs ws k l = tab-at (length ws) (λ j. slackOf I B (getD hs j 0) (getD ws j 0)) k 0 l
+
+pub slacks-apart :
+    (I B : ℕ) (vs ws : List ℕ) → Below (I * 2 ^ B) vs → length vs ≡ length ws → (k : ℕ) → k < length ws
+    → getD (slacksOf I B (hintsOf I vs) ws) k 0 ≤ apart (I * 2 ^ B) (getD vs k 0) (getD ws k 0)
+unfolding hintsOf
+slacks-apart I B vs ws b n k l =
+    rw (slacks-at I B (hintsOf I vs) ws k l, tab-at (length vs) (λ j. hintOf I (getD vs j 0)) k 0 (omega arith))
+    (slack-apart I B (getD vs k 0) (getD ws k 0) (b .below k))
+
+pub slacks-most :
+    (I B : ℕ) (hs ws : List ℕ) → Round I B → Below 2 hs → Below (I * 2 ^ B) ws → (k : ℕ) → k < length ws → getD (slacksOf I B hs ws) k 0 ≤ mostSlack I
+slacks-most I B hs ws r bh bw k l =
+    rw (slacks-at I B hs ws k l) (slack-bound I B (getD hs k 0) (getD ws k 0) (r .some) (r .quarters) (bw .below k) (bh .below k))

@@ -1,7 +1,7 @@
-pub mod Least
 pub mod Margin
 pub mod Rule
 pub mod Edge
+pub mod Away
 pub mod Entries
 pub mod Room
 pub mod Schemes

@@ -1,5 +1,6 @@
 -- The initiator's rule, for every interval that is a multiple of 4: what `specs/Agreement.antt` states, but that the margin is sharp (`Edge.antt`).
 --   hint-below   a hint is 0 or 1
+--   inner        how many half intervals there are
 --   reach        under either hint some z is at most a quarter of the interval from w
 --   key-near     so every nearest z has the key that the formula gives
 --   chosen-nearest, peer-is   the search finds a nearest one, so the initiator's key is the formula's
@@ -15,10 +16,11 @@ use lib.Pow.{pow-pos}
 use borrow.Author.Tests.{eqb-true, eq-eqb}
 use Rattle.numbers.specs.Residue.{apart}
 use Rattle.numbers.specs.Circle.{Close, direct, over, under}
+use Rattle.numbers.specs.Least.{nearestTo}
 use Rattle.numbers.proofs.Circle.{apart-close, close-apart}
-use Rattle.frodo.specs.Rounding.{hintOf, keyOf, peerOf, leastBelow, Nearest}
+use Rattle.numbers.proofs.Arc.{nearest-least}
+use Rattle.frodo.specs.Rounding.{hintOf, keyOf, peerOf, Nearest}
 use Rattle.frodo.specs.Agreement.{NoTie, formulaOf, Formula, Agreement}
-use Rattle.frodo.proofs.Least.{least-below}
 use Rattle.frodo.proofs.Margin.{Half, half-of, hint-half, margin}
 
 pub hint-below : (I v : ℕ) → hintOf I v < 2
@@ -46,7 +48,7 @@ module _ (t : ℕ) (p : 0 < t) (B w : ℕ) (hw : w < 4 * t * 2 ^ B) where
       at (2 * (suc s * t) - 1) s (2 * t - 1) h (omega arith) (omega arith) (omega arith) (omega arith) (direct (omega arith) (omega arith))
 
   -- and the first place of the half after it
-  inner : {s r : ℕ} → Half t w s r → s < 2 * 2 ^ B
+  pub inner : {s r : ℕ} → Half t w s r → s < 2 * 2 ^ B
   inner c = lt-of-mul-lt-mul-right t (omega arith)
 
   after : (s r h : ℕ) → Half t w s r → t ≤ r → (s + 1) % 2 ≡ h → Reach (4 * t) B h w t
@@ -82,14 +84,14 @@ module _ (t : ℕ) (p : 0 < t) (B w : ℕ) (hw : w < 4 * t * 2 ^ B) where
       sym (margin t p B z w (n .below) hw (apart-close _ _ _ (n .below) hw d)) ∙ ap (λ (g : ℕ). formulaOf (4 * t) B g w) (n .hinted)
 
   -- the search finds a nearest one
-  chosen : (h : ℕ) → ℕ
-  chosen h = leastBelow (λ z. apart (4 * t * 2 ^ B) z w) (λ z. eqb (hintOf (4 * t) z) h) (4 * t * 2 ^ B)
+  unfoldable pub chosen : (h : ℕ) → ℕ
+  chosen h = nearestTo (4 * t * 2 ^ B) (λ z. eqb (hintOf (4 * t) z) h) w
 
-  chosen-nearest : (h : ℕ) → h < 2 → Nearest (4 * t) B h w (chosen h)
+  pub chosen-nearest : (h : ℕ) → h < 2 → Nearest (4 * t) B h w (chosen h)
   unfolding chosen
   chosen-nearest h l =
       let c = reach h l in
-      let m = least-below (λ z. apart (4 * t * 2 ^ B) z w) (λ z. eqb (hintOf (4 * t) z) h) (4 * t * 2 ^ B) in
+      let m = nearest-least (4 * t * 2 ^ B) (λ z. eqb (hintOf (4 * t) z) h) w in
       let b = m .least (c .z) (c .below) (eq-eqb _ _ (c .hinted)) .0 in
       record { below = b; hinted = eqb-true _ _ (m .marked b); nearest = λ y i e. m .least y i (eq-eqb _ _ e) .1 }
 

@@ -6,13 +6,13 @@
 --   hintsOf, keysOf, peersOf   the same entry by entry
 --   Nearest           what `peerOf` looks for, as a rule: `Agreement.antt` says that it has one answer
 use mathlib.Core.Path.{_≡_}
-use mathlib.Core.Bool.{Bool, cond}
 use mathlib.Core.List.{List}
-use Prim.Native.Nat.{ℕ, zero, suc, _+_, _*_, _/_, _%_, _^_, _≤_, _<_}
-use lib.Dec.{eqb, ltb}
+use Prim.Native.Nat.{ℕ, _+_, _*_, _/_, _%_, _^_, _≤_, _<_}
+use lib.Dec.{eqb}
 use lib.ListN.{length, getD}
 use Rattle.schemes.specs.declared.Fixed.{Fixed}
 use Rattle.numbers.specs.Residue.{apart}
+use Rattle.numbers.specs.Least.{nearestTo}
 use Rattle.lists.specs.Entries.{tab}
 
 abbrev pub interval : Fixed → ℕ
@@ -24,16 +24,8 @@ hintOf I v = 2 * v / I % 2
 unfoldable pub keyOf : ℕ → ℕ → ℕ → ℕ
 keyOf I B v = (2 * v + I) / (2 * I) % 2 ^ B
 
--- the first number below n at which f is least among those with the mark p; n where none has it
-unfoldable pub choose : Bool → Bool → Bool → ℕ → ℕ → ℕ
-choose marked none nearer z n = cond marked (cond none n (cond nearer n z)) (cond none (suc n) z)
-
-unfoldable pub leastBelow : (ℕ → ℕ) → (ℕ → Bool) → ℕ → ℕ
-leastBelow f p zero = 0
-leastBelow f p (suc n) = choose (p n) (eqb (leastBelow f p n) n) (ltb (f n) (f (leastBelow f p n))) (leastBelow f p n) n
-
 unfoldable pub peerOf : ℕ → ℕ → ℕ → ℕ → ℕ
-peerOf I B h w = keyOf I B (leastBelow (λ z. apart (I * 2 ^ B) z w) (λ z. eqb (hintOf I z) h) (I * 2 ^ B))
+peerOf I B h w = keyOf I B (nearestTo (I * 2 ^ B) (λ z. eqb (hintOf I z) h) w)
 
 unfoldable pub hintsOf : ℕ → List ℕ → List ℕ
 hintsOf I vs = tab (length vs) (λ k. hintOf I (getD vs k 0))

@@ -7,6 +7,7 @@ ghost use lib.ListN.{length};
 ghost use Rattle.schemes.specs.Schemes.{fixedOf};
 ghost use Rattle.lists.specs.Entries.{Below};
 ghost use Rattle.frodo.specs.Rounding.{interval, hintOf, keyOf, peerOf, hintsOf, keysOf, peersOf, Round};
+ghost use Rattle.frodo.specs.Slack.{slackOf, slacksOf};
 use schemes::Scheme;
 
 // The interval of a scheme.
@@ -49,6 +50,15 @@ pub fn peer(i: u32, b: u32, h: u32, w: u32) -> u32
     (4 * w + (1 + 2 * h) * i) / (4 * i) % values(b)
 }
 
+// The slack used (02f): how far w lies from the nearest value with the hint h. In place of a search its formula, which `Slack.antt` states: the place of w
+// behind the start of a half interval with the other hint, and the way out of that half.
+pub fn slack(i: u32, b: u32, h: u32, w: u32) -> u32
+    requires { ⌜ Round i b × (h < 2) × (w < i * 2 ^ b) ⌝ }
+    ensures { λ r. ⌜ r ≡ slackOf i b h w ⌝ }
+{
+    numbers::way_out((w + (1 - h) * (i / 2)) % i, i / 2)
+}
+
 pub fn hints(i: u32, b: u32, v: &[u32], out: &mut [u32])
     requires { ⌜ Round i b × Below (i * 2 ^ b) (now v) × (length (now v) ≡ length (now out)) ⌝ }
     ensures { λ _. ⌜ now (out .exit) ≡ hintsOf i (now (v .entry)) ⌝ }
@@ -79,6 +89,19 @@ pub fn peers(i: u32, b: u32, hints: &[u32], w: &[u32], out: &mut [u32])
     let mut k: usize = 0;
     while k < out.len() {
         out[k] = peer(i, b, hints[k], w[k]);
+        k += 1;
+    }
+}
+
+// In place: each value becomes its slack.
+pub fn slacks(i: u32, b: u32, hints: &[u32], w: &mut [u32])
+    requires { ⌜ Round i b × Below (i * 2 ^ b) (now w) ⌝ }
+    requires { ⌜ Below 2 (now hints) × (length (now hints) ≡ length (now w)) ⌝ }
+    ensures { λ _. ⌜ now (w .exit) ≡ slacksOf i b (now (hints .entry)) (now (w .entry)) ⌝ }
+{
+    let mut k: usize = 0;
+    while k < w.len() {
+        w[k] = slack(i, b, hints[k], w[k]);
         k += 1;
     }
 }

@@ -7,4 +7,6 @@ pub mod Congruence
 pub mod Modular
 pub mod Nearest
 pub mod Circle
+pub mod Least
+pub mod Arc
 pub mod Machine

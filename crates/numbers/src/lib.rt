@@ -1,8 +1,8 @@
 // Remainders of signed numbers, in i32 and in i64: 01, "Reconciliation", and its form "the signed remainder nearest to zero". The definitions
 // are `specs/Residue.antt`; the laws on sums, congruence and circular distance, which the crates above cite, stand in `proofs/`.
-// A modulus q is at least 1 and fits the signed type; nothing else is asked.
+// A modulus q is at least 1 and fits the signed type; nothing else is asked. Frodo's and BCNS's slack used (02f) come down to `way_out`.
 ghost use mathlib.Core.Path.{_≡_};
-ghost use Prim.Native.Nat.{_^_, _<_};
+ghost use Prim.Native.Nat.{_+_, _-_, _^_, _<_, min};
 ghost use lib.IntN.{negℤ, natAbs};
 ghost use Rattle.numbers.specs.Residue.{residue, nearest, distance};
 
@@ -110,4 +110,15 @@ pub fn distance64(x: i64, q: u64) -> u64
     ensures { λ r. ⌜ r ≡ distance q x ⌝ }
 {
     size64(nearest64(x, q))
+}
+
+// The way out of a stretch of n numbers from place y, to its nearer end; 0 where y is past it. Without a branch, for y is a secret: a test is a factor 0 or 1.
+pub fn way_out(y: u32, n: u32) -> u32
+    requires { ⌜ y < 4294967295 ⌝ }
+    ensures { λ r. ⌜ r ≡ min (y + 1) (n - y) ⌝ }
+{
+    let inside = (y < n) as u32;
+    let ahead = (n - y * inside) * inside;
+    let less = (y + 1 < ahead) as u32;
+    (y + 1) * less + ahead * (1 - less)
 }

@@ -1,4 +1,4 @@
--- The search of `specs/Rounding.antt` finds a least number among those with the mark.
+-- The search of `specs/Least.antt` finds a least number among those with the mark.
 --   Least f p n z   z is at most n and has the mark where it is below n; where a number below n has the mark, z is below n, and f is no less there than at z
 --   least-below     `leastBelow f p n` is such a z
 use mathlib.Core.Path.{_≡_, refl}
@@ -10,7 +10,7 @@ use native.Mathlib.Omega.{arith}
 use lib.Dec.{eqb, ltb}
 use borrow.Author.Count.{below-more}
 use borrow.Author.Tests.{ltb-true, ltb-false, eqb-true, eqb-false}
-use Rattle.frodo.specs.Rounding.{choose, leastBelow}
+use Rattle.numbers.specs.Least.{choose, leastBelow}
 
 pub record Least (f : ℕ → ℕ) (p : ℕ → Bool) (n z : ℕ) : Type 0 where
   pub within : z ≤ n

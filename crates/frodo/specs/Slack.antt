@@ -1,0 +1,56 @@
+-- Frodo's slack used: 02f, once over I and B as in `Rounding.antt`.
+--   slackOf I B h w    how far w lies, around the circle, from the nearest value with the hint h
+--   slacksOf           the same entry by entry
+--   mostSlack I        the largest that it can be: a quarter of the interval
+-- What is shown of it:
+--   LeastApart, SlackLeast   some value with the hint is that far from w, and none is nearer
+--   past, SlackFormula       it as the code computes it
+--   SlackNone          it is 0 exactly if w has the hint
+--   SlackBound         it is at most `mostSlack`
+--   SlackApart         under the hint of v it is at most the distance of v and w
+use mathlib.Core.Path.{_≡_}
+use mathlib.Core.Logic.{_↔_}
+use mathlib.Core.List.{List}
+use Prim.Native.Nat.{ℕ, _+_, _*_, _-_, _/_, _%_, _^_, _≤_, _<_, min}
+use lib.Dec.{eqb}
+use lib.ListN.{length, getD}
+use Rattle.numbers.specs.Residue.{apart}
+use Rattle.numbers.specs.Least.{awayFrom}
+use Rattle.lists.specs.Entries.{tab}
+use Rattle.frodo.specs.Rounding.{hintOf}
+
+unfoldable pub slackOf : ℕ → ℕ → ℕ → ℕ → ℕ
+slackOf I B h w = awayFrom (I * 2 ^ B) (λ z. eqb (hintOf I z) h) w
+
+unfoldable pub slacksOf : ℕ → ℕ → List ℕ → List ℕ → List ℕ
+slacksOf I B hs ws = tab (length ws) (λ k. slackOf I B (getD hs k 0) (getD ws k 0))
+
+abbrev pub mostSlack : ℕ → ℕ
+mostSlack I = I / 4
+
+pub record LeastApart (I B h w : ℕ) : Type 0 where
+  pub z : ℕ
+  pub below : z < I * 2 ^ B
+  pub hinted : hintOf I z ≡ h
+  pub reached : apart (I * 2 ^ B) z w ≡ slackOf I B h w
+  pub least : (y : ℕ) → y < I * 2 ^ B → hintOf I y ≡ h → slackOf I B h w ≤ apart (I * 2 ^ B) y w
+
+abbrev pub SlackLeast : Type 0
+SlackLeast = (I B h w : ℕ) → 0 < I → I % 4 ≡ 0 → w < I * 2 ^ B → h < 2 → LeastApart I B h w
+
+-- how far w stands behind the start of a half interval with the other hint, modulo I
+abbrev pub past : ℕ → ℕ → ℕ → ℕ
+past I h w = (w + (1 - h) * (I / 2)) % I
+
+-- the way out of that half, 0 behind it
+abbrev pub SlackFormula : Type 0
+SlackFormula = (I B h w : ℕ) → 0 < I → I % 4 ≡ 0 → w < I * 2 ^ B → h < 2 → slackOf I B h w ≡ min (past I h w + 1) (I / 2 - past I h w)
+
+abbrev pub SlackNone : Type 0
+SlackNone = (I B h w : ℕ) → 0 < I → I % 4 ≡ 0 → w < I * 2 ^ B → h < 2 → (slackOf I B h w ≡ 0) ↔ (hintOf I w ≡ h)
+
+abbrev pub SlackBound : Type 0
+SlackBound = (I B h w : ℕ) → 0 < I → I % 4 ≡ 0 → w < I * 2 ^ B → h < 2 → slackOf I B h w ≤ mostSlack I
+
+abbrev pub SlackApart : Type 0
+SlackApart = (I B v w : ℕ) → v < I * 2 ^ B → slackOf I B (hintOf I v) w ≤ apart (I * 2 ^ B) v w
