@@ -3,4 +3,5 @@ pub mod Parts
 pub mod Same
 pub mod Fill
 pub mod First
+pub mod Top
 pub mod Table

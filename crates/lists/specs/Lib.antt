@@ -1,4 +1,5 @@
 pub mod Lent
 pub mod Entries
 pub mod First
+pub mod Top
 pub mod Table

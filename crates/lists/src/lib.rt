@@ -1,11 +1,19 @@
 // What every loop over lent slices needs: zeros over a whole buffer (01, "Refusal numbers and their order"), a copy, the search for the place of a
-// refusal, and that for the first difference of two lists. Numbers are u32, secrets and noise values i32, all else bytes; the laws that the proofs cite
-// are stated once over the element. A function that writes fills the whole of the slice it is lent, so a caller lends the part it means.
+// refusal, that for the first difference of two lists, and that for the largest number. Numbers are u32, secrets and noise values i32, all else bytes; the
+// laws that the proofs cite are stated once over the element. A function that writes fills the whole of the slice it is lent, so a caller lends the part it
+// means.
 ghost use mathlib.Core.Path.{_≡_};
 ghost use lib.ListN.{length, replicate};
 ghost use lib.IntN.{pos, natAbs};
 ghost use Rattle.lists.specs.Lent.{was};
 ghost use Rattle.lists.specs.First.{largestBy, firstOver, firstBeyond, firstApart};
+ghost use Rattle.lists.specs.Top.{peakOf};
+
+// The largest number of a list and the first index at which it stands; 0 and 0 of an empty list.
+pub struct Peak {
+    pub most: u32,
+    pub at: usize,
+}
 
 pub fn zero_bytes(out: &mut [u8])
     ensures { λ _. ⌜ now (out .exit) ≡ replicate (length (now (out .entry))) 0 ⌝ }
@@ -83,6 +91,30 @@ pub fn first_over(q: u32, xs: &[u32]) -> usize
         return xs.len();
     }
     search_over(q, xs)
+}
+
+// The same of numbers that may be secret: every one is looked at, and no branch is on any.
+fn search_all(q: u32, xs: &[u32]) -> usize
+    ensures { λ r. ⌜ r ≡ firstOver q (now (xs .entry)) ⌝ }
+{
+    let mut passed: usize = 0;
+    let mut still: usize = 1;
+    let mut i: usize = 0;
+    while i < xs.len() {
+        still = still * (xs[i] < q) as usize;
+        passed += still;
+        i += 1;
+    }
+    passed
+}
+
+// The largest number and where it stands first: the first that is no less equals it.
+pub fn peak_of(xs: &[u32]) -> Peak
+    ensures { λ r. ⌜ r ≡ peakOf (now (xs .entry)) ⌝ }
+{
+    let most = largest_of(xs);
+    let at = search_all(most, xs);
+    Peak { most: most, at: at }
 }
 
 // The largest size of a value, 0 where there is none; many values at a time too.

@@ -1,0 +1,80 @@
+-- `lists::search_all` meets its contract: each test is a factor 0 or 1.
+use mathlib.Core.Path.{_≡_, refl}
+use mathlib.Core.Bool.{Bool, true, false}
+use mathlib.Core.Logic.{_⊎_, inl, inr}
+use Prim.Native.Nat.{ℕ, _*_, _-_, _≤_, _<_}
+use native.Mathlib.Omega.{arith}
+use lib.Dec.{leb, ltb}
+use lib.ListN.{length, getD}
+use mir.Val.{boolByte}
+use borrow.Author.Tests.{le-leb, lt-leb, ltb-true, ltb-false}
+use Rattle.lists.specs.First.{firstOver}
+use Rattle.lists.proofs.First.{Looking, looking-none, looking-more, looking-all}
+use Rattle.lists.proofs.search_all.Statement.{statement}
+use Rattle.lists.proofs.search_all.Tie as tie
+
+abbrev over : ℕ → ℕ → Bool
+over q x = leb q x
+
+test : (q x : ℕ) (b : Bool) → ltb x q ≡ b → ((over q x ≡ false) × (boolByte b ≡ 1)) ⊎ ((over q x ≡ true) × (boolByte b ≡ 0))
+test q x true e = inl (lt-leb q x (ltb-true x q e), refl)
+test q x false e = inr (le-leb q x (ltb-false x q e), refl)
+
+part : (n : ℕ) (b : Bool) → n * boolByte b ≤ n
+part n true = omega arith
+part n false = omega arith
+
+abbrev Inv-loop : tie.InvT-loop
+Inv-loop q xs passed₀ still₀ i₀ passed still i = Looking (over q) xs 0 i passed still × (still ≤ 1)
+
+abbrev μ-loop : tie.MeasureT-loop
+μ-loop q xs passed₀ still₀ i₀ passed still i = length xs - i
+
+loop-holds : tie.Need-loop-holds Inv-loop μ-loop
+loop-holds c = (looking-none (over (c .args .q)) _ 0, omega arith)
+
+returns : tie.Need-returns Inv-loop μ-loop
+unfolding firstOver
+returns c =
+    let l = c .before .loop in
+    looking-all (over (c .before .before .args .q)) _ 0 (l .i) (l .passed) (l .still) (l .inv .0) (c .loop-test .left)
+
+-- the product of `still` with the test of entry i, at most `still`
+kept : (c : tie.After-shared-slice-known Inv-loop μ-loop) → let l = c .before .before .loop in let a = c .before .before .before .args in
+    l .still * boolByte (ltb (getD (a .xs .now) (l .i) 0) (a .q)) ≤ l .still
+kept c =
+    let l = c .before .before .loop in
+    let a = c .before .before .before .args in
+    part (l .still) (ltb (getD (a .xs .now) (l .i) 0) (a .q))
+
+mul-still-2 : tie.Need-mul-still-2 Inv-loop μ-loop
+mul-still-2 c = record { fits = omega (arith, kept c) }
+
+add-passed : tie.Need-add-passed Inv-loop μ-loop
+add-passed c = record { fits = omega (arith, kept c, c .before .before .loop .inv .0 .few) }
+
+loop-again : tie.Need-loop-again Inv-loop μ-loop
+loop-again c =
+    let l = c .before .before .loop in
+    let a = c .before .before .before .args in
+    let x = getD (a .xs .now) (l .i) 0 in (
+      looking-more (over (a .q)) _ 0 (l .i) (l .passed) (l .still) (boolByte (ltb x (a .q))) (l .inv .0) (omega arith) (test (a .q) x (ltb x (a .q)) refl),
+      omega (arith, kept c, l .inv .1),
+    )
+
+pub search-all-spec : {M : Type 1} → statement M
+search-all-spec =
+    tie.close
+    (tie.spec
+    Inv-loop
+    μ-loop
+    loop-holds
+    (λ c. omega arith)
+    (λ c. omega arith)
+    (λ c. tt)
+    mul-still-2
+    add-passed
+    (λ c. omega arith)
+    (λ c. omega arith)
+    loop-again
+    returns)
