@@ -1,20 +1,26 @@
--- Hints, keys and the initiator's bits of whole lists.
+-- Hints, keys, the initiator's bits and the slacks of whole lists.
 --   hints-length, keys-length, peers-length   as long as the values
 --   hints-at        a hint, of its coin and its value
 --   hints-below, keys-below, peers-below      each is 0 or 1
 --   lists-agree     entry by entry up to the margin apart: the initiator's bits are the replier's keys
+--   slacks-length   as many slacks as there are values
+--   slacks-apart    under the replier's hints each is at most twice the distance of the two values, and one
+--   slacks-most     and under any hints at most the largest that a slack can be
 use mathlib.Core.Path.{_≡_, _∙_, sym, ap}
 use mathlib.Core.List.{List}
-use Prim.Native.Nat.{ℕ, _<_}
+use Prim.Native.Nat.{ℕ, _+_, _*_, _≤_, _<_}
 use native.Mathlib.Omega.{arith}
 use lib.ListN.{length, getD}
+use Rattle.numbers.specs.Residue.{apart}
 use Rattle.lists.specs.Entries.{tab, Below}
 use Rattle.lists.proofs.Entries.{tab-length, tab-at, tab-ext, below-tab}
-use Rattle.bcns.specs.Rounding.{doubled, hintOf, peerOf, hintsOf, keysOf, peersOf}
+use Rattle.bcns.specs.Rounding.{q, doubled, hintOf, peerOf, hintsOf, keysOf, peersOf}
 use Rattle.bcns.specs.Agreement.{EveryEntry}
+use Rattle.bcns.specs.Slack.{slackOf, slacksOf, mostSlack}
 use Rattle.bcns.proofs.Regions.{hint-below, key-below}
 use Rattle.bcns.proofs.Formula.{peer-below}
 use Rattle.bcns.proofs.Margin.{meet}
+use Rattle.bcns.proofs.Away.{slack-apart, slack-bound}
 
 module _ (cs vs : List ℕ) where
   pub hints-length : length (hintsOf cs vs) ≡ length vs
@@ -46,9 +52,27 @@ module _ (hs ws : List ℕ) where
   unfolding peersOf
   peers-below = below-tab 2 (length ws) _ (omega arith) (λ k l. peer-below _ _)
 
+  pub slacks-length : length (slacksOf hs ws) ≡ length ws
+  unfolding slacksOf
+  slacks-length = tab-length (length ws) _
+
+  slacks-at : (k : ℕ) → k < length ws → getD (slacksOf hs ws) k 0 ≡ slackOf (getD hs k 0) (getD ws k 0)
+  unfolding slacksOf
+  slacks-at k l = tab-at (length ws) (λ j. slackOf (getD hs j 0) (getD ws j 0)) k 0 l
+
+  pub slacks-most : Below 2 hs → Below q ws → (k : ℕ) → k < length ws → getD (slacksOf hs ws) k 0 ≤ mostSlack
+  slacks-most bh bw k l = rw (slacks-at k l) (slack-bound (getD hs k 0) (getD ws k 0) (bw .below k) (bh .below k))
+
 pub lists-agree : EveryEntry
 unfolding peersOf keysOf
 lists-agree cs vs ws e hv hw d =
     ap (λ (n : ℕ). tab n (λ k. peerOf (getD (hintsOf cs vs) k 0) (getD ws k 0))) (sym e)
     ∙ tab-ext (length vs) _ _
     (λ k l. ap (λ (h : ℕ). peerOf h (getD ws k 0)) (hints-at cs vs k l) ∙ meet (getD cs k 0) (getD vs k 0) (getD ws k 0) (hv .below k) (hw .below k) (d k l))
+
+pub slacks-apart :
+    (cs vs ws : List ℕ) → Below q vs → Below q ws → length vs ≡ length ws → (k : ℕ) → k < length ws
+    → getD (slacksOf (hintsOf cs vs) ws) k 0 ≤ 2 * apart q (getD vs k 0) (getD ws k 0) + 1
+slacks-apart cs vs ws bv bw n k l =
+    rw (slacks-at (hintsOf cs vs) ws k l, hints-at cs vs k (omega arith))
+    (slack-apart (getD cs k 0) (getD vs k 0) (getD ws k 0) (bv .below k) (bw .below k))

@@ -47,13 +47,13 @@ pub key-below : (z : ℕ) → keyOf z < 2
 unfolding keyOf
 key-below z = cond-all (λ (n : ℕ). n < 2) (both (leb 2147483648 z) (leb z 6442450942)) (omega arith) (omega arith)
 
-data Region (z : ℕ) : Type 0 where
+pub data Region (z : ℕ) : Type 0 where
   first : z < 2147483648 → hintOf z ≡ 0 → keyOf z ≡ 0 → Region z
   second : 2147483648 ≤ z → z < q → hintOf z ≡ 1 → keyOf z ≡ 1 → Region z
   third : q ≤ z → z < 6442450943 → hintOf z ≡ 0 → keyOf z ≡ 1 → Region z
   fourth : 6442450943 ≤ z → hintOf z ≡ 1 → keyOf z ≡ 0 → Region z
 
-region : (z : ℕ) → z < 2 * q → Region z
+pub region : (z : ℕ) → z < 2 * q → Region z
 region z u = go (decLt z 2147483648) (decLt z q) (decLt z 6442450943)
   where
     go : Dec (z < 2147483648) → Dec (z < q) → Dec (z < 6442450943) → Region z

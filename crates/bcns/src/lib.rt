@@ -1,13 +1,14 @@
 // BCNS's reconciliation: 01, "Reconciliation"; q is that of `schemes`, and z lies in 0 .. 2q - 1. First one entry: z, its hint and its key bit at the replier,
-// the bit of w at the initiator; then the same over lists. That both ends get the same bit is in `specs/Agreement.antt`.
+// the bit of w and its slack at the initiator; then the same over lists. That both ends get the same bit is in `specs/Agreement.antt`.
 ghost use mathlib.Core.Path.{_≡_};
 ghost use Prim.Native.Nat.{ℕ, _*_, _≤_, _<_};
 ghost use lib.ListN.{length};
 ghost use lib.IntN.{natAbs};
 ghost use Rattle.lists.specs.Entries.{Below};
 ghost use Rattle.bcns.specs.Rounding.{q, coinOf, doubled, hintOf, keyOf, peerOf, hintsOf, keysOf, peersOf};
+ghost use Rattle.bcns.specs.Slack.{slackOf, slacksOf};
 
-// q, 2q, the first and the last z whose key bit is 1, and an eighth of the circle of w.
+// q, 2q, the first and the last z whose key bit is 1, an eighth of the circle of w, and how many z of the hint 1 stand in a row; of the hint 0 one more.
 const Q: u64 = schemes::Bcns::Q as u64;
 
 const TWICE: u64 = 2 * Q;
@@ -17,6 +18,8 @@ const FIRST: u64 = (Q + 1) / 2;
 const LAST: u64 = (3 * Q - 1) / 2;
 
 const EIGHTH: u64 = (Q + 1) / 8;
+
+const ROW: u64 = Q / 2;
 
 // What two coin bits give: 0, 1 or -1.
 fn coin_of(bits: u32) -> i64
@@ -57,6 +60,18 @@ pub fn peer(h: u32, w: u32) -> u32
     (((w as u64) + (1 + 2 * (h as u64)) * EIGHTH) / FIRST % 2) as u32
 }
 
+// The slack used (02f): how far 2w lies, around a circle of 2q, from the nearest z with the hint h. In place of a search its formula, which `Slack.antt`
+// states: the place of 2w behind the start of a row of z with the other hint, and the way out of that row.
+pub fn slack(h: u32, w: u32) -> u32
+    requires { ⌜ (h < 2) × (w < q) ⌝ }
+    ensures { λ r. ⌜ r ≡ slackOf h w ⌝ }
+{
+    numbers::way_out(
+        ((2 * (w as u64) + (1 - (h as u64)) * ROW) % Q) as u32,
+        ROW as u32 + h,
+    )
+}
+
 pub fn hints(coins: &[u32], v: &[u32], out: &mut [u32])
     requires { ⌜ Below q (now v) × (length (now coins) ≡ length (now v)) × (length (now out) ≡ length (now v)) ⌝ }
     ensures { λ _. ⌜ now (out .exit) ≡ hintsOf (now (coins .entry)) (now (v .entry)) ⌝ }
@@ -86,6 +101,18 @@ pub fn peers(hints: &[u32], w: &[u32], out: &mut [u32])
     let mut i: usize = 0;
     while i < out.len() {
         out[i] = peer(hints[i], w[i]);
+        i += 1;
+    }
+}
+
+// In place: each value becomes its slack.
+pub fn slacks(hints: &[u32], w: &mut [u32])
+    requires { ⌜ Below q (now w) × Below 2 (now hints) × (length (now hints) ≡ length (now w)) ⌝ }
+    ensures { λ _. ⌜ now (w .exit) ≡ slacksOf (now (hints .entry)) (now (w .entry)) ⌝ }
+{
+    let mut i: usize = 0;
+    while i < w.len() {
+        w[i] = slack(hints[i], w[i]);
         i += 1;
     }
 }

@@ -1,0 +1,56 @@
+-- BCNS's slack used: 02f.
+--   slackOf h w     how far 2w lies, around a circle of 2q, from the nearest z with the hint h
+--   slacksOf        the same entry by entry
+--   mostSlack       the largest that it can be
+-- What is shown of it:
+--   LeastApart, SlackLeast   some z with the hint is that far from 2w, and none is nearer
+--   past, SlackFormula       it as the code computes it
+--   SlackNone       it is 0 exactly if 2w has the hint
+--   SlackBound      it is at most `mostSlack`
+--   SlackApart      under the hint of the replier's z it is at most twice the distance of v and w, and one
+use mathlib.Core.Path.{_≡_}
+use mathlib.Core.Logic.{_↔_}
+use mathlib.Core.List.{List}
+use Prim.Native.Nat.{ℕ, _+_, _*_, _-_, _/_, _%_, _≤_, _<_, min}
+use lib.Dec.{eqb}
+use lib.ListN.{length, getD}
+use Rattle.numbers.specs.Residue.{apart}
+use Rattle.numbers.specs.Least.{awayFrom}
+use Rattle.lists.specs.Entries.{tab}
+use Rattle.bcns.specs.Rounding.{q, doubled, hintOf}
+
+unfoldable pub slackOf : ℕ → ℕ → ℕ
+slackOf h w = awayFrom (2 * q) (λ z. eqb (hintOf z) h) (2 * w)
+
+unfoldable pub slacksOf : List ℕ → List ℕ → List ℕ
+slacksOf hs ws = tab (length ws) (λ k. slackOf (getD hs k 0) (getD ws k 0))
+
+abbrev pub mostSlack : ℕ
+mostSlack = 1073741824
+
+pub record LeastApart (h w : ℕ) : Type 0 where
+  pub z : ℕ
+  pub below : z < 2 * q
+  pub hinted : hintOf z ≡ h
+  pub reached : apart (2 * q) z (2 * w) ≡ slackOf h w
+  pub least : (y : ℕ) → y < 2 * q → hintOf y ≡ h → slackOf h w ≤ apart (2 * q) y (2 * w)
+
+abbrev pub SlackLeast : Type 0
+SlackLeast = (h w : ℕ) → w < q → h < 2 → LeastApart h w
+
+-- how far 2w stands behind the start of a row of z with the other hint, modulo q: hints repeat after q
+abbrev pub past : ℕ → ℕ → ℕ
+past h w = (2 * w + (1 - h) * (q / 2)) % q
+
+-- the way out of that row, 0 behind it; the row of the hint 0 has one more
+abbrev pub SlackFormula : Type 0
+SlackFormula = (h w : ℕ) → w < q → h < 2 → slackOf h w ≡ min (past h w + 1) (q / 2 + h - past h w)
+
+abbrev pub SlackNone : Type 0
+SlackNone = (h w : ℕ) → w < q → h < 2 → (slackOf h w ≡ 0) ↔ (hintOf (2 * w) ≡ h)
+
+abbrev pub SlackBound : Type 0
+SlackBound = (h w : ℕ) → w < q → h < 2 → slackOf h w ≤ mostSlack
+
+abbrev pub SlackApart : Type 0
+SlackApart = (c v w : ℕ) → v < q → w < q → slackOf (hintOf (doubled c v)) w ≤ 2 * apart q v w + 1
