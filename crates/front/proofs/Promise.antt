@@ -1,18 +1,21 @@
 -- The parts of a promise.
---   told-passed, wrote-passed, gave-passed      where nothing is refused
---   told-failed, wrote-failed, gave-failed      where a test has failed
+--   told-passed, wrote-passed, gave-passed, used-passed   where nothing is refused
+--   told-failed, wrote-failed, gave-failed, used-failed   where a test has failed
 --   wrote-kept                                  where a step has left a part as it was
 --   wrote-restored                              where a part was written before, and zeroed again
---   told-only, wrote-only, gave-only            no two results satisfy one part
+--   told-only, wrote-only, gave-only, used-only   no two results satisfy one part
+--   outcome-slack, outcome-refused              what a step hands on, by its verdict; passed-by, failed-by: and back
 --   same-refusal                                two refusals with the same number and place are the same
 --   same-answer                                 so are two answers with the same three numbers
-use mathlib.Core.Path.{_≡_, refl, _∙_, ap}
+--   same-peak                                   and two slacks of the same size and index
+use mathlib.Core.Path.{_≡_, refl, sym, _∙_, ap}
 use mathlib.Core.Bool.{cond}
 use mathlib.Core.List.{List, _++_}
 use Prim.Native.Nat.{ℕ, _-_, _≤_}
 use native.Mathlib.Omega.{arith}
 use lib.Dec.{eqb, eqb·suc-zero}
 use lib.ListN.{length, take, drop, replicate, take-append-drop}
+use Rattle.lists.specs.declared.Peak.{Peak}
 use Rattle.lists.proofs.Same.{restored}
 use Rattle.front.specs.Front.{numberOf, placeOf, countIn}
 use Rattle.front.specs.declared.Refusal.{Refusal}
@@ -21,7 +24,8 @@ use Rattle.front.specs.declared.Verdict.{Verdict}
 use Rattle.front.specs.declared.Verdict.the-variants.{Pass, Fail}
 use Rattle.front.proofs.Laws.{some}
 use Rattle.front.proofs.Held.{held-refused, held-written}
-use Rattle.front.specs.Promise.{Told, Wrote, put, Gave}
+use Rattle.front.specs.Promise.{Told, Wrote, put, Gave, Used, outcome}
+use Rattle.front.specs.declared.Outcome.{Outcome}
 use Rattle.front.specs.Answers.{number, place, written}
 use Rattle.front.specs.declared.Answer.{Answer}
 use Rattle.front.specs.declared.Answer.the-variants.{Done, Refused}
@@ -36,6 +40,12 @@ module _ {v : Verdict} (e : v ≡ Pass) where
 
   pub gave-passed : {d n : ℕ} → n ≡ d → Gave v d n
   gave-passed f = record { gives = rw e f }
+
+  pub used-passed : {p : Peak} {s : Peak} → s ≡ p → Used v p (s .most) (s .at)
+  used-passed f = record { most = rw (e, f); first = rw (e, f) }
+
+  pub outcome-slack : (p : Peak) → outcome v p ≡ Outcome.Slack p
+  outcome-slack p = rw e
 
 module _ {v : Verdict} {r : Refusal} (e : v ≡ Fail r) where
   pub told-failed : Told v (numberOf r) (placeOf r)
@@ -59,6 +69,12 @@ module _ {v : Verdict} {r : Refusal} (e : v ≡ Fail r) where
   pub gave-failed : {d : ℕ} → Gave v d 0
   gave-failed = record { gives = rw e }
 
+  pub used-failed : {p : Peak} → Used v p 0 0
+  used-failed = record { most = rw e; first = rw e }
+
+  pub outcome-refused : (p : Peak) → outcome v p ≡ Outcome.Refused r
+  outcome-refused p = rw e
+
 -- ---- one result
 
 module _ {v : Verdict} where
@@ -71,6 +87,9 @@ module _ {v : Verdict} where
 
   pub gave-only : {d n n′ : ℕ} → Gave v d n → Gave v d n′ → n ≡ n′
   gave-only a b = cc
+
+  pub used-only : {p : Peak} {s s′ i i′ : ℕ} → Used v p s i → Used v p s′ i′ → (s ≡ s′) × (i ≡ i′)
+  used-only a b = (cc, cc)
 
 refusalBy : ℕ → ℕ → Refusal
 refusalBy k p =
@@ -104,3 +123,34 @@ same-answer (Done m) (Done n) e f g = ap Done g
 same-answer (Done m) (Refused s) e f g = absurd (omega (arith, some s))
 same-answer (Refused r) (Done n) e f g = absurd (omega (arith, some r))
 same-answer (Refused r) (Refused s) e f g = ap Refused (same-refusal r s e f)
+
+peak-eta : (p : Peak) → record { most = p .most; at = p .at } ≡ p
+peak-eta p = refl
+
+pub same-peak : (p q : Peak) → p .most ≡ q .most → p .at ≡ q .at → p ≡ q
+same-peak p q e f = cc (peak-eta p, peak-eta q)
+
+-- ---- a verdict back from what a step has handed on
+
+-- the slack of an outcome, and another where it is a refusal
+slackIn : Outcome → Peak → Peak
+slackIn (Outcome.Slack p) q = p
+slackIn (Outcome.Refused r) q = q
+
+refusalIn : Outcome → Refusal → Refusal
+refusalIn (Outcome.Slack p) s = s
+refusalIn (Outcome.Refused r) s = r
+
+passes : Outcome → ℕ
+passes (Outcome.Slack p) = 0
+passes (Outcome.Refused r) = 1
+
+pub passed-by : (v : Verdict) (p : Peak) {q : Peak} {o : Outcome} → o ≡ outcome v p → o ≡ Outcome.Slack q → (v ≡ Pass) × (q ≡ p)
+unfolding slackIn passes
+passed-by Pass p {q} e f = (refl, ap (λ (o : Outcome). slackIn o q) (sym f ∙ e))
+passed-by (Fail r) p e f = let z : _≡_ {A = ℕ} 0 1 = ap passes (sym f ∙ e) in absurd (omega arith)
+
+pub failed-by : (v : Verdict) (p : Peak) {r : Refusal} {o : Outcome} → o ≡ outcome v p → o ≡ Outcome.Refused r → v ≡ Fail r
+unfolding refusalIn passes
+failed-by Pass p e f = let z : _≡_ {A = ℕ} 1 0 = ap passes (sym f ∙ e) in absurd (omega arith)
+failed-by (Fail s) p {r = r} e f = ap Fail (ap (λ (o : Outcome). refusalIn o r) (sym e ∙ f))

@@ -5,6 +5,8 @@ ghost use Prim.Native.Nat.{_*_, _≤_, _<_};
 ghost use lib.ListN.{length};
 ghost use Rattle.packing.specs.Packing.{unpacked};
 ghost use Rattle.front.specs.Front.{_then_, lengthIs, lengthUpTo, roomFor, publicsIn, notBlank, receivedIn, secretsIn, numberOf, placeOf};
+ghost use Rattle.front.specs.Promise.{outcome};
+use lists::Peak;
 
 pub enum Refusal {
     NoScheme,
@@ -62,6 +64,22 @@ pub enum Verdict {
 pub enum Answer {
     Done(usize),
     Refused(Refusal),
+}
+
+// What the steps of Finish and Bench hand on: the slack used, or the refusal.
+pub enum Outcome {
+    Slack(Peak),
+    Refused(Refusal),
+}
+
+// What a verdict is, with the slack that was used.
+pub fn ended(v: Verdict, slack: Peak) -> Outcome
+    ensures { λ r. ⌜ r ≡ outcome v slack ⌝ }
+{
+    match v {
+        Verdict::Pass => Outcome::Slack(slack),
+        Verdict::Fail(r) => Outcome::Refused(r),
+    }
 }
 
 // An input's length is the fixed one.
