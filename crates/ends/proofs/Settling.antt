@@ -1,14 +1,14 @@
 -- Hints and key entries by the scheme; and what is asked and what is made in the arms of the functions of `settle`, F being the arm's family.
 --   counted          a count and a bound under another name
---   hints-counted, keys-counted, peers-counted   as many as the scheme has, and each within its bits
---   Hinting, Keying, Peering   what the functions are given: coins or hints xs, the replier's own hints, a value and room, with the scheme's counts and ranges
+--   hints-counted, keys-counted, peers-counted   as many as the scheme has, and each within its bits; slacks-long: as many
+--   Hinting, Keying, Peering, Slacking   what the functions are given: coins or hints xs, the replier's own hints, a value and room, with the scheme's counts and ranges
 --   Told X, tell     what a function knows in an arm: what it is given, what `scheme.family()` returned, and the interval and the key bits
 --   frodo            the same, where these two are what Frodo's arm computed
---   hints-asks, hints-made, keys-asks, keys-made, peers-asks, peers-made   in the arms; NewHope's keys are the bits of its own hints
+--   hints-asks, hints-made, keys-asks, keys-made, peers-asks, peers-made, slacks-asks, slacks-made   in the arms; NewHope's keys are the bits of its own hints
 use mathlib.Core.Path.{_≡_, refl, _∙_, sym, ap, subst}
 use mathlib.Core.List.{List}
 use Prim.Native.Nat.{ℕ, _*_, _^_}
-use lib.ListN.{length}
+use lib.ListN.{length, replicate, length-replicate}
 use Rattle.schemes.specs.Schemes.{by, familyOf, fixedOf}
 use Rattle.schemes.specs.declared.Family.{Family}
 use Rattle.schemes.specs.declared.Fixed.{Fixed}
@@ -17,11 +17,13 @@ use Rattle.lists.specs.Entries.{Below}
 use Rattle.bcns.specs.Rounding as bcns-spec
 use Rattle.newhope.specs.Group as newhope-spec
 use Rattle.frodo.specs.Rounding as frodo-spec
+use Rattle.bcns.specs.Slack as bcns-slack
+use Rattle.frodo.specs.Slack as frodo-slack
 use Rattle.bcns.proofs.Entries as bcns
 use Rattle.newhope.proofs.Groups as newhope
 use Rattle.frodo.proofs.Entries as frodo-laws
 use Rattle.ends.specs.Fit.{Counted}
-use Rattle.ends.specs.Keys.{interval, hints, keys, peers}
+use Rattle.ends.specs.Keys.{interval, hints, keys, peers, slacks}
 use Rattle.ends.proofs.Numbers.{Bcns, NewHope, Frodo, numbers-of, in-each, Each, in-arm, arm-asks}
 
 pub counted : {m n q r : ℕ} {xs : List ℕ} → m ≡ n → q ≡ r → Counted m q xs → Counted n r xs
@@ -69,6 +71,14 @@ module _ (c : Scheme) (cs v : List ℕ) (l : length v ≡ fixedOf c .mixed) wher
       bits (k .mixed ∙ sym (k .groups)) refl
       (record { long = frodo-laws.peers-length (interval c) b cs v ∙ l; below = frodo-laws.peers-below (interval c) b cs v }))
 
+  pub slacks-long : length (slacks c cs v) ≡ fixedOf c .mixed
+  unfolding slacks
+  slacks-long =
+      in-each (λ (xs : List ℕ). length xs ≡ fixedOf c .mixed) (familyOf c) (numbers-of c)
+      (λ k. bcns.slacks-length cs v ∙ l)
+      (λ k. length-replicate (length v) 0 ∙ l)
+      (λ k. frodo-laws.slacks-length (interval c) (fixedOf c .keybits) cs v ∙ l)
+
 -- ---- what the functions know
 
 abbrev Valued : Fixed → ℕ → List ℕ → ℕ → Type 0
@@ -83,6 +93,10 @@ Keying c xs own v m =
 
 abbrev pub Peering : Scheme → List ℕ → List ℕ → List ℕ → ℕ → Type 0
 Peering c xs own v m = Valued (fixedOf c) (fixedOf c .groups) v m × Counted (fixedOf c .mixed) (2 ^ fixedOf c .hintbits) xs
+
+-- in place: there is no room beside the value itself
+abbrev pub Slacking : Scheme → List ℕ → List ℕ → List ℕ → ℕ → Type 0
+Slacking c xs own v m = Counted (fixedOf c .mixed) (fixedOf c .q) v × Counted (fixedOf c .mixed) (2 ^ fixedOf c .hintbits) xs
 
 pub record Told (X : Scheme → List ℕ → List ℕ → List ℕ → ℕ → Type 0) : Type 0 where
   pub c : Scheme
@@ -137,14 +151,18 @@ module _ {X : Scheme → List ℕ → List ℕ → List ℕ → ℕ → Type 0} 
         bits = ap (λ (f : Fixed). f .keybits) d;
       }
 
-  -- what is asked of the value and its room in Frodo
+  -- what is asked of the value in Frodo, and of its room
+  abbrev FrodoValue : Type 0
+  FrodoValue = frodo-spec.Round (t .I) (t .B) × Below (t .I * 2 ^ t .B) (t .v)
+
   abbrev FrodoAsks : Type 0
   FrodoAsks = frodo-spec.Round (t .I) (t .B) × Below (t .I * 2 ^ t .B) (t .v) × (length (t .v) ≡ t .room)
 
+  frodo-value : Counted (fixedOf (t .c) .mixed) (fixedOf (t .c) .q) (t .v) → Frodo (fixedOf (t .c)) → FrodoValue
+  frodo-value h k = rw (t .wide, t .bits) (k .round, subst (λ (q : ℕ). Below q (t .v)) (sym (k .whole)) (h .below))
+
   frodo-asks : {n : ℕ} → Valued (fixedOf (t .c)) n (t .v) (t .room) → Frodo (fixedOf (t .c)) → n ≡ 64 → FrodoAsks
-  frodo-asks h k p =
-      rw (t .wide, t .bits)
-      (k .round, subst (λ (q : ℕ). Below q (t .v)) (sym (k .whole)) (h .0 .below), h .0 .long ∙ k .mixed ∙ sym (h .1 ∙ p))
+  frodo-asks h k p = let v = frodo-value (h .0) k in (v .0, v .1, h .0 .long ∙ k .mixed ∙ sym (h .1 ∙ p))
 
 -- what is asked of coins or hints, of the value and its room in NewHope
 newhope-asks : {f : Fixed} {n r b m : ℕ} {x v : List ℕ} → Valued f n v m → NewHope f → n ≡ r → {l : ℕ} → Counted l b x
@@ -227,3 +245,22 @@ module _ (F : Family) (t : Told Peering) (i : t .kind ≡ F) where
       → out ≡ peers (t .c) (t .xs) (t .v)
   unfolding peers
   peers-made p = in-arm F (t .c) (sym (t .family) ∙ i) p (λ k. refl) (λ k. refl) (λ k. rw (t .wide, t .bits) refl)
+
+module _ (F : Family) (t : Told Slacking) (i : t .kind ≡ F) where
+  pub slacks-asks : Each F
+      (Below 4294967295 (t .v) × Below 2 (t .xs) × (length (t .xs) ≡ length (t .v)))
+      Unit
+      (FrodoValue t × (Below 2 (t .xs) × (length (t .xs) ≡ length (t .v))))
+  slacks-asks =
+      let h = t .given in
+      let same = h .1 .long ∙ sym (h .0 .long) in
+      arm-asks F (t .c) (sym (t .family) ∙ i)
+      (λ k. (counted refl (k .q) (h .0) .below, bits refl (k .hintbits) (h .1) .below, same))
+      (λ k. tt)
+      (λ k. (frodo-value t (h .0) k, (bits refl (k .hintbits) (h .1) .below, same)))
+
+  pub slacks-made : {out : List ℕ} → out ≡ by F (bcns-slack.slacksOf (t .xs) (t .v)) (replicate (length (t .v)) 0)
+      (frodo-slack.slacksOf (t .I) (t .B) (t .xs) (t .v))
+      → out ≡ slacks (t .c) (t .xs) (t .v)
+  unfolding slacks
+  slacks-made p = in-arm F (t .c) (sym (t .family) ∙ i) p (λ k. refl) (λ k. refl) (λ k. rw (t .wide, t .bits) refl)

@@ -1,11 +1,11 @@
-// Hints and key entries, by the scheme.
+// Hints, key entries and the slack used, by the scheme.
 ghost use mathlib.Core.Path.{_≡_};
 ghost use Prim.Native.Nat.{_^_};
 ghost use lib.ListN.{length};
 ghost use Rattle.schemes.specs.Schemes.{fixedOf};
 ghost use Rattle.lists.specs.Lent.{was, left};
 ghost use Rattle.ends.specs.Fit.{Counted};
-ghost use Rattle.ends.specs.Keys.{hints, keys, peers};
+ghost use Rattle.ends.specs.Keys.{hints, keys, peers, slacks};
 use schemes::Family;
 use schemes::Scheme;
 
@@ -57,6 +57,23 @@ pub fn peers(scheme: Scheme, given: &[u32], w: &[u32], out: &mut [u32])
         Family::Frodo => {
             let f = scheme.fixed();
             frodo::peers(frodo::interval(scheme), f.keybits, given, w, out)
+        }
+    }
+}
+
+// The slack that each entry of the initiator's value uses under the hints, in the entry's place.
+pub fn slacks(scheme: Scheme, given: &[u32], w: &mut [u32])
+    requires { ⌜ Counted (fixedOf scheme .mixed) (fixedOf scheme .q) (now w) ⌝ }
+    requires { ⌜ Counted (fixedOf scheme .mixed) (2 ^ fixedOf scheme .hintbits) (now given) ⌝ }
+    ensures { λ _. ⌜ left w ≡ slacks scheme (was given) (was w) ⌝ }
+{
+    let family = scheme.family();
+    match family {
+        Family::Bcns => bcns::slacks(given, w),
+        Family::NewHope => lists::zero_numbers(w),
+        Family::Frodo => {
+            let f = scheme.fixed();
+            frodo::slacks(frodo::interval(scheme), f.keybits, given, w)
         }
     }
 }
