@@ -1,6 +1,6 @@
 -- Finish.
 --   peer-key-length     a key is as long as the scheme says
---   peer-key-taken      the key of the reply's own numbers is Finish's
+--   peer-key-taken      the key of the reply's own numbers is Finish's; slack-taken: so is the slack
 --   finish-sized        what passed sizes say: the lengths, and room for key and digest
 --   finish-sizes-failed, finish-rest-decides   its verdict by the test that decides
 --   finish-unknown      its tests where the number names no scheme
@@ -19,13 +19,13 @@ use Rattle.front.specs.declared.Verdict.the-variants.{Pass, Fail}
 use Rattle.front.specs.declared.Refusal.{Refusal}
 use Rattle.front.specs.declared.Refusal.the-variants.{NoScheme}
 use Rattle.front.proofs.Laws.{both, length-passed, room-passed, failed, went-on}
-use Rattle.front.proofs.Promise.{told-failed, wrote-failed}
+use Rattle.front.proofs.Promise.{told-failed, wrote-failed, used-failed}
 use Rattle.ends.specs.Values.{bareValue}
 use Rattle.ends.proofs.Ranges.{bare-counted}
 use Rattle.ends.proofs.Settling.{peers-counted}
 use Rattle.wire.specs.Wire.{hintsIn}
 use Rattle.wire.proofs.Travel.{key-long}
-use Rattle.exchange.specs.Finish.{Finish, finishSizes, finishRest, finishTests, repliedOf, peerKeyFrom, peerKeyOf, Finished}
+use Rattle.exchange.specs.Finish.{Finish, finishSizes, finishRest, finishTests, repliedOf, peerKeyFrom, peerKeyOf, slackFrom, slackOf, Finished}
 
 module _ (c : Scheme) (x : Finish) where
   pub peer-key-from-length : (u : List ℕ) → length (peerKeyFrom c u x) ≡ fixedOf c .key
@@ -39,6 +39,10 @@ module _ (c : Scheme) (x : Finish) where
   pub peer-key-taken : {u : List ℕ} → u ≡ repliedOf c x → peerKeyFrom c u x ≡ peerKeyOf c x
   unfolding peerKeyOf
   peer-key-taken e = rw e
+
+  pub slack-taken : {u : List ℕ} → u ≡ repliedOf c x → slackFrom c u x ≡ slackOf c x
+  unfolding slackOf
+  slack-taken e = rw e
 
   -- ---- its tests
 
@@ -64,5 +68,5 @@ unfolding finishTests
 finish-unknown x k d e = rw e
 
 pub finish-refused : {c : Named} {x : Finish} {k d : ℕ} {r : Refusal} {key digest : List ℕ} → finishTests c x k d ≡ Fail r → key ≡ replicate k 0
-    → digest ≡ replicate d 0 → Finished c x (numberOf r) (placeOf r) k 0 key d 0 digest
-finish-refused e o p = record { told = told-failed e; keys = wrote-failed e o; digests = wrote-failed e p }
+    → digest ≡ replicate d 0 → Finished c x (numberOf r) (placeOf r) k 0 key d 0 digest 0 0
+finish-refused e o p = record { told = told-failed e; keys = wrote-failed e o; digests = wrote-failed e p; slacks = used-failed e }

@@ -4,24 +4,28 @@ use Prim.Native.Nat.{ℕ, _^_, _≤_}
 use native.Mathlib.Nat.{lt-of-lt-of-le}
 use native.Mathlib.Omega.{arith}
 use lib.Dec.{lit≤}
+use lib.ListN.{length}
 use mathlib.Core.List.{List}
 use Rattle.schemes.specs.Schemes.{familyOf, fixedOf}
 use Rattle.schemes.specs.declared.Family.{Family}
 use Rattle.schemes.specs.declared.Scheme.{Scheme}
 use Rattle.schemes.specs.declared.Scheme.the-variants.{Bcns, NewHope, Challenge, Classical, Recommended, Paranoid}
+use Rattle.lists.proofs.Top.{peak-zeros}
 use Rattle.packing.proofs.Laws.{unpacked-below}
 use Rattle.front.specs.Front.{messageIn, receivedIn}
 use Rattle.front.specs.declared.Verdict.the-variants.{Pass}
 use Rattle.front.proofs.Laws.{some, both, message-passes}
-use Rattle.front.proofs.Promise.{same-refusal, same-answer}
+use Rattle.front.proofs.Promise.{used-only, same-refusal, same-answer, same-peak}
 use Rattle.front.proofs.Number.{and, passes, lengths, rooms, publics, secrets, blanks}
+use Rattle.ends.specs.Keys.{slacks}
+use Rattle.ends.specs.Values.{bareValue}
 use Rattle.wire.specs.Wire.{numbersIn}
 use Rattle.wire.proofs.Travel.{opening-again, reply-again}
 use Rattle.exchange.specs.Reply.{replyTests, replyLengths, replySizes, replyRest, replySecrets, replyLast, openedOf}
 use Rattle.exchange.specs.Reply as reply
-use Rattle.exchange.specs.Finish.{finishTests, finishSizes, finishRest, repliedOf}
+use Rattle.exchange.specs.Finish.{finishTests, finishSizes, finishRest, repliedOf, slackFrom, slackOf, finishSlack}
 use Rattle.exchange.specs.Finish as finish
-use Rattle.exchange.specs.Shown.{OneOffer, OneReply, OneFinish, OpeningComesBack, ReplyComesBack, NeverFive}
+use Rattle.exchange.specs.Shown.{OneOffer, OneReply, OneFinish, OpeningComesBack, ReplyComesBack, NeverFive, NoSlack}
 use Rattle.exchange.specs.declared.ReplyCounts.{ReplyCounts}
 use Rattle.exchange.specs.declared.ReplyAnswer.{ReplyAnswer}
 use Rattle.exchange.specs.declared.FinishCounts.{FinishCounts}
@@ -47,18 +51,20 @@ same-reply (ReplyAnswer.Refused r) (ReplyAnswer.Refused s) e f g h i = ap ReplyA
 pub one-reply : OneReply
 one-reply c x n k d r r′ message message′ key key′ digest digest′ p q = (same-reply r r′ (cc) (cc) (cc) (cc) (cc), cc, cc, cc)
 
-finish-eta : (m : FinishCounts) → record { key = m .key; digest = m .digest } ≡ m
+finish-eta : (m : FinishCounts) → record { key = m .key; digest = m .digest; slack = m .slack } ≡ m
 finish-eta m = refl
 
 same-finish : (a b : FinishAnswer) → finish.number a ≡ finish.number b → finish.place a ≡ finish.place b → finish.counts a .key ≡ finish.counts b .key
-    → finish.counts a .digest ≡ finish.counts b .digest → a ≡ b
-same-finish (FinishAnswer.Done m) (FinishAnswer.Done n) e f g h = cc (finish-eta m, finish-eta n)
-same-finish (FinishAnswer.Done m) (FinishAnswer.Refused s) e f g h = absurd (omega (arith, some s))
-same-finish (FinishAnswer.Refused r) (FinishAnswer.Done n) e f g h = absurd (omega (arith, some r))
-same-finish (FinishAnswer.Refused r) (FinishAnswer.Refused s) e f g h = ap FinishAnswer.Refused (same-refusal r s e f)
+    → finish.counts a .digest ≡ finish.counts b .digest → finish.counts a .slack ≡ finish.counts b .slack → a ≡ b
+same-finish (FinishAnswer.Done m) (FinishAnswer.Done n) e f g h i = cc (finish-eta m, finish-eta n)
+same-finish (FinishAnswer.Done m) (FinishAnswer.Refused s) e f g h i = absurd (omega (arith, some s))
+same-finish (FinishAnswer.Refused r) (FinishAnswer.Done n) e f g h i = absurd (omega (arith, some r))
+same-finish (FinishAnswer.Refused r) (FinishAnswer.Refused s) e f g h i = ap FinishAnswer.Refused (same-refusal r s e f)
 
 pub one-finish : OneFinish
-one-finish c x k d r r′ key key′ digest digest′ p q = (same-finish r r′ (cc) (cc) (cc) (cc), cc, cc)
+one-finish c x k d r r′ key key′ digest digest′ p q =
+    let used = used-only (p .slacks) (q .slacks) in
+    (same-finish r r′ (cc) (cc) (cc) (cc) (same-peak _ _ (used .0) (used .1)), cc, cc)
 
 -- ---- messages that are accepted
 
@@ -114,3 +120,9 @@ never-five c d =
           (and Other _ _ (and Other _ _ (and Other _ _ (l _ _) (λ _. l _ _)) (λ _. m _ _)) (λ _. m _ _))
           (λ _. and Other _ _ (and Other _ _ (passes Other (fits c d _) (λ e. omega arith)) (λ _. w _)) (λ _. s _ _)),
     )
+
+-- ---- NewHope, in which no slack is used
+
+pub no-slack : NoSlack
+unfolding finishSlack slackOf slackFrom slacks
+no-slack c x d = rw d (peak-zeros (length (bareValue c (repliedOf c x) (x .s))))

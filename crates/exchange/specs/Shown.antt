@@ -2,6 +2,7 @@
 --   OneOffer, OneReply, OneFinish   no two results satisfy one promise
 --   OpeningComesBack, ReplyComesBack   demand 2: a message that is accepted comes back the same when it is unpacked and packed again
 --   NeverFive                       01: refusal 5 can't arise in Frodo
+--   NoSlack                         request f: NewHope gives slack 0 and index 0
 use mathlib.Core.Path.{_≡_}
 use mathlib.Core.List.{List, _++_}
 use Prim.Native.Nat.{ℕ}
@@ -20,7 +21,7 @@ use Rattle.wire.specs.Wire.{opening, seedIn, hintsIn}
 use Rattle.exchange.specs.Offer.{Offer, Offered}
 use Rattle.exchange.specs.Reply.{Reply, replyTests, openedOf, Replied}
 use Rattle.exchange.specs.Reply as reply
-use Rattle.exchange.specs.Finish.{Finish, finishTests, repliedOf, Finished}
+use Rattle.exchange.specs.Finish.{Finish, finishTests, repliedOf, finishSlack}
 use Rattle.exchange.specs.Finish as finish
 use Rattle.exchange.specs.declared.ReplyAnswer.{ReplyAnswer}
 use Rattle.exchange.specs.declared.FinishAnswer.{FinishAnswer}
@@ -40,9 +41,7 @@ OneReply =
 abbrev pub OneFinish : Type 0
 OneFinish =
     (c : Named) (x : Finish) (k d : ℕ) (r r′ : FinishAnswer) (key key′ digest digest′ : List ℕ)
-    → Finished c x (finish.number r) (finish.place r) k (finish.counts r .key) key d (finish.counts r .digest) digest
-    → Finished c x (finish.number r′) (finish.place r′) k (finish.counts r′ .key) key′ d (finish.counts r′ .digest) digest′
-    → (r ≡ r′) × (key ≡ key′) × (digest ≡ digest′)
+    → finish.Answered c x r k key d digest → finish.Answered c x r′ k key′ d digest′ → (r ≡ r′) × (key ≡ key′) × (digest ≡ digest′)
 
 abbrev pub OpeningComesBack : Type 0
 OpeningComesBack =
@@ -58,3 +57,6 @@ abbrev pub NeverFive : Type 0
 NeverFive =
     (c : Scheme) → familyOf c ≡ Family.Frodo
     → ((x : Reply) (n k d : ℕ) → numberIn (replyTests (Is c) x n k d) ≡ 5 → ⊥) × ((x : Finish) (k d : ℕ) → numberIn (finishTests (Is c) x k d) ≡ 5 → ⊥)
+
+abbrev pub NoSlack : Type 0
+NoSlack = (c : Scheme) (x : Finish) → familyOf c ≡ Family.NewHope → finishSlack (Is c) x ≡ record { most = 0; at = 0 }

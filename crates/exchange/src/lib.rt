@@ -18,6 +18,7 @@ mod tests;
 
 use front::Answer;
 use front::Refusal;
+use lists::Peak;
 use schemes::Named;
 
 // What Reply gives: how much it wrote of each output, or the refusal.
@@ -32,10 +33,11 @@ pub enum ReplyAnswer {
     Refused(Refusal),
 }
 
-// What Finish gives.
+// What Finish gives: the same, and the slack used.
 pub struct FinishCounts {
     pub key: usize,
     pub digest: usize,
+    pub slack: Peak,
 }
 
 pub enum FinishAnswer {
@@ -99,7 +101,7 @@ pub fn reply(
     replier::reply_in(known, opening, a, s1, e1, e2, coins, message, key, digest)
 }
 
-// Finish: the initiator's key and its digest, from the reply message and the secret s.
+// Finish: the initiator's key, its digest and the slack used, from the reply message and the secret s.
 pub fn finish(
     scheme: u32,
     reply: &[u8],

@@ -1,22 +1,20 @@
--- `exchange::initiator::derive` meets its contract: value, hints, entries, bytes.
-use mathlib.Core.Path.{ap, ap₂, _∙_}
-use lib.ListN.{length}
+-- `exchange::initiator::derive` meets its contract: value, hints, and what they settle.
+use mathlib.Core.Path.{ap₂, _∙_}
+use mathlib.Core.List.{List}
+use Prim.Native.Nat.{ℕ}
 use Rattle.schemes.specs.Schemes.{fixedOf}
+use Rattle.lists.specs.Top.{peakOf}
 use Rattle.packing.specs.Packing.{packed}
-use Rattle.ends.specs.Keys.{peers}
+use Rattle.ends.specs.Keys.{peers, slacks}
 use Rattle.ends.proofs.Ranges.{bare-counted}
-use Rattle.ends.proofs.Settling.{peers-counted}
 use Rattle.wire.proofs.Travel.{hints-given}
-use Rattle.exchange.specs.Finish.{peerKeyFrom}
+use Rattle.exchange.specs.Finish.{peerKeyFrom, slackFrom}
 use borrow.Author.Needs.{needs}
 use Rattle.exchange.proofs.initiator.derive.Statement.{statement}
 use Rattle.exchange.proofs.initiator.derive.Tie as tie
 
 -- the places, from the last to the first
-abbrev settled : tie.After-lay-key → tie.After-peers
-settled c = search needs
-
-abbrev hinted : tie.After-peers → tie.After-take-hints
+abbrev hinted : tie.After-settle → tie.After-take-hints
 hinted c = search needs
 
 abbrev multiplied : tie.After-take-hints → tie.After-multiply
@@ -25,35 +23,27 @@ multiplied c = search needs
 abbrev start : tie.After-multiply → tie.Start
 start c = search needs
 
-peers-requires : tie.Need-peers-requires
-peers-requires c κs =
+settle-requires : tie.Need-settle-requires
+settle-requires c κs =
     let h : tie.After-take-hints = search needs in
     let m = multiplied h in
     let b = start m in
     let a = b .args in (
       (rw (m .multiply .ensures) (bare-counted (a .scheme) (a .u .now) (a .s .now)), b .pre .1 .2),
-      rw (h .take-hints .ensures) (hints-given (a .scheme) (a .reply .now)),
+      (rw (h .take-hints .ensures) (hints-given (a .scheme) (a .reply .now)), b .pre .0 .1),
     )
 
-lay-key-requires : tie.Need-lay-key-requires
-lay-key-requires c κs =
-    let p : tie.After-peers = search needs in
-    let m = multiplied (hinted p) in
-    let b = start m in
-    let a = b .args in
-    let l = ap length (m .multiply .ensures) ∙ bare-counted (a .scheme) (a .u .now) (a .s .now) .long in
-    (rw (p .peers .ensures) (peers-counted (a .scheme) _ _ l), b .pre .0 .1)
-
 returns : tie.Need-returns
-unfolding peerKeyFrom
+unfolding peerKeyFrom slackFrom
 returns c =
-    let k : tie.After-lay-key = search needs in
-    let p = settled k in
-    let h = hinted p in
+    let k : tie.After-settle = search needs in
+    let h = hinted k in
     let m = multiplied h in
-    let a = start m .args in
-    k .lay-key .ensures
-    ∙ ap (packed (fixedOf (a .scheme) .keybits)) (p .peers .ensures ∙ ap₂ (peers (a .scheme)) (h .take-hints .ensures) (m .multiply .ensures))
+    let a = start m .args in (
+      k .settle .ensures .0
+          ∙ ap₂ (λ (hs w : List ℕ). packed (fixedOf (a .scheme) .keybits) (peers (a .scheme) hs w)) (h .take-hints .ensures) (m .multiply .ensures),
+      k .settle .ensures .1 ∙ ap₂ (λ (hs w : List ℕ). peakOf (slacks (a .scheme) hs w)) (h .take-hints .ensures) (m .multiply .ensures),
+    )
 
 pub derive-spec : {M : Type 1} → statement M
 derive-spec =
@@ -61,8 +51,7 @@ derive-spec =
     (tie.spec
     (λ c κs. search needs)
     (λ c κs. search needs)
-    peers-requires
-    lay-key-requires
+    settle-requires
     (search needs)
     (search needs)
     (search needs)

@@ -9,8 +9,8 @@ use Rattle.schemes.specs.declared.Fixed.{Fixed}
 use Rattle.lists.proofs.Parts.{front-long}
 use Rattle.sponge.proofs.Output.{sha3-length}
 use Rattle.front.proofs.Held.{blank-front}
-use Rattle.front.proofs.Promise.{told-passed, wrote-passed, told-failed, wrote-failed, wrote-kept}
-use Rattle.exchange.specs.Finish.{finishOf, finishKey}
+use Rattle.front.proofs.Promise.{told-passed, wrote-passed, used-passed, told-failed, wrote-failed, wrote-kept, used-failed, passed-by, failed-by}
+use Rattle.exchange.specs.Finish.{Finish, finishOf, finishRest, finishKey, slackOf, finishSlack}
 use Rattle.exchange.proofs.Digest.{digest-laid}
 use Rattle.exchange.proofs.Finishing.{peer-key-length, finish-sized, finish-rest-decides}
 use borrow.Author.Needs.{needs}
@@ -19,6 +19,9 @@ use Rattle.exchange.proofs.initiator.finish_sized.Tie as tie
 
 abbrev start : tie.After-fixed → tie.Start
 start c = search needs
+
+abbrev x : tie.Start → Finish
+x b = finishOf (b .args .reply .now) (b .args .s .now)
 
 -- the part that the key takes
 module _ (c : tie.After-fixed) where
@@ -52,14 +55,20 @@ key-in-requires c κs =
     )
 
 returns : tie.Need-returns
-unfolding finishKey
+unfolding finishKey finishSlack
 returns c =
     let b : tie.Start = search needs in
     let k : tie.After-key-in = search needs in
     let v : tie.After-v = search needs in
     let f : tie.After-fixed = search needs in
-    let e = finish-rest-decides _ _ _ _ (b .pre .0) (k .key-in .ensures .0) ∙ v .v .given .1 in
-    record { told = told-failed e; keys = wrote-kept e (f .fixed .result .key) (b .args .key .now) (v .v .given .1) (k .key-in .ensures .1) (b .pre .1 .0); digests = wrote-failed e (b .pre .1 .1) }
+    let rest = failed-by (finishRest (b .args .scheme) (x b)) (slackOf (b .args .scheme) (x b)) (k .key-in .ensures .0) (v .v .given .1) in
+    let e = finish-rest-decides _ _ _ _ (b .pre .0) (sym rest) in
+    record {
+      told = told-failed e;
+      keys = wrote-kept e (f .fixed .result .key) (b .args .key .now) rest (k .key-in .ensures .1) (b .pre .1 .0);
+      digests = wrote-failed e (b .pre .1 .1);
+      slacks = used-failed e;
+    }
 
 slice-reshare-prefix-lay-digest : tie.Need-slice-reshare-prefix-lay-digest
 slice-reshare-prefix-lay-digest c =
@@ -77,20 +86,22 @@ lay-digest-requires : tie.Need-lay-digest-requires
 lay-digest-requires c κs = let f : tie.After-fixed = search needs in sized f .3
 
 returns-2 : tie.Need-returns-2
-unfolding finishKey
+unfolding finishKey finishSlack
 returns-2 c =
     let d : tie.After-lay-digest = search needs in
     let k : tie.After-key-in = search needs in
     let f : tie.After-fixed = search needs in
-    let o : tie.After-enum-told = search needs in
+    let o : tie.After-v2 = search needs in
     let b = start f in
-    let e = finish-rest-decides _ _ _ _ (b .pre .0) (k .key-in .ensures .0) ∙ o .enum-told .given .1 in
-    let keyed = rw (o .enum-told .given .1) at (k .key-in .ensures .1) in
+    let rest = passed-by (finishRest (b .args .scheme) (x b)) (slackOf (b .args .scheme) (x b)) (k .key-in .ensures .0) (o .v2 .given .1) in
+    let e = finish-rest-decides _ _ _ _ (b .pre .0) (sym (rest .0)) in
+    let keyed = rw (rest .0) at (k .key-in .ensures .1) in
     let n = peer-key-length (b .args .scheme) (finishOf (b .args .reply .now) (b .args .s .now)) ∙ sym (long f) in
     record {
       told = told-passed e;
       keys = wrote-passed e (b .args .key .now) n (b .pre .1 .0) (ap (λ (xs : List ℕ). xs ++ drop (f .fixed .result .key) (b .args .key .now)) keyed);
       digests = wrote-passed e (b .args .digest .now) (sha3-length _) (b .pre .1 .1) (digest-laid _ _ (b .args .digest .now) _ keyed n (d .lay-digest .ensures));
+      slacks = used-passed e (rest .1);
     }
 
 pub finish-sized-spec : {M : Type 1} → statement M
