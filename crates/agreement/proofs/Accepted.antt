@@ -1,6 +1,6 @@
 -- Calls that refuse nothing, by their promises.
 --   offer-gave, reply-gave, finish-gave   the tests have passed, and the bytes that the call says it wrote are those of its definition
---   Gave t, gave     an exchange: its inputs are in range, and its keys are those of the run
+--   Gave t, gave     an exchange: its inputs are in range, and its keys and its slack are those of the run
 --   accepted, numbered, one-number   the theorems of specs/Exchange
 use mathlib.Core.Path.{_≡_, refl, _∙_, sym}
 use mathlib.Core.Bool.{Bool, true, false, cond}
@@ -18,26 +18,27 @@ use Rattle.schemes.specs.declared.Named.the-variants.{Is, Unknown}
 use Rattle.schemes.specs.declared.Scheme.{Scheme}
 use Rattle.schemes.specs.declared.Scheme.the-variants.{Bcns, NewHope, Challenge, Classical, Recommended, Paranoid}
 use Rattle.schemes.proofs.Laws.{by-number}
-use Rattle.front.specs.Answers.{number}
+use Rattle.front.specs.Answers as answers
+use Rattle.lists.specs.declared.Peak.{Peak}
 use Rattle.front.specs.Front.{held}
-use Rattle.front.specs.Promise.{Told, Wrote}
+use Rattle.front.specs.Promise.{Told, Wrote, Used}
 use Rattle.front.specs.declared.Answer.the-variants.{Done}
 use Rattle.front.specs.declared.Verdict.{Verdict}
 use Rattle.front.specs.declared.Verdict.the-variants.{Pass}
 use Rattle.front.proofs.Laws.{number-zero}
-use Rattle.front.proofs.Promise.{told-passed, wrote-passed}
+use Rattle.front.proofs.Promise.{told-passed, wrote-passed, used-passed, same-peak}
 use Rattle.sponge.specs.Sponge.{sha3}
 use Rattle.sponge.proofs.Output.{sha3-length}
 use Rattle.exchange.specs.Offer.{Offer, offerTests, openingOf, offerMessage, Offered}
 use Rattle.exchange.specs.Reply.{Reply, replyTests, messageOf, keyOf, replyMessage, replyKey, Replied}
-use Rattle.exchange.specs.Finish.{Finish, peerKeyOf, finishKey, Finished}
+use Rattle.exchange.specs.Finish.{Finish, peerKeyOf, finishKey, slackOf, finishSlack, number, counts, Answered}
 use Rattle.exchange.specs.declared.ReplyAnswer.{ReplyAnswer}
 use Rattle.exchange.specs.declared.FinishAnswer.{FinishAnswer}
 use Rattle.exchange.proofs.Offering.{opening-long, offer-unknown}
 use Rattle.exchange.proofs.Replying.{key-length, message-length}
 use Rattle.exchange.proofs.Finishing.{peer-key-length}
 use Rattle.agreement.specs.Run.{Run, offering, replying, finishing}
-use Rattle.agreement.specs.Exchange.{Sendable, Exchange, ownKey, peerKey, ownDigest, peerDigest, Accepted, Numbered, OneNumber}
+use Rattle.agreement.specs.Exchange.{Sendable, Exchange, ownKey, peerKey, ownDigest, peerDigest, toldSlack, Accepted, Numbered, OneNumber}
 use Rattle.agreement.proofs.Tests.{sendable-by, offer-passes, reply-passes, finish-passes}
 
 -- ---- what a call gave
@@ -49,6 +50,9 @@ passed t z = number-zero _ (sym z ∙ t .refusal)
 wrote : {v : Verdict} {n room : ℕ} {xs out : List ℕ} → v ≡ Pass → Wrote v xs 0 room n out → take n out ≡ xs
 unfolding held
 wrote {xs = xs} e w = rw (w .counts, w .holds, e) (take-append-seam xs _)
+
+used : {v : Verdict} {p s : Peak} → v ≡ Pass → Used v p (s .most) (s .at) → s ≡ p
+used e u = same-peak _ _ (rw e at (u .most)) (rw e at (u .first))
 
 module _ (c : Scheme) where
   offer-gave : {x : Offer} {n p room m : ℕ} {out : List ℕ} → Offered (Is c) x n p room m out → n ≡ 0
@@ -62,10 +66,10 @@ module _ (c : Scheme) where
   unfolding replyMessage replyKey
   reply-gave g z = let v = passed (g .told) z in (v, wrote v (g .messages), wrote v (g .keys), wrote v (g .digests))
 
-  finish-gave : {x : Finish} {n p room k digestRoom d : ℕ} {key digest : List ℕ} → Finished (Is c) x n p room k key digestRoom d digest → n ≡ 0
-      → (take k key ≡ peerKeyOf c x) × (take d digest ≡ sha3 (peerKeyOf c x))
-  unfolding finishKey
-  finish-gave g z = let v = passed (g .told) z in (wrote v (g .keys), wrote v (g .digests))
+  finish-gave : {x : Finish} (r : FinishAnswer) {room digestRoom : ℕ} {key digest : List ℕ} → Answered (Is c) x r room key digestRoom digest → number r ≡ 0
+      → (take (counts r .key) key ≡ peerKeyOf c x) × (take (counts r .digest) digest ≡ sha3 (peerKeyOf c x)) × (counts r .slack ≡ slackOf c x)
+  unfolding finishKey finishSlack
+  finish-gave r g z = let v = passed (g .told) z in (wrote v (g .keys), wrote v (g .digests), used v (g .slacks))
 
 pub record Gave {c : Scheme} {x : Run} (t : Exchange c x) : Type 0 where
   pub sendable : Sendable c x
@@ -73,13 +77,14 @@ pub record Gave {c : Scheme} {x : Run} (t : Exchange c x) : Type 0 where
   pub peer : peerKey t ≡ peerKeyOf c (finishing c x)
   pub own-digest : ownDigest t ≡ sha3 (keyOf c (replying c x))
   pub peer-digest : peerDigest t ≡ sha3 (peerKeyOf c (finishing c x))
+  pub slack : toldSlack t ≡ slackOf c (finishing c x)
 
 pub gave : {c : Scheme} {x : Run} (t : Exchange c x) → Gave t
 gave {c} {x} t =
     let o = offer-gave c (t .offers) (t .offer-accepted) in
     let r = reply-gave c (rw (o .1) at (t .replies)) (t .reply-accepted) in
-    let f = finish-gave c (rw (r .1) at (t .finishes)) (t .finish-accepted) in
-    record { sendable = sendable-by c x _ _ _ _ _ (o .0) (r .0); own = r .2; peer = f .0; own-digest = r .3; peer-digest = f .1 }
+    let f = finish-gave c (t .finish) (rw (r .1) at (t .finishes)) (t .finish-accepted) in
+    record { sendable = sendable-by c x _ _ _ _ _ (o .0) (r .0); own = r .2; peer = f .0; own-digest = r .3; peer-digest = f .1; slack = f .2 }
 
 -- ---- inputs in range
 
@@ -89,7 +94,7 @@ into n xs = xs ++ drop n (replicate n 0)
 
 module _ (c : Scheme) (x : Run) (h : Sendable c x) where
   runs : Exchange c x
-  unfolding offerMessage replyMessage replyKey finishKey
+  unfolding offerMessage replyMessage replyKey finishKey finishSlack
   runs =
       let f = fixedOf c in
       let o = offer-passes c x h in
@@ -121,7 +126,7 @@ module _ (c : Scheme) (x : Run) (h : Sendable c x) where
         reply-accepted = refl;
         peerKeyRoom = f .key;
         peerDigestRoom = 32;
-        finish = FinishAnswer.Done (record { key = f .key; digest = 32 });
+        finish = FinishAnswer.Done (record { key = f .key; digest = 32; slack = slackOf c (finishing c x) });
         peerKeyOut = into (f .key) (peerKeyOf c (finishing c x));
         peerDigestOut = into 32 (sha3 (peerKeyOf c (finishing c x)));
         finishes =
@@ -130,6 +135,7 @@ module _ (c : Scheme) (x : Run) (h : Sendable c x) where
               told = told-passed k;
               keys = wrote-passed k (replicate (f .key) 0) (peer-key-length c (finishing c x)) refl refl;
               digests = wrote-passed k (replicate 32 0) (sha3-length _) refl refl;
+              slacks = used-passed k refl;
             });
         finish-accepted = refl;
       }
@@ -141,7 +147,7 @@ accepted c x = (λ t. gave t .sendable, runs c x)
 
 pub numbered : Numbered
 numbered (Is c) x room r out p z = (c, refl)
-numbered Unknown x room r out p z = let i : number r ≡ 1 = rw (offer-unknown x room refl) at (p .told .refusal) in absurd (omega arith)
+numbered Unknown x room r out p z = let i : answers.number r ≡ 1 = rw (offer-unknown x room refl) at (p .told .refusal) in absurd (omega arith)
 
 -- one number of the list more
 one : (k i : ℕ) (b : Scheme) (rest : Named) → i ≡ numberOf b → ((c : Scheme) → rest ≡ Is c → k ≡ numberOf c)

@@ -2,6 +2,7 @@
 --   measured      the two values are as far apart as d is from a multiple of q
 --   entries-meet  where d is near, the initiator's key entries are the replier's
 --   own-published the replier's key is the published bits of its value
+--   hints-given   the hints that Finish is given are those of the replier's value
 --   keys-meet     where d is near, both keys are the same
 use mathlib.Core.Path.{_≡_, refl, _∙_, sym, ap, ap₂}
 use mathlib.Core.List.{List}
@@ -29,9 +30,9 @@ use Rattle.ends.proofs.Meeting.{values-apart}
 use Rattle.ends.proofs.Numbers.{numbers-in}
 use Rattle.ends.proofs.Ranges.{mixed-counted, bare-counted}
 use Rattle.ends.proofs.Settling.{counted}
-use Rattle.wire.specs.Wire.{coinsIn}
+use Rattle.wire.specs.Wire.{coinsIn, hintsIn}
 use Rattle.wire.proofs.Travel.{coins-given}
-use Rattle.exchange.specs.Reply.{openedOf, keyFrom, keyOf}
+use Rattle.exchange.specs.Reply.{openedOf, messageOf, keyFrom, keyOf}
 use Rattle.exchange.specs.Finish.{peerKeyFrom, peerKeyOf}
 use Rattle.agreement.specs.Run.{Run, replying, finishing}
 use Rattle.agreement.specs.Exchange.{Ranged}
@@ -111,13 +112,16 @@ module _ (c : Scheme) (x : Run) (h : Ranged c x) where
   unfolding keyOf keyFrom publishedKey
   own-published = ap (λ (v : List ℕ). packed (fixedOf c .keybits) (keys c (coinsIn c (x .coins)) v)) value-is
 
+  pub hints-given : hintsIn c (messageOf c (replying c x)) ≡ hints c (coinsIn c (x .coins)) (replierValue c x)
+  hints-given = hints-are c x ∙ ap (hints c (coinsIn c (x .coins))) value-is
+
   -- the initiator's key, of the replier's hints and its own value
   peer-is : peerKeyOf c (finishing c x)
       ≡ packed (fixedOf c .keybits) (peers c (hints c (coinsIn c (x .coins)) (replierValue c x)) (initiatorValue c x))
   unfolding peerKeyOf peerKeyFrom initiatorValue
   peer-is =
       ap₂ (λ (hs u : List ℕ). packed (fixedOf c .keybits) (peers c hs (bareValue c u (x .s))))
-      (hints-are c x ∙ ap (hints c (coinsIn c (x .coins))) value-is)
+      hints-given
       (replied-is c x)
 
   pub keys-meet : Near c x → keyOf c (replying c x) ≡ peerKeyOf c (finishing c x)

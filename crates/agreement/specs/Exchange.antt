@@ -5,6 +5,7 @@
 --   ownKey t       the replier's key: the bytes that Reply says it wrote
 --   peerKey t      the initiator's key: those that Finish says it wrote
 --   ownDigest, peerDigest t   the digests, likewise
+--   toldSlack t    the slack used and its first index, as Finish tells them
 --   Accepted       lengths, ranges and blank parts decide, nothing else: the inputs of an exchange are sendable, and on any such there is an exchange
 --   Numbered       a call that refuses nothing was given a scheme
 --   OneNumber      which its number names, and no other number
@@ -18,6 +19,7 @@ use Rattle.schemes.specs.Schemes.{fixedOf, numberOf, schemeOf}
 use Rattle.schemes.specs.declared.Named.{Named}
 use Rattle.schemes.specs.declared.Named.the-variants.{Is}
 use Rattle.schemes.specs.declared.Scheme.{Scheme}
+use Rattle.lists.specs.declared.Peak.{Peak}
 use Rattle.front.specs.Answers.{number, place, written}
 use Rattle.front.specs.declared.Answer.{Answer}
 use Rattle.ends.specs.Fit.{Counted, Small}
@@ -25,7 +27,7 @@ use Rattle.blank.specs.Blank.{blank}
 use Rattle.exchange.specs.Offer.{Offer, offeredPart, Offered}
 use Rattle.exchange.specs.Reply.{replyOf, repliedPart, Replied}
 use Rattle.exchange.specs.Reply as ofReply
-use Rattle.exchange.specs.Finish.{finishOf, Finished}
+use Rattle.exchange.specs.Finish.{finishOf}
 use Rattle.exchange.specs.Finish as ofFinish
 use Rattle.exchange.specs.declared.ReplyAnswer.{ReplyAnswer}
 use Rattle.exchange.specs.declared.FinishAnswer.{FinishAnswer}
@@ -73,8 +75,7 @@ pub record Exchange (c : Scheme) (x : Run) : Type 0 where
   pub peerKeyOut : List ℕ
   pub peerDigestOut : List ℕ
   pub finishes :
-      Finished (Is c) (finishOf (take (ofReply.counts reply .message) replyOut) (x .s)) (ofFinish.number finish) (ofFinish.place finish)
-      peerKeyRoom (ofFinish.counts finish .key) peerKeyOut peerDigestRoom (ofFinish.counts finish .digest) peerDigestOut
+      ofFinish.Answered (Is c) (finishOf (take (ofReply.counts reply .message) replyOut) (x .s)) finish peerKeyRoom peerKeyOut peerDigestRoom peerDigestOut
   pub finish-accepted : ofFinish.number finish ≡ 0
 
 module _ {c : Scheme} {x : Run} (t : Exchange c x) where
@@ -89,6 +90,9 @@ module _ {c : Scheme} {x : Run} (t : Exchange c x) where
 
   abbrev pub peerDigest : List ℕ
   peerDigest = take (ofFinish.counts (t .finish) .digest) (t .peerDigestOut)
+
+  abbrev pub toldSlack : Peak
+  toldSlack = ofFinish.counts (t .finish) .slack
 
 -- ---- what is shown
 
