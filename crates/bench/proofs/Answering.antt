@@ -1,12 +1,11 @@
 -- How Bench answers by its verdict, from each of its steps on.
---   refused, went                the answer by the verdict of two parts: the first refuses, or lets the second decide
 --   named                        the number of a scheme names it
---   finish-refused, reply-refused, offer-refused   the answer of a step whose call refuses
---   finish-told, reply-told, offer-told            and of one whose call does not, by the step after it
---   bench-told, bench-unknown    Bench's promise, by the step from Offer on; and where the number names no scheme
-use mathlib.Core.Path.{_≡_, refl, _∙_, ap}
+--   finish-refused, reply-refused, offer-refused   what a step hands on whose call refuses
+--   finish-done, reply-told, offer-told            and one whose call does not, by the step after it
+--   bench-refused, bench-told, bench-unknown       Bench's promise, by what is handed on from Offer on; and where the number names no scheme
+use mathlib.Core.Path.{_≡_, refl, _∙_, sym, ap, ap₂}
 use mathlib.Core.List.{List}
-use Prim.Native.Nat.{ℕ}
+use Prim.Native.Nat.{ℕ, zero, suc}
 use native.Mathlib.Nat.{le-refl}
 use native.Mathlib.Omega.{arith}
 use lib.IntN.{ℤ}
@@ -15,22 +14,24 @@ use Rattle.schemes.specs.declared.Named.{Named}
 use Rattle.schemes.specs.declared.Named.the-variants.{Is, Unknown}
 use Rattle.schemes.specs.declared.Scheme.{Scheme}
 use Rattle.schemes.proofs.Laws.{by-number}
+use Rattle.lists.specs.declared.Peak.{Peak}
 use Rattle.front.specs.Front.{_then_}
 use Rattle.front.specs.Front as front
 use Rattle.front.specs.Promise.{Told}
 use Rattle.front.specs.Answers as answers
 use Rattle.front.specs.declared.Answer.{Answer}
+use Rattle.front.specs.declared.Outcome.{Outcome}
 use Rattle.front.specs.declared.Refusal.{Refusal}
 use Rattle.front.specs.declared.Refusal.the-variants.{NoScheme}
 use Rattle.front.specs.declared.Verdict.{Verdict}
 use Rattle.front.specs.declared.Verdict.the-variants.{Pass, Fail}
-use Rattle.front.proofs.Laws.{some, number-zero, both}
+use Rattle.front.proofs.Laws.{differ, some, number-zero, both}
 use Rattle.front.proofs.Held.{held-whole}
-use Rattle.front.proofs.Promise.{told-failed, gave-failed}
+use Rattle.front.proofs.Promise.{told-passed, gave-passed, used-passed, told-failed, gave-failed, used-failed, outcome-slack, outcome-refused, passed-by, failed-by, same-refusal, same-peak}
 use Rattle.exchange.specs.Offer.{offerTests, offerMessage, Offered}
-use Rattle.exchange.specs.Reply.{Reply, replyOf, replyMessage, replyKey, Replied}
+use Rattle.exchange.specs.Reply.{Reply, replyOf, messageOf, keyOf, replyMessage, replyKey, Replied}
 use Rattle.exchange.specs.Reply as reply
-use Rattle.exchange.specs.Finish.{Finish, finishOf, finishKey, peerKeyOf, Finished}
+use Rattle.exchange.specs.Finish.{Finish, finishOf, finishKey, peerKeyOf, slackOf, finishSlack}
 use Rattle.exchange.specs.Finish as finish
 use Rattle.exchange.specs.declared.ReplyAnswer.{ReplyAnswer}
 use Rattle.exchange.specs.declared.ReplyCounts.{ReplyCounts}
@@ -39,28 +40,32 @@ use Rattle.exchange.specs.declared.FinishCounts.{FinishCounts}
 use Rattle.exchange.proofs.Offering.{offer-opens, opening-long}
 use Rattle.exchange.proofs.Replying.{message-length, key-length}
 use Rattle.exchange.proofs.Finishing.{peer-key-length}
-use Rattle.agreement.specs.Run.{offering}
+use Rattle.agreement.specs.Run.{offering, replying, finishing}
 use Rattle.agreement.proofs.Tests.{sendable-by, finish-passes}
-use Rattle.bench.specs.Bench.{Bench, benchIn, benchTests, benchDiffers, differing, Benched, number, place, differ}
-use Rattle.bench.specs.Inside.{Compares, testsFromFinish, testsFromOffer, FromFinish, FromReply, FromOffer}
+use Rattle.bench.specs.Bench.{Bench, benchIn, benchTests, benchDiffers, benchSlack, differing, Benched, Answered}
+use Rattle.bench.specs.Inside.{testsFromFinish, testsFromReply, testsFromOffer, Keyed, FromFinish, FromReply, FromOffer, comparison}
 use Rattle.bench.specs.declared.BenchAnswer.{BenchAnswer}
-use Rattle.bench.specs.declared.BenchAnswer.the-variants.{Refused}
 
 -- ---- by the verdict
 
-refused : {d : ℕ} {r : Refusal} (v w : Verdict) → Told v (front.numberOf r) (front.placeOf r) → Compares (v then w) d (Refused r)
+-- one that has been told as the refusal r
+failed : {r : Refusal} (v w : Verdict) → Told v (front.numberOf r) (front.placeOf r) → v then w ≡ Fail r
 unfolding _then_
-refused {r = r} Pass w t = absurd (omega (arith, some r, t .refusal))
-refused (Fail s) w t = record { told = record { refusal = t .refusal; at = t .at }; differs = gave-failed refl }
+failed {r} Pass w t = absurd (omega (arith, some r, t .refusal))
+failed {r} (Fail s) w t = ap Fail (same-refusal s r (sym (t .refusal)) (sym (t .at)))
 
-went : {d : ℕ} {r : BenchAnswer} {v w : Verdict} → v ≡ Pass → Compares w d r → Compares (v then w) d r
-unfolding _then_
-went e p = rw e p
+-- nothing is promised of a key then
+unkeyed : {v : Verdict} {r : Refusal} (key out : List ℕ) → v ≡ Fail r → Keyed v key out
+unkeyed key out e f = differ (sym e ∙ f)
 
-alone : (v : Verdict) → v then Pass ≡ v
+alone : (v : Verdict) {r : Refusal} → v then Pass ≡ Fail r → v ≡ Fail r
 unfolding _then_
-alone Pass = refl
-alone (Fail r) = refl
+alone Pass e = e
+alone (Fail s) e = e
+
+went : {v : Verdict} (w : Verdict) → v ≡ Pass → v then w ≡ w
+unfolding _then_
+went w e = rw e
 
 -- a last part that passes wherever the others do
 without-last : (u v w : Verdict) → (u ≡ Pass → v ≡ Pass → w ≡ Pass) → u then (v then w) ≡ u then v
@@ -75,23 +80,24 @@ named c e = ap schemeOf e ∙ by-number c
 -- ---- from Finish on
 
 module _ (c : Scheme) (x : Finish) {n : Named} (e : n ≡ Is c) {k d : ℕ} (l : (k ≡ fixedOf c .key) × (d ≡ 32)) (v : FinishAnswer)
-    {key digest : List ℕ} (t : Finished n x (finish.number v) (finish.place v) k (finish.counts v .key) key d (finish.counts v .digest) digest) where
-  finish-given : Finished (Is c) x (finish.number v) (finish.place v) (fixedOf c .key) (finish.counts v .key) key 32 (finish.counts v .digest) digest
+    {key digest : List ℕ} (t : finish.Answered n x v k key d digest) where
+  finish-given : finish.Answered (Is c) x v (fixedOf c .key) key 32 digest
   finish-given = rw (← l .0, ← l .1, ← e) t
 
-  pub finish-refused : {i : ℕ} {r : Refusal} → v ≡ FinishAnswer.Refused r → Compares (testsFromFinish c x) i (Refused r)
-  finish-refused {i} {r} h = rw (alone _) at (refused {d = i} {r = r} (testsFromFinish c x) Pass (rw h at (finish-given .told)))
+  pub finish-refused : {r : Refusal} → v ≡ FinishAnswer.Refused r → FromFinish c x (Outcome.Refused r) key
+  finish-refused {r} h =
+      let o = alone _ (failed (testsFromFinish c x) Pass (rw h at (finish-given .told))) in
+      record { ended = sym (outcome-refused o (slackOf c x)); peered = unkeyed (peerKeyOf c x) key o }
 
-  module _ {m : FinishCounts} (h : v ≡ FinishAnswer.Done m) where
-    finish-passed : testsFromFinish c x ≡ Pass
-    finish-passed = number-zero _ (rw h at (finish-given .told .refusal))
-
-    pub finish-key : key ≡ peerKeyOf c x
-    unfolding finishKey
-    finish-key = held-whole 0 _ _ key _ finish-passed (peer-key-length c x) (finish-given .keys .holds)
-
-    pub finish-told : (own : List ℕ) {r : BenchAnswer} → Compares Pass (differing own key) r → FromFinish c x own r
-    finish-told own p = rw finish-passed (rw finish-key at p)
+  pub finish-done : {m : FinishCounts} → v ≡ FinishAnswer.Done m → FromFinish c x (Outcome.Slack (m .slack)) key
+  unfolding finishKey finishSlack
+  finish-done h =
+      let o : testsFromFinish c x ≡ Pass = number-zero _ (rw h at (finish-given .told .refusal)) in
+      let u = rw (h, o) at (finish-given .slacks) in
+      record {
+        ended = ap Outcome.Slack (same-peak _ _ (u .most) (u .first)) ∙ sym (outcome-slack o _);
+        peered = λ _. held-whole 0 _ _ key _ o (peer-key-length c x) (finish-given .keys .holds);
+      }
 
 -- ---- from Reply on
 
@@ -102,16 +108,21 @@ module _ (c : Scheme) (x : Reply) (s : List ℤ) {n : Named} (e : n ≡ Is c) {j
       (fixedOf c .key) (reply.counts v .key) key 32 (reply.counts v .digest) digest
   reply-given = rw (← l .0, ← l .1, ← l .2, ← e) t
 
-  pub reply-refused : {r : Refusal} → v ≡ ReplyAnswer.Refused r → FromReply c x s (Refused r)
-  reply-refused h = refused _ _ (rw h at (reply-given .told))
+  pub reply-refused : {r : Refusal} (peer : List ℕ) → v ≡ ReplyAnswer.Refused r → FromReply c x s (Outcome.Refused r) key peer
+  reply-refused peer h =
+      let o = failed _ (testsFromFinish c (finishOf (messageOf c x) s)) (rw h at (reply-given .told)) in
+      record { ended = sym (outcome-refused o (slackOf c (finishOf (messageOf c x) s))); owned = unkeyed _ key o; peered = unkeyed _ peer o }
 
-  pub reply-told : {m : ReplyCounts} {r : BenchAnswer} → v ≡ ReplyAnswer.Done m → FromFinish c (finishOf message s) key r → FromReply c x s r
+  pub reply-told : {m : ReplyCounts} {r : Outcome} {peer : List ℕ} → v ≡ ReplyAnswer.Done m → FromFinish c (finishOf message s) r peer
+      → FromReply c x s r key peer
   unfolding replyMessage replyKey
-  reply-told h p =
+  reply-told {peer = peer} h p =
       let o = number-zero _ (rw h at (reply-given .told .refusal)) in
       let w = held-whole 0 _ _ message _ o (message-length c x) (reply-given .messages .holds) in
       let y = held-whole 0 _ _ key _ o (key-length c x) (reply-given .keys .holds) in
-      went o (rw (w, y) at p)
+      let q = rw w at p in
+      let g = went (testsFromFinish c (finishOf (messageOf c x) s)) o in
+      record { ended = rw g (q .ended); owned = λ _. y; peered = λ f. q .peered (sym g ∙ f) }
 
 -- ---- from Offer on
 
@@ -120,17 +131,21 @@ module _ (c : Scheme) (x : Bench) {n : Named} (e : n ≡ Is c) {j : ℕ} (l : j 
   offer-given : Offered (Is c) (offering x) (answers.number v) (answers.place v) (fixedOf c .opening) (answers.written v) opening
   offer-given = rw (← l, ← e) t
 
-  pub offer-refused : {r : Refusal} → v ≡ Answer.Refused r → FromOffer c x (Refused r)
-  offer-refused h = refused _ _ (rw h at (offer-given .told))
+  pub offer-refused : {r : Refusal} (own peer : List ℕ) → v ≡ Answer.Refused r → FromOffer c x (Outcome.Refused r) own peer
+  offer-refused own peer h =
+      let o = failed _ (testsFromReply c (replying c x) (x .s)) (rw h at (offer-given .told)) in
+      record { ended = sym (outcome-refused o (slackOf c (finishing c x))); owned = unkeyed _ own o; peered = unkeyed _ peer o }
 
-  pub offer-told : {m : ℕ} {r : BenchAnswer} → v ≡ Answer.Done m → FromReply c (replyOf opening (x .a) (x .s') (x .e') (x .e'') (x .coins)) (x .s) r
-      → FromOffer c x r
+  pub offer-told : {m : ℕ} {r : Outcome} {own peer : List ℕ} → v ≡ Answer.Done m
+      → FromReply c (replyOf opening (x .a) (x .s') (x .e') (x .e'') (x .coins)) (x .s) r own peer → FromOffer c x r own peer
   unfolding offerTests offerMessage
   offer-told h p =
       let o = number-zero _ (rw h at (offer-given .told .refusal)) in
       let seeds = offer-opens c (offering x) _ (both _ _ o .0) .0 .seed-long in
       let w = held-whole 0 _ _ opening _ o (opening-long c (offering x) seeds) (offer-given .messages .holds) in
-      went o (rw w at p)
+      let q = rw w at p in
+      let g = went (testsFromReply c (replying c x) (x .s)) o in
+      record { ended = rw g (q .ended); owned = λ f. q .owned (sym g ∙ f); peered = λ f. q .peered (sym g ∙ f) }
 
 -- ---- the promise
 
@@ -139,10 +154,34 @@ same-tests : (c : Scheme) (x : Bench) → testsFromOffer c x ≡ benchIn c x
 unfolding benchIn
 same-tests c x = without-last _ _ _ (λ o r. finish-passes c x (sendable-by c x _ _ _ _ _ o r) _ _ (le-refl _) (le-refl _))
 
-pub bench-told : (c : Scheme) (x : Bench) (r : BenchAnswer) → FromOffer c x r → Benched (Is c) x (number r) (place r) (differ r)
-unfolding benchTests benchDiffers
-bench-told c x r p = record { told = rw (same-tests c x) at (p .told); differs = rw (same-tests c x) at (p .differs) }
+answered : {c : Named} {x : Bench} (d : ℕ) {p : Peak} → benchTests c x ≡ Pass → d ≡ benchDiffers c x → p ≡ benchSlack c x → Answered c x (comparison d p)
+answered zero e f g = record { told = told-passed e; differs = gave-passed e f; slacks = used-passed e g }
+answered (suc i) e f g = record { told = told-passed e; differs = gave-passed e f; slacks = used-passed e g }
 
-pub bench-unknown : {n : Named} (x : Bench) → n ≡ Unknown → Benched n x 1 0 0
+module _ (c : Scheme) (x : Bench) {o : Outcome} {own peer : List ℕ} (p : FromOffer c x o own peer) where
+  pub bench-refused : {r : Refusal} → o ≡ Outcome.Refused r → Answered (Is c) x (BenchAnswer.Refused r)
+  unfolding benchTests
+  bench-refused h =
+      let e = sym (same-tests c x) ∙ failed-by (testsFromOffer c x) (slackOf c (finishing c x)) (p .ended) h in
+      record { told = told-failed e; differs = gave-failed e; slacks = used-failed e }
+
+  -- both keys stand in their buffers
+  module _ {s : Peak} (h : o ≡ Outcome.Slack s) where
+    ran : (testsFromOffer c x ≡ Pass) × (s ≡ slackOf c (finishing c x))
+    ran = passed-by (testsFromOffer c x) (slackOf c (finishing c x)) (p .ended) h
+
+    pub own-kept : own ≡ keyOf c (replying c x)
+    own-kept = p .owned (ran .0)
+
+    pub peer-kept : peer ≡ peerKeyOf c (finishing c x)
+    peer-kept = p .peered (ran .0)
+
+    pub bench-told : {r : BenchAnswer} → r ≡ comparison (differing own peer) s → Answered (Is c) x r
+    unfolding benchTests benchDiffers benchSlack
+    bench-told g = rw g (answered (differing own peer) (sym (same-tests c x) ∙ ran .0) (ap₂ differing own-kept peer-kept) (ran .1))
+
+pub bench-unknown : {n : Named} (x : Bench) → n ≡ Unknown → Benched n x 1 0 0 0 0
 unfolding benchTests
-bench-unknown x e = record { told = told-failed {r = NoScheme} (rw e); differs = gave-failed {r = NoScheme} (rw e) }
+bench-unknown {n} x e =
+    let f : benchTests n x ≡ Fail NoScheme = rw e in
+    record { told = told-failed f; differs = gave-failed f; slacks = used-failed f }

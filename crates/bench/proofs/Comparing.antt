@@ -1,17 +1,16 @@
 -- Two keys bit by bit.
 --   told-apart, told-same   the answer of two keys that differ, and of two that do not
-use mathlib.Core.Path.{_≡_, refl}
+use mathlib.Core.Path.{_≡_}
 use mathlib.Core.List.{List}
 use Prim.Native.Nat.{ℕ, _*_, _≤_, _<_}
 use native.Mathlib.Omega.{arith}
 use lib.ListN.{length}
 use borrow.Author.Tests.{lt-ltb, le-ltb}
 use Rattle.packing.specs.Packing.{unpacked}
-use Rattle.front.specs.declared.Verdict.the-variants.{Pass}
-use Rattle.front.proofs.Promise.{told-passed, gave-passed}
 use Rattle.lists.specs.First.{firstApart}
+use Rattle.lists.specs.declared.Peak.{Peak}
 use Rattle.bench.specs.Bench.{bits, differing}
-use Rattle.bench.specs.Inside.{Compares}
+use Rattle.bench.specs.Inside.{comparison}
 use Rattle.bench.specs.declared.BenchAnswer.the-variants.{Agree, Differ}
 
 -- ---- two keys, by as many bits of each as x and y have room for
@@ -22,10 +21,11 @@ module _ (own peer x y : List ℕ) (i : ℕ) (lx : length x ≡ 8 * length own) 
   unfolding bits
   at-bits = rw (← lx, ← ly) e
 
-  pub told-apart : i < length x → Compares Pass (differing own peer) (Differ i)
-  unfolding differing
-  told-apart h = record { told = told-passed refl; differs = gave-passed refl (rw (← at-bits, lt-ltb i (8 * length own) (omega arith))) }
+  module _ (p : Peak) where
+    pub told-apart : i < length x → Differ i p ≡ comparison (differing own peer) p
+    unfolding differing
+    told-apart h = rw (← at-bits, lt-ltb i (8 * length own) (omega arith))
 
-  pub told-same : length x ≤ i → Compares Pass (differing own peer) Agree
-  unfolding differing
-  told-same h = record { told = told-passed refl; differs = gave-passed refl (rw (← at-bits, le-ltb i (8 * length own) (omega arith))) }
+    pub told-same : length x ≤ i → Agree p ≡ comparison (differing own peer) p
+    unfolding differing
+    told-same h = rw (← at-bits, le-ltb i (8 * length own) (omega arith))

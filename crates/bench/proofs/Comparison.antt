@@ -1,12 +1,12 @@
 -- What is stated in specs/Comparison.
---   told-agree, told-differ   an answer without a refusal, by how two keys differ
+--   compared                  an answer without a refusal; told-agree, told-differ: by how two keys differ
 --   bench-sendable, bench-gave  where Bench refuses nothing, its inputs are sendable; and what it answers of such inputs
 --   differ-few                the number that tells how the keys differ, whatever the scheme
 use mathlib.Core.Path.{_≡_, refl, _∙_, sym, ap}
 use mathlib.Core.Bool.{Bool, true, false, cond}
 use mathlib.Core.List.{List}
 use mathlib.Core.Logic.{_↔_}
-use Prim.Native.Nat.{ℕ, suc, _*_, _≤_}
+use Prim.Native.Nat.{ℕ, zero, suc, _*_, _≤_}
 use native.Mathlib.Omega.{arith}
 use lib.Dec.{ltb}
 use lib.ListN.{length}
@@ -17,14 +17,15 @@ use Rattle.schemes.specs.declared.Named.the-variants.{Is, Unknown}
 use Rattle.schemes.proofs.Sound.{sound}
 use Rattle.lists.specs.Entries.{Below}
 use Rattle.lists.specs.First.{firstApart}
+use Rattle.lists.specs.declared.Peak.{Peak}
 use Rattle.packing.proofs.Laws.{packed-below}
 use Rattle.front.specs.Front.{countIn}
-use Rattle.front.specs.Promise.{Told, Gave}
 use Rattle.front.specs.declared.Verdict.{Verdict}
 use Rattle.front.specs.declared.Verdict.the-variants.{Pass, Fail}
 use Rattle.front.proofs.Laws.{both, number-zero, all-pass}
+use Rattle.front.proofs.Promise.{same-peak}
 use Rattle.exchange.specs.Reply.{keyOf, keyFrom}
-use Rattle.exchange.specs.Finish.{peerKeyOf, peerKeyFrom}
+use Rattle.exchange.specs.Finish.{peerKeyOf, peerKeyFrom, slackOf}
 use Rattle.exchange.proofs.Replying.{key-length}
 use Rattle.exchange.proofs.Finishing.{peer-key-length}
 use Rattle.agreement.specs.Run.{replying, finishing}
@@ -32,27 +33,39 @@ use Rattle.agreement.specs.Exchange.{Sendable}
 use Rattle.agreement.proofs.Tests.{sendable-by, offer-passes, reply-passes}
 use Rattle.agreement.proofs.Accepted.{gave, accepted}
 use Rattle.agreement.proofs.Agreement.{agreement}
-use Rattle.bench.specs.Bench.{Bench, bits, differing, benchIn, benchTests, benchDiffers, Benched, number, place, differ}
-use Rattle.bench.specs.Inside.{Compares}
+use Rattle.bench.specs.Bench.{Bench, bits, differing, benchIn, benchTests, benchDiffers, benchSlack, Benched, Answered, number, place, differ, slack}
+use Rattle.bench.specs.Inside.{comparison}
 use Rattle.bench.specs.Comparison.{FirstBit, BenchAccepts, BenchTells, BenchAgrees}
 use Rattle.bench.specs.declared.BenchAnswer.{BenchAnswer}
 use Rattle.bench.specs.declared.BenchAnswer.the-variants.{Agree, Differ}
 use Rattle.bench.proofs.Differing.{differing-none, differing-at}
 use Rattle.bench.proofs.Shown.{same}
 
--- ---- without a refusal, of two keys that are bytes and of one length
+-- ---- without a refusal
 
-module _ (r : BenchAnswer) {own peer : List ℕ} (p : Compares Pass (differing own peer) r)
+differ-of : (d : ℕ) (p : Peak) → differ (comparison d p) ≡ d
+differ-of zero p = refl
+differ-of (suc i) p = refl
+
+compared : (r : BenchAnswer) (d : ℕ) {p : Peak} → number r ≡ 0 → place r ≡ 0 → differ r ≡ d → slack r ≡ p → r ≡ comparison d p
+compared r zero {p} e f g h = same r (Agree p) e f g h
+compared r (suc i) {p} e f g h = same r (Differ i p) e f g h
+
+-- of two keys that are bytes and of one length
+module _ (r : BenchAnswer) {own peer : List ℕ} (p : Peak) (e : r ≡ comparison (differing own peer) p)
     (l : length own ≡ length peer) (ho : Below 256 own) (hp : Below 256 peer) where
-  told-agree : (r ≡ Agree) ↔ (own ≡ peer)
+  told : {a : BenchAnswer} → r ≡ a → differing own peer ≡ differ a
+  told f = sym (differ-of (differing own peer) p) ∙ ap differ (sym e ∙ f)
+
+  told-agree : (r ≡ Agree p) ↔ (own ≡ peer)
   told-agree =
       let n = differing-none own peer l ho hp in
-      (λ e. n .0 (sym (p .differs .gives) ∙ ap differ e), λ e. same r Agree (p .told .refusal) (p .told .at) (p .differs .gives ∙ n .1 e))
+      (λ f. n .0 (told f), λ f. e ∙ ap (λ (d : ℕ). comparison d p) (n .1 f))
 
-  told-differ : (i : ℕ) → (r ≡ Differ i) ↔ FirstBit i own peer
+  told-differ : (i : ℕ) → (r ≡ Differ i p) ↔ FirstBit i own peer
   told-differ i =
       let n = differing-at own peer l ho hp i in
-      (λ e. n .0 (sym (p .differs .gives) ∙ ap differ e), λ e. same r (Differ i) (p .told .refusal) (p .told .at) (p .differs .gives ∙ n .1 e))
+      (λ f. n .0 (told f), λ f. e ∙ ap (λ (d : ℕ). comparison d p) (n .1 f))
 
 module _ (c : Scheme) (x : Bench) where
   same-long : length (keyOf c (replying c x)) ≡ length (peerKeyOf c (finishing c x))
@@ -66,33 +79,39 @@ module _ (c : Scheme) (x : Bench) where
   unfolding peerKeyOf peerKeyFrom
   peer-bytes = packed-below _ _
 
-module _ (c : Scheme) (x : Bench) (r : BenchAnswer) (b : Benched (Is c) x (number r) (place r) (differ r)) where
+module _ (c : Scheme) (x : Bench) (r : BenchAnswer) (b : Answered (Is c) x r) where
   bench-sendable : number r ≡ 0 → Sendable c x
   unfolding benchTests benchIn
   bench-sendable z = let t = both _ _ (number-zero _ (sym z ∙ b .told .refusal)) in sendable-by c x _ _ _ _ _ (t .0) (t .1)
 
-  bench-gave : Sendable c x → Compares Pass (differing (keyOf c (replying c x)) (peerKeyOf c (finishing c x))) r
-  unfolding benchTests benchIn benchDiffers
+  bench-passes : Sendable c x → benchTests (Is c) x ≡ Pass
+  unfolding benchTests benchIn
+  bench-passes h = all-pass (offer-passes c x h) (reply-passes c x h)
+
+  bench-gave : Sendable c x → r ≡ comparison (differing (keyOf c (replying c x)) (peerKeyOf c (finishing c x))) (slackOf c (finishing c x))
+  unfolding benchDiffers benchSlack
   bench-gave h =
-      let e = all-pass (offer-passes c x h) (reply-passes c x h) in
-      record { told = rw e at (b .told); differs = rw e at (b .differs) }
+      let e = bench-passes h in
+      let u = rw e at (b .slacks) in
+      compared r _ (rw e at (b .told .refusal)) (rw e at (b .told .at)) (rw e at (b .differs .gives)) (same-peak _ _ (u .most) (u .first))
 
 pub bench-accepts : BenchAccepts
-bench-accepts c x r b = (λ z. accepted c x .1 (bench-sendable c x r b z), λ t. bench-gave c x r b (gave t .sendable) .told .refusal)
+bench-accepts c x r b =
+    (λ z. accepted c x .1 (bench-sendable c x r b z), λ t. rw (bench-passes c x r b (gave t .sendable)) at (b .told .refusal))
 
 pub bench-tells : BenchTells
 bench-tells c x r b t =
     let g = gave t in
     let p = bench-gave c x r b (g .sendable) in
     record {
-      agree = rw (g .own, g .peer) (told-agree r p (same-long c x) (own-bytes c x) (peer-bytes c x));
-      differ = λ i. rw (g .own, g .peer) (told-differ r p (same-long c x) (own-bytes c x) (peer-bytes c x) i);
+      agree = rw (g .own, g .peer, g .slack) (told-agree r (slackOf c (finishing c x)) p (same-long c x) (own-bytes c x) (peer-bytes c x));
+      differ = λ i. rw (g .own, g .peer, g .slack) (told-differ r (slackOf c (finishing c x)) p (same-long c x) (own-bytes c x) (peer-bytes c x) i);
     }
 
 pub bench-agrees : BenchAgrees
 bench-agrees c x r b z near =
     let t = bench-accepts c x r b .0 z in
-    bench-tells c x r b t .agree .1 (agreement c x t near .same)
+    rw (gave t .slack) at (bench-tells c x r b t .agree .1 (agreement c x t near .same))
 
 -- ---- how large the number is that tells a differing bit
 
@@ -113,5 +132,5 @@ unfolding benchDiffers
 differs-few Unknown x = omega arith
 differs-few (Is c) x = omega (arith, within (keyOf c (replying c x)) (peerKeyOf c (finishing c x)), key-length c (replying c x), sound c .keys)
 
-pub differ-few : {n : Named} {x : Bench} {k p d : ℕ} → Benched n x k p d → d ≤ 1024
+pub differ-few : {n : Named} {x : Bench} {k p d s i : ℕ} → Benched n x k p d s i → d ≤ 1024
 differ-few {n} {x} b = rw (b .differs .gives) (few (benchTests n x) (differs-few n x))

@@ -3,7 +3,7 @@
 --   never-three-or-five   3 and 5 cannot arise
 --   opening-passes        an opening that Offer has made is not refused
 --   finish-accepts        Finish refuses nothing there
-use mathlib.Core.Path.{_≡_, ap}
+use mathlib.Core.Path.{_≡_, ap, ap₂}
 use mathlib.Core.List.{List}
 use Prim.Native.Nat.{ℕ}
 use native.Mathlib.Nat.{le-refl}
@@ -16,7 +16,7 @@ use Rattle.schemes.specs.declared.Named.the-variants.{Is, Unknown}
 use Rattle.front.specs.Front.{numberIn, lengthIs, roomFor, publicsIn, notBlank, receivedIn, secretsIn}
 use Rattle.front.specs.declared.Verdict.the-variants.{Pass}
 use Rattle.front.proofs.Laws.{some, both, room-passes, not-blank-passed}
-use Rattle.front.proofs.Promise.{same-refusal}
+use Rattle.front.proofs.Promise.{used-only, same-refusal, same-peak}
 use Rattle.front.proofs.Number.{and, passes, lengths, publics, secrets, blanks}
 use Rattle.wire.specs.Wire.{openedIn}
 use Rattle.exchange.specs.Offer.{Offer, offerLengths, offerIn, offerTests}
@@ -24,26 +24,26 @@ use Rattle.exchange.specs.Reply.{Reply, replyTests, replyLengths, replySizes, r
 use Rattle.exchange.proofs.Offering.{offer-opens}
 use Rattle.agreement.specs.Run.{offering, replying}
 use Rattle.agreement.proofs.Tests.{sendable-by, opening-received, finish-passes}
-use Rattle.bench.specs.Bench.{Bench, benchIn, benchTests, number, place, differ}
+use Rattle.bench.specs.Bench.{Bench, benchIn, benchTests, number, place, differ, slack}
 use Rattle.bench.specs.Shown.{OneBench, NeverThreeOrFive, OpeningPasses, FinishPasses}
 use Rattle.bench.specs.declared.BenchAnswer.{BenchAnswer}
 use Rattle.bench.specs.declared.BenchAnswer.the-variants.{Agree, Differ, Refused}
 
 -- ---- one answer
 
-pub same : (a b : BenchAnswer) → number a ≡ number b → place a ≡ place b → differ a ≡ differ b → a ≡ b
-same Agree Agree e f g = cc
-same Agree (Differ j) e f g = absurd (omega arith)
-same Agree (Refused s) e f g = absurd (omega (arith, some s))
-same (Differ i) Agree e f g = absurd (omega arith)
-same (Differ i) (Differ j) e f g = ap Differ (omega arith)
-same (Differ i) (Refused s) e f g = absurd (omega (arith, some s))
-same (Refused r) Agree e f g = absurd (omega (arith, some r))
-same (Refused r) (Differ j) e f g = absurd (omega (arith, some r))
-same (Refused r) (Refused s) e f g = ap Refused (same-refusal r s e f)
+pub same : (a b : BenchAnswer) → number a ≡ number b → place a ≡ place b → differ a ≡ differ b → slack a ≡ slack b → a ≡ b
+same (Agree p) (Agree q) e f g h = ap Agree h
+same (Agree p) (Differ j q) e f g h = absurd (omega arith)
+same (Agree p) (Refused s) e f g h = absurd (omega (arith, some s))
+same (Differ i p) (Agree q) e f g h = absurd (omega arith)
+same (Differ i p) (Differ j q) e f g h = ap₂ Differ (omega arith) h
+same (Differ i p) (Refused s) e f g h = absurd (omega (arith, some s))
+same (Refused r) (Agree q) e f g h = absurd (omega (arith, some r))
+same (Refused r) (Differ j q) e f g h = absurd (omega (arith, some r))
+same (Refused r) (Refused s) e f g h = ap Refused (same-refusal r s e f)
 
 pub one-bench : OneBench
-one-bench c x r r′ p q = same r r′ (cc) (cc) (cc)
+one-bench c x r r′ p q = let used = used-only (p .slacks) (q .slacks) in same r r′ (cc) (cc) (cc) (same-peak _ _ (used .0) (used .1))
 
 -- ---- neither 3 nor 5
 
@@ -117,7 +117,7 @@ by-name Unknown x = (λ e. omega arith, λ e. omega arith)
 by-name (Is c) x = and Inside _ _ (offer-in c (offering x)) (λ e. reply-in c (replying c x) (opening-passes c x e))
 
 pub never-three-or-five : NeverThreeOrFive
-never-three-or-five c x n p d h = rw (h .told .refusal) (by-name c x)
+never-three-or-five c x n p d s i h = rw (h .told .refusal) (by-name c x)
 
 -- ---- Finish
 

@@ -1,13 +1,15 @@
--- What Bench promises: 01, "The calls". It runs both ends on lent secrets and answers agree, or differ with the first differing key bit.
+-- What Bench promises: 01, "The calls". It runs both ends on lent secrets and answers agree, or differ with the first differing key bit; and passes on the
+-- slack that Finish used: 02, request f.
 --   Bench                 what it is lent: public a, s, e and seed of the one end, s', e', e'' and coins of the other
 --   bits k                the bits of a key, lowest first through the bytes
 --   differing xs ys       0 where two keys are the same, else 1 + the first bit that differs
 --   benchIn c x, benchTests   its tests, Offer's first, then Reply's: in a scheme, and by the scheme's number
---   benchDiffers          how the two keys differ
---   Benched               its promise: what it tells, and how the keys differ
+--   benchDiffers          how the two keys differ; benchSlack: the slack used and its first index
+--   Benched               its promise: what it tells, how the keys differ, and the slack
+--   Answered              the same of an answer
 --   Benches               the same of a call: the slices that it is lent, and its answer
 use mathlib.Core.Bool.{cond}
-use mathlib.Core.List.{List}
+use mathlib.Core.List.{List, []}
 use Prim.Native.Nat.{ℕ, suc, _*_}
 use lib.Dec.{ltb}
 use lib.IntN.{ℤ}
@@ -17,15 +19,17 @@ use Rattle.schemes.specs.declared.Scheme.{Scheme}
 use Rattle.schemes.specs.declared.Named.{Named}
 use Rattle.schemes.specs.declared.Named.the-variants.{Is, Unknown}
 use Rattle.lists.specs.Lent.{Lent, was}
+use Rattle.lists.specs.Top.{peakOf}
+use Rattle.lists.specs.declared.Peak.{Peak}
 use Rattle.packing.specs.Packing.{unpacked}
 use Rattle.front.specs.Front.{numberOf, placeOf, _then_}
-use Rattle.front.specs.Promise.{Told, Gave}
+use Rattle.front.specs.Promise.{Told, Gave, Used}
 use Rattle.front.specs.declared.Verdict.{Verdict}
 use Rattle.front.specs.declared.Verdict.the-variants.{Fail}
 use Rattle.front.specs.declared.Refusal.the-variants.{NoScheme}
 use Rattle.exchange.specs.Offer.{offerTests}
 use Rattle.exchange.specs.Reply.{replyTests, keyOf}
-use Rattle.exchange.specs.Finish.{peerKeyOf}
+use Rattle.exchange.specs.Finish.{peerKeyOf, slackOf}
 use Rattle.agreement.specs.Run.{Run, offering, replying, finishing}
 use Rattle.lists.specs.First.{firstApart}
 use Rattle.bench.specs.declared.BenchAnswer.{BenchAnswer}
@@ -56,27 +60,40 @@ unfoldable pub benchDiffers : Named → Bench → ℕ
 benchDiffers Unknown x = 0
 benchDiffers (Is c) x = differing (keyOf c (replying c x)) (peerKeyOf c (finishing c x))
 
-pub record Benched (c : Named) (x : Bench) (number place differ : ℕ) : Type 0 where
+unfoldable pub benchSlack : Named → Bench → Peak
+benchSlack Unknown x = peakOf []
+benchSlack (Is c) x = slackOf c (finishing c x)
+
+pub record Benched (c : Named) (x : Bench) (number place differ slack slackIndex : ℕ) : Type 0 where
   pub told : Told (benchTests c x) number place
   pub differs : Gave (benchTests c x) (benchDiffers c x) differ
+  pub slacks : Used (benchTests c x) (benchSlack c x) slack slackIndex
 
 -- ---- of a call
 
 abbrev pub number : BenchAnswer → ℕ
-number Agree = 0
-number (Differ i) = 0
+number (Agree p) = 0
+number (Differ i p) = 0
 number (Refused r) = numberOf r
 
 abbrev pub place : BenchAnswer → ℕ
-place Agree = 0
-place (Differ i) = 0
+place (Agree p) = 0
+place (Differ i p) = 0
 place (Refused r) = placeOf r
 
 -- 0 where the keys agree and after a refusal, 1 + the first differing bit where they differ
 abbrev pub differ : BenchAnswer → ℕ
-differ Agree = 0
-differ (Differ i) = suc i
+differ (Agree p) = 0
+differ (Differ i p) = suc i
 differ (Refused r) = 0
+
+abbrev pub slack : BenchAnswer → Peak
+slack (Agree p) = p
+slack (Differ i p) = p
+slack (Refused r) = record { most = 0; at = 0 }
+
+abbrev pub Answered : Named → Bench → BenchAnswer → Type 0
+Answered c x r = Benched c x (number r) (place r) (differ r) (slack r .most) (slack r .at)
 
 abbrev pub benchOf : List ℕ → List ℤ → List ℤ → List ℕ → List ℤ → List ℤ → List ℤ → List ℕ → Bench
 benchOf a s e seed s' e' e'' coins = record { a = a; s = s; e = e; seed = seed; s' = s'; e' = e'; e'' = e''; coins = coins }
@@ -88,4 +105,4 @@ bench a s e seed s1 e1 e2 coins = benchOf (was a) (was s) (was e) (was seed) (wa
 abbrev pub Benches :
     Named → Lent (List ℕ) → Lent (List ℤ) → Lent (List ℤ) → Lent (List ℕ) → Lent (List ℤ) → Lent (List ℤ) → Lent (List ℤ) → Lent (List ℕ) → BenchAnswer →
     Type 0
-Benches c a s e seed s1 e1 e2 coins r = Benched c (bench a s e seed s1 e1 e2 coins) (number r) (place r) (differ r)
+Benches c a s e seed s1 e1 e2 coins r = Answered c (bench a s e seed s1 e1 e2 coins) r

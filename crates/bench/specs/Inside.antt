@@ -1,28 +1,30 @@
--- What the steps of Bench promise each other: an answer by the verdict of the tests that are still to come, Finish's among them.
---   Compares v d r         the answer r, by the verdict v, where d says how the keys differ when nothing is refused
+-- What the steps of Bench promise each other: the slack or the refusal by the verdict of the tests that are still to come, Finish's among them, and the keys.
 --   testsFromFinish c x, testsFromReply c x s, testsFromOffer c x   the tests that are still to come: x is what the call is lent, s what Finish will be
---   FromFinish c x own r   from Finish on: own is the replier's key
---   FromReply c x s r      from Reply on, where Finish is lent its message and s
---   FromOffer c x r        from Offer on
+--   Keyed v key out             where nothing is refused, a buffer holds the key
+--   FromFinish c x r peer       from Finish on: what it hands on, and the initiator's key
+--   FromReply c x s r own peer  from Reply on, where Finish is lent its message and s: the same, and the replier's key
+--   FromOffer c x r own peer    from Offer on
+--   comparison d p              the answer without a refusal, where d says how the keys differ, and p is the slack
+use mathlib.Core.Path.{_≡_}
 use mathlib.Core.List.{List}
-use Prim.Native.Nat.{ℕ}
+use Prim.Native.Nat.{ℕ, zero, suc}
 use lib.IntN.{ℤ}
 use Rattle.schemes.specs.Schemes.{fixedOf}
 use Rattle.schemes.specs.declared.Scheme.{Scheme}
 use Rattle.schemes.specs.declared.Named.the-variants.{Is}
+use Rattle.lists.specs.declared.Peak.{Peak}
 use Rattle.front.specs.Front.{_then_}
-use Rattle.front.specs.Promise.{Told, Gave}
+use Rattle.front.specs.Promise.{outcome}
+use Rattle.front.specs.declared.Outcome.{Outcome}
 use Rattle.front.specs.declared.Verdict.{Verdict}
+use Rattle.front.specs.declared.Verdict.the-variants.{Pass}
 use Rattle.exchange.specs.Offer.{offerTests}
 use Rattle.exchange.specs.Reply.{Reply, replyTests, messageOf, keyOf}
-use Rattle.exchange.specs.Finish.{Finish, finishOf, finishTests, peerKeyOf}
+use Rattle.exchange.specs.Finish.{Finish, finishOf, finishTests, peerKeyOf, slackOf}
 use Rattle.agreement.specs.Run.{offering, replying, finishing}
-use Rattle.bench.specs.Bench.{Bench, number, place, differ, differing}
+use Rattle.bench.specs.Bench.{Bench}
 use Rattle.bench.specs.declared.BenchAnswer.{BenchAnswer}
-
-pub record Compares (v : Verdict) (d : ℕ) (r : BenchAnswer) : Type 0 where
-  pub told : Told v (number r) (place r)
-  pub differs : Gave v d (differ r)
+use Rattle.bench.specs.declared.BenchAnswer.the-variants.{Agree, Differ}
 
 abbrev pub testsFromFinish : Scheme → Finish → Verdict
 testsFromFinish c x = finishTests (Is c) x (fixedOf c .key) 32
@@ -33,11 +35,23 @@ testsFromReply c x s = replyTests (Is c) x (fixedOf c .reply) (fixedOf c .key) 3
 abbrev pub testsFromOffer : Scheme → Bench → Verdict
 testsFromOffer c x = offerTests (Is c) (offering x) (fixedOf c .opening) then testsFromReply c (replying c x) (x .s)
 
-abbrev pub FromFinish : Scheme → Finish → List ℕ → BenchAnswer → Type 0
-FromFinish c x own r = Compares (testsFromFinish c x) (differing own (peerKeyOf c x)) r
+abbrev pub Keyed : Verdict → List ℕ → List ℕ → Type 0
+Keyed v key out = v ≡ Pass → out ≡ key
 
-abbrev pub FromReply : Scheme → Reply → List ℤ → BenchAnswer → Type 0
-FromReply c x s r = Compares (testsFromReply c x s) (differing (keyOf c x) (peerKeyOf c (finishOf (messageOf c x) s))) r
+pub record FromFinish (c : Scheme) (x : Finish) (r : Outcome) (peer : List ℕ) : Type 0 where
+  pub ended : r ≡ outcome (testsFromFinish c x) (slackOf c x)
+  pub peered : Keyed (testsFromFinish c x) (peerKeyOf c x) peer
 
-abbrev pub FromOffer : Scheme → Bench → BenchAnswer → Type 0
-FromOffer c x r = Compares (testsFromOffer c x) (differing (keyOf c (replying c x)) (peerKeyOf c (finishing c x))) r
+pub record FromReply (c : Scheme) (x : Reply) (s : List ℤ) (r : Outcome) (own peer : List ℕ) : Type 0 where
+  pub ended : r ≡ outcome (testsFromReply c x s) (slackOf c (finishOf (messageOf c x) s))
+  pub owned : Keyed (testsFromReply c x s) (keyOf c x) own
+  pub peered : Keyed (testsFromReply c x s) (peerKeyOf c (finishOf (messageOf c x) s)) peer
+
+pub record FromOffer (c : Scheme) (x : Bench) (r : Outcome) (own peer : List ℕ) : Type 0 where
+  pub ended : r ≡ outcome (testsFromOffer c x) (slackOf c (finishing c x))
+  pub owned : Keyed (testsFromOffer c x) (keyOf c (replying c x)) own
+  pub peered : Keyed (testsFromOffer c x) (peerKeyOf c (finishing c x)) peer
+
+abbrev pub comparison : ℕ → Peak → BenchAnswer
+comparison zero p = Agree p
+comparison (suc i) p = Differ i p

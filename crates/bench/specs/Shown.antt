@@ -16,15 +16,15 @@ use Rattle.exchange.specs.Offer.{offerTests, openingOf}
 use Rattle.exchange.specs.Reply.{openedOf}
 use Rattle.exchange.specs.Finish.{finishTests}
 use Rattle.agreement.specs.Run.{offering, replying, finishing}
-use Rattle.bench.specs.Bench.{Bench, benchIn, Benched, number, place, differ}
+use Rattle.bench.specs.Bench.{Bench, benchIn, Benched, Answered}
 use Rattle.bench.specs.declared.BenchAnswer.{BenchAnswer}
 
 abbrev pub OneBench : Type 0
 OneBench =
-    (c : Named) (x : Bench) (r r′ : BenchAnswer) → Benched c x (number r) (place r) (differ r) → Benched c x (number r′) (place r′) (differ r′) → r ≡ r′
+    (c : Named) (x : Bench) (r r′ : BenchAnswer) → Answered c x r → Answered c x r′ → r ≡ r′
 
 abbrev pub NeverThreeOrFive : Type 0
-NeverThreeOrFive = (c : Named) (x : Bench) (n p d : ℕ) → Benched c x n p d → (n ≡ 3 → ⊥) × (n ≡ 5 → ⊥)
+NeverThreeOrFive = (c : Named) (x : Bench) (n p d s i : ℕ) → Benched c x n p d s i → (n ≡ 3 → ⊥) × (n ≡ 5 → ⊥)
 
 abbrev pub OpeningPasses : Type 0
 OpeningPasses =

@@ -3,33 +3,33 @@ ghost use mathlib.Core.Path.{_≡_};
 ghost use Prim.Native.Nat.{_*_, _≤_};
 ghost use lib.ListN.{length};
 ghost use Rattle.lists.specs.Lent.{was};
-ghost use Rattle.front.specs.declared.Verdict.the-variants.{Pass};
 ghost use Rattle.bench.specs.Bench.{differing};
-ghost use Rattle.bench.specs.Inside.{Compares};
+ghost use Rattle.bench.specs.Inside.{comparison};
 use crate::BenchAnswer;
+use lists::Peak;
 
-// Two keys by their bits; x and y are room for those.
-fn by_bits(own: &[u8], peer: &[u8], x: &mut [u32], y: &mut [u32]) -> BenchAnswer
+// Two keys by their bits; x and y are room for those. The slack used is passed on.
+fn by_bits(own: &[u8], peer: &[u8], slack: Peak, x: &mut [u32], y: &mut [u32]) -> BenchAnswer
     requires { ⌜ (length (now own) ≡ length (now peer)) × (length (now x) ≡ 8 * length (now own)) × (length (now y) ≡ 8 * length (now peer)) ⌝ }
-    ensures { λ r. ⌜ Compares Pass (differing (was own) (was peer)) r ⌝ }
+    ensures { λ r. ⌜ r ≡ comparison (differing (was own) (was peer)) slack ⌝ }
 {
     packing::unpack(1, own, x);
     packing::unpack(1, peer, y);
     let i = lists::first_apart(x, y);
     if i < x.len() {
-        BenchAnswer::Differ(i)
+        BenchAnswer::Differ(i, slack)
     } else {
-        BenchAnswer::Agree
+        BenchAnswer::Agree(slack)
     }
 }
 
 // The same with room for the bits of a key, of which no scheme has more than 1024.
-pub(crate) fn keys(own: &[u8], peer: &[u8]) -> BenchAnswer
+pub(crate) fn keys(own: &[u8], peer: &[u8], slack: Peak) -> BenchAnswer
     requires { ⌜ (length (now own) ≤ 128) × (length (now own) ≡ length (now peer)) ⌝ }
-    ensures { λ r. ⌜ Compares Pass (differing (was own) (was peer)) r ⌝ }
+    ensures { λ r. ⌜ r ≡ comparison (differing (was own) (was peer)) slack ⌝ }
 {
     let mut x = [0u32; 1024];
     let mut y = [0u32; 1024];
     let n = 8 * own.len();
-    by_bits(own, peer, &mut x[..n], &mut y[..n])
+    by_bits(own, peer, slack, &mut x[..n], &mut y[..n])
 }

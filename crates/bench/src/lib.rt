@@ -1,10 +1,11 @@
 // Bench: both ends of an exchange on lent secrets, by the public calls of `exchange`, one after the other, and then the two keys bit by bit. It has no
-// `requires`: it answers agree, differ with the first differing key bit, or the first refusal of Offer or Reply. Messages, keys and digests stay inside.
+// `requires`: it answers agree, differ with the first differing key bit, or the first refusal of Offer or Reply, and passes on the slack that Finish used.
+// Messages, keys and digests stay inside.
 ghost use mathlib.Core.Path.{_≡_};
 ghost use lib.ListN.{length};
 ghost use Rattle.schemes.specs.Schemes.{fixedOf, schemeOf};
 ghost use Rattle.schemes.specs.declared.Named.the-variants.{Is};
-ghost use Rattle.lists.specs.Lent.{was};
+ghost use Rattle.lists.specs.Lent.{was, left};
 ghost use Rattle.exchange.specs.Reply as lent;
 ghost use Rattle.exchange.specs.Finish.{finish};
 ghost use Rattle.bench.specs.Bench.{bench, Benches};
@@ -15,33 +16,37 @@ mod compare;
 use exchange::FinishAnswer;
 use exchange::ReplyAnswer;
 use front::Answer;
+use front::Outcome;
 use front::Refusal;
+use lists::Peak;
 use schemes::Named;
 use schemes::Scheme;
 
-// What Bench gives: the keys agree; they differ, first at this bit; or the refusal.
+// What Bench gives: the keys agree, with the slack used; they differ, first at this bit; or the refusal.
 pub enum BenchAnswer {
-    Agree,
-    Differ(usize),
+    Agree(Peak),
+    Differ(usize, Peak),
     Refused(Refusal),
 }
 
-// From Finish on: the initiator's key into peer, beside the replier's own.
+// From Finish on: the initiator's key into peer.
 fn from_finish(
     scheme: Scheme,
     reply: &[u8],
     s: &[i32],
-    own: &[u8],
     peer: &mut [u8],
     digest: &mut [u8],
-) -> BenchAnswer
-    requires { ⌜ (length (now own) ≡ fixedOf scheme .key) × (length (now peer) ≡ fixedOf scheme .key) × (length (now digest) ≡ 32) ⌝ }
-    ensures { λ r. ⌜ FromFinish scheme (finish reply s) (was own) r ⌝ }
+) -> Outcome
+    requires { ⌜ (length (now peer) ≡ fixedOf scheme .key) × (length (now digest) ≡ 32) ⌝ }
+    ensures { λ r. ⌜ FromFinish scheme (finish reply s) r (left peer) ⌝ }
 {
     let v = exchange::finish(scheme.number(), reply, s, peer, digest);
     match v {
-        FinishAnswer::Refused(r) => BenchAnswer::Refused(r),
-        FinishAnswer::Done(_) => compare::keys(own, peer),
+        FinishAnswer::Refused(r) => Outcome::Refused(r),
+        FinishAnswer::Done(n) => {
+            let used = n.slack;
+            Outcome::Slack(used)
+        }
     }
 }
 
@@ -59,10 +64,10 @@ fn from_reply(
     own: &mut [u8],
     peer: &mut [u8],
     digest: &mut [u8],
-) -> BenchAnswer
+) -> Outcome
     requires { ⌜ length (now reply) ≡ fixedOf scheme .reply ⌝ }
     requires { ⌜ (length (now own) ≡ fixedOf scheme .key) × (length (now peer) ≡ fixedOf scheme .key) × (length (now digest) ≡ 32) ⌝ }
-    ensures { λ r. ⌜ FromReply scheme (lent.reply opening a s1 e1 e2 coins) (was s) r ⌝ }
+    ensures { λ r. ⌜ FromReply scheme (lent.reply opening a s1 e1 e2 coins) (was s) r (left own) (left peer) ⌝ }
 {
     let v = exchange::reply(
         scheme.number(),
@@ -77,8 +82,8 @@ fn from_reply(
         digest,
     );
     match v {
-        ReplyAnswer::Refused(r) => BenchAnswer::Refused(r),
-        ReplyAnswer::Done(_) => from_finish(scheme, reply, s, own, peer, digest),
+        ReplyAnswer::Refused(r) => Outcome::Refused(r),
+        ReplyAnswer::Done(_) => from_finish(scheme, reply, s, peer, digest),
     }
 }
 
@@ -98,14 +103,14 @@ fn from_offer(
     own: &mut [u8],
     peer: &mut [u8],
     digest: &mut [u8],
-) -> BenchAnswer
+) -> Outcome
     requires { ⌜ (length (now opening) ≡ fixedOf scheme .opening) × (length (now reply) ≡ fixedOf scheme .reply) ⌝ }
     requires { ⌜ (length (now own) ≡ fixedOf scheme .key) × (length (now peer) ≡ fixedOf scheme .key) × (length (now digest) ≡ 32) ⌝ }
-    ensures { λ r. ⌜ FromOffer scheme (bench a s e seed s1 e1 e2 coins) r ⌝ }
+    ensures { λ r. ⌜ FromOffer scheme (bench a s e seed s1 e1 e2 coins) r (left own) (left peer) ⌝ }
 {
     let v = exchange::offer(scheme.number(), a, s, e, seed, opening);
     match v {
-        Answer::Refused(r) => BenchAnswer::Refused(r),
+        Answer::Refused(r) => Outcome::Refused(r),
         Answer::Done(_) => from_reply(
             scheme,
             opening,
@@ -123,7 +128,50 @@ fn from_offer(
     }
 }
 
-// All of it, with room for messages and keys, each with just the bytes that it has in the scheme, and for one digest, which both ends write.
+// All of it: both ends, and then their keys.
+fn run(
+    scheme: Scheme,
+    a: &[u32],
+    s: &[i32],
+    e: &[i32],
+    seed: &[u8],
+    s1: &[i32],
+    e1: &[i32],
+    e2: &[i32],
+    coins: &[u8],
+    opening: &mut [u8],
+    reply: &mut [u8],
+    own: &mut [u8],
+    peer: &mut [u8],
+    digest: &mut [u8],
+) -> BenchAnswer
+    requires { ⌜ (length (now opening) ≡ fixedOf scheme .opening) × (length (now reply) ≡ fixedOf scheme .reply) ⌝ }
+    requires { ⌜ (length (now own) ≡ fixedOf scheme .key) × (length (now peer) ≡ fixedOf scheme .key) × (length (now digest) ≡ 32) ⌝ }
+    ensures { λ r. ⌜ Benches (Is scheme) a s e seed s1 e1 e2 coins r ⌝ }
+{
+    let v = from_offer(
+        scheme,
+        a,
+        s,
+        e,
+        seed,
+        s1,
+        e1,
+        e2,
+        coins,
+        opening,
+        reply,
+        own,
+        peer,
+        digest,
+    );
+    match v {
+        Outcome::Refused(r) => BenchAnswer::Refused(r),
+        Outcome::Slack(used) => compare::keys(own, peer, used),
+    }
+}
+
+// The same with room for messages and keys, each with just the bytes that it has in the scheme, and for one digest, which both ends write.
 fn bench_in(
     scheme: Scheme,
     a: &[u32],
@@ -146,7 +194,7 @@ fn bench_in(
     let mut own = [0u8; 128];
     let mut peer = [0u8; 128];
     let mut digest = [0u8; 32];
-    from_offer(
+    run(
         scheme,
         a,
         s,

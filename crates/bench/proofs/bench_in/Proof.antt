@@ -1,4 +1,4 @@
--- `bench::bench_in` meets its contract: it lends each message and each key just the room that it takes, and Finish refuses nothing.
+-- `bench::bench_in` meets its contract: it lends each message and each key just the room that it takes.
 use mathlib.Core.Path.{_≡_, refl, sym, ap, _∙_}
 use Prim.Native.Nat.{_≤_}
 use native.Mathlib.Omega.{arith}
@@ -6,8 +6,6 @@ use Rattle.schemes.specs.Schemes.{fixedOf}
 use Rattle.schemes.specs.declared.Fixed.{Fixed}
 use Rattle.schemes.proofs.Sound.{sound}
 use Rattle.lists.proofs.Parts.{buffer-long}
-use Rattle.bench.specs.Bench.{benchOf}
-use Rattle.bench.proofs.Answering.{bench-told}
 use borrow.Author.Needs.{needs}
 use Rattle.bench.proofs.bench_in.Statement.{statement}
 use Rattle.bench.proofs.bench_in.Tie as tie
@@ -37,41 +35,33 @@ module _ (c : tie.After-fixed) where
 array-borrow-prefix-opening : tie.Need-array-borrow-prefix-opening
 array-borrow-prefix-opening c = let f : tie.After-fixed = search needs in opening-room f
 
-slice-aggregate-from-offer : tie.Need-slice-aggregate-from-offer
-slice-aggregate-from-offer c = let f : tie.After-fixed = search needs in sym (buffer-long _ 12976 (opening-room f))
+slice-aggregate-run : tie.Need-slice-aggregate-run
+slice-aggregate-run c = let f : tie.After-fixed = search needs in sym (buffer-long _ 12976 (opening-room f))
 
 array-borrow-prefix-reply : tie.Need-array-borrow-prefix-reply
 array-borrow-prefix-reply c = let f : tie.After-fixed = search needs in reply-room f
 
-slice-aggregate-from-offer-2 : tie.Need-slice-aggregate-from-offer-2
-slice-aggregate-from-offer-2 c = let f : tie.After-fixed = search needs in sym (buffer-long _ 12968 (reply-room f))
+slice-aggregate-run-2 : tie.Need-slice-aggregate-run-2
+slice-aggregate-run-2 c = let f : tie.After-fixed = search needs in sym (buffer-long _ 12968 (reply-room f))
 
 array-borrow-prefix-own : tie.Need-array-borrow-prefix-own
 array-borrow-prefix-own c = let f : tie.After-fixed = search needs in key-room f
 
-slice-aggregate-from-offer-3 : tie.Need-slice-aggregate-from-offer-3
-slice-aggregate-from-offer-3 c = let f : tie.After-fixed = search needs in sym (buffer-long _ 128 (key-room f))
+slice-aggregate-run-3 : tie.Need-slice-aggregate-run-3
+slice-aggregate-run-3 c = let f : tie.After-fixed = search needs in sym (buffer-long _ 128 (key-room f))
 
 array-borrow-prefix-peer : tie.Need-array-borrow-prefix-peer
 array-borrow-prefix-peer c = let f : tie.After-fixed = search needs in key-room f
 
-slice-aggregate-from-offer-4 : tie.Need-slice-aggregate-from-offer-4
-slice-aggregate-from-offer-4 c = let f : tie.After-fixed = search needs in sym (buffer-long _ 128 (key-room f))
+slice-aggregate-run-4 : tie.Need-slice-aggregate-run-4
+slice-aggregate-run-4 c = let f : tie.After-fixed = search needs in sym (buffer-long _ 128 (key-room f))
 
-from-offer-requires : tie.Need-from-offer-requires
-from-offer-requires c κs =
+run-requires : tie.Need-run-requires
+run-requires c κs =
     let f : tie.After-fixed = search needs in
     let g = f .fixed .result in
     let k = buffer-long (g .key) 128 (key-room f) ∙ key-is f in
     ((buffer-long (g .opening) 12976 (opening-room f) ∙ opening-is f, buffer-long (g .reply) 12968 (reply-room f) ∙ reply-is f), (k, k, refl))
-
-returns : tie.Need-returns
-returns c =
-    let p : tie.After-from-offer = search needs in
-    let f : tie.After-fixed = search needs in
-    let a = start f .args in
-    let x = benchOf (a .a .now) (a .s .now) (a .e .now) (a .seed .now) (a .s1 .now) (a .e1 .now) (a .e2 .now) (a .coins .now) in
-    bench-told (a .scheme) x (p .from-offer .result) (p .from-offer .ensures)
 
 pub bench-in-spec : {M : Type 1} → statement M
 bench-in-spec =
@@ -79,13 +69,13 @@ bench-in-spec =
     (tie.spec
     (λ c κs. search needs)
     array-borrow-prefix-opening
-    slice-aggregate-from-offer
+    slice-aggregate-run
     array-borrow-prefix-reply
-    slice-aggregate-from-offer-2
+    slice-aggregate-run-2
     array-borrow-prefix-own
-    slice-aggregate-from-offer-3
+    slice-aggregate-run-3
     array-borrow-prefix-peer
-    slice-aggregate-from-offer-4
+    slice-aggregate-run-4
     (search needs)
-    from-offer-requires
-    returns)
+    run-requires
+    (λ c. search needs))

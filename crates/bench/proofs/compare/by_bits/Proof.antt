@@ -27,7 +27,7 @@ returns c =
     let b = start x in
     let a = b .args in
     told-apart (a .own .now) (a .peer .now) (a .x .now) (a .y .now) _ (b .pre .1) (b .pre .2)
-    (f .first-apart .ensures ∙ ap₂ firstApart (x .unpack .ensures) (y .unpack2 .ensures))
+    (f .first-apart .ensures ∙ ap₂ firstApart (x .unpack .ensures) (y .unpack2 .ensures)) (a .slack)
     (omega (arith, c .if1 .taken, ap length (x .unpack .ensures) ∙ unpacked-length 1 (length (a .x .now)) (a .own .now)))
 
 returns-2 : tie.Need-returns-2
@@ -38,7 +38,7 @@ returns-2 c =
     let b = start x in
     let a = b .args in
     told-same (a .own .now) (a .peer .now) (a .x .now) (a .y .now) _ (b .pre .1) (b .pre .2)
-    (f .first-apart .ensures ∙ ap₂ firstApart (x .unpack .ensures) (y .unpack2 .ensures))
+    (f .first-apart .ensures ∙ ap₂ firstApart (x .unpack .ensures) (y .unpack2 .ensures)) (a .slack)
     (omega (arith, c .if1 .left, ap length (x .unpack .ensures) ∙ unpacked-length 1 (length (a .x .now)) (a .own .now)))
 
 pub by-bits-spec : {M : Type 1} → statement M
