@@ -8,7 +8,7 @@ pub one-reply : OneReply
 one-reply c x room keyRoom digestRoom r r′ p p′ w w′ k k′ d d′ message message′ key key′ digest digest′ a b = (cc, cc, cc, cc, cc, cc, cc, cc)
 
 pub one-finish : OneFinish
-one-finish c x room digestRoom r r′ p p′ k k′ d d′ key key′ digest digest′ a b = (cc, cc, cc, cc, cc, cc)
+one-finish c x room digestRoom r r′ p p′ k k′ d d′ s s′ i i′ key key′ digest digest′ a b = (cc, cc, cc, cc, cc, cc, cc, cc)
 
 pub one-noise : OneNoise
 one-noise c x room r r′ p p′ w w′ out out′ a b = (cc, cc, cc, cc)
@@ -26,4 +26,4 @@ pub one-digest : OneDigest
 one-digest x room r r′ p p′ w w′ out out′ a b = (cc, cc, cc, cc)
 
 pub one-bench : OneBench
-one-bench c x r r′ p p′ d d′ a b = (cc, cc, cc)
+one-bench c x r r′ p p′ d d′ s s′ i i′ a b = (cc, cc, cc, cc, cc)

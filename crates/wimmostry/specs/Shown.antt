@@ -28,9 +28,9 @@ OneReply =
 
 abbrev pub OneFinish : Type 0
 OneFinish =
-    (c : Named) (x : Finish) (room digestRoom r r′ p p′ k k′ d d′ : ℕ) (key key′ digest digest′ : List ℕ)
-    → Finished c x r p room k key digestRoom d digest → Finished c x r′ p′ room k′ key′ digestRoom d′ digest′
-    → (r ≡ r′) × (p ≡ p′) × (k ≡ k′) × (d ≡ d′) × (key ≡ key′) × (digest ≡ digest′)
+    (c : Named) (x : Finish) (room digestRoom r r′ p p′ k k′ d d′ s s′ i i′ : ℕ) (key key′ digest digest′ : List ℕ)
+    → Finished c x r p room k key digestRoom d digest s i → Finished c x r′ p′ room k′ key′ digestRoom d′ digest′ s′ i′
+    → (r ≡ r′) × (p ≡ p′) × (k ≡ k′) × (d ≡ d′) × (s ≡ s′) × (i ≡ i′) × (key ≡ key′) × (digest ≡ digest′)
 
 abbrev pub OneNoise : Type 0
 OneNoise =
@@ -59,4 +59,5 @@ OneDigest =
 
 abbrev pub OneBench : Type 0
 OneBench =
-    (c : Named) (x : Bench) (r r′ p p′ d d′ : ℕ) → Benched c x r p d → Benched c x r′ p′ d′ → (r ≡ r′) × (p ≡ p′) × (d ≡ d′)
+    (c : Named) (x : Bench) (r r′ p p′ d d′ s s′ i i′ : ℕ) → Benched c x r p d s i → Benched c x r′ p′ d′ s′ i′
+    → (r ≡ r′) × (p ≡ p′) × (d ≡ d′) × (s ≡ s′) × (i ≡ i′)

@@ -21,6 +21,7 @@ use bench::BenchAnswer;
 use exchange::FinishAnswer;
 use exchange::ReplyAnswer;
 use front::Answer;
+use lists::Peak;
 
 // An answer in numbers.
 fn tell(answer: Answer, place: &mut u64, written: &mut u64) -> u32
@@ -66,32 +67,72 @@ fn tell_reply(
     }
 }
 
-// The same of Finish, with its two.
-fn tell_finish(answer: FinishAnswer, place: &mut u64, keyed: &mut u64, digested: &mut u64) -> u32
+// The same with the slack used.
+fn tell_used(
+    answer: Answer,
+    used: Peak,
+    place: &mut u64,
+    written: &mut u64,
+    slack: &mut u64,
+    index: &mut u64,
+) -> u32
+    ensures { λ r. ⌜ (r ≡ answers.number answer) × (left place ≡ answers.place answer) × (left written ≡ answers.written answer) ⌝ }
+    ensures { λ _. ⌜ (left slack ≡ used .most) × (left index ≡ used .at) ⌝ }
+{
+    *slack = used.most as u64;
+    *index = used.at as u64;
+    tell(answer, place, written)
+}
+
+// What a refusal tells of it.
+const UNUSED: Peak = Peak { most: 0, at: 0 };
+
+// The same of Finish, with its two counts.
+fn tell_finish(
+    answer: FinishAnswer,
+    place: &mut u64,
+    keyed: &mut u64,
+    digested: &mut u64,
+    slack: &mut u64,
+    index: &mut u64,
+) -> u32
     ensures { λ r. ⌜ (r ≡ finishes.number answer) × (left place ≡ finishes.place answer) ⌝ }
-    ensures { λ r. ⌜ (left keyed ≡ finishes.counts answer .key) × (left digested ≡ finishes.counts answer .digest) ⌝ }
+    ensures { λ _. ⌜ (left keyed ≡ finishes.counts answer .key) × (left digested ≡ finishes.counts answer .digest) ⌝ }
+    ensures { λ _. ⌜ (left slack ≡ finishes.counts answer .slack .most) × (left index ≡ finishes.counts answer .slack .at) ⌝ }
 {
     match answer {
         FinishAnswer::Done(n) => {
+            let used = n.slack;
             *digested = n.digest as u64;
-            tell(Answer::Done(n.key), place, keyed)
+            tell_used(Answer::Done(n.key), used, place, keyed, slack, index)
         }
         FinishAnswer::Refused(why) => {
             *digested = 0;
-            tell(Answer::Refused(why), place, keyed)
+            tell_used(Answer::Refused(why), UNUSED, place, keyed, slack, index)
         }
     }
 }
 
 // The same of Bench: 0 where the keys agree, else 1 + the first differing bit, of which a key has no more than 1024.
-fn tell_bench(answer: BenchAnswer, place: &mut u64, differ: &mut u64) -> u32
+fn tell_bench(
+    answer: BenchAnswer,
+    place: &mut u64,
+    differ: &mut u64,
+    slack: &mut u64,
+    index: &mut u64,
+) -> u32
     requires { ⌜ benches.differ answer ≤ 1024 ⌝ }
     ensures { λ r. ⌜ (r ≡ benches.number answer) × (left place ≡ benches.place answer) × (left differ ≡ benches.differ answer) ⌝ }
+    ensures { λ _. ⌜ (left slack ≡ benches.slack answer .most) × (left index ≡ benches.slack answer .at) ⌝ }
 {
     match answer {
-        BenchAnswer::Agree => tell(Answer::Done(0), place, differ),
-        BenchAnswer::Differ(bit) => tell(Answer::Done(bit + 1), place, differ),
-        BenchAnswer::Refused(why) => tell(Answer::Refused(why), place, differ),
+        BenchAnswer::Agree(used) => tell_used(Answer::Done(0), used, place, differ, slack, index),
+        BenchAnswer::Differ(bit, used) => {
+            tell_used(Answer::Done(bit + 1), used, place, differ, slack, index)
+        }
+        BenchAnswer::Refused(why) => {
+            tell_used(Answer::Refused(why), UNUSED, place, differ, slack, index)
+        }
     }
 }
 
@@ -140,7 +181,7 @@ pub extern "C" fn wim_reply(
     tell_reply(answer, place, written, keyed, digested)
 }
 
-// Finish: the initiator's key and its digest, from the reply message and the secret s.
+// Finish: the initiator's key, its digest and the slack used, from the reply message and the secret s.
 #[no_mangle]
 pub extern "C" fn wim_finish(
     scheme: u32,
@@ -151,13 +192,16 @@ pub extern "C" fn wim_finish(
     place: &mut u64,
     keyed: &mut u64,
     digested: &mut u64,
+    slack: &mut u64,
+    index: &mut u64,
 ) -> u32
     ensures { λ r. ⌜
-        Finished (schemeOf scheme) (finish reply s) r (left place) (room key) (left keyed) (left key) (room digest) (left digested) (left digest)
+        Finished (schemeOf scheme) (finish reply s)
+        r (left place) (room key) (left keyed) (left key) (room digest) (left digested) (left digest) (left slack) (left index)
         ⌝ }
 {
     let answer = exchange::finish(scheme, reply, s, key, digest);
-    tell_finish(answer, place, keyed, digested)
+    tell_finish(answer, place, keyed, digested, slack, index)
 }
 
 // Noise: the values that the bytes give.
@@ -233,7 +277,7 @@ pub extern "C" fn wim_sha3_256(
     tell(answer, place, written)
 }
 
-// Bench: both ends on lent secrets; the keys agree, or differ from a bit on.
+// Bench: both ends on lent secrets; the keys agree, or differ from a bit on; with the slack used.
 #[no_mangle]
 pub extern "C" fn wim_bench(
     scheme: u32,
@@ -247,9 +291,11 @@ pub extern "C" fn wim_bench(
     coins: &[u8],
     place: &mut u64,
     differ: &mut u64,
+    slack: &mut u64,
+    index: &mut u64,
 ) -> u32
-    ensures { λ r. ⌜ Benched (schemeOf scheme) (bench a s e seed s1 e1 e2 coins) r (left place) (left differ) ⌝ }
+    ensures { λ r. ⌜ Benched (schemeOf scheme) (bench a s e seed s1 e1 e2 coins) r (left place) (left differ) (left slack) (left index) ⌝ }
 {
     let answer = bench::bench(scheme, a, s, e, seed, s1, e1, e2, coins);
-    tell_bench(answer, place, differ)
+    tell_bench(answer, place, differ, slack, index)
 }

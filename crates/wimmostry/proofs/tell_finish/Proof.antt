@@ -6,15 +6,15 @@ use Rattle.wimmostry.proofs.tell_finish.Tie as tie
 
 returns : tie.Need-returns
 returns c =
-    let t = c .tell .ensures in
+    let t = c .tell-used .ensures in
     let a : tie.After-answer = search needs in
-    rw (a .answer .given .1) ((t .0, t .1), (t .2, refl))
+    rw (a .answer .given .1) ((t .0 .0, t .0 .1), ((t .0 .2, refl), t .1))
 
 returns-2 : tie.Need-returns-2
 returns-2 c =
-    let t = c .tell2 .ensures in
+    let t = c .tell-used2 .ensures in
     let a : tie.After-answer2 = search needs in
-    rw (a .answer2 .given .1) ((t .0, t .1), (t .2, refl))
+    rw (a .answer2 .given .1) ((t .0 .0, t .0 .1), ((t .0 .2, refl), t .1))
 
 pub tell-finish-spec : {M : Type 1} → statement M
 tell-finish-spec = tie.close (tie.spec (search needs) (λ c κs. search needs) (search needs) (λ c κs. search needs) returns returns-2)
