@@ -21,8 +21,8 @@ fn told(scheme: u32, name: &[u8], answer: BenchAnswer) {
     text(b" run=");
     text(name);
     match answer {
-        BenchAnswer::Agree => text(b" agree"),
-        BenchAnswer::Differ(bit) => field(b" differ=", bit as u64),
+        BenchAnswer::Agree(_) => text(b" agree"),
+        BenchAnswer::Differ(bit, _) => field(b" differ=", bit as u64),
         BenchAnswer::Refused(r) => {
             field(b" refusal=", r.number() as u64);
             field(b" place=", r.place() as u64);

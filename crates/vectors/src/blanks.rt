@@ -40,7 +40,7 @@ enum Besides {
 }
 
 // The lists and the messages of case 0. The seed and the coins are never damaged, and an entry of a is put back.
-fn redraw(g: Setting, a: &[u32], values: &mut [i32], bytes: &mut [u8]) {
+pub fn redraw(g: Setting, a: &[u32], values: &mut [i32], bytes: &mut [u8]) {
     draw_secrets(g.k, 0, 1, values);
     make_opening(g.k, g.f, a, values, bytes);
     make_reply(g.k, g.f, a, values, bytes);

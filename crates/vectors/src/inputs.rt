@@ -7,6 +7,8 @@ use crate::shape::E1;
 use crate::shape::E2;
 use crate::shape::Kind;
 use crate::shape::OPENING;
+use crate::shape::Part;
+use crate::shape::REPLY;
 use crate::shape::S;
 use crate::shape::S1;
 use crate::shape::SEED;
@@ -209,6 +211,17 @@ fn before(slot: usize, f: Fixed) -> usize {
 // Byte i of a message's packed part.
 pub fn put_in_message(slot: usize, f: Fixed, i: usize, x: u8, bytes: &mut [u8]) {
     put_byte(bytes, std::num::wrapping_add_usize(before(slot, f), i), x);
+}
+
+// Where the hints of the reply stand, behind its packed part.
+pub fn hints_part(f: Fixed, most: usize) -> Part
+    ensures { λ r. ⌜ (r .from ≤ r .to) × (r .to ≤ most) ⌝ }
+{
+    part_of(
+        std::num::wrapping_add_usize(bytes_region(REPLY), f.packed),
+        std::num::wrapping_sub_usize(f.reply, f.packed),
+        most,
+    )
 }
 
 // A list of secrets or noise that is zero, or a message whose packed part is. Of another slot nothing changes.

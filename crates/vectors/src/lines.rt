@@ -11,12 +11,14 @@ use exchange::ReplyAnswer;
 use front::Answer;
 use front::Refusal;
 use libc::STDOUT_FILENO;
+use lists::Peak;
 
 // A case's name.
 pub enum Case {
     Number(u32),
     Wide,
     Blank(u32),
+    Slack(u32),
 }
 
 pub fn text(t: &[u8]) {
@@ -37,6 +39,7 @@ pub fn case_field(case: Case) {
         Case::Number(n) => field(b" case=", n as u64),
         Case::Wide => text(b" case=wide"),
         Case::Blank(n) => field(b" case=blank", n as u64),
+        Case::Slack(n) => field(b" case=slack", n as u64),
     }
 }
 
@@ -75,15 +78,26 @@ fn key_written(key: usize, digest: usize) {
     count(b" digest_written=", digest);
 }
 
+// The slack used and its index.
+const UNUSED: Peak = Peak { most: 0, at: 0 };
+
+fn used(slack: Peak) {
+    field(b" slack=", slack.most as u64);
+    count(b" slack_index=", slack.at);
+}
+
 fn told_finish(answer: FinishAnswer) {
     match answer {
         FinishAnswer::Done(n) => {
+            let slack = n.slack;
             accepted();
             key_written(n.key, n.digest);
+            used(slack);
         }
         FinishAnswer::Refused(r) => {
             refused(r);
             key_written(0, 0);
+            used(UNUSED);
         }
     }
 }
@@ -277,14 +291,19 @@ fn finish_case(k: u32, scheme: u32, case: Case, lens: [usize; 13], values: &[i32
 // The first differing bit counts from 1, 0 where the keys agree.
 fn told_bench(answer: BenchAnswer) {
     match answer {
-        BenchAnswer::Agree => text(b" refusal=0 place=0 differ=0"),
-        BenchAnswer::Differ(i) => {
+        BenchAnswer::Agree(slack) => {
+            text(b" refusal=0 place=0 differ=0");
+            used(slack);
+        }
+        BenchAnswer::Differ(i, slack) => {
             accepted();
             count(b" differ=", std::num::wrapping_add_usize(i, 1));
+            used(slack);
         }
         BenchAnswer::Refused(r) => {
             refused(r);
             text(b" differ=0");
+            used(UNUSED);
         }
     }
 }

@@ -8,6 +8,7 @@ mod inputs;
 mod lines;
 mod samples;
 mod shape;
+mod slacks;
 mod streams;
 mod walks;
 
@@ -77,13 +78,25 @@ fn blank(k: u32, f: Fixed, a: &mut [u32], values: &mut [i32], bytes: &mut [u8]) 
     blank_keys(k, f, a, values, bytes);
 }
 
+// Finish's cases of the slack, on the lists and the messages of case 0.
+fn slack(k: u32, f: Fixed, a: &[u32], values: &mut [i32], bytes: &mut [u8]) {
+    let g = setting(Call::Finish, k, f);
+    blanks::redraw(g, a, values, bytes);
+    slacks::finishes(g, a, values, bytes);
+}
+
+fn damaged(k: u32, f: Fixed, a: &mut [u32], values: &mut [i32], bytes: &mut [u8]) {
+    blank(k, f, a, values, bytes);
+    slack(k, f, a, values, bytes);
+}
+
 fn draw_lists(k: u32, f: Fixed, a: &mut [u32], values: &mut [i32], bytes: &mut [u8]) {
     draw_public(k, f, a);
     draw_secrets(k, 0, 1, values);
     draw_bytes(k, bytes);
 }
 
-// All of a scheme's lines but the wide and the blank cases. A case leaves each list as it found it.
+// All of a scheme's lines but the wide cases and those behind them. A case leaves each list as it found it.
 fn narrow(k: u32, f: Fixed, a: &mut [u32], values: &mut [i32], bytes: &mut [u8]) {
     offers(k, f, a, values, bytes);
     replies(k, f, a, values, bytes);
@@ -95,7 +108,7 @@ fn all(k: u32, f: Fixed, a: &mut [u32], values: &mut [i32], bytes: &mut [u8]) {
     narrow(k, f, a, values, bytes);
     draw_secrets(k, 10, f.largest, values);
     wide(k, f, a, values, bytes);
-    blank(k, f, a, values, bytes);
+    damaged(k, f, a, values, bytes);
 }
 
 // The lists, each with 32 entries more than the longest of any scheme; a function each, so that no proof holds two of them at length.
