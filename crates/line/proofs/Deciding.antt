@@ -1,5 +1,5 @@
 -- The decision: what the functions between a question's numbers and its verdict rest on.
---   small, passed            a refusal has one digit; what it means that all tests pass
+--   passed                   what it means that all tests pass
 --   bcns-shown, bcns-refused, frodo-shown, frodo-refused   the two families' answers, by the tests
 --   Ready, ready, fitted     what the numbers of a scheme of Frodo are fit for
 --   key-small, peer-small    a key in Frodo has at most two digits
@@ -23,16 +23,16 @@ use Rattle.schemes.specs.declared.Named.{Named}
 use Rattle.schemes.specs.declared.Named.the-variants.{Is, Unknown}
 use Rattle.schemes.specs.declared.Scheme.{Scheme}
 use Rattle.schemes.specs.Schemes.{by, familyOf, fixedOf, schemeOf}
-use Rattle.schemes.proofs.Sound.{sound}
 use Rattle.lists.specs.Table.{both}
 use Rattle.bcns.specs.Rounding as bcns
 use Rattle.frodo.specs.Rounding as frodo
 use Rattle.frodo.specs.Rounding.{Round}
 use Rattle.frodo.proofs.Entries as frodo-entries
 use Rattle.frodo.proofs.Schemes.{each-scheme}
-use Rattle.line.specs.Text.{Read, number, other, fieldIn}
-use Rattle.line.specs.Line.{schemeName, coinName, vName, wName, Asked, numbers, text, endIn, wIn, vIn, coinIn, asked, refusal, bcnsShown, frodoShown, bcnsAnswer, frodoAnswer, settledIn, settled, answerTo, answered}
-use Rattle.line.specs.Steps.{labelIn, Part, four, none, partOf, Stands, shifted, moved, linesOf, tested}
+use Rattle.text.specs.Text.{schemeName, Read, number, other, fieldIn}
+use Rattle.text.specs.Steps.{labelIn}
+use Rattle.line.specs.Line.{coinName, vName, wName, Asked, numbers, text, endIn, wIn, vIn, coinIn, asked, refusal, bcnsShown, frodoShown, bcnsAnswer, frodoAnswer, settledIn, settled, answerTo, answered}
+use Rattle.line.specs.Steps.{Part, four, none, partOf, Stands, shifted, moved, linesOf, tested}
 use Rattle.line.specs.declared.Lines.{Lines}
 use Rattle.line.specs.declared.Lines.the-variants as lines
 
@@ -55,16 +55,7 @@ refused-by true s xs e = refl
 refused-by false true xs e = absurd (e refl)
 refused-by false false xs e = refl
 
-small-by : (r s : Bool) → number-by r s < 10
-small-by true s = omega arith
-small-by false true = omega arith
-small-by false false = omega arith
-
 module _ (most q coin v w : ℕ) where
-  pub small : tested most q coin v w < 10
-  unfolding tested
-  small = small-by (ltb most coin) (both (ltb v q) (ltb w q))
-
   pub passed : {n : ℕ} → n ≡ tested most q coin v w → n ≡ 0 → (coin ≤ most) × (v < q) × (w < q)
   unfolding tested
   passed h o = go (ltb most coin) (ltb v q) (ltb w q) refl refl refl (sym h ∙ o)
@@ -113,13 +104,12 @@ module _ {f g : Fixed} {i : ℕ} (o : g ≡ f) (p : i ≡ frodo.interval f) (coi
 
 pub record Ready (q i b : ℕ) : Type 0 where
   pub round : Round i b
-  pub few : b ≤ 4
   pub whole : q ≡ i * 2 ^ b
 
 pub ready : (s : Scheme) {g : Fixed} {i : ℕ} → familyOf s ≡ Family.Frodo → g ≡ fixedOf s → i ≡ frodo.interval (fixedOf s) → Ready (g .q) i (g .keybits)
 ready s m o p =
     let r = each-scheme s m in
-    rw (o, p) (record { round = r .round; few = sound s .key-room; whole = sym (r .whole) })
+    rw (o, p) (record { round = r .round; whole = sym (r .whole) })
 
 -- and the tests have passed
 pub fitted : (coin v w : ℕ) {q i b n : ℕ} → Ready q i b → n ≡ tested 0 q coin v w → n ≡ 0 → (v < i * 2 ^ b) × (w < i * 2 ^ b)

@@ -1,12 +1,11 @@
--- An answer has at most 22 bytes, and a promise one result (`specs/Exactly.antt`).
---   answered-short, one-answer
-use mathlib.Core.Path.{_≡_, _∙_, sym, ap}
+-- An answer has at most 22 bytes (`specs/Exactly.antt`).
+use mathlib.Core.Path.{ap}
 use mathlib.Core.Bool.{Bool, cond}
-use mathlib.Core.List.{List, _++_}
-use Prim.Native.Nat.{ℕ, _+_, _-_, _≤_, _<_}
+use mathlib.Core.List.{List}
+use Prim.Native.Nat.{ℕ, _≤_, _<_}
 use native.Mathlib.Omega.{arith}
 use lib.Dec.{ltb}
-use lib.ListN.{length, replicate, length-append}
+use lib.ListN.{length, length-append}
 use Rattle.schemes.specs.declared.Family.{Family}
 use Rattle.schemes.specs.declared.Fixed.{Fixed}
 use Rattle.schemes.specs.declared.Named.{Named}
@@ -20,18 +19,14 @@ use Rattle.bcns.proofs.Regions.{hint-below, key-below}
 use Rattle.bcns.proofs.Formula.{peer-below}
 use Rattle.frodo.specs.Rounding as frodo
 use Rattle.frodo.proofs.Rule as rule
-use Rattle.line.specs.Text.{line, decimal}
+use Rattle.text.proofs.Numeral.{decimal-length}
+use Rattle.text.proofs.Writing.{one-digit, line-length}
 use Rattle.line.specs.Line.{Asked, numbers, text, asked, refusal, shown, bcnsShown, frodoShown, bcnsAnswer, frodoAnswer, settledIn, settled, answerTo, answered}
-use Rattle.line.specs.Exactly.{Short, OneAnswer}
+use Rattle.line.specs.Exactly.{Short}
 use Rattle.line.proofs.Deciding.{key-small, peer-small}
-use Rattle.line.proofs.Writing.{one-digit, decimal-short}
 
 record Fits (xs : List ℕ) : Type 0 where
   fits : length xs ≤ 22
-
-line-length : (name : List ℕ) (n : ℕ) → length (line name n) ≡ length name + length (decimal n) + 2
-unfolding line
-line-length name n = simp length-append (omega arith)
 
 shown-fits : {h k p : ℕ} → h < 2 → k < 16 → p < 16 → Fits (shown h k p)
 unfolding shown
@@ -39,7 +34,8 @@ shown-fits {h} {k} {p} a b c =
     record {
       fits =
           simp (length-append, line-length)
-          (omega (arith, ap length (one-digit h (omega arith)), decimal-short k (omega arith), decimal-short p (omega arith)));
+          (omega
+          (arith, ap length (one-digit h (omega arith)), decimal-length 1 k (omega arith) (omega arith), decimal-length 1 p (omega arith) (omega arith)));
     }
 
 refusal-fits : {n : ℕ} → n < 10 → Fits (refusal n)
@@ -82,8 +78,3 @@ answer-fits text = refusal-fits (omega arith)
 pub answered-short : Short
 unfolding answered
 answered-short xs = answer-fits (asked xs) .fits
-
-pub one-answer : OneAnswer
-one-answer xs r s out other p q =
-    let e : r ≡ s = p .count ∙ sym (q .count) in
-    (e, p .holds ∙ ap (λ (k : ℕ). answered xs ++ replicate (32 - k) 0) e ∙ sym (q .holds))

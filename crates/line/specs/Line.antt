@@ -6,7 +6,7 @@
 use mathlib.Core.Bool.{cond}
 use mathlib.Core.List.{List, [], _∷_, _++_}
 use Prim.Native.Nat.{ℕ}
-use lib.Dec.{eqb, ltb}
+use lib.Dec.{ltb}
 use Rattle.schemes.specs.declared.Fixed.{Fixed}
 use Rattle.schemes.specs.declared.Named.{Named}
 use Rattle.schemes.specs.declared.Named.the-variants.{Is, Unknown}
@@ -14,12 +14,9 @@ use Rattle.schemes.specs.Schemes.{by, familyOf, fixedOf, schemeOf}
 use Rattle.lists.specs.Table.{both}
 use Rattle.bcns.specs.Rounding as bcns
 use Rattle.frodo.specs.Rounding as frodo
-use Rattle.line.specs.Text.{line, Read, number, other, fieldIn}
+use Rattle.text.specs.Text.{schemeName, refusalName, line, Read, number, other, fieldIn}
 
 -- the names, in bytes
-abbrev pub schemeName : List ℕ
-schemeName = 115 ∷ 99 ∷ 104 ∷ 101 ∷ 109 ∷ 101 ∷ []
-
 abbrev pub coinName : List ℕ
 coinName = 99 ∷ 111 ∷ 105 ∷ 110 ∷ []
 
@@ -37,9 +34,6 @@ keyName = 107 ∷ 101 ∷ 121 ∷ []
 
 abbrev pub peerName : List ℕ
 peerName = 112 ∷ 101 ∷ 101 ∷ 114 ∷ []
-
-abbrev pub refusalName : List ℕ
-refusalName = 114 ∷ 101 ∷ 102 ∷ 117 ∷ 115 ∷ 97 ∷ 108 ∷ []
 
 unfoldable pub question : ℕ → ℕ → ℕ → ℕ → List ℕ
 question a b c d = line schemeName a ++ line coinName b ++ line vName c ++ line wName d

@@ -1,11 +1,13 @@
 -- `line::write` meets its contract.
-use mathlib.Core.Path.{ap, subst}
+use mathlib.Core.Path.{ap}
 use native.Mathlib.Omega.{arith}
-use borrow.Author.Needs.{needs}
-use Rattle.line.specs.Text.{line}
+use lib.ListN.{length}
+use Rattle.text.specs.Text.{line}
+use Rattle.text.specs.Steps.{labelled}
 use Rattle.line.specs.Line.{refusal}
-use Rattle.line.specs.Steps.{labelled, textOf, Small}
-use Rattle.line.proofs.Writing.{written-as}
+use Rattle.line.specs.Steps.{textOf}
+use Rattle.text.proofs.Writing.{written-as}
+use borrow.Author.Needs.{needs}
 use Rattle.line.proofs.write.Statement.{statement}
 use Rattle.line.proofs.write.Tie as tie
 
@@ -13,11 +15,7 @@ enum-known-v : tie.Need-enum-known-v
 enum-known-v c = search needs
 
 write-shown-requires : tie.Need-write-shown-requires
-write-shown-requires c κs =
-    let v = c .before .before in
-    let a = v .before .before .before in
-    let s = subst Small (v .v .given .1) (a .pre .0) in
-    (s .0, s .1, s .2, a .pre .1)
+write-shown-requires c κs = let v = c .before .before in omega (arith, v .before .before .before .pre, ap (λ r. length (textOf r)) (v .v .given .1))
 
 enum-known-v-2 : tie.Need-enum-known-v-2
 enum-known-v-2 c = search needs
@@ -25,28 +23,25 @@ enum-known-v-2 c = search needs
 slice-aggregate-write-line : tie.Need-slice-aggregate-write-line
 slice-aggregate-write-line c = search needs
 
+cast-write-line : tie.Need-cast-write-line
+cast-write-line c = search needs
+
 write-line-requires : tie.Need-write-line-requires
-write-line-requires c κs =
-    let v = c .before .before .before in
-    let a = v .before .before .before in
-    (subst Small (v .v2 .given .1) (a .pre .0), omega (arith, a .pre .1))
+unfolding refusal line labelled
+write-line-requires c κs = let v = c .before .before .before in omega (arith, v .before .before .before .pre, ap (λ r. length (textOf r)) (v .v2 .given .1))
 
 same-length : tie.Need-same-length
 same-length c = search needs
 
 returns : tie.Need-returns
-returns c =
-    let w = c .before .before in
-    written-as (ap textOf (w .before .before .before .v .given .1)) (w .write-shown .ensures)
+returns c = let w = c .before .before in written-as (ap textOf (w .before .before .before .v .given .1)) (w .write-shown .ensures)
 
 same-length-2 : tie.Need-same-length-2
 same-length-2 c = search needs
 
 returns-2 : tie.Need-returns-2
 unfolding refusal line labelled
-returns-2 c =
-    let w = c .before .before in
-    written-as (ap textOf (w .before .before .before .before .v2 .given .1)) (w .write-line .ensures .0)
+returns-2 c = let w = c .before .before in written-as (ap textOf (w .before .before .before .before .v2 .given .1)) (w .write-line .ensures)
 
 pub write-spec : {M : Type 1} → statement M
 write-spec =
@@ -56,6 +51,7 @@ write-spec =
     write-shown-requires
     enum-known-v-2
     slice-aggregate-write-line
+    cast-write-line
     write-line-requires
     same-length
     returns

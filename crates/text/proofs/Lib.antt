@@ -1,0 +1,5 @@
+pub mod Reading
+pub mod Numeral
+pub mod Lines
+pub mod Writing
+pub mod Answer

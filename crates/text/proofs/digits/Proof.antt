@@ -1,0 +1,49 @@
+-- `text::digits` meets its contract: it searches for the first byte that is no digit.
+use mathlib.Core.Path.{_∙_, sym}
+use Prim.Native.Nat.{_-_}
+use native.Mathlib.Omega.{arith}
+use borrow.Author.Needs.{needs}
+use lib.ListN.{length}
+use Rattle.lists.proofs.First.{Passed, passed-none, passed-more, found, missing}
+use Rattle.text.specs.Text.{notDigit, run}
+use Rattle.text.proofs.digits.Statement.{statement}
+use Rattle.text.proofs.digits.Tie as tie
+
+abbrev Inv-loop : tie.InvT-loop
+Inv-loop s i₀ i = Passed notDigit s 0 i
+
+abbrev μ-loop : tie.MeasureT-loop
+μ-loop s i₀ i = length s - i
+
+loop-holds : tie.Need-loop-holds Inv-loop μ-loop
+loop-holds c = passed-none notDigit _ 0
+
+shared-slice-read-not-digit : tie.Need-shared-slice-read-not-digit Inv-loop μ-loop
+shared-slice-read-not-digit c = omega arith
+
+not-digit-requires : tie.Need-not-digit-requires Inv-loop μ-loop
+not-digit-requires c κs = search needs
+
+returns : tie.Need-returns Inv-loop μ-loop
+unfolding run
+returns c =
+    let a = c .before .before .before .before in
+    found notDigit _ 0 (a .loop .i) (a .loop .inv) (omega arith) (sym (c .before .not-digit .ensures) ∙ c .if1 .taken)
+
+add-i : tie.Need-add-i Inv-loop μ-loop
+add-i c = omega arith
+
+loop-less : tie.Need-loop-less Inv-loop μ-loop
+loop-less c = omega arith
+
+loop-again : tie.Need-loop-again Inv-loop μ-loop
+loop-again c =
+    let a = c .before .before .before .before in
+    passed-more notDigit _ 0 (a .loop .i) (a .loop .inv) (omega arith) (sym (c .before .not-digit .ensures) ∙ c .if1 .left)
+
+returns-2 : tie.Need-returns-2 Inv-loop μ-loop
+unfolding run
+returns-2 c = missing notDigit _ 0 (c .before .loop .i) (c .before .loop .inv) (c .loop-test .left)
+
+pub digits-spec : {M : Type 1} → statement M
+digits-spec = tie.close (tie.spec Inv-loop μ-loop loop-holds shared-slice-read-not-digit not-digit-requires returns add-i loop-less loop-again returns-2)

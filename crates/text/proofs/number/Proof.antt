@@ -1,0 +1,64 @@
+-- `text::number` meets its contract.
+use mathlib.Core.Path.{sym, _∙_}
+use native.Mathlib.Omega.{arith}
+use borrow.Author.Needs.{needs}
+use lib.ListN.{length, length-take}
+use lib.Seq.{length-take-le}
+use Prim.Native.Nat.{_+_, _≤_, _<_}
+use Rattle.lists.proofs.Parts.{part}
+use Rattle.text.proofs.Reading.{number-size, number-found, number-other}
+use Rattle.text.proofs.number.Statement.{statement}
+use Rattle.text.proofs.number.Tie as tie
+
+sub-t : tie.Need-sub-t
+sub-t c = search needs
+
+part-t-start : tie.Need-part-t-start
+part-t-start c = search needs
+
+part-t-end : tie.Need-part-t-end
+part-t-end c = search needs
+
+digits-requires : tie.Need-digits-requires
+digits-requires c κs = search needs
+
+well-formed-requires : tie.Need-well-formed-requires
+well-formed-requires c κs = search needs
+
+-- the digits and the LF behind them lie within the input
+size : (c : tie.Then1)
+    → let a = c .before .before .before .before .before in
+    let n = c .before .before .digits .result in
+    (n ≤ 10) × (n < length (part (a .args .s .now) (a .args .at))) × (a .args .at + n + 1 ≤ length (a .args .s .now))
+size c =
+    let a = c .before .before .before .before .before in
+    number-size (a .args .s .now) (a .args .at) (a .pre) (c .before .before .digits .ensures) (sym (c .if1 .taken) ∙ c .before .well-formed .ensures)
+
+slice-aggregate-value : tie.Need-slice-aggregate-value
+slice-aggregate-value c = sym (length-take-le _ _ (omega (arith, size (c .before) .1)))
+
+value-requires : tie.Need-value-requires
+value-requires c κs = simp length-take (omega (arith, size (c .before) .0))
+
+add-t13 : tie.Need-add-t13
+add-t13 c = omega (arith, size (c .before .before) .2)
+
+add-t14 : tie.Need-add-t14
+add-t14 c = omega (arith, size (c .before .before) .2)
+
+returns : tie.Need-returns
+returns c =
+    let w = c .before .before .before in
+    let a = w .before .before .before .before in
+    number-found (a .args .s .now) (a .args .at) (a .pre) (w .before .digits .ensures)
+    (sym (c .before .before .if1 .taken) ∙ w .well-formed .ensures) (c .value .ensures)
+
+returns-2 : tie.Need-returns-2
+returns-2 c =
+    let a = c .before .before .before .before .before in
+    number-other (a .args .s .now) (a .args .at) (a .pre) (sym (c .if1 .left) ∙ c .before .well-formed .ensures)
+
+pub number-spec : {M : Type 1} → statement M
+number-spec =
+    tie.close
+    (tie.spec sub-t part-t-start part-t-end digits-requires well-formed-requires slice-aggregate-value value-requires add-t13 add-t14 returns returns-2)

@@ -1,0 +1,27 @@
+-- `text::well_formed` meets its contract: the tests one by one.
+use native.Mathlib.Omega.{arith}
+use borrow.Author.Needs.{needs}
+use Rattle.text.proofs.Reading.{few, many, ended, formed}
+use Rattle.text.proofs.well_formed.Statement.{statement}
+use Rattle.text.proofs.well_formed.Tie as tie
+
+returns : tie.Need-returns
+returns c = few _ (omega arith)
+
+returns-2 : tie.Need-returns-2
+returns-2 c = many _ (omega arith) (omega arith)
+
+returns-3 : tie.Need-returns-3
+returns-3 c = ended _ (omega arith) (omega arith) (omega arith)
+
+shared-slice-read-result : tie.Need-shared-slice-read-result
+shared-slice-read-result c = search needs
+
+shared-slice-read-result-2 : tie.Need-shared-slice-read-result-2
+shared-slice-read-result-2 c = search needs
+
+returns-4 : tie.Need-returns-4
+returns-4 c = let a = c .before .before .before .before .before in rw (a .pre) (formed (a .args .s .now) (omega arith) (omega arith))
+
+pub well-formed-spec : {M : Type 1} → statement M
+well-formed-spec = tie.close (tie.spec returns returns-2 returns-3 shared-slice-read-result shared-slice-read-result-2 returns-4)

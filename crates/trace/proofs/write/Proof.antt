@@ -1,0 +1,34 @@
+-- `trace::write` meets its contract.
+use mathlib.Core.Path.{ap}
+use native.Mathlib.Omega.{arith}
+use lib.ListN.{length}
+use borrow.Author.Needs.{needs}
+use Rattle.text.proofs.Writing.{written-as}
+use Rattle.trace.proofs.Writing.{text-whole, text-lost}
+use Rattle.trace.proofs.write.Statement.{statement}
+use Rattle.trace.proofs.write.Tie as tie
+
+write-summary-requires : tie.Need-write-summary-requires
+write-summary-requires c κs =
+    let s : tie.Start = search needs in
+    omega (arith, s .pre, ap length (text-whole (s .args .c) (c .before .if1 .taken)))
+
+write-line-requires : tie.Need-write-line-requires
+write-line-requires c κs =
+    let s : tie.Start = search needs in
+    omega (arith, s .pre, ap length (text-lost (s .args .c) (c .before .before .if1 .left)))
+
+returns : tie.Need-returns
+returns c =
+    let s : tie.Start = search needs in
+    let w = c .before .before in
+    written-as (text-whole (s .args .c) (w .before .before .if1 .taken)) (w .write-summary .ensures)
+
+returns-2 : tie.Need-returns-2
+returns-2 c =
+    let s : tie.Start = search needs in
+    let w = c .before .before in
+    written-as (text-lost (s .args .c) (w .before .before .before .if1 .left)) (w .write-line .ensures)
+
+pub write-spec : {M : Type 1} → statement M
+write-spec = tie.close (tie.spec write-summary-requires (search needs) write-line-requires (search needs) returns (search needs) returns-2)
