@@ -7,8 +7,10 @@
 use crate::calls::{bench, expand, finish, grow, noise, offer, reply, sha3_256, shake128, Bench};
 use crate::expand::COUNT;
 use crate::hash::DIGEST;
+use crate::reconcile::Slack;
 use crate::refusal::Refusal;
 use crate::schemes::scheme;
+use crate::trace::trace;
 use std::io::{self, Error};
 use std::num::ParseIntError;
 use std::str::FromStr;
@@ -62,8 +64,9 @@ pub fn run(words: &[&str]) -> io::Result<String> {
             let done = finish(no, &bytes(message)?, &values(s)?, &mut key, &mut digest);
             write(key_out, &key)?;
             write(digest_out, &digest)?;
-            Ok(told(done.map(|(k, d)| {
-                format!("key_written={k}\ndigest_written={d}\n")
+            Ok(told(done.map(|(k, d, slack)| {
+                let slack = used(slack);
+                format!("key_written={k}\ndigest_written={d}\n{slack}")
             })))
         }
         ["noise", no, random, out] => {
@@ -104,17 +107,23 @@ pub fn run(words: &[&str]) -> io::Result<String> {
             let (s, e) = (values(s)?, values(e)?);
             let (s1, e1, e2) = (values(s1)?, values(e1)?, values(e2)?);
             let done = bench(number(no)?, &a, &s, &e, &seed, &s1, &e1, &e2, &coins);
-            Ok(told(done.map(|compared| match compared {
-                Bench::Agree => "agree\n".to_string(),
-                Bench::Differ(bit) => format!("differ={bit}\n"),
+            Ok(told(done.map(|(compared, slack)| match compared {
+                Bench::Agree => format!("agree\n{}", used(slack)),
+                Bench::Differ(bit) => format!("differ={bit}\n{}", used(slack)),
             })))
         }
+        ["trace", file] => String::from_utf8(trace(&bytes(file)?)).map_err(Error::other),
         _ => Err(Error::other("no such command")),
     }
 }
 
 fn told(done: Result<String, Refusal>) -> String {
     done.unwrap_or_else(|r| format!("refusal={} place={}\n", r.number, r.place))
+}
+
+fn used(slack: Slack) -> String {
+    let Slack { largest, index } = slack;
+    format!("slack={largest}\nslack_index={index}\n")
 }
 
 fn number<T: FromStr<Err = ParseIntError>>(word: &str) -> io::Result<T> {

@@ -26,5 +26,6 @@ pub mod reconcile;
 pub mod refusal;
 pub mod schemes;
 pub mod signed;
+pub mod trace;
 pub mod transform;
 pub mod vectors;

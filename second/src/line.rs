@@ -66,7 +66,7 @@ fn numbers(input: &[u8]) -> Option<[u64; 4]> {
 }
 
 /// Decimal, 1 to 10 digits, no leading zero unless 0.
-fn decimal(digits: &[u8]) -> Option<u64> {
+pub fn decimal(digits: &[u8]) -> Option<u64> {
     if digits.is_empty() || digits.len() > 10 {
         return None;
     }

@@ -1,5 +1,5 @@
-//! Prints expectations: `second line`, `second cards`, `second margins` and
-//! `second vectors`; `second box` makes the calls on files.
+//! Prints expectations: `second line`, `second trace`, `second cards`,
+//! `second margins` and `second vectors`; `second box` makes the calls on files.
 
 use std::io::{self, Read, Write};
 use std::process::ExitCode;
@@ -8,6 +8,7 @@ const HELP: &str = "\
 second, the independent second program
 
   second line      the line program: standard input to standard output
+  second trace     the trace program: standard input to standard output
   second cards     all bench cards, one line each: inputs, a colon, outputs
   second margins   Bench near the margin, a line for each worked run
   second vectors   all calls on good and damaged inputs, one line a case
@@ -18,7 +19,8 @@ fn main() -> ExitCode {
     let words: Vec<String> = std::env::args().skip(1).collect();
     let words: Vec<&str> = words.iter().map(String::as_str).collect();
     let done = match words[..] {
-        ["line"] => line(),
+        ["line"] => text(second::line::line),
+        ["trace"] => text(second::trace::trace),
         ["cards"] => print(second::cards::cards()),
         ["margins"] => print(second::margins::margins()),
         ["vectors"] => print(second::vectors::vectors()),
@@ -37,10 +39,10 @@ fn main() -> ExitCode {
     }
 }
 
-fn line() -> io::Result<()> {
+fn text(program: fn(&[u8]) -> Vec<u8>) -> io::Result<()> {
     let mut input = vec![];
     io::stdin().read_to_end(&mut input)?;
-    io::stdout().write_all(&second::line::line(&input))
+    io::stdout().write_all(&program(&input))
 }
 
 fn print(lines: Vec<String>) -> io::Result<()> {

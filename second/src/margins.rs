@@ -2,6 +2,7 @@
 //! that is possible.
 
 use crate::calls::{self, Bench};
+use crate::reconcile::Slack;
 use crate::refusal::Refusal;
 use crate::schemes::{Family, Scheme, BCNS, NEWHOPE, SIX};
 
@@ -62,7 +63,7 @@ impl Run {
         }
     }
 
-    pub fn bench(&self) -> Result<Bench, Refusal> {
+    pub fn bench(&self) -> Result<(Bench, Slack), Refusal> {
         let r = self;
         let scheme = r.scheme.number;
         calls::bench(
@@ -73,8 +74,8 @@ impl Run {
     fn line(&self) -> String {
         let (scheme, name) = (self.scheme.number, self.name);
         let answer = match self.bench() {
-            Ok(Bench::Agree) => "agree".to_string(),
-            Ok(Bench::Differ(bit)) => format!("differ={bit}"),
+            Ok((Bench::Agree, _)) => "agree".to_string(),
+            Ok((Bench::Differ(bit), _)) => format!("differ={bit}"),
             Err(Refusal { number, place }) => format!("refusal={number} place={place}"),
         };
         format!("bench scheme={scheme} run={name} {answer}")

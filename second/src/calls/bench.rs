@@ -1,6 +1,7 @@
 use super::{finish, offer, reply};
 use crate::hash::DIGEST;
 use crate::packing::get_bit;
+use crate::reconcile::Slack;
 use crate::refusal::{self, Refusal};
 
 #[derive(Clone, Copy, Debug, PartialEq, Eq)]
@@ -11,7 +12,8 @@ pub enum Bench {
 }
 
 /// Bench: both ends on lent secrets. Offer's refusals come first, then
-/// Reply's; messages and keys stay inside.
+/// Reply's; messages and keys stay inside. Finish's slack is passed on, whether
+/// the keys agree or differ.
 #[allow(clippy::too_many_arguments)]
 pub fn bench(
     scheme: u64,
@@ -23,7 +25,7 @@ pub fn bench(
     e1: &[i32],
     e2: &[i32],
     coins: &[u8],
-) -> Result<Bench, Refusal> {
+) -> Result<(Bench, Slack), Refusal> {
     let fixed = refusal::no_scheme(scheme)?;
     let mut opening = vec![0; fixed.opening_bytes()];
     let mut answer = vec![0; fixed.reply_bytes()];
@@ -43,8 +45,8 @@ pub fn bench(
         &mut key,
         &mut digest,
     )?;
-    finish(scheme, &answer, s, &mut peer, &mut digest)?;
-    Ok(compare(&key, &peer))
+    let (_, _, slack) = finish(scheme, &answer, s, &mut peer, &mut digest)?;
+    Ok((compare(&key, &peer), slack))
 }
 
 /// Whether two keys of the same length agree.

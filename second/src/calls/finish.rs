@@ -1,17 +1,18 @@
 use super::{signed, write};
 use crate::hash::{sha3_256, DIGEST};
-use crate::reconcile::initiator;
+use crate::reconcile::{initiator, slack, Slack};
 use crate::refusal::{self, Refusal};
 use crate::{message, mix};
 
-/// Finish: scheme, reply message, s. Gives the key and the key's SHA3-256.
+/// Finish: scheme, reply message, s. Gives the key, the key's SHA3-256 and the
+/// largest slack.
 pub fn finish(
     scheme: u64,
     reply: &[u8],
     s: &[i32],
     key: &mut [u8],
     digest: &mut [u8],
-) -> Result<(usize, usize), Refusal> {
+) -> Result<(usize, usize, Slack), Refusal> {
     key.fill(0);
     digest.fill(0);
 
@@ -28,7 +29,11 @@ pub fn finish(
 
     let u = message::plain(scheme, &numbers);
     let w = mix::w(scheme, &u, &signed(s));
-    let entries = initiator(scheme, &w, &message::reply_hints(scheme, reply));
-    let answer = message::key(scheme, &entries);
-    Ok((write(&answer, key), write(&sha3_256(&answer), digest)))
+    let hints = message::reply_hints(scheme, reply);
+    let answer = message::key(scheme, &initiator(scheme, &w, &hints));
+    Ok((
+        write(&answer, key),
+        write(&sha3_256(&answer), digest),
+        slack(scheme, &w, &hints),
+    ))
 }

@@ -47,6 +47,15 @@ impl Rule {
         !near as u32
     }
 
+    /// 02, request f: how far 2w lies, modulo 2q, from the nearest z that has
+    /// the hint.
+    pub fn slack(&self, w: i128, hint: u32) -> i128 {
+        let runs = self.runs();
+        let having = runs.iter().filter(|run| run.hint == hint);
+        let distances = having.map(|run| self.away(2 * w, run));
+        distances.min().expect("each hint is given somewhere")
+    }
+
     /// floor(2z/q), which never falls as z grows.
     fn step(&self, z: i128) -> i128 {
         2 * z / self.q

@@ -1,7 +1,7 @@
 //! 01, "Reconciliation", under "Frodo".
 
 use crate::schemes::Scheme;
-use crate::signed::remainder;
+use crate::signed::{distance, remainder};
 
 pub struct Rule {
     pub q: i128,
@@ -47,5 +47,17 @@ impl Rule {
             }
         }
         panic!("each hint is given somewhere")
+    }
+
+    /// All values that have the hint.
+    pub fn having(&self, hint: u32) -> Vec<i128> {
+        (0..self.q).filter(|&z| self.hint(z) == hint).collect()
+    }
+
+    /// 02, request f: how far w lies, around the circle, from the nearest of
+    /// the values that have the given hint.
+    pub fn slack(&self, w: i128, having: &[i128]) -> i128 {
+        let distances = having.iter().map(|z| distance(w - z, self.q));
+        distances.min().expect("each hint is given somewhere")
     }
 }

@@ -6,7 +6,8 @@ use super::input::{Input, Kind};
 use crate::schemes::Scheme;
 
 /// How a call is made: with which scheme, which length of each input and room
-/// of each output, which inputs zero, and which numbers then made others.
+/// of each output, which inputs zero, and which numbers and hints then made
+/// others.
 #[derive(Clone)]
 pub struct Case {
     pub scheme: u64,
@@ -14,6 +15,7 @@ pub struct Case {
     pub rooms: Vec<usize>,
     pub zeros: Vec<usize>,
     pub changes: Vec<Change>,
+    pub hints: Option<OtherHints>,
 }
 
 #[derive(Clone, Copy)]
@@ -22,6 +24,9 @@ pub struct Change {
     pub index: usize,
     pub value: i64,
 }
+
+/// Every byte of a reply's hints, from what it was.
+pub type OtherHints = fn(i64) -> i64;
 
 /// A number that no scheme has.
 const NO_SCHEME: u64 = 6;
@@ -109,6 +114,15 @@ pub fn of_blank(good: &Good) -> Vec<Case> {
         }
         _ => panic!("a call without blank cases"),
     }
+}
+
+/// Finish's three cases of the slack: hints that the replier did not send.
+pub fn of_slack(good: &Good) -> [Case; 3] {
+    let other: [OtherHints; 3] = [|byte| 255 - byte, |_| 0, |_| 255];
+    other.map(|hints| Case {
+        hints: Some(hints),
+        ..good.case()
+    })
 }
 
 /// The message, the first input, zero but for one byte of its packed part.

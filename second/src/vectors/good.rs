@@ -42,6 +42,7 @@ impl Good {
             rooms: self.answers.clone(),
             zeros: vec![],
             changes: vec![],
+            hints: None,
         }
     }
 }

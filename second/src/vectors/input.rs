@@ -75,6 +75,22 @@ impl Input {
         }
     }
 
+    /// Makes every byte of a reply's hints, which stand behind its packed part,
+    /// another.
+    pub fn other_hints(&mut self, other: fn(i64) -> i64) {
+        let Kind::Message {
+            start,
+            width,
+            count,
+        } = self.kind
+        else {
+            panic!("a message has hints");
+        };
+        for byte in &mut self.entries[start + width * count / 8..self.n] {
+            *byte = other(*byte);
+        }
+    }
+
     /// Makes one of its numbers or values another.
     pub fn change(&mut self, index: usize, value: i64) {
         match self.kind {

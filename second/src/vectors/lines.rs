@@ -3,6 +3,7 @@
 use super::cases::Case;
 use super::good::{Call, Good};
 use super::run::{run, Answer};
+use crate::reconcile::Slack;
 
 /// The lines of one call's cases, counted from 0 throughout.
 pub fn numbered(groups: &[(Good, Vec<Case>)]) -> Vec<String> {
@@ -16,11 +17,11 @@ pub fn numbered(groups: &[(Good, Vec<Case>)]) -> Vec<String> {
     lines
 }
 
-/// The lines of one call's blank cases.
-pub fn blank(good: &Good, cases: &[Case]) -> Vec<String> {
+/// The lines of one call's cases of a kind, as `blank`, counted behind its name.
+pub fn named(kind: &str, good: &Good, cases: &[Case]) -> Vec<String> {
     let cases = cases.iter().enumerate();
-    let named = cases.map(|(at, case)| line(good, &format!("blank{at}"), &run(good, case)));
-    named.collect()
+    let lines = cases.map(|(at, case)| line(good, &format!("{kind}{at}"), &run(good, case)));
+    lines.collect()
 }
 
 /// The line of a call's case with this name. Its scheme is the one whose cases
@@ -47,11 +48,15 @@ pub fn line(good: &Good, name: &str, answer: &Answer) -> String {
         };
         words.push(format!("{whose}written={written}"));
     }
-    for (output, entries) in outputs.iter().zip(&answer.outputs) {
-        words.push(format!("{output}={}", checksum(entries)));
-    }
     if good.call == Call::Bench {
         words.push(format!("differ={}", answer.differ));
+    }
+    if let Call::Finish | Call::Bench = good.call {
+        let Slack { largest, index } = answer.slack;
+        words.push(format!("slack={largest} slack_index={index}"));
+    }
+    for (output, entries) in outputs.iter().zip(&answer.outputs) {
+        words.push(format!("{output}={}", checksum(entries)));
     }
     words.join(" ")
 }

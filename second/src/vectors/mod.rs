@@ -9,8 +9,8 @@ pub mod lines;
 pub mod run;
 
 use crate::schemes::{Scheme, SIX};
-use good::{Good, Lists};
-use lines::{blank, line, numbered};
+use good::{Call, Good, Lists};
+use lines::{line, named, numbered};
 use run::run;
 use std::thread;
 
@@ -26,11 +26,14 @@ pub fn vectors() -> Vec<String> {
 }
 
 /// The lines of one scheme: all calls that have one, then the wide cases, then
-/// the blank ones.
+/// the blank ones, then Finish's of the slack.
 pub fn of_scheme(scheme: &'static Scheme) -> Vec<String> {
-    let (mut lines, mut blanks) = (vec![], vec![]);
+    let (mut lines, mut blanks, mut slacks) = (vec![], vec![], vec![]);
     for good in exchange(&Lists::drawn(scheme)) {
-        blanks.extend(blank(&good, &cases::of_blank(&good)));
+        blanks.extend(named("blank", &good, &cases::of_blank(&good)));
+        if good.call == Call::Finish {
+            slacks = named("slack", &good, &cases::of_slack(&good));
+        }
         lines.extend(numbered(&[cases::of_exchange(good)]));
     }
     let noise: Vec<_> = good::noise(scheme).map(cases::of_noise).collect();
@@ -39,6 +42,7 @@ pub fn of_scheme(scheme: &'static Scheme) -> Vec<String> {
         lines.push(line(&good, "wide", &run(&good, &good.case())));
     }
     lines.extend(blanks);
+    lines.extend(slacks);
     lines
 }
 

@@ -3,16 +3,19 @@
 use super::cases::Case;
 use super::good::{Call, Good};
 use crate::calls::{self, Bench};
+use crate::reconcile::Slack;
 use crate::refusal::Refusal;
 
-/// What a call gives: its written counts or a refusal, all of each output, and
-/// in Bench how the keys differ.
+/// What a call gives: its written counts or a refusal, all of each output, in
+/// Finish and Bench the slack, and in Bench how the keys differ.
 pub struct Answer {
     pub refusal: Option<Refusal>,
     pub written: Vec<usize>,
     pub outputs: Vec<Vec<i64>>,
     /// 1 + the first differing bit; 0 where the keys agree or nothing is told.
     pub differ: usize,
+    /// 0 and index 0 where nothing is told.
+    pub slack: Slack,
 }
 
 /// Every byte of an output before the call, and each byte of other entries.
@@ -59,7 +62,10 @@ pub fn run(good: &Good, case: &Case) -> Answer {
             let (mut key, mut digest) = (room(0), room(1));
             let told = calls::finish(k, &bytes(0), &values(1), &mut key, &mut digest);
             let outputs = vec![whole(&key), whole(&digest)];
-            answer(told.map(|(k, d)| vec![k, d]), outputs)
+            Answer {
+                slack: told.map(|(_, _, slack)| slack).unwrap_or_default(),
+                ..answer(told.map(|(k, d, _)| vec![k, d]), outputs)
+            }
         }
         Call::Bench => {
             let told = calls::bench(
@@ -74,11 +80,12 @@ pub fn run(good: &Good, case: &Case) -> Answer {
                 &bytes(7),
             );
             let differ = match told {
-                Ok(Bench::Differ(bit)) => 1 + bit,
-                Ok(Bench::Agree) | Err(_) => 0,
+                Ok((Bench::Differ(bit), _)) => 1 + bit,
+                Ok((Bench::Agree, _)) | Err(_) => 0,
             };
             Answer {
                 differ,
+                slack: told.map(|(_, slack)| slack).unwrap_or_default(),
                 ..answer(told.map(|_| vec![]), vec![])
             }
         }
@@ -119,6 +126,9 @@ pub fn lent(good: &Good, case: &Case) -> Vec<Vec<i64>> {
     for change in &case.changes {
         inputs[change.input].change(change.index, change.value);
     }
+    if let Some(other) = case.hints {
+        inputs[0].other_hints(other);
+    }
     for (input, &length) in inputs.iter_mut().zip(&case.lengths) {
         input.entries.truncate(length);
     }
@@ -146,5 +156,6 @@ fn answer(told: Result<Vec<usize>, Refusal>, outputs: Vec<Vec<i64>>) -> Answer {
         written,
         outputs,
         differ: 0,
+        slack: Slack::default(),
     }
 }

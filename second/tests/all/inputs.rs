@@ -3,6 +3,7 @@
 use crate::generator::Generator;
 use second::calls::{self, Bench};
 use second::hash::sha3_256;
+use second::reconcile::Slack;
 use second::refusal::Refusal;
 use second::schemes::{Family, Scheme};
 
@@ -85,15 +86,27 @@ impl Inputs {
         key: &mut [u8],
         digest: &mut [u8],
     ) -> Result<(usize, usize), Refusal> {
-        calls::finish(self.scheme.number, reply, &self.s, key, digest)
+        let answer = calls::finish(self.scheme.number, reply, &self.s, key, digest);
+        answer.map(|(key, digest, _)| (key, digest))
     }
 
     pub fn bench(&self) -> Result<Bench, Refusal> {
+        self.bench_with_slack().map(|(compared, _)| compared)
+    }
+
+    pub fn bench_with_slack(&self) -> Result<(Bench, Slack), Refusal> {
         let i = self;
         let number = i.scheme.number;
         calls::bench(
             number, &i.a, &i.s, &i.e, &i.seed, &i.s1, &i.e1, &i.e2, &i.coins,
         )
+    }
+
+    /// The initiator's slack; no refusal expected.
+    pub fn slack(&self, reply: &[u8]) -> Slack {
+        let (mut key, mut digest) = (vec![0; self.scheme.key_bytes], [0; 32]);
+        let answer = calls::finish(self.scheme.number, reply, &self.s, &mut key, &mut digest);
+        answer.unwrap().2
     }
 
     /// The opening; no refusal expected.

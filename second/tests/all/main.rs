@@ -29,5 +29,7 @@ mod reconcile_newhope;
 mod refusals;
 mod schemes;
 mod signed;
+mod slack;
+mod trace;
 mod transform;
 mod vectors;

@@ -4,7 +4,7 @@
 use second::margins::{margins, runs, Run};
 use second::matrix;
 use second::polynomial::product;
-use second::schemes::Family;
+use second::schemes::{Family, Scheme};
 use second::signed::nearest_to_zero;
 
 /// The run of a scheme by its name.
@@ -13,23 +13,29 @@ fn run(number: u64, name: &str) -> Run {
     runs().into_iter().find(named).unwrap()
 }
 
-fn wide(values: &[i32]) -> Vec<i128> {
+pub fn wide(values: &[i32]) -> Vec<i128> {
     values.iter().map(|&value| i128::from(value)).collect()
 }
 
-/// Each entry of d from the nearest multiple of q, with its sign.
-fn d(run: &Run) -> Vec<i128> {
-    let (q, n) = (run.scheme.q, run.scheme.n);
-    let [s, e, s1, e1, e2] = [&run.s, &run.e, &run.s1, &run.e1, &run.e2].map(|list| wide(list));
-    let (s1_e, e1_s) = match run.scheme.family {
-        Family::Bcns | Family::NewHope => (product(&s1, &e, q), product(&e1, &s, q)),
+/// Each entry of d from the nearest multiple of q, with its sign: of s, e, s',
+/// e' and e''.
+pub fn d(scheme: &Scheme, lists: &[Vec<i128>; 5]) -> Vec<i128> {
+    let (q, n) = (scheme.q, scheme.n);
+    let [s, e, s1, e1, e2] = lists;
+    let (s1_e, e1_s) = match scheme.family {
+        Family::Bcns | Family::NewHope => (product(s1, e, q), product(e1, s, q)),
         Family::Frodo => (
-            matrix::product(&s1, &e, (8, n, 8), q),
-            matrix::product(&e1, &s, (8, n, 8), q),
+            matrix::product(s1, e, (8, n, 8), q),
+            matrix::product(e1, s, (8, n, 8), q),
         ),
     };
     let entry = |i: usize| nearest_to_zero(s1_e[i] + e2[i] - e1_s[i], q);
     (0..e2.len()).map(entry).collect()
+}
+
+fn d_of(run: &Run) -> Vec<i128> {
+    let lists = [&run.s, &run.e, &run.s1, &run.e1, &run.e2].map(|list| wide(list));
+    d(run.scheme, &lists)
 }
 
 /// The distances of each group of NewHope, summed.
@@ -70,7 +76,7 @@ fn seeds_and_coins() {
 
 #[test]
 fn bcns_is_the_largest_there_is() {
-    let d = d(&run(0, "largest"));
+    let d = d_of(&run(0, "largest"));
     let largest = 2 * 1024 * 51 * 51 + 51;
     assert_eq!((d[1023], largest), (5326899, 5326899));
     assert!(d.iter().all(|entry| entry.abs() <= largest));
@@ -79,7 +85,7 @@ fn bcns_is_the_largest_there_is() {
 #[test]
 fn newhope_sums_to_the_bound_and_one_beyond() {
     for (name, sum) in [("at", 9214), ("beyond", 9215)] {
-        let sums = groups(&d(&run(1, name)));
+        let sums = groups(&d_of(&run(1, name)));
         assert_eq!(sums[0], sum);
         assert_eq!(sums[1..].iter().max(), Some(&8905));
     }
@@ -91,7 +97,7 @@ fn frodo_stands_at_the_bound_and_one_beyond() {
         for (name, t) in [("at", bound), ("beyond", bound + 1)] {
             let mut expected = vec![0; 64];
             expected[0] = t;
-            assert_eq!(d(&run(number, name)), expected);
+            assert_eq!(d_of(&run(number, name)), expected);
         }
     }
 }

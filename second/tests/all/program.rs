@@ -27,6 +27,16 @@ fn line() {
 }
 
 #[test]
+fn trace() {
+    let output = run(&["trace"], b"scheme=2\nslack=7\n");
+    assert!(output.status.success());
+    assert_eq!(output.stdout, b"scheme=2\nexchanges=1\nsum=7\nlargest=7\n");
+    let output = run(&["trace"], b"scheme=2\n");
+    assert!(output.status.success());
+    assert_eq!(output.stdout, b"refusal=8\n");
+}
+
+#[test]
 fn cards() {
     let output = run(&["cards"], b"");
     assert!(output.status.success());
@@ -54,6 +64,7 @@ fn help_for_a_wrong_word() {
         &[][..],
         &["lines"],
         &["line", "cards"],
+        &["trace", "x"],
         &["margins", "at"],
         &["vectors", ""],
         &[""],
@@ -62,7 +73,7 @@ fn help_for_a_wrong_word() {
         assert_eq!(output.status.code(), Some(2));
         assert!(output.stdout.is_empty());
         let help = String::from_utf8(output.stderr).unwrap();
-        for word in ["line", "cards", "margins", "vectors"] {
+        for word in ["line", "trace", "cards", "margins", "vectors"] {
             assert!(help.contains(&format!("second {word} ")));
         }
     }

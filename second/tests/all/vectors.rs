@@ -3,8 +3,8 @@
 use crate::program::run;
 use crate::refusals::start;
 use second::packing::unpack;
-use second::schemes::{FRODO_CHALLENGE, NEWHOPE, SIX};
-use second::vectors::cases::{of_blank, of_exchange, Case};
+use second::schemes::{Family, FRODO_CHALLENGE, NEWHOPE, SIX};
+use second::vectors::cases::{of_blank, of_exchange, of_slack, Case};
 use second::vectors::draw::{drawn, Entries, Stream};
 use second::vectors::good::Lists;
 use second::vectors::input::Input;
@@ -24,11 +24,12 @@ fn lines() -> &'static [String] {
     })
 }
 
-/// The lines of a call in a scheme, the wide case and the blank ones apart.
+/// The lines of a call in a scheme that are counted: neither the wide case nor
+/// the blank ones nor those of the slack.
 fn of(call: &str, scheme: usize) -> Vec<&'static str> {
     starting(&format!("{call} scheme={scheme} case="))
         .into_iter()
-        .filter(|line| !line.contains("case=wide") && !line.contains("case=blank"))
+        .filter(|line| under(line, "case").parse::<usize>().is_ok())
         .collect()
 }
 
@@ -169,7 +170,11 @@ fn how_many_cases() {
             assert_eq!(blank.len(), count);
         }
     }
-    assert_eq!(lines().len(), 2767);
+    for scheme in 0..6 {
+        let slack = starting(&format!("finish scheme={scheme} case=slack"));
+        assert_eq!(slack.len(), 3);
+    }
+    assert_eq!(lines().len(), 2785);
 }
 
 #[test]
@@ -188,6 +193,8 @@ fn the_order_of_the_lines() {
             let blank = |case| format!("{call} scheme={scheme} case=blank{case} ");
             expected.extend((0..count).map(blank));
         }
+        let slack = |case| format!("finish scheme={scheme} case=slack{case} ");
+        expected.extend((0..3).map(slack));
     }
     for (call, count) in [("expand", 58), ("grow", 17)] {
         let rules = [
@@ -214,8 +221,9 @@ fn the_form_of_a_line() {
         "offer scheme=1 case=0 refusal=0 place=0 written=1824 message=",
         "reply scheme=1 case=0 refusal=0 place=0 message_written=2048 key_written=32 \
          digest_written=32 message=",
-        "finish scheme=1 case=0 refusal=0 place=0 key_written=32 digest_written=32 key=",
-        "bench scheme=1 case=0 refusal=0 place=0 differ=0",
+        "finish scheme=1 case=0 refusal=0 place=0 key_written=32 digest_written=32 slack=0 \
+         slack_index=0 key=",
+        "bench scheme=1 case=0 refusal=0 place=0 differ=0 slack=0 slack_index=0",
         "noise scheme=1 case=0 refusal=0 place=0 written=1024 values=",
         "grow rule=14 case=0 refusal=0 place=0 written=1024 numbers=",
         "shake128 case=0 refusal=0 place=0 written=200 bytes=",
@@ -428,6 +436,61 @@ fn one_byte_of_a_blank_message_is_1() {
                 expected[start..start + m].fill(0);
                 expected[start + at] = 1;
                 assert_eq!(lent(&good, case)[0], expected);
+            }
+        }
+    }
+}
+
+#[test]
+fn slack_is_told_where_there_is_one() {
+    for line in starting("finish ").into_iter().chain(starting("bench ")) {
+        let [number, slack, index] = ["refusal", "slack", "slack_index"]
+            .map(|name| under(line, name).parse::<u64>().unwrap());
+        let scheme = &SIX[under(line, "scheme").parse::<usize>().unwrap()];
+        let (most, entries) = match scheme.family {
+            Family::Bcns => (1 << 30, 1024),
+            Family::NewHope => (0, 1),
+            Family::Frodo => ((scheme.q as u64 >> scheme.b.unwrap()) / 4, 64),
+        };
+        assert!(slack <= most && index < entries, "{line}");
+        if number != 0 {
+            assert_eq!((slack, index), (0, 0), "{line}");
+        }
+    }
+}
+
+#[test]
+fn hints_that_the_replier_did_not_send() {
+    for (number, scheme) in SIX.iter().enumerate() {
+        let lists = Lists::drawn(scheme);
+        let good = lists.finish((0..scheme.reply_bytes()).map(|i| i as i64 % 256).collect());
+        let start = scheme.packed_bytes();
+        let before = &good.inputs[0].entries;
+        for (case, hints) in of_slack(&good).iter().zip(0..) {
+            let reply = &lent(&good, case)[0];
+            assert_eq!(reply.len(), scheme.reply_bytes());
+            assert_eq!(reply[..start], before[..start]);
+            for (other, byte) in reply[start..].iter().zip(&before[start..]) {
+                assert_eq!(*other, [255 - byte, 0, 255][hints]);
+            }
+        }
+        // They are accepted, and far from the replier's value.
+        let lines = starting(&format!("finish scheme={number} case=slack"));
+        assert_eq!(told(&lines), [GOOD; 3]);
+        for line in lines {
+            let slack: u64 = under(line, "slack").parse().unwrap();
+            assert_eq!(slack == 0, scheme.family == Family::NewHope);
+        }
+    }
+}
+
+#[test]
+fn bench_passes_finishs_slack_on() {
+    for scheme in 0..6 {
+        for case in ["0", "wide"] {
+            let one = |call: &str| starting(&format!("{call} scheme={scheme} case={case} "))[0];
+            for name in ["slack", "slack_index"] {
+                assert_eq!(under(one("bench"), name), under(one("finish"), name));
             }
         }
     }
