@@ -64,16 +64,17 @@
  * After a success the answer stands at the start of its output, its length, in entries of that
  * output, in *written (where there are several, in the count with the output's name), and the rest
  * of the output is zero. An output may be longer than the answer. After a refusal each output is
- * zero from end to end, whatever it held, and each count is 0.
+ * zero from end to end, whatever it held, and each count and other number is 0.
  *
  *
  * WHAT A CALLER MUST SEE TO
  *
  * - Each pointer is valid for its length and aligned for its type. Where the length is 0 it may be
- *   null, as an empty vector's may be; this is tested for every slice (examples/c/empty.c). place
- *   and the counts each point to one number. A length counts entries, not bytes.
- * - No output, place or count shares memory with another argument. Inputs may share memory with
- *   each other.
+ *   null, as an empty vector's may be; this is tested for every slice (examples/c/empty.c). place,
+ *   the counts, differ, slack and slack_index each point to one number. A length counts entries,
+ *   not bytes.
+ * - No output and none of these numbers shares memory with another argument. Inputs may share
+ *   memory with each other.
  * - No other thread writes to what is lent, or touches an output, during a call.
  * - There is stack for the call: WIM_STACK bytes are enough, and for wim_scrub WIM_SCRUB_STACK.
  *
@@ -98,6 +99,23 @@
  *   overwrites them; and the caller's own buffers are the caller's to wipe.
  * - Time. Nothing is promised about how long a call takes, nor that its time does not depend on
  *   secrets; SECRETS AND TIME below has what was measured.
+ *
+ *
+ * SLACK
+ *
+ * wim_finish and wim_bench tell how near an exchange came to failing. In Frodo the slack of an
+ * entry is how far the initiator's value w lies, around the circle of q, from the nearest value
+ * that has the entry's hint; in BCNS it is how far 2w lies, around the circle of 2q, from the
+ * nearest value below 2q that has it. It is 0 exactly where the own value has the hint. *slack is
+ * the largest over all entries and *slack_index the first entry that has it; both are 0 in NewHope
+ * and after a refusal.
+ *
+ * Since the replier's value has the hint, the two values lay at least so far apart. WIM_X_MARGIN is
+ * the largest distance, in the same unit, at which the two keys are still proved to agree: a slack
+ * near it is a warning. A small one proves nothing, since a value past the margin may lie near
+ * another value with the same hint. In BCNS an exchange with unaltered messages stays below
+ * 10653800, a hundredth of the margin. The slack is made of s and belongs in the own log, not in
+ * the peer's.
  *
  *
  * STACK
@@ -197,6 +215,7 @@ extern "C" {
  *     WIM_X_KEY      bytes of the key
  *     WIM_X_S_BYTES  random bytes from which wim_noise makes one of s, e, s' and e' (0: none)
  *     WIM_X_E2_BYTES random bytes from which wim_noise makes e'' (0: none)
+ *     WIM_X_MARGIN   the margin of the slack (0: NewHope has no slack)
  *
  * WIM_MAX_.. is the largest over all schemes: buffers of these sizes serve each of them.
  */
@@ -212,6 +231,7 @@ extern "C" {
 #define WIM_BCNS_KEY 128
 #define WIM_BCNS_S_BYTES 0
 #define WIM_BCNS_E2_BYTES 0
+#define WIM_BCNS_MARGIN 1073741823
 
 #define WIM_NEWHOPE_Q 12289u
 #define WIM_NEWHOPE_NOISE 16
@@ -225,6 +245,7 @@ extern "C" {
 #define WIM_NEWHOPE_KEY 32
 #define WIM_NEWHOPE_S_BYTES 4096
 #define WIM_NEWHOPE_E2_BYTES 4096
+#define WIM_NEWHOPE_MARGIN 0
 
 #define WIM_FRODO_CHALLENGE_Q 2048u
 #define WIM_FRODO_CHALLENGE_NOISE 3
@@ -238,6 +259,7 @@ extern "C" {
 #define WIM_FRODO_CHALLENGE_KEY 8
 #define WIM_FRODO_CHALLENGE_S_BYTES 5632
 #define WIM_FRODO_CHALLENGE_E2_BYTES 128
+#define WIM_FRODO_CHALLENGE_MARGIN 256
 
 #define WIM_FRODO_CLASSICAL_Q 4096u
 #define WIM_FRODO_CLASSICAL_NOISE 4
@@ -251,6 +273,7 @@ extern "C" {
 #define WIM_FRODO_CLASSICAL_KEY 16
 #define WIM_FRODO_CLASSICAL_S_BYTES 9472
 #define WIM_FRODO_CLASSICAL_E2_BYTES 128
+#define WIM_FRODO_CLASSICAL_MARGIN 256
 
 #define WIM_FRODO_RECOMMENDED_Q 32768u
 #define WIM_FRODO_RECOMMENDED_NOISE 5
@@ -264,6 +287,7 @@ extern "C" {
 #define WIM_FRODO_RECOMMENDED_KEY 32
 #define WIM_FRODO_RECOMMENDED_S_BYTES 12032
 #define WIM_FRODO_RECOMMENDED_E2_BYTES 128
+#define WIM_FRODO_RECOMMENDED_MARGIN 512
 
 #define WIM_FRODO_PARANOID_Q 32768u
 #define WIM_FRODO_PARANOID_NOISE 6
@@ -277,6 +301,7 @@ extern "C" {
 #define WIM_FRODO_PARANOID_KEY 32
 #define WIM_FRODO_PARANOID_S_BYTES 13824
 #define WIM_FRODO_PARANOID_E2_BYTES 128
+#define WIM_FRODO_PARANOID_MARGIN 512
 
 #define WIM_MAX_A 746496
 #define WIM_MAX_S 6912
@@ -332,15 +357,17 @@ WIM_MUST_USE uint32_t wim_reply(uint32_t scheme, const uint8_t *opening, size_t 
                                 uint64_t *key_written, uint64_t *digest_written);
 
 /*
- * Finish: scheme, reply message, secret s. Gives the initiator's key and the key's SHA3-256.
- * Refuses with 1, 2, 3, 5, 17, 6, in this order; of 3, the key's room is tested first.
+ * Finish: scheme, reply message, secret s. Gives the initiator's key and the key's SHA3-256, and in
+ * *slack and *slack_index how near the exchange came to failing (see SLACK). Refuses with 1, 2, 3,
+ * 5, 17, 6, in this order; of 3, the key's room is tested first.
  */
 WIM_MUST_USE uint32_t wim_finish(uint32_t scheme, const uint8_t *reply, size_t reply_len,
                                  const int32_t *s, size_t s_len,
                                  uint8_t *key, size_t key_len,
                                  uint8_t *digest, size_t digest_len,
                                  uint64_t *place, uint64_t *key_written,
-                                 uint64_t *digest_written);
+                                 uint64_t *digest_written,
+                                 uint64_t *slack, uint64_t *slack_index);
 
 /*
  * Noise: scheme, random bytes. Gives WIM_X_S values from WIM_X_S_BYTES bytes, WIM_X_E2 values from
@@ -387,9 +414,9 @@ WIM_MUST_USE uint32_t wim_sha3_256(const uint8_t *input, size_t input_len,
 /*
  * Bench: both ends on lent secrets, the initiator's s, e and seed and the replier's s', e', e''
  * and coins. *differ is 0 where the two keys agree, and else 1 + the first differing bit, counted
- * lowest first through the bytes. Messages and keys stay inside, so that there is no output.
- * Refuses with 1, 2, 4, 6, 17: all of Offer's tests come first, then Reply's. After a refusal
- * *differ is 0.
+ * lowest first through the bytes. *slack and *slack_index are those of wim_finish, whether the keys
+ * agree or differ. Messages and keys stay inside, so that there is no output. Refuses with 1, 2, 4,
+ * 6, 17: all of Offer's tests come first, then Reply's. After a refusal *differ is 0.
  */
 WIM_MUST_USE uint32_t wim_bench(uint32_t scheme, const uint32_t *a, size_t a_len,
                                 const int32_t *s, size_t s_len, const int32_t *e, size_t e_len,
@@ -398,7 +425,8 @@ WIM_MUST_USE uint32_t wim_bench(uint32_t scheme, const uint32_t *a, size_t a_len
                                 const int32_t *e1, size_t e1_len,
                                 const int32_t *e2, size_t e2_len,
                                 const uint8_t *coins, size_t coins_len,
-                                uint64_t *place, uint64_t *differ);
+                                uint64_t *place, uint64_t *differ,
+                                uint64_t *slack, uint64_t *slack_index);
 
 /*
  * Overwrites what a call may have left on the stack below the caller's frame; see STACK above. The

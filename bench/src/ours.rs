@@ -10,11 +10,12 @@ impl Ours<'_> {
     /// Whether both ends have one key.
     pub fn bench(&self) -> bool {
         let l = self.0;
-        wimmostry::raw::bench(l.number(), &l.a, &l.s, &l.e, &l.seed, &l.s1, &l.e1, &l.e2, &l.coins) == Ok(Bench::Agree)
+        let done = wimmostry::raw::bench(l.number(), &l.a, &l.s, &l.e, &l.seed, &l.s1, &l.e1, &l.e2, &l.coins);
+        matches!(done, Ok((Bench::Agree, _)))
     }
 }
 
-/// The digest of the key comes beside it.
+/// The digest of the key and the slack come beside it.
 impl Calls for Ours<'_> {
     fn offer(&self, message: &mut [u8]) {
         let l = self.0;

@@ -104,11 +104,11 @@ static Bytes reply(Random &random, const Opening &opening, Reply &message)
 static Bytes finish(const Reply &message, const Secret &s)
 {
     Bytes key(WIM_NEWHOPE_KEY), digest(DIGEST);
-    uint64_t place, key_written, digest_written;
+    uint64_t place, key_written, digest_written, slack, slack_index;
 
     uint32_t refusal = wim_finish(WIM_NEWHOPE, message.data(), message.size(), s.data(), s.size(),
                                   key.data(), key.size(), digest.data(), digest.size(), &place,
-                                  &key_written, &digest_written);
+                                  &key_written, &digest_written, &slack, &slack_index);
     wim_scrub();
     accept(refusal);
     return digest;

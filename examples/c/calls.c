@@ -24,7 +24,7 @@ static uint32_t finish(struct lent *l)
 
     return wim_finish(x->number, l->reply, x->reply, l->s, x->s, l->peer_key, sizeof l->peer_key,
                       l->peer_digest, sizeof l->peer_digest, &l->place, &l->key_written,
-                      &l->digest_written);
+                      &l->digest_written, &l->slack, &l->slack_index);
 }
 
 static uint32_t noise(struct lent *l)
@@ -77,7 +77,8 @@ static uint32_t bench(struct lent *l)
     const struct scheme *x = l->scheme;
 
     return wim_bench(x->number, l->a, x->a, l->s, x->s, l->e, x->s, l->seed, x->seed, l->s1, x->s,
-                     l->e1, x->s, l->e2, x->e2, l->coins, x->coins, &l->place, &l->differ);
+                     l->e1, x->s, l->e2, x->e2, l->coins, x->coins, &l->place, &l->differ,
+                     &l->slack, &l->slack_index);
 }
 
 const struct call calls[CALLS] = {

@@ -15,7 +15,7 @@ struct lent {
     uint8_t key[WIM_MAX_KEY], peer_key[WIM_MAX_KEY];
     uint8_t digest[WIM_DIGEST], peer_digest[WIM_DIGEST];
     uint8_t shaken[500], hashed[WIM_DIGEST];
-    uint64_t place, written, key_written, digest_written, differ;
+    uint64_t place, written, key_written, digest_written, differ, slack, slack_index;
 };
 
 struct call {

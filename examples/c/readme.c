@@ -5,6 +5,7 @@
 
 enum { N = WIM_NEWHOPE_S, NEWHOPE = WIM_NEWHOPE, RULE = WIM_RULE_LOW_BITS };
 static uint64_t place, n, key_n, digest_n; /* where a refusal is, and how long answers are */
+static uint64_t slack, slack_index;        /* how near to failing: in NewHope always 0 */
 
 /* s, e, s', e' or e'' from the system's random bytes. */
 static uint32_t draw(FILE *random, int32_t *out)
@@ -43,7 +44,8 @@ int main(void)
                         &place, &n, &key_n, &digest_n)) != WIM_DONE ||
         /* the initiator's, in the same room */
         (no = wim_finish(NEWHOPE, reply, sizeof reply, s, N, key, sizeof key, peer_digest,
-                         sizeof peer_digest, &place, &key_n, &digest_n)) != WIM_DONE)
+                         sizeof peer_digest, &place, &key_n, &digest_n, &slack, &slack_index)) !=
+            WIM_DONE)
         fprintf(stderr, "refused: %s\n", wim_refusal_text(no));
     else
         puts(memcmp(digest, peer_digest, WIM_DIGEST) == 0 ? "the keys agree" : "the keys differ");

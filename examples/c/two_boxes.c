@@ -21,6 +21,7 @@ struct box {
     int line;
     uint32_t *a;
     uint8_t key[WIM_MAX_KEY], digest[WIM_DIGEST];
+    uint64_t slack; /* the initiator's */
     const char *failed;
 };
 
@@ -52,7 +53,7 @@ static int receive_all(int line, uint8_t *bytes, size_t count)
 static const char *initiate(struct box *box)
 {
     const struct scheme *x = box->scheme;
-    uint64_t state = 1, place, written, key_written;
+    uint64_t state = 1, place, written, key_written, slack_index;
     int32_t s[WIM_MAX_S], e[WIM_MAX_S];
     uint8_t seed[WIM_MAX_SEED], opening[WIM_MAX_OPENING], reply[WIM_MAX_REPLY];
     uint32_t refusal;
@@ -70,7 +71,8 @@ static const char *initiate(struct box *box)
     if (!send_all(box->line, opening, written) || !receive_all(box->line, reply, x->reply))
         return "the initiator's line";
     refusal = wim_finish(x->number, reply, x->reply, s, x->s, box->key, sizeof box->key,
-                         box->digest, sizeof box->digest, &place, &key_written, &written);
+                         box->digest, sizeof box->digest, &place, &key_written, &written,
+                         &box->slack, &slack_index);
     wim_scrub();
     return refusal == WIM_DONE ? NULL : wim_refusal_text(refusal);
 }
@@ -138,13 +140,16 @@ static const char *run(struct box *one, struct box *other)
     return memcmp(one->digest, other->digest, WIM_DIGEST) == 0 ? NULL : "the digests differ";
 }
 
-/* What both boxes can show of their key. */
+/* What both boxes can show of their key, and how near to failing the initiator saw it. */
 static void show(const struct box *box)
 {
     printf("%s: both boxes have a key of %zu bytes with the digest ", box->scheme->name,
            box->scheme->key);
     for (size_t i = 0; i < WIM_DIGEST; i++)
         printf("%02x", box->digest[i]);
+    if (box->scheme->margin != 0)
+        printf(", slack %llu of %llu", (unsigned long long)box->slack,
+               (unsigned long long)box->scheme->margin);
     putchar('\n');
 }
 

@@ -1,5 +1,6 @@
 //! The two ends of an exchange, each of which takes its secrets for good.
 
+use crate::raw::Slack;
 use crate::{raw, Digest, Key, Refusal, Scheme, Secret};
 
 /// The initiator after its offer: it holds s until [`finish`](Initiator::finish)
@@ -52,6 +53,8 @@ pub struct Finished<'k> {
     pub key: Key<'k>,
     /// Its SHA3-256.
     pub digest: Digest,
+    /// How near the exchange came to failing.
+    pub slack: Slack,
 }
 
 impl<'s> Initiator<'s> {
@@ -84,7 +87,7 @@ impl<'s> Initiator<'s> {
     }
 
     /// Finish: reply message. Writes the initiator's key to `key`, which may be
-    /// longer, and gives its digest. s is wiped.
+    /// longer, and gives its digest and the slack. s is wiped.
     ///
     /// # Errors
     ///
@@ -92,7 +95,7 @@ impl<'s> Initiator<'s> {
     /// never, since the offer has tested s. s is wiped, and the exchange is over.
     pub fn finish<'k>(self, reply: &[u8], key: &'k mut [u8]) -> Result<Finished<'k>, Refusal> {
         let mut digest = [0; 32];
-        let (written, _) = raw::finish(
+        let (written, _, slack) = raw::finish(
             self.scheme.number(),
             reply,
             self.s.entries(),
@@ -102,6 +105,7 @@ impl<'s> Initiator<'s> {
         Ok(Finished {
             key: Key::new(&mut key[..written]),
             digest: Digest(digest),
+            slack,
         })
     }
 }

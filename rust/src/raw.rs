@@ -19,6 +19,20 @@ fn told<T>(number: u32, place: u64, answer: T) -> Result<T, Refusal> {
     }
 }
 
+/// How near an exchange came to failing, in BCNS and Frodo: how far the
+/// initiator's value w (in BCNS twice it, around 2q) lies from the nearest value
+/// that has the entry's hint. In NewHope it is 0 at index 0.
+///
+/// The replier's value lay at least so far away. Near
+/// [`margin`](crate::Sizes::margin) it is a warning; a small one proves nothing.
+#[derive(Clone, Copy, Debug, Default, PartialEq, Eq, Hash)]
+pub struct Slack {
+    /// The largest over all entries.
+    pub largest: u64,
+    /// The first entry that has it.
+    pub index: usize,
+}
+
 /// A count or an index: the archive keeps them in 64 bits.
 pub(crate) fn count(n: u64) -> usize {
     usize::try_from(n).expect("no more than a slice has")
@@ -140,7 +154,8 @@ pub fn reply(
 }
 
 /// Finish: scheme, reply message, secret s. Gives the initiator's key and the
-/// key's SHA3-256, and how many bytes of `key` and of `digest` they take.
+/// key's SHA3-256, how many bytes of `key` and of `digest` they take, and the
+/// [`Slack`].
 ///
 /// # Errors
 ///
@@ -152,8 +167,9 @@ pub fn finish(
     s: &[i32],
     key: &mut [u8],
     digest: &mut [u8],
-) -> Result<(usize, usize), Refusal> {
+) -> Result<(usize, usize, Slack), Refusal> {
     let (mut place, mut key_written, mut digest_written) = (0, 0, 0);
+    let (mut largest, mut index) = (0, 0);
     // SAFETY: each pointer and length are those of one slice, and place and the
     // counts are numbers of this frame. No output shares memory with anything
     // else, since it is borrowed mutably.
@@ -171,10 +187,18 @@ pub fn finish(
             &mut place,
             &mut key_written,
             &mut digest_written,
+            &mut largest,
+            &mut index,
         )
     };
     scrub();
-    told(number, place, (count(key_written), count(digest_written)))
+    let index = count(index);
+    let slack = Slack { largest, index };
+    told(
+        number,
+        place,
+        (count(key_written), count(digest_written), slack),
+    )
 }
 
 /// Noise: scheme, random bytes. Gives as many values as the bytes make, which
@@ -314,7 +338,8 @@ pub enum Bench {
 }
 
 /// Bench: both ends on lent secrets, the initiator's s, e and seed and the
-/// replier's s', e', e'' and coins. Messages and keys stay inside.
+/// replier's s', e', e'' and coins. Messages and keys stay inside. The [`Slack`]
+/// is Finish's, whether the keys agree or differ.
 ///
 /// # Errors
 ///
@@ -330,8 +355,9 @@ pub fn bench(
     e1: &[i32],
     e2: &[i32],
     coins: &[u8],
-) -> Result<Bench, Refusal> {
+) -> Result<(Bench, Slack), Refusal> {
     let (mut place, mut differ) = (0, 0);
+    let (mut largest, mut index) = (0, 0);
     // SAFETY: each pointer and length are those of one slice, and place and the
     // counts are numbers of this frame. No output shares memory with anything
     // else, since it is borrowed mutably.
@@ -356,6 +382,8 @@ pub fn bench(
             coins.len(),
             &mut place,
             &mut differ,
+            &mut largest,
+            &mut index,
         )
     };
     scrub();
@@ -363,5 +391,6 @@ pub fn bench(
         0 => Bench::Agree,
         bit => Bench::Differ(bit - 1),
     };
-    told(number, place, found)
+    let index = count(index);
+    told(number, place, (found, Slack { largest, index }))
 }

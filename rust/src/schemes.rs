@@ -45,6 +45,9 @@ pub struct Sizes {
     pub s_bytes: usize,
     /// Random bytes for e''; 0 in BCNS.
     pub e2_bytes: usize,
+    /// How far apart the two values may lie, in the unit of the slack, for keys
+    /// that are proved to agree; 0 in NewHope, which has no slack.
+    pub margin: u64,
 }
 
 impl Scheme {
@@ -91,6 +94,7 @@ impl Scheme {
                 key: 128,
                 s_bytes: 0,
                 e2_bytes: 0,
+                margin: 1073741823,
             },
             Scheme::NewHope => Sizes {
                 q: 12289,
@@ -105,6 +109,7 @@ impl Scheme {
                 key: 32,
                 s_bytes: 4096,
                 e2_bytes: 4096,
+                margin: 0,
             },
             Scheme::FrodoChallenge => frodo(352, 2048, 3, 11, 8),
             Scheme::FrodoClassical => frodo(592, 4096, 4, 12, 16),
@@ -114,7 +119,8 @@ impl Scheme {
     }
 }
 
-/// Frodo over n, q, the largest noise, the bits of a packed number and the key.
+/// Frodo over n, q, the largest noise, the bits of a packed number and the key,
+/// whose bits tell the margin: a quarter of the rounding interval.
 const fn frodo(n: usize, q: u32, noise: i32, width: usize, key: usize) -> Sizes {
     Sizes {
         q,
@@ -129,6 +135,7 @@ const fn frodo(n: usize, q: u32, noise: i32, width: usize, key: usize) -> Sizes 
         key,
         s_bytes: 16 * n,
         e2_bytes: 128,
+        margin: (q >> (key / 8)) as u64 / 4,
     }
 }
 
@@ -147,6 +154,7 @@ impl Sizes {
         key: 128,
         s_bytes: 16 * 864,
         e2_bytes: 4096,
+        margin: 1073741823,
     };
 }
 

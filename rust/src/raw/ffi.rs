@@ -58,6 +58,8 @@ extern "C" {
         place: *mut u64,
         key_written: *mut u64,
         digest_written: *mut u64,
+        slack: *mut u64,
+        slack_index: *mut u64,
     ) -> u32;
     pub fn wim_noise(
         scheme: u32,
@@ -122,6 +124,8 @@ extern "C" {
         coins_len: usize,
         place: *mut u64,
         differ: *mut u64,
+        slack: *mut u64,
+        slack_index: *mut u64,
     ) -> u32;
     pub fn wim_scrub();
     pub fn wim_version() -> *const c_char;

@@ -230,21 +230,23 @@ fn finish(g: &mut Generator, ready: &Ready) -> u32 {
     let (mut expected, mut expected_digest) = (g.bytes(room), g.bytes(digest_room));
     let mut key = Lent::new(&expected, 9);
     let mut digest = Lent::new(&expected_digest, 9);
+    let answer = wimmostry::raw::finish(
+        scheme,
+        lreply.entries(),
+        ls.entries(),
+        key.entries_mut(),
+        digest.entries_mut(),
+    );
+    let expects = second::calls::finish(
+        scheme.into(),
+        &reply,
+        &s,
+        &mut expected,
+        &mut expected_digest,
+    );
     let told = same(
-        wimmostry::raw::finish(
-            scheme,
-            lreply.entries(),
-            ls.entries(),
-            key.entries_mut(),
-            digest.entries_mut(),
-        ),
-        second::calls::finish(
-            scheme.into(),
-            &reply,
-            &s,
-            &mut expected,
-            &mut expected_digest,
-        ),
+        answer.map(|(k, d, slack)| (k, d, slack.largest, slack.index)),
+        expects.map(|(k, d, slack)| (k, d, slack.largest, slack.index)),
     );
     key.holds(&expected);
     digest.holds(&expected_digest);
@@ -425,7 +427,10 @@ fn bench(g: &mut Generator, ready: &Ready) -> u32 {
         lcoins.entries(),
     );
     let expected = second::calls::bench(scheme.into(), &a, &s, &e, &seed, &s1, &e1, &e2, &coins);
-    let told = same(answer.map(differing), expected.map(second_differing));
+    let told = same(
+        answer.map(|(found, slack)| (differing(found), slack.largest, slack.index)),
+        expected.map(|(found, slack)| (second_differing(found), slack.largest, slack.index)),
+    );
     la.holds(&a);
     ls.holds(&s);
     le.holds(&e);

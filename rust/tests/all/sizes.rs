@@ -2,7 +2,8 @@
 //! program's.
 
 use second::noise::lengths;
-use second::schemes::{Scheme, SIX};
+use second::reconcile::{bcns, frodo};
+use second::schemes::{Family, Scheme, SIX};
 use std::collections::HashMap;
 
 /// The header's numbers by name.
@@ -36,7 +37,17 @@ fn expected(s: &Scheme) -> Vec<(&'static str, u64)> {
         ("KEY", s.key_bytes as u64),
         ("S_BYTES", noise[0] as u64),
         ("E2_BYTES", noise[noise.len() - 1] as u64),
+        ("MARGIN", margin(s)),
     ]
+}
+
+/// In the unit of the slack: what the reconciliation bears.
+fn margin(s: &Scheme) -> u64 {
+    match s.family {
+        Family::Bcns => bcns::Rule::of(s).reach as u64,
+        Family::NewHope => 0,
+        Family::Frodo => frodo::Rule::of(s).interval() as u64 / 4,
+    }
 }
 
 #[test]
@@ -53,7 +64,7 @@ fn of_the_header() {
         }
     }
     for (name, largest) in most {
-        if name != "Q" && name != "NOISE" {
+        if !["Q", "NOISE", "MARGIN"].contains(&name) {
             assert_eq!(header[format!("MAX_{name}").as_str()], largest);
         }
     }
@@ -79,6 +90,7 @@ fn of_this_package() {
         assert_eq!(header[prefix.as_str()], u64::from(scheme.number()));
         assert_eq!(of("Q"), u64::from(sizes.q));
         assert_eq!(of("NOISE"), sizes.noise as u64);
+        assert_eq!(of("MARGIN"), sizes.margin);
         let counts = [
             ("A", sizes.a),
             ("S", sizes.s),

@@ -17,6 +17,7 @@ fn exchange(mut i: Inputs) {
     let expected_opening = i.opening();
     let (expected_reply, expected_key) = i.reply_and_key(&expected_opening);
     let expected_digest = second::hash::sha3_256(&expected_key);
+    let expected_slack = i.slack(&expected_reply);
 
     let (mut room, mut message) = (vec![9; sizes.opening + 3], vec![9; sizes.reply + 3]);
     let (mut key, mut peer_key) = (vec![9; sizes.key + 3], vec![9; sizes.key + 3]);
@@ -49,6 +50,8 @@ fn exchange(mut i: Inputs) {
         .expect("good inputs");
     assert_eq!(finished.key.bytes(), replied.key.bytes());
     assert_eq!(finished.digest, replied.digest);
+    assert_eq!(finished.slack.largest, expected_slack.largest);
+    assert_eq!(finished.slack.index, expected_slack.index);
     assert_eq!(i.s, vec![0; sizes.s], "s is wiped by finish");
     assert_eq!(format!("{:?}", finished.key), "Key(..)");
     drop((finished, replied));
