@@ -5,16 +5,27 @@
 use crate::data::Data;
 use wimmostry::{raw, Digest, Refusal, Rule, Scheme};
 
-pub use wimmostry::Sizes;
+pub use wimmostry::raw::Bench;
+pub use wimmostry::{Sizes, Slack};
 
 /// What a call answered.
-pub enum Answer {
+pub struct Answer {
     /// How many entries of each output.
-    Written(Vec<usize>),
-    /// The two keys agree.
-    Agree,
-    /// The first key bit that differs.
-    Differ(usize),
+    pub written: Vec<usize>,
+    /// Of bench, whether the two keys agree.
+    pub keys: Option<Bench>,
+    /// Of finish and bench, how near the exchange came to failing.
+    pub slack: Option<Slack>,
+}
+
+impl Answer {
+    fn written(written: &[usize]) -> Answer {
+        Answer {
+            written: written.to_vec(),
+            keys: None,
+            slack: None,
+        }
+    }
 }
 
 /// A refusal by its number and its place.
@@ -90,7 +101,7 @@ pub fn offer(scheme: u32, given: &[&Data], out: &mut [Data]) -> Result<Answer, R
         given[3].bytes(),
         out[0].bytes_mut(),
     );
-    ended(done.map(|n| Answer::Written(vec![n])))
+    ended(done.map(|n| Answer::written(&[n])))
 }
 
 pub fn reply(scheme: u32, given: &[&Data], out: &mut [Data]) -> Result<Answer, Refused> {
@@ -107,7 +118,7 @@ pub fn reply(scheme: u32, given: &[&Data], out: &mut [Data]) -> Result<Answer, R
         key.bytes_mut(),
         digest.bytes_mut(),
     );
-    ended(done.map(|(m, k, d)| Answer::Written(vec![m, k, d])))
+    ended(done.map(|(m, k, d)| Answer::written(&[m, k, d])))
 }
 
 pub fn finish(scheme: u32, given: &[&Data], out: &mut [Data]) -> Result<Answer, Refused> {
@@ -119,32 +130,35 @@ pub fn finish(scheme: u32, given: &[&Data], out: &mut [Data]) -> Result<Answer, 
         key.bytes_mut(),
         digest.bytes_mut(),
     );
-    ended(done.map(|(k, d)| Answer::Written(vec![k, d])))
+    ended(done.map(|(k, d, slack)| Answer {
+        slack: Some(slack),
+        ..Answer::written(&[k, d])
+    }))
 }
 
 pub fn noise(scheme: u32, given: &[&Data], out: &mut [Data]) -> Result<Answer, Refused> {
     let done = raw::noise(scheme, given[0].bytes(), out[0].values_mut());
-    ended(done.map(|n| Answer::Written(vec![n])))
+    ended(done.map(|n| Answer::written(&[n])))
 }
 
 pub fn expand(rule: u32, given: &[&Data], out: &mut [Data]) -> Result<Answer, Refused> {
     let done = raw::expand(rule, given[0].bytes(), out[0].numbers_mut());
-    ended(done.map(|n| Answer::Written(vec![n])))
+    ended(done.map(|n| Answer::written(&[n])))
 }
 
 pub fn grow(rule: u32, given: &[&Data], out: &mut [Data]) -> Result<Answer, Refused> {
     let done = raw::grow(rule, given[0].bytes(), out[0].numbers_mut());
-    ended(done.map(|n| Answer::Written(vec![n])))
+    ended(done.map(|n| Answer::written(&[n])))
 }
 
 pub fn shake128(_: u32, given: &[&Data], out: &mut [Data]) -> Result<Answer, Refused> {
     let done = raw::shake128(given[0].bytes(), out[0].bytes_mut());
-    ended(done.map(|n| Answer::Written(vec![n])))
+    ended(done.map(|n| Answer::written(&[n])))
 }
 
 pub fn sha3_256(_: u32, given: &[&Data], out: &mut [Data]) -> Result<Answer, Refused> {
     let done = raw::sha3_256(given[0].bytes(), out[0].bytes_mut());
-    ended(done.map(|n| Answer::Written(vec![n])))
+    ended(done.map(|n| Answer::written(&[n])))
 }
 
 pub fn bench(scheme: u32, given: &[&Data], _: &mut [Data]) -> Result<Answer, Refused> {
@@ -159,8 +173,9 @@ pub fn bench(scheme: u32, given: &[&Data], _: &mut [Data]) -> Result<Answer, Ref
         given[6].values(),
         given[7].bytes(),
     );
-    ended(done.map(|found| match found {
-        raw::Bench::Agree => Answer::Agree,
-        raw::Bench::Differ(bit) => Answer::Differ(bit),
+    ended(done.map(|(keys, slack)| Answer {
+        written: vec![],
+        keys: Some(keys),
+        slack: Some(slack),
     }))
 }

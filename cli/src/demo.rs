@@ -1,7 +1,8 @@
 //! A whole exchange in memory, on random bytes of the system: what is drawn,
-//! how long each call takes, the two messages as a picture, and the two keys.
+//! how long each call takes, the slack beside its margin, the two messages as a
+//! picture, and the two keys.
 
-use crate::calls::{self, Answer, Call, Refused, Sizes};
+use crate::calls::{self, Answer, Bench, Call, Refused, Sizes, Slack};
 use crate::calls::{DIGEST, EXPAND_NUMBERS, LOW_BITS, SCHEMES};
 use crate::data::{Data, Kind};
 use crate::draw::{self, BCNS, NEWHOPE};
@@ -15,7 +16,9 @@ pub const WORDS: &str = "  SCHEME   one scheme; without it all six\n";
 
 pub const MORE: &str = "\
 It needs no file and leaves none. Keys are not shown, but the digest of each, its SHA3-256, which
-is the same where the keys are. Whether they agree is what bench says of the same secrets.";
+is the same where the keys are. Whether they agree is what bench says of the same secrets. The
+slack is what finish says; the margin is how far apart the two values may lie for keys that are
+proved to agree, in the same unit.";
 
 pub fn run(given: &[OsString]) -> Done {
     let asked = match given.first() {
@@ -79,7 +82,7 @@ fn exchange(scheme: u32, sizes: &Sizes) -> Result<String, Fault> {
     let (_, reply_time) = timed(calls::reply, scheme, &lent, &mut replied);
     let [reply, own, own_digest] = replied;
     let mut finished = [bytes(sizes.key), bytes(DIGEST)];
-    let (_, finish_time) = timed(calls::finish, scheme, &[&reply, &s], &mut finished);
+    let (answer, finish_time) = timed(calls::finish, scheme, &[&reply, &s], &mut finished);
     let [key, digest] = finished;
     let all = [&a, &s, &e, &seed, &s1, &e1, &e2, &coins];
     let (found, _) = timed(calls::bench, scheme, &all, &mut []);
@@ -94,17 +97,29 @@ fn exchange(scheme: u32, sizes: &Sizes) -> Result<String, Fault> {
         format!("reply:  message of {} bytes, {reply_time} us", reply.len()),
         format!("        key of {} bytes", own.len()),
         format!("finish: key of {} bytes, {finish_time} us", key.len()),
+        format!("        {}", near(answer.slack.unwrap_or_default(), sizes)),
     ];
     rows.extend(picture(scheme, sizes));
     rows.push(format!("replier's key:   digest {}", hex(&own_digest)));
     rows.push(format!("initiator's key: digest {}", hex(&digest)));
-    rows.push(match found {
-        Answer::Differ(bit) => format!("keys differ at bit {bit}"),
+    rows.push(match found.keys {
+        Some(Bench::Differ(bit)) => format!("keys differ at bit {bit}"),
         _ => "keys agree".to_string(),
     });
     let name = calls::name(scheme).unwrap_or_default();
     let rows: String = rows.iter().map(|row| format!("  {row}\n")).collect();
     Ok(format!("scheme {scheme}, {name}\n{rows}"))
+}
+
+/// How near the exchange came to failing, beside what it bears.
+fn near(slack: Slack, sizes: &Sizes) -> String {
+    match sizes.margin {
+        0 => "no slack: NewHope has none".to_string(),
+        margin => {
+            let Slack { largest, index } = slack;
+            format!("slack {largest} of a margin of {margin}, at entry {index}")
+        }
+    }
 }
 
 fn public(scheme: u32) -> String {

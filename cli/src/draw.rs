@@ -1,7 +1,7 @@
 //! What an exchange needs of randomness: secrets and noise through Noise,
 //! public numbers below q, seed and coins.
 
-use crate::calls::{self, Answer, Refused, Sizes, SCHEMES};
+use crate::calls::{self, Refused, Sizes, SCHEMES};
 use crate::data::{Data, Kind, Wiped};
 use crate::escape::shown;
 use crate::files;
@@ -120,7 +120,7 @@ fn noise(scheme: u32, bytes: usize, values: usize) -> Result<Data, Fault> {
     let random = Data::Bytes(random::bytes(bytes)?);
     let mut out = [Data::zeros(Kind::Values, values)];
     match calls::noise(scheme, &[&random], &mut out) {
-        Ok(Answer::Written(counts)) if counts == [values] => {
+        Ok(answer) if answer.written == [values] => {
             let [out] = out;
             Ok(out)
         }

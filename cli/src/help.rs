@@ -83,13 +83,14 @@ touched: an old key is then still there. Nor is a file that is replaced overwrit
 wipe a key that must be gone. Outputs that are one file, or an input, are not taken; nor is a
 symbolic link, a pipe or a device, nor - where standard output is a terminal.
 
-Status 0: done; written=N (of reply and finish key_written=N and so on), agree or differ=I.
+Status 0: done; written=N (of reply and finish key_written=N and so on), agree or differ=I, of
+          finish and bench slack=N and slack_index=I.
 Status 1: refused; one line, as refusal=6 place=3 input=e value=7 largest=6
           1 no such scheme            4 a public number is q or more
          12 no such rule              5 a number of the message is q or more
           2 a wrong length           17 a message is blank: all its packed bytes are zero
           3 (not here)                6 a secret or noise is too large
-                                      7 the stream of expand or grow ran out
+          8 no trace (trace alone)    7 the stream of expand or grow ran out
           A blank message is an input, as a dead card sends it, or the answer, where a secret and
           its noise are zero.
           place counts from 0. A length of 33.. is 33 or more. To - nothing is written.

@@ -14,6 +14,7 @@ mod run;
 mod signals;
 mod table;
 mod tell;
+mod trace;
 mod wipe;
 mod words;
 

@@ -1,6 +1,6 @@
 //! A call on files: the words, the files, the call, the answer.
 
-use crate::calls::{self, Sizes};
+use crate::calls::Sizes;
 use crate::data::Data;
 use crate::files::{self, Lent, Named};
 use crate::outputs::{self, Answer};
@@ -37,10 +37,8 @@ pub fn run(own: &OnFiles, given: &[OsString]) -> Done {
     let done = (own.call)(asked, &data, &mut out);
     match done {
         Ok(answer) => {
-            if let calls::Answer::Written(counts) = &answer {
-                for (data, n) in out.iter_mut().zip(counts) {
-                    data.truncate(*n);
-                }
+            for (data, n) in out.iter_mut().zip(&answer.written) {
+                data.truncate(*n);
             }
             save(own, &targets, out, false)?;
             tell::say(voice(&targets), &tell::answer(own, &answer))?;

@@ -5,7 +5,7 @@ use crate::calls::{self, Call, Sizes, DIGEST, EXPAND_NUMBERS, EXPAND_STREAM};
 use crate::calls::{GROW_SEED, HASH_INPUT, SCHEMES};
 use crate::data::Kind;
 use crate::tell::{Done, Fault};
-use crate::{demo, draw, help, wipe, words};
+use crate::{demo, draw, help, trace, wipe, words};
 use std::ffi::{OsStr, OsString};
 
 /// How long an input or an output is, in entries.
@@ -370,7 +370,7 @@ pub const COMMANDS: &[Command] = &[
     },
     Command {
         name: "finish",
-        brief: "the initiator's second step: the initiator's key and its digest",
+        brief: "the initiator's second step: the initiator's key, its digest and the slack",
         form: Form::Files(OnFiles {
             by: ALL_SCHEMES,
             inputs: &[REPLY, S],
@@ -380,7 +380,11 @@ pub const COMMANDS: &[Command] = &[
         more: "S is wiped afterwards. A blank reply is refused by 17. The key is raw: hash it,\n\
                together with both messages, and confirm it with the peer before use. Equal keys\n\
                have equal digests, so that both ends can show or compare DIGEST and never show a\n\
-               key; a digest that is used as the key is not shown.",
+               key; a digest that is used as the key is not shown. slack= says how near the\n\
+               exchange came to failing, and slack_index= the first entry where: the largest\n\
+               distance from the own value to one with the hint that came. Near the margin, which\n\
+               demo shows, it is a warning; a small one proves nothing. In NewHope both are 0. They\n\
+               are made of S: keep them to this end.",
         example: "wimmostry finish 1 left/reply left/s left/key left/digest",
     },
     Command {
@@ -479,7 +483,7 @@ pub const COMMANDS: &[Command] = &[
     },
     Command {
         name: "bench",
-        brief: "both ends on lent secrets: whether the two keys agree",
+        brief: "both ends on lent secrets: whether the two keys agree, and the slack",
         form: Form::Files(OnFiles {
             by: ALL_SCHEMES,
             inputs: &[A, S, E, SEED, S1, E1, E2, COINS],
@@ -487,10 +491,23 @@ pub const COMMANDS: &[Command] = &[
             call: calls::bench,
         }),
         more:
-            "Says agree, or differ=I with the first key bit that differs, counted lowest first.\n\
-               Messages and keys stay inside.",
+            "Says agree, or differ=I with the first key bit that differs, counted lowest first, and\n\
+               slack= and slack_index= as finish does. Messages and keys stay inside.",
         example: "wimmostry bench 1 a left/s left/e left/seed \\\n      \
                   right/s1 right/e1 right/e2 right/coins",
+    },
+    Command {
+        name: "trace",
+        brief: "a recorded trace of slacks summed up by scheme",
+        form: Form::Words(OnWords {
+            usage: "FILE",
+            least: 1,
+            most: 1,
+            run: trace::run,
+            words: trace::WORDS,
+        }),
+        more: trace::MORE,
+        example: "wimmostry trace slacks",
     },
     Command {
         name: "wipe",

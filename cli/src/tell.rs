@@ -1,7 +1,7 @@
 //! What the program says: the lines of answers and refusals, and the lines on
 //! what is wrong, with the status that goes with each.
 
-use crate::calls::{rules, Answer, Refused, Sizes, EXPAND_NUMBERS};
+use crate::calls::{rules, Answer, Bench, Refused, Sizes, Slack, EXPAND_NUMBERS};
 use crate::data::Data;
 use crate::escape::shown;
 use crate::files::Lent;
@@ -82,14 +82,17 @@ pub fn complain(fault: &Fault) {
 
 /// The lines of an answer.
 pub fn answer(own: &OnFiles, answer: &Answer) -> String {
-    match answer {
-        Answer::Written(counts) => {
-            let lines = own.outputs.iter().zip(counts);
-            lines.map(|(x, n)| format!("{}={n}\n", x.label)).collect()
-        }
-        Answer::Agree => "agree\n".to_string(),
-        Answer::Differ(bit) => format!("differ={bit}\n"),
+    let written = own.outputs.iter().zip(&answer.written);
+    let mut lines: String = written.map(|(x, n)| format!("{}={n}\n", x.label)).collect();
+    match answer.keys {
+        Some(Bench::Agree) => lines.push_str("agree\n"),
+        Some(Bench::Differ(bit)) => lines.push_str(&format!("differ={bit}\n")),
+        None => {}
     }
+    if let Some(Slack { largest, index }) = answer.slack {
+        lines.push_str(&format!("slack={largest}\nslack_index={index}\n"));
+    }
+    lines
 }
 
 /// A refusal in one line: its number and place, which are the call's, and what

@@ -57,7 +57,14 @@ fn two_ends_hold_one_key() {
         );
         let told = room.says(0, &format!("finish {scheme} reply s left left.digest"));
         let key = room.read("left").len();
-        assert_eq!(told, format!("key_written={key}\ndigest_written=32\n"));
+        let written = format!("key_written={key}\ndigest_written=32\n");
+        let slack = told.strip_prefix(&written).expect("the counts come first");
+        let lines: Vec<&str> = slack.lines().collect();
+        assert!(lines[0].starts_with("slack=") && lines[1].starts_with("slack_index="));
+        assert_eq!(lines.len(), 2);
+        if scheme == 1 {
+            assert_eq!(slack, "slack=0\nslack_index=0\n");
+        }
         let digests = [room.read("left.digest"), room.read("right.digest")];
         room.says(0, "hash sha3-256 left hash");
         assert_eq!(room.read("hash"), digests[0]);
@@ -66,7 +73,9 @@ fn two_ends_hold_one_key() {
             room.read("left") == room.read("right")
         );
         let found = room.says(0, &format!("bench {scheme} a s e seed s1 e1 e2 coins"));
-        assert_eq!(found == "agree\n", room.read("left") == room.read("right"));
+        let same = room.read("left") == room.read("right");
+        assert_eq!(found == format!("agree\n{slack}"), same);
+        assert!(same || found.starts_with("differ=") && found.ends_with(slack));
     }
     let mode = fs::metadata(room.0.join("left"))
         .unwrap()
@@ -228,6 +237,36 @@ fn hashes() {
 }
 
 #[test]
+fn a_trace_is_summed_up() {
+    let room = Room::new("trace");
+    let put = |text: &str| fs::write(room.0.join("slacks"), text).unwrap();
+    put("scheme=4\nslack=512\nscheme=2\nslack=0\nscheme=4\nslack=7\n");
+    let told = "scheme=2\nexchanges=1\nsum=0\nlargest=0\n\
+                scheme=4\nexchanges=2\nsum=519\nlargest=512\n";
+    assert_eq!(room.says(0, "trace slacks"), told);
+    put("");
+    assert_eq!(room.says(0, "trace slacks"), "");
+    assert_eq!(room.says(0, "trace none"), "");
+    for other in [
+        "scheme=6\nslack=0\n",
+        "scheme=4\n",
+        "scheme=4\nslack=7",
+        "\n",
+    ] {
+        put(other);
+        assert_eq!(room.says(1, "trace slacks"), "refusal=8\n", "{other:?}");
+    }
+    let longest = "scheme=5\nslack=9999999999\n".repeat(2048);
+    put(&longest);
+    let told = "scheme=5\nexchanges=2048\nsum=20479999997952\nlargest=9999999999\n";
+    assert_eq!(room.says(0, "trace slacks"), told);
+    put(&(longest.clone() + "scheme=5\nslack=0\n"));
+    assert_eq!(room.says(1, "trace slacks"), "refusal=8\n");
+    put(&longest.repeat(3));
+    assert_eq!(room.says(1, "trace slacks"), "refusal=8\n");
+}
+
+#[test]
 fn wrong_words_and_files_touch_nothing() {
     let room = Room::new("wrong");
     room.says(0, "draw 1 s s");
@@ -243,6 +282,9 @@ fn wrong_words_and_files_touch_nothing() {
         (2, "help me"),
         (2, "demo x"),
         (2, "hash sha3-256 s s"),
+        (2, "trace"),
+        (2, "trace s s"),
+        (3, "trace missing"),
         (3, "finish 1 missing s key digest"),
         (3, "finish 1 none s missing/key digest"),
         (3, "finish 1 none s stdout digest"),

@@ -1,8 +1,9 @@
-"""The calls: good exchanges, damaged inputs, noise, expand, grow and the hashes."""
+"""The calls: good exchanges, damaged inputs, noise, expand, grow, the hashes and traces."""
 import hashlib
+import re
 
 from .both import packed
-from .common import INPUTS, NUMBERS, OUTPUTS, SCHEMES, hold, run, words32
+from .common import INPUTS, MARGINS, NUMBERS, OUTPUTS, SCHEMES, hold, run, words32
 
 
 def exchange(both, scheme, files):
@@ -27,10 +28,13 @@ def exchange(both, scheme, files):
     text, (peer, peer_digest) = both("good", "finish", scheme, given["finish"], sizes["finish"],
                                      secrets)
     lines = b"key_written=%d\ndigest_written=32\n" % key
-    hold("good", text == lines and (own, digest) == (peer, peer_digest) and len(peer) == key,
-         f"finish {scheme}: the keys differ")
+    hold("good", text.startswith(lines) and (own, digest) == (peer, peer_digest)
+         and len(peer) == key, f"finish {scheme}: the keys differ")
+    slack = text[len(lines):]
+    told = re.fullmatch(rb"slack=(\d+)\nslack_index=(\d+)\n", slack)
+    hold("good", told and int(told[1]) <= MARGINS[scheme], f"finish {scheme}: {text!r}")
     text, _ = both("good", "bench", scheme, given["bench"], sizes["bench"])
-    hold("good", text == b"agree\n", f"bench {scheme}")
+    hold("good", text == b"agree\n" + slack, f"bench {scheme}: {text!r}")
     return sizes
 
 
@@ -138,6 +142,7 @@ def noise(both, rand):
     expand(both, rand)
     grow(both, rand)
     hashes(both, rand)
+    traces(both, rand)
 
 
 def grow(both, rand):
@@ -162,6 +167,24 @@ def hashes(both, rand):
         both("hash", "hash sha3-256", None, ["INPUT"], {"OUT": 32}, ["OUT"])
         for asked in (0, 1, 168, 169, 4032):
             both("hash", "hash shake128", asked, ["INPUT"], {"OUT": asked}, ["OUT"])
+
+
+def traces(both, rand):
+    """Some texts; runs/trace has more, through the program."""
+    line = lambda: b"scheme=%d\nslack=%d\n" % (rand.randrange(6), rand.randrange(10**10))
+    good = [b"", line(), line() * 7, b"".join(line() for _ in range(300)),
+            b"scheme=5\nslack=9999999999\n" * 2048]
+    bad = [good[1][:-1], good[1] + b"\n", good[1] + b"scheme=1\n", good[4] + line(), good[4] * 9,
+           b"scheme=6\nslack=0\n", b"slack=0\nscheme=1\n", b"\0", rand.randbytes(70000)]
+    for status, texts in ((0, good), (1, bad)):
+        for text in texts:
+            both.put({"TRACE": text})
+            words = ["trace", both.name("TRACE")]
+            done, (_, told, _) = run([both.program, *words]), run([both.second, "box", *words])
+            hold("trace", done == (status, told, b""), f"trace {text[:50]!r}: {done} not {told!r}")
+            hold("trace", (told == b"refusal=8\n") == status, f"trace {text[:50]!r}: {told!r}")
+            done = run([both.program, "trace", "-"], input=text)
+            hold("trace", done == (status, told, b""), f"trace - {text[:50]!r}: {done}")
 
 
 def expand(both, rand):

@@ -14,6 +14,8 @@ for number, n, q, largest, key, width in ((2, 352, 2048, 3, 8, 11), (3, 592, 409
                                           (4, 752, 32768, 5, 32, 15), (5, 864, 32768, 6, 32, 15)):
     SCHEMES[number] = (q, largest, key, n * n, 8 * n, 64, 16, 0, 16 + width * n, width * n + 8,
                        16 * n, 128)
+# the largest slack of an exchange whose keys are proved to agree
+MARGINS = {0: 1073741823, 1: 0, 2: 256, 3: 256, 4: 512, 5: 512}
 # the inputs of each command in their order, and the outputs
 INPUTS = {
     "offer": ["A", "S", "E", "SEED"],

@@ -226,11 +226,10 @@ def whole(both, scheme, files):
 
 def streams(both, scheme, files):
     name, key = both.name, SCHEMES[scheme][2]
-    run(both.words("finish", scheme))
+    _, lines, _ = run(both.words("finish", scheme))
     expected = read(name("KEY1"))
     # out of standard output comes the key and nothing else
     status, text, error = run(both.words("finish", scheme, out={"KEY": "-"}))
-    lines = b"key_written=%d\ndigest_written=32\n" % key
     hold("streams", (status, text, error) == (0, expected, lines),
          f"- as output: {text!r} {error!r}")
     with open(name("o.bin"), "wb") as out:
@@ -239,9 +238,10 @@ def streams(both, scheme, files):
     given = both.words("finish", scheme, {"S": "-"}, {"KEY": "-"})
     status, text, error = run(given, input=files["S"])
     hold("streams", (status, text) == (0, expected), f"- both ways: {text!r} {error!r}")
+    message = files["REPLY"]
     status, text, error = run(both.words("reply", scheme, out={"MESSAGE": "-"}))
-    lines = b"message_written=%d\n" % len(files["REPLY"]) + lines
-    fine = (status, text, error) == (0, files["REPLY"], lines) and read(name("KEY1")) == expected
+    lines = b"message_written=%d\nkey_written=%d\ndigest_written=32\n" % (len(message), key)
+    fine = (status, text, error) == (0, message, lines) and read(name("KEY1")) == expected
     hold("streams", fine, f"a message to -: {error!r}")
     # a refusal writes nothing there
     status, text, error = run(both.words("finish", scheme, {"S": "none"}, {"KEY": "-"}))

@@ -8,14 +8,15 @@ from .common import hold, run, write
 FAKE = {
     "bin/rt": """#!/bin/bash
 [ "$1" = staticlib ] || { echo fake; exit 0; }
-for name in $CRATES; do
+crates=CRATES_$2
+for name in ${!crates}; do
     for i in $(seq 40); do echo "fn $name::f$i: proved"; done
     [ "$name" != "${BREAK:-}" ] || { echo "error: $name NOT PROVED"; exit 1; }
     echo "rt: $name proved (1 s)"
 done
 mkdir -p target/staticlib
-rm -f target/staticlib/libwimmostry.a
-ar rc target/staticlib/libwimmostry.a
+rm -f "target/staticlib/lib$2.a"
+ar rc "target/staticlib/lib$2.a"
 """,
     "bin/uname": "#!/bin/bash\necho x86_64\n",
     "bin/cargo": """#!/bin/bash
@@ -28,8 +29,11 @@ chmod +x "$root/target/cli/release/wimmostry"
 }
 
 
-def library(crates):
-    """The crates that the library is made of, in the order in which rt takes them."""
+ARCHIVES = ("wimmostry", "trace")
+
+
+def made_of(archive, crates):
+    """The crates that an archive is made of, in the order in which rt takes them."""
     needs = {}
     with open(crates) as lines:
         for line in lines:
@@ -43,7 +47,7 @@ def library(crates):
             level[name] = max([visit(x) + 1 for x in needs[name] if x in needs], default=0)
         return level[name]
 
-    visit("wimmostry")
+    visit(archive)
     order = []
 
     def walk(name):
@@ -53,7 +57,7 @@ def library(crates):
         if name not in order:
             order.append(name)
 
-    walk("wimmostry")
+    walk(archive)
     return sorted(order, key=lambda x: level[x])
 
 
@@ -88,23 +92,27 @@ def script(both):
         shutil.copy(os.path.join(root, name), tree)
     for name in ("c", "include"):
         shutil.copytree(os.path.join(root, name), os.path.join(tree, name))
-    made = library(os.path.join(root, "crates.txt"))
+    made = {x: made_of(x, os.path.join(root, "crates.txt")) for x in ARCHIVES}
     for name in ("rust/src", "cli/src"):
         os.makedirs(os.path.join(tree, name))
-    for name in ("rust/build.rs", "cli/Cargo.toml"):
+    for name in ("rust/build.rs", "cli/build.rs", "cli/Cargo.toml"):
         write(os.path.join(tree, name), b"")
-    for name in made:
+    for name in {*made["wimmostry"], *made["trace"]}:
         os.makedirs(os.path.join(tree, "crates", name, "src"))
         write(os.path.join(tree, "crates", name, "src/lib.rt"), b"")
-    around = {**os.environ, "PATH": tree + "/bin:" + os.environ["PATH"], "CRATES": " ".join(made)}
+    around = {**os.environ, "PATH": tree + "/bin:" + os.environ["PATH"],
+              **{f"CRATES_{x}": " ".join(names) for x, names in made.items()}}
     start = lambda **more: run([os.path.join(tree, "box"), "some", "words"], env={**around, **more})
 
-    def proving(done, what):
+    def proving(done, what, archives=ARCHIVES):
         status, text, error = done
         lines = error.decode().splitlines()
-        expected = ["native: the log is target/native/wimmostry.log"]
-        expected += [f"proving {i + 1} of {len(made)}: {x}" for i, x in enumerate(made)]
-        expected += ["compiling wimmostry"]
+        expected = []
+        for archive in archives:
+            names = made[archive]
+            expected += [f"native: the log is target/native/{archive}.log"]
+            expected += [f"proving {i + 1} of {len(names)}: {x}" for i, x in enumerate(names)]
+            expected += [f"compiling {archive}"]
         fine = status == 7 and text == b"some words\n" and lines == expected
         hold("script", fine, f"{what}: {done}")
 
@@ -117,7 +125,9 @@ def script(both):
     proving(start(), "first")
     hold("script", start() == (7, b"some words\n", b""), "it builds again what it has")
     write(os.path.join(tree, "crates/matrix/src/lib.rt"), b"changed")
-    proving(start(), "a source of the library")
+    proving(start(), "a source of the library", ["wimmostry"])
+    write(os.path.join(tree, "crates/trace/src/lib.rt"), b"changed")
+    proving(start(), "a source of the trace", ["trace"])
     os.makedirs(os.path.join(tree, "crates/matrix/must-fail"))
     write(os.path.join(tree, "crates/matrix/must-fail/x.edit"), b"")
     hold("script", start() == (7, b"some words\n", b""), "an edit that must fail is no source")

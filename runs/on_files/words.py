@@ -4,7 +4,7 @@ import re
 import socket
 import subprocess
 
-from .common import INPUTS, NUMBERS, OLD, OUTPUTS, hold, read, run, write
+from .common import INPUTS, MARGINS, NUMBERS, OLD, OUTPUTS, hold, read, run, write
 
 
 def unread(both, scheme, files):
@@ -44,6 +44,10 @@ def unread(both, scheme, files):
                 elif kind != "missing":
                     os.remove(name)
                 write(name, files[word])
+    for name, why in (("/nowhere", b"No such file or directory"), ("", b"is a folder")):
+        status, text, error = run([both.box, "trace", both.folder + name])
+        line = f"wimmostry: {both.folder}{name}: ".encode() + why + b"\n"
+        hold("unread", (status, text, error) == (3, b"", line), f"trace: {error!r}")
     nowhere = {w: both.folder + "/nowhere" + w for w in INPUTS["finish"]}
     status, text, error = run(both.words("finish", scheme, nowhere))
     hold("unread", status == 3 and error.count(b"\n") == 2, f"two that are missing: {error!r}")
@@ -70,6 +74,8 @@ def words(both):
         (["sha3-256", "x", "y"], b"there is no command 'sha3-256'"),
         (["bench", *files[:8]], b"bench takes"), (["demo", "1", "2"], b"demo takes [SCHEME]\n"),
         (["draw", "1", "s"], b"draw takes SCHEME WHAT OUT\n"), (["wipe"], b"wipe takes FILE\n"),
+        (["trace"], b"trace takes FILE\n"), (["trace", "x", "y"], b"trace takes FILE\n"),
+        (["trace", ""], b"FILE is an empty word"),
         (["version", "x"], b"version takes no words\n"),
         (["help", "a", "b"], b"there is no command 'a b'"),
         (["help", "hash", "md5"], b"there is no command 'hash md5'"),
@@ -117,7 +123,7 @@ def words(both):
     for given in ([], ["--help"], ["-h"]):
         hold("words", run([both.box, *given]) == overview, f"{given} is not the overview")
     names = re.findall(r"^  wimmostry ([a-z]\S*(?: [a-z]\S*)?)", overview[1].decode(), re.M)
-    hold("words", {"hash shake128", "hash sha3-256", "grow"} <= {*names}, f"commands: {names}")
+    hold("words", {"hash shake128", "hash sha3-256", "grow", "trace"} <= {*names}, f"commands: {names}")
     for name in [*names, "hash"]:
         page = run([both.box, "help", *name.split()])
         fine = page[0] == 0 and page[2] == b"" and page[1].startswith(b"wimmostry " + name.encode())
@@ -142,6 +148,10 @@ def demo(both):
         fine = status == 0 and error == b"" and told == many and len(prints) == 2 * many
         fine = fine and len(re.findall(rb" bytes, \d+ us\n", text)) == 3 * many
         fine = fine and text.count(b"] opening -") == text.count(b"- reply [") == many
+        used = re.findall(rb"^          slack (\d+) of a margin of (\d+), at entry \d+$", text, re.M)
+        none = text.count(b"          no slack: NewHope has none\n")
+        fine = fine and len(used) + none == many and none == (given in (["demo"], ["demo", "1"]))
+        fine = fine and all(int(margin) in MARGINS.values() for _, margin in used)
         grown = text.count(b"  public numbers: 1024, grown from the seed by rule 14\n")
         fine = fine and grown == (given in (["demo"], ["demo", "1"]))
         hold("demo", fine and text.count(b"  keys agree\n") == same, f"{given}: {text!r} {error!r}")
@@ -155,7 +165,7 @@ def shown(both, scheme):
     said = rb"a\x1b[2J\x07\r\n\x7f\xff\xc2\x9b\xe2\x80\xae" + b"\\\\"
     inside = os.path.join(both.folder.encode(), bad)
     os.mkdir(inside)
-    for given in ([bad], ["help", bad], ["demo", bad], ["wipe", bad],
+    for given in ([bad], ["help", bad], ["demo", bad], ["wipe", bad], ["trace", bad],
                   ["draw", bad, "s", "x"], ["draw", "1", bad, "x"],
                   ["finish", bad, "x", "x", "x", "d"], ["finish", "1", bad, "none", "x", "d"],
                   ["expand", bad, "x", "x"], ["grow", bad, "x", "x"],
