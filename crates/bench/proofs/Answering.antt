@@ -2,7 +2,7 @@
 --   named                        the number of a scheme names it
 --   finish-refused, reply-refused, offer-refused   what a step hands on whose call refuses
 --   finish-done, reply-told, offer-told            and one whose call does not, by the step after it
---   bench-refused, bench-told, bench-unknown       Bench's promise, by what is handed on from Offer on; and where the number names no scheme
+--   bench-refused, bench-told, bcns-answered, bench-unknown   Bench's promise, by what is handed on from Offer on; and where the number names no scheme
 use mathlib.Core.Path.{_≡_, refl, _∙_, sym, ap, ap₂}
 use mathlib.Core.List.{List}
 use Prim.Native.Nat.{ℕ, zero, suc}
@@ -13,6 +13,7 @@ use Rattle.schemes.specs.Schemes.{fixedOf, schemeOf, numberOf}
 use Rattle.schemes.specs.declared.Named.{Named}
 use Rattle.schemes.specs.declared.Named.the-variants.{Is, Unknown}
 use Rattle.schemes.specs.declared.Scheme.{Scheme}
+use Rattle.schemes.specs.declared.Scheme.the-variants.{Bcns}
 use Rattle.schemes.proofs.Laws.{by-number}
 use Rattle.lists.specs.declared.Peak.{Peak}
 use Rattle.front.specs.Front.{_then_}
@@ -42,9 +43,11 @@ use Rattle.exchange.proofs.Replying.{message-length, key-length}
 use Rattle.exchange.proofs.Finishing.{peer-key-length}
 use Rattle.agreement.specs.Run.{offering, replying, finishing}
 use Rattle.agreement.proofs.Tests.{sendable-by, finish-passes}
-use Rattle.bench.specs.Bench.{Bench, benchIn, benchTests, benchDiffers, benchSlack, differing, Benched, Answered}
-use Rattle.bench.specs.Inside.{testsFromFinish, testsFromReply, testsFromOffer, Keyed, FromFinish, FromReply, FromOffer, comparison}
+use Rattle.bench.specs.Bench.{Bench, benchIn, benchTests, keysDiffer, benchDiffers, benchSlack, differing, Benched, Answered, told}
+use Rattle.bench.specs.Inside.{testsFromFinish, testsFromReply, testsFromOffer, Keyed, FromFinish, FromReply, FromOffer, comparison, agreed}
+use Rattle.bench.specs.declared.BcnsAnswer.{BcnsAnswer}
 use Rattle.bench.specs.declared.BenchAnswer.{BenchAnswer}
+use Rattle.bench.proofs.Lamp.{differs-is}
 
 -- ---- by the verdict
 
@@ -177,8 +180,19 @@ module _ (c : Scheme) (x : Bench) {o : Outcome} {own peer : List ℕ} (p : FromO
     peer-kept = p .peered (ran .0)
 
     pub bench-told : {r : BenchAnswer} → r ≡ comparison (differing own peer) s → Answered (Is c) x r
-    unfolding benchTests benchDiffers benchSlack
-    bench-told g = rw g (answered (differing own peer) (sym (same-tests c x) ∙ ran .0) (ap₂ differing own-kept peer-kept) (ran .1))
+    unfolding benchTests keysDiffer benchSlack
+    bench-told g =
+        let e = sym (same-tests c x) ∙ ran .0 in
+        rw g (answered (differing own peer) e (ap₂ differing own-kept peer-kept ∙ differs-is c x e) (ran .1))
+
+-- in BCNS, where nothing is compared
+bcns-told : (x : Bench) (o : Outcome) {own peer : List ℕ} → FromOffer Bcns x o own peer → Answered (Is Bcns) x (told (agreed o))
+unfolding benchTests benchDiffers benchSlack
+bcns-told x (Outcome.Refused r) p = bench-refused Bcns x p refl
+bcns-told x (Outcome.Slack s) p = answered 0 (sym (same-tests Bcns x) ∙ ran Bcns x p refl .0) refl (ran Bcns x p refl .1)
+
+pub bcns-answered : (x : Bench) (o : Outcome) {own peer : List ℕ} {r : BcnsAnswer} → FromOffer Bcns x o own peer → r ≡ agreed o → Answered (Is Bcns) x (told r)
+bcns-answered x o p e = rw e (bcns-told x o p)
 
 pub bench-unknown : {n : Named} (x : Bench) → n ≡ Unknown → Benched n x 1 0 0 0 0
 unfolding benchTests

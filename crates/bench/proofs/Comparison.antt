@@ -11,6 +11,8 @@ use native.Mathlib.Omega.{arith}
 use lib.Dec.{ltb}
 use lib.ListN.{length}
 use borrow.Author.Tests.{ltb-true}
+use Rattle.schemes.specs.Schemes.{by, familyOf}
+use Rattle.schemes.specs.declared.Family.{Family}
 use Rattle.schemes.specs.declared.Scheme.{Scheme}
 use Rattle.schemes.specs.declared.Named.{Named}
 use Rattle.schemes.specs.declared.Named.the-variants.{Is, Unknown}
@@ -18,27 +20,26 @@ use Rattle.schemes.proofs.Sound.{sound}
 use Rattle.lists.specs.Entries.{Below}
 use Rattle.lists.specs.First.{firstApart}
 use Rattle.lists.specs.declared.Peak.{Peak}
-use Rattle.packing.proofs.Laws.{packed-below}
 use Rattle.front.specs.Front.{countIn}
 use Rattle.front.specs.declared.Verdict.{Verdict}
 use Rattle.front.specs.declared.Verdict.the-variants.{Pass, Fail}
 use Rattle.front.proofs.Laws.{both, number-zero, all-pass}
 use Rattle.front.proofs.Promise.{same-peak}
-use Rattle.exchange.specs.Reply.{keyOf, keyFrom}
-use Rattle.exchange.specs.Finish.{peerKeyOf, peerKeyFrom, slackOf}
+use Rattle.exchange.specs.Reply.{keyOf}
+use Rattle.exchange.specs.Finish.{peerKeyOf, slackOf}
 use Rattle.exchange.proofs.Replying.{key-length}
-use Rattle.exchange.proofs.Finishing.{peer-key-length}
 use Rattle.agreement.specs.Run.{replying, finishing}
 use Rattle.agreement.specs.Exchange.{Sendable}
 use Rattle.agreement.proofs.Tests.{sendable-by, offer-passes, reply-passes}
 use Rattle.agreement.proofs.Accepted.{gave, accepted}
 use Rattle.agreement.proofs.Agreement.{agreement}
-use Rattle.bench.specs.Bench.{Bench, bits, differing, benchIn, benchTests, benchDiffers, benchSlack, Benched, Answered, number, place, differ, slack}
+use Rattle.bench.specs.Bench.{Bench, bits, differing, benchIn, benchTests, keysDiffer, benchDiffers, benchSlack, Benched, Answered, number, place, differ, slack}
 use Rattle.bench.specs.Inside.{comparison}
 use Rattle.bench.specs.Comparison.{FirstBit, BenchAccepts, BenchTells, BenchAgrees}
 use Rattle.bench.specs.declared.BenchAnswer.{BenchAnswer}
 use Rattle.bench.specs.declared.BenchAnswer.the-variants.{Agree, Differ}
 use Rattle.bench.proofs.Differing.{differing-none, differing-at}
+use Rattle.bench.proofs.Lamp.{same-long, own-bytes, peer-bytes, differs-is}
 use Rattle.bench.proofs.Shown.{same}
 
 -- ---- without a refusal
@@ -67,18 +68,6 @@ module _ (r : BenchAnswer) {own peer : List ℕ} (p : Peak) (e : r ≡ compariso
       let n = differing-at own peer l ho hp i in
       (λ f. n .0 (told f), λ f. e ∙ ap (λ (d : ℕ). comparison d p) (n .1 f))
 
-module _ (c : Scheme) (x : Bench) where
-  same-long : length (keyOf c (replying c x)) ≡ length (peerKeyOf c (finishing c x))
-  same-long = key-length c (replying c x) ∙ sym (peer-key-length c (finishing c x))
-
-  own-bytes : Below 256 (keyOf c (replying c x))
-  unfolding keyOf keyFrom
-  own-bytes = packed-below _ _
-
-  peer-bytes : Below 256 (peerKeyOf c (finishing c x))
-  unfolding peerKeyOf peerKeyFrom
-  peer-bytes = packed-below _ _
-
 module _ (c : Scheme) (x : Bench) (r : BenchAnswer) (b : Answered (Is c) x r) where
   bench-sendable : number r ≡ 0 → Sendable c x
   unfolding benchTests benchIn
@@ -89,11 +78,11 @@ module _ (c : Scheme) (x : Bench) (r : BenchAnswer) (b : Answered (Is c) x r) wh
   bench-passes h = all-pass (offer-passes c x h) (reply-passes c x h)
 
   bench-gave : Sendable c x → r ≡ comparison (differing (keyOf c (replying c x)) (peerKeyOf c (finishing c x))) (slackOf c (finishing c x))
-  unfolding benchDiffers benchSlack
+  unfolding keysDiffer benchSlack
   bench-gave h =
       let e = bench-passes h in
       let u = rw e at (b .slacks) in
-      compared r _ (rw e at (b .told .refusal)) (rw e at (b .told .at)) (rw e at (b .differs .gives)) (same-peak _ _ (u .most) (u .first))
+      compared r _ (rw e at (b .told .refusal)) (rw e at (b .told .at)) (rw e at (b .differs .gives) ∙ sym (differs-is c x e)) (same-peak _ _ (u .most) (u .first))
 
 pub bench-accepts : BenchAccepts
 bench-accepts c x r b =
@@ -127,10 +116,16 @@ few : (v : Verdict) {d : ℕ} → d ≤ 1024 → countIn v d ≤ 1024
 few Pass h = h
 few (Fail r) h = omega arith
 
+in-family : (F : Family) {d : ℕ} → d ≤ 1024 → by F 0 d d ≤ 1024
+in-family Family.Bcns h = omega arith
+in-family Family.NewHope h = h
+in-family Family.Frodo h = h
+
 differs-few : (n : Named) (x : Bench) → benchDiffers n x ≤ 1024
-unfolding benchDiffers
+unfolding benchDiffers keysDiffer
 differs-few Unknown x = omega arith
-differs-few (Is c) x = omega (arith, within (keyOf c (replying c x)) (peerKeyOf c (finishing c x)), key-length c (replying c x), sound c .keys)
+differs-few (Is c) x =
+    in-family (familyOf c) (omega (arith, within (keyOf c (replying c x)) (peerKeyOf c (finishing c x)), key-length c (replying c x), sound c .keys))
 
 pub differ-few : {n : Named} {x : Bench} {k p d s i : ℕ} → Benched n x k p d s i → d ≤ 1024
 differ-few {n} {x} b = rw (b .differs .gives) (few (benchTests n x) (differs-few n x))

@@ -1,4 +1,5 @@
 pub mod Comparing
+pub mod Lamp
 pub mod Answering
 pub mod Shown
 pub mod Differing

@@ -1,21 +1,24 @@
 -- What Bench promises: 01, "The calls". It runs both ends on lent secrets and answers agree, or differ with the first differing key bit; and passes on the
--- slack that Finish used: 02, request f.
+-- slack that Finish used: 02, request f. The keys of BCNS cannot differ, and its bench has no such answer: 02, request i, and `Lamp.antt`.
 --   Bench                 what it is lent: public a, s, e and seed of the one end, s', e', e'' and coins of the other
 --   bits k                the bits of a key, lowest first through the bytes
 --   differing xs ys       0 where two keys are the same, else 1 + the first bit that differs
 --   benchIn c x, benchTests   its tests, Offer's first, then Reply's: in a scheme, and by the scheme's number
---   benchDiffers          how the two keys differ; benchSlack: the slack used and its first index
+--   keysDiffer c x        how the two keys differ; benchDiffers: the same by the scheme's number, and nothing in BCNS
+--   benchSlack            the slack used and its first index
 --   Benched               its promise: what it tells, how the keys differ, and the slack
 --   Answered              the same of an answer
---   Benches               the same of a call: the slices that it is lent, and its answer
+--   told r                the answer of the BCNS bench as one of Bench
+--   Benches, BcnsBenches  the promise of a call: the slices that it is lent, and its answer
 use mathlib.Core.Bool.{cond}
 use mathlib.Core.List.{List, []}
 use Prim.Native.Nat.{ℕ, suc, _*_}
 use lib.Dec.{ltb}
 use lib.IntN.{ℤ}
 use lib.ListN.{length}
-use Rattle.schemes.specs.Schemes.{fixedOf}
+use Rattle.schemes.specs.Schemes.{by, familyOf, fixedOf}
 use Rattle.schemes.specs.declared.Scheme.{Scheme}
+use Rattle.schemes.specs.declared.Scheme.the-variants.{Bcns}
 use Rattle.schemes.specs.declared.Named.{Named}
 use Rattle.schemes.specs.declared.Named.the-variants.{Is, Unknown}
 use Rattle.lists.specs.Lent.{Lent, was}
@@ -32,6 +35,7 @@ use Rattle.exchange.specs.Reply.{replyTests, keyOf}
 use Rattle.exchange.specs.Finish.{peerKeyOf, slackOf}
 use Rattle.agreement.specs.Run.{Run, offering, replying, finishing}
 use Rattle.lists.specs.First.{firstApart}
+use Rattle.bench.specs.declared.BcnsAnswer.{BcnsAnswer}
 use Rattle.bench.specs.declared.BenchAnswer.{BenchAnswer}
 use Rattle.bench.specs.declared.BenchAnswer.the-variants.{Agree, Differ, Refused}
 
@@ -56,9 +60,12 @@ unfoldable pub benchTests : Named → Bench → Verdict
 benchTests Unknown x = Fail NoScheme
 benchTests (Is c) x = benchIn c x
 
+unfoldable pub keysDiffer : Scheme → Bench → ℕ
+keysDiffer c x = differing (keyOf c (replying c x)) (peerKeyOf c (finishing c x))
+
 unfoldable pub benchDiffers : Named → Bench → ℕ
 benchDiffers Unknown x = 0
-benchDiffers (Is c) x = differing (keyOf c (replying c x)) (peerKeyOf c (finishing c x))
+benchDiffers (Is c) x = by (familyOf c) 0 (keysDiffer c x) (keysDiffer c x)
 
 unfoldable pub benchSlack : Named → Bench → Peak
 benchSlack Unknown x = peakOf []
@@ -95,6 +102,10 @@ slack (Refused r) = record { most = 0; at = 0 }
 abbrev pub Answered : Named → Bench → BenchAnswer → Type 0
 Answered c x r = Benched c x (number r) (place r) (differ r) (slack r .most) (slack r .at)
 
+abbrev pub told : BcnsAnswer → BenchAnswer
+told (BcnsAnswer.Agree p) = Agree p
+told (BcnsAnswer.Refused r) = Refused r
+
 abbrev pub benchOf : List ℕ → List ℤ → List ℤ → List ℕ → List ℤ → List ℤ → List ℤ → List ℕ → Bench
 benchOf a s e seed s' e' e'' coins = record { a = a; s = s; e = e; seed = seed; s' = s'; e' = e'; e'' = e''; coins = coins }
 
@@ -106,3 +117,7 @@ abbrev pub Benches :
     Named → Lent (List ℕ) → Lent (List ℤ) → Lent (List ℤ) → Lent (List ℕ) → Lent (List ℤ) → Lent (List ℤ) → Lent (List ℤ) → Lent (List ℕ) → BenchAnswer →
     Type 0
 Benches c a s e seed s1 e1 e2 coins r = Answered c (bench a s e seed s1 e1 e2 coins) r
+
+abbrev pub BcnsBenches :
+    Lent (List ℕ) → Lent (List ℤ) → Lent (List ℤ) → Lent (List ℕ) → Lent (List ℤ) → Lent (List ℤ) → Lent (List ℤ) → Lent (List ℕ) → BcnsAnswer → Type 0
+BcnsBenches a s e seed s1 e1 e2 coins r = Benches (Is Bcns) a s e seed s1 e1 e2 coins (told r)

@@ -4,6 +4,7 @@
 --   FromFinish c x r peer       from Finish on: what it hands on, and the initiator's key
 --   FromReply c x s r own peer  from Reply on, where Finish is lent its message and s: the same, and the replier's key
 --   FromOffer c x r own peer    from Offer on
+--   agreed o                    what was handed on, as the BCNS bench's answer
 --   comparison d p              the answer without a refusal, where d says how the keys differ, and p is the slack
 use mathlib.Core.Path.{_≡_}
 use mathlib.Core.List.{List}
@@ -23,6 +24,7 @@ use Rattle.exchange.specs.Reply.{Reply, replyTests, messageOf, keyOf}
 use Rattle.exchange.specs.Finish.{Finish, finishOf, finishTests, peerKeyOf, slackOf}
 use Rattle.agreement.specs.Run.{offering, replying, finishing}
 use Rattle.bench.specs.Bench.{Bench}
+use Rattle.bench.specs.declared.BcnsAnswer.{BcnsAnswer}
 use Rattle.bench.specs.declared.BenchAnswer.{BenchAnswer}
 use Rattle.bench.specs.declared.BenchAnswer.the-variants.{Agree, Differ}
 
@@ -55,3 +57,7 @@ pub record FromOffer (c : Scheme) (x : Bench) (r : Outcome) (own peer : List ℕ
 abbrev pub comparison : ℕ → Peak → BenchAnswer
 comparison zero p = Agree p
 comparison (suc i) p = Differ i p
+
+abbrev pub agreed : Outcome → BcnsAnswer
+agreed (Outcome.Slack p) = BcnsAnswer.Agree p
+agreed (Outcome.Refused r) = BcnsAnswer.Refused r

@@ -8,8 +8,8 @@ ghost use Rattle.schemes.specs.declared.Named.the-variants.{Is};
 ghost use Rattle.lists.specs.Lent.{was, left};
 ghost use Rattle.exchange.specs.Reply as lent;
 ghost use Rattle.exchange.specs.Finish.{finish};
-ghost use Rattle.bench.specs.Bench.{bench, Benches};
-ghost use Rattle.bench.specs.Inside.{FromFinish, FromReply, FromOffer};
+ghost use Rattle.bench.specs.Bench.{bench, told, Benches, BcnsBenches};
+ghost use Rattle.bench.specs.Inside.{FromFinish, FromReply, FromOffer, agreed};
 
 mod compare;
 
@@ -26,6 +26,12 @@ use schemes::Scheme;
 pub enum BenchAnswer {
     Agree(Peak),
     Differ(usize, Peak),
+    Refused(Refusal),
+}
+
+// What the BCNS bench gives: its keys cannot differ.
+pub enum BcnsAnswer {
+    Agree(Peak),
     Refused(Refusal),
 }
 
@@ -212,6 +218,83 @@ fn bench_in(
     )
 }
 
+// What was handed on, as the BCNS bench's answer.
+fn agreed(v: Outcome) -> BcnsAnswer
+    ensures { λ r. ⌜ r ≡ agreed v ⌝ }
+{
+    match v {
+        Outcome::Refused(r) => BcnsAnswer::Refused(r),
+        Outcome::Slack(used) => BcnsAnswer::Agree(used),
+    }
+}
+
+// Both ends in BCNS. No keys are compared: whatever is not refused agrees (specs/Lamp).
+pub fn bcns(
+    a: &[u32],
+    s: &[i32],
+    e: &[i32],
+    seed: &[u8],
+    s1: &[i32],
+    e1: &[i32],
+    e2: &[i32],
+    coins: &[u8],
+) -> BcnsAnswer
+    ensures { λ r. ⌜ BcnsBenches a s e seed s1 e1 e2 coins r ⌝ }
+{
+    let mut opening = [0u8; 4096];
+    let mut reply = [0u8; 4224];
+    let mut own = [0u8; 128];
+    let mut peer = [0u8; 128];
+    let mut digest = [0u8; 32];
+    let v = from_offer(
+        Scheme::Bcns,
+        a,
+        s,
+        e,
+        seed,
+        s1,
+        e1,
+        e2,
+        coins,
+        &mut opening,
+        &mut reply,
+        &mut own,
+        &mut peer,
+        &mut digest,
+    );
+    agreed(v)
+}
+
+// Its answer as one of Bench.
+fn told(r: BcnsAnswer) -> BenchAnswer
+    ensures { λ v. ⌜ v ≡ told r ⌝ }
+{
+    match r {
+        BcnsAnswer::Agree(used) => BenchAnswer::Agree(used),
+        BcnsAnswer::Refused(why) => BenchAnswer::Refused(why),
+    }
+}
+
+// By the family: BCNS has a bench of its own.
+fn by_family(
+    scheme: Scheme,
+    a: &[u32],
+    s: &[i32],
+    e: &[i32],
+    seed: &[u8],
+    s1: &[i32],
+    e1: &[i32],
+    e2: &[i32],
+    coins: &[u8],
+) -> BenchAnswer
+    ensures { λ r. ⌜ Benches (Is scheme) a s e seed s1 e1 e2 coins r ⌝ }
+{
+    match scheme {
+        Scheme::Bcns => told(bcns(a, s, e, seed, s1, e1, e2, coins)),
+        _ => bench_in(scheme, a, s, e, seed, s1, e1, e2, coins),
+    }
+}
+
 // Bench: both ends on lent secrets, from the public numbers a, the opener's s, e and seed, and the replier's s', e', e'' and coins.
 pub fn bench(
     scheme: u32,
@@ -229,5 +312,5 @@ pub fn bench(
     let Named::Is(known) = schemes::scheme_of(scheme) else {
         return BenchAnswer::Refused(Refusal::NoScheme);
     };
-    bench_in(known, a, s, e, seed, s1, e1, e2, coins)
+    by_family(known, a, s, e, seed, s1, e1, e2, coins)
 }

@@ -1,0 +1,71 @@
+-- What is stated in specs/Lamp.
+--   same-long, own-bytes, peer-bytes   two keys of an exchange are of one length, and bytes
+--   never-differ                       those of BCNS are the same
+--   differs-is                         so comparing them says what Bench's definition says; same-numbers: and so do the two promises
+use mathlib.Core.Path.{_≡_, refl, _∙_, sym}
+use mathlib.Core.List.{List}
+use Prim.Native.Nat.{ℕ}
+use lib.ListN.{length}
+use Rattle.schemes.specs.declared.Named.{Named}
+use Rattle.schemes.specs.declared.Named.the-variants.{Is, Unknown}
+use Rattle.schemes.specs.declared.Scheme.{Scheme}
+use Rattle.schemes.specs.declared.Scheme.the-variants.{Bcns, NewHope, Challenge, Classical, Recommended, Paranoid}
+use Rattle.lists.specs.Entries.{Below}
+use Rattle.packing.proofs.Laws.{packed-below}
+use Rattle.front.specs.Promise.{Gave}
+use Rattle.front.specs.declared.Verdict.{Verdict}
+use Rattle.front.specs.declared.Verdict.the-variants.{Pass, Fail}
+use Rattle.front.proofs.Laws.{both}
+use Rattle.exchange.specs.Reply.{keyOf, keyFrom}
+use Rattle.exchange.specs.Finish.{peerKeyOf, peerKeyFrom}
+use Rattle.exchange.proofs.Replying.{key-length}
+use Rattle.exchange.proofs.Finishing.{peer-key-length}
+use Rattle.agreement.specs.Run.{replying, finishing}
+use Rattle.agreement.specs.Agreement.{Near}
+use Rattle.agreement.proofs.Tests.{sendable-by}
+use Rattle.agreement.proofs.Meeting.{keys-meet}
+use Rattle.bench.specs.Bench.{Bench, benchIn, benchTests, keysDiffer, benchDiffers}
+use Rattle.bench.specs.Lamp.{NeverDiffer, differedBefore, SameNumbers}
+use Rattle.bench.proofs.Differing.{differing-none}
+
+module _ (c : Scheme) (x : Bench) where
+  pub same-long : length (keyOf c (replying c x)) ≡ length (peerKeyOf c (finishing c x))
+  same-long = key-length c (replying c x) ∙ sym (peer-key-length c (finishing c x))
+
+  pub own-bytes : Below 256 (keyOf c (replying c x))
+  unfolding keyOf keyFrom
+  own-bytes = packed-below _ _
+
+  pub peer-bytes : Below 256 (peerKeyOf c (finishing c x))
+  unfolding peerKeyOf peerKeyFrom
+  peer-bytes = packed-below _ _
+
+pub never-differ : NeverDiffer
+unfolding benchTests benchIn Near
+never-differ x e = let t = both _ _ e in keys-meet Bcns x (sendable-by Bcns x _ _ _ _ _ (t .0) (t .1) .ranged) tt
+
+pub differs-is : (c : Scheme) (x : Bench) → benchTests (Is c) x ≡ Pass → keysDiffer c x ≡ benchDiffers (Is c) x
+unfolding keysDiffer benchDiffers
+differs-is Bcns x e = differing-none _ _ (same-long Bcns x) (own-bytes Bcns x) (peer-bytes Bcns x) .1 (never-differ x e)
+differs-is NewHope x e = refl
+differs-is Challenge x e = refl
+differs-is Classical x e = refl
+differs-is Recommended x e = refl
+differs-is Paranoid x e = refl
+
+-- another number for the same verdict, if it is the same wherever nothing is refused
+gave-as : (v : Verdict) {a b d : ℕ} → (v ≡ Pass → a ≡ b) → Gave v a d → Gave v b d
+gave-as Pass h g = record { gives = g .gives ∙ h refl }
+gave-as (Fail r) h g = record { gives = g .gives }
+
+either-way : (c : Named) (x : Bench) → benchTests c x ≡ Pass → differedBefore c x ≡ benchDiffers c x
+unfolding differedBefore benchDiffers
+either-way Unknown x e = refl
+either-way (Is c) x e = differs-is c x e
+
+pub same-numbers : SameNumbers
+same-numbers c x n p d s i =
+    let h = either-way c x in (
+      λ b. record { told = b .told; differs = gave-as (benchTests c x) (λ e. sym (h e)) (b .differs); slacks = b .slacks },
+      λ b. record { told = b .told; differs = gave-as (benchTests c x) h (b .differs); slacks = b .slacks },
+    )

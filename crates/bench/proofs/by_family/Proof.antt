@@ -1,0 +1,23 @@
+-- `bench::by_family` meets its contract: BCNS's answer, or that of the bench that compares.
+use Rattle.schemes.specs.declared.Scheme.{Scheme}
+use borrow.Author.Needs.{needs}
+use Rattle.bench.proofs.by_family.Statement.{statement}
+use Rattle.bench.proofs.by_family.Tie as tie
+
+returns : tie.Need-returns
+returns c =
+    let o : tie.After-enum-told = search needs in
+    let t : tie.After-told = search needs in
+    let p : tie.After-bcns = search needs in
+    rw (o .enum-told .given .1, t .told .ensures) (p .bcns .ensures)
+
+pub by-family-spec : {M : Type 1} → statement M
+by-family-spec =
+    tie.close
+    (tie.spec
+    (search needs)
+    (λ c κs. search needs)
+    (λ c κs. search needs)
+    (λ c κs. search needs)
+    returns
+    (λ c. search needs))
