@@ -146,11 +146,11 @@
  * do are the verdicts of the range tests (refusal 6), one an input: 2 in wim_offer, 3 in wim_reply,
  * 1 in wim_finish, none in wim_noise and the two hashes. wim_offer and wim_reply have two more, on
  * the first number that is sent (refusal 17), which the peer sees anyway. wim_bench has those of
- * its parts, and branches on the numbers of the messages and on the keys, which it compares. A
- * refused secret is searched value by value for its place. Nothing is divided but 2^32 - 1 by q. So
- * it is in the archive for x86-64, by valgrind with the secrets marked as undefined, in all schemes
- * (runs/secrets); another compiler may do otherwise, and what the processor makes of it is not
- * measured.
+ * its parts, and branches on the numbers of the messages and, but in BCNS, on the keys, which it
+ * compares. A refused secret is searched value by value for its place. Nothing is divided but
+ * 2^32 - 1 by q. So it is in the archive for x86-64, by valgrind with the secrets marked as
+ * undefined, in all schemes (runs/secrets); another compiler may do otherwise, and what the
+ * processor makes of it is not measured.
  */
 #ifndef WIMMOSTRY_H
 #define WIMMOSTRY_H
@@ -414,9 +414,11 @@ WIM_MUST_USE uint32_t wim_sha3_256(const uint8_t *input, size_t input_len,
 /*
  * Bench: both ends on lent secrets, the initiator's s, e and seed and the replier's s', e', e''
  * and coins. *differ is 0 where the two keys agree, and else 1 + the first differing bit, counted
- * lowest first through the bytes. *slack and *slack_index are those of wim_finish, whether the keys
- * agree or differ. Messages and keys stay inside, so that there is no output. Refuses with 1, 2, 4,
- * 6, 17: all of Offer's tests come first, then Reply's. After a refusal *differ is 0.
+ * lowest first through the bytes. In BCNS the keys are proved to agree, whatever is lent: the
+ * answer has no differing case there, nothing is compared, and *differ is always 0. *slack and
+ * *slack_index are those of wim_finish, whether the keys agree or differ. Messages and keys stay
+ * inside, so that there is no output. Refuses with 1, 2, 4, 6, 17: all of Offer's tests come first,
+ * then Reply's. After a refusal *differ is 0.
  */
 WIM_MUST_USE uint32_t wim_bench(uint32_t scheme, const uint32_t *a, size_t a_len,
                                 const int32_t *s, size_t s_len, const int32_t *e, size_t e_len,

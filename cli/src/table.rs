@@ -492,7 +492,8 @@ pub const COMMANDS: &[Command] = &[
         }),
         more:
             "Says agree, or differ=I with the first key bit that differs, counted lowest first, and\n\
-               slack= and slack_index= as finish does. Messages and keys stay inside.",
+               slack= and slack_index= as finish does. BCNS's keys always agree: scheme 0 says agree\n\
+               or is refused. Messages and keys stay inside.",
         example: "wimmostry bench 1 a left/s left/e left/seed \\\n      \
                   right/s1 right/e1 right/e2 right/coins",
     },

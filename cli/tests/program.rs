@@ -76,6 +76,7 @@ fn two_ends_hold_one_key() {
         let same = room.read("left") == room.read("right");
         assert_eq!(found == format!("agree\n{slack}"), same);
         assert!(same || found.starts_with("differ=") && found.ends_with(slack));
+        assert!(same || scheme != 0, "BCNS's keys cannot differ");
     }
     let mode = fs::metadata(room.0.join("left"))
         .unwrap()

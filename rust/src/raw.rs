@@ -7,7 +7,7 @@
 //! output holds the answer and zeros behind it, after a refusal zeros from end
 //! to end, whatever it held.
 
-use crate::Refusal;
+use crate::{Refusal, Scheme};
 
 pub mod ffi;
 
@@ -333,13 +333,83 @@ pub fn sha3_256(input: &[u8], out: &mut [u8]) -> Result<usize, Refusal> {
 pub enum Bench {
     /// The two keys are the same.
     Agree,
-    /// The first differing bit, counted lowest first through the bytes.
+    /// The first differing bit, counted lowest first through the bytes. Never in
+    /// BCNS: see [`BcnsBench`].
     Differ(usize),
+}
+
+/// What [`bench_bcns`] finds of the two keys. With secrets and noise from -51 to
+/// 51 they are proved to agree, so that there is no differing case.
+#[derive(Clone, Copy, Debug, PartialEq, Eq, Hash)]
+pub enum BcnsBench {
+    /// The two keys are the same.
+    Agree,
+}
+
+impl From<BcnsBench> for Bench {
+    fn from(found: BcnsBench) -> Bench {
+        match found {
+            BcnsBench::Agree => Bench::Agree,
+        }
+    }
+}
+
+/// What a bench is lent: the initiator's a, s, e and seed, the replier's s', e',
+/// e'' and coins.
+struct Lent<'a> {
+    a: &'a [u32],
+    s: &'a [i32],
+    e: &'a [i32],
+    seed: &'a [u8],
+    s1: &'a [i32],
+    e1: &'a [i32],
+    e2: &'a [i32],
+    coins: &'a [u8],
+}
+
+impl Lent<'_> {
+    /// The archive's call: its `differ` and the slack, or the refusal.
+    fn bench(&self, scheme: u32) -> Result<(u64, Slack), Refusal> {
+        let (mut place, mut differ) = (0, 0);
+        let (mut largest, mut index) = (0, 0);
+        // SAFETY: each pointer and length are those of one slice, and place and the
+        // counts are numbers of this frame. No output shares memory with anything
+        // else, since it is borrowed mutably.
+        let number = unsafe {
+            ffi::wim_bench(
+                scheme,
+                self.a.as_ptr(),
+                self.a.len(),
+                self.s.as_ptr(),
+                self.s.len(),
+                self.e.as_ptr(),
+                self.e.len(),
+                self.seed.as_ptr(),
+                self.seed.len(),
+                self.s1.as_ptr(),
+                self.s1.len(),
+                self.e1.as_ptr(),
+                self.e1.len(),
+                self.e2.as_ptr(),
+                self.e2.len(),
+                self.coins.as_ptr(),
+                self.coins.len(),
+                &mut place,
+                &mut differ,
+                &mut largest,
+                &mut index,
+            )
+        };
+        scrub();
+        let index = count(index);
+        told(number, place, (differ, Slack { largest, index }))
+    }
 }
 
 /// Bench: both ends on lent secrets, the initiator's s, e and seed and the
 /// replier's s', e', e'' and coins. Messages and keys stay inside. The [`Slack`]
-/// is Finish's, whether the keys agree or differ.
+/// is Finish's, whether the keys agree or differ. BCNS's answer is that of
+/// [`bench_bcns`].
 ///
 /// # Errors
 ///
@@ -356,41 +426,55 @@ pub fn bench(
     e2: &[i32],
     coins: &[u8],
 ) -> Result<(Bench, Slack), Refusal> {
-    let (mut place, mut differ) = (0, 0);
-    let (mut largest, mut index) = (0, 0);
-    // SAFETY: each pointer and length are those of one slice, and place and the
-    // counts are numbers of this frame. No output shares memory with anything
-    // else, since it is borrowed mutably.
-    let number = unsafe {
-        ffi::wim_bench(
-            scheme,
-            a.as_ptr(),
-            a.len(),
-            s.as_ptr(),
-            s.len(),
-            e.as_ptr(),
-            e.len(),
-            seed.as_ptr(),
-            seed.len(),
-            s1.as_ptr(),
-            s1.len(),
-            e1.as_ptr(),
-            e1.len(),
-            e2.as_ptr(),
-            e2.len(),
-            coins.as_ptr(),
-            coins.len(),
-            &mut place,
-            &mut differ,
-            &mut largest,
-            &mut index,
-        )
+    if scheme == Scheme::Bcns.number() {
+        let (found, slack) = bench_bcns(a, s, e, seed, s1, e1, e2, coins)?;
+        return Ok((found.into(), slack));
+    }
+    let lent = Lent {
+        a,
+        s,
+        e,
+        seed,
+        s1,
+        e1,
+        e2,
+        coins,
     };
-    scrub();
+    let (differ, slack) = lent.bench(scheme)?;
     let found = match count(differ) {
         0 => Bench::Agree,
         bit => Bench::Differ(bit - 1),
     };
-    let index = count(index);
-    told(number, place, (found, Slack { largest, index }))
+    Ok((found, slack))
+}
+
+/// Bench in BCNS, whose keys cannot differ: agree or a refusal, and the [`Slack`].
+///
+/// # Errors
+///
+/// Refuses with 2 (also a seed that is not empty), 4, 6 and 17, as [`bench()`].
+#[allow(clippy::too_many_arguments)]
+pub fn bench_bcns(
+    a: &[u32],
+    s: &[i32],
+    e: &[i32],
+    seed: &[u8],
+    s1: &[i32],
+    e1: &[i32],
+    e2: &[i32],
+    coins: &[u8],
+) -> Result<(BcnsBench, Slack), Refusal> {
+    let lent = Lent {
+        a,
+        s,
+        e,
+        seed,
+        s1,
+        e1,
+        e2,
+        coins,
+    };
+    let (differ, slack) = lent.bench(Scheme::Bcns.number())?;
+    debug_assert_eq!(differ, 0, "BCNS has no such answer");
+    Ok((BcnsBench::Agree, slack))
 }

@@ -9,6 +9,7 @@ use second::schemes::{Family, Scheme, SIX};
 use std::collections::BTreeSet;
 use std::fmt::Debug;
 use std::ops::Range;
+use wimmostry::raw::{BcnsBench, Bench};
 
 /// Inputs of all calls of a scheme, and the messages that they give.
 struct Ready {
@@ -427,6 +428,21 @@ fn bench(g: &mut Generator, ready: &Ready) -> u32 {
         lcoins.entries(),
     );
     let expected = second::calls::bench(scheme.into(), &a, &s, &e, &seed, &s1, &e1, &e2, &coins);
+    if scheme == 0 {
+        // a type without the differing case, and the same answer
+        let typed = wimmostry::raw::bench_bcns(
+            la.entries(),
+            ls.entries(),
+            le.entries(),
+            lseed.entries(),
+            ls1.entries(),
+            le1.entries(),
+            le2.entries(),
+            lcoins.entries(),
+        );
+        let typed = typed.map(|(BcnsBench::Agree, slack)| (Bench::Agree, slack));
+        assert_eq!(typed, answer);
+    }
     let told = same(
         answer.map(|(found, slack)| (differing(found), slack.largest, slack.index)),
         expected.map(|(found, slack)| (second_differing(found), slack.largest, slack.index)),
@@ -442,10 +458,10 @@ fn bench(g: &mut Generator, ready: &Ready) -> u32 {
     told
 }
 
-fn differing(found: wimmostry::raw::Bench) -> Option<usize> {
+fn differing(found: Bench) -> Option<usize> {
     match found {
-        wimmostry::raw::Bench::Agree => None,
-        wimmostry::raw::Bench::Differ(bit) => Some(bit),
+        Bench::Agree => None,
+        Bench::Differ(bit) => Some(bit),
     }
 }
 

@@ -13,7 +13,8 @@ pub enum Bench {
 
 /// Bench: both ends on lent secrets. Offer's refusals come first, then
 /// Reply's; messages and keys stay inside. Finish's slack is passed on, whether
-/// the keys agree or differ.
+/// the keys agree or differ. The keys are compared in BCNS too, where request i
+/// of 02 has that they never differ: so every run of this program tries it.
 #[allow(clippy::too_many_arguments)]
 pub fn bench(
     scheme: u64,

@@ -1,10 +1,14 @@
 //! Bench's own answers and the order of its refusals.
 
+use crate::generator::Generator;
 use crate::inputs::Inputs;
+use crate::margins::{d, wide};
 use second::calls::{bench, Bench};
+use second::reconcile::bcns::Rule;
 use second::reconcile::newhope::{hint, key};
 use second::refusal::refusal;
 use second::schemes::SIX;
+use second::signed::remainder;
 use second::transform::transform;
 
 #[test]
@@ -72,6 +76,69 @@ fn newhope_agrees_within_the_bound() {
     inputs.s1[0] = 16;
     inputs.e.fill(16);
     assert_eq!(inputs.bench(), Ok(Bench::Agree));
+}
+
+/// 02, request i: with noise from -51 to 51 the keys of BCNS never differ. Every
+/// value is as large as it may be, with signs that are all alike, that add up at
+/// one entry of d, or random; the public numbers and the coins are random.
+#[test]
+fn bcns_never_differs() {
+    let mut generator = Generator::new(18);
+    for round in 0..24 {
+        let mut inputs = Inputs::random(&SIX[0], &mut generator);
+        let at = generator.below(1024) as usize;
+        let lists = [
+            &mut inputs.s,
+            &mut inputs.e,
+            &mut inputs.s1,
+            &mut inputs.e1,
+            &mut inputs.e2,
+        ];
+        for (k, list) in lists.into_iter().enumerate() {
+            for (i, value) in list.iter_mut().enumerate() {
+                // behind the entry a product passes X^1023 and turns its sign
+                let turned = (k == 0 || k == 1) && i > at;
+                *value = match round % 3 {
+                    0 => 51 * (1 - 2 * ((round >> k) & 1)),
+                    1 if turned != (k == 3) => -51,
+                    1 => 51,
+                    _ => 51 * (1 - 2 * generator.below(2) as i32),
+                };
+            }
+        }
+        if round % 3 == 1 {
+            let lists = [&inputs.s, &inputs.e, &inputs.s1, &inputs.e1, &inputs.e2];
+            assert_eq!(d(&SIX[0], &lists.map(|list| wide(list)))[at], 5326899);
+        }
+        assert_eq!(inputs.bench(), Ok(Bench::Agree));
+    }
+}
+
+/// The same a value at a time: w lies up to 5,326,899 from v, and both have one
+/// bit. All of the way up to the margin is in `reconcile_bcns`.
+#[test]
+fn bcns_never_differs_entry_by_entry() {
+    let (rule, q) = (Rule::of(&SIX[0]), SIX[0].q);
+    let runs: Vec<i128> = rule.runs().iter().map(|run| run.first / 2).collect();
+    let mut generator = Generator::new(19);
+    for round in 0..20_000 {
+        // every second v lies near an end of a run of z, where hints and keys change
+        let v = match round % 2 {
+            0 => i128::from(generator.below(q as u64)),
+            _ => {
+                let end = runs[generator.below(runs.len() as u64) as usize];
+                remainder(end + i128::from(generator.below(11_000_000)) - 5_500_000, q)
+            }
+        };
+        let d = match round % 4 {
+            0 | 1 => i128::from(generator.below(2 * 5326899 + 1)) - 5326899,
+            2 => 5326899,
+            _ => -5326899,
+        };
+        let z = rule.z(v, generator.below(4) as u32);
+        let w = remainder(v - d, q);
+        assert_eq!(rule.peer(w, rule.hint(z)), rule.key(z), "v {v}, d {d}");
+    }
 }
 
 #[test]
