@@ -20,7 +20,7 @@ use mir.Val.{boolByte}
 use Rattle.lists.specs.Entries.{tab}
 use Rattle.lists.specs.First.{firstWhere}
 use Rattle.lists.proofs.Entries.{tab-length, tab-at, within-tab}
-use Rattle.lists.proofs.First.{Passed, passed-none, passed-more, found, missing, none-passes, none-found, first-passes, before-first}
+use Rattle.lists.proofs.First.{Passed, passed-none, passed-more, found, missing, none-before, none-passes, none-found, first-passes}
 use Rattle.noise.specs.Noise.{atMost, withSign}
 use Rattle.noise.proofs.Noise.{at-most-le, sign-size, Counted, counted-more}
 use Rattle.bcns_noise.specs.Noise.{wide, entryOf, entries, bigEndian, bcnsValue, bcnsNoise, falls, firstNotAbove, Largest, Largest51, Ascending, Ascends, Place, EachPlace}
@@ -169,4 +169,4 @@ each-place table h =
     let p = firstWhere (falls table) (places table) in
     place table p
     (sym (place-at table p h) ∙ first-passes (falls table) 0 (places table) (omega (arith, places-long table)))
-    (λ k l. sym (place-at table k (omega arith)) ∙ before-first (falls table) 0 (places table) k l)
+    (λ k l. sym (place-at table k (omega arith)) ∙ none-before (falls table) 0 (places table) k l)
