@@ -2,14 +2,14 @@
 --   differ          a failure is no pass
 --   some, number-zero   a refusal has a number, and a verdict without one has passed
 --   both            where a sequence has passed, each of its tests has
---   length-passed, up-to-passed, room-passed, publics-passed, message-passed, secrets-passed   what a test that has passed says
+--   length-passed, up-to-passed, room-passed, table-passed, publics-passed, message-passed, secrets-passed   what a test that has passed says
 --   within-passes, below-passes, message-passes, length-passes, up-to-passes, room-passes   and what passes
 --   all-pass        so does a sequence of such tests
 --   stays, goes-on  one test more, after a failure and after none
 --   over, under     the unpack step's verdict, by the first number that is too large
 --   blank-fails, not-blank-passes, not-blank-passed, not-blank-packed   a part that is blank, and one that is not; numbers tested for their bytes
 --   first, also     a sequence as the code goes through it
---   held-all        what holds of each entry of the answer, and of zero, holds of the whole output
+--   held-all        what holds of each entry of the answer, where there is one, and of zero, holds of the whole output
 --   then-assoc, failed, went-on   a sequence in two parts: the first fails, or the second decides
 use mathlib.Core.Path.{_≡_, refl, ap₂, _∙_}
 use mathlib.Core.Bool.{Bool, true, false, cond}
@@ -27,9 +27,9 @@ use Rattle.lists.proofs.Same.{append-all, equal-all}
 use Rattle.packing.specs.Packing.{packed}
 use Rattle.blank.specs.Blank.{blank}
 use Rattle.blank.proofs.Laws.{blank-packed}
-use Rattle.front.specs.Front.{numberOf, numberIn, _then_, lengthIs, lengthUpTo, roomFor, publicsIn, messageIn, notBlank, secretsIn, held}
+use Rattle.front.specs.Front.{numberOf, numberIn, _then_, lengthIs, lengthUpTo, roomFor, tableIn, publicsIn, messageIn, notBlank, secretsIn, held}
 use Rattle.front.specs.declared.Refusal.{Refusal}
-use Rattle.front.specs.declared.Refusal.the-variants.{NoScheme, BadLength, Short, PublicOver, MessageOver, SecretBeyond, RanOut, NoRule, Blank}
+use Rattle.front.specs.declared.Refusal.the-variants.{NoScheme, BadLength, Short, PublicOver, MessageOver, SecretBeyond, RanOut, NoRule, Blank, NotAscending}
 use Rattle.front.specs.declared.Verdict.{Verdict}
 use Rattle.front.specs.declared.Verdict.the-variants.{Pass, Fail}
 
@@ -46,6 +46,7 @@ some (SecretBeyond k) = omega arith
 some (RanOut k) = omega arith
 some NoRule = omega arith
 some Blank = omega arith
+some (NotAscending k) = omega arith
 
 pub number-zero : (v : Verdict) → 0 ≡ numberIn v → v ≡ Pass
 number-zero Pass e = refl
@@ -75,6 +76,10 @@ up-to-passed m n e = leb-true m n (if-pass _ _ e)
 pub room-passed : (room n : ℕ) → roomFor room n ≡ Pass → n ≤ room
 unfolding roomFor
 room-passed room n e = leb-true n room (if-pass _ _ e)
+
+pub table-passed : (p n : ℕ) → tableIn p n ≡ Pass → n ≤ p
+unfolding tableIn
+table-passed p n e = ltb-false p n (if-not _ _ e)
 
 pub secrets-passed : (B : ℕ) (s : List ℤ) → secretsIn B s ≡ Pass → Within B s
 unfolding secretsIn
@@ -176,7 +181,8 @@ pub room-passes : {room n : ℕ} → n ≤ room → roomFor room n ≡ Pass
 unfolding roomFor
 room-passes h = rw (le-leb _ _ h)
 
-pub held-all : {A : Type 0} (P : A → Type 0) (z : A) (v : Verdict) (xs : List A) (room : ℕ) → P z → ((k : ℕ) → P (getD xs k z)) → (k : ℕ) → P (getD (held v xs room z) k z)
+pub held-all : {A : Type 0} (P : A → Type 0) (z : A) (v : Verdict) (xs : List A) (room : ℕ) → P z → (v ≡ Pass → (k : ℕ) → P (getD xs k z)) → (k : ℕ)
+    → P (getD (held v xs room z) k z)
 unfolding held
-held-all P z Pass xs room o h = append-all P z xs (replicate (room - length xs) z) h (equal-all P z (room - length xs) o)
+held-all P z Pass xs room o h = append-all P z xs (replicate (room - length xs) z) (h refl) (equal-all P z (room - length xs) o)
 held-all P z (Fail r) xs room o h = equal-all P z room o

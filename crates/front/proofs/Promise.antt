@@ -19,7 +19,7 @@ use Rattle.lists.specs.declared.Peak.{Peak}
 use Rattle.lists.proofs.Same.{restored}
 use Rattle.front.specs.Front.{numberOf, placeOf, countIn}
 use Rattle.front.specs.declared.Refusal.{Refusal}
-use Rattle.front.specs.declared.Refusal.the-variants.{NoScheme, BadLength, Short, PublicOver, MessageOver, SecretBeyond, RanOut, NoRule, Blank}
+use Rattle.front.specs.declared.Refusal.the-variants.{NoScheme, BadLength, Short, PublicOver, MessageOver, SecretBeyond, RanOut, NoRule, Blank, NotAscending}
 use Rattle.front.specs.declared.Verdict.{Verdict}
 use Rattle.front.specs.declared.Verdict.the-variants.{Pass, Fail}
 use Rattle.front.proofs.Laws.{some}
@@ -101,7 +101,8 @@ refusalBy k p =
     (cond (eqb k 6) (SecretBeyond p)
     (cond (eqb k 7) (RanOut p)
     (cond (eqb k 12) NoRule
-    Blank)))))))
+    (cond (eqb k 17) Blank
+    (NotAscending p)))))))))
 
 back : (r : Refusal) → refusalBy (numberOf r) (placeOf r) ≡ r
 unfolding refusalBy
@@ -114,6 +115,7 @@ back (SecretBeyond k) = refl
 back (RanOut k) = refl
 back NoRule = refl
 back Blank = refl
+back (NotAscending k) = refl
 
 pub same-refusal : (a b : Refusal) → numberOf a ≡ numberOf b → placeOf a ≡ placeOf b → a ≡ b
 same-refusal a b e f = cc (back a, back b)

@@ -6,6 +6,7 @@
 --   lengthIs m n            2: an input's length is not the fixed one
 --   lengthUpTo m n          2: it is over what is allowed
 --   roomFor room n          3: an output buffer is shorter than the answer
+--   tableIn p n             18: entry p of a table of n entries is not above its forerunner
 --   publicsIn q xs          4: a lent public number is q or more
 --   messageIn q xs          5: an unpacked message number is q or more
 --   notBlank part           17: a packed part is blank
@@ -21,7 +22,7 @@ use lib.ListN.{length, replicate}
 use Rattle.lists.specs.First.{firstOver, firstBeyond}
 use Rattle.blank.specs.Blank.{blank}
 use Rattle.front.specs.declared.Refusal.{Refusal}
-use Rattle.front.specs.declared.Refusal.the-variants.{NoScheme, BadLength, Short, PublicOver, MessageOver, SecretBeyond, RanOut, NoRule, Blank}
+use Rattle.front.specs.declared.Refusal.the-variants.{NoScheme, BadLength, Short, PublicOver, MessageOver, SecretBeyond, RanOut, NoRule, Blank, NotAscending}
 use Rattle.front.specs.declared.Verdict.{Verdict}
 use Rattle.front.specs.declared.Verdict.the-variants.{Pass, Fail}
 
@@ -35,6 +36,7 @@ numberOf (SecretBeyond k) = 6
 numberOf (RanOut k) = 7
 numberOf NoRule = 12
 numberOf Blank = 17
+numberOf (NotAscending k) = 18
 
 abbrev pub placeOf : Refusal → ℕ
 placeOf NoScheme = 0
@@ -46,6 +48,7 @@ placeOf (SecretBeyond k) = k
 placeOf (RanOut k) = k
 placeOf NoRule = 0
 placeOf Blank = 0
+placeOf (NotAscending k) = k
 
 abbrev pub numberIn : Verdict → ℕ
 numberIn Pass = 0
@@ -72,6 +75,9 @@ lengthUpTo m n = cond (leb m n) Pass (Fail BadLength)
 
 unfoldable pub roomFor : ℕ → ℕ → Verdict
 roomFor room n = cond (leb n room) Pass (Fail Short)
+
+unfoldable pub tableIn : ℕ → ℕ → Verdict
+tableIn p n = cond (ltb p n) (Fail (NotAscending p)) Pass
 
 unfoldable pub publicsIn : ℕ → List ℕ → Verdict
 publicsIn q xs = cond (ltb (firstOver q xs) (length xs)) (Fail (PublicOver (firstOver q xs))) Pass

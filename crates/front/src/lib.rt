@@ -4,7 +4,7 @@ ghost use mathlib.Core.Path.{_≡_};
 ghost use Prim.Native.Nat.{_*_, _≤_, _<_};
 ghost use lib.ListN.{length};
 ghost use Rattle.packing.specs.Packing.{unpacked};
-ghost use Rattle.front.specs.Front.{_then_, lengthIs, lengthUpTo, roomFor, publicsIn, notBlank, receivedIn, secretsIn, numberOf, placeOf};
+ghost use Rattle.front.specs.Front.{_then_, lengthIs, lengthUpTo, roomFor, tableIn, publicsIn, notBlank, receivedIn, secretsIn, numberOf, placeOf};
 ghost use Rattle.front.specs.Promise.{outcome};
 use lists::Peak;
 
@@ -18,6 +18,7 @@ pub enum Refusal {
     RanOut(usize),
     NoRule,
     Blank,
+    NotAscending(usize),
 }
 
 impl Refusal {
@@ -34,6 +35,7 @@ impl Refusal {
             Refusal::RanOut(_) => 7,
             Refusal::NoRule => 12,
             Refusal::Blank => 17,
+            Refusal::NotAscending(_) => 18,
         }
     }
 
@@ -50,6 +52,7 @@ impl Refusal {
             Refusal::RanOut(k) => k,
             Refusal::NoRule => 0,
             Refusal::Blank => 0,
+            Refusal::NotAscending(k) => k,
         }
     }
 }
@@ -121,6 +124,20 @@ pub fn room_for(v: Verdict, room: usize, n: usize) -> Verdict
         Verdict::Pass
     } else {
         Verdict::Fail(Refusal::Short)
+    }
+}
+
+// Each of a table's n entries is above its forerunner; `at` is the first that is not, or n.
+pub fn table_in(v: Verdict, at: usize, n: usize) -> Verdict
+    ensures { λ r. ⌜ r ≡ v then tableIn at n ⌝ }
+{
+    let Verdict::Pass = v else {
+        return v;
+    };
+    if at < n {
+        Verdict::Fail(Refusal::NotAscending(at))
+    } else {
+        Verdict::Pass
     }
 }
 
