@@ -4,35 +4,41 @@
 --   noise-passes                    so no part of it is refused
 --   expand-below, expand-passes     the whole output of Expand is below 12289, and no part of it is refused
 --   grow-below, grow-passes         so of Grow
+--   never-eighteen, eighteen-says   where Noise is refused with 18, and what its place says
 --   same-grown                      two boxes grow the same numbers
 use mathlib.Core.Path.{_≡_, refl, _∙_, sym, ap}
 use mathlib.Core.Bool.{Bool, true, false}
 use mathlib.Core.List.{List}
-use Prim.Native.Nat.{ℕ, _<_, _≤_}
+use Prim.Native.Nat.{ℕ, _*_, _/_, _<_, _≤_}
 use native.Mathlib.Omega.{arith}
-use lib.Dec.{leb}
+use lib.Dec.{eqb, leb, ltb}
 use lib.IntN.{ℤ, pos, natAbs}
 use lib.ListN.{length, take}
 use lib.Seq.{take-at}
-use Rattle.schemes.specs.Schemes.{fixedOf, newHope}
+use Rattle.schemes.specs.Schemes.{fixedOf, familyOf, by, newHope}
 use Rattle.schemes.specs.declared.Scheme.{Scheme}
 use Rattle.schemes.specs.declared.Scheme.the-variants.{Bcns, NewHope, Challenge, Classical, Recommended, Paranoid}
 use Rattle.schemes.specs.declared.Named.the-variants.{Is}
 use Rattle.lists.specs.Entries.{Below, Within}
 use Rattle.lists.proofs.Parts.{below-take, below-drop, part-within}
-use borrow.Author.Tests.{leb-true}
-use Rattle.front.specs.Front.{held}
-use Rattle.front.specs.declared.Verdict.the-variants.{Pass}
+use borrow.Author.Tests.{leb-true, ltb-true}
+use Rattle.front.specs.Front.{numberIn, placeIn, _then_, lengthIs, tableIn, held}
+use Rattle.front.specs.declared.Verdict.{Verdict}
+use Rattle.front.specs.declared.Verdict.the-variants.{Pass, Fail}
+use Rattle.front.proofs.Number.{and, lengths, rooms}
 use Rattle.front.proofs.Laws.{differ, both, number-zero, held-all, within-passes, below-passes}
 use Rattle.front.proofs.Promise.{same-answer}
 use Rattle.noise.specs.Noise.{d1, d2, d3, d4}
 use Rattle.noise.proofs.Noise.{newhope-within, frodo-within}
+use Rattle.bcns_noise.proofs.Table.{largest-51, each-place}
+use Rattle.bcns_noise.specs.Noise.{firstNotAbove}
 use Rattle.noise.specs.declared.Ruled.{Ruled}
 use Rattle.noise.specs.declared.Ruled.the-variants.{By, Unknown}
 use Rattle.noise.proofs.Stream.{by-name-below}
-use Rattle.sampling.specs.Noise.{Noise, noiseValues, Noised, OneNoise, NoisePasses}
+use Rattle.sampling.specs.Noise.{Noise, lengthEither, noiseSizes, noiseTests, noiseValues, Noised, OneNoise, NoisePasses, NeverEighteen, EighteenSays}
 use Rattle.sampling.specs.Expand.{Expand, expandNumbers, enough, Expanded, OneExpand, ExpandPasses}
 use Rattle.sampling.specs.Grow.{Grow, blocks, growNumbers, growTests, Grown, OneGrow, SameGrown, GrowPasses}
+use Rattle.sampling.proofs.Noising.{sizes-passed, tests-passed}
 use Rattle.sampling.proofs.Expanding.{numbers-few}
 
 pub one-noise : OneNoise
@@ -46,19 +52,24 @@ one-grow k x n r r′ out out′ p q = (same-answer r r′ (cc) (cc) (cc), cc)
 
 -- ---- what is written is not refused later
 
-pub values-within : (c : Scheme) (bytes : List ℕ) → Below 256 bytes → Within (fixedOf c .largest) (noiseValues (Is c) bytes)
+pub values-within : (c : Scheme) (x : Noise) → Below 256 (x .bytes) → length (x .table) ≡ by (familyOf c) 153 0 0
+    → Within (fixedOf c .largest) (noiseValues (Is c) x)
 unfolding noiseValues
-values-within Bcns bytes b = record { within = λ k. omega arith }
-values-within NewHope bytes b = newhope-within bytes b
-values-within Challenge bytes b = frodo-within d1 7 bytes
-values-within Classical bytes b = frodo-within d2 11 bytes
-values-within Recommended bytes b = frodo-within d3 11 bytes
-values-within Paranoid bytes b = frodo-within d4 15 bytes
+values-within Bcns x b w = largest-51 (x .table) (x .bytes) w
+values-within NewHope x b w = newhope-within (x .bytes) b
+values-within Challenge x b w = frodo-within d1 7 (x .bytes)
+values-within Classical x b w = frodo-within d2 11 (x .bytes)
+values-within Recommended x b w = frodo-within d3 11 (x .bytes)
+values-within Paranoid x b w = frodo-within d4 15 (x .bytes)
 
 pub noise-within : {c : Scheme} {x : Noise} {number place n count : ℕ} {out : List ℤ} → Noised (Is c) x number place n count out → Below 256 (x .bytes)
     → Within (fixedOf c .largest) out
-noise-within {c} {x} p b =
-    record { within = rw (p .values .holds) (held-all (λ i. natAbs i ≤ fixedOf c .largest) (pos 0) _ _ _ (omega arith) (values-within c (x .bytes) b .within)) }
+noise-within {c} {x} {n = n} p b =
+    record {
+      within = rw (p .values .holds)
+          (held-all (λ i. natAbs i ≤ fixedOf c .largest) (pos 0) _ _ _ (omega arith)
+          (λ e. values-within c x b (tests-passed c x n e .table) .within));
+    }
 
 pub noise-passes : NoisePasses
 noise-passes c x number place n count out p b from many = within-passes (part-within (fixedOf c .largest) from many out (noise-within p b))
@@ -71,7 +82,7 @@ numbers-below (By r) stream = by-name-below r stream
 pub expand-below : {k : Ruled} {x : Expand} {number place n count : ℕ} {out : List ℕ} → Expanded k x number place n count out
     → Below (newHope .q) out
 expand-below {k} {x} p =
-    record { below = rw (p .numbers .holds) (held-all (λ i. i < newHope .q) 0 _ _ _ (omega arith) (numbers-below k (x .stream) .below)) }
+    record { below = rw (p .numbers .holds) (held-all (λ i. i < newHope .q) 0 _ _ _ (omega arith) (λ e. numbers-below k (x .stream) .below)) }
 
 pub expand-passes : ExpandPasses
 expand-passes k x number place n count out p from many = below-passes (below-take (below-drop (expand-below p) from) many)
@@ -79,10 +90,57 @@ expand-passes k x number place n count out p from many = below-passes (below-tak
 pub grow-below : {k : Ruled} {x : Grow} {number place n count : ℕ} {out : List ℕ} → Grown k x number place n count out
     → Below (newHope .q) out
 grow-below {k} {x} p =
-    record { below = rw (p .numbers .holds) (held-all (λ i. i < newHope .q) 0 _ _ _ (omega arith) (numbers-below k (blocks (x .seed)) .below)) }
+    record { below = rw (p .numbers .holds) (held-all (λ i. i < newHope .q) 0 _ _ _ (omega arith) (λ e. numbers-below k (blocks (x .seed)) .below)) }
 
 pub grow-passes : GrowPasses
 grow-passes k x number place n count out p from many = below-passes (below-take (below-drop (grow-below p) from) many)
+
+-- ---- the table
+
+-- tests of lengths alone do not give 18
+abbrev Other : ℕ → Type 0
+Other k = k ≡ 18 → ⊥
+
+module _ (c : Scheme) (x : Noise) (n : ℕ) where
+  lengths-other : (a b : ℕ) → Other (numberIn (lengthIs a b))
+  lengths-other = lengths Other (λ e. omega arith) (λ e. omega arith)
+
+  either-other : (m a b : ℕ) (t : Bool) → eqb m a ≡ t → Other (numberIn (lengthEither m a b))
+  unfolding lengthEither
+  either-other m a b true e = rw e (λ f. omega arith)
+  either-other m a b false e = rw e (lengths-other m b)
+
+  sizes-other : (each words : ℕ) → Other (numberIn (noiseSizes c each words x n))
+  unfolding noiseSizes
+  sizes-other each words =
+      and Other _ _
+      (and Other _ _ (either-other (length (x .bytes)) (each * fixedOf c .noise) (each * fixedOf c .mixed) _ refl) (λ e. lengths-other _ _))
+      (λ e. rooms Other (λ f. omega arith) (λ f. omega arith) _ _)
+
+pub never-eighteen : NeverEighteen
+unfolding noiseTests
+never-eighteen Bcns x n e = refl
+never-eighteen NewHope x n e = absurd (sizes-other NewHope x n 4 0 e)
+never-eighteen Challenge x n e = absurd (sizes-other Challenge x n 2 0 e)
+never-eighteen Classical x n e = absurd (sizes-other Classical x n 2 0 e)
+never-eighteen Recommended x n e = absurd (sizes-other Recommended x n 2 0 e)
+never-eighteen Paranoid x n e = absurd (sizes-other Paranoid x n 2 0 e)
+
+-- where it is 18, the tests before it have passed, and it was the table's
+at-table : (v : Verdict) (p m : ℕ) (t : Bool) → ltb p m ≡ t → Other (numberIn v) → numberIn (v then tableIn p m) ≡ 18
+    → (v ≡ Pass) × (p < m) × (placeIn (v then tableIn p m) ≡ p)
+unfolding _then_ tableIn
+at-table (Fail r) p m t e o f = absurd (o f)
+at-table Pass p m true e o f = (refl, ltb-true p m e, rw e)
+at-table Pass p m false e o f = let z : _≡_ {A = ℕ} 0 18 = rw e at f in absurd (omega arith)
+
+pub eighteen-says : EighteenSays
+unfolding noiseTests
+eighteen-says x n e =
+    let p = firstNotAbove (x .table) in
+    let a = at-table (noiseSizes Bcns 25 153 x n) p 51 _ refl (sizes-other Bcns x n 25 153) e in
+    let w : length (x .table) / 3 ≡ 51 = omega (arith, sizes-passed Bcns x n 25 153 (λ k. omega arith) (a .0) .table) in
+    (rw (a .2) (a .1), rw (a .2) (each-place (x .table) (omega arith)))
 
 -- ---- two boxes
 

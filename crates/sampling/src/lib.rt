@@ -1,4 +1,4 @@
-// Noise, Expand and Grow: values and public numbers from bytes that the caller lends (01, "Noise" and "The NewHope transform"; 02, requests g and c). None has
+// Noise, Expand and Grow: values and public numbers from bytes that the caller lends (01, "Noise" and "The NewHope transform"; 02, requests m, g and c). None has
 // a `requires`: each ends with an answer or a numbered refusal, given exactly when its condition holds; the whole output is zeroed first.
 ghost use mathlib.Core.Path.{_≡_};
 ghost use lib.ListN.{length, replicate};
@@ -16,15 +16,16 @@ use front::Refusal;
 use noise::Ruled;
 use schemes::Named;
 
-// Noise: scheme, bytes. The values that the bytes give, four bytes a value in NewHope, two in Frodo.
-pub fn noise(scheme: u32, bytes: &[u8], out: &mut [i32]) -> Answer
-    ensures { λ r. ⌜ Noises (schemeOf scheme) bytes out r ⌝ }
+// Noise: scheme, bytes, table. The values that the bytes give: 25 bytes a value in BCNS, by the table; four in NewHope and two in Frodo, which lend an empty
+// one.
+pub fn noise(scheme: u32, bytes: &[u8], table: &[u64], out: &mut [i32]) -> Answer
+    ensures { λ r. ⌜ Noises (schemeOf scheme) bytes table out r ⌝ }
 {
     lists::zero_values(out);
     let Named::Is(s) = schemes::scheme_of(scheme) else {
         return Answer::Refused(Refusal::NoScheme);
     };
-    sampler::noise_in(s, bytes, out)
+    sampler::noise_in(s, bytes, table, out)
 }
 
 // The rule that a number names. The output is zeroed first, so that whatever ends a call leaves zeros.

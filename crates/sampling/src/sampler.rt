@@ -1,15 +1,18 @@
-// Noise, Expand and Grow, once the scheme or the rule is known and the output holds zeros: the tests in 01's order, then the work of crate `noise` into the
-// part of the output that the answer takes.
+// Noise, Expand and Grow, once the scheme or the rule is known and the output holds zeros: the tests in 01's order, then the work of the crates `noise`
+// and `bcns_noise` into the part of the output that the answer takes.
 ghost use mathlib.Core.Path.{_≡_};
 ghost use mathlib.Core.List.{_++_};
-ghost use Prim.Native.Nat.{_*_, _%_, _≤_, _<_};
+ghost use Prim.Native.Nat.{_*_, _/_, _≤_, _<_};
 ghost use lib.ListN.{length, drop, replicate};
 ghost use lib.IntN.{pos};
+ghost use Rattle.schemes.specs.Schemes.{familyOf, by};
 ghost use Rattle.schemes.specs.declared.Named.the-variants.{Is};
 ghost use Rattle.lists.specs.Lent.{was, left};
+ghost use Rattle.front.specs.Front.{_then_, tableIn};
 ghost use Rattle.front.specs.declared.Verdict.the-variants.{Pass};
+ghost use Rattle.bcns_noise.specs.Noise.{firstNotAbove};
 ghost use Rattle.noise.specs.declared.Ruled.the-variants.{By};
-ghost use Rattle.sampling.specs.Noise.{noise, lengthEither, noiseSizes, noiseTests, noiseValues, Noises};
+ghost use Rattle.sampling.specs.Noise.{noiseOf, noise, lengthEither, noiseSizes, noiseTests, noiseValues, Noises};
 ghost use Rattle.sampling.specs.Expand.{expandOf, expand, expandSizes, Expands};
 ghost use Rattle.sampling.specs.Grow.{growOf, grow, growSizes, Grows};
 use front::Answer;
@@ -30,45 +33,63 @@ fn length_either(m: usize, x: usize, y: usize) -> Verdict
     front::length_is(Verdict::Pass, m, y)
 }
 
-// The tests of lengths, where a value takes 2 or 4 bytes.
-fn noise_sizes(s: Scheme, each: usize, bytes: &[u8], room: usize) -> Verdict
-    requires { ⌜ (0 < each) × (each ≤ 4) ⌝ }
-    ensures { λ r. ⌜ r ≡ noiseSizes s each (noise bytes) room ⌝ }
+// The tests of lengths, where a value takes so many bytes and the table so many words.
+fn noise_sizes(
+    s: Scheme,
+    each: usize,
+    words: usize,
+    bytes: &[u8],
+    table: &[u64],
+    room: usize,
+) -> Verdict
+    requires { ⌜ (0 < each) × (each ≤ 25) ⌝ }
+    ensures { λ r. ⌜ r ≡ noiseSizes s each words (noise bytes table) room ⌝ }
 {
     let f = s.fixed();
     let v = length_either(bytes.len(), each * f.noise, each * f.mixed);
-    front::room_for(v, room, bytes.len() / each)
+    let w = front::length_is(v, table.len(), words);
+    front::room_for(w, room, bytes.len() / each)
 }
 
-// The noise of BCNS is lent ready. A value takes two words in NewHope, one in Frodo.
-fn noise_tests(s: Scheme, bytes: &[u8], room: usize) -> Verdict
-    ensures { λ r. ⌜ r ≡ noiseTests (Is s) (noise bytes) room ⌝ }
+// Each entry of the table is above its forerunner. The table is gone through only where nothing was refused before.
+fn table_ascends(v: Verdict, table: &[u64]) -> Verdict
+    ensures { λ r. ⌜ r ≡ v then tableIn (firstNotAbove (was table)) 51 ⌝ }
+{
+    let Verdict::Pass = v else {
+        return v;
+    };
+    front::table_in(Verdict::Pass, bcns_noise::first_not_above(table), 51)
+}
+
+// BCNS alone has a table, 51 entries of three words.
+fn noise_tests(s: Scheme, bytes: &[u8], table: &[u64], room: usize) -> Verdict
+    ensures { λ r. ⌜ r ≡ noiseTests (Is s) (noise bytes table) room ⌝ }
 {
     match s.family() {
-        Family::Bcns => Verdict::Fail(Refusal::NoScheme),
-        Family::NewHope => noise_sizes(s, 4, bytes, room),
-        Family::Frodo => noise_sizes(s, 2, bytes, room),
+        Family::Bcns => table_ascends(noise_sizes(s, 25, 153, bytes, table, room), table),
+        Family::NewHope => noise_sizes(s, 4, 0, bytes, table, room),
+        Family::Frodo => noise_sizes(s, 2, 0, bytes, table, room),
     }
 }
 
-// How many values the bytes give.
+// How many values the bytes give, whatever the table.
 fn noise_count(s: Scheme, bytes: &[u8]) -> usize
-    ensures { λ r. ⌜ r ≡ length (noiseValues (Is s) (was bytes)) ⌝ }
+    ensures { λ r. ⌜ r ≡ length (was bytes) / by (familyOf s) 25 4 2 ⌝ }
 {
     match s.family() {
-        Family::Bcns => 0,
+        Family::Bcns => bytes.len() / 25,
         Family::NewHope => bytes.len() / 4,
         Family::Frodo => bytes.len() / 2,
     }
 }
 
-// The values, into the part that they fill. Each fixed length is a whole number of four bytes.
-fn noise_fill(s: Scheme, bytes: &[u8], out: &mut [i32])
-    requires { ⌜ (length (now bytes) % 4 ≡ 0) × (length (now out) ≡ length (noiseValues (Is s) (now bytes))) ⌝ }
-    ensures { λ _. ⌜ left out ≡ noiseValues (Is s) (was bytes) ⌝ }
+// The values, into the part that they fill.
+fn noise_fill(s: Scheme, bytes: &[u8], table: &[u64], out: &mut [i32])
+    requires { ⌜ (length (now bytes) ≡ by (familyOf s) 25 4 2 * length (now out)) × (length (now table) ≤ 153) ⌝ }
+    ensures { λ _. ⌜ left out ≡ noiseValues (Is s) (noise bytes table) ⌝ }
 {
     match s {
-        Scheme::Bcns => {}
+        Scheme::Bcns => bcns_noise::values(table, bytes, out),
         Scheme::NewHope => noise::newhope(bytes, out),
         Scheme::Challenge => noise::challenge(bytes, out),
         Scheme::Classical => noise::classical(bytes, out),
@@ -78,25 +99,25 @@ fn noise_fill(s: Scheme, bytes: &[u8], out: &mut [i32])
 }
 
 // The values at the front of the output, and how many they are.
-fn noise_values(s: Scheme, bytes: &[u8], out: &mut [i32]) -> usize
-    requires { ⌜ (length (now bytes) % 4 ≡ 0) × (length (noiseValues (Is s) (now bytes)) ≤ length (now out)) ⌝ }
-    ensures { λ r. ⌜ r ≡ length (noiseValues (Is s) (was bytes)) ⌝ }
-    ensures { λ r. ⌜ left out ≡ noiseValues (Is s) (was bytes) ++ drop r (was out) ⌝ }
+fn noise_values(s: Scheme, bytes: &[u8], table: &[u64], out: &mut [i32]) -> usize
+    requires { ⌜ noiseTests (Is s) (noiseOf (now bytes) (now table)) (length (now out)) ≡ Pass ⌝ }
+    ensures { λ r. ⌜ r ≡ length (noiseValues (Is s) (noise bytes table)) ⌝ }
+    ensures { λ r. ⌜ left out ≡ noiseValues (Is s) (noise bytes table) ++ drop r (was out) ⌝ }
 {
     let n = noise_count(s, bytes);
-    noise_fill(s, bytes, &mut out[..n]);
+    noise_fill(s, bytes, table, &mut out[..n]);
     n
 }
 
 // Noise in a known scheme.
-pub(crate) fn noise_in(s: Scheme, bytes: &[u8], out: &mut [i32]) -> Answer
+pub(crate) fn noise_in(s: Scheme, bytes: &[u8], table: &[u64], out: &mut [i32]) -> Answer
     requires { ⌜ now out ≡ replicate (length (now out)) (pos 0) ⌝ }
-    ensures { λ r. ⌜ Noises (Is s) bytes out r ⌝ }
+    ensures { λ r. ⌜ Noises (Is s) bytes table out r ⌝ }
 {
-    let v = noise_tests(s, bytes, out.len());
+    let v = noise_tests(s, bytes, table, out.len());
     match v {
         Verdict::Fail(r) => Answer::Refused(r),
-        Verdict::Pass => Answer::Done(noise_values(s, bytes, out)),
+        Verdict::Pass => Answer::Done(noise_values(s, bytes, table, out)),
     }
 }
 

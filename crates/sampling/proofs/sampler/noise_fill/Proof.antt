@@ -1,24 +1,29 @@
 -- `sampling::sampler::noise_fill` meets its contract: each name has its sampler.
 use mathlib.Core.Path.{_≡_}
 use mathlib.Core.List.{List}
+use Prim.Native.Nat.{_*_}
+use native.Mathlib.Omega.{arith}
 use lib.IntN.{ℤ}
 use lib.ListN.{length}
-use Rattle.schemes.specs.Schemes.{familyOf}
+use Rattle.schemes.specs.Schemes.{familyOf, by}
 use Rattle.schemes.specs.declared.Scheme.{Scheme}
 use Rattle.schemes.specs.declared.Named.the-variants.{Is}
-use Rattle.sampling.specs.Noise.{noiseValues}
-use Rattle.sampling.proofs.Noising.{Takes, takes, filled, none}
+use Rattle.sampling.specs.Noise.{Noise, noiseOf, noiseValues}
+use Rattle.sampling.proofs.Noising.{takes, filled}
 use borrow.Author.Needs.{needs}
 use Rattle.sampling.proofs.sampler.noise_fill.Statement.{statement}
 use Rattle.sampling.proofs.sampler.noise_fill.Tie as tie
 
 -- in every arm, where s is t: the bytes are those of so many values, and the values of t are those of s
 module _ (b : tie.Start) {t : Scheme} (e : b .args .s ≡ t) where
-  bytes-of : Takes (familyOf t) (length (b .args .bytes .now)) (length (b .args .out .now))
-  bytes-of = takes (b .args .bytes .now) e (b .pre .0) (b .pre .1)
+  abbrev lent : Noise
+  lent = noiseOf (b .args .bytes .now) (b .args .table .now)
 
-  values-of : {out : List ℤ} → out ≡ noiseValues (Is t) (b .args .bytes .now) → out ≡ noiseValues (Is (b .args .s)) (b .args .bytes .now)
-  values-of o = filled (b .args .bytes .now) e o
+  bytes-of : length (b .args .bytes .now) ≡ by (familyOf t) 25 4 2 * length (b .args .out .now)
+  bytes-of = takes lent e _ (b .pre .0)
+
+  values-of : {out : List ℤ} → out ≡ noiseValues (Is t) lent → out ≡ noiseValues (Is (b .args .s)) lent
+  values-of o = filled lent e o
 
 pub noise-fill-spec : {M : Type 1} → statement M
 unfolding noiseValues
@@ -26,6 +31,7 @@ noise-fill-spec =
     tie.close
     (tie.spec
     (search needs)
+    (λ c κs. let b : tie.Start = search needs in (omega (arith, b .pre .1), bytes-of b (c .before .enum-told .given .1)))
     (search needs)
     (λ c κs. let b : tie.Start = search needs in bytes-of b (c .before .enum-told2 .given .1))
     (search needs)
@@ -36,7 +42,8 @@ noise-fill-spec =
     (λ c κs. let b : tie.Start = search needs in bytes-of b (c .before .enum-told5 .given .1))
     (search needs)
     (λ c κs. let b : tie.Start = search needs in bytes-of b (c .before .enum-told6 .given .1))
-    (λ c. let b : tie.Start = search needs in none (b .args .bytes .now) (c .enum-told .given .1) (b .pre .1))
+    (search needs)
+    (λ c. let b : tie.Start = search needs in let t : tie.After-enum-told = search needs in values-of b (t .enum-told .given .1) (c .before .values .ensures))
     (search needs)
     (λ c. let b : tie.Start = search needs in let t : tie.After-enum-told2 = search needs in values-of b (t .enum-told2 .given .1) (c .before .newhope .ensures))
     (search needs)

@@ -1,16 +1,14 @@
 -- `sampling::sampler::noise_in` meets its contract: zeros stay where a test fails, and are written over where none does.
 use mathlib.Core.Path.{_∙_, sym}
 use Rattle.front.proofs.Promise.{told-passed, wrote-passed, told-failed, wrote-failed}
-use Rattle.sampling.proofs.Noising.{tests-passed}
 use borrow.Author.Needs.{needs}
 use Rattle.sampling.proofs.sampler.noise_in.Statement.{statement}
 use Rattle.sampling.proofs.sampler.noise_in.Tie as tie
 
 noise-values-requires : tie.Need-noise-values-requires
 noise-values-requires c κs =
-    let b : tie.Start = search needs in
     let t : tie.After-noise-tests = search needs in
-    tests-passed (b .args .s) _ _ (sym (t .noise-tests .ensures) ∙ c .before .enum-told .given .1)
+    sym (t .noise-tests .ensures) ∙ c .before .enum-told .given .1
 
 returns : tie.Need-returns
 returns c =

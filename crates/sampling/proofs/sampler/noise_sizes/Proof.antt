@@ -34,8 +34,10 @@ returns c =
     let m = length (b .args .bytes .now) in
     let each = b .args .each in
     let g = ap (λ (g : Fixed). lengthEither m (each * g .noise) (each * g .mixed)) (f .fixed .ensures) in
-    also (c .room-for .ensures) (c .before .length-either .ensures ∙ g) refl
+    let w : tie.After-length-is = search needs in
+    let l : tie.After-length-either = search needs in
+    also (c .room-for .ensures) (also (w .length-is .ensures) (l .length-either .ensures ∙ g) refl) refl
 
 pub noise-sizes-spec : {M : Type 1} → statement M
 noise-sizes-spec =
-    tie.close (tie.spec (search needs) mul-length-either mul-length-either-2 (search needs) (search needs) (search needs) returns)
+    tie.close (tie.spec (search needs) mul-length-either mul-length-either-2 (search needs) (search needs) (search needs) (search needs) returns)

@@ -1,0 +1,20 @@
+-- `sampling::sampler::table_ascends` meets its contract.
+use mathlib.Core.Path.{ap, _∙_}
+use Prim.Native.Nat.{ℕ}
+use Rattle.front.specs.Front.{tableIn}
+use Rattle.front.proofs.Laws.{stays, goes-on, first}
+use borrow.Author.Needs.{needs}
+use Rattle.sampling.proofs.sampler.table_ascends.Statement.{statement}
+use Rattle.sampling.proofs.sampler.table_ascends.Tie as tie
+
+returns : tie.Need-returns
+returns c = stays _ (c .enum-told2 .given .1)
+
+returns-2 : tie.Need-returns-2
+returns-2 c =
+    let p : tie.After-enum-told = search needs in
+    let f : tie.After-first-not-above = search needs in
+    goes-on (p .enum-told .given .1) (first (c .table-in .ensures) (ap (λ (k : ℕ). tableIn k 51) (f .first-not-above .ensures)))
+
+pub table-ascends-spec : {M : Type 1} → statement M
+table-ascends-spec = tie.close (tie.spec (search needs) (search needs) returns (search needs) (search needs) returns-2)
