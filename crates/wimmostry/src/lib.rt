@@ -204,18 +204,19 @@ pub extern "C" fn wim_finish(
     tell_finish(answer, place, keyed, digested, slack, index)
 }
 
-// Noise: the values that the bytes give.
+// Noise: the values that the bytes give, in BCNS by the table.
 #[no_mangle]
 pub extern "C" fn wim_noise(
     scheme: u32,
     bytes: &[u8],
+    table: &[u64],
     out: &mut [i32],
     place: &mut u64,
     written: &mut u64,
 ) -> u32
-    ensures { λ r. ⌜ Noised (schemeOf scheme) (noise bytes) r (left place) (room out) (left written) (left out) ⌝ }
+    ensures { λ r. ⌜ Noised (schemeOf scheme) (noise bytes table) r (left place) (room out) (left written) (left out) ⌝ }
 {
-    let answer = sampling::noise(scheme, bytes, out);
+    let answer = sampling::noise(scheme, bytes, table, out);
     tell(answer, place, written)
 }
 
