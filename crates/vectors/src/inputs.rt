@@ -98,7 +98,7 @@ pub fn put_bytes(src: &[u8], at: usize, bytes: &mut [u8]) {
     }
 }
 
-fn put_byte(bytes: &mut [u8], i: usize, x: u8) {
+pub fn put_byte(bytes: &mut [u8], i: usize, x: u8) {
     if i < bytes.len() {
         bytes[i] = x;
     }

@@ -10,6 +10,7 @@ mod samples;
 mod shape;
 mod slacks;
 mod streams;
+mod tables;
 mod walks;
 
 use calls::Call;
