@@ -2,9 +2,9 @@
 --   Sound, sound   moduli, widths, bounds and counts of a scheme, and the largest of each
 use mathlib.Core.Path.{_≡_, refl}
 use mathlib.Core.Bool.{Bool, true, _&&_, and-eq-true-iff}
-use Prim.Native.Nat.{ℕ, suc, _%_, _^_, _≤_, _<_}
-use lib.Dec.{eqb, leb}
-use borrow.Author.Tests.{eqb-true, leb-true}
+use Prim.Native.Nat.{ℕ, suc, _^_, _≤_, _<_}
+use lib.Dec.{leb}
+use borrow.Author.Tests.{leb-true}
 use Rattle.schemes.specs.declared.Fixed.{Fixed}
 use Rattle.schemes.specs.declared.Scheme.{Scheme}
 use Rattle.schemes.specs.declared.Scheme.the-variants.{Bcns, NewHope, Challenge, Classical, Recommended, Paranoid}
@@ -26,9 +26,7 @@ pub record Sound (f : Fixed) : Type 0 where
   pub publics : f .public ≤ 746496
   pub secrets : f .secret ≤ 6912
   pub noises : f .noise ≤ 6912
-  pub noises-even : f .noise % 2 ≡ 0
   pub values : f .mixed ≤ 1024
-  pub values-even : f .mixed % 2 ≡ 0
   pub groups : f .groups ≤ 1024
   pub seeds : f .seed ≤ 32
   pub openings : f .opening ≤ 12976
@@ -65,9 +63,6 @@ module _ (s : Scheme) where
   at-most : (g h : Fixed → ℕ) → all (λ f. leb (g f) (h f)) ≡ true → g (fixedOf s) ≤ h (fixedOf s)
   at-most g h e = leb-true _ _ (at (λ f. leb (g f) (h f)) e s)
 
-  even : (g : Fixed → ℕ) → all (λ f. eqb (g f % 2) 0) ≡ true → g (fixedOf s) % 2 ≡ 0
-  even g e = eqb-true _ _ (at (λ f. eqb (g f % 2) 0) e s)
-
   pub sound : Sound (fixedOf s)
   sound =
       record {
@@ -86,9 +81,7 @@ module _ (s : Scheme) where
         publics = at-most (λ f. f .public) (λ f. 746496) refl;
         secrets = at-most (λ f. f .secret) (λ f. 6912) refl;
         noises = at-most (λ f. f .noise) (λ f. 6912) refl;
-        noises-even = even (λ f. f .noise) refl;
         values = at-most (λ f. f .mixed) (λ f. 1024) refl;
-        values-even = even (λ f. f .mixed) refl;
         groups = at-most (λ f. f .groups) (λ f. 1024) refl;
         seeds = at-most (λ f. f .seed) (λ f. 32) refl;
         openings = at-most (λ f. f .opening) (λ f. 12976) refl;
