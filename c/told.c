@@ -13,13 +13,15 @@ const char *wim_refusal_text(uint32_t refusal)
     case WIM_DONE:
         return "done";
     case WIM_NO_SCHEME:
-        return "the scheme is not 0 to 5 (wim_noise: not 1 to 5)";
+        return "the scheme is not 0 to 5";
     case WIM_NO_RULE:
         return "the rule is not 14 or 16";
     case WIM_LENGTH:
         return "an input's length is not the fixed one (streams, hashes: over 65536)";
     case WIM_ROOM:
         return "an output buffer is shorter than the answer";
+    case WIM_NOT_ASCENDING:
+        return "the table of noise is not strictly ascending";
     case WIM_PUBLIC_OVER:
         return "a lent public number is q or more";
     case WIM_MESSAGE_OVER:

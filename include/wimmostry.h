@@ -16,8 +16,8 @@
  * wim_grow makes them of its 32 bytes at either end, so that no file of numbers has to be carried,
  * and the replier finds the seed at the end of the opening. wim_expand makes them of a stream that
  * both have. The calls of the exchange carry the seed and do not read it. s, e, s', e' and e'' are
- * secrets, drawn afresh for each exchange; wim_noise makes them from random bytes, except in BCNS,
- * whose noise is lent ready. In names s1, e1 and e2 stand for s', e' and e''.
+ * secrets, drawn afresh for each exchange; wim_noise makes them from random bytes, in BCNS by a table
+ * that is lent too. In names s1, e1 and e2 stand for s', e' and e''.
  *
  * The digest beside a key is its SHA3-256. Equal keys have equal digests, and other keys other ones
  * as far as anyone knows, so that two boxes can show or compare digests and never show a key.
@@ -38,23 +38,25 @@
  *
  * A call returns 0, or the number of its refusal; wim_refusal_text has the sentence:
  *
- *     WIM_NO_SCHEME      1   the scheme is not 0 to 5 (wim_noise: not 1 to 5)
+ *     WIM_NO_SCHEME      1   the scheme is not 0 to 5
  *     WIM_NO_RULE       12   the rule is not 14 or 16
  *     WIM_LENGTH         2   an input's length is not the fixed one (streams, hashes: over 65536)
  *     WIM_ROOM           3   an output buffer is shorter than the answer
+ *     WIM_NOT_ASCENDING 18   the table of noise is not strictly ascending
  *     WIM_PUBLIC_OVER    4   a lent public number is q or more
  *     WIM_MESSAGE_OVER   5   a number of the message is q or more
  *     WIM_BLANK         17   a message's packed part is all zero bytes
  *     WIM_SECRET_BEYOND  6   a secret or noise value lies beyond the largest noise
  *     WIM_RAN_OUT        7   the stream held fewer than 1024 numbers
  *
- * 5 never arises in Frodo, 6 is for values above the largest noise or below its negative, and 7 and
- * 12 are those of wim_expand and wim_grow alone; no seed is known for which wim_grow gives 7. 17 is
- * for a message without content, as a dead card sends it: seed and hints don't count. It is given
- * for a message received, and for one about to be sent, which is zero where secret and noise are;
- * a zero secret with some noise passes.
- * *place is the index of the first bad entry after 4, 5 and 6, how many numbers the stream held
- * after 7, and 0 after 1, 12, 2, 3, 17 and a success.
+ * 5 never arises in Frodo, 6 is for values above the largest noise or below its negative, 7 and 12
+ * are those of wim_expand and wim_grow alone, and 18 is that of wim_noise in BCNS alone; no seed is
+ * known for which wim_grow gives 7. 17 is for a message without content, as a dead card sends it:
+ * seed and hints don't count. It is given for a message received, and for one about to be sent,
+ * which is zero where secret and noise are; a zero secret with some noise passes.
+ * *place is the index of the first bad entry after 4, 5 and 6, the first entry of the table that is
+ * not above its forerunner, 1 to 50, after 18, how many numbers the stream held after 7, and 0 after
+ * 1, 12, 2, 3, 17 and a success.
  *
  * The tests go in the order of this table, and within one number in the order in which the inputs,
  * or for 3 the outputs, stand in the call; the first that fails is the refusal. 17 stands there for
@@ -198,6 +200,7 @@ extern "C" {
 #define WIM_RAN_OUT 7
 #define WIM_NO_RULE 12
 #define WIM_BLANK 17
+#define WIM_NOT_ASCENDING 18
 
 /*
  * The fixed numbers of each scheme, here X:
@@ -213,8 +216,9 @@ extern "C" {
  *     WIM_X_OPENING  bytes of the opening message
  *     WIM_X_REPLY    bytes of the reply message
  *     WIM_X_KEY      bytes of the key
- *     WIM_X_S_BYTES  random bytes from which wim_noise makes one of s, e, s' and e' (0: none)
- *     WIM_X_E2_BYTES random bytes from which wim_noise makes e'' (0: none)
+ *     WIM_X_S_BYTES  random bytes from which wim_noise makes one of s, e, s' and e'
+ *     WIM_X_E2_BYTES random bytes from which wim_noise makes e''
+ *     WIM_X_TABLE    64-bit words of the table that wim_noise is lent: 0, but in BCNS
  *     WIM_X_MARGIN   the margin of the slack (0: NewHope has no slack)
  *
  * WIM_MAX_.. is the largest over all schemes: buffers of these sizes serve each of them.
@@ -229,8 +233,9 @@ extern "C" {
 #define WIM_BCNS_OPENING 4096
 #define WIM_BCNS_REPLY 4224
 #define WIM_BCNS_KEY 128
-#define WIM_BCNS_S_BYTES 0
-#define WIM_BCNS_E2_BYTES 0
+#define WIM_BCNS_S_BYTES 25600
+#define WIM_BCNS_E2_BYTES 25600
+#define WIM_BCNS_TABLE 153
 #define WIM_BCNS_MARGIN 1073741823
 
 #define WIM_NEWHOPE_Q 12289u
@@ -245,6 +250,7 @@ extern "C" {
 #define WIM_NEWHOPE_KEY 32
 #define WIM_NEWHOPE_S_BYTES 4096
 #define WIM_NEWHOPE_E2_BYTES 4096
+#define WIM_NEWHOPE_TABLE 0
 #define WIM_NEWHOPE_MARGIN 0
 
 #define WIM_FRODO_CHALLENGE_Q 2048u
@@ -259,6 +265,7 @@ extern "C" {
 #define WIM_FRODO_CHALLENGE_KEY 8
 #define WIM_FRODO_CHALLENGE_S_BYTES 5632
 #define WIM_FRODO_CHALLENGE_E2_BYTES 128
+#define WIM_FRODO_CHALLENGE_TABLE 0
 #define WIM_FRODO_CHALLENGE_MARGIN 256
 
 #define WIM_FRODO_CLASSICAL_Q 4096u
@@ -273,6 +280,7 @@ extern "C" {
 #define WIM_FRODO_CLASSICAL_KEY 16
 #define WIM_FRODO_CLASSICAL_S_BYTES 9472
 #define WIM_FRODO_CLASSICAL_E2_BYTES 128
+#define WIM_FRODO_CLASSICAL_TABLE 0
 #define WIM_FRODO_CLASSICAL_MARGIN 256
 
 #define WIM_FRODO_RECOMMENDED_Q 32768u
@@ -287,6 +295,7 @@ extern "C" {
 #define WIM_FRODO_RECOMMENDED_KEY 32
 #define WIM_FRODO_RECOMMENDED_S_BYTES 12032
 #define WIM_FRODO_RECOMMENDED_E2_BYTES 128
+#define WIM_FRODO_RECOMMENDED_TABLE 0
 #define WIM_FRODO_RECOMMENDED_MARGIN 512
 
 #define WIM_FRODO_PARANOID_Q 32768u
@@ -301,6 +310,7 @@ extern "C" {
 #define WIM_FRODO_PARANOID_KEY 32
 #define WIM_FRODO_PARANOID_S_BYTES 13824
 #define WIM_FRODO_PARANOID_E2_BYTES 128
+#define WIM_FRODO_PARANOID_TABLE 0
 #define WIM_FRODO_PARANOID_MARGIN 512
 
 #define WIM_MAX_A 746496
@@ -311,8 +321,9 @@ extern "C" {
 #define WIM_MAX_OPENING 12976
 #define WIM_MAX_REPLY 12968
 #define WIM_MAX_KEY 128
-#define WIM_MAX_S_BYTES 13824
-#define WIM_MAX_E2_BYTES 4096
+#define WIM_MAX_S_BYTES 25600
+#define WIM_MAX_E2_BYTES 25600
+#define WIM_MAX_TABLE 153
 
 /* wim_expand: the length of its answer in numbers, which is wim_grow's too, and the longest stream
  * in bytes. */
@@ -370,10 +381,20 @@ WIM_MUST_USE uint32_t wim_finish(uint32_t scheme, const uint8_t *reply, size_t r
                                  uint64_t *slack, uint64_t *slack_index);
 
 /*
- * Noise: scheme, random bytes. Gives WIM_X_S values from WIM_X_S_BYTES bytes, WIM_X_E2 values from
- * WIM_X_E2_BYTES; no other length is taken. Refuses with 1 (in BCNS too), 2, 3.
+ * Noise: scheme, random bytes, a table. Gives WIM_X_S values from WIM_X_S_BYTES bytes, WIM_X_E2
+ * values from WIM_X_E2_BYTES; no other length is taken. The table is empty but in BCNS.
+ *
+ * BCNS takes 25 bytes a value. The first 24, the highest first, are a number v of 192 bits; the
+ * value's size is how many of the table's 51 entries are at most v, so 0 to 51, and it is negative
+ * where the last byte is odd. An entry is three 64-bit words, the highest first, and the entries
+ * must ascend. Any such table is taken; that of the paper, by which keys are as secret as the paper
+ * says, is data/bcns-table.txt, which ./install puts into PREFIX/share/wimmostry. The table is
+ * public: the bytes are not, and every entry is looked at whatever they are.
+ *
+ * Refuses with 1, 2, 3, 18, in this order; of 2, the bytes' length is tested first.
  */
 WIM_MUST_USE uint32_t wim_noise(uint32_t scheme, const uint8_t *bytes, size_t bytes_len,
+                                const uint64_t *table, size_t table_len,
                                 int32_t *out, size_t out_len, uint64_t *place, uint64_t *written);
 
 /*

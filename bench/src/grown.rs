@@ -53,7 +53,7 @@ fn grow(seed: &[u8]) -> [u32; 1024] {
 
 fn noise(bytes: &[u8]) -> [i32; 1024] {
     let mut values = [0; 1024];
-    assert!(raw::noise(1, bytes, &mut values).is_ok());
+    assert!(raw::noise(1, bytes, &[], &mut values).is_ok());
     values
 }
 

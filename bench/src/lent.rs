@@ -17,14 +17,18 @@ pub struct Lent {
     pub coins: Vec<u8>,
 }
 
-/// Noise of the scheme's own distribution; BCNS's, which is lent ready, of its
-/// whole range.
-fn noise(scheme: &Scheme, count: usize, draw: &mut Draw) -> Vec<i32> {
-    if scheme.family == Family::Bcns {
-        return draw.secrets(count, scheme.largest_noise as u32);
+/// The table of the scheme's noise: empty but in BCNS.
+pub fn table(scheme: &Scheme) -> Vec<u64> {
+    match scheme.family {
+        Family::Bcns => second::table::table(),
+        Family::NewHope | Family::Frodo => vec![],
     }
+}
+
+/// Noise of the scheme's own distribution.
+fn noise(scheme: &Scheme, count: usize, draw: &mut Draw) -> Vec<i32> {
     let mut values = vec![0; count];
-    sampling::noise(scheme, &draw.bytes(count * bytes_a_value(scheme)), &mut values);
+    sampling::noise(scheme, &draw.bytes(count * bytes_a_value(scheme)), &table(scheme), &mut values);
     values
 }
 

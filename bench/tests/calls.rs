@@ -2,7 +2,7 @@
 //! the same bytes. The proved calls are held to it in `rust/`.
 
 use bench::draw::Draw;
-use bench::lent::Lent;
+use bench::lent::{table, Lent};
 use bench::plain::bcns::Bcns;
 use bench::plain::frodo::Frodo;
 use bench::plain::newhope::NewHope;
@@ -92,14 +92,28 @@ fn exchanges_of_the_largest() {
 
 #[test]
 fn noise() {
-    for scheme in SIX.iter().filter(|scheme| scheme.family != Family::Bcns) {
+    for scheme in &SIX {
+        let table = table(scheme);
         for length in second::noise::lengths(scheme) {
             let bytes = Draw::new(length as u32).bytes(length);
             let mut values = vec![99; length / second::noise::bytes_a_value(scheme)];
-            sampling::noise(scheme, &bytes, &mut values);
-            assert!(values == second::noise::values(scheme, &bytes), "{}", scheme.name);
+            let expected = second::noise::values(scheme, &bytes, &table);
+            sampling::noise(scheme, &bytes, &table, &mut values);
+            assert!(values == expected, "{}", scheme.name);
+            if scheme.family == Family::Bcns {
+                sampling::bcns_early(&bytes, &table, &mut values);
+                assert!(values == expected, "a search that stops early");
+            }
         }
     }
+    // at the entries of a table that share words, one less and one more
+    let table = second::vectors::noise::table();
+    let bytes = second::vectors::noise::edges(&[0; 25600]);
+    let expected = second::noise::values(&SIX[0], &bytes, &table);
+    let (mut all, mut early) = ([0; 1024], [0; 1024]);
+    sampling::bcns(&bytes, &table, &mut all);
+    sampling::bcns_early(&bytes, &table, &mut early);
+    assert!(all[..] == expected && early[..] == expected, "the edges of the entries");
 }
 
 #[test]

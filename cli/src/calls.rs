@@ -137,7 +137,12 @@ pub fn finish(scheme: u32, given: &[&Data], out: &mut [Data]) -> Result<Answer, 
 }
 
 pub fn noise(scheme: u32, given: &[&Data], out: &mut [Data]) -> Result<Answer, Refused> {
-    let done = raw::noise(scheme, given[0].bytes(), out[0].values_mut());
+    let done = raw::noise(
+        scheme,
+        given[0].bytes(),
+        given[1].words(),
+        out[0].values_mut(),
+    );
     ended(done.map(|n| Answer::written(&[n])))
 }
 

@@ -1,4 +1,4 @@
-//! What is in a file, as numbers, values or bytes, in memory that is zeroed
+//! What is in a file, as numbers, values, bytes or words, in memory that is zeroed
 //! when it is given back.
 
 use std::ops::{Deref, DerefMut};
@@ -66,6 +66,8 @@ pub enum Kind {
     /// Secrets and noise: the same, in two's complement.
     Values,
     Bytes,
+    /// 64-bit words of a table: text, an entry a line.
+    Words,
 }
 
 impl Kind {
@@ -74,6 +76,7 @@ impl Kind {
         match self {
             Kind::Numbers | Kind::Values => 4,
             Kind::Bytes => 1,
+            Kind::Words => 8,
         }
     }
 }
@@ -82,6 +85,7 @@ pub enum Data {
     Numbers(Wiped<u32>),
     Values(Wiped<i32>),
     Bytes(Wiped<u8>),
+    Words(Wiped<u64>),
 }
 
 fn word(four: &[u8]) -> [u8; 4] {
@@ -94,6 +98,7 @@ impl Data {
             Kind::Numbers => Data::Numbers(Wiped::zeros(n)),
             Kind::Values => Data::Values(Wiped::zeros(n)),
             Kind::Bytes => Data::Bytes(Wiped::zeros(n)),
+            Kind::Words => Data::Words(Wiped::zeros(n)),
         }
     }
 
@@ -104,6 +109,7 @@ impl Data {
             Kind::Numbers => Data::Numbers(Wiped::collect(words.map(u32::from_le_bytes))),
             Kind::Values => Data::Values(Wiped::collect(words.map(i32::from_le_bytes))),
             Kind::Bytes => Data::Bytes(bytes),
+            Kind::Words => unreachable!("a table is text"),
         }
     }
 
@@ -113,6 +119,7 @@ impl Data {
             Data::Numbers(x) => lay(&mut bytes, x.iter().map(|n| n.to_le_bytes())),
             Data::Values(x) => lay(&mut bytes, x.iter().map(|n| n.to_le_bytes())),
             Data::Bytes(x) => bytes.copy_from_slice(x),
+            Data::Words(_) => unreachable!("no table is an output"),
         }
         bytes
     }
@@ -122,6 +129,7 @@ impl Data {
             Data::Numbers(_) => Kind::Numbers,
             Data::Values(_) => Kind::Values,
             Data::Bytes(_) => Kind::Bytes,
+            Data::Words(_) => Kind::Words,
         }
     }
 
@@ -131,6 +139,7 @@ impl Data {
             Data::Numbers(x) => x.len(),
             Data::Values(x) => x.len(),
             Data::Bytes(x) => x.len(),
+            Data::Words(x) => x.len(),
         }
     }
 
@@ -139,6 +148,7 @@ impl Data {
             Data::Numbers(x) => x.truncate(n),
             Data::Values(x) => x.truncate(n),
             Data::Bytes(x) => x.truncate(n),
+            Data::Words(x) => x.truncate(n),
         }
     }
 
@@ -163,6 +173,13 @@ impl Data {
         match self {
             Data::Bytes(x) => x,
             _ => unreachable!("the table has bytes here"),
+        }
+    }
+
+    pub fn words(&self) -> &[u64] {
+        match self {
+            Data::Words(x) => x,
+            _ => unreachable!("the table has words here"),
         }
     }
 

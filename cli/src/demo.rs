@@ -130,12 +130,14 @@ fn public(scheme: u32) -> String {
 }
 
 fn noise(scheme: u32, sizes: &Sizes) -> String {
-    match scheme {
-        BCNS => {
-            "by NewHope's sampler, up to 16; BCNS has its noise lent ready, up to 51".to_string()
-        }
-        _ => format!("through noise, from {} random bytes each", sizes.s_bytes),
-    }
+    let by = match scheme {
+        BCNS => ", by document 000's table",
+        _ => "",
+    };
+    format!(
+        "through noise, from {} random bytes each{by}",
+        sizes.s_bytes
+    )
 }
 
 /// The two messages with their parts, in bytes.

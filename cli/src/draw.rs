@@ -1,6 +1,7 @@
 //! What an exchange needs of randomness: secrets and noise through Noise,
 //! public numbers below q, seed and coins.
 
+use crate::bcns;
 use crate::calls::{self, Refused, Sizes, SCHEMES};
 use crate::data::{Data, Kind, Wiped};
 use crate::escape::shown;
@@ -22,10 +23,9 @@ pub const WORDS: &str = "\
 ";
 
 pub const MORE: &str = "\
-Values come from /dev/urandom through noise. BCNS has its noise lent ready: there NewHope's
-sampler is taken, values up to 16 of 51, and the line says so. Draw all anew for each exchange.";
+Values come from /dev/urandom through noise; in BCNS by the table that document 000 describes, which
+the program has with it. Draw all anew for each exchange.";
 
-/// BCNS, whose noise is lent ready, takes NewHope's sampler.
 pub const BCNS: u32 = 0;
 pub const NEWHOPE: u32 = 1;
 
@@ -76,13 +76,7 @@ pub fn run(given: &[OsString]) -> Done {
         tell::say(voice(&place), &format!("refusal=1 place=0 {detail}\n"))?;
         return Ok(tell::REFUSED);
     }
-    let borrowed = scheme == BCNS && matches!(what, What::Secret | What::Last);
-    let sampler = match calls::sizes(NEWHOPE) {
-        Some(sizes) if borrowed => format!(" sampler=newhope largest={}", sizes.noise),
-        _ => String::new(),
-    };
-    let line = format!("written={}{sampler}\n", drawn.len());
-    tell::say(voice(&place), &line)?;
+    tell::say(voice(&place), &format!("written={}\n", drawn.len()))?;
     Ok(tell::DONE)
 }
 
@@ -96,30 +90,21 @@ fn draw(scheme: u32, sizes: &Sizes, what: What) -> Result<Data, Fault> {
     }
 }
 
-/// The scheme whose sampler is taken, and its fixed numbers.
-fn sampler(scheme: u32, sizes: &Sizes) -> (u32, Sizes) {
-    match calls::sizes(NEWHOPE) {
-        Some(newhope) if scheme == BCNS => (NEWHOPE, newhope),
-        _ => (scheme, *sizes),
-    }
-}
-
 /// One of s, e, s' and e'.
 pub fn secret(scheme: u32, sizes: &Sizes) -> Result<Data, Fault> {
-    let (by, its) = sampler(scheme, sizes);
-    noise(by, its.s_bytes, sizes.s)
+    noise(scheme, sizes, sizes.s_bytes, sizes.s)
 }
 
 /// e''.
 pub fn last(scheme: u32, sizes: &Sizes) -> Result<Data, Fault> {
-    let (by, its) = sampler(scheme, sizes);
-    noise(by, its.e2_bytes, sizes.e2)
+    noise(scheme, sizes, sizes.e2_bytes, sizes.e2)
 }
 
-fn noise(scheme: u32, bytes: usize, values: usize) -> Result<Data, Fault> {
+fn noise(scheme: u32, sizes: &Sizes, bytes: usize, values: usize) -> Result<Data, Fault> {
     let random = Data::Bytes(random::bytes(bytes)?);
+    let table = bcns::table(sizes.table);
     let mut out = [Data::zeros(Kind::Values, values)];
-    match calls::noise(scheme, &[&random], &mut out) {
+    match calls::noise(scheme, &[&random, &table], &mut out) {
         Ok(answer) if answer.written == [values] => {
             let [out] = out;
             Ok(out)
@@ -164,6 +149,11 @@ mod tests {
             assert_eq!(secret.len(), sizes.s);
             assert!(secret.values().iter().all(|v| v.abs() <= largest));
             assert!(secret.values().iter().any(|&v| v != 0));
+            // of 1,024 draws from a Gaussian of width 3.2 some are over 5 and none over 30
+            if scheme == BCNS {
+                assert!(secret.values().iter().any(|v| v.abs() > 5));
+                assert!(secret.values().iter().all(|v| v.abs() < 30));
+            }
         }
     }
 

@@ -1,6 +1,7 @@
 //! The files that the words name: that no two are one, that each is a plain
 //! file, and what the inputs hold.
 
+use crate::bcns;
 use crate::data::{Data, Kind, Wiped};
 use crate::escape::shown;
 use crate::table::Input;
@@ -216,6 +217,9 @@ pub fn read(input: &Input, place: &Place) -> Result<Lent, Fault> {
         Place::Standard => standard(Way::In).map_err(wrong)?,
         Place::Nothing => return Ok(Lent::nothing(input.kind)),
     };
+    if input.kind == Kind::Words {
+        return words(&mut file, name);
+    }
     let entry = input.kind.entry();
     let mut bytes = Wiped::zeros(entry * (input.length.largest() + 1));
     let n = fill(&mut file, &mut bytes).map_err(wrong)?;
@@ -235,6 +239,25 @@ pub fn read(input: &Input, place: &Place) -> Result<Lent, Fault> {
         data: Data::from_file(input.kind, bytes),
         beyond: full.then_some(all / entry as u64),
         open: full && place.path().is_none(),
+    })
+}
+
+/// A table, which is text.
+fn words(file: &mut File, name: &OsStr) -> Result<Lent, Fault> {
+    let mut text = Wiped::zeros(bcns::LONGEST + 1);
+    let n = fill(file, &mut text).map_err(|error| tell::file(name, reason(&error)))?;
+    if n > bcns::LONGEST {
+        let line = format!("is no table: it has over {} bytes", bcns::LONGEST);
+        return Err(tell::file(name, line));
+    }
+    let words = bcns::read(&text[..n]).map_err(|line| {
+        let entry = "an entry, three words of 16 hexadecimal digits";
+        tell::file(name, format!("is no table: line {line} is not {entry}"))
+    })?;
+    Ok(Lent {
+        data: Data::Words(words),
+        beyond: None,
+        open: false,
     })
 }
 

@@ -36,11 +36,11 @@ const WORDS: &str = "
 SCHEME is 0 BCNS, 1 NewHope, 2 Frodo Challenge, 3 Frodo Classical, 4 Frodo Recommended,
 5 Frodo Paranoid. RULE is 14 low bits or 16 whole word, the same at both ends, LENGTH a number of
 bytes. Every other word in capitals is a file, - for standard input or output (once each way), or,
-of an input, none for nothing at all: BCNS has no seed and Frodo no coins. A file that has such a
-name is ./- or ./none.
+of an input, none for nothing at all: BCNS has no seed, Frodo no coins, and BCNS alone a table. A
+file that has such a name is ./- or ./none.
 
 Public numbers (A) and secrets and noise (S, E, S1, E1, E2) are 32 bits each, the lowest byte
-first, secrets and noise in two's complement. All else is bytes.
+first, secrets and noise in two's complement. A TABLE is text. All else is bytes.
 
 An exchange between two folders, the initiator's left and the replier's right:
 
@@ -90,7 +90,8 @@ Status 1: refused; one line, as refusal=6 place=3 input=e value=7 largest=6
          12 no such rule              5 a number of the message is q or more
           2 a wrong length           17 a message is blank: all its packed bytes are zero
           3 (not here)                6 a secret or noise is too large
-          8 no trace (trace alone)    7 the stream of expand or grow ran out
+         18 a table does not ascend   7 the stream of expand or grow ran out
+          8 no trace (trace alone)
           A blank message is an input, as a dead card sends it, or the answer, where a secret and
           its noise are zero.
           place counts from 0. A length of 33.. is 33 or more. To - nothing is written.
@@ -164,6 +165,9 @@ fn files(own: &OnFiles, text: &mut String) {
     }
 }
 
+/// How wide a line is at most.
+const PAGE: usize = 100;
+
 fn entry(
     own: &OnFiles,
     word: &str,
@@ -177,9 +181,15 @@ fn entry(
         Kind::Numbers => "numbers",
         Kind::Values => "values",
         Kind::Bytes => "bytes",
+        Kind::Words => "words of 64 bits",
     };
     let _ = writeln!(text, "  {word:<9}{way}: {what}");
-    let _ = writeln!(text, "           {unit}: {}", lengths(own, length));
+    let line = format!("           {unit}: {}", lengths(own, length));
+    let line = match line.len() > PAGE {
+        true => line.replace(" in schemes", "\n           in schemes"),
+        false => line,
+    };
+    let _ = writeln!(text, "{line}");
 }
 
 /// How long in each scheme.
@@ -213,7 +223,7 @@ mod tests {
     fn no_line_is_wider_than_a_page() {
         for text in COMMANDS.iter().map(page).chain([overview()]) {
             for line in text.lines() {
-                assert!(line.chars().count() <= 100, "{line}");
+                assert!(line.chars().count() <= PAGE, "{line}");
                 assert_eq!(line.trim_end(), line);
             }
         }

@@ -1,6 +1,7 @@
 //! `wimmostry`: the calls of the proved library on files. `wimmostry help` says
 //! all about it; the commands are the entries of `table.rs`.
 
+mod bcns;
 mod calls;
 mod data;
 mod demo;

@@ -391,12 +391,21 @@ pub const COMMANDS: &[Command] = &[
         name: "noise",
         brief: "secrets and noise from random bytes of your own",
         form: Form::Files(OnFiles {
-            by: By::Scheme(1, SCHEMES - 1),
-            inputs: &[bytes(
-                "BYTES",
-                Length::Either(|z| z.s_bytes, |z| z.e2_bytes),
-                "random bytes: as many as s, e, s1 or e1 take, or as e2 takes",
-            )],
+            by: ALL_SCHEMES,
+            inputs: &[
+                bytes(
+                    "BYTES",
+                    Length::Either(|z| z.s_bytes, |z| z.e2_bytes),
+                    "random bytes: as many as s, e, s1 or e1 take, or as e2 takes",
+                ),
+                Input {
+                    word: "TABLE",
+                    kind: Kind::Words,
+                    length: Length::By(|z| z.table),
+                    packed: None,
+                    what: "BCNS's table, as text; none in the other schemes",
+                },
+            ],
             outputs: &[Output {
                 kind: Kind::Values,
                 secret: true,
@@ -409,9 +418,13 @@ pub const COMMANDS: &[Command] = &[
             call: calls::noise,
         }),
         more:
-            "BCNS, scheme 0, has its noise lent ready and is refused by 1. draw does both steps\n\
-               with the system's randomness.",
-        example: "head -c 4096 /dev/urandom | wimmostry noise 1 - left/s",
+            "A table has 51 entries, a line each: three words of 16 hexadecimal digits, the highest\n\
+               first. Lines that begin with # are comments. The entries must ascend, or the call is\n\
+               refused by 18 at the first that does not. By BCNS's own table, which is installed as\n\
+               share/wimmostry/bcns-table.txt and stands in data/, 25 bytes make a value: 24 of them\n\
+               a number, whose size is how many entries are at most it, and the last its sign. draw\n\
+               does both steps with that table and the system's randomness.",
+        example: "head -c 25600 /dev/urandom | wimmostry noise 0 - bcns-table.txt left/s",
     },
     Command {
         name: "expand",
@@ -596,7 +609,7 @@ mod tests {
         assert_eq!(COINS.length.largest(), 256);
         assert_eq!(
             Length::Either(|z| z.s_bytes, |z| z.e2_bytes).largest(),
-            13824
+            25600
         );
         assert_eq!(Length::AtMost(EXPAND_STREAM).largest(), 65536);
         assert_eq!(HASHED.length.largest(), 65536);

@@ -1,8 +1,9 @@
 //! What the program says: the lines of answers and refusals, and the lines on
 //! what is wrong, with the status that goes with each.
 
+use crate::bcns;
 use crate::calls::{rules, Answer, Bench, Refused, Sizes, Slack, EXPAND_NUMBERS};
-use crate::data::Data;
+use crate::data::{Data, Kind};
 use crate::escape::shown;
 use crate::files::Lent;
 use crate::table::{By, Input, Length, OnFiles};
@@ -104,6 +105,7 @@ pub fn refusal(own: &OnFiles, asked: u32, refused: Refused, given: &[Lent]) -> S
         1 | 12 => unknown(own.by, asked),
         2 => length(own, sizes.as_ref(), given),
         3 => room(own, sizes.as_ref()),
+        18 => falls(own, place, given),
         4..=6 => entry(own, sizes.as_ref(), refused, given),
         7 => ran_out(own),
         17 => blank(own, sizes.as_ref(), given),
@@ -176,6 +178,16 @@ fn ran_out(own: &OnFiles) -> Option<String> {
         "input={} expected={EXPAND_NUMBERS}",
         name(input.word)
     ))
+}
+
+/// The table's entry at the place and its forerunner, if it is not above that.
+fn falls(own: &OnFiles, place: usize, given: &[Lent]) -> Option<String> {
+    let mut pairs = own.inputs.iter().zip(given);
+    let (input, lent) = pairs.find(|(x, _)| x.kind == Kind::Words)?;
+    let value = bcns::number(lent.data.words(), place)?;
+    let before = bcns::number(lent.data.words(), place.checked_sub(1)?)?;
+    let detail = format!("input={} value={value} above={before}", name(input.word));
+    Some(detail).filter(|_| value <= before)
 }
 
 /// The first input with a bad entry of the refusal's kind, if it stands where

@@ -176,6 +176,86 @@ fn a_blank_message_is_turned_away() {
 }
 
 #[test]
+fn noise_in_bcns_goes_by_a_table() {
+    let room = Room::new("table");
+    let shipped = include_str!("../../data/bcns-table.txt");
+    let put = |name: &str, text: &str| fs::write(room.0.join(name), text).unwrap();
+    put("table", shipped);
+    // v is the first entry, one less, and as large as can be; both signs
+    let mut bytes = vec![0; 25600];
+    bytes[0] = 0x20;
+    bytes[25] = 0x1f;
+    bytes[26..49].fill(255);
+    bytes[50..75].fill(255);
+    bytes[99] = 1;
+    fs::write(room.0.join("bytes"), &bytes).unwrap();
+    assert_eq!(room.says(0, "noise 0 bytes table s"), "written=1024\n");
+    let values = room.read("s");
+    let value = |k: usize| i32::from_le_bytes(values[4 * k..4 * k + 4].try_into().unwrap());
+    assert_eq!([0, 1, 2, 3, 4].map(value), [1, 0, -51, 0, 0]);
+
+    // lengths, of the bytes first; no other scheme takes a table
+    let line = room.says(1, "noise 0 none none s");
+    assert_eq!(
+        line,
+        "refusal=2 place=0 input=bytes length=0 expected=25600\n"
+    );
+    assert_eq!(room.read("s"), []);
+    let line = room.says(1, "noise 0 bytes none s");
+    assert_eq!(
+        line,
+        "refusal=2 place=0 input=table length=0 expected=153\n"
+    );
+    let lines: Vec<&str> = shipped
+        .lines()
+        .filter(|line| !line.starts_with('#'))
+        .collect();
+    put("short", &lines[..50].join("\n"));
+    let line = room.says(1, "noise 0 bytes short s");
+    assert_eq!(
+        line,
+        "refusal=2 place=0 input=table length=150 expected=153\n"
+    );
+    fs::write(room.0.join("few"), &bytes[..4096]).unwrap();
+    let line = room.says(1, "noise 1 few table s");
+    assert_eq!(
+        line,
+        "refusal=2 place=0 input=table length=153 expected=0\n"
+    );
+    assert_eq!(room.says(0, "noise 1 few none s"), "written=1024\n");
+    let line = room.says(1, "noise 6 few none s");
+    assert_eq!(line, "refusal=1 place=0 scheme=6 expected=0..5\n");
+
+    // an entry equal to its forerunner
+    let mut equal = lines.clone();
+    equal[25] = equal[24];
+    put("equal", &equal.join("\n"));
+    let entry = equal[24].replace(' ', "");
+    let line = room.says(1, "noise 0 bytes equal s");
+    let told = format!("refusal=18 place=25 input=table value={entry} above={entry}\n");
+    assert_eq!(line, told);
+    assert_eq!(room.read("s"), []);
+
+    // texts that are no table: nothing is touched
+    put("s", "old");
+    put("words", &lines.join("\n").replacen(' ', "", 1));
+    put("long", &"#\n".repeat(40000));
+    for (name, why) in [
+        (
+            "words",
+            "line 1 is not an entry, three words of 16 hexadecimal digits",
+        ),
+        ("long", "it has over 65536 bytes"),
+    ] {
+        let done = room.run(&format!("noise 0 bytes {name} s"));
+        assert_eq!(done.status.code(), Some(3));
+        let said = String::from_utf8(done.stderr).unwrap();
+        assert_eq!(said, format!("wimmostry: {name}: is no table: {why}\n"));
+        assert_eq!(room.read("s"), b"old");
+    }
+}
+
+#[test]
 fn expand_goes_by_its_rule() {
     let room = Room::new("rule");
     // 12289, which rule 14 passes over and rule 16 takes as 0

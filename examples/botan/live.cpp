@@ -58,7 +58,7 @@ static Secret draw(Random &random)
     Secret values(WIM_NEWHOPE_S);
     uint64_t place, written;
 
-    uint32_t refusal = wim_noise(WIM_NEWHOPE, bytes.data(), bytes.size(), values.data(),
+    uint32_t refusal = wim_noise(WIM_NEWHOPE, bytes.data(), bytes.size(), nullptr, 0, values.data(),
                                  values.size(), &place, &written);
     wim_scrub();
     accept(refusal);

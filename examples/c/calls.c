@@ -31,9 +31,8 @@ static uint32_t noise(struct lent *l)
 {
     const struct scheme *x = l->scheme;
 
-    if (x->number == WIM_BCNS)
-        return WIM_DONE;
-    return wim_noise(x->number, l->bytes, x->s_bytes, l->values, WIM_MAX_S, &l->place, &l->written);
+    return wim_noise(x->number, l->bytes, x->s_bytes, bcns_table, x->table, l->values, WIM_MAX_S,
+                     &l->place, &l->written);
 }
 
 /* By the one rule and then by the other. */

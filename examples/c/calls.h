@@ -26,11 +26,10 @@ struct call {
 #define CALLS 9
 enum { OFFER, REPLY, FINISH, NOISE, EXPAND, GROW, SHAKE128, SHA3_256, BENCH };
 
-/* In this order, so that Reply finds an opening and Finish a reply. BCNS has no Noise: it is done
- * without a call there. */
+/* In this order, so that Reply finds an opening and Finish a reply. */
 extern const struct call calls[CALLS];
 
-/* Draws every input of a scheme. 0 or the refusal. */
+/* Draws every input of a scheme, once the table was read. 0 or the refusal. */
 uint32_t draw_all(struct lent *lent, const struct scheme *scheme);
 
 #endif

@@ -20,13 +20,9 @@ uint32_t draw_secrets(uint64_t *state, const struct scheme *scheme, int32_t *out
     uint8_t random[WIM_MAX_S_BYTES];
     uint64_t place, written;
 
-    if (scheme->number == WIM_BCNS) {
-        for (size_t i = 0; i < count; i++)
-            out[i] = draw_byte(state) % 5 - 2;
-        return WIM_DONE;
-    }
     draw_bytes(state, random, bytes);
-    return wim_noise(scheme->number, random, bytes, out, count, &place, &written);
+    return wim_noise(scheme->number, random, bytes, bcns_table, scheme->table, out, count, &place,
+                     &written);
 }
 
 uint32_t draw_public(const struct scheme *scheme, const uint8_t *seed, uint32_t *a)

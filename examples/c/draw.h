@@ -6,14 +6,15 @@
 #define DRAW_H
 
 #include "schemes.h"
+#include "table.h"
 
 /* The next byte of the generator that *state holds. */
 uint8_t draw_byte(uint64_t *state);
 
 void draw_bytes(uint64_t *state, uint8_t *out, size_t count);
 
-/* s, e, s' or e', or e'': count values, from as many random bytes as wim_noise takes; BCNS's noise
- * is lent ready, here -2 to 2. 0 or the refusal. */
+/* s, e, s' or e', or e'': count values, from as many random bytes as wim_noise takes, in BCNS by the
+ * table that was read. 0 or the refusal. */
 uint32_t draw_secrets(uint64_t *state, const struct scheme *scheme, int32_t *out, size_t count,
                       size_t bytes);
 

@@ -1,7 +1,7 @@
 /*
  * A null pointer with length 0 is an empty slice like any other: each input and output of each
- * call in turn, all of them at once, and the seed of BCNS and the coins of Frodo, which are empty
- * in accepted calls. Fails where a call gives another refusal than the header says.
+ * call in turn, all of them at once, and the seed of BCNS, the coins of Frodo and the table of the
+ * schemes other than BCNS, which are empty in accepted calls. Fails where a call gives another refusal than the header says.
  */
 #include "calls.h"
 
@@ -77,12 +77,12 @@ static void finish(int nulls)
 
 static void noise(int nulls)
 {
-    const size_t lengths[] = {x->s_bytes};
-    uint32_t refusal = wim_noise(x->number, LEND(0, lent.bytes, x->s_bytes),
-                                 LEND(1, lent.values, x->s), &place, &written);
+    const size_t lengths[] = {x->s_bytes, x->table};
+    uint32_t refusal =
+        wim_noise(x->number, LEND(0, lent.bytes, x->s_bytes), LEND(1, bcns_table, x->table),
+                  LEND(2, lent.values, x->s), &place, &written);
 
-    held("wim_noise", nulls, refusal,
-         x->number == WIM_BCNS ? WIM_NO_SCHEME : expected(nulls, lengths, 1, 1));
+    held("wim_noise", nulls, refusal, expected(nulls, lengths, 2, 1));
 }
 
 /* Both rules, and one that there is not. */
@@ -155,6 +155,8 @@ static void each(void (*call)(int), int slices)
 
 int main(void)
 {
+    if (!read_table())
+        return EXIT_FAILURE;
     for (int k = 0; k < 6; k++) {
         x = &schemes[k];
         if (draw_all(&lent, x) != WIM_DONE)
@@ -164,7 +166,7 @@ int main(void)
         each(reply, 9);
         reply(0);
         each(finish, 4);
-        each(noise, 2);
+        each(noise, 3);
         for (int i = 0; i < 3; i++) {
             rule = rules[i];
             each(expand, 2);

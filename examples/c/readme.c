@@ -14,7 +14,7 @@ static uint32_t draw(FILE *random, int32_t *out)
 
     return fread(bytes, sizeof bytes, 1, random) != 1
                ? WIM_LENGTH
-               : wim_noise(NEWHOPE, bytes, sizeof bytes, out, N, &place, &n);
+               : wim_noise(NEWHOPE, bytes, sizeof bytes, NULL, 0, out, N, &place, &n);
 }
 
 int main(void)

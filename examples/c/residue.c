@@ -227,7 +227,7 @@ static void look_for_all(size_t depth)
     look_values("e''", lent.e2, x->e2, 8, depth);
     look_bytes("coins", lent.coins, x->coins, x->number == WIM_BCNS ? 2 : 1, depth);
     look_bytes("random bytes", lent.bytes, x->s_bytes, 0, depth);
-    look_values("noise", lent.values, x->s_bytes ? x->s : 0, 8, depth);
+    look_values("noise", lent.values, x->s, 8, depth);
     look_bytes("key", lent.key, x->key, key_bits, depth);
     look_bytes("the peer's key", lent.peer_key, x->key, key_bits, depth);
     look_bytes("the digest", lent.digest, WIM_DIGEST, 0, depth);
@@ -290,7 +290,7 @@ int main(int argc, char **argv)
     int before, after;
 
     tells = argc > 1 && strcmp(argv[1], "all") == 0;
-    if (posix_memalign(&stack, 65536, SIZE) != 0)
+    if (!read_table() || posix_memalign(&stack, 65536, SIZE) != 0)
         return EXIT_FAILURE;
     before = count_all(stack);
     scrubs = 1;

@@ -36,6 +36,8 @@ static void hide(size_t call)
 
 int main(void)
 {
+    if (!read_table())
+        return EXIT_FAILURE;
     for (int k = 0; k < 6; k++) {
         if (draw_all(&lent, &schemes[k]) != WIM_DONE)
             return EXIT_FAILURE;

@@ -4,10 +4,11 @@
  *
  * Both ends run in wim_bench. All bytes are SHAKE-128's, of the scheme, the exchange's number and
  * the list's, so that an exchange is the same in every run. Secrets and noise come through
- * wim_noise; BCNS's are lent ready: here every value from -51 to 51 is as likely as any other. In
- * NewHope the public numbers grow from the seed, elsewhere they are random and below q.
+ * wim_noise, BCNS's by the table of document 000. In NewHope the public numbers grow from the seed,
+ * elsewhere they are random and below q.
  */
 #include "schemes.h"
+#include "table.h"
 
 #include <stdio.h>
 #include <stdlib.h>
@@ -58,18 +59,11 @@ static uint32_t draw_secrets(int32_t *out, size_t count, size_t random)
 {
     const struct scheme *x = at.scheme;
     uint64_t place, written;
-    uint32_t refusal;
+    uint32_t refusal = draw_bytes(bytes, random);
 
-    if (x->number != WIM_BCNS) {
-        refusal = draw_bytes(bytes, random);
-        return refusal != WIM_DONE
-                   ? refusal
-                   : wim_noise(x->number, bytes, random, out, count, &place, &written);
-    }
-    refusal = draw_bytes(bytes, 4 * count);
-    for (size_t i = 0; i < count; i++)
-        out[i] = (int32_t)(word(i) % (2 * WIM_BCNS_NOISE + 1)) - WIM_BCNS_NOISE;
-    return refusal;
+    return refusal != WIM_DONE ? refusal
+                               : wim_noise(x->number, bytes, random, bcns_table, x->table, out,
+                                           count, &place, &written);
 }
 
 /* One exchange: its slack, and whether the keys differ. 0 or the refusal. */
@@ -99,6 +93,10 @@ int main(int count, char **words)
     if (count != 4 || atoi(words[1]) < 0 || atoi(words[1]) > 5) {
         fputs("slack SCHEME FIRST COUNT\n", stderr);
         return 2;
+    }
+    if (!read_table()) {
+        fputs("BCNS's table cannot be read\n", stderr);
+        return 1;
     }
     at.scheme = &schemes[atoi(words[1])];
     first = strtoull(words[2], NULL, 10);

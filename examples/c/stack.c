@@ -67,7 +67,7 @@ int main(void)
     size_t scrubbed;
     int enough = 1;
 
-    if (posix_memalign(&stack, 65536, SIZE) != 0)
+    if (!read_table() || posix_memalign(&stack, 65536, SIZE) != 0)
         return EXIT_FAILURE;
     for (int k = 0; k < 6; k++) {
         if (draw_all(&lent, &schemes[k]) != WIM_DONE)

@@ -162,6 +162,8 @@ int main(void)
     other.a = malloc(WIM_MAX_A * sizeof *other.a);
     if (one.a == NULL || other.a == NULL)
         failed = "malloc";
+    else if (!read_table())
+        failed = "BCNS's table cannot be read";
     for (int k = 0; k < 6 && failed == NULL; k++) {
         one.scheme = other.scheme = &schemes[k];
         failed = run(&one, &other);

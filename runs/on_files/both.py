@@ -3,10 +3,13 @@ import os
 import re
 import struct
 
-from .common import INPUTS, NUMBERS, OLD, OUTPUTS, SCHEMES, hold, mode, read, run, write
+from .common import (INPUTS, NUMBERS, OLD, OUTPUTS, SCHEMES, hold, mode, read, run, words_of,
+                     write)
 
 
 def entries(word, data):
+    if word == "TABLE":
+        return words_of(data)
     if word not in NUMBERS:
         return data
     return struct.unpack(f"<{len(data) // 4}{'I' if word == 'A' else 'i'}", data)
@@ -16,7 +19,8 @@ def lengths(scheme):
     q, largest, key, public, secret, last, seed, coins, opening, reply, *drawn = SCHEMES[scheme]
     return {"A": [public], "S": [secret], "E": [secret], "S1": [secret], "E1": [secret],
             "E2": [last], "SEED": [seed], "COINS": [coins], "OPENING": [opening],
-            "REPLY": [reply], "BYTES": list(dict.fromkeys(drawn))}
+            "REPLY": [reply], "BYTES": list(dict.fromkeys(drawn)),
+            "TABLE": [0 if scheme else 153]}
 
 
 def packed(word, scheme):
@@ -41,12 +45,16 @@ def detail(command, scheme, data, number, place):
     if command not in OUTPUTS and command != "noise":
         return without_scheme(command, scheme, data, number)
     if number == 1:
-        return f"scheme={scheme} expected={1 if command == 'noise' else 0}..5"
+        return f"scheme={scheme} expected=0..5"
     q, largest, *_ = SCHEMES[scheme]
     if number == 2:
         fixed = lengths(scheme)
         word, there = next((w, len(x)) for w, x in given if len(x) not in fixed[w])
         return f"input={word.lower()} length={there} expected={','.join(map(str, fixed[word]))}"
+    if number == 18:
+        words = entries("TABLE", data["TABLE"])
+        entry = lambda k: "".join(f"{word:016x}" for word in words[3 * k:3 * k + 3])
+        return f"input=table value={entry(place)} above={entry(place - 1)}"
     if number == 4:
         return f"input=a value={entries('A', data['A'])[place]} below={q}"
     if number == 5:

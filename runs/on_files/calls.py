@@ -3,7 +3,8 @@ import hashlib
 import re
 
 from .both import packed
-from .common import INPUTS, MARGINS, NUMBERS, OUTPUTS, SCHEMES, hold, run, words32
+from .common import (INPUTS, MARGINS, NUMBERS, OLD, OUTPUTS, SCHEMES, TABLE, hold, read, run,
+                     table_of, words32, words_of, write)
 
 
 def exchange(both, scheme, files):
@@ -131,18 +132,56 @@ def damaged(both, scheme, files, sizes, rand):
 
 
 def noise(both, rand):
+    both.put({"TABLE": TABLE})
     for scheme in range(7):
-        good = list(SCHEMES[scheme][-2:]) if 1 <= scheme <= 5 else []
+        good = list(SCHEMES[scheme][-2:]) if scheme <= 5 else []
         near = {x + d for x in good for d in (-2, -1, 1, 2)}
         for length in sorted({*good, *near, 0, 64, 4096, 8192, 20000}):
             both.put({"BYTES": rand.randbytes(length)})
-            text, _ = both("noise", "noise", scheme, ["BYTES"], {"OUT": 0}, ["OUT"])
-            hold("noise", text.startswith(b"written=") == (length in good),
-                 f"noise {scheme} {length}: {text!r}")
+            for table, fits in (("TABLE", scheme == 0), ("none", scheme != 0)):
+                text, _ = both("noise", "noise", scheme, ["BYTES", table], {"OUT": 0}, ["OUT"])
+                hold("noise", text.startswith(b"written=") == (length in good and fits),
+                     f"noise {scheme} {length} {table}: {text!r}")
+    tables(both, rand)
     expand(both, rand)
     grow(both, rand)
     hashes(both, rand)
     traces(both, rand)
+
+
+def tables(both, rand):
+    """BCNS's noise by tables that ascend, that do not, and that have other lengths."""
+    words = words_of(TABLE)
+    v = b"".join(word.to_bytes(8, "big") for word in words)
+    edges = b"".join(v[24 * k:24 * k + 24] + bytes([sign]) for k in range(51) for sign in (0, 1))
+    both.put({"BYTES": edges + rand.randbytes(25600 - len(edges))})
+    given = ["BYTES", "TABLE"]
+    for place in (1, 2, 25, 49, 50):
+        for low in (0, 1, -1):
+            other = list(words)
+            other[3 * place:3 * place + 3] = other[3 * place - 3:3 * place]
+            other[3 * place + 2] = (other[3 * place + 2] + low) % 2**64
+            both.put({"TABLE": table_of(other)})
+            text, _ = both("noise", "noise", 0, given, {"OUT": 0}, ["OUT"])
+            falls = other[3 * place:3 * place + 3] <= other[3 * place - 3:3 * place]
+            hold("noise", text.startswith(b"refusal=18 place=%d " % place) == falls,
+                 f"noise by a table, {place} {low}: {text!r}")
+    for many in (0, 1, 50, 51, 52, 100):
+        drawn = sorted(rand.getrandbits(192) for _ in range(many))
+        split = [number >> shift & 2**64 - 1 for number in drawn for shift in (128, 64, 0)]
+        both.put({"TABLE": b"# drawn\n" + table_of(split)})
+        text, _ = both("noise", "noise", 0, given, {"OUT": 0}, ["OUT"])
+        hold("noise", text.startswith(b"written=") == (many == 51), f"{many} entries: {text!r}")
+    # what is no table touches nothing
+    line = table_of(words[:3])
+    for text in (b"1 2 3\n", line[:-2], line + b"x\n", line.replace(b" ", b""), b"\xff\n",
+                 b"#\n" * 40000):
+        both.put({"TABLE": text})
+        out = both.name("OUT1")
+        write(out, OLD)
+        done = run([both.box, "noise", "0", both.name("BYTES"), both.name("TABLE"), out])
+        fine = done[:2] == (3, b"") and b": is no table: " in done[2] and read(out) == OLD
+        hold("noise", fine, f"noise by {text[:40]!r}: {done}")
 
 
 def grow(both, rand):

@@ -5,9 +5,10 @@ import struct
 import subprocess
 
 # q, largest noise, key bytes; counts of public numbers, of a secret and of e'';
-# bytes of seed, coins, opening and reply; random bytes for a secret and for e''
+# bytes of seed, coins, opening and reply; random bytes for a secret and for e''; BCNS's alone are
+# drawn by a table
 SCHEMES = {
-    0: (4294967295, 51, 128, 1024, 1024, 1024, 0, 256, 4096, 4224, 0, 0),
+    0: (4294967295, 51, 128, 1024, 1024, 1024, 0, 256, 4096, 4224, 25600, 25600),
     1: (12289, 16, 32, 1024, 1024, 1024, 32, 32, 1824, 2048, 4096, 4096),
 }
 for number, n, q, largest, key, width in ((2, 352, 2048, 3, 8, 11), (3, 592, 4096, 4, 16, 12),
@@ -22,7 +23,7 @@ INPUTS = {
     "reply": ["OPENING", "A", "S1", "E1", "E2", "COINS"],
     "finish": ["REPLY", "S"],
     "bench": ["A", "S", "E", "SEED", "S1", "E1", "E2", "COINS"],
-    "noise": ["BYTES"],
+    "noise": ["BYTES", "TABLE"],
     "expand": ["STREAM"],
     "grow": ["SEED"],
     "hash sha3-256": ["INPUT"],
@@ -31,6 +32,9 @@ INPUTS = {
 OUTPUTS = {"offer": ["MESSAGE"], "reply": ["MESSAGE", "KEY", "DIGEST"], "finish": ["KEY", "DIGEST"],
            "bench": []}
 NUMBERS = {"A", "S", "E", "S1", "E1", "E2"}
+# the table that ships: words of 64 bits, three an entry, as text
+with open(os.path.join(os.path.dirname(__file__), "../../data/bcns-table.txt"), "rb") as shipped:
+    TABLE = shipped.read()
 OLD = b"an old key that stays where it is" * 9
 
 counts, wrong = {}, []
@@ -83,6 +87,18 @@ def temporaries(folder):
 
 def words32(numbers):
     return struct.pack(f"<{len(numbers)}I", *(x % 2**32 for x in numbers))
+
+
+def table_of(words):
+    """A table's text."""
+    rows = [words[k:k + 3] for k in range(0, len(words), 3)]
+    return "".join(" ".join(f"{word:016x}" for word in row) + "\n" for row in rows).encode()
+
+
+def words_of(text):
+    """The words of a table's text."""
+    lines = [line for line in text.decode().splitlines() if not line.startswith("#")]
+    return [int(word, 16) for line in lines for word in line.split()]
 
 
 def inputs(scheme, rand):

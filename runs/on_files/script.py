@@ -90,7 +90,7 @@ def script(both):
         os.chmod(os.path.join(tree, name), 0o755)
     for name in ("box", "native", "crates.txt"):
         shutil.copy(os.path.join(root, name), tree)
-    for name in ("c", "include"):
+    for name in ("c", "include", "data"):
         shutil.copytree(os.path.join(root, name), os.path.join(tree, name))
     made = {x: made_of(x, os.path.join(root, "crates.txt")) for x in ARCHIVES}
     for name in ("rust/src", "cli/src"):

@@ -64,7 +64,7 @@ def words(both):
         (["offer"], b"offer takes SCHEME A S E SEED MESSAGE\n"),
         (["offer", *files[:5]], b"offer takes"), (["offer", *files[:7]], b"offer takes"),
         (["reply", *files], b"reply takes"), (["finish", *files[:4]], b"finish takes"),
-        (["noise", *files[:2]], b"noise takes"),
+        (["noise", *files[:3]], b"noise takes SCHEME BYTES TABLE OUT\n"),
         (["expand", "x", "y"], b"expand takes RULE STREAM OUT\n"),
         (["grow", "14", "x"], b"grow takes RULE SEED OUT\n"),
         (["hash"], b"hash is one of several: hash sha3-256 INPUT OUT; hash shake128 LENGTH INPUT"),

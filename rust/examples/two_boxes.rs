@@ -35,22 +35,30 @@ impl Bytes {
     }
 
     /// The values of s, e, s' or e', or those of e'': as many as `room` takes,
-    /// from `bytes` bytes. BCNS's noise is lent ready; here it is -2 to 2.
+    /// from `bytes` bytes, in BCNS by its table.
     fn secret<'b>(
         &mut self,
         scheme: Scheme,
         bytes: usize,
         room: &'b mut [i32],
     ) -> Result<Secret<'b>, Refusal> {
-        if scheme == Scheme::Bcns {
-            let bytes = self.take(room.len());
-            for (value, byte) in room.iter_mut().zip(bytes) {
-                *value = i32::from(byte % 5) - 2;
-            }
-            return Ok(Secret::new(room));
-        }
-        Secret::noise(scheme, Secret::new(&mut self.take(bytes)), room)
+        let table = match scheme {
+            Scheme::Bcns => table(),
+            _ => vec![],
+        };
+        Secret::noise(scheme, Secret::new(&mut self.take(bytes)), &table, room)
     }
+}
+
+/// BCNS's table, as it ships: words of 16 hexadecimal digits, and lines that
+/// begin with # are comments.
+fn table() -> Vec<u64> {
+    let text = include_str!("../../data/bcns-table.txt");
+    let lines = text.lines().filter(|line| !line.starts_with('#'));
+    let words = lines.flat_map(str::split_whitespace);
+    words
+        .map(|word| u64::from_str_radix(word, 16).expect("hexadecimal digits"))
+        .collect()
 }
 
 /// The public numbers: NewHope's both boxes grow from one seed by one rule, the

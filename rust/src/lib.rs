@@ -13,7 +13,7 @@
 //! Both know the public numbers a; NewHope's are [`grow`]n from the seed. The
 //! secrets s, e, s', e', e'' and the coins
 //! are drawn afresh for each exchange; [`Secret::noise`] makes them from random
-//! bytes. A [`Secret`] is a lent buffer that is wiped when its owner is done
+//! bytes, in BCNS by a table that is lent. A [`Secret`] is a lent buffer that is wiped when its owner is done
 //! with it; each call takes its secrets for good, so that one used twice does
 //! not compile. A [`Key`] is wiped likewise, and neither prints what it holds.
 //! The [`Digest`] beside a key is its SHA3-256, which can be shown.
@@ -39,20 +39,20 @@
 //! // The initiator's secrets and its opening, which has the seed at its end.
 //! let (mut bytes, mut s, mut e) = ([0; 4096], [0; 1024], [0; 1024]);
 //! draw(&mut bytes);
-//! let s = Secret::noise(scheme, Secret::new(&mut bytes), &mut s)?;
+//! let s = Secret::noise(scheme, Secret::new(&mut bytes), &[], &mut s)?;
 //! draw(&mut bytes);
-//! let e = Secret::noise(scheme, Secret::new(&mut bytes), &mut e)?;
+//! let e = Secret::noise(scheme, Secret::new(&mut bytes), &[], &mut e)?;
 //! let mut room = [0; 1824];
 //! let offered = Initiator::offer(scheme, &a, s, e, &seed, &mut room)?;
 //!
 //! // The replier's secrets, its message, its key and the key's digest.
 //! let (mut s1, mut e1, mut e2, mut coins) = ([0; 1024], [0; 1024], [0; 1024], [0; 32]);
 //! draw(&mut bytes);
-//! let s1 = Secret::noise(scheme, Secret::new(&mut bytes), &mut s1)?;
+//! let s1 = Secret::noise(scheme, Secret::new(&mut bytes), &[], &mut s1)?;
 //! draw(&mut bytes);
-//! let e1 = Secret::noise(scheme, Secret::new(&mut bytes), &mut e1)?;
+//! let e1 = Secret::noise(scheme, Secret::new(&mut bytes), &[], &mut e1)?;
 //! draw(&mut bytes);
-//! let e2 = Secret::noise(scheme, Secret::new(&mut bytes), &mut e2)?;
+//! let e2 = Secret::noise(scheme, Secret::new(&mut bytes), &[], &mut e2)?;
 //! draw(&mut coins);
 //! let replier = Replier::new(scheme, s1, e1, e2, Secret::new(&mut coins));
 //! let (mut message, mut key) = ([0; 2048], [0; 32]);

@@ -201,14 +201,17 @@ pub fn finish(
     )
 }
 
-/// Noise: scheme, random bytes. Gives as many values as the bytes make, which
-/// are those of s, e, s' or e' ([`s_bytes`](crate::Sizes::s_bytes)) or those of e''
-/// ([`e2_bytes`](crate::Sizes::e2_bytes)).
+/// Noise: scheme, random bytes, a table. Gives as many values as the bytes make,
+/// which are those of s, e, s' or e' ([`s_bytes`](crate::Sizes::s_bytes)) or those
+/// of e'' ([`e2_bytes`](crate::Sizes::e2_bytes)).
+///
+/// The table is BCNS's, 51 entries of three words each, the highest first, as
+/// `data/bcns-table.txt` has them; the other schemes take an empty one.
 ///
 /// # Errors
 ///
-/// Refuses with 1 (BCNS too, whose noise is lent ready), 2 and 3.
-pub fn noise(scheme: u32, bytes: &[u8], out: &mut [i32]) -> Result<usize, Refusal> {
+/// Refuses with 1, 2, 3 and 18, in this order.
+pub fn noise(scheme: u32, bytes: &[u8], table: &[u64], out: &mut [i32]) -> Result<usize, Refusal> {
     let (mut place, mut written) = (0, 0);
     // SAFETY: each pointer and length are those of one slice, and place and the
     // counts are numbers of this frame. No output shares memory with anything
@@ -218,6 +221,8 @@ pub fn noise(scheme: u32, bytes: &[u8], out: &mut [i32]) -> Result<usize, Refusa
             scheme,
             bytes.as_ptr(),
             bytes.len(),
+            table.as_ptr(),
+            table.len(),
             out.as_mut_ptr(),
             out.len(),
             &mut place,

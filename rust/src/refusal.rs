@@ -7,7 +7,7 @@ use core::fmt;
 /// be sent it comes last.
 #[derive(Clone, Copy, Debug, PartialEq, Eq, Hash)]
 pub enum Refusal {
-    /// 1: the scheme is not 0 to 5 (Noise: not 1 to 5).
+    /// 1: the scheme is not 0 to 5.
     NoScheme,
     /// 12: the rule of Expand or Grow is not 14 or 16.
     NoRule,
@@ -16,6 +16,9 @@ pub enum Refusal {
     Length,
     /// 3: an output is shorter than the answer.
     Room,
+    /// 18: the table of Noise is not strictly ascending; the first entry that is
+    /// not above its forerunner, 1 to 50.
+    NotAscending(usize),
     /// 4: a public number is q or more; the index of the first.
     PublicOver(usize),
     /// 5: a number of the message is q or more; the index of the first.
@@ -31,13 +34,14 @@ pub enum Refusal {
 }
 
 impl Refusal {
-    /// The number, 1 to 7, 12 or 17.
+    /// The number, 1 to 7, 12, 17 or 18.
     pub fn number(self) -> u32 {
         match self {
             Refusal::NoScheme => 1,
             Refusal::NoRule => 12,
             Refusal::Length => 2,
             Refusal::Room => 3,
+            Refusal::NotAscending(_) => 18,
             Refusal::PublicOver(_) => 4,
             Refusal::MessageOver(_) => 5,
             Refusal::Blank => 17,
@@ -46,8 +50,8 @@ impl Refusal {
         }
     }
 
-    /// The place: the index of the first bad entry in its input, or how many
-    /// numbers a stream held; 0 where there is none.
+    /// The place: the index of the first bad entry in its input or its table, or
+    /// how many numbers a stream held; 0 where there is none.
     pub fn place(self) -> usize {
         match self {
             Refusal::NoScheme
@@ -55,7 +59,8 @@ impl Refusal {
             | Refusal::Length
             | Refusal::Room
             | Refusal::Blank => 0,
-            Refusal::PublicOver(k)
+            Refusal::NotAscending(k)
+            | Refusal::PublicOver(k)
             | Refusal::MessageOver(k)
             | Refusal::SecretBeyond(k)
             | Refusal::RanOut(k) => k,
@@ -77,6 +82,7 @@ impl Refusal {
             12 => Refusal::NoRule,
             2 => Refusal::Length,
             3 => Refusal::Room,
+            18 => Refusal::NotAscending(place),
             4 => Refusal::PublicOver(place),
             5 => Refusal::MessageOver(place),
             17 => Refusal::Blank,
@@ -96,7 +102,10 @@ impl fmt::Display for Refusal {
             | Refusal::Length
             | Refusal::Room
             | Refusal::Blank => Ok(()),
-            Refusal::PublicOver(k) | Refusal::MessageOver(k) | Refusal::SecretBeyond(k) => {
+            Refusal::NotAscending(k)
+            | Refusal::PublicOver(k)
+            | Refusal::MessageOver(k)
+            | Refusal::SecretBeyond(k) => {
                 write!(f, ", the first at {k}")
             }
             Refusal::RanOut(k) => write!(f, ", it held {k}"),

@@ -41,10 +41,12 @@ pub struct Sizes {
     pub reply: usize,
     /// Bytes of the key.
     pub key: usize,
-    /// Random bytes for one of s, e, s' and e'; 0 in BCNS.
+    /// Random bytes for one of s, e, s' and e'.
     pub s_bytes: usize,
-    /// Random bytes for e''; 0 in BCNS.
+    /// Random bytes for e''.
     pub e2_bytes: usize,
+    /// Words of the table by which noise is drawn; 0 but in BCNS.
+    pub table: usize,
     /// How far apart the two values may lie, in the unit of the slack, for keys
     /// that are proved to agree; 0 in NewHope, which has no slack.
     pub margin: u64,
@@ -92,8 +94,9 @@ impl Scheme {
                 opening: 4096,
                 reply: 4096 + 128,
                 key: 128,
-                s_bytes: 0,
-                e2_bytes: 0,
+                s_bytes: 25 * 1024,
+                e2_bytes: 25 * 1024,
+                table: 3 * 51,
                 margin: 1073741823,
             },
             Scheme::NewHope => Sizes {
@@ -109,6 +112,7 @@ impl Scheme {
                 key: 32,
                 s_bytes: 4096,
                 e2_bytes: 4096,
+                table: 0,
                 margin: 0,
             },
             Scheme::FrodoChallenge => frodo(352, 2048, 3, 11, 8),
@@ -135,6 +139,7 @@ const fn frodo(n: usize, q: u32, noise: i32, width: usize, key: usize) -> Sizes 
         key,
         s_bytes: 16 * n,
         e2_bytes: 128,
+        table: 0,
         margin: (q >> (key / 8)) as u64 / 4,
     }
 }
@@ -152,8 +157,9 @@ impl Sizes {
         opening: 16 + 864 * 15,
         reply: 864 * 15 + 8,
         key: 128,
-        s_bytes: 16 * 864,
-        e2_bytes: 4096,
+        s_bytes: 25 * 1024,
+        e2_bytes: 25 * 1024,
+        table: 3 * 51,
         margin: 1073741823,
     };
 }

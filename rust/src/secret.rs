@@ -63,18 +63,20 @@ impl<'b, T: Entry> Secret<'b, T> {
 impl<'b> Secret<'b> {
     /// The values that random bytes give, written to `room`: those of s, e, s'
     /// or e' from [`s_bytes`](crate::Sizes::s_bytes) bytes, those of e'' from
-    /// [`e2_bytes`](crate::Sizes::e2_bytes). The bytes are wiped.
+    /// [`e2_bytes`](crate::Sizes::e2_bytes). The bytes are wiped. The table, which
+    /// is public, is BCNS's alone: [`table`](crate::Sizes::table) words, and `&[]`
+    /// in the other schemes.
     ///
     /// # Errors
     ///
-    /// Refuses with 1 in BCNS, whose noise is lent ready ([`Secret::new`]), with
-    /// 2 and with 3.
+    /// Refuses with 2, 3 and 18, in this order.
     pub fn noise(
         scheme: Scheme,
         bytes: Secret<'_, u8>,
+        table: &[u64],
         room: &'b mut [i32],
     ) -> Result<Secret<'b>, Refusal> {
-        let written = raw::noise(scheme.number(), bytes.entries(), room)?;
+        let written = raw::noise(scheme.number(), bytes.entries(), table, room)?;
         Ok(Secret(&mut room[..written]))
     }
 }

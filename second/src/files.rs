@@ -1,6 +1,6 @@
 //! The calls on files, as the command line has them: `offer SCHEME A S E SEED
 //! MESSAGE` and so on. Numbers are 32 bits, the lowest byte first, an input
-//! `none` is empty. Returns what standard output gets. For good words and
+//! `none` is empty, and a table is text. Returns what standard output gets. For good words and
 //! readable files only; the refusals are the calls' own, and what explains them
 //! in the command line's line is not told here.
 
@@ -10,6 +10,7 @@ use crate::hash::DIGEST;
 use crate::reconcile::Slack;
 use crate::refusal::Refusal;
 use crate::schemes::scheme;
+use crate::table;
 use crate::trace::trace;
 use std::io::{self, Error};
 use std::num::ParseIntError;
@@ -69,10 +70,10 @@ pub fn run(words: &[&str]) -> io::Result<String> {
                 format!("key_written={k}\ndigest_written={d}\n{slack}")
             })))
         }
-        ["noise", no, random, out] => {
-            let random = bytes(random)?;
+        ["noise", no, random, table, out] => {
+            let (random, table) = (bytes(random)?, table_of(table)?);
             let mut drawn = vec![0; random.len()];
-            let done = noise(number(no)?, &random, &mut drawn);
+            let done = noise(number(no)?, &random, &table, &mut drawn);
             // after a refusal it is not known which of the two lengths was meant
             drawn.truncate(done.unwrap_or(0));
             write(out, &words_of(drawn.iter().map(|&v| v as u32)))?;
@@ -135,6 +136,12 @@ fn bytes(name: &str) -> io::Result<Vec<u8>> {
         return Ok(vec![]);
     }
     std::fs::read(name)
+}
+
+/// A table is text, as `data/bcns-table.txt` is.
+fn table_of(name: &str) -> io::Result<Vec<u64>> {
+    let text = String::from_utf8(bytes(name)?).map_err(Error::other)?;
+    table::read(&text).ok_or_else(|| Error::other("no table"))
 }
 
 fn numbers(name: &str) -> io::Result<Vec<u32>> {

@@ -1,5 +1,5 @@
 //! The independent second program, written from documents 01 and 02 and, for
-//! the two hashes, FIPS 202 alone.
+//! the two hashes, FIPS 202 alone; the table of BCNS's noise is document 000's.
 //!
 //! It follows their words literally: plain sums, a search for the nearest z,
 //! Keccak bit by bit. It is slow on purpose.
@@ -26,6 +26,7 @@ pub mod reconcile;
 pub mod refusal;
 pub mod schemes;
 pub mod signed;
+pub mod table;
 pub mod trace;
 pub mod transform;
 pub mod vectors;

@@ -1,6 +1,8 @@
 //! Prints expectations: `second line`, `second trace`, `second cards`,
-//! `second margins` and `second vectors`; `second box` makes the calls on files.
+//! `second margins`, `second vectors` and `second table`; `second box` makes the
+//! calls on files.
 
+use second::table::{lines, table};
 use std::io::{self, Read, Write};
 use std::process::ExitCode;
 
@@ -12,6 +14,7 @@ second, the independent second program
   second cards     all bench cards, one line each: inputs, a colon, outputs
   second margins   Bench near the margin, a line for each worked run
   second vectors   all calls on good and damaged inputs, one line a case
+  second table     the table of BCNS's noise, an entry a line, computed anew
   second box ..    a call on files: the words of the command line
 ";
 
@@ -24,6 +27,7 @@ fn main() -> ExitCode {
         ["cards"] => print(second::cards::cards()),
         ["margins"] => print(second::margins::margins()),
         ["vectors"] => print(second::vectors::vectors()),
+        ["table"] => print(lines(&table())),
         ["box", ref rest @ ..] => files(rest),
         _ => {
             eprint!("{HELP}");

@@ -1,7 +1,8 @@
-//! 01, "Refusal numbers and their order", with 12 of request g of 02 and 17 of
-//! request l.
+//! 01, "Refusal numbers and their order", with 12 of request g of 02, 17 of
+//! request l and 18 of request m.
 
 use crate::expand::Rule;
+use crate::noise::Entry;
 use crate::schemes::{scheme, Scheme};
 
 #[derive(Clone, Copy, Debug, PartialEq, Eq)]
@@ -48,6 +49,16 @@ pub fn short_output(room: usize, answer: usize) -> Result<(), Refusal> {
         Err(refusal(3, 0))
     } else {
         Ok(())
+    }
+}
+
+/// 18: a table is not strictly ascending; the first entry that is not above its
+/// forerunner. After 3 and before 4.
+pub fn not_ascending(table: &[Entry]) -> Result<(), Refusal> {
+    let falls = |&k: &usize| table[k] <= table[k - 1];
+    match (1..table.len()).find(falls) {
+        Some(place) => Err(refusal(18, place)),
+        None => Ok(()),
     }
 }
 

@@ -3,12 +3,47 @@
 use second::expand::Rule;
 use second::schemes::{Family, Scheme};
 
-/// The scheme's noise of the bytes; BCNS's is lent ready.
-pub fn noise(scheme: &Scheme, bytes: &[u8], out: &mut [i32]) {
+/// The scheme's noise of the bytes, BCNS's by the table.
+pub fn noise(scheme: &Scheme, bytes: &[u8], table: &[u64], out: &mut [i32]) {
     match scheme.family {
-        Family::Bcns => panic!("BCNS noise is lent ready"),
+        Family::Bcns => bcns(bytes, table, out),
         Family::NewHope => newhope(bytes, out),
         Family::Frodo => frodo(scheme, bytes, out),
+    }
+}
+
+/// A value of 25 bytes: the number that 24 of them are, in words, and the sign.
+fn number(piece: &[u8]) -> ([u64; 3], i32) {
+    let word = |k: usize| u64::from_be_bytes(piece[8 * k..8 * k + 8].try_into().expect("eight bytes"));
+    ([word(0), word(1), word(2)], -i32::from(piece[24] & 1))
+}
+
+/// How many entries are at most v, and a sign: every entry is looked at, each by
+/// the borrow of a subtraction over its three words.
+pub fn bcns(bytes: &[u8], table: &[u64], out: &mut [i32]) {
+    for (piece, value) in bytes.chunks_exact(25).zip(out) {
+        let (v, minus) = number(piece);
+        let mut size = 0;
+        for entry in table.chunks_exact(3) {
+            let low = v[2].overflowing_sub(entry[2]).1;
+            let (middle, one) = v[1].overflowing_sub(entry[1]);
+            let two = middle.overflowing_sub(u64::from(low)).1;
+            let (high, one_more) = v[0].overflowing_sub(entry[0]);
+            let less = one_more | high.overflowing_sub(u64::from(one | two)).1;
+            size += i32::from(!less);
+        }
+        *value = (size ^ minus) - minus;
+    }
+}
+
+/// The same by a search that ends at the first entry above v, as a plain program
+/// has it: how long it takes tells how large the value is.
+pub fn bcns_early(bytes: &[u8], table: &[u64], out: &mut [i32]) {
+    for (piece, value) in bytes.chunks_exact(25).zip(out) {
+        let (v, minus) = number(piece);
+        let above = table.chunks_exact(3).position(|entry| entry > &v[..]);
+        let size = above.unwrap_or(table.len() / 3) as i32;
+        *value = (size ^ minus) - minus;
     }
 }
 

@@ -3,7 +3,7 @@
 
 use super::Rows;
 use crate::draw::Draw;
-use crate::lent::Lent;
+use crate::lent::{table, Lent};
 use crate::ours::Ours;
 use crate::plain::bcns::Bcns;
 use crate::plain::frodo::Frodo;
@@ -110,16 +110,29 @@ fn scheme(rows: &mut dyn Rows, scheme: &'static Scheme) {
     }
 }
 
-fn noise(rows: &mut dyn Rows, scheme: &Scheme) {
+/// The plain code for the noise of bytes by a table.
+type Plain<'a> = &'a dyn Fn(&[u8], &[u64], &mut [i32]);
+
+fn noise(rows: &mut dyn Rows, scheme: &Scheme, peer: &str, plain: Plain) {
     let count = scheme.secret_count();
-    let bytes = Draw::new(6).bytes(second::noise::lengths(scheme)[0]);
+    let (bytes, table) = (Draw::new(6).bytes(second::noise::lengths(scheme)[0]), table(scheme));
     let (mut x, mut y) = (vec![0; count], vec![0; count]);
-    let mut ours = || assert!(wimmostry::raw::noise(scheme.number as u32, &bytes, &mut x).is_ok());
-    let mut plain = || sampling::noise(scheme, &bytes, &mut y);
+    let mut ours = || assert!(wimmostry::raw::noise(scheme.number as u32, &bytes, &table, &mut x).is_ok());
+    let mut plain = || plain(&bytes, &table, &mut y);
     ours();
     plain();
-    rows.row(&format!("{}, Noise", scheme.name), "published method", &mut ours, &mut plain);
+    rows.row(&format!("{}, Noise", scheme.name), peer, &mut ours, &mut plain);
     assert!(x == y, "the two give one noise");
+}
+
+/// In BCNS beside a search that ends early too.
+fn noises(rows: &mut dyn Rows, scheme: &Scheme) {
+    if scheme.family == Family::Bcns {
+        noise(rows, scheme, "every entry, by its borrow", &sampling::bcns);
+        noise(rows, scheme, "a search that stops early", &sampling::bcns_early);
+    } else {
+        noise(rows, scheme, "published method", &|bytes, table, out| sampling::noise(scheme, bytes, table, out));
+    }
 }
 
 /// The streams are the same for both rules. They are taken in turn, since a processor learns by heart
@@ -141,6 +154,6 @@ fn expand(rows: &mut dyn Rows, number: u32) {
 
 pub fn rows(rows: &mut dyn Rows) {
     SIX.iter().for_each(|it| scheme(rows, it));
-    SIX.iter().filter(|it| it.family != Family::Bcns).for_each(|it| noise(rows, it));
+    SIX.iter().for_each(|it| noises(rows, it));
     [14, 16].into_iter().for_each(|rule| expand(rows, rule));
 }

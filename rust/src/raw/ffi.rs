@@ -65,6 +65,8 @@ extern "C" {
         scheme: u32,
         bytes: *const u8,
         bytes_len: usize,
+        table: *const u64,
+        table_len: usize,
         out: *mut i32,
         out_len: usize,
         place: *mut u64,

@@ -73,6 +73,21 @@ pub fn zero(g: &mut Generator, s: &mut [i32], e: &mut [i32]) {
     }
 }
 
+/// An entry of a table equal to its forerunner, just above or below it, or any
+/// word changed.
+pub fn table(g: &mut Generator, table: &mut [u64]) {
+    if table.len() < 6 {
+        return;
+    }
+    let at = 3 + index(g, table.len() / 3 - 1) * 3;
+    if g.below(4) == 0 {
+        table[at] = g.next();
+        return;
+    }
+    table.copy_within(at - 3..at, at);
+    table[at + 2] = table[at + 2].wrapping_add(one_of(g, &[0, 1, u64::MAX]));
+}
+
 /// Less room than the answer takes, just enough, or more.
 pub fn room(g: &mut Generator, answer: usize) -> usize {
     let rooms = [0, answer - 1, answer, answer + 1, answer + 77];

@@ -259,34 +259,39 @@ fn finish(g: &mut Generator, ready: &Ready) -> u32 {
 fn noise(g: &mut Generator, ready: &Ready) -> u32 {
     let fixed = ready.inputs.scheme;
     let lengths = second::noise::lengths(fixed);
-    let length = match lengths.len() {
-        0 => 4096,
-        n => lengths[g.below(n as u64) as usize],
-    };
-    let each = if fixed.family == Family::NewHope {
-        4
-    } else {
-        2
-    };
+    let length = lengths[g.below(lengths.len() as u64) as usize];
+    let each = second::noise::bytes_a_value(fixed);
     let (mut scheme, mut room) = (number(fixed), length / each + 3);
     let mut bytes = g.bytes(length);
+    let mut table = match fixed.family {
+        Family::Bcns => second::table::table(),
+        Family::NewHope | Family::Frodo => vec![],
+    };
     for _ in 0..g.below(3) {
-        match g.below(3) {
+        match g.below(5) {
             0 => scheme = damage::scheme(g),
             1 => damage::length(g, &mut bytes),
+            2 => damage::length(g, &mut table),
+            3 => damage::table(g, &mut table),
             _ => room = damage::room(g, length / each),
         }
     }
 
-    let lbytes = Lent::new(&bytes, 7);
+    let (lbytes, ltable) = (Lent::new(&bytes, 7), Lent::new(&table, 7));
     let mut expected: Vec<i32> = (0..room).map(|_| g.next() as i32).collect();
     let mut out = Lent::new(&expected, 9);
     let told = same(
-        wimmostry::raw::noise(scheme, lbytes.entries(), out.entries_mut()),
-        second::calls::noise(scheme.into(), &bytes, &mut expected),
+        wimmostry::raw::noise(
+            scheme,
+            lbytes.entries(),
+            ltable.entries(),
+            out.entries_mut(),
+        ),
+        second::calls::noise(scheme.into(), &bytes, &table, &mut expected),
     );
     out.holds(&expected);
     lbytes.holds(&bytes);
+    ltable.holds(&table);
     told
 }
 
@@ -478,7 +483,7 @@ const EACH: [(&str, &[u32]); 9] = [
     ("offer", &[0, 1, 2, 3, 4, 6, 17]),
     ("reply", &[0, 1, 2, 3, 4, 5, 6, 17]),
     ("finish", &[0, 1, 2, 3, 5, 6, 17]),
-    ("noise", &[0, 1, 2, 3]),
+    ("noise", &[0, 1, 2, 3, 18]),
     ("bench", &[0, 1, 2, 4, 6, 17]),
     ("expand", &[0, 2, 3, 7, 12]),
     ("grow", &[0, 2, 3, 12]),

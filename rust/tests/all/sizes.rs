@@ -1,7 +1,7 @@
 //! The sizes in `include/wimmostry.h` and in this package are the second
 //! program's.
 
-use second::noise::lengths;
+use second::noise::{lengths, table_words};
 use second::reconcile::{bcns, frodo};
 use second::schemes::{Family, Scheme, SIX};
 use std::collections::HashMap;
@@ -18,11 +18,7 @@ fn header() -> HashMap<&'static str, u64> {
 
 /// Names in the header, and what the second program has for them.
 fn expected(s: &Scheme) -> Vec<(&'static str, u64)> {
-    let noise = if s.number == 0 {
-        vec![0, 0]
-    } else {
-        lengths(s).to_vec()
-    };
+    let noise = lengths(s);
     vec![
         ("Q", s.q as u64),
         ("NOISE", s.largest_noise as u64),
@@ -37,6 +33,7 @@ fn expected(s: &Scheme) -> Vec<(&'static str, u64)> {
         ("KEY", s.key_bytes as u64),
         ("S_BYTES", noise[0] as u64),
         ("E2_BYTES", noise[noise.len() - 1] as u64),
+        ("TABLE", table_words(s) as u64),
         ("MARGIN", margin(s)),
     ]
 }
@@ -102,6 +99,7 @@ fn of_this_package() {
             ("KEY", sizes.key),
             ("S_BYTES", sizes.s_bytes),
             ("E2_BYTES", sizes.e2_bytes),
+            ("TABLE", sizes.table),
         ];
         for (name, count) in counts {
             assert_eq!(of(name), count as u64, "{prefix}_{name}");

@@ -169,25 +169,41 @@ fn blanks() {
 /// Noise wipes its bytes, and gives what the raw call gives.
 #[test]
 fn noise() {
-    for scheme in &Scheme::ALL[1..] {
+    for scheme in &Scheme::ALL {
         let sizes = scheme.sizes();
+        let table = match scheme {
+            Scheme::Bcns => second::table::table(),
+            _ => vec![],
+        };
+        assert_eq!(table.len(), sizes.table);
         for (count, length) in [(sizes.s, sizes.s_bytes), (sizes.e2, sizes.e2_bytes)] {
             let mut bytes = Generator::new(79).bytes(length);
             let mut expected = vec![9; count];
-            wimmostry::raw::noise(scheme.number(), &bytes, &mut expected).expect("good bytes");
+            let done = wimmostry::raw::noise(scheme.number(), &bytes, &table, &mut expected);
+            done.expect("good bytes");
 
             let mut room = vec![9; count + 3];
-            let secret = Secret::noise(*scheme, Secret::new(&mut bytes), &mut room);
+            let secret = Secret::noise(*scheme, Secret::new(&mut bytes), &table, &mut room);
             std::mem::forget(secret.expect("good bytes"));
             assert_eq!(bytes, vec![0; length]);
             assert_eq!(room[..count], expected);
             assert_eq!(room[count..], [0; 3]);
         }
     }
-    let (mut bytes, mut room) = ([1; 4096], [9; 1024]);
-    let refused = Secret::noise(Scheme::Bcns, Secret::new(&mut bytes), &mut room);
-    assert_eq!(refused.err(), Some(Refusal::NoScheme));
-    assert_eq!((bytes, room), ([0; 4096], [0; 1024]));
+    // a table that does not ascend, and one where none is taken
+    let mut table = second::table::table();
+    table[60] = 0;
+    let (mut bytes, mut room) = ([1; 25600], [9; 1024]);
+    let refused = Secret::noise(Scheme::Bcns, Secret::new(&mut bytes), &table, &mut room);
+    assert_eq!(refused.err(), Some(Refusal::NotAscending(20)));
+    assert_eq!((bytes, room), ([0; 25600], [0; 1024]));
+    let mut bytes = [1; 4096];
+    let refused = Secret::noise(Scheme::NewHope, Secret::new(&mut bytes), &table, &mut room);
+    assert_eq!(refused.err(), Some(Refusal::Length));
+    assert_eq!(
+        Refusal::NotAscending(20).to_string(),
+        "refusal 18: the table of noise is not strictly ascending, the first at 20"
+    );
 }
 
 #[test]
@@ -279,7 +295,7 @@ fn texts() {
     assert_eq!(told, format!("refusal 6: {text}, the first at 3"));
     assert_eq!(
         Refusal::NoScheme.to_string(),
-        "refusal 1: the scheme is not 0 to 5 (wim_noise: not 1 to 5)"
+        "refusal 1: the scheme is not 0 to 5"
     );
     assert_eq!(
         Refusal::NoRule.to_string(),

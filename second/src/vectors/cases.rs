@@ -145,22 +145,6 @@ fn one_byte(good: &Good) -> [Case; 3] {
     })
 }
 
-/// The cases of Noise with one number of bytes.
-pub fn of_noise(good: Good) -> (Good, Vec<Case>) {
-    let mut both = good.case();
-    both.lengths[0] += 1;
-    both.rooms[0] = 0;
-    let mut no_scheme = both.clone();
-    no_scheme.scheme = NO_SCHEME;
-    let cases = [
-        vec![good.case()],
-        lengths(&good),
-        rooms(&good),
-        vec![both, no_scheme],
-    ];
-    (good, cases.concat())
-}
-
 /// Lengths or rooms other than the right one.
 fn others(right: usize) -> Vec<usize> {
     match right {

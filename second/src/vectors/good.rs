@@ -130,18 +130,3 @@ impl Lists {
         }
     }
 }
-
-/// Noise with each number of bytes in turn.
-pub fn noise(scheme: &'static Scheme) -> impl Iterator<Item = Good> {
-    let lengths = match scheme.family {
-        Family::Bcns | Family::NewHope => vec![(4096, 1024)],
-        Family::Frodo => vec![(16 * scheme.n, 8 * scheme.n), (128, 64)],
-    };
-    let seed = 100 * scheme.number + 9;
-    lengths.into_iter().map(move |(bytes, values)| Good {
-        call: Call::Noise,
-        scheme: Some(scheme),
-        inputs: vec![Input::list(bytes, seed, Entries::Bytes)],
-        answers: vec![values],
-    })
-}

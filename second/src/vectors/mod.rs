@@ -6,6 +6,7 @@ pub mod draw;
 pub mod good;
 pub mod input;
 pub mod lines;
+pub mod noise;
 pub mod run;
 
 use crate::schemes::{Scheme, SIX};
@@ -36,8 +37,7 @@ pub fn of_scheme(scheme: &'static Scheme) -> Vec<String> {
         }
         lines.extend(numbered(&[cases::of_exchange(good)]));
     }
-    let noise: Vec<_> = good::noise(scheme).map(cases::of_noise).collect();
-    lines.extend(numbered(&noise));
+    lines.extend(noise::lines(scheme));
     for good in exchange(&Lists::wide(scheme)) {
         lines.push(line(&good, "wide", &run(&good, &good.case())));
     }

@@ -2,6 +2,7 @@
 
 use super::cases::Case;
 use super::good::{Call, Good};
+use super::noise;
 use crate::calls::{self, Bench};
 use crate::reconcile::Slack;
 use crate::refusal::Refusal;
@@ -89,11 +90,7 @@ pub fn run(good: &Good, case: &Case) -> Answer {
                 ..answer(told.map(|_| vec![]), vec![])
             }
         }
-        Call::Noise => {
-            let mut values = vec![i32::from_ne_bytes([BEFORE; 4]); case.rooms[0]];
-            let told = calls::noise(k, &bytes(0), &mut values);
-            answer(told.map(|count| vec![count]), vec![whole(&values)])
-        }
+        Call::Noise => panic!("Noise has cases of its own"),
         Call::Expand { rule } => {
             let mut numbers = vec![u32::from_ne_bytes([BEFORE; 4]); case.rooms[0]];
             let told = calls::expand(rule, &bytes(0), &mut numbers);
@@ -115,6 +112,13 @@ pub fn run(good: &Good, case: &Case) -> Answer {
             answer(told.map(|count| vec![count]), vec![whole(&output)])
         }
     }
+}
+
+/// Noise, whose cases are of its own kind.
+pub fn noise(case: &noise::Case) -> Answer {
+    let mut values = vec![i32::from_ne_bytes([BEFORE; 4]); case.room];
+    let told = calls::noise(case.scheme, &case.bytes, &case.table, &mut values);
+    answer(told.map(|count| vec![count]), vec![whole(&values)])
 }
 
 /// The inputs as the case has them.

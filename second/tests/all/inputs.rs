@@ -145,7 +145,7 @@ pub fn numbers(generator: &mut Generator, count: usize, q: i128) -> Vec<u32> {
     (0..count).map(number).collect()
 }
 
-/// Random noise; BCNS's from -51 to 51.
+/// Random noise; BCNS's uniform from -51 to 51, since its own is seldom so large.
 pub fn noise(generator: &mut Generator, scheme: &Scheme, count: usize) -> Vec<i32> {
     if scheme.family == Family::Bcns {
         return (0..count)
@@ -153,5 +153,5 @@ pub fn noise(generator: &mut Generator, scheme: &Scheme, count: usize) -> Vec<i3
             .collect();
     }
     let bytes = generator.bytes(count * second::noise::bytes_a_value(scheme));
-    second::noise::values(scheme, &bytes)
+    second::noise::values(scheme, &bytes, &[])
 }

@@ -45,7 +45,7 @@ impl Draws<'_> {
 
     fn noise(&mut self) -> Vec<i32> {
         let mut values = vec![0; 1024];
-        let answer = calls::noise(1, &self.bytes(4096), &mut values);
+        let answer = calls::noise(1, &self.bytes(4096), &[], &mut values);
         assert_eq!(answer, Ok(1024));
         values
     }

@@ -9,6 +9,7 @@ use second::vectors::draw::{drawn, Entries, Stream};
 use second::vectors::good::Lists;
 use second::vectors::input::Input;
 use second::vectors::lines::checksum;
+use second::vectors::noise;
 use second::vectors::run::{lent, run as make};
 use std::ops::Range;
 use std::sync::OnceLock;
@@ -145,10 +146,10 @@ fn how_many_cases() {
             ["offer", "reply", "finish", "bench", "noise"].map(|call| of(call, scheme).len());
         let expected = match scheme {
             // No seed: two lengths less in Offer and in Bench.
-            0 => [71, 116, 51, 138, 11],
-            1 => [73, 116, 51, 140, 11],
+            0 => [71, 116, 51, 138, 56],
+            1 => [73, 116, 51, 140, 31],
             // No coins: two less in Reply and in Bench.
-            _ => [73, 114, 51, 138, 22],
+            _ => [73, 114, 51, 138, 42],
         };
         assert_eq!(counts, expected);
     }
@@ -174,7 +175,7 @@ fn how_many_cases() {
         let slack = starting(&format!("finish scheme={scheme} case=slack"));
         assert_eq!(slack.len(), 3);
     }
-    assert_eq!(lines().len(), 2785);
+    assert_eq!(lines().len(), 2930);
 }
 
 #[test]
@@ -505,14 +506,89 @@ fn noise() {
         vec![LENGTH, (1, 0)],
     ]
     .concat();
-    assert_eq!(told(&of("noise", 0)), [(1, 0); 11]);
-    assert_eq!(told(&of("noise", 1)), expected);
+    // An empty table alone is right, and with room 0 it is 3; a faulty one is
+    // a table all the same.
+    let no_table = [
+        vec![GOOD],
+        vec![LENGTH; 6],
+        vec![(3, 0)],
+        vec![LENGTH; 6],
+        vec![LENGTH; 5],
+        vec![(1, 0)],
+    ]
+    .concat();
+    assert_eq!(
+        told(&of("noise", 1)),
+        [expected.clone(), no_table.clone()].concat()
+    );
     for (scheme, fixed) in SIX.iter().enumerate().skip(2) {
         let lines = of("noise", scheme);
-        assert_eq!(told(&lines), expected.repeat(2));
+        let both = [expected.repeat(2), no_table.clone()];
+        assert_eq!(told(&lines), both.concat());
         assert_eq!(under(lines[0], "written"), (8 * fixed.n).to_string());
         assert_eq!(under(lines[11], "written"), "64");
     }
+
+    // 153 words alone are right; 1, 2 and 3 come before 18.
+    let lengths = |right| [LENGTH, LENGTH, LENGTH, LENGTH, right, LENGTH, LENGTH];
+    let faulty = [(18, 25), (3, 0), LENGTH, LENGTH, LENGTH, (1, 0)];
+    let edges = [GOOD, GOOD, GOOD, (18, 1), (18, 25)];
+    // equal, in each other's place, one less: each is refused; one more is not
+    let places = [1, 24, 25, 26, 50].map(|p| [(18, p), (18, p), (18, p), GOOD]);
+    let bcns = [
+        expected,
+        lengths(GOOD).to_vec(),
+        lengths((3, 0)).to_vec(),
+        faulty.to_vec(),
+        edges.to_vec(),
+        places.concat(),
+    ];
+    assert_eq!(told(&of("noise", 0)), bcns.concat());
+}
+
+/// The table of the cases: it ascends, and the words are those that the page
+/// says; the edges count what they should, by the numbers themselves.
+#[test]
+fn the_table_and_its_edges() {
+    let table = noise::table();
+    let entries: Vec<[u64; 3]> = table
+        .chunks_exact(3)
+        .map(|entry| [entry[0], entry[1], entry[2]])
+        .collect();
+    assert_eq!(entries.len(), 51);
+    assert!(entries.windows(2).all(|pair| pair[0] < pair[1]));
+    for k in 0..51 {
+        assert_eq!(entries[k][0], entries[k / 4 * 4][0]);
+        assert_eq!(entries[k][1], entries[k / 2 * 2][1]);
+        assert_eq!(entries[k][0] >> 60, k as u64 / 4 + 1);
+        assert_eq!(entries[k][1] >> 63, k as u64 / 2 % 2);
+        assert_eq!(entries[k][2] >> 63, k as u64 % 2);
+    }
+    // 19 times 48271 times 10 is 9171490, and the next state is 182605794 times 10.
+    assert_eq!(
+        entries[0][0],
+        (1 << 60) + ((9171490 << 32) + below(34695100860)) / 16
+    );
+
+    let bytes = noise::edges(&[7; 25600]);
+    assert_eq!(bytes[25 * 718..], [7; 25 * (1024 - 718)]);
+    let values = second::noise::values(&SIX[0], &bytes, &table);
+    for (i, &value) in values[..714].iter().enumerate() {
+        let k = i as i32 / 14;
+        // only the lowest word is the entry's own: another entry may lie between
+        let size = match i / 2 % 7 {
+            0 | 2 => k + 1,
+            1 => k,
+            _ => continue,
+        };
+        assert_eq!(value, if i % 2 == 1 { -size } else { size }, "{i}");
+    }
+    assert_eq!(values[714..718], [0, 0, 51, -51]);
+}
+
+/// A draw as it comes below 4294967295.
+fn below(draw: u64) -> u64 {
+    draw % 4294967295
 }
 
 const NO_RULES: [u32; 6] = [0, 1, 13, 15, 17, 4294967295];
