@@ -16,8 +16,8 @@
  * wim_grow makes them of its 32 bytes at either end, so that no file of numbers has to be carried,
  * and the replier finds the seed at the end of the opening. wim_expand makes them of a stream that
  * both have. The calls of the exchange carry the seed and do not read it. s, e, s', e' and e'' are
- * secrets, drawn afresh for each exchange; wim_noise makes them from random bytes, in BCNS by a table
- * that is lent too. In names s1, e1 and e2 stand for s', e' and e''.
+ * secrets, drawn afresh for each exchange; wim_noise makes them from random bytes, in BCNS by a
+ * table that is lent too. In names s1, e1 and e2 stand for s', e' and e''.
  *
  * The digest beside a key is its SHA3-256. Equal keys have equal digests, and other keys other ones
  * as far as anyone knows, so that two boxes can show or compare digests and never show a key.
@@ -55,8 +55,8 @@
  * seed and hints don't count. It is given for a message received, and for one about to be sent,
  * which is zero where secret and noise are; a zero secret with some noise passes.
  * *place is the index of the first bad entry after 4, 5 and 6, the first entry of the table that is
- * not above its forerunner, 1 to 50, after 18, how many numbers the stream held after 7, and 0 after
- * 1, 12, 2, 3, 17 and a success.
+ * not above its forerunner, 1 to 50, after 18, how many numbers the stream held after 7, and 0
+ * after 1, 12, 2, 3, 17 and a success.
  *
  * The tests go in the order of this table, and within one number in the order in which the inputs,
  * or for 3 the outputs, stand in the call; the first that fails is the refusal. 17 stands there for
