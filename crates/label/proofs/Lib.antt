@@ -1,0 +1,3 @@
+pub mod Margins
+pub mod Pairs
+pub mod Frequencies
