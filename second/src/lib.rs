@@ -10,6 +10,7 @@ pub mod calls;
 pub mod cards;
 pub mod coins;
 pub mod expand;
+pub mod failure;
 pub mod files;
 pub mod grow;
 pub mod hash;

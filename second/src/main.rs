@@ -1,6 +1,6 @@
 //! Prints expectations: `second line`, `second trace`, `second cards`,
-//! `second margins`, `second vectors` and `second table`; `second box` makes the
-//! calls on files.
+//! `second margins`, `second vectors`, `second failure` and `second table`;
+//! `second box` makes the calls on files.
 
 use second::table::{lines, table};
 use std::io::{self, Read, Write};
@@ -14,6 +14,7 @@ second, the independent second program
   second cards     all bench cards, one line each: inputs, a colon, outputs
   second margins   Bench near the margin, a line for each worked run
   second vectors   all calls on good and damaged inputs, one line a case
+  second failure   how likely an exchange fails, a line a scheme, exact or bounded
   second table     the table of BCNS's noise, an entry a line, computed anew
   second box ..    a call on files: the words of the command line
 ";
@@ -27,6 +28,7 @@ fn main() -> ExitCode {
         ["cards"] => print(second::cards::cards()),
         ["margins"] => print(second::margins::margins()),
         ["vectors"] => print(second::vectors::vectors()),
+        ["failure"] => print(second::failure::failure()),
         ["table"] => print(lines(&table())),
         ["box", ref rest @ ..] => files(rest),
         _ => {

@@ -110,7 +110,7 @@ pub struct Between {
 }
 
 impl Between {
-    fn whole(n: u64) -> Between {
+    pub fn whole(n: u64) -> Between {
         let units = Units([0, 0, 0, 0, 0, n]);
         Between {
             low: units.clone(),
@@ -118,35 +118,35 @@ impl Between {
         }
     }
 
-    fn plus(&self, other: &Between) -> Between {
+    pub fn plus(&self, other: &Between) -> Between {
         Between {
             low: self.low.plus(&other.low),
             high: self.high.plus(&other.high),
         }
     }
 
-    fn minus(&self, other: &Between) -> Between {
+    pub fn minus(&self, other: &Between) -> Between {
         Between {
             low: self.low.minus(&other.high),
             high: self.high.minus(&other.low),
         }
     }
 
-    fn times(&self, other: &Between) -> Between {
+    pub fn times(&self, other: &Between) -> Between {
         Between {
             low: self.low.times(&other.low),
             high: self.high.times(&other.high).plus(&Units::ONE),
         }
     }
 
-    fn over(&self, n: u64) -> Between {
+    pub fn over(&self, n: u64) -> Between {
         Between {
             low: self.low.over(n),
             high: self.high.over(n).plus(&Units::ONE),
         }
     }
 
-    fn scaled(&self, n: u64) -> Between {
+    pub fn scaled(&self, n: u64) -> Between {
         Between {
             low: self.low.scaled(n),
             high: self.high.scaled(n),
@@ -162,6 +162,20 @@ const LIMBS: usize = 6;
 
 impl Units {
     const ONE: Units = Units([1, 0, 0, 0, 0, 0]);
+
+    /// What stands before the point.
+    pub fn whole(&self) -> u64 {
+        self.0[LIMBS - 1]
+    }
+
+    /// As a float, rounded.
+    pub fn nearly(&self) -> f64 {
+        let limbs = self.0.iter().rev();
+        let sum = limbs.fold((0.0, 1.0), |(sum, unit), &limb| {
+            (sum + limb as f64 * unit, unit / 2f64.powi(64))
+        });
+        sum.0
+    }
 
     fn is_zero(&self) -> bool {
         self.0 == [0; LIMBS]

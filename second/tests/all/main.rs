@@ -12,6 +12,7 @@ mod cards;
 mod easy_to_get_wrong;
 mod exchange;
 mod expand;
+mod failure;
 mod grow;
 mod hash;
 mod line;
