@@ -275,8 +275,8 @@ fn told(r: BcnsAnswer) -> BenchAnswer
     }
 }
 
-// By the family: BCNS has a bench of its own.
-fn by_family(
+// By the scheme: BCNS has a bench of its own.
+fn by_scheme(
     scheme: Scheme,
     a: &[u32],
     s: &[i32],
@@ -312,5 +312,5 @@ pub fn bench(
     let Named::Is(known) = schemes::scheme_of(scheme) else {
         return BenchAnswer::Refused(Refusal::NoScheme);
     };
-    by_family(known, a, s, e, seed, s1, e1, e2, coins)
+    by_scheme(known, a, s, e, seed, s1, e1, e2, coins)
 }

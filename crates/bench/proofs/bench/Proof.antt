@@ -18,9 +18,9 @@ returns-2 : tie.Need-returns-2
 returns-2 c =
     let n : tie.After-scheme-of = search needs in
     let k : tie.After-known = search needs in
-    let p : tie.After-by-family = search needs in
+    let p : tie.After-by-scheme = search needs in
     let e = sym (n .scheme-of .ensures) ∙ k .known .given .1 in
-    rw e (p .by-family .ensures)
+    rw e (p .by-scheme .ensures)
 
 pub bench-spec : {M : Type 1} → statement M
 bench-spec =

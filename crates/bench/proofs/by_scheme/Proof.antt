@@ -1,8 +1,8 @@
--- `bench::by_family` meets its contract: BCNS's answer, or that of the bench that compares.
+-- `bench::by_scheme` meets its contract: BCNS's answer, or that of the bench that compares.
 use Rattle.schemes.specs.declared.Scheme.{Scheme}
 use borrow.Author.Needs.{needs}
-use Rattle.bench.proofs.by_family.Statement.{statement}
-use Rattle.bench.proofs.by_family.Tie as tie
+use Rattle.bench.proofs.by_scheme.Statement.{statement}
+use Rattle.bench.proofs.by_scheme.Tie as tie
 
 returns : tie.Need-returns
 returns c =
@@ -11,8 +11,8 @@ returns c =
     let p : tie.After-bcns = search needs in
     rw (o .enum-told .given .1, t .told .ensures) (p .bcns .ensures)
 
-pub by-family-spec : {M : Type 1} → statement M
-by-family-spec =
+pub by-scheme-spec : {M : Type 1} → statement M
+by-scheme-spec =
     tie.close
     (tie.spec
     (search needs)
