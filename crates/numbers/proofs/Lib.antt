@@ -10,3 +10,5 @@ pub mod Circle
 pub mod Least
 pub mod Arc
 pub mod Machine
+pub mod Halves
+pub mod Lifted

@@ -1,8 +1,9 @@
 // Remainders of signed numbers, in i32 and in i64: 01, "Reconciliation", and its form "the signed remainder nearest to zero". The definitions
 // are `specs/Residue.antt`; the laws on sums, congruence and circular distance, which the crates above cite, stand in `proofs/`.
-// A modulus q is at least 1 and fits the signed type; nothing else is asked. Frodo's and BCNS's slack used (02f) come down to `way_out`.
+// A modulus q is at least 1 and fits the signed type; nothing else is asked. By BCNS's q, 2^32 - 1, there is a remainder without a division (02b): `fold`,
+// and `residue_folded` of signed numbers. Frodo's and BCNS's slack used (02f) come down to `way_out`.
 ghost use mathlib.Core.Path.{_≡_};
-ghost use Prim.Native.Nat.{_+_, _-_, _^_, _<_, min};
+ghost use Prim.Native.Nat.{_+_, _-_, _/_, _%_, _^_, _≤_, _<_, min};
 ghost use lib.IntN.{negℤ, natAbs};
 ghost use Rattle.numbers.specs.Residue.{residue, nearest, distance};
 
@@ -121,4 +122,34 @@ pub fn way_out(y: u32, n: u32) -> u32
     let ahead = (n - y * inside) * inside;
     let less = (y + 1 < ahead) as u32;
     (y + 1) * less + ahead * (1 - less)
+}
+
+// BCNS's q, 2^32 - 1, and 2^30 times that, which is added to signed numbers before they are folded.
+const FULL: u64 = 4294967295;
+
+const ABOVE: i64 = 1073741824 * 4294967295;
+
+// The high and the low half of x, added.
+fn halves_sum(x: u64) -> u64
+    ensures { λ r. ⌜ r ≡ x / 4294967296 + x % 4294967296 ⌝ }
+{
+    (x >> 32) + (x & FULL)
+}
+
+// The remainder of any number by 2^32 - 1 (02b): since 2^32 leaves 1, the halves add. Once leaves at most 2^33 - 2, twice at most 2^32 - 1, and that itself
+// becomes 0, without a branch, for x is a secret.
+pub fn fold(x: u64) -> u64
+    ensures { λ r. ⌜ r ≡ x % 4294967295 ⌝ }
+{
+    let once = halves_sum(x);
+    let twice = halves_sum(once);
+    twice - FULL * ((twice >= FULL) as u64)
+}
+
+// The same of a signed number: a multiple of 2^32 - 1 brings it above zero first.
+pub fn residue_folded(x: i64) -> u32
+    requires { ⌜ natAbs x ≤ 2 ^ 61 ⌝ }
+    ensures { λ r. ⌜ r ≡ residue 4294967295 x ⌝ }
+{
+    fold((x + ABOVE) as u64) as u32
 }
