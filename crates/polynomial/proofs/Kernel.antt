@@ -1,99 +1,154 @@
--- The kernel's numbers in the machine: one product more, the noise, and the sums of a dot product.
---   nearest-small            a signed remainder nearest to zero is below 2^31 in size where q is below 2^32
---   narrow-fits, narrow, kept   so it fits an i32, and stays there as it is
---   term-fits, more-fits, more   one product more: it and the sum fit, and the machine's is the sum
---   noise-fits, noise        the same with the noise
---   dot-none, dot-next       the first i products of a dot product
---   dot-small                and their size
-use mathlib.Core.Path.{_≡_, refl, sym, ap₂, _∙_, subst}
+-- The kernel's numbers in the machine: one product, two sums added, and the two halves put together.
+--   widen-fits, widen        a number of 16 bits in 32
+--   one-fits, one            one product
+--   span-one, span-join, span-size   the products of some neighbouring entries: of one, of some and those behind them, and their size
+--   pair-fits, pair          two such sums, one behind the other, added
+--   first-none, first-fits, first-read, first-more   the sum of the first i products
+--   join-*                   65536 times one sum, another, and the noise
+use mathlib.Core.Path.{_≡_, refl, sym, ap, ap₂, _∙_, subst}
 use mathlib.Core.List.{List}
 use Prim.Native.Nat.{ℕ, _+_, _*_, _^_, _≤_, _<_}
 use native.Mathlib.Omega.{arith}
-use native.Mathlib.Numerals.{add-one}
 use lib.ListN.{getD}
-use lib.IntN.{ℤ, pos, natAbs, _+ℤ_, _*ℤ_}
+use lib.IntN.{ℤ, pos, natAbs, _+ℤ_, _*ℤ_, +ℤ-idl}
 use lib.Signed.{natAbs-le}
-use mir.Syntax.{w32, w64}
+use mir.Syntax.{w16, w32, w64}
 use mir.Val.{SFits, toZ, ofZ}
-use mir.Facts.{toZ-ofZ}
+use mir.Facts.{toZ-ofZ, sfits-widen}
 use Rattle.numbers.specs.Sum.{sum}
-use Rattle.numbers.specs.Residue.{nearest}
-use Rattle.numbers.proofs.Size.{abs-add, abs-mul-≤, abs-sum}
-use Rattle.numbers.proofs.Nearest.{distance-half, distance-nearest}
+use Rattle.numbers.proofs.Size.{abs-add, abs-mul, abs-mul-≤, abs-sum}
+use Rattle.numbers.proofs.Sums.{whole, sum-ext, sum-split}
 use Rattle.numbers.proofs.Machine.{fits-abs, widened, wide}
 use Rattle.lists.specs.Entries.{ints, Within}
-use Rattle.polynomial.specs.Window.{dot}
+use Rattle.polynomial.specs.Window.{dot, span, Pair}
 
--- ---- a signed remainder nearest to zero in an i32
+-- ---- one product
 
-pub nearest-small : (q : ℕ) (z : ℤ) → 0 < q → q < 2 ^ 32 → natAbs (nearest q z) ≤ 2147483647
-nearest-small q z h r = omega (arith, distance-half q h z, distance-nearest q h z)
+-- a number of 16 bits, as 32 bits read it
+abbrev pub widened16 : ℤ → ℤ
+widened16 z = toZ w32 (ofZ w32 (toZ w16 (ofZ w16 z)))
 
-module _ (q : ℕ) (z m : ℤ) (e : m ≡ nearest q z) (h : 0 < q) (r : q < 2 ^ 32) where
-  small : natAbs m ≤ 2147483647
-  small = rw e (nearest-small q z h r)
+pub widen-fits : (z : ℤ) → SFits w16 z → SFits w32 (toZ w16 (ofZ w16 z))
+widen-fits z f = rw (toZ-ofZ f) (sfits-widen tt f)
 
-  held : toZ w64 (ofZ w64 m) ≡ m
-  held = toZ-ofZ (fits-abs w64 m (omega (arith, small)))
+pub widen : (z : ℤ) → SFits w16 z → widened16 z ≡ z
+widen z f = toZ-ofZ (widen-fits z f) ∙ toZ-ofZ f
 
-  pub kept : toZ w32 (ofZ w32 m) ≡ nearest q z
-  kept = toZ-ofZ (fits-abs w32 m (omega (arith, small))) ∙ e
+module _ (x s : ℤ) (fx : SFits w16 x) (fs : SFits w16 s) (hx : natAbs x ≤ 32768) (hs : natAbs s ≤ 51) where
+  one-is : widened16 x *ℤ widened16 s ≡ x *ℤ s
+  one-is = ap₂ (λ (y z : ℤ). y *ℤ z) (widen x fx) (widen s fs)
 
-  pub narrow-fits : SFits w32 (toZ w64 (ofZ w64 m))
-  narrow-fits = rw held (fits-abs w32 m (omega (arith, small)))
+  pub one-fits : SFits w32 (widened16 x *ℤ widened16 s)
+  one-fits = subst (SFits w32) (sym one-is) (fits-abs w32 (x *ℤ s) (omega (arith, abs-mul-≤ x s hx hs)))
 
-  pub narrow : toZ w32 (ofZ w32 (toZ w64 (ofZ w64 m))) ≡ nearest q z
-  narrow = toZ-ofZ narrow-fits ∙ held ∙ e
+  pub one : toZ w32 (ofZ w32 (widened16 x *ℤ widened16 s)) ≡ x *ℤ s
+  one = toZ-ofZ one-fits ∙ one-is
 
--- ---- one product more
+-- ---- the products of neighbouring entries
 
-module _ (t x s : ℤ) (ft : SFits w64 t) (fx : SFits w32 x) (fs : SFits w32 s) (hs : natAbs s ≤ 51) (ht : natAbs t ≤ 2 ^ 48) where
-  term : widened x *ℤ widened s ≡ x *ℤ s
-  term = ap₂ (λ (y z : ℤ). y *ℤ z) (wide x fx) (wide s fs)
+pub span-one : (w s : List ℤ) (i : ℕ) → getD w i (pos 0) *ℤ getD s i (pos 0) ≡ span 1 w s i
+unfolding span dot sum ints
+span-one w s i =
+    let e : i + 0 ≡ i = omega arith in
+    sym (+ℤ-idl _ ∙ ap₂ (λ (x y : ℤ). x *ℤ y) (ap (λ (k : ℕ). getD w k (pos 0)) e) (ap (λ (k : ℕ). getD s k (pos 0)) e))
 
-  term-small : natAbs (x *ℤ s) ≤ 2 ^ 31 * 51
-  term-small = abs-mul-≤ x s (natAbs-le x {H = 2 ^ 31} (fx .sfits)) hs
+pub span-join : (m n : ℕ) (w s : List ℤ) (i : ℕ) → span m w s i +ℤ span n w s (i + m) ≡ span (m + n) w s i
+unfolding span dot
+span-join m n w s i =
+    sym
+    (sum-split whole m n _
+    ∙ ap (λ (t : ℤ). span m w s i +ℤ t)
+    (sum-ext whole n _ _ (λ j p.
+    let e : i + (m + j) ≡ i + m + j = omega arith in
+    ap (λ (k : ℕ). ints w k *ℤ ints s k) e)))
 
-  pub term-fits : SFits w64 (widened x *ℤ widened s)
-  term-fits = subst (SFits w64) (sym term) (fits-abs w64 (x *ℤ s) (omega (arith, term-small)))
+pub span-size : (m : ℕ) (w s : List ℤ) (i : ℕ) → Pair w s → natAbs (span m w s i) ≤ m * 1671168
+unfolding span dot ints
+span-size m w s i p =
+    abs-sum m 1671168 _ (λ j l. abs-mul-≤ (getD w (i + j) (pos 0)) (getD s (i + j) (pos 0)) (p .w-within .within (i + j)) (p .s-within .within (i + j)))
 
-  sums : toZ w64 (ofZ w64 t) +ℤ toZ w64 (ofZ w64 (widened x *ℤ widened s)) ≡ t +ℤ x *ℤ s
-  sums = ap₂ (λ (y z : ℤ). y +ℤ z) (toZ-ofZ ft) (toZ-ofZ term-fits ∙ term)
+span-fits : (m : ℕ) (w s : List ℤ) (i : ℕ) → Pair w s → m ≤ 1024 → SFits w32 (span m w s i)
+span-fits m w s i p h = fits-abs w32 _ (omega (arith, span-size m w s i p))
 
-  pub more-fits : SFits w64 (toZ w64 (ofZ w64 t) +ℤ toZ w64 (ofZ w64 (widened x *ℤ widened s)))
-  more-fits = subst (SFits w64) (sym sums) (fits-abs w64 (t +ℤ x *ℤ s) (omega (arith, term-small, abs-add t (x *ℤ s))))
+-- two sums, one behind the other
+module _ (m n : ℕ) (w s : List ℤ) (i : ℕ) (p : Pair w s) (few : m + n ≤ 1024) (x y : ℤ) (ex : x ≡ span m w s i) (ey : y ≡ span n w s (i + m)) where
+  pair-is : toZ w32 (ofZ w32 x) +ℤ toZ w32 (ofZ w32 y) ≡ span (m + n) w s i
+  pair-is =
+      ap₂ (λ (a b : ℤ). toZ w32 (ofZ w32 a) +ℤ toZ w32 (ofZ w32 b)) ex ey
+      ∙ ap₂ (λ (a b : ℤ). a +ℤ b) (toZ-ofZ (span-fits m w s i p (omega arith))) (toZ-ofZ (span-fits n w s (i + m) p (omega arith)))
+      ∙ span-join m n w s i
 
-  pub more : toZ w64 (ofZ w64 (toZ w64 (ofZ w64 t) +ℤ toZ w64 (ofZ w64 (widened x *ℤ widened s)))) ≡ t +ℤ x *ℤ s
-  more = toZ-ofZ more-fits ∙ sums
+  pub pair-fits : SFits w32 (toZ w32 (ofZ w32 x) +ℤ toZ w32 (ofZ w32 y))
+  pair-fits = subst (SFits w32) (sym pair-is) (span-fits (m + n) w s i p few)
 
--- ---- the noise
+  pub pair : toZ w32 (ofZ w32 (toZ w32 (ofZ w32 x) +ℤ toZ w32 (ofZ w32 y))) ≡ span (m + n) w s i
+  pair = toZ-ofZ pair-fits ∙ pair-is
 
-module _ (t e : ℤ) (ft : SFits w64 t) (fe : SFits w32 e) (ht : natAbs t ≤ 2 ^ 48) where
-  with-noise : toZ w64 (ofZ w64 t) +ℤ widened e ≡ t +ℤ e
-  with-noise = ap₂ (λ (y z : ℤ). y +ℤ z) (toZ-ofZ ft) (wide e fe)
+-- ---- the first i products
 
-  pub noise-fits : SFits w64 (toZ w64 (ofZ w64 t) +ℤ widened e)
-  noise-fits =
-      subst (SFits w64) (sym with-noise)
-      (fits-abs w64 (t +ℤ e) (omega (arith, abs-add t e, natAbs-le e {H = 2 ^ 31} (fe .sfits))))
+pub first-none : (w s : List ℤ) → 0 ≡ ofZ w32 (span 0 w s 0)
+unfolding span dot sum
+first-none w s = refl
 
-  pub noise : toZ w64 (ofZ w64 (toZ w64 (ofZ w64 t) +ℤ widened e)) ≡ t +ℤ e
-  noise = toZ-ofZ noise-fits ∙ with-noise
+pub first-read : (w s : List ℤ) (i t : ℕ) → Pair w s → i ≤ 1024 → t ≡ ofZ w32 (span i w s 0) → toZ w32 t ≡ span i w s 0
+first-read w s i t p h e = ap (toZ w32) e ∙ toZ-ofZ (span-fits i w s 0 p h)
 
--- ---- the sums of a dot product
+module _ (m : ℕ) (w s : List ℤ) (i t : ℕ) (y : ℤ) (p : Pair w s) (few : i + m ≤ 1024) (et : t ≡ ofZ w32 (span i w s 0)) (ey : y ≡ span m w s i) where
+  first-is : toZ w32 t +ℤ toZ w32 (ofZ w32 y) ≡ span (i + m) w s 0
+  first-is =
+      let e : i ≡ 0 + i = omega arith in
+      ap₂ (λ (a b : ℤ). a +ℤ b)
+      (first-read w s i t p (omega arith) et)
+      (ap (λ (b : ℤ). toZ w32 (ofZ w32 b)) ey ∙ toZ-ofZ (span-fits m w s i p (omega arith)) ∙ ap (span m w s) e)
+      ∙ span-join i m w s 0
 
-pub dot-none : (w s : List ℤ) → dot 0 (ints w) (ints s) ≡ pos 0
-unfolding dot sum
-dot-none w s = refl
+  pub first-fits : SFits w32 (toZ w32 t +ℤ toZ w32 (ofZ w32 y))
+  first-fits = subst (SFits w32) (sym first-is) (span-fits (i + m) w s 0 p few)
 
-pub dot-next : (w s : List ℤ) (i : ℕ) → dot (i + 1) (ints w) (ints s) ≡ dot i (ints w) (ints s) +ℤ getD w i (pos 0) *ℤ getD s i (pos 0)
-unfolding dot sum ints
-dot-next w s i = rw add-one
+  pub first-more : ofZ w32 (toZ w32 t +ℤ toZ w32 (ofZ w32 y)) ≡ ofZ w32 (span (i + m) w s 0)
+  first-more = ap (ofZ w32) first-is
 
-dot-size : {B C : ℕ} (w s : List ℤ) (i : ℕ) → Within B w → Within C s → natAbs (dot i (ints w) (ints s)) ≤ i * (B * C)
-unfolding dot ints
-dot-size {B} {C} w s i hw hs =
-    abs-sum i (B * C) _ (λ j l. abs-mul-≤ (getD w j (pos 0)) (getD s j (pos 0)) (hw .within j) (hs .within j))
+-- ---- the two halves and the noise
 
-pub dot-small : (w s : List ℤ) (i : ℕ) → Within 2147483647 w → Within 51 s → i ≤ 1024 → natAbs (dot i (ints w) (ints s)) ≤ 2 ^ 48
-dot-small w s i hw hs h = omega (arith, dot-size w s i hw hs)
+module _ (x y e : ℤ) (fx : SFits w32 x) (fy : SFits w32 y) (fe : SFits w32 e) where
+  size : {z : ℤ} → SFits w32 z → natAbs z ≤ 2 ^ 31
+  size {z} f = natAbs-le z {H = 2 ^ 31} (f .sfits)
+
+  times-is : widened x *ℤ pos 65536 ≡ x *ℤ pos 65536
+  times-is = ap (λ (z : ℤ). z *ℤ pos 65536) (wide x fx)
+
+  times-small : natAbs (x *ℤ pos 65536) ≤ 2 ^ 47
+  times-small = omega (arith, abs-mul x (pos 65536), size fx)
+
+  pub times-fits : SFits w64 (widened x *ℤ pos 65536)
+  times-fits = subst (SFits w64) (sym times-is) (fits-abs w64 _ (omega (arith, times-small)))
+
+  halves-is : toZ w64 (ofZ w64 (widened x *ℤ pos 65536)) +ℤ widened y ≡ x *ℤ pos 65536 +ℤ y
+  halves-is = ap₂ (λ (a b : ℤ). a +ℤ b) (toZ-ofZ times-fits ∙ times-is) (wide y fy)
+
+  halves-small : natAbs (x *ℤ pos 65536 +ℤ y) ≤ 2 ^ 47 + 2 ^ 31
+  halves-small = omega (arith, abs-add (x *ℤ pos 65536) y, times-small, size fy)
+
+  pub halves-fits : SFits w64 (toZ w64 (ofZ w64 (widened x *ℤ pos 65536)) +ℤ widened y)
+  halves-fits = subst (SFits w64) (sym halves-is) (fits-abs w64 _ (omega (arith, halves-small)))
+
+  all-is : toZ w64 (ofZ w64 (toZ w64 (ofZ w64 (widened x *ℤ pos 65536)) +ℤ widened y)) +ℤ widened e ≡ x *ℤ pos 65536 +ℤ y +ℤ e
+  all-is = ap₂ (λ (a b : ℤ). a +ℤ b) (toZ-ofZ halves-fits ∙ halves-is) (wide e fe)
+
+  pub all-small : natAbs (x *ℤ pos 65536 +ℤ y +ℤ e) ≤ 2 ^ 48
+  all-small = omega (arith, abs-add (x *ℤ pos 65536 +ℤ y) e, halves-small, size fe)
+
+  pub all-fits : SFits w64 (toZ w64 (ofZ w64 (toZ w64 (ofZ w64 (widened x *ℤ pos 65536)) +ℤ widened y)) +ℤ widened e)
+  all-fits = subst (SFits w64) (sym all-is) (fits-abs w64 _ (omega (arith, all-small)))
+
+  pub all-read : toZ w64 (ofZ w64 (toZ w64 (ofZ w64 (toZ w64 (ofZ w64 (widened x *ℤ pos 65536)) +ℤ widened y)) +ℤ widened e)) ≡ x *ℤ pos 65536 +ℤ y +ℤ e
+  all-read = toZ-ofZ all-fits ∙ all-is
+
+-- ---- a secret in 16 bits
+
+module _ (z : ℤ) (f : SFits w32 z) (h : natAbs z ≤ 51) where
+  pub secret-fits : SFits w16 (toZ w32 (ofZ w32 z))
+  secret-fits = rw (toZ-ofZ f) (fits-abs w16 z (omega arith))
+
+  pub secret : toZ w16 (ofZ w16 (toZ w32 (ofZ w32 z))) ≡ z
+  secret = toZ-ofZ secret-fits ∙ toZ-ofZ f

@@ -1,65 +1,72 @@
--- `polynomial::dot_product` meets its contract. The invariant: the sum is that of the first i products.
-use mathlib.Core.Path.{_≡_, sym, ap, _∙_}
-use Prim.Native.Nat.{ℕ, _-_, _^_, _≤_}
+-- `polynomial::dot_product` meets its contract. The invariant of both loops: the sum is that of the first i products.
+use mathlib.Core.Path.{_≡_, _∙_, ap}
+use Prim.Native.Nat.{ℕ, _-_, _≤_}
 use native.Mathlib.Omega.{arith}
-use lib.ListN.{length, getD}
-use lib.IntN.{pos, natAbs}
-use mir.Syntax.{w32, w64}
-use mir.Val.{SFits, ofZ, toZ}
-use mir.Facts.{toZ-ofZ}
-use Rattle.numbers.proofs.Machine.{fits-abs}
-use Rattle.lists.specs.Entries.{ints}
-use Rattle.polynomial.specs.Window.{dot}
-use Rattle.polynomial.proofs.Kernel.{dot-none, dot-next, dot-small}
+use lib.ListN.{length}
+use mir.Syntax.{w32}
+use mir.Val.{ofZ}
+use Rattle.polynomial.specs.Window.{span}
+use Rattle.polynomial.proofs.Kernel.{first-none, first-fits, first-read, first-more}
 use Rattle.polynomial.proofs.dot_product.Statement.{statement}
 use Rattle.polynomial.proofs.dot_product.Tie as tie
 
 abbrev Inv-loop : tie.InvT-loop
-Inv-loop w s sum₀ i₀ sum i = (i ≤ length w) × (sum ≡ ofZ w64 (dot i (ints w) (ints s)))
+Inv-loop w s sum₀ i₀ sum i = (i ≤ length w) × (sum ≡ ofZ w32 (span i w s 0))
 
 abbrev μ-loop : tie.MeasureT-loop
 μ-loop w s sum₀ i₀ sum i = length w - i
 
-loop-holds : tie.Need-loop-holds Inv-loop μ-loop
-loop-holds c = (omega arith, rw (dot-none (c .args .w .now) (c .args .s .now)))
+abbrev Inv-loop2 : tie.InvT-loop2
+Inv-loop2 w s sum₀ i₀ sum i = (i ≤ length w) × (sum ≡ ofZ w32 (span i w s 0))
 
-small : (c : tie.At-loop Inv-loop μ-loop) → let a = c .before .args in natAbs (dot (c .loop .i) (ints (a .w .now)) (ints (a .s .now))) ≤ 2 ^ 48
-small c =
-    let b = c .before in
-    dot-small (b .args .w .now) (b .args .s .now) (c .loop .i) (b .pre .1 .0) (b .pre .1 .1) (omega arith)
+abbrev μ-loop2 : tie.MeasureT-loop2
+μ-loop2 w s sum₀ i₀ sum i = length w - i
 
-sum-is : (c : tie.At-loop Inv-loop μ-loop) → let a = c .before .args in toZ w64 (c .loop .sum) ≡ dot (c .loop .i) (ints (a .w .now)) (ints (a .s .now))
-sum-is c = ap (toZ w64) (c .loop .inv .1) ∙ toZ-ofZ (fits-abs w64 _ (omega (arith, small c)))
+loop-holds : tie.Need-loop-holds Inv-loop μ-loop Inv-loop2 μ-loop2
+loop-holds c = (omega arith, first-none (c .args .w .now) (c .args .s .now))
 
-add-product-requires : tie.Need-add-product-requires Inv-loop μ-loop
-add-product-requires c κs =
-    let l = c .before .before .before in
-    let b = l .before in (
-      rw (toZ-ofZ (record { sfits = c .add-product-arg2 .given })) (b .pre .1 .1 .within (l .loop .i)),
-      rw (sum-is l) (small l),
-    )
+sixty-four-requires : tie.Need-sixty-four-requires Inv-loop μ-loop Inv-loop2 μ-loop2
+sixty-four-requires c κs = (c .before .before .pre, c .loop-test .taken)
 
-loop-again : tie.Need-loop-again Inv-loop μ-loop
+add-sum : tie.Need-add-sum Inv-loop μ-loop Inv-loop2 μ-loop2
+add-sum c =
+    let l = c .before .before in
+    let b = l .before in
+    first-fits 64 (b .args .w .now) (b .args .s .now) (l .loop .i) _ _ (b .pre) (omega (arith, b .pre .few)) (l .loop .inv .1) (c .sixty-four .ensures)
+
+loop-again : tie.Need-loop-again Inv-loop μ-loop Inv-loop2 μ-loop2
 loop-again c =
-    let l = c .before .before .before .before in
-    let a = l .before .args in
-    let x = getD (a .w .now) (l .loop .i) (pos 0) in
-    let y = getD (a .s .now) (l .loop .i) (pos 0) in
-    let fx : SFits w32 x = record { sfits = c .before .before .add-product-arg .given } in
-    let fy : SFits w32 y = record { sfits = c .before .add-product-arg2 .given } in
-    let more = rw (sum-is l, toZ-ofZ fx, toZ-ofZ fy) at (c .add-product .ensures) in
-    (omega arith, ap (ofZ w64) (more ∙ sym (dot-next (a .w .now) (a .s .now) (l .loop .i))))
+    let l = c .before .before in
+    let b = l .before in
+    (omega arith, first-more 64 (b .args .w .now) (b .args .s .now) (l .loop .i) _ _ (b .pre) (omega (arith, b .pre .few)) (l .loop .inv .1) (c .sixty-four .ensures))
 
-returns : tie.Need-returns Inv-loop μ-loop
+loop2-holds : tie.Need-loop2-holds Inv-loop μ-loop Inv-loop2 μ-loop2
+loop2-holds c = c .before .loop .inv
+
+product-requires : tie.Need-product-requires Inv-loop μ-loop Inv-loop2 μ-loop2
+product-requires c κs = (c .before .before .before .before .pre, c .loop2-test .taken)
+
+add-sum-2 : tie.Need-add-sum-2 Inv-loop μ-loop Inv-loop2 μ-loop2
+add-sum-2 c =
+    let l = c .before .before in
+    let b = l .before .before .before in
+    first-fits 1 (b .args .w .now) (b .args .s .now) (l .loop2 .i) _ _ (b .pre) (omega (arith, b .pre .few)) (l .loop2 .inv .1) (c .product .ensures)
+
+loop2-again : tie.Need-loop2-again Inv-loop μ-loop Inv-loop2 μ-loop2
+loop2-again c =
+    let l = c .before .before in
+    let b = l .before .before .before in
+    (omega arith, first-more 1 (b .args .w .now) (b .args .s .now) (l .loop2 .i) _ _ (b .pre) (omega (arith, b .pre .few)) (l .loop2 .inv .1) (c .product .ensures))
+
+returns : tie.Need-returns Inv-loop μ-loop Inv-loop2 μ-loop2
 returns c =
     let l = c .before in
-    let a = l .before .args in
-    let e : l .loop .i ≡ length (a .w .now) = omega (arith, c .loop-test .left) in (
-      sum-is l ∙ ap (λ (k : ℕ). dot k (ints (a .w .now)) (ints (a .s .now))) e,
-      rw (sum-is l) (small l),
-    )
+    let b = l .before .before .before in
+    let e : l .loop2 .i ≡ length (b .args .w .now) = omega (arith, c .loop2-test .left) in
+    first-read (b .args .w .now) (b .args .s .now) (l .loop2 .i) _ (b .pre) (omega (arith, b .pre .few)) (l .loop2 .inv .1)
+    ∙ ap (λ (k : ℕ). span k (b .args .w .now) (b .args .s .now) 0) e
 
 pub dot-product-spec : {M : Type 1} → statement M
 dot-product-spec =
     tie.close
-    (tie.spec Inv-loop μ-loop loop-holds (λ c. omega arith) (λ c. omega arith) (λ c. omega arith) (λ c. omega arith) add-product-requires (λ c. omega arith) (λ c. omega arith) loop-again returns)
+    (tie.spec Inv-loop μ-loop Inv-loop2 μ-loop2 loop-holds (λ c. omega arith) sixty-four-requires add-sum (λ c. omega arith) (λ c. omega arith) loop-again loop2-holds product-requires add-sum-2 (λ c. omega arith) (λ c. omega arith) loop2-again returns)

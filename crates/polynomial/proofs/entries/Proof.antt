@@ -8,18 +8,18 @@ use lib.IntN.{ℤ, _+ℤ_}
 use Rattle.numbers.specs.Residue.{residue}
 use Rattle.lists.specs.Entries.{tab, ints}
 use Rattle.lists.proofs.Fill.{Filled, fill-start, fill-next, fill-end}
-use Rattle.polynomial.specs.Window.{against, slid, Laid}
+use Rattle.polynomial.specs.Window.{joined, slid, Laid}
 use Rattle.polynomial.proofs.entries.Statement.{statement}
 use Rattle.polynomial.proofs.entries.Tie as tie
 
-abbrev by : ℕ → List ℤ → List ℤ → List ℤ → ℕ → ℕ
-by q w s e k = residue q (against (length s) w s k +ℤ ints e k)
+abbrev by : ℕ → List ℤ → List ℤ → List ℤ → List ℤ → ℕ → ℕ
+by q h l s e k = residue q (joined (length s) h l s k +ℤ ints e k)
 
 abbrev Inv-loop : tie.InvT-loop
-Inv-loop q w s e out₀ k₀ out k = Filled (by q w s e) out₀ out k
+Inv-loop q h l s e out₀ k₀ out k = Filled (by q h l s e) out₀ out k
 
 abbrev μ-loop : tie.MeasureT-loop
-μ-loop q w s e out₀ k₀ out k = length out - k
+μ-loop q h l s e out₀ k₀ out k = length out - k
 
 loop-holds : tie.Need-loop-holds Inv-loop μ-loop
 loop-holds c = fill-start _ _
@@ -29,7 +29,7 @@ entry-requires c κs =
     let s = c .before .before .before in
     let a = s .args in
     let l = s .pre .0 .s-long in
-    (subst (λ (n : ℕ). Laid (a .q) n (a .w .now) (a .s .now)) (sym l) (s .pre .0), omega (arith, l), omega (arith, l))
+    (subst (λ (n : ℕ). Laid (a .q) n (a .h .now) (a .l .now) (a .s .now)) (sym l) (s .pre .0), omega (arith, l), omega (arith, l))
 
 loop-less : tie.Need-loop-less Inv-loop μ-loop
 loop-less c = simp length-set (omega arith)
@@ -46,7 +46,7 @@ returns c =
     let s = c .before .before .before in
     let a = s .args in
     fill-end (c .before .loop .inv) (omega arith)
-    ∙ ap (λ (n : ℕ). tab (length (a .out .now)) (λ k. residue (a .q) (against n (a .w .now) (a .s .now) k +ℤ ints (a .e .now) k))) (s .pre .0 .s-long)
+    ∙ ap (λ (n : ℕ). tab (length (a .out .now)) (λ k. residue (a .q) (joined n (a .h .now) (a .l .now) (a .s .now) k +ℤ ints (a .e .now) k))) (s .pre .0 .s-long)
 
 pub entries-spec : {M : Type 1} → statement M
 entries-spec =

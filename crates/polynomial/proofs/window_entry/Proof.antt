@@ -1,68 +1,39 @@
 -- `polynomial::window_entry` meets its contract: below n it negates.
-use mathlib.Core.Path.{_≡_, _∙_, ap}
-use mathlib.Core.List.{List}
-use Prim.Native.Nat.{ℕ, _-_, _^_, _<_, _≤_}
+use mathlib.Core.Path.{_∙_, ap}
+use Prim.Native.Nat.{_-_}
 use native.Mathlib.Omega.{arith}
-use borrow.Author.Needs.{needs}
-use borrow.Author.Tests.{lt-ltb, le-ltb}
 use lib.ListN.{length, getD}
-use lib.IntN.{ℤ, pos, negℤ}
-use mir.Syntax.{w64}
-use Rattle.numbers.specs.Residue.{nearest}
-use Rattle.numbers.proofs.Machine.{toZ-pos}
-use Rattle.lists.specs.Entries.{nums}
-use Rattle.polynomial.specs.Window.{both}
-use Rattle.polynomial.proofs.Kernel.{narrow-fits, narrow}
+use lib.IntN.{pos, negℤ}
+use Rattle.numbers.proofs.Congruence.{residue-lt}
+use Rattle.polynomial.specs.Window.{lift}
+use Rattle.polynomial.proofs.Window.{low-side, high-side}
+use borrow.Author.Needs.{needs}
 use Rattle.polynomial.proofs.window_entry.Statement.{statement}
 use Rattle.polynomial.proofs.window_entry.Tie as tie
 
-low-side : (q : ℕ) (a : List ℕ) (i : ℕ) → i < length a → nearest q (negℤ (pos (getD a i 0))) ≡ nearest q (both (length a) (nums a) i)
-unfolding both nums
-low-side q a i h = rw (lt-ltb i (length a) h)
+negative-requires : tie.Need-negative-requires
+negative-requires c κs = let s = c .before .before .before in s .pre .0 .below (s .args .i)
 
-high-side : (q : ℕ) (a : List ℕ) (i : ℕ) → length a ≤ i → nearest q (pos (getD a (i - length a) 0)) ≡ nearest q (both (length a) (nums a) i)
-unfolding both nums
-high-side q a i h = rw (le-ltb i (length a) h)
-
-cast-negate64 : tie.Need-cast-negate64
-cast-negate64 c = record { sfits = omega (arith, c .shared-slice-known2 .given (c .before .before .before .args .i)) }
-
-cast-result : tie.Need-cast-result
-cast-result c =
+lifted-requires : tie.Need-lifted-requires
+lifted-requires c κs =
     let s = c .before .before .before .before in
-    narrow-fits _ _ _ (c .negate64 .ensures) (s .pre .0) (s .fits .q .fits)
+    let b = s .pre .0 .below (s .args .i) in
+    omega (arith, c .negative .ensures, b, residue-lt (s .args .q) (negℤ (pos (getD (s .args .a .now) (s .args .i) 0))) (omega (arith, b)))
 
-cast-nearest64 : tie.Need-cast-nearest64
-cast-nearest64 c =
-    let a = c .before .before .before .args in
-    record { sfits = omega (arith, c .shared-slice-known3 .given (a .i - length (a .a .now))) }
-
-cast-result-2 : tie.Need-cast-result-2
-cast-result-2 c =
-    let s = c .before .before .before .before in
-    narrow-fits _ _ _ (c .nearest64 .ensures) (s .pre .0) (s .fits .q .fits)
+lifted-requires-2 : tie.Need-lifted-requires-2
+lifted-requires-2 c κs = let s = c .before .before .before in s .pre .0 .below (s .args .i - length (s .args .a .now))
 
 returns : tie.Need-returns
 returns c =
-    let s = c .before .before .before .before in
-    let a = s .args in
-    let x = getD (a .a .now) (a .i) 0 in
-    let h : x < 2 ^ 63 = omega (arith, c .before .shared-slice-known2 .given (a .i)) in
-    narrow _ _ _ (c .negate64 .ensures) (s .pre .0) (s .fits .q .fits)
-    ∙ ap (λ (z : ℤ). nearest (a .q) (negℤ z)) (toZ-pos w64 x h)
-    ∙ low-side (a .q) (a .a .now) (a .i) (c .before .before .if1 .taken)
+    let s = c .before .before .before .before .before in
+    c .lifted .ensures ∙ low-side (s .args .q) (s .args .a .now) (s .args .i) _ (c .before .before .before .if1 .taken) (c .before .negative .ensures)
 
 returns-2 : tie.Need-returns-2
 returns-2 c =
     let s = c .before .before .before .before in
-    let a = s .args in
-    let x = getD (a .a .now) (a .i - length (a .a .now)) 0 in
-    let h : x < 2 ^ 63 = omega (arith, c .before .shared-slice-known3 .given (a .i - length (a .a .now))) in
-    narrow _ _ _ (c .nearest64 .ensures) (s .pre .0) (s .fits .q .fits)
-    ∙ ap (nearest (a .q)) (toZ-pos w64 x h)
-    ∙ high-side (a .q) (a .a .now) (a .i) (c .before .before .if1 .left)
+    c .lifted2 .ensures ∙ high-side (s .args .q) (s .args .a .now) (s .args .i) (c .before .before .if1 .left) (s .pre .0)
 
 pub window-entry-spec : {M : Type 1} → statement M
 window-entry-spec =
     tie.close
-    (tie.spec (search needs) (search needs) cast-negate64 (search needs) cast-result (search needs) (search needs) cast-nearest64 (search needs) cast-result-2 returns returns-2)
+    (tie.spec (search needs) (search needs) negative-requires lifted-requires (search needs) (search needs) lifted-requires-2 returns returns-2)

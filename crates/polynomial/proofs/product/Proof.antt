@@ -1,0 +1,41 @@
+-- `polynomial::product` meets its contract.
+use mathlib.Core.Path.{_∙_}
+use lib.ListN.{getD}
+use lib.IntN.{ℤ, pos}
+use mir.Syntax.{w16}
+use mir.Val.{SFits}
+use Rattle.polynomial.proofs.Kernel.{widen-fits, one-fits, one, span-one}
+use borrow.Author.Needs.{needs}
+use Rattle.polynomial.proofs.product.Statement.{statement}
+use Rattle.polynomial.proofs.product.Tie as tie
+
+-- the two entries, which fit 16 bits
+abbrev half : tie.Start → ℤ
+half s = getD (s .args .w .now) (s .args .i) (pos 0)
+
+abbrev small : tie.Start → ℤ
+small s = getD (s .args .s .now) (s .args .i) (pos 0)
+
+cast-result : tie.Need-cast-result
+cast-result c = widen-fits (half (c .before)) (record { sfits = c .result .given })
+
+cast-result-2 : tie.Need-cast-result-2
+cast-result-2 c = widen-fits (small (c .before .before)) (record { sfits = c .result2 .given })
+
+mul-result-3 : tie.Need-mul-result-3
+mul-result-3 c =
+    let a = c .before .before .args in
+    let p = c .before .before .pre .0 in
+    one-fits (half (c .before .before)) (small (c .before .before)) (record { sfits = c .before .result .given }) (record { sfits = c .result2 .given }) (p .w-within .within (a .i)) (p .s-within .within (a .i))
+
+returns : tie.Need-returns
+returns c =
+    let a = c .before .before .args in
+    let p = c .before .before .pre .0 in
+    one (half (c .before .before)) (small (c .before .before)) (record { sfits = c .before .result .given }) (record { sfits = c .result2 .given }) (p .w-within .within (a .i)) (p .s-within .within (a .i))
+    ∙ span-one (a .w .now) (a .s .now) (a .i)
+
+pub product-spec : {M : Type 1} → statement M
+product-spec =
+    tie.close
+    (tie.spec (search needs) (search needs) cast-result (search needs) (search needs) cast-result-2 mul-result-3 returns)
