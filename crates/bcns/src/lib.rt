@@ -1,5 +1,6 @@
 // BCNS's reconciliation: 01, "Reconciliation"; q is that of `schemes`, and z lies in 0 .. 2q - 1. First one entry: z, its hint and its key bit at the replier,
 // the bit of w and its slack at the initiator; then the same over lists. That both ends get the same bit is in `specs/Agreement.antt`.
+// Nothing here divides by q or 2q (02b), and nothing branches on v, w or z, which are secrets: a test is a factor 0 or 1, or a bit.
 ghost use mathlib.Core.Path.{_≡_};
 ghost use Prim.Native.Nat.{ℕ, _*_, _≤_, _<_};
 ghost use lib.ListN.{length};
@@ -28,21 +29,23 @@ fn coin_of(bits: u32) -> i64
     (bits == 2) as i64 - (bits == 3) as i64
 }
 
-// z of the replier's value v and its coin: 2v - c modulo 2q. The signed remainder: for v = 0 and coin 2 it is that of -1.
+// z of the replier's value v and its coin: 2v - c modulo 2q. For v = 0 and coin 2 that is the remainder of -1: so 2q is added first, and taken off where it
+// was not wanted.
 pub fn double(coin: u32, v: u32) -> u64
     requires { ⌜ v < q ⌝ }
     ensures { λ r. ⌜ r ≡ doubled coin v ⌝ }
     ensures { λ r. ⌜ r < 2 * q ⌝ }
 {
-    numbers::residue64(2 * (v as i64) - coin_of(coin), TWICE)
+    let z = ((2 * (v as u64) + TWICE) as i64 - coin_of(coin)) as u64;
+    z - TWICE * ((z >= TWICE) as u64)
 }
 
-// The hint of z.
+// The hint of z: it is 1 in the second and in the fourth of the four rows of z that have one hint and one key bit.
 pub fn hint(z: u64) -> u32
     requires { ⌜ z < 2 * q ⌝ }
     ensures { λ r. ⌜ r ≡ hintOf z ⌝ }
 {
-    (2 * z / Q % 2) as u32
+    (((FIRST <= z) & (z < Q)) | (LAST < z)) as u32
 }
 
 // The replier's key bit of z.
@@ -67,7 +70,7 @@ pub fn slack(h: u32, w: u32) -> u32
     ensures { λ r. ⌜ r ≡ slackOf h w ⌝ }
 {
     numbers::way_out(
-        ((2 * (w as u64) + (1 - (h as u64)) * ROW) % Q) as u32,
+        numbers::fold(2 * (w as u64) + (1 - (h as u64)) * ROW) as u32,
         ROW as u32 + h,
     )
 }

@@ -1,5 +1,6 @@
 -- `bcns::slack` meets its contract: the code is the formula.
-use mathlib.Core.Path.{sym, _∙_}
+use mathlib.Core.Path.{sym, _∙_, ap}
+use Prim.Native.Nat.{ℕ, _+_, _-_, min}
 use borrow.Author.Needs.{needs}
 use Rattle.bcns.proofs.Away.{slack-formula}
 use Rattle.bcns.proofs.slack.Statement.{statement}
@@ -7,11 +8,13 @@ use Rattle.bcns.proofs.slack.Tie as tie
 
 returns : tie.Need-returns
 returns c =
-    let a = c .before .args in
-    let p = c .before .pre in
-    c .way-out .ensures ∙ sym (slack-formula (a .h) (a .w) (p .1) (p .0))
+    let s = c .before .before in
+    c .way-out .ensures
+    ∙ ap (λ (y : ℕ). min (y + 1) (2147483647 + s .args .h - y)) (c .before .fold .ensures)
+    ∙ sym (slack-formula (s .args .h) (s .args .w) (s .pre .1) (s .pre .0))
 
 pub slack-spec : {M : Type 1} → statement M
 slack-spec =
     tie.close
-    (tie.spec (search needs) (search needs) (search needs) (search needs) (search needs) (search needs) (search needs) (search needs) returns)
+    (tie.spec (search needs) (search needs) (search needs) (search needs) (search needs) (search needs) (search needs) (search needs)
+    (search needs) returns)
