@@ -11,6 +11,7 @@ mod raw {
         pub fn matrix_mix_right(q: u32, n: usize, r: usize, x: *const u32, xn: usize, s: *const i32, sn: usize, e: *const i32, en: usize, out: *mut u32, on: usize);
         pub fn matrix_mix_left(q: u32, n: usize, c: usize, s: *const i32, sn: usize, y: *const u32, yn: usize, e: *const i32, en: usize, out: *mut u32, on: usize);
         pub fn matrix_multiply(q: u32, n: usize, u: *const u32, un: usize, s: *const i32, sn: usize, out: *mut u32, on: usize);
+        pub fn numbers_fold(x: u64) -> u64;
         pub fn packing_pack(w: u32, xs: *const u32, xn: usize, out: *mut u8, on: usize);
         pub fn packing_unpack(w: u32, bytes: *const u8, bn: usize, out: *mut u32, on: usize);
     }
@@ -22,6 +23,11 @@ fn below(q: u32, xs: &[u32]) -> bool {
 
 fn within(bound: u32, xs: &[i32]) -> bool {
     xs.iter().all(|&x| x.unsigned_abs() <= bound)
+}
+
+/// The remainder by 2^32 - 1.
+pub fn fold(x: u64) -> u64 {
+    unsafe { raw::numbers_fold(x) }
 }
 
 /// a s + e modulo X^n + 1 and q, where n is how many entries `out` has.

@@ -76,6 +76,17 @@ fn newhope_products() {
     }
 }
 
+#[test]
+fn remainders_by_folding() {
+    let q = u64::from(u32::MAX);
+    let near = |x: u64| [x.wrapping_sub(1), x, x.wrapping_add(1)];
+    let ends = [0, q, q + 1, 2 * q, q * q, u64::MAX - q, 1 << 63].into_iter().flat_map(near);
+    let mut draw = Draw::new(8);
+    let (high, low) = (draw.numbers(1024, u32::MAX), draw.numbers(1024, u32::MAX));
+    let drawn = high.iter().zip(&low).map(|(&h, &l)| u64::from(h) << 32 | u64::from(l));
+    ends.chain(drawn).for_each(|x| assert_eq!(kernels::fold(x), x % q, "{x}"));
+}
+
 fn ring(q: u32, a: &[u32], s: &[i32], e: &[i32]) {
     let product = polynomial::product(&wide(a), &signed(s), q.into());
     let mut out = vec![9; a.len()];

@@ -1,5 +1,5 @@
 //! BCNS's calls. The product is the caller's choice: the plain rule, or one
-//! remainder an entry.
+//! remainder an entry, by whole windows or by their halves.
 
 use super::{packing, Calls};
 use crate::lent::Lent;

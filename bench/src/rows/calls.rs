@@ -97,7 +97,8 @@ fn scheme(rows: &mut dyn Rows, scheme: &'static Scheme) {
     match scheme.family {
         Family::Bcns => {
             exchange(rows, &lent, "plain rule", &Bcns { lent: &lent, mix: polynomial::mix });
-            exchange(rows, &lent, "the same windows", &Bcns { lent: &lent, mix: polynomial::mix_by_windows });
+            exchange(rows, &lent, "whole windows, a division an entry", &Bcns { lent: &lent, mix: polynomial::mix_by_windows });
+            exchange(rows, &lent, "the same halves", &Bcns { lent: &lent, mix: polynomial::mix_by_halves });
         }
         Family::NewHope => {
             let plain = NewHope::of(&lent);

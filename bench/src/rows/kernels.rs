@@ -42,15 +42,32 @@ fn bcns(rows: &mut dyn Rows) {
     let q = u32::MAX;
     let mut draw = Draw::new(2);
     let (a, s, e) = (draw.numbers(1024, q), draw.secrets(1024, 51), draw.secrets(1024, 51));
-    let (mut x, mut y, mut z) = ([0; 1024], [0; 1024], [0; 1024]);
+    let (mut x, mut y, mut z, mut h) = ([0; 1024], [0; 1024], [0; 1024], [0; 1024]);
     kernels::polynomial_mix(q, &a, &s, &e, &mut x);
     polynomial::mix(q, &a, &s, &e, &mut y);
     polynomial::mix_by_windows(q, &a, &s, &e, &mut z);
-    assert!(x == y && x == z, "all three give one product");
+    polynomial::mix_by_halves(q, &a, &s, &e, &mut h);
+    assert!(x == y && x == z && x == h, "all four give one product");
 
     let mut mix = || kernels::polynomial_mix(q, black_box(&a), &s, &e, &mut x);
     rows.row("BCNS, as + e", "plain rule", &mut mix, &mut || polynomial::mix(q, black_box(&a), &s, &e, &mut y));
-    rows.row("BCNS, as + e", "the same windows", &mut mix, &mut || polynomial::mix_by_windows(q, black_box(&a), &s, &e, &mut z));
+    rows.row("BCNS, as + e", "whole windows, a division an entry", &mut mix, &mut || polynomial::mix_by_windows(q, black_box(&a), &s, &e, &mut z));
+    rows.row("BCNS, as + e", "the same halves", &mut mix, &mut || polynomial::mix_by_halves(q, black_box(&a), &s, &e, &mut h));
+
+}
+
+fn remainders(rows: &mut dyn Rows) {
+    let q = black_box(u64::from(u32::MAX));
+    let mut draw = Draw::new(2);
+    let (high, low) = (draw.numbers(1024, u32::MAX), draw.numbers(1024, u32::MAX));
+    let numbers: Vec<u64> = high.iter().zip(&low).map(|(&h, &l)| u64::from(h) << 32 | u64::from(l)).collect();
+    assert!(numbers.iter().all(|&x| kernels::fold(x) == x % q), "the two give one remainder");
+
+    let (mut x, mut y) = ([0; 1024], [0; 1024]);
+    let mut fold = || numbers.iter().zip(&mut x).for_each(|(&n, x)| *x = kernels::fold(n));
+    rows.row("BCNS, 1024 remainders", "a division each", &mut fold, &mut || {
+        numbers.iter().zip(&mut y).for_each(|(&n, y)| *y = polynomial::remainder(n, q));
+    });
 }
 
 fn frodo(rows: &mut dyn Rows, n: usize, q: u32, largest: u32) {
@@ -93,6 +110,7 @@ fn packed(rows: &mut dyn Rows, w: u32, count: usize) {
 pub fn rows(rows: &mut dyn Rows) {
     newhope(rows);
     bcns(rows);
+    remainders(rows);
     frodo(rows, 352, 2048, 3);
     frodo(rows, 864, 32768, 6);
     packed(rows, 14, 1024);

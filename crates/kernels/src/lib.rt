@@ -2,3 +2,4 @@
 // What a kernel asks of its inputs is its caller's to see to; the calls of the product ask nothing.
 pub mod bytes;
 pub mod products;
+pub mod remainders;
