@@ -4,22 +4,20 @@
 --   halves-≅                   65536 upper + lower is the number modulo q
 --   negative-zero, negative-rest, rest-small   -x modulo q, and a number below q
 --   less-fits, narrow-fits, narrow   a half in the machine: from 16 unsigned bits by way of an i32 to an i16
-use mathlib.Core.Path.{_≡_, refl, _∙_, sym, ap, ap₂, subst}
-use mathlib.Core.Bool.{Bool, true, false, cond}
+use mathlib.Core.Path.{_≡_, _∙_, sym, ap, ap₂, subst}
 use Prim.Native.Nat.{ℕ, zero, suc, _+_, _*_, _-_, _/_, _%_, _^_, _≤_, _<_}
 use native.Mathlib.Omega.{arith}
 use native.Mathlib.Decide.{decLt}
-use native.Mathlib.Nat.{div-add-mod, mod-eq-of-lt, mod-lt}
+use native.Mathlib.Nat.{div-add-mod, mod-eq-of-lt}
 use borrow.Author.Tests.{lt-ltb, le-ltb}
-use lib.IntN.{ℤ, pos, negsuc, negℤ, natAbs, _+ℤ_, _-ℤ_, _*ℤ_}
-use lib.Signed.{mag}
+use lib.IntN.{ℤ, pos, negℤ, natAbs, _+ℤ_, _-ℤ_, _*ℤ_}
 use mir.Syntax.{w16, w32}
 use mir.Val.{SFits, toZ, ofZ}
 use mir.Facts.{toZ-ofZ, sfits-widen}
 use Rattle.numbers.specs.Residue.{residue, _≅⟨_⟩_}
-use Rattle.numbers.proofs.Difference.{diff, pos-diff, pos-sub, diff-≡, diff-ge, diff-lt, diffs, negsuc-add, diff-add}
+use Rattle.numbers.proofs.Difference.{diff, pos-diff, pos-sub, diff-≡, diff-ge, diff-lt, diffs, diff-add}
 use Rattle.numbers.proofs.Size.{abs-difference}
-use Rattle.numbers.proofs.Congruence.{eq-≅, _⨾_, sym-≅, residue-is}
+use Rattle.numbers.proofs.Congruence.{eq-≅, _⨾_, sym-≅}
 use Rattle.numbers.proofs.Machine.{toZ-pos}
 use Rattle.polynomial.specs.Window.{lift, upper, lower}
 

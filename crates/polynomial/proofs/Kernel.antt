@@ -7,7 +7,7 @@
 --   join-*                   65536 times one sum, another, and the noise
 use mathlib.Core.Path.{_≡_, refl, sym, ap, ap₂, _∙_, subst}
 use mathlib.Core.List.{List}
-use Prim.Native.Nat.{ℕ, _+_, _*_, _^_, _≤_, _<_}
+use Prim.Native.Nat.{ℕ, _+_, _*_, _^_, _≤_}
 use native.Mathlib.Omega.{arith}
 use lib.ListN.{getD}
 use lib.IntN.{ℤ, pos, natAbs, _+ℤ_, _*ℤ_, +ℤ-idl}
@@ -19,7 +19,7 @@ use Rattle.numbers.specs.Sum.{sum}
 use Rattle.numbers.proofs.Size.{abs-add, abs-mul, abs-mul-≤, abs-sum}
 use Rattle.numbers.proofs.Sums.{whole, sum-ext, sum-split}
 use Rattle.numbers.proofs.Machine.{fits-abs, widened, wide}
-use Rattle.lists.specs.Entries.{ints, Within}
+use Rattle.lists.specs.Entries.{ints}
 use Rattle.polynomial.specs.Window.{dot, span, Pair}
 
 -- ---- one product

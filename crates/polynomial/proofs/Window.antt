@@ -21,18 +21,18 @@ use lib.IntN.{ℤ, pos, negℤ, _+ℤ_, _*ℤ_, *ℤ-comm, +ℤ-idr}
 use Rattle.numbers.specs.Residue.{residue, _≅⟨_⟩_}
 use Rattle.numbers.proofs.Sums.{whole, sum-ext, sum-reverse, sum-add, sum-mul-right}
 use Rattle.numbers.proofs.Congruence.{eq-≅, refl-≅, _⨾_, add-≅, mul-≅, sum-≅, same-residue, residue-lt, residue-≅}
+use Rattle.numbers.proofs.Size.{abs-zero}
+use Rattle.numbers.proofs.Difference.{as-diff, diff-≡, diffs}
 use Rattle.lists.specs.Entries.{nums, ints, Below, Within}
 use Rattle.lists.proofs.Entries.{tab-length, tab-ext, within-tab, ints-tab}
+use Rattle.lists.proofs.Parts.{part-long, part-at, part-within}
 use Rattle.polynomial.specs.Product.{turn, product}
 use Rattle.polynomial.specs.Mixing.{mixed, bare}
 use Rattle.polynomial.specs.Fit.{Fit}
-use Rattle.polynomial.specs.Window.{both, lift, upper, lower, liftAt, highs, lows, backwards, dot, span, against, joined, slid, Pair, Laid}
-use Rattle.lists.proofs.Parts.{part-long, part-at, part-within}
-use Rattle.numbers.proofs.Size.{abs-zero}
+use Rattle.polynomial.specs.Window.{both, lift, liftAt, highs, lows, backwards, dot, span, against, joined, slid, Pair, Laid}
 use Rattle.polynomial.proofs.Halves.{upper-small, lower-small, lift-lt, halves-≅, rest-small}
 use Rattle.polynomial.proofs.Turn.{turn-in, turn-over}
 use Rattle.polynomial.proofs.Laws.{product-comm}
-use Rattle.numbers.proofs.Difference.{as-diff, diff-≡, diffs}
 
 -- ---- the three lists that the code lays
 

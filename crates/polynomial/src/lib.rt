@@ -2,8 +2,8 @@
 // the two ends differ by s'e + e'' - e's, stand in `proofs/`, once over n and q.
 // Entry k of as is the dot product of the secret, its last entry first, with n neighbouring entries of [-a | a], those behind entry k: what passes
 // X^(n - 1) meets -a. Each entry of [-a | a] is split into two signed halves of 16 bits, 65536 h + l, so that the products of a half with the secret,
-// and 1,024 of them, fit an i32; the two sums are put together in an i64, and each entry is reduced once, without a division where q is 4294967295.
-// Sixty-four products at a time are one expression, which the compiler turns into instructions that multiply and add eight (pmaddwd, smlal).
+// and 1,024 of them, fit an i32; the two sums are put together in an i64, and each entry is reduced once, where q is 4294967295 without a division (02b).
+// Sixty-four products are one expression, which the compiler makes instructions of that multiply and add eight each (pmaddwd); in a plain loop it does not.
 ghost use mathlib.Core.Path.{_≡_};
 ghost use Prim.Native.Nat.{_+_, _*_, _^_, _<_, _≤_};
 ghost use lib.ListN.{length};
@@ -14,7 +14,7 @@ ghost use Rattle.polynomial.specs.Mixing.{mixed, bare};
 ghost use Rattle.polynomial.specs.Fit.{Fit};
 ghost use Rattle.polynomial.specs.Window.{lift, liftAt, upper, lower, highs, lows, backwards, span, joined, slid, Pair, Laid};
 
-// One product: at most 32768 * 51 in size.
+// One product: at most 32768 * 51 in size. The functions below it are a tree of sums.
 fn product(w: &[i16], s: &[i16], i: usize) -> i32
     requires { ⌜ Pair (now w) (now s) × (i < length (now w)) ⌝ }
     ensures { λ r. ⌜ r ≡ span 1 (now (w .entry)) (now (s .entry)) i ⌝ }
@@ -132,6 +132,7 @@ fn negative(q: u32, x: u32) -> u32
     if x == 0 { 0 } else { q - x }
 }
 
+// x, or q less, so that two halves hold it; 2147516416 more.
 fn lifted(q: u32, x: u32) -> u32
     requires { ⌜ x < q ⌝ }
     ensures { λ r. ⌜ r ≡ lift q x ⌝ }
@@ -156,6 +157,7 @@ fn window_entry(q: u32, a: &[u32], i: usize) -> u32
     }
 }
 
+// The halves of a lifted number.
 fn high_half(y: u32) -> i16
     ensures { λ r. ⌜ r ≡ upper y ⌝ }
 {

@@ -69,4 +69,5 @@ returns c =
 pub dot-product-spec : {M : Type 1} → statement M
 dot-product-spec =
     tie.close
-    (tie.spec Inv-loop μ-loop Inv-loop2 μ-loop2 loop-holds (λ c. omega arith) sixty-four-requires add-sum (λ c. omega arith) (λ c. omega arith) loop-again loop2-holds product-requires add-sum-2 (λ c. omega arith) (λ c. omega arith) loop2-again returns)
+    (tie.spec Inv-loop μ-loop Inv-loop2 μ-loop2 loop-holds (λ c. omega arith) sixty-four-requires add-sum (λ c. omega arith)
+    (λ c. omega arith) loop-again loop2-holds product-requires add-sum-2 (λ c. omega arith) (λ c. omega arith) loop2-again returns)

@@ -1,14 +1,13 @@
 -- `polynomial::entry` meets its contract.
-use mathlib.Core.Path.{_≡_, ap₂, _∙_}
-use native.Mathlib.Omega.{arith}
+use mathlib.Core.Path.{ap₂, _∙_}
 use lib.ListN.{length}
 use lib.IntN.{ℤ, pos, _+ℤ_, _*ℤ_}
 use mir.Facts.{toZ-ofZ}
+use borrow.Author.Needs.{needs}
 use Rattle.numbers.specs.Residue.{residue}
 use Rattle.lists.specs.Entries.{ints}
 use Rattle.polynomial.specs.Window.{joined}
 use Rattle.polynomial.proofs.Window.{part-pair, against-part}
-use borrow.Author.Needs.{needs}
 use Rattle.polynomial.proofs.entry.Statement.{statement}
 use Rattle.polynomial.proofs.entry.Tie as tie
 
@@ -35,11 +34,14 @@ returns c =
     c .reduce .ensures
     ∙ ap₂ (λ (x y : ℤ). residue (a .q) (x +ℤ y))
     (ap₂ (λ (x y : ℤ). x *ℤ pos 65536 +ℤ y)
-    (toZ-ofZ (record { sfits = high .dot-product .ok }) ∙ high .dot-product .ensures ∙ against-part n (a .h .now) (a .s .now) (a .k) (s .pre .2) (s .pre .0 .h-long))
-    (toZ-ofZ (record { sfits = low .dot-product2 .ok }) ∙ low .dot-product2 .ensures ∙ against-part n (a .l .now) (a .s .now) (a .k) (s .pre .2) (s .pre .0 .l-long)))
+    (toZ-ofZ (record { sfits = high .dot-product .ok }) ∙ high .dot-product .ensures
+    ∙ against-part n (a .h .now) (a .s .now) (a .k) (s .pre .2) (s .pre .0 .h-long))
+    (toZ-ofZ (record { sfits = low .dot-product2 .ok }) ∙ low .dot-product2 .ensures
+    ∙ against-part n (a .l .now) (a .s .now) (a .k) (s .pre .2) (s .pre .0 .l-long)))
     (toZ-ofZ (record { sfits = c .before .reduce-arg .given }))
 
 pub entry-spec : {M : Type 1} → statement M
 entry-spec =
     tie.close
-    (tie.spec (search needs) (search needs) (search needs) (search needs) (search needs) (search needs) dot-product-requires (search needs) (search needs) (search needs) (search needs) (search needs) dot-product-requires-2 (search needs) (search needs) (search needs) returns)
+    (tie.spec (search needs) (search needs) (search needs) (search needs) (search needs) (search needs) dot-product-requires (search needs)
+    (search needs) (search needs) (search needs) (search needs) dot-product-requires-2 (search needs) (search needs) (search needs) returns)

@@ -60,4 +60,5 @@ returns c =
 pub lay-window-spec : {M : Type 1} → statement M
 lay-window-spec =
     tie.close
-    (tie.spec Inv-loop μ-loop loop-holds window-entry-requires (search needs) (λ c. omega arith) (λ c. omega arith) (search needs) (λ c. omega arith) (λ c. omega arith) (λ c. omega arith) loop-less loop-again same-length same-length-2 returns)
+    (tie.spec Inv-loop μ-loop loop-holds window-entry-requires (search needs) (λ c. omega arith) (λ c. omega arith) (search needs)
+    (λ c. omega arith) (λ c. omega arith) (λ c. omega arith) loop-less loop-again same-length same-length-2 returns)

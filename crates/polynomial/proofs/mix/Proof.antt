@@ -4,8 +4,8 @@ use Prim.Native.Nat.{_+_}
 use native.Mathlib.Omega.{arith}
 use lib.ListN.{length}
 use lib.IntN.{pos}
-use Rattle.lists.proofs.Parts.{same-long}
 use borrow.Author.Needs.{needs}
+use Rattle.lists.proofs.Parts.{same-long}
 use Rattle.polynomial.proofs.mix.Statement.{statement}
 use Rattle.polynomial.proofs.mix.Tie as tie
 
@@ -22,9 +22,11 @@ mix-lent-requires : tie.Need-mix-lent-requires
 mix-lent-requires c κs =
     let s = c .before .before .before .before .before .before in
     let n = length (s .args .out .now) in
-    ((s .pre .0, s .pre .1 .0), (same-long (n + n) 2048 (pos 0) (omega arith), same-long (n + n) 2048 (pos 0) (omega arith), same-long n 1024 (pos 0) (omega arith)))
+    let twice = same-long (n + n) 2048 (pos 0) (omega arith) in
+    ((s .pre .0, s .pre .1 .0), (twice, twice, same-long n 1024 (pos 0) (omega arith)))
 
 pub mix-spec : {M : Type 1} → statement M
 mix-spec =
     tie.close
-    (tie.spec (search needs) (search needs) slice-aggregate-mix-lent (search needs) slice-aggregate-mix-lent-2 (search needs) slice-aggregate-mix-lent-3 mix-lent-requires (search needs) (λ c. search needs))
+    (tie.spec (search needs) (search needs) slice-aggregate-mix-lent (search needs) slice-aggregate-mix-lent-2 (search needs)
+    slice-aggregate-mix-lent-3 mix-lent-requires (search needs) (λ c. search needs))

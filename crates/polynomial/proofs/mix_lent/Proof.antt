@@ -1,7 +1,7 @@
 -- `polynomial::mix_lent` meets its contract.
 use mathlib.Core.Path.{_∙_}
-use Rattle.polynomial.proofs.Window.{laid, slid-mixed}
 use borrow.Author.Needs.{needs}
+use Rattle.polynomial.proofs.Window.{laid, slid-mixed}
 use Rattle.polynomial.proofs.mix_lent.Statement.{statement}
 use Rattle.polynomial.proofs.mix_lent.Tie as tie
 

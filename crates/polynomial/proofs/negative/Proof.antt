@@ -1,7 +1,7 @@
 -- `polynomial::negative` meets its contract.
 use native.Mathlib.Omega.{arith}
-use Rattle.polynomial.proofs.Halves.{negative-zero, negative-rest}
 use borrow.Author.Needs.{needs}
+use Rattle.polynomial.proofs.Halves.{negative-zero, negative-rest}
 use Rattle.polynomial.proofs.negative.Statement.{statement}
 use Rattle.polynomial.proofs.negative.Tie as tie
 

@@ -2,10 +2,8 @@
 use mathlib.Core.Path.{_∙_}
 use lib.ListN.{getD}
 use lib.IntN.{ℤ, pos}
-use mir.Syntax.{w16}
-use mir.Val.{SFits}
-use Rattle.polynomial.proofs.Kernel.{widen-fits, one-fits, one, span-one}
 use borrow.Author.Needs.{needs}
+use Rattle.polynomial.proofs.Kernel.{widen-fits, one-fits, one, span-one}
 use Rattle.polynomial.proofs.product.Statement.{statement}
 use Rattle.polynomial.proofs.product.Tie as tie
 
@@ -24,16 +22,18 @@ cast-result-2 c = widen-fits (small (c .before .before)) (record { sfits = c .re
 
 mul-result-3 : tie.Need-mul-result-3
 mul-result-3 c =
-    let a = c .before .before .args in
-    let p = c .before .before .pre .0 in
-    one-fits (half (c .before .before)) (small (c .before .before)) (record { sfits = c .before .result .given }) (record { sfits = c .result2 .given }) (p .w-within .within (a .i)) (p .s-within .within (a .i))
+    let s = c .before .before in
+    let p = s .pre .0 in
+    one-fits (half s) (small s) (record { sfits = c .before .result .given }) (record { sfits = c .result2 .given })
+    (p .w-within .within (s .args .i)) (p .s-within .within (s .args .i))
 
 returns : tie.Need-returns
 returns c =
-    let a = c .before .before .args in
-    let p = c .before .before .pre .0 in
-    one (half (c .before .before)) (small (c .before .before)) (record { sfits = c .before .result .given }) (record { sfits = c .result2 .given }) (p .w-within .within (a .i)) (p .s-within .within (a .i))
-    ∙ span-one (a .w .now) (a .s .now) (a .i)
+    let s = c .before .before in
+    let p = s .pre .0 in
+    one (half s) (small s) (record { sfits = c .before .result .given }) (record { sfits = c .result2 .given })
+    (p .w-within .within (s .args .i)) (p .s-within .within (s .args .i))
+    ∙ span-one (s .args .w .now) (s .args .s .now) (s .args .i)
 
 pub product-spec : {M : Type 1} → statement M
 product-spec =

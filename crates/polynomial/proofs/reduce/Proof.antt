@@ -1,15 +1,14 @@
 -- `polynomial::reduce` meets its contract: both ways give the remainder.
 use mathlib.Core.Path.{_≡_, _∙_, ap, ap₂, sym}
-use Prim.Native.Nat.{ℕ}
 use native.Mathlib.Omega.{arith}
 use lib.IntN.{ℤ, pos, natAbs, _+ℤ_, _*ℤ_}
 use mir.Syntax.{w64}
 use mir.Val.{toZ, ofZ}
 use mir.Facts.{toZ-ofZ}
+use borrow.Author.Needs.{needs}
 use Rattle.numbers.specs.Residue.{residue}
 use Rattle.numbers.proofs.Congruence.{residue-lt}
 use Rattle.numbers.proofs.Machine.{fits-abs}
-use borrow.Author.Needs.{needs}
 use Rattle.polynomial.proofs.reduce.Statement.{statement}
 use Rattle.polynomial.proofs.reduce.Tie as tie
 
@@ -20,7 +19,8 @@ read c = toZ-ofZ (fits-abs w64 _ (omega (arith, c .join .ensures .1)))
 sum-is : (c : tie.After-join) → let a = c .before .args in toZ w64 (ofZ w64 (c .join .result)) ≡ a .high *ℤ pos 65536 +ℤ a .low +ℤ a .e
 sum-is c = let f = c .before .fits in read c ∙ rw (toZ-ofZ (f .high), toZ-ofZ (f .low), toZ-ofZ (f .e)) at (c .join .ensures .0)
 
-rest-is : (c : tie.After-residue64) → let b = c .before .before in let a = b .before .args in c .residue64 .result ≡ residue (a .q) (a .high *ℤ pos 65536 +ℤ a .low +ℤ a .e)
+rest-is : (c : tie.After-residue64)
+    → let a = c .before .before .before .args in c .residue64 .result ≡ residue (a .q) (a .high *ℤ pos 65536 +ℤ a .low +ℤ a .e)
 rest-is c = c .residue64 .ensures ∙ ap (residue (c .before .before .before .args .q)) (sum-is (c .before .before))
 
 residue-folded-requires : tie.Need-residue-folded-requires

@@ -43,7 +43,8 @@ loop-again c =
     let s = c .before .before .before in
     let j = c .before .before .loop .j in
     fill-next _ (c .before .before .loop .inv) (omega arith)
-    (secret (at (s .args .s .now) j) (record { sfits = c .out .given }) (s .pre .1 .within (length (s .args .s .now) - 1 - j)) ∙ ap (λ (k : ℕ). getD (s .args .s .now) k (pos 0)) (omega arith))
+    (secret (at (s .args .s .now) j) (record { sfits = c .out .given }) (s .pre .1 .within (length (s .args .s .now) - 1 - j))
+    ∙ ap (λ (k : ℕ). getD (s .args .s .now) k (pos 0)) (omega arith))
 
 same-length : tie.Need-same-length Inv-loop μ-loop
 same-length c = c .before .loop .inv .long
@@ -57,4 +58,5 @@ returns c =
 pub reverse-spec : {M : Type 1} → statement M
 reverse-spec =
     tie.close
-    (tie.spec Inv-loop μ-loop loop-holds (λ c. omega arith) (λ c. omega arith) (λ c. omega arith) (λ c. omega arith) cast-out (λ c. omega arith) (λ c. omega arith) (λ c. omega arith) loop-less loop-again same-length returns)
+    (tie.spec Inv-loop μ-loop loop-holds (λ c. omega arith) (λ c. omega arith) (λ c. omega arith) (λ c. omega arith) cast-out
+    (λ c. omega arith) (λ c. omega arith) (λ c. omega arith) loop-less loop-again same-length returns)

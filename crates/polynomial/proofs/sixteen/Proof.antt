@@ -1,7 +1,7 @@
 -- `polynomial::sixteen` meets its contract.
 use native.Mathlib.Omega.{arith}
-use Rattle.polynomial.proofs.Kernel.{pair-fits, pair}
 use borrow.Author.Needs.{needs}
+use Rattle.polynomial.proofs.Kernel.{pair-fits, pair}
 use Rattle.polynomial.proofs.sixteen.Statement.{statement}
 use Rattle.polynomial.proofs.sixteen.Tie as tie
 

@@ -1,13 +1,12 @@
 -- `polynomial::window_entry` meets its contract: below n it negates.
-use mathlib.Core.Path.{_∙_, ap}
+use mathlib.Core.Path.{_∙_}
 use Prim.Native.Nat.{_-_}
 use native.Mathlib.Omega.{arith}
 use lib.ListN.{length, getD}
 use lib.IntN.{pos, negℤ}
-use Rattle.numbers.proofs.Congruence.{residue-lt}
-use Rattle.polynomial.specs.Window.{lift}
-use Rattle.polynomial.proofs.Window.{low-side, high-side}
 use borrow.Author.Needs.{needs}
+use Rattle.numbers.proofs.Congruence.{residue-lt}
+use Rattle.polynomial.proofs.Window.{low-side, high-side}
 use Rattle.polynomial.proofs.window_entry.Statement.{statement}
 use Rattle.polynomial.proofs.window_entry.Tie as tie
 
