@@ -1,0 +1,3 @@
+pub mod Full
+pub mod Folded
+pub mod Step

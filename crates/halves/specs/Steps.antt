@@ -1,0 +1,74 @@
+-- What the steps of a product by halves do to the one lent slice w that they work in: it holds the factors, their product and the room for it.
+--   full a b k            the coefficient at X^k of a times b, nothing folded
+--   cut n a               the first n coefficients of a, and then 0
+--   Size n                n is 32 times a power of two
+--   from w o              the numbers of w from entry o on
+--   times w n x y         the full product, modulo q, of the n numbers at x with the n numbers at y
+--   Stored w to n f w′    the n numbers at `to` are now f 0, .., f (n - 1), and the others as they were
+--   Ahead x to n          the n numbers at x are read, in order, before those at `to` are written over
+--   Product w n w′        two factors of n numbers at the front of w have become their full product
+--   InPart w at h w′      the same of the 6 h numbers at `at`, with all others as they were
+--   Spread w h w′         two factors of 2 h numbers have become three pairs of h: lower halves, upper halves, sums
+--   middle w h            the product of the sums less the two others
+--   Joined w h w′         the three products of 2 h numbers have become one of 4 h
+use mathlib.Core.Path.{_≡_}
+use mathlib.Core.Bool.{cond}
+use mathlib.Core.List.{List}
+use Prim.Native.Nat.{ℕ, suc, _+_, _-_, _*_, _%_, _<_, _≤_}
+use lib.Dec.{ltb}
+use lib.ListN.{length, getD}
+use Rattle.numbers.specs.Sum.{sumℕ}
+use Rattle.halves.specs.Halves.{q}
+
+unfoldable pub full : (ℕ → ℕ) → (ℕ → ℕ) → ℕ → ℕ
+full a b k = sumℕ (suc k) (λ u. a u * b (k - u))
+
+unfoldable pub cut : ℕ → (ℕ → ℕ) → ℕ → ℕ
+cut n a k = cond (ltb k n) (a k) 0
+
+pub data Size : ℕ → Type 0 where
+  least : Size 32
+  twice : {h : ℕ} → Size h → Size (h + h)
+
+abbrev pub from : List ℕ → ℕ → ℕ → ℕ
+from w o k = getD w (o + k) 0
+
+unfoldable pub times : List ℕ → ℕ → ℕ → ℕ → ℕ → ℕ
+times w n x y k = full (cut n (from w x)) (cut n (from w y)) k % q
+
+pub record Stored (w : List ℕ) (to n : ℕ) (f : ℕ → ℕ) (w′ : List ℕ) : Type 0 where
+  pub long : length w′ ≡ length w
+  pub inside : (k : ℕ) → k < n → getD w′ (to + k) 0 ≡ f k
+  pub below : (i : ℕ) → i < to → getD w′ i 0 ≡ getD w i 0
+  pub above : (i : ℕ) → to + n ≤ i → getD w′ i 0 ≡ getD w i 0
+
+pub record Ahead (x to n : ℕ) : Type 0 where
+  pub ahead : (i j : ℕ) → j < i → i < n → (x + i ≡ to + j) → ⊥
+
+pub record Product (w : List ℕ) (n : ℕ) (w′ : List ℕ) : Type 0 where
+  pub long : length w′ ≡ length w
+  pub at : (k : ℕ) → k < n + n → getD w′ k 0 ≡ times w n 0 n k
+
+pub record InPart (w : List ℕ) (at h : ℕ) (w′ : List ℕ) : Type 0 where
+  pub long : length w′ ≡ length w
+  pub inside : (k : ℕ) → k < h + h → getD w′ (at + k) 0 ≡ times w h at (at + h) k
+  pub below : (i : ℕ) → i < at → getD w′ i 0 ≡ getD w i 0
+  pub above : (i : ℕ) → at + 6 * h ≤ i → getD w′ i 0 ≡ getD w i 0
+
+pub record Spread (w : List ℕ) (h : ℕ) (w′ : List ℕ) : Type 0 where
+  pub long : length w′ ≡ length w
+  pub a-low : (k : ℕ) → k < h → getD w′ k 0 ≡ getD w k 0
+  pub b-low : (k : ℕ) → k < h → getD w′ (h + k) 0 ≡ getD w (2 * h + k) 0
+  pub a-high : (k : ℕ) → k < h → getD w′ (2 * h + k) 0 ≡ getD w (h + k) 0
+  pub b-high : (k : ℕ) → k < h → getD w′ (3 * h + k) 0 ≡ getD w (3 * h + k) 0
+  pub a-sum : (k : ℕ) → k < h → getD w′ (4 * h + k) 0 ≡ (getD w k 0 + getD w (h + k) 0) % q
+  pub b-sum : (k : ℕ) → k < h → getD w′ (5 * h + k) 0 ≡ (getD w (2 * h + k) 0 + getD w (3 * h + k) 0) % q
+
+abbrev pub middle : List ℕ → ℕ → ℕ → ℕ
+middle w h k = (getD w (10 * h + k) 0 + (q - getD w k 0) + (q - getD w (2 * h + k) 0)) % q
+
+pub record Joined (w : List ℕ) (h : ℕ) (w′ : List ℕ) : Type 0 where
+  pub long : length w′ ≡ length w
+  pub low : (k : ℕ) → k < h → getD w′ k 0 ≡ getD w k 0
+  pub mid : (k : ℕ) → k < h + h → getD w′ (h + k) 0 ≡ (getD w (h + k) 0 + middle w h k) % q
+  pub high : (k : ℕ) → 3 * h ≤ k → k < 4 * h → getD w′ k 0 ≡ getD w k 0

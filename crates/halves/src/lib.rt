@@ -1,0 +1,2 @@
+// x
+fn nothing() {}
