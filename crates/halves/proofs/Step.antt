@@ -158,7 +158,7 @@ module _ (q h : ℕ) (some : 0 < q) (x y l u m : ℕ → ℕ)
       let el : pos (l k) ≅⟨ q ⟩ pos (full a₀ b₀ k) = rest-≅ (is-l k r) in
       let eu : pos (u k) ≅⟨ q ⟩ pos (full a₁ b₁ k) = rest-≅ (is-u k r) in
       let em : pos (m k) ≅⟨ q ⟩ pos (c + full a₁ b₁ k + full a₀ b₀ k)
-              = rest-≅ (is-m k r) ⨾ full-≅ _ _ _ _ k (half-sum x) (half-sum y) ⨾ eq-≅ (ap pos (sums h a₀ a₁ b₀ b₁ k)) in
+      = rest-≅ (is-m k r) ⨾ full-≅ _ _ _ _ k (half-sum x) (half-sum y) ⨾ eq-≅ (ap pos (sums h a₀ a₁ b₀ b₁ k)) in
       mod-≅ q _ ⨾ less q c (l k) (u k) (m k) lq uq (em ⨾ sym-≅ (add-≅ (add-≅ (refl-≅ (pos c)) eu) el))
 
   pub step-low : (k : ℕ) → k < h → l k ≡ full (cut (h + h) x) (cut (h + h) y) k % q

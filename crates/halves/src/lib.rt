@@ -1,2 +1,252 @@
-// x
-fn nothing() {}
+// Products by halves: 02, request j. The product of two polynomials with numbers below BCNS's q, modulo X^L + 1 and q, by 01's plain rule in fewer steps: each
+// product of two factors of n numbers is made of three of half the length, down to 32. `product` is a call and has no `requires`.
+// All work is done in the one slice of 6 L numbers that is lent as scratch: it holds the factors, their product in their place, and the room for it. Every
+// number in it is reduced, by 02b's remainder, so that no step takes a branch on a number.
+ghost use mathlib.Core.Path.{_≡_};
+ghost use mathlib.Core.Bool.{Bool};
+ghost use Prim.Native.Nat.{ℕ, _+_, _-_, _*_, _/_, _%_, _<_, _≤_};
+ghost use lib.ListN.{length, getD, replicate};
+ghost use Rattle.numbers.specs.Sum.{sumℕ};
+ghost use Rattle.lists.specs.Entries.{tab};
+ghost use Rattle.lists.specs.Lent.{was, left, room};
+ghost use Rattle.front.specs.Promise.{Told, Wrote};
+ghost use Rattle.halves.specs.Halves.{q, sizeUpTo, sizeIn, factors, factorsOf, productTests, plain, Multiplies};
+ghost use Rattle.halves.specs.Steps.{Size, from, column, Stored, Ahead, Product, Spread, Joined};
+use front::Answer;
+use front::Refusal;
+use front::Verdict;
+
+fn plus(x: u32, y: u32) -> u32
+    ensures { λ r. ⌜ r ≡ (x + y) % q ⌝ }
+{
+    numbers::fold((x as u64) + (y as u64)) as u32
+}
+
+fn minus(x: u32, y: u32) -> u32
+    ensures { λ r. ⌜ r ≡ (x + (q - y)) % q ⌝ }
+{
+    numbers::fold((x as u64) + (4294967295 - (y as u64))) as u32
+}
+
+// m - x - y
+fn less_both(m: u32, x: u32, y: u32) -> u32
+    ensures { λ r. ⌜ r ≡ (m + (q - x) + (q - y)) % q ⌝ }
+{
+    numbers::fold((m as u64) + (4294967295 - (x as u64)) + (4294967295 - (y as u64))) as u32
+}
+
+// The n numbers at x, copied to `to`.
+fn copy(w: &mut [u32], x: usize, to: usize, n: usize)
+    requires { ⌜ (x + n ≤ length (now w)) × (to + n ≤ length (now w)) ⌝ }
+    requires { ⌜ Ahead x to n ⌝ }
+    ensures { λ _. ⌜ Stored (was w) to n (from (was w) x) (left w) ⌝ }
+{
+    let mut i: usize = 0;
+    while i < n {
+        let s = x + i;
+        let t = to + i;
+        w[t] = w[s];
+        i += 1;
+    }
+}
+
+// The sums of the n numbers at x and those at y.
+fn add(w: &mut [u32], x: usize, y: usize, to: usize, n: usize)
+    requires { ⌜ (x + n ≤ length (now w)) × (y + n ≤ length (now w)) × (to + n ≤ length (now w)) ⌝ }
+    requires { ⌜ Ahead x to n × Ahead y to n ⌝ }
+    ensures { λ _. ⌜ Stored (was w) to n (λ (k : ℕ). (from (was w) x k + from (was w) y k) % q) (left w) ⌝ }
+{
+    let mut i: usize = 0;
+    while i < n {
+        let s = x + i;
+        let u = y + i;
+        let t = to + i;
+        w[t] = plus(w[s], w[u]);
+        i += 1;
+    }
+}
+
+// The n numbers at `to`, less those at x and those at y.
+fn subtract(w: &mut [u32], x: usize, y: usize, to: usize, n: usize)
+    requires { ⌜ (x + n ≤ length (now w)) × (y + n ≤ length (now w)) × (to + n ≤ length (now w)) ⌝ }
+    requires { ⌜ Ahead x to n × Ahead y to n ⌝ }
+    ensures { λ _. ⌜ Stored (was w) to n (λ (k : ℕ). (from (was w) to k + (q - from (was w) x k) + (q - from (was w) y k)) % q) (left w) ⌝ }
+{
+    let mut i: usize = 0;
+    while i < n {
+        let s = x + i;
+        let u = y + i;
+        let t = to + i;
+        w[t] = less_both(w[t], w[s], w[u]);
+        i += 1;
+    }
+}
+
+fn times(x: u32, y: u32) -> u64
+    ensures { λ r. ⌜ r ≡ x * y ⌝ }
+{
+    (x as u64) * (y as u64)
+}
+
+// The two halves of a product.
+fn low(p: u64) -> u64
+    ensures { λ r. ⌜ r ≡ p % 4294967296 ⌝ }
+{
+    p & 4294967295
+}
+
+fn high(p: u64) -> u64
+    ensures { λ r. ⌜ (r ≡ p / 4294967296) × (r ≤ 4294967295) ⌝ }
+{
+    p >> 32
+}
+
+// The kernel: the sum of the products of two slices. The low and the high halves of the products are summed apart, in two words that never pass 2^37, and since
+// 2^32 leaves 1 the remainder of the two together is that of the sum.
+fn dot(x: &[u32], y: &[u32]) -> u32
+    requires { ⌜ (length (now x) ≡ length (now y)) × (length (now x) ≤ 32) ⌝ }
+    ensures { λ r. ⌜ r ≡ sumℕ (room x) (λ (j : ℕ). getD (was x) j 0 * getD (was y) j 0) % q ⌝ }
+{
+    let mut lows: u64 = 0;
+    let mut highs: u64 = 0;
+    let mut j: usize = 0;
+    while j < x.len() {
+        let p = times(x[j], y[j]);
+        lows += low(p);
+        highs += high(p);
+        j += 1;
+    }
+    numbers::fold(lows + highs) as u32
+}
+
+// k - n, or 0
+fn past(k: usize, n: usize) -> usize
+    ensures { λ r. ⌜ r ≡ k - n ⌝ }
+{
+    if k < n { 0 } else { k - n }
+}
+
+// Coefficient k of the product of two factors of 32 numbers, of which the second also stands backwards behind both.
+fn coefficient(w: &[u32], k: usize) -> u32
+    requires { ⌜ (96 ≤ length (now w)) × (k < 64) ⌝ }
+    ensures { λ r. ⌜ r ≡ column (was w) k ⌝ }
+{
+    let x = past(k, 31);
+    let y = past(31, k);
+    let n = 32 - (x + y);
+    let z = 64 + y;
+    dot(&w[x..x + n], &w[z..z + n])
+}
+
+// All 64 of them.
+fn coefficients(w: &mut [u32])
+    requires { ⌜ 160 ≤ length (now w) ⌝ }
+    ensures { λ _. ⌜ Stored (was w) 96 64 (column (was w)) (left w) ⌝ }
+{
+    let mut k: usize = 0;
+    while k < 64 {
+        let t = coefficient(&w[..], k);
+        let to = 96 + k;
+        w[to] = t;
+        k += 1;
+    }
+}
+
+// The second factor of 32 numbers, laid backwards behind both.
+fn backwards(w: &mut [u32])
+    requires { ⌜ 96 ≤ length (now w) ⌝ }
+    ensures { λ _. ⌜ Stored (was w) 64 32 (λ (j : ℕ). getD (was w) (63 - j) 0) (left w) ⌝ }
+{
+    let mut j: usize = 0;
+    while j < 32 {
+        let s = 63 - j;
+        let t = 64 + j;
+        w[t] = w[s];
+        j += 1;
+    }
+}
+
+// The shortest product, by the plain rule.
+fn leaf(w: &mut [u32])
+    requires { ⌜ 160 ≤ length (now w) ⌝ }
+    ensures { λ _. ⌜ Product (was w) 32 (left w) ⌝ }
+{
+    backwards(w);
+    coefficients(w);
+    copy(w, 96, 0, 64);
+}
+
+// Factors of 2 h numbers, lower and upper half each, become the pairs of lower halves, of upper halves and of sums.
+fn spread(w: &mut [u32], h: usize)
+    requires { ⌜ 12 * h ≤ length (now w) ⌝ }
+    ensures { λ _. ⌜ Spread (was w) h (left w) ⌝ }
+{
+    add(w, 0, h, 4 * h, h);
+    add(w, 2 * h, 3 * h, 5 * h, h);
+    copy(w, h, 6 * h, h);
+    copy(w, 2 * h, h, h);
+    copy(w, 6 * h, 2 * h, h);
+}
+
+// The product of the sums, less the two others, is what lies in the middle.
+fn join(w: &mut [u32], h: usize)
+    requires { ⌜ 12 * h ≤ length (now w) ⌝ }
+    ensures { λ _. ⌜ Joined (was w) h (left w) ⌝ }
+{
+    subtract(w, 0, 2 * h, 10 * h, 2 * h);
+    add(w, h, 10 * h, h, 2 * h);
+}
+
+// The two factors of n numbers at the front of w become their product of 2 n. Of the 12 h numbers each product of half the length is lent the 6 h from its own
+// factors on, the last one first, and is then moved out of the way.
+fn halves(w: &mut [u32], n: usize)
+    requires { ⌜ 6 * n ≤ length (now w) ⌝ }
+    requires { ⌜ Size n ⌝ }
+    ensures { λ _. ⌜ Product (was w) n (left w) ⌝ }
+{
+    if n <= 32 {
+        leaf(w);
+    } else {
+        let h = n / 2;
+        let two = 2 * h;
+        let four = 4 * h;
+        let six = 6 * h;
+        let eight = 8 * h;
+        let ten = 10 * h;
+        spread(w, h);
+        halves(&mut w[four..ten], h);
+        copy(w, four, ten, two);
+        halves(&mut w[two..eight], h);
+        copy(w, two, eight, two);
+        halves(&mut w[0..six], h);
+        copy(w, eight, two, two);
+        join(w, h);
+    }
+}
+
+// The numbers of x, written at `to`.
+fn load(w: &mut [u32], x: &[u32], to: usize)
+    requires { ⌜ to + length (now x) ≤ length (now w) ⌝ }
+    ensures { λ _. ⌜ Stored (was w) to (room x) (λ (k : ℕ). getD (was x) k 0) (left w) ⌝ }
+{
+    let mut i: usize = 0;
+    while i < x.len() {
+        let t = to + i;
+        w[t] = x[i];
+        i += 1;
+    }
+}
+
+// The product of twice as many numbers at the front of w, folded modulo X^n + 1: what passes X^(n - 1) comes round with a minus.
+fn fold_into(w: &[u32], out: &mut [u32])
+    requires { ⌜ 2 * length (now out) ≤ length (now w) ⌝ }
+    ensures { λ _. ⌜ left out ≡ tab (room out) (λ (k : ℕ). (getD (was w) k 0 + (q - getD (was w) (room out + k) 0)) % q) ⌝ }
+{
+    let n = out.len();
+    let mut i: usize = 0;
+    while i < out.len() {
+        let t = n + i;
+        out[i] = minus(w[i], w[t]);
+        i += 1;
+    }
+}

@@ -1,0 +1,43 @@
+-- `halves::add` meets its contract.
+use mathlib.Core.Path.{_≡_, _∙_, ap₂}
+use Prim.Native.Nat.{ℕ, _+_, _-_, _%_, _≤_}
+use native.Mathlib.Omega.{arith}
+use borrow.Author.Needs.{needs}
+use Rattle.halves.specs.Halves.{q}
+use Rattle.halves.specs.Steps.{from, Stored}
+use Rattle.halves.proofs.Stores.{store-none, store-next, not-yet}
+use Rattle.halves.proofs.add.Statement.{statement}
+use Rattle.halves.proofs.add.Tie as tie
+
+abbrev Inv-loop : tie.InvT-loop
+Inv-loop w₀ x y to n i₀ w i = (i ≤ n) × Stored w₀ to i (λ k. (from w₀ x k + from w₀ y k) % q) w
+
+abbrev μ-loop : tie.MeasureT-loop
+μ-loop w₀ x y to n i₀ w i = n - i
+
+loop-holds : tie.Need-loop-holds Inv-loop μ-loop
+loop-holds c = (omega arith, store-none _ _ _)
+
+loop-again : tie.Need-loop-again Inv-loop μ-loop
+loop-again c =
+    let s : tie.Start Inv-loop μ-loop = search needs in
+    let l : tie.At-loop Inv-loop μ-loop = search needs in
+    let o = l .loop .inv .1 in (
+      omega arith,
+      store-next o (omega arith)
+          (c .plus .ensures ∙ ap₂ (λ (x y : ℕ). (x + y) % q) (not-yet o (s .pre .1 .0) (omega arith)) (not-yet o (s .pre .1 .1) (omega arith))),
+    )
+
+same-length : tie.Need-same-length Inv-loop μ-loop
+same-length c = c .before .loop .inv .1 .long
+
+returns : tie.Need-returns Inv-loop μ-loop
+returns c =
+    let s : tie.Start Inv-loop μ-loop = search needs in
+    let e : c .before .loop .i ≡ s .args .n = omega arith in
+    rw e at (c .before .loop .inv .1)
+
+pub add-spec : {M : Type 1} → statement M
+add-spec =
+    tie.close
+    (tie.spec Inv-loop μ-loop loop-holds (λ c. omega arith) (λ c. omega arith) (λ c. omega arith) (λ c. omega arith) (λ c. omega arith) (λ c. omega arith) (λ c. omega arith) (search needs) (λ c. omega arith) (λ c. omega arith) (λ c. omega arith) (λ c. omega arith) loop-again same-length returns)

@@ -1,0 +1,39 @@
+-- `halves::copy` meets its contract.
+use mathlib.Core.Path.{_≡_}
+use Prim.Native.Nat.{_-_, _≤_}
+use native.Mathlib.Omega.{arith}
+use borrow.Author.Needs.{needs}
+use Rattle.halves.specs.Steps.{from, Stored}
+use Rattle.halves.proofs.Stores.{store-none, store-next, not-yet}
+use Rattle.halves.proofs.copy.Statement.{statement}
+use Rattle.halves.proofs.copy.Tie as tie
+
+abbrev Inv-loop : tie.InvT-loop
+Inv-loop w₀ x to n i₀ w i = (i ≤ n) × Stored w₀ to i (from w₀ x) w
+
+abbrev μ-loop : tie.MeasureT-loop
+μ-loop w₀ x to n i₀ w i = n - i
+
+loop-holds : tie.Need-loop-holds Inv-loop μ-loop
+loop-holds c = (omega arith, store-none _ _ _)
+
+loop-again : tie.Need-loop-again Inv-loop μ-loop
+loop-again c =
+    let s : tie.Start Inv-loop μ-loop = search needs in
+    let l : tie.At-loop Inv-loop μ-loop = search needs in
+    let o = l .loop .inv .1 in
+    (omega arith, store-next o (omega arith) (not-yet o (s .pre .1) (omega arith)))
+
+same-length : tie.Need-same-length Inv-loop μ-loop
+same-length c = c .before .loop .inv .1 .long
+
+returns : tie.Need-returns Inv-loop μ-loop
+returns c =
+    let s : tie.Start Inv-loop μ-loop = search needs in
+    let e : c .before .loop .i ≡ s .args .n = omega arith in
+    rw e at (c .before .loop .inv .1)
+
+pub copy-spec : {M : Type 1} → statement M
+copy-spec =
+    tie.close
+    (tie.spec Inv-loop μ-loop loop-holds (λ c. omega arith) (λ c. omega arith) (λ c. omega arith) (λ c. omega arith) (λ c. omega arith) (λ c. omega arith) (λ c. omega arith) (λ c. omega arith) loop-again same-length returns)

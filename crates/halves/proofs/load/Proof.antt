@@ -1,0 +1,39 @@
+-- `halves::load` meets its contract.
+use mathlib.Core.Path.{_≡_, refl}
+use Prim.Native.Nat.{_-_, _≤_}
+use native.Mathlib.Omega.{arith}
+use borrow.Author.Needs.{needs}
+use lib.ListN.{length, getD}
+use Rattle.halves.specs.Steps.{Stored}
+use Rattle.halves.proofs.Stores.{store-none, store-next}
+use Rattle.halves.proofs.load.Statement.{statement}
+use Rattle.halves.proofs.load.Tie as tie
+
+abbrev Inv-loop : tie.InvT-loop
+Inv-loop w₀ x to i₀ w i = (i ≤ length x) × Stored w₀ to i (λ k. getD x k 0) w
+
+abbrev μ-loop : tie.MeasureT-loop
+μ-loop w₀ x to i₀ w i = length x - i
+
+loop-holds : tie.Need-loop-holds Inv-loop μ-loop
+loop-holds c = (omega arith, store-none _ _ _)
+
+loop-again : tie.Need-loop-again Inv-loop μ-loop
+loop-again c =
+    let l : tie.At-loop Inv-loop μ-loop = search needs in
+    let o = l .loop .inv .1 in
+    (omega arith, store-next o (omega arith) refl)
+
+same-length : tie.Need-same-length Inv-loop μ-loop
+same-length c = c .before .loop .inv .1 .long
+
+returns : tie.Need-returns Inv-loop μ-loop
+returns c =
+    let s : tie.Start Inv-loop μ-loop = search needs in
+    let e : c .before .loop .i ≡ length (s .args .x .now) = omega arith in
+    rw e at (c .before .loop .inv .1)
+
+pub load-spec : {M : Type 1} → statement M
+load-spec =
+    tie.close
+    (tie.spec Inv-loop μ-loop loop-holds (λ c. omega arith) (λ c. omega arith) (λ c. omega arith) (λ c. omega arith) (λ c. omega arith) (λ c. omega arith) (λ c. omega arith) loop-again same-length returns)

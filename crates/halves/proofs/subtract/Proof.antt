@@ -1,0 +1,50 @@
+-- `halves::subtract` meets its contract.
+use mathlib.Core.Path.{_≡_, _∙_, ap, ap₂}
+use Prim.Native.Nat.{ℕ, _+_, _-_, _%_, _≤_}
+use native.Mathlib.Omega.{arith}
+use borrow.Author.Needs.{needs}
+use lib.ListN.{getD}
+use Rattle.halves.specs.Halves.{q}
+use Rattle.halves.specs.Steps.{from, Stored}
+use Rattle.halves.proofs.Stores.{store-none, store-next, not-yet, not-yet-self}
+use Rattle.halves.proofs.subtract.Statement.{statement}
+use Rattle.halves.proofs.subtract.Tie as tie
+
+abbrev Inv-loop : tie.InvT-loop
+Inv-loop w₀ x y to n i₀ w i = (i ≤ n) × Stored w₀ to i (λ k. (from w₀ to k + (q - from w₀ x k) + (q - from w₀ y k)) % q) w
+
+abbrev μ-loop : tie.MeasureT-loop
+μ-loop w₀ x y to n i₀ w i = n - i
+
+loop-holds : tie.Need-loop-holds Inv-loop μ-loop
+loop-holds c = (omega arith, store-none _ _ _)
+
+loop-again : tie.Need-loop-again Inv-loop μ-loop
+loop-again c =
+    let s : tie.Start Inv-loop μ-loop = search needs in
+    let l : tie.At-loop Inv-loop μ-loop = search needs in
+    let o = l .loop .inv .1 in
+    let i = l .loop .i in
+    let w = l .loop .w in (
+      omega arith,
+      store-next o (omega arith)
+          (c .less-both .ensures
+          ∙ ap (λ (m : ℕ). (m + (q - getD w (s .args .x + i) 0) + (q - getD w (s .args .y + i) 0)) % q) (not-yet-self o)
+          ∙ ap₂ (λ (x y : ℕ). (from (s .args .w .now) (s .args .to) i + (q - x) + (q - y)) % q)
+          (not-yet o (s .pre .1 .0) (omega arith))
+          (not-yet o (s .pre .1 .1) (omega arith))),
+    )
+
+same-length : tie.Need-same-length Inv-loop μ-loop
+same-length c = c .before .loop .inv .1 .long
+
+returns : tie.Need-returns Inv-loop μ-loop
+returns c =
+    let s : tie.Start Inv-loop μ-loop = search needs in
+    let e : c .before .loop .i ≡ s .args .n = omega arith in
+    rw e at (c .before .loop .inv .1)
+
+pub subtract-spec : {M : Type 1} → statement M
+subtract-spec =
+    tie.close
+    (tie.spec Inv-loop μ-loop loop-holds (λ c. omega arith) (λ c. omega arith) (λ c. omega arith) (λ c. omega arith) (λ c. omega arith) (λ c. omega arith) (λ c. omega arith) (λ c. omega arith) (λ c. omega arith) (search needs) (λ c. omega arith) (λ c. omega arith) (λ c. omega arith) (λ c. omega arith) loop-again same-length returns)
