@@ -1,6 +1,7 @@
 -- The lengths of a product by halves, and the part of the slice that each of the three products is lent.
 --   size-least, size-half, size-even   a length is 32 or more; above that it is twice another
 --   size-upto, size-most   a length that passes the test is one of those, and at most 1024
+--   lent-long              it is as long as the product asks
 --   part-product           what the product in a lent part means in the whole
 use mathlib.Core.Path.{_≡_, refl, _∙_, sym, ap, subst}
 use mathlib.Core.Bool.{Bool, true, false}
@@ -100,6 +101,11 @@ part-product-by h at w p r m =
     }
 
 -- as the code lends it, from `at` to e
+pub lent-long : (h at e : ℕ) (w : List ℕ) → e ≡ at + 6 * h → e ≤ length w → 6 * h ≤ length (take (e - at) (drop at w))
+lent-long h at e w f r =
+    let d : e - at ≡ 6 * h = omega arith in
+    rw d (omega (arith, part-long at (6 * h) w (omega arith)))
+
 pub part-product :
     {h at e : ℕ} {w p : List ℕ} → e ≡ at + 6 * h → e ≤ length w → Product (take (e - at) (drop at w)) h p → InPart w at h (putMid at (e - at) w p)
 part-product {h} {at} {e} {w} {p} f r m =
