@@ -5,3 +5,4 @@ pub mod Stores
 pub mod Moves
 pub mod Columns
 pub mod Part
+pub mod Multiplied

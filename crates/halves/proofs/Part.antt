@@ -1,10 +1,12 @@
 -- The lengths of a product by halves, and the part of the slice that each of the three products is lent.
 --   size-least, size-half, size-even   a length is 32 or more; above that it is twice another
---   size-upto, size-most   a length that passes the test is one of those, and at most 1024
+--   upto-here, upto-next   the test, power by power
+--   size-upto, size-most   a length that passes it is one of those, and at most the largest
 --   lent-long              it is as long as the product asks
 --   part-product           what the product in a lent part means in the whole
 use mathlib.Core.Path.{_≡_, refl, _∙_, sym, ap, subst}
 use mathlib.Core.Bool.{Bool, true, false}
+use mathlib.Core.Logic.{_≢_}
 use mathlib.Core.List.{List, _++_}
 use Prim.Native.Nat.{ℕ, zero, suc, _+_, _*_, _-_, _/_, _^_, _<_, _≤_}
 use native.Mathlib.Nat.{pow-suc}
@@ -12,7 +14,7 @@ use native.Mathlib.Omega.{arith}
 use lib.Dec.{eqb}
 use lib.ListN.{length, getD, take, drop, List·getD-append}
 use lib.Seq.{getD-take, getD-drop, getD-append-add, length-take-le}
-use borrow.Author.Tests.{eqb-true}
+use borrow.Author.Tests.{eqb-true, eq-eqb, ne-eqb}
 use borrow.Rule.Slice.PartMut.{putMid, same-len-mid, drop-put}
 use Rattle.lists.proofs.Parts.{part-long, part-at}
 use Rattle.halves.specs.Halves.{sizeUpTo}
@@ -42,6 +44,14 @@ size-power zero = least
 size-power (suc k) =
     let e : 32 * 2 ^ k + 32 * 2 ^ k ≡ 32 * 2 ^ suc k = omega (arith, pow-suc 2 k) in
     subst Size e (twice (size-power k))
+
+pub upto-here : (k n : ℕ) → n ≡ 32 * 2 ^ suc k → true ≡ sizeUpTo (suc k) n
+unfolding sizeUpTo
+upto-here k n e = rw (eq-eqb n (32 * 2 ^ suc k) e)
+
+pub upto-next : (k n : ℕ) → n ≢ 32 * 2 ^ suc k → {b : Bool} → b ≡ sizeUpTo k n → b ≡ sizeUpTo (suc k) n
+unfolding sizeUpTo
+upto-next k n d e = rw (ne-eqb n (32 * 2 ^ suc k) d) e
 
 pub size-upto : (k n : ℕ) → sizeUpTo k n ≡ true → Size n
 unfolding sizeUpTo

@@ -12,6 +12,7 @@
 --   Spread w h w′         two factors of 2 h numbers have become three pairs of h: lower halves, upper halves, sums
 --   middle w h            the product of the sums less the two others
 --   Joined w h w′         the three products of 2 h numbers have become one of 4 h
+--   Fit n a b m           n numbers in each factor, and a scratch of m numbers that is large enough
 use mathlib.Core.Path.{_≡_}
 use mathlib.Core.Bool.{cond}
 use mathlib.Core.List.{List}
@@ -76,3 +77,9 @@ pub record Joined (w : List ℕ) (h : ℕ) (w′ : List ℕ) : Type 0 where
   pub low : (k : ℕ) → k < h → getD w′ k 0 ≡ getD w k 0
   pub mid : (k : ℕ) → k < h + h → getD w′ (h + k) 0 ≡ (getD w (h + k) 0 + middle w h k) % q
   pub high : (k : ℕ) → 3 * h ≤ k → k < 4 * h → getD w′ k 0 ≡ getD w k 0
+
+pub record Fit (n : ℕ) (a b : List ℕ) (m : ℕ) : Type 0 where
+  pub size : Size n
+  pub a-long : length a ≡ n
+  pub b-long : length b ≡ n
+  pub works : 6 * n ≤ m

@@ -3,15 +3,14 @@
 // All work is done in the one slice of 6 L numbers that is lent as scratch: it holds the factors, their product in their place, and the room for it. Every
 // number in it is reduced, by 02b's remainder, so that no step takes a branch on a number.
 ghost use mathlib.Core.Path.{_≡_};
-ghost use mathlib.Core.Bool.{Bool};
 ghost use Prim.Native.Nat.{ℕ, _+_, _-_, _*_, _/_, _%_, _<_, _≤_};
 ghost use lib.ListN.{length, getD, replicate};
 ghost use Rattle.numbers.specs.Sum.{sumℕ};
 ghost use Rattle.lists.specs.Entries.{tab};
 ghost use Rattle.lists.specs.Lent.{was, left, room};
-ghost use Rattle.front.specs.Promise.{Told, Wrote};
-ghost use Rattle.halves.specs.Halves.{q, sizeUpTo, sizeIn, factors, factorsOf, productTests, plain, Multiplies};
-ghost use Rattle.halves.specs.Steps.{Size, from, column, Stored, Ahead, Product, Spread, Joined};
+ghost use Rattle.front.specs.Answers.{number, place, written};
+ghost use Rattle.halves.specs.Halves.{q, sizeUpTo, sizeIn, factors, productTests, plain, Made, Multiplies};
+ghost use Rattle.halves.specs.Steps.{Size, from, column, Stored, Ahead, Product, Spread, Joined, Fit};
 use front::Answer;
 use front::Refusal;
 use front::Verdict;
@@ -249,4 +248,88 @@ fn fold_into(w: &[u32], out: &mut [u32])
         out[i] = minus(w[i], w[t]);
         i += 1;
     }
+}
+
+// The work, once nothing is refused.
+fn multiply(a: &[u32], b: &[u32], out: &mut [u32], scratch: &mut [u32])
+    requires { ⌜ Fit (length (now out)) (now a) (now b) (length (now scratch)) ⌝ }
+    ensures { λ _. ⌜ left out ≡ plain (factors a b) ⌝ }
+{
+    let n = out.len();
+    load(scratch, a, 0);
+    load(scratch, b, n);
+    halves(scratch, n);
+    fold_into(scratch, out);
+}
+
+// 32 times a power of two up to 1024.
+fn is_size(n: usize) -> bool
+    ensures { λ r. ⌜ r ≡ sizeUpTo 5 n ⌝ }
+{
+    if n == 1024 {
+        return true;
+    }
+    if n == 512 {
+        return true;
+    }
+    if n == 256 {
+        return true;
+    }
+    if n == 128 {
+        return true;
+    }
+    if n == 64 {
+        return true;
+    }
+    n == 32
+}
+
+fn size_in(n: usize) -> Verdict
+    ensures { λ r. ⌜ r ≡ sizeIn n ⌝ }
+{
+    if is_size(n) {
+        Verdict::Pass
+    } else {
+        Verdict::Fail(Refusal::BadLength)
+    }
+}
+
+// The tests in their order.
+fn product_tests(a: &[u32], b: &[u32], room: usize, scratch: usize) -> Verdict
+    ensures { λ r. ⌜ r ≡ productTests (factors a b) room scratch ⌝ }
+{
+    let n = a.len();
+    let size = size_in(n);
+    let Verdict::Pass = size else {
+        return size;
+    };
+    let long = front::length_is(size, b.len(), n);
+    let fits = front::room_for(front::room_for(long, room, n), scratch, 6 * n);
+    front::publics_in(front::publics_in(fits, 4294967295, a), 4294967295, b)
+}
+
+// The product into zeros, where nothing is refused; the scratch is left as it is then.
+fn product_in(a: &[u32], b: &[u32], out: &mut [u32], scratch: &mut [u32]) -> Answer
+    requires { ⌜ now out ≡ replicate (length (now out)) 0 ⌝ }
+    ensures { λ r. ⌜ Made (factors a b) (number r) (place r) (room out) (written r) (left out) (room scratch) ⌝ }
+{
+    let v = product_tests(a, b, out.len(), scratch.len());
+    match v {
+        Verdict::Fail(r) => Answer::Refused(r),
+        Verdict::Pass => {
+            let n = a.len();
+            multiply(a, b, &mut out[..n], scratch);
+            Answer::Done(n)
+        }
+    }
+}
+
+// Product: a, b. The scratch is zeroed last, refused or not.
+pub fn product(a: &[u32], b: &[u32], out: &mut [u32], scratch: &mut [u32]) -> Answer
+    ensures { λ r. ⌜ Multiplies a b out scratch r ⌝ }
+{
+    lists::zero_numbers(out);
+    let r = product_in(a, b, out, scratch);
+    lists::zero_numbers(scratch);
+    r
 }
