@@ -23,6 +23,7 @@ pub mod mix;
 pub mod noise;
 pub mod packing;
 pub mod polynomial;
+pub mod products;
 pub mod reconcile;
 pub mod refusal;
 pub mod schemes;

@@ -9,6 +9,7 @@ mod grow;
 mod hash;
 mod noise;
 mod offer;
+mod product;
 mod reply;
 
 pub use bench::{bench, Bench};
@@ -18,6 +19,7 @@ pub use grow::grow;
 pub use hash::{sha3_256, shake128};
 pub use noise::noise;
 pub use offer::offer;
+pub use product::product;
 pub use reply::reply;
 
 use crate::expand::COUNT;

@@ -22,6 +22,7 @@ mod message;
 mod noise;
 mod packing;
 mod polynomial;
+mod products;
 mod program;
 mod published;
 mod reconcile_bcns;
