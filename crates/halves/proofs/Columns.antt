@@ -1,8 +1,8 @@
 -- The product of two factors of 32 numbers.
---   Sums x y j lows highs   the low and the high halves of the first j products of two lists, summed apart
+--   Sums x y j lows highs   the low 33 bits and the high ones of the first j products of two lists, summed apart
 --   sums-none, sums-next    before the first product, and one more
---   half-fits               a sum has room for one half more
---   sums-mod                the two together leave the remainder of the sum of the products
+--   high-fits               the high sum has room for one more
+--   sums-mod                the low sum and twice the high one leave the remainder of the sum of the products
 --   dot-column       a column is what the kernel makes of the two parts that it is lent
 --   column-ext       a column, where the factors are the same
 --   column-times     a column is a coefficient of the full product, where the second factor stands backwards behind both
@@ -23,14 +23,14 @@ use Rattle.halves.specs.Steps.{full, cut, from, times, column, Stored, P
 use Rattle.halves.proofs.Full.{cut-in, cut-out}
 use Rattle.halves.proofs.Moves.{same, times-ext}
 
--- a number by its halves
+-- a number by its low 33 bits and the others
 unfoldable pub together : ℕ → ℕ → ℕ
-together low high = low + 4294967296 * high
+together low high = low + 8589934592 * high
 
 pub record Sums (x y : List ℕ) (j lows highs : ℕ) : Type 0 where
   pub made : together lows highs ≡ sumℕ j (λ i. getD x i 0 * getD y i 0)
-  pub lows-small : lows ≤ 4294967296 * j
-  pub highs-small : highs ≤ 4294967296 * j
+  pub lows-small : lows ≤ 8589934592 * j
+  pub highs-small : highs ≤ 2147483648 * j
 
 pub sums-none : (x y : List ℕ) → Sums x y 0 0 0
 unfolding sum together
@@ -38,23 +38,23 @@ sums-none x y = record { made = refl; lows-small = omega arith; highs-small = om
 
 pub sums-next :
     {x y : List ℕ} {j lows highs p lo hi : ℕ} → Sums x y j lows highs → p < 18446744073709551616 → p ≡ getD x j 0 * getD y j 0 →
-    lo ≡ p % 4294967296 → hi ≡ p / 4294967296 → Sums x y (j + 1) (lows + lo) (highs + hi)
+    lo ≡ p % 8589934592 → hi ≡ p / 8589934592 → Sums x y (j + 1) (lows + lo) (highs + hi)
 unfolding sum together
 sums-next {x} {y} {j} {p = p} s room e l h =
-    let d = div-add-mod p 4294967296 in
-    let m : p % 4294967296 < 4294967296 = mod-lt p (omega arith) in
+    let d = div-add-mod p 8589934592 in
+    let m : p % 8589934592 < 8589934592 = mod-lt p (omega arith) in
     record {
       made = omega (arith, s .made, d, e, l, h) ∙ sym (ap (λ (n : ℕ). sumℕ n (λ i. getD x i 0 * getD y i 0)) (add-one j));
       lows-small = omega (arith, s .lows-small, m, l);
       highs-small = omega (arith, s .highs-small, d, room, h);
     }
 
-pub half-fits : {n j x : ℕ} → n ≤ 4294967296 * j → j < 32 → x ≤ 4294967295 → n + x < 18446744073709551616
-half-fits h l r = omega arith
+pub high-fits : {n j x : ℕ} → n ≤ 2147483648 * j → j < 32 → x ≤ 2147483647 → n + x < 18446744073709551616
+high-fits h l r = omega arith
 
-pub sums-mod : {x y : List ℕ} {j lows highs : ℕ} → Sums x y j lows highs → (lows + highs) % q ≡ sumℕ j (λ i. getD x i 0 * getD y i 0) % q
+pub sums-mod : {x y : List ℕ} {j lows highs : ℕ} → Sums x y j lows highs → (lows + 2 * highs) % q ≡ sumℕ j (λ i. getD x i 0 * getD y i 0) % q
 unfolding together
-sums-mod {lows = lows} {highs} s = same-mod (omega arith) (multiples-≅ q (lows + highs) _ highs 0 (omega (arith, s .made)))
+sums-mod {lows = lows} {highs} s = same-mod (omega arith) (multiples-≅ q (lows + 2 * highs) _ (2 * highs) 0 (omega (arith, s .made)))
 
 pub dot-column :
     (w : List ℕ) (k x y : ℕ) → 96 ≤ length w → k < 64 → x ≡ k - 31 → y ≡ 31 - k →

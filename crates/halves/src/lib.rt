@@ -87,21 +87,22 @@ fn times(x: u32, y: u32) -> u64
     (x as u64) * (y as u64)
 }
 
-// The two halves of a product.
+// The low 33 bits of a product, and the others.
 fn low(p: u64) -> u64
-    ensures { λ r. ⌜ r ≡ p % 4294967296 ⌝ }
+    ensures { λ r. ⌜ r ≡ p % 8589934592 ⌝ }
 {
-    p & 4294967295
+    p & 8589934591
 }
 
 fn high(p: u64) -> u64
-    ensures { λ r. ⌜ (r ≡ p / 4294967296) × (r ≤ 4294967295) ⌝ }
+    ensures { λ r. ⌜ (r ≡ p / 8589934592) × (r ≤ 2147483647) ⌝ }
 {
-    p >> 32
+    p >> 33
 }
 
-// The kernel: the sum of the products of two slices. The low and the high halves of the products are summed apart, in two words that never pass 2^37, and since
-// 2^32 leaves 1 the remainder of the two together is that of the sum.
+// The kernel: the sum of the products of two slices. The low and the high bits of the products are summed apart, in two words that never pass 2^38, and since
+// 2^33 leaves 2 the remainder of the low sum and twice the high one is that of all. (Cut in the middle, at 32, a product would be made twice: a compiler takes
+// its upper half for an operation of its own.)
 fn dot(x: &[u32], y: &[u32]) -> u32
     requires { ⌜ (length (now x) ≡ length (now y)) × (length (now x) ≤ 32) ⌝ }
     ensures { λ r. ⌜ r ≡ sumℕ (room x) (λ (j : ℕ). getD (was x) j 0 * getD (was y) j 0) % q ⌝ }
@@ -115,7 +116,7 @@ fn dot(x: &[u32], y: &[u32]) -> u32
         highs += high(p);
         j += 1;
     }
-    numbers::fold(lows + highs) as u32
+    numbers::fold(lows + 2 * highs) as u32
 }
 
 // k - n, or 0

@@ -1,4 +1,4 @@
--- `halves::dot` meets its contract: the halves of the products so far are in the two sums.
+-- `halves::dot` meets its contract: the low and the high bits of the products so far are in the two sums.
 use mathlib.Core.Path.{_≡_, _∙_, ap}
 use Prim.Native.Nat.{ℕ, _*_, _-_, _%_, _≤_}
 use native.Mathlib.Omega.{arith}
@@ -6,7 +6,7 @@ use borrow.Author.Needs.{needs}
 use lib.ListN.{length, getD}
 use Rattle.numbers.specs.Sum.{sumℕ}
 use Rattle.halves.specs.Halves.{q}
-use Rattle.halves.proofs.Columns.{Sums, sums-none, sums-next, half-fits, sums-mod}
+use Rattle.halves.proofs.Columns.{Sums, sums-none, sums-next, high-fits, sums-mod}
 use Rattle.halves.proofs.dot.Statement.{statement}
 use Rattle.halves.proofs.dot.Tie as tie
 
@@ -29,7 +29,7 @@ loop-again c =
 add-highs : tie.Need-add-highs Inv-loop μ-loop
 add-highs c =
     let l : tie.At-loop Inv-loop μ-loop = search needs in
-    record { fits = half-fits (l .loop .inv .1 .highs-small) (omega arith) (c .high .ensures .1) }
+    record { fits = high-fits (l .loop .inv .1 .highs-small) (omega arith) (c .high .ensures .1) }
 
 returns : tie.Need-returns Inv-loop μ-loop
 returns c =
@@ -43,4 +43,4 @@ returns c =
 pub dot-spec : {M : Type 1} → statement M
 dot-spec =
     tie.close
-    (tie.spec Inv-loop μ-loop loop-holds (λ c. omega arith) (λ c. omega arith) (λ c. omega arith) (λ c. omega arith) (search needs) (search needs) (λ c. omega arith) (search needs) add-highs (λ c. omega arith) (λ c. omega arith) loop-again (λ c. omega arith) (search needs) (λ c. omega arith) returns)
+    (tie.spec Inv-loop μ-loop loop-holds (λ c. omega arith) (λ c. omega arith) (λ c. omega arith) (λ c. omega arith) (search needs) (search needs) (λ c. omega arith) (search needs) add-highs (λ c. omega arith) (λ c. omega arith) loop-again (λ c. omega arith) (λ c. omega arith) (search needs) (λ c. omega arith) returns)
