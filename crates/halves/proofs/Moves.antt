@@ -5,11 +5,11 @@
 --   level-law       all of one level
 use mathlib.Core.Path.{_≡_, _∙_, sym, ap, ap₂}
 use mathlib.Core.List.{List}
-use Prim.Native.Nat.{ℕ, _+_, _*_, _-_, _%_, _<_, _≤_}
+use Prim.Native.Nat.{ℕ, _+_, _*_, _-_, _%_, _<_}
 use native.Mathlib.Omega.{arith}
 use native.Mathlib.Nat.{zero-add}
 use native.Mathlib.Decide.{decLt}
-use lib.ListN.{length, getD}
+use lib.ListN.{getD}
 use Rattle.halves.specs.Halves.{q}
 use Rattle.halves.specs.Steps.{full, cut, from, times, Stored, Product, InPart, Spread, middle, Joined}
 use Rattle.halves.proofs.Full.{cut-ext, full-ext}

@@ -13,8 +13,7 @@ use Prim.Native.Nat.{ℕ, _+_, _*_, _-_, _%_, _<_, _≤_}
 use native.Mathlib.Nat.{mod-lt}
 use native.Mathlib.Omega.{arith}
 use lib.ListN.{length, getD, drop, replicate}
-use lib.IntN.{pos, _-ℤ_}
-use Rattle.numbers.specs.Residue.{residue, _≅⟨_⟩_}
+use Rattle.numbers.specs.Residue.{residue}
 use Rattle.numbers.proofs.Congruence.{eq-≅, _⨾_, sub-≅, mod-≅, residue-is}
 use Rattle.lists.specs.Entries.{tab, nums}
 use Rattle.lists.proofs.Entries.{tab-length, tab-ext}
@@ -30,8 +29,7 @@ use Rattle.halves.specs.Halves.{q, sizeUpTo, sizeIn, Factors, factorsOf,
 use Rattle.halves.specs.Steps.{full, cut, from, times, Stored, Product, Fit}
 use Rattle.halves.proofs.Full.{cut-ext, full-ext}
 use Rattle.halves.proofs.Folded.{product-folded}
-use Rattle.halves.proofs.Step.{rest-≅, minus-≅}
-use Rattle.halves.proofs.Moves.{same}
+use Rattle.halves.proofs.Step.{rest-≅, less-≅}
 use Rattle.halves.proofs.Part.{size-upto}
 
 -- ---- lengths
@@ -91,7 +89,7 @@ module _ (n : ℕ) (a b w₁ w₂ w₃ : List ℕ) (w₀ : List ℕ) (la : lengt
       residue-is
       (mod-lt (x + (q - y)) (omega arith))
       (mod-≅ q (x + (q - y))
-      ⨾ minus-≅ q x y small
+      ⨾ less-≅ q x y small
       ⨾ sub-≅ (rest-≅ (laid k (omega arith))) (rest-≅ ey)
       ⨾ eq-≅ (sym (product-folded n (λ j. getD a j 0) (λ j. getD b j 0) k l)))
 

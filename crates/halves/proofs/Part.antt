@@ -7,7 +7,7 @@
 use mathlib.Core.Path.{_≡_, refl, _∙_, sym, ap, subst}
 use mathlib.Core.Bool.{Bool, true, false}
 use mathlib.Core.Logic.{_≢_}
-use mathlib.Core.List.{List, _++_}
+use mathlib.Core.List.{List}
 use Prim.Native.Nat.{ℕ, zero, suc, _+_, _*_, _-_, _/_, _^_, _<_, _≤_}
 use native.Mathlib.Nat.{pow-suc}
 use native.Mathlib.Omega.{arith}
@@ -18,7 +18,7 @@ use borrow.Author.Tests.{eqb-true, eq-eqb, ne-eqb}
 use borrow.Rule.Slice.PartMut.{putMid, same-len-mid, drop-put}
 use Rattle.lists.proofs.Parts.{part-long, part-at}
 use Rattle.halves.specs.Halves.{sizeUpTo}
-use Rattle.halves.specs.Steps.{Size, times, Product, InPart}
+use Rattle.halves.specs.Steps.{Size, Product, InPart}
 use Rattle.halves.specs.Steps.Size.{least, twice}
 use Rattle.halves.proofs.Moves.{same, times-ext}
 

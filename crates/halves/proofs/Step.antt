@@ -1,15 +1,15 @@
 -- One step: the product of two factors of 2 h numbers from three of h. Once over the half length h and the modulus q.
 --   rest-≅                 a remainder is congruent
---   minus-≅                q - y for -y
+--   less-≅                 q - y for -y
 --   step-low, step-mid-low, step-mid-high, step-high   the four quarters of the whole product, from the lower one, the upper one and the middle
-use mathlib.Core.Path.{_≡_, refl, _∙_, sym, ap, ap₂}
+use mathlib.Core.Path.{_≡_, _∙_, sym, ap, ap₂}
 use Prim.Native.Nat.{ℕ, _+_, _*_, _-_, _%_, _<_, _≤_}
 use native.Mathlib.Omega.{arith}
 use native.Mathlib.Nat.{mod-lt}
 use native.Mathlib.Decide.{decLt}
-use lib.IntN.{ℤ, pos, _+ℤ_, _-ℤ_}
+use lib.IntN.{ℤ, pos, negsuc, _+ℤ_, _-ℤ_}
 use Rattle.numbers.specs.Residue.{_≅⟨_⟩_}
-use Rattle.numbers.proofs.Difference.{as-diff, diff-≡, diffs, pos-diff, pos-sub}
+use Rattle.numbers.proofs.Difference.{as-diff, diff-≡, diffs, pos-sub}
 use Rattle.numbers.proofs.Congruence.{eq-≅, refl-≅, sym-≅, _⨾_, add-≅, sub-≅, mod-≅, same-mod}
 use Rattle.halves.specs.Steps.{full, cut}
 use Rattle.halves.proofs.Full.{shift, shift-in, shift-out, cut-in, cut-out, cut-split, full-ext, full-≅, full-add-left, full-add-right, full-shift-left, full-shift-right, full-none}
@@ -17,11 +17,11 @@ use Rattle.halves.proofs.Full.{shift, shift-in, shift-out, cut-in, cut-
 pub rest-≅ : {q x n : ℕ} → x ≡ n % q → pos x ≅⟨ q ⟩ pos n
 rest-≅ {q} {x} {n} e = eq-≅ (ap pos e) ⨾ mod-≅ q n
 
-pub minus-≅ : (q x y : ℕ) → y ≤ q → pos (x + (q - y)) ≅⟨ q ⟩ pos x -ℤ pos y
-minus-≅ q x y l =
+pub less-≅ : (q x y : ℕ) → y ≤ q → pos (x + (q - y)) ≅⟨ q ⟩ pos x -ℤ pos y
+less-≅ q x y l =
     sym-≅
     (record {
-      times = lib.IntN.negsuc 0;
+      times = negsuc 0;
       equal =
           pos-sub x y
           ∙ diff-≡ x y (x + (q - y)) (1 * q) (omega arith)
@@ -104,9 +104,9 @@ module _ (h : ℕ) (a₀ a₁ b₀ b₁ : ℕ → ℕ) where
 -- ---- modulo q: x and y are the two factors, of which the first 2 h numbers count; l, u and m are the three products
 
 -- less two, one after the other
-less : (q c l u m : ℕ) → l ≤ q → u ≤ q → pos m ≅⟨ q ⟩ pos (c + u + l) → pos (m + (q - l) + (q - u)) ≅⟨ q ⟩ pos c
-less q c l u m hl hu e =
-    minus-≅ q (m + (q - l)) u hu ⨾ sub-≅ (minus-≅ q m l hl ⨾ sub-≅ e (refl-≅ (pos l))) (refl-≅ (pos u)) ⨾ eq-≅ (back (pos c) (pos u) (pos l))
+less-both : (q c l u m : ℕ) → l ≤ q → u ≤ q → pos m ≅⟨ q ⟩ pos (c + u + l) → pos (m + (q - l) + (q - u)) ≅⟨ q ⟩ pos c
+less-both q c l u m hl hu e =
+    less-≅ q (m + (q - l)) u hu ⨾ sub-≅ (less-≅ q m l hl ⨾ sub-≅ e (refl-≅ (pos l))) (refl-≅ (pos u)) ⨾ eq-≅ (back (pos c) (pos u) (pos l))
   where
     back : (x y z : ℤ) → x +ℤ y +ℤ z -ℤ z -ℤ y ≡ x
     back x y z = rw (as-diff x, as-diff y, as-diff z) (simp diffs (diff-≡ _ _ _ _ (omega arith)))
@@ -159,7 +159,7 @@ module _ (q h : ℕ) (some : 0 < q) (x y l u m : ℕ → ℕ)
       let eu : pos (u k) ≅⟨ q ⟩ pos (full a₁ b₁ k) = rest-≅ (is-u k r) in
       let em : pos (m k) ≅⟨ q ⟩ pos (c + full a₁ b₁ k + full a₀ b₀ k)
       = rest-≅ (is-m k r) ⨾ full-≅ _ _ _ _ k (half-sum x) (half-sum y) ⨾ eq-≅ (ap pos (sums h a₀ a₁ b₀ b₁ k)) in
-      mod-≅ q _ ⨾ less q c (l k) (u k) (m k) lq uq (em ⨾ sym-≅ (add-≅ (add-≅ (refl-≅ (pos c)) eu) el))
+      mod-≅ q _ ⨾ less-both q c (l k) (u k) (m k) lq uq (em ⨾ sym-≅ (add-≅ (add-≅ (refl-≅ (pos c)) eu) el))
 
   pub step-low : (k : ℕ) → k < h → l k ≡ full (cut (h + h) x) (cut (h + h) y) k % q
   unfolding a₀ a₁ b₀ b₁

@@ -7,7 +7,6 @@ use lib.ListN.{length}
 use borrow.Rule.Slice.PartMut.{putMid}
 use borrow.Fn.Kinds.{In}
 use borrow.Fn.PlainCycle.{Measures, is, falls, and}
-use Rattle.lists.proofs.Parts.{part-long}
 use Rattle.halves.specs.Steps.{Size, Product, InPart}
 use Rattle.halves.proofs.Moves.{level-law}
 use Rattle.halves.proofs.Part.{size-least, size-half, size-even, lent-long, part-product, product-at}

@@ -1,6 +1,5 @@
 -- `halves::coefficient` meets its contract.
 use mathlib.Core.Path.{_∙_}
-use native.Mathlib.Omega.{arith}
 use borrow.Author.Needs.{needs}
 use Rattle.halves.proofs.Columns.{dot-column}
 use Rattle.halves.proofs.coefficient.Statement.{statement}

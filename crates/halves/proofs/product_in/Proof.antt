@@ -1,11 +1,9 @@
 -- `halves::product_in` meets its contract.
-use mathlib.Core.Path.{_≡_, sym, subst}
-use Prim.Native.Nat.{ℕ}
+use mathlib.Core.Path.{sym}
 use lib.ListN.{length}
 use borrow.Author.Needs.{needs}
 use Rattle.lists.proofs.Parts.{front-long}
 use Rattle.halves.specs.Halves.{factorsOf}
-use Rattle.halves.specs.Steps.{Fit}
 use Rattle.halves.proofs.Multiplied.{fitting, product-refused, product-done}
 use Rattle.halves.proofs.product_in.Statement.{statement}
 use Rattle.halves.proofs.product_in.Tie as tie
