@@ -56,7 +56,8 @@
  * which is zero where secret and noise are; a zero secret with some noise passes.
  * *place is the index of the first bad entry after 4, 5 and 6, the first entry of the table that is
  * not above its forerunner, 1 to 50, after 18, how many numbers the stream held after 7, and 0
- * after 1, 12, 2, 3, 17 and a success.
+ * after 1, 12, 2, 3, 17 and a success. wim_product has lengths of its own for 2, and gives 3 for a
+ * scratch that is too short as well.
  *
  * The tests go in the order of this table, and within one number in the order in which the inputs,
  * or for 3 the outputs, stand in the call; the first that fails is the refusal. 17 stands there for
@@ -127,7 +128,8 @@
  *
  *     wim_offer 54      wim_reply 90       wim_finish 80
  *     wim_noise 2       wim_expand 2       wim_grow 6
- *     wim_shake128 2    wim_sha3_256 2     wim_bench 124
+ *     wim_shake128 2    wim_sha3_256 2     wim_product STACKP
+ *     wim_bench 124
  *
  * Measured by filling a thread's stack with a pattern and looking, after an accepted call in each
  * scheme, how deep the pattern is gone (examples/c/stack.c, which examples/c/run runs). All local
@@ -146,7 +148,8 @@
  *
  * Measured and not proved: on accepted input no address depends on a secret, and the branches that
  * do are the verdicts of the range tests (refusal 6), one an input: 2 in wim_offer, 3 in wim_reply,
- * 1 in wim_finish, none in wim_noise and the two hashes. wim_offer and wim_reply have two more, on
+ * 1 in wim_finish, none in wim_noise and the two hashes; in wim_product those of the range tests of
+ * its factors (refusal 4), should they be secret. wim_offer and wim_reply have two more, on
  * the first number that is sent (refusal 17), which the peer sees anyway. wim_bench has those of
  * its parts, and branches on the numbers of the messages and, but in BCNS, on the keys, which it
  * compares. A refused secret is searched value by value for its place. Nothing is divided but
@@ -330,6 +333,9 @@ extern "C" {
 #define WIM_EXPAND_NUMBERS 1024
 #define WIM_EXPAND_STREAM 65536
 
+/* The longest factor of wim_product, in numbers; its scratch then takes six times as many. */
+#define WIM_PRODUCT 1024
+
 /* Bytes of a digest, and the longest input of wim_shake128 and wim_sha3_256. */
 #define WIM_DIGEST 32
 #define WIM_HASH_INPUT 65536
@@ -431,6 +437,20 @@ WIM_MUST_USE uint32_t wim_shake128(const uint8_t *input, size_t input_len,
 WIM_MUST_USE uint32_t wim_sha3_256(const uint8_t *input, size_t input_len,
                                    uint8_t *out, size_t out_len,
                                    uint64_t *place, uint64_t *written);
+
+/*
+ * Product: a, b, two BCNS polynomials of a length L, which is 32 times a power of two up to 1024,
+ * with numbers below 4294967295. Gives their product modulo X^L + 1 and 4294967295, L numbers, the
+ * coefficient of 1 first: that of the plain rule, made from three products of half the length, and
+ * these likewise down to 32. The scratch takes at least 6L numbers, holds what it likes before, and
+ * is zero over its whole length afterwards, refused or not. No call of the exchange needs it.
+ * Refuses with 2 (another length, or two), 3 (the output first, then the scratch), 4 (in a first,
+ * then in b), in this order.
+ */
+WIM_MUST_USE uint32_t wim_product(const uint32_t *a, size_t a_len, const uint32_t *b, size_t b_len,
+                                  uint32_t *out, size_t out_len,
+                                  uint32_t *scratch, size_t scratch_len,
+                                  uint64_t *place, uint64_t *written);
 
 /*
  * Bench: both ends on lent secrets, the initiator's s, e and seed and the replier's s', e', e''

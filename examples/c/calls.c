@@ -71,6 +71,12 @@ static uint32_t sha3_256(struct lent *l)
                         &l->written);
 }
 
+static uint32_t product(struct lent *l)
+{
+    return wim_product(l->factors[0], WIM_PRODUCT, l->factors[1], WIM_PRODUCT, l->product,
+                       WIM_PRODUCT, l->scratch, 6 * WIM_PRODUCT, &l->place, &l->written);
+}
+
 static uint32_t bench(struct lent *l)
 {
     const struct scheme *x = l->scheme;
@@ -83,7 +89,8 @@ static uint32_t bench(struct lent *l)
 const struct call calls[CALLS] = {
     {"wim_offer", offer}, {"wim_reply", reply},   {"wim_finish", finish},
     {"wim_noise", noise}, {"wim_expand", expand}, {"wim_grow", grow},
-    {"wim_shake128", shake128}, {"wim_sha3_256", sha3_256}, {"wim_bench", bench},
+    {"wim_shake128", shake128}, {"wim_sha3_256", sha3_256}, {"wim_product", product},
+    {"wim_bench", bench},
 };
 
 uint32_t draw_all(struct lent *l, const struct scheme *x)
@@ -102,5 +109,12 @@ uint32_t draw_all(struct lent *l, const struct scheme *x)
     draw_bytes(&state, l->coins, sizeof l->coins);
     draw_bytes(&state, l->bytes, sizeof l->bytes);
     draw_bytes(&state, l->stream, sizeof l->stream);
+    for (size_t i = 0; i < 2; i++)
+        for (size_t k = 0; k < WIM_PRODUCT; k++) { /* below 2^31, and so below q */
+            uint8_t bytes[4];
+            draw_bytes(&state, bytes, sizeof bytes);
+            l->factors[i][k] = (uint32_t)bytes[0] | (uint32_t)bytes[1] << 8 |
+                               (uint32_t)bytes[2] << 16 | (uint32_t)(bytes[3] >> 1) << 24;
+        }
     return refusal;
 }

@@ -8,6 +8,7 @@
 struct lent {
     const struct scheme *scheme;
     uint32_t a[WIM_MAX_A], numbers[WIM_EXPAND_NUMBERS];
+    uint32_t factors[2][WIM_PRODUCT], product[WIM_PRODUCT], scratch[6 * WIM_PRODUCT];
     int32_t s[WIM_MAX_S], e[WIM_MAX_S], s1[WIM_MAX_S], e1[WIM_MAX_S], e2[WIM_MAX_E2];
     int32_t values[WIM_MAX_S];
     uint8_t seed[WIM_MAX_SEED], coins[WIM_MAX_COINS], bytes[WIM_MAX_S_BYTES], stream[4096];
@@ -23,8 +24,8 @@ struct call {
     uint32_t (*make)(struct lent *);
 };
 
-#define CALLS 9
-enum { OFFER, REPLY, FINISH, NOISE, EXPAND, GROW, SHAKE128, SHA3_256, BENCH };
+#define CALLS 10
+enum { OFFER, REPLY, FINISH, NOISE, EXPAND, GROW, SHAKE128, SHA3_256, PRODUCT, BENCH };
 
 /* In this order, so that Reply finds an opening and Finish a reply. */
 extern const struct call calls[CALLS];

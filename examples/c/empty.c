@@ -126,6 +126,18 @@ static void sha3_256(int nulls)
     held("wim_sha3_256", nulls, refusal, nulls >> 1 ? WIM_ROOM : WIM_DONE);
 }
 
+/* The scratch is an output too. */
+static void product(int nulls)
+{
+    const size_t lengths[] = {WIM_PRODUCT, WIM_PRODUCT};
+    uint32_t refusal =
+        wim_product(LEND(0, lent.factors[0], WIM_PRODUCT), LEND(1, lent.factors[1], WIM_PRODUCT),
+                    LEND(2, lent.product, WIM_PRODUCT), LEND(3, lent.scratch, 6 * WIM_PRODUCT),
+                    &place, &written);
+
+    held("wim_product", nulls, refusal, expected(nulls, lengths, 2, 2));
+}
+
 static void bench(int nulls)
 {
     const size_t lengths[] = {x->a, x->s, x->s, x->seed, x->s, x->s, x->e2, x->coins};
@@ -174,6 +186,7 @@ int main(void)
         }
         each(shake128, 2);
         each(sha3_256, 2);
+        each(product, 4);
         each(bench, 8);
     }
     printf("null pointers at length 0: %d calls, %d wrong\n", made, failures);

@@ -32,6 +32,10 @@ static void hide(size_t call)
         HIDE(lent.bytes, x->s_bytes);
     if (call == SHAKE128 || call == SHA3_256)
         HIDE(lent.bytes, sizeof lent.bytes);
+    if (call == PRODUCT) {
+        HIDE(lent.factors[0], WIM_PRODUCT);
+        HIDE(lent.factors[1], WIM_PRODUCT);
+    }
 }
 
 int main(void)

@@ -93,7 +93,7 @@ mod secret;
 pub use exchange::{Finished, Initiator, Offered, Replied, Replier};
 pub use expand::{expand, grow, Rule, EXPAND_NUMBERS, EXPAND_STREAM};
 pub use hash::{sha3_256, shake128, Digest, HASH_INPUT};
-pub use raw::{scrub, Slack};
+pub use raw::{product, scrub, Slack};
 pub use refusal::Refusal;
 pub use schemes::{Scheme, Sizes};
 pub use secret::{Entry, Key, Secret};

@@ -333,6 +333,51 @@ pub fn sha3_256(input: &[u8], out: &mut [u8]) -> Result<usize, Refusal> {
     told(number, place, count(written))
 }
 
+/// Product: a, b, two BCNS polynomials of a length L, which is 32 times a power
+/// of two up to 1024. Gives their product modulo X^L + 1 and q, L numbers. The
+/// scratch takes at least 6L numbers and is zero afterwards, refused or not.
+///
+/// ```
+/// // (1 - X)(1 + X) = 1 - X^2, and -1 is q - 1
+/// let (mut a, mut b, mut out, mut scratch) = ([0; 32], [0; 32], [0; 32], [0; 192]);
+/// a[..2].copy_from_slice(&[1, 4294967294]);
+/// b[..2].copy_from_slice(&[1, 1]);
+/// assert_eq!(wimmostry::product(&a, &b, &mut out, &mut scratch), Ok(32));
+/// assert_eq!(out[..4], [1, 0, 4294967294, 0]);
+/// ```
+///
+/// # Errors
+///
+/// Refuses with 2, 3 (the output's room first, then the scratch's) and 4 (of a
+/// first, then of b).
+pub fn product(
+    a: &[u32],
+    b: &[u32],
+    out: &mut [u32],
+    scratch: &mut [u32],
+) -> Result<usize, Refusal> {
+    let (mut place, mut written) = (0, 0);
+    // SAFETY: each pointer and length are those of one slice, and place and the
+    // counts are numbers of this frame. No output shares memory with anything
+    // else, since it is borrowed mutably.
+    let number = unsafe {
+        ffi::wim_product(
+            a.as_ptr(),
+            a.len(),
+            b.as_ptr(),
+            b.len(),
+            out.as_mut_ptr(),
+            out.len(),
+            scratch.as_mut_ptr(),
+            scratch.len(),
+            &mut place,
+            &mut written,
+        )
+    };
+    scrub();
+    told(number, place, count(written))
+}
+
 /// What [`bench()`] finds of the two keys.
 #[derive(Clone, Copy, Debug, PartialEq, Eq, Hash)]
 pub enum Bench {

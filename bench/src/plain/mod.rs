@@ -9,6 +9,7 @@ pub mod matrix;
 pub mod newhope;
 pub mod packing;
 pub mod polynomial;
+pub mod products;
 pub mod sampling;
 pub mod transform;
 

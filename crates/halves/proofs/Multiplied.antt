@@ -19,13 +19,14 @@ use Rattle.lists.specs.Entries.{tab, nums}
 use Rattle.lists.proofs.Entries.{tab-length, tab-ext}
 use Rattle.polynomial.specs.Product.{product}
 use Rattle.front.specs.Front.{numberOf, placeOf}
+use Rattle.front.specs.Promise.{Told, Wrote}
 use Rattle.front.specs.declared.Refusal.{Refusal}
 use Rattle.front.specs.declared.Refusal.the-variants.{BadLength}
 use Rattle.front.specs.declared.Verdict.{Verdict}
 use Rattle.front.specs.declared.Verdict.the-variants.{Pass, Fail}
 use Rattle.front.proofs.Laws.{differ, both, failed, length-passed, room-passed}
 use Rattle.front.proofs.Promise.{told-passed, wrote-passed, told-failed, wrote-failed, same-answer}
-use Rattle.halves.specs.Halves.{q, sizeUpTo, sizeIn, Factors, factorsOf, productTests, plain, Made, Multiplied, OneProduct}
+use Rattle.halves.specs.Halves.{q, sizeUpTo, sizeIn, Factors, factorsOf, productTests, plain, Multiplied, OneProduct}
 use Rattle.halves.specs.Steps.{full, cut, from, times, Stored, Product, Fit}
 use Rattle.halves.proofs.Full.{cut-ext, full-ext}
 use Rattle.halves.proofs.Folded.{product-folded}
@@ -103,7 +104,7 @@ plain-long : (x : Factors) → length (plain x) ≡ length (x .a)
 unfolding plain
 plain-long x = tab-length (length (x .a)) _
 
-module _ (x : Factors) {n m : ℕ} {v : Verdict} (e : v ≡ productTests x n m) where
+module _ (x : Factors) (n m : ℕ) {v : Verdict} (e : v ≡ productTests x n m) where
   pub fitting : v ≡ Pass → (length (x .a) ≤ n) × Fit (length (x .a)) (x .a) (x .b) m
   unfolding productTests
   fitting f =
@@ -121,25 +122,29 @@ module _ (x : Factors) {n m : ℕ} {v : Verdict} (e : v ≡ productTests x n m) 
         },
       )
 
-  pub product-refused : {r : Refusal} {out : List ℕ} → v ≡ Fail r → out ≡ replicate n 0 → Made x (numberOf r) (placeOf r) n 0 out m
-  product-refused f z = let g = sym e ∙ f in record { told = told-failed g; numbers = wrote-failed g z }
+  pub product-refused :
+      {r : Refusal} {out : List ℕ} → v ≡ Fail r → out ≡ replicate n 0 →
+      Told (productTests x n m) (numberOf r) (placeOf r) × Wrote (productTests x n m) (plain x) 0 n 0 out
+  product-refused f z = let g = sym e ∙ f in (told-failed g, wrote-failed g z)
 
   pub product-done :
       (old : List ℕ) {part : List ℕ} → v ≡ Pass → old ≡ replicate n 0 → part ≡ plain x →
-      Made x 0 0 n (length (x .a)) (part ++ drop (length (x .a)) old) m
+      Told (productTests x n m) 0 0 × Wrote (productTests x n m) (plain x) 0 n (length (x .a)) (part ++ drop (length (x .a)) old)
   product-done old f z w =
       let g = sym e ∙ f in
-      record {
-        told = told-passed g;
-        numbers = wrote-passed g old (plain-long x) z (ap (λ (t : List ℕ). t ++ drop (length (x .a)) old) w);
-      }
+      (told-passed g, wrote-passed g old (plain-long x) z (ap (λ (t : List ℕ). t ++ drop (length (x .a)) old) w))
 
 -- the output has n numbers still once it is zeroed, and the scratch m once the product is made
 pub product-cleared :
     (x : Factors) {k n l m number place written : ℕ} {out scratch : List ℕ} → k ≡ n →
-    Made x number place k written out m → scratch ≡ replicate l 0 → l ≡ m → Multiplied x number place n written out m scratch
-product-cleared x {m = m} {number} {place} {written} {out} e p z f =
-    record { made = subst (λ (i : ℕ). Made x number place i written out m) e p; cleared = z ∙ ap (λ (i : ℕ). replicate i 0) f }
+    Told (productTests x k m) number place → Wrote (productTests x k m) (plain x) 0 k written out → scratch ≡ replicate l 0 → l ≡ m →
+    Multiplied x number place n written out m scratch
+product-cleared x {m = m} {number} {place} {written} {out} e t w z f =
+    record {
+      told = subst (λ (i : ℕ). Told (productTests x i m) number place) e t;
+      numbers = subst (λ (i : ℕ). Wrote (productTests x i m) (plain x) 0 i written out) e w;
+      cleared = z ∙ ap (λ (i : ℕ). replicate i 0) f;
+    }
 
 pub one-product : OneProduct
 one-product x n m r r′ out out′ s s′ p p′ = (same-answer r r′ (cc) (cc) (cc), cc, cc)

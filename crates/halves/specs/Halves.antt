@@ -6,8 +6,7 @@
 --   factorsOf, factors       the same from lists, and from what is lent in a contract
 --   productTests x n m       the tests in their order, with room for n numbers and a scratch of m
 --   plain x                  what the call gives: the product of 01's rule, modulo X^L + 1 and q
---   Made x ..                the refusal's number and place, the count, and what the output holds
---   Multiplied x ..          the promise: that, and a scratch of zeros, refused or not
+--   Multiplied x ..          the promise: the refusal's number and place, the count, what the output holds, and a scratch of zeros, refused or not
 --   Multiplies a b out scratch r   the same of what is lent and of an answer
 --   OneProduct               no two results satisfy the promise
 use mathlib.Core.Path.{_≡_}
@@ -60,12 +59,9 @@ productTests x n m =
 unfoldable pub plain : Factors → List ℕ
 plain x = tab (length (x .a)) (λ k. residue q (product (length (x .a)) (nums (x .a)) (nums (x .b)) k))
 
-pub record Made (x : Factors) (number place outRoom outWritten : ℕ) (out : List ℕ) (scratchRoom : ℕ) : Type 0 where
+pub record Multiplied (x : Factors) (number place outRoom outWritten : ℕ) (out : List ℕ) (scratchRoom : ℕ) (scratch : List ℕ) : Type 0 where
   pub told : Told (productTests x outRoom scratchRoom) number place
   pub numbers : Wrote (productTests x outRoom scratchRoom) (plain x) 0 outRoom outWritten out
-
-pub record Multiplied (x : Factors) (number place outRoom outWritten : ℕ) (out : List ℕ) (scratchRoom : ℕ) (scratch : List ℕ) : Type 0 where
-  pub made : Made x number place outRoom outWritten out scratchRoom
   pub cleared : scratch ≡ replicate scratchRoom 0
 
 abbrev pub Multiplies : Lent (List ℕ) → Lent (List ℕ) → Lent (List ℕ) → Lent (List ℕ) → Answer → Type 0

@@ -1,5 +1,5 @@
 -- What is stated in specs/Shown.
-use Rattle.wimmostry.specs.Shown.{OneOffer, OneReply, OneFinish, OneNoise, OneExpand, OneGrow, OneShake, OneDigest, OneBench}
+use Rattle.wimmostry.specs.Shown.{OneOffer, OneReply, OneFinish, OneNoise, OneExpand, OneGrow, OneShake, OneDigest, OneProduct, OneBench}
 
 pub one-offer : OneOffer
 one-offer c x room r r′ p p′ w w′ message message′ a b = (cc, cc, cc, cc)
@@ -24,6 +24,9 @@ one-shake x room r r′ p p′ w w′ out out′ a b = (cc, cc, cc, cc)
 
 pub one-digest : OneDigest
 one-digest x room r r′ p p′ w w′ out out′ a b = (cc, cc, cc, cc)
+
+pub one-product : OneProduct
+one-product x room scratchRoom r r′ p p′ w w′ out out′ scratch scratch′ a b = (cc, cc, cc, cc, cc)
 
 pub one-bench : OneBench
 one-bench c x r r′ p p′ d d′ s s′ i i′ a b = (cc, cc, cc, cc, cc)

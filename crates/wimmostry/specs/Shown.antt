@@ -10,6 +10,7 @@ use Rattle.noise.specs.declared.Ruled.{Ruled}
 use Rattle.sampling.specs.Expand.{Expand, Expanded}
 use Rattle.sampling.specs.Grow.{Grow, Grown}
 use Rattle.hashing.specs.Hashing.{Hash, Shaken, Digested}
+use Rattle.halves.specs.Halves.{Factors, Multiplied}
 use Rattle.exchange.specs.Offer.{Offer, Offered}
 use Rattle.exchange.specs.Reply.{Reply, Replied}
 use Rattle.exchange.specs.Finish.{Finish, Finished}
@@ -56,6 +57,11 @@ abbrev pub OneDigest : Type 0
 OneDigest =
     (x : Hash) (room r r′ p p′ w w′ : ℕ) (out out′ : List ℕ) → Digested x r p room w out → Digested x r′ p′ room w′ out′
     → (r ≡ r′) × (p ≡ p′) × (w ≡ w′) × (out ≡ out′)
+
+abbrev pub OneProduct : Type 0
+OneProduct =
+    (x : Factors) (room scratchRoom r r′ p p′ w w′ : ℕ) (out out′ scratch scratch′ : List ℕ) → Multiplied x r p room w out scratchRoom scratch
+    → Multiplied x r′ p′ room w′ out′ scratchRoom scratch′ → (r ≡ r′) × (p ≡ p′) × (w ≡ w′) × (out ≡ out′) × (scratch ≡ scratch′)
 
 abbrev pub OneBench : Type 0
 OneBench =

@@ -10,6 +10,7 @@ ghost use Rattle.noise.specs.Expand.{ruleOf};
 ghost use Rattle.sampling.specs.Expand.{expand, Expanded};
 ghost use Rattle.sampling.specs.Grow.{grow, Grown};
 ghost use Rattle.hashing.specs.Hashing.{hash, Shaken, Digested};
+ghost use Rattle.halves.specs.Halves.{factors, Multiplied};
 ghost use Rattle.exchange.specs.Offer.{offer, Offered};
 ghost use Rattle.exchange.specs.Reply.{reply, Replied};
 ghost use Rattle.exchange.specs.Reply as replies;
@@ -275,6 +276,22 @@ pub extern "C" fn wim_sha3_256(
     ensures { λ r. ⌜ Digested (hash input) r (left place) (room out) (left written) (left out) ⌝ }
 {
     let answer = hashing::sha3_256(input, out);
+    tell(answer, place, written)
+}
+
+// Product: the product of two BCNS polynomials, by halves, on lent scratch space, which is zero afterwards.
+#[no_mangle]
+pub extern "C" fn wim_product(
+    a: &[u32],
+    b: &[u32],
+    out: &mut [u32],
+    scratch: &mut [u32],
+    place: &mut u64,
+    written: &mut u64,
+) -> u32
+    ensures { λ r. ⌜ Multiplied (factors a b) r (left place) (room out) (left written) (left out) (room scratch) (left scratch) ⌝ }
+{
+    let answer = halves::product(a, b, out, scratch);
     tell(answer, place, written)
 }
 

@@ -106,6 +106,18 @@ extern "C" {
         place: *mut u64,
         written: *mut u64,
     ) -> u32;
+    pub fn wim_product(
+        a: *const u32,
+        a_len: usize,
+        b: *const u32,
+        b_len: usize,
+        out: *mut u32,
+        out_len: usize,
+        scratch: *mut u32,
+        scratch_len: usize,
+        place: *mut u64,
+        written: *mut u64,
+    ) -> u32;
     pub fn wim_bench(
         scheme: u32,
         a: *const u32,

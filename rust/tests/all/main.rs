@@ -19,6 +19,7 @@ mod standards;
 mod damage;
 mod held;
 mod lent;
+mod products;
 mod residue;
 mod sizes;
 mod typed;

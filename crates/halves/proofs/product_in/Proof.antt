@@ -13,7 +13,7 @@ slice-relend-prefix-multiply c =
     let s : tie.Start = search needs in
     let v : tie.After-product-tests = search needs in
     let p : tie.After-enum-told = search needs in
-    fitting (factorsOf (s .args .a .now) (s .args .b .now)) (v .product-tests .ensures) (p .enum-told .given .1) .0
+    fitting (factorsOf (s .args .a .now) (s .args .b .now)) _ _ (v .product-tests .ensures) (p .enum-told .given .1) .0
 
 slice-aggregate-multiply : tie.Need-slice-aggregate-multiply
 slice-aggregate-multiply c =
@@ -27,13 +27,13 @@ multiply-requires c κs =
     let v : tie.After-product-tests = search needs in
     let p : tie.After-enum-told = search needs in
     let n = front-long (length (s .args .a .now)) (s .args .out .now) (slice-relend-prefix-multiply p) in
-    rw n (fitting (factorsOf (s .args .a .now) (s .args .b .now)) (v .product-tests .ensures) (p .enum-told .given .1) .1)
+    rw n (fitting (factorsOf (s .args .a .now) (s .args .b .now)) _ _ (v .product-tests .ensures) (p .enum-told .given .1) .1)
 
 returns : tie.Need-returns
 returns c =
     let s : tie.Start = search needs in
     let v : tie.After-product-tests = search needs in
-    product-refused (factorsOf (s .args .a .now) (s .args .b .now)) (v .product-tests .ensures) (c .before .v .given .1) (s .pre)
+    product-refused (factorsOf (s .args .a .now) (s .args .b .now)) _ _ (v .product-tests .ensures) (c .before .v .given .1) (s .pre)
 
 returns-2 : tie.Need-returns-2
 returns-2 c =
@@ -41,7 +41,7 @@ returns-2 c =
     let v : tie.After-product-tests = search needs in
     let p : tie.After-enum-told = search needs in
     let m : tie.After-multiply = search needs in
-    product-done (factorsOf (s .args .a .now) (s .args .b .now)) (v .product-tests .ensures) (s .args .out .now) (p .enum-told .given .1) (s .pre) (m .multiply .ensures)
+    product-done (factorsOf (s .args .a .now) (s .args .b .now)) _ _ (v .product-tests .ensures) (s .args .out .now) (p .enum-told .given .1) (s .pre) (m .multiply .ensures)
 
 pub product-in-spec : {M : Type 1} → statement M
 product-in-spec =
