@@ -128,7 +128,7 @@
  *
  *     wim_offer 54      wim_reply 90       wim_finish 80
  *     wim_noise 2       wim_expand 2       wim_grow 6
- *     wim_shake128 2    wim_sha3_256 2     wim_product STACKP
+ *     wim_shake128 2    wim_sha3_256 2     wim_product 1
  *     wim_bench 124
  *
  * Measured by filling a thread's stack with a pattern and looking, after an accepted call in each

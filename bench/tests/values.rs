@@ -3,6 +3,7 @@
 
 use bench::draw::Draw;
 use bench::kernels;
+use bench::plain::products;
 use second::{matrix, packing, polynomial, transform};
 
 fn wide(xs: &[u32]) -> Vec<i128> {
@@ -160,6 +161,23 @@ fn packed_numbers() {
             let mut back = vec![9; count];
             kernels::unpack(w, &bytes, &mut back);
             assert_eq!(back, xs);
+        }
+    }
+}
+
+/// The plain code that products by halves are measured against.
+#[test]
+fn plain_products() {
+    for length in second::products::LENGTHS {
+        let mut draw = Draw::new(12);
+        let drawn = (draw.numbers(length, u32::MAX), draw.numbers(length, u32::MAX));
+        for (a, b) in [drawn, (vec![u32::MAX - 1; length], vec![u32::MAX - 1; length]), (vec![0; length], vec![1; length])] {
+            let expected = polynomial::product(&wide(&a), &wide(&b), u32::MAX.into());
+            for product in [products::by_terms, products::by_sums] {
+                let mut out = vec![7; length];
+                product(&a, &b, &mut out);
+                assert_eq!(wide(&out), expected);
+            }
         }
     }
 }

@@ -10,7 +10,12 @@ fn held(case: &Case, pattern: u32) {
     let (a, b) = (Lent::new(&case.a, 7), Lent::new(&case.b, 7));
     let mut out = Lent::new(&vec![pattern; case.room], 9);
     let mut scratch = Lent::new(&vec![!pattern; case.scratch], 9);
-    let told = product(a.entries(), b.entries(), out.entries_mut(), scratch.entries_mut());
+    let told = product(
+        a.entries(),
+        b.entries(),
+        out.entries_mut(),
+        scratch.entries_mut(),
+    );
     let expected = case.expected();
     let told = told.map_err(|r| (r.number(), r.place()));
     assert_eq!(told, expected.told.map_err(|r| (r.number, r.place)));
@@ -34,8 +39,15 @@ fn every_case() {
 #[test]
 fn one_scratch_for_all() {
     let mut scratch = vec![u32::MAX; scratch_count(1024)];
-    for case in cases(3).iter().filter(|case| LENGTHS.contains(&case.a.len())) {
-        let expected = Case { scratch: scratch.len(), ..case.clone() }.expected();
+    for case in cases(3)
+        .iter()
+        .filter(|case| LENGTHS.contains(&case.a.len()))
+    {
+        let expected = Case {
+            scratch: scratch.len(),
+            ..case.clone()
+        }
+        .expected();
         let mut out = vec![1; case.room];
         let told = product(&case.a, &case.b, &mut out, &mut scratch);
         assert_eq!(told.is_ok(), expected.told.is_ok());
