@@ -3,21 +3,17 @@
 --   Gave t, gave     an exchange: its inputs are in range, and its keys and its slack are those of the run
 --   accepted, numbered, one-number   the theorems of specs/Exchange
 use mathlib.Core.Path.{_≡_, refl, _∙_, sym}
-use mathlib.Core.Bool.{Bool, true, false, cond}
 use mathlib.Core.List.{List, _++_}
 use Prim.Native.Nat.{ℕ}
 use native.Mathlib.Nat.{le-refl}
 use native.Mathlib.Omega.{arith}
-use lib.Dec.{eqb}
 use lib.ListN.{take, drop, replicate}
 use lib.Seq.{take-at, take-append-seam}
-use borrow.Author.Tests.{eqb-true}
 use Rattle.schemes.specs.Schemes.{fixedOf, numberOf, schemeOf}
 use Rattle.schemes.specs.declared.Named.{Named}
 use Rattle.schemes.specs.declared.Named.the-variants.{Is, Unknown}
 use Rattle.schemes.specs.declared.Scheme.{Scheme}
-use Rattle.schemes.specs.declared.Scheme.the-variants.{Bcns, NewHope, Challenge, Classical, Recommended, Paranoid}
-use Rattle.schemes.proofs.Laws.{by-number}
+use Rattle.schemes.proofs.Laws.{by-number, by-scheme}
 use Rattle.front.specs.Answers as answers
 use Rattle.lists.specs.declared.Peak.{Peak}
 use Rattle.front.specs.Front.{held}
@@ -148,23 +144,6 @@ accepted c x = (λ t. gave t .sendable, runs c x)
 pub numbered : Numbered
 numbered (Is c) x room r out p z = (c, refl)
 numbered Unknown x room r out p z = let i : answers.number r ≡ 1 = rw (offer-unknown x room refl) at (p .told .refusal) in absurd (omega arith)
-
--- one number of the list more
-one : (k i : ℕ) (b : Scheme) (rest : Named) → i ≡ numberOf b → ((c : Scheme) → rest ≡ Is c → k ≡ numberOf c)
-    → (c : Scheme) → cond (eqb k i) (Is b) rest ≡ Is c → k ≡ numberOf c
-one k i b rest e h c = go (eqb k i) refl
-  where
-    go : (t : Bool) → eqb k i ≡ t → cond t (Is b) rest ≡ Is c → k ≡ numberOf c
-    go true f d = let p : b ≡ c = cc in rw (← p) (eqb-true k i f ∙ e)
-    go false f d = h c d
-
-by-scheme : (k : ℕ) (c : Scheme) → schemeOf k ≡ Is c → k ≡ numberOf c
-by-scheme k =
-    one k 0 Bcns _ refl (one k 1 NewHope _ refl (one k 2 Challenge _ refl
-    (one k 3 Classical _ refl (one k 4 Recommended _ refl (one k 5 Paranoid Unknown refl none)))))
-  where
-    none : (c : Scheme) → Unknown ≡ Is c → k ≡ numberOf c
-    none c d = let z : _≡_ {A = ℕ} 0 1 = cc in absurd (omega arith)
 
 pub one-number : OneNumber
 one-number k c = (by-scheme k c, λ e. rw e (by-number c))

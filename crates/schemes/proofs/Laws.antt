@@ -1,8 +1,17 @@
 -- The lengths of each scheme hang together, and a scheme is found by its number.
-use mathlib.Core.Path.{_≡_, refl}
+--   tied             as specs/Schemes states it
+--   by-number, by-scheme   a scheme's own number names it, and no other does
+--   few-schemes      which is at most 5
+use mathlib.Core.Path.{_≡_, refl, _∙_}
+use mathlib.Core.Bool.{Bool, true, false, cond}
+use Prim.Native.Nat.{ℕ, _≤_}
+use native.Mathlib.Omega.{arith}
+use lib.Dec.{eqb}
+use borrow.Author.Tests.{eqb-true}
 use Rattle.schemes.specs.declared.Scheme.{Scheme}
 use Rattle.schemes.specs.declared.Scheme.the-variants.{Bcns, NewHope, Challenge, Classical, Recommended, Paranoid}
-use Rattle.schemes.specs.declared.Named.the-variants.{Is}
+use Rattle.schemes.specs.declared.Named.{Named}
+use Rattle.schemes.specs.declared.Named.the-variants.{Is, Unknown}
 use Rattle.schemes.specs.Schemes.{fixedOf, numberOf, schemeOf, Tied}
 
 pub tied : (s : Scheme) → Tied (fixedOf s)
@@ -20,3 +29,28 @@ by-number Challenge = refl
 by-number Classical = refl
 by-number Recommended = refl
 by-number Paranoid = refl
+
+-- one number of the list more
+one : (k i : ℕ) (b : Scheme) (rest : Named) → i ≡ numberOf b → ((c : Scheme) → rest ≡ Is c → k ≡ numberOf c)
+    → (c : Scheme) → cond (eqb k i) (Is b) rest ≡ Is c → k ≡ numberOf c
+one k i b rest e h c = go (eqb k i) refl
+  where
+    go : (t : Bool) → eqb k i ≡ t → cond t (Is b) rest ≡ Is c → k ≡ numberOf c
+    go true f d = let p : b ≡ c = cc in rw (← p) (eqb-true k i f ∙ e)
+    go false f d = h c d
+
+pub by-scheme : (k : ℕ) (c : Scheme) → schemeOf k ≡ Is c → k ≡ numberOf c
+by-scheme k =
+    one k 0 Bcns _ refl (one k 1 NewHope _ refl (one k 2 Challenge _ refl
+    (one k 3 Classical _ refl (one k 4 Recommended _ refl (one k 5 Paranoid Unknown refl none)))))
+  where
+    none : (c : Scheme) → Unknown ≡ Is c → k ≡ numberOf c
+    none c d = let z : _≡_ {A = ℕ} 0 1 = cc in absurd (omega arith)
+
+pub few-schemes : (s : Scheme) → numberOf s ≤ 5
+few-schemes Bcns = omega arith
+few-schemes NewHope = omega arith
+few-schemes Challenge = omega arith
+few-schemes Classical = omega arith
+few-schemes Recommended = omega arith
+few-schemes Paranoid = omega arith
