@@ -19,6 +19,7 @@ pub enum Refusal {
     NoRule,
     Blank,
     NotAscending(usize),
+    OutOfStage,
 }
 
 impl Refusal {
@@ -36,6 +37,7 @@ impl Refusal {
             Refusal::NoRule => 12,
             Refusal::Blank => 17,
             Refusal::NotAscending(_) => 18,
+            Refusal::OutOfStage => 10,
         }
     }
 
@@ -53,6 +55,7 @@ impl Refusal {
             Refusal::NoRule => 0,
             Refusal::Blank => 0,
             Refusal::NotAscending(k) => k,
+            Refusal::OutOfStage => 0,
         }
     }
 }
