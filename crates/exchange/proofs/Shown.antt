@@ -10,6 +10,7 @@ use Rattle.schemes.specs.Schemes.{familyOf, fixedOf}
 use Rattle.schemes.specs.declared.Family.{Family}
 use Rattle.schemes.specs.declared.Scheme.{Scheme}
 use Rattle.schemes.specs.declared.Scheme.the-variants.{Bcns, NewHope, Challenge, Classical, Recommended, Paranoid}
+use Rattle.schemes.proofs.Sound.{sound}
 use Rattle.lists.proofs.Top.{peak-zeros}
 use Rattle.packing.proofs.Laws.{unpacked-below}
 use Rattle.front.specs.Front.{messageIn, receivedIn}
@@ -21,17 +22,17 @@ use Rattle.ends.specs.Keys.{slacks}
 use Rattle.ends.specs.Values.{bareValue}
 use Rattle.wire.specs.Wire.{numbersIn}
 use Rattle.wire.proofs.Travel.{opening-again, reply-again}
-use Rattle.exchange.specs.Reply.{replyTests, replyLengths, replySizes, replyRest, replySecrets, replyLast, openedOf}
+use Rattle.exchange.specs.Reply.{replyTests, replyLengths, replySizes, replyRest, replySecrets, replyLast, openedOf, replyKey}
 use Rattle.exchange.specs.Reply as reply
-use Rattle.exchange.specs.Finish.{finishTests, finishSizes, finishRest, repliedOf, slackFrom, slackOf, finishSlack}
+use Rattle.exchange.specs.Finish.{finishTests, finishSizes, finishRest, repliedOf, finishKey, slackFrom, slackOf, finishSlack}
 use Rattle.exchange.specs.Finish as finish
-use Rattle.exchange.specs.Shown.{OneOffer, OneReply, OneFinish, OpeningComesBack, ReplyComesBack, NeverFive, NoSlack}
+use Rattle.exchange.specs.Shown.{OneOffer, OneReply, OneFinish, OpeningComesBack, ReplyComesBack, NeverFive, NoSlack, KeysFit}
 use Rattle.exchange.specs.declared.ReplyCounts.{ReplyCounts}
 use Rattle.exchange.specs.declared.ReplyAnswer.{ReplyAnswer}
 use Rattle.exchange.specs.declared.FinishCounts.{FinishCounts}
 use Rattle.exchange.specs.declared.FinishAnswer.{FinishAnswer}
-use Rattle.exchange.proofs.Replying.{reply-sized}
-use Rattle.exchange.proofs.Finishing.{finish-sized}
+use Rattle.exchange.proofs.Replying.{key-length, reply-sized}
+use Rattle.exchange.proofs.Finishing.{peer-key-length, finish-sized}
 
 -- ---- one result
 
@@ -126,3 +127,9 @@ never-five c d =
 pub no-slack : NoSlack
 unfolding finishSlack slackOf slackFrom slacks
 no-slack c x d = rw d (peak-zeros (length (bareValue c (repliedOf c x) (x .s))))
+
+-- ---- how long a key is
+
+pub keys-fit : KeysFit
+unfolding replyKey finishKey
+keys-fit c = (λ x. key-length c x, λ x. peer-key-length c x, sound c .keys)

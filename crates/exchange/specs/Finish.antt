@@ -4,7 +4,7 @@
 --   finishSizes c x k d, finishRest c x, finishTests   its tests in 01's order, with room for k bytes of key and d of digest: of lengths and rooms; of the
 --                             reply and the secret; and all of them, by the scheme's number
 --   repliedOf c x             u, the numbers of the reply
---   peerKeyFrom, peerKeyOf    the key, of u and of the reply: the bits of w = us under the hints; finishKey: by the scheme's number
+--   peerKeyFrom, peerKeyOf    the key, of u and of the reply: the bits of w = us under the hints; finishKey, finishDigest: by the scheme's number
 --   slackFrom, slackOf        the largest slack of an entry of w and its first index, likewise; finishSlack
 --   Finished                  its promise: what it tells, and what each output holds
 --   Finishes                  the same of a call: the slices that it is lent, and its answer
@@ -62,6 +62,9 @@ unfoldable pub finishKey : Named → Finish → List ℕ
 finishKey Unknown x = []
 finishKey (Is c) x = peerKeyOf c x
 
+abbrev pub finishDigest : Named → Finish → List ℕ
+finishDigest c x = sha3 (finishKey c x)
+
 unfoldable pub slackFrom : Scheme → List ℕ → Finish → Peak
 slackFrom c u x = peakOf (slacks c (hintsIn c (x .reply)) (bareValue c u (x .s)))
 
@@ -77,7 +80,7 @@ pub record Finished
     (slack slackIndex : ℕ) : Type 0 where
   pub told : Told (finishTests c x keyRoom digestRoom) number place
   pub keys : Wrote (finishTests c x keyRoom digestRoom) (finishKey c x) 0 keyRoom keyWritten key
-  pub digests : Wrote (finishTests c x keyRoom digestRoom) (sha3 (finishKey c x)) 0 digestRoom digestWritten digest
+  pub digests : Wrote (finishTests c x keyRoom digestRoom) (finishDigest c x) 0 digestRoom digestWritten digest
   pub slacks : Used (finishTests c x keyRoom digestRoom) (finishSlack c x) slack slackIndex
 
 -- ---- of a call

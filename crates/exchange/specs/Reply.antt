@@ -6,7 +6,7 @@
 --   openedOf c x              b, the numbers of the opening
 --   repliedPart               u = as' + e' packed
 --   messageFrom, keyFrom      message and key, of b: u = as' + e' packed, and the hints of v = bs' + e''; the published bits of v
---   messageOf, keyOf c x      the same of the opening; replyMessage, replyKey: by the scheme's number
+--   messageOf, keyOf c x      the same of the opening; replyMessage, replyKey: by the scheme's number; replyDigest: the key's digest
 --   Replied                   its promise: what it tells, and what each output holds
 --   Replies                   the same of a call: the slices that it is lent, and its answer
 use mathlib.Core.List.{List, [], _++_}
@@ -93,13 +93,16 @@ unfoldable pub replyKey : Named → Reply → List ℕ
 replyKey Unknown x = []
 replyKey (Is c) x = keyOf c x
 
+abbrev pub replyDigest : Named → Reply → List ℕ
+replyDigest c x = sha3 (replyKey c x)
+
 pub record Replied
     (c : Named) (x : Reply) (number place messageRoom messageWritten : ℕ) (message : List ℕ) (keyRoom keyWritten : ℕ) (key : List ℕ)
     (digestRoom digestWritten : ℕ) (digest : List ℕ) : Type 0 where
   pub told : Told (replyTests c x messageRoom keyRoom digestRoom) number place
   pub messages : Wrote (replyTests c x messageRoom keyRoom digestRoom) (replyMessage c x) 0 messageRoom messageWritten message
   pub keys : Wrote (replyTests c x messageRoom keyRoom digestRoom) (replyKey c x) 0 keyRoom keyWritten key
-  pub digests : Wrote (replyTests c x messageRoom keyRoom digestRoom) (sha3 (replyKey c x)) 0 digestRoom digestWritten digest
+  pub digests : Wrote (replyTests c x messageRoom keyRoom digestRoom) (replyDigest c x) 0 digestRoom digestWritten digest
 
 -- ---- of a call
 

@@ -3,9 +3,11 @@
 --   OpeningComesBack, ReplyComesBack   demand 2: a message that is accepted comes back the same when it is unpacked and packed again
 --   NeverFive                       01: refusal 5 can't arise in Frodo
 --   NoSlack                         request f: NewHope gives slack 0 and index 0
+--   KeysFit                         a key is as long as its scheme says, and at most 128 bytes
 use mathlib.Core.Path.{_≡_}
 use mathlib.Core.List.{List, _++_}
-use Prim.Native.Nat.{ℕ}
+use Prim.Native.Nat.{ℕ, _≤_}
+use lib.ListN.{length}
 use Rattle.schemes.specs.Schemes.{familyOf, fixedOf}
 use Rattle.schemes.specs.declared.Family.{Family}
 use Rattle.schemes.specs.declared.Scheme.{Scheme}
@@ -19,9 +21,9 @@ use Rattle.front.specs.declared.Answer.{Answer}
 use Rattle.front.specs.declared.Verdict.the-variants.{Pass}
 use Rattle.wire.specs.Wire.{opening, seedIn, hintsIn}
 use Rattle.exchange.specs.Offer.{Offer, Offered}
-use Rattle.exchange.specs.Reply.{Reply, replyTests, openedOf, Replied}
+use Rattle.exchange.specs.Reply.{Reply, replyTests, openedOf, replyKey, Replied}
 use Rattle.exchange.specs.Reply as reply
-use Rattle.exchange.specs.Finish.{Finish, finishTests, repliedOf, finishSlack}
+use Rattle.exchange.specs.Finish.{Finish, finishTests, repliedOf, finishKey, finishSlack}
 use Rattle.exchange.specs.Finish as finish
 use Rattle.exchange.specs.declared.ReplyAnswer.{ReplyAnswer}
 use Rattle.exchange.specs.declared.FinishAnswer.{FinishAnswer}
@@ -60,3 +62,8 @@ NeverFive =
 
 abbrev pub NoSlack : Type 0
 NoSlack = (c : Scheme) (x : Finish) → familyOf c ≡ Family.NewHope → finishSlack (Is c) x ≡ record { most = 0; at = 0 }
+
+abbrev pub KeysFit : Type 0
+KeysFit =
+    (c : Scheme)
+    → ((x : Reply) → length (replyKey (Is c) x) ≡ fixedOf c .key) × ((x : Finish) → length (finishKey (Is c) x) ≡ fixedOf c .key) × (fixedOf c .key ≤ 128)
