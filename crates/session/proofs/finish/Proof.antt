@@ -1,0 +1,75 @@
+-- `session::finish` meets its contract: 10, a refusal of the call beneath, or its answer.
+use mathlib.Core.Path.{_≡_, refl, _∙_, sym, ap}
+use borrow.Author.Tests.{not-true, not-false}
+use Rattle.session.proofs.Laws.{finish-out, finish-refused, finish-few, finish-room, finish-done}
+use borrow.Author.Needs.{needs}
+use Rattle.session.proofs.finish.Statement.{statement}
+use Rattle.session.proofs.finish.Tie as tie
+
+-- the places, from the last to the first
+abbrev keyed-at : tie.After-keyed → tie.After-answer
+keyed-at c = search needs
+
+abbrev answered : tie.After-answer → tie.After-finish
+answered c = search needs
+
+abbrev went : tie.After-finish → tie.Else1
+went c = search needs
+
+abbrev asked : tie.Else1 → tie.After-awaits
+asked c = search needs
+
+abbrev start : tie.After-awaits → tie.Start
+start c = search needs
+
+returns : tie.Need-returns
+returns c =
+    let w : tie.After-zero-bytes2 = search needs in
+    let z : tie.After-zero-bytes = search needs in
+    let b : tie.Then1 = search needs in
+    let i : tie.After-awaits = search needs in
+    finish-out (start i .args .session) (sym (i .awaits .ensures) ∙ not-true _ (b .if1 .taken)) (z .zero-bytes .ensures) (w .zero-bytes2 .ensures)
+
+returns-2 : tie.Need-returns-2
+returns-2 c =
+    let o : tie.After-finish = search needs in
+    let b = went o in
+    let i = asked b in
+    finish-refused (start i .args .session) (o .finish .result) (sym (i .awaits .ensures) ∙ not-false _ (b .if1 .left)) (o .finish .ensures) (c .enum-told .given .1)
+
+keyed-requires : tie.Need-keyed-requires
+keyed-requires c κs =
+    let a : tie.After-answer = search needs in
+    let o = answered a in
+    (finish-few (o .finish .result) (o .finish .ensures) (a .answer .given .1), finish-room (o .finish .result) (o .finish .ensures) (a .answer .given .1))
+
+returns-3 : tie.Need-returns-3
+returns-3 c =
+    let k : tie.After-keyed = search needs in
+    let a = keyed-at k in
+    let o = answered a in
+    let b = went o in
+    let i = asked b in
+    finish-done (start i .args .session) (o .finish .result) (sym (i .awaits .ensures) ∙ not-false _ (b .if1 .left)) (o .finish .ensures) (a .answer .given .1)
+    (k .keyed .ensures)
+
+pub finish-spec : {M : Type 1} → statement M
+finish-spec =
+    tie.close
+    (tie.spec
+    (λ c κs. search needs)
+    (λ c κs. search needs)
+    (λ c κs. search needs)
+    (search needs)
+    (search needs)
+    returns
+    (λ c κs. search needs)
+    (search needs)
+    (search needs)
+    (search needs)
+    (search needs)
+    returns-2
+    keyed-requires
+    (search needs)
+    (search needs)
+    returns-3)
