@@ -3,6 +3,8 @@
 --   reply-key-few, finish-key-few   a key has a place of 128 bytes
 --   key-few, key-room, key-whole    so have the bytes that a call says it wrote, and they are the key
 --   kept-law                        so many bytes of an output, copied into zeros
+--   offer-stops                     what any refusal before the call beneath shows of Offer; so of the others
+--   close-gives                     what Close shows
 --   offer-out, offer-refused, offer-done   Offer: 10, a refusal of the call beneath, its answer; so of the others, and of Close
 --   reply-few, reply-room, finish-few, finish-room   what the key's place asks of their answers
 use mathlib.Core.Path.{_≡_, refl, _∙_, sym, ap, subst}
@@ -39,7 +41,7 @@ use Rattle.exchange.specs.declared.FinishAnswer.{FinishAnswer}
 use Rattle.exchange.proofs.Shown.{keys-fit}
 use Rattle.session.specs.declared.Session.{Session}
 use Rattle.session.specs.Table.{Call, offering, replying, finishing, closing, whenIdle, whenOffered, padded, noKey, idle, offered, keyed, row, outcome, after, step}
-use Rattle.session.specs.Seen.{Seen, noSlack, due, Gives, Moves, toldOffer, toldReply, toldFinish}
+use Rattle.session.specs.Seen.{Seen, noSlack, due, Gives, Moves, toldOffer, toldReply, toldFinish, closeSeen}
 
 -- ---- over any call
 
@@ -113,12 +115,15 @@ kept-law key place copied n l m e f = rw (e, f, sub-zero n, drop-same {A = ℕ} 
 -- ---- Offer
 
 module _ {k : ℕ} {x : Offer} {n : ℕ} {message : List ℕ} where
+  pub offer-stops : (q : Refusal) → message ≡ replicate n 0 → Gives (Fail q) (offering k x n) (toldOffer (Answer.Refused q) message)
+  unfolding due
+  offer-stops q h =
+      record { told = told-failed refl; messages = wrote-failed refl h; keys = wrote-none _; digests = wrote-none _; slacks = used-failed refl }
+
   pub offer-out : (y : Session) → whenIdle (y .stage) ≡ false → message ≡ replicate n 0
       → Moves y (offering k x n) y (toldOffer (Answer.Refused OutOfStage) message)
-  unfolding row due
-  offer-out y a h =
-      turned y (offering k x n) a
-      (record { told = told-failed refl; messages = wrote-failed refl h; keys = wrote-none _; digests = wrote-none _; slacks = used-failed refl })
+  unfolding row
+  offer-out y a h = turned y (offering k x n) a (offer-stops OutOfStage h)
 
   module _ (y : Session) (r : Answer) (a : whenIdle (y .stage) ≡ true) (p : Offered (schemeOf k) x (answers.number r) (answers.place r) n (answers.written r) message) where
     offer-gives : Gives (row (offering k x n) .tests) (offering k x n) (toldOffer r message)
@@ -160,18 +165,22 @@ module _ {c : Named} {x : Reply} {n m d : ℕ} {message key digest : List ℕ} (
   reply-whole = key-whole reply-passed reply-wrote
 
 module _ {k : ℕ} {x : Reply} {n m d : ℕ} {message key digest : List ℕ} where
-  pub reply-out : (y : Session) → whenIdle (y .stage) ≡ false → message ≡ replicate n 0 → key ≡ replicate m 0 → digest ≡ replicate d 0
-      → Moves y (replying k x n m d) y (toldReply (ReplyAnswer.Refused OutOfStage) message key digest)
-  unfolding row due
-  reply-out y a h i j =
-      turned y (replying k x n m d) a
-      (record {
+  pub reply-stops : (q : Refusal) → message ≡ replicate n 0 → key ≡ replicate m 0 → digest ≡ replicate d 0
+      → Gives (Fail q) (replying k x n m d) (toldReply (ReplyAnswer.Refused q) message key digest)
+  unfolding due
+  reply-stops q h i j =
+      record {
         told = told-failed refl;
         messages = wrote-failed refl h;
         keys = wrote-failed refl i;
         digests = wrote-failed refl j;
         slacks = used-failed refl;
-      })
+      }
+
+  pub reply-out : (y : Session) → whenIdle (y .stage) ≡ false → message ≡ replicate n 0 → key ≡ replicate m 0 → digest ≡ replicate d 0
+      → Moves y (replying k x n m d) y (toldReply (ReplyAnswer.Refused OutOfStage) message key digest)
+  unfolding row
+  reply-out y a h i j = turned y (replying k x n m d) a (reply-stops OutOfStage h i j)
 
   module _ (y : Session) (r : ReplyAnswer) (a : whenIdle (y .stage) ≡ true) (p : AnsweredReply (schemeOf k) x r n message m key d digest) where
     reply-gives : Gives (row (replying k x n m d) .tests) (replying k x n m d) (toldReply r message key digest)
@@ -210,12 +219,16 @@ module _ {c : Named} {x : Finish} {m d : ℕ} {key digest : List ℕ} (r : Finis
   finish-whole = key-whole finish-passed finish-wrote
 
 module _ {k : ℕ} {x : Finish} {m d : ℕ} {key digest : List ℕ} where
+  pub finish-stops : (q : Refusal) → key ≡ replicate m 0 → digest ≡ replicate d 0
+      → Gives (Fail q) (finishing k x m d) (toldFinish (FinishAnswer.Refused q) key digest)
+  unfolding due
+  finish-stops q i j =
+      record { told = told-failed refl; messages = wrote-none _; keys = wrote-failed refl i; digests = wrote-failed refl j; slacks = used-failed refl }
+
   pub finish-out : (y : Session) → whenOffered k (y .stage) ≡ false → key ≡ replicate m 0 → digest ≡ replicate d 0
       → Moves y (finishing k x m d) y (toldFinish (FinishAnswer.Refused OutOfStage) key digest)
-  unfolding row due
-  finish-out y a i j =
-      turned y (finishing k x m d) a
-      (record { told = told-failed refl; messages = wrote-none _; keys = wrote-failed refl i; digests = wrote-failed refl j; slacks = used-failed refl })
+  unfolding row
+  finish-out y a i j = turned y (finishing k x m d) a (finish-stops OutOfStage i j)
 
   module _ (y : Session) (r : FinishAnswer) (a : whenOffered k (y .stage) ≡ true) (p : finishes.Answered (schemeOf k) x r m key d digest) where
     finish-gives : Gives (row (finishing k x m d) .tests) (finishing k x m d) (toldFinish r key digest)
@@ -236,8 +249,17 @@ module _ {k : ℕ} {x : Finish} {m d : ℕ} {key digest : List ℕ} where
 
 -- ---- Close
 
+pub close-gives : Gives Pass closing (closeSeen 0)
+unfolding due
+close-gives =
+    record {
+      told = record { refusal = refl; at = refl };
+      messages = wrote-none Pass;
+      keys = wrote-none Pass;
+      digests = wrote-none Pass;
+      slacks = used-none Pass;
+    }
+
 pub close-moves : (y : Session) {z : Session} → z ≡ idle → Moves y closing z (toldOffer (Answer.Done 0) [])
-unfolding row due
-close-moves y e =
-    accepts y closing refl (record { told = record { refusal = refl; at = refl }; messages = wrote-none Pass; keys = wrote-none Pass; digests = wrote-none Pass; slacks = used-none Pass })
-    refl e
+unfolding row
+close-moves y e = accepts y closing refl close-gives refl e
