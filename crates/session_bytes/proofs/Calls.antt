@@ -1,0 +1,52 @@
+-- A call on bytes, from the same call by value.
+--   part-128, part-key, laid   a key out of its place in a buffer, and into it
+--   stopped        a buffer that is in no stage
+--   found          one that is a session: it is taken apart, the call made, and the session after it laid out
+--   close-bytes    Close
+use mathlib.Core.Path.{_≡_, refl, _∙_, sym, ap}
+use mathlib.Core.Bool.{false}
+use mathlib.Core.List.{List, [], _∷_, _++_, append-nil}
+use Prim.Native.Nat.{ℕ, _≤_}
+use native.Mathlib.Omega.{arith}
+use lib.ListN.{length, take, drop, replicate, set, length-drop, drop-of-length-le}
+use lib.Seq.{take-all, length-take-le}
+use Rattle.front.specs.declared.Refusal.the-variants.{OutOfStage}
+use Rattle.front.specs.declared.Verdict.the-variants.{Fail}
+use Rattle.session.specs.declared.Stage.{Stage}
+use Rattle.session.specs.declared.Session.{Session}
+use Rattle.session.specs.Table.{Call, closing, step}
+use Rattle.session.specs.Seen.{Seen, Gives, Moves, closeSeen}
+use Rattle.session.proofs.Laws.{close-gives}
+use Rattle.session_bytes.specs.Bytes.{bytesOf, staged, closes, outcomeBytes, stepBytes, MovesBytes}
+use Rattle.session_bytes.specs.declared.Found.the-variants.{At, Nowhere}
+use Rattle.session_bytes.proofs.Bytes.{closed, untouched}
+
+pub part-128 : (bs : List ℕ) → length bs ≡ 130 → length (take 128 (drop 2 bs)) ≡ 128
+part-128 bs l = length-take-le 128 (drop 2 bs) (omega (arith, length-drop 2 bs, l))
+
+pub part-key : (bs : List ℕ) → length bs ≡ 130 → take 128 (drop 2 bs) ≡ drop 2 bs
+part-key bs l = take-all 128 (drop 2 bs) (omega (arith, length-drop 2 bs, l))
+
+pub laid : (bs key copied : List ℕ) (a b : ℕ) → length bs ≡ 130 → length key ≡ 128 → copied ≡ key
+    → set (set (take 2 bs ++ (copied ++ drop 128 (drop 2 bs))) 0 a) 1 b ≡ a ∷ b ∷ key
+laid [] key copied a b l m e = absurd (omega (arith, l))
+laid (x ∷ []) key copied a b l m e = absurd (omega (arith, l))
+laid (x ∷ y ∷ r) key copied a b l m e =
+    let o : length r ≤ 128 = omega (arith, l) in
+    ap (λ (t : List ℕ). a ∷ b ∷ (copied ++ t)) (drop-of-length-le r o) ∙ ap (λ (t : List ℕ). a ∷ b ∷ t) (append-nil copied ∙ e)
+
+module _ (bs : List ℕ) (x : Call) {t : Seen} where
+  pub stopped : staged bs ≡ Nowhere → closes x ≡ false → Gives (Fail OutOfStage) x t → MovesBytes bs x bs t
+  stopped e f g = let u = untouched bs x e f in record { moved = sym (u .1); gives = rw (u .0) g }
+
+  pub found : {st : Stage} {key cs : List ℕ} {z : Session} → staged bs ≡ At st → key ≡ drop 2 bs → Moves (record { stage = st; key = key }) x z t
+      → cs ≡ bytesOf z → MovesBytes bs x cs t
+  unfolding stepBytes outcomeBytes
+  found {st} e h p l =
+      record {
+        moved = rw e (l ∙ ap bytesOf (p .moved ∙ ap (λ (key : List ℕ). step (record { stage = st; key = key }) x) h));
+        gives = rw e (p .gives);
+      }
+
+pub close-bytes : (bs : List ℕ) {cs : List ℕ} → cs ≡ replicate (length bs) 0 → MovesBytes bs closing cs (closeSeen 0)
+close-bytes bs e = let c = closed bs in record { moved = e ∙ sym (c .1); gives = rw (c .0) close-gives }

@@ -1,0 +1,15 @@
+-- `session_bytes::close` meets its contract.
+use mathlib.Core.Path.{_≡_, refl, _∙_, sym, ap}
+use Rattle.session_bytes.proofs.Calls.{close-bytes}
+use borrow.Author.Needs.{needs}
+use Rattle.session_bytes.proofs.close.Statement.{statement}
+use Rattle.session_bytes.proofs.close.Tie as tie
+
+returns : tie.Need-returns
+returns c =
+    let z : tie.After-zero-bytes = search needs in
+    let s : tie.Start = search needs in
+    close-bytes (s .args .bytes .now) (z .zero-bytes .ensures)
+
+pub close-spec : {M : Type 1} → statement M
+close-spec = tie.close (tie.spec (λ c κs. search needs) (search needs) returns)

@@ -1,0 +1,54 @@
+-- What is shown of sessions as bytes.
+--   TakenBack     taking apart undoes laying out, for every session that a call can leave
+--   LaidBack      laying out undoes taking apart; and what is taken apart is a session that a call can leave, so that any other buffer is in no stage
+--   Fresh         a buffer of zeros is an idle session
+--   Closed        close zeroes a buffer whatever it holds and however long it is, and refuses nothing
+--   Untouched     a buffer that is in no stage gives 10 to every other call, and stays as it is
+--   RanBytes      a sequence of calls on bytes, each as its function promises
+--   RunBytes      over any sequence the bytes are those of the table's run, and the caller sees what the calls by value show
+--   OnlyBytes     no two results satisfy one promise
+use mathlib.Core.Path.{_≡_}
+use mathlib.Core.Bool.{false}
+use mathlib.Core.List.{List, [], _∷_}
+use Prim.Native.Nat.{ℕ}
+use lib.ListN.{length, replicate}
+use Rattle.front.specs.declared.Refusal.the-variants.{OutOfStage}
+use Rattle.front.specs.declared.Verdict.the-variants.{Pass, Fail}
+use Rattle.session.specs.declared.Stage.{Stage}
+use Rattle.session.specs.declared.Stage.the-variants.{Idle}
+use Rattle.session.specs.declared.Session.{Session}
+use Rattle.session.specs.Table.{Call, closing, run}
+use Rattle.session.specs.Table as table
+use Rattle.session.specs.Seen.{Seen}
+use Rattle.session.specs.Sequences.{Ran, Sound}
+use Rattle.session_bytes.specs.declared.Found.the-variants.{At, Nowhere}
+use Rattle.session_bytes.specs.Bytes.{bytesOf, staged, sessionIn, closes, outcomeBytes, stepBytes, MovesBytes}
+
+abbrev pub TakenBack : Type 0
+TakenBack = (y : Session) → Sound y → (staged (bytesOf y) ≡ At (y .stage)) × (sessionIn (y .stage) (bytesOf y) ≡ y)
+
+abbrev pub LaidBack : Type 0
+LaidBack = (bs : List ℕ) (st : Stage) → staged bs ≡ At st → (bytesOf (sessionIn st bs) ≡ bs) × Sound (sessionIn st bs)
+
+abbrev pub Fresh : Type 0
+Fresh = (staged (replicate 130 0) ≡ At Idle) × (bytesOf table.idle ≡ replicate 130 0)
+
+abbrev pub Closed : Type 0
+Closed = (bs : List ℕ) → (outcomeBytes bs closing ≡ Pass) × (stepBytes bs closing ≡ replicate (length bs) 0)
+
+abbrev pub Untouched : Type 0
+Untouched = (bs : List ℕ) (x : Call) → staged bs ≡ Nowhere → closes x ≡ false → (outcomeBytes bs x ≡ Fail OutOfStage) × (stepBytes bs x ≡ bs)
+
+pub data RanBytes : List ℕ → List Call → List ℕ → List Seen → Type 0 where
+  none : {bs : List ℕ} → RanBytes bs [] bs []
+  more : {bs cs ds : List ℕ} {x : Call} {xs : List Call} {t : Seen} {ts : List Seen} → MovesBytes bs x cs t → RanBytes cs xs ds ts
+      → RanBytes bs (x ∷ xs) ds (t ∷ ts)
+
+abbrev pub RunBytes : Type 0
+RunBytes =
+    (y : Session) (xs : List Call) (cs : List ℕ) (ts : List Seen) → Sound y → RanBytes (bytesOf y) xs cs ts
+    → (cs ≡ bytesOf (run y xs)) × Ran y xs (run y xs) ts
+
+abbrev pub OnlyBytes : Type 0
+OnlyBytes =
+    (bs cs cs′ : List ℕ) (x : Call) (t t′ : Seen) → MovesBytes bs x cs t → MovesBytes bs x cs′ t′ → (cs ≡ cs′) × (t ≡ t′)

@@ -1,0 +1,217 @@
+// A session behind a pointer: 130 lent bytes, taken apart into a session by value and laid out again. A buffer that no call leaves is in no stage at all:
+// every call but close gives 10 and leaves it as it is.
+ghost use mathlib.Core.Path.{_≡_};
+ghost use Prim.Native.Nat.{_≤_};
+ghost use lib.ListN.{length, drop};
+ghost use Rattle.lists.specs.Lent.{was, left, room};
+ghost use Rattle.exchange.specs.Offer as offers;
+ghost use Rattle.exchange.specs.Reply as replies;
+ghost use Rattle.exchange.specs.Finish as finishes;
+ghost use Rattle.session.specs.Table.{offering, replying, finishing, closing};
+ghost use Rattle.session.specs.Seen.{toldOffer, toldReply, toldFinish, closeSeen};
+ghost use Rattle.session_bytes.specs.Bytes.{stageByte, schemeByte, bytesOf, stageIn, keyLength, staged, MovesBytes};
+use exchange::FinishAnswer;
+use exchange::ReplyAnswer;
+use front::Answer;
+use front::Refusal;
+use schemes::Named;
+use session::Session;
+use session::Stage;
+
+// The stage of a buffer that is a session, or that it is none.
+pub enum Found {
+    At(Stage),
+    Nowhere,
+}
+
+fn stage_byte(stage: Stage) -> u8
+    ensures { λ r. ⌜ r ≡ stageByte stage ⌝ }
+{
+    match stage {
+        Stage::Idle => 0,
+        Stage::Offered(_) => 1,
+        Stage::Keyed(_) => 2,
+    }
+}
+
+// A scheme's number is at most 5.
+fn scheme_byte(stage: Stage) -> u32
+    ensures { λ r. ⌜ (r ≡ schemeByte stage) × (r ≤ 5) ⌝ }
+{
+    match stage {
+        Stage::Idle => 0,
+        Stage::Offered(known) => known.number(),
+        Stage::Keyed(known) => known.number(),
+    }
+}
+
+fn key_length(stage: Stage) -> usize
+    ensures { λ r. ⌜ (r ≡ keyLength stage) × (r ≤ 128) ⌝ }
+{
+    match stage {
+        Stage::Idle => 0,
+        Stage::Offered(_) => 0,
+        Stage::Keyed(known) => known.fixed().key,
+    }
+}
+
+// The stage that the first two bytes name.
+fn stage_in(stage: u8, scheme: u8) -> Found
+    ensures { λ r. ⌜ r ≡ stageIn stage scheme ⌝ }
+{
+    if stage == 0 {
+        if scheme == 0 {
+            return Found::At(Stage::Idle);
+        }
+        return Found::Nowhere;
+    }
+    let Named::Is(known) = schemes::scheme_of(scheme as u32) else {
+        return Found::Nowhere;
+    };
+    if stage == 1 {
+        return Found::At(Stage::Offered(known));
+    }
+    if stage == 2 {
+        return Found::At(Stage::Keyed(known));
+    }
+    Found::Nowhere
+}
+
+pub fn stage_of(bytes: &[u8]) -> Found
+    ensures { λ r. ⌜ r ≡ staged (was bytes) ⌝ }
+{
+    if bytes.len() != 130 {
+        return Found::Nowhere;
+    }
+    let Found::At(stage) = stage_in(bytes[0], bytes[1]) else {
+        return Found::Nowhere;
+    };
+    let from = 2 + key_length(stage);
+    if blank::bytes(&bytes[from..130]) {
+        return Found::At(stage);
+    }
+    Found::Nowhere
+}
+
+fn key_of(bytes: &[u8]) -> [u8; 128]
+    requires { ⌜ length (now bytes) ≡ 130 ⌝ }
+    ensures { λ r. ⌜ r ≡ drop 2 (was bytes) ⌝ }
+{
+    let mut key = session::no_key();
+    lists::copy_bytes(&bytes[2..130], &mut key);
+    key
+}
+
+fn lay_out(y: Session, bytes: &mut [u8])
+    requires { ⌜ length (now bytes) ≡ 130 ⌝ }
+    ensures { λ _. ⌜ left bytes ≡ bytesOf y ⌝ }
+{
+    let stage = y.stage;
+    let key = y.key;
+    lists::copy_bytes(&key, &mut bytes[2..130]);
+    bytes[0] = stage_byte(stage);
+    bytes[1] = scheme_byte(stage) as u8;
+}
+
+// Offer on a session in bytes.
+pub fn offer(
+    bytes: &mut [u8],
+    scheme: u32,
+    a: &[u32],
+    s: &[i32],
+    e: &[i32],
+    seed: &[u8],
+    message: &mut [u8],
+) -> Answer
+    ensures { λ r. ⌜
+        MovesBytes (was bytes) (offering scheme (offers.offer a s e seed) (room message)) (left bytes) (toldOffer r (left message))
+        ⌝ }
+{
+    let Found::At(stage) = stage_of(bytes) else {
+        lists::zero_bytes(message);
+        return Answer::Refused(Refusal::OutOfStage);
+    };
+    let key = key_of(bytes);
+    let moved = session::offer(Session { stage, key }, scheme, a, s, e, seed, message);
+    let next = moved.session;
+    lay_out(next, bytes);
+    moved.answer
+}
+
+// Reply on one.
+pub fn reply(
+    bytes: &mut [u8],
+    scheme: u32,
+    opening: &[u8],
+    a: &[u32],
+    s1: &[i32],
+    e1: &[i32],
+    e2: &[i32],
+    coins: &[u8],
+    message: &mut [u8],
+    key: &mut [u8],
+    digest: &mut [u8],
+) -> ReplyAnswer
+    ensures { λ r. ⌜
+        MovesBytes (was bytes) (replying scheme (replies.reply opening a s1 e1 e2 coins) (room message) (room key) (room digest))
+        (left bytes) (toldReply r (left message) (left key) (left digest))
+        ⌝ }
+{
+    let Found::At(stage) = stage_of(bytes) else {
+        lists::zero_bytes(message);
+        lists::zero_bytes(key);
+        lists::zero_bytes(digest);
+        return ReplyAnswer::Refused(Refusal::OutOfStage);
+    };
+    let held = key_of(bytes);
+    let from = Session { stage, key: held };
+    let moved = session::reply(
+        from,
+        scheme,
+        opening,
+        a,
+        s1,
+        e1,
+        e2,
+        coins,
+        message,
+        key,
+        digest,
+    );
+    let next = moved.session;
+    lay_out(next, bytes);
+    moved.answer
+}
+
+// Finish on one.
+pub fn finish(
+    bytes: &mut [u8],
+    scheme: u32,
+    reply: &[u8],
+    s: &[i32],
+    key: &mut [u8],
+    digest: &mut [u8],
+) -> FinishAnswer
+    ensures { λ r. ⌜
+        MovesBytes (was bytes) (finishing scheme (finishes.finish reply s) (room key) (room digest))
+        (left bytes) (toldFinish r (left key) (left digest))
+        ⌝ }
+{
+    let Found::At(stage) = stage_of(bytes) else {
+        lists::zero_bytes(key);
+        lists::zero_bytes(digest);
+        return FinishAnswer::Refused(Refusal::OutOfStage);
+    };
+    let held = key_of(bytes);
+    let moved = session::finish(Session { stage, key: held }, scheme, reply, s, key, digest);
+    let next = moved.session;
+    lay_out(next, bytes);
+    moved.answer
+}
+
+// Close on any buffer: it looks at nothing, and refuses nothing.
+pub fn close(bytes: &mut [u8])
+    ensures { λ _. ⌜ MovesBytes (was bytes) closing (left bytes) (closeSeen 0) ⌝ }
+{
+    lists::zero_bytes(bytes);
+}
