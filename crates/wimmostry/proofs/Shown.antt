@@ -1,5 +1,5 @@
 -- What is stated in specs/Shown.
-use Rattle.wimmostry.specs.Shown.{OneOffer, OneReply, OneFinish, OneNoise, OneExpand, OneGrow, OneShake, OneDigest, OneProduct, OneBench}
+use Rattle.wimmostry.specs.Shown.{OneOffer, OneReply, OneFinish, OneNoise, OneExpand, OneGrow, OneShake, OneDigest, OneProduct, OneBench, OneSessionOffer, OneSessionReply, OneSessionFinish, OneSessionClose}
 
 pub one-offer : OneOffer
 one-offer c x room r r′ p p′ w w′ message message′ a b = (cc, cc, cc, cc)
@@ -30,3 +30,16 @@ one-product x room scratchRoom r r′ p p′ w w′ out out′ scratch scratch�
 
 pub one-bench : OneBench
 one-bench c x r r′ p p′ d d′ s s′ i i′ a b = (cc, cc, cc, cc, cc)
+
+pub one-session-offer : OneSessionOffer
+one-session-offer bs bs′ bs″ k x room r r′ p p′ w w′ message message′ a b = (cc, cc, cc, cc, cc)
+
+pub one-session-reply : OneSessionReply
+one-session-reply bs bs′ bs″ y x room keyRoom digestRoom r r′ p p′ w w′ k k′ d d′ message message′ key key′ digest digest′ a b =
+    (cc, cc, cc, cc, cc, cc, cc, cc, cc)
+
+pub one-session-finish : OneSessionFinish
+one-session-finish bs bs′ bs″ y x room digestRoom r r′ p p′ k k′ d d′ s s′ i i′ key key′ digest digest′ a b = (cc, cc, cc, cc, cc, cc, cc, cc, cc)
+
+pub one-session-close : OneSessionClose
+one-session-close bs bs′ bs″ r r′ a b = (cc, cc)

@@ -1,5 +1,6 @@
 -- No two results satisfy the promise of an exported call: its number, place and counts, and every output.
 --   OneOffer .. OneBench   of each call
+--   OneSessionOffer .. OneSessionClose   of each call on a session, with the session's bytes after it
 use mathlib.Core.Path.{_≡_}
 use mathlib.Core.List.{List}
 use Prim.Native.Nat.{ℕ}
@@ -15,6 +16,9 @@ use Rattle.exchange.specs.Offer.{Offer, Offered}
 use Rattle.exchange.specs.Reply.{Reply, Replied}
 use Rattle.exchange.specs.Finish.{Finish, Finished}
 use Rattle.bench.specs.Bench.{Bench, Benched}
+use Rattle.session.specs.Table.{offering, replying, finishing, closing}
+use Rattle.session.specs.Seen.{output, offerSeen, replySeen, finishSeen, closeSeen}
+use Rattle.session_bytes.specs.Bytes.{MovesBytes}
 
 abbrev pub OneOffer : Type 0
 OneOffer =
@@ -67,3 +71,27 @@ abbrev pub OneBench : Type 0
 OneBench =
     (c : Named) (x : Bench) (r r′ p p′ d d′ s s′ i i′ : ℕ) → Benched c x r p d s i → Benched c x r′ p′ d′ s′ i′
     → (r ≡ r′) × (p ≡ p′) × (d ≡ d′) × (s ≡ s′) × (i ≡ i′)
+
+abbrev pub OneSessionOffer : Type 0
+OneSessionOffer =
+    (bs bs′ bs″ : List ℕ) (k : ℕ) (x : Offer) (room r r′ p p′ w w′ : ℕ) (message message′ : List ℕ)
+    → MovesBytes bs (offering k x room) bs′ (offerSeen r p (output w message)) → MovesBytes bs (offering k x room) bs″ (offerSeen r′ p′ (output w′ message′))
+    → (bs′ ≡ bs″) × (r ≡ r′) × (p ≡ p′) × (w ≡ w′) × (message ≡ message′)
+
+abbrev pub OneSessionReply : Type 0
+OneSessionReply =
+    (bs bs′ bs″ : List ℕ) (y : ℕ) (x : Reply) (room keyRoom digestRoom r r′ p p′ w w′ k k′ d d′ : ℕ) (message message′ key key′ digest digest′ : List ℕ)
+    → MovesBytes bs (replying y x room keyRoom digestRoom) bs′ (replySeen r p (output w message) (output k key) (output d digest))
+    → MovesBytes bs (replying y x room keyRoom digestRoom) bs″ (replySeen r′ p′ (output w′ message′) (output k′ key′) (output d′ digest′))
+    → (bs′ ≡ bs″) × (r ≡ r′) × (p ≡ p′) × (w ≡ w′) × (k ≡ k′) × (d ≡ d′) × (message ≡ message′) × (key ≡ key′) × (digest ≡ digest′)
+
+abbrev pub OneSessionFinish : Type 0
+OneSessionFinish =
+    (bs bs′ bs″ : List ℕ) (y : ℕ) (x : Finish) (room digestRoom r r′ p p′ k k′ d d′ s s′ i i′ : ℕ) (key key′ digest digest′ : List ℕ)
+    → MovesBytes bs (finishing y x room digestRoom) bs′ (finishSeen r p (output k key) (output d digest) (record { most = s; at = i }))
+    → MovesBytes bs (finishing y x room digestRoom) bs″ (finishSeen r′ p′ (output k′ key′) (output d′ digest′) (record { most = s′; at = i′ }))
+    → (bs′ ≡ bs″) × (r ≡ r′) × (p ≡ p′) × (k ≡ k′) × (d ≡ d′) × (s ≡ s′) × (i ≡ i′) × (key ≡ key′) × (digest ≡ digest′)
+
+abbrev pub OneSessionClose : Type 0
+OneSessionClose =
+    (bs bs′ bs″ : List ℕ) (r r′ : ℕ) → MovesBytes bs closing bs′ (closeSeen r) → MovesBytes bs closing bs″ (closeSeen r′) → (bs′ ≡ bs″) × (r ≡ r′)

@@ -18,6 +18,9 @@ ghost use Rattle.exchange.specs.Finish.{finish, Finished};
 ghost use Rattle.exchange.specs.Finish as finishes;
 ghost use Rattle.bench.specs.Bench.{bench, Benched};
 ghost use Rattle.bench.specs.Bench as benches;
+
+mod sessions;
+
 use bench::BenchAnswer;
 use exchange::FinishAnswer;
 use exchange::ReplyAnswer;
