@@ -8,7 +8,7 @@ use Prim.Native.Nat.{ℕ}
 use native.Mathlib.Nat.{le-refl}
 use native.Mathlib.Omega.{arith}
 use lib.ListN.{take, drop, replicate}
-use lib.Seq.{take-at, take-append-seam}
+use lib.Seq.{take-at}
 use Rattle.schemes.specs.Schemes.{fixedOf, numberOf, schemeOf}
 use Rattle.schemes.specs.declared.Named.{Named}
 use Rattle.schemes.specs.declared.Named.the-variants.{Is, Unknown}
@@ -16,13 +16,12 @@ use Rattle.schemes.specs.declared.Scheme.{Scheme}
 use Rattle.schemes.proofs.Laws.{by-number, by-scheme}
 use Rattle.front.specs.Answers as answers
 use Rattle.lists.specs.declared.Peak.{Peak}
-use Rattle.front.specs.Front.{held}
-use Rattle.front.specs.Promise.{Told, Wrote, Used}
+use Rattle.front.specs.Promise.{Told, Used}
 use Rattle.front.specs.declared.Answer.the-variants.{Done}
 use Rattle.front.specs.declared.Verdict.{Verdict}
 use Rattle.front.specs.declared.Verdict.the-variants.{Pass}
 use Rattle.front.proofs.Laws.{number-zero}
-use Rattle.front.proofs.Promise.{told-passed, wrote-passed, used-passed, same-peak}
+use Rattle.front.proofs.Promise.{told-passed, wrote-passed, wrote-front, used-passed, same-peak}
 use Rattle.sponge.specs.Sponge.{sha3}
 use Rattle.sponge.proofs.Output.{sha3-length}
 use Rattle.exchange.specs.Offer.{Offer, offerTests, openingOf, offerMessage, Offered}
@@ -43,10 +42,6 @@ use Rattle.agreement.proofs.Tests.{sendable-by, offer-passes, reply-pas
 passed : {v : Verdict} {n p : ℕ} → Told v n p → n ≡ 0 → v ≡ Pass
 passed t z = number-zero _ (sym z ∙ t .refusal)
 
-wrote : {v : Verdict} {n room : ℕ} {xs out : List ℕ} → v ≡ Pass → Wrote v xs 0 room n out → take n out ≡ xs
-unfolding held
-wrote {xs = xs} e w = rw (w .counts, w .holds, e) (take-append-seam xs _)
-
 used : {v : Verdict} {p s : Peak} → v ≡ Pass → Used v p (s .most) (s .at) → s ≡ p
 used e u = same-peak _ _ (rw e at (u .most)) (rw e at (u .first))
 
@@ -54,18 +49,18 @@ module _ (c : Scheme) where
   offer-gave : {x : Offer} {n p room m : ℕ} {out : List ℕ} → Offered (Is c) x n p room m out → n ≡ 0
       → (offerTests (Is c) x room ≡ Pass) × (take m out ≡ openingOf c x)
   unfolding offerMessage
-  offer-gave g z = let v = passed (g .told) z in (v, wrote v (g .messages))
+  offer-gave g z = let v = passed (g .told) z in (v, wrote-front v (g .messages) .1)
 
   reply-gave : {x : Reply} {n p room m keyRoom k digestRoom d : ℕ} {out key digest : List ℕ} → Replied (Is c) x n p room m out keyRoom k key digestRoom d digest
       → n ≡ 0
       → (replyTests (Is c) x room keyRoom digestRoom ≡ Pass) × (take m out ≡ messageOf c x) × (take k key ≡ keyOf c x) × (take d digest ≡ sha3 (keyOf c x))
   unfolding replyMessage replyKey
-  reply-gave g z = let v = passed (g .told) z in (v, wrote v (g .messages), wrote v (g .keys), wrote v (g .digests))
+  reply-gave g z = let v = passed (g .told) z in (v, wrote-front v (g .messages) .1, wrote-front v (g .keys) .1, wrote-front v (g .digests) .1)
 
   finish-gave : {x : Finish} (r : FinishAnswer) {room digestRoom : ℕ} {key digest : List ℕ} → Answered (Is c) x r room key digestRoom digest → number r ≡ 0
       → (take (counts r .key) key ≡ peerKeyOf c x) × (take (counts r .digest) digest ≡ sha3 (peerKeyOf c x)) × (counts r .slack ≡ slackOf c x)
   unfolding finishKey finishSlack
-  finish-gave r g z = let v = passed (g .told) z in (wrote v (g .keys), wrote v (g .digests), used v (g .slacks))
+  finish-gave r g z = let v = passed (g .told) z in (wrote-front v (g .keys) .1, wrote-front v (g .digests) .1, used v (g .slacks))
 
 pub record Gave {c : Scheme} {x : Run} (t : Exchange c x) : Type 0 where
   pub sendable : Sendable c x

@@ -1,13 +1,14 @@
 -- Zero bytes are zero numbers, at every width: a list of zeros has the number 0, whose digits are zeros, and packing and unpacking undo each other.
 --   blank-packed, blank-unpacked   as specs/Blank states them
-use mathlib.Core.Path.{_≡_, refl, sym}
+--   blank-zeros, zeros-blank       a blank list is one of zeros
+use mathlib.Core.Path.{_≡_, refl, sym, ap₂}
 use mathlib.Core.Bool.{Bool, true, false, cond}
 use mathlib.Core.List.{List, [], _∷_}
 use Prim.Native.Nat.{ℕ, zero, suc, _*_, _/_, _^_, _<_}
 use native.Mathlib.Nat.{zero-div, zero-mod}
 use native.Mathlib.Omega.{arith}
 use lib.Dec.{eqb}
-use lib.ListN.{length}
+use lib.ListN.{length, replicate}
 use borrow.Author.Tests.{eqb-true}
 use Rattle.packing.specs.Packing.{value, digits, packed, unpacked}
 use Rattle.packing.proofs.Laws.{unpack-pack, pack-unpack}
@@ -19,6 +20,16 @@ never e = let z : _≡_ {A = ℕ} 0 1 = cc in absurd (omega arith)
 first : (x : ℕ) (t r : Bool) → eqb x 0 ≡ t → cond t r false ≡ true → (x ≡ 0) × (r ≡ true)
 first x true r e h = (eqb-true x 0 e, h)
 first x false r e h = never h
+
+pub blank-zeros : (n : ℕ) → blank (replicate n 0) ≡ true
+unfolding blank
+blank-zeros zero = refl
+blank-zeros (suc n) = blank-zeros n
+
+pub zeros-blank : (xs : List ℕ) → blank xs ≡ true → xs ≡ replicate (length xs) 0
+unfolding blank
+zeros-blank [] h = refl
+zeros-blank (x ∷ xs) h = let f = first x (eqb x 0) (blank xs) refl h in ap₂ (λ (n : ℕ) (l : List ℕ). n ∷ l) (f .0) (zeros-blank xs (f .1))
 
 zero-value : (b : ℕ) (xs : List ℕ) → blank xs ≡ true → value b xs ≡ 0
 unfolding value blank

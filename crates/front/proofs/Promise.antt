@@ -3,6 +3,7 @@
 --   told-failed, wrote-failed, gave-failed, used-failed   where a test has failed
 --   wrote-kept                                  where a step has left a part as it was
 --   wrote-restored                              where a part was written before, and zeroed again
+--   wrote-front                                 what a call says that it wrote is its answer
 --   told-only, wrote-only, gave-only, used-only   no two results satisfy one part
 --   outcome-slack, outcome-refused              what a step hands on, by its verdict; passed-by, failed-by: and back
 --   same-refusal                                two refusals with the same number and place are the same
@@ -15,9 +16,10 @@ use Prim.Native.Nat.{ℕ, _-_, _≤_}
 use native.Mathlib.Omega.{arith}
 use lib.Dec.{eqb, eqb·suc-zero}
 use lib.ListN.{length, take, drop, replicate, take-append-drop}
+use lib.Seq.{take-append-seam}
 use Rattle.lists.specs.declared.Peak.{Peak}
 use Rattle.lists.proofs.Same.{restored}
-use Rattle.front.specs.Front.{numberOf, placeOf, countIn}
+use Rattle.front.specs.Front.{numberOf, placeOf, countIn, held}
 use Rattle.front.specs.declared.Refusal.{Refusal}
 use Rattle.front.specs.declared.Refusal.the-variants.{NoScheme, BadLength, Short, PublicOver, MessageOver, SecretBeyond, RanOut, NoRule, Blank, NotAscending, OutOfStage}
 use Rattle.front.specs.declared.Verdict.{Verdict}
@@ -37,6 +39,10 @@ module _ {v : Verdict} (e : v ≡ Pass) where
   pub wrote-passed : {A : Type 0} {xs : List A} {z : A} {room n : ℕ} {out : List A} (old : List A)
       → length xs ≡ n → old ≡ replicate room z → out ≡ xs ++ drop n old → Wrote v xs z room n out
   wrote-passed {z = z} old l o w = record { counts = rw (e, l); holds = held-written z _ _ old _ _ _ e l o w }
+
+  pub wrote-front : {A : Type 0} {xs : List A} {z : A} {room n : ℕ} {out : List A} → Wrote v xs z room n out → (length xs ≡ n) × (take n out ≡ xs)
+  unfolding held
+  wrote-front {xs = xs} w = (sym (w .counts ∙ rw e), rw (w .counts, w .holds, e) (take-append-seam xs _))
 
   pub gave-passed : {d n : ℕ} → n ≡ d → Gave v d n
   gave-passed f = record { gives = rw e f }

@@ -15,6 +15,7 @@ use Rattle.front.specs.Promise.{Told}
 use Rattle.front.specs.declared.Answer.{Answer}
 use Rattle.front.specs.declared.Verdict.{Verdict}
 use Rattle.front.proofs.Laws.{number-zero}
+use Rattle.front.proofs.Promise.{wrote-front}
 use Rattle.exchange.specs.Offer.{Offer, Offered}
 use Rattle.exchange.specs.Reply.{Reply, Replied, replyTests, replyKey}
 use Rattle.exchange.specs.Finish.{Finish, Finished, finishTests, finishKey}
@@ -28,7 +29,6 @@ use Rattle.session.specs.declared.Session.{Session}
 use Rattle.session.specs.Table.{offering, replying, finishing, row, keyed}
 use Rattle.session.specs.Seen.{Seen}
 use Rattle.session.specs.Sequences.{Beneath, byOffer, byReply, byFinish}
-use Rattle.session.proofs.Laws.{key-whole}
 use Rattle.session.proofs.Sequences.{accepted}
 use Rattle.linked.specs.Linked.{Link, linkedBy, SameKey}
 
@@ -81,14 +81,14 @@ module _ {c : Scheme} {x : Run} (t : Link c x) where
   unfolding row
   replier-is =
       let p = replied-as c (accepted _ _ _ _ (t .replies) (t .reply-accepted) .2) (t .reply-accepted) in
-      let w = key-whole (number-zero _ (p .told .refusal)) (p .keys) in
+      let w = wrote-front (number-zero _ (p .told .refusal)) (p .keys) .1 in
       accepted _ _ _ _ (t .replies) (t .reply-accepted) .1 ∙ rw (by-number c, w)
 
   initiator-is : t .initiator ≡ keyed (Is c) (take (t .finish .key .count) (t .finish .key .bytes))
   unfolding row
   initiator-is =
       let p = finished-as c (accepted _ _ _ _ (t .finishes) (t .finish-accepted) .2) (t .finish-accepted) in
-      let w = key-whole (number-zero _ (p .told .refusal)) (p .keys) in
+      let w = wrote-front (number-zero _ (p .told .refusal)) (p .keys) .1 in
       accepted _ _ _ _ (t .finishes) (t .finish-accepted) .1 ∙ rw (by-number c, w)
 
 pub same-key : SameKey

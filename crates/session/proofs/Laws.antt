@@ -1,7 +1,7 @@
 -- The promise of each call on a session, from what the call beneath promises.
 --   turned, refuses, accepts   any call: 10, another refusal, accepted
 --   reply-key-few, finish-key-few   a key has a place of 128 bytes
---   key-few, key-room, key-whole    so have the bytes that a call says it wrote, and they are the key
+--   key-few, key-room              so have the bytes that a call says it wrote, which are the key
 --   kept-law                        so many bytes of an output, copied into zeros
 --   offer-stops                     what any refusal before the call beneath shows of Offer; so of the others
 --   close-gives                     what Close shows
@@ -13,8 +13,8 @@ use mathlib.Core.List.{List, [], _++_}
 use Prim.Native.Nat.{ℕ, _-_, _≤_}
 use native.Mathlib.Omega.{arith}
 use native.Mathlib.Nat.{sub-zero}
-use lib.ListN.{length, take, drop, replicate, length-append}
-use lib.Seq.{take-at, length-take-le}
+use lib.ListN.{length, take, drop, replicate, length-take}
+use lib.Seq.{length-take-le}
 use Rattle.schemes.specs.Schemes.{schemeOf}
 use Rattle.schemes.specs.declared.Named.{Named}
 use Rattle.schemes.specs.declared.Named.the-variants.{Is, Unknown}
@@ -28,7 +28,7 @@ use Rattle.front.specs.declared.Refusal.the-variants.{OutOfStage}
 use Rattle.front.specs.declared.Verdict.{Verdict}
 use Rattle.front.specs.declared.Verdict.the-variants.{Pass, Fail}
 use Rattle.front.proofs.Laws.{some, number-zero}
-use Rattle.front.proofs.Promise.{told-failed, wrote-failed, used-failed}
+use Rattle.front.proofs.Promise.{wrote-front, told-failed, wrote-failed, used-failed}
 use Rattle.exchange.specs.Offer.{Offer, Offered, offerTests}
 use Rattle.exchange.specs.Reply.{Reply, Replied, replyTests, replyKey}
 use Rattle.exchange.specs.Reply as replies
@@ -91,21 +91,11 @@ finish-key-few Unknown x = omega arith
 finish-key-few (Is c) x = omega (arith, keys-fit c .1 x, keys-fit c .2)
 
 module _ {v : Verdict} {xs key : List ℕ} {room n : ℕ} (p : v ≡ Pass) (w : Wrote v xs 0 room n key) where
-  counted : length xs ≡ n
-  counted = sym (w .counts ∙ rw p)
-
-  written : key ≡ xs ++ replicate (room - length xs) 0
-  unfolding held
-  written = w .holds ∙ rw p
-
   pub key-few : length xs ≤ 128 → n ≤ 128
-  key-few l = omega (arith, counted)
+  key-few l = omega (arith, wrote-front p w .0)
 
   pub key-room : n ≤ length key
-  key-room = rw written (rw (length-append xs (replicate (room - length xs) 0)) (omega (arith, counted)))
-
-  pub key-whole : take n key ≡ xs
-  key-whole = rw written (take-at xs (replicate (room - length xs) 0) n counted)
+  key-room = let l = ap length (wrote-front p w .1) in omega (arith, wrote-front p w .0, length-take n key, l)
 
 pub kept-law : (key place copied : List ℕ) (n : ℕ) → n ≤ 128 → n ≤ length key → place ≡ noKey → copied ≡ take (n - 0) key
     → copied ++ drop (n - 0) place ≡ padded (take n key)
@@ -162,7 +152,7 @@ module _ {c : Named} {x : Reply} {n m d : ℕ} {message key digest : List ℕ} (
   reply-room = key-room reply-passed reply-wrote
 
   reply-whole : take (w .key) key ≡ replyKey c x
-  reply-whole = key-whole reply-passed reply-wrote
+  reply-whole = wrote-front reply-passed reply-wrote .1
 
 module _ {k : ℕ} {x : Reply} {n m d : ℕ} {message key digest : List ℕ} where
   pub reply-stops : (q : Refusal) → message ≡ replicate n 0 → key ≡ replicate m 0 → digest ≡ replicate d 0
@@ -216,7 +206,7 @@ module _ {c : Named} {x : Finish} {m d : ℕ} {key digest : List ℕ} (r : Finis
   finish-room = key-room finish-passed finish-wrote
 
   finish-whole : take (w .key) key ≡ finishKey c x
-  finish-whole = key-whole finish-passed finish-wrote
+  finish-whole = wrote-front finish-passed finish-wrote .1
 
 module _ {k : ℕ} {x : Finish} {m d : ℕ} {key digest : List ℕ} where
   pub finish-stops : (q : Refusal) → key ≡ replicate m 0 → digest ≡ replicate d 0

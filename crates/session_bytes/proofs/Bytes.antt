@@ -1,17 +1,17 @@
 -- The theorems of specs/Shown.
 --   taken-back, laid-back, fresh, closed, untouched, run-bytes, only-bytes
 use mathlib.Core.Path.{_≡_, refl, _∙_, sym, ap, subst}
-use mathlib.Core.Bool.{Bool, true, false, cond}
+use mathlib.Core.Bool.{true}
 use mathlib.Core.List.{List, [], _∷_, _++_}
-use Prim.Native.Nat.{ℕ, zero, suc, _-_, _≤_}
+use Prim.Native.Nat.{ℕ, suc, _-_, _≤_}
 use native.Mathlib.Omega.{arith}
-use lib.Dec.{eqb}
 use lib.ListN.{length, getD, take, drop, replicate, length-replicate, length-append, length-drop, take-append-drop}
 use lib.Seq.{drop-at, length-take-le}
-use borrow.Author.Tests.{eq-eqb, eqb-true}
+use borrow.Author.Tests.{eq-eqb}
 use Rattle.schemes.specs.Schemes.{fixedOf}
 use Rattle.schemes.specs.declared.Scheme.the-variants.{Bcns, NewHope, Challenge, Classical, Recommended, Paranoid}
 use Rattle.blank.specs.Blank.{blank}
+use Rattle.blank.proofs.Laws.{blank-zeros, zeros-blank}
 use Rattle.front.specs.declared.Verdict.the-variants.{Pass, Fail}
 use Rattle.exchange.proofs.Shown.{keys-fit}
 use Rattle.session.specs.declared.Stage.{Stage}
@@ -26,22 +26,6 @@ use Rattle.session_bytes.specs.Shown.{TakenBack, LaidBack, Fresh, Closed
 use Rattle.session_bytes.specs.declared.Found.{Found}
 use Rattle.session_bytes.specs.declared.Found.the-variants.{At, Nowhere}
 use Rattle.session_bytes.proofs.Stages.{parts}
-
--- ---- zeros
-
-blank-zeros : (n : ℕ) → blank (replicate n 0) ≡ true
-unfolding blank
-blank-zeros zero = refl
-blank-zeros (suc n) = blank-zeros n
-
-zeros-blank : (xs : List ℕ) → blank xs ≡ true → xs ≡ replicate (length xs) 0
-unfolding blank
-zeros-blank [] e = refl
-zeros-blank (x ∷ xs) e = go (eqb x 0) refl e (zeros-blank xs)
-  where
-    go : (b : Bool) → eqb x 0 ≡ b → cond b (blank xs) false ≡ true → (blank xs ≡ true → xs ≡ replicate (length xs) 0) → x ∷ xs ≡ 0 ∷ replicate (length xs) 0
-    go true f h k = ap (λ (n : ℕ). n ∷ xs) (eqb-true x 0 f) ∙ ap (λ (l : List ℕ). 0 ∷ l) (k h)
-    go false f h k = let z : _≡_ {A = ℕ} 0 1 = cc in absurd (omega arith)
 
 -- ---- a key in its place
 

@@ -32,10 +32,11 @@ returns c =
 
 returns-2 : tie.Need-returns-2
 returns-2 c =
+    let e : tie.After-enum-told = search needs in
     let o : tie.After-finish = search needs in
     let b = went o in
     let i = asked b in
-    finish-refused (start i .args .session) (o .finish .result) (sym (i .awaits .ensures) ∙ not-false _ (b .if1 .left)) (o .finish .ensures) (c .enum-told .given .1)
+    finish-refused (start i .args .session) (o .finish .result) (sym (i .awaits .ensures) ∙ not-false _ (b .if1 .left)) (o .finish .ensures) (e .enum-told .given .1)
 
 keyed-requires : tie.Need-keyed-requires
 keyed-requires c κs =

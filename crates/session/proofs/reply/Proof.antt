@@ -33,10 +33,11 @@ returns c =
 
 returns-2 : tie.Need-returns-2
 returns-2 c =
+    let e : tie.After-enum-told = search needs in
     let o : tie.After-reply = search needs in
     let b = went o in
     let i = asked b in
-    reply-refused (start i .args .session) (o .reply .result) (sym (i .is-idle .ensures) ∙ not-false _ (b .if1 .left)) (o .reply .ensures) (c .enum-told .given .1)
+    reply-refused (start i .args .session) (o .reply .result) (sym (i .is-idle .ensures) ∙ not-false _ (b .if1 .left)) (o .reply .ensures) (e .enum-told .given .1)
 
 keyed-requires : tie.Need-keyed-requires
 keyed-requires c κs =
