@@ -10,6 +10,7 @@ use crate::hash::DIGEST;
 use crate::reconcile::Slack;
 use crate::refusal::Refusal;
 use crate::schemes::scheme;
+use crate::session;
 use crate::table;
 use crate::trace::trace;
 use std::io::{self, Error};
@@ -113,25 +114,26 @@ pub fn run(words: &[&str]) -> io::Result<String> {
                 Bench::Differ(bit) => format!("differ={bit}\n{}", used(slack)),
             })))
         }
+        ["session", file, ref call @ ..] => session::files::run(file, call),
         ["trace", file] => String::from_utf8(trace(&bytes(file)?)).map_err(Error::other),
         _ => Err(Error::other("no such command")),
     }
 }
 
-fn told(done: Result<String, Refusal>) -> String {
+pub(crate) fn told(done: Result<String, Refusal>) -> String {
     done.unwrap_or_else(|r| format!("refusal={} place={}\n", r.number, r.place))
 }
 
-fn used(slack: Slack) -> String {
+pub(crate) fn used(slack: Slack) -> String {
     let Slack { largest, index } = slack;
     format!("slack={largest}\nslack_index={index}\n")
 }
 
-fn number<T: FromStr<Err = ParseIntError>>(word: &str) -> io::Result<T> {
+pub(crate) fn number<T: FromStr<Err = ParseIntError>>(word: &str) -> io::Result<T> {
     word.parse().map_err(Error::other)
 }
 
-fn bytes(name: &str) -> io::Result<Vec<u8>> {
+pub(crate) fn bytes(name: &str) -> io::Result<Vec<u8>> {
     if name == "none" {
         return Ok(vec![]);
     }
@@ -144,13 +146,13 @@ fn table_of(name: &str) -> io::Result<Vec<u64>> {
     table::read(&text).ok_or_else(|| Error::other("no table"))
 }
 
-fn numbers(name: &str) -> io::Result<Vec<u32>> {
+pub(crate) fn numbers(name: &str) -> io::Result<Vec<u32>> {
     let bytes = bytes(name)?;
     let word = |four: &[u8]| u32::from_le_bytes([four[0], four[1], four[2], four[3]]);
     Ok(bytes.chunks_exact(4).map(word).collect())
 }
 
-fn values(name: &str) -> io::Result<Vec<i32>> {
+pub(crate) fn values(name: &str) -> io::Result<Vec<i32>> {
     Ok(numbers(name)?.into_iter().map(|word| word as i32).collect())
 }
 
@@ -158,6 +160,6 @@ fn words_of(numbers: impl IntoIterator<Item = u32>) -> Vec<u8> {
     numbers.into_iter().flat_map(u32::to_le_bytes).collect()
 }
 
-fn write(name: &str, bytes: &[u8]) -> io::Result<()> {
+pub(crate) fn write(name: &str, bytes: &[u8]) -> io::Result<()> {
     std::fs::write(name, bytes)
 }

@@ -27,6 +27,7 @@ pub mod products;
 pub mod reconcile;
 pub mod refusal;
 pub mod schemes;
+pub mod session;
 pub mod signed;
 pub mod table;
 pub mod trace;

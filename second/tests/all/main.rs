@@ -30,6 +30,7 @@ mod reconcile_frodo;
 mod reconcile_newhope;
 mod refusals;
 mod schemes;
+mod session;
 mod signed;
 mod slack;
 mod trace;
