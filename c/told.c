@@ -12,6 +12,8 @@ const char *wim_refusal_text(uint32_t refusal)
     switch (refusal) {
     case WIM_DONE:
         return "done";
+    case WIM_OUT_OF_STAGE:
+        return "the session's stage does not allow this call with this scheme";
     case WIM_NO_SCHEME:
         return "the scheme is not 0 to 5";
     case WIM_NO_RULE:

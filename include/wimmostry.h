@@ -19,6 +19,8 @@
  * secrets, drawn afresh for each exchange; wim_noise makes them from random bytes, in BCNS by a
  * table that is lent too. In names s1, e1 and e2 stand for s', e' and e''.
  *
+ * A session keeps these calls in step and holds the key that they give: see SESSIONS.
+ *
  * The digest beside a key is its SHA3-256. Equal keys have equal digests, and other keys other ones
  * as far as anyone knows, so that two boxes can show or compare digests and never show a key.
  *
@@ -38,6 +40,7 @@
  *
  * A call returns 0, or the number of its refusal; wim_refusal_text has the sentence:
  *
+ *     WIM_OUT_OF_STAGE  10   the session's stage does not allow this call with this scheme
  *     WIM_NO_SCHEME      1   the scheme is not 0 to 5
  *     WIM_NO_RULE       12   the rule is not 14 or 16
  *     WIM_LENGTH         2   an input's length is not the fixed one (streams, hashes: over 65536)
@@ -49,15 +52,16 @@
  *     WIM_SECRET_BEYOND  6   a secret or noise value lies beyond the largest noise
  *     WIM_RAN_OUT        7   the stream held fewer than 1024 numbers
  *
- * 5 never arises in Frodo, 6 is for values above the largest noise or below its negative, 7 and 12
- * are those of wim_expand and wim_grow alone, and 18 is that of wim_noise in BCNS alone; no seed is
- * known for which wim_grow gives 7. 17 is for a message without content, as a dead card sends it:
- * seed and hints don't count. It is given for a message received, and for one about to be sent,
- * which is zero where secret and noise are; a zero secret with some noise passes.
+ * 10 is that of the calls on sessions alone. 5 never arises in Frodo, 6 is for values above the
+ * largest noise or below its negative, 7 and 12 are those of wim_expand and wim_grow alone, and 18
+ * is that of wim_noise in BCNS alone; no seed is known for which wim_grow gives 7. 17 is for a
+ * message without content, as a dead card sends it: seed and hints don't count. It is given for a
+ * message received, and for one about to be sent, which is zero where secret and noise are; a zero
+ * secret with some noise passes.
  * *place is the index of the first bad entry after 4, 5 and 6, the first entry of the table that is
  * not above its forerunner, 1 to 50, after 18, how many numbers the stream held after 7, and 0
- * after 1, 12, 2, 3, 17 and a success. wim_product has lengths of its own for 2, and gives 3 for a
- * scratch that is too short as well.
+ * after 10, 1, 12, 2, 3, 17 and a success. wim_product has lengths of its own for 2, and gives 3
+ * for a scratch that is too short as well.
  *
  * The tests go in the order of this table, and within one number in the order in which the inputs,
  * or for 3 the outputs, stand in the call; the first that fails is the refusal. 17 stands there for
@@ -67,7 +71,8 @@
  * After a success the answer stands at the start of its output, its length, in entries of that
  * output, in *written (where there are several, in the count with the output's name), and the rest
  * of the output is zero. An output may be longer than the answer. After a refusal each output is
- * zero from end to end, whatever it held, and each count and other number is 0.
+ * zero from end to end, whatever it held, and each count and other number is 0. A session is no
+ * output in this sense: a refused call leaves it as it is.
  *
  *
  * WHAT A CALLER MUST SEE TO
@@ -76,9 +81,9 @@
  *   null, as an empty vector's may be; this is tested for every slice (examples/c/empty.c). place,
  *   the counts, differ, slack and slack_index each point to one number. A length counts entries,
  *   not bytes.
- * - No output and none of these numbers shares memory with another argument. Inputs may share
- *   memory with each other.
- * - No other thread writes to what is lent, or touches an output, during a call.
+ * - No output, no session and none of these numbers shares memory with another argument. Inputs
+ *   may share memory with each other.
+ * - No other thread writes to what is lent, or touches an output or a session, during a call.
  * - There is stack for the call: WIM_STACK bytes are enough, and for wim_scrub WIM_SCRUB_STACK.
  *
  * And beyond the memory:
@@ -121,15 +126,57 @@
  * the peer's.
  *
  *
+ * SESSIONS
+ *
+ * A session is one end of a link: it knows where the exchange stands, and it holds the key. It is
+ * WIM_SESSION bytes, which the caller owns and lends to each call; the library keeps nothing of
+ * them. The calls move it by this table and in no other way:
+ *
+ *     call                  allowed                     leads to
+ *     wim_session_offer     idle                        offered with that scheme
+ *     wim_session_reply     idle                        keyed with that scheme, its key
+ *     wim_session_finish    offered, with that scheme   keyed with that scheme, its key
+ *     wim_session_close     always                      idle, key zero
+ *
+ * At WIM_SESSION_STAGE stands the stage, at WIM_SESSION_SCHEME the scheme, which is 0 when idle,
+ * and from WIM_SESSION_KEY on WIM_MAX_KEY bytes of key: zero until keyed, then the one that reply
+ * or finish gave, and zeros behind it. So WIM_SESSION zeros are an idle session: a fresh or a wiped
+ * buffer is one, and none has to be set up. These bytes may be read, kept and copied between calls;
+ * a copy of a keyed one is a copy of the key.
+ *
+ * An allowed call does what the call without a session does, refusals and all, and gives all that
+ * it gives, the key also in its own output. One that is not allowed is refused with 10, before
+ * anything else is tested: a finish when offered with any other scheme, known or not; but an offer
+ * or reply when idle with an unknown scheme is 1. A refused call, with 10 or any other number,
+ * changes no byte of the session and zeroes its outputs, and may be tried again.
+ *
+ * A buffer of another length, or one that no call leaves (another stage or scheme, key bytes where
+ * the stage has none or behind the key), is in no stage: every call but close refuses it with 10
+ * and leaves it as it is. wim_session_close zeroes the buffer, whatever it holds and however long
+ * it is, and returns 0 always.
+ *
+ * - s is not in the session. It is lent to wim_session_offer, kept by the caller, and lent again to
+ *   wim_session_finish, which cannot tell whether it is the same: with another the keys differ.
+ *   Destroy it as soon as finish has succeeded or the session is closed.
+ * - No s serves two offers, not even after a close. A finish that was refused has made nothing of
+ *   s and may be tried again with it; after one that succeeded the next is 10.
+ * - The session keeps the raw key until it is closed: close it as soon as the key was hashed, and
+ *   whenever the link fails. Only close wipes it.
+ * - Which peer and which message a session belongs to is the caller's to know.
+ *
+ *
  * STACK
  *
  * What a call takes below its caller's frame at most, over all schemes, in KiB rounded up, on
- * x86-64; on Arm no more, as far as it was measured there (wim_grow and the hashes were not):
+ * x86-64; on Arm no more, as far as it was measured there (wim_grow, the hashes and the calls on a
+ * session were not):
  *
  *     wim_offer 54      wim_reply 90       wim_finish 80
  *     wim_noise 2       wim_expand 2       wim_grow 6
  *     wim_shake128 2    wim_sha3_256 2     wim_product 1
  *     wim_bench 124
+ *     wim_session_offer 54    wim_session_reply 91    wim_session_finish 81
+ *     wim_session_close 1
  *
  * Measured by filling a thread's stack with a pattern and looking, after an accepted call in each
  * scheme, how deep the pattern is gone (examples/c/stack.c, which examples/c/run runs). All local
@@ -152,10 +199,11 @@
  * its factors (refusal 4), should they be secret. wim_offer and wim_reply have two more, on
  * the first number that is sent (refusal 17), which the peer sees anyway. wim_bench has those of
  * its parts, and branches on the numbers of the messages and, but in BCNS, on the keys, which it
- * compares. A refused secret is searched value by value for its place. Nothing is divided but
- * 2^32 - 1 by q. So it is in the archive for x86-64, by valgrind with the secrets marked as
- * undefined, in all schemes (runs/secrets); another compiler may do otherwise, and what the
- * processor makes of it is not measured.
+ * compares. The calls on a session branch as those without one, and wim_session_close on nothing. A
+ * refused secret is searched value by value for its place. Nothing is divided but 2^32 - 1 by q. So
+ * it is in the archive for x86-64, by valgrind with the secrets marked as undefined, in all schemes
+ * (runs/secrets); another compiler may do otherwise, and what the processor makes of it is not
+ * measured.
  */
 #ifndef WIMMOSTRY_H
 #define WIMMOSTRY_H
@@ -201,6 +249,7 @@ extern "C" {
 #define WIM_MESSAGE_OVER 5
 #define WIM_SECRET_BEYOND 6
 #define WIM_RAN_OUT 7
+#define WIM_OUT_OF_STAGE 10
 #define WIM_NO_RULE 12
 #define WIM_BLANK 17
 #define WIM_NOT_ASCENDING 18
@@ -340,6 +389,17 @@ extern "C" {
 #define WIM_DIGEST 32
 #define WIM_HASH_INPUT 65536
 
+/* Bytes of a session, and where in it the stage, the scheme and the key stand. */
+#define WIM_SESSION 130
+#define WIM_SESSION_STAGE 0
+#define WIM_SESSION_SCHEME 1
+#define WIM_SESSION_KEY 2
+
+/* The stages. */
+#define WIM_STAGE_IDLE 0
+#define WIM_STAGE_OFFERED 1
+#define WIM_STAGE_KEYED 2
+
 /* Bytes of stack that are enough for any call on either machine, and for wim_scrub. */
 #define WIM_STACK 163840
 #define WIM_SCRUB_STACK 164864
@@ -470,6 +530,46 @@ WIM_MUST_USE uint32_t wim_bench(uint32_t scheme, const uint32_t *a, size_t a_len
                                 const uint8_t *coins, size_t coins_len,
                                 uint64_t *place, uint64_t *differ,
                                 uint64_t *slack, uint64_t *slack_index);
+
+/*
+ * Offer, Reply and Finish on a session, which is in and out: then all is as in wim_offer, wim_reply
+ * and wim_finish. Refuse with 10, and then as these do. See SESSIONS.
+ */
+WIM_MUST_USE uint32_t wim_session_offer(uint8_t *session, size_t session_len, uint32_t scheme,
+                                        const uint32_t *a, size_t a_len,
+                                        const int32_t *s, size_t s_len,
+                                        const int32_t *e, size_t e_len,
+                                        const uint8_t *seed, size_t seed_len,
+                                        uint8_t *message, size_t message_len,
+                                        uint64_t *place, uint64_t *written);
+
+WIM_MUST_USE uint32_t wim_session_reply(uint8_t *session, size_t session_len, uint32_t scheme,
+                                        const uint8_t *opening, size_t opening_len,
+                                        const uint32_t *a, size_t a_len,
+                                        const int32_t *s1, size_t s1_len,
+                                        const int32_t *e1, size_t e1_len,
+                                        const int32_t *e2, size_t e2_len,
+                                        const uint8_t *coins, size_t coins_len,
+                                        uint8_t *message, size_t message_len,
+                                        uint8_t *key, size_t key_len,
+                                        uint8_t *digest, size_t digest_len,
+                                        uint64_t *place, uint64_t *message_written,
+                                        uint64_t *key_written, uint64_t *digest_written);
+
+WIM_MUST_USE uint32_t wim_session_finish(uint8_t *session, size_t session_len, uint32_t scheme,
+                                         const uint8_t *reply, size_t reply_len,
+                                         const int32_t *s, size_t s_len,
+                                         uint8_t *key, size_t key_len,
+                                         uint8_t *digest, size_t digest_len,
+                                         uint64_t *place, uint64_t *key_written,
+                                         uint64_t *digest_written,
+                                         uint64_t *slack, uint64_t *slack_index);
+
+/*
+ * Close: zeroes the session, whatever it holds and however long it is: it is idle, and its key is
+ * gone. Returns 0 always.
+ */
+uint32_t wim_session_close(uint8_t *session, size_t session_len);
 
 /*
  * Overwrites what a call may have left on the stack below the caller's frame; see STACK above. The

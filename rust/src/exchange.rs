@@ -31,8 +31,8 @@ use crate::{raw, Digest, Key, Refusal, Scheme, Secret};
 /// ```
 #[derive(Debug)]
 pub struct Initiator<'s> {
-    scheme: Scheme,
-    s: Secret<'s>,
+    pub(crate) scheme: Scheme,
+    pub(crate) s: Secret<'s>,
 }
 
 /// What an offer gives.
@@ -125,11 +125,11 @@ impl<'s> Initiator<'s> {
 /// ```
 #[derive(Debug)]
 pub struct Replier<'s> {
-    scheme: Scheme,
-    s1: Secret<'s>,
-    e1: Secret<'s>,
-    e2: Secret<'s>,
-    coins: Secret<'s, u8>,
+    pub(crate) scheme: Scheme,
+    pub(crate) s1: Secret<'s>,
+    pub(crate) e1: Secret<'s>,
+    pub(crate) e2: Secret<'s>,
+    pub(crate) coins: Secret<'s, u8>,
 }
 
 /// What a reply gives.

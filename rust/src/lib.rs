@@ -16,7 +16,8 @@
 //! bytes, in BCNS by a table that is lent. A [`Secret`] is a lent buffer that is wiped when its owner is done
 //! with it; each call takes its secrets for good, so that one used twice does
 //! not compile. A [`Key`] is wiped likewise, and neither prints what it holds.
-//! The [`Digest`] beside a key is its SHA3-256, which can be shown.
+//! The [`Digest`] beside a key is its SHA3-256, which can be shown. A [`Session`]
+//! keeps one end in step and holds its key.
 //!
 //! ```
 //! use wimmostry::{grow, Initiator, Refusal, Replier, Rule, Scheme, Secret};
@@ -89,6 +90,7 @@ mod hash;
 mod refusal;
 mod schemes;
 mod secret;
+mod session;
 
 pub use exchange::{Finished, Initiator, Offered, Replied, Replier};
 pub use expand::{expand, grow, Rule, EXPAND_NUMBERS, EXPAND_STREAM};
@@ -97,6 +99,7 @@ pub use raw::{product, scrub, Slack};
 pub use refusal::Refusal;
 pub use schemes::{Scheme, Sizes};
 pub use secret::{Entry, Key, Secret};
+pub use session::{Answered, Linked, Session, Stage, Unfinished, SESSION};
 
 /// The version of the archive that is linked.
 pub fn version() -> &'static str {

@@ -10,6 +10,7 @@
 use crate::{Refusal, Scheme};
 
 pub mod ffi;
+pub mod session;
 
 /// The answer, or the refusal that a number other than 0 names.
 fn told<T>(number: u32, place: u64, answer: T) -> Result<T, Refusal> {

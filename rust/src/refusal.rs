@@ -7,6 +7,8 @@ use core::fmt;
 /// be sent it comes last.
 #[derive(Clone, Copy, Debug, PartialEq, Eq, Hash)]
 pub enum Refusal {
+    /// 10: the session's stage does not allow this call with this scheme.
+    OutOfStage,
     /// 1: the scheme is not 0 to 5.
     NoScheme,
     /// 12: the rule of Expand or Grow is not 14 or 16.
@@ -34,9 +36,10 @@ pub enum Refusal {
 }
 
 impl Refusal {
-    /// The number, 1 to 7, 12, 17 or 18.
-    pub fn number(self) -> u32 {
+    /// The number, 1 to 7, 10, 12, 17 or 18.
+    pub const fn number(self) -> u32 {
         match self {
+            Refusal::OutOfStage => 10,
             Refusal::NoScheme => 1,
             Refusal::NoRule => 12,
             Refusal::Length => 2,
@@ -54,7 +57,8 @@ impl Refusal {
     /// how many numbers a stream held; 0 where there is none.
     pub fn place(self) -> usize {
         match self {
-            Refusal::NoScheme
+            Refusal::OutOfStage
+            | Refusal::NoScheme
             | Refusal::NoRule
             | Refusal::Length
             | Refusal::Room
@@ -78,6 +82,7 @@ impl Refusal {
     pub(crate) fn told(number: u32, place: u64) -> Refusal {
         let place = crate::raw::count(place);
         match number {
+            10 => Refusal::OutOfStage,
             1 => Refusal::NoScheme,
             12 => Refusal::NoRule,
             2 => Refusal::Length,
@@ -97,7 +102,8 @@ impl fmt::Display for Refusal {
     fn fmt(&self, f: &mut fmt::Formatter) -> fmt::Result {
         write!(f, "refusal {}: {}", self.number(), self.text())?;
         match self {
-            Refusal::NoScheme
+            Refusal::OutOfStage
+            | Refusal::NoScheme
             | Refusal::NoRule
             | Refusal::Length
             | Refusal::Room

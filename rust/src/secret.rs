@@ -25,7 +25,7 @@ impl Entry for i32 {
 }
 
 /// Zeros that no compiler drops, though nobody reads them.
-fn wipe<T: Entry>(entries: &mut [T]) {
+pub(crate) fn wipe<T: Entry>(entries: &mut [T]) {
     for entry in entries {
         // SAFETY: a mutable reference is valid for a write.
         unsafe { core::ptr::write_volatile(entry, T::ZERO) };
@@ -56,6 +56,10 @@ impl<'b, T: Entry> Secret<'b, T> {
     }
 
     pub(crate) fn entries(&self) -> &[T] {
+        self.0
+    }
+
+    pub(crate) fn entries_mut(&mut self) -> &mut [T] {
         self.0
     }
 }

@@ -1,8 +1,8 @@
 //! The archive from Rust, held to the second program. The published vectors are
 //! those of the second program's own tests, here through the archive.
 //!
-//! `cargo test` makes 750 calls; `cargo test -- --ignored` makes 100,000, which
-//! takes some fifteen minutes.
+//! `cargo test` makes 750 calls, and some 80,000 on sessions; `cargo test --
+//! --ignored` makes 100,000, which takes some fifteen minutes.
 
 use wimmostry::raw as calls;
 
@@ -19,7 +19,9 @@ mod standards;
 mod damage;
 mod held;
 mod lent;
+mod links;
 mod products;
 mod residue;
+mod sessions;
 mod sizes;
 mod typed;

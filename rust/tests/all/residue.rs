@@ -110,6 +110,38 @@ fn none_is_left() {
     let after = left();
     assert!(done.is_ok() && !stands(&after, &columns), "finish");
 
+    // on a session the key is copied besides
+    let stands_bytes = |after: &[u8], key: &[u8]| after.windows(key.len()).any(|at| at == key);
+    let mut session = [0; 130];
+    let done = raw::session::reply(
+        &mut session,
+        number,
+        &opening,
+        &i.a,
+        &i.s1,
+        &i.e1,
+        &i.e2,
+        &i.coins,
+        &mut answer,
+        &mut key,
+        &mut digest,
+    );
+    let after = left();
+    assert!(done.is_ok() && session[2..10] == key);
+    assert!(!stands(&after, &i.s1), "reply on a session");
+    assert!(!stands_bytes(&after, &key), "reply on a session");
+
+    raw::session::close(&mut session);
+    let after = left();
+    assert!(session == [0; 130] && !stands_bytes(&after, &key), "close");
+
+    session[..2].copy_from_slice(&[1, 2]);
+    let done = raw::session::finish(&mut session, number, &reply, &i.s, &mut key, &mut digest);
+    let after = left();
+    assert!(done.is_ok() && session[2..10] == key);
+    assert!(!stands(&after, &columns), "finish on a session");
+    assert!(!stands_bytes(&after, &key), "finish on a session");
+
     let done = raw::bench(
         number, &i.a, &i.s, &i.e, &i.seed, &i.s1, &i.e1, &i.e2, &i.coins,
     );

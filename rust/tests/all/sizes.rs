@@ -75,6 +75,19 @@ fn of_the_header() {
     assert_eq!(header["EXPAND_STREAM"], second::expand::LONGEST as u64);
     assert_eq!(header["DIGEST"], second::hash::DIGEST as u64);
     assert_eq!(header["HASH_INPUT"], second::hash::LONGEST as u64);
+    assert_eq!(header["SESSION"], second::session::BYTES as u64);
+    assert_eq!(header["SESSION"], header["SESSION_KEY"] + header["MAX_KEY"]);
+    let (stage, scheme) = (header["SESSION_STAGE"], header["SESSION_SCHEME"]);
+    assert_eq!((stage, scheme, header["SESSION_KEY"]), (0, 1, 2));
+    for (name, stage) in [
+        ("STAGE_IDLE", second::session::Stage::Idle),
+        ("STAGE_OFFERED", second::session::Stage::Offered(&SIX[0])),
+        ("STAGE_KEYED", second::session::Stage::Keyed(&SIX[0])),
+    ] {
+        let key = [0; second::session::KEY];
+        let laid = second::session::lay(&second::session::Session { stage, key });
+        assert_eq!(header[name], u64::from(laid[0]));
+    }
 }
 
 #[test]
@@ -113,4 +126,5 @@ fn of_this_package() {
     assert_eq!(wimmostry::EXPAND_NUMBERS, second::expand::COUNT);
     assert_eq!(wimmostry::EXPAND_STREAM, second::expand::LONGEST);
     assert_eq!(wimmostry::HASH_INPUT, second::hash::LONGEST);
+    assert_eq!(wimmostry::SESSION, second::session::BYTES);
 }
