@@ -3,10 +3,10 @@
 //! in which the command names them.
 
 use crate::data::Data;
-use wimmostry::{raw, Digest, Refusal, Rule, Scheme};
+use wimmostry::{raw, Digest, Refusal, Rule, Scheme, Stage};
 
 pub use wimmostry::raw::Bench;
-pub use wimmostry::{Sizes, Slack};
+pub use wimmostry::{Sizes, Slack, SESSION};
 
 /// What a call answered.
 pub struct Answer {
@@ -38,6 +38,9 @@ pub struct Refused {
 /// What was asked for: the scheme's number, the rule's or a length; the inputs,
 /// the outputs.
 pub type Call = fn(u32, &[&Data], &mut [Data]) -> Result<Answer, Refused>;
+
+/// The same on the bytes of a session, which come first.
+pub type SessionCall = fn(&mut [u8], u32, &[&Data], &mut [Data]) -> Result<Answer, Refused>;
 
 pub const EXPAND_NUMBERS: usize = wimmostry::EXPAND_NUMBERS;
 pub const EXPAND_STREAM: usize = wimmostry::EXPAND_STREAM;
@@ -135,6 +138,86 @@ pub fn finish(scheme: u32, given: &[&Data], out: &mut [Data]) -> Result<Answer, 
         ..Answer::written(&[k, d])
     }))
 }
+
+pub fn session_offer(
+    session: &mut [u8],
+    scheme: u32,
+    given: &[&Data],
+    out: &mut [Data],
+) -> Result<Answer, Refused> {
+    let done = raw::session::offer(
+        session,
+        scheme,
+        given[0].numbers(),
+        given[1].values(),
+        given[2].values(),
+        given[3].bytes(),
+        out[0].bytes_mut(),
+    );
+    ended(done.map(|n| Answer::written(&[n])))
+}
+
+pub fn session_reply(
+    session: &mut [u8],
+    scheme: u32,
+    given: &[&Data],
+    out: &mut [Data],
+) -> Result<Answer, Refused> {
+    let [message, key, digest] = several(out);
+    let done = raw::session::reply(
+        session,
+        scheme,
+        given[0].bytes(),
+        given[1].numbers(),
+        given[2].values(),
+        given[3].values(),
+        given[4].values(),
+        given[5].bytes(),
+        message.bytes_mut(),
+        key.bytes_mut(),
+        digest.bytes_mut(),
+    );
+    ended(done.map(|(m, k, d)| Answer::written(&[m, k, d])))
+}
+
+pub fn session_finish(
+    session: &mut [u8],
+    scheme: u32,
+    given: &[&Data],
+    out: &mut [Data],
+) -> Result<Answer, Refused> {
+    let [key, digest] = several(out);
+    let done = raw::session::finish(
+        session,
+        scheme,
+        given[0].bytes(),
+        given[1].values(),
+        key.bytes_mut(),
+        digest.bytes_mut(),
+    );
+    ended(done.map(|(k, d, slack)| Answer {
+        slack: Some(slack),
+        ..Answer::written(&[k, d])
+    }))
+}
+
+pub fn session_close(session: &mut [u8]) {
+    raw::session::close(session);
+}
+
+/// The name of a session's stage and the number of its scheme, if it has one;
+/// nothing where the bytes are in no stage.
+pub fn stage(session: &[u8]) -> Option<(&'static str, Option<u32>)> {
+    let stage = Stage::of(session)?;
+    Some((stage.name(), stage.scheme().map(Scheme::number)))
+}
+
+/// The names of the stages in which a link begins, and in which it is finished.
+pub const IDLE: &str = Stage::Idle.name();
+pub const OFFERED: &str = Stage::Offered(Scheme::Bcns).name();
+
+/// The refusal of a call that the stage does not allow.
+pub const OUT_OF_STAGE: u32 = Refusal::OutOfStage.number();
 
 pub fn noise(scheme: u32, given: &[&Data], out: &mut [Data]) -> Result<Answer, Refused> {
     let done = raw::noise(

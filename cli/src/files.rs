@@ -187,9 +187,10 @@ pub struct Lent {
 }
 
 impl Lent {
-    fn nothing(kind: Kind) -> Lent {
+    /// So many entries that are zero.
+    pub fn zeros(kind: Kind, n: usize) -> Lent {
         Lent {
-            data: Data::zeros(kind, 0),
+            data: Data::zeros(kind, n),
             beyond: None,
             open: false,
         }
@@ -215,7 +216,7 @@ pub fn read(input: &Input, place: &Place) -> Result<Lent, Fault> {
     let mut file = match place {
         Place::File(path) => open(path)?,
         Place::Standard => standard(Way::In).map_err(wrong)?,
-        Place::Nothing => return Ok(Lent::nothing(input.kind)),
+        Place::Nothing => return Ok(Lent::zeros(input.kind, 0)),
     };
     if input.kind == Kind::Words {
         return words(&mut file, name);

@@ -5,7 +5,7 @@ use crate::calls::{self, SCHEMES};
 use crate::data::Kind;
 use crate::table::{By, Command, Form, Length, OnFiles, COMMANDS};
 use crate::tell::{self, Done, Voice};
-use crate::words;
+use crate::{session, words};
 use std::ffi::OsString;
 use std::fmt::Write;
 
@@ -37,7 +37,7 @@ SCHEME is 0 BCNS, 1 NewHope, 2 Frodo Challenge, 3 Frodo Classical, 4 Frodo Recom
 5 Frodo Paranoid. RULE is 14 low bits or 16 whole word, the same at both ends, LENGTH a number of
 bytes. Every other word in capitals is a file, - for standard input or output (once each way), or,
 of an input, none for nothing at all: BCNS has no seed, Frodo no coins, and BCNS alone a table. A
-file that has such a name is ./- or ./none.
+file that has such a name is ./- or ./none. The FILE of a session and of wipe is a name.
 
 Public numbers (A) and secrets and noise (S, E, S1, E1, E2) are 32 bits each, the lowest byte
 first, secrets and noise in two's complement. A TABLE is text. All else is bytes.
@@ -76,22 +76,23 @@ are raw, and the peer is whoever sent the message: see that messages come from w
 confirm the keys, and hash them before use.
 
 An output is written to a fresh file, brought to the disk and renamed into its place, all outputs
-of a call or none; keys, digests, hashes, secrets and noise have mode 600. It is replaced only by a
-whole answer, or, after a refusal, by zeros over the answer's length (by nothing, where no scheme
-tells that length or the answer of noise has two). Where a word or a file is wrong no output is
-touched: an old key is then still there. Nor is a file that is replaced overwritten on the disk:
-wipe a key that must be gone. Outputs that are one file, or an input, are not taken; nor is a
-symbolic link, a pipe or a device, nor - where standard output is a terminal.
+of a call or none; keys, digests, hashes, secrets, noise and sessions have mode 600. It is replaced
+only by a whole answer, or, after a refusal, by zeros over the answer's length (by nothing, where no
+scheme tells that length or the answer of noise has two). A session is written with the outputs of
+its call, and stays as it is after a refusal. Where a word or a file is wrong no output is touched:
+an old key is then still there. Nor is a file that is replaced overwritten on the disk, but for a
+session that is closed: wipe a key that must be gone. Outputs that are one file, or an input, are
+not taken; nor is a symbolic link, a pipe or a device, nor - where standard output is a terminal.
 
 Status 0: done; written=N (of reply and finish key_written=N and so on), agree or differ=I, of
-          finish and bench slack=N and slack_index=I.
+          finish and bench slack=N and slack_index=I, of session stage=WORD and scheme=N.
 Status 1: refused; one line, as refusal=6 place=3 input=e value=7 largest=6
           1 no such scheme            4 a public number is q or more
          12 no such rule              5 a number of the message is q or more
           2 a wrong length           17 a message is blank: all its packed bytes are zero
           3 (not here)                6 a secret or noise is too large
          18 a table does not ascend   7 the stream of expand or grow ran out
-          8 no trace (trace alone)
+          8 no trace (trace alone)   10 the session's stage does not allow it (session alone)
           A blank message is an input, as a dead card sends it, or the answer, where a secret and
           its noise are zero.
           place counts from 0. A length of 33.. is 33 or more. To - nothing is written.
@@ -115,6 +116,11 @@ fn page(command: &Command) -> String {
     let mut text = format!("{}\n\n  {}\n\n", usage.trim_end(), command.brief);
     match &command.form {
         Form::Files(own) => files(own, &mut text),
+        Form::Session(own) => {
+            text.push_str(session::WORDS);
+            files(&own.plain, &mut text);
+        }
+        Form::Kept(_) => text.push_str(session::WORDS),
         Form::Words(own) => {
             if own.usage.contains("SCHEME") && !own.words.contains("SCHEME") {
                 text.push_str(&schemes(0));

@@ -12,6 +12,7 @@ mod help;
 mod outputs;
 mod random;
 mod run;
+mod session;
 mod signals;
 mod table;
 mod tell;
@@ -23,6 +24,7 @@ use std::ffi::OsString;
 use std::process::ExitCode;
 use table::Form;
 use tell::Done;
+use words::Found;
 
 fn main() -> ExitCode {
     let words: Vec<OsString> = std::env::args_os().skip(1).collect();
@@ -44,10 +46,16 @@ fn dispatch(words: &[OsString]) -> Done {
     if last == "--version" && before.is_empty() {
         return help::version(&[]);
     }
-    let (command, rest) = words::command(words)?;
+    let Found {
+        command,
+        file,
+        rest,
+    } = words::command(words)?;
     words::counted(command, rest.len())?;
     match &command.form {
-        Form::Files(own) => run::run(own, rest),
+        Form::Files(own) => run::run(own, None, rest),
+        Form::Session(own) => session::run(own, file, rest),
+        Form::Kept(run) => run(file),
         Form::Words(own) => (own.run)(rest),
     }
 }

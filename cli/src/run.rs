@@ -1,15 +1,17 @@
-//! A call on files: the words, the files, the call, the answer.
+//! A call on files, with a session or without: the words, the files, the call,
+//! the answer.
 
-use crate::calls::Sizes;
+use crate::calls::{Sizes, OUT_OF_STAGE};
 use crate::data::Data;
 use crate::files::{self, Lent, Named};
 use crate::outputs::{self, Answer};
+use crate::session::Kept;
 use crate::table::{Length, OnFiles, Output};
 use crate::tell::{self, Done, Fault, Voice};
 use crate::words::{self, Place};
 use std::ffi::OsString;
 
-pub fn run(own: &OnFiles, given: &[OsString]) -> Done {
+pub fn run(own: &OnFiles, mut session: Option<Kept>, given: &[OsString]) -> Done {
     let (asked, places) = own.by.number(given)?;
     let (from, to) = places.split_at(own.inputs.len());
     let sources = own.inputs.iter().zip(from);
@@ -23,25 +25,31 @@ pub fn run(own: &OnFiles, given: &[OsString]) -> Done {
 
     let named = |words: Vec<&'static str>, places| words.into_iter().zip(places).collect();
     let inputs: Vec<Named> = named(own.inputs.iter().map(|x| x.word).collect(), &sources);
-    let outs: Vec<Named> = named(own.outputs.iter().map(|x| x.word).collect(), &targets);
+    let mut outs: Vec<Named> = named(own.outputs.iter().map(|x| x.word).collect(), &targets);
+    outs.extend(session.as_ref().map(Kept::named));
     files::no_clash(&inputs, &outs)?;
-    for target in &targets {
+    for (_, target) in &outs {
         files::replaceable(target)?;
     }
-    let lent = read(own, &sources)?;
+    let lent = read(own, &sources, session.as_mut())?;
 
     let data: Vec<&Data> = lent.iter().map(|x| &x.data).collect();
     let sizes = own.by.sizes(asked);
     let room = |x: &Output| room(x, asked, sizes.as_ref());
     let mut out: Vec<Data> = own.outputs.iter().map(room).collect();
-    let done = (own.call)(asked, &data, &mut out);
+    let done = match &mut session {
+        Some(session) => session.call(asked, &data, &mut out),
+        None => (own.call)(asked, &data, &mut out),
+    };
     match done {
         Ok(answer) => {
             for (data, n) in out.iter_mut().zip(&answer.written) {
                 data.truncate(*n);
             }
-            save(own, &targets, out, false)?;
-            tell::say(voice(&targets), &tell::answer(own, &answer))?;
+            save(own, &targets, out, session.as_ref(), false)?;
+            let stage = session.as_ref().map(Kept::told).unwrap_or_default();
+            let lines = tell::answer(own, &answer) + &stage;
+            tell::say(voice(&targets), &lines)?;
             Ok(tell::DONE)
         }
         Err(refused) => {
@@ -50,8 +58,11 @@ pub fn run(own: &OnFiles, given: &[OsString]) -> Done {
                     data.truncate(0);
                 }
             }
-            let saved = save(own, &targets, out, true);
-            let line = tell::refusal(own, asked, refused, &lent);
+            let saved = save(own, &targets, out, None, true);
+            let line = match &session {
+                Some(session) if refused.number == OUT_OF_STAGE => session.refusal(asked),
+                _ => tell::refusal(own, asked, refused, &lent),
+            };
             tell::say(voice(&targets), &line)?;
             saved?;
             Ok(tell::REFUSED)
@@ -59,10 +70,13 @@ pub fn run(own: &OnFiles, given: &[OsString]) -> Done {
     }
 }
 
-/// Reads all inputs; each that cannot be read has its line.
-fn read(own: &OnFiles, sources: &[Place]) -> Result<Vec<Lent>, Fault> {
+/// Reads all inputs, and the session; each that cannot be read has its line.
+fn read(own: &OnFiles, sources: &[Place], session: Option<&mut Kept>) -> Result<Vec<Lent>, Fault> {
     let mut lent = vec![];
     let mut lines = vec![];
+    if let Some(Err(mut fault)) = session.map(Kept::read) {
+        lines.append(&mut fault.lines);
+    }
     for (input, place) in own.inputs.iter().zip(sources) {
         match files::read(input, place) {
             Ok(one) => lent.push(one),
@@ -95,7 +109,15 @@ pub fn voice(targets: &[Place]) -> Voice {
     }
 }
 
-fn save(own: &OnFiles, targets: &[Place], out: Vec<Data>, refused: bool) -> Result<(), Fault> {
+/// The session comes last: whatever ends the program in between, no session has
+/// moved whose answer is not there.
+fn save(
+    own: &OnFiles,
+    targets: &[Place],
+    out: Vec<Data>,
+    session: Option<&Kept>,
+    refused: bool,
+) -> Result<(), Fault> {
     let all = own.outputs.iter().zip(targets).zip(out);
     let answers: Vec<Answer> = all
         .map(|((output, place), data)| Answer {
@@ -103,6 +125,7 @@ fn save(own: &OnFiles, targets: &[Place], out: Vec<Data>, refused: bool) -> Resu
             bytes: data.to_file(),
             secret: output.secret,
         })
+        .chain(session.map(Kept::answer))
         .collect();
     outputs::put(&answers, refused)
 }

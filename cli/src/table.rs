@@ -1,11 +1,11 @@
 //! The commands. Each is one entry here: its words, its help and what it runs.
 //! Parsing, help, the lines of refusals and the handling of files follow from it.
 
-use crate::calls::{self, Call, Sizes, DIGEST, EXPAND_NUMBERS, EXPAND_STREAM};
+use crate::calls::{self, Call, SessionCall, Sizes, DIGEST, EXPAND_NUMBERS, EXPAND_STREAM};
 use crate::calls::{GROW_SEED, HASH_INPUT, SCHEMES};
 use crate::data::Kind;
 use crate::tell::{Done, Fault};
-use crate::{demo, draw, help, trace, wipe, words};
+use crate::{demo, draw, help, session, trace, wipe, words};
 use std::ffi::{OsStr, OsString};
 
 /// How long an input or an output is, in entries.
@@ -136,6 +136,15 @@ pub struct OnFiles {
     pub call: Call,
 }
 
+/// A call on a session, whose file the name has as FILE: then come the words of
+/// the call without one.
+pub struct OnSession {
+    pub plain: OnFiles,
+    /// Whether it begins a link, and so is allowed when idle; else when offered.
+    pub begins: bool,
+    pub call: SessionCall,
+}
+
 /// A command that reads its words itself.
 pub struct OnWords {
     pub usage: &'static str,
@@ -148,11 +157,15 @@ pub struct OnWords {
 
 pub enum Form {
     Files(OnFiles),
+    Session(OnSession),
+    /// What takes a session's file and no other word.
+    Kept(fn(&OsStr) -> Done),
     Words(OnWords),
 }
 
 pub struct Command {
-    /// One word, or of a hash two.
+    /// One word, or of a hash two; of a session three, with FILE for any word in
+    /// the middle.
     pub name: &'static str,
     /// One line for the overview.
     pub brief: &'static str,
@@ -162,21 +175,36 @@ pub struct Command {
     pub example: &'static str,
 }
 
+/// The word in a name that stands for the file of a session.
+const FILE: &str = "FILE";
+
 impl Command {
-    /// Whether these words are its name or the beginning of it.
+    /// Whether these words are its name or the beginning of it; FILE is any.
     pub fn begins(&self, words: &[OsString]) -> bool {
-        let name: Vec<&str> = self.name.split(' ').take(words.len()).collect();
-        words
-            .iter()
-            .map(OsString::as_os_str)
-            .eq(name.iter().map(OsStr::new))
+        let mut name = self.name.split(' ');
+        let is = |word: &OsString| name.next().is_some_and(|own| own == FILE || word == own);
+        words.iter().all(is)
+    }
+
+    /// The same with FILE left out, as in `help session offer`.
+    pub fn begins_without_file(&self, words: &[OsString]) -> bool {
+        let mut name = self.name.split(' ').filter(|&own| own != FILE);
+        let is = |word: &OsString| name.next().is_some_and(|own| word == own);
+        words.iter().all(is)
+    }
+
+    /// How many words the name has, and where FILE stands in it.
+    pub fn name_words(&self) -> (usize, Option<usize>) {
+        let mut name = self.name.split(' ');
+        (name.clone().count(), name.position(|own| own == FILE))
     }
 
     /// The words that it takes.
     pub fn usage(&self) -> String {
         match &self.form {
             Form::Words(own) => own.usage.to_string(),
-            Form::Files(own) => {
+            Form::Kept(_) => String::new(),
+            Form::Files(own) | Form::Session(OnSession { plain: own, .. }) => {
                 let inputs = own.inputs.iter().map(|x| x.word);
                 let outputs = own.outputs.iter().map(|x| x.word);
                 let words: Vec<&str> = own
@@ -191,11 +219,12 @@ impl Command {
         }
     }
 
-    /// The least and the largest number of words.
+    /// The least and the largest number of words behind the name.
     pub fn counts(&self) -> (usize, usize) {
         match &self.form {
             Form::Words(own) => (own.least, own.most),
-            Form::Files(own) => {
+            Form::Kept(_) => (0, 0),
+            Form::Files(own) | Form::Session(OnSession { plain: own, .. }) => {
                 let n = own.by.word().iter().len() + own.inputs.len() + own.outputs.len();
                 (n, n)
             }
@@ -306,9 +335,47 @@ const GROWN: Output = Output {
     )
 };
 
-// ---- the commands
+// ---- the calls of the exchange, with a session and without
 
 const ALL_SCHEMES: By = By::Scheme(0, SCHEMES - 1);
+
+const OFFERS: OnFiles = OnFiles {
+    by: ALL_SCHEMES,
+    inputs: &[A, S, E, SEED],
+    outputs: &[output(
+        "MESSAGE",
+        Length::By(|z| z.opening),
+        "the opening message, for the replier",
+    )],
+    call: calls::offer,
+};
+
+const REPLIES: OnFiles = OnFiles {
+    by: ALL_SCHEMES,
+    inputs: &[OPENING, A, S1, E1, E2, COINS],
+    outputs: &[
+        Output {
+            label: "message_written",
+            ..output(
+                "MESSAGE",
+                Length::By(|z| z.reply),
+                "the reply message, for the initiator",
+            )
+        },
+        KEY,
+        DIGEST_OF_KEY,
+    ],
+    call: calls::reply,
+};
+
+const FINISHES: OnFiles = OnFiles {
+    by: ALL_SCHEMES,
+    inputs: &[REPLY, S],
+    outputs: &[KEY, DIGEST_OF_KEY],
+    call: calls::finish,
+};
+
+// ---- the commands
 
 pub const COMMANDS: &[Command] = &[
     Command {
@@ -327,16 +394,7 @@ pub const COMMANDS: &[Command] = &[
     Command {
         name: "offer",
         brief: "the initiator's first step: the opening message",
-        form: Form::Files(OnFiles {
-            by: ALL_SCHEMES,
-            inputs: &[A, S, E, SEED],
-            outputs: &[output(
-                "MESSAGE",
-                Length::By(|z| z.opening),
-                "the opening message, for the replier",
-            )],
-            call: calls::offer,
-        }),
+        form: Form::Files(OFFERS),
         more: "S is kept for finish and then wiped. E is wiped at once. Where both are zero the\n\
                message would be blank, and is refused by 17.",
         example: "wimmostry offer 1 a left/s left/e left/seed left/opening",
@@ -344,23 +402,7 @@ pub const COMMANDS: &[Command] = &[
     Command {
         name: "reply",
         brief: "the replier's step: the reply message, the replier's key and its digest",
-        form: Form::Files(OnFiles {
-            by: ALL_SCHEMES,
-            inputs: &[OPENING, A, S1, E1, E2, COINS],
-            outputs: &[
-                Output {
-                    label: "message_written",
-                    ..output(
-                        "MESSAGE",
-                        Length::By(|z| z.reply),
-                        "the reply message, for the initiator",
-                    )
-                },
-                KEY,
-                DIGEST_OF_KEY,
-            ],
-            call: calls::reply,
-        }),
+        form: Form::Files(REPLIES),
         more: "S1, E1, E2 and COINS are wiped afterwards. DIGEST is as finish has it. A blank\n\
                opening is refused by 17; so are S1 and E1 that are both zero, whose reply would be\n\
                blank.",
@@ -371,12 +413,7 @@ pub const COMMANDS: &[Command] = &[
     Command {
         name: "finish",
         brief: "the initiator's second step: the initiator's key, its digest and the slack",
-        form: Form::Files(OnFiles {
-            by: ALL_SCHEMES,
-            inputs: &[REPLY, S],
-            outputs: &[KEY, DIGEST_OF_KEY],
-            call: calls::finish,
-        }),
+        form: Form::Files(FINISHES),
         more: "S is wiped afterwards. A blank reply is refused by 17. The key is raw: hash it,\n\
                together with both messages, and confirm it with the peer before use. Equal keys\n\
                have equal digests, so that both ends can show or compare DIGEST and never show a\n\
@@ -386,6 +423,54 @@ pub const COMMANDS: &[Command] = &[
                demo shows, it is a warning; a small one proves nothing. In NewHope both are 0. They\n\
                are made of S: keep them to this end.",
         example: "wimmostry finish 1 left/reply left/s left/key left/digest",
+    },
+    Command {
+        name: "session FILE offer",
+        brief: "offer on a session, which has to be idle and is then offered",
+        form: Form::Session(OnSession {
+            plain: OFFERS,
+            begins: true,
+            call: calls::session_offer,
+        }),
+        more: session::OFFER_MORE,
+        example: "wimmostry session left/link offer 1 left/a left/s left/e left/seed left/opening",
+    },
+    Command {
+        name: "session FILE reply",
+        brief: "reply on a session, which has to be idle and then holds the key",
+        form: Form::Session(OnSession {
+            plain: REPLIES,
+            begins: true,
+            call: calls::session_reply,
+        }),
+        more: session::REPLY_MORE,
+        example: "wimmostry session right/link reply 1 right/opening right/a right/s1 right/e1 \\\n      \
+                  right/e2 right/coins right/reply right/key right/digest",
+    },
+    Command {
+        name: "session FILE finish",
+        brief: "finish on a session that has offered with this scheme, and then holds the key",
+        form: Form::Session(OnSession {
+            plain: FINISHES,
+            begins: false,
+            call: calls::session_finish,
+        }),
+        more: session::FINISH_MORE,
+        example: "wimmostry session left/link finish 1 left/reply left/s left/key left/digest",
+    },
+    Command {
+        name: "session FILE close",
+        brief: "closes a session: it is idle, and its key is gone",
+        form: Form::Kept(session::close),
+        more: session::CLOSE_MORE,
+        example: "wimmostry session left/link close",
+    },
+    Command {
+        name: "session FILE show",
+        brief: "the stage of a session and its scheme, never its key",
+        form: Form::Kept(session::show),
+        more: session::SHOW_MORE,
+        example: "wimmostry session left/link show",
     },
     Command {
         name: "noise",
@@ -587,12 +672,16 @@ mod tests {
             let text = command.example.replace("\\\n", " ");
             let (_, text) = text.split_once("wimmostry ").expect("the program");
             let words: Vec<OsString> = text.split_whitespace().map(OsString::from).collect();
-            let Ok((found, rest)) = words::command(&words) else {
+            let Ok(found) = words::command(&words) else {
                 panic!("{text}")
             };
-            assert_eq!(found.name, command.name);
+            assert_eq!(found.command.name, command.name);
             let (least, most) = command.counts();
-            assert!((least..=most).contains(&rest.len()), "{}", command.name);
+            assert!(
+                (least..=most).contains(&found.rest.len()),
+                "{}",
+                command.name
+            );
         }
     }
 

@@ -8,7 +8,7 @@ use crate::random;
 use crate::tell::{self, reason, Done, Fault, Voice};
 use crate::words::{self, Place};
 use std::ffi::OsString;
-use std::fs::{self, Metadata, OpenOptions};
+use std::fs::{self, File, Metadata, OpenOptions};
 use std::io::{self, Seek, SeekFrom, Write};
 use std::os::unix::fs::{MetadataExt, OpenOptionsExt};
 use std::path::Path;
@@ -41,10 +41,23 @@ pub fn run(given: &[OsString]) -> Done {
 
 /// Gives how many bytes there were.
 fn wipe(path: &Path) -> Result<u64, Fault> {
-    let wrong = |error: io::Error| tell::file(path, format!("not wiped: {}", reason(&error)));
+    let file = open(path)?;
+    let n = overwrite(path, file)?;
+    fs::remove_file(path).map_err(|error| unwiped(path, &error))?;
+    outputs::settle(files::folder(path)).map_err(|error| unwiped(path, &error))?;
+    Ok(n)
+}
+
+fn unwiped(path: &Path, error: &io::Error) -> Fault {
+    tell::file(path, format!("not wiped: {}", reason(error)))
+}
+
+/// A plain file with no other name, opened to be overwritten.
+pub fn open(path: &Path) -> Result<File, Fault> {
+    let wrong = |error: io::Error| unwiped(path, &error);
     let named = path.symlink_metadata().map_err(wrong)?;
     plain(path, &named)?;
-    let mut file = OpenOptions::new()
+    let file = OpenOptions::new()
         .write(true)
         .custom_flags(NO_WAIT)
         .open(path)
@@ -55,7 +68,14 @@ fn wipe(path: &Path) -> Result<u64, Fault> {
     if (opened.dev(), opened.ino()) != (named.dev(), named.ino()) {
         return Err(tell::file(path, "not wiped: it was changed meanwhile"));
     }
-    let n = opened.len();
+    Ok(file)
+}
+
+/// Overwrites what an open file holds, whatever its name is by now; gives how
+/// many bytes there were.
+pub fn overwrite(path: &Path, mut file: File) -> Result<u64, Fault> {
+    let wrong = |error: io::Error| unwiped(path, &error);
+    let n = file.metadata().map_err(wrong)?.len();
     for random in [true, false] {
         let mut piece = Wiped::zeros(PIECE);
         file.seek(SeekFrom::Start(0)).map_err(wrong)?;
@@ -70,8 +90,6 @@ fn wipe(path: &Path) -> Result<u64, Fault> {
         }
         file.sync_all().map_err(wrong)?;
     }
-    fs::remove_file(path).map_err(wrong)?;
-    outputs::settle(files::folder(path)).map_err(wrong)?;
     Ok(n)
 }
 

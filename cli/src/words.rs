@@ -7,18 +7,32 @@ use crate::tell::{self, Fault};
 use std::ffi::{OsStr, OsString};
 use std::path::{Path, PathBuf};
 
-/// The command whose name the words begin with, and the words behind it.
-pub fn command(words: &[OsString]) -> Result<(&'static Command, &[OsString]), Fault> {
+/// A command, the word in its name that is a session's file, empty where there is
+/// none, and the words behind the name.
+pub struct Found<'a> {
+    pub command: &'static Command,
+    pub file: &'a OsStr,
+    pub rest: &'a [OsString],
+}
+
+/// The command whose name the words begin with.
+pub fn command(words: &[OsString]) -> Result<Found<'_>, Fault> {
     for count in 1..=words.len().min(LONGEST_NAME) {
         let (name, rest) = words.split_at(count);
-        let whole = |c: &&Command| c.begins(name) && c.name.split(' ').count() == count;
+        let whole = |c: &&Command| c.begins(name) && c.name_words().0 == count;
         if let Some(command) = COMMANDS.iter().find(whole) {
-            return Ok((command, rest));
+            let (_, at) = command.name_words();
+            let file = at.map(|at| name[at].as_os_str()).unwrap_or_default();
+            return Ok(Found {
+                command,
+                file,
+                rest,
+            });
         }
     }
     let several = about(&words[..1])?.into_iter();
     let usages = several.map(|c| format!("{} {}", c.name, c.usage()));
-    let usages: Vec<String> = usages.collect();
+    let usages: Vec<String> = usages.map(|usage| usage.trim_end().to_string()).collect();
     Err(tell::words(format!(
         "{} is one of several: {}",
         shown(&words[0]),
@@ -27,11 +41,17 @@ pub fn command(words: &[OsString]) -> Result<(&'static Command, &[OsString]), Fa
 }
 
 /// Words in the longest name of a command.
-const LONGEST_NAME: usize = 2;
+const LONGEST_NAME: usize = 3;
 
 /// The commands whose names begin with these words.
 pub fn about(name: &[OsString]) -> Result<Vec<&'static Command>, Fault> {
-    let found: Vec<&Command> = COMMANDS.iter().filter(|c| c.begins(name)).collect();
+    let mut found: Vec<&Command> = COMMANDS
+        .iter()
+        .filter(|c| c.begins_without_file(name))
+        .collect();
+    if found.is_empty() {
+        found = COMMANDS.iter().filter(|c| c.begins(name)).collect();
+    }
     if found.is_empty() {
         let words: Vec<String> = name.iter().map(shown).collect();
         return Err(tell::words(format!(

@@ -109,6 +109,93 @@ fn a_refusal_says_why_and_leaves_zeros() {
 }
 
 #[test]
+fn a_link_is_walked_by_hand() {
+    let room = Room::new("session");
+    let mode = |name: &str| {
+        fs::metadata(room.0.join(name))
+            .unwrap()
+            .permissions()
+            .mode()
+            & 0o777
+    };
+    for what in ["s", "e", "seed", "s1", "e1", "e2", "coins"] {
+        room.says(0, &format!("draw 1 {what} {what}"));
+    }
+    room.says(0, "grow 14 seed a");
+    let offer = "session left offer 1 a s e seed opening";
+    let reply = "session right reply 1 opening a s1 e1 e2 coins reply key digest";
+    let finish = |scheme: u32| format!("session left finish {scheme} reply s key2 digest2");
+
+    // nothing is made by what is refused, or by what begins no link
+    assert_eq!(room.run("session left show").status.code(), Some(3));
+    assert_eq!(room.run("session left close").status.code(), Some(3));
+    let line = room.says(1, "session left offer 1 a s none seed opening");
+    assert_eq!(line, "refusal=2 place=0 input=e length=0 expected=1024\n");
+    let line = room.says(1, "session left offer 6 a s e seed opening");
+    assert_eq!(line, "refusal=1 place=0 scheme=6 expected=0..5\n");
+    assert!(!room.0.join("left").exists());
+
+    let told = "written=1824\nstage=offered\nscheme=1\n";
+    assert_eq!(room.says(0, offer), told);
+    assert_eq!((room.read("left").len(), mode("left")), (130, 0o600));
+    assert_eq!(room.read("left")[..3], [1, 1, 0]);
+    let told = "message_written=2048\nkey_written=32\ndigest_written=32\nstage=keyed\nscheme=1\n";
+    assert_eq!(room.says(0, reply), told);
+    assert_eq!(room.read("right")[2..34], room.read("key"));
+
+    // another scheme, an earlier call, a short reply: the session stays
+    let offered = room.read("left");
+    let line = room.says(1, &finish(2));
+    assert_eq!(
+        line,
+        "refusal=10 place=0 stage=offered scheme=2 expected=1\n"
+    );
+    let line = room.says(1, "session left offer 1 a s e seed other");
+    assert_eq!(line, "refusal=10 place=0 stage=offered expected=idle\n");
+    assert_eq!(room.read("other"), [0; 1824]);
+    let line = room.says(1, "session left finish 1 opening s key2 digest2");
+    assert_eq!(
+        line,
+        "refusal=2 place=0 input=reply length=1824 expected=2048\n"
+    );
+    assert_eq!(room.read("left"), offered);
+
+    let told = "key_written=32\ndigest_written=32\nslack=0\nslack_index=0\nstage=keyed\nscheme=1\n";
+    assert_eq!(room.says(0, &finish(1)), told);
+    assert_eq!(room.read("left"), room.read("right"));
+    let line = room.says(1, &finish(1));
+    assert_eq!(line, "refusal=10 place=0 stage=keyed expected=offered\n");
+    assert_eq!(
+        (room.read("key2"), room.read("left")),
+        (vec![0; 32], room.read("right"))
+    );
+    assert_eq!(room.says(0, "session left show"), "stage=keyed\nscheme=1\n");
+
+    assert_eq!(room.says(0, "session left close"), "stage=idle\n");
+    assert_eq!(room.read("left"), [0; 130]);
+    assert_eq!(room.says(0, "session left show"), "stage=idle\n");
+
+    // what is no session
+    let line = room.says(1, "session s show");
+    assert_eq!(
+        line,
+        "refusal=10 place=0 stage=none length=4096 expected=130\n"
+    );
+    let secret = room.read("s");
+    let done = room.run("session s close");
+    assert_eq!(done.status.code(), Some(3));
+    assert_eq!(
+        done.stderr,
+        b"wimmostry: s: is no session: it has 4096 bytes, not 130\n"
+    );
+    assert_eq!(room.read("s"), secret);
+    fs::write(room.0.join("left"), [3; 130]).unwrap();
+    assert_eq!(room.says(1, offer), "refusal=10 place=0 stage=none\n");
+    assert_eq!(room.read("left"), [3; 130]);
+    assert_eq!(room.says(0, "session left close"), "stage=idle\n");
+}
+
+#[test]
 fn a_blank_message_is_turned_away() {
     let room = Room::new("blank");
     let zero = |name: &str, part: std::ops::Range<usize>| {
@@ -365,6 +452,9 @@ fn wrong_words_and_files_touch_nothing() {
         (2, "hash sha3-256 s s"),
         (2, "trace"),
         (2, "trace s s"),
+        (2, "session s finish 1 none s key digest"),
+        (2, "session link finish 1 none s link digest"),
+        (2, "session - show"),
         (3, "trace missing"),
         (3, "finish 1 missing s key digest"),
         (3, "finish 1 none s missing/key digest"),

@@ -1,5 +1,7 @@
 #include "calls.h"
 
+#include <string.h>
+
 static uint32_t offer(struct lent *l)
 {
     const struct scheme *x = l->scheme;
@@ -86,11 +88,63 @@ static uint32_t bench(struct lent *l)
                      &l->slack, &l->slack_index);
 }
 
+void stand(struct lent *l, uint8_t stage)
+{
+    memset(l->session, 0, sizeof l->session);
+    if (stage == WIM_STAGE_IDLE)
+        return;
+    l->session[WIM_SESSION_STAGE] = stage;
+    l->session[WIM_SESSION_SCHEME] = (uint8_t)l->scheme->number;
+    if (stage == WIM_STAGE_KEYED)
+        memcpy(l->session + WIM_SESSION_KEY, l->key, l->scheme->key);
+}
+
+static uint32_t session_offer(struct lent *l)
+{
+    const struct scheme *x = l->scheme;
+
+    stand(l, WIM_STAGE_IDLE);
+    return wim_session_offer(l->session, sizeof l->session, x->number, l->a, x->a, l->s, x->s, l->e,
+                             x->s, l->seed, x->seed, l->opening, sizeof l->opening, &l->place,
+                             &l->written);
+}
+
+static uint32_t session_reply(struct lent *l)
+{
+    const struct scheme *x = l->scheme;
+
+    stand(l, WIM_STAGE_IDLE);
+    return wim_session_reply(l->session, sizeof l->session, x->number, l->opening, x->opening, l->a,
+                             x->a, l->s1, x->s, l->e1, x->s, l->e2, x->e2, l->coins, x->coins,
+                             l->reply, sizeof l->reply, l->key, sizeof l->key, l->digest,
+                             sizeof l->digest, &l->place, &l->written, &l->key_written,
+                             &l->digest_written);
+}
+
+static uint32_t session_finish(struct lent *l)
+{
+    const struct scheme *x = l->scheme;
+
+    stand(l, WIM_STAGE_OFFERED);
+    return wim_session_finish(l->session, sizeof l->session, x->number, l->reply, x->reply, l->s,
+                              x->s, l->peer_key, sizeof l->peer_key, l->peer_digest,
+                              sizeof l->peer_digest, &l->place, &l->key_written,
+                              &l->digest_written, &l->slack, &l->slack_index);
+}
+
+static uint32_t session_close(struct lent *l)
+{
+    stand(l, WIM_STAGE_KEYED);
+    return wim_session_close(l->session, sizeof l->session);
+}
+
 const struct call calls[CALLS] = {
     {"wim_offer", offer}, {"wim_reply", reply},   {"wim_finish", finish},
     {"wim_noise", noise}, {"wim_expand", expand}, {"wim_grow", grow},
     {"wim_shake128", shake128}, {"wim_sha3_256", sha3_256}, {"wim_product", product},
     {"wim_bench", bench},
+    {"wim_session_offer", session_offer}, {"wim_session_reply", session_reply},
+    {"wim_session_finish", session_finish}, {"wim_session_close", session_close},
 };
 
 uint32_t draw_all(struct lent *l, const struct scheme *x)

@@ -16,6 +16,7 @@ struct lent {
     uint8_t key[WIM_MAX_KEY], peer_key[WIM_MAX_KEY];
     uint8_t digest[WIM_DIGEST], peer_digest[WIM_DIGEST];
     uint8_t shaken[500], hashed[WIM_DIGEST];
+    uint8_t session[WIM_SESSION];
     uint64_t place, written, key_written, digest_written, differ, slack, slack_index;
 };
 
@@ -24,11 +25,18 @@ struct call {
     uint32_t (*make)(struct lent *);
 };
 
-#define CALLS 10
-enum { OFFER, REPLY, FINISH, NOISE, EXPAND, GROW, SHAKE128, SHA3_256, PRODUCT, BENCH };
+#define CALLS 14
+enum {
+    OFFER, REPLY, FINISH, NOISE, EXPAND, GROW, SHAKE128, SHA3_256, PRODUCT, BENCH,
+    SESSION_OFFER, SESSION_REPLY, SESSION_FINISH, SESSION_CLOSE
+};
 
-/* In this order, so that Reply finds an opening and Finish a reply. */
+/* In this order, so that Reply finds an opening and Finish a reply. Those on a session put it into
+ * the stage that they need. */
 extern const struct call calls[CALLS];
+
+/* A session in a stage, of the scheme; keyed, with the replier's key. */
+void stand(struct lent *lent, uint8_t stage);
 
 /* Draws every input of a scheme, once the table was read. 0 or the refusal. */
 uint32_t draw_all(struct lent *lent, const struct scheme *scheme);

@@ -153,6 +153,61 @@ static void bench(int nulls)
     held("wim_bench", nulls, refusal, expected(nulls, lengths, 8, 0));
 }
 
+/* A session that is empty is in no stage, whatever else is; close has nothing to zero. */
+static uint32_t in_stage(int nulls, const size_t *lengths, int inputs, int outputs)
+{
+    return nulls & 1 ? WIM_OUT_OF_STAGE : expected(nulls >> 1, lengths, inputs, outputs);
+}
+
+static void session_offer(int nulls)
+{
+    const size_t lengths[] = {x->a, x->s, x->s, x->seed};
+    uint32_t refusal;
+
+    stand(&lent, WIM_STAGE_IDLE);
+    refusal = wim_session_offer(LEND(0, lent.session, WIM_SESSION), x->number,
+                                LEND(1, lent.a, x->a), LEND(2, lent.s, x->s),
+                                LEND(3, lent.e, x->s), LEND(4, lent.seed, x->seed),
+                                LEND(5, lent.opening, x->opening), &place, &written);
+    held("wim_session_offer", nulls, refusal, in_stage(nulls, lengths, 4, 1));
+}
+
+static void session_reply(int nulls)
+{
+    const size_t lengths[] = {x->opening, x->a, x->s, x->s, x->e2, x->coins};
+    uint32_t refusal;
+
+    stand(&lent, WIM_STAGE_IDLE);
+    refusal = wim_session_reply(LEND(0, lent.session, WIM_SESSION), x->number,
+                                LEND(1, lent.opening, x->opening), LEND(2, lent.a, x->a),
+                                LEND(3, lent.s1, x->s), LEND(4, lent.e1, x->s),
+                                LEND(5, lent.e2, x->e2), LEND(6, lent.coins, x->coins),
+                                LEND(7, lent.reply, x->reply), LEND(8, lent.key, x->key),
+                                LEND(9, lent.digest, WIM_DIGEST), &place, &written, &key_written,
+                                &digest_written);
+    held("wim_session_reply", nulls, refusal, in_stage(nulls, lengths, 6, 3));
+}
+
+static void session_finish(int nulls)
+{
+    const size_t lengths[] = {x->reply, x->s};
+    uint32_t refusal;
+
+    stand(&lent, WIM_STAGE_OFFERED);
+    slack = slack_index = 9;
+    refusal = wim_session_finish(LEND(0, lent.session, WIM_SESSION), x->number,
+                                 LEND(1, lent.reply, x->reply), LEND(2, lent.s, x->s),
+                                 LEND(3, lent.key, x->key), LEND(4, lent.digest, WIM_DIGEST),
+                                 &place, &written, &digest_written, &slack, &slack_index);
+    held("wim_session_finish", nulls, refusal, in_stage(nulls, lengths, 2, 2));
+}
+
+static void session_close(int nulls)
+{
+    held("wim_session_close", nulls, wim_session_close(LEND(0, lent.session, WIM_SESSION)),
+         WIM_DONE);
+}
+
 static int made;
 
 /* None empty, each of the slices in turn, and all of them. */
@@ -188,6 +243,12 @@ int main(void)
         each(sha3_256, 2);
         each(product, 4);
         each(bench, 8);
+        each(session_offer, 6);
+        session_offer(0);
+        each(session_reply, 10);
+        session_reply(0);
+        each(session_finish, 5);
+        each(session_close, 1);
     }
     printf("null pointers at length 0: %d calls, %d wrong\n", made, failures);
     return failures == 0 ? EXIT_SUCCESS : EXIT_FAILURE;

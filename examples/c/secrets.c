@@ -17,12 +17,14 @@ static struct lent lent;
 static void hide(size_t call)
 {
     const struct scheme *x = lent.scheme;
+    int offers = call == OFFER || call == SESSION_OFFER || call == BENCH;
+    int finishes = call == FINISH || call == SESSION_FINISH;
 
-    if (call == OFFER || call == FINISH || call == BENCH)
+    if (offers || finishes)
         HIDE(lent.s, x->s);
-    if (call == OFFER || call == BENCH)
+    if (offers)
         HIDE(lent.e, x->s);
-    if (call == REPLY || call == BENCH) {
+    if (call == REPLY || call == SESSION_REPLY || call == BENCH) {
         HIDE(lent.s1, x->s);
         HIDE(lent.e1, x->s);
         HIDE(lent.e2, x->e2);
@@ -36,6 +38,8 @@ static void hide(size_t call)
         HIDE(lent.factors[0], WIM_PRODUCT);
         HIDE(lent.factors[1], WIM_PRODUCT);
     }
+    if (call == SESSION_CLOSE) /* which lays it into the session */
+        HIDE(lent.key, x->key);
 }
 
 int main(void)

@@ -131,8 +131,15 @@ def full_pipe():
     return reader, writer
 
 
+def endable():
+    """The ending signals as they are, though this run itself may have been started with some
+    ignored, as in the background."""
+    for ending in ENDINGS:
+        signal.signal(ending, signal.SIG_DFL)
+
+
 def started(words, **more):
-    given = {"stdin": subprocess.DEVNULL, "stdout": subprocess.PIPE, **more}
+    given = {"stdin": subprocess.DEVNULL, "stdout": subprocess.PIPE, "preexec_fn": endable, **more}
     return subprocess.Popen(words, stderr=subprocess.PIPE, **given)
 
 

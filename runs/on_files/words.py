@@ -77,6 +77,16 @@ def words(both):
         (["trace"], b"trace takes FILE\n"), (["trace", "x", "y"], b"trace takes FILE\n"),
         (["trace", ""], b"FILE is an empty word"),
         (["version", "x"], b"version takes no words\n"),
+        (["session"], b"session is one of several: session FILE offer SCHEME A S E SEED MESSAGE; "),
+        (["session", "x"], b"session is one of several: "),
+        (["session", "x", "open"], b"session is one of several: "),
+        (["session", "offer", "x"], b"session is one of several: "),
+        (["session", "x", "offer"], b"session FILE offer takes SCHEME A S E SEED MESSAGE\n"),
+        (["session", "x", "finish", *files[:4]], b"session FILE finish takes SCHEME REPLY S KEY"),
+        (["session", "x", "reply", "y", *files], b"SCHEME is a number from 0 to 5, not 'y'"),
+        (["session", "x", "close", "y"], b"session FILE close takes no words\n"),
+        (["session", "x", "show", "y"], b"session FILE show takes no words\n"),
+        (["help", "session", "open", "x"], b"help takes [COMMAND]\n"),
         (["help", "a", "b"], b"there is no command 'a b'"),
         (["help", "hash", "md5"], b"there is no command 'hash md5'"),
         (["help", "a", "b", "c"], b"help takes [COMMAND]\n"),
@@ -123,7 +133,13 @@ def words(both):
     for given in ([], ["--help"], ["-h"]):
         hold("words", run([both.box, *given]) == overview, f"{given} is not the overview")
     names = re.findall(r"^  wimmostry ([a-z]\S*(?: [a-z]\S*)?)", overview[1].decode(), re.M)
-    hold("words", {"hash shake128", "hash sha3-256", "grow", "trace"} <= {*names}, f"commands: {names}")
+    wanted = {"hash shake128", "hash sha3-256", "grow", "trace", "session"}
+    hold("words", wanted <= {*names}, f"commands: {names}")
+    for action in ("offer", "reply", "finish", "close", "show"):
+        page = run([both.box, "help", "session", action])
+        hold("words", page[1].startswith(f"wimmostry session FILE {action}".encode())
+             and page[1].count(b"\nExample:\n") == 1, f"help session {action}: {page}")
+        hold("words", run([both.box, "session", "x", action, "-h"]) == page, f"{action} -h")
     for name in [*names, "hash"]:
         page = run([both.box, "help", *name.split()])
         fine = page[0] == 0 and page[2] == b"" and page[1].startswith(b"wimmostry " + name.encode())
@@ -170,6 +186,7 @@ def shown(both, scheme):
                   ["finish", bad, "x", "x", "x", "d"], ["finish", "1", bad, "none", "x", "d"],
                   ["expand", bad, "x", "x"], ["grow", bad, "x", "x"],
                   ["hash", "shake128", bad, "x", "y"], ["help", "hash", bad],
+                  ["session", bad, "show"], ["session", inside, "close"],
                   ["finish", "1", "none", "none", inside, "d"],
                   ["finish", "1", "none", "none", inside + b"/x/y", "d"],
                   ["reply", "1", *["none"] * 6, inside + b"/x", inside + b"/x", "d"],

@@ -29,6 +29,41 @@ pub struct Given<'a> {
     pub bytes: Vec<&'a [u8]>,
 }
 
+impl Given<'_> {
+    fn of(inputs: &Inputs) -> Given<'_> {
+        let mut given = Given {
+            numbers: vec![],
+            values: vec![],
+            bytes: vec![],
+        };
+        match inputs {
+            Inputs::Offer { a, s, e, seed } => {
+                given.numbers = vec![a];
+                given.values = vec![s, e];
+                given.bytes = vec![seed];
+            }
+            Inputs::Reply {
+                opening,
+                a,
+                s1,
+                e1,
+                e2,
+                coins,
+            } => {
+                given.numbers = vec![a];
+                given.values = vec![s1, e1, e2];
+                given.bytes = vec![opening, coins];
+            }
+            Inputs::Finish { reply, s } => {
+                given.values = vec![s];
+                given.bytes = vec![reply];
+            }
+            Inputs::Close => {}
+        }
+        given
+    }
+}
+
 /// The written counts and the slack, or the refusal.
 pub type Told = Result<(Vec<usize>, Slack), Refusal>;
 
@@ -41,24 +76,12 @@ fn listed<T: Copy + Debug + PartialEq>(entries: &[T], guard: T) -> Listed<'_, T>
 
 impl<'a> Ready<'a> {
     pub fn new(call: &'a Call) -> Ready<'a> {
-        let (numbers, values, bytes): (Vec<&[u32]>, Vec<&[i32]>, Vec<&[u8]>) = match &call.inputs {
-            Inputs::Offer { a, s, e, seed } => (vec![a], vec![s, e], vec![seed]),
-            Inputs::Reply {
-                opening,
-                a,
-                s1,
-                e1,
-                e2,
-                coins,
-            } => (vec![a], vec![s1, e1, e2], vec![opening, coins]),
-            Inputs::Finish { reply, s } => (vec![], vec![s], vec![reply]),
-            Inputs::Close => (vec![], vec![], vec![]),
-        };
+        let given = Given::of(&call.inputs);
         Ready {
             call,
-            numbers: numbers.into_iter().map(|x| listed(x, 7)).collect(),
-            values: values.into_iter().map(|x| listed(x, 7)).collect(),
-            bytes: bytes.into_iter().map(|x| listed(x, 7)).collect(),
+            numbers: given.numbers.into_iter().map(|x| listed(x, 7)).collect(),
+            values: given.values.into_iter().map(|x| listed(x, 7)).collect(),
+            bytes: given.bytes.into_iter().map(|x| listed(x, 7)).collect(),
         }
     }
 
