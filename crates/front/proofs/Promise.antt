@@ -21,7 +21,7 @@ use Rattle.lists.specs.declared.Peak.{Peak}
 use Rattle.lists.proofs.Same.{restored}
 use Rattle.front.specs.Front.{numberOf, placeOf, countIn, held}
 use Rattle.front.specs.declared.Refusal.{Refusal}
-use Rattle.front.specs.declared.Refusal.the-variants.{NoScheme, BadLength, Short, PublicOver, MessageOver, SecretBeyond, RanOut, NoRule, Blank, NotAscending, OutOfStage}
+use Rattle.front.specs.declared.Refusal.the-variants.{NoScheme, BadLength, Short, PublicOver, MessageOver, SecretBeyond, RanOut, NoRule, Blank, NotAscending, OutOfStage, NoStudio}
 use Rattle.front.specs.declared.Verdict.{Verdict}
 use Rattle.front.specs.declared.Verdict.the-variants.{Pass, Fail}
 use Rattle.front.proofs.Laws.{some}
@@ -109,7 +109,8 @@ refusalBy k p =
     (cond (eqb k 12) NoRule
     (cond (eqb k 17) Blank
     (cond (eqb k 18) (NotAscending p)
-    OutOfStage)))))))))
+    (cond (eqb k 10) OutOfStage
+    NoStudio))))))))))
 
 back : (r : Refusal) → refusalBy (numberOf r) (placeOf r) ≡ r
 unfolding refusalBy
@@ -124,6 +125,7 @@ back NoRule = refl
 back Blank = refl
 back (NotAscending k) = refl
 back OutOfStage = refl
+back NoStudio = refl
 
 pub same-refusal : (a b : Refusal) → numberOf a ≡ numberOf b → placeOf a ≡ placeOf b → a ≡ b
 same-refusal a b e f = cc (back a, back b)

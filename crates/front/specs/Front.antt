@@ -22,7 +22,7 @@ use lib.ListN.{length, replicate}
 use Rattle.lists.specs.First.{firstOver, firstBeyond}
 use Rattle.blank.specs.Blank.{blank}
 use Rattle.front.specs.declared.Refusal.{Refusal}
-use Rattle.front.specs.declared.Refusal.the-variants.{NoScheme, BadLength, Short, PublicOver, MessageOver, SecretBeyond, RanOut, NoRule, Blank, NotAscending, OutOfStage}
+use Rattle.front.specs.declared.Refusal.the-variants.{NoScheme, BadLength, Short, PublicOver, MessageOver, SecretBeyond, RanOut, NoRule, Blank, NotAscending, OutOfStage, NoStudio}
 use Rattle.front.specs.declared.Verdict.{Verdict}
 use Rattle.front.specs.declared.Verdict.the-variants.{Pass, Fail}
 
@@ -38,6 +38,7 @@ numberOf NoRule = 12
 numberOf Blank = 17
 numberOf (NotAscending k) = 18
 numberOf OutOfStage = 10
+numberOf NoStudio = 16
 
 abbrev pub placeOf : Refusal → ℕ
 placeOf NoScheme = 0
@@ -51,6 +52,7 @@ placeOf NoRule = 0
 placeOf Blank = 0
 placeOf (NotAscending k) = k
 placeOf OutOfStage = 0
+placeOf NoStudio = 0
 
 abbrev pub numberIn : Verdict → ℕ
 numberIn Pass = 0

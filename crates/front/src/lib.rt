@@ -20,6 +20,7 @@ pub enum Refusal {
     Blank,
     NotAscending(usize),
     OutOfStage,
+    NoStudio,
 }
 
 impl Refusal {
@@ -38,6 +39,7 @@ impl Refusal {
             Refusal::Blank => 17,
             Refusal::NotAscending(_) => 18,
             Refusal::OutOfStage => 10,
+            Refusal::NoStudio => 16,
         }
     }
 
@@ -56,6 +58,7 @@ impl Refusal {
             Refusal::Blank => 0,
             Refusal::NotAscending(k) => k,
             Refusal::OutOfStage => 0,
+            Refusal::NoStudio => 0,
         }
     }
 }

@@ -4,7 +4,7 @@
 --   key-few, key-room              so have the bytes that a call says it wrote, which are the key
 --   kept-law                        so many bytes of an output, copied into zeros
 --   offer-stops                     what any refusal before the call beneath shows of Offer; so of the others
---   close-gives                     what Close shows
+--   close-gives                     what Close shows, and close-stops where a layer above refuses it
 --   offer-out, offer-refused, offer-done   Offer: 10, a refusal of the call beneath, its answer; so of the others, and of Close
 --   reply-few, reply-room, finish-few, finish-room   what the key's place asks of their answers
 use mathlib.Core.Path.{_≡_, refl, _∙_, sym, ap, subst}
@@ -248,6 +248,17 @@ close-gives =
       keys = wrote-none Pass;
       digests = wrote-none Pass;
       slacks = used-none Pass;
+    }
+
+pub close-stops : (q : Refusal) → Gives (Fail q) closing (toldOffer (Answer.Refused q) [])
+unfolding due
+close-stops q =
+    record {
+      told = told-failed refl;
+      messages = wrote-failed refl refl;
+      keys = wrote-failed refl refl;
+      digests = wrote-failed refl refl;
+      slacks = used-failed refl;
     }
 
 pub close-moves : (y : Session) {z : Session} → z ≡ idle → Moves y closing z (toldOffer (Answer.Done 0) [])
