@@ -1,5 +1,5 @@
 -- What is stated in specs/Shown.
-use Rattle.wimmostry.specs.Shown.{OneOffer, OneReply, OneFinish, OneNoise, OneExpand, OneGrow, OneShake, OneDigest, OneProduct, OneBench, OneSessionOffer, OneSessionReply, OneSessionFinish, OneSessionClose}
+use Rattle.wimmostry.specs.Shown.{OneOffer, OneReply, OneFinish, OneNoise, OneExpand, OneGrow, OneShake, OneDigest, OneProduct, OneBench, OneSessionOffer, OneSessionReply, OneSessionFinish, OneSessionClose, OneRackOffer, OneRackReply, OneRackFinish, OneRackClose, OneRackClear}
 
 pub one-offer : OneOffer
 one-offer c x room r r′ p p′ w w′ message message′ a b = (cc, cc, cc, cc)
@@ -43,3 +43,19 @@ one-session-finish bs bs′ bs″ y x room digestRoom r r′ p p′ k k′ d d�
 
 pub one-session-close : OneSessionClose
 one-session-close bs bs′ bs″ r r′ a b = (cc, cc)
+
+pub one-rack-offer : OneRackOffer
+one-rack-offer bs bs′ bs″ u k x room r r′ p p′ w w′ message message′ a b = (cc, cc, cc, cc, cc)
+
+pub one-rack-reply : OneRackReply
+one-rack-reply bs bs′ bs″ u y x room keyRoom digestRoom r r′ p p′ w w′ k k′ d d′ message message′ key key′ digest digest′ a b =
+    (cc, cc, cc, cc, cc, cc, cc, cc, cc)
+
+pub one-rack-finish : OneRackFinish
+one-rack-finish bs bs′ bs″ u y x room digestRoom r r′ p p′ k k′ d d′ s s′ i i′ key key′ digest digest′ a b = (cc, cc, cc, cc, cc, cc, cc, cc, cc)
+
+pub one-rack-close : OneRackClose
+one-rack-close bs bs′ bs″ u r r′ p p′ a b = (cc, cc, cc)
+
+pub one-rack-clear : OneRackClear
+one-rack-clear bs bs′ bs″ r r′ p p′ a b = (cc, cc, cc)

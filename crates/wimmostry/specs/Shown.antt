@@ -1,6 +1,7 @@
 -- No two results satisfy the promise of an exported call: its number, place and counts, and every output.
 --   OneOffer .. OneBench   of each call
 --   OneSessionOffer .. OneSessionClose   of each call on a session, with the session's bytes after it
+--   OneRackOffer .. OneRackClear   of each call on a rack, with the rack's bytes after it
 use mathlib.Core.Path.{_≡_}
 use mathlib.Core.List.{List}
 use Prim.Native.Nat.{ℕ}
@@ -17,8 +18,9 @@ use Rattle.exchange.specs.Reply.{Reply, Replied}
 use Rattle.exchange.specs.Finish.{Finish, Finished}
 use Rattle.bench.specs.Bench.{Bench, Benched}
 use Rattle.session.specs.Table.{offering, replying, finishing, closing}
-use Rattle.session.specs.Seen.{output, offerSeen, replySeen, finishSeen, closeSeen}
+use Rattle.session.specs.Seen.{output, noOutput, offerSeen, replySeen, finishSeen, closeSeen}
 use Rattle.session_bytes.specs.Bytes.{MovesBytes}
+use Rattle.rack_bytes.specs.Slots.{RackMovesBytes, Cleared}
 
 abbrev pub OneOffer : Type 0
 OneOffer =
@@ -95,3 +97,32 @@ OneSessionFinish =
 abbrev pub OneSessionClose : Type 0
 OneSessionClose =
     (bs bs′ bs″ : List ℕ) (r r′ : ℕ) → MovesBytes bs closing bs′ (closeSeen r) → MovesBytes bs closing bs″ (closeSeen r′) → (bs′ ≡ bs″) × (r ≡ r′)
+
+abbrev pub OneRackOffer : Type 0
+OneRackOffer =
+    (bs bs′ bs″ : List ℕ) (u k : ℕ) (x : Offer) (room r r′ p p′ w w′ : ℕ) (message message′ : List ℕ)
+    → RackMovesBytes bs u (offering k x room) bs′ (offerSeen r p (output w message)) → RackMovesBytes bs u (offering k x room) bs″ (offerSeen r′ p′ (output w′ message′))
+    → (bs′ ≡ bs″) × (r ≡ r′) × (p ≡ p′) × (w ≡ w′) × (message ≡ message′)
+
+abbrev pub OneRackReply : Type 0
+OneRackReply =
+    (bs bs′ bs″ : List ℕ) (u y : ℕ) (x : Reply) (room keyRoom digestRoom r r′ p p′ w w′ k k′ d d′ : ℕ) (message message′ key key′ digest digest′ : List ℕ)
+    → RackMovesBytes bs u (replying y x room keyRoom digestRoom) bs′ (replySeen r p (output w message) (output k key) (output d digest))
+    → RackMovesBytes bs u (replying y x room keyRoom digestRoom) bs″ (replySeen r′ p′ (output w′ message′) (output k′ key′) (output d′ digest′))
+    → (bs′ ≡ bs″) × (r ≡ r′) × (p ≡ p′) × (w ≡ w′) × (k ≡ k′) × (d ≡ d′) × (message ≡ message′) × (key ≡ key′) × (digest ≡ digest′)
+
+abbrev pub OneRackFinish : Type 0
+OneRackFinish =
+    (bs bs′ bs″ : List ℕ) (u y : ℕ) (x : Finish) (room digestRoom r r′ p p′ k k′ d d′ s s′ i i′ : ℕ) (key key′ digest digest′ : List ℕ)
+    → RackMovesBytes bs u (finishing y x room digestRoom) bs′ (finishSeen r p (output k key) (output d digest) (record { most = s; at = i }))
+    → RackMovesBytes bs u (finishing y x room digestRoom) bs″ (finishSeen r′ p′ (output k′ key′) (output d′ digest′) (record { most = s′; at = i′ }))
+    → (bs′ ≡ bs″) × (r ≡ r′) × (p ≡ p′) × (k ≡ k′) × (d ≡ d′) × (s ≡ s′) × (i ≡ i′) × (key ≡ key′) × (digest ≡ digest′)
+
+abbrev pub OneRackClose : Type 0
+OneRackClose =
+    (bs bs′ bs″ : List ℕ) (u r r′ p p′ : ℕ) → RackMovesBytes bs u closing bs′ (offerSeen r p noOutput)
+    → RackMovesBytes bs u closing bs″ (offerSeen r′ p′ noOutput) → (bs′ ≡ bs″) × (r ≡ r′) × (p ≡ p′)
+
+abbrev pub OneRackClear : Type 0
+OneRackClear =
+    (bs bs′ bs″ : List ℕ) (r r′ p p′ : ℕ) → Cleared bs bs′ r p → Cleared bs bs″ r′ p′ → (bs′ ≡ bs″) × (r ≡ r′) × (p ≡ p′)

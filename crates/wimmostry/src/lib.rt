@@ -4,6 +4,7 @@ ghost use mathlib.Core.Path.{_≡_};
 ghost use Prim.Native.Nat.{_≤_};
 ghost use Rattle.schemes.specs.Schemes.{schemeOf};
 ghost use Rattle.lists.specs.Lent.{left, room};
+ghost use Rattle.front.specs.Front.{numberIn, placeIn};
 ghost use Rattle.front.specs.Answers as answers;
 ghost use Rattle.sampling.specs.Noise.{noise, Noised};
 ghost use Rattle.noise.specs.Expand.{ruleOf};
@@ -19,12 +20,14 @@ ghost use Rattle.exchange.specs.Finish as finishes;
 ghost use Rattle.bench.specs.Bench.{bench, Benched};
 ghost use Rattle.bench.specs.Bench as benches;
 
+mod racks;
 mod sessions;
 
 use bench::BenchAnswer;
 use exchange::FinishAnswer;
 use exchange::ReplyAnswer;
 use front::Answer;
+use front::Verdict;
 use lists::Peak;
 
 // An answer in numbers.
@@ -40,6 +43,22 @@ fn tell(answer: Answer, place: &mut u64, written: &mut u64) -> u32
         Answer::Refused(why) => {
             *place = why.place() as u64;
             *written = 0;
+            why.number()
+        }
+    }
+}
+
+// A verdict in numbers, of a call that has no count.
+fn tell_verdict(verdict: Verdict, place: &mut u64) -> u32
+    ensures { λ r. ⌜ (r ≡ numberIn verdict) × (left place ≡ placeIn verdict) ⌝ }
+{
+    match verdict {
+        Verdict::Pass => {
+            *place = 0;
+            0
+        }
+        Verdict::Fail(why) => {
+            *place = why.place() as u64;
             why.number()
         }
     }

@@ -1,0 +1,13 @@
+-- `wimmostry::racks::wim_rack_offer` meets its contract: its numbers are the answer's.
+use borrow.Author.Needs.{needs}
+use Rattle.wimmostry.proofs.racks.wim_rack_offer.Statement.{statement}
+use Rattle.wimmostry.proofs.racks.wim_rack_offer.Tie as tie
+
+returns : tie.Need-returns
+returns c =
+    let t = c .tell .ensures in
+    let o : tie.After-offer = search needs in
+    rw (t .0, t .1, t .2) (o .offer .ensures)
+
+pub wim-rack-offer-spec : {M : Type 1} → statement M
+wim-rack-offer-spec = tie.close (tie.spec (λ c κs. search needs) (λ c κs. search needs) (search needs) (search needs) returns)

@@ -1,0 +1,119 @@
+// The calls on a rack behind a pointer, eight records of 131 lent bytes: 02, request k. Each takes the rack and a studio's number first, and then what the
+// plain call takes.
+ghost use Rattle.lists.specs.Lent.{was, left, room};
+ghost use Rattle.exchange.specs.Offer.{offer};
+ghost use Rattle.exchange.specs.Reply.{reply};
+ghost use Rattle.exchange.specs.Finish.{finish};
+ghost use Rattle.session.specs.Table.{offering, replying, finishing, closing};
+ghost use Rattle.session.specs.Seen.{output, noOutput, offerSeen, replySeen, finishSeen};
+ghost use Rattle.rack_bytes.specs.Slots.{RackMovesBytes, Cleared};
+
+// Offer for a studio, in its own slot.
+#[no_mangle]
+pub extern "C" fn wim_rack_offer(
+    rack: &mut [u8],
+    studio: u32,
+    scheme: u32,
+    a: &[u32],
+    s: &[i32],
+    e: &[i32],
+    seed: &[u8],
+    message: &mut [u8],
+    place: &mut u64,
+    written: &mut u64,
+) -> u32
+    ensures { λ r. ⌜
+        RackMovesBytes (was rack) studio (offering scheme (offer a s e seed) (room message))
+        (left rack) (offerSeen r (left place) (output (left written) (left message)))
+        ⌝ }
+{
+    let answer = rack_bytes::offer(rack, studio, scheme, a, s, e, seed, message);
+    crate::tell(answer, place, written)
+}
+
+// Reply for one.
+#[no_mangle]
+pub extern "C" fn wim_rack_reply(
+    rack: &mut [u8],
+    studio: u32,
+    scheme: u32,
+    opening: &[u8],
+    a: &[u32],
+    s1: &[i32],
+    e1: &[i32],
+    e2: &[i32],
+    coins: &[u8],
+    message: &mut [u8],
+    key: &mut [u8],
+    digest: &mut [u8],
+    place: &mut u64,
+    written: &mut u64,
+    keyed: &mut u64,
+    digested: &mut u64,
+) -> u32
+    ensures { λ r. ⌜
+        RackMovesBytes (was rack) studio (replying scheme (reply opening a s1 e1 e2 coins) (room message) (room key) (room digest))
+        (left rack)
+        (replySeen r (left place) (output (left written) (left message)) (output (left keyed) (left key)) (output (left digested) (left digest)))
+        ⌝ }
+{
+    let answer = rack_bytes::reply(
+        rack,
+        studio,
+        scheme,
+        opening,
+        a,
+        s1,
+        e1,
+        e2,
+        coins,
+        message,
+        key,
+        digest,
+    );
+    crate::tell_reply(answer, place, written, keyed, digested)
+}
+
+// Finish for one.
+#[no_mangle]
+pub extern "C" fn wim_rack_finish(
+    rack: &mut [u8],
+    studio: u32,
+    scheme: u32,
+    reply: &[u8],
+    s: &[i32],
+    key: &mut [u8],
+    digest: &mut [u8],
+    place: &mut u64,
+    keyed: &mut u64,
+    digested: &mut u64,
+    slack: &mut u64,
+    index: &mut u64,
+) -> u32
+    ensures { λ r. ⌜
+        RackMovesBytes (was rack) studio (finishing scheme (finish reply s) (room key) (room digest))
+        (left rack)
+        (finishSeen r (left place) (output (left keyed) (left key)) (output (left digested) (left digest)) (record { most = left slack; at = left index }))
+        ⌝ }
+{
+    let answer = rack_bytes::finish(rack, studio, scheme, reply, s, key, digest);
+    crate::tell_finish(answer, place, keyed, digested, slack, index)
+}
+
+// Close for one: its slot's number and zeros, whatever the slot held.
+#[no_mangle]
+pub extern "C" fn wim_rack_close(rack: &mut [u8], studio: u32, place: &mut u64) -> u32
+    ensures { λ r. ⌜ RackMovesBytes (was rack) studio closing (left rack) (offerSeen r (left place) noOutput) ⌝ }
+{
+    let verdict = rack_bytes::close(rack, studio);
+    crate::tell_verdict(verdict, place)
+}
+
+// An empty rack: eight idle records with their numbers.
+#[no_mangle]
+pub extern "C" fn wim_rack_clear(rack: &mut [u8], place: &mut u64) -> u32
+    ensures { λ r. ⌜ Cleared (was rack) (left rack) r (left place) ⌝ }
+{
+    let verdict = rack_bytes::clear(rack);
+    crate::tell_verdict(verdict, place)
+}
