@@ -24,6 +24,7 @@ pub mod noise;
 pub mod packing;
 pub mod polynomial;
 pub mod products;
+pub mod rack;
 pub mod reconcile;
 pub mod refusal;
 pub mod schemes;

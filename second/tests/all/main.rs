@@ -25,6 +25,7 @@ mod polynomial;
 mod products;
 mod program;
 mod published;
+mod rack;
 mod reconcile_bcns;
 mod reconcile_frodo;
 mod reconcile_newhope;
