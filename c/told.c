@@ -12,6 +12,8 @@ const char *wim_refusal_text(uint32_t refusal)
     switch (refusal) {
     case WIM_DONE:
         return "done";
+    case WIM_NO_STUDIO:
+        return "the studio's number is over 7";
     case WIM_OUT_OF_STAGE:
         return "the session's stage does not allow this call with this scheme";
     case WIM_NO_SCHEME:

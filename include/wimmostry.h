@@ -19,7 +19,8 @@
  * secrets, drawn afresh for each exchange; wim_noise makes them from random bytes, in BCNS by a
  * table that is lent too. In names s1, e1 and e2 stand for s', e' and e''.
  *
- * A session keeps these calls in step and holds the key that they give: see SESSIONS.
+ * A session keeps these calls in step and holds the key that they give: see SESSIONS. A rack keeps
+ * the sessions of eight studios: see RACKS.
  *
  * The digest beside a key is its SHA3-256. Equal keys have equal digests, and other keys other ones
  * as far as anyone knows, so that two boxes can show or compare digests and never show a key.
@@ -40,6 +41,7 @@
  *
  * A call returns 0, or the number of its refusal; wim_refusal_text has the sentence:
  *
+ *     WIM_NO_STUDIO     16   the studio's number is over 7
  *     WIM_OUT_OF_STAGE  10   the session's stage does not allow this call with this scheme
  *     WIM_NO_SCHEME      1   the scheme is not 0 to 5
  *     WIM_NO_RULE       12   the rule is not 14 or 16
@@ -52,16 +54,16 @@
  *     WIM_SECRET_BEYOND  6   a secret or noise value lies beyond the largest noise
  *     WIM_RAN_OUT        7   the stream held fewer than 1024 numbers
  *
- * 10 is that of the calls on sessions alone. 5 never arises in Frodo, 6 is for values above the
- * largest noise or below its negative, 7 and 12 are those of wim_expand and wim_grow alone, and 18
- * is that of wim_noise in BCNS alone; no seed is known for which wim_grow gives 7. 17 is for a
- * message without content, as a dead card sends it: seed and hints don't count. It is given for a
- * message received, and for one about to be sent, which is zero where secret and noise are; a zero
- * secret with some noise passes.
+ * 16 is that of the calls on a rack alone, and 10 that of these and of those on a session. 5 never
+ * arises in Frodo, 6 is for values above the largest noise or below its negative, 7 and 12 are
+ * those of wim_expand and wim_grow alone, and 18 is that of wim_noise in BCNS alone; no seed is
+ * known for which wim_grow gives 7. 17 is for a message without content, as a dead card sends it:
+ * seed and hints don't count. It is given for a message received, and for one about to be sent,
+ * which is zero where secret and noise are; a zero secret with some noise passes.
  * *place is the index of the first bad entry after 4, 5 and 6, the first entry of the table that is
  * not above its forerunner, 1 to 50, after 18, how many numbers the stream held after 7, and 0
- * after 10, 1, 12, 2, 3, 17 and a success. wim_product has lengths of its own for 2, and gives 3
- * for a scratch that is too short as well.
+ * after 16, 10, 1, 12, 2, 3, 17 and a success. wim_product has lengths of its own for 2, and gives
+ * 3 for a scratch that is too short as well.
  *
  * The tests go in the order of this table, and within one number in the order in which the inputs,
  * or for 3 the outputs, stand in the call; the first that fails is the refusal. 17 stands there for
@@ -71,8 +73,8 @@
  * After a success the answer stands at the start of its output, its length, in entries of that
  * output, in *written (where there are several, in the count with the output's name), and the rest
  * of the output is zero. An output may be longer than the answer. After a refusal each output is
- * zero from end to end, whatever it held, and each count and other number is 0. A session is no
- * output in this sense: a refused call leaves it as it is.
+ * zero from end to end, whatever it held, and each count and other number is 0. A session or a rack
+ * is no output in this sense: a refused call leaves it as it is.
  *
  *
  * WHAT A CALLER MUST SEE TO
@@ -81,9 +83,10 @@
  *   null, as an empty vector's may be; this is tested for every slice (examples/c/empty.c). place,
  *   the counts, differ, slack and slack_index each point to one number. A length counts entries,
  *   not bytes.
- * - No output, no session and none of these numbers shares memory with another argument. Inputs
- *   may share memory with each other.
- * - No other thread writes to what is lent, or touches an output or a session, during a call.
+ * - No output, session or rack and none of these numbers shares memory with another argument.
+ *   Inputs may share memory with each other.
+ * - No other thread writes to what is lent, or touches an output, a session or a rack, during a
+ *   call.
  * - There is stack for the call: WIM_STACK bytes are enough, and for wim_scrub WIM_SCRUB_STACK.
  *
  * And beyond the memory:
@@ -165,11 +168,42 @@
  * - Which peer and which message a session belongs to is the caller's to know.
  *
  *
+ * RACKS
+ *
+ * A rack keeps a session for each of WIM_STUDIOS studios, which are numbered from 0 to 7. It is
+ * WIM_RACK bytes, owned and lent as a session's are: a record of WIM_RECORD bytes for each studio,
+ * at its own fixed slot, the number of the studio first and its session at WIM_RECORD_SESSION.
+ * wim_rack_clear makes an empty one of any WIM_RACK bytes, whose sessions are idle; zeros are none
+ * yet, since the numbers are missing.
+ *
+ * wim_rack_offer, wim_rack_reply and wim_rack_finish are the calls of SESSIONS on the session of
+ * one studio, and its table holds in each slot separately. Such a call changes no byte of another
+ * slot, and no byte of another slot decides what it gives: whatever other studios do, a studio sees
+ * what it would see if it were alone. There is no common count and no limit.
+ *
+ * wim_rack_close leaves the number of its slot and WIM_SESSION zeros behind it, whatever the slot
+ * held, so that whoever takes the slot next reads zeros.
+ *
+ * A studio over 7 is refused with 16, before all else. Then a rack of another length is 10, and,
+ * but for close, so is another number than the studio's own in its slot. A refused call changes no
+ * byte of the rack.
+ *
+ * A call on a rack lends all of it, so that a rack is for one thread at a time. Eight threads serve
+ * eight studios at once by the calls on a session, each on the WIM_SESSION bytes of its own slot:
+ *
+ *     uint8_t *own = rack + WIM_RECORD * studio + WIM_RECORD_SESSION;
+ *     wim_session_reply(own, WIM_SESSION, scheme, ..);
+ *     wim_session_close(own, WIM_SESSION);
+ *
+ * They need no lock, and no call on the rack itself may run meanwhile. What they leave is what the
+ * calls on the rack would have left.
+ *
+ *
  * STACK
  *
  * What a call takes below its caller's frame at most, over all schemes, in KiB rounded up, on
  * x86-64; on Arm no more, as far as it was measured there (wim_grow, the hashes and the calls on a
- * session were not):
+ * session or a rack were not):
  *
  *     wim_offer 54      wim_reply 90       wim_finish 80
  *     wim_noise 2       wim_expand 2       wim_grow 6
@@ -177,6 +211,8 @@
  *     wim_bench 124
  *     wim_session_offer 54    wim_session_reply 91    wim_session_finish 81
  *     wim_session_close 1
+ *     wim_rack_offer 54       wim_rack_reply 91       wim_rack_finish 81
+ *     wim_rack_close 1        wim_rack_clear 1
  *
  * Measured by filling a thread's stack with a pattern and looking, after an accepted call in each
  * scheme, how deep the pattern is gone (examples/c/stack.c, which examples/c/run runs). All local
@@ -199,11 +235,11 @@
  * its factors (refusal 4), should they be secret. wim_offer and wim_reply have two more, on
  * the first number that is sent (refusal 17), which the peer sees anyway. wim_bench has those of
  * its parts, and branches on the numbers of the messages and, but in BCNS, on the keys, which it
- * compares. The calls on a session branch as those without one, and wim_session_close on nothing. A
- * refused secret is searched value by value for its place. Nothing is divided but 2^32 - 1 by q. So
- * it is in the archive for x86-64, by valgrind with the secrets marked as undefined, in all schemes
- * (runs/secrets); another compiler may do otherwise, and what the processor makes of it is not
- * measured.
+ * compares. The calls on a session or a rack branch as those without one, and close and clear on
+ * nothing. A refused secret is searched value by value for its place. Nothing is divided but 2^32 -
+ * 1 by q. So it is in the archive for x86-64, by valgrind with the secrets marked as undefined, in
+ * all schemes (runs/secrets); another compiler may do otherwise, and what the processor makes of it
+ * is not measured.
  */
 #ifndef WIMMOSTRY_H
 #define WIMMOSTRY_H
@@ -251,6 +287,7 @@ extern "C" {
 #define WIM_RAN_OUT 7
 #define WIM_OUT_OF_STAGE 10
 #define WIM_NO_RULE 12
+#define WIM_NO_STUDIO 16
 #define WIM_BLANK 17
 #define WIM_NOT_ASCENDING 18
 
@@ -399,6 +436,14 @@ extern "C" {
 #define WIM_STAGE_IDLE 0
 #define WIM_STAGE_OFFERED 1
 #define WIM_STAGE_KEYED 2
+
+/* The studios of a rack; bytes of a record, where in it the studio's number and the session stand,
+ * and bytes of a rack. */
+#define WIM_STUDIOS 8
+#define WIM_RECORD 131
+#define WIM_RECORD_STUDIO 0
+#define WIM_RECORD_SESSION 1
+#define WIM_RACK 1048
 
 /* Bytes of stack that are enough for any call on either machine, and for wim_scrub. */
 #define WIM_STACK 163840
@@ -570,6 +615,53 @@ WIM_MUST_USE uint32_t wim_session_finish(uint8_t *session, size_t session_len, u
  * gone. Returns 0 always.
  */
 uint32_t wim_session_close(uint8_t *session, size_t session_len);
+
+/*
+ * Offer, Reply and Finish on the session of a studio in a rack, which is in and out: then all is as
+ * in wim_offer, wim_reply and wim_finish. Refuse with 16, 10, and then as these do. See RACKS.
+ */
+WIM_MUST_USE uint32_t wim_rack_offer(uint8_t *rack, size_t rack_len, uint32_t studio,
+                                     uint32_t scheme, const uint32_t *a, size_t a_len,
+                                     const int32_t *s, size_t s_len,
+                                     const int32_t *e, size_t e_len,
+                                     const uint8_t *seed, size_t seed_len,
+                                     uint8_t *message, size_t message_len,
+                                     uint64_t *place, uint64_t *written);
+
+WIM_MUST_USE uint32_t wim_rack_reply(uint8_t *rack, size_t rack_len, uint32_t studio,
+                                     uint32_t scheme, const uint8_t *opening, size_t opening_len,
+                                     const uint32_t *a, size_t a_len,
+                                     const int32_t *s1, size_t s1_len,
+                                     const int32_t *e1, size_t e1_len,
+                                     const int32_t *e2, size_t e2_len,
+                                     const uint8_t *coins, size_t coins_len,
+                                     uint8_t *message, size_t message_len,
+                                     uint8_t *key, size_t key_len,
+                                     uint8_t *digest, size_t digest_len,
+                                     uint64_t *place, uint64_t *message_written,
+                                     uint64_t *key_written, uint64_t *digest_written);
+
+WIM_MUST_USE uint32_t wim_rack_finish(uint8_t *rack, size_t rack_len, uint32_t studio,
+                                      uint32_t scheme, const uint8_t *reply, size_t reply_len,
+                                      const int32_t *s, size_t s_len,
+                                      uint8_t *key, size_t key_len,
+                                      uint8_t *digest, size_t digest_len,
+                                      uint64_t *place, uint64_t *key_written,
+                                      uint64_t *digest_written,
+                                      uint64_t *slack, uint64_t *slack_index);
+
+/*
+ * Close in a rack: the studio's number and zeros behind it, whatever its slot held. Refuses with
+ * 16, and with 10 where the rack has another length.
+ */
+WIM_MUST_USE uint32_t wim_rack_close(uint8_t *rack, size_t rack_len, uint32_t studio,
+                                     uint64_t *place);
+
+/*
+ * Clear: eight idle records with their numbers, whatever the rack held. Refuses with 10 where it
+ * has another length.
+ */
+WIM_MUST_USE uint32_t wim_rack_clear(uint8_t *rack, size_t rack_len, uint64_t *place);
 
 /*
  * Overwrites what a call may have left on the stack below the caller's frame; see STACK above. The

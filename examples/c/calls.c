@@ -138,6 +138,61 @@ static uint32_t session_close(struct lent *l)
     return wim_session_close(l->session, sizeof l->session);
 }
 
+void stand_all(struct lent *l, uint8_t stage)
+{
+    stand(l, stage);
+    for (size_t i = 0; i < WIM_STUDIOS; i++) {
+        uint8_t *record = l->rack + WIM_RECORD * i;
+        record[WIM_RECORD_STUDIO] = (uint8_t)i;
+        memcpy(record + WIM_RECORD_SESSION, l->session, WIM_SESSION);
+    }
+}
+
+static uint32_t rack_offer(struct lent *l)
+{
+    const struct scheme *x = l->scheme;
+
+    stand_all(l, WIM_STAGE_IDLE);
+    return wim_rack_offer(l->rack, sizeof l->rack, STUDIO, x->number, l->a, x->a, l->s, x->s, l->e,
+                          x->s, l->seed, x->seed, l->opening, sizeof l->opening, &l->place,
+                          &l->written);
+}
+
+static uint32_t rack_reply(struct lent *l)
+{
+    const struct scheme *x = l->scheme;
+
+    stand_all(l, WIM_STAGE_IDLE);
+    return wim_rack_reply(l->rack, sizeof l->rack, STUDIO, x->number, l->opening, x->opening, l->a,
+                          x->a, l->s1, x->s, l->e1, x->s, l->e2, x->e2, l->coins, x->coins,
+                          l->reply, sizeof l->reply, l->key, sizeof l->key, l->digest,
+                          sizeof l->digest, &l->place, &l->written, &l->key_written,
+                          &l->digest_written);
+}
+
+static uint32_t rack_finish(struct lent *l)
+{
+    const struct scheme *x = l->scheme;
+
+    stand_all(l, WIM_STAGE_OFFERED);
+    return wim_rack_finish(l->rack, sizeof l->rack, STUDIO, x->number, l->reply, x->reply, l->s,
+                           x->s, l->peer_key, sizeof l->peer_key, l->peer_digest,
+                           sizeof l->peer_digest, &l->place, &l->key_written, &l->digest_written,
+                           &l->slack, &l->slack_index);
+}
+
+static uint32_t rack_close(struct lent *l)
+{
+    stand_all(l, WIM_STAGE_KEYED);
+    return wim_rack_close(l->rack, sizeof l->rack, STUDIO, &l->place);
+}
+
+static uint32_t rack_clear(struct lent *l)
+{
+    stand_all(l, WIM_STAGE_KEYED);
+    return wim_rack_clear(l->rack, sizeof l->rack, &l->place);
+}
+
 const struct call calls[CALLS] = {
     {"wim_offer", offer}, {"wim_reply", reply},   {"wim_finish", finish},
     {"wim_noise", noise}, {"wim_expand", expand}, {"wim_grow", grow},
@@ -145,6 +200,9 @@ const struct call calls[CALLS] = {
     {"wim_bench", bench},
     {"wim_session_offer", session_offer}, {"wim_session_reply", session_reply},
     {"wim_session_finish", session_finish}, {"wim_session_close", session_close},
+    {"wim_rack_offer", rack_offer}, {"wim_rack_reply", rack_reply},
+    {"wim_rack_finish", rack_finish}, {"wim_rack_close", rack_close},
+    {"wim_rack_clear", rack_clear},
 };
 
 uint32_t draw_all(struct lent *l, const struct scheme *x)

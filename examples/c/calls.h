@@ -16,7 +16,7 @@ struct lent {
     uint8_t key[WIM_MAX_KEY], peer_key[WIM_MAX_KEY];
     uint8_t digest[WIM_DIGEST], peer_digest[WIM_DIGEST];
     uint8_t shaken[500], hashed[WIM_DIGEST];
-    uint8_t session[WIM_SESSION];
+    uint8_t session[WIM_SESSION], rack[WIM_RACK];
     uint64_t place, written, key_written, digest_written, differ, slack, slack_index;
 };
 
@@ -25,18 +25,23 @@ struct call {
     uint32_t (*make)(struct lent *);
 };
 
-#define CALLS 14
+#define CALLS 19
 enum {
     OFFER, REPLY, FINISH, NOISE, EXPAND, GROW, SHAKE128, SHA3_256, PRODUCT, BENCH,
-    SESSION_OFFER, SESSION_REPLY, SESSION_FINISH, SESSION_CLOSE
+    SESSION_OFFER, SESSION_REPLY, SESSION_FINISH, SESSION_CLOSE,
+    RACK_OFFER, RACK_REPLY, RACK_FINISH, RACK_CLOSE, RACK_CLEAR
 };
 
-/* In this order, so that Reply finds an opening and Finish a reply. Those on a session put it into
- * the stage that they need. */
+/* In this order, so that Reply finds an opening and Finish a reply. Those on a session or a rack
+ * put it into the stage that they need. */
 extern const struct call calls[CALLS];
 
-/* A session in a stage, of the scheme; keyed, with the replier's key. */
+/* A session in a stage, of the scheme; keyed, with the replier's key. And a rack of such. */
 void stand(struct lent *lent, uint8_t stage);
+void stand_all(struct lent *lent, uint8_t stage);
+
+/* The studio that the calls on the rack are for. */
+#define STUDIO 5
 
 /* Draws every input of a scheme, once the table was read. 0 or the refusal. */
 uint32_t draw_all(struct lent *lent, const struct scheme *scheme);

@@ -208,6 +208,65 @@ static void session_close(int nulls)
          WIM_DONE);
 }
 
+/* So it is with a rack. */
+static void rack_offer(int nulls)
+{
+    const size_t lengths[] = {x->a, x->s, x->s, x->seed};
+    uint32_t refusal;
+
+    stand_all(&lent, WIM_STAGE_IDLE);
+    refusal = wim_rack_offer(LEND(0, lent.rack, WIM_RACK), STUDIO, x->number,
+                             LEND(1, lent.a, x->a), LEND(2, lent.s, x->s), LEND(3, lent.e, x->s),
+                             LEND(4, lent.seed, x->seed), LEND(5, lent.opening, x->opening), &place,
+                             &written);
+    held("wim_rack_offer", nulls, refusal, in_stage(nulls, lengths, 4, 1));
+}
+
+static void rack_reply(int nulls)
+{
+    const size_t lengths[] = {x->opening, x->a, x->s, x->s, x->e2, x->coins};
+    uint32_t refusal;
+
+    stand_all(&lent, WIM_STAGE_IDLE);
+    refusal = wim_rack_reply(LEND(0, lent.rack, WIM_RACK), STUDIO, x->number,
+                             LEND(1, lent.opening, x->opening), LEND(2, lent.a, x->a),
+                             LEND(3, lent.s1, x->s), LEND(4, lent.e1, x->s),
+                             LEND(5, lent.e2, x->e2), LEND(6, lent.coins, x->coins),
+                             LEND(7, lent.reply, x->reply), LEND(8, lent.key, x->key),
+                             LEND(9, lent.digest, WIM_DIGEST), &place, &written, &key_written,
+                             &digest_written);
+    held("wim_rack_reply", nulls, refusal, in_stage(nulls, lengths, 6, 3));
+}
+
+static void rack_finish(int nulls)
+{
+    const size_t lengths[] = {x->reply, x->s};
+    uint32_t refusal;
+
+    stand_all(&lent, WIM_STAGE_OFFERED);
+    slack = slack_index = 9;
+    refusal = wim_rack_finish(LEND(0, lent.rack, WIM_RACK), STUDIO, x->number,
+                              LEND(1, lent.reply, x->reply), LEND(2, lent.s, x->s),
+                              LEND(3, lent.key, x->key), LEND(4, lent.digest, WIM_DIGEST), &place,
+                              &written, &digest_written, &slack, &slack_index);
+    held("wim_rack_finish", nulls, refusal, in_stage(nulls, lengths, 2, 2));
+}
+
+static void rack_close(int nulls)
+{
+    written = 0;
+    held("wim_rack_close", nulls,
+         wim_rack_close(LEND(0, lent.rack, WIM_RACK), STUDIO, &place),
+         nulls ? WIM_OUT_OF_STAGE : WIM_DONE);
+}
+
+static void rack_clear(int nulls)
+{
+    written = 0;
+    held("wim_rack_clear", nulls, wim_rack_clear(LEND(0, lent.rack, WIM_RACK), &place),
+         nulls ? WIM_OUT_OF_STAGE : WIM_DONE);
+}
+
 static int made;
 
 /* None empty, each of the slices in turn, and all of them. */
@@ -249,6 +308,13 @@ int main(void)
         session_reply(0);
         each(session_finish, 5);
         each(session_close, 1);
+        each(rack_offer, 6);
+        rack_offer(0);
+        each(rack_reply, 10);
+        rack_reply(0);
+        each(rack_finish, 5);
+        each(rack_close, 1);
+        each(rack_clear, 1);
     }
     printf("null pointers at length 0: %d calls, %d wrong\n", made, failures);
     return failures == 0 ? EXIT_SUCCESS : EXIT_FAILURE;

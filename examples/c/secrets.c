@@ -17,14 +17,16 @@ static struct lent lent;
 static void hide(size_t call)
 {
     const struct scheme *x = lent.scheme;
-    int offers = call == OFFER || call == SESSION_OFFER || call == BENCH;
-    int finishes = call == FINISH || call == SESSION_FINISH;
+    int bench = call == BENCH;
+    int offers = call == OFFER || call == SESSION_OFFER || call == RACK_OFFER || bench;
+    int replies = call == REPLY || call == SESSION_REPLY || call == RACK_REPLY || bench;
+    int finishes = call == FINISH || call == SESSION_FINISH || call == RACK_FINISH;
 
     if (offers || finishes)
         HIDE(lent.s, x->s);
     if (offers)
         HIDE(lent.e, x->s);
-    if (call == REPLY || call == SESSION_REPLY || call == BENCH) {
+    if (replies) {
         HIDE(lent.s1, x->s);
         HIDE(lent.e1, x->s);
         HIDE(lent.e2, x->e2);
@@ -38,7 +40,8 @@ static void hide(size_t call)
         HIDE(lent.factors[0], WIM_PRODUCT);
         HIDE(lent.factors[1], WIM_PRODUCT);
     }
-    if (call == SESSION_CLOSE) /* which lays it into the session */
+    /* these lay it into the session, or into all of a rack */
+    if (call == SESSION_CLOSE || call == RACK_CLOSE || call == RACK_CLEAR)
         HIDE(lent.key, x->key);
 }
 

@@ -17,7 +17,7 @@
 //! with it; each call takes its secrets for good, so that one used twice does
 //! not compile. A [`Key`] is wiped likewise, and neither prints what it holds.
 //! The [`Digest`] beside a key is its SHA3-256, which can be shown. A [`Session`]
-//! keeps one end in step and holds its key.
+//! keeps one end in step and holds its key, a [`Rack`] the sessions of eight studios.
 //!
 //! ```
 //! use wimmostry::{grow, Initiator, Refusal, Replier, Rule, Scheme, Secret};
@@ -87,6 +87,7 @@ pub mod raw;
 mod exchange;
 mod expand;
 mod hash;
+mod rack;
 mod refusal;
 mod schemes;
 mod secret;
@@ -95,6 +96,7 @@ mod session;
 pub use exchange::{Finished, Initiator, Offered, Replied, Replier};
 pub use expand::{expand, grow, Rule, EXPAND_NUMBERS, EXPAND_STREAM};
 pub use hash::{sha3_256, shake128, Digest, HASH_INPUT};
+pub use rack::{Rack, Slot, Studio, RACK, RECORD};
 pub use raw::{product, scrub, Slack};
 pub use refusal::Refusal;
 pub use schemes::{Scheme, Sizes};

@@ -10,6 +10,7 @@
 use crate::{Refusal, Scheme};
 
 pub mod ffi;
+pub mod rack;
 pub mod session;
 
 /// The answer, or the refusal that a number other than 0 names.

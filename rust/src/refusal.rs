@@ -7,6 +7,8 @@ use core::fmt;
 /// be sent it comes last.
 #[derive(Clone, Copy, Debug, PartialEq, Eq, Hash)]
 pub enum Refusal {
+    /// 16: the studio's number is over 7.
+    NoStudio,
     /// 10: the session's stage does not allow this call with this scheme.
     OutOfStage,
     /// 1: the scheme is not 0 to 5.
@@ -36,9 +38,10 @@ pub enum Refusal {
 }
 
 impl Refusal {
-    /// The number, 1 to 7, 10, 12, 17 or 18.
+    /// The number, 1 to 7, 10, 12 or 16 to 18.
     pub const fn number(self) -> u32 {
         match self {
+            Refusal::NoStudio => 16,
             Refusal::OutOfStage => 10,
             Refusal::NoScheme => 1,
             Refusal::NoRule => 12,
@@ -57,7 +60,8 @@ impl Refusal {
     /// how many numbers a stream held; 0 where there is none.
     pub fn place(self) -> usize {
         match self {
-            Refusal::OutOfStage
+            Refusal::NoStudio
+            | Refusal::OutOfStage
             | Refusal::NoScheme
             | Refusal::NoRule
             | Refusal::Length
@@ -82,6 +86,7 @@ impl Refusal {
     pub(crate) fn told(number: u32, place: u64) -> Refusal {
         let place = crate::raw::count(place);
         match number {
+            16 => Refusal::NoStudio,
             10 => Refusal::OutOfStage,
             1 => Refusal::NoScheme,
             12 => Refusal::NoRule,
@@ -102,7 +107,8 @@ impl fmt::Display for Refusal {
     fn fmt(&self, f: &mut fmt::Formatter) -> fmt::Result {
         write!(f, "refusal {}: {}", self.number(), self.text())?;
         match self {
-            Refusal::OutOfStage
+            Refusal::NoStudio
+            | Refusal::OutOfStage
             | Refusal::NoScheme
             | Refusal::NoRule
             | Refusal::Length

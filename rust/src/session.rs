@@ -133,6 +133,59 @@ impl From<Unfinished<'_>> for Refusal {
     }
 }
 
+/// An offer on a session: s stays with the initiator.
+pub(crate) fn offered<'s, 'm>(
+    scheme: Scheme,
+    s: Secret<'s>,
+    message: &'m mut [u8],
+    call: impl FnOnce(&[i32], &mut [u8]) -> Result<usize, Refusal>,
+) -> Result<Offered<'s, 'm>, Refusal> {
+    let written = call(s.entries(), message)?;
+    Ok(Offered {
+        initiator: Initiator { scheme, s },
+        opening: &message[..written],
+    })
+}
+
+/// A reply on a session, which keeps the key: what the call gives of it besides is
+/// wiped.
+pub(crate) fn answered(
+    message: &mut [u8],
+    call: impl FnOnce(&mut [u8], &mut [u8], &mut [u8]) -> Result<(usize, usize, usize), Refusal>,
+) -> Result<Answered<'_>, Refusal> {
+    let (mut key, mut digest) = ([0; Sizes::LARGEST.key], [0; 32]);
+    let mut key = Secret::new(&mut key);
+    let (written, _, _) = call(message, key.entries_mut(), &mut digest)?;
+    Ok(Answered {
+        message: &message[..written],
+        digest: Digest(digest),
+    })
+}
+
+/// A finish on a session, likewise.
+pub(crate) fn linked(
+    initiator: Initiator<'_>,
+    call: impl FnOnce(&[i32], &mut [u8], &mut [u8]) -> Result<(usize, usize, Slack), Refusal>,
+) -> Result<Linked, Unfinished<'_>> {
+    let (mut key, mut digest) = ([0; Sizes::LARGEST.key], [0; 32]);
+    let mut key = Secret::new(&mut key);
+    match call(initiator.s.entries(), key.entries_mut(), &mut digest) {
+        Ok((_, _, slack)) => Ok(Linked {
+            digest: Digest(digest),
+            slack,
+        }),
+        Err(refusal) => Err(Unfinished { refusal, initiator }),
+    }
+}
+
+/// The key in the bytes of a session, once it is there.
+pub(crate) fn key(session: &[u8]) -> Option<&[u8]> {
+    match Stage::of(session)? {
+        Stage::Keyed(scheme) => Some(&session[KEY..][..scheme.sizes().key]),
+        Stage::Idle | Stage::Offered(_) => None,
+    }
+}
+
 impl<'b> Session<'b> {
     /// An idle session: what the buffer holds is zeroed.
     pub fn new(bytes: &'b mut [u8; SESSION]) -> Session<'b> {
@@ -156,10 +209,7 @@ impl<'b> Session<'b> {
     /// The raw key, once it is there. Hash it, together with both messages,
     /// before use, and close the session.
     pub fn key(&self) -> Option<&[u8]> {
-        match self.stage()? {
-            Stage::Keyed(scheme) => Some(&self.0[KEY..][..scheme.sizes().key]),
-            Stage::Idle | Stage::Offered(_) => None,
-        }
+        key(self.0)
     }
 
     /// [`Initiator::offer`] when idle, which leads to offered with that scheme.
@@ -179,10 +229,8 @@ impl<'b> Session<'b> {
         message: &'m mut [u8],
     ) -> Result<Offered<'s, 'm>, Refusal> {
         let (number, e) = (scheme.number(), e.entries());
-        let written = raw::session::offer(self.0, number, a, s.entries(), e, seed, message)?;
-        Ok(Offered {
-            initiator: Initiator { scheme, s },
-            opening: &message[..written],
+        offered(scheme, s, message, |s, message| {
+            raw::session::offer(self.0, number, a, s, e, seed, message)
         })
     }
 
@@ -200,24 +248,20 @@ impl<'b> Session<'b> {
         a: &[u32],
         message: &'m mut [u8],
     ) -> Result<Answered<'m>, Refusal> {
-        let (mut key, mut digest) = ([0; Sizes::LARGEST.key], [0; 32]);
-        let mut key = Secret::new(&mut key);
-        let (written, _, _) = raw::session::reply(
-            self.0,
-            replier.scheme.number(),
-            opening,
-            a,
-            replier.s1.entries(),
-            replier.e1.entries(),
-            replier.e2.entries(),
-            replier.coins.entries(),
-            message,
-            key.entries_mut(),
-            &mut digest,
-        )?;
-        Ok(Answered {
-            message: &message[..written],
-            digest: Digest(digest),
+        answered(message, |message, key, digest| {
+            raw::session::reply(
+                self.0,
+                replier.scheme.number(),
+                opening,
+                a,
+                replier.s1.entries(),
+                replier.e1.entries(),
+                replier.e2.entries(),
+                replier.coins.entries(),
+                message,
+                key,
+                digest,
+            )
         })
     }
 
@@ -234,16 +278,10 @@ impl<'b> Session<'b> {
         initiator: Initiator<'s>,
         reply: &[u8],
     ) -> Result<Linked, Unfinished<'s>> {
-        let (mut key, mut digest) = ([0; Sizes::LARGEST.key], [0; 32]);
-        let mut key = Secret::new(&mut key);
-        let (number, s) = (initiator.scheme.number(), initiator.s.entries());
-        match raw::session::finish(self.0, number, reply, s, key.entries_mut(), &mut digest) {
-            Ok((_, _, slack)) => Ok(Linked {
-                digest: Digest(digest),
-                slack,
-            }),
-            Err(refusal) => Err(Unfinished { refusal, initiator }),
-        }
+        let number = initiator.scheme.number();
+        linked(initiator, |s, key, digest| {
+            raw::session::finish(self.0, number, reply, s, key, digest)
+        })
     }
 
     /// Zeroes the key, whatever the stage: the session is idle.

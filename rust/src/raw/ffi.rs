@@ -204,6 +204,73 @@ extern "C" {
         slack_index: *mut u64,
     ) -> u32;
     pub fn wim_session_close(session: *mut u8, session_len: usize) -> u32;
+    pub fn wim_rack_offer(
+        rack: *mut u8,
+        rack_len: usize,
+        studio: u32,
+        scheme: u32,
+        a: *const u32,
+        a_len: usize,
+        s: *const i32,
+        s_len: usize,
+        e: *const i32,
+        e_len: usize,
+        seed: *const u8,
+        seed_len: usize,
+        message: *mut u8,
+        message_len: usize,
+        place: *mut u64,
+        written: *mut u64,
+    ) -> u32;
+    pub fn wim_rack_reply(
+        rack: *mut u8,
+        rack_len: usize,
+        studio: u32,
+        scheme: u32,
+        opening: *const u8,
+        opening_len: usize,
+        a: *const u32,
+        a_len: usize,
+        s1: *const i32,
+        s1_len: usize,
+        e1: *const i32,
+        e1_len: usize,
+        e2: *const i32,
+        e2_len: usize,
+        coins: *const u8,
+        coins_len: usize,
+        message: *mut u8,
+        message_len: usize,
+        key: *mut u8,
+        key_len: usize,
+        digest: *mut u8,
+        digest_len: usize,
+        place: *mut u64,
+        message_written: *mut u64,
+        key_written: *mut u64,
+        digest_written: *mut u64,
+    ) -> u32;
+    pub fn wim_rack_finish(
+        rack: *mut u8,
+        rack_len: usize,
+        studio: u32,
+        scheme: u32,
+        reply: *const u8,
+        reply_len: usize,
+        s: *const i32,
+        s_len: usize,
+        key: *mut u8,
+        key_len: usize,
+        digest: *mut u8,
+        digest_len: usize,
+        place: *mut u64,
+        key_written: *mut u64,
+        digest_written: *mut u64,
+        slack: *mut u64,
+        slack_index: *mut u64,
+    ) -> u32;
+    pub fn wim_rack_close(rack: *mut u8, rack_len: usize, studio: u32, place: *mut u64) -> u32;
+    pub fn wim_rack_clear(rack: *mut u8, rack_len: usize, place: *mut u64) -> u32;
     pub fn wim_scrub();
     pub fn wim_version() -> *const c_char;
     pub fn wim_refusal_text(refusal: u32) -> *const c_char;

@@ -21,6 +21,7 @@ mod held;
 mod lent;
 mod links;
 mod products;
+mod racks;
 mod residue;
 mod sessions;
 mod sizes;

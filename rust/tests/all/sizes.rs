@@ -79,6 +79,14 @@ fn of_the_header() {
     assert_eq!(header["SESSION"], header["SESSION_KEY"] + header["MAX_KEY"]);
     let (stage, scheme) = (header["SESSION_STAGE"], header["SESSION_SCHEME"]);
     assert_eq!((stage, scheme, header["SESSION_KEY"]), (0, 1, 2));
+    assert_eq!(header["STUDIOS"], second::rack::STUDIOS as u64);
+    assert_eq!(header["RECORD"], second::rack::RECORD as u64);
+    assert_eq!(
+        header["RECORD"],
+        header["RECORD_SESSION"] + header["SESSION"]
+    );
+    assert_eq!(header["RECORD_STUDIO"], 0);
+    assert_eq!(header["RACK"], second::rack::BYTES as u64);
     for (name, stage) in [
         ("STAGE_IDLE", second::session::Stage::Idle),
         ("STAGE_OFFERED", second::session::Stage::Offered(&SIX[0])),
@@ -127,4 +135,7 @@ fn of_this_package() {
     assert_eq!(wimmostry::EXPAND_STREAM, second::expand::LONGEST);
     assert_eq!(wimmostry::HASH_INPUT, second::hash::LONGEST);
     assert_eq!(wimmostry::SESSION, second::session::BYTES);
+    assert_eq!(wimmostry::Studio::ALL.len(), second::rack::STUDIOS);
+    assert_eq!(wimmostry::RECORD, second::rack::RECORD);
+    assert_eq!(wimmostry::RACK, second::rack::BYTES);
 }
