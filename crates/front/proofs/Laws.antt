@@ -29,7 +29,7 @@ use Rattle.blank.specs.Blank.{blank}
 use Rattle.blank.proofs.Laws.{blank-packed}
 use Rattle.front.specs.Front.{numberOf, numberIn, _then_, lengthIs, lengthUpTo, roomFor, tableIn, publicsIn, messageIn, notBlank, secretsIn, held}
 use Rattle.front.specs.declared.Refusal.{Refusal}
-use Rattle.front.specs.declared.Refusal.the-variants.{NoScheme, BadLength, Short, PublicOver, MessageOver, SecretBeyond, RanOut, NoRule, Blank, NotAscending, OutOfStage, NoStudio}
+use Rattle.front.specs.declared.Refusal.the-variants.{NoScheme, BadLength, Short, PublicOver, MessageOver, SecretBeyond, RanOut, Misfit, OutOfStage, NoRule, NewerFormat, NoStudio, Blank, NotAscending}
 use Rattle.front.specs.declared.Verdict.{Verdict}
 use Rattle.front.specs.declared.Verdict.the-variants.{Pass, Fail}
 
@@ -44,11 +44,13 @@ some (PublicOver k) = omega arith
 some (MessageOver k) = omega arith
 some (SecretBeyond k) = omega arith
 some (RanOut k) = omega arith
+some Misfit = omega arith
+some OutOfStage = omega arith
 some NoRule = omega arith
+some NewerFormat = omega arith
+some NoStudio = omega arith
 some Blank = omega arith
 some (NotAscending k) = omega arith
-some OutOfStage = omega arith
-some NoStudio = omega arith
 
 pub number-zero : (v : Verdict) → 0 ≡ numberIn v → v ≡ Pass
 number-zero Pass e = refl

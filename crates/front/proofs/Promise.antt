@@ -21,7 +21,7 @@ use Rattle.lists.specs.declared.Peak.{Peak}
 use Rattle.lists.proofs.Same.{restored}
 use Rattle.front.specs.Front.{numberOf, placeOf, countIn, held}
 use Rattle.front.specs.declared.Refusal.{Refusal}
-use Rattle.front.specs.declared.Refusal.the-variants.{NoScheme, BadLength, Short, PublicOver, MessageOver, SecretBeyond, RanOut, NoRule, Blank, NotAscending, OutOfStage, NoStudio}
+use Rattle.front.specs.declared.Refusal.the-variants.{NoScheme, BadLength, Short, PublicOver, MessageOver, SecretBeyond, RanOut, Misfit, OutOfStage, NoRule, NewerFormat, NoStudio, Blank, NotAscending}
 use Rattle.front.specs.declared.Verdict.{Verdict}
 use Rattle.front.specs.declared.Verdict.the-variants.{Pass, Fail}
 use Rattle.front.proofs.Laws.{some}
@@ -106,11 +106,13 @@ refusalBy k p =
     (cond (eqb k 5) (MessageOver p)
     (cond (eqb k 6) (SecretBeyond p)
     (cond (eqb k 7) (RanOut p)
-    (cond (eqb k 12) NoRule
-    (cond (eqb k 17) Blank
-    (cond (eqb k 18) (NotAscending p)
+    (cond (eqb k 8) Misfit
     (cond (eqb k 10) OutOfStage
-    NoStudio))))))))))
+    (cond (eqb k 12) NoRule
+    (cond (eqb k 15) NewerFormat
+    (cond (eqb k 16) NoStudio
+    (cond (eqb k 17) Blank
+    (NotAscending p)))))))))))))
 
 back : (r : Refusal) → refusalBy (numberOf r) (placeOf r) ≡ r
 unfolding refusalBy
@@ -121,11 +123,13 @@ back (PublicOver k) = refl
 back (MessageOver k) = refl
 back (SecretBeyond k) = refl
 back (RanOut k) = refl
+back Misfit = refl
+back OutOfStage = refl
 back NoRule = refl
+back NewerFormat = refl
+back NoStudio = refl
 back Blank = refl
 back (NotAscending k) = refl
-back OutOfStage = refl
-back NoStudio = refl
 
 pub same-refusal : (a b : Refusal) → numberOf a ≡ numberOf b → placeOf a ≡ placeOf b → a ≡ b
 same-refusal a b e f = cc (back a, back b)

@@ -22,7 +22,7 @@ use lib.ListN.{length, replicate}
 use Rattle.lists.specs.First.{firstOver, firstBeyond}
 use Rattle.blank.specs.Blank.{blank}
 use Rattle.front.specs.declared.Refusal.{Refusal}
-use Rattle.front.specs.declared.Refusal.the-variants.{NoScheme, BadLength, Short, PublicOver, MessageOver, SecretBeyond, RanOut, NoRule, Blank, NotAscending, OutOfStage, NoStudio}
+use Rattle.front.specs.declared.Refusal.the-variants.{NoScheme, BadLength, Short, PublicOver, MessageOver, SecretBeyond, RanOut, Misfit, OutOfStage, NoRule, NewerFormat, NoStudio, Blank, NotAscending}
 use Rattle.front.specs.declared.Verdict.{Verdict}
 use Rattle.front.specs.declared.Verdict.the-variants.{Pass, Fail}
 
@@ -34,11 +34,13 @@ numberOf (PublicOver k) = 4
 numberOf (MessageOver k) = 5
 numberOf (SecretBeyond k) = 6
 numberOf (RanOut k) = 7
+numberOf Misfit = 8
+numberOf OutOfStage = 10
 numberOf NoRule = 12
+numberOf NewerFormat = 15
+numberOf NoStudio = 16
 numberOf Blank = 17
 numberOf (NotAscending k) = 18
-numberOf OutOfStage = 10
-numberOf NoStudio = 16
 
 abbrev pub placeOf : Refusal → ℕ
 placeOf NoScheme = 0
@@ -48,11 +50,13 @@ placeOf (PublicOver k) = k
 placeOf (MessageOver k) = k
 placeOf (SecretBeyond k) = k
 placeOf (RanOut k) = k
+placeOf Misfit = 0
+placeOf OutOfStage = 0
 placeOf NoRule = 0
+placeOf NewerFormat = 0
+placeOf NoStudio = 0
 placeOf Blank = 0
 placeOf (NotAscending k) = k
-placeOf OutOfStage = 0
-placeOf NoStudio = 0
 
 abbrev pub numberIn : Verdict → ℕ
 numberIn Pass = 0

@@ -16,11 +16,13 @@ pub enum Refusal {
     MessageOver(usize),
     SecretBeyond(usize),
     RanOut(usize),
+    Misfit,
+    OutOfStage,
     NoRule,
+    NewerFormat,
+    NoStudio,
     Blank,
     NotAscending(usize),
-    OutOfStage,
-    NoStudio,
 }
 
 impl Refusal {
@@ -35,11 +37,13 @@ impl Refusal {
             Refusal::MessageOver(_) => 5,
             Refusal::SecretBeyond(_) => 6,
             Refusal::RanOut(_) => 7,
+            Refusal::Misfit => 8,
+            Refusal::OutOfStage => 10,
             Refusal::NoRule => 12,
+            Refusal::NewerFormat => 15,
+            Refusal::NoStudio => 16,
             Refusal::Blank => 17,
             Refusal::NotAscending(_) => 18,
-            Refusal::OutOfStage => 10,
-            Refusal::NoStudio => 16,
         }
     }
 
@@ -54,11 +58,13 @@ impl Refusal {
             Refusal::MessageOver(k) => k,
             Refusal::SecretBeyond(k) => k,
             Refusal::RanOut(k) => k,
+            Refusal::Misfit => 0,
+            Refusal::OutOfStage => 0,
             Refusal::NoRule => 0,
+            Refusal::NewerFormat => 0,
+            Refusal::NoStudio => 0,
             Refusal::Blank => 0,
             Refusal::NotAscending(k) => k,
-            Refusal::OutOfStage => 0,
-            Refusal::NoStudio => 0,
         }
     }
 }

@@ -1,5 +1,6 @@
 -- A number and a line are read as what was written, and nothing else is.
 --   number-forth, number-back   the text of a number is read as that number, and nothing else is
+--   begins-front                a text that a label stands before begins with it
 --   line-forth, line-back       the same of a line
 --   told-number, told-within, told-other   what was found at a position
 use mathlib.Core.Path.{_≡_, refl, _∙_, sym, ap, ap₂, subst}
@@ -76,7 +77,7 @@ number-back {n} {ys} xs = go (wellFormed xs) refl
 
 -- ---- a line
 
-begins-front : (label zs : List ℕ) → begins label (label ++ zs) ≡ true
+pub begins-front : (label zs : List ℕ) → begins label (label ++ zs) ≡ true
 unfolding begins
 begins-front [] zs = refl
 begins-front (c ∷ cs) zs = rw (eq-eqb c c refl) (begins-front cs zs)

@@ -1,4 +1,5 @@
 -- Reading: what the functions that take a text apart rest on.
+--   less                    below is not at most
 --   not-digit               no digit: below '0' or above '9'
 --   Valued, valued-none, valued-more, valued-all, valued-room   a loop over digits: before, at each turn, after; and its numbers fit
 --   few, many, ended, formed   the tests of `wellFormed`, the first three failing
@@ -29,7 +30,7 @@ use Rattle.text.specs.declared.Found.the-variants as found
 
 -- ---- digits
 
-less : (x y : ℕ) → ltb x y ≡ not (leb y x)
+pub less : (x y : ℕ) → ltb x y ≡ not (leb y x)
 less x y = go (leb y x) refl
   where
     go : (t : Bool) → leb y x ≡ t → ltb x y ≡ not t

@@ -89,7 +89,8 @@ fn number(s: &[u8], at: usize) -> Found
     }
 }
 
-fn begins_with(label: &[u8], s: &[u8]) -> bool
+// Whether s begins with a label.
+pub fn begins_with(label: &[u8], s: &[u8]) -> bool
     ensures { λ r. ⌜ r ≡ begins (now (label .entry)) (now (s .entry)) ⌝ }
 {
     let mut i: usize = 0;
@@ -133,7 +134,8 @@ fn write_number(n: u64, out: &mut [u8], at: usize) -> usize
     end + 1
 }
 
-fn write_text(text: &[u8], out: &mut [u8], at: usize) -> usize
+// A text as it is.
+pub fn write_text(text: &[u8], out: &mut [u8], at: usize) -> usize
     requires { ⌜ at + length (now text) ≤ length (now out) ⌝ }
     ensures { λ r. ⌜ Written at (now (text .entry)) (now (out .entry)) (now (out .exit)) r ⌝ }
 {

@@ -1,0 +1,170 @@
+-- What the reader's steps rest on, each in the terms of `Settings`.
+--   padded                                 a label in its 16 bytes
+--   few, many, unended, formed             the tests of `wellSpelled`, the first three failing
+--   spelled-size, spelled-kept, spelled-misfit, last-room, last-spelled, last-misfit   the label's line
+--   tail-two, tail-none, tail-more, tail-end, end-short   what stands behind the rule
+--   rule-other, rule-read, rule-bad, scheme-.., format-..   the lines, where they are other text, read, or bad
+use mathlib.Core.Path.{_≡_, refl, _∙_, sym, ap}
+use mathlib.Core.Bool.{Bool, true, false, cond, _||_, _&&_}
+use mathlib.Core.List.{List, [], _∷_, _++_}
+use Prim.Native.Nat.{ℕ, suc, _+_, _-_, _≤_, _<_}
+use native.Mathlib.Numerals.{add-one}
+use native.Mathlib.Omega.{arith}
+use lib.Dec.{eqb, leb, ltb}
+use lib.ListN.{length, getD, take, drop, replicate, length-append, length-drop, drop-of-length-le}
+use lib.Seq.{drop-cons}
+use borrow.Author.Tests.{leb-true, eqb-true, le-leb, lt-leb, lt-ltb, le-ltb, eq-eqb, ne-eqb}
+use Rattle.lists.specs.Table.{both}
+use Rattle.lists.proofs.Table.{both-true}
+use Rattle.lists.proofs.Parts.{part, to-end, drop-same}
+use Rattle.text.specs.Text.{LF, schemeName, Read, number, other, begins, fieldIn}
+use Rattle.text.specs.Steps.{Reads, labelIn}
+use Rattle.text.specs.declared.Found.{Found}
+use Rattle.text.specs.declared.Found.the-variants as found
+use Rattle.text.proofs.Reading.{begins-is}
+use Rattle.text.proofs.Lines.{told-number, told-within, told-other}
+use Rattle.settings.specs.Settings.{keptOf, formatName, ruleName, labelName, isScheme, isRule, letters, kept, newer, misfit, wellSpelled, spelledIn, lastIn, endIn, tailIn, ruleIn, schemeIn, formatIn, reads}
+
+-- ---- a label
+
+pub padded : {p : List ℕ} (l : List ℕ) → p ≡ l → p ++ drop (length l) (replicate 16 0) ≡ l ++ replicate (16 - length l) 0
+padded l e = rw (e, drop-same)
+
+module _ (xs : List ℕ) where
+  pub few : letters xs < 1 → false ≡ wellSpelled xs
+  unfolding wellSpelled
+  few h = rw (lt-leb 1 (letters xs) h)
+
+  module _ (h : 1 ≤ letters xs) where
+    pub many : 16 < letters xs → false ≡ wellSpelled xs
+    unfolding wellSpelled
+    many l = rw (le-leb 1 (letters xs) h, lt-leb (letters xs) 16 l)
+
+    module _ (l : letters xs ≤ 16) where
+      pub unended : length xs ≤ letters xs → false ≡ wellSpelled xs
+      unfolding wellSpelled
+      unended e = rw (le-leb 1 (letters xs) h, le-leb (letters xs) 16 l, ne-eqb (length xs) (suc (letters xs)) (λ z. omega arith))
+
+      pub formed : (eqb (length xs) (letters xs + 1) && eqb (getD xs (letters xs) 0) LF) ≡ wellSpelled xs
+      unfolding wellSpelled
+      formed =
+          rw (le-leb 1 (letters xs) h, le-leb (letters xs) 16 l, add-one)
+          (go (eqb (length xs) (suc (letters xs))) (eqb (getD xs (letters xs) 0) LF))
+        where
+          go : (s t : Bool) → (s && t) ≡ both s t
+          go true true = refl
+          go true false = refl
+          go false t = refl
+
+module _ (xs : List ℕ) {n : ℕ} (r : n ≡ letters xs) where
+  pub spelled-size : true ≡ wellSpelled xs → (n ≤ 16) × (n ≤ length xs)
+  unfolding wellSpelled
+  spelled-size w =
+      let n = letters xs in
+      let stop = eqb (getD xs n 0) LF in
+      let t = both-true (leb 1 n) (both (leb n 16) (both (eqb (length xs) (suc n)) stop)) (sym w) in
+      let u = both-true (leb n 16) (both (eqb (length xs) (suc n)) stop) (t .1) in
+      let v = both-true (eqb (length xs) (suc n)) stop (u .1) in
+      (omega (arith, leb-true (letters xs) 16 (u .0)), omega (arith, eqb-true (length xs) (suc (letters xs)) (v .0)))
+
+  pub spelled-kept : (a b : ℕ) → true ≡ wellSpelled xs → kept (keptOf a b (take n xs)) ≡ spelledIn a b xs
+  unfolding spelledIn
+  spelled-kept a b w = rw (← w, r)
+
+pub spelled-misfit : (a b : ℕ) (xs : List ℕ) → false ≡ wellSpelled xs → misfit ≡ spelledIn a b xs
+unfolding spelledIn
+spelled-misfit a b xs w = rw (← w)
+
+abbrev pub label= : List ℕ
+label= = labelName ++ 61 ∷ []
+
+module _ (a b : ℕ) (s : List ℕ) (at : ℕ) where
+  pub last-room : true ≡ begins label= (part s at) → 6 ≤ length (part s at)
+  last-room w = omega (arith, ap length (begins-is label= (part s at) (sym w)) ∙ length-append label= (drop 6 (part s at)))
+
+  pub last-spelled : true ≡ begins label= (part s at) → spelledIn a b (part (part s at) 6) ≡ lastIn a b (drop at s)
+  unfolding lastIn
+  last-spelled w =
+      let v : true ≡ begins label= (drop at s) = rw (to-end s at) at w in
+      rw (to-end (part s at) 6, to-end s at, ← v)
+
+  pub last-misfit : false ≡ begins label= (part s at) → misfit ≡ lastIn a b (drop at s)
+  unfolding lastIn
+  last-misfit w =
+      let v : false ≡ begins label= (drop at s) = rw (to-end s at) at w in
+      rw (← v)
+
+-- ---- what stands behind the rule
+
+module _ (f a b : ℕ) (s : List ℕ) (at : ℕ) where
+  pub tail-two : f ≡ 2 → lastIn a b (drop at s) ≡ tailIn f a b (drop at s)
+  unfolding tailIn
+  tail-two e = rw e
+
+  pub tail-none : (f ≡ 2 → ⊥) → (f ≡ 1 → ⊥) → misfit ≡ tailIn f a b (drop at s)
+  unfolding tailIn
+  tail-none g h = rw (ne-eqb f 1 h, ne-eqb f 2 g)
+
+  pub tail-more : f ≡ 1 → at < length s → misfit ≡ tailIn f a b (drop at s)
+  unfolding tailIn endIn
+  tail-more e l = rw (e, drop-cons s at 0 l)
+
+  pub tail-end : f ≡ 1 → length s ≤ at → kept (keptOf a b (part s at)) ≡ tailIn f a b (drop at s)
+  unfolding tailIn endIn
+  tail-end e l = rw (e, to-end s at, drop-of-length-le s l)
+
+pub end-short : (s : List ℕ) (at : ℕ) → length s ≤ at → length (part s at) ≤ 16
+end-short s at l = omega (arith, ap length (to-end s at), length-drop at s)
+
+-- ---- the lines
+
+abbrev pub rule= : List ℕ
+rule= = ruleName ++ 61 ∷ []
+
+abbrev pub scheme= : List ℕ
+scheme= = schemeName ++ 61 ∷ []
+
+abbrev pub format= : List ℕ
+format= = formatName ++ 61 ∷ []
+
+module _ (f a : ℕ) (s : List ℕ) (at : ℕ) {g : Found} (r : Reads s g (labelIn rule= (drop at s))) where
+  pub rule-other : g ≡ found.Other → misfit ≡ ruleIn f a (fieldIn ruleName (drop at s))
+  unfolding ruleIn
+  rule-other e = rw (told-other ruleName s at r e)
+
+  module _ {b k : ℕ} (e : g ≡ found.Number b k) where
+    pub rule-read : isRule b ≡ true → tailIn f a b (drop k s) ≡ ruleIn f a (fieldIn ruleName (drop at s))
+    unfolding ruleIn
+    rule-read w = rw (told-number ruleName s at r e, w)
+
+    pub rule-bad : isRule b ≡ false → misfit ≡ ruleIn f a (fieldIn ruleName (drop at s))
+    unfolding ruleIn
+    rule-bad w = rw (told-number ruleName s at r e, w)
+
+module _ (f : ℕ) (s : List ℕ) (at : ℕ) {g : Found} (r : Reads s g (labelIn scheme= (drop at s))) where
+  pub scheme-other : g ≡ found.Other → misfit ≡ schemeIn f (fieldIn schemeName (drop at s))
+  unfolding schemeIn
+  scheme-other e = rw (told-other schemeName s at r e)
+
+  module _ {a k : ℕ} (e : g ≡ found.Number a k) where
+    pub scheme-read : isScheme a ≡ true → ruleIn f a (fieldIn ruleName (drop k s)) ≡ schemeIn f (fieldIn schemeName (drop at s))
+    unfolding schemeIn
+    scheme-read w = rw (told-number schemeName s at r e, w)
+
+    pub scheme-bad : isScheme a ≡ false → misfit ≡ schemeIn f (fieldIn schemeName (drop at s))
+    unfolding schemeIn
+    scheme-bad w = rw (told-number schemeName s at r e, w)
+
+module _ (reader : ℕ) (s : List ℕ) {g : Found} (r : Reads s g (labelIn format= (drop 0 s))) where
+  pub format-other : g ≡ found.Other → misfit ≡ reads reader s
+  unfolding reads formatIn
+  format-other e = rw (told-other formatName s 0 r e)
+
+  module _ {f k : ℕ} (e : g ≡ found.Number f k) where
+    pub format-newer : reader < f → newer f ≡ reads reader s
+    unfolding reads formatIn
+    format-newer l = rw (told-number formatName s 0 r e, lt-ltb reader f l)
+
+    pub format-read : f ≤ reader → schemeIn f (fieldIn schemeName (drop k s)) ≡ reads reader s
+    unfolding reads formatIn
+    format-read l = rw (told-number formatName s 0 r e, le-ltb reader f l)

@@ -1,0 +1,217 @@
+-- What the writer's steps rest on.
+--   size-is                        how long the text of settings is
+--   known-no-scheme, known-no-rule, known-both   its first two tests, as they are made
+--   letter-fails, letters-pass     its last one
+--   passed, tests-failed, tests-go-on   the tests in two parts
+--   Accepted, accepted             what it says of settings that all tests pass
+--   label-none, label-left, lines-left   a label's line, and all lines, in parts
+--   write-refused, write-done      the promise where a test fails, and where the lines were written over zeros
+--   one-written, stored-back       what follows of it
+use mathlib.Core.Path.{_≡_, refl, _∙_, sym, ap}
+use mathlib.Core.Logic.{_⊎_, inl, inr}
+use mathlib.Core.Bool.{Bool, true, false, cond}
+use mathlib.Core.List.{List, [], _∷_, _++_, append-nil}
+use Prim.Native.Nat.{ℕ, zero, suc, _+_, _-_, _≤_, _<_}
+use native.Mathlib.Omega.{arith}
+use lib.ListN.{length, take, replicate, length-append}
+use lib.Seq.{take-append-seam}
+use borrow.Author.Tests.{leb-true, le-leb, lt-leb, ne-eqb}
+use Rattle.front.specs.Front.{numberOf, placeOf, _then_, lengthUpTo, roomFor, held}
+use Rattle.front.specs.declared.Refusal.{Refusal}
+use Rattle.front.specs.declared.Refusal.the-variants.{NoScheme, NoRule, Misfit}
+use Rattle.front.specs.declared.Verdict.{Verdict}
+use Rattle.front.specs.declared.Verdict.the-variants.{Pass, Fail}
+use Rattle.front.proofs.Laws.{both, number-zero, differ, stays, goes-on, also, up-to-passed, room-passed}
+use Rattle.front.proofs.Promise.{told-passed, told-failed, wrote-failed, same-answer}
+use Rattle.text.specs.Text.{LF, digitsUpTo, decimal, schemeName, line}
+use Rattle.text.specs.Steps.{labelled, Written}
+use Rattle.text.proofs.Writing.{joined, Left, left-all, written-none, one-digit, line-length}
+use Rattle.text.proofs.Answer.{answers}
+use Rattle.text.proofs.Runs.{run-within}
+use Rattle.settings.specs.Settings.{Kept, formatName, ruleName, labelName, formatOf, labelLine, textOf, isScheme, isRule, notAllowed, letters, Valid, kept, reads}
+use Rattle.settings.specs.Answers.{sizeOf}
+use Rattle.settings.specs.Calls.{schemeKnown, ruleKnown, allowed, writeTests, SettingsWritten, OneWritten}
+use Rattle.settings.specs.Shown.{StoredBack}
+use Rattle.settings.proofs.Known.{scheme-small, rule-is}
+use Rattle.settings.proofs.Inverse.{back}
+use Rattle.settings.proofs.Steps.{label=, rule=, scheme=, format=}
+
+-- ---- how long
+
+format-digit : (n : ℕ) → length (decimal (formatOf n)) ≡ 1
+unfolding formatOf decimal digitsUpTo
+format-digit zero = refl
+format-digit (suc n) = refl
+
+rule-digits : (b : ℕ) → isRule b ≡ true → length (decimal b) ≡ 2
+unfolding decimal digitsUpTo
+rule-digits b e = go (rule-is b e)
+  where
+    go : (b ≡ 14) ⊎ (b ≡ 16) → length (decimal b) ≡ 2
+    go (inl p) = ap (λ (n : ℕ). length (decimal n)) p
+    go (inr p) = ap (λ (n : ℕ). length (decimal n)) p
+
+label-size : (l : List ℕ) → 26 + length (labelLine l) ≡ sizeOf (length l)
+unfolding labelLine
+label-size [] = refl
+label-size (x ∷ l) = rw (ne-eqb (suc (length l)) 0 (λ z. omega arith)) (simp length-append (omega arith))
+
+pub size-is : (x : Kept) → isScheme (x .scheme) ≡ true → isRule (x .rule) ≡ true → length (textOf x) ≡ sizeOf (length (x .label))
+unfolding textOf
+size-is x h k =
+    let a = x .scheme in
+    let l = x .label in
+    simp (length-append, line-length)
+    (omega (arith, format-digit (length l), ap length (one-digit a (omega (arith, scheme-small a h))), rule-digits (x .rule) k, label-size l))
+
+-- ---- the tests
+
+module _ (a b : ℕ) where
+  pub known-no-scheme : isScheme a ≡ false → Fail NoScheme ≡ schemeKnown a then ruleKnown b
+  unfolding _then_ schemeKnown
+  known-no-scheme e = rw e
+
+  pub known-no-rule : isScheme a ≡ true → isRule b ≡ false → Fail NoRule ≡ schemeKnown a then ruleKnown b
+  unfolding _then_ schemeKnown ruleKnown
+  known-no-rule e f = rw (e, f)
+
+  pub known-both : isScheme a ≡ true → isRule b ≡ true → Pass ≡ schemeKnown a then ruleKnown b
+  unfolding _then_ schemeKnown ruleKnown
+  known-both e f = rw (e, f)
+
+scheme-passed : (a : ℕ) → schemeKnown a ≡ Pass → isScheme a ≡ true
+unfolding schemeKnown
+scheme-passed a = go (isScheme a)
+  where
+    go : (t : Bool) → cond t Pass (Fail NoScheme) ≡ Pass → t ≡ true
+    go true e = refl
+    go false e = differ e
+
+rule-passed : (b : ℕ) → ruleKnown b ≡ Pass → isRule b ≡ true
+unfolding ruleKnown
+rule-passed b = go (isRule b)
+  where
+    go : (t : Bool) → cond t Pass (Fail NoRule) ≡ Pass → t ≡ true
+    go true e = refl
+    go false e = differ e
+
+allowed-passed : (l : List ℕ) → allowed l ≡ Pass → letters l ≡ length l
+unfolding allowed letters
+allowed-passed l e = omega (arith, leb-true (length l) (letters l) (go _ e), run-within notAllowed l)
+  where
+    go : (t : Bool) → cond t Pass (Fail Misfit) ≡ Pass → t ≡ true
+    go true e = refl
+    go false e = differ e
+
+module _ {v : Verdict} (l : List ℕ) {n : ℕ} (p : v ≡ Pass) (e : n ≡ letters l) where
+  pub letter-fails : n < length l → Fail Misfit ≡ v then allowed l
+  unfolding allowed
+  letter-fails h = goes-on p (rw (← e, lt-leb (length l) n h))
+
+  pub letters-pass : length l ≤ n → Pass ≡ v then allowed l
+  unfolding allowed
+  letters-pass h = goes-on p (rw (← e, le-leb (length l) n h))
+
+-- the first three tests, and their verdict v
+module _ (x : Kept) (room : ℕ) {u v : Verdict} (e : u ≡ schemeKnown (x .scheme) then ruleKnown (x .rule))
+    (f : v ≡ u then lengthUpTo (length (x .label)) 16) where
+  front-is : v ≡ schemeKnown (x .scheme) then ruleKnown (x .rule) then lengthUpTo (length (x .label)) 16
+  front-is = also f e refl
+
+  pub tests-failed : {r : Refusal} → v ≡ Fail r → v ≡ writeTests x room
+  unfolding writeTests
+  tests-failed g = rw (← front-is) (stays _ g ∙ stays _ (sym (stays _ g) ∙ g))
+
+  module _ (g : v ≡ Pass) where
+    pub label-short : length (x .label) ≤ 16
+    label-short = up-to-passed _ 16 (both _ _ (sym front-is ∙ g) .1)
+
+    text-long : length (textOf x) ≡ sizeOf (length (x .label))
+    text-long =
+        let k = both _ _ (both _ _ (sym front-is ∙ g) .0) in
+        size-is x (scheme-passed _ (k .0)) (rule-passed _ (k .1))
+
+    pub tests-go-on : {m : ℕ} {w z : Verdict} → m ≡ sizeOf (length (x .label)) → w ≡ Pass then roomFor room m → z ≡ w then allowed (x .label)
+        → z ≡ writeTests x room
+    unfolding writeTests _then_
+    tests-go-on {m} s o h =
+        let q : m ≡ length (textOf x) = s ∙ sym text-long in
+        h ∙ rw (o, q, ← front-is, g)
+
+pub record Accepted (x : Kept) (room : ℕ) : Type 0 where
+  pub valid : Valid x
+  pub fits : length (textOf x) ≤ room
+
+pub accepted : {x : Kept} {room : ℕ} → writeTests x room ≡ Pass → Accepted x room
+unfolding writeTests
+accepted {x} {room} e =
+    let a = both _ _ e in
+    let b = both _ _ (a .0) in
+    let c = both _ _ (b .0) in
+    let d = both _ _ (c .0) in
+    record {
+      valid =
+          record {
+            scheme = scheme-passed _ (d .0);
+            rule = rule-passed _ (d .1);
+            short = up-to-passed _ 16 (c .1);
+            bytes = allowed-passed (x .label) (a .1);
+          };
+      fits = room-passed room _ (b .1);
+    }
+
+-- ---- the lines
+
+pub label-none : (l d : List ℕ) (at : ℕ) → length l ≡ 0 → Written at (labelLine l) d d at
+unfolding labelLine
+label-none [] d at e = written-none d at
+label-none (x ∷ l) d at e = absurd (omega arith)
+
+label-parts : (l : List ℕ) → (length l ≡ 0 → ⊥) → labelLine l ≡ joined (label= ∷ l ∷ (LF ∷ []) ∷ [])
+unfolding labelLine joined
+label-parts [] n = absurd (n refl)
+label-parts (x ∷ l) n = refl
+
+pub label-left : (l d : List ℕ) (at : ℕ) → (length l ≡ 0 → ⊥) → at + length (labelLine l) ≤ length d
+    → Left at (labelLine l) d (label= ∷ l ∷ (LF ∷ []) ∷ []) d at
+label-left l d at n h = left-all at (label= ∷ l ∷ (LF ∷ []) ∷ []) d (label-parts l n) h
+
+-- with f the format's number
+abbrev parts : ℕ → Kept → List (List ℕ)
+parts f x = labelled format= f ∷ labelled scheme= (x .scheme) ∷ labelled rule= (x .rule) ∷ labelLine (x .label) ∷ []
+
+lines-are : (f : ℕ) (x : Kept) → f ≡ formatOf (length (x .label)) → textOf x ≡ joined (parts f x)
+unfolding textOf line labelled joined
+lines-are f x e =
+    ap (λ (k : ℕ). line formatName k ++ (line schemeName (x .scheme) ++ (line ruleName (x .rule) ++ labelLine (x .label)))) (sym e)
+    ∙ ap (λ (t : List ℕ). line formatName f ++ (line schemeName (x .scheme) ++ (line ruleName (x .rule) ++ t))) (sym (append-nil (labelLine (x .label))))
+
+pub lines-left : (x : Kept) (d : List ℕ) {f : ℕ} → f ≡ formatOf (length (x .label)) → length (textOf x) ≤ length d → Left 0 (textOf x) d (parts f x) d 0
+lines-left x d {f} e h = left-all 0 (parts f x) d (lines-are f x e) (omega arith)
+
+-- ---- the promise; an output of n bytes has k of them still, once it is zeroed
+
+module _ (x : Kept) {n k : ℕ} {v : Verdict} (h : k ≡ n) (e : v ≡ writeTests x k) where
+  tests : v ≡ writeTests x n
+  tests = e ∙ ap (writeTests x) h
+
+  pub write-refused : {r : Refusal} {out : List ℕ} → v ≡ Fail r → out ≡ replicate n 0 → SettingsWritten x (numberOf r) (placeOf r) n 0 out
+  write-refused f z = let g = sym tests ∙ f in record { told = told-failed g; bytes = wrote-failed g z }
+
+  pub write-done : {old out : List ℕ} {r : ℕ} → v ≡ Pass → old ≡ replicate n 0 → Written 0 (textOf x) old out r → SettingsWritten x 0 0 n r out
+  unfolding held
+  write-done {old} {out} {r} f z w =
+      let g = sym tests ∙ f in
+      let o = answers n refl (rw z at w) in
+      record { told = told-passed g; bytes = record { counts = rw (g, o .count); holds = rw g (o .holds ∙ rw (o .count)) } }
+
+pub one-written : OneWritten
+one-written x n r r′ out out′ p q = (same-answer r r′ (cc) (cc) (cc), cc)
+
+pub stored-back : StoredBack
+unfolding held
+stored-back x place n count out p =
+    let g = number-zero (writeTests x n) (p .told .refusal) in
+    let c : count ≡ length (textOf x) = p .bytes .counts ∙ rw g in
+    let o : out ≡ textOf x ++ replicate (n - length (textOf x)) 0 = p .bytes .holds ∙ rw g in
+    rw (c, o, take-append-seam) (back x (accepted g .valid))

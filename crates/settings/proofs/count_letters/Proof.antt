@@ -1,0 +1,49 @@
+-- `settings::count_letters` meets its contract: it searches for the first byte that is no capital letter or digit.
+use mathlib.Core.Path.{_∙_, sym}
+use Prim.Native.Nat.{_-_}
+use native.Mathlib.Omega.{arith}
+use borrow.Author.Needs.{needs}
+use lib.ListN.{length}
+use Rattle.lists.proofs.First.{Passed, passed-none, passed-more, found, missing}
+use Rattle.settings.specs.Settings.{notAllowed, letters}
+use Rattle.settings.proofs.count_letters.Statement.{statement}
+use Rattle.settings.proofs.count_letters.Tie as tie
+
+abbrev Inv-loop : tie.InvT-loop
+Inv-loop s i₀ i = Passed notAllowed s 0 i
+
+abbrev μ-loop : tie.MeasureT-loop
+μ-loop s i₀ i = length s - i
+
+loop-holds : tie.Need-loop-holds Inv-loop μ-loop
+loop-holds c = passed-none notAllowed _ 0
+
+shared-slice-read-not-allowed : tie.Need-shared-slice-read-not-allowed Inv-loop μ-loop
+shared-slice-read-not-allowed c = omega arith
+
+not-allowed-requires : tie.Need-not-allowed-requires Inv-loop μ-loop
+not-allowed-requires c κs = search needs
+
+returns : tie.Need-returns Inv-loop μ-loop
+unfolding letters
+returns c =
+    let a = c .before .before .before .before in
+    found notAllowed _ 0 (a .loop .i) (a .loop .inv) (omega arith) (sym (c .before .not-allowed .ensures) ∙ c .if1 .taken)
+
+add-i : tie.Need-add-i Inv-loop μ-loop
+add-i c = omega arith
+
+loop-less : tie.Need-loop-less Inv-loop μ-loop
+loop-less c = omega arith
+
+loop-again : tie.Need-loop-again Inv-loop μ-loop
+loop-again c =
+    let a = c .before .before .before .before in
+    passed-more notAllowed _ 0 (a .loop .i) (a .loop .inv) (omega arith) (sym (c .before .not-allowed .ensures) ∙ c .if1 .left)
+
+returns-2 : tie.Need-returns-2 Inv-loop μ-loop
+unfolding letters
+returns-2 c = missing notAllowed _ 0 (c .before .loop .i) (c .before .loop .inv) (c .loop-test .left)
+
+pub count-letters-spec : {M : Type 1} → statement M
+count-letters-spec = tie.close (tie.spec Inv-loop μ-loop loop-holds shared-slice-read-not-allowed not-allowed-requires returns add-i loop-less loop-again returns-2)

@@ -1,0 +1,37 @@
+-- `settings::reader::found` meets its contract.
+use mathlib.Core.Path.{sym, ap}
+use native.Mathlib.Omega.{arith}
+use mathlib.Core.List.{List}
+use Prim.Native.Nat.{ℕ}
+use lib.ListN.{length, replicate}
+use lib.Seq.{length-take-le}
+use Rattle.settings.proofs.Steps.{padded}
+use Rattle.settings.specs.declared.ReadAnswer.{ReadAnswer}
+use Rattle.settings.specs.declared.Ending.the-variants as ending
+use borrow.Author.Needs.{needs}
+use Rattle.settings.proofs.reader.found.Statement.{statement}
+use Rattle.settings.proofs.reader.found.Tie as tie
+
+array-borrow-prefix-bytes : tie.Need-array-borrow-prefix-bytes
+array-borrow-prefix-bytes c = search needs
+
+slice-aggregate-copy-bytes : tie.Need-slice-aggregate-copy-bytes
+slice-aggregate-copy-bytes c = sym (length-take-le {A = ℕ} (length (c .before .before .args .label .now)) (replicate 16 0) (omega arith))
+
+copy-bytes-requires : tie.Need-copy-bytes-requires
+copy-bytes-requires c κs = sym (length-take-le {A = ℕ} (length (c .before .before .args .label .now)) (replicate 16 0) (omega arith))
+
+returns : tie.Need-returns
+returns c =
+    let a = c .before .before .before .before in
+    ap {B = ReadAnswer}
+    (λ (l : List ℕ). record {
+      ending = ending.Read;
+      settings = record { scheme = a .args .scheme; rule = a .args .rule; label = l; count = length (a .args .label .now) };
+    })
+    (padded (a .args .label .now) (c .before .copy-bytes .ensures))
+
+pub found-spec : {M : Type 1} → statement M
+found-spec =
+    tie.close
+    (tie.spec array-borrow-prefix-bytes slice-aggregate-copy-bytes copy-bytes-requires returns)

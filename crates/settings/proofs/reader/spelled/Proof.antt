@@ -1,0 +1,65 @@
+-- `settings::reader::spelled` meets its contract.
+use mathlib.Core.Path.{_∙_, sym, ap}
+use native.Mathlib.Omega.{arith}
+use Prim.Native.Nat.{_≤_}
+use lib.ListN.{length, length-take}
+use lib.Seq.{length-take-le}
+use Rattle.settings.specs.Answers.{answerOf}
+use Rattle.settings.proofs.Steps.{spelled-size, spelled-kept, spelled-misfit}
+use borrow.Author.Needs.{needs}
+use Rattle.settings.proofs.reader.spelled.Statement.{statement}
+use Rattle.settings.proofs.reader.spelled.Tie as tie
+
+count-letters-requires : tie.Need-count-letters-requires
+count-letters-requires c κs = search needs
+
+well-spelled-requires : tie.Need-well-spelled-requires
+well-spelled-requires c κs = search needs
+
+-- the letters lie within the text
+size : (c : tie.Then1)
+    → let n = c .before .before .count-letters .result in
+    (n ≤ 16) × (n ≤ length (c .before .before .before .before .args .s .now))
+size c =
+    let s : tie.Start = search needs in
+    let n : tie.After-count-letters = search needs in
+    let w : tie.After-well-spelled = search needs in
+    spelled-size (s .args .s .now) (n .count-letters .ensures) (sym (c .if1 .taken) ∙ w .well-spelled .ensures)
+
+slice-aggregate-found : tie.Need-slice-aggregate-found
+slice-aggregate-found c = sym (length-take-le _ _ (size (c .before) .1))
+
+found-requires : tie.Need-found-requires
+found-requires c κs = simp length-take (omega (arith, size (c .before) .0))
+
+nothing-requires : tie.Need-nothing-requires
+nothing-requires c κs = search needs
+
+returns : tie.Need-returns
+returns c =
+    let s : tie.Start = search needs in
+    let n : tie.After-count-letters = search needs in
+    let w : tie.After-well-spelled = search needs in
+    let t : tie.Then1 = search needs in
+    c .found .ensures
+    ∙ ap answerOf
+    (spelled-kept (s .args .s .now) (n .count-letters .ensures) (s .args .scheme) (s .args .rule) (sym (t .if1 .taken) ∙ w .well-spelled .ensures))
+
+returns-2 : tie.Need-returns-2
+returns-2 c =
+    let s : tie.Start = search needs in
+    let w : tie.After-well-spelled = search needs in
+    let t : tie.Else1 = search needs in
+    c .nothing .ensures ∙ ap answerOf (spelled-misfit (s .args .scheme) (s .args .rule) (s .args .s .now) (sym (t .if1 .left) ∙ w .well-spelled .ensures))
+
+pub spelled-spec : {M : Type 1} → statement M
+spelled-spec =
+    tie.close
+    (tie.spec
+    count-letters-requires
+    well-spelled-requires
+    slice-aggregate-found
+    found-requires
+    nothing-requires
+    returns
+    returns-2)

@@ -1,0 +1,35 @@
+-- `settings::writer::known` meets its contract.
+use mathlib.Core.Path.{_∙_, sym}
+use Rattle.settings.proofs.Store.{known-no-scheme, known-no-rule, known-both}
+use borrow.Author.Needs.{needs}
+use Rattle.settings.proofs.writer.known.Statement.{statement}
+use Rattle.settings.proofs.writer.known.Tie as tie
+
+is-scheme-requires : tie.Need-is-scheme-requires
+is-scheme-requires c κs = search needs
+
+is-rule-requires : tie.Need-is-rule-requires
+is-rule-requires c κs = search needs
+
+returns : tie.Need-returns
+returns c =
+    let s : tie.Start = search needs in
+    let a : tie.After-is-scheme = search needs in
+    let b : tie.After-is-rule = search needs in
+    known-both (s .args .scheme) (s .args .rule) (sym (a .is-scheme .ensures) ∙ c .before .before .if1 .taken) (sym (b .is-rule .ensures) ∙ c .if2 .taken)
+
+returns-2 : tie.Need-returns-2
+returns-2 c =
+    let s : tie.Start = search needs in
+    let a : tie.After-is-scheme = search needs in
+    let b : tie.After-is-rule = search needs in
+    known-no-rule (s .args .scheme) (s .args .rule) (sym (a .is-scheme .ensures) ∙ c .before .before .if1 .taken) (sym (b .is-rule .ensures) ∙ c .if2 .left)
+
+returns-3 : tie.Need-returns-3
+returns-3 c =
+    let s : tie.Start = search needs in
+    let a : tie.After-is-scheme = search needs in
+    known-no-scheme (s .args .scheme) (s .args .rule) (sym (a .is-scheme .ensures) ∙ c .if1 .left)
+
+pub known-spec : {M : Type 1} → statement M
+known-spec = tie.close (tie.spec is-scheme-requires is-rule-requires returns returns-2 returns-3)

@@ -1,0 +1,62 @@
+-- `settings::writer::write_label` meets its contract.
+use native.Mathlib.Omega.{arith}
+use Rattle.text.proofs.Writing.{left-room, left-next, left-none}
+use Rattle.settings.proofs.Store.{label-none, label-left}
+use borrow.Author.Needs.{needs}
+use Rattle.settings.proofs.writer.write_label.Statement.{statement}
+use Rattle.settings.proofs.writer.write_label.Tie as tie
+
+returns : tie.Need-returns
+returns c = let s : tie.Start = search needs in label-none (s .args .label .now) (s .args .out .now) (s .args .at) (omega arith)
+
+slice-aggregate-write-text : tie.Need-slice-aggregate-write-text
+slice-aggregate-write-text c = search needs
+
+write-text-requires : tie.Need-write-text-requires
+write-text-requires c κs =
+    let s : tie.Start = search needs in
+    let l = label-left (s .args .label .now) (s .args .out .now) (s .args .at) (λ z. omega arith) (s .pre) in
+    left-room l
+
+write-text-requires-2 : tie.Need-write-text-requires-2
+write-text-requires-2 c κs =
+    let s : tie.Start = search needs in
+    let l = label-left (s .args .label .now) (s .args .out .now) (s .args .at) (λ z. omega arith) (s .pre) in
+    let i : tie.After-write-text = search needs in
+    left-room (left-next l (i .write-text .ensures))
+
+slice-aggregate-write-text-2 : tie.Need-slice-aggregate-write-text-2
+slice-aggregate-write-text-2 c = search needs
+
+write-text-requires-3 : tie.Need-write-text-requires-3
+write-text-requires-3 c κs =
+    let s : tie.Start = search needs in
+    let l = label-left (s .args .label .now) (s .args .out .now) (s .args .at) (λ z. omega arith) (s .pre) in
+    let i : tie.After-write-text = search needs in
+    let j : tie.After-write-text2 = search needs in
+    left-room (left-next (left-next l (i .write-text .ensures)) (j .write-text2 .ensures))
+
+same-length : tie.Need-same-length
+same-length c = search needs
+
+returns-2 : tie.Need-returns-2
+returns-2 c =
+    let k : tie.After-write-text3 = search needs in
+    let j : tie.After-write-text2 = search needs in
+    let i : tie.After-write-text = search needs in
+    let s : tie.Start = search needs in
+    let l = label-left (s .args .label .now) (s .args .out .now) (s .args .at) (λ z. omega arith) (s .pre) in
+    left-none (left-next (left-next (left-next l (i .write-text .ensures)) (j .write-text2 .ensures)) (k .write-text3 .ensures))
+
+pub write-label-spec : {M : Type 1} → statement M
+write-label-spec =
+    tie.close
+    (tie.spec
+    returns
+    slice-aggregate-write-text
+    write-text-requires
+    write-text-requires-2
+    slice-aggregate-write-text-2
+    write-text-requires-3
+    same-length
+    returns-2)

@@ -1,0 +1,132 @@
+-- The settings of a box as text: 02, request h.
+--   Kept                what is kept: a scheme, a rule, and a label, empty where there is none
+--   keptOf              the same from its three parts
+--   formatOf n          the oldest format that holds a label of n bytes: 1 where there are none, else 2
+--   textOf x            the text of the settings x
+--   isScheme, isRule    whether a number names a scheme, a rule
+--   letters xs          how many capital letters and digits xs begins with
+--   Valid x             what settings are: a scheme, a rule, a label of at most 16 capital letters and digits
+--   reads reader xs     what a reader of the formats up to its own makes of the text xs: settings, a newer format by its number, or a misfit
+use mathlib.Core.Path.{_≡_}
+use mathlib.Core.Bool.{Bool, true, false, cond}
+use mathlib.Core.List.{List, [], _∷_, _++_}
+use Prim.Native.Nat.{ℕ, zero, suc, _≤_}
+use lib.Dec.{eqb, leb, ltb}
+use lib.ListN.{length, getD, take, drop}
+use Rattle.lists.specs.First.{firstWhere}
+use Rattle.lists.specs.Table.{both}
+use Rattle.schemes.specs.Schemes.{schemeOf}
+use Rattle.schemes.specs.declared.Named.{Named}
+use Rattle.schemes.specs.declared.Named.the-variants as named
+use Rattle.noise.specs.Expand.{ruleOf}
+use Rattle.noise.specs.declared.Ruled.{Ruled}
+use Rattle.noise.specs.declared.Ruled.the-variants as ruled
+use Rattle.text.specs.Text.{LF, schemeName, line, Read, number, other, isDigit, begins, fieldIn}
+
+pub record Kept : Type 0 where
+  pub scheme : ℕ
+  pub rule : ℕ
+  pub label : List ℕ
+
+abbrev pub keptOf : ℕ → ℕ → List ℕ → Kept
+keptOf a b l = record { scheme = a; rule = b; label = l }
+
+-- ---- the text of settings
+
+-- `format`, `rule`, `label` in bytes
+abbrev pub formatName : List ℕ
+formatName = 102 ∷ 111 ∷ 114 ∷ 109 ∷ 97 ∷ 116 ∷ []
+
+abbrev pub ruleName : List ℕ
+ruleName = 114 ∷ 117 ∷ 108 ∷ 101 ∷ []
+
+abbrev pub labelName : List ℕ
+labelName = 108 ∷ 97 ∷ 98 ∷ 101 ∷ 108 ∷ []
+
+unfoldable pub formatOf : ℕ → ℕ
+formatOf zero = 1
+formatOf (suc n) = 2
+
+-- the last line of format 2, and none in format 1
+unfoldable pub labelLine : List ℕ → List ℕ
+labelLine [] = []
+labelLine (x ∷ l) = (labelName ++ 61 ∷ []) ++ ((x ∷ l) ++ LF ∷ [])
+
+unfoldable pub textOf : Kept → List ℕ
+textOf x = line formatName (formatOf (length (x .label))) ++ (line schemeName (x .scheme) ++ (line ruleName (x .rule) ++ labelLine (x .label)))
+
+-- ---- what settings are
+
+abbrev pub someScheme : Named → Bool
+someScheme (named.Is s) = true
+someScheme named.Unknown = false
+
+abbrev pub someRule : Ruled → Bool
+someRule (ruled.By r) = true
+someRule ruled.Unknown = false
+
+unfoldable pub isScheme : ℕ → Bool
+isScheme a = someScheme (schemeOf a)
+
+unfoldable pub isRule : ℕ → Bool
+isRule b = someRule (ruleOf b)
+
+-- no digit and no capital letter
+unfoldable pub notAllowed : ℕ → Bool
+notAllowed c = cond (isDigit c) false (cond (both (leb 65 c) (leb c 90)) false true)
+
+unfoldable pub letters : List ℕ → ℕ
+letters xs = firstWhere notAllowed xs
+
+pub record Valid (x : Kept) : Type 0 where
+  pub scheme : isScheme (x .scheme) ≡ true
+  pub rule : isRule (x .rule) ≡ true
+  pub short : length (x .label) ≤ 16
+  pub bytes : letters (x .label) ≡ length (x .label)
+
+-- ---- reading: the lines one after the other, and nothing behind them
+
+pub data Reading : Type 0 where
+  kept : Kept → Reading
+  newer : ℕ → Reading
+  misfit : Reading
+
+-- 1 to 16 capital letters and digits, LF, and nothing behind
+unfoldable pub wellSpelled : List ℕ → Bool
+wellSpelled xs =
+    both (leb 1 (letters xs))
+    (both (leb (letters xs) 16)
+    (both (eqb (length xs) (suc (letters xs)))
+    (eqb (getD xs (letters xs) 0) LF)))
+
+unfoldable pub spelledIn : ℕ → ℕ → List ℕ → Reading
+spelledIn a b xs = cond (wellSpelled xs) (kept (keptOf a b (take (letters xs) xs))) misfit
+
+-- behind the rule in format 2: the label's line
+unfoldable pub lastIn : ℕ → ℕ → List ℕ → Reading
+lastIn a b xs = cond (begins (labelName ++ 61 ∷ []) xs) (spelledIn a b (drop 6 xs)) misfit
+
+-- and in format 1: nothing
+unfoldable pub endIn : ℕ → ℕ → List ℕ → Reading
+endIn a b [] = kept (keptOf a b [])
+endIn a b (x ∷ xs) = misfit
+
+-- a format that is not newer and not one of these two is a misfit
+unfoldable pub tailIn : ℕ → ℕ → ℕ → List ℕ → Reading
+tailIn f a b xs = cond (eqb f 1) (endIn a b xs) (cond (eqb f 2) (lastIn a b xs) misfit)
+
+unfoldable pub ruleIn : ℕ → ℕ → Read → Reading
+ruleIn f a (number b xs) = cond (isRule b) (tailIn f a b xs) misfit
+ruleIn f a other = misfit
+
+unfoldable pub schemeIn : ℕ → Read → Reading
+schemeIn f (number a xs) = cond (isScheme a) (ruleIn f a (fieldIn ruleName xs)) misfit
+schemeIn f other = misfit
+
+-- the first line alone says whether the format is newer
+unfoldable pub formatIn : ℕ → Read → Reading
+formatIn reader (number f xs) = cond (ltb reader f) (newer f) (schemeIn f (fieldIn schemeName xs))
+formatIn reader other = misfit
+
+unfoldable pub reads : ℕ → List ℕ → Reading
+reads reader xs = formatIn reader (fieldIn formatName xs)
