@@ -5,12 +5,14 @@
 //! in the command line's line is not told here.
 
 use crate::calls::{bench, expand, finish, grow, noise, offer, reply, sha3_256, shake128, Bench};
+use crate::calls::{settings_read, settings_write, Read};
 use crate::expand::COUNT;
 use crate::hash::DIGEST;
 use crate::reconcile::Slack;
 use crate::refusal::Refusal;
 use crate::schemes::scheme;
 use crate::session;
+use crate::settings::LABEL;
 use crate::table;
 use crate::trace::trace;
 use std::io::{self, Error};
@@ -114,6 +116,21 @@ pub fn run(words: &[&str]) -> io::Result<String> {
                 Bench::Differ(bit) => format!("differ={bit}\n{}", used(slack)),
             })))
         }
+        ["settings", "read", file] => {
+            let mut label = [0; LABEL];
+            let read = settings_read(2, &bytes(file)?, &mut label);
+            Ok(told(read.told.map(|n| lines_of(&read, &label[..n]))))
+        }
+        ["settings", "write", no, rule, ref rest @ .., out] => {
+            let label = rest.first().map_or(&b""[..], |label| label.as_bytes());
+            let mut text = [0; 64];
+            let done = settings_write(number(no)?, number(rule)?, label, &mut text);
+            // after a refusal what stood there stays
+            if let Ok(n) = done {
+                write(out, &text[..n])?;
+            }
+            Ok(told(done.map(|n| format!("written={n}\n"))))
+        }
         ["session", file, ref call @ ..] => session::files::run(file, call),
         ["trace", file] => String::from_utf8(trace(&bytes(file)?)).map_err(Error::other),
         _ => Err(Error::other("no such command")),
@@ -127,6 +144,21 @@ pub(crate) fn told(done: Result<String, Refusal>) -> String {
 pub(crate) fn used(slack: Slack) -> String {
     let Slack { largest, index } = slack;
     format!("slack={largest}\nslack_index={index}\n")
+}
+
+/// The lines of settings read, the label's where there is one.
+fn lines_of(read: &Read, label: &[u8]) -> String {
+    let Read {
+        format,
+        scheme,
+        rule,
+        ..
+    } = read;
+    let lines = format!("format={format}\nscheme={scheme}\nrule={rule}\n");
+    match label {
+        [] => lines,
+        _ => format!("{lines}label={}\n", String::from_utf8_lossy(label)),
+    }
 }
 
 pub(crate) fn number<T: FromStr<Err = ParseIntError>>(word: &str) -> io::Result<T> {

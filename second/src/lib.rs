@@ -29,6 +29,7 @@ pub mod reconcile;
 pub mod refusal;
 pub mod schemes;
 pub mod session;
+pub mod settings;
 pub mod signed;
 pub mod table;
 pub mod trace;

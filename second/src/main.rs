@@ -1,6 +1,6 @@
-//! Prints expectations: `second line`, `second trace`, `second cards`,
-//! `second margins`, `second vectors`, `second failure` and `second table`;
-//! `second box` makes the calls on files.
+//! Prints expectations: `second line`, `second trace`, `second settings`,
+//! `second cards`, `second margins`, `second vectors`, `second failure` and
+//! `second table`; `second box` makes the calls on files.
 
 use second::table::{lines, table};
 use std::io::{self, Read, Write};
@@ -11,6 +11,7 @@ second, the independent second program
 
   second line      the line program: standard input to standard output
   second trace     the trace program: standard input to standard output
+  second settings  settings read and written: frames on standard input, a line each
   second cards     all bench cards, one line each: inputs, a colon, outputs
   second margins   Bench near the margin, a line for each worked run
   second vectors   all calls on good and damaged inputs, one line a case
@@ -25,6 +26,7 @@ fn main() -> ExitCode {
     let done = match words[..] {
         ["line"] => text(second::line::line),
         ["trace"] => text(second::trace::trace),
+        ["settings"] => text(second::settings::frames::answers),
         ["cards"] => print(second::cards::cards()),
         ["margins"] => print(second::margins::margins()),
         ["vectors"] => print(second::vectors::vectors()),

@@ -56,7 +56,7 @@ fn exchange(lines: &[&[u8]]) -> Option<(u64, u64)> {
 }
 
 /// The number of an LF-ended line with this name.
-fn number(line: &[u8], name: &str) -> Option<u64> {
+pub fn number(line: &[u8], name: &str) -> Option<u64> {
     let digits = line.strip_prefix(name.as_bytes())?.strip_suffix(b"\n")?;
     decimal(digits)
 }

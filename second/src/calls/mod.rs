@@ -11,6 +11,7 @@ mod noise;
 mod offer;
 mod product;
 mod reply;
+mod settings;
 
 pub use bench::{bench, Bench};
 pub use expand::expand;
@@ -21,6 +22,7 @@ pub use noise::noise;
 pub use offer::offer;
 pub use product::product;
 pub use reply::reply;
+pub use settings::{settings_read, settings_write, Read};
 
 use crate::expand::COUNT;
 use crate::refusal::{refusal, Refusal};

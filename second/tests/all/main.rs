@@ -32,6 +32,7 @@ mod reconcile_newhope;
 mod refusals;
 mod schemes;
 mod session;
+mod settings;
 mod signed;
 mod slack;
 mod trace;

@@ -65,6 +65,7 @@ fn help_for_a_wrong_word() {
         &["lines"],
         &["line", "cards"],
         &["trace", "x"],
+        &["settings", "read"],
         &["margins", "at"],
         &["vectors", ""],
         &[""],
@@ -73,7 +74,7 @@ fn help_for_a_wrong_word() {
         assert_eq!(output.status.code(), Some(2));
         assert!(output.stdout.is_empty());
         let help = String::from_utf8(output.stderr).unwrap();
-        for word in ["line", "trace", "cards", "margins", "vectors"] {
+        for word in ["line", "trace", "settings", "cards", "margins", "vectors"] {
             assert!(help.contains(&format!("second {word} ")));
         }
     }
