@@ -36,6 +36,10 @@ const char *wim_refusal_text(uint32_t refusal)
         return "a secret or noise value lies beyond the largest noise";
     case WIM_RAN_OUT:
         return "the stream held fewer than 1024 numbers";
+    case WIM_NEWER_FORMAT:
+        return "the text of settings is in a newer format than the reader's";
+    case WIM_MISFIT:
+        return "the text is no settings, or a byte of the label is not allowed";
     default:
         return "unknown refusal";
     }

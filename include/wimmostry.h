@@ -53,17 +53,20 @@
  *     WIM_BLANK         17   a message's packed part is all zero bytes
  *     WIM_SECRET_BEYOND  6   a secret or noise value lies beyond the largest noise
  *     WIM_RAN_OUT        7   the stream held fewer than 1024 numbers
+ *     WIM_NEWER_FORMAT  15   the text of settings is in a newer format than the reader's
+ *     WIM_MISFIT         8   the text is no settings, or a byte of the label is not allowed
  *
  * 16 is that of the calls on a rack alone, and 10 that of these and of those on a session. 5 never
  * arises in Frodo, 6 is for values above the largest noise or below its negative, 7 and 12 are
- * those of wim_expand and wim_grow alone, and 18 is that of wim_noise in BCNS alone; no seed is
- * known for which wim_grow gives 7. 17 is for a message without content, as a dead card sends it:
+ * those of wim_expand and wim_grow alone (12 also of wim_settings_write), and 18 is that of
+ * wim_noise in BCNS alone; 15 and 8 are those of the settings; no seed is known for which wim_grow
+ * gives 7. 17 is for a message without content, as a dead card sends it:
  * seed and hints don't count. It is given for a message received, and for one about to be sent,
  * which is zero where secret and noise are; a zero secret with some noise passes.
  * *place is the index of the first bad entry after 4, 5 and 6, the first entry of the table that is
  * not above its forerunner, 1 to 50, after 18, how many numbers the stream held after 7, and 0
- * after 16, 10, 1, 12, 2, 3, 17 and a success. wim_product has lengths of its own for 2, and gives
- * 3 for a scratch that is too short as well.
+ * after 16, 10, 1, 12, 2, 3, 17, 15, 8 and a success. wim_product has lengths of its own for 2, and
+ * gives 3 for a scratch that is too short as well.
  *
  * The tests go in the order of this table, and within one number in the order in which the inputs,
  * or for 3 the outputs, stand in the call; the first that fails is the refusal. 17 stands there for
@@ -73,16 +76,17 @@
  * After a success the answer stands at the start of its output, its length, in entries of that
  * output, in *written (where there are several, in the count with the output's name), and the rest
  * of the output is zero. An output may be longer than the answer. After a refusal each output is
- * zero from end to end, whatever it held, and each count and other number is 0. A session or a rack
- * is no output in this sense: a refused call leaves it as it is.
+ * zero from end to end, whatever it held, and each count and other number is 0; but after 15 the
+ * format of wim_settings_read is the newer one. A session or a rack is no output in this sense: a
+ * refused call leaves it as it is.
  *
  *
  * WHAT A CALLER MUST SEE TO
  *
  * - Each pointer is valid for its length and aligned for its type. Where the length is 0 it may be
  *   null, as an empty vector's may be; this is tested for every slice (examples/c/empty.c). place,
- *   the counts, differ, slack and slack_index each point to one number. A length counts entries,
- *   not bytes.
+ *   the counts, differ, slack and slack_index, and where they are outputs format, scheme and rule,
+ *   each point to one number. A length counts entries, not bytes.
  * - No output, session or rack and none of these numbers shares memory with another argument.
  *   Inputs may share memory with each other.
  * - No other thread writes to what is lent, or touches an output, a session or a rack, during a
@@ -199,16 +203,35 @@
  * calls on the rack would have left.
  *
  *
+ * SETTINGS
+ *
+ * A technician keeps the settings of a box as text, in one of two formats, each line ended by LF:
+ *
+ *     format=1            format=2
+ *     scheme=4            scheme=4
+ *     rule=16             rule=16
+ *                         label=STUDIO7
+ *
+ * The scheme is 0 to 5, the rule 14 or 16, the label 1 to 16 capital letters or digits. A number
+ * has no leading zero, and nothing stands behind the last line. wim_settings_write takes the oldest
+ * format that holds the settings, so that boxes that know format 1 alone read all they can;
+ * wim_settings_read reads all formats up to its own number. What is written is read back as it was,
+ * two settings have the same text exactly where they are the same, and no other text is read: a
+ * file with a byte too many is refused and not guessed at. A reader of format 1 that meets a text
+ * in format 2 says so (15) and gives no setting. Keep the old file until the new one is on the
+ * disk: ./box settings write does that.
+ *
+ *
  * STACK
  *
  * What a call takes below its caller's frame at most, over all schemes, in KiB rounded up, on
- * x86-64; on Arm no more, as far as it was measured there (wim_grow, the hashes and the calls on a
- * session or a rack were not):
+ * x86-64; on Arm no more, as far as it was measured there (wim_grow, the hashes, the calls on a
+ * session or a rack and the settings were not):
  *
  *     wim_offer 54      wim_reply 90       wim_finish 80
  *     wim_noise 2       wim_expand 2       wim_grow 6
  *     wim_shake128 2    wim_sha3_256 2     wim_product 1
- *     wim_bench 124
+ *     wim_bench 124     wim_settings_read 1                  wim_settings_write 1
  *     wim_session_offer 54    wim_session_reply 91    wim_session_finish 81
  *     wim_session_close 1
  *     wim_rack_offer 54       wim_rack_reply 91       wim_rack_finish 81
@@ -285,8 +308,10 @@ extern "C" {
 #define WIM_MESSAGE_OVER 5
 #define WIM_SECRET_BEYOND 6
 #define WIM_RAN_OUT 7
+#define WIM_MISFIT 8
 #define WIM_OUT_OF_STAGE 10
 #define WIM_NO_RULE 12
+#define WIM_NEWER_FORMAT 15
 #define WIM_NO_STUDIO 16
 #define WIM_BLANK 17
 #define WIM_NOT_ASCENDING 18
@@ -444,6 +469,11 @@ extern "C" {
 #define WIM_RECORD_STUDIO 0
 #define WIM_RECORD_SESSION 1
 #define WIM_RACK 1048
+
+/* Settings: bytes of a label and of a text at most, and the newest format that is read. */
+#define WIM_SETTINGS_LABEL 16
+#define WIM_SETTINGS_TEXT 49
+#define WIM_SETTINGS_FORMAT 2
 
 /* Bytes of stack that are enough for any call on either machine, and for wim_scrub. */
 #define WIM_STACK 163840
@@ -662,6 +692,29 @@ WIM_MUST_USE uint32_t wim_rack_close(uint8_t *rack, size_t rack_len, uint32_t st
  * has another length.
  */
 WIM_MUST_USE uint32_t wim_rack_clear(uint8_t *rack, size_t rack_len, uint64_t *place);
+
+/*
+ * Settings read: the reader's own number, 1 or 2 (WIM_SETTINGS_FORMAT), and a text. Gives the label
+ * (none in format 1), and in *format, *scheme and *rule the numbers. Refuses with 3 where the label
+ * has less room than WIM_SETTINGS_LABEL bytes, before the text is looked at; then with 15 where the
+ * first line is `format=` with a number above the reader's, whatever follows, and *format is that
+ * number; then with 8. Another number of a reader is no refusal: 0 knows no format, so that every
+ * one is newer, and one above 2 reads what 2 reads, and has 8 for the formats that there are not.
+ */
+WIM_MUST_USE uint32_t wim_settings_read(uint32_t reader, const uint8_t *text, size_t text_len,
+                                        uint8_t *label, size_t label_len,
+                                        uint64_t *place, uint64_t *label_written,
+                                        uint64_t *format, uint64_t *scheme, uint64_t *rule);
+
+/*
+ * Settings write: scheme, rule, label, empty where there is none. Gives the text, of at most
+ * WIM_SETTINGS_TEXT bytes. Refuses with 1, 12, 2 (a label over WIM_SETTINGS_LABEL bytes), 3, 8 (a
+ * byte of the label that is no capital letter and no digit), in this order.
+ */
+WIM_MUST_USE uint32_t wim_settings_write(uint32_t scheme, uint32_t rule,
+                                         const uint8_t *label, size_t label_len,
+                                         uint8_t *text, size_t text_len,
+                                         uint64_t *place, uint64_t *written);
 
 /*
  * Overwrites what a call may have left on the stack below the caller's frame; see STACK above. The

@@ -193,6 +193,21 @@ static uint32_t rack_clear(struct lent *l)
     return wim_rack_clear(l->rack, sizeof l->rack, &l->place);
 }
 
+static uint32_t settings_write(struct lent *l)
+{
+    static const uint8_t label[] = "ABCDEFGHIJKLM789";
+
+    return wim_settings_write(l->scheme->number, WIM_RULE_WHOLE_WORD, label, sizeof label - 1,
+                              l->text, sizeof l->text, &l->place, &l->text_written);
+}
+
+static uint32_t settings_read(struct lent *l)
+{
+    return wim_settings_read(WIM_SETTINGS_FORMAT, l->text, (size_t)l->text_written, l->label,
+                             sizeof l->label, &l->place, &l->written, &l->format, &l->scheme_read,
+                             &l->rule_read);
+}
+
 const struct call calls[CALLS] = {
     {"wim_offer", offer}, {"wim_reply", reply},   {"wim_finish", finish},
     {"wim_noise", noise}, {"wim_expand", expand}, {"wim_grow", grow},
@@ -203,6 +218,7 @@ const struct call calls[CALLS] = {
     {"wim_rack_offer", rack_offer}, {"wim_rack_reply", rack_reply},
     {"wim_rack_finish", rack_finish}, {"wim_rack_close", rack_close},
     {"wim_rack_clear", rack_clear},
+    {"wim_settings_write", settings_write}, {"wim_settings_read", settings_read},
 };
 
 uint32_t draw_all(struct lent *l, const struct scheme *x)

@@ -17,7 +17,9 @@ struct lent {
     uint8_t digest[WIM_DIGEST], peer_digest[WIM_DIGEST];
     uint8_t shaken[500], hashed[WIM_DIGEST];
     uint8_t session[WIM_SESSION], rack[WIM_RACK];
+    uint8_t text[WIM_SETTINGS_TEXT], label[WIM_SETTINGS_LABEL];
     uint64_t place, written, key_written, digest_written, differ, slack, slack_index;
+    uint64_t text_written, format, scheme_read, rule_read;
 };
 
 struct call {
@@ -25,15 +27,16 @@ struct call {
     uint32_t (*make)(struct lent *);
 };
 
-#define CALLS 19
+#define CALLS 21
 enum {
     OFFER, REPLY, FINISH, NOISE, EXPAND, GROW, SHAKE128, SHA3_256, PRODUCT, BENCH,
     SESSION_OFFER, SESSION_REPLY, SESSION_FINISH, SESSION_CLOSE,
-    RACK_OFFER, RACK_REPLY, RACK_FINISH, RACK_CLOSE, RACK_CLEAR
+    RACK_OFFER, RACK_REPLY, RACK_FINISH, RACK_CLOSE, RACK_CLEAR,
+    SETTINGS_WRITE, SETTINGS_READ
 };
 
-/* In this order, so that Reply finds an opening and Finish a reply. Those on a session or a rack
- * put it into the stage that they need. */
+/* In this order, so that Reply finds an opening, Finish a reply and the last call a text. Those on
+ * a session or a rack put it into the stage that they need. */
 extern const struct call calls[CALLS];
 
 /* A session in a stage, of the scheme; keyed, with the replier's key. And a rack of such. */

@@ -267,6 +267,29 @@ static void rack_clear(int nulls)
          nulls ? WIM_OUT_OF_STAGE : WIM_DONE);
 }
 
+/* No label is no bad length either, and an empty text is no settings. */
+static void settings_write(int nulls)
+{
+    static const uint8_t label[] = "STUDIO7";
+    uint32_t refusal = wim_settings_write(x->number, WIM_RULE_LOW_BITS, LEND(0, label, 7),
+                                          LEND(1, lent.text, WIM_SETTINGS_TEXT), &place, &written);
+
+    held("wim_settings_write", nulls, refusal, nulls >> 1 ? WIM_ROOM : WIM_DONE);
+}
+
+static void settings_read(int nulls)
+{
+    uint64_t format = 9, scheme = 9, number = 9;
+    uint32_t refusal = wim_settings_read(WIM_SETTINGS_FORMAT, LEND(0, lent.text, 40),
+                                         LEND(1, lent.label, WIM_SETTINGS_LABEL), &place, &written,
+                                         &format, &scheme, &number);
+    int zero = format == 0 && scheme == 0 && number == 0;
+
+    held("wim_settings_read", nulls, refusal,
+         nulls >> 1 ? WIM_ROOM : nulls ? WIM_MISFIT : WIM_DONE);
+    failures += zero != (refusal != WIM_DONE);
+}
+
 static int made;
 
 /* None empty, each of the slices in turn, and all of them. */
@@ -315,6 +338,9 @@ int main(void)
         each(rack_finish, 5);
         each(rack_close, 1);
         each(rack_clear, 1);
+        each(settings_write, 2);
+        settings_write(0);
+        each(settings_read, 2);
     }
     printf("null pointers at length 0: %d calls, %d wrong\n", made, failures);
     return failures == 0 ? EXIT_SUCCESS : EXIT_FAILURE;

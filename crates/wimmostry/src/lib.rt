@@ -5,6 +5,7 @@ ghost use Prim.Native.Nat.{_≤_};
 ghost use Rattle.schemes.specs.Schemes.{schemeOf};
 ghost use Rattle.lists.specs.Lent.{left, room};
 ghost use Rattle.front.specs.Front.{numberIn, placeIn};
+ghost use Rattle.lists.specs.Lent.{was, left, room};
 ghost use Rattle.front.specs.Answers as answers;
 ghost use Rattle.sampling.specs.Noise.{noise, Noised};
 ghost use Rattle.noise.specs.Expand.{ruleOf};
@@ -23,6 +24,9 @@ ghost use Rattle.bench.specs.Bench as benches;
 mod racks;
 mod sessions;
 
+ghost use Rattle.settings.specs.Settings.{keptOf};
+ghost use Rattle.settings.specs.Calls.{SettingsWritten, SettingsRead};
+ghost use Rattle.settings.specs.Calls as settings;
 use bench::BenchAnswer;
 use exchange::FinishAnswer;
 use exchange::ReplyAnswer;
@@ -338,4 +342,44 @@ pub extern "C" fn wim_bench(
 {
     let answer = bench::bench(scheme, a, s, e, seed, s1, e1, e2, coins);
     tell_bench(answer, place, differ, slack, index)
+}
+
+// The settings that a text holds, read by a reader of the formats up to its own number.
+#[no_mangle]
+pub extern "C" fn wim_settings_read(
+    reader: u32,
+    text: &[u8],
+    label: &mut [u8],
+    place: &mut u64,
+    labelled: &mut u64,
+    format: &mut u64,
+    scheme: &mut u64,
+    rule: &mut u64,
+) -> u32
+    ensures { λ r. ⌜
+        SettingsRead (settings.read reader text) r (left place) (room label) (left labelled) (left label) (left format) (left scheme) (left rule)
+        ⌝ }
+{
+    let found = settings::read_lent(reader, text, label);
+    let answer = found.answer;
+    *format = found.format;
+    *scheme = found.scheme as u64;
+    *rule = found.rule as u64;
+    tell(answer, place, labelled)
+}
+
+// The text of settings.
+#[no_mangle]
+pub extern "C" fn wim_settings_write(
+    scheme: u32,
+    rule: u32,
+    label: &[u8],
+    text: &mut [u8],
+    place: &mut u64,
+    written: &mut u64,
+) -> u32
+    ensures { λ r. ⌜ SettingsWritten (keptOf scheme rule (was label)) r (left place) (room text) (left written) (left text) ⌝ }
+{
+    let answer = settings::write(scheme, rule, label, text);
+    tell(answer, place, written)
 }
