@@ -92,6 +92,7 @@ mod refusal;
 mod schemes;
 mod secret;
 mod session;
+mod settings;
 
 pub use exchange::{Finished, Initiator, Offered, Replied, Replier};
 pub use expand::{expand, grow, Rule, EXPAND_NUMBERS, EXPAND_STREAM};
@@ -102,6 +103,7 @@ pub use refusal::Refusal;
 pub use schemes::{Scheme, Sizes};
 pub use secret::{Entry, Key, Secret};
 pub use session::{Answered, Linked, Session, Stage, Unfinished, SESSION};
+pub use settings::{Format, Label, Settings, LABEL, SETTINGS_TEXT};
 
 /// The version of the archive that is linked.
 pub fn version() -> &'static str {

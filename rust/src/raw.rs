@@ -530,3 +530,93 @@ pub fn bench_bcns(
     debug_assert_eq!(differ, 0, "BCNS has no such answer");
     Ok((BcnsBench::Agree, slack))
 }
+
+/// What [`settings_read`] finds in a text.
+#[derive(Clone, Copy, Debug, PartialEq, Eq, Hash)]
+pub struct Read {
+    /// How many bytes of the label were written.
+    pub label: usize,
+    /// The text's format, 1 or 2.
+    pub format: u64,
+    /// The scheme's number.
+    pub scheme: u32,
+    /// The rule's number.
+    pub rule: u32,
+}
+
+/// Settings read: the reader's own number, 1 or 2, and a text. Gives the label,
+/// which is empty in format 1, and the numbers.
+///
+/// Another number is no refusal: for 0 every format is newer, and one above 2
+/// reads what 2 reads, and refuses by 8 the formats that there are not.
+///
+/// # Errors
+///
+/// Refuses with 3 where `label` has less room than 16 bytes, before the text is
+/// looked at; then with 15, which carries the newer format's number, and 8.
+pub fn settings_read(reader: u32, text: &[u8], label: &mut [u8]) -> Result<Read, Refusal> {
+    let (mut place, mut label_written) = (0, 0);
+    let (mut format, mut scheme, mut rule) = (0, 0, 0);
+    // SAFETY: each pointer and length are those of one slice, and place, the count
+    // and the numbers are numbers of this frame. No output shares memory with
+    // anything else, since it is borrowed mutably.
+    let number = unsafe {
+        ffi::wim_settings_read(
+            reader,
+            text.as_ptr(),
+            text.len(),
+            label.as_mut_ptr(),
+            label.len(),
+            &mut place,
+            &mut label_written,
+            &mut format,
+            &mut scheme,
+            &mut rule,
+        )
+    };
+    scrub();
+    if number == Refusal::NewerFormat(format).number() {
+        return Err(Refusal::NewerFormat(format));
+    }
+    let small = |n: u64| u32::try_from(n).expect("at most 16");
+    let read = Read {
+        label: count(label_written),
+        format,
+        scheme: small(scheme),
+        rule: small(rule),
+    };
+    told(number, place, read)
+}
+
+/// Settings write: scheme, rule, label, empty where there is none. Gives the text,
+/// in the oldest format that holds them, and how many bytes it takes.
+///
+/// # Errors
+///
+/// Refuses with 1, 12, 2 (a label over 16 bytes), 3 and 8 (a byte of the label
+/// that is no capital letter and no digit), in this order.
+pub fn settings_write(
+    scheme: u32,
+    rule: u32,
+    label: &[u8],
+    text: &mut [u8],
+) -> Result<usize, Refusal> {
+    let (mut place, mut written) = (0, 0);
+    // SAFETY: each pointer and length are those of one slice, and place and the
+    // counts are numbers of this frame. No output shares memory with anything
+    // else, since it is borrowed mutably.
+    let number = unsafe {
+        ffi::wim_settings_write(
+            scheme,
+            rule,
+            label.as_ptr(),
+            label.len(),
+            text.as_mut_ptr(),
+            text.len(),
+            &mut place,
+            &mut written,
+        )
+    };
+    scrub();
+    told(number, place, count(written))
+}

@@ -13,10 +13,10 @@ pub enum Refusal {
     OutOfStage,
     /// 1: the scheme is not 0 to 5.
     NoScheme,
-    /// 12: the rule of Expand or Grow is not 14 or 16.
+    /// 12: the rule is not 14 or 16.
     NoRule,
     /// 2: an input's length is not the fixed one (Expand and the hashes: over
-    /// 65,536).
+    /// 65,536; a label: over 16).
     Length,
     /// 3: an output is shorter than the answer.
     Room,
@@ -35,10 +35,15 @@ pub enum Refusal {
     SecretBeyond(usize),
     /// 7: the stream of Expand or Grow ran out; how many numbers it held.
     RanOut(usize),
+    /// 15: the text of settings is in a newer format than the reader's; that
+    /// format's number.
+    NewerFormat(u64),
+    /// 8: the text is no settings, or a byte of the label is not allowed.
+    Misfit,
 }
 
 impl Refusal {
-    /// The number, 1 to 7, 10, 12 or 16 to 18.
+    /// The number, 1 to 8, 10, 12 or 15 to 18.
     pub const fn number(self) -> u32 {
         match self {
             Refusal::NoStudio => 16,
@@ -53,6 +58,8 @@ impl Refusal {
             Refusal::Blank => 17,
             Refusal::SecretBeyond(_) => 6,
             Refusal::RanOut(_) => 7,
+            Refusal::NewerFormat(_) => 15,
+            Refusal::Misfit => 8,
         }
     }
 
@@ -66,7 +73,9 @@ impl Refusal {
             | Refusal::NoRule
             | Refusal::Length
             | Refusal::Room
-            | Refusal::Blank => 0,
+            | Refusal::Blank
+            | Refusal::NewerFormat(_)
+            | Refusal::Misfit => 0,
             Refusal::NotAscending(k)
             | Refusal::PublicOver(k)
             | Refusal::MessageOver(k)
@@ -98,6 +107,8 @@ impl Refusal {
             17 => Refusal::Blank,
             6 => Refusal::SecretBeyond(place),
             7 => Refusal::RanOut(place),
+            8 => Refusal::Misfit,
+            // 15 carries the format, and is made where that is known
             _ => unreachable!("the archive has no other refusal"),
         }
     }
@@ -113,7 +124,8 @@ impl fmt::Display for Refusal {
             | Refusal::NoRule
             | Refusal::Length
             | Refusal::Room
-            | Refusal::Blank => Ok(()),
+            | Refusal::Blank
+            | Refusal::Misfit => Ok(()),
             Refusal::NotAscending(k)
             | Refusal::PublicOver(k)
             | Refusal::MessageOver(k)
@@ -121,6 +133,7 @@ impl fmt::Display for Refusal {
                 write!(f, ", the first at {k}")
             }
             Refusal::RanOut(k) => write!(f, ", it held {k}"),
+            Refusal::NewerFormat(n) => write!(f, ", format {n}"),
         }
     }
 }

@@ -271,6 +271,28 @@ extern "C" {
     ) -> u32;
     pub fn wim_rack_close(rack: *mut u8, rack_len: usize, studio: u32, place: *mut u64) -> u32;
     pub fn wim_rack_clear(rack: *mut u8, rack_len: usize, place: *mut u64) -> u32;
+    pub fn wim_settings_read(
+        reader: u32,
+        text: *const u8,
+        text_len: usize,
+        label: *mut u8,
+        label_len: usize,
+        place: *mut u64,
+        label_written: *mut u64,
+        format: *mut u64,
+        scheme: *mut u64,
+        rule: *mut u64,
+    ) -> u32;
+    pub fn wim_settings_write(
+        scheme: u32,
+        rule: u32,
+        label: *const u8,
+        label_len: usize,
+        text: *mut u8,
+        text_len: usize,
+        place: *mut u64,
+        written: *mut u64,
+    ) -> u32;
     pub fn wim_scrub();
     pub fn wim_version() -> *const c_char;
     pub fn wim_refusal_text(refusal: u32) -> *const c_char;

@@ -24,5 +24,6 @@ mod products;
 mod racks;
 mod residue;
 mod sessions;
+mod settings;
 mod sizes;
 mod typed;
