@@ -3,7 +3,7 @@
 //! in which the command names them.
 
 use crate::data::Data;
-use wimmostry::{raw, Digest, Refusal, Rule, Scheme, Stage};
+use wimmostry::{raw, Digest, Format, Refusal, Rule, Scheme, Stage};
 
 pub use wimmostry::raw::Bench;
 pub use wimmostry::{Sizes, Slack, SESSION};
@@ -45,6 +45,8 @@ pub type SessionCall = fn(&mut [u8], u32, &[&Data], &mut [Data]) -> Result<Answe
 pub const EXPAND_NUMBERS: usize = wimmostry::EXPAND_NUMBERS;
 pub const EXPAND_STREAM: usize = wimmostry::EXPAND_STREAM;
 pub const HASH_INPUT: usize = wimmostry::HASH_INPUT;
+pub const SETTINGS_TEXT: usize = wimmostry::SETTINGS_TEXT;
+pub const LABEL: usize = wimmostry::LABEL;
 
 /// Bytes of NewHope's seed and of a digest.
 pub const GROW_SEED: usize = Scheme::NewHope.sizes().seed;
@@ -84,10 +86,14 @@ pub const LOW_BITS: u32 = Rule::LowBits.number();
 #[inline(always)]
 fn ended(done: Result<Answer, Refusal>) -> Result<Answer, Refused> {
     wimmostry::scrub();
-    done.map_err(|refusal| Refused {
+    done.map_err(refused)
+}
+
+fn refused(refusal: Refusal) -> Refused {
+    Refused {
         number: refusal.number(),
         place: refusal.place(),
-    })
+    }
 }
 
 /// The outputs of a call that has several.
@@ -266,4 +272,43 @@ pub fn bench(scheme: u32, given: &[&Data], _: &mut [Data]) -> Result<Answer, Ref
         keys: Some(keys),
         slack: Some(slack),
     }))
+}
+
+/// The settings of a box, and the format that they were read in.
+pub struct Settings {
+    pub format: u64,
+    pub scheme: u32,
+    pub rule: u32,
+    pub label: String,
+}
+
+/// Why a text gives none.
+pub enum Unread {
+    /// A newer format, and which.
+    Newer(u64),
+    Refused(Refused),
+}
+
+/// The newest format that is read.
+pub const NEWEST: u32 = Format::NEWEST.number();
+
+pub fn settings_read(text: &[u8]) -> Result<Settings, Unread> {
+    let mut label = [0; LABEL];
+    let done = raw::settings_read(NEWEST, text, &mut label);
+    let read = done.map_err(|refusal| match refusal {
+        Refusal::NewerFormat(format) => Unread::Newer(format),
+        refusal => Unread::Refused(refused(refusal)),
+    })?;
+    Ok(Settings {
+        format: read.format,
+        scheme: read.scheme,
+        rule: read.rule,
+        label: String::from_utf8_lossy(&label[..read.label]).into_owned(),
+    })
+}
+
+pub fn settings_write(scheme: u32, rule: u32, label: &[u8]) -> Result<Vec<u8>, Refused> {
+    let mut text = [0; SETTINGS_TEXT];
+    let n = raw::settings_write(scheme, rule, label, &mut text).map_err(refused)?;
+    Ok(text[..n].to_vec())
 }

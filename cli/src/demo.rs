@@ -7,23 +7,38 @@ use crate::calls::{DIGEST, EXPAND_NUMBERS, LOW_BITS, SCHEMES};
 use crate::data::{Data, Kind};
 use crate::draw::{self, BCNS, NEWHOPE};
 use crate::random;
+use crate::settings;
 use crate::tell::{self, Done, Fault, Voice};
 use crate::words;
 use std::ffi::OsString;
 use std::time::Instant;
 
-pub const WORDS: &str = "  SCHEME   one scheme; without it all six\n";
+pub const WORDS: &str = "\
+\x20 SCHEME   one scheme; without it all six
+  FILE     in: the settings of a box, whose scheme and rule are taken
+";
 
 pub const MORE: &str = "\
-It needs no file and leaves none. Keys are not shown, but the digest of each, its SHA3-256, which
-is the same where the keys are. Whether they agree is what bench says of the same secrets. The
+It leaves no file. Keys are not shown, but the digest of each, its SHA3-256, which is the same where
+the keys are. Whether they agree is what bench says of the same secrets. The
 slack is what finish says; the margin is how far apart the two values may lie for keys that are
-proved to agree, in the same unit.";
+proved to agree, in the same unit. NewHope's public numbers grow by rule 14, or by that of FILE.";
 
 pub fn run(given: &[OsString]) -> Done {
-    let asked = match given.first() {
-        Some(word) => Some(words::scheme(word)?),
-        None => None,
+    let (asked, rule) = match given {
+        [] => (None, LOW_BITS),
+        [word] if word != "settings" => (Some(words::scheme(word)?), LOW_BITS),
+        [word, file] if word == "settings" => match settings::from(file)? {
+            Ok(kept) => (Some(kept.scheme), kept.rule),
+            Err(line) => {
+                tell::say(Voice::Output, &line)?;
+                return Ok(tell::REFUSED);
+            }
+        },
+        _ => {
+            let line = "demo takes SCHEME, or settings FILE, or no words";
+            return Err(tell::words(line.to_string()));
+        }
     };
     if let Some(scheme) = asked.filter(|&scheme| calls::sizes(scheme).is_none()) {
         let detail = tell::no_scheme(scheme, 0, SCHEMES - 1);
@@ -34,7 +49,7 @@ pub fn run(given: &[OsString]) -> Done {
     tell::say(Voice::Output, heading)?;
     for scheme in asked.map_or(0..SCHEMES, |scheme| scheme..scheme + 1) {
         if let Some(sizes) = calls::sizes(scheme) {
-            tell::say(Voice::Output, &exchange(scheme, &sizes)?)?;
+            tell::say(Voice::Output, &exchange(scheme, rule, &sizes)?)?;
         }
     }
     Ok(tell::DONE)
@@ -54,21 +69,21 @@ fn bytes(n: usize) -> Data {
 }
 
 /// NewHope's public numbers.
-fn grown(seed: &Data) -> Data {
+fn grown(rule: u32, seed: &Data) -> Data {
     let mut out = [Data::zeros(Kind::Numbers, EXPAND_NUMBERS)];
-    timed(calls::grow, LOW_BITS, &[seed], &mut out);
+    timed(calls::grow, rule, &[seed], &mut out);
     let [a] = out;
     a
 }
 
 /// The text of an exchange.
-fn exchange(scheme: u32, sizes: &Sizes) -> Result<String, Fault> {
+fn exchange(scheme: u32, rule: u32, sizes: &Sizes) -> Result<String, Fault> {
     let (s, e) = (draw::secret(scheme, sizes)?, draw::secret(scheme, sizes)?);
     let (s1, e1) = (draw::secret(scheme, sizes)?, draw::secret(scheme, sizes)?);
     let e2 = draw::last(scheme, sizes)?;
     let seed = Data::Bytes(random::bytes(sizes.seed)?);
     let a = match scheme {
-        NEWHOPE => grown(&seed),
+        NEWHOPE => grown(rule, &seed),
         _ => draw::public(sizes)?,
     };
     let coins = Data::Bytes(random::bytes(sizes.coins)?);
@@ -88,7 +103,7 @@ fn exchange(scheme: u32, sizes: &Sizes) -> Result<String, Fault> {
     let (found, _) = timed(calls::bench, scheme, &all, &mut []);
 
     let mut rows = vec![
-        format!("public numbers: {}, {}", a.len(), public(scheme)),
+        format!("public numbers: {}, {}", a.len(), public(scheme, rule)),
         format!("secrets and noise: {}", noise(scheme, sizes)),
         format!(
             "offer:  opening of {} bytes, {offer_time} us",
@@ -122,9 +137,9 @@ fn near(slack: Slack, sizes: &Sizes) -> String {
     }
 }
 
-fn public(scheme: u32) -> String {
+fn public(scheme: u32, rule: u32) -> String {
     match scheme {
-        NEWHOPE => format!("grown from the seed by rule {LOW_BITS}"),
+        NEWHOPE => format!("grown from the seed by rule {rule}"),
         _ => "random and below q".to_string(),
     }
 }

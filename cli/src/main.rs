@@ -13,6 +13,7 @@ mod outputs;
 mod random;
 mod run;
 mod session;
+mod settings;
 mod signals;
 mod table;
 mod tell;

@@ -5,7 +5,7 @@ use crate::calls::{self, Call, SessionCall, Sizes, DIGEST, EXPAND_NUMBERS, EXPAN
 use crate::calls::{GROW_SEED, HASH_INPUT, SCHEMES};
 use crate::data::Kind;
 use crate::tell::{Done, Fault};
-use crate::{demo, draw, help, session, trace, wipe, words};
+use crate::{demo, draw, help, session, settings, trace, wipe, words};
 use std::ffi::{OsStr, OsString};
 
 /// How long an input or an output is, in entries.
@@ -609,6 +609,32 @@ pub const COMMANDS: &[Command] = &[
         example: "wimmostry trace slacks",
     },
     Command {
+        name: "settings read",
+        brief: "the settings of a box, from its text store",
+        form: Form::Words(OnWords {
+            usage: "FILE",
+            least: 1,
+            most: 1,
+            run: settings::read,
+            words: settings::READ_WORDS,
+        }),
+        more: settings::READ_MORE,
+        example: "wimmostry settings read box.settings",
+    },
+    Command {
+        name: "settings write",
+        brief: "the settings of a box, into its text store",
+        form: Form::Words(OnWords {
+            usage: "SCHEME RULE [LABEL] OUT",
+            least: 3,
+            most: 4,
+            run: settings::write,
+            words: settings::WRITE_WORDS,
+        }),
+        more: settings::WRITE_MORE,
+        example: "wimmostry settings write 4 16 STUDIO7 box.settings",
+    },
+    Command {
         name: "wipe",
         brief: "overwrites a file and removes it",
         form: Form::Words(OnWords {
@@ -623,11 +649,11 @@ pub const COMMANDS: &[Command] = &[
     },
     Command {
         name: "demo",
-        brief: "a whole exchange in memory, in one scheme or in all six",
+        brief: "a whole exchange in memory, in one scheme, that of a box, or all six",
         form: Form::Words(OnWords {
-            usage: "[SCHEME]",
+            usage: "[SCHEME | settings FILE]",
             least: 0,
-            most: 1,
+            most: 2,
             run: demo::run,
             words: demo::WORDS,
         }),

@@ -1,10 +1,12 @@
 //! Words of the command line: which command, which number, which file.
 
-use crate::calls::{rules, SCHEMES};
+use crate::calls::{rules, Settings, SCHEMES};
 use crate::escape::shown;
+use crate::settings;
 use crate::table::{Command, COMMANDS};
 use crate::tell::{self, Fault};
 use std::ffi::{OsStr, OsString};
+use std::os::unix::ffi::OsStrExt;
 use std::path::{Path, PathBuf};
 
 /// A command, the word in its name that is a session's file, empty where there is
@@ -85,7 +87,25 @@ fn number(word: &OsStr) -> Option<u32> {
     digits.and_then(|w| w.parse().ok())
 }
 
+/// What a word `settings=FILE` in the place of a number names: the settings there.
+fn kept(word: &OsStr) -> Result<Option<Settings>, Fault> {
+    let Some(file) = word.as_bytes().strip_prefix(b"settings=") else {
+        return Ok(None);
+    };
+    let file = OsStr::from_bytes(file);
+    match settings::from(file)? {
+        Ok(settings) => Ok(Some(settings)),
+        Err(line) => Err(tell::file(
+            file,
+            format!("no settings: {}", line.trim_end()),
+        )),
+    }
+}
+
 pub fn scheme(word: &OsStr) -> Result<u32, Fault> {
+    if let Some(settings) = kept(word)? {
+        return Ok(settings.scheme);
+    }
     number(word).ok_or_else(|| {
         tell::words(format!(
             "SCHEME is a number from 0 to {}, not '{}'",
@@ -96,6 +116,9 @@ pub fn scheme(word: &OsStr) -> Result<u32, Fault> {
 }
 
 pub fn rule(word: &OsStr) -> Result<u32, Fault> {
+    if let Some(settings) = kept(word)? {
+        return Ok(settings.rule);
+    }
     let [(one, _), (other, _)] = rules();
     number(word)
         .ok_or_else(|| tell::words(format!("RULE is {one} or {other}, not '{}'", shown(word))))

@@ -405,6 +405,72 @@ fn hashes() {
 }
 
 #[test]
+fn settings_are_kept() {
+    let room = Room::new("settings");
+    let kept = || fs::read_to_string(room.0.join("box")).unwrap();
+    assert_eq!(
+        room.says(0, "settings write 4 16 STUDIO7 box"),
+        "written=40\n"
+    );
+    let text = "format=2\nscheme=4\nrule=16\nlabel=STUDIO7\n";
+    assert_eq!(kept(), text);
+    assert_eq!(room.says(0, "settings read box"), text);
+    // after a refusal the old settings stay
+    for (words, told) in [
+        ("6 16 A", "refusal=1 place=0 scheme=6 expected=0..5\n"),
+        ("4 15 A", "refusal=12 place=0 rule=15 expected=14,16\n"),
+        (
+            "4 16 ABCDEFGHIJKLMNOPQ",
+            "refusal=2 place=0 input=label length=17 at-most=16\n",
+        ),
+        (
+            "4 16 a",
+            "refusal=8 place=0 input=label allowed=A..Z,0..9\n",
+        ),
+    ] {
+        assert_eq!(room.says(1, &format!("settings write {words} box")), told);
+        assert_eq!(kept(), text);
+    }
+    assert_eq!(room.says(0, "settings write 1 16 box"), "written=26\n");
+    assert_eq!(kept(), "format=1\nscheme=1\nrule=16\n");
+    let demo = room.says(0, "demo settings box");
+    assert!(demo.contains("grown from the seed by rule 16"), "{demo}");
+    // they stand for a scheme or a rule, on a session too
+    for what in ["s", "e", "seed"] {
+        room.says(0, &format!("draw settings=box {what} {what}"));
+    }
+    room.says(0, "grow settings=box seed a");
+    room.says(0, "grow 16 seed b");
+    assert_eq!(room.read("a"), room.read("b"));
+    let told = "written=1824\nstage=offered\nscheme=1\n";
+    assert_eq!(
+        room.says(0, "session link offer settings=box a s e seed opening"),
+        told
+    );
+    for name in ["s", "e", "seed", "a", "b", "link", "opening"] {
+        fs::remove_file(room.0.join(name)).unwrap();
+    }
+    fs::write(room.0.join("box"), "format=3\nlater\n").unwrap();
+    for words in ["settings read box", "demo settings box"] {
+        let told = "refusal=15 place=0 format=3 newest=2\n";
+        assert_eq!(room.says(1, words), told);
+    }
+    fs::write(room.0.join("box"), "format=1\nscheme=1\n").unwrap();
+    assert_eq!(
+        room.says(1, "settings read box"),
+        "refusal=8 place=0 line=3\n"
+    );
+    let done = room.run("draw settings=box s s");
+    assert_eq!(done.status.code(), Some(3));
+    assert_eq!(
+        done.stderr,
+        b"wimmostry: box: no settings: refusal=8 place=0 line=3\n"
+    );
+    // nothing but the settings is left
+    assert_eq!(fs::read_dir(&room.0).unwrap().count(), 1);
+}
+
+#[test]
 fn a_trace_is_summed_up() {
     let room = Room::new("trace");
     let put = |text: &str| fs::write(room.0.join("slacks"), text).unwrap();

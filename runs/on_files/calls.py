@@ -147,6 +147,7 @@ def noise(both, rand):
     grow(both, rand)
     hashes(both, rand)
     traces(both, rand)
+    settings(both)
 
 
 def tables(both, rand):
@@ -224,6 +225,50 @@ def traces(both, rand):
             hold("trace", (told == b"refusal=8\n") == status, f"trace {text[:50]!r}: {told!r}")
             done = run([both.program, "trace", "-"], input=text)
             hold("trace", done == (status, told, b""), f"trace - {text[:50]!r}: {done}")
+
+
+def settings(both):
+    """Some texts and labels; runs/settings has more, through the archive."""
+    good = [b"format=1\nscheme=0\nrule=14\n", b"format=2\nscheme=5\nrule=16\nlabel=ABCDEFGHIJKLM789\n"]
+    bad = [(b"", "line=1"), (b"format=1\nscheme=6\nrule=14\n", "line=2"), (good[0][:-1], "line=3"),
+           (good[0] + b"label=A\n", "line=4"), (good[1] + b"\n", "line=5"), (good[1] * 3000, "line=5"),
+           (b"format=3\n\xff", "format=3 newest=2"),
+           (b"format=9999999999\n" * 9, "format=9999999999 newest=2"), (b"format=03\n", "line=1")]
+    for text, more in [*((text, None) for text in good), *bad]:
+        both.put({"TEXT": text})
+        words = ["settings", "read", both.name("TEXT")]
+        done, (_, told, _) = run([both.program, *words]), run([both.second, "box", *words])
+        if more:
+            told = told.replace(b"\n", f" {more}\n".encode())
+        hold("settings", done == (1 if more else 0, told, b""), f"read {text[:60]!r}: {done} not {told!r}")
+        done = run([both.program, "settings", "read", "-"], input=text)
+        hold("settings", done == (1 if more else 0, told, b""), f"read - {text[:60]!r}: {done}")
+        hold("settings", bool(more) or told == text, f"read {text!r} is {told!r}")
+        demo = run([both.program, "demo", "settings", both.name("TEXT")])
+        scheme = text[16:17].decode()
+        fine = demo[1] == told if more else f"scheme {scheme}, ".encode() in demo[1]
+        hold("settings", fine and demo[0] == bool(more), f"demo settings {text[:60]!r}: {demo}")
+    both.put({"TEXT": b"format=1\nscheme=1\nrule=16\n"})
+    demo = run([both.program, "demo", "settings", both.name("TEXT")])[1]
+    hold("settings", b"grown from the seed by rule 16" in demo, f"demo settings: {demo!r}")
+    for scheme, rule, label, more in [
+            (4, 16, "", None), (0, 14, "A", None), (5, 16, "ABCDEFGHIJKLM789", None),
+            (6, 15, "a" * 17, "scheme=6 expected=0..5"), (1, 15, "a" * 17, "rule=15 expected=14,16"),
+            (1, 14, "a" * 17, "input=label length=17 at-most=16"),
+            (1, 14, "STUDIO 7", "input=label allowed=A..Z,0..9"), (1, 14, "\u00c4", "input=label allowed=A..Z,0..9")]:
+        words = ["settings", "write", str(scheme), str(rule), *([label] if label else [])]
+        outs = [both.name("BOX"), both.name("OTHER")]
+        for out in outs:
+            write(out, OLD)
+        done = run([both.program, *words, outs[0]])
+        _, told, _ = run([both.second, "box", *words, outs[1]])
+        if more:
+            told = told.replace(b"\n", f" {more}\n".encode())
+        hold("settings", done == (1 if more else 0, told, b""), f"{words}: {done} not {told!r}")
+        hold("settings", read(outs[0]) == read(outs[1]), f"{words}: {read(outs[0])[:60]!r}")
+        hold("settings", (read(outs[0]) == OLD) == bool(more), f"{words}: the old settings")
+        done = run([both.program, *words, "-"])
+        hold("settings", done == (bool(more), b"" if more else read(outs[0]), told), f"{words} -: {done}")
 
 
 def expand(both, rand):

@@ -72,7 +72,19 @@ def words(both):
         (["hash", "sha3-256", "x"], b"hash sha3-256 takes INPUT OUT\n"),
         (["hash", "shake128", "x", "y"], b"hash shake128 takes LENGTH INPUT OUT\n"),
         (["sha3-256", "x", "y"], b"there is no command 'sha3-256'"),
-        (["bench", *files[:8]], b"bench takes"), (["demo", "1", "2"], b"demo takes [SCHEME]\n"),
+        (["bench", *files[:8]], b"bench takes"), (["demo", "1", "2"], b"demo takes SCHEME, or"),
+        (["demo", "settings"], b"demo takes SCHEME, or settings FILE"),
+        (["demo", "settings", ""], b"FILE is an empty word"),
+        (["demo", "1", "2", "3"], b"demo takes [SCHEME | settings FILE]\n"),
+        (["settings"], b"settings is one of several: settings read FILE; settings write SCHEME RULE"),
+        (["settings", "x"], b"settings is one of several: "),
+        (["settings", "read"], b"settings read takes FILE\n"),
+        (["settings", "write", "1", "14"], b"settings write takes SCHEME RULE [LABEL] OUT\n"),
+        (["settings", "write", "1", "14", "A", "x", "y"], b"settings write takes SCHEME RULE"),
+        (["settings", "write", "x", "14", "y"], b"SCHEME is a number from 0 to 5, not 'x'"),
+        (["settings", "write", "1", "016", "y"], b"RULE is 14 or 16, not '016'"),
+        (["settings", "write", "1", "16", "A", ""], b"OUT is an empty word"),
+        (["settings", "write", "1", "16", "A", "none"], b"OUT is an output, and none is for inputs"),
         (["draw", "1", "s"], b"draw takes SCHEME WHAT OUT\n"), (["wipe"], b"wipe takes FILE\n"),
         (["trace"], b"trace takes FILE\n"), (["trace", "x", "y"], b"trace takes FILE\n"),
         (["trace", ""], b"FILE is an empty word"),
@@ -133,7 +145,7 @@ def words(both):
     for given in ([], ["--help"], ["-h"]):
         hold("words", run([both.box, *given]) == overview, f"{given} is not the overview")
     names = re.findall(r"^  wimmostry ([a-z]\S*(?: [a-z]\S*)?)", overview[1].decode(), re.M)
-    wanted = {"hash shake128", "hash sha3-256", "grow", "trace", "session"}
+    wanted = {"hash shake128", "hash sha3-256", "grow", "trace", "session", "settings read"}
     hold("words", wanted <= {*names}, f"commands: {names}")
     for action in ("offer", "reply", "finish", "close", "show"):
         page = run([both.box, "help", "session", action])

@@ -1,6 +1,5 @@
 -- What is stated in specs/Shown.
-use Rattle.wimmostry.specs.Shown.{OneOffer, OneReply, OneFinish, OneNoise, OneExpand, OneGrow, OneShake, OneDigest, OneProduct, OneBench, OneSessionOffer, OneSessionReply, OneSessionFinish, OneSessionClose, OneRackOffer, OneRackReply, OneRackFinish, OneRackClose, OneRackClear}
-use Rattle.wimmostry.specs.Shown.{OneOffer, OneReply, OneFinish, OneNoise, OneExpand, OneGrow, OneShake, OneDigest, OneProduct, OneBench, OneSettingsRead, OneSettingsWrite}
+use Rattle.wimmostry.specs.Shown.{OneOffer, OneReply, OneFinish, OneNoise, OneExpand, OneGrow, OneShake, OneDigest, OneProduct, OneBench, OneSessionOffer, OneSessionReply, OneSessionFinish, OneSessionClose, OneRackOffer, OneRackReply, OneRackFinish, OneRackClose, OneRackClear, OneSettingsRead, OneSettingsWrite}
 
 pub one-offer : OneOffer
 one-offer c x room r r′ p p′ w w′ message message′ a b = (cc, cc, cc, cc)
@@ -60,6 +59,7 @@ one-rack-close bs bs′ bs″ u r r′ p p′ a b = (cc, cc, cc)
 
 pub one-rack-clear : OneRackClear
 one-rack-clear bs bs′ bs″ r r′ p p′ a b = (cc, cc, cc)
+
 pub one-settings-read : OneSettingsRead
 one-settings-read x room r r′ p p′ w w′ f f′ a a′ b b′ label label′ m n = (cc, cc, cc, cc, cc, cc, cc)
 

@@ -129,6 +129,7 @@ OneRackClose =
 abbrev pub OneRackClear : Type 0
 OneRackClear =
     (bs bs′ bs″ : List ℕ) (r r′ p p′ : ℕ) → Cleared bs bs′ r p → Cleared bs bs″ r′ p′ → (bs′ ≡ bs″) × (r ≡ r′) × (p ≡ p′)
+
 abbrev pub OneSettingsRead : Type 0
 OneSettingsRead =
     (x : Read) (room r r′ p p′ w w′ f f′ a a′ b b′ : ℕ) (label label′ : List ℕ)
