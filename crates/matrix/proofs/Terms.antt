@@ -40,12 +40,12 @@ column-row n m j s e =
 
 pub right-row :
     (q n i : ℕ) (x cols : List ℕ) (e : List ℤ) → i * 8 + 8 ≤ length e → {p : List ℕ} →
-    p ≡ reduced q (gained n (dotTerm n (take (i * n + n - i * n) (drop (i * n) x)) cols) (wordsOf (take (i * 8 + 8 - i * 8) (drop (i * 8) e)))) →
+    p ≡ reduced q (gained 65536 n (dotTerm n (take (i * n + n - i * n) (drop (i * n) x)) cols) (wordsOf 65536 (take (i * 8 + 8 - i * 8) (drop (i * 8) e)))) →
     p ≡ tab 8 (λ j. (residue 65536 (ints e (i * 8 + j)) + sumℕ n (rightTerm n x cols (i * 8 + j))) % 65536 % q)
 unfolding dotTerm rightTerm ints
 right-row q n i x cols e h o =
     o
-    ∙ reduced-gained q n _ _
+    ∙ reduced-gained _ q n _ _
     ∙ ap (λ (k : ℕ). tab k (λ j. (residue 65536 (ints (take (i * 8 + 8 - i * 8) (drop (i * 8) e)) j) + sumℕ n (dotTerm n (take (i * n + n - i * n) (drop (i * n) x)) cols j)) % 65536 % q))
     (slice-long (i * 8) 8 e h)
     ∙ tab-ext 8 _ _
@@ -91,8 +91,8 @@ module _ (n c t m : ℕ) (s y : List ℕ) (f : Lent n c y s) (b : t + m ≤ n) w
   in-y = omega (arith, mul-le-mul-right c b, f .xs-long)
 
   pub part-terms :
-      (p ws : List ℕ) → p ≡ take (t * c + m * c - t * c) (drop (t * c) y) → length ws ≡ 8 * c → {l : List ℕ} → l ≡ gained m (partTerm n c t s p) ws →
-      l ≡ gained m (λ k u. leftTerm n c s y k (t + u)) ws
+      (p ws : List ℕ) → p ≡ take (t * c + m * c - t * c) (drop (t * c) y) → length ws ≡ 8 * c → {l : List ℕ} → l ≡ gained 65536 m (partTerm n c t s p) ws →
+      l ≡ gained 65536 m (λ k u. leftTerm n c s y k (t + u)) ws
   unfolding gained partTerm leftTerm
   part-terms p ws e h o =
       o

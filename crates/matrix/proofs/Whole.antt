@@ -2,7 +2,7 @@
 --   column-at              an entry of the columns of S
 --   lent-columns, lent-words   what fits is lent, with the columns of S, or its rows, as words
 --   zeros-within           zeros as noise
---   right-is, left-is, bare-is   XS + E by rows of X and columns of S; SY + E by rows of Y; US as XS + E without noise
+--   right-is, left-is, bare-is   words of any modulus m that is a multiple of q: XS + E by rows of X and columns of S; SY + E by rows of Y; US as XS + E without noise
 use mathlib.Core.Path.{_≡_, refl, _∙_, ap, ap₂}
 use mathlib.Core.List.{List}
 use Prim.Native.Nat.{ℕ, _+_, _*_, _/_, _%_, _<_, _≤_}
@@ -22,47 +22,47 @@ use Rattle.matrix.specs.Fit.{Fit}
 use Rattle.matrix.specs.Steps.{wordsOf, gained, reduced, columnsOf, rightTerm, leftTerm, Lent}
 use Rattle.matrix.proofs.Steps.{words-length, words-at, mixed}
 
-pub column-at : (n : ℕ) (s : List ℤ) (j t : ℕ) → j < 8 → t < n → getD (columnsOf n s) (j * n + t) 0 ≡ residue 65536 (ints s (t * 8 + j))
+pub column-at : (m n : ℕ) (s : List ℤ) (j t : ℕ) → j < 8 → t < n → getD (columnsOf m n s) (j * n + t) 0 ≡ residue m (ints s (t * 8 + j))
 unfolding columnsOf
-column-at n s j t p l =
-    tab-at (8 * n) _ (j * n + t) 0 (digits-lt p l) ∙ ap₂ (λ (a b : ℕ). residue 65536 (ints s (a * 8 + b))) (digits-mod j l) (digits-div j l)
+column-at m n s j t p l =
+    tab-at (8 * n) _ (j * n + t) 0 (digits-lt p l) ∙ ap₂ (λ (a b : ℕ). residue m (ints s (a * 8 + b))) (digits-mod j l) (digits-div j l)
 
 -- what fits is lent, with the secrets as words
 lent : {q n r : ℕ} {x : List ℕ} {s : List ℤ} {l : List ℕ} → length l ≡ 8 * n → Fit q n r x s → Lent n r x l
 lent e f = record { xs-long = f .xs-long; ws-long = e; xs-below = record { below = λ k. omega (arith, f .xs-below .below k, f .room) } }
 
-pub lent-columns : {q n r : ℕ} {x : List ℕ} {s : List ℤ} {l : List ℕ} → l ≡ columnsOf n s → Fit q n r x s → Lent n r x l
+pub lent-columns : {q n r : ℕ} {x : List ℕ} {s : List ℤ} {l : List ℕ} → l ≡ columnsOf 65536 n s → Fit q n r x s → Lent n r x l
 unfolding columnsOf
 lent-columns {q} {n} e f = lent (rw e (tab-length (8 * n) _)) f
 
-pub lent-words : {q n r : ℕ} {x : List ℕ} {s : List ℤ} {l : List ℕ} → l ≡ wordsOf s → Fit q n r x s → Lent n r x l
-lent-words {s = s} e f = lent (rw e (words-length s ∙ f .s-long)) f
+pub lent-words : {q n r : ℕ} {x : List ℕ} {s : List ℤ} {l : List ℕ} → l ≡ wordsOf 65536 s → Fit q n r x s → Lent n r x l
+lent-words {s = s} e f = lent (rw e (words-length _ s ∙ f .s-long)) f
 
--- a number times a word that is a secret modulo 65536
-product-≅ : (x w : ℕ) (z : ℤ) → w ≡ residue 65536 z → pos (x * w) ≅⟨ 65536 ⟩ pos x *ℤ z
-product-≅ x w z e = mul-≅ (refl-≅ (pos x)) (eq-≅ (ap pos e) ⨾ residue-≅ 65536 z (omega arith))
+-- a number times a word that is a secret modulo m
+product-≅ : (m : ℕ) → 0 < m → (x w : ℕ) (z : ℤ) → w ≡ residue m z → pos (x * w) ≅⟨ m ⟩ pos x *ℤ z
+product-≅ m some x w z e = mul-≅ (refl-≅ (pos x)) (eq-≅ (ap pos e) ⨾ residue-≅ m z some)
 
 pub right-is :
-    {q n r : ℕ} {x : List ℕ} {s : List ℤ} (e : List ℤ) {l out : List ℕ} → Fit q n r x s → l ≡ columnsOf n s → length e ≡ 8 * r →
-    out ≡ reduced q (gained n (rightTerm n x l) (wordsOf e)) → out ≡ rightMixed q r n 8 x s e
+    (m : ℕ) {q n r : ℕ} {x : List ℕ} {s : List ℤ} → 0 < m → m % q ≡ 0 → (e : List ℤ) {l out : List ℕ} → Fit q n r x s → l ≡ columnsOf m n s → length e ≡ 8 * r →
+    out ≡ reduced q (gained m n (rightTerm n x l) (wordsOf m e)) → out ≡ rightMixed q r n 8 x s e
 unfolding rightMixed numsAt intsAt rightTerm nums
-right-is {q} {n} {r} {x} {s} e f d h o =
+right-is m {q} {n} {r} {x} {s} some w e f d h o =
     o
     ∙ rw d
-    (mixed q n (f .some) (f .whole) r 8 _ _ _ e (omega arith)
-    (λ k t p b. product-≅ (getD x (k / 8 * n + t) 0) _ _ (column-at n s (k % 8) t (mod-lt k (omega arith)) b)))
+    (mixed m q n (f .some) some w r 8 _ _ _ e (omega arith)
+    (λ k t p b. product-≅ m some (getD x (k / 8 * n + t) 0) _ _ (column-at m n s (k % 8) t (mod-lt k (omega arith)) b)))
 
 pub left-is :
-    {q n c : ℕ} {s : List ℤ} {y : List ℕ} (e : List ℤ) {l out : List ℕ} → Fit q n c y s → l ≡ wordsOf s → length e ≡ 8 * c →
-    out ≡ reduced q (gained n (leftTerm n c l y) (wordsOf e)) → out ≡ leftMixed q n c 8 s y e
+    (m : ℕ) {q n c : ℕ} {s : List ℤ} {y : List ℕ} → 0 < m → m % q ≡ 0 → (e : List ℤ) {l out : List ℕ} → Fit q n c y s → l ≡ wordsOf m s → length e ≡ 8 * c →
+    out ≡ reduced q (gained m n (leftTerm n c l y) (wordsOf m e)) → out ≡ leftMixed q n c 8 s y e
 unfolding leftMixed numsAt intsAt leftTerm nums
-left-is {q} {n} {c} {s} {y} e f d h o =
+left-is m {q} {n} {c} {s} {y} some w e f d h o =
     o
     ∙ rw d
-    (mixed q n (f .some) (f .whole) 8 c _ _ _ e h
+    (mixed m q n (f .some) some w 8 c _ _ _ e h
     (λ k t p b.
     let i : k / c < 8 = div-lt-iff-lt-mul (f .rows-many) .1 p in
-    product-≅ (getD y (t * c + k % c) 0) _ _ (words-at s (k / c * n + t) (rw (f .s-long) (digits-lt i b)))
+    product-≅ m some (getD y (t * c + k % c) 0) _ _ (words-at m s (k / c * n + t) (rw (f .s-long) (digits-lt i b)))
     ⨾ eq-≅ (*ℤ-comm (pos (getD y (t * c + k % c) 0)) (ints s (k / c * n + t)))))
 
 pub zeros-within : (m : ℕ) → Within 6 (replicate m (pos 0))

@@ -1,8 +1,9 @@
--- How the code goes about a product: in words, which wrap at 65536, with sums that start as the noise, gain n products each, and are reduced once.
---   wordsOf zs          secrets or noise as words: their remainders modulo 65536
---   gained n f ws       the sums ws, of which sum k has gained f k 0 + .. + f k (n - 1)
+-- How the code goes about a product: in words, which wrap at a multiple m of q, with sums that start as the noise, gain n products each, and are reduced
+-- once. Here m is 65536.
+--   wordsOf m zs        secrets or noise as words: their remainders modulo m
+--   gained m n f ws     the sums ws, of which sum k has gained f k 0 + .. + f k (n - 1)
 --   reduced q ws        the remainders of the sums in 0 .. q - 1
---   columnsOf n s       the 8 columns of S, one after the other, as words
+--   columnsOf m n s     the 8 columns of S, one after the other, as words
 --   dotTerm, rightTerm  the products of a row with column j; of the entry k of XS
 --   blockTerm, partTerm, leftTerm   the products of a block y of rows of Y, each with its word of w, at column j; of the block that starts at row t, with
 --                       the words of S, for the entry k of SY; of all rows for that entry
@@ -17,17 +18,17 @@ use Rattle.numbers.specs.Sum.{sumℕ}
 use Rattle.numbers.specs.Residue.{residue}
 use Rattle.lists.specs.Entries.{tab, ints, Below}
 
-unfoldable pub wordsOf : List ℤ → List ℕ
-wordsOf zs = tab (length zs) (λ k. residue 65536 (ints zs k))
+unfoldable pub wordsOf : ℕ → List ℤ → List ℕ
+wordsOf m zs = tab (length zs) (λ k. residue m (ints zs k))
 
-unfoldable pub gained : ℕ → (ℕ → ℕ → ℕ) → List ℕ → List ℕ
-gained n f ws = tab (length ws) (λ k. (getD ws k 0 + sumℕ n (f k)) % 65536)
+unfoldable pub gained : ℕ → ℕ → (ℕ → ℕ → ℕ) → List ℕ → List ℕ
+gained m n f ws = tab (length ws) (λ k. (getD ws k 0 + sumℕ n (f k)) % m)
 
 unfoldable pub reduced : ℕ → List ℕ → List ℕ
 reduced q ws = tab (length ws) (λ k. getD ws k 0 % q)
 
-unfoldable pub columnsOf : ℕ → List ℤ → List ℕ
-columnsOf n s = tab (8 * n) (λ k. residue 65536 (ints s (k % n * 8 + k / n)))
+unfoldable pub columnsOf : ℕ → ℕ → List ℤ → List ℕ
+columnsOf m n s = tab (8 * n) (λ k. residue m (ints s (k % n * 8 + k / n)))
 
 unfoldable pub dotTerm : ℕ → List ℕ → List ℕ → ℕ → ℕ → ℕ
 dotTerm n row cols j t = getD row t 0 * getD cols (j * n + t) 0
@@ -45,7 +46,7 @@ unfoldable pub leftTerm : ℕ → ℕ → List ℕ → List ℕ → ℕ → ℕ 
 leftTerm n c s y k t = getD y (t * c + k % c) 0 * getD s (k / c * n + t) 0
 
 unfoldable pub blockGained : List ℕ → List ℕ → List ℕ → List ℕ
-blockGained w y ws = gained (length w) (blockTerm (length ws) w y) ws
+blockGained w y ws = gained 65536 (length w) (blockTerm (length ws) w y) ws
 
 pub record Lent (n r : ℕ) (xs ws : List ℕ) : Type 0 where
   pub xs-long : length xs ≡ r * n

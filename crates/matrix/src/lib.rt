@@ -42,7 +42,7 @@ fn word(z: i32) -> u16
 
 fn words(zs: &[i32], out: &mut [u16])
     requires { ⌜ length (now zs) ≡ length (now out) ⌝ }
-    ensures { λ _. ⌜ now (out .exit) ≡ wordsOf (now (zs .entry)) ⌝ }
+    ensures { λ _. ⌜ now (out .exit) ≡ wordsOf 65536 (now (zs .entry)) ⌝ }
 {
     let mut k: usize = 0;
     while k < out.len() {
@@ -101,7 +101,7 @@ fn column(s: &[i32], j: usize, out: &mut [u16])
 // The columns of S, one after the other.
 fn columns(n: usize, s: &[i32], cols: &mut [u16])
     requires { ⌜ (0 < n) × (length (now s) ≡ 8 * n) × (length (now cols) ≡ 8 * n) ⌝ }
-    ensures { λ _. ⌜ now (cols .exit) ≡ columnsOf n (now (s .entry)) ⌝ }
+    ensures { λ _. ⌜ now (cols .exit) ≡ columnsOf 65536 n (now (s .entry)) ⌝ }
 {
     let mut j: usize = 0;
     while j < 8 {
@@ -126,7 +126,7 @@ fn add_products(x: u16, n: usize, t: usize, cols: &[u16], sums: &mut [u16])
 // A row with each of the 8 columns: one load of the row serves 8 dot products.
 fn add_dots(n: usize, row: &[u32], cols: &[u16], sums: &mut [u16])
     requires { ⌜ Lent n 1 (now row) (now cols) × (length (now sums) ≡ 8) ⌝ }
-    ensures { λ _. ⌜ now (sums .exit) ≡ gained n (dotTerm n (now (row .entry)) (now (cols .entry))) (now (sums .entry)) ⌝ }
+    ensures { λ _. ⌜ now (sums .exit) ≡ gained 65536 n (dotTerm n (now (row .entry)) (now (cols .entry))) (now (sums .entry)) ⌝ }
 {
     let mut t: usize = 0;
     while t < n {
@@ -138,7 +138,7 @@ fn add_dots(n: usize, row: &[u32], cols: &[u16], sums: &mut [u16])
 // A row of XS + E.
 fn right_row(q: u32, n: usize, row: &[u32], cols: &[u16], e: &[i32], out: &mut [u32])
     requires { ⌜ (0 < q) × Lent n 1 (now row) (now cols) × (length (now e) ≡ 8) × (length (now out) ≡ 8) ⌝ }
-    ensures { λ _. ⌜ now (out .exit) ≡ reduced q (gained n (dotTerm n (now (row .entry)) (now (cols .entry))) (wordsOf (now (e .entry)))) ⌝ }
+    ensures { λ _. ⌜ now (out .exit) ≡ reduced q (gained 65536 n (dotTerm n (now (row .entry)) (now (cols .entry))) (wordsOf 65536 (now (e .entry)))) ⌝ }
 {
     let mut sums: [u16; 8] = [0; 8];
     words(e, &mut sums);
@@ -149,7 +149,7 @@ fn right_row(q: u32, n: usize, row: &[u32], cols: &[u16], e: &[i32], out: &mut [
 // XS + E, by rows of X and columns of S.
 fn right_rows(q: u32, n: usize, r: usize, x: &[u32], cols: &[u16], e: &[i32], out: &mut [u32])
     requires { ⌜ (0 < q) × Lent n r (now x) (now cols) × (length (now e) ≡ 8 * r) × (length (now out) ≡ 8 * r) ⌝ }
-    ensures { λ _. ⌜ now (out .exit) ≡ reduced q (gained n (rightTerm n (now (x .entry)) (now (cols .entry))) (wordsOf (now (e .entry)))) ⌝ }
+    ensures { λ _. ⌜ now (out .exit) ≡ reduced q (gained 65536 n (rightTerm n (now (x .entry)) (now (cols .entry))) (wordsOf 65536 (now (e .entry)))) ⌝ }
 {
     let mut i: usize = 0;
     while i < r {
@@ -241,7 +241,7 @@ fn add_block(w: &[u16], y: &[u16], sums: &mut [u16])
 // A block of m rows, the first of which is row t of Y, into each of the 8 rows of sums.
 fn add_to_all(n: usize, c: usize, t: usize, m: usize, s: &[u16], y: &[u16], sums: &mut [u16])
     requires { ⌜ (length (now s) ≡ 8 * n) × (t + m ≤ n) × (length (now y) ≡ m * c) × (length (now sums) ≡ 8 * c) ⌝ }
-    ensures { λ _. ⌜ now (sums .exit) ≡ gained m (partTerm n c t (now (s .entry)) (now (y .entry))) (now (sums .entry)) ⌝ }
+    ensures { λ _. ⌜ now (sums .exit) ≡ gained 65536 m (partTerm n c t (now (s .entry)) (now (y .entry))) (now (sums .entry)) ⌝ }
 {
     let mut i: usize = 0;
     while i < 8 {
@@ -264,7 +264,7 @@ fn left_block(
     sums: &mut [u16],
 )
     requires { ⌜ Lent n c (now y) (now s) × (t + m ≤ n) × (length (now block) ≡ m * c) × (length (now sums) ≡ 8 * c) ⌝ }
-    ensures { λ _. ⌜ now (sums .exit) ≡ gained m (λ k u. leftTerm n c (now (s .entry)) (now (y .entry)) k (t + u)) (now (sums .entry)) ⌝ }
+    ensures { λ _. ⌜ now (sums .exit) ≡ gained 65536 m (λ k u. leftTerm n c (now (s .entry)) (now (y .entry)) k (t + u)) (now (sums .entry)) ⌝ }
 {
     let d = t * c;
     let f = d + m * c;
@@ -283,7 +283,7 @@ fn at_most_four(n: usize) -> usize
 // All rows of Y, a block at a time.
 fn left_rows(n: usize, c: usize, s: &[u16], y: &[u32], block: &mut [u16], sums: &mut [u16])
     requires { ⌜ Lent n c (now y) (now s) × (4 * c ≤ length (now block)) × (length (now sums) ≡ 8 * c) ⌝ }
-    ensures { λ _. ⌜ now (sums .exit) ≡ gained n (leftTerm n c (now (s .entry)) (now (y .entry))) (now (sums .entry)) ⌝ }
+    ensures { λ _. ⌜ now (sums .exit) ≡ gained 65536 n (leftTerm n c (now (s .entry)) (now (y .entry))) (now (sums .entry)) ⌝ }
 {
     let mut t: usize = 0;
     while t < n {

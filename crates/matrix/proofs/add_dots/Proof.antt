@@ -9,16 +9,16 @@ use Rattle.matrix.proofs.add_dots.Statement.{statement}
 use Rattle.matrix.proofs.add_dots.Tie as tie
 
 abbrev Inv-loop : tie.InvT-loop
-Inv-loop n row cols sums₀ t₀ sums t = (t ≤ n) × (sums ≡ gained t (dotTerm n row cols) sums₀)
+Inv-loop n row cols sums₀ t₀ sums t = (t ≤ n) × (sums ≡ gained 65536 t (dotTerm n row cols) sums₀)
 
 abbrev μ-loop : tie.MeasureT-loop
 μ-loop n row cols sums₀ t₀ sums t = n - t
 
 loop-holds : tie.Need-loop-holds Inv-loop μ-loop
-loop-holds c = (omega arith, sym (gained-none _ _ (λ k. omega (arith, c .slice-known .given k))))
+loop-holds c = (omega arith, sym (gained-none 65536 _ _ (λ k. omega (arith, c .slice-known .given k))))
 
 long : (c : tie.At-loop Inv-loop μ-loop) → length (c .loop .sums) ≡ 8
-long c = rw (c .loop .inv .1) (gained-length _ _ _ ∙ c .before .before .before .before .pre .1)
+long c = rw (c .loop .inv .1) (gained-length _ _ _ _ ∙ c .before .before .before .before .pre .1)
 
 cast-add-products : tie.Need-cast-add-products Inv-loop μ-loop
 cast-add-products c = record { fits = c .before .before .before .before .before .before .pre .0 .xs-below .below (c .before .before .loop .t) }
@@ -33,7 +33,7 @@ unfolding dotTerm
 loop-again c =
     let l = c .before .before .before .before .before .before in
     let a = l .before .before .before .before in
-    (omega arith, gained-next (l .loop .t) 8 (dotTerm (a .args .n) (a .args .row .now) (a .args .cols .now)) _ (a .pre .1) (l .loop .inv .1) (c .before .before .add-products .ensures))
+    (omega arith, gained-next 65536 (l .loop .t) 8 (dotTerm (a .args .n) (a .args .row .now) (a .args .cols .now)) _ (a .pre .1) (l .loop .inv .1) (c .before .before .add-products .ensures))
 
 same-length : tie.Need-same-length Inv-loop μ-loop
 same-length c = long (c .before) ∙ sym (c .before .before .before .before .before .pre .1)
@@ -41,7 +41,7 @@ same-length c = long (c .before) ∙ sym (c .before .before .before .before .bef
 returns : tie.Need-returns Inv-loop μ-loop
 returns c =
     let a = c .before .before .before .before .before .args in
-    c .before .loop .inv .1 ∙ ap (λ (t : ℕ). gained t (dotTerm (a .n) (a .row .now) (a .cols .now)) (a .sums .now)) (omega arith)
+    c .before .loop .inv .1 ∙ ap (λ (t : ℕ). gained 65536 t (dotTerm (a .n) (a .row .now) (a .cols .now)) (a .sums .now)) (omega arith)
 
 pub add-dots-spec : {M : Type 1} → statement M
 add-dots-spec =

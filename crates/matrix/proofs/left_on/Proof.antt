@@ -1,4 +1,5 @@
 -- `matrix::left_on` meets its contract.
+use native.Mathlib.Omega.{arith}
 use mathlib.Core.Path.{_∙_}
 use borrow.Author.Needs.{needs}
 use Rattle.matrix.proofs.Steps.{words-length, steps-are}
@@ -11,7 +12,7 @@ left-rows-requires c κs =
     let e = c .before .before .before .before .before in
     let s = e .before .before .before .before in
     let a = s .before .before .before .before .before .before .before in
-    (lent-words (s .words .ensures) (a .pre .0 .0), a .pre .1 .1, rw (e .words2 .ensures) (words-length _ ∙ a .pre .0 .1))
+    (lent-words (s .words .ensures) (a .pre .0 .0), a .pre .1 .1, rw (e .words2 .ensures) (words-length _ _ ∙ a .pre .0 .1))
 
 returns : tie.Need-returns
 returns c =
@@ -20,8 +21,8 @@ returns c =
     let e = g .before .before .before .before .before .before in
     let s = e .before .before .before .before in
     let a = s .before .before .before .before .before .before .before in
-    left-is (a .args .e .now) (a .pre .0 .0) (s .words .ensures) (a .pre .0 .1)
-    (steps-are (a .args .q) _ _ (a .args .e .now) (e .words2 .ensures) (g .left-rows .ensures) (r .reduce .ensures))
+    left-is 65536 (omega arith) (a .pre .0 .0 .whole) (a .args .e .now) (a .pre .0 .0) (s .words .ensures) (a .pre .0 .1)
+    (steps-are 65536 (a .args .q) _ _ (a .args .e .now) (e .words2 .ensures) (g .left-rows .ensures) (r .reduce .ensures))
 
 pub left-on-spec : {M : Type 1} → statement M
 left-on-spec =

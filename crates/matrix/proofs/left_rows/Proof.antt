@@ -12,17 +12,17 @@ use Rattle.matrix.proofs.left_rows.Statement.{statement}
 use Rattle.matrix.proofs.left_rows.Tie as tie
 
 abbrev Inv-loop : tie.InvT-loop
-Inv-loop n c s y block₀ sums₀ t₀ block sums t = (t ≤ n) × (length block ≡ length block₀) × (sums ≡ gained t (leftTerm n c s y) sums₀)
+Inv-loop n c s y block₀ sums₀ t₀ block sums t = (t ≤ n) × (length block ≡ length block₀) × (sums ≡ gained 65536 t (leftTerm n c s y) sums₀)
 
 abbrev μ-loop : tie.MeasureT-loop
 μ-loop n c s y block₀ sums₀ t₀ block sums t = n - t
 
 loop-holds : tie.Need-loop-holds Inv-loop μ-loop
-loop-holds c = (omega arith, refl, sym (gained-none _ _ (λ k. omega (arith, c .slice-known2 .given k))))
+loop-holds c = (omega arith, refl, sym (gained-none 65536 _ _ (λ k. omega (arith, c .slice-known2 .given k))))
 
 -- the sums are as many as ever, and four rows fit the block
 long : (c : tie.At-loop Inv-loop μ-loop) → length (c .loop .sums) ≡ 8 * c .before .before .before .before .before .args .c
-long c = rw (c .loop .inv .2) (gained-length _ _ _ ∙ c .before .before .before .before .before .pre .2)
+long c = rw (c .loop .inv .2) (gained-length _ _ _ _ ∙ c .before .before .before .before .before .pre .2)
 
 module _ (c : tie.After-at-most-four Inv-loop μ-loop) where
   abbrev a : tie.Start Inv-loop μ-loop
@@ -56,7 +56,7 @@ loop-again c =
     let f = leftTerm (g .n) (g .c) (g .s .now) (g .y .now) in (
       omega arith,
       search needs,
-      gained-more (l .loop .t) (d .at-most-four .result) f (g .sums .now) (l .loop .inv .2) (c .before .before .before .before .left-block .ensures),
+      gained-more 65536 (l .loop .t) (d .at-most-four .result) f (g .sums .now) (l .loop .inv .2) (c .before .before .before .before .left-block .ensures),
     )
 
 same-length : tie.Need-same-length Inv-loop μ-loop
@@ -68,7 +68,7 @@ same-length-2 c = long (c .before) ∙ sym (c .before .before .before .before .b
 returns : tie.Need-returns Inv-loop μ-loop
 returns c =
     let a = c .before .before .before .before .before .before .args in
-    c .before .loop .inv .2 ∙ ap (λ (t : ℕ). gained t (leftTerm (a .n) (a .c) (a .s .now) (a .y .now)) (a .sums .now)) (omega arith)
+    c .before .loop .inv .2 ∙ ap (λ (t : ℕ). gained 65536 t (leftTerm (a .n) (a .c) (a .s .now) (a .y .now)) (a .sums .now)) (omega arith)
 
 pub left-rows-spec : {M : Type 1} → statement M
 left-rows-spec =

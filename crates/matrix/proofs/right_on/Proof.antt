@@ -1,4 +1,5 @@
 -- `matrix::right_on` meets its contract.
+use native.Mathlib.Omega.{arith}
 use borrow.Author.Needs.{needs}
 use Rattle.matrix.proofs.Whole.{lent-columns, right-is}
 use Rattle.matrix.proofs.right_on.Statement.{statement}
@@ -15,7 +16,7 @@ returns c =
     let w = c .before .before in
     let k = w .before .before .before .before .before in
     let a = k .before .before .before .before .before in
-    right-is (a .args .e .now) (a .pre .0) (k .columns .ensures) (a .pre .1) (w .right-rows .ensures)
+    right-is 65536 (omega arith) (a .pre .0 .whole) (a .args .e .now) (a .pre .0) (k .columns .ensures) (a .pre .1) (w .right-rows .ensures)
 
 pub right-on-spec : {M : Type 1} → statement M
 right-on-spec = tie.close (tie.spec (search needs) right-rows-requires (search needs) (search needs) returns)

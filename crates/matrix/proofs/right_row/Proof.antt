@@ -8,7 +8,7 @@ use Rattle.matrix.proofs.right_row.Tie as tie
 add-dots-requires : tie.Need-add-dots-requires
 add-dots-requires c κs =
     let a = c .before .before .before .before .before .before .before in
-    (a .pre .1, rw (c .before .before .words .ensures) (words-length _ ∙ a .pre .2))
+    (a .pre .1, rw (c .before .before .words .ensures) (words-length _ _ ∙ a .pre .2))
 
 returns : tie.Need-returns
 returns c =
@@ -16,7 +16,7 @@ returns c =
     let g = r .before .before .before .before in
     let s = g .before .before .before in
     let a = s .before .before .before .before .before in
-    steps-are (a .args .q) _ _ (a .args .e .now) (s .words .ensures) (g .add-dots .ensures) (r .reduce .ensures)
+    steps-are 65536 (a .args .q) _ _ (a .args .e .now) (s .words .ensures) (g .add-dots .ensures) (r .reduce .ensures)
 
 pub right-row-spec : {M : Type 1} → statement M
 right-row-spec =

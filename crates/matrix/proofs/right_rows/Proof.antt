@@ -107,7 +107,7 @@ returns c =
     let i : l .i ≡ b .args .r = omega arith in
     fill-end (l .inv .1) (rw (i, b .pre .3) (omega arith))
     ∙ ap (λ (k : ℕ). tab k (from (b .args .q) (b .args .n) (b .args .x .now) (b .args .cols .now) (b .args .e .now))) (b .pre .3 ∙ sym (b .pre .2))
-    ∙ sym (reduced-gained (b .args .q) (b .args .n) (rightTerm (b .args .n) (b .args .x .now) (b .args .cols .now)) (b .args .e .now))
+    ∙ sym (reduced-gained 65536 (b .args .q) (b .args .n) (rightTerm (b .args .n) (b .args .x .now) (b .args .cols .now)) (b .args .e .now))
 
 pub right-rows-spec : {M : Type 1} → statement M
 right-rows-spec =

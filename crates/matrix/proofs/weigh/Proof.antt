@@ -37,7 +37,7 @@ loop-again c =
       omega arith,
       c .add-product .ensures
           ∙ ap₂ (λ (s x : ℕ). (s + x * getD (a .w .now) (l .loop .u) 0) % 65536) (l .loop .inv .1) (c .before .before .number-at .ensures)
-          ∙ gain-next (l .loop .u) (a .start) (blockTerm (a .c) (a .w .now) (a .y .now) (a .j)),
+          ∙ gain-next 65536 (l .loop .u) (a .start) (blockTerm (a .c) (a .w .now) (a .y .now) (a .j)),
     )
 
 returns : tie.Need-returns Inv-loop μ-loop
