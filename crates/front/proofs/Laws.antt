@@ -2,8 +2,8 @@
 --   differ          a failure is no pass
 --   some, number-zero   a refusal has a number, and a verdict without one has passed
 --   both            where a sequence has passed, each of its tests has
---   length-passed, up-to-passed, room-passed, table-passed, publics-passed, message-passed, secrets-passed   what a test that has passed says
---   within-passes, below-passes, message-passes, length-passes, up-to-passes, room-passes   and what passes
+--   length-passed, up-to-passed, room-passed, turn-passed, table-passed, publics-passed, message-passed, secrets-passed   what a test that has passed says
+--   within-passes, below-passes, message-passes, length-passes, up-to-passes, room-passes, turn-passes   and what passes
 --   all-pass        so does a sequence of such tests
 --   stays, goes-on  one test more, after a failure and after none
 --   over, under     the unpack step's verdict, by the first number that is too large
@@ -27,9 +27,9 @@ use Rattle.lists.proofs.Same.{append-all, equal-all}
 use Rattle.packing.specs.Packing.{packed}
 use Rattle.blank.specs.Blank.{blank}
 use Rattle.blank.proofs.Laws.{blank-packed}
-use Rattle.front.specs.Front.{numberOf, numberIn, _then_, lengthIs, lengthUpTo, roomFor, tableIn, publicsIn, messageIn, notBlank, secretsIn, held}
+use Rattle.front.specs.Front.{numberOf, numberIn, _then_, lengthIs, lengthUpTo, roomFor, inTurn, tableIn, publicsIn, messageIn, notBlank, secretsIn, held}
 use Rattle.front.specs.declared.Refusal.{Refusal}
-use Rattle.front.specs.declared.Refusal.the-variants.{NoScheme, BadLength, Short, PublicOver, MessageOver, SecretBeyond, RanOut, Misfit, OutOfStage, NoRule, NewerFormat, NoStudio, Blank, NotAscending}
+use Rattle.front.specs.declared.Refusal.the-variants.{NoScheme, BadLength, Short, PublicOver, MessageOver, SecretBeyond, RanOut, Misfit, OutOfStage, OutOfTurn, NoRule, NewerFormat, NoStudio, Blank, NotAscending}
 use Rattle.front.specs.declared.Verdict.{Verdict}
 use Rattle.front.specs.declared.Verdict.the-variants.{Pass, Fail}
 
@@ -46,6 +46,7 @@ some (SecretBeyond k) = omega arith
 some (RanOut k) = omega arith
 some Misfit = omega arith
 some OutOfStage = omega arith
+some OutOfTurn = omega arith
 some NoRule = omega arith
 some NewerFormat = omega arith
 some NoStudio = omega arith
@@ -80,6 +81,10 @@ up-to-passed m n e = leb-true m n (if-pass _ _ e)
 pub room-passed : (room n : ℕ) → roomFor room n ≡ Pass → n ≤ room
 unfolding roomFor
 room-passed room n e = leb-true n room (if-pass _ _ e)
+
+pub turn-passed : (b : Bool) → inTurn b ≡ Pass → b ≡ true
+unfolding inTurn
+turn-passed b e = if-pass _ _ e
 
 pub table-passed : (p n : ℕ) → tableIn p n ≡ Pass → n ≤ p
 unfolding tableIn
@@ -184,6 +189,10 @@ up-to-passes h = rw (le-leb _ _ h)
 pub room-passes : {room n : ℕ} → n ≤ room → roomFor room n ≡ Pass
 unfolding roomFor
 room-passes h = rw (le-leb _ _ h)
+
+pub turn-passes : {b : Bool} → b ≡ true → inTurn b ≡ Pass
+unfolding inTurn
+turn-passes e = rw e
 
 pub held-all : {A : Type 0} (P : A → Type 0) (z : A) (v : Verdict) (xs : List A) (room : ℕ) → P z → (v ≡ Pass → (k : ℕ) → P (getD xs k z)) → (k : ℕ)
     → P (getD (held v xs room z) k z)

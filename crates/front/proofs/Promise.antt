@@ -21,7 +21,7 @@ use Rattle.lists.specs.declared.Peak.{Peak}
 use Rattle.lists.proofs.Same.{restored}
 use Rattle.front.specs.Front.{numberOf, placeOf, countIn, held}
 use Rattle.front.specs.declared.Refusal.{Refusal}
-use Rattle.front.specs.declared.Refusal.the-variants.{NoScheme, BadLength, Short, PublicOver, MessageOver, SecretBeyond, RanOut, Misfit, OutOfStage, NoRule, NewerFormat, NoStudio, Blank, NotAscending}
+use Rattle.front.specs.declared.Refusal.the-variants.{NoScheme, BadLength, Short, PublicOver, MessageOver, SecretBeyond, RanOut, Misfit, OutOfStage, OutOfTurn, NoRule, NewerFormat, NoStudio, Blank, NotAscending}
 use Rattle.front.specs.declared.Verdict.{Verdict}
 use Rattle.front.specs.declared.Verdict.the-variants.{Pass, Fail}
 use Rattle.front.proofs.Laws.{some}
@@ -108,11 +108,12 @@ refusalBy k p =
     (cond (eqb k 7) (RanOut p)
     (cond (eqb k 8) Misfit
     (cond (eqb k 10) OutOfStage
+    (cond (eqb k 11) OutOfTurn
     (cond (eqb k 12) NoRule
     (cond (eqb k 15) NewerFormat
     (cond (eqb k 16) NoStudio
     (cond (eqb k 17) Blank
-    (NotAscending p)))))))))))))
+    (NotAscending p))))))))))))))
 
 back : (r : Refusal) → refusalBy (numberOf r) (placeOf r) ≡ r
 unfolding refusalBy
@@ -125,6 +126,7 @@ back (SecretBeyond k) = refl
 back (RanOut k) = refl
 back Misfit = refl
 back OutOfStage = refl
+back OutOfTurn = refl
 back NoRule = refl
 back NewerFormat = refl
 back NoStudio = refl

@@ -6,6 +6,7 @@
 --   lengthIs m n            2: an input's length is not the fixed one
 --   lengthUpTo m n          2: it is over what is allowed
 --   roomFor room n          3: an output buffer is shorter than the answer
+--   inTurn b                11: it is not the turn of a part or an end (02, request e)
 --   tableIn p n             18: entry p of a table of n entries is not above its forerunner
 --   publicsIn q xs          4: a lent public number is q or more
 --   messageIn q xs          5: an unpacked message number is q or more
@@ -13,7 +14,7 @@
 --   receivedIn q part xs    the tests of a part that has come, with the numbers xs: 5, then 17
 --   secretsIn B xs          6: a secret or noise value lies beyond the largest noise
 --   held v xs room z        an output at exit: the answer xs and zeros (z) behind it; zeros from end to end after a refusal
-use mathlib.Core.Bool.{cond}
+use mathlib.Core.Bool.{Bool, cond}
 use mathlib.Core.List.{List, _++_}
 use Prim.Native.Nat.{ℕ, _-_}
 use lib.Dec.{eqb, leb, ltb}
@@ -22,7 +23,7 @@ use lib.ListN.{length, replicate}
 use Rattle.lists.specs.First.{firstOver, firstBeyond}
 use Rattle.blank.specs.Blank.{blank}
 use Rattle.front.specs.declared.Refusal.{Refusal}
-use Rattle.front.specs.declared.Refusal.the-variants.{NoScheme, BadLength, Short, PublicOver, MessageOver, SecretBeyond, RanOut, Misfit, OutOfStage, NoRule, NewerFormat, NoStudio, Blank, NotAscending}
+use Rattle.front.specs.declared.Refusal.the-variants.{NoScheme, BadLength, Short, PublicOver, MessageOver, SecretBeyond, RanOut, Misfit, OutOfStage, OutOfTurn, NoRule, NewerFormat, NoStudio, Blank, NotAscending}
 use Rattle.front.specs.declared.Verdict.{Verdict}
 use Rattle.front.specs.declared.Verdict.the-variants.{Pass, Fail}
 
@@ -36,6 +37,7 @@ numberOf (SecretBeyond k) = 6
 numberOf (RanOut k) = 7
 numberOf Misfit = 8
 numberOf OutOfStage = 10
+numberOf OutOfTurn = 11
 numberOf NoRule = 12
 numberOf NewerFormat = 15
 numberOf NoStudio = 16
@@ -52,6 +54,7 @@ placeOf (SecretBeyond k) = k
 placeOf (RanOut k) = k
 placeOf Misfit = 0
 placeOf OutOfStage = 0
+placeOf OutOfTurn = 0
 placeOf NoRule = 0
 placeOf NewerFormat = 0
 placeOf NoStudio = 0
@@ -83,6 +86,9 @@ lengthUpTo m n = cond (leb m n) Pass (Fail BadLength)
 
 unfoldable pub roomFor : ℕ → ℕ → Verdict
 roomFor room n = cond (leb n room) Pass (Fail Short)
+
+unfoldable pub inTurn : Bool → Verdict
+inTurn b = cond b Pass (Fail OutOfTurn)
 
 unfoldable pub tableIn : ℕ → ℕ → Verdict
 tableIn p n = cond (ltb p n) (Fail (NotAscending p)) Pass

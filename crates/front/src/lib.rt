@@ -4,7 +4,7 @@ ghost use mathlib.Core.Path.{_≡_};
 ghost use Prim.Native.Nat.{_*_, _≤_, _<_};
 ghost use lib.ListN.{length};
 ghost use Rattle.packing.specs.Packing.{unpacked};
-ghost use Rattle.front.specs.Front.{_then_, lengthIs, lengthUpTo, roomFor, tableIn, publicsIn, notBlank, receivedIn, secretsIn, numberOf, placeOf};
+ghost use Rattle.front.specs.Front.{_then_, lengthIs, lengthUpTo, roomFor, inTurn, tableIn, publicsIn, notBlank, receivedIn, secretsIn, numberOf, placeOf};
 ghost use Rattle.front.specs.Promise.{outcome};
 use lists::Peak;
 
@@ -18,6 +18,7 @@ pub enum Refusal {
     RanOut(usize),
     Misfit,
     OutOfStage,
+    OutOfTurn,
     NoRule,
     NewerFormat,
     NoStudio,
@@ -39,6 +40,7 @@ impl Refusal {
             Refusal::RanOut(_) => 7,
             Refusal::Misfit => 8,
             Refusal::OutOfStage => 10,
+            Refusal::OutOfTurn => 11,
             Refusal::NoRule => 12,
             Refusal::NewerFormat => 15,
             Refusal::NoStudio => 16,
@@ -60,6 +62,7 @@ impl Refusal {
             Refusal::RanOut(k) => k,
             Refusal::Misfit => 0,
             Refusal::OutOfStage => 0,
+            Refusal::OutOfTurn => 0,
             Refusal::NoRule => 0,
             Refusal::NewerFormat => 0,
             Refusal::NoStudio => 0,
@@ -136,6 +139,17 @@ pub fn room_for(v: Verdict, room: usize, n: usize) -> Verdict
         Verdict::Pass
     } else {
         Verdict::Fail(Refusal::Short)
+    }
+}
+
+// It is the turn of a part or an end.
+pub fn in_turn(has: bool) -> Verdict
+    ensures { λ r. ⌜ r ≡ inTurn has ⌝ }
+{
+    if has {
+        Verdict::Pass
+    } else {
+        Verdict::Fail(Refusal::OutOfTurn)
     }
 }
 
