@@ -1,0 +1,6 @@
+pub mod State
+pub mod Part
+pub mod Offer
+pub mod Reply
+pub mod Runs
+pub mod Shown

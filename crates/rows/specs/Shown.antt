@@ -1,0 +1,134 @@
+-- What is shown of Frodo by rows: 02, request e; once over n and q.
+--   OnePart, OneOfferBegin, OneOfferEnd, OneReplyBegin, OneReplyEnd   no two results satisfy one promise
+--   Frodos            a number names a scheme here exactly if it does in the whole-matrix calls and the scheme is one of Frodo's
+--   Allowed           a state has at most 32 n + 256 numbers
+--   Joining           part after part is the part of both joined, for every cut: where the joined one is accepted, so are both, and the state is the same
+--   Empty             an empty part changes nothing, where the state is of words
+--   Again             a refused part changes nothing, so that it can be sent again: the run without the refused parts leaves the same state
+--   OfferTry, ReplyTry   so does a refused end
+--   Running           the sums after any parts are those of the numbers that they join into, and the count is their number
+--   SameOffer, SameReply   end gives what Offer and Reply promise on the joined matrix, refusals of room and blank parts included
+--   EarlyOffer, EarlyReply   where the parts do not fill the rows, it gives 11, and zeros
+use mathlib.Core.Path.{_≡_}
+use mathlib.Core.Logic.{_↔_, _≢_}
+use mathlib.Core.Bool.{true}
+use mathlib.Core.List.{List, [], _++_}
+use Prim.Native.Nat.{ℕ, _+_, _*_, _≤_, _<_}
+use lib.ListN.{length}
+use Rattle.schemes.specs.Schemes.{familyOf, fixedOf, schemeOf}
+use Rattle.schemes.specs.declared.Family.{Family}
+use Rattle.schemes.specs.declared.Named.{Named}
+use Rattle.schemes.specs.declared.Named.the-variants.{Is}
+use Rattle.schemes.specs.declared.Scheme.{Scheme}
+use Rattle.lists.specs.Entries.{Below}
+use Rattle.matrix.specs.Steps.{gained}
+use Rattle.parts.specs.Parts.{wrap}
+use Rattle.front.specs.Front.{numberIn, placeIn}
+use Rattle.front.specs.Promise.{Told, Wrote}
+use Rattle.front.specs.Answers.{number, place, written}
+use Rattle.front.specs.declared.Answer.{Answer}
+use Rattle.front.specs.declared.Verdict.{Verdict}
+use Rattle.front.specs.declared.Verdict.the-variants.{Fail}
+use Rattle.front.specs.declared.Refusal.the-variants.{OutOfTurn}
+use Rattle.exchange.specs.Offer.{offerOf, Offered}
+use Rattle.exchange.specs.Reply.{replyOf, Replied}
+use Rattle.exchange.specs.Reply as reply
+use Rattle.exchange.specs.declared.ReplyAnswer.{ReplyAnswer}
+use Rattle.rows.specs.State.{frodoOf, long, named, taken, secretOf, sumsOf, begun, terms}
+use Rattle.rows.specs.Part.{Taken}
+use Rattle.rows.specs.Offer.{OfferBegin, OfferBegun, OfferEnded}
+use Rattle.rows.specs.Reply.{ReplyBegin, ReplyBegun, ReplyEnded}
+use Rattle.rows.specs.Runs.{Parts, Good, OfferRun, ReplyRun}
+use Rattle.rows.specs.declared.Call.{Call}
+
+-- ---- one result
+
+abbrev pub OnePart : Type 0
+OnePart =
+    (k : Call) (st p : List ℕ) (r r′ : Verdict) (after after′ : List ℕ) → Taken k st p (numberIn r) (placeIn r) after
+    → Taken k st p (numberIn r′) (placeIn r′) after′ → (r ≡ r′) × (after ≡ after′)
+
+abbrev pub OneOfferBegin : Type 0
+OneOfferBegin =
+    (c : Named) (x : OfferBegin) (m : ℕ) (r r′ : Verdict) (after after′ : List ℕ) → OfferBegun c x (numberIn r) (placeIn r) m after
+    → OfferBegun c x (numberIn r′) (placeIn r′) m after′ → (r ≡ r′) × (after ≡ after′)
+
+abbrev pub OneOfferEnd : Type 0
+OneOfferEnd =
+    (st : List ℕ) (n : ℕ) (r r′ : Answer) (message message′ after after′ : List ℕ) → OfferEnded st (number r) (place r) n (written r) message after
+    → OfferEnded st (number r′) (place r′) n (written r′) message′ after′ → (r ≡ r′) × (message ≡ message′) × (after ≡ after′)
+
+abbrev pub OneReplyBegin : Type 0
+OneReplyBegin =
+    (c : Named) (x : ReplyBegin) (m : ℕ) (r r′ : Verdict) (after after′ : List ℕ) → ReplyBegun c x (numberIn r) (placeIn r) m after
+    → ReplyBegun c x (numberIn r′) (placeIn r′) m after′ → (r ≡ r′) × (after ≡ after′)
+
+abbrev pub OneReplyEnd : Type 0
+OneReplyEnd =
+    (st : List ℕ) (n k d : ℕ) (r r′ : ReplyAnswer) (message message′ key key′ digest digest′ after after′ : List ℕ)
+    → ReplyEnded st (reply.number r) (reply.place r) n (reply.counts r .message) message k (reply.counts r .key) key d (reply.counts r .digest) digest after
+    → ReplyEnded st (reply.number r′) (reply.place r′) n (reply.counts r′ .message) message′ k (reply.counts r′ .key) key′ d (reply.counts r′ .digest) digest′ after′
+    → (r ≡ r′) × (message ≡ message′) × (key ≡ key′) × (digest ≡ digest′) × (after ≡ after′)
+
+-- ---- the state
+
+abbrev pub Frodos : Type 0
+Frodos = (k : ℕ) (c : Scheme) → (frodoOf k ≡ Is c) ↔ (schemeOf k ≡ Is c) × (familyOf c ≡ Family.Frodo)
+
+abbrev pub Allowed : Type 0
+Allowed = (n : ℕ) → long n ≤ 32 * n + 256
+
+-- ---- parts
+
+abbrev pub Joining : Type 0
+Joining =
+    (k : Call) (st p p' after : List ℕ) → Taken k st (p ++ p') 0 0 after →
+    (between : List ℕ) × (Taken k st p 0 0 between × Taken k between p' 0 0 after)
+
+abbrev pub Empty : Type 0
+Empty = (k : Call) (st after : List ℕ) (number place : ℕ) → Below wrap st → Taken k st [] number place after → after ≡ st
+
+abbrev pub Again : Type 0
+Again =
+    ((k : Call) (st p after : List ℕ) (number place : ℕ) → Taken k st p number place after → 0 < number → after ≡ st)
+    × ((k : Call) (st xs last : List ℕ) → Parts k st xs last → Good k st xs last)
+
+abbrev pub OfferTry : Type 0
+OfferTry =
+    (st message after : List ℕ) (number place room count : ℕ) → OfferEnded st number place room count message after → 0 < number → after ≡ st
+
+abbrev pub ReplyTry : Type 0
+ReplyTry =
+    (st message key digest after : List ℕ) (number place n m k l d e : ℕ) → ReplyEnded st number place n m message k l key d e digest after → 0 < number →
+    after ≡ st
+
+abbrev pub Running : Type 0
+Running =
+    (k : Call) (c : Scheme) (st xs last : List ℕ) → named st ≡ Is c → begun k (fixedOf c) st ≡ true → taken st ≡ 0 → Below wrap st → Parts k st xs last →
+    (taken last ≡ length xs) × (sumsOf (fixedOf c .n) last ≡ gained wrap (fixedOf c .n) (terms k (fixedOf c .n) (secretOf (fixedOf c .n) st) xs) (sumsOf (fixedOf c .n) st))
+
+-- ---- the same as whole
+
+abbrev pub SameOffer : Type 0
+SameOffer =
+    (c : Scheme) (x : OfferBegin) (a message : List ℕ) (number place room count : ℕ) → familyOf c ≡ Family.Frodo → Below 256 (x .seed) →
+    OfferRun c x a number place room count message → length a ≡ fixedOf c .public →
+    Offered (Is c) (offerOf a (x .s) (x .e) (x .seed)) number place room count message
+
+abbrev pub EarlyOffer : Type 0
+EarlyOffer =
+    (c : Scheme) (x : OfferBegin) (a message : List ℕ) (number place room count : ℕ) → familyOf c ≡ Family.Frodo → Below 256 (x .seed) →
+    OfferRun c x a number place room count message → length a ≢ fixedOf c .public →
+    Told (Fail OutOfTurn) number place × Wrote (Fail OutOfTurn) [] 0 room count message
+
+abbrev pub SameReply : Type 0
+SameReply =
+    (c : Scheme) (x : ReplyBegin) (a message key digest : List ℕ) (number place n m k l d e : ℕ) → familyOf c ≡ Family.Frodo →
+    ReplyRun c x a number place n m message k l key d e digest → length a ≡ fixedOf c .public →
+    Replied (Is c) (replyOf (x .opening) a (x .s') (x .e') (x .e'') []) number place n m message k l key d e digest
+
+abbrev pub EarlyReply : Type 0
+EarlyReply =
+    (c : Scheme) (x : ReplyBegin) (a message key digest : List ℕ) (number place n m k l d e : ℕ) → familyOf c ≡ Family.Frodo →
+    ReplyRun c x a number place n m message k l key d e digest → length a ≢ fixedOf c .public →
+    Told (Fail OutOfTurn) number place × Wrote (Fail OutOfTurn) [] 0 n m message × Wrote (Fail OutOfTurn) [] 0 k l key × Wrote (Fail OutOfTurn) [] 0 d e digest
