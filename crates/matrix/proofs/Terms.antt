@@ -32,11 +32,11 @@ lent-row {n} {r} {x} {ws} i h f =
       xs-below = slice-below (i * n) n (f .xs-below);
     }
 
-pub column-row : (n m j : ℕ) (s : List ℤ) → m ≡ n
-    → tab m (λ t. residue 65536 (ints s (t * 8 + j))) ≡ tab n (λ t. residue 65536 (ints s ((j * n + t) % n * 8 + (j * n + t) / n)))
-column-row n m j s e =
-    ap (λ (k : ℕ). tab k (λ t. residue 65536 (ints s (t * 8 + j)))) e
-    ∙ tab-ext n _ _ (λ t p. ap₂ (λ (a b : ℕ). residue 65536 (ints s (a * 8 + b))) (sym (digits-mod j p)) (sym (digits-div j p)))
+pub column-row : (w n m j : ℕ) (s : List ℤ) → m ≡ n
+    → tab m (λ t. residue w (ints s (t * 8 + j))) ≡ tab n (λ t. residue w (ints s ((j * n + t) % n * 8 + (j * n + t) / n)))
+column-row w n m j s e =
+    ap (λ (k : ℕ). tab k (λ t. residue w (ints s (t * 8 + j)))) e
+    ∙ tab-ext n _ _ (λ t p. ap₂ (λ (a b : ℕ). residue w (ints s (a * 8 + b))) (sym (digits-mod j p)) (sym (digits-div j p)))
 
 pub right-row :
     (q n i : ℕ) (x cols : List ℕ) (e : List ℤ) → i * 8 + 8 ≤ length e → {p : List ℕ} →

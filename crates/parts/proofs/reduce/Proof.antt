@@ -1,0 +1,43 @@
+-- `parts::reduce` meets its contract: it fills with the remainders of the sums.
+use mathlib.Core.Path.{refl, _∙_, ap}
+use mathlib.Core.List.{List}
+use Prim.Native.Nat.{ℕ, _-_, _%_}
+use native.Mathlib.Omega.{arith}
+use lib.ListN.{length, getD, length-set}
+use Rattle.lists.specs.Entries.{tab}
+use Rattle.lists.proofs.Fill.{Filled, fill-start, fill-next, fill-end}
+use Rattle.matrix.specs.Steps.{reduced}
+use Rattle.parts.proofs.reduce.Statement.{statement}
+use Rattle.parts.proofs.reduce.Tie as tie
+
+abbrev from : ℕ → List ℕ → ℕ → ℕ
+from q sums k = getD sums k 0 % q
+
+abbrev Inv-loop : tie.InvT-loop
+Inv-loop q sums out₀ k₀ out k = Filled (from q sums) out₀ out k
+
+abbrev μ-loop : tie.MeasureT-loop
+μ-loop q sums out₀ k₀ out k = length out - k
+
+loop-holds : tie.Need-loop-holds Inv-loop μ-loop
+loop-holds c = fill-start _ _
+
+loop-less : tie.Need-loop-less Inv-loop μ-loop
+loop-less c = simp length-set (omega arith)
+
+loop-again : tie.Need-loop-again Inv-loop μ-loop
+loop-again c = fill-next _ (c .before .before .loop .inv) (omega arith) refl
+
+same-length : tie.Need-same-length Inv-loop μ-loop
+same-length c = c .before .loop .inv .long
+
+returns : tie.Need-returns Inv-loop μ-loop
+unfolding reduced
+returns c =
+    let a = c .before .before in
+    fill-end (c .before .loop .inv) (omega arith) ∙ ap (λ (k : ℕ). tab k (from (a .args .q) (a .args .sums .now))) (a .pre .1)
+
+pub reduce-spec : {M : Type 1} → statement M
+reduce-spec =
+    tie.close
+    (tie.spec Inv-loop μ-loop loop-holds (λ c. omega arith) (λ c. omega arith) (λ c. omega arith) (λ c. omega arith) (λ c. omega arith) (λ c. omega arith) loop-less loop-again same-length returns)

@@ -1,0 +1,45 @@
+-- `parts::right::column` meets its contract: it fills with the words of every eighth value.
+use mathlib.Core.List.{List}
+use Prim.Native.Nat.{ℕ, _+_, _*_, _-_}
+use native.Mathlib.Omega.{arith}
+use borrow.Author.Needs.{needs}
+use lib.ListN.{length, length-set}
+use lib.IntN.{ℤ}
+use mir.Facts.{toZ-ofZ}
+use Rattle.numbers.specs.Residue.{residue}
+use Rattle.lists.specs.Entries.{ints}
+use Rattle.lists.proofs.Fill.{Filled, fill-start, fill-next, fill-end}
+use Rattle.parts.proofs.right.column.Statement.{statement}
+use Rattle.parts.proofs.right.column.Tie as tie
+
+abbrev from : List ℤ → ℕ → ℕ → ℕ
+from s j t = residue 4294967296 (ints s (t * 8 + j))
+
+abbrev Inv-loop : tie.InvT-loop
+Inv-loop s j out₀ t₀ out t = Filled (from s j) out₀ out t
+
+abbrev μ-loop : tie.MeasureT-loop
+μ-loop s j out₀ t₀ out t = length out - t
+
+loop-holds : tie.Need-loop-holds Inv-loop μ-loop
+loop-holds c = fill-start _ _
+
+loop-less : tie.Need-loop-less Inv-loop μ-loop
+loop-less c = simp length-set (omega arith)
+
+loop-again : tie.Need-loop-again Inv-loop μ-loop
+unfolding ints
+loop-again c =
+    let l = c .before .before .before .loop in
+    fill-next _ (l .inv) (omega arith) (rw (toZ-ofZ (record { sfits = c .before .word-arg .given })) at (c .word .ensures))
+
+same-length : tie.Need-same-length Inv-loop μ-loop
+same-length c = c .before .loop .inv .long
+
+returns : tie.Need-returns Inv-loop μ-loop
+returns c = fill-end (c .before .loop .inv) (omega arith)
+
+pub column-spec : {M : Type 1} → statement M
+column-spec =
+    tie.close
+    (tie.spec Inv-loop μ-loop loop-holds (λ c. omega arith) (λ c. omega arith) (λ c. omega arith) (λ c. omega arith) (search needs) (λ c. omega arith) (λ c. omega arith) (λ c. omega arith) loop-less loop-again same-length returns)

@@ -1,0 +1,77 @@
+-- `parts::right::columns` meets its contract: it fills a column at a time.
+use mathlib.Core.Path.{_≡_, _∙_, ap}
+use mathlib.Core.List.{List}
+use Prim.Native.Nat.{ℕ, _+_, _*_, _-_, _/_, _%_, _≤_}
+use native.Mathlib.Omega.{arith}
+use borrow.Author.Needs.{needs}
+use lib.ListN.{length}
+use lib.IntN.{ℤ}
+use Rattle.numbers.specs.Residue.{residue}
+use Rattle.lists.specs.Entries.{tab, ints}
+use Rattle.lists.proofs.Fill.{Filled, fill-end, rows-start, rows-next}
+use Rattle.lists.proofs.Parts.{slice-long}
+use Rattle.matrix.specs.Steps.{columnsOf}
+use Rattle.matrix.proofs.Terms.{row-in, column-row}
+use Rattle.parts.proofs.right.columns.Statement.{statement}
+use Rattle.parts.proofs.right.columns.Tie as tie
+
+abbrev from : ℕ → List ℤ → ℕ → ℕ
+from n s k = residue 4294967296 (ints s (k % n * 8 + k / n))
+
+abbrev Inv-loop : tie.InvT-loop
+Inv-loop n s cols₀ j₀ cols j = (j ≤ 8) × Filled (from n s) cols₀ cols (j * n)
+
+abbrev μ-loop : tie.MeasureT-loop
+μ-loop n s cols₀ j₀ cols j = 8 - j
+
+loop-holds : tie.Need-loop-holds Inv-loop μ-loop
+loop-holds c = (omega arith, rows-start _ _ (c .before .args .n))
+
+-- column j ends inside
+inside : (c : tie.In-loop Inv-loop μ-loop) → let n = c .before .before .before .args .n in c .before .loop .j * n + n ≤ length (c .before .loop .cols)
+inside c = omega (arith, row-in 8 (c .before .before .before .args .n) (c .before .loop .j) (c .loop-test .taken), c .before .loop .inv .1 .long)
+
+mul-a : tie.Need-mul-a Inv-loop μ-loop
+mul-a c = omega (arith, inside c)
+
+add-column : tie.Need-add-column Inv-loop μ-loop
+add-column c = omega (arith, inside c)
+
+mul-column : tie.Need-mul-column Inv-loop μ-loop
+mul-column c = omega (arith, inside c)
+
+part-column-end : tie.Need-part-column-end Inv-loop μ-loop
+part-column-end c = inside c
+
+column-requires : tie.Need-column-requires Inv-loop μ-loop
+column-requires c κs =
+    let l = c .before .before in
+    let n = l .before .before .args .n in
+    (c .before .loop-test .taken, omega (arith, slice-long (l .loop .j * n) n (l .loop .cols) (inside (c .before))))
+
+loop-again : tie.Need-loop-again Inv-loop μ-loop
+loop-again c =
+    let i = c .before .before .before .before in
+    let l = i .before in
+    let n = l .before .before .args .n in
+    let s = l .before .before .args .s .now in (
+      omega arith,
+      rows-next (l .loop .j) n _ (l .loop .inv .1) (omega (arith, inside i, l .loop .inv .1 .long))
+          (c .before .before .column .ensures ∙ column-row 4294967296 n _ (l .loop .j) s (slice-long (l .loop .j * n) n (l .loop .cols) (inside i))),
+    )
+
+same-length : tie.Need-same-length Inv-loop μ-loop
+same-length c = c .before .loop .inv .1 .long
+
+returns : tie.Need-returns Inv-loop μ-loop
+unfolding columnsOf
+returns c =
+    let l = c .before in
+    let a = l .before .before in
+    let j : l .loop .j ≡ 8 = omega arith in
+    fill-end (l .loop .inv .1) (rw j (omega arith)) ∙ ap (λ (k : ℕ). tab k (from (a .args .n) (a .args .s .now))) (a .pre .2)
+
+pub columns-spec : {M : Type 1} → statement M
+columns-spec =
+    tie.close
+    (tie.spec Inv-loop μ-loop loop-holds mul-a add-column mul-column (λ c. omega arith) (search needs) part-column-end column-requires (λ c. omega arith) (λ c. omega arith) loop-again same-length returns)

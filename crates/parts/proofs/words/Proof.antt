@@ -1,0 +1,50 @@
+-- `parts::words` meets its contract: it fills with the words of the values.
+use mathlib.Core.Path.{_∙_, ap}
+use mathlib.Core.List.{List}
+use Prim.Native.Nat.{ℕ, _-_}
+use native.Mathlib.Omega.{arith}
+use borrow.Author.Needs.{needs}
+use lib.ListN.{length, length-set}
+use lib.IntN.{ℤ}
+use mir.Facts.{toZ-ofZ}
+use Rattle.numbers.specs.Residue.{residue}
+use Rattle.lists.specs.Entries.{tab, ints}
+use Rattle.lists.proofs.Fill.{Filled, fill-start, fill-next, fill-end}
+use Rattle.matrix.specs.Steps.{wordsOf}
+use Rattle.parts.proofs.words.Statement.{statement}
+use Rattle.parts.proofs.words.Tie as tie
+
+abbrev from : List ℤ → ℕ → ℕ
+from zs k = residue 4294967296 (ints zs k)
+
+abbrev Inv-loop : tie.InvT-loop
+Inv-loop zs out₀ k₀ out k = Filled (from zs) out₀ out k
+
+abbrev μ-loop : tie.MeasureT-loop
+μ-loop zs out₀ k₀ out k = length out - k
+
+loop-holds : tie.Need-loop-holds Inv-loop μ-loop
+loop-holds c = fill-start _ _
+
+loop-less : tie.Need-loop-less Inv-loop μ-loop
+loop-less c = simp length-set (omega arith)
+
+loop-again : tie.Need-loop-again Inv-loop μ-loop
+unfolding ints
+loop-again c =
+    let l = c .before .before .before .loop in
+    fill-next _ (l .inv) (omega arith) (rw (toZ-ofZ (record { sfits = c .before .word-arg .given })) at (c .word .ensures))
+
+same-length : tie.Need-same-length Inv-loop μ-loop
+same-length c = c .before .loop .inv .long
+
+returns : tie.Need-returns Inv-loop μ-loop
+unfolding wordsOf
+returns c =
+    let a = c .before .before .before in
+    fill-end (c .before .loop .inv) (omega arith) ∙ ap (λ (k : ℕ). tab k (from (a .args .zs .now))) (omega arith)
+
+pub words-spec : {M : Type 1} → statement M
+words-spec =
+    tie.close
+    (tie.spec Inv-loop μ-loop loop-holds (λ c. omega arith) (λ c. omega arith) (search needs) (λ c. omega arith) (λ c. omega arith) (λ c. omega arith) loop-less loop-again same-length returns)
