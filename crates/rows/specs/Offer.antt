@@ -65,9 +65,12 @@ sentNumbers c st = reduced (fixedOf c .q) (sumsOf (fixedOf c .n) st)
 abbrev pub sentPart : Scheme → List ℕ → List ℕ
 sentPart c st = packed (fixedOf c .width) (sentNumbers c st)
 
+unfoldable pub offerEndSizes : Scheme → List ℕ → ℕ → Verdict
+offerEndSizes c st n = inTurn (complete Call.Offer (fixedOf c) st) then roomFor n (fixedOf c .opening)
+
 unfoldable pub offerEndTests : Named → List ℕ → ℕ → Verdict
 offerEndTests Unknown st n = Fail OutOfTurn
-offerEndTests (Is c) st n = inTurn (complete Call.Offer (fixedOf c) st) then roomFor n (fixedOf c .opening) then notBlank (sentPart c st)
+offerEndTests (Is c) st n = offerEndSizes c st n then notBlank (sentPart c st)
 
 unfoldable pub offerEndMessage : Named → List ℕ → List ℕ
 offerEndMessage Unknown st = []

@@ -65,12 +65,12 @@ pub record ReplyBegun (c : Named) (x : ReplyBegin) (number place stateRoom : ℕ
 
 -- ---- end
 
+unfoldable pub replyEndSizes : Scheme → List ℕ → ℕ → ℕ → ℕ → Verdict
+replyEndSizes c st n k d = inTurn (complete Call.Reply (fixedOf c) st) then roomFor n (fixedOf c .reply) then roomFor k (fixedOf c .key) then roomFor d 32
+
 unfoldable pub replyEndTests : Named → List ℕ → ℕ → ℕ → ℕ → Verdict
 replyEndTests Unknown st n k d = Fail OutOfTurn
-replyEndTests (Is c) st n k d =
-    inTurn (complete Call.Reply (fixedOf c) st)
-    then roomFor n (fixedOf c .reply) then roomFor k (fixedOf c .key) then roomFor d 32
-    then notBlank (sentPart c st)
+replyEndTests (Is c) st n k d = replyEndSizes c st n k d then notBlank (sentPart c st)
 
 unfoldable pub replyEndMessage : Named → List ℕ → List ℕ
 replyEndMessage Unknown st = []

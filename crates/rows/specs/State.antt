@@ -66,7 +66,7 @@ laid call scheme taken kept secret sums = call ∷ scheme ∷ taken ∷ (kept ++
 
 -- ---- its ranges
 
-infixl 20 _and_
+infixr 20 _and_
 unfoldable pub _and_ : Bool → Bool → Bool
 true and b = b
 false and b = false

@@ -1,0 +1,42 @@
+-- What is about to be sent: the remainders of the sums.
+--   sent-counted   they are as many as the secret, and below q
+--   sent-is        they are what the code makes
+--   sent-blank     they are tested for their bytes
+use mathlib.Core.Path.{_≡_, _∙_, sym, ap}
+use mathlib.Core.List.{List}
+use Prim.Native.Nat.{ℕ, _+_, _*_, _-_}
+use native.Mathlib.Nat.{mod-lt}
+use lib.ListN.{length, take, drop}
+use Rattle.schemes.specs.Schemes.{familyOf, fixedOf}
+use Rattle.schemes.specs.declared.Family.{Family}
+use Rattle.schemes.specs.declared.Fixed.{Fixed}
+use Rattle.schemes.specs.declared.Scheme.{Scheme}
+use Rattle.lists.proofs.Entries.{tab-length, below-tab}
+use Rattle.lists.proofs.Parts.{to-end}
+use Rattle.matrix.specs.Steps.{reduced}
+use Rattle.front.specs.Front.{notBlank}
+use Rattle.ends.specs.Fit.{Counted}
+use Rattle.ends.proofs.Numbers.{numbers-in}
+use Rattle.wire.proofs.Travel.{numbers-blank}
+use Rattle.rows.specs.State.{long, sumsOf}
+use Rattle.rows.specs.Offer.{sentNumbers, sentPart}
+use Rattle.rows.proofs.Laying.{sums-long}
+
+module _ (c : Scheme) (st : List ℕ) (frodo : familyOf c ≡ Family.Frodo) (l : length st ≡ long (fixedOf c .n)) where
+  pub sent-counted : Counted (fixedOf c .secret) (fixedOf c .q) (sentNumbers c st)
+  unfolding reduced
+  sent-counted =
+      let f = numbers-in c frodo in
+      record {
+        long = tab-length (length (sumsOf (fixedOf c .n) st)) _ ∙ sums-long (fixedOf c .n) st l ∙ sym (f .secret);
+        below = below-tab _ (length (sumsOf (fixedOf c .n) st)) _ (f .q-some) (λ k p. mod-lt _ (f .q-some));
+      }
+
+  -- as the code makes them, of the fixed numbers f
+  pub sent-is : {f : Fixed} {x : List ℕ} → f ≡ fixedOf c → x ≡ reduced (f .q) (take (length st - (67 + 8 * f .n)) (drop (67 + 8 * f .n) st))
+      → x ≡ sentNumbers c st
+  sent-is {f} e d =
+      d ∙ ap (reduced (f .q)) (to-end st (67 + 8 * f .n)) ∙ ap (λ (g : Fixed). reduced (g .q) (sumsOf (g .n) st)) e
+
+  pub sent-blank : notBlank (sentNumbers c st) ≡ notBlank (sentPart c st)
+  sent-blank = sym (numbers-blank c sent-counted)

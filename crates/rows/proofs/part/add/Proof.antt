@@ -1,0 +1,22 @@
+-- `rows::part::add` meets its contract: by the call.
+use mathlib.Core.Path.{_≡_, _∙_, sym, ap}
+use mathlib.Core.List.{List}
+use Prim.Native.Nat.{ℕ, _+_, _*_}
+use borrow.Author.Needs.{needs}
+use Rattle.front.specs.Promise.{put}
+use Rattle.rows.specs.Inside.{summed}
+use Rattle.rows.specs.declared.Call.{Call}
+use Rattle.rows.proofs.part.add.Statement.{statement}
+use Rattle.rows.proofs.part.add.Tie as tie
+
+returns : tie.Need-returns
+returns c =
+    let s : tie.Start = search needs in
+    let r : tie.After-add-right = search needs in
+    let a = s .args in
+    (r .add-right .ensures .0, r .add-right .ensures .1 ∙ ap (λ (k : Call). put (r .add-right .result) (summed k (a .n) (a .state .now) (a .row * a .n + a .col) (a .p .now)) (a .state .now)) (sym (s .pre .0)))
+
+pub add-spec : {M : Type 1} → statement M
+add-spec =
+    tie.close
+    (tie.spec (λ c κs. search needs) (search needs) returns)

@@ -1,0 +1,112 @@
+// What a state says: which scheme, whether a call has begun, and whether a part or an end has its turn.
+ghost use mathlib.Core.Path.{_≡_};
+ghost use Prim.Native.Nat.{_*_, _<_, _≤_};
+ghost use lib.ListN.{length};
+ghost use Rattle.lists.specs.Lent.{was};
+ghost use Rattle.rows.specs.State.{frodoOf, named, taken, _and_, allBelow, keptIn, begun, fitsIn, complete};
+use crate::Call;
+use schemes::Family;
+use schemes::Fixed;
+use schemes::Named;
+
+// The scheme that a number names, if it is one of Frodo's.
+pub(crate) fn frodo_of(no: u32) -> Named
+    ensures { λ r. ⌜ r ≡ frodoOf no ⌝ }
+{
+    let Named::Is(known) = schemes::scheme_of(no) else {
+        return Named::Unknown;
+    };
+    match known.family() {
+        Family::Bcns => Named::Unknown,
+        Family::NewHope => Named::Unknown,
+        Family::Frodo => Named::Is(known),
+    }
+}
+
+// That which a state names.
+pub(crate) fn named(state: &[u32]) -> Named
+    ensures { λ r. ⌜ r ≡ named (was state) ⌝ }
+{
+    if state.len() < 2 {
+        return Named::Unknown;
+    }
+    frodo_of(state[1])
+}
+
+fn all_below(b: u32, xs: &[u32]) -> bool
+    ensures { λ r. ⌜ r ≡ allBelow b (was xs) ⌝ }
+{
+    lists::first_over(b, xs) == xs.len()
+}
+
+// The seed's bytes, then zeros.
+fn seed_kept(kept: &[u32]) -> bool
+    requires { ⌜ length (now kept) ≡ 64 ⌝ }
+    ensures { λ r. ⌜ r ≡ keptIn Call.Offer 0 (was kept) ⌝ }
+{
+    if !all_below(256, &kept[..16]) {
+        return false;
+    }
+    all_below(1, &kept[16..])
+}
+
+fn kept_in(call: Call, q: u32, kept: &[u32]) -> bool
+    requires { ⌜ length (now kept) ≡ 64 ⌝ }
+    ensures { λ r. ⌜ r ≡ keptIn call q (was kept) ⌝ }
+{
+    match call {
+        Call::Offer => seed_kept(kept),
+        Call::Reply => all_below(q, kept),
+    }
+}
+
+// The call has begun.
+fn has_begun(call: Call, f: Fixed, state: &[u32]) -> bool
+    requires { ⌜ f .n ≤ 864 ⌝ }
+    ensures { λ r. ⌜ r ≡ begun call f (was state) ⌝ }
+{
+    if state.len() != 16 * f.n + 67 {
+        return false;
+    }
+    if state[0] != call.number() {
+        return false;
+    }
+    if f.n * f.n < state[2] as usize {
+        return false;
+    }
+    kept_in(call, f.q, &state[3..67])
+}
+
+// m more numbers end inside the row, and inside A.
+fn fits_in(n: usize, at: usize, m: usize) -> bool
+    requires { ⌜ (0 < n) × (n ≤ 864) × (at ≤ n * n) ⌝ }
+    ensures { λ r. ⌜ r ≡ fitsIn n at m ⌝ }
+{
+    let left = n - at % n;
+    if left < m {
+        return false;
+    }
+    at + m <= n * n
+}
+
+// A part of m numbers has its turn.
+pub(crate) fn may_take(call: Call, f: Fixed, state: &[u32], m: usize) -> bool
+    requires { ⌜ (0 < f .n) × (f .n ≤ 864) ⌝ }
+    ensures { λ r. ⌜ r ≡ begun call f (was state) and fitsIn (f .n) (taken (was state)) m ⌝ }
+{
+    if !has_begun(call, f, state) {
+        return false;
+    }
+    fits_in(f.n, state[2] as usize, m)
+}
+
+// The end has its turn.
+pub(crate) fn is_complete(call: Call, f: Fixed, state: &[u32]) -> bool
+    requires { ⌜ f .n ≤ 864 ⌝ }
+    ensures { λ r. ⌜ r ≡ complete call f (was state) ⌝ }
+{
+    if !has_begun(call, f, state) {
+        return false;
+    }
+    state[2] as usize == f.n * f.n
+}
