@@ -1,3 +1,4 @@
 pub mod Joining
 pub mod Put
 pub mod Rows
+pub mod Columns

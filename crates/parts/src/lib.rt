@@ -9,6 +9,7 @@ ghost use Rattle.lists.specs.Lent.{was, left};
 ghost use Rattle.matrix.specs.Steps.{wordsOf, reduced};
 ghost use Rattle.parts.specs.Parts.{wrap};
 
+pub mod left;
 pub mod right;
 
 // One product more; the compiler makes one multiplication of 32 bits of it.
