@@ -1,30 +1,32 @@
 -- A part into the state.
+--   put-left         Reply: the 8 rows of sums
 --   put-right        Offer: the 8 sums of a row, written in their place
 --   put-nothing      an empty part
 --   summed-at, summed-long   the same part by row and column; the state stays as long
 --   step-is          the sums, then the count
 --   most-passes, most-fails, none-passes   a part by its largest number; an empty one
 use mathlib.Core.Path.{_≡_, refl, _∙_, sym, ap, ap₂}
-use mathlib.Core.List.{List, [], _∷_, _++_, append-assoc}
+use mathlib.Core.List.{List, [], _∷_, _++_, append-assoc, append-nil}
 use Prim.Native.Nat.{ℕ, _+_, _*_, _-_, _/_, _%_, _<_, _≤_}
 use native.Mathlib.Omega.{arith}
-use native.Mathlib.Nat.{div-add-mod'}
+use native.Mathlib.Nat.{div-add-mod', le-of-eq}
 use borrow.Author.Tests.{le-ltb}
-use lib.ListN.{length, getD, take, drop, set, length-append, take-append-drop}
+use lib.ListN.{length, getD, take, drop, set, length-append, length-drop, take-append-drop, drop-of-length-le}
 use lib.Seq.{take-add, length-take-le}
 use Rattle.lists.specs.Entries.{Below}
 use Rattle.lists.specs.First.{firstWhere, firstOver}
 use Rattle.lists.specs.Top.{largest, peakOf}
 use Rattle.lists.proofs.First.{none-over}
-use Rattle.lists.proofs.Parts.{below-drop}
+use Rattle.lists.proofs.Parts.{below-drop, to-end}
 use Rattle.lists.proofs.Same.{empty}
 use Rattle.lists.proofs.Top.{peak-le}
 use Rattle.matrix.specs.Steps.{gained}
 use Rattle.matrix.proofs.Steps.{gained-length}
-use Rattle.parts.specs.Parts.{wrap, placed, rowTerm}
+use Rattle.parts.specs.Parts.{wrap, placed, rowTerm, columnOf, columnGained}
 use Rattle.parts.specs.Joining.{Linear}
 use Rattle.parts.proofs.Joining.{nothing, right-linear, left-linear}
 use Rattle.parts.proofs.Rows.{row-behind}
+use Rattle.parts.proofs.Columns.{column-is}
 use Rattle.front.specs.Front.{publicsIn}
 use Rattle.front.specs.Promise.{put}
 use Rattle.front.specs.declared.Verdict.{Verdict}
@@ -38,6 +40,23 @@ use Rattle.rows.proofs.Laying.{three, sums-long}
 pub linear : (k : Call) (n : ℕ) (s : List ℕ) → Linear (terms k n s)
 linear Call.Offer n s = right-linear n s
 linear Call.Reply n s = left-linear n s
+
+module _ (n : ℕ) (st : List ℕ) (z : Sized n st) where
+  pub put-left :
+      (i c : ℕ) (p : List ℕ) {w x : List ℕ} → c + length p ≤ n → i < n → w ≡ columnOf n i (take (67 + 8 * n - 67) (drop 67 st)) →
+      x ≡ columnGained n c w p (take (length st - (67 + 8 * n)) (drop (67 + 8 * n) st)) →
+      take (67 + 8 * n) st ++ (x ++ drop (length st - (67 + 8 * n)) (drop (67 + 8 * n) st)) ≡ summed Call.Reply n st (i * n + c) p
+  unfolding summed
+  put-left i c p {w} {x} f r d e =
+      let a : 67 + 8 * n - 67 ≡ 8 * n = omega arith in
+      let column : w ≡ columnOf n i (secretOf n st) = d ∙ ap (λ (k : ℕ). columnOf n i (take k (drop 67 st))) a in
+      let gone : drop (length st - (67 + 8 * n)) (drop (67 + 8 * n) st) ≡ [] = drop-of-length-le (drop (67 + 8 * n) st) (le-of-eq (length-drop (67 + 8 * n) st)) in
+      ap (λ (y : List ℕ). take (67 + 8 * n) st ++ (x ++ y)) gone
+      ∙ ap (λ (y : List ℕ). take (67 + 8 * n) st ++ y)
+      (append-nil x
+      ∙ e
+      ∙ ap₂ (λ (u v : List ℕ). columnGained n c u p v) column (to-end st (67 + 8 * n))
+      ∙ column-is n i c (secretOf n st) p (sumsOf n st) f r (sums-long n st (z .long)))
 
 module _ (n : ℕ) (st : List ℕ) (z : Sized n st) (b : Below wrap st) where
   module _ (i c : ℕ) (p x : List ℕ) (f : c + length p ≤ n) (r : i < n) where

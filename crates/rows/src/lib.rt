@@ -60,3 +60,10 @@ pub fn offer_end(state: &mut [u32], message: &mut [u8]) -> Answer
     };
     opener::end_in(known, state, message)
 }
+
+// Reply, a part: the same.
+pub fn reply_part(p: &[u32], state: &mut [u32]) -> Verdict
+    ensures { λ r. ⌜ Takes Call.Reply p state r ⌝ }
+{
+    part::part(Call::Reply, p, state)
+}

@@ -35,6 +35,33 @@ fn add_right(q: u32, n: usize, row: usize, col: usize, p: &[u32], state: &mut [u
     Verdict::Pass
 }
 
+// Reply: the same part into the 8 rows of sums, which lie in the state itself.
+fn lay_left(n: usize, row: usize, col: usize, p: &[u32], state: &mut [u32])
+    requires { ⌜ Sized n (now state) × (row < n) × (col + length (now p) ≤ n) ⌝ }
+    ensures { λ _. ⌜ left state ≡ summed Call.Reply n (was state) (row * n + col) (was p) ⌝ }
+{
+    let mut w: [u32; 8] = [0; 8];
+    let e = 67 + 8 * n;
+    parts::left::column(n, row, &state[67..e], &mut w);
+    parts::left::add_part(n, col, &w, p, &mut state[e..]);
+}
+
+// So its numbers come first.
+fn add_left(q: u32, n: usize, row: usize, col: usize, p: &[u32], state: &mut [u32]) -> Verdict
+    requires { ⌜ (0 < q) × Sized n (now state) × (row < n) × (col + length (now p) ≤ n) ⌝ }
+    ensures { λ r. ⌜ r ≡ publicsIn q (was p) ⌝ }
+    ensures { λ r. ⌜ left state ≡ put r (summed Call.Reply n (was state) (row * n + col) (was p)) (was state) ⌝ }
+{
+    let v = front::publics_in(Verdict::Pass, q, p);
+    match v {
+        Verdict::Fail(r) => Verdict::Fail(r),
+        Verdict::Pass => {
+            lay_left(n, row, col, p, state);
+            Verdict::Pass
+        }
+    }
+}
+
 fn add(
     call: Call,
     q: u32,
@@ -44,17 +71,18 @@ fn add(
     p: &[u32],
     state: &mut [u32],
 ) -> Verdict
-    requires { ⌜ call ≡ Call.Offer ⌝ }
     requires { ⌜ (0 < q) × Sized n (now state) × (row < n) × (col + length (now p) ≤ n) ⌝ }
     ensures { λ r. ⌜ r ≡ publicsIn q (was p) ⌝ }
     ensures { λ r. ⌜ left state ≡ put r (summed call n (was state) (row * n + col) (was p)) (was state) ⌝ }
 {
-    add_right(q, n, row, col, p, state)
+    match call {
+        Call::Offer => add_right(q, n, row, col, p, state),
+        Call::Reply => add_left(q, n, row, col, p, state),
+    }
 }
 
 // The same at the number `at` of A; behind the last row there is no row for an empty part.
 fn add_at(call: Call, q: u32, n: usize, at: usize, p: &[u32], state: &mut [u32]) -> Verdict
-    requires { ⌜ call ≡ Call.Offer ⌝ }
     requires { ⌜ (0 < q) × Sized n (now state) × (fitsIn n at (length (now p)) ≡ true) ⌝ }
     ensures { λ r. ⌜ r ≡ publicsIn q (was p) ⌝ }
     ensures { λ r. ⌜ left state ≡ put r (summed call n (was state) at (was p)) (was state) ⌝ }
@@ -67,7 +95,6 @@ fn add_at(call: Call, q: u32, n: usize, at: usize, p: &[u32], state: &mut [u32])
 
 // Where it has its turn: the sums, then the count.
 fn take_part(call: Call, q: u32, n: usize, p: &[u32], state: &mut [u32]) -> Verdict
-    requires { ⌜ call ≡ Call.Offer ⌝ }
     requires { ⌜ (0 < q) × Sized n (now state) × (fitsIn n (taken (now state)) (length (now p)) ≡ true) ⌝ }
     ensures { λ r. ⌜ r ≡ publicsIn q (was p) ⌝ }
     ensures { λ r. ⌜ left state ≡ put r (stepped call n (was state) (was p)) (was state) ⌝ }
@@ -84,7 +111,6 @@ fn take_part(call: Call, q: u32, n: usize, p: &[u32], state: &mut [u32]) -> Verd
 }
 
 fn part_in(call: Call, scheme: Scheme, p: &[u32], state: &mut [u32]) -> Verdict
-    requires { ⌜ call ≡ Call.Offer ⌝ }
     requires { ⌜ familyOf scheme ≡ Family.Frodo ⌝ }
     ensures { λ r. ⌜ r ≡ partIn call scheme (was state) (was p) ⌝ }
     ensures { λ r. ⌜ left state ≡ put r (stepped call (fixedOf scheme .n) (was state) (was p)) (was state) ⌝ }
@@ -98,7 +124,6 @@ fn part_in(call: Call, scheme: Scheme, p: &[u32], state: &mut [u32]) -> Verdict
 }
 
 pub(crate) fn part(call: Call, p: &[u32], state: &mut [u32]) -> Verdict
-    requires { ⌜ call ≡ Call.Offer ⌝ }
     ensures { λ r. ⌜ Takes call p state r ⌝ }
 {
     let Named::Is(known) = crate::state::named(state) else {

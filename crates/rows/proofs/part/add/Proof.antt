@@ -1,6 +1,5 @@
 -- `rows::part::add` meets its contract: by the call.
 use mathlib.Core.Path.{_≡_, _∙_, sym, ap}
-use mathlib.Core.List.{List}
 use Prim.Native.Nat.{ℕ, _+_, _*_}
 use borrow.Author.Needs.{needs}
 use Rattle.front.specs.Promise.{put}
@@ -12,11 +11,20 @@ use Rattle.rows.proofs.part.add.Tie as tie
 returns : tie.Need-returns
 returns c =
     let s : tie.Start = search needs in
+    let t : tie.After-enum-told = search needs in
     let r : tie.After-add-right = search needs in
     let a = s .args in
-    (r .add-right .ensures .0, r .add-right .ensures .1 ∙ ap (λ (k : Call). put (r .add-right .result) (summed k (a .n) (a .state .now) (a .row * a .n + a .col) (a .p .now)) (a .state .now)) (sym (s .pre .0)))
+    (r .add-right .ensures .0, r .add-right .ensures .1 ∙ ap (λ (k : Call). put (r .add-right .result) (summed k (a .n) (a .state .now) (a .row * a .n + a .col) (a .p .now)) (a .state .now)) (sym (t .enum-told .given .1)))
+
+returns-2 : tie.Need-returns-2
+returns-2 c =
+    let s : tie.Start = search needs in
+    let t : tie.After-enum-told2 = search needs in
+    let r : tie.After-add-left = search needs in
+    let a = s .args in
+    (r .add-left .ensures .0, r .add-left .ensures .1 ∙ ap (λ (k : Call). put (r .add-left .result) (summed k (a .n) (a .state .now) (a .row * a .n + a .col) (a .p .now)) (a .state .now)) (sym (t .enum-told2 .given .1)))
 
 pub add-spec : {M : Type 1} → statement M
 add-spec =
     tie.close
-    (tie.spec (λ c κs. search needs) (search needs) returns)
+    (tie.spec (search needs) (λ c κs. search needs) (search needs) (λ c κs. search needs) (search needs) returns (search needs) returns-2)

@@ -20,14 +20,14 @@ returns c =
     let s : tie.Start = search needs in
     let k : tie.After-slice-known = search needs in
     let b : Below 4294967296 (s .args .state .now) = record { below = λ j. omega (arith, k .slice-known .given j) } in
-    (sym (none-passes (s .args .q) (s .args .p .now) (c .if1 .taken)), put-nothing (s .args .n) (s .args .state .now) (s .pre .1 .1) b (s .args .call) (s .args .at) (s .args .p .now) (c .if1 .taken))
+    (sym (none-passes (s .args .q) (s .args .p .now) (c .if1 .taken)), put-nothing (s .args .n) (s .args .state .now) (s .pre .1) b (s .args .call) (s .args .at) (s .args .p .now) (c .if1 .taken))
 
 add-requires : tie.Need-add-requires
 add-requires c κs =
     let s : tie.Start = search needs in
     let i : tie.Else1 = search needs in
-    let f = fits (s .args .n) (s .args .at) (length (s .args .p .now)) (s .pre .1 .2) in
-    (s .pre .0, (s .pre .1 .0, s .pre .1 .1, div-lt-iff-lt-mul (s .pre .1 .1 .some) .1 (omega (arith, f .in-all, i .if1 .left)), f .in-row))
+    let f = fits (s .args .n) (s .args .at) (length (s .args .p .now)) (s .pre .2) in
+    (s .pre .0, s .pre .1, div-lt-iff-lt-mul (s .pre .1 .some) .1 (omega (arith, f .in-all, i .if1 .left)), f .in-row)
 
 returns-2 : tie.Need-returns-2
 returns-2 c =

@@ -18,7 +18,7 @@ part-in-requires c κs =
     let s : tie.Start = search needs in
     let n : tie.After-named = search needs in
     let k : tie.After-known = search needs in
-    (s .pre, frodo-named (getD (s .args .state .now) 1 0) _ (sym (n .named .ensures) ∙ k .known .given .1))
+    frodo-named (getD (s .args .state .now) 1 0) _ (sym (n .named .ensures) ∙ k .known .given .1)
 
 returns-2 : tie.Need-returns-2
 returns-2 c =

@@ -15,7 +15,7 @@ use Rattle.rows.proofs.part.part_in.Statement.{statement}
 use Rattle.rows.proofs.part.part_in.Tie as tie
 
 frodo : (s : tie.Start) → Frodo (fixedOf (s .args .scheme))
-frodo s = numbers-in (s .args .scheme) (s .pre .1)
+frodo s = numbers-in (s .args .scheme) (s .pre)
 
 may-take-requires : tie.Need-may-take-requires
 may-take-requires c κs =
@@ -31,7 +31,7 @@ take-part-requires c κs =
     let i : tie.After-in-turn = search needs in
     let t : tie.After-enum-told = search needs in
     let b = turn-begins (s .args .call) (s .args .scheme) (s .args .state .now) (s .args .p .now) (f .fixed .ensures) (m .may-take .ensures) (i .in-turn .ensures) (t .enum-told .given .1) in
-    rw (f .fixed .ensures) (s .pre .0, (frodo s .q-some, record { some = frodo s .some; few = frodo s .few; long = started _ _ _ (b .0) .is-long }, b .1))
+    rw (f .fixed .ensures) (frodo s .q-some, record { some = frodo s .some; few = frodo s .few; long = started _ _ _ (b .0) .is-long }, b .1)
 
 returns : tie.Need-returns
 returns c =

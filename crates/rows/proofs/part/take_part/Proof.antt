@@ -12,10 +12,10 @@ use Rattle.rows.proofs.part.take_part.Statement.{statement}
 use Rattle.rows.proofs.part.take_part.Tie as tie
 
 inside : (s : tie.Start) → taken (s .args .state .now) + length (s .args .p .now) ≤ 746496
-inside s = omega (arith, fits _ _ _ (s .pre .1 .2) .in-all, square (s .args .n) (s .pre .1 .1 .few))
+inside s = omega (arith, fits _ _ _ (s .pre .2) .in-all, square (s .args .n) (s .pre .1 .few))
 
 slice-read-at : tie.Need-slice-read-at
-slice-read-at c = let s : tie.Start = search needs in omega (arith, s .pre .1 .1 .long)
+slice-read-at c = let s : tie.Start = search needs in omega (arith, s .pre .1 .long)
 
 cast-at : tie.Need-cast-at
 cast-at c = let k : tie.After-slice-known = search needs in omega (arith, k .slice-known .given 2)
@@ -32,7 +32,7 @@ slice-write-state c =
     let a : tie.After-add-at = search needs in
     let t : tie.After-enum-told = search needs in
     let p = rw (t .enum-told .given .1) at (a .add-at .ensures .1) in
-    omega (arith, ap length p ∙ summed-long (s .args .call) (s .args .n) (s .args .state .now) _ (s .args .p .now) (s .pre .1 .1 .long))
+    omega (arith, ap length p ∙ summed-long (s .args .call) (s .args .n) (s .args .state .now) _ (s .args .p .now) (s .pre .1 .long))
 
 returns : tie.Need-returns
 returns c =
@@ -46,7 +46,7 @@ same-length-2 c =
     let a : tie.After-add-at = search needs in
     let t : tie.After-enum-told = search needs in
     let p = rw (t .enum-told .given .1) at (a .add-at .ensures .1) in
-    simp length-set (ap length p ∙ summed-long (s .args .call) (s .args .n) (s .args .state .now) _ (s .args .p .now) (s .pre .1 .1 .long) ∙ sym (s .pre .1 .1 .long))
+    simp length-set (ap length p ∙ summed-long (s .args .call) (s .args .n) (s .args .state .now) _ (s .args .p .now) (s .pre .1 .long) ∙ sym (s .pre .1 .long))
 
 returns-2 : tie.Need-returns-2
 returns-2 c =
@@ -56,7 +56,7 @@ returns-2 c =
     let p = rw (t .enum-told .given .1) at (a .add-at .ensures .1) in
     let st = s .args .state .now in (
       sym (t .enum-told .given .1) ∙ a .add-at .ensures .0,
-      ap (λ (l : List ℕ). set l 2 (taken st + length (s .args .p .now))) p ∙ step-is (s .args .call) (s .args .n) st (s .args .p .now) (s .pre .1 .1 .long),
+      ap (λ (l : List ℕ). set l 2 (taken st + length (s .args .p .now))) p ∙ step-is (s .args .call) (s .args .n) st (s .args .p .now) (s .pre .1 .long),
     )
 
 pub take-part-spec : {M : Type 1} → statement M
