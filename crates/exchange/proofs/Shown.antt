@@ -42,7 +42,7 @@ one-offer c x n r r′ message message′ p q = (same-answer r r′ (cc) (cc) (c
 reply-eta : (m : ReplyCounts) → record { message = m .message; key = m .key; digest = m .digest } ≡ m
 reply-eta m = refl
 
-same-reply : (a b : ReplyAnswer) → reply.number a ≡ reply.number b → reply.place a ≡ reply.place b → reply.counts a .message ≡ reply.counts b .message
+pub same-reply : (a b : ReplyAnswer) → reply.number a ≡ reply.number b → reply.place a ≡ reply.place b → reply.counts a .message ≡ reply.counts b .message
     → reply.counts a .key ≡ reply.counts b .key → reply.counts a .digest ≡ reply.counts b .digest → a ≡ b
 same-reply (ReplyAnswer.Done m) (ReplyAnswer.Done n) e f g h i = cc (reply-eta m, reply-eta n)
 same-reply (ReplyAnswer.Done m) (ReplyAnswer.Refused s) e f g h i = absurd (omega (arith, some s))

@@ -4,3 +4,7 @@ pub mod Taking
 pub mod Turns
 pub mod Sending
 pub mod Opening
+pub mod Running
+pub mod Ends
+pub mod Offers
+pub mod Shown

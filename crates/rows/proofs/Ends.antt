@@ -1,0 +1,59 @@
+-- What the ends of Offer and Reply by rows have in common with the whole calls.
+--   wrote-same, wrote-none   an output under an equal verdict; after a refusal, whatever the answer would be
+--   number-names             the number of a scheme of Frodo's names it
+--   by-frodo                 what is meant in Frodo
+--   words-below              words are below 2^32
+use mathlib.Core.Path.{_≡_, refl, subst}
+use mathlib.Core.List.{List, []}
+use Prim.Native.Nat.{ℕ}
+use native.Mathlib.Omega.{arith}
+use lib.IntN.{ℤ}
+use lib.ListN.{length}
+use Rattle.numbers.proofs.Congruence.{residue-lt}
+use Rattle.schemes.specs.Schemes.{by, familyOf, numberOf}
+use Rattle.schemes.specs.declared.Family.{Family}
+use Rattle.schemes.specs.declared.Named.the-variants.{Is}
+use Rattle.schemes.specs.declared.Scheme.{Scheme}
+use Rattle.schemes.specs.declared.Scheme.the-variants.{Bcns, NewHope, Challenge, Classical, Recommended, Paranoid}
+use Rattle.lists.specs.Entries.{Below}
+use Rattle.lists.proofs.Entries.{below-tab}
+use Rattle.matrix.specs.Steps.{wordsOf}
+use Rattle.parts.specs.Parts.{wrap}
+use Rattle.front.specs.Front.{held}
+use Rattle.front.specs.Promise.{Wrote}
+use Rattle.front.specs.declared.Verdict.{Verdict}
+use Rattle.front.specs.declared.Verdict.the-variants.{Fail}
+use Rattle.front.specs.declared.Refusal.{Refusal}
+use Rattle.ends.proofs.Numbers.{Each}
+use Rattle.rows.specs.State.{frodoOf}
+
+pub wrote-same : {v v' : Verdict} {xs xs' : List ℕ} {room count : ℕ} {out : List ℕ} → v ≡ v' → xs ≡ xs' → Wrote v xs 0 room count out
+    → Wrote v' xs' 0 room count out
+wrote-same {v} {v'} {xs} {xs'} {room} {count} {out} e d w =
+    subst (λ (u : Verdict). Wrote u xs' 0 room count out) e (subst (λ (l : List ℕ). Wrote v l 0 room count out) d w)
+
+pub wrote-none : {v : Verdict} {r : Refusal} {xs : List ℕ} {room count : ℕ} {out : List ℕ} → v ≡ Fail r → Wrote v xs 0 room count out
+    → Wrote (Fail r) [] 0 room count out
+unfolding held
+wrote-none e w = let u = wrote-same e refl w in record { counts = u .counts; holds = u .holds }
+
+abbrev Names : Scheme → Family → Type 0
+Names c F = Each F Unit Unit (frodoOf (numberOf c) ≡ Is c)
+
+names-of : (c : Scheme) → Names c (familyOf c)
+names-of Bcns = tt
+names-of NewHope = tt
+names-of Challenge = refl
+names-of Classical = refl
+names-of Recommended = refl
+names-of Paranoid = refl
+
+pub number-names : (c : Scheme) → familyOf c ≡ Family.Frodo → frodoOf (numberOf c) ≡ Is c
+number-names c e = subst (λ (F : Family). Names c F) e (names-of c)
+
+pub by-frodo : {A : Type 0} {F : Family} (x y z : A) → F ≡ Family.Frodo → by F x y z ≡ z
+by-frodo x y z e = rw e
+
+pub words-below : (zs : List ℤ) → Below wrap (wordsOf wrap zs)
+unfolding wordsOf
+words-below zs = below-tab wrap (length zs) _ (omega arith) (λ k p. residue-lt wrap _ (omega arith))
