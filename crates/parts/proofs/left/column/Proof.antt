@@ -3,7 +3,6 @@ use mathlib.Core.Path.{refl, _∙_, ap}
 use mathlib.Core.List.{List}
 use Prim.Native.Nat.{ℕ, _+_, _*_, _-_, _<_}
 use native.Mathlib.Omega.{arith}
-use borrow.Author.Needs.{needs}
 use lib.Arith.{digits-lt}
 use lib.ListN.{length, getD, length-set}
 use Rattle.lists.specs.Entries.{tab}
