@@ -8,3 +8,4 @@ pub mod Running
 pub mod Ends
 pub mod Offers
 pub mod Shown
+pub mod Replying

@@ -5,11 +5,14 @@ ghost use mathlib.Core.Path.{_≡_};
 ghost use Rattle.rows.specs.State.{frodoOf, numberOf};
 ghost use Rattle.rows.specs.Part.{Takes};
 ghost use Rattle.rows.specs.Offer.{OfferBegins, OfferEnds};
+ghost use Rattle.rows.specs.Reply.{ReplyBegins, ReplyEnds};
 
 mod opener;
 mod part;
+mod replier;
 mod state;
 
+use exchange::ReplyAnswer;
 use front::Answer;
 use front::Refusal;
 use front::Verdict;
@@ -61,9 +64,43 @@ pub fn offer_end(state: &mut [u32], message: &mut [u8]) -> Answer
     opener::end_in(known, state, message)
 }
 
-// Reply, a part: the same.
+// Reply, begin: the opening message, the secret s' and the noise e' and e'' into the state, afresh.
+pub fn reply_begin(
+    scheme: u32,
+    opening: &[u8],
+    s1: &[i32],
+    e1: &[i32],
+    e2: &[i32],
+    state: &mut [u32],
+) -> Verdict
+    ensures { λ r. ⌜ ReplyBegins (frodoOf scheme) opening s1 e1 e2 state r ⌝ }
+{
+    lists::zero_numbers(state);
+    let Named::Is(known) = state::frodo_of(scheme) else {
+        return Verdict::Fail(Refusal::NoScheme);
+    };
+    replier::begin_in(known, opening, s1, e1, e2, state)
+}
+
+// Reply, a part: some numbers of the current row of A.
 pub fn reply_part(p: &[u32], state: &mut [u32]) -> Verdict
     ensures { λ r. ⌜ Takes Call.Reply p state r ⌝ }
 {
     part::part(Call::Reply, p, state)
+}
+
+// Reply, end: the reply message, the replier's key and its digest.
+pub fn reply_end(
+    state: &mut [u32],
+    message: &mut [u8],
+    key: &mut [u8],
+    digest: &mut [u8],
+) -> ReplyAnswer
+    ensures { λ r. ⌜ ReplyEnds state message key digest r ⌝ }
+{
+    replier::zero_outputs(message, key, digest);
+    let Named::Is(known) = state::named(state) else {
+        return ReplyAnswer::Refused(Refusal::OutOfTurn);
+    };
+    replier::end_in(known, state, message, key, digest)
 }

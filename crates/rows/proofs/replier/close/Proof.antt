@@ -1,0 +1,26 @@
+-- `rows::replier::close` meets its contract.
+use mathlib.Core.Path.{sym, ap}
+use mathlib.Core.List.{List, _++_}
+use lib.ListN.{drop}
+use Rattle.lists.proofs.Parts.{front-long}
+use borrow.Author.Needs.{needs}
+use Rattle.rows.proofs.replier.close.Statement.{statement}
+use Rattle.rows.proofs.replier.close.Tie as tie
+
+slice-aggregate-sha3-256 : tie.Need-slice-aggregate-sha3-256
+slice-aggregate-sha3-256 c = let b : tie.Start = search needs in sym (front-long 32 (b .args .digest .now) (b .pre))
+
+sha3-256-requires : tie.Need-sha3-256-requires
+sha3-256-requires c κs = let b : tie.Start = search needs in front-long 32 (b .args .digest .now) (b .pre)
+
+returns : tie.Need-returns
+returns c =
+    let z : tie.After-zero-numbers = search needs in
+    let h : tie.After-sha3-256 = search needs in
+    let b : tie.Start = search needs in
+    (ap (λ (xs : List _). xs ++ drop 32 (b .args .digest .now)) (h .sha3-256 .ensures), z .zero-numbers .ensures)
+
+pub close-spec : {M : Type 1} → statement M
+close-spec =
+    tie.close
+    (tie.spec (search needs) slice-aggregate-sha3-256 sha3-256-requires (λ c κs. search needs) (search needs) (search needs) returns)
