@@ -9,4 +9,4 @@ pub mod Ends
 pub mod Offers
 pub mod Shown
 pub mod Replying
-pub mod Running
+pub mod Replies

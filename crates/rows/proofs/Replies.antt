@@ -1,0 +1,243 @@
+-- Reply by rows is Reply on the joined matrix: what is stated of it in specs/Shown.
+--   reply-try, same-reply, early-reply   what is shown
+use mathlib.Core.Path.{_≡_, refl, _∙_, sym, ap, ap₂, subst}
+use mathlib.Core.Logic.{_≢_}
+use mathlib.Core.Bool.{Bool, true, false}
+use mathlib.Core.List.{List, [], _++_}
+use Prim.Native.Nat.{ℕ, _*_}
+use native.Mathlib.Omega.{arith}
+use native.Mathlib.Nat.{le-trans}
+use lib.ListN.{length, getD, replicate}
+use Rattle.schemes.specs.Schemes.{familyOf, fixedOf, numberOf}
+use Rattle.schemes.specs.declared.Family.{Family}
+use Rattle.schemes.specs.declared.Named.the-variants.{Is}
+use Rattle.schemes.specs.declared.Scheme.{Scheme}
+use Rattle.lists.specs.Entries.{Below}
+use Rattle.packing.specs.Packing.{packed}
+use Rattle.sponge.specs.Sponge.{sha3}
+use Rattle.matrix.specs.Fit.{Fit}
+use Rattle.matrix.specs.Steps.{wordsOf, gained, reduced, leftTerm}
+use Rattle.matrix.proofs.Steps.{words-length}
+use Rattle.parts.specs.Parts.{wrap}
+use Rattle.parts.proofs.Joining.{whole-left}
+use Rattle.front.specs.Front.{_then_, inTurn, notBlank}
+use Rattle.front.specs.Promise.{Told, put}
+use Rattle.front.specs.declared.Verdict.{Verdict}
+use Rattle.front.specs.declared.Verdict.the-variants.{Pass, Fail}
+use Rattle.front.specs.declared.Refusal.the-variants.{OutOfTurn}
+use Rattle.front.proofs.Laws.{number-zero, both, failed, then-assoc, length-passes, turn-passes, below-passes, all-pass}
+use Rattle.ends.specs.Fit.{Counted}
+use Rattle.ends.specs.Keys.{hints, keys}
+use Rattle.ends.specs.Values.{replied}
+use Rattle.ends.proofs.Numbers.{Frodo, numbers-in}
+use Rattle.ends.proofs.Ranges.{mixed-counted}
+use Rattle.wire.specs.Wire.{openedIn, coinsIn}
+use Rattle.exchange.specs.Reply.{Reply, replyOf, replyLengths, replySizes, replyLast, replyRest, replyTests, openedOf, repliedPart, messageFrom, keyFrom, messageOf, keyOf, replyMessage, replyKey, replySecrets}
+use Rattle.exchange.proofs.Replying.{secrets-small}
+use Rattle.rows.specs.State.{long, named, taken, keptOf, secretOf, sumsOf, laid, allBelow, begun, complete}
+use Rattle.rows.specs.Offer.{sentPart}
+use Rattle.rows.specs.Reply.{ReplyBegin, replyBeginTests, valueOf, replyState, ReplyBegun, replyEndSizes, replyEndTests, replyEndMessage, replyEndKey}
+use Rattle.rows.specs.Runs.{Parts}
+use Rattle.rows.specs.Shown.{ReplyTry, SameReply, EarlyReply}
+use Rattle.rows.specs.declared.Call.{Call}
+use Rattle.rows.proofs.Tests.{below-all, starts, completes, complete-so, frodos}
+use Rattle.rows.proofs.Laying.{laid-long, laid-kept, laid-secret, laid-sums}
+use Rattle.rows.proofs.Running.{kept-still, after-kept, after-sums, after-long, Walked, walked}
+use Rattle.rows.proofs.Ends.{wrote-same, wrote-none, number-names, by-frodo, words-below}
+use Rattle.rows.proofs.Replying.{Sized, begin-sized, opened-tests, no-coins-hints, no-coins-keys}
+
+-- ---- verdicts and outputs
+
+chain : (i r s t b l p o c b' : Verdict) → i ≡ Pass → l ≡ Pass → p ≡ Pass → o ≡ Pass → c ≡ Pass → b ≡ b'
+    → i then r then s then t then b ≡ l then r then s then t then p then (o then (c then b'))
+unfolding _then_
+chain i r s t b l p o c b' e f g h k d = rw (e, f, g, h, k, d) (sym (then-assoc (r then s then t) Pass b'))
+
+pub reply-try : ReplyTry
+reply-try st message key digest after number place n m k l d e t h =
+    t .state ∙ kept-still (replyEndTests (named st) st n k d) (replicate (length st) 0) st (t .told .refusal) h
+
+-- ---- after a good begin
+
+module _ (c : Scheme) (x : ReplyBegin) (m : ℕ) (first : List ℕ) (frodo : familyOf c ≡ Family.Frodo) (begins : ReplyBegun (Is c) x 0 0 m first) where
+  f : Frodo (fixedOf c)
+  f = numbers-in c frodo
+
+  passes : replyBeginTests (Is c) x m ≡ Pass
+  passes = number-zero _ (begins .told .refusal)
+
+  first-is : first ≡ laid 2 (numberOf c) 0 (valueOf c x) (wordsOf wrap (x .s')) (wordsOf wrap (x .e'))
+  unfolding replyState
+  first-is = begins .state ∙ ap (λ (v : Verdict). put v (replyState (Is c) x) (replicate m 0)) passes
+
+  sized : Sized c x m
+  unfolding replyBeginTests
+  sized = begin-sized c x m (both _ _ (both _ _ passes .0) .0)
+
+  not-blank : notBlank (openedIn c (x .opening)) ≡ Pass
+  unfolding replyBeginTests
+  not-blank = both _ _ (both _ _ passes .0) .1
+
+  secrets : replySecrets c (x .s') (x .e') (x .e'') ≡ Pass
+  unfolding replyBeginTests
+  secrets = both _ _ passes .1
+
+  value : Counted (fixedOf c .mixed) (fixedOf c .q) (valueOf c x)
+  unfolding valueOf
+  value = mixed-counted c _ (x .s') (x .e'')
+
+  value-long : length (valueOf c x) ≡ 64
+  value-long = value .long ∙ f .mixed
+
+  secret-long : length (wordsOf wrap (x .s')) ≡ 8 * fixedOf c .n
+  secret-long = words-length wrap (x .s') ∙ sized .secret-long ∙ f .secret
+
+  noise-long : length (x .e') ≡ 8 * fixedOf c .n
+  noise-long = sized .noise-long ∙ f .noise
+
+  first-long : length first ≡ long (fixedOf c .n)
+  first-long =
+      ap length first-is
+      ∙ laid-long (fixedOf c .n) 2 (numberOf c) 0 (valueOf c x) (wordsOf wrap (x .s')) (wordsOf wrap (x .e')) value-long secret-long (words-length wrap (x .e') ∙ noise-long)
+
+  first-kept : keptOf first ≡ valueOf c x
+  first-kept =
+      ap keptOf first-is ∙ laid-kept (fixedOf c .n) 2 (numberOf c) 0 (valueOf c x) (wordsOf wrap (x .s')) (wordsOf wrap (x .e')) value-long secret-long
+
+  first-secret : secretOf (fixedOf c .n) first ≡ wordsOf wrap (x .s')
+  first-secret =
+      ap (secretOf (fixedOf c .n)) first-is
+      ∙ laid-secret (fixedOf c .n) 2 (numberOf c) 0 (valueOf c x) (wordsOf wrap (x .s')) (wordsOf wrap (x .e')) value-long secret-long
+
+  first-sums : sumsOf (fixedOf c .n) first ≡ wordsOf wrap (x .e')
+  first-sums =
+      ap (sumsOf (fixedOf c .n)) first-is
+      ∙ laid-sums (fixedOf c .n) 2 (numberOf c) 0 (valueOf c x) (wordsOf wrap (x .s')) (wordsOf wrap (x .e')) value-long secret-long
+
+  first-named : named first ≡ Is c
+  first-named = ap named first-is ∙ number-names c frodo
+
+  -- ---- and any parts
+
+  module _ (a last : List ℕ) (parts : Parts Call.Reply first a last) where
+    walk : Walked Call.Reply c first a last
+    walk =
+        walked Call.Reply c first first-named first-long (ap taken first-is)
+        (subst (λ (l : List ℕ). Below wrap l) (sym first-sums) (words-below (x .e'))) parts
+
+    last-named : named last ≡ Is c
+    last-named = ap named (walk .is) ∙ first-named
+
+    last-taken : taken last ≡ length a
+    last-taken = ap taken (walk .is)
+
+    last-kept : keptOf last ≡ valueOf c x
+    last-kept = ap keptOf (walk .is) ∙ after-kept Call.Reply (fixedOf c .n) first first-long a ∙ first-kept
+
+    last-sums : sumsOf (fixedOf c .n) last ≡ gained wrap (fixedOf c .n) (leftTerm (fixedOf c .n) (fixedOf c .n) (wordsOf wrap (x .s')) a) (wordsOf wrap (x .e'))
+    last-sums =
+        ap (sumsOf (fixedOf c .n)) (walk .is)
+        ∙ after-sums Call.Reply (fixedOf c .n) first first-long a
+        ∙ ap₂ (λ (s e : List ℕ). gained wrap (fixedOf c .n) (leftTerm (fixedOf c .n) (fixedOf c .n) s a) e) first-secret first-sums
+
+    last-begun : begun Call.Reply (fixedOf c) last ≡ true
+    last-begun =
+        starts Call.Reply (fixedOf c) last
+        (record {
+          is-long = ap length (walk .is) ∙ after-long Call.Reply (fixedOf c .n) first first-long a;
+          is-call = ap (λ (l : List ℕ). getD l 0 0) (walk .is) ∙ ap (λ (l : List ℕ). getD l 0 0) first-is;
+          at-most = omega (arith, last-taken, walk .few);
+          kept-in = ap (allBelow (fixedOf c .q)) last-kept ∙ below-all (fixedOf c .q) (valueOf c x) (value .below);
+        })
+
+    early : (n k d : ℕ) → length a ≢ fixedOf c .public → replyEndTests (named last) last n k d ≡ Fail OutOfTurn
+    unfolding replyEndTests replyEndSizes inTurn
+    early n k d h =
+        ap (λ m. replyEndTests m last n k d) last-named
+        ∙ failed _ refl (failed _ refl (failed _ refl (failed _ refl (ap (λ (b : Bool). inTurn b) (go (complete Call.Reply (fixedOf c) last) refl)))))
+      where
+        go : (b : Bool) → complete Call.Reply (fixedOf c) last ≡ b → complete Call.Reply (fixedOf c) last ≡ false
+        go true e = absurd (h (sym last-taken ∙ completes Call.Reply (fixedOf c) last e .1 ∙ sym (f .public)))
+        go false e = e
+
+    -- ---- all of A has come
+
+    module _ (all : length a ≡ fixedOf c .public) where
+      fit : Fit (fixedOf c .q) (fixedOf c .n) (fixedOf c .n) a (x .s')
+      fit =
+          record {
+            some = f .q-some;
+            room = f .q-room;
+            whole = f .words;
+            many = f .some;
+            few = f .few;
+            rows-many = f .some;
+            rows-few = f .few;
+            xs-long = all ∙ f .public;
+            s-long = sized .secret-long ∙ f .secret;
+            xs-below = walk .below;
+            s-within = record { within = λ k. le-trans (secrets-small c (x .s') (x .e') (x .e'') secrets .0 .within k) (f .small) };
+          }
+
+      sent : sentPart c last ≡ repliedPart c a (x .s') (x .e')
+      unfolding replied
+      sent =
+          ap (λ (l : List ℕ). packed (fixedOf c .width) (reduced (fixedOf c .q) l)) last-sums
+          ∙ ap (packed (fixedOf c .width))
+          (whole-left wrap (fixedOf c .q) (fixedOf c .n) a (x .s') (x .e') (omega arith) (frodos c frodo .words) fit noise-long ∙ sym (by-frodo _ _ _ frodo))
+
+      abbrev whole : Reply
+      whole = replyOf (x .opening) a (x .s') (x .e') (x .e'') []
+
+      lengths : replyLengths c whole ≡ Pass
+      unfolding replyLengths
+      lengths =
+          all-pass
+          (all-pass
+          (all-pass
+          (all-pass (all-pass (length-passes (sized .opening-long)) (length-passes all)) (length-passes (sized .secret-long))) (length-passes (sized .noise-long)))
+          (length-passes (sized .last-long)))
+          (length-passes (sym (frodos c frodo .coins)))
+
+      same-tests : (n k d : ℕ) → replyEndTests (named last) last n k d ≡ replyTests (Is c) whole n k d
+      unfolding replyEndTests replyEndSizes replyTests replySizes replyRest replyLast openedOf
+      same-tests n k d =
+          ap (λ m. replyEndTests m last n k d) last-named
+          ∙ chain _ _ _ _ _ _ _ _ _ _
+          (turn-passes (complete-so Call.Reply (fixedOf c) last last-begun (last-taken ∙ all ∙ f .public)))
+          lengths (below-passes (walk .below)) (opened-tests c frodo (openedIn c (x .opening)) ∙ not-blank) secrets (ap notBlank sent)
+
+      same-message : replyEndMessage (named last) last ≡ replyMessage (Is c) whole
+      unfolding replyEndMessage replyMessage messageOf messageFrom openedOf valueOf
+      same-message =
+          ap (λ m. replyEndMessage m last) last-named
+          ∙ ap₂ (λ (u h : List ℕ). u ++ packed (fixedOf c .hintbits) h) sent (ap (hints c []) last-kept ∙ sym (no-coins-hints c frodo (coinsIn c []) _))
+
+      same-key : replyEndKey (named last) last ≡ replyKey (Is c) whole
+      unfolding replyEndKey replyKey keyOf keyFrom openedOf valueOf
+      same-key =
+          ap (λ m. replyEndKey m last) last-named
+          ∙ ap (packed (fixedOf c .keybits)) (ap (keys c []) last-kept ∙ sym (no-coins-keys c frodo (coinsIn c []) _))
+
+-- ---- what is shown
+
+pub same-reply : SameReply
+same-reply c x a message key digest number place n m k l d e frodo r all =
+    let s = same-tests c x (r .stateRoom) (r .first) frodo (r .begins) a (r .last) (r .parts) all in
+    let o = same-message c x (r .stateRoom) (r .first) frodo (r .begins) a (r .last) (r .parts) all in
+    let i = same-key c x (r .stateRoom) (r .first) frodo (r .begins) a (r .last) (r .parts) all in
+    record {
+      told = subst (λ (v : Verdict). Told v number place) (s n k d) (r .ends .told);
+      messages = wrote-same (s n k d) o (r .ends .messages);
+      keys = wrote-same (s n k d) i (r .ends .keys);
+      digests = wrote-same (s n k d) (ap sha3 i) (r .ends .digests);
+    }
+
+pub early-reply : EarlyReply
+early-reply c x a message key digest number place n m k l d e frodo r some =
+    let t = early c x (r .stateRoom) (r .first) frodo (r .begins) a (r .last) (r .parts) n k d some in (
+      subst (λ (v : Verdict). Told v number place) t (r .ends .told),
+      wrote-none t (r .ends .messages),
+      wrote-none t (r .ends .keys),
+      wrote-none t (r .ends .digests),
+    )
