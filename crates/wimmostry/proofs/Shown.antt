@@ -1,5 +1,5 @@
 -- What is stated in specs/Shown.
-use Rattle.wimmostry.specs.Shown.{OneOffer, OneReply, OneFinish, OneNoise, OneExpand, OneGrow, OneShake, OneDigest, OneProduct, OneBench, OneSessionOffer, OneSessionReply, OneSessionFinish, OneSessionClose, OneRackOffer, OneRackReply, OneRackFinish, OneRackClose, OneRackClear, OneSettingsRead, OneSettingsWrite}
+use Rattle.wimmostry.specs.Shown.{OneOffer, OneReply, OneFinish, OneNoise, OneExpand, OneGrow, OneShake, OneDigest, OneProduct, OneBench, OneSessionOffer, OneSessionReply, OneSessionFinish, OneSessionClose, OneRackOffer, OneRackReply, OneRackFinish, OneRackClose, OneRackClear, OneSettingsRead, OneSettingsWrite, OneRowsPart, OneRowsOfferBegin, OneRowsOfferEnd, OneRowsReplyBegin, OneRowsReplyEnd}
 
 pub one-offer : OneOffer
 one-offer c x room r r′ p p′ w w′ message message′ a b = (cc, cc, cc, cc)
@@ -65,3 +65,19 @@ one-settings-read x room r r′ p p′ w w′ f f′ a a′ b b′ label label�
 
 pub one-settings-write : OneSettingsWrite
 one-settings-write x room r r′ p p′ w w′ text text′ a b = (cc, cc, cc, cc)
+
+pub one-rows-part : OneRowsPart
+one-rows-part k state part r r′ p p′ after after′ a b = (cc, cc, cc)
+
+pub one-rows-offer-begin : OneRowsOfferBegin
+one-rows-offer-begin c x room r r′ p p′ after after′ a b = (cc, cc, cc)
+
+pub one-rows-offer-end : OneRowsOfferEnd
+one-rows-offer-end state room r r′ p p′ w w′ message message′ after after′ a b = (cc, cc, cc, cc, cc)
+
+pub one-rows-reply-begin : OneRowsReplyBegin
+one-rows-reply-begin c x room r r′ p p′ after after′ a b = (cc, cc, cc)
+
+pub one-rows-reply-end : OneRowsReplyEnd
+one-rows-reply-end state room keyRoom digestRoom r r′ p p′ w w′ k k′ d d′ message message′ key key′ digest digest′ after after′ a b =
+    (cc, cc, cc, cc, cc, cc, cc, cc, cc)

@@ -3,6 +3,7 @@
 --   OneSessionOffer .. OneSessionClose   of each call on a session, with the session's bytes after it
 --   OneRackOffer .. OneRackClear   of each call on a rack, with the rack's bytes after it
 --   OneOffer .. OneSettingsWrite   of each call
+--   OneOffer .. OneBench   of each call; OneRowsPart .. OneRowsReplyEnd: of Frodo by rows
 use mathlib.Core.Path.{_≡_}
 use mathlib.Core.List.{List}
 use Prim.Native.Nat.{ℕ}
@@ -17,6 +18,10 @@ use Rattle.halves.specs.Halves.{Factors, Multiplied}
 use Rattle.exchange.specs.Offer.{Offer, Offered}
 use Rattle.exchange.specs.Reply.{Reply, Replied}
 use Rattle.exchange.specs.Finish.{Finish, Finished}
+use Rattle.rows.specs.Part.{Taken}
+use Rattle.rows.specs.Offer.{OfferBegin, OfferBegun, OfferEnded}
+use Rattle.rows.specs.Reply.{ReplyBegin, ReplyBegun, ReplyEnded}
+use Rattle.rows.specs.declared.Call.{Call}
 use Rattle.bench.specs.Bench.{Bench, Benched}
 use Rattle.session.specs.Table.{offering, replying, finishing, closing}
 use Rattle.session.specs.Seen.{output, noOutput, offerSeen, replySeen, finishSeen, closeSeen}
@@ -140,3 +145,30 @@ abbrev pub OneSettingsWrite : Type 0
 OneSettingsWrite =
     (x : Kept) (room r r′ p p′ w w′ : ℕ) (text text′ : List ℕ) → SettingsWritten x r p room w text → SettingsWritten x r′ p′ room w′ text′
     → (r ≡ r′) × (p ≡ p′) × (w ≡ w′) × (text ≡ text′)
+
+abbrev pub OneRowsPart : Type 0
+OneRowsPart =
+    (k : Call) (state part : List ℕ) (r r′ p p′ : ℕ) (after after′ : List ℕ) → Taken k state part r p after → Taken k state part r′ p′ after′
+    → (r ≡ r′) × (p ≡ p′) × (after ≡ after′)
+
+abbrev pub OneRowsOfferBegin : Type 0
+OneRowsOfferBegin =
+    (c : Named) (x : OfferBegin) (room r r′ p p′ : ℕ) (after after′ : List ℕ) → OfferBegun c x r p room after → OfferBegun c x r′ p′ room after′
+    → (r ≡ r′) × (p ≡ p′) × (after ≡ after′)
+
+abbrev pub OneRowsOfferEnd : Type 0
+OneRowsOfferEnd =
+    (state : List ℕ) (room r r′ p p′ w w′ : ℕ) (message message′ after after′ : List ℕ) → OfferEnded state r p room w message after
+    → OfferEnded state r′ p′ room w′ message′ after′ → (r ≡ r′) × (p ≡ p′) × (w ≡ w′) × (message ≡ message′) × (after ≡ after′)
+
+abbrev pub OneRowsReplyBegin : Type 0
+OneRowsReplyBegin =
+    (c : Named) (x : ReplyBegin) (room r r′ p p′ : ℕ) (after after′ : List ℕ) → ReplyBegun c x r p room after → ReplyBegun c x r′ p′ room after′
+    → (r ≡ r′) × (p ≡ p′) × (after ≡ after′)
+
+abbrev pub OneRowsReplyEnd : Type 0
+OneRowsReplyEnd =
+    (state : List ℕ) (room keyRoom digestRoom r r′ p p′ w w′ k k′ d d′ : ℕ) (message message′ key key′ digest digest′ after after′ : List ℕ)
+    → ReplyEnded state r p room w message keyRoom k key digestRoom d digest after
+    → ReplyEnded state r′ p′ room w′ message′ keyRoom k′ key′ digestRoom d′ digest′ after′
+    → (r ≡ r′) × (p ≡ p′) × (w ≡ w′) × (k ≡ k′) × (d ≡ d′) × (message ≡ message′) × (key ≡ key′) × (digest ≡ digest′) × (after ≡ after′)

@@ -27,6 +27,9 @@ mod sessions;
 ghost use Rattle.settings.specs.Settings.{keptOf};
 ghost use Rattle.settings.specs.Calls.{SettingsWritten, SettingsRead};
 ghost use Rattle.settings.specs.Calls as settings;
+
+mod by_rows;
+
 use bench::BenchAnswer;
 use exchange::FinishAnswer;
 use exchange::ReplyAnswer;

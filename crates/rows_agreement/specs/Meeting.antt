@@ -1,0 +1,77 @@
+-- Demand 3 over the joined matrix: 02, request e. Of the two boxes of an exchange in Frodo each goes by whole matrix or by rows, all by what the calls promise.
+--   Meeting c x      as `Exchange` of crate `agreement`, with Offer and Reply each whole or by rows, where the accepted parts join into the a of x
+--   Agreed t         both keys are equal, and are the published bits; so are both digests
+--   ByRows           the demand, of every one of Frodo's schemes
+--   Reached          a meeting is an exchange of the whole-matrix calls: its inputs are sendable
+use mathlib.Core.Path.{_≡_}
+use mathlib.Core.Logic.{_⊎_}
+use mathlib.Core.List.{List, []}
+use Prim.Native.Nat.{ℕ}
+use lib.ListN.{take}
+use Rattle.schemes.specs.Schemes.{familyOf}
+use Rattle.schemes.specs.declared.Family.{Family}
+use Rattle.schemes.specs.declared.Named.the-variants.{Is}
+use Rattle.schemes.specs.declared.Scheme.{Scheme}
+use Rattle.lists.specs.Entries.{Below}
+use Rattle.front.specs.Answers.{number, place, written}
+use Rattle.front.specs.declared.Answer.{Answer}
+use Rattle.exchange.specs.Offer.{Offered}
+use Rattle.exchange.specs.Reply.{replyOf, Replied}
+use Rattle.exchange.specs.Reply as ofReply
+use Rattle.exchange.specs.Finish.{finishOf}
+use Rattle.exchange.specs.Finish as ofFinish
+use Rattle.exchange.specs.declared.ReplyAnswer.{ReplyAnswer}
+use Rattle.exchange.specs.declared.FinishAnswer.{FinishAnswer}
+use Rattle.agreement.specs.Run.{Run, offering}
+use Rattle.agreement.specs.Exchange.{Sendable}
+use Rattle.agreement.specs.Agreement.{Near, publishedKey}
+use Rattle.rows.specs.Offer.{offerBeginOf}
+use Rattle.rows.specs.Reply.{replyBeginOf}
+use Rattle.rows.specs.Runs.{OfferRun, ReplyRun}
+
+pub record Meeting (c : Scheme) (x : Run) : Type 0 where
+  -- Offer
+  pub offerRoom : ℕ
+  pub offer : Answer
+  pub offerOut : List ℕ
+  pub offers :
+      Offered (Is c) (offering x) (number offer) (place offer) offerRoom (written offer) offerOut
+      ⊎ OfferRun c (offerBeginOf (x .s) (x .e) (x .seed)) (x .a) (number offer) (place offer) offerRoom (written offer) offerOut
+  pub offer-accepted : number offer ≡ 0
+  -- Reply, to the opening as Offer wrote it
+  pub replyRoom : ℕ
+  pub keyRoom : ℕ
+  pub digestRoom : ℕ
+  pub reply : ReplyAnswer
+  pub replyOut : List ℕ
+  pub keyOut : List ℕ
+  pub digestOut : List ℕ
+  pub replies :
+      Replied (Is c) (replyOf (take (written offer) offerOut) (x .a) (x .s') (x .e') (x .e'') (x .coins)) (ofReply.number reply) (ofReply.place reply)
+      replyRoom (ofReply.counts reply .message) replyOut keyRoom (ofReply.counts reply .key) keyOut digestRoom (ofReply.counts reply .digest) digestOut
+      ⊎ ReplyRun c (replyBeginOf (take (written offer) offerOut) (x .s') (x .e') (x .e'')) (x .a) (ofReply.number reply) (ofReply.place reply)
+      replyRoom (ofReply.counts reply .message) replyOut keyRoom (ofReply.counts reply .key) keyOut digestRoom (ofReply.counts reply .digest) digestOut
+  pub reply-accepted : ofReply.number reply ≡ 0
+  -- Finish, of the reply as Reply wrote it
+  pub peerKeyRoom : ℕ
+  pub peerDigestRoom : ℕ
+  pub finish : FinishAnswer
+  pub peerKeyOut : List ℕ
+  pub peerDigestOut : List ℕ
+  pub finishes :
+      ofFinish.Answered (Is c) (finishOf (take (ofReply.counts reply .message) replyOut) (x .s)) finish peerKeyRoom peerKeyOut peerDigestRoom peerDigestOut
+  pub finish-accepted : ofFinish.number finish ≡ 0
+
+pub record Agreed {c : Scheme} {x : Run} (t : Meeting c x) : Type 0 where
+  pub same : take (ofReply.counts (t .reply) .key) (t .keyOut) ≡ take (ofFinish.counts (t .finish) .key) (t .peerKeyOut)
+  pub published : take (ofReply.counts (t .reply) .key) (t .keyOut) ≡ publishedKey c x
+  pub digests : take (ofReply.counts (t .reply) .digest) (t .digestOut) ≡ take (ofFinish.counts (t .finish) .digest) (t .peerDigestOut)
+
+-- ---- what is shown; Frodo has no coins, and a seed is bytes
+
+abbrev pub ByRows : Type 0
+ByRows =
+    (c : Scheme) (x : Run) → familyOf c ≡ Family.Frodo → Below 256 (x .seed) → x .coins ≡ [] → (t : Meeting c x) → Near c x → Agreed t
+
+abbrev pub Reached : Type 0
+Reached = (c : Scheme) (x : Run) → familyOf c ≡ Family.Frodo → Below 256 (x .seed) → x .coins ≡ [] → Meeting c x → Sendable c x

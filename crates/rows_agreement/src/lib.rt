@@ -1,0 +1,1 @@
+// A box by rows agrees with a box by whole: no code.
