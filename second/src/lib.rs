@@ -27,6 +27,7 @@ pub mod products;
 pub mod rack;
 pub mod reconcile;
 pub mod refusal;
+pub mod rows;
 pub mod schemes;
 pub mod session;
 pub mod settings;

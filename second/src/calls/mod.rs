@@ -36,12 +36,12 @@ fn enough(answer: Vec<u32>) -> Result<Vec<u32>, Refusal> {
 }
 
 /// Writes the answer at the start of the output; the written count.
-fn write<T: Copy>(answer: &[T], output: &mut [T]) -> usize {
+pub(crate) fn write<T: Copy>(answer: &[T], output: &mut [T]) -> usize {
     output[..answer.len()].copy_from_slice(answer);
     answer.len()
 }
 
 /// Secrets and noise as signed numbers to reckon with.
-fn signed(values: &[i32]) -> Vec<i128> {
+pub(crate) fn signed(values: &[i32]) -> Vec<i128> {
     values.iter().map(|&value| i128::from(value)).collect()
 }

@@ -30,6 +30,7 @@ mod reconcile_bcns;
 mod reconcile_frodo;
 mod reconcile_newhope;
 mod refusals;
+mod rows;
 mod schemes;
 mod session;
 mod settings;

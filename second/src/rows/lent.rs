@@ -1,0 +1,95 @@
+//! The running state as lent numbers of 32 bits:
+//!
+//! | from | numbers |
+//! |---|---|
+//! | 0 | the call: 1 Offer, 2 Reply |
+//! | 1 | the scheme, 2 to 5 |
+//! | 2 | how many numbers of A have come, up to n n |
+//! | 3 | Offer: the seed's 16 bytes, then 48 zeros; Reply: the 64 values of V, below q |
+//! | 67 | the secret, 8n: Offer's S column after column, Reply's S' row after row |
+//! | 67 + 8n | the running sums, 8n: B or B' row after row |
+
+use super::{Carried, State};
+use crate::schemes::{scheme, Family, Scheme};
+
+const CARRIED: usize = 3;
+const SECRET: usize = CARRIED + 64;
+
+/// The fixed length of a scheme's state.
+pub fn state_count(scheme: &Scheme) -> usize {
+    SECRET + 16 * scheme.n
+}
+
+/// The state that the numbers are; none where one is out of range or the length
+/// is not the fixed one.
+pub fn parse(lent: &[u32]) -> Option<State> {
+    let &[call, number, come, ..] = lent else {
+        return None;
+    };
+    let scheme = scheme(number.into()).filter(|scheme| scheme.family == Family::Frodo)?;
+    if lent.len() != state_count(scheme) {
+        return None;
+    }
+    let come = usize::try_from(come).ok()?;
+    if come > scheme.n * scheme.n {
+        return None;
+    }
+    let (secret, sums) = lent[SECRET..].split_at(8 * scheme.n);
+    let carried = &lent[CARRIED..SECRET];
+    let (carried, secret) = match call {
+        1 => (seed(scheme, carried)?, turned(secret, 8)),
+        2 => (values(scheme, carried)?, secret.to_vec()),
+        _ => return None,
+    };
+    Some(State {
+        scheme,
+        carried,
+        come,
+        secret,
+        sums: sums.to_vec(),
+    })
+}
+
+/// 16 bytes and zeros.
+fn seed(scheme: &Scheme, carried: &[u32]) -> Option<Carried> {
+    let (seed, zeros) = carried.split_at(scheme.seed_bytes());
+    if zeros.iter().any(|&zero| zero != 0) {
+        return None;
+    }
+    let bytes = seed.iter().map(|&byte| u8::try_from(byte).ok());
+    Some(Carried::Seed(bytes.collect::<Option<Vec<u8>>>()?))
+}
+
+/// 64 values below q.
+fn values(scheme: &Scheme, carried: &[u32]) -> Option<Carried> {
+    if carried.iter().any(|&value| i128::from(value) >= scheme.q) {
+        return None;
+    }
+    Some(Carried::V(carried.to_vec()))
+}
+
+/// The numbers of a state.
+pub fn lay(state: &State) -> Vec<u32> {
+    let (call, carried, secret) = match &state.carried {
+        Carried::Seed(seed) => {
+            let mut carried: Vec<u32> = seed.iter().map(|&byte| byte.into()).collect();
+            carried.resize(64, 0);
+            (1, carried, turned(&state.secret, state.scheme.n))
+        }
+        Carried::V(v) => (2, v.clone(), state.secret.clone()),
+    };
+    let head = [call, state.scheme.number as u32, state.come as u32];
+    [&head[..], &carried, &secret, &state.sums].concat()
+}
+
+/// A matrix of so many rows that lie one after the other, its columns laid so.
+fn turned(matrix: &[u32], rows: usize) -> Vec<u32> {
+    let columns = matrix.len() / rows;
+    let mut turned = vec![];
+    for column in 0..columns {
+        for row in 0..rows {
+            turned.push(matrix[row * columns + column]);
+        }
+    }
+    turned
+}
