@@ -16,6 +16,8 @@ const char *wim_refusal_text(uint32_t refusal)
         return "the studio's number is over 7";
     case WIM_OUT_OF_STAGE:
         return "the session's stage does not allow this call with this scheme";
+    case WIM_OUT_OF_TURN:
+        return "no begin for this part or end, a part past its row, or rows missing";
     case WIM_NO_SCHEME:
         return "the scheme is not 0 to 5";
     case WIM_NO_RULE:

@@ -19,6 +19,9 @@
  * secrets, drawn afresh for each exchange; wim_noise makes them from random bytes, in BCNS by a
  * table that is lent too. In names s1, e1 and e2 stand for s', e' and e''.
  *
+ * Frodo's A has up to 746496 numbers. A box that cannot hold them gives them to Offer and Reply row
+ * by row: see BY ROWS.
+ *
  * A session keeps these calls in step and holds the key that they give: see SESSIONS. A rack keeps
  * the sessions of eight studios: see RACKS.
  *
@@ -43,6 +46,7 @@
  *
  *     WIM_NO_STUDIO     16   the studio's number is over 7
  *     WIM_OUT_OF_STAGE  10   the session's stage does not allow this call with this scheme
+ *     WIM_OUT_OF_TURN   11   no begin for this part or end, a part past its row, or rows missing
  *     WIM_NO_SCHEME      1   the scheme is not 0 to 5
  *     WIM_NO_RULE       12   the rule is not 14 or 16
  *     WIM_LENGTH         2   an input's length is not the fixed one (streams, hashes: over 65536)
@@ -56,17 +60,18 @@
  *     WIM_NEWER_FORMAT  15   the text of settings is in a newer format than the reader's
  *     WIM_MISFIT         8   the text is no settings, or a byte of the label is not allowed
  *
- * 16 is that of the calls on a rack alone, and 10 that of these and of those on a session. 5 never
- * arises in Frodo, 6 is for values above the largest noise or below its negative, 7 and 12 are
- * those of wim_expand and wim_grow alone (12 also of wim_settings_write), and 18 is that of
- * wim_noise in BCNS alone; 15 and 8 are those of the settings; no seed is known for which wim_grow
- * gives 7. 17 is for a message without content, as a dead card sends it:
- * seed and hints don't count. It is given for a message received, and for one about to be sent,
- * which is zero where secret and noise are; a zero secret with some noise passes.
+ * 16 is that of the calls on a rack alone, 10 that of these and of those on a session, and 11 that
+ * of the calls by rows, where 1 is for a scheme that is not one of Frodo's, 2 to 5, and 2 also for a
+ * state. 5 never arises in Frodo, 6 is for values above the largest noise or below its negative, 7
+ * and 12 are those of wim_expand and wim_grow alone (12 also of wim_settings_write), and 18 is that
+ * of wim_noise in BCNS alone; 15 and 8 are those of the settings; no seed is known for which
+ * wim_grow gives 7. 17 is for a message without content, as a dead card sends it: seed and hints
+ * don't count. It is given for a message received, and for one about to be sent, which is zero
+ * where secret and noise are; a zero secret with some noise passes.
  * *place is the index of the first bad entry after 4, 5 and 6, the first entry of the table that is
  * not above its forerunner, 1 to 50, after 18, how many numbers the stream held after 7, and 0
- * after 16, 10, 1, 12, 2, 3, 17, 15, 8 and a success. wim_product has lengths of its own for 2, and
- * gives 3 for a scratch that is too short as well.
+ * after 16, 10, 11, 1, 12, 2, 3, 17, 15, 8 and a success. wim_product has lengths of its own for 2,
+ * and gives 3 for a scratch that is too short as well.
  *
  * The tests go in the order of this table, and within one number in the order in which the inputs,
  * or for 3 the outputs, stand in the call; the first that fails is the refusal. 17 stands there for
@@ -77,8 +82,8 @@
  * output, in *written (where there are several, in the count with the output's name), and the rest
  * of the output is zero. An output may be longer than the answer. After a refusal each output is
  * zero from end to end, whatever it held, and each count and other number is 0; but after 15 the
- * format of wim_settings_read is the newer one. A session or a rack is no output in this sense: a
- * refused call leaves it as it is.
+ * format of wim_settings_read is the newer one. A state, a session or a rack is no output in this
+ * sense: a refused part, end or call leaves it as it is.
  *
  *
  * WHAT A CALLER MUST SEE TO
@@ -87,10 +92,10 @@
  *   null, as an empty vector's may be; this is tested for every slice (examples/c/empty.c). place,
  *   the counts, differ, slack and slack_index, and where they are outputs format, scheme and rule,
  *   each point to one number. A length counts entries, not bytes.
- * - No output, session or rack and none of these numbers shares memory with another argument.
- *   Inputs may share memory with each other.
- * - No other thread writes to what is lent, or touches an output, a session or a rack, during a
- *   call.
+ * - No output, state, session or rack and none of these numbers shares memory with another
+ *   argument. Inputs may share memory with each other.
+ * - No other thread writes to what is lent, or touches an output, a state, a session or a rack,
+ *   during a call.
  * - There is stack for the call: WIM_STACK bytes are enough, and for wim_scrub WIM_SCRUB_STACK.
  *
  * And beyond the memory:
@@ -131,6 +136,41 @@
  * another value with the same hint. In BCNS an exchange with unaltered messages stays below
  * 10653800, a hundredth of the margin. The slack is made of s and belongs in the own log, not in
  * the peer's.
+ *
+ *
+ * BY ROWS
+ *
+ * wim_offer and wim_reply are lent all of A. In Frodo each has three calls in its place, which are
+ * lent A in parts, and between them a running state: WIM_X_STATE numbers of 32 bits, which the
+ * caller owns. The library keeps nothing of it.
+ *
+ *     begin   secret, noise and seed (Offer) or opening message (Reply) into the state. It starts
+ *             afresh, whatever the state held; refused, it zeroes the state.
+ *     part    some numbers of the current row: all WIM_X_ROW of it, or some of them from where the
+ *             part before ended, or none. The cut makes no difference, but no part runs past the
+ *             end of its row. Behind row 0 comes row 1, and so on, WIM_X_ROW rows.
+ *     end     what the call on the whole matrix gives, where that is the accepted parts joined:
+ *             message, or message, key and digest, byte for byte. It zeroes the state.
+ *
+ * A refused part or end leaves the state as it was, and the outputs zero, and may be tried again: a
+ * part with a wrong number is sent again, put right, and the rows go on. The place of 4 is the
+ * index in the part. 11 is for a part that runs past the row or past the last row (an empty one
+ * never does), for an end before all rows have come, and for any part or end without a begin.
+ *
+ * - A state is handed on as it is: each part and end gets it as the call before left it. It may be
+ *   moved between calls. One that is not of its length, that no call leaves in its first 67 numbers
+ *   (which call, which scheme, how many numbers of A have come, the seed or the replier's values),
+ *   or that was begun for the other of the two calls, counts as none: 11. The other numbers may be
+ *   anything, so that changing them is not found out, but makes another message.
+ * - A state is a secret: it holds s or s', and what the key is made of. A good end zeroes it, and
+ *   so does a refused begin. Where the exchange is given up before the end, the caller zeroes it,
+ *   all WIM_X_STATE numbers. No copy of it goes on by itself: that would use the secrets twice.
+ * - What was lent to begin is not lent again. e, s', e' and e'' can be destroyed as soon as begin
+ *   has returned; s is kept for wim_finish.
+ * - A grows as it is needed. The library makes no A: both ends make row i by a generator of their
+ *   own, say from a seed and i, lend it as a part, and write row i + 1 over it, so that A is never
+ *   held (examples/c/rows.c does so with wim_shake128). Both must make the same numbers.
+ * - One end by rows and the other by the whole matrix agree as two of a kind do.
  *
  *
  * SESSIONS
@@ -310,6 +350,7 @@ extern "C" {
 #define WIM_RAN_OUT 7
 #define WIM_MISFIT 8
 #define WIM_OUT_OF_STAGE 10
+#define WIM_OUT_OF_TURN 11
 #define WIM_NO_RULE 12
 #define WIM_NEWER_FORMAT 15
 #define WIM_NO_STUDIO 16
@@ -334,6 +375,8 @@ extern "C" {
  *     WIM_X_E2_BYTES random bytes from which wim_noise makes e''
  *     WIM_X_TABLE    64-bit words of the table that wim_noise is lent: 0, but in BCNS
  *     WIM_X_MARGIN   the margin of the slack (0: NewHope has no slack)
+ *     WIM_X_ROW      numbers of a row of A, which is n, and rows of A: 0, but in Frodo
+ *     WIM_X_STATE    numbers of a running state by rows, 16 n + 67: 0, but in Frodo
  *
  * WIM_MAX_.. is the largest over all schemes: buffers of these sizes serve each of them.
  */
@@ -351,6 +394,8 @@ extern "C" {
 #define WIM_BCNS_E2_BYTES 25600
 #define WIM_BCNS_TABLE 153
 #define WIM_BCNS_MARGIN 1073741823
+#define WIM_BCNS_ROW 0
+#define WIM_BCNS_STATE 0
 
 #define WIM_NEWHOPE_Q 12289u
 #define WIM_NEWHOPE_NOISE 16
@@ -366,6 +411,8 @@ extern "C" {
 #define WIM_NEWHOPE_E2_BYTES 4096
 #define WIM_NEWHOPE_TABLE 0
 #define WIM_NEWHOPE_MARGIN 0
+#define WIM_NEWHOPE_ROW 0
+#define WIM_NEWHOPE_STATE 0
 
 #define WIM_FRODO_CHALLENGE_Q 2048u
 #define WIM_FRODO_CHALLENGE_NOISE 3
@@ -381,6 +428,8 @@ extern "C" {
 #define WIM_FRODO_CHALLENGE_E2_BYTES 128
 #define WIM_FRODO_CHALLENGE_TABLE 0
 #define WIM_FRODO_CHALLENGE_MARGIN 256
+#define WIM_FRODO_CHALLENGE_ROW 352
+#define WIM_FRODO_CHALLENGE_STATE 5699
 
 #define WIM_FRODO_CLASSICAL_Q 4096u
 #define WIM_FRODO_CLASSICAL_NOISE 4
@@ -396,6 +445,8 @@ extern "C" {
 #define WIM_FRODO_CLASSICAL_E2_BYTES 128
 #define WIM_FRODO_CLASSICAL_TABLE 0
 #define WIM_FRODO_CLASSICAL_MARGIN 256
+#define WIM_FRODO_CLASSICAL_ROW 592
+#define WIM_FRODO_CLASSICAL_STATE 9539
 
 #define WIM_FRODO_RECOMMENDED_Q 32768u
 #define WIM_FRODO_RECOMMENDED_NOISE 5
@@ -411,6 +462,8 @@ extern "C" {
 #define WIM_FRODO_RECOMMENDED_E2_BYTES 128
 #define WIM_FRODO_RECOMMENDED_TABLE 0
 #define WIM_FRODO_RECOMMENDED_MARGIN 512
+#define WIM_FRODO_RECOMMENDED_ROW 752
+#define WIM_FRODO_RECOMMENDED_STATE 12099
 
 #define WIM_FRODO_PARANOID_Q 32768u
 #define WIM_FRODO_PARANOID_NOISE 6
@@ -426,6 +479,8 @@ extern "C" {
 #define WIM_FRODO_PARANOID_E2_BYTES 128
 #define WIM_FRODO_PARANOID_TABLE 0
 #define WIM_FRODO_PARANOID_MARGIN 512
+#define WIM_FRODO_PARANOID_ROW 864
+#define WIM_FRODO_PARANOID_STATE 13891
 
 #define WIM_MAX_A 746496
 #define WIM_MAX_S 6912
@@ -438,6 +493,8 @@ extern "C" {
 #define WIM_MAX_S_BYTES 25600
 #define WIM_MAX_E2_BYTES 25600
 #define WIM_MAX_TABLE 153
+#define WIM_MAX_ROW 864
+#define WIM_MAX_STATE 13891
 
 /* wim_expand: the length of its answer in numbers, which is wim_grow's too, and the longest stream
  * in bytes. */
@@ -605,6 +662,51 @@ WIM_MUST_USE uint32_t wim_bench(uint32_t scheme, const uint32_t *a, size_t a_len
                                 const uint8_t *coins, size_t coins_len,
                                 uint64_t *place, uint64_t *differ,
                                 uint64_t *slack, uint64_t *slack_index);
+
+/*
+ * Offer by rows; see BY ROWS. Begin: scheme, secret s, noise e, seed, into the state. Refuses with
+ * 1 (not 2 to 5), 2 and 6, in this order; of 2, the state's length is tested last.
+ */
+WIM_MUST_USE uint32_t wim_rows_offer_begin(uint32_t scheme, const int32_t *s, size_t s_len,
+                                           const int32_t *e, size_t e_len,
+                                           const uint8_t *seed, size_t seed_len,
+                                           uint32_t *state, size_t state_len, uint64_t *place);
+
+/* A part: the next numbers of the current row. Refuses with 11 and 4, in this order. */
+WIM_MUST_USE uint32_t wim_rows_offer_part(const uint32_t *part, size_t part_len,
+                                          uint32_t *state, size_t state_len, uint64_t *place);
+
+/* End: gives wim_offer's message. Refuses with 11, 3 and 17, in this order. */
+WIM_MUST_USE uint32_t wim_rows_offer_end(uint32_t *state, size_t state_len,
+                                         uint8_t *message, size_t message_len,
+                                         uint64_t *place, uint64_t *written);
+
+/*
+ * Reply by rows; see BY ROWS. Begin: scheme, opening message, s', e', e'', into the state; coins
+ * there are none in Frodo. Refuses with 1 (not 2 to 5), 2, 17 (the opening) and 6, in this order;
+ * of 2, the state's length is tested last.
+ */
+WIM_MUST_USE uint32_t wim_rows_reply_begin(uint32_t scheme,
+                                           const uint8_t *opening, size_t opening_len,
+                                           const int32_t *s1, size_t s1_len,
+                                           const int32_t *e1, size_t e1_len,
+                                           const int32_t *e2, size_t e2_len,
+                                           uint32_t *state, size_t state_len, uint64_t *place);
+
+/* A part: the next numbers of the current row. Refuses with 11 and 4, in this order. */
+WIM_MUST_USE uint32_t wim_rows_reply_part(const uint32_t *part, size_t part_len,
+                                          uint32_t *state, size_t state_len, uint64_t *place);
+
+/*
+ * End: gives wim_reply's message, the replier's key and the key's SHA3-256. Refuses with 11, 3 and
+ * 17 (the reply), in this order; of 3, the message's room is tested first and the digest's last.
+ */
+WIM_MUST_USE uint32_t wim_rows_reply_end(uint32_t *state, size_t state_len,
+                                         uint8_t *message, size_t message_len,
+                                         uint8_t *key, size_t key_len,
+                                         uint8_t *digest, size_t digest_len,
+                                         uint64_t *place, uint64_t *message_written,
+                                         uint64_t *key_written, uint64_t *digest_written);
 
 /*
  * Offer, Reply and Finish on a session, which is in and out: then all is as in wim_offer, wim_reply

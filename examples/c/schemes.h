@@ -7,7 +7,7 @@
 struct scheme {
     const char *name;
     uint32_t number, q;
-    size_t a, s, e2, seed, coins, opening, reply, key, s_bytes, e2_bytes, table;
+    size_t a, s, e2, seed, coins, opening, reply, key, s_bytes, e2_bytes, table, row, state;
     uint64_t margin;
 };
 
@@ -15,7 +15,8 @@ struct scheme {
     {                                                                                            \
         NAME, WIM_##X, WIM_##X##_Q, WIM_##X##_A, WIM_##X##_S, WIM_##X##_E2, WIM_##X##_SEED,      \
             WIM_##X##_COINS, WIM_##X##_OPENING, WIM_##X##_REPLY, WIM_##X##_KEY,                  \
-            WIM_##X##_S_BYTES, WIM_##X##_E2_BYTES, WIM_##X##_TABLE, WIM_##X##_MARGIN             \
+            WIM_##X##_S_BYTES, WIM_##X##_E2_BYTES, WIM_##X##_TABLE, WIM_##X##_ROW,               \
+            WIM_##X##_STATE, WIM_##X##_MARGIN                                                    \
     }
 
 static const struct scheme schemes[6] = {

@@ -86,6 +86,11 @@ impl<'s> Initiator<'s> {
         self.scheme
     }
 
+    /// An initiator whose offer was made by rows.
+    pub(crate) fn offered(scheme: Scheme, s: Secret<'s>) -> Initiator<'s> {
+        Initiator { scheme, s }
+    }
+
     /// Finish: reply message. Writes the initiator's key to `key`, which may be
     /// longer, and gives its digest and the slack. s is wiped.
     ///

@@ -68,6 +68,9 @@
 //! # }
 //! ```
 //!
+//! Frodo's A need not be held: [`rows`] has Offer and Reply that take it row by
+//! row.
+//!
 //! Below it, [`raw`] has the calls on slices. Either way a call is one of the
 //! archive, whose every call is proved: for all inputs it ends with an answer or
 //! with one [`Refusal`], given exactly when its condition holds.
@@ -75,7 +78,8 @@
 //! What a caller must see to is in `include/wimmostry.h`: fresh secrets, who
 //! the peer is, key confirmation, hashing the raw keys, and 161 KiB of stack.
 //! That buffers do not overlap and pointers are valid, these functions see to;
-//! and after every call they scrub the stack of what it left there.
+//! and after every call, by rows at the end, they scrub the stack of what it left
+//! there.
 //!
 //! The library needs no `std` and takes no memory from a heap: buffers are lent.
 //! [`Sizes::LARGEST`] has room for every scheme.
@@ -89,6 +93,7 @@ mod expand;
 mod hash;
 mod rack;
 mod refusal;
+pub mod rows;
 mod schemes;
 mod secret;
 mod session;

@@ -2,7 +2,8 @@
 //! number, every length is the caller's to get right, and secrets are the
 //! caller's to wipe.
 //!
-//! Each function is one call of the archive and scrubs the stack after it. For
+//! Each function is one call of the archive and scrubs the stack after it, but for
+//! the parts of [`rows`], which leave that to the end. For
 //! all inputs it ends with an answer or with one [`Refusal`]. After a success an
 //! output holds the answer and zeros behind it, after a refusal zeros from end
 //! to end, whatever it held.
@@ -11,6 +12,7 @@ use crate::{Refusal, Scheme};
 
 pub mod ffi;
 pub mod rack;
+pub mod rows;
 pub mod session;
 
 /// The answer, or the refusal that a number other than 0 names.

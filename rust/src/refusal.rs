@@ -11,7 +11,10 @@ pub enum Refusal {
     NoStudio,
     /// 10: the session's stage does not allow this call with this scheme.
     OutOfStage,
-    /// 1: the scheme is not 0 to 5.
+    /// 11: by rows, a part or an end without its begin, a part that runs past its
+    /// row or past the last, or an end before all rows have come.
+    OutOfTurn,
+    /// 1: the scheme is not 0 to 5; by rows, not 2 to 5.
     NoScheme,
     /// 12: the rule is not 14 or 16.
     NoRule,
@@ -43,11 +46,12 @@ pub enum Refusal {
 }
 
 impl Refusal {
-    /// The number, 1 to 8, 10, 12 or 15 to 18.
+    /// The number, 1 to 8, 10 to 12 or 15 to 18.
     pub const fn number(self) -> u32 {
         match self {
             Refusal::NoStudio => 16,
             Refusal::OutOfStage => 10,
+            Refusal::OutOfTurn => 11,
             Refusal::NoScheme => 1,
             Refusal::NoRule => 12,
             Refusal::Length => 2,
@@ -69,6 +73,7 @@ impl Refusal {
         match self {
             Refusal::NoStudio
             | Refusal::OutOfStage
+            | Refusal::OutOfTurn
             | Refusal::NoScheme
             | Refusal::NoRule
             | Refusal::Length
@@ -97,6 +102,7 @@ impl Refusal {
         match number {
             16 => Refusal::NoStudio,
             10 => Refusal::OutOfStage,
+            11 => Refusal::OutOfTurn,
             1 => Refusal::NoScheme,
             12 => Refusal::NoRule,
             2 => Refusal::Length,
@@ -120,6 +126,7 @@ impl fmt::Display for Refusal {
         match self {
             Refusal::NoStudio
             | Refusal::OutOfStage
+            | Refusal::OutOfTurn
             | Refusal::NoScheme
             | Refusal::NoRule
             | Refusal::Length

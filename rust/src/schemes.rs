@@ -50,6 +50,10 @@ pub struct Sizes {
     /// How far apart the two values may lie, in the unit of the slack, for keys
     /// that are proved to agree; 0 in NewHope, which has no slack.
     pub margin: u64,
+    /// Numbers of a row of A, and rows of A; 0 but in Frodo.
+    pub row: usize,
+    /// Numbers of a running state by rows; 0 but in Frodo.
+    pub state: usize,
 }
 
 impl Scheme {
@@ -98,6 +102,8 @@ impl Scheme {
                 e2_bytes: 25 * 1024,
                 table: 3 * 51,
                 margin: 1073741823,
+                row: 0,
+                state: 0,
             },
             Scheme::NewHope => Sizes {
                 q: 12289,
@@ -114,6 +120,8 @@ impl Scheme {
                 e2_bytes: 4096,
                 table: 0,
                 margin: 0,
+                row: 0,
+                state: 0,
             },
             Scheme::FrodoChallenge => frodo(352, 2048, 3, 11, 8),
             Scheme::FrodoClassical => frodo(592, 4096, 4, 12, 16),
@@ -141,6 +149,8 @@ const fn frodo(n: usize, q: u32, noise: i32, width: usize, key: usize) -> Sizes 
         e2_bytes: 128,
         table: 0,
         margin: (q >> (key / 8)) as u64 / 4,
+        row: n,
+        state: 16 * n + 67,
     }
 }
 
@@ -161,6 +171,8 @@ impl Sizes {
         e2_bytes: 25 * 1024,
         table: 3 * 51,
         margin: 1073741823,
+        row: 864,
+        state: 16 * 864 + 67,
     };
 }
 

@@ -4,7 +4,7 @@ use crate::{raw, Refusal, Scheme};
 use core::fmt;
 use core::sync::atomic::{compiler_fence, Ordering};
 
-/// What a secret is made of: values or bytes.
+/// What a secret is made of: values, bytes or numbers.
 pub trait Entry: Copy + sealed::Sealed {
     #[doc(hidden)]
     const ZERO: Self;
@@ -14,6 +14,7 @@ mod sealed {
     pub trait Sealed {}
     impl Sealed for u8 {}
     impl Sealed for i32 {}
+    impl Sealed for u32 {}
 }
 
 impl Entry for u8 {
@@ -22,6 +23,10 @@ impl Entry for u8 {
 
 impl Entry for i32 {
     const ZERO: i32 = 0;
+}
+
+impl Entry for u32 {
+    const ZERO: u32 = 0;
 }
 
 /// Zeros that no compiler drops, though nobody reads them.
@@ -34,7 +39,8 @@ pub(crate) fn wipe<T: Entry>(entries: &mut [T]) {
 }
 
 /// A secret in a lent buffer, which is wiped when the secret is dropped: values
-/// (s, e, s', e', e'') or bytes (coins, and the random bytes of noise).
+/// (s, e, s', e', e''), bytes (coins, and the random bytes of noise), or the
+/// numbers of a running state by rows.
 ///
 /// It cannot be copied, and does not print what it holds. The buffer is the
 /// caller's, so that moving a secret leaves no copy of it behind.

@@ -141,6 +141,68 @@ extern "C" {
         slack: *mut u64,
         slack_index: *mut u64,
     ) -> u32;
+    pub fn wim_rows_offer_begin(
+        scheme: u32,
+        s: *const i32,
+        s_len: usize,
+        e: *const i32,
+        e_len: usize,
+        seed: *const u8,
+        seed_len: usize,
+        state: *mut u32,
+        state_len: usize,
+        place: *mut u64,
+    ) -> u32;
+    pub fn wim_rows_offer_part(
+        part: *const u32,
+        part_len: usize,
+        state: *mut u32,
+        state_len: usize,
+        place: *mut u64,
+    ) -> u32;
+    pub fn wim_rows_offer_end(
+        state: *mut u32,
+        state_len: usize,
+        message: *mut u8,
+        message_len: usize,
+        place: *mut u64,
+        written: *mut u64,
+    ) -> u32;
+    pub fn wim_rows_reply_begin(
+        scheme: u32,
+        opening: *const u8,
+        opening_len: usize,
+        s1: *const i32,
+        s1_len: usize,
+        e1: *const i32,
+        e1_len: usize,
+        e2: *const i32,
+        e2_len: usize,
+        state: *mut u32,
+        state_len: usize,
+        place: *mut u64,
+    ) -> u32;
+    pub fn wim_rows_reply_part(
+        part: *const u32,
+        part_len: usize,
+        state: *mut u32,
+        state_len: usize,
+        place: *mut u64,
+    ) -> u32;
+    pub fn wim_rows_reply_end(
+        state: *mut u32,
+        state_len: usize,
+        message: *mut u8,
+        message_len: usize,
+        key: *mut u8,
+        key_len: usize,
+        digest: *mut u8,
+        digest_len: usize,
+        place: *mut u64,
+        message_written: *mut u64,
+        key_written: *mut u64,
+        digest_written: *mut u64,
+    ) -> u32;
     pub fn wim_session_offer(
         session: *mut u8,
         session_len: usize,

@@ -23,6 +23,7 @@ mod links;
 mod products;
 mod racks;
 mod residue;
+mod rows;
 mod sessions;
 mod settings;
 mod sizes;

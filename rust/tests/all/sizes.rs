@@ -35,6 +35,8 @@ fn expected(s: &Scheme) -> Vec<(&'static str, u64)> {
         ("E2_BYTES", noise[noise.len() - 1] as u64),
         ("TABLE", table_words(s) as u64),
         ("MARGIN", margin(s)),
+        ("ROW", by_rows(s, |s| s.n)),
+        ("STATE", by_rows(s, second::rows::state_count)),
     ]
 }
 
@@ -44,6 +46,14 @@ fn margin(s: &Scheme) -> u64 {
         Family::Bcns => bcns::Rule::of(s).reach as u64,
         Family::NewHope => 0,
         Family::Frodo => frodo::Rule::of(s).interval() as u64 / 4,
+    }
+}
+
+/// A number that only Frodo has.
+fn by_rows(s: &Scheme, count: fn(&Scheme) -> usize) -> u64 {
+    match s.family {
+        Family::Bcns | Family::NewHope => 0,
+        Family::Frodo => count(s) as u64,
     }
 }
 
@@ -121,6 +131,8 @@ fn of_this_package() {
             ("S_BYTES", sizes.s_bytes),
             ("E2_BYTES", sizes.e2_bytes),
             ("TABLE", sizes.table),
+            ("ROW", sizes.row),
+            ("STATE", sizes.state),
         ];
         for (name, count) in counts {
             assert_eq!(of(name), count as u64, "{prefix}_{name}");

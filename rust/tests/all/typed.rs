@@ -285,6 +285,8 @@ fn largest_sizes() {
     assert_eq!(most(|s| s.key), Some(largest.key));
     assert_eq!(most(|s| s.s_bytes), Some(largest.s_bytes));
     assert_eq!(most(|s| s.e2_bytes), Some(largest.e2_bytes));
+    assert_eq!(most(|s| s.row), Some(largest.row));
+    assert_eq!(most(|s| s.state), Some(largest.state));
 }
 
 #[test]
@@ -300,6 +302,10 @@ fn texts() {
     assert_eq!(
         Refusal::NoRule.to_string(),
         "refusal 12: the rule is not 14 or 16"
+    );
+    assert_eq!(
+        Refusal::OutOfTurn.to_string(),
+        "refusal 11: no begin for this part or end, a part past its row, or rows missing"
     );
     assert_eq!(
         Refusal::Blank.to_string(),
