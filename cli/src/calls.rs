@@ -2,7 +2,7 @@
 //! elsewhere: each call on a list of inputs and a list of outputs, in the order
 //! in which the command names them.
 
-use crate::data::Data;
+use crate::data::{Data, Wiped};
 use wimmostry::{raw, Digest, Format, Refusal, Rule, Scheme, Stage};
 
 pub use wimmostry::raw::Bench;
@@ -127,6 +127,51 @@ pub fn reply(scheme: u32, given: &[&Data], out: &mut [Data]) -> Result<Answer, R
         key.bytes_mut(),
         digest.bytes_mut(),
     );
+    ended(done.map(|(m, k, d)| Answer::written(&[m, k, d])))
+}
+
+/// A state by rows, which is zeroed when it is dropped; empty but in Frodo.
+fn state(scheme: u32) -> Wiped<u32> {
+    Wiped::zeros(sizes(scheme).map_or(0, |sizes| sizes.state))
+}
+
+/// Numbers in a row.
+fn row(scheme: u32) -> usize {
+    sizes(scheme).map_or(0, |sizes| sizes.row)
+}
+
+pub fn rows_offer(scheme: u32, given: &[&Data], out: &mut [Data]) -> Result<Answer, Refused> {
+    let (mut state, a) = (state(scheme), given[0].rows());
+    let begun = raw::rows::offer_begin(
+        scheme,
+        given[1].values(),
+        given[2].values(),
+        given[3].bytes(),
+        &mut state,
+    );
+    let done = begun
+        .and_then(|()| a.each(row(scheme), |part| raw::rows::offer_part(part, &mut state)))
+        .and_then(|()| raw::rows::offer_end(&mut state, out[0].bytes_mut()));
+    ended(done.map(|n| Answer::written(&[n])))
+}
+
+pub fn rows_reply(scheme: u32, given: &[&Data], out: &mut [Data]) -> Result<Answer, Refused> {
+    let [message, key, digest] = several(out);
+    let (mut state, a) = (state(scheme), given[1].rows());
+    let begun = raw::rows::reply_begin(
+        scheme,
+        given[0].bytes(),
+        given[2].values(),
+        given[3].values(),
+        given[4].values(),
+        &mut state,
+    );
+    let done = begun
+        .and_then(|()| a.each(row(scheme), |part| raw::rows::reply_part(part, &mut state)))
+        .and_then(|()| {
+            let (m, k, d) = (message.bytes_mut(), key.bytes_mut(), digest.bytes_mut());
+            raw::rows::reply_end(&mut state, m, k, d)
+        });
     ended(done.map(|(m, k, d)| Answer::written(&[m, k, d])))
 }
 

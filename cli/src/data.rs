@@ -1,6 +1,7 @@
 //! What is in a file, as numbers, values, bytes or words, in memory that is zeroed
 //! when it is given back.
 
+use crate::rows::Rows;
 use std::ops::{Deref, DerefMut};
 use std::sync::atomic::{compiler_fence, Ordering};
 
@@ -68,13 +69,15 @@ pub enum Kind {
     Bytes,
     /// 64-bit words of a table: text, an entry a line.
     Words,
+    /// Public numbers that are read row by row.
+    Rows,
 }
 
 impl Kind {
     /// How many bytes an entry takes.
     pub fn entry(self) -> usize {
         match self {
-            Kind::Numbers | Kind::Values => 4,
+            Kind::Numbers | Kind::Values | Kind::Rows => 4,
             Kind::Bytes => 1,
             Kind::Words => 8,
         }
@@ -86,6 +89,8 @@ pub enum Data {
     Values(Wiped<i32>),
     Bytes(Wiped<u8>),
     Words(Wiped<u64>),
+    /// Not read yet.
+    Rows(Rows),
 }
 
 fn word(four: &[u8]) -> [u8; 4] {
@@ -99,6 +104,7 @@ impl Data {
             Kind::Values => Data::Values(Wiped::zeros(n)),
             Kind::Bytes => Data::Bytes(Wiped::zeros(n)),
             Kind::Words => Data::Words(Wiped::zeros(n)),
+            Kind::Rows => Data::Rows(Rows::nothing()),
         }
     }
 
@@ -110,6 +116,7 @@ impl Data {
             Kind::Values => Data::Values(Wiped::collect(words.map(i32::from_le_bytes))),
             Kind::Bytes => Data::Bytes(bytes),
             Kind::Words => unreachable!("a table is text"),
+            Kind::Rows => unreachable!("rows are not read whole"),
         }
     }
 
@@ -120,6 +127,7 @@ impl Data {
             Data::Values(x) => lay(&mut bytes, x.iter().map(|n| n.to_le_bytes())),
             Data::Bytes(x) => bytes.copy_from_slice(x),
             Data::Words(_) => unreachable!("no table is an output"),
+            Data::Rows(_) => unreachable!("no rows are an output"),
         }
         bytes
     }
@@ -130,6 +138,7 @@ impl Data {
             Data::Values(_) => Kind::Values,
             Data::Bytes(_) => Kind::Bytes,
             Data::Words(_) => Kind::Words,
+            Data::Rows(_) => Kind::Rows,
         }
     }
 
@@ -140,6 +149,7 @@ impl Data {
             Data::Values(x) => x.len(),
             Data::Bytes(x) => x.len(),
             Data::Words(x) => x.len(),
+            Data::Rows(_) => 0,
         }
     }
 
@@ -149,6 +159,7 @@ impl Data {
             Data::Values(x) => x.truncate(n),
             Data::Bytes(x) => x.truncate(n),
             Data::Words(x) => x.truncate(n),
+            Data::Rows(_) => {}
         }
     }
 
@@ -180,6 +191,13 @@ impl Data {
         match self {
             Data::Words(x) => x,
             _ => unreachable!("the table has words here"),
+        }
+    }
+
+    pub fn rows(&self) -> &Rows {
+        match self {
+            Data::Rows(x) => x,
+            _ => unreachable!("the table has rows here"),
         }
     }
 

@@ -4,6 +4,7 @@
 use crate::bcns;
 use crate::data::{Data, Kind, Wiped};
 use crate::escape::shown;
+use crate::rows::Rows;
 use crate::table::Input;
 use crate::tell::{self, reason, Fault};
 use crate::words::Place;
@@ -218,8 +219,10 @@ pub fn read(input: &Input, place: &Place) -> Result<Lent, Fault> {
         Place::Standard => standard(Way::In).map_err(wrong)?,
         Place::Nothing => return Ok(Lent::zeros(input.kind, 0)),
     };
-    if input.kind == Kind::Words {
-        return words(&mut file, name);
+    match input.kind {
+        Kind::Words => return words(&mut file, name),
+        Kind::Rows => return rows(file, name, place),
+        Kind::Numbers | Kind::Values | Kind::Bytes => {}
     }
     let entry = input.kind.entry();
     let mut bytes = Wiped::zeros(entry * (input.length.largest() + 1));
@@ -262,6 +265,26 @@ fn words(file: &mut File, name: &OsStr) -> Result<Lent, Fault> {
     })
 }
 
+/// Rows, which are read by the call.
+fn rows(file: File, name: &OsStr, place: &Place) -> Result<Lent, Fault> {
+    let bytes = match place.path() {
+        Some(_) => {
+            let found = file.metadata();
+            Some(
+                found
+                    .map_err(|error| tell::file(name, reason(&error)))?
+                    .len(),
+            )
+        }
+        None => None,
+    };
+    Ok(Lent {
+        data: Data::Rows(Rows::new(file, name, bytes)?),
+        beyond: None,
+        open: false,
+    })
+}
+
 /// A plain file, or a link to one, opened for reading. Its kind is looked at
 /// before, since opening alone can already do something to a device, and again
 /// behind the handle, should it have been changed in between.
@@ -278,7 +301,7 @@ fn open(path: &Path) -> Result<File, Fault> {
 }
 
 /// Reads until the room is full or the input ends; gives how many bytes.
-fn fill(file: &mut File, room: &mut [u8]) -> io::Result<usize> {
+pub fn fill(file: &mut File, room: &mut [u8]) -> io::Result<usize> {
     let mut n = 0;
     while n < room.len() {
         match file.read(&mut room[n..]) {

@@ -96,6 +96,7 @@ Status 1: refused; one line, as refusal=6 place=3 input=e value=7 largest=6
          18 a table does not ascend   7 the stream of expand or grow ran out
           8 no trace, or no settings 10 the session's stage does not allow it (session alone)
          15 settings in a newer format
+                                     11 A has too few or too many numbers (rows alone)
           A blank message is an input, as a dead card sends it, or the answer, where a secret and
           its noise are zero.
           place counts from 0. A length of 33.. is 33 or more. To - nothing is written.
@@ -191,6 +192,7 @@ fn entry(
         Kind::Values => "values",
         Kind::Bytes => "bytes",
         Kind::Words => "words of 64 bits",
+        Kind::Rows => "numbers, row after row",
     };
     let _ = writeln!(text, "  {word:<9}{way}: {what}");
     let line = format!("           {unit}: {}", lengths(own, length));

@@ -11,6 +11,7 @@ mod files;
 mod help;
 mod outputs;
 mod random;
+mod rows;
 mod run;
 mod session;
 mod settings;

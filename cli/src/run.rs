@@ -41,6 +41,9 @@ pub fn run(own: &OnFiles, mut session: Option<Kept>, given: &[OsString]) -> Done
         Some(session) => session.call(asked, &data, &mut out),
         None => (own.call)(asked, &data, &mut out),
     };
+    if let Some(fault) = data.iter().find_map(|data| unread(data)) {
+        return Err(fault);
+    }
     match done {
         Ok(answer) => {
             for (data, n) in out.iter_mut().zip(&answer.written) {
@@ -89,6 +92,14 @@ fn read(own: &OnFiles, sources: &[Place], session: Option<&mut Kept>) -> Result<
             status: tell::FILE,
             lines,
         }),
+    }
+}
+
+/// What a call that reads its rows itself could not read.
+fn unread(data: &Data) -> Option<Fault> {
+    match data {
+        Data::Rows(rows) => rows.fault(),
+        _ => None,
     }
 }
 

@@ -5,7 +5,7 @@ use crate::calls::{self, Call, SessionCall, Sizes, DIGEST, EXPAND_NUMBERS, EXPAN
 use crate::calls::{GROW_SEED, HASH_INPUT, SCHEMES};
 use crate::data::Kind;
 use crate::tell::{Done, Fault};
-use crate::{demo, draw, help, session, settings, trace, wipe, words};
+use crate::{demo, draw, help, rows, session, settings, trace, wipe, words};
 use std::ffi::{OsStr, OsString};
 
 /// How long an input or an output is, in entries.
@@ -122,6 +122,7 @@ impl By {
     /// The fixed numbers, where they go by a scheme and there is such a scheme.
     pub fn sizes(self, number: u32) -> Option<Sizes> {
         match self {
+            By::Scheme(first, last) if !(first..=last).contains(&number) => None,
             By::Scheme(..) => calls::sizes(number),
             By::Rule | By::Length | By::Nothing => None,
         }
@@ -164,8 +165,8 @@ pub enum Form {
 }
 
 pub struct Command {
-    /// One word, or of a hash two; of a session three, with FILE for any word in
-    /// the middle.
+    /// One word, or of a hash and by rows two; of a session three, with FILE for
+    /// any word in the middle.
     pub name: &'static str,
     /// One line for the overview.
     pub brief: &'static str,
@@ -240,6 +241,12 @@ const A: Input = Input {
     length: Length::By(|z| z.a),
     packed: None,
     what: "the public numbers a, below q, known to both ends",
+};
+
+const A_BY_ROWS: Input = Input {
+    kind: Kind::Rows,
+    what: "the public numbers of A, below q, n rows of n",
+    ..A
 };
 
 const fn values(word: &'static str, what: &'static str) -> Input {
@@ -338,6 +345,7 @@ const GROWN: Output = Output {
 // ---- the calls of the exchange, with a session and without
 
 const ALL_SCHEMES: By = By::Scheme(0, SCHEMES - 1);
+const FRODO: By = By::Scheme(2, SCHEMES - 1);
 
 const OFFERS: OnFiles = OnFiles {
     by: ALL_SCHEMES,
@@ -423,6 +431,46 @@ pub const COMMANDS: &[Command] = &[
                demo shows, it is a warning; a small one proves nothing. In NewHope both are 0. They\n\
                are made of S: keep them to this end.",
         example: "wimmostry finish 1 left/reply left/s left/key left/digest",
+    },
+    Command {
+        name: "rows offer",
+        brief: "offer in Frodo with A read row by row and never held",
+        form: Form::Files(OnFiles {
+            by: FRODO,
+            inputs: &[A_BY_ROWS, S, E, SEED],
+            outputs: &[output(
+                "MESSAGE",
+                Length::By(|z| z.opening),
+                "the opening message, for the replier",
+            )],
+            call: calls::rows_offer,
+        }),
+        more: rows::MORE,
+        example: "wimmostry rows offer 4 a left/s left/e left/seed left/opening",
+    },
+    Command {
+        name: "rows reply",
+        brief: "reply in Frodo with A read row by row and never held",
+        form: Form::Files(OnFiles {
+            by: FRODO,
+            inputs: &[OPENING, A_BY_ROWS, S1, E1, E2],
+            outputs: &[
+                Output {
+                    label: "message_written",
+                    ..output(
+                        "MESSAGE",
+                        Length::By(|z| z.reply),
+                        "the reply message, for the initiator",
+                    )
+                },
+                KEY,
+                DIGEST_OF_KEY,
+            ],
+            call: calls::rows_reply,
+        }),
+        more: rows::MORE,
+        example: "wimmostry rows reply 4 right/opening a right/s1 right/e1 right/e2 \\\n      \
+                  right/reply right/key right/digest",
     },
     Command {
         name: "session FILE offer",

@@ -6,6 +6,7 @@ use crate::calls::{rules, Answer, Bench, Refused, Sizes, Slack, EXPAND_NUMBERS};
 use crate::data::{Data, Kind};
 use crate::escape::shown;
 use crate::files::Lent;
+use crate::rows::Rows;
 use crate::table::{By, Input, Length, OnFiles};
 use std::ffi::OsStr;
 use std::io::{self, ErrorKind, Write};
@@ -106,6 +107,7 @@ pub fn refusal(own: &OnFiles, asked: u32, refused: Refused, given: &[Lent]) -> S
         2 => length(own, sizes.as_ref(), given),
         3 => room(own, sizes.as_ref()),
         18 => falls(own, place, given),
+        4 | 11 if rows(own, given).is_some() => by_rows(own, sizes.as_ref(), refused, given),
         4..=6 => entry(own, sizes.as_ref(), refused, given),
         7 => ran_out(own),
         17 => blank(own, sizes.as_ref(), given),
@@ -146,7 +148,9 @@ fn listed<T: ToString>(numbers: &[T]) -> String {
 /// The first input that has not its length.
 fn length(own: &OnFiles, sizes: Option<&Sizes>, given: &[Lent]) -> Option<String> {
     let mut pairs = own.inputs.iter().zip(given);
-    let (input, lent) = pairs.find(|(x, lent)| !x.length.fits(sizes, lent.data.len()))?;
+    let other = |x: &Input, lent: &Lent| !x.length.fits(sizes, lent.data.len());
+    // rows have no length before they have come
+    let (input, lent) = pairs.find(|(x, lent)| x.kind != Kind::Rows && other(x, lent))?;
     let wanted = match input.length {
         Length::AtMost(_) => "at-most",
         _ => "expected",
@@ -223,6 +227,30 @@ fn entry(own: &OnFiles, sizes: Option<&Sizes>, refused: Refused, given: &[Lent])
         return Some(format!("input={} value={value} {limit}", name(input.word)));
     }
     None
+}
+
+/// The input that came by rows.
+fn rows<'a>(own: &'a OnFiles, given: &'a [Lent]) -> Option<(&'a Input, &'a Rows)> {
+    let mut pairs = own.inputs.iter().zip(given);
+    pairs.find_map(|(input, lent)| match &lent.data {
+        Data::Rows(rows) => Some((input, rows)),
+        _ => None,
+    })
+}
+
+/// The row and the column at which they were refused, by 4 or by 11.
+fn by_rows(
+    own: &OnFiles,
+    sizes: Option<&Sizes>,
+    refused: Refused,
+    given: &[Lent],
+) -> Option<String> {
+    let (input, rows) = rows(own, given)?;
+    let detail = match refused.number {
+        4 => format!("{} below={}", rows.over(refused.place)?, sizes?.q),
+        _ => rows.ended(),
+    };
+    Some(format!("input={} {detail}", name(input.word)))
 }
 
 /// The first packed number that is q or more, in BCNS and NewHope, where alone

@@ -2,9 +2,10 @@
 //! it to the second program.
 
 use std::fs;
+use std::io::Write;
 use std::os::unix::fs::{symlink, PermissionsExt};
 use std::path::PathBuf;
-use std::process::{Command, Output};
+use std::process::{Command, Output, Stdio};
 
 /// An empty folder of its own for each test, in which the program is run.
 struct Room(PathBuf);
@@ -23,6 +24,20 @@ impl Room {
             .current_dir(&self.0)
             .output()
             .unwrap()
+    }
+
+    /// The same with this on standard input, of which not all may be taken.
+    fn fed(&self, words: &str, input: &[u8]) -> Output {
+        let mut child = Command::new(env!("CARGO_BIN_EXE_wimmostry"))
+            .args(words.split_whitespace())
+            .current_dir(&self.0)
+            .stdin(Stdio::piped())
+            .stdout(Stdio::piped())
+            .stderr(Stdio::piped())
+            .spawn()
+            .unwrap();
+        let _ = child.stdin.take().unwrap().write_all(input);
+        child.wait_with_output().unwrap()
     }
 
     /// What it said on standard output, where it ended with this status.
@@ -83,6 +98,66 @@ fn two_ends_hold_one_key() {
         .permissions()
         .mode();
     assert_eq!(mode & 0o777, 0o600);
+}
+
+/// Frodo by rows gives the bytes of the whole matrix; A that is damaged is refused
+/// at its row and column, and leaves zeros.
+#[test]
+fn by_rows_as_whole() {
+    let room = Room::new("rows");
+    let (n, all, last) = (352, 352 * 352, 351);
+    for what in ["a", "s", "e", "seed", "s1", "e1", "e2", "coins"] {
+        room.says(0, &format!("draw 2 {what} {what}"));
+    }
+    room.says(0, "offer 2 a s e seed opening");
+    let told = room.says(0, "rows offer 2 a s e seed by.opening");
+    assert_eq!(told, "written=3888\n");
+    assert_eq!(room.read("by.opening"), room.read("opening"));
+    let told = room.says(0, "reply 2 opening a s1 e1 e2 coins reply key digest");
+    let by_rows = room.says(
+        0,
+        "rows reply 2 opening a s1 e1 e2 by.reply by.key by.digest",
+    );
+    assert_eq!(by_rows, told);
+    for name in ["reply", "key", "digest"] {
+        assert_eq!(room.read(&format!("by.{name}")), room.read(name));
+    }
+
+    let a = room.read("a");
+    let fed = |input: &[u8]| room.fed("rows offer 2 - s e seed by.opening", input);
+    let short = &a[..4 * all - 4];
+    let ended = |row: usize, column: usize, length: &str| {
+        format!(
+            "refusal=11 place=0 input=a row={row} column={column} length={length} expected={all}\n"
+        )
+    };
+    for (given, line) in [
+        (
+            [short, &2048u32.to_le_bytes()].concat(),
+            "refusal=4 place=351 input=a row=351 column=351 value=2048 below=2048\n".to_string(),
+        ),
+        (short.to_vec(), ended(last, last, "123903")),
+        ([&a[..], &[0; 8]].concat(), ended(n, 0, "123905..")),
+        (vec![], ended(0, 0, "0")),
+    ] {
+        let done = fed(&given);
+        assert_eq!(done.status.code(), Some(1), "{done:?}");
+        assert_eq!(String::from_utf8(done.stdout).unwrap(), line);
+        assert_eq!(done.stderr, b"", "no progress but on a terminal");
+        assert_eq!(room.read("by.opening"), vec![0; 3888]);
+    }
+    assert_eq!(fed(&a).status.code(), Some(0));
+    assert_eq!(room.read("by.opening"), room.read("opening"));
+    // half a number is a file's fault, and no output is touched
+    let done = fed(&a[..4 * all - 2]);
+    let line = "wimmostry: standard input: 495614 bytes are no whole number of 32-bit numbers\n";
+    assert_eq!(done.status.code(), Some(3), "{done:?}");
+    assert_eq!(String::from_utf8(done.stderr).unwrap(), line);
+    assert_eq!(room.read("by.opening"), room.read("opening"));
+
+    let line = room.says(1, "rows offer 1 a s e seed by.opening");
+    assert_eq!(line, "refusal=1 place=0 scheme=1 expected=2..5\n");
+    assert_eq!(room.read("by.opening"), b"");
 }
 
 #[test]
