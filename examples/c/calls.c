@@ -208,6 +208,65 @@ static uint32_t settings_read(struct lent *l)
                              &l->rule_read);
 }
 
+/* The state that a call by rows starts from; whether there are rows at all. */
+static int ready(struct lent *l, const uint32_t *state)
+{
+    memcpy(l->state, state, sizeof l->state);
+    return l->scheme->state != 0;
+}
+
+static uint32_t rows_offer_begin(struct lent *l)
+{
+    const struct scheme *x = l->scheme;
+
+    if (!ready(l, l->offer_full))
+        return WIM_DONE;
+    return wim_rows_offer_begin(x->number, l->s, x->s, l->e, x->s, l->seed, x->seed, l->state,
+                                x->state, &l->place);
+}
+
+/* The first row. */
+static uint32_t rows_offer_part(struct lent *l)
+{
+    if (!ready(l, l->offer_begun))
+        return WIM_DONE;
+    return wim_rows_offer_part(l->a, l->scheme->row, l->state, l->scheme->state, &l->place);
+}
+
+static uint32_t rows_offer_end(struct lent *l)
+{
+    if (!ready(l, l->offer_full))
+        return WIM_DONE;
+    return wim_rows_offer_end(l->state, l->scheme->state, l->opening, sizeof l->opening, &l->place,
+                              &l->written);
+}
+
+static uint32_t rows_reply_begin(struct lent *l)
+{
+    const struct scheme *x = l->scheme;
+
+    if (!ready(l, l->reply_full))
+        return WIM_DONE;
+    return wim_rows_reply_begin(x->number, l->opening, x->opening, l->s1, x->s, l->e1, x->s, l->e2,
+                                x->e2, l->state, x->state, &l->place);
+}
+
+static uint32_t rows_reply_part(struct lent *l)
+{
+    if (!ready(l, l->reply_begun))
+        return WIM_DONE;
+    return wim_rows_reply_part(l->a, l->scheme->row, l->state, l->scheme->state, &l->place);
+}
+
+static uint32_t rows_reply_end(struct lent *l)
+{
+    if (!ready(l, l->reply_full))
+        return WIM_DONE;
+    return wim_rows_reply_end(l->state, l->scheme->state, l->reply, sizeof l->reply, l->key,
+                              sizeof l->key, l->digest, sizeof l->digest, &l->place, &l->written,
+                              &l->key_written, &l->digest_written);
+}
+
 const struct call calls[CALLS] = {
     {"wim_offer", offer}, {"wim_reply", reply},   {"wim_finish", finish},
     {"wim_noise", noise}, {"wim_expand", expand}, {"wim_grow", grow},
@@ -219,7 +278,43 @@ const struct call calls[CALLS] = {
     {"wim_rack_finish", rack_finish}, {"wim_rack_close", rack_close},
     {"wim_rack_clear", rack_clear},
     {"wim_settings_write", settings_write}, {"wim_settings_read", settings_read},
+    {"wim_rows_offer_begin", rows_offer_begin}, {"wim_rows_offer_part", rows_offer_part},
+    {"wim_rows_offer_end", rows_offer_end},     {"wim_rows_reply_begin", rows_reply_begin},
+    {"wim_rows_reply_part", rows_reply_part},   {"wim_rows_reply_end", rows_reply_end},
 };
+
+typedef uint32_t (*part_call)(const uint32_t *, size_t, uint32_t *, size_t, uint64_t *);
+
+/* All rows of A by one of the two calls, on the state that was begun; 0 or the refusal. */
+static uint32_t all_rows(struct lent *l, part_call part)
+{
+    const struct scheme *x = l->scheme;
+    uint32_t refusal = WIM_DONE;
+
+    for (size_t i = 0; i < x->row && refusal == WIM_DONE; i++)
+        refusal = part(l->a + i * x->row, x->row, l->state, x->state, &l->place);
+    return refusal;
+}
+
+/* An exchange by rows; its states are kept as they are after begin and after the last row. */
+static uint32_t draw_states(struct lent *l)
+{
+    uint32_t refusal = rows_offer_begin(l);
+
+    memcpy(l->offer_begun, l->state, sizeof l->state);
+    if (refusal == WIM_DONE)
+        refusal = all_rows(l, wim_rows_offer_part);
+    memcpy(l->offer_full, l->state, sizeof l->state);
+    if (refusal == WIM_DONE)
+        refusal = rows_offer_end(l);
+    if (refusal == WIM_DONE)
+        refusal = rows_reply_begin(l);
+    memcpy(l->reply_begun, l->state, sizeof l->state);
+    if (refusal == WIM_DONE)
+        refusal = all_rows(l, wim_rows_reply_part);
+    memcpy(l->reply_full, l->state, sizeof l->state);
+    return refusal;
+}
 
 uint32_t draw_all(struct lent *l, const struct scheme *x)
 {
@@ -244,5 +339,7 @@ uint32_t draw_all(struct lent *l, const struct scheme *x)
             l->factors[i][k] = (uint32_t)bytes[0] | (uint32_t)bytes[1] << 8 |
                                (uint32_t)bytes[2] << 16 | (uint32_t)(bytes[3] >> 1) << 24;
         }
+    if (refusal == WIM_DONE && x->state != 0)
+        refusal = draw_states(l);
     return refusal;
 }

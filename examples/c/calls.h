@@ -20,6 +20,10 @@ struct lent {
     uint8_t text[WIM_SETTINGS_TEXT], label[WIM_SETTINGS_LABEL];
     uint64_t place, written, key_written, digest_written, differ, slack, slack_index;
     uint64_t text_written, format, scheme_read, rule_read;
+    /* by rows: the state that a call is lent, and what it starts from: begun, and with all rows */
+    uint32_t state[WIM_MAX_STATE];
+    uint32_t offer_begun[WIM_MAX_STATE], offer_full[WIM_MAX_STATE];
+    uint32_t reply_begun[WIM_MAX_STATE], reply_full[WIM_MAX_STATE];
 };
 
 struct call {
@@ -27,16 +31,19 @@ struct call {
     uint32_t (*make)(struct lent *);
 };
 
-#define CALLS 21
+#define CALLS 27
 enum {
     OFFER, REPLY, FINISH, NOISE, EXPAND, GROW, SHAKE128, SHA3_256, PRODUCT, BENCH,
     SESSION_OFFER, SESSION_REPLY, SESSION_FINISH, SESSION_CLOSE,
     RACK_OFFER, RACK_REPLY, RACK_FINISH, RACK_CLOSE, RACK_CLEAR,
-    SETTINGS_WRITE, SETTINGS_READ
+    SETTINGS_WRITE, SETTINGS_READ,
+    ROWS_OFFER_BEGIN, ROWS_OFFER_PART, ROWS_OFFER_END,
+    ROWS_REPLY_BEGIN, ROWS_REPLY_PART, ROWS_REPLY_END
 };
 
-/* In this order, so that Reply finds an opening, Finish a reply and the last call a text. Those on
- * a session or a rack put it into the stage that they need. */
+/* In this order, so that Reply finds an opening, Finish a reply and the settings' reader a text.
+ * Those on a session or a rack put it into the stage that they need. Those by rows call nothing but
+ * in Frodo. */
 extern const struct call calls[CALLS];
 
 /* A session in a stage, of the scheme; keyed, with the replier's key. And a rack of such. */
@@ -46,7 +53,8 @@ void stand_all(struct lent *lent, uint8_t stage);
 /* The studio that the calls on the rack are for. */
 #define STUDIO 5
 
-/* Draws every input of a scheme, once the table was read. 0 or the refusal. */
+/* Draws every input of a scheme, once the table was read, and in Frodo makes an exchange by rows,
+ * for their states. 0 or the refusal. */
 uint32_t draw_all(struct lent *lent, const struct scheme *scheme);
 
 #endif

@@ -7,6 +7,7 @@
 
 #include <stdio.h>
 #include <stdlib.h>
+#include <string.h>
 
 static struct lent lent;
 static const struct scheme *x;
@@ -290,6 +291,69 @@ static void settings_read(int nulls)
     failures += zero != (refusal != WIM_DONE);
 }
 
+/* By rows: other schemes than Frodo's have none, and an empty state is no begun one. */
+static void rows_offer_begin(int nulls)
+{
+    const size_t lengths[] = {x->s, x->s, x->seed, x->state};
+    uint32_t refusal = wim_rows_offer_begin(
+        x->number, LEND(0, lent.s, x->s), LEND(1, lent.e, x->s), LEND(2, lent.seed, x->seed),
+        LEND(3, lent.state, x->state), &place);
+
+    written = 0;
+    held("wim_rows_offer_begin", nulls, refusal,
+         x->state == 0 ? WIM_NO_SCHEME : expected(nulls, lengths, 4, 0));
+}
+
+static void rows_reply_begin(int nulls)
+{
+    const size_t lengths[] = {x->opening, x->s, x->s, x->e2, x->state};
+    uint32_t refusal = wim_rows_reply_begin(
+        x->number, LEND(0, lent.opening, x->opening), LEND(1, lent.s1, x->s),
+        LEND(2, lent.e1, x->s), LEND(3, lent.e2, x->e2), LEND(4, lent.state, x->state), &place);
+
+    written = 0;
+    held("wim_rows_reply_begin", nulls, refusal,
+         x->state == 0 ? WIM_NO_SCHEME : expected(nulls, lengths, 5, 0));
+}
+
+/* An empty part is taken. */
+static void rows_part(int nulls)
+{
+    uint32_t none = nulls >> 1 || x->state == 0 ? WIM_OUT_OF_TURN : WIM_DONE;
+    uint32_t refusal;
+
+    written = 0;
+    memcpy(lent.state, lent.offer_begun, sizeof lent.state);
+    refusal = wim_rows_offer_part(LEND(0, lent.a, x->row), LEND(1, lent.state, x->state), &place);
+    held("wim_rows_offer_part", nulls, refusal, none);
+    memcpy(lent.state, lent.reply_begun, sizeof lent.state);
+    refusal = wim_rows_reply_part(LEND(0, lent.a, x->row), LEND(1, lent.state, x->state), &place);
+    held("wim_rows_reply_part", nulls, refusal, none);
+}
+
+static void rows_offer_end(int nulls)
+{
+    uint32_t none = nulls & 1 || x->state == 0 ? WIM_OUT_OF_TURN : nulls ? WIM_ROOM : WIM_DONE;
+    uint32_t refusal;
+
+    memcpy(lent.state, lent.offer_full, sizeof lent.state);
+    refusal = wim_rows_offer_end(LEND(0, lent.state, x->state), LEND(1, lent.opening, x->opening),
+                                 &place, &written);
+    held("wim_rows_offer_end", nulls, refusal, none);
+}
+
+static void rows_reply_end(int nulls)
+{
+    uint32_t none = nulls & 1 || x->state == 0 ? WIM_OUT_OF_TURN : nulls ? WIM_ROOM : WIM_DONE;
+    uint32_t refusal;
+
+    memcpy(lent.state, lent.reply_full, sizeof lent.state);
+    refusal = wim_rows_reply_end(LEND(0, lent.state, x->state), LEND(1, lent.reply, x->reply),
+                                 LEND(2, lent.key, x->key), LEND(3, lent.digest, WIM_DIGEST),
+                                 &place, &written, &key_written, &digest_written);
+    held("wim_rows_reply_end", nulls, refusal, none);
+}
+
 static int made;
 
 /* None empty, each of the slices in turn, and all of them. */
@@ -341,6 +405,12 @@ int main(void)
         each(settings_write, 2);
         settings_write(0);
         each(settings_read, 2);
+        each(rows_offer_begin, 4);
+        each(rows_offer_end, 2);
+        offer(0); /* that end was refused too, and so was it in other schemes */
+        each(rows_reply_begin, 5);
+        each(rows_part, 2);
+        each(rows_reply_end, 4);
     }
     printf("null pointers at length 0: %d calls, %d wrong\n", made, failures);
     return failures == 0 ? EXIT_SUCCESS : EXIT_FAILURE;

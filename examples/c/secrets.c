@@ -43,6 +43,24 @@ static void hide(size_t call)
     /* these lay it into the session, or into all of a rack */
     if (call == SESSION_CLOSE || call == RACK_CLOSE || call == RACK_CLEAR)
         HIDE(lent.key, x->key);
+    if (call == ROWS_OFFER_BEGIN) {
+        HIDE(lent.s, x->s);
+        HIDE(lent.e, x->s);
+    }
+    if (call == ROWS_REPLY_BEGIN) {
+        HIDE(lent.s1, x->s);
+        HIDE(lent.e1, x->s);
+        HIDE(lent.e2, x->e2);
+    }
+    /* secret and sums, and in Reply the values before them; the seed is public */
+    if (call == ROWS_OFFER_PART)
+        HIDE(lent.offer_begun + 67, 2 * x->s);
+    if (call == ROWS_OFFER_END)
+        HIDE(lent.offer_full + 67, 2 * x->s);
+    if (call == ROWS_REPLY_PART)
+        HIDE(lent.reply_begun + 3, 64 + 2 * x->s);
+    if (call == ROWS_REPLY_END)
+        HIDE(lent.reply_full + 3, 64 + 2 * x->s);
 }
 
 int main(void)
@@ -57,6 +75,8 @@ int main(void)
             unsigned before, after;
             /* a stream, a seed and their numbers are public, and so are settings */
             if (i == EXPAND || i == GROW || i == SETTINGS_WRITE || i == SETTINGS_READ)
+                continue;
+            if (i >= ROWS_OFFER_BEGIN && lent.scheme->state == 0)
                 continue;
             VALGRIND_PRINTF("call %s, %s\n", lent.scheme->name, calls[i].name);
             hide(i);

@@ -81,12 +81,12 @@ int main(void)
         }
     }
     for (size_t i = 0; i < CALLS; i++) {
-        printf("%-18s %6zu bytes of stack\n", calls[i].name, most[i]);
+        printf("%-20s %6zu bytes of stack\n", calls[i].name, most[i]);
         enough = enough && most[i] <= WIM_STACK;
     }
     make = scrub;
     scrubbed = depth(stack);
-    printf("%-18s %6zu bytes of stack\n", "wim_scrub", scrubbed);
+    printf("%-20s %6zu bytes of stack\n", "wim_scrub", scrubbed);
     enough = enough && scrubbed >= WIM_STACK && scrubbed <= WIM_SCRUB_STACK;
     free(stack);
     return enough ? EXIT_SUCCESS : EXIT_FAILURE;

@@ -6,7 +6,8 @@ import subprocess
 import threading
 import time
 
-from .common import INPUTS, OLD, OUTPUTS, SCHEMES, hold, mode, read, run, temporaries, words32, write
+from .common import (INPUTS, OLD, OUTPUTS, SCHEMES, hold, mode, read, run, temporaries, words32,
+                     write)
 
 GIVEN = {"offer": INPUTS["offer"], "reply": [w for w in INPUTS["reply"] if w != "COINS"]}
 
