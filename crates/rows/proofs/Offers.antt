@@ -4,10 +4,10 @@ use mathlib.Core.Path.{_≡_, refl, _∙_, sym, ap, ap₂, subst}
 use mathlib.Core.Logic.{_≢_}
 use mathlib.Core.Bool.{Bool, true, false}
 use mathlib.Core.List.{List, _++_}
-use Prim.Native.Nat.{ℕ, _+_, _*_, _<_}
+use Prim.Native.Nat.{ℕ, _+_, _*_}
 use native.Mathlib.Omega.{arith}
 use native.Mathlib.Nat.{le-trans}
-use lib.ListN.{length, getD, take, drop, replicate, length-replicate}
+use lib.ListN.{length, getD, take, drop, replicate}
 use lib.Seq.{take-at, drop-at}
 use Rattle.schemes.specs.Schemes.{familyOf, fixedOf, numberOf}
 use Rattle.schemes.specs.declared.Family.{Family}
@@ -31,7 +31,7 @@ use Rattle.ends.specs.Values.{offered}
 use Rattle.ends.proofs.Numbers.{Frodo, numbers-in}
 use Rattle.wire.specs.Wire.{opening}
 use Rattle.exchange.specs.Offer.{Offer, offerOf, offerLengths, offerIn, offerTests, offeredPart, openingOf, offerMessage}
-use Rattle.rows.specs.State.{long, named, taken, keptOf, secretOf, sumsOf, laid, _and_, allBelow, begun, complete}
+use Rattle.rows.specs.State.{long, named, taken, keptOf, secretOf, sumsOf, laid, allBelow, begun, complete}
 use Rattle.rows.specs.Offer.{OfferBegin, offerBeginTests, offerState, OfferBegun, sentPart, offerEndSizes, offerEndTests, offerEndMessage}
 use Rattle.rows.specs.Runs.{Parts}
 use Rattle.rows.specs.Shown.{OfferTry, SameOffer, EarlyOffer}

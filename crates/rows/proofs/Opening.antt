@@ -22,7 +22,6 @@ use Rattle.lists.specs.Entries.{Below}
 use Rattle.lists.proofs.Entries.{tab-length}
 use Rattle.matrix.specs.Steps.{columnsOf}
 use Rattle.front.specs.Front.{numberOf, placeOf, notBlank}
-use Rattle.front.specs.Promise.{put}
 use Rattle.front.specs.declared.Verdict.{Verdict}
 use Rattle.front.specs.declared.Verdict.the-variants.{Pass, Fail}
 use Rattle.front.specs.declared.Refusal.{Refusal}
@@ -112,7 +111,7 @@ end-unknown st n e = rw e
 pub end-refused : {st : List ℕ} {n : ℕ} {r : Refusal} {message : List ℕ} → offerEndTests (named st) st n ≡ Fail r → message ≡ replicate n 0
     → OfferEnded st (numberOf r) (placeOf r) n 0 message st
 end-refused {st} e o =
-    record { told = told-failed e; messages = wrote-failed e o; state = sym (ap (λ (u : Verdict). put u (replicate (length st) 0) st) e) }
+    record { told = told-failed e; messages = wrote-failed e o; state = rw e }
 
 pub end-named : {st message after : List ℕ} {number place m n count : ℕ} → m ≡ n → OfferEnded st number place m count message after
     → OfferEnded st number place n count message after

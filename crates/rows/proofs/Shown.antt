@@ -1,14 +1,13 @@
 -- What is shown of parts and states: one result each, joining, empty and refused parts.
 --   one-part, one-offer-begin, one-offer-end, one-reply-begin, one-reply-end, frodos-are, allowed, joining, empty-part, again   what is shown
-use mathlib.Core.Path.{_≡_, refl, _∙_, sym, ap, ap₂, subst}
+use mathlib.Core.Path.{_≡_, refl, _∙_, sym, ap, subst}
 use mathlib.Core.Bool.{true}
-use mathlib.Core.List.{List, [], _++_, append-assoc}
+use mathlib.Core.List.{List, [], _++_}
 use Prim.Native.Nat.{ℕ, zero, suc, _+_, _*_, _%_, _≤_, _<_}
 use native.Mathlib.Omega.{arith}
 use native.Mathlib.Nat.{mod-lt, mod-eq-of-lt, mod-add-mod}
 use lib.ListN.{length, getD, length-append}
-use Rattle.schemes.specs.Schemes.{by, familyOf, fixedOf, schemeOf}
-use Rattle.schemes.specs.declared.Family.{Family}
+use Rattle.schemes.specs.Schemes.{fixedOf, schemeOf}
 use Rattle.schemes.specs.declared.Named.{Named}
 use Rattle.schemes.specs.declared.Named.the-variants.{Is, Unknown}
 use Rattle.schemes.specs.declared.Scheme.{Scheme}

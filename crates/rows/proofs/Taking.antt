@@ -32,7 +32,7 @@ use Rattle.front.specs.Promise.{put}
 use Rattle.front.specs.declared.Verdict.{Verdict}
 use Rattle.front.specs.declared.Verdict.the-variants.{Pass, Fail}
 use Rattle.front.proofs.Laws.{publics-passed}
-use Rattle.rows.specs.State.{long, taken, keptOf, secretOf, sumsOf, terms, laid, stepped}
+use Rattle.rows.specs.State.{long, taken, keptOf, secretOf, sumsOf, terms, stepped}
 use Rattle.rows.specs.Inside.{summed, Sized}
 use Rattle.rows.specs.declared.Call.{Call}
 use Rattle.rows.proofs.Laying.{three, sums-long}

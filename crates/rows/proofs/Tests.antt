@@ -6,7 +6,7 @@
 --   completes, complete-so   all of A has come, likewise
 --   Frodos, frodos, frodo-named   what Frodo's schemes have in common; a state names none but these
 --   square                   n n is small
-use mathlib.Core.Path.{_≡_, refl, _∙_, sym, ap}
+use mathlib.Core.Path.{_≡_, refl, sym, ap}
 use mathlib.Core.Bool.{Bool, true, false, cond}
 use mathlib.Core.List.{List}
 use Prim.Native.Nat.{ℕ, _+_, _*_, _%_, _<_, _≤_}
@@ -26,7 +26,7 @@ use Rattle.lists.specs.Entries.{Below}
 use Rattle.lists.specs.First.{firstOver}
 use Rattle.lists.proofs.First.{none-found}
 use Rattle.lists.proofs.First as first
-use Rattle.ends.proofs.Numbers.{numbers-in, Frodo}
+use Rattle.ends.proofs.Numbers.{Frodo}
 use Rattle.rows.specs.State.{frodoIn, frodoOf, numberOf, long, taken, keptOf, _and_, allBelow, keptIn, begun, fitsIn, complete}
 use Rattle.rows.specs.declared.Call.{Call}
 

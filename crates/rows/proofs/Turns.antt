@@ -1,7 +1,7 @@
 -- A part by its turn and its numbers, of the fixed numbers f that the code has.
 --   turn-begins, turn-fails, turn-goes   its turn passed, and what that says; failed; and what follows decides
 --   part-unknown, part-known   its promise, by the scheme that the state names
-use mathlib.Core.Path.{_≡_, refl, _∙_, sym, ap}
+use mathlib.Core.Path.{_≡_, _∙_, sym, ap}
 use mathlib.Core.Bool.{Bool, true}
 use mathlib.Core.List.{List}
 use Prim.Native.Nat.{ℕ}

@@ -10,7 +10,7 @@
 --   OfferBegins, OfferEnds    the same of a call: the slices that it is lent, and its verdict or answer
 use mathlib.Core.Path.{_≡_}
 use mathlib.Core.List.{List, [], _++_}
-use Prim.Native.Nat.{ℕ, _*_}
+use Prim.Native.Nat.{ℕ}
 use lib.IntN.{ℤ}
 use lib.ListN.{length, take, replicate}
 use Rattle.schemes.specs.Schemes.{fixedOf, numberOf}

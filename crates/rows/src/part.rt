@@ -8,7 +8,7 @@ ghost use Rattle.schemes.specs.declared.Family.{Family};
 ghost use Rattle.lists.specs.Lent.{was, left};
 ghost use Rattle.front.specs.Front.{publicsIn};
 ghost use Rattle.front.specs.Promise.{put};
-ghost use Rattle.rows.specs.State.{taken, _and_, begun, fitsIn, stepped};
+ghost use Rattle.rows.specs.State.{taken, fitsIn, stepped};
 ghost use Rattle.rows.specs.Part.{partIn, Takes};
 ghost use Rattle.rows.specs.Inside.{summed, Sized};
 use crate::Call;

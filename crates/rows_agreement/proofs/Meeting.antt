@@ -2,7 +2,7 @@
 --   whole-offer, whole-reply   where an end is not refused, the parts have filled the rows, and it promises what the whole call promises
 --   exchange      the exchange
 --   by-rows, reached   what is shown
-use mathlib.Core.Path.{_≡_, refl, _∙_, sym, ap, subst}
+use mathlib.Core.Path.{_≡_}
 use mathlib.Core.Logic.{_⊎_, inl, inr}
 use mathlib.Core.List.{List, []}
 use Prim.Native.Nat.{ℕ}

@@ -1,5 +1,5 @@
 -- `rows::offer_begin` meets its contract: the state is zeroed first, and then holds what the scheme by its number gives.
-use mathlib.Core.Path.{_≡_, _∙_, sym}
+use mathlib.Core.Path.{_∙_, sym}
 use borrow.Author.Needs.{needs}
 use lib.ListN.{length}
 use Rattle.lists.proofs.Same.{zeros, zeros-long}

@@ -1,5 +1,5 @@
 -- `rows::offer_end` meets its contract: the output is zeroed first, and then holds what the scheme that the state names gives.
-use mathlib.Core.Path.{_≡_, _∙_, sym}
+use mathlib.Core.Path.{_∙_, sym}
 use lib.ListN.{length}
 use Rattle.lists.proofs.Same.{zeros, zeros-long}
 use Rattle.rows.proofs.Opening.{end-unknown, end-refused, end-named}

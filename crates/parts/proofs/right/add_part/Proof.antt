@@ -1,9 +1,8 @@
 -- `parts::right::add_part` meets its contract: after t numbers each sum has gained t products, and the largest so far is known.
-use mathlib.Core.Path.{_≡_, refl, _∙_, sym, ap}
+use mathlib.Core.Path.{_≡_, _∙_, sym, ap}
 use mathlib.Core.Logic.{⊎-elim}
-use Prim.Native.Nat.{ℕ, _+_, _-_, _≤_}
+use Prim.Native.Nat.{ℕ, _-_}
 use native.Mathlib.Omega.{arith}
-use borrow.Author.Needs.{needs}
 use lib.ListN.{length}
 use Rattle.lists.specs.Top.{largest}
 use Rattle.lists.proofs.First.{Most, most-none, most-more, most-all}

@@ -1,6 +1,5 @@
 -- `parts::right::row_sums` meets its contract.
 use mathlib.Core.Path.{_∙_, ap}
-use mathlib.Core.List.{List}
 use borrow.Author.Needs.{needs}
 use lib.ListN.{length}
 use Rattle.matrix.specs.Steps.{gained}

@@ -1,11 +1,10 @@
 -- `rows::opener::begin_in` meets its contract: by the verdict of its tests.
 use mathlib.Core.Path.{_≡_, _∙_, sym, ap}
-use mathlib.Core.List.{List, _++_}
+use mathlib.Core.List.{_++_}
 use Prim.Native.Nat.{ℕ}
-use native.Mathlib.Omega.{arith}
 use borrow.Author.Needs.{needs}
 use lib.ListN.{length, replicate}
-use Rattle.schemes.specs.Schemes.{fixedOf, numberOf}
+use Rattle.schemes.specs.Schemes.{numberOf}
 use Rattle.schemes.specs.declared.Fixed.{Fixed}
 use Rattle.schemes.specs.declared.Named.the-variants.{Is}
 use Rattle.ends.proofs.Numbers.{numbers-in}
@@ -14,7 +13,7 @@ use Rattle.matrix.specs.Steps.{wordsOf, columnsOf}
 use Rattle.rows.specs.State.{laid}
 use Rattle.rows.specs.Offer.{offerBeginOf, offerBeginTests, offerState}
 use Rattle.rows.proofs.Tests.{frodos}
-use Rattle.rows.proofs.Opening.{OfferSized, begin-sized, begin-failed, begin-done}
+use Rattle.rows.proofs.Opening.{begin-sized, begin-failed, begin-done}
 use Rattle.rows.proofs.opener.begin_in.Statement.{statement}
 use Rattle.rows.proofs.opener.begin_in.Tie as tie
 

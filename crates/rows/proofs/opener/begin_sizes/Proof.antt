@@ -1,5 +1,5 @@
 -- `rows::opener::begin_sizes` meets its contract: one test after the other.
-use mathlib.Core.Path.{_≡_, refl, ap}
+use mathlib.Core.Path.{refl, ap}
 use native.Mathlib.Omega.{arith}
 use borrow.Author.Needs.{needs}
 use Rattle.schemes.specs.declared.Fixed.{Fixed}

@@ -1,5 +1,5 @@
 -- `rows::opener::end_tests` meets its contract: its turn, then the room.
-use mathlib.Core.Path.{_≡_, refl, _∙_, ap}
+use mathlib.Core.Path.{refl, _∙_, ap}
 use borrow.Author.Needs.{needs}
 use Rattle.front.specs.Front.{inTurn}
 use Rattle.front.proofs.Laws.{also}

@@ -4,17 +4,15 @@ use mathlib.Core.List.{List}
 use Prim.Native.Nat.{ℕ, _+_, _*_, _≤_}
 use native.Mathlib.Omega.{arith}
 use borrow.Author.Needs.{needs}
-use lib.ListN.{length, take, drop}
+use lib.ListN.{length, drop}
 use Rattle.schemes.specs.Schemes.{fixedOf}
 use Rattle.schemes.specs.declared.Fixed.{Fixed}
-use Rattle.lists.proofs.Parts.{to-end, slice-long}
+use Rattle.lists.proofs.Parts.{to-end}
 use Rattle.packing.specs.Packing.{packed}
-use Rattle.matrix.specs.Steps.{reduced}
 use Rattle.ends.proofs.Numbers.{numbers-in}
 use Rattle.front.specs.Front.{notBlank}
 use Rattle.wire.specs.Wire.{opening}
-use Rattle.rows.specs.State.{sumsOf}
-use Rattle.rows.specs.Offer.{sentNumbers, sentPart, offerEndMessage}
+use Rattle.rows.specs.Offer.{sentPart, offerEndMessage}
 use Rattle.rows.proofs.Tests.{frodos}
 use Rattle.rows.proofs.Laying.{sums-long, take-less}
 use Rattle.rows.proofs.Sending.{sent-counted, sent-is, sent-blank}

@@ -1,5 +1,5 @@
 -- `rows::opener::lay_opening` meets its contract: the seed as bytes, then the opening.
-use mathlib.Core.Path.{_≡_, refl, _∙_, sym, ap}
+use mathlib.Core.Path.{_∙_, sym, ap}
 use mathlib.Core.List.{List}
 use Prim.Native.Nat.{ℕ}
 use borrow.Author.Needs.{needs}

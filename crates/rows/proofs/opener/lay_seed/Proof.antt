@@ -1,5 +1,5 @@
 -- `rows::opener::lay_seed` meets its contract: zeros, of which 16 are written.
-use mathlib.Core.Path.{_≡_, _∙_, sym, ap₂}
+use mathlib.Core.Path.{_∙_, sym, ap₂}
 use mathlib.Core.List.{List, _++_}
 use Prim.Native.Nat.{ℕ}
 use native.Mathlib.Omega.{arith}

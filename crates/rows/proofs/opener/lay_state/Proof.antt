@@ -1,11 +1,10 @@
 -- `rows::opener::lay_state` meets its contract: two numbers, the seed, then the words.
-use mathlib.Core.Path.{_≡_, _∙_, sym, ap}
-use mathlib.Core.List.{List, _++_}
-use Prim.Native.Nat.{ℕ, _+_, _*_}
+use mathlib.Core.Path.{_∙_, sym, ap}
+use mathlib.Core.List.{_++_}
+use Prim.Native.Nat.{_+_}
 use native.Mathlib.Omega.{arith}
 use borrow.Author.Needs.{needs}
-use lib.ListN.{length, take, drop, replicate, set, length-set, length-append}
-use Rattle.lists.proofs.Parts.{slice-long}
+use lib.ListN.{length, replicate, length-set}
 use Rattle.matrix.specs.Steps.{wordsOf, columnsOf}
 use Rattle.matrix.proofs.Steps.{words-length}
 use Rattle.rows.proofs.Opening.{columns-long}

@@ -1,6 +1,6 @@
 -- `rows::opener::lay_words` meets its contract: one behind the other.
-use mathlib.Core.Path.{_≡_, refl, _∙_, sym}
-use Prim.Native.Nat.{ℕ, _*_}
+use mathlib.Core.Path.{sym}
+use Prim.Native.Nat.{_*_}
 use native.Mathlib.Omega.{arith}
 use borrow.Author.Needs.{needs}
 use Rattle.lists.proofs.Parts.{front-long, joined}

@@ -1,15 +1,14 @@
 -- `rows::opener::send` meets its contract: what output and state hold, by the verdict on the part about to be sent.
-use mathlib.Core.Path.{_≡_, refl, sym, ap, _∙_}
+use mathlib.Core.Path.{_≡_, sym, ap, _∙_}
 use mathlib.Core.List.{List, _++_}
 use Prim.Native.Nat.{ℕ, _≤_}
 use native.Mathlib.Omega.{arith}
-use lib.ListN.{length, take, drop, replicate}
+use lib.ListN.{length, take, drop}
 use Rattle.schemes.specs.Schemes.{fixedOf}
 use Rattle.schemes.specs.declared.Fixed.{Fixed}
 use Rattle.schemes.specs.declared.Named.{Named}
 use Rattle.lists.proofs.Parts.{front-long}
 use Rattle.front.specs.Promise.{put}
-use Rattle.front.specs.declared.Verdict.{Verdict}
 use Rattle.front.proofs.Promise.{told-passed, wrote-passed, told-failed, wrote-kept}
 use Rattle.rows.specs.Offer.{offerEndMessage}
 use Rattle.rows.proofs.Opening.{end-sized, end-decides, message-long}
@@ -60,7 +59,7 @@ returns c =
           wrote-kept e (f .fixed .result .opening) (b .args .message .now) w
           (p .write .ensures .1 ∙ ap (λ (x : Named). put (p .write .result) (offerEndMessage x st) (take (f .fixed .result .opening) (b .args .message .now))) (sym (b .pre .1 .0)))
           (b .pre .1 .1);
-      state = sym (ap (λ (u : Verdict). put u (replicate (length st) 0) st) e);
+      state = rw e;
     }
 
 returns-2 : tie.Need-returns-2
@@ -81,7 +80,7 @@ returns-2 c =
       messages =
           wrote-passed e (b .args .message .now) n (b .pre .1 .1)
           (ap (λ (xs : List ℕ). xs ++ drop (f .fixed .result .opening) (b .args .message .now)) (m ∙ sym named));
-      state = z .zero-numbers .ensures ∙ sym (ap (λ (u : Verdict). put u (replicate (length st) 0) st) e);
+      state = rw e (z .zero-numbers .ensures);
     }
 
 pub send-spec : {M : Type 1} → statement M

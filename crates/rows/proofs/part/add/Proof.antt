@@ -1,6 +1,6 @@
 -- `rows::part::add` meets its contract: by the call.
-use mathlib.Core.Path.{_≡_, _∙_, sym, ap}
-use Prim.Native.Nat.{ℕ, _+_, _*_}
+use mathlib.Core.Path.{_∙_, sym, ap}
+use Prim.Native.Nat.{_+_, _*_}
 use borrow.Author.Needs.{needs}
 use Rattle.front.specs.Promise.{put}
 use Rattle.rows.specs.Inside.{summed}

@@ -1,14 +1,12 @@
 -- `rows::part::add_at` meets its contract: by row and column.
-use mathlib.Core.Path.{_≡_, _∙_, sym, ap}
+use mathlib.Core.Path.{_∙_, sym, ap}
 use mathlib.Core.List.{List}
-use Prim.Native.Nat.{ℕ, _/_, _%_, _<_}
+use Prim.Native.Nat.{ℕ}
 use native.Mathlib.Omega.{arith}
 use native.Mathlib.Nat.{div-lt-iff-lt-mul}
 use borrow.Author.Needs.{needs}
 use lib.ListN.{length}
 use Rattle.lists.specs.Entries.{Below}
-use Rattle.lists.proofs.Same.{empty}
-use Rattle.front.specs.Front.{publicsIn}
 use Rattle.front.specs.Promise.{put}
 use Rattle.rows.proofs.Tests.{fits}
 use Rattle.rows.proofs.Taking.{put-nothing, summed-at, none-passes}

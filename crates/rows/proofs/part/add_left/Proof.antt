@@ -1,5 +1,5 @@
 -- `rows::part::add_left` meets its contract: its numbers, then the sums.
-use mathlib.Core.Path.{_≡_, refl, _∙_, sym}
+use mathlib.Core.Path.{refl, _∙_, sym}
 use borrow.Author.Needs.{needs}
 use Rattle.front.proofs.Laws.{first}
 use Rattle.rows.proofs.part.add_left.Statement.{statement}

@@ -1,10 +1,9 @@
 -- `rows::part::lay_left` meets its contract: the column, then the rows of sums.
-use mathlib.Core.Path.{_≡_, refl, _∙_, ap}
-use Prim.Native.Nat.{ℕ, _+_, _*_}
+use mathlib.Core.Path.{refl, _∙_, ap}
+use Prim.Native.Nat.{_+_, _*_}
 use native.Mathlib.Omega.{arith}
 use borrow.Author.Needs.{needs}
 use lib.ListN.{length}
-use Rattle.lists.specs.Entries.{Below, tab}
 use Rattle.lists.proofs.Entries.{tab-length}
 use Rattle.lists.proofs.Parts.{slice-long, to-end}
 use Rattle.parts.specs.Parts.{columnOf}

@@ -1,5 +1,5 @@
 -- `rows::part::part` meets its contract: by the scheme that the state names.
-use mathlib.Core.Path.{_≡_, _∙_, sym}
+use mathlib.Core.Path.{_∙_, sym}
 use borrow.Author.Needs.{needs}
 use lib.ListN.{getD}
 use Rattle.rows.proofs.Tests.{frodo-named}

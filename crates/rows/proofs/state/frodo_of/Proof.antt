@@ -4,7 +4,6 @@ use Prim.Native.Nat.{ℕ}
 use borrow.Author.Needs.{needs}
 use Rattle.schemes.specs.Schemes.{by, familyOf, schemeOf}
 use Rattle.schemes.specs.declared.Family.{Family}
-use Rattle.schemes.specs.declared.Named.{Named}
 use Rattle.schemes.specs.declared.Named.the-variants.{Is, Unknown}
 use Rattle.schemes.specs.declared.Scheme.{Scheme}
 use Rattle.rows.specs.State.{frodoIn, frodoOf}

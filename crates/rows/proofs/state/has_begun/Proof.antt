@@ -1,9 +1,8 @@
 -- `rows::state::has_begun` meets its contract: one test after the other.
-use mathlib.Core.Path.{_≡_, _∙_, sym, ap}
+use mathlib.Core.Path.{_∙_, sym}
 use native.Mathlib.Omega.{arith}
 use borrow.Author.Needs.{needs}
 use borrow.Author.Tests.{eq-eqb, ne-eqb, le-leb, lt-leb}
-use lib.ListN.{length}
 use Rattle.lists.proofs.Parts.{slice-long}
 use Rattle.rows.specs.State.{begun}
 use Rattle.rows.proofs.Tests.{stops, goes, square}

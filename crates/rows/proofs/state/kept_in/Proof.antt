@@ -1,7 +1,5 @@
 -- `rows::state::kept_in` meets its contract: by the call.
-use mathlib.Core.Path.{_≡_, _∙_, sym, ap}
-use mathlib.Core.List.{List}
-use Prim.Native.Nat.{ℕ}
+use mathlib.Core.Path.{_∙_, sym, ap}
 use borrow.Author.Needs.{needs}
 use Rattle.rows.specs.State.{keptIn}
 use Rattle.rows.specs.declared.Call.{Call}
