@@ -187,7 +187,7 @@ end-refused {st} e o p q =
       messages = wrote-failed e o;
       keys = wrote-failed e p;
       digests = wrote-failed e q;
-      state = sym (ap (λ (u : Verdict). put u (replicate (length st) 0) st) e);
+      state = rw e;
     }
 
 -- ---- what is laid

@@ -116,7 +116,7 @@ returns c =
       messages = wrote-kept e (f .fixed .result .reply) (b .args .message .now) w (p .write .ensures .1 .0 ∙ sym (message-is p)) (b .pre .1 .1 .0 .0);
       keys = wrote-kept e (f .fixed .result .key) (b .args .key .now) w (p .write .ensures .1 .1 ∙ sym (key-is p)) (b .pre .1 .1 .0 .1);
       digests = wrote-failed e (b .pre .1 .1 .1);
-      state = sym (ap (λ (u : Verdict). put u (replicate (length (b .args .state .now)) 0) (b .args .state .now)) e);
+      state = rw e;
     }
 
 slice-reshare-prefix-close : tie.Need-slice-reshare-prefix-close
@@ -154,7 +154,7 @@ returns-2 c =
       digests =
           wrote-passed e (b .args .digest .now) (sha3-length _) (b .pre .1 .1 .1)
           (digest-laid _ _ (b .args .digest .now) _ k (whole-key p) (d .close .ensures .0));
-      state = d .close .ensures .1 ∙ sym (ap (λ (u : Verdict). put u (replicate (length (b .args .state .now)) 0) (b .args .state .now)) e);
+      state = rw e (d .close .ensures .1);
     }
 
 pub send-spec : {M : Type 1} → statement M
