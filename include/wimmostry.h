@@ -61,10 +61,10 @@
  *     WIM_MISFIT         8   the text is no settings, or a byte of the label is not allowed
  *
  * 16 is that of the calls on a rack alone, 10 that of these and of those on a session, and 11 that
- * of the calls by rows, where 1 is for a scheme that is not one of Frodo's, 2 to 5, and 2 also for a
- * state. 5 never arises in Frodo, 6 is for values above the largest noise or below its negative, 7
- * and 12 are those of wim_expand and wim_grow alone (12 also of wim_settings_write), and 18 is that
- * of wim_noise in BCNS alone; 15 and 8 are those of the settings; no seed is known for which
+ * of the calls by rows, where 1 is for a scheme that is not one of Frodo's, 2 to 5, and 2 also for
+ * a state. 5 never arises in Frodo, 6 is for values above the largest noise or below its negative,
+ * 7 and 12 are those of wim_expand and wim_grow alone (12 of wim_settings_write too), and 18 is
+ * that of wim_noise in BCNS alone; 15 and 8 are those of the settings; no seed is known for which
  * wim_grow gives 7. 17 is for a message without content, as a dead card sends it: seed and hints
  * don't count. It is given for a message received, and for one about to be sent, which is zero
  * where secret and noise are; a zero secret with some noise passes.
@@ -265,17 +265,19 @@
  * STACK
  *
  * What a call takes below its caller's frame at most, over all schemes, in KiB rounded up, on
- * x86-64; on Arm no more, as far as it was measured there (wim_grow, the hashes, the calls on a
- * session or a rack and the settings were not):
+ * x86-64; on Arm no more, as far as it was measured there (wim_grow, the hashes, the calls by rows,
+ * on a session or a rack and the settings were not):
  *
  *     wim_offer 54      wim_reply 90       wim_finish 80
  *     wim_noise 2       wim_expand 2       wim_grow 6
  *     wim_shake128 2    wim_sha3_256 2     wim_product 1
  *     wim_bench 124     wim_settings_read 1                  wim_settings_write 1
- *     wim_session_offer 54    wim_session_reply 91    wim_session_finish 81
+ *     wim_session_offer 54       wim_session_reply 91      wim_session_finish 81
  *     wim_session_close 1
- *     wim_rack_offer 54       wim_rack_reply 91       wim_rack_finish 81
- *     wim_rack_close 1        wim_rack_clear 1
+ *     wim_rack_offer 54          wim_rack_reply 91         wim_rack_finish 81
+ *     wim_rack_close 1           wim_rack_clear 1
+ *     wim_rows_offer_begin 1     wim_rows_offer_part 1     wim_rows_offer_end 28
+ *     wim_rows_reply_begin 66    wim_rows_reply_part 1     wim_rows_reply_end 30
  *
  * Measured by filling a thread's stack with a pattern and looking, after an accepted call in each
  * scheme, how deep the pattern is gone (examples/c/stack.c, which examples/c/run runs). All local
@@ -295,14 +297,16 @@
  * Measured and not proved: on accepted input no address depends on a secret, and the branches that
  * do are the verdicts of the range tests (refusal 6), one an input: 2 in wim_offer, 3 in wim_reply,
  * 1 in wim_finish, none in wim_noise and the two hashes; in wim_product those of the range tests of
- * its factors (refusal 4), should they be secret. wim_offer and wim_reply have two more, on
- * the first number that is sent (refusal 17), which the peer sees anyway. wim_bench has those of
- * its parts, and branches on the numbers of the messages and, but in BCNS, on the keys, which it
+ * its factors (refusal 4), should they be secret. wim_offer and wim_reply have two more, on the
+ * first number that is sent (refusal 17), which the peer sees anyway. wim_bench has those of its
+ * parts, and branches on the numbers of the messages and, but in BCNS, on the keys, which it
  * compares. The calls on a session or a rack branch as those without one, and close and clear on
- * nothing. A refused secret is searched value by value for its place. Nothing is divided but 2^32 -
- * 1 by q. So it is in the archive for x86-64, by valgrind with the secrets marked as undefined, in
- * all schemes (runs/secrets); another compiler may do otherwise, and what the processor makes of it
- * is not measured.
+ * nothing. By rows begin has those of its secrets, 2 and 3, and end those of what is sent; each
+ * part and end of Reply has one more, the verdict on the values in its state, and a part of Offer
+ * none. A refused secret is searched value by value for its place. Nothing is divided but 2^32 - 1
+ * by q, and by rows how many numbers have come by n. So it is in the archive for x86-64, by
+ * valgrind with the secrets marked as undefined, in all schemes (runs/secrets); another compiler
+ * may do otherwise, and what the processor makes of it is not measured.
  */
 #ifndef WIMMOSTRY_H
 #define WIMMOSTRY_H

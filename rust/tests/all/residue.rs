@@ -106,6 +106,11 @@ fn none_is_left() {
     let after = left();
     assert!(done.is_ok() && !stands(&after, &i.s1), "reply");
 
+    let mut state = vec![0; second::rows::state_count(fixed)];
+    let done = raw::rows::reply_begin(number, &opening, &i.s1, &i.e1, &i.e2, &mut state);
+    let after = left();
+    assert!(done.is_ok() && !stands(&after, &i.s1), "reply by rows");
+
     let done = raw::finish(number, &reply, &i.s, &mut key, &mut digest);
     let after = left();
     assert!(done.is_ok() && !stands(&after, &columns), "finish");
