@@ -64,7 +64,7 @@ fn narrow(xs: &[u32], out: &mut [u16])
 }
 
 // The remainder without a division, so that it runs many numbers at a time. Where m is (2^32 - 1) / q, u m / 2^32 is the quotient or one less.
-fn remainder(u: u32, q: u32, m: u32) -> u32
+pub fn remainder(u: u32, q: u32, m: u32) -> u32
     requires { ⌜ (0 < q) × (m ≡ 4294967295 / q) ⌝ }
     ensures { λ r. ⌜ r ≡ u % q ⌝ }
 {

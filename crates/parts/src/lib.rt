@@ -48,14 +48,15 @@ pub fn copy(src: &[u32], out: &mut [u32])
     }
 }
 
-// The remainders of the sums in 0 .. q - 1.
+// The remainders of the sums in 0 .. q - 1, without a division, since they are secret.
 pub fn reduce(q: u32, sums: &[u32], out: &mut [u32])
     requires { ⌜ (0 < q) × (length (now out) ≡ length (now sums)) ⌝ }
     ensures { λ _. ⌜ left out ≡ reduced q (was sums) ⌝ }
 {
+    let m = 4294967295 / q;
     let mut k: usize = 0;
     while k < out.len() {
-        out[k] = sums[k] % q;
+        out[k] = matrix::remainder(sums[k], q, m);
         k += 1;
     }
 }

@@ -3,7 +3,7 @@ use mathlib.Core.Path.{refl, _∙_, ap}
 use mathlib.Core.List.{List}
 use Prim.Native.Nat.{ℕ, _-_, _%_}
 use native.Mathlib.Omega.{arith}
-use lib.ListN.{length, getD, length-set}
+use lib.ListN.{length, length-set, getD}
 use Rattle.lists.specs.Entries.{tab}
 use Rattle.lists.proofs.Fill.{Filled, fill-start, fill-next, fill-end}
 use Rattle.matrix.specs.Steps.{reduced}
@@ -14,19 +14,22 @@ abbrev from : ℕ → List ℕ → ℕ → ℕ
 from q sums k = getD sums k 0 % q
 
 abbrev Inv-loop : tie.InvT-loop
-Inv-loop q sums out₀ k₀ out k = Filled (from q sums) out₀ out k
+Inv-loop q sums out₀ m k₀ out k = Filled (from q sums) out₀ out k
 
 abbrev μ-loop : tie.MeasureT-loop
-μ-loop q sums out₀ k₀ out k = length out - k
+μ-loop q sums out₀ m k₀ out k = length out - k
 
 loop-holds : tie.Need-loop-holds Inv-loop μ-loop
 loop-holds c = fill-start _ _
+
+remainder-requires : tie.Need-remainder-requires Inv-loop μ-loop
+remainder-requires c κs = (c .before .before .before .before .before .pre .0, refl)
 
 loop-less : tie.Need-loop-less Inv-loop μ-loop
 loop-less c = simp length-set (omega arith)
 
 loop-again : tie.Need-loop-again Inv-loop μ-loop
-loop-again c = fill-next _ (c .before .before .loop .inv) (omega arith) refl
+loop-again c = fill-next _ (c .before .before .before .loop .inv) (omega arith) (c .remainder .ensures)
 
 same-length : tie.Need-same-length Inv-loop μ-loop
 same-length c = c .before .loop .inv .long
@@ -34,10 +37,10 @@ same-length c = c .before .loop .inv .long
 returns : tie.Need-returns Inv-loop μ-loop
 unfolding reduced
 returns c =
-    let a = c .before .before in
+    let a = c .before .before .before .before in
     fill-end (c .before .loop .inv) (omega arith) ∙ ap (λ (k : ℕ). tab k (from (a .args .q) (a .args .sums .now))) (a .pre .1)
 
 pub reduce-spec : {M : Type 1} → statement M
 reduce-spec =
     tie.close
-    (tie.spec Inv-loop μ-loop loop-holds (λ c. omega arith) (λ c. omega arith) (λ c. omega arith) (λ c. omega arith) (λ c. omega arith) (λ c. omega arith) loop-less loop-again same-length returns)
+    (tie.spec Inv-loop μ-loop (λ c. omega arith) loop-holds (λ c. omega arith) (λ c. omega arith) remainder-requires (λ c. omega arith) (λ c. omega arith) (λ c. omega arith) loop-less loop-again same-length returns)
