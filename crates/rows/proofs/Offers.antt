@@ -51,7 +51,7 @@ chain i (Fail r) b l p s e b' h1 h2 h3 h4 h5 d = rw (h1, h2)
 
 pub offer-try : OfferTry
 offer-try st message after number place room count t h =
-    t .state ∙ kept-still (offerEndTests (named st) st room) (replicate (length st) 0) st (t .told .refusal) h
+    t .state ∙ kept-still (offerEndTests (named st) st room) _ st (t .told .refusal) h
 
 -- ---- after a good begin
 

@@ -55,7 +55,7 @@ chain i r s t b l p o c b' e f g h k d = rw (e, f, g, h, k, d) (sym (then-assoc 
 
 pub reply-try : ReplyTry
 reply-try st message key digest after number place n m k l d e t h =
-    t .state ∙ kept-still (replyEndTests (named st) st n k d) (replicate (length st) 0) st (t .told .refusal) h
+    t .state ∙ kept-still (replyEndTests (named st) st n k d) _ st (t .told .refusal) h
 
 -- ---- after a good begin
 
