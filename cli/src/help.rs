@@ -36,10 +36,9 @@ const WORDS: &str = "
 SCHEME is 0 BCNS, 1 NewHope, 2 Frodo Challenge, 3 Frodo Classical, 4 Frodo Recommended,
 5 Frodo Paranoid. RULE is 14 low bits or 16 whole word, the same at both ends; settings=FILE in the
 place of either takes it from a box's settings. LENGTH is a number of bytes, LABEL up to 16 capital
-letters or digits. Every other word in capitals is a file, - for
-standard input or output (once each way), or, of an input, none for nothing at all: BCNS has no
-seed, Frodo no coins, and BCNS alone a table. A file that has such a name is ./- or ./none. The FILE
-of a session and of wipe is a name.
+letters or digits. Every other word in capitals is a file, - for standard input or output (once each
+way), or, of an input, none for nothing at all: BCNS has no seed, Frodo no coins, and BCNS alone a
+table. A file that has such a name is ./- or ./none. The FILE of a session and of wipe is a name.
 
 Public numbers (A) and secrets and noise (S, E, S1, E1, E2) are 32 bits each, the lowest byte
 first, secrets and noise in two's complement. A TABLE is text. All else is bytes.
@@ -95,8 +94,7 @@ Status 1: refused; one line, as refusal=6 place=3 input=e value=7 largest=6
           3 (not here)                6 a secret or noise is too large
          18 a table does not ascend   7 the stream of expand or grow ran out
           8 no trace, or no settings 10 the session's stage does not allow it (session alone)
-         15 settings in a newer format
-                                     11 A has too few or too many numbers (rows alone)
+         15 a newer settings' format 11 A has too few or too many numbers (rows alone)
           A blank message is an input, as a dead card sends it, or the answer, where a secret and
           its noise are zero.
           place counts from 0. A length of 33.. is 33 or more. To - nothing is written.

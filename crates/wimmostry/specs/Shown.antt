@@ -2,8 +2,8 @@
 --   OneOffer .. OneBench   of each call
 --   OneSessionOffer .. OneSessionClose   of each call on a session, with the session's bytes after it
 --   OneRackOffer .. OneRackClear   of each call on a rack, with the rack's bytes after it
---   OneOffer .. OneSettingsWrite   of each call
---   OneOffer .. OneBench   of each call; OneRowsPart .. OneRowsReplyEnd: of Frodo by rows
+--   OneSettingsRead, OneSettingsWrite   of the settings
+--   OneRowsPart .. OneRowsReplyEnd   of Frodo by rows, with the state after it
 use mathlib.Core.Path.{_≡_}
 use mathlib.Core.List.{List}
 use Prim.Native.Nat.{ℕ}
