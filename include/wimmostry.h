@@ -265,16 +265,17 @@
  * STACK
  *
  * What a call takes below its caller's frame at most, over all schemes, in KiB rounded up, on
- * x86-64; on Arm no more, as far as it was measured there (wim_grow, the hashes, the calls by rows,
- * on a session or a rack and the settings were not):
+ * x86-64. On Arm, measured before BCNS's product went by halves of 16 bits, wim_offer took 54 and
+ * wim_finish 80, and the others no more than here, as far as they were measured (wim_grow, the
+ * hashes, the calls by rows, on a session or a rack and the settings were not):
  *
- *     wim_offer 54      wim_reply 90       wim_finish 80
- *     wim_noise 2       wim_expand 2       wim_grow 6
+ *     wim_offer 50      wim_reply 90       wim_finish 68
+ *     wim_noise 1       wim_expand 1       wim_grow 6
  *     wim_shake128 2    wim_sha3_256 2     wim_product 1
  *     wim_bench 124     wim_settings_read 1                  wim_settings_write 1
- *     wim_session_offer 54       wim_session_reply 91      wim_session_finish 81
+ *     wim_session_offer 50       wim_session_reply 91      wim_session_finish 69
  *     wim_session_close 1
- *     wim_rack_offer 54          wim_rack_reply 91         wim_rack_finish 81
+ *     wim_rack_offer 50          wim_rack_reply 91         wim_rack_finish 69
  *     wim_rack_close 1           wim_rack_clear 1
  *     wim_rows_offer_begin 1     wim_rows_offer_part 1     wim_rows_offer_end 28
  *     wim_rows_reply_begin 66    wim_rows_reply_part 1     wim_rows_reply_end 30
