@@ -3,6 +3,7 @@
 // laws that the proofs cite are stated once over the element. A function that writes fills the whole of the slice it is lent, so a caller lends the part it
 // means.
 ghost use mathlib.Core.Path.{_≡_};
+ghost use Prim.Native.Nat.{_≤_};
 ghost use lib.ListN.{length, replicate};
 ghost use lib.IntN.{pos, natAbs};
 ghost use Rattle.lists.specs.Lent.{was};
@@ -83,10 +84,28 @@ fn search_over(q: u32, xs: &[u32]) -> usize
     i
 }
 
-// The index of the first number that is q or more, or the length where none is. Good input, however long, is passed at the speed of its largest.
+// Every bit that some number has: no number is larger, and where q is a power of two, all are below q exactly if this is. Plain x86-64 has an instruction
+// for it and none for the larger of two.
+fn bits_of(xs: &[u32]) -> u32
+    ensures { λ r. ⌜ largestBy (λ x. x) (now (xs .entry)) ≤ r ⌝ }
+{
+    let mut bits: u32 = 0;
+    let mut i: usize = 0;
+    while i < xs.len() {
+        bits = bits | xs[i];
+        i += 1;
+    }
+    bits
+}
+
+// The index of the first number that is q or more, or the length where none is. Good input, however long, is passed at the speed of its bits where q is a
+// power of two, else of its largest.
 pub fn first_over(q: u32, xs: &[u32]) -> usize
     ensures { λ r. ⌜ r ≡ firstOver q (now (xs .entry)) ⌝ }
 {
+    if bits_of(xs) < q {
+        return xs.len();
+    }
     if largest_of(xs) < q {
         return xs.len();
     }
