@@ -50,6 +50,6 @@ impl Rows for Count {
         theirs();
         counted(ours);
         counted(theirs);
-        println!("{}|{}|{what}|{peer}", self.0.ours, self.0.theirs);
+        println!("{}|{}|{what}|{peer}", self.0.columns[0], self.0.columns[2]);
     }
 }

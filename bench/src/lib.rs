@@ -1,7 +1,7 @@
 //! The proved kernels and calls of Wimmostry from outside: `kernels` and the
 //! package `wimmostry` call them, `plain` and `botan` are what they are
 //! measured against, `draw`, `lent` and `grown` make inputs, `rows` has what is compared
-//! with what, and `measure` and `count` do it.
+//! with what, `measure` and `count` do it, and `short` sums the calls up.
 
 #[cfg(botan)]
 pub mod botan;
@@ -14,3 +14,4 @@ pub mod measure;
 pub mod ours;
 pub mod plain;
 pub mod rows;
+pub mod short;

@@ -1,5 +1,5 @@
-//! Measures the proved code against other code for the same job in one run: a
-//! table in Markdown for each part that is named, all of them if none is.
+//! Measures the proved code against other code for the same job in one run: the
+//! tables in Markdown of each part that is named, of all if none is.
 //! `count` runs each once, for `bench/count`.
 
 use bench::count::Count;
@@ -11,7 +11,8 @@ fn main() {
     if named == ["count"] {
         return Count::run();
     }
-    let known = |name: &String| PARTS.iter().find(|part| part.name == name).unwrap_or_else(|| panic!("no part {name}"));
-    let parts: Vec<&Part> = if named.is_empty() { PARTS.iter().collect() } else { named.iter().map(known).collect() };
+    let of = |name: &String| PARTS.iter().filter(|part| part.name == name).collect::<Vec<_>>();
+    named.iter().for_each(|name| assert!(!of(name).is_empty(), "no part {name}"));
+    let parts: Vec<&Part> = if named.is_empty() { PARTS.iter().collect() } else { named.iter().flat_map(of).collect() };
     Measure::run(&parts);
 }

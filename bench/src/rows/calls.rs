@@ -12,6 +12,9 @@ use crate::plain::{polynomial, sampling, Calls};
 use second::expand::Rule;
 use second::schemes::{Family, Scheme, SIX};
 
+/// Its stream and its hash are others than ours, and so are the bytes that it gives.
+pub const WITH_AES: &str = "Botan with AES, whole call";
+
 /// What an exchange gives.
 #[derive(PartialEq)]
 struct Exchange {
@@ -105,7 +108,7 @@ fn scheme(rows: &mut dyn Rows, scheme: &'static Scheme) {
             exchange(rows, &lent, "published method", &plain);
             kept(rows, &lent, &plain);
             botan(rows, &lent, "Botan, whole call", false);
-            botan(rows, &lent, "Botan with AES, whole call", true);
+            botan(rows, &lent, WITH_AES, true);
         }
         Family::Frodo => exchange(rows, &lent, "16-bit words", &Frodo::of(&lent)),
     }

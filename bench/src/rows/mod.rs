@@ -1,4 +1,4 @@
-//! What is compared with what.
+//! What is compared with what, and what is measured alone.
 
 mod blank;
 mod by_rows;
@@ -8,24 +8,35 @@ mod products;
 mod seeds;
 mod tests;
 
+pub use calls::WITH_AES;
+
 /// Takes each pair: measures it, counts it, or just numbers it.
 pub trait Rows {
     fn row(&mut self, what: &str, peer: &str, ours: &mut dyn FnMut(), theirs: &mut dyn FnMut());
+
+    /// One piece of code alone: its time, or 1 where none is taken.
+    fn alone(&mut self, _what: &str, _code: &mut dyn FnMut()) -> f64 {
+        1.0
+    }
+
+    /// A line that a part makes of such times.
+    fn line(&mut self, _cells: &[String]) {}
 }
 
+/// One table.
 pub struct Part {
     pub name: &'static str,
-    pub ours: &'static str,
-    pub theirs: &'static str,
+    pub columns: &'static [&'static str],
     pub rows: fn(&mut dyn Rows),
 }
 
+/// Those of one name are measured together.
 pub static PARTS: [Part; 7] = [
-    Part { name: "kernels", ours: "kernel", theirs: "plain code", rows: kernels::rows },
-    Part { name: "calls", ours: "call", theirs: "against", rows: calls::rows },
-    Part { name: "products", ours: "product by halves", theirs: "against", rows: products::rows },
-    Part { name: "seeds", ours: "hash, or call from bytes", theirs: "against", rows: seeds::rows },
-    Part { name: "tests", ours: "call refused by its last range test", theirs: "against", rows: tests::rows },
-    Part { name: "blank", ours: "call on messages all but blank", theirs: "against", rows: blank::rows },
-    Part { name: "rows", ours: "Frodo by rows", theirs: "against", rows: by_rows::rows },
+    Part { name: "kernels", columns: &["kernel", "ns", "plain code", "ns", "ratio"], rows: kernels::rows },
+    Part { name: "calls", columns: &["call", "ns", "against", "ns", "ratio"], rows: calls::rows },
+    Part { name: "products", columns: &["product by halves", "ns", "against", "ns", "ratio"], rows: products::rows },
+    Part { name: "seeds", columns: &["hash, or call from bytes", "ns", "against", "ns", "ratio"], rows: seeds::rows },
+    Part { name: "tests", columns: &["call refused by its last range test", "ns", "against", "ns", "ratio"], rows: tests::rows },
+    Part { name: "blank", columns: &["call on messages all but blank", "ns", "against", "ns", "ratio"], rows: blank::rows },
+    Part { name: "rows", columns: &["Frodo by rows", "ns", "against", "ns", "ratio"], rows: by_rows::rows },
 ];
