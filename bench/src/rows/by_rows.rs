@@ -10,18 +10,22 @@ use second::schemes::{Family, Scheme, SIX};
 use wimmostry::raw::rows as calls;
 
 /// The calls by rows, in parts of so many numbers.
-struct ByRows<'a> {
+pub struct ByRows<'a> {
     lent: &'a Lent,
     length: usize,
     state: Vec<u32>,
 }
 
 impl ByRows<'_> {
+    pub fn of(lent: &Lent, length: usize) -> ByRows<'_> {
+        ByRows { lent, length, state: vec![0; state_count(lent.scheme)] }
+    }
+
     fn parts(lent: &Lent, length: usize) -> impl Iterator<Item = &[u32]> {
         lent.a.chunks(lent.scheme.n).flat_map(move |row| row.chunks(length))
     }
 
-    fn offer(&mut self, message: &mut [u8]) {
+    pub fn offer(&mut self, message: &mut [u8]) {
         let l = self.lent;
         let mut done = calls::offer_begin(l.number(), &l.s, &l.e, &l.seed, &mut self.state).is_ok();
         for part in ByRows::parts(l, self.length) {
@@ -30,7 +34,7 @@ impl ByRows<'_> {
         assert!(done && calls::offer_end(&mut self.state, message).is_ok());
     }
 
-    fn reply(&mut self, opening: &[u8], message: &mut [u8], key: &mut [u8]) {
+    pub fn reply(&mut self, opening: &[u8], message: &mut [u8], key: &mut [u8]) {
         let l = self.lent;
         let mut done = calls::reply_begin(l.number(), opening, &l.s1, &l.e1, &l.e2, &mut self.state).is_ok();
         for part in ByRows::parts(l, self.length) {
@@ -46,7 +50,7 @@ fn scheme(rows: &mut dyn Rows, scheme: &'static Scheme) {
     let (mut opening, mut reply, mut key) = (vec![0; scheme.opening_bytes()], vec![0; scheme.reply_bytes()], vec![0; scheme.key_bytes]);
     let (mut x, mut y, mut z) = (opening.clone(), reply.clone(), key.clone());
     for (cut, length) in [("whole rows", scheme.n), ("parts of 8", 8)] {
-        let mut by_rows = ByRows { lent: &lent, length, state: vec![0; state_count(scheme)] };
+        let mut by_rows = ByRows::of(&lent, length);
         ours.offer(&mut opening);
         by_rows.offer(&mut x);
         ours.reply(&opening, &mut reply, &mut key);

@@ -17,14 +17,20 @@ pub const WITH_AES: &str = "Botan with AES, whole call";
 
 /// What an exchange gives.
 #[derive(PartialEq)]
-struct Exchange {
-    opening: Vec<u8>,
-    reply: Vec<u8>,
-    key: Vec<u8>,
-    peer: Vec<u8>,
+pub struct Exchange {
+    pub opening: Vec<u8>,
+    pub reply: Vec<u8>,
+    pub key: Vec<u8>,
+    pub peer: Vec<u8>,
 }
 
 impl Exchange {
+    pub fn of(scheme: &Scheme, calls: &dyn Calls) -> Exchange {
+        let mut exchange = Exchange::room(scheme);
+        exchange.run(calls);
+        exchange
+    }
+
     fn room(scheme: &Scheme) -> Exchange {
         let key = vec![0; scheme.key_bytes];
         Exchange { opening: vec![0; scheme.opening_bytes()], reply: vec![0; scheme.reply_bytes()], key: key.clone(), peer: key }
@@ -40,9 +46,7 @@ impl Exchange {
 /// The three calls against one other program's, then Bench against all three.
 fn exchange(rows: &mut dyn Rows, lent: &Lent, peer: &str, plain: &dyn Calls) {
     let ours = Ours(lent);
-    let (mut x, mut y) = (Exchange::room(lent.scheme), Exchange::room(lent.scheme));
-    x.run(&ours);
-    y.run(plain);
+    let (mut x, mut y) = (Exchange::of(lent.scheme, &ours), Exchange::of(lent.scheme, plain));
     assert!(x == y, "the two give one exchange");
     assert!(x.key == x.peer && ours.bench(), "both ends have one key");
 
@@ -58,8 +62,7 @@ fn exchange(rows: &mut dyn Rows, lent: &Lent, peer: &str, plain: &dyn Calls) {
 /// Finish against one that has the transform of s already.
 fn kept(rows: &mut dyn Rows, lent: &Lent, plain: &NewHope) {
     let ours = Ours(lent);
-    let mut x = Exchange::room(lent.scheme);
-    x.run(&ours);
+    let mut x = Exchange::of(lent.scheme, &ours);
     let (s, mut key) = (plain.kept(), vec![0; 32]);
     plain.finish_kept(&x.reply, &s, &mut key);
     assert!(key == x.peer, "the two give one key");
@@ -75,8 +78,7 @@ fn botan(rows: &mut dyn Rows, lent: &Lent, peer: &str, boring: bool) {
     use crate::botan::Botan;
     use crate::grown::{seeds, Random};
     let ours = Ours(lent);
-    let mut x = Exchange::room(lent.scheme);
-    x.run(&ours);
+    let mut x = Exchange::of(lent.scheme, &ours);
     let (random, seeds) = (Random::drawn(10), seeds());
     let theirs = Botan::new(boring, &random);
     let openings = theirs.openings(&seeds);

@@ -3,6 +3,7 @@
 mod blank;
 mod by_rows;
 mod calls;
+pub mod growth;
 mod kernels;
 mod products;
 mod seeds;
@@ -31,7 +32,7 @@ pub struct Part {
 }
 
 /// Those of one name are measured together.
-pub static PARTS: [Part; 7] = [
+pub static PARTS: [Part; 11] = [
     Part { name: "kernels", columns: &["kernel", "ns", "plain code", "ns", "ratio"], rows: kernels::rows },
     Part { name: "calls", columns: &["call", "ns", "against", "ns", "ratio"], rows: calls::rows },
     Part { name: "products", columns: &["product by halves", "ns", "against", "ns", "ratio"], rows: products::rows },
@@ -39,4 +40,8 @@ pub static PARTS: [Part; 7] = [
     Part { name: "tests", columns: &["call refused by its last range test", "ns", "against", "ns", "ratio"], rows: tests::rows },
     Part { name: "blank", columns: &["call on messages all but blank", "ns", "against", "ns", "ratio"], rows: blank::rows },
     Part { name: "rows", columns: &["Frodo by rows", "ns", "against", "ns", "ratio"], rows: by_rows::rows },
+    Part { name: "growth", columns: &["Frodo's calls", "n", "ns", "slope", "theory"], rows: growth::calls },
+    Part { name: "growth", columns: &["product by halves", "L", "ns", "slope", "theory"], rows: growth::products },
+    Part { name: "growth", columns: &["hash", "bytes in", "ns", "slope", "theory"], rows: growth::hashes },
+    Part { name: "growth", columns: &["Frodo Recommended by rows", "numbers a part", "ns", "slope", "theory"], rows: growth::parts },
 ];

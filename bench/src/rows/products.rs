@@ -14,11 +14,11 @@ type Product = fn(&[u32], &[u32], &mut [u32]);
 
 const PEERS: [(&str, Product); 2] = [("plain rule, a remainder at each term", products::by_terms), ("sums of 128 bits", products::by_sums)];
 
-fn factors(draw: &mut Draw, length: usize) -> (Vec<u32>, Vec<u32>) {
+pub fn factors(draw: &mut Draw, length: usize) -> (Vec<u32>, Vec<u32>) {
     (draw.numbers(length, u32::MAX), draw.numbers(length, u32::MAX))
 }
 
-fn halves(a: &[u32], b: &[u32], out: &mut [u32], scratch: &mut [u32]) {
+pub fn halves(a: &[u32], b: &[u32], out: &mut [u32], scratch: &mut [u32]) {
     assert!(wimmostry::product(a, b, out, scratch).is_ok());
 }
 

@@ -8,7 +8,7 @@ use crate::grown::seeds;
 use crate::plain::{keccak, sampling};
 use second::expand::Rule;
 
-type Hash = fn(&[u8], &mut [u8]);
+pub type Hash = fn(&[u8], &mut [u8]);
 
 struct Hashes {
     name: &'static str,
@@ -22,11 +22,11 @@ const PEERS: &[Hashes] = &[
     Hashes { name: "Botan", shake128: botan::shake128, sha3_256: botan::sha3_256 },
 ];
 
-fn shake128(input: &[u8], out: &mut [u8]) {
+pub fn shake128(input: &[u8], out: &mut [u8]) {
     assert!(wimmostry::raw::shake128(input, out).is_ok());
 }
 
-fn sha3_256(input: &[u8], out: &mut [u8]) {
+pub fn sha3_256(input: &[u8], out: &mut [u8]) {
     assert!(wimmostry::raw::sha3_256(input, out).is_ok());
 }
 
