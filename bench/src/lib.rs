@@ -1,10 +1,12 @@
 //! The proved kernels and calls of Wimmostry from outside: `kernels` and the
 //! package `wimmostry` call them, `plain` and `botan` are what they are
 //! measured against, `draw`, `lent` and `grown` make inputs, `rows` has what is compared
-//! with what, `measure` and `count` do it, and `short` sums the calls up.
+//! with what, `measure` and `count` do it, `short` sums the calls up, and `bounds`
+//! has what they cannot take less than.
 
 #[cfg(botan)]
 pub mod botan;
+pub mod bounds;
 pub mod count;
 pub mod draw;
 pub mod grown;

@@ -5,6 +5,7 @@ mod by_rows;
 mod calls;
 pub mod growth;
 mod kernels;
+mod limits;
 mod products;
 mod seeds;
 mod tests;
@@ -32,7 +33,7 @@ pub struct Part {
 }
 
 /// Those of one name are measured together.
-pub static PARTS: [Part; 11] = [
+pub static PARTS: [Part; 12] = [
     Part { name: "kernels", columns: &["kernel", "ns", "plain code", "ns", "ratio"], rows: kernels::rows },
     Part { name: "calls", columns: &["call", "ns", "against", "ns", "ratio"], rows: calls::rows },
     Part { name: "products", columns: &["product by halves", "ns", "against", "ns", "ratio"], rows: products::rows },
@@ -44,4 +45,5 @@ pub static PARTS: [Part; 11] = [
     Part { name: "growth", columns: &["product by halves", "L", "ns", "slope", "theory"], rows: growth::products },
     Part { name: "growth", columns: &["hash", "bytes in", "ns", "slope", "theory"], rows: growth::hashes },
     Part { name: "growth", columns: &["Frodo Recommended by rows", "numbers a part", "ns", "slope", "theory"], rows: growth::parts },
+    Part { name: "limits", columns: &["call", "bytes, ns", "products, ns", "permutations, ns", "bound by", "ns", "ratio"], rows: limits::rows },
 ];

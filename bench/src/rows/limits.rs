@@ -1,0 +1,112 @@
+//! Each call beside what it cannot take less than, all measured in this run: the
+//! bytes lent are read by a plain loop from a buffer of as many, again and again,
+//! so that they lie in the same cache; products are made in registers, as wide as
+//! the kit's target has them; a permutation is that of the long SHAKE-128.
+
+use super::calls::Exchange;
+use super::seeds::shake128;
+use super::Rows;
+use crate::bounds::{self, Bounds, Work};
+use crate::draw::Draw;
+use crate::grown::seeds;
+use crate::lent::{table, Lent};
+use crate::ours::Ours;
+use crate::plain::Calls;
+use second::schemes::{Scheme, SIX};
+use std::arch::asm;
+use std::hint::black_box;
+
+/// Turns of the loop below, each of 12 instructions of 8 products: as many as
+/// hide that each has to wait for the one before it in its register.
+const TURNS: usize = 1000;
+const PRODUCTS: usize = TURNS * 12 * 8;
+
+/// SSE2, which every x86-64 processor has.
+#[cfg(target_arch = "x86_64")]
+fn multiply() {
+    unsafe {
+        asm!("2:",
+            "pmaddwd xmm0, xmm12", "pmaddwd xmm1, xmm12", "pmaddwd xmm2, xmm12", "pmaddwd xmm3, xmm12",
+            "pmaddwd xmm4, xmm12", "pmaddwd xmm5, xmm12", "pmaddwd xmm6, xmm12", "pmaddwd xmm7, xmm12",
+            "pmaddwd xmm8, xmm12", "pmaddwd xmm9, xmm12", "pmaddwd xmm10, xmm12", "pmaddwd xmm11, xmm12",
+            "dec {turns}", "jnz 2b", turns = inout(reg) TURNS => _,
+            out("xmm0") _, out("xmm1") _, out("xmm2") _, out("xmm3") _, out("xmm4") _, out("xmm5") _, out("xmm6") _,
+            out("xmm7") _, out("xmm8") _, out("xmm9") _, out("xmm10") _, out("xmm11") _, options(nomem, nostack));
+    }
+}
+
+/// NEON, which every such processor has.
+#[cfg(target_arch = "aarch64")]
+fn multiply() {
+    unsafe {
+        asm!("2:",
+            "mla v0.8h, v16.8h, v17.8h", "mla v1.8h, v16.8h, v17.8h", "mla v2.8h, v16.8h, v17.8h", "mla v3.8h, v16.8h, v17.8h",
+            "mla v4.8h, v16.8h, v17.8h", "mla v5.8h, v16.8h, v17.8h", "mla v6.8h, v16.8h, v17.8h", "mla v7.8h, v16.8h, v17.8h",
+            "mla v18.8h, v16.8h, v17.8h", "mla v19.8h, v16.8h, v17.8h", "mla v20.8h, v16.8h, v17.8h", "mla v21.8h, v16.8h, v17.8h",
+            "subs {turns}, {turns}, #1", "b.ne 2b", turns = inout(reg) TURNS => _,
+            out("v0") _, out("v1") _, out("v2") _, out("v3") _, out("v4") _, out("v5") _, out("v6") _,
+            out("v7") _, out("v18") _, out("v19") _, out("v20") _, out("v21") _, options(nomem, nostack));
+    }
+}
+
+/// Sixteen at a time, so that no sum waits for another.
+fn read(words: &[[u64; 16]]) -> [u64; 16] {
+    words.iter().fold([0; 16], |sums, word| std::array::from_fn(|k| sums[k] ^ word[k]))
+}
+
+/// Blocks of 168 bytes, the last of them for what ends the input.
+const PERMUTATIONS: usize = 65536 / 168 + 1;
+
+struct Limits<'a> {
+    rows: &'a mut dyn Rows,
+    product: f64,
+    permutation: f64,
+}
+
+impl Limits<'_> {
+    fn of(rows: &mut dyn Rows) -> Limits<'_> {
+        let product = rows.alone("products of 16 bits", &mut multiply) / PRODUCTS as f64;
+        let (input, mut out) = (Draw::new(8).bytes(65536), [0; 32]);
+        let permutation = rows.alone("permutations", &mut || shake128(&input, &mut out)) / PERMUTATIONS as f64;
+        Limits { rows, product, permutation }
+    }
+
+    fn call(&mut self, what: &str, work: Work, code: &mut dyn FnMut()) {
+        let own = self.rows.alone(what, code);
+        let buffer = vec![[1; 16]; work.bytes.div_ceil(128)];
+        let reading = self.rows.alone(&format!("{} bytes", work.bytes), &mut || _ = black_box(read(black_box(&buffer))));
+        let bounds = Bounds::of(&work, reading, self.product, self.permutation);
+        let (bound, which) = bounds.largest();
+        let [bytes, products, permutations, time] = [bounds.bytes, bounds.products, bounds.permutations, own].map(|ns| format!("{ns:.0}"));
+        self.rows.line(&[what.into(), bytes, products, permutations, which.into(), time, format!("{:.2}", own / bound)]);
+    }
+
+    fn scheme(&mut self, scheme: &'static Scheme) {
+        let lent = Lent::drawn(scheme, 5);
+        let (ours, name) = (Ours(&lent), scheme.name);
+        let mut x = Exchange::of(scheme, &ours);
+        self.call(&format!("{name}, Offer"), bounds::offer(scheme), &mut || ours.offer(&mut x.opening));
+        self.call(&format!("{name}, Reply"), bounds::reply(scheme), &mut || ours.reply(&x.opening, &mut x.reply, &mut x.key));
+        self.call(&format!("{name}, Finish"), bounds::finish(scheme), &mut || ours.finish(&x.reply, &mut x.peer));
+    }
+
+    fn noise(&mut self, scheme: &Scheme) {
+        let (bytes, table, mut out) = (Draw::new(6).bytes(second::noise::lengths(scheme)[0]), table(scheme), vec![0; scheme.secret_count()]);
+        self.call(&format!("{}, Noise", scheme.name), bounds::noise(scheme), &mut || {
+            assert!(wimmostry::raw::noise(scheme.number as u32, &bytes, &table, &mut out).is_ok());
+        });
+    }
+
+    fn grow(&mut self) {
+        let (seeds, mut out) = (seeds(), [0; 1024]);
+        let mut seed = seeds.iter().cycle();
+        self.call("Grow by rule 14", bounds::grow(), &mut || assert!(wimmostry::raw::grow(14, seed.next().unwrap(), &mut out).is_ok()));
+    }
+}
+
+pub fn rows(rows: &mut dyn Rows) {
+    let mut limits = Limits::of(rows);
+    SIX.iter().for_each(|it| limits.scheme(it));
+    SIX.iter().for_each(|it| limits.noise(it));
+    limits.grow();
+}
