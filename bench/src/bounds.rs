@@ -24,8 +24,9 @@ pub struct Work {
     pub permutations: usize,
 }
 
-/// The digest of a key, which fits one block of SHA3-256.
-const DIGEST: (usize, usize) = (32, 1);
+/// The digest of a key, which is below 136 bytes, so that one permutation makes it.
+const DIGEST_BYTES: usize = 32;
+const DIGEST: usize = 1;
 
 fn words(count: usize) -> usize {
     4 * count
@@ -65,28 +66,29 @@ pub fn offer(scheme: &Scheme) -> Work {
 pub fn reply(scheme: &Scheme) -> Work {
     let (n, lent) = (scheme.n, scheme.public_count() + 2 * scheme.secret_count() + scheme.last_noise_count());
     Work {
-        bytes: scheme.opening_bytes() + words(lent) + scheme.coin_bytes() + scheme.reply_bytes() + scheme.key_bytes + DIGEST.0,
+        bytes: scheme.opening_bytes() + words(lent) + scheme.coin_bytes() + scheme.reply_bytes() + scheme.key_bytes + DIGEST_BYTES,
         products: match scheme.family {
             Family::Bcns => 2 * windows(n, LEVELS),
             // of s' and e', and of v back
             Family::NewHope => 3 * transform(n) + 2 * entries(n),
+            // S' A and S' B
             Family::Frodo => 8 * n * n + 64 * n,
         },
-        permutations: DIGEST.1,
+        permutations: DIGEST,
     }
 }
 
 pub fn finish(scheme: &Scheme) -> Work {
     let n = scheme.n;
     Work {
-        bytes: scheme.reply_bytes() + words(scheme.secret_count()) + scheme.key_bytes + DIGEST.0,
+        bytes: scheme.reply_bytes() + words(scheme.secret_count()) + scheme.key_bytes + DIGEST_BYTES,
         products: match scheme.family {
             Family::Bcns => windows(n, LEVELS),
             // of s, and of w back
             Family::NewHope => 2 * transform(n) + entries(n),
             Family::Frodo => 64 * n,
         },
-        permutations: DIGEST.1,
+        permutations: DIGEST,
     }
 }
 
