@@ -1,9 +1,12 @@
 -- Laws of packing, once over the width and the base. Both directions go through the number that the digits make.
 --   value-split       a number is its k lowest digits, and the others k places up
+--   value-parts       the number of k + m digits is that of k, and that of the m others k places up
 --   value-next        the number of k + 1 digits from place i on is the first, and the k others one place up; past the end they read 0
 --   value-one         the number of one digit is that digit
+--   value-four        the number of four bytes, written out
 --   value-take-below  the number of at most k digits is below b ^ k
 --   value-below       the same of a list of at most k digits
+--   value-drop        a number without its k lowest digits is that of the others
 --   digits-length     n digits are n
 --   digits-below      each is below the base
 --   digits-append     m + n digits are the m lowest, then n of what is left
@@ -19,7 +22,7 @@
 use mathlib.Core.Path.{_≡_, refl, sym, ap, _∙_}
 use mathlib.Core.List.{List, [], _∷_, _++_}
 use Prim.Native.Nat.{ℕ, zero, suc, _+_, _*_, _/_, _^_, _≤_, _<_}
-use native.Mathlib.Nat.{mod-lt, div-add-mod', div-lt-iff-lt-mul, div-div-eq-div-mul, add-mul-div-left, add-mul-mod-self-left, one-le-pow, pow-zero, pow-suc, pow-succ', mul-assoc, add-zero, zero-add, suc-add, div-one, mod-one}
+use native.Mathlib.Nat.{mod-lt, div-add-mod', div-lt-iff-lt-mul, div-div-eq-div-mul, add-mul-div-left, add-mul-mod-self-left, one-le-pow, pow-zero, pow-suc, pow-succ', mul-assoc, add-assoc, add-zero, zero-add, suc-add, div-one, mod-one}
 use native.Mathlib.Omega.{arith}
 use lib.ListN.{length, getD, take, drop, replicate}
 use lib.Seq.{getD-drop, drop-drop, take-all, take-nil}
@@ -36,6 +39,12 @@ value-split b zero xs = rw pow-zero (omega arith)
 value-split b (suc k) [] = omega arith
 value-split b (suc k) (x ∷ xs) = rw (value-split b k xs, pow-suc) (omega arith)
 
+pub value-parts : (b k m : ℕ) (xs : List ℕ) → value b (take (k + m) xs) ≡ value b (take k xs) + b ^ k * value b (take m (drop k xs))
+unfolding value
+value-parts b zero m xs = rw (zero-add m, pow-zero) (omega arith)
+value-parts b (suc k) m [] = rw (suc-add, take-nil {A = ℕ} m) (omega arith)
+value-parts b (suc k) m (x ∷ xs) = rw (suc-add, value-parts b k m xs, pow-suc) (omega arith)
+
 value-first : (b k : ℕ) (xs : List ℕ) → value b (take (suc k) xs) ≡ getD xs 0 0 + b * value b (take k (drop 1 xs))
 unfolding value
 value-first b k [] = rw (take-nil {A = ℕ} k) (omega arith)
@@ -48,6 +57,13 @@ pub value-one : (b : ℕ) (xs : List ℕ) (i : ℕ) → value b (take 1 (drop i 
 unfolding value
 value-one b xs i = value-next b 0 xs i ∙ omega arith
 
+pub value-four : (bs : List ℕ) (i : ℕ)
+    → value 256 (take 4 (drop i bs)) ≡ getD bs i 0 + 256 * getD bs (i + 1) 0 + 65536 * getD bs (i + 2) 0 + 16777216 * getD bs (i + 3) 0
+unfolding value
+value-four bs i =
+    rw (value-next 256 3 bs i, value-next 256 2 bs (i + 1), add-assoc i 1 1, value-next 256 1 bs (i + 2), add-assoc i 2 1, value-next 256 0 bs (i + 3))
+    (omega arith)
+
 pub value-take-below : {b : ℕ} {xs : List ℕ} → Below b xs → (k : ℕ) → value b (take k xs) < b ^ k
 unfolding value
 value-take-below h zero = rw pow-zero (omega arith)
@@ -56,6 +72,11 @@ value-take-below {b} {xs = x ∷ xs} h (suc k) = rw pow-suc (digits-lt (value-ta
 
 pub value-below : {b : ℕ} {xs : List ℕ} → Below b xs → (k : ℕ) → length xs ≤ k → value b xs < b ^ k
 value-below {xs} h k l = rw take-all at (value-take-below h k)
+
+pub value-drop : {b : ℕ} {xs : List ℕ} → Below b xs → (k : ℕ) → value b xs / b ^ k ≡ value b (drop k xs)
+value-drop {b} {xs} h k =
+    let e : value b xs ≡ value b (drop k xs) * b ^ k + value b (take k xs) = value-split b k xs ∙ omega arith in
+    ap (λ (n : ℕ). n / b ^ k) e ∙ digits-div (value b (drop k xs)) (value-take-below h k)
 
 pub digits-length : (b n v : ℕ) → length (digits b n v) ≡ n
 unfolding digits

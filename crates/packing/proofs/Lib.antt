@@ -1,3 +1,4 @@
 pub mod Laws
 mod Flow
 mod Cards
+mod Groups

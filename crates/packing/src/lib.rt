@@ -3,7 +3,7 @@
 // Between turns fewer than 32 bits are held, so 32 more still fit the accumulator.
 ghost use mathlib.Core.Path.{_≡_};
 ghost use mathlib.Core.List.{_++_};
-ghost use Prim.Native.Nat.{_+_, _-_, _*_, _^_, _≤_, _<_};
+ghost use Prim.Native.Nat.{_+_, _-_, _*_, _/_, _%_, _^_, _≤_, _<_};
 ghost use lib.ListN.{length, getD, take, drop};
 ghost use Rattle.lists.specs.Entries.{Below};
 ghost use Rattle.packing.specs.Packing.{value, digits, packed, unpacked};
@@ -55,18 +55,105 @@ fn put_rest(out: &mut [u8], mut j: usize, mut v: u64)
     }
 }
 
-// The numbers that the bytes hold.
+// The numbers that the bytes hold: in groups where there is a way for the width, then one by one.
 pub fn unpack(w: u32, bytes: &[u8], out: &mut [u32])
     requires { ⌜ (0 < w) × (w ≤ 32) ⌝ }
     requires { ⌜ 8 * length (now bytes) ≡ w * length (now out) ⌝ }
+    ensures { λ _. ⌜ now (out .exit) ≡ unpacked w (length (now (out .entry))) (now (bytes .entry)) ⌝ }
+{
+    let done = unpack_most(w, bytes, out);
+    unpack_rest(w, bytes, out, done);
+}
+
+// Groups of eight numbers, and how many groups. The widths of the schemes stand here as literals, each of which becomes a loop of its own.
+fn unpack_most(w: u32, bytes: &[u8], out: &mut [u32]) -> usize
+    requires { ⌜ (0 < w) × (w ≤ 32) ⌝ }
+    requires { ⌜ 8 * length (now bytes) ≡ w * length (now out) ⌝ }
+    ensures { λ r. ⌜ (w * r ≤ length (now (bytes .entry))) × (take (8 * r) (now (out .exit)) ≡ digits (2 ^ w) (8 * r) (value 256 (now (bytes .entry)))) ⌝ }
+{
+    match w {
+        1 => unpack_groups(1, bytes, out),
+        2 => unpack_groups(2, bytes, out),
+        4 => unpack_groups(4, bytes, out),
+        11 => unpack_groups(11, bytes, out),
+        12 => unpack_groups(12, bytes, out),
+        14 => unpack_groups(14, bytes, out),
+        15 => unpack_groups(15, bytes, out),
+        32 => unpack_groups(32, bytes, out),
+        _ => 0,
+    }
+}
+
+// Groups of eight numbers, w bytes each, as long as their reads stay within the bytes.
+fn unpack_groups(w: u32, bytes: &[u8], out: &mut [u32]) -> usize
+    requires { ⌜ (0 < w) × (w ≤ 32) ⌝ }
+    requires { ⌜ 8 * length (now bytes) ≡ w * length (now out) ⌝ }
+    ensures { λ r. ⌜ (w * r ≤ length (now (bytes .entry))) × (take (8 * r) (now (out .exit)) ≡ digits (2 ^ w) (8 * r) (value 256 (now (bytes .entry)))) ⌝ }
+{
+    let size = w as usize;
+    let mut i: usize = 0;
+    let mut g: usize = 0;
+    while i + size + 7 <= bytes.len() {
+        unpack_group(w, bytes, i, out, 8 * g);
+        i += size;
+        g += 1;
+    }
+    g
+}
+
+// The eight numbers from byte i on, at j.
+fn unpack_group(w: u32, bytes: &[u8], i: usize, out: &mut [u32], j: usize)
+    requires { ⌜ (0 < w) × (w ≤ 32) × (i + w + 7 ≤ length (now bytes)) × (j + 8 ≤ length (now out)) ⌝ }
+    ensures { λ _. ⌜ now (out .exit) ≡ take j (now (out .entry)) ++ digits (2 ^ w) 8 (value 256 (drop i (now (bytes .entry)))) ++ drop (j + 8) (now (out .entry)) ⌝ }
+{
+    out[j] = number(w, bytes, i, 0);
+    out[j + 1] = number(w, bytes, i, w);
+    out[j + 2] = number(w, bytes, i, 2 * w);
+    out[j + 3] = number(w, bytes, i, 3 * w);
+    out[j + 4] = number(w, bytes, i, 4 * w);
+    out[j + 5] = number(w, bytes, i, 5 * w);
+    out[j + 6] = number(w, bytes, i, 6 * w);
+    out[j + 7] = number(w, bytes, i, 7 * w);
+}
+
+// The number of w bits that starts t bits behind byte i. It lies within eight bytes, which are one load.
+fn number(w: u32, bytes: &[u8], i: usize, t: u32) -> u32
+    requires { ⌜ (w ≤ 32) × (i + t / 8 + 8 ≤ length (now bytes)) ⌝ }
+    ensures { λ r. ⌜ r ≡ value 256 (drop i (now (bytes .entry))) / 2 ^ t % 2 ^ w ⌝ }
+{
+    let v = eight(bytes, i + (t / 8) as usize);
+    ((v >> (t % 8)) % (1u64 << w)) as u32
+}
+
+// The number of the eight bytes from i on.
+fn eight(bytes: &[u8], i: usize) -> u64
+    requires { ⌜ i + 8 ≤ length (now bytes) ⌝ }
+    ensures { λ r. ⌜ r ≡ value 256 (take 8 (drop i (now (bytes .entry)))) ⌝ }
+{
+    four(bytes, i) + 4294967296 * four(bytes, i + 4)
+}
+
+// The number of the four bytes from i on.
+fn four(bytes: &[u8], i: usize) -> u64
+    requires { ⌜ i + 4 ≤ length (now bytes) ⌝ }
+    ensures { λ r. ⌜ (r ≡ value 256 (take 4 (drop i (now (bytes .entry))))) × (r < 4294967296) ⌝ }
+{
+    joined(bytes[i], bytes[i + 1], bytes[i + 2], bytes[i + 3])
+}
+
+// The numbers behind the groups that are done, to the end, at any width.
+fn unpack_rest(w: u32, bytes: &[u8], out: &mut [u32], done: usize)
+    requires { ⌜ (0 < w) × (w ≤ 32) ⌝ }
+    requires { ⌜ 8 * length (now bytes) ≡ w * length (now out) ⌝ }
+    requires { ⌜ (w * done ≤ length (now bytes)) × (take (8 * done) (now out) ≡ digits (2 ^ w) (8 * done) (value 256 (now bytes))) ⌝ }
     ensures { λ _. ⌜ now (out .exit) ≡ unpacked w (length (now (out .entry))) (now (bytes .entry)) ⌝ }
 {
     // a remainder by a shifted 1 compiles to a mask
     let base: u64 = 1u64 << w;
     let mut acc: u64 = 0;
     let mut held: u32 = 0;
-    let mut i: usize = 0;
-    let mut j: usize = 0;
+    let mut i: usize = w as usize * done;
+    let mut j: usize = 8 * done;
     while j < out.len() {
         if held < w {
             acc += word(bytes, i) << held;
@@ -86,7 +173,7 @@ fn word(bytes: &[u8], i: usize) -> u64
     ensures { λ r. ⌜ r ≡ value 256 (take 4 (drop i (now (bytes .entry)))) ⌝ }
 {
     if i + 4 <= bytes.len() {
-        joined(bytes[i], bytes[i + 1], bytes[i + 2], bytes[i + 3])
+        four(bytes, i)
     } else {
         joined(
             byte(bytes, i),
@@ -106,7 +193,7 @@ fn byte(bytes: &[u8], i: usize) -> u8
 
 // The number of four bytes, the lowest first. Of bytes that lie side by side it compiles to one load.
 fn joined(a: u8, b: u8, c: u8, d: u8) -> u64
-    ensures { λ r. ⌜ r ≡ a + 256 * b + 65536 * c + 16777216 * d ⌝ }
+    ensures { λ r. ⌜ (r ≡ a + 256 * b + 65536 * c + 16777216 * d) × (r < 4294967296) ⌝ }
 {
     a as u64 + 256 * b as u64 + 65536 * c as u64 + 16777216 * d as u64
 }

@@ -1,0 +1,61 @@
+-- `packing::unpack_groups` meets its contract: after g groups the first 8 g numbers are there.
+use mathlib.Core.Path.{_≡_, refl, sym, _∙_}
+use Prim.Native.Nat.{_+_, _*_, _-_, _^_, _≤_, _<_}
+use native.Mathlib.Nat.{le-of-mul-le-mul-left}
+use native.Mathlib.Omega.{arith}
+use borrow.Author.Needs.{needs}
+use lib.ListN.{length, take}
+use Rattle.lists.specs.Entries.{Below}
+use Rattle.packing.specs.Packing.{value, digits}
+use Rattle.packing.proofs.Groups.{unpacked-on}
+use Rattle.packing.proofs.unpack_groups.Statement.{statement}
+use Rattle.packing.proofs.unpack_groups.Tie as tie
+
+abbrev Inv-loop : tie.InvT-loop
+Inv-loop w bytes out₀ size i₀ g₀ out i g =
+    (length out ≡ length out₀) × (i ≡ w * g) × (i ≤ length bytes) × (take (8 * g) out ≡ digits (2 ^ w) (8 * g) (value 256 bytes))
+
+abbrev μ-loop : tie.MeasureT-loop
+μ-loop w bytes out₀ size i₀ g₀ out i g = length bytes - i
+
+loop-holds : tie.Need-loop-holds Inv-loop μ-loop
+unfolding digits
+loop-holds c = (refl, omega arith, omega arith, refl)
+
+-- where a group is still to come, it has room
+room : (c : tie.In-loop Inv-loop μ-loop)
+    → 8 * c .before .loop .g + 8 ≤ length (c .before .before .before .before .args .out .now)
+room c =
+    let s = c .before .before .before .before in
+    let l = c .before .loop in
+    le-of-mul-le-mul-left {k = s .args .w} (omega (arith, s .pre .1, l .inv .1)) (s .pre .0 .0)
+
+mul-unpack-group : tie.Need-mul-unpack-group Inv-loop μ-loop
+mul-unpack-group c = omega (arith, room (c .before))
+
+unpack-group-requires : tie.Need-unpack-group-requires Inv-loop μ-loop
+unpack-group-requires c κs =
+    (omega arith, omega arith, omega arith, omega (arith, room (c .before), c .before .before .loop .inv .0))
+
+add-g : tie.Need-add-g Inv-loop μ-loop
+add-g c = omega (arith, room (c .before .before .before .before))
+
+loop-again : tie.Need-loop-again Inv-loop μ-loop
+loop-again c =
+    let k = c .before .before .before .before .before .before .before in
+    let l = c .before .before .before .before .before .loop in
+    let w = k .before .args .w in
+    let bytes : Below 256 (k .before .args .bytes .now) = record { below = λ n. omega (arith, k .shared-slice-known .given n) } in
+    let more = unpacked-on w (l .g) (l .out) bytes (l .inv .3) (omega (arith, room (c .before .before .before .before), l .inv .0)) in
+    (c .before .before .unpack-group .kept .1 .1 .1 .0 ∙ l .inv .0, omega (arith, l .inv .1), omega arith, rw (c .before .before .unpack-group .ensures, l .inv .1) more)
+
+same-length : tie.Need-same-length Inv-loop μ-loop
+same-length c = c .before .loop .inv .0
+
+returns : tie.Need-returns Inv-loop μ-loop
+returns c = (omega (arith, c .before .loop .inv .1), c .before .loop .inv .3)
+
+pub unpack-groups-spec : {M : Type 1} → statement M
+unpack-groups-spec =
+    tie.close
+    (tie.spec Inv-loop μ-loop loop-holds (λ c. omega arith) (λ c. omega arith) mul-unpack-group unpack-group-requires (λ c. omega arith) add-g (λ c. omega arith) loop-again same-length returns)
