@@ -7,22 +7,30 @@
 --   stored        eight digits, one store each
 --   further       m digits more, of at least as many that are written behind the first j
 --   unpacked-on   a group more is unpacked
+--   written-on    digits written behind digits written
+--   sixteen       sixteen bytes of one number, four at a time
+--   shifted-fits, shifted-low, shifted-high   a number under another that is shifted up, in two words
+--   few, quad-below   a few numbers fit a word; four are below 2^(4 w)
+--   one-more, two-quads   a number more; four and four
+--   packed-on     a group more is packed
 --   resume        `Flow` with nothing held, where the first j digits are there
 use mathlib.Core.Path.{_≡_, refl, sym, ap, _∙_}
 use mathlib.Core.List.{List, [], _∷_, _++_, append-assoc}
-use Prim.Native.Nat.{ℕ, _+_, _*_, _-_, _/_, _%_, _^_, _≤_, _<_}
-use native.Mathlib.Nat.{add-mul-mod-self-left, div-one, mul-assoc, mul-zero, add-zero, one-mul, zero-add}
+use Prim.Native.Nat.{ℕ, suc, _+_, _*_, _-_, _/_, _%_, _^_, _≤_, _<_}
+use native.Mathlib.Nat.{add-assoc, add-mul-mod-self-left, div-one, lt-of-lt-of-le, mod-lt, mul-assoc, mul-comm, mul-le-mul, mul-mod-left, mul-zero, add-zero, one-mul, zero-add}
 use native.Mathlib.Numerals.{add-one, add-two, add-three, add-four, add-five, add-six, add-seven}
 use native.Mathlib.Omega.{arith}
-use lib.ListN.{length, take, drop, set, length-append}
-use lib.Seq.{drop-drop, length-take-le, sets-eq, take-at}
-use lib.Pow.{field, pow-add, pow-pos, shl-exact, shr-shr}
+use lib.ListN.{length, getD, take, drop, set, length-append}
+use lib.Seq.{drop-at, drop-drop, length-take-le, sets-eq, take-at}
+use lib.Pow.{field, mod-pow-add, pow-add, pow-mono, pow-pos, shl-exact, shl-shr, shr-shr, split}
+use lib.Pow as Pow
+use lib.Arith.{digits-lt}
 use Rattle.numbers.proofs.Natural.{power-power}
 use Rattle.lists.specs.Entries.{Below}
 use Rattle.lists.proofs.Parts.{below-drop}
 use Rattle.packing.specs.Packing.{value, digits}
-use Rattle.packing.proofs.Laws.{value-split, value-drop, digits-append, digits-length, digits-low}
-use Rattle.packing.proofs.Flow.{Flow, written}
+use Rattle.packing.proofs.Laws.{value-split, value-parts, value-next, value-take-below, value-drop, digits-append, digits-length, digits-low}
+use Rattle.packing.proofs.Flow.{Flow, written, written-length}
 
 pub based : (w : ℕ) → w ≤ 32 → 1 * 2 ^ w % 2 ^ 64 ≡ 2 ^ w
 based w h = shl-exact 1 w 64 (omega arith) (omega arith) ∙ one-mul (2 ^ w)
@@ -89,6 +97,80 @@ unpacked-on w g {bs} out h s l =
     let v = value 256 (drop (w * g) bs) in
     let f : value 256 bs / (2 ^ w) ^ (8 * g) ≡ v + (2 ^ w) ^ 8 * 0 = past 8 w h (w * g) (8 * g) (omega arith) ∙ rw (mul-zero, add-zero) in
     rw e (further (2 ^ w) (value 256 bs) (8 * g) v out (pow-pos w) s 8 8 0 l (omega arith) f)
+
+pub written-on : (b k m v j : ℕ) (out : List ℕ) → j + (k + m) ≤ length out
+    → written b m (v / b ^ k) (j + k) (written b k v j out) ≡ written b (k + m) v j out
+written-on b k m v j out l =
+    let p = take j out ++ digits b k v in
+    let e = drop (j + k) out in
+    let size : length p ≡ j + k = rw (length-append, length-take-le j out (omega arith), digits-length) in
+    let behind : drop (j + k + m) (p ++ e) ≡ drop (j + (k + m)) out = rw (← drop-drop m (j + k) (p ++ e), drop-at p e (j + k) size, drop-drop, add-assoc) in
+    rw (take-at p e (j + k) size, behind, digits-append) (simp append-assoc)
+
+-- two numbers of 64 bits, four bytes at a time
+pub sixteen : (z v u j : ℕ) (out : List ℕ) {o1 o2 o3 o4 : List ℕ} → j + 16 ≤ length out → digits 256 8 v ≡ digits 256 8 z → z / 256 ^ 8 ≡ u
+    → o1 ≡ written 256 4 v j out → o2 ≡ written 256 4 (v / 4294967296) (j + 4) o1 → o3 ≡ written 256 4 u (j + 8) o2
+    → o4 ≡ written 256 4 (u / 4294967296) (j + 12) o3 → o4 ≡ written 256 16 z j out
+sixteen z v u j out {o1} {o2} {o3} {o4} l d e e1 e2 e3 e4 =
+    let low : o2 ≡ written 256 8 z j out =
+    e2 ∙ ap (written 256 4 (v / 4294967296) (j + 4)) e1 ∙ written-on 256 4 4 v j out (omega arith) ∙ rw d in
+    let len : length o2 ≡ length out = ap length low ∙ written-length 256 8 z j out (omega arith) in
+    let up : j + 12 ≡ j + 8 + 4 = omega arith in
+    let high : o4 ≡ written 256 8 u (j + 8) o2 =
+    e4 ∙ ap (written 256 4 (u / 4294967296) (j + 12)) e3 ∙ rw up (written-on 256 4 4 u (j + 8) o2 (omega arith)) in
+    high ∙ rw (low, ← e) (written-on 256 8 8 z j out l)
+
+-- a number shifted up k bits over another of k bits, in two words
+module _ (k n low high : ℕ) (e : n + k ≡ 64) (h : low < 2 ^ k) where
+  wraps : high * 2 ^ k % 2 ^ (n + k) ≡ high % 2 ^ n * 2 ^ k
+  wraps = mod-pow-add (high * 2 ^ k) n k ∙ rw (shl-shr, mul-mod-left) (omega arith)
+
+  pub shifted-fits : low + high * 2 ^ k % 2 ^ 64 < 2 ^ 64
+  shifted-fits =
+      let fits : low + high * 2 ^ k % 2 ^ (n + k) < 2 ^ (n + k) = rw (wraps, pow-add) (omega (arith, digits-lt (mod-lt high (pow-pos n)) h)) in
+      rw e at fits
+
+  pub shifted-low : digits 256 8 (low + high * 2 ^ k % 2 ^ 64) ≡ digits 256 8 (low + 2 ^ k * high)
+  shifted-low =
+      let parts : low + 2 ^ k * high ≡ low + high * 2 ^ k % 2 ^ (n + k) + 2 ^ (n + k) * (high / 2 ^ n) =
+      rw wraps (ap (λ (x : ℕ). low + 2 ^ k * x) (sym (split high n)) ∙ rw pow-add (omega arith)) in
+      sym (ap (digits 256 8) (rw e at parts) ∙ digits-low 256 8 (low + high * 2 ^ k % 2 ^ 64) (high / 2 ^ n) (omega arith))
+
+  pub shifted-high : (low + 2 ^ k * high) / 2 ^ 64 ≡ high / 2 ^ n
+  shifted-high =
+      let flip : low + 2 ^ k * high ≡ high * 2 ^ k + low = omega arith in
+      let up : 64 ≡ k + n = omega arith in
+      ap (λ (x : ℕ). x / 2 ^ 64) flip ∙ ap (λ (x : ℕ). (high * 2 ^ k + low) / 2 ^ x) up ∙ sym (shr-shr (high * 2 ^ k + low) k n) ∙ ap (λ (x : ℕ). x / 2 ^ n) (Pow.high high k h)
+
+-- numbers of at most 15 bits, a few at a time
+module _ {w : ℕ} {xs : List ℕ} (m : w < 16) (h : Below (2 ^ w) xs) where
+  pub few : (k j : ℕ) → k ≤ 4 → value (2 ^ w) (take k (drop j xs)) < 2 ^ 64
+  few k j l =
+      let small : w * k ≤ 64 = omega (arith, mul-le-mul {n₁ = w} {m₁ = k} {n₂ = 15} {m₂ = 4} (omega arith) l) in
+      lt-of-lt-of-le (rw power-power at (value-take-below (below-drop h j) k)) (pow-mono small)
+
+pub quad-below : (w : ℕ) {xs : List ℕ} → Below (2 ^ w) xs → (j : ℕ) → value (2 ^ w) (take 4 (drop j xs)) < 2 ^ (4 * w)
+quad-below w h j = rw (mul-comm 4 w, ← power-power 2 w 4) (value-take-below (below-drop h j) 4)
+
+pub one-more : (b k : ℕ) (xs : List ℕ) (j i v : ℕ) → i ≡ j + 1 → v ≡ value b (take k (drop i xs)) → v * b + getD xs j 0 ≡ value b (take (suc k) (drop j xs))
+one-more b k xs j i v e f = rw (f, e) (omega (arith, value-next b k xs j))
+
+pub two-quads : (w j : ℕ) (xs : List ℕ) (low high : ℕ) → low ≡ value (2 ^ w) (take 4 (drop j xs)) → high ≡ value (2 ^ w) (take 4 (drop (j + 4) xs))
+    → low + 2 ^ (4 * w) * high ≡ value (2 ^ w) (take 8 (drop j xs))
+two-quads w j xs low high e f =
+    let b : 2 ^ (4 * w) ≡ (2 ^ w) ^ 4 = rw (mul-comm 4 w) (sym (power-power 2 w 4)) in
+    rw (b, e, f, value-parts (2 ^ w) 4 4 (drop j xs), drop-drop)
+
+pub packed-on : (w g : ℕ) {xs : List ℕ} (out : List ℕ) → w < 16 → Below (2 ^ w) xs → take (w * g) out ≡ digits 256 (w * g) (value (2 ^ w) xs)
+    → w * g + 16 ≤ length out → (z : ℕ) → z ≡ value (2 ^ w) (take 8 (drop (8 * g) xs))
+    → take (w * (g + 1)) (written 256 16 z (w * g) out) ≡ digits 256 (w * (g + 1)) (value (2 ^ w) xs)
+packed-on w g {xs} out m h s l z e =
+    let n : w * (g + 1) ≡ w * g + w = omega arith in
+    let r = drop 8 (drop (8 * g) xs) in
+    let b : (2 ^ w) ^ 8 ≡ 256 ^ w = power-power 2 w 8 ∙ rw (mul-comm w 8) (sym (power-power 2 8 w)) in
+    let f : value (2 ^ w) xs / 256 ^ (w * g) ≡ z + 256 ^ w * value (2 ^ w) r =
+    past w 8 h (8 * g) (w * g) (omega arith) ∙ value-split (2 ^ w) 8 (drop (8 * g) xs) ∙ rw (e, b) in
+    rw n (further 256 (value (2 ^ w) xs) (w * g) z out (omega arith) s 16 w (value (2 ^ w) r) l (omega arith) f)
 
 pub resume : (wi wo : ℕ) {xs out : List ℕ} {n : ℕ} → Below (2 ^ wi) xs → (i j : ℕ) → length out ≡ n → wo * j ≡ wi * i → j ≤ n
     → take j out ≡ digits (2 ^ wo) j (value (2 ^ wi) xs) → Flow wi wo xs n out 0 0 i j

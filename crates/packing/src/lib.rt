@@ -8,16 +8,96 @@ ghost use lib.ListN.{length, getD, take, drop};
 ghost use Rattle.lists.specs.Entries.{Below};
 ghost use Rattle.packing.specs.Packing.{value, digits, packed, unpacked};
 
-// The bytes of the numbers, each below 2^w.
+// The bytes of the numbers, each below 2^w: in groups where there is a way for the width, then one by one.
 pub fn pack(w: u32, xs: &[u32], out: &mut [u8])
     requires { ⌜ (0 < w) × (w ≤ 32) × Below (2 ^ w) (now xs) ⌝ }
     requires { ⌜ w * length (now xs) ≡ 8 * length (now out) ⌝ }
     ensures { λ _. ⌜ now (out .exit) ≡ packed w (now (xs .entry)) ⌝ }
 {
+    let done = pack_most(w, xs, out);
+    pack_rest(w, xs, out, done);
+}
+
+// Groups of eight numbers, and how many groups. The widths of the schemes stand here as literals, each of which becomes a loop of its own.
+fn pack_most(w: u32, xs: &[u32], out: &mut [u8]) -> usize
+    requires { ⌜ (0 < w) × (w ≤ 32) × Below (2 ^ w) (now xs) ⌝ }
+    requires { ⌜ w * length (now xs) ≡ 8 * length (now out) ⌝ }
+    ensures { λ r. ⌜ (w * r ≤ length (now (out .entry))) × (take (w * r) (now (out .exit)) ≡ digits 256 (w * r) (value (2 ^ w) (now (xs .entry)))) ⌝ }
+{
+    match w {
+        1 => pack_groups(1, xs, out),
+        2 => pack_groups(2, xs, out),
+        4 => pack_groups(4, xs, out),
+        11 => pack_groups(11, xs, out),
+        12 => pack_groups(12, xs, out),
+        14 => pack_groups(14, xs, out),
+        15 => pack_groups(15, xs, out),
+        _ => 0,
+    }
+}
+
+// Groups of eight numbers, w bytes each, as long as their stores stay within the bytes.
+fn pack_groups(w: u32, xs: &[u32], out: &mut [u8]) -> usize
+    requires { ⌜ (0 < w) × (w < 16) × Below (2 ^ w) (now xs) ⌝ }
+    requires { ⌜ w * length (now xs) ≡ 8 * length (now out) ⌝ }
+    ensures { λ r. ⌜ (w * r ≤ length (now (out .entry))) × (take (w * r) (now (out .exit)) ≡ digits 256 (w * r) (value (2 ^ w) (now (xs .entry)))) ⌝ }
+{
+    let size = w as usize;
+    let mut i: usize = 0;
+    let mut g: usize = 0;
+    while i + 16 <= out.len() {
+        let low = quad(w, xs, 8 * g);
+        let high = quad(w, xs, 8 * g + 4);
+        put_group(w, low, high, out, i);
+        i += size;
+        g += 1;
+    }
+    g
+}
+
+// Four numbers as one of 4 w bits.
+fn quad(w: u32, xs: &[u32], j: usize) -> u64
+    requires { ⌜ (w < 16) × Below (2 ^ w) (now xs) × (j + 4 ≤ length (now xs)) ⌝ }
+    ensures { λ r. ⌜ r ≡ value (2 ^ w) (take 4 (drop j (now (xs .entry)))) ⌝ }
+{
+    onto(
+        w,
+        onto(w, onto(w, xs[j + 3] as u64, xs[j + 2]), xs[j + 1]),
+        xs[j],
+    )
+}
+
+fn onto(w: u32, v: u64, x: u32) -> u64
+    requires { ⌜ (w < 64) × (v * 2 ^ w + x < 18446744073709551616) ⌝ }
+    ensures { λ r. ⌜ r ≡ v * 2 ^ w + x ⌝ }
+{
+    (v << w) + x as u64
+}
+
+// Eight numbers, of which `low` has four and `high` four, at i, in two words of 64 bits. What these have beyond w bytes the next group overwrites.
+fn put_group(w: u32, low: u64, high: u64, out: &mut [u8], i: usize)
+    requires { ⌜ (0 < w) × (w < 16) × (low < 2 ^ (4 * w)) × (i + 16 ≤ length (now out)) ⌝ }
+    ensures { λ _. ⌜ now (out .exit) ≡ take i (now (out .entry)) ++ digits 256 16 (low + 2 ^ (4 * w) * high) ++ drop (i + 16) (now (out .entry)) ⌝ }
+{
+    let lower = low + (high << (4 * w));
+    let upper = high >> (64 - 4 * w);
+    put_word(out, i, lower);
+    put_word(out, i + 4, lower / 4294967296);
+    put_word(out, i + 8, upper);
+    put_word(out, i + 12, upper / 4294967296);
+}
+
+// The numbers behind the groups that are done, to the end, at any width.
+fn pack_rest(w: u32, xs: &[u32], out: &mut [u8], done: usize)
+    requires { ⌜ (0 < w) × (w ≤ 32) × Below (2 ^ w) (now xs) ⌝ }
+    requires { ⌜ w * length (now xs) ≡ 8 * length (now out) ⌝ }
+    requires { ⌜ (w * done ≤ length (now out)) × (take (w * done) (now out) ≡ digits 256 (w * done) (value (2 ^ w) (now xs))) ⌝ }
+    ensures { λ _. ⌜ now (out .exit) ≡ packed w (now (xs .entry)) ⌝ }
+{
     let mut acc: u64 = 0;
     let mut held: u32 = 0;
-    let mut i: usize = 0;
-    let mut j: usize = 0;
+    let mut i: usize = 8 * done;
+    let mut j: usize = w as usize * done;
     while i < xs.len() {
         acc += (xs[i] as u64) << held;
         held += w;

@@ -1,0 +1,75 @@
+-- `packing::pack_groups` meets its contract: after g groups the first w g bytes are there.
+use mathlib.Core.Path.{_≡_, refl, sym, _∙_}
+use Prim.Native.Nat.{_+_, _*_, _-_, _^_, _≤_, _<_}
+use native.Mathlib.Nat.{le-of-mul-le-mul-left, mul-zero}
+use native.Mathlib.Omega.{arith}
+use borrow.Author.Needs.{needs}
+use lib.ListN.{length, take}
+use Rattle.packing.specs.Packing.{value, digits}
+use Rattle.packing.proofs.Groups.{packed-on, quad-below, two-quads}
+use Rattle.packing.proofs.pack_groups.Statement.{statement}
+use Rattle.packing.proofs.pack_groups.Tie as tie
+
+abbrev Inv-loop : tie.InvT-loop
+Inv-loop w xs out₀ size i₀ g₀ out i g =
+    (length out ≡ length out₀) × (i ≡ w * g) × (i ≤ length out₀) × (take (w * g) out ≡ digits 256 (w * g) (value (2 ^ w) xs))
+
+abbrev μ-loop : tie.MeasureT-loop
+μ-loop w xs out₀ size i₀ g₀ out i g = length out₀ - i
+
+loop-holds : tie.Need-loop-holds Inv-loop μ-loop
+unfolding digits
+loop-holds c = (refl, omega arith, omega arith, simp mul-zero)
+
+-- where a group has room, its numbers are there
+there : (c : tie.In-loop Inv-loop μ-loop) → 8 * c .before .loop .g + 8 ≤ length (c .before .before .before .before .args .xs .now)
+there c =
+    let s = c .before .before .before .before in
+    let l = c .before .loop in
+    le-of-mul-le-mul-left {k = s .args .w} (omega (arith, s .pre .1, l .inv .0, l .inv .1)) (s .pre .0 .0)
+
+mul-quad : tie.Need-mul-quad Inv-loop μ-loop
+mul-quad c = omega (arith, there c)
+
+quad-requires : tie.Need-quad-requires Inv-loop μ-loop
+quad-requires c κs = (omega arith, c .before .before .before .before .pre .0 .2, omega (arith, there c))
+
+mul-quad-2 : tie.Need-mul-quad-2 Inv-loop μ-loop
+mul-quad-2 c = omega (arith, there (c .before))
+
+add-quad : tie.Need-add-quad Inv-loop μ-loop
+add-quad c = omega (arith, there (c .before))
+
+quad-requires-2 : tie.Need-quad-requires-2 Inv-loop μ-loop
+quad-requires-2 c κs = (omega arith, c .before .before .before .before .before .pre .0 .2, omega (arith, there (c .before)))
+
+put-group-requires : tie.Need-put-group-requires Inv-loop μ-loop
+put-group-requires c κs =
+    let s = c .before .before .before .before .before .before .before in
+    let low = rw (← c .before .before .quad .ensures) at (quad-below (s .args .w) (s .pre .0 .2) (8 * c .before .before .before .before .loop .g)) in
+    (omega arith, omega arith, low, omega (arith, c .before .before .before .before .loop .inv .0))
+
+add-g : tie.Need-add-g Inv-loop μ-loop
+add-g c = omega (arith, there (c .before .before .before .before .before .before))
+
+loop-again : tie.Need-loop-again Inv-loop μ-loop
+loop-again c =
+    let s = c .before .before .before .before .before .before .before .before .before .before in
+    let l = c .before .before .before .before .before .before .before .loop in
+    let w = s .args .w in
+    let q = c .before .before .before .before in
+    let put = c .before .before .put-group in
+    let group = two-quads w (8 * l .g) (s .args .xs .now) (q .before .quad .result) (q .quad2 .result) (q .before .quad .ensures) (q .quad2 .ensures) in
+    let more = packed-on w (l .g) (l .out) (s .pre .0 .1) (s .pre .0 .2) (l .inv .3) (omega (arith, l .inv .1)) _ group in
+    (put .kept .1 .1 .1 .0 ∙ l .inv .0, omega (arith, l .inv .1), omega arith, rw (put .ensures, l .inv .1) more)
+
+same-length : tie.Need-same-length Inv-loop μ-loop
+same-length c = c .before .loop .inv .0
+
+returns : tie.Need-returns Inv-loop μ-loop
+returns c = (omega (arith, c .before .loop .inv .1), c .before .loop .inv .3)
+
+pub pack-groups-spec : {M : Type 1} → statement M
+pack-groups-spec =
+    tie.close
+    (tie.spec Inv-loop μ-loop loop-holds (λ c. omega arith) mul-quad quad-requires mul-quad-2 add-quad quad-requires-2 put-group-requires (λ c. omega arith) add-g (λ c. omega arith) loop-again same-length returns)
