@@ -2,12 +2,11 @@
 --   based         a shifted 1
 --   low-bits      what lies n bits up does not touch the bits below
 --   bits-at       the w bits that start t bits up, taken from the eight bytes that they lie in
---   each-of-eight eight digits, each by its bits
 --   past          what is behind i digits of wi bits is behind j digits of wo bits, where these are as many bits
---   stored        eight digits, one store each
 --   further       m digits more, of at least as many that are written behind the first j
 --   unpacked-on   a group more is unpacked
 --   written-on    digits written behind digits written
+--   written-none, stored   no digit is written; a number more, by its bits
 --   sixteen       sixteen bytes of one number, four at a time
 --   shifted-fits, shifted-low, shifted-high   a number under another that is shifted up, in two words
 --   few, quad-below   a few numbers fit a word; four are below 2^(4 w)
@@ -15,13 +14,12 @@
 --   packed-on     a group more is packed
 --   resume        `Flow` with nothing held, where the first j digits are there
 use mathlib.Core.Path.{_≡_, refl, sym, ap, _∙_}
-use mathlib.Core.List.{List, [], _∷_, _++_, append-assoc}
+use mathlib.Core.List.{List, _++_, append-assoc, append-nil}
 use Prim.Native.Nat.{ℕ, suc, _+_, _*_, _-_, _/_, _%_, _^_, _≤_, _<_}
-use native.Mathlib.Nat.{add-assoc, add-mul-mod-self-left, div-one, lt-of-lt-of-le, mod-lt, mul-assoc, mul-comm, mul-le-mul, mul-mod-left, mul-zero, add-zero, one-mul, zero-add}
-use native.Mathlib.Numerals.{add-one, add-two, add-three, add-four, add-five, add-six, add-seven}
+use native.Mathlib.Nat.{add-assoc, add-mul-mod-self-left, lt-of-lt-of-le, mod-lt, mul-assoc, mul-comm, mul-le-mul, mul-mod-left, mul-zero, add-zero, one-mul, zero-add}
 use native.Mathlib.Omega.{arith}
-use lib.ListN.{length, getD, take, drop, set, length-append}
-use lib.Seq.{drop-at, drop-drop, length-take-le, sets-eq, take-at}
+use lib.ListN.{length, getD, take, drop, set, length-append, take-append-drop}
+use lib.Seq.{drop-at, drop-drop, length-take-le, take-at}
 use lib.Pow.{field, mod-pow-add, pow-add, pow-mono, pow-pos, shl-exact, shl-shr, shr-shr, split}
 use lib.Pow as Pow
 use lib.Arith.{digits-lt}
@@ -30,7 +28,7 @@ use Rattle.lists.specs.Entries.{Below}
 use Rattle.lists.proofs.Parts.{below-drop}
 use Rattle.packing.specs.Packing.{value, digits}
 use Rattle.packing.proofs.Laws.{value-split, value-parts, value-next, value-take-below, value-drop, digits-append, digits-length, digits-low}
-use Rattle.packing.proofs.Flow.{Flow, written, written-length}
+use Rattle.packing.proofs.Flow.{Flow, one, written, written-length}
 
 pub based : (w : ℕ) → w ≤ 32 → 1 * 2 ^ w % 2 ^ 64 ≡ 2 ^ w
 based w h = shl-exact 1 w 64 (omega arith) (omega arith) ∙ one-mul (2 ^ w)
@@ -55,29 +53,6 @@ bits-at {bs} h i t w l =
     let room : 64 ≡ w + t % 8 + (64 - (w + t % 8)) = omega arith in
     let low = low-bits (value 256 (take 8 u)) (value 256 (drop 8 u)) 64 w (t % 8) (64 - (w + t % 8)) room in
     sym (ap (λ (n : ℕ). n % 2 ^ w) (there ∙ ap (λ (n : ℕ). n / 2 ^ (t % 8)) (value-split 256 8 u)) ∙ low)
-
-each-of-eight : (w v : ℕ)
-    → digits (2 ^ w) 8 v
-    ≡ v / 2 ^ 0 % 2 ^ w ∷ v / 2 ^ w % 2 ^ w ∷ v / 2 ^ (2 * w) % 2 ^ w ∷ v / 2 ^ (3 * w) % 2 ^ w ∷ v / 2 ^ (4 * w) % 2 ^ w ∷ v / 2 ^ (5 * w) % 2 ^ w
-    ∷ v / 2 ^ (6 * w) % 2 ^ w ∷ v / 2 ^ (7 * w) % 2 ^ w ∷ []
-unfolding digits
-each-of-eight w v =
-    let e2 : 2 * w ≡ w + w = omega arith in
-    let e3 : 3 * w ≡ w + w + w = omega arith in
-    let e4 : 4 * w ≡ w + w + w + w = omega arith in
-    let e5 : 5 * w ≡ w + w + w + w + w = omega arith in
-    let e6 : 6 * w ≡ w + w + w + w + w + w = omega arith in
-    let e7 : 7 * w ≡ w + w + w + w + w + w + w = omega arith in
-    rw (e2, e3, e4, e5, e6, e7) (simp (shr-shr, div-one))
-
-pub stored : (w v j : ℕ) (out : List ℕ) {x0 x1 x2 x3 x4 x5 x6 x7 : ℕ} → j + 8 ≤ length out
-    → x0 ≡ v / 2 ^ 0 % 2 ^ w → x1 ≡ v / 2 ^ w % 2 ^ w → x2 ≡ v / 2 ^ (2 * w) % 2 ^ w → x3 ≡ v / 2 ^ (3 * w) % 2 ^ w → x4 ≡ v / 2 ^ (4 * w) % 2 ^ w
-    → x5 ≡ v / 2 ^ (5 * w) % 2 ^ w → x6 ≡ v / 2 ^ (6 * w) % 2 ^ w → x7 ≡ v / 2 ^ (7 * w) % 2 ^ w
-    → set (set (set (set (set (set (set (set out j x0) (j + 1) x1) (j + 2) x2) (j + 3) x3) (j + 4) x4) (j + 5) x5) (j + 6) x6) (j + 7) x7
-    ≡ written (2 ^ w) 8 v j out
-stored w v j out {x0} {x1} {x2} {x3} {x4} {x5} {x6} {x7} l e0 e1 e2 e3 e4 e5 e6 e7 =
-    rw (each-of-eight w v, ← e0, ← e1, ← e2, ← e3, ← e4, ← e5, ← e6, ← e7, add-one j, add-two j, add-three j, add-four j, add-five j, add-six j, add-seven j)
-    (sets-eq (x0 ∷ x1 ∷ x2 ∷ x3 ∷ x4 ∷ x5 ∷ x6 ∷ x7 ∷ []) out j l)
 
 pub further : (b n j v : ℕ) (out : List ℕ) → 0 < b → take j out ≡ digits b j n → (k m t : ℕ) → j + k ≤ length out → m ≤ k → n / b ^ j ≡ v + b ^ m * t
     → take (j + m) (written b k v j out) ≡ digits b (j + m) n
@@ -106,6 +81,18 @@ written-on b k m v j out l =
     let size : length p ≡ j + k = rw (length-append, length-take-le j out (omega arith), digits-length) in
     let behind : drop (j + k + m) (p ++ e) ≡ drop (j + (k + m)) out = rw (← drop-drop m (j + k) (p ++ e), drop-at p e (j + k) size, drop-drop, add-assoc) in
     rw (take-at p e (j + k) size, behind, digits-append) (simp append-assoc)
+
+pub written-none : (b v j : ℕ) (out : List ℕ) → out ≡ written b 0 v j out
+unfolding digits
+written-none b v j out = sym (simp (append-nil, add-zero, take-append-drop))
+
+pub stored : (w k v j x : ℕ) (out : List ℕ) {o : List ℕ} → j + (k + 1) ≤ length out → x ≡ v / 2 ^ (k * w) % 2 ^ w → o ≡ written (2 ^ w) k v j out
+    → set o (j + k) x ≡ written (2 ^ w) (k + 1) v j out
+stored w k v j x out {o} l e f =
+    let b = 2 ^ w in
+    let place : x ≡ v / b ^ k % b = rw (power-power 2 w k, mul-comm w k) e in
+    let room : j + k < length (written b k v j out) = rw (written-length b k v j out (omega arith)) (omega arith) in
+    rw (f, place) (one b (v / b ^ k) (j + k) (written b k v j out) room ∙ written-on b k 1 v j out l)
 
 -- two numbers of 64 bits, four bytes at a time
 pub sixteen : (z v u j : ℕ) (out : List ℕ) {o1 o2 o3 o4 : List ℕ} → j + 16 ≤ length out → digits 256 8 v ≡ digits 256 8 z → z / 256 ^ 8 ≡ u

@@ -60,11 +60,13 @@ fn quad(w: u32, xs: &[u32], j: usize) -> u64
     requires { ⌜ (w < 16) × Below (2 ^ w) (now xs) × (j + 4 ≤ length (now xs)) ⌝ }
     ensures { λ r. ⌜ r ≡ value (2 ^ w) (take 4 (drop j (now (xs .entry)))) ⌝ }
 {
-    onto(
-        w,
-        onto(w, onto(w, xs[j + 3] as u64, xs[j + 2]), xs[j + 1]),
-        xs[j],
-    )
+    let mut v: u64 = 0;
+    let mut k: usize = 4;
+    while 0 < k {
+        k -= 1;
+        v = onto(w, v, xs[j + k]);
+    }
+    v
 }
 
 fn onto(w: u32, v: u64, x: u32) -> u64
@@ -186,14 +188,12 @@ fn unpack_group(w: u32, bytes: &[u8], i: usize, out: &mut [u32], j: usize)
     requires { ⌜ (0 < w) × (w ≤ 32) × (i + w + 7 ≤ length (now bytes)) × (j + 8 ≤ length (now out)) ⌝ }
     ensures { λ _. ⌜ now (out .exit) ≡ take j (now (out .entry)) ++ digits (2 ^ w) 8 (value 256 (drop i (now (bytes .entry)))) ++ drop (j + 8) (now (out .entry)) ⌝ }
 {
-    out[j] = number(w, bytes, i, 0);
-    out[j + 1] = number(w, bytes, i, w);
-    out[j + 2] = number(w, bytes, i, 2 * w);
-    out[j + 3] = number(w, bytes, i, 3 * w);
-    out[j + 4] = number(w, bytes, i, 4 * w);
-    out[j + 5] = number(w, bytes, i, 5 * w);
-    out[j + 6] = number(w, bytes, i, 6 * w);
-    out[j + 7] = number(w, bytes, i, 7 * w);
+    // eight turns, which the compiler unrolls
+    let mut k: u32 = 0;
+    while k < 8 {
+        out[j + k as usize] = number(w, bytes, i, k * w);
+        k += 1;
+    }
 }
 
 // The number of w bits that starts t bits behind byte i. It lies within eight bytes, which are one load.

@@ -1,50 +1,52 @@
--- `packing::unpack_group` meets its contract: eight stores side by side are one part of the list.
+-- `packing::unpack_group` meets its contract: after k turns k numbers are written.
+use mathlib.Core.Path.{_≡_, refl}
+use Prim.Native.Nat.{_+_, _*_, _-_, _^_, _≤_, _<_}
+use native.Mathlib.Nat.{mul-le-mul-right}
 use native.Mathlib.Omega.{arith}
-use borrow.Author.Needs.{needs}
-use lib.ListN.{drop, length-set}
+use lib.ListN.{length, drop, length-set}
 use Rattle.packing.specs.Packing.{value}
-use Rattle.packing.proofs.Groups.{stored}
+use Rattle.packing.proofs.Flow.{written}
+use Rattle.packing.proofs.Groups.{written-none, stored}
 use Rattle.packing.proofs.unpack_group.Statement.{statement}
 use Rattle.packing.proofs.unpack_group.Tie as tie
 
-slice-write-out-2 : tie.Need-slice-write-out-2
-slice-write-out-2 c = simp length-set (omega arith)
+abbrev Inv-loop : tie.InvT-loop
+Inv-loop w bytes i out₀ j k₀ out k = (k ≤ 8) × (length out ≡ length out₀) × (out ≡ written (2 ^ w) k (value 256 (drop i bytes)) j out₀)
 
-slice-write-out-3 : tie.Need-slice-write-out-3
-slice-write-out-3 c = simp length-set (omega arith)
+abbrev μ-loop : tie.MeasureT-loop
+μ-loop w bytes i out₀ j k₀ out k = 8 - k
 
-slice-write-out-4 : tie.Need-slice-write-out-4
-slice-write-out-4 c = simp length-set (omega arith)
+loop-holds : tie.Need-loop-holds Inv-loop μ-loop
+loop-holds c =
+    let a = c .before .before .args in
+    (omega arith, refl, written-none (2 ^ a .w) (value 256 (drop (a .i) (a .bytes .now))) (a .j) (a .out .now))
 
-slice-write-out-5 : tie.Need-slice-write-out-5
-slice-write-out-5 c = simp length-set (omega arith)
+-- the last of the eight starts within the group's bytes
+starts : (c : tie.In-loop Inv-loop μ-loop) → c .before .loop .k * c .before .before .before .before .args .w ≤ 7 * c .before .before .before .before .args .w
+starts c = mul-le-mul-right (c .before .before .before .before .args .w) (omega arith)
 
-slice-write-out-6 : tie.Need-slice-write-out-6
-slice-write-out-6 c = simp length-set (omega arith)
+mul-number : tie.Need-mul-number Inv-loop μ-loop
+mul-number c = omega (arith, starts c)
 
-slice-write-out-7 : tie.Need-slice-write-out-7
-slice-write-out-7 c = simp length-set (omega arith)
+number-requires : tie.Need-number-requires Inv-loop μ-loop
+number-requires c κs = (omega arith, omega (arith, starts c))
 
-slice-write-out-8 : tie.Need-slice-write-out-8
-slice-write-out-8 c = simp length-set (omega arith)
+loop-again : tie.Need-loop-again Inv-loop μ-loop
+loop-again c =
+    let s = c .before .before .before .before .before in
+    let l = c .before .before .loop in
+    let all = stored (s .args .w) (l .k) (value 256 (drop (s .args .i) (s .args .bytes .now))) (s .args .j) (c .number .result) (s .args .out .now) (omega arith) (c .number .ensures) (l .inv .2) in
+    (omega arith, simp length-set (l .inv .1), all)
 
-same-length : tie.Need-same-length
-same-length c = simp length-set
+same-length : tie.Need-same-length Inv-loop μ-loop
+same-length c = c .before .loop .inv .1
 
-returns : tie.Need-returns
+returns : tie.Need-returns Inv-loop μ-loop
 returns c =
-    let s = c .before .before .before .before .before .before .before .before .before .before in
-    stored (s .args .w) (value 256 (drop (s .args .i) (s .args .bytes .now))) (s .args .j) (s .args .out .now) (s .pre .3)
-    (c .before .before .before .before .before .before .before .number .ensures)
-    (c .before .before .before .before .before .before .number2 .ensures)
-    (c .before .before .before .before .before .number3 .ensures)
-    (c .before .before .before .before .number4 .ensures)
-    (c .before .before .before .number5 .ensures)
-    (c .before .before .number6 .ensures)
-    (c .before .number7 .ensures)
-    (c .number8 .ensures)
+    let e : c .before .loop .k ≡ 8 = omega arith in
+    rw e at (c .before .loop .inv .2)
 
 pub unpack-group-spec : {M : Type 1} → statement M
 unpack-group-spec =
     tie.close
-    (tie.spec (search needs) (search needs) (search needs) (search needs) (search needs) (search needs) slice-write-out-2 (search needs) (search needs) (search needs) (search needs) slice-write-out-3 (search needs) (search needs) (search needs) (search needs) slice-write-out-4 (search needs) (search needs) (search needs) (search needs) slice-write-out-5 (search needs) (search needs) (search needs) (search needs) slice-write-out-6 (search needs) (search needs) (search needs) (search needs) slice-write-out-7 (search needs) (search needs) (search needs) (search needs) slice-write-out-8 same-length returns)
+    (tie.spec Inv-loop μ-loop loop-holds mul-number number-requires (λ c. omega arith) (λ c. omega arith) (λ c. omega arith) (λ c. omega arith) (λ c. omega arith) (λ c. omega arith) loop-again same-length returns)
