@@ -4,13 +4,13 @@
 --   filled b v j out      `out` up to place j, then the digits of v to the end
 --   one, full, fill       one digit is stored; at the end nothing is to follow; k digits written leave that many fewer to follow
 --   Flow                  what holds at each turn: with what is held and what is still to come, `out` comes to hold all
---   start, take-in, emit  it holds at the start, after k digits are taken in, and after k are written
+--   take-in, emit         it holds after k digits are taken in, and after k are written; where it starts, `resume` of Groups says
 --   fits, room            what is held fits the accumulator; what is held and written has room
 --   all-in, all-out       once all is taken in, the digits of what is held complete `out`; once all is written, it is complete
 use mathlib.Core.Path.{_≡_, refl, sym, ap, _∙_}
 use mathlib.Core.List.{List, _++_, append-assoc, append-nil}
 use Prim.Native.Nat.{ℕ, _+_, _*_, _-_, _/_, _%_, _^_, _≤_, _<_}
-use native.Mathlib.Nat.{add-mul-div-left, lt-of-lt-of-le, mul-le-mul-left, one-le-pow, one-mul, sub-zero, zero-add}
+use native.Mathlib.Nat.{add-mul-div-left, lt-of-lt-of-le, mul-le-mul-left, one-le-pow}
 use native.Mathlib.Numerals.{add-one}
 use native.Mathlib.Omega.{arith}
 use mir.Syntax.{w64}
@@ -57,14 +57,6 @@ pub record Flow (wi wo : ℕ) (xs : List ℕ) (n : ℕ) (out : List ℕ) (acc he
   pub bits : held + wo * j ≡ wi * i
   pub small : acc < 2 ^ held
   pub same : filled (2 ^ wo) (acc + 2 ^ held * value (2 ^ wi) (drop i xs)) j out ≡ digits (2 ^ wo) n (value (2 ^ wi) xs)
-
-pub start : (wi wo : ℕ) (xs out : List ℕ) → Flow wi wo xs (length out) out 0 0 0 0
-start wi wo xs out = record {
-  len = refl;
-  bits = omega arith;
-  small = pow-pos 0;
-  same = simp (sub-zero, zero-add, one-mul);
-}
 
 module _ {wi wo : ℕ} {xs : List ℕ} {n : ℕ} {out : List ℕ} {acc held i j : ℕ} (f : Flow wi wo xs n out acc held i j) where
   pub take-in : (k d x : ℕ) → wi * k ≡ d → held + d ≤ 64 → x < 2 ^ d → x ≡ value (2 ^ wi) (take k (drop i xs))

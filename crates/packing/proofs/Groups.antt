@@ -12,6 +12,8 @@
 --   few, quad-below   a few numbers fit a word; four are below 2^(4 w)
 --   one-more, two-quads   a number more; four and four
 --   packed-on     a group more is packed
+--   words-on      a number of 32 bits more is packed
+--   fewer         of the first n digits, the first m
 --   resume        `Flow` with nothing held, where the first j digits are there
 use mathlib.Core.Path.{_≡_, refl, sym, ap, _∙_}
 use mathlib.Core.List.{List, _++_, append-assoc, append-nil}
@@ -19,7 +21,7 @@ use Prim.Native.Nat.{ℕ, suc, _+_, _*_, _-_, _/_, _%_, _^_, _≤_, _<_}
 use native.Mathlib.Nat.{add-assoc, add-mul-mod-self-left, lt-of-lt-of-le, mod-lt, mul-assoc, mul-comm, mul-le-mul, mul-mod-left, mul-zero, add-zero, one-mul, zero-add}
 use native.Mathlib.Omega.{arith}
 use lib.ListN.{length, getD, take, drop, set, length-append, take-append-drop}
-use lib.Seq.{drop-at, drop-drop, length-take-le, take-at}
+use lib.Seq.{drop-at, drop-drop, length-take-le, take-at, take-take}
 use lib.Pow.{field, mod-pow-add, pow-add, pow-mono, pow-pos, shl-exact, shl-shr, shr-shr, split}
 use lib.Pow as Pow
 use lib.Arith.{digits-lt}
@@ -27,7 +29,7 @@ use Rattle.numbers.proofs.Natural.{power-power}
 use Rattle.lists.specs.Entries.{Below}
 use Rattle.lists.proofs.Parts.{below-drop}
 use Rattle.packing.specs.Packing.{value, digits}
-use Rattle.packing.proofs.Laws.{value-split, value-parts, value-next, value-take-below, value-drop, digits-append, digits-length, digits-low}
+use Rattle.packing.proofs.Laws.{value-split, value-parts, value-next, value-one, value-take-below, value-drop, digits-append, digits-length, digits-low}
 use Rattle.packing.proofs.Flow.{Flow, one, written, written-length}
 
 pub based : (w : ℕ) → w ≤ 32 → 1 * 2 ^ w % 2 ^ 64 ≡ 2 ^ w
@@ -158,6 +160,22 @@ packed-on w g {xs} out m h s l z e =
     let f : value (2 ^ w) xs / 256 ^ (w * g) ≡ z + 256 ^ w * value (2 ^ w) r =
     past w 8 h (8 * g) (w * g) (omega arith) ∙ value-split (2 ^ w) 8 (drop (8 * g) xs) ∙ rw (e, b) in
     rw n (further 256 (value (2 ^ w) xs) (w * g) z out (omega arith) s 16 w (value (2 ^ w) r) l (omega arith) f)
+
+pub words-on : (j : ℕ) {xs : List ℕ} (out : List ℕ) → Below (2 ^ 32) xs → take (4 * j) out ≡ digits 256 (4 * j) (value (2 ^ 32) xs) → 4 * j + 4 ≤ length out
+    → take (4 * (j + 1)) (written 256 4 (getD xs j 0) (4 * j) out) ≡ digits 256 (4 * (j + 1)) (value (2 ^ 32) xs)
+words-on j {xs} out h s l =
+    let n : 4 * (j + 1) ≡ 4 * j + 4 = omega arith in
+    let x = getD xs j 0 in
+    let r = value (2 ^ 32) (drop 1 (drop j xs)) in
+    let f : value (2 ^ 32) xs / 256 ^ (4 * j) ≡ x + 256 ^ 4 * r =
+    past 32 8 h j (4 * j) (omega arith) ∙ value-split (2 ^ 32) 1 (drop j xs) ∙ rw (value-one (2 ^ 32) xs j) in
+    rw n (further 256 (value (2 ^ 32) xs) (4 * j) x out (omega arith) s 4 4 r l (omega arith) f)
+
+pub fewer : (b v m n : ℕ) (out : List ℕ) → take n out ≡ digits b n v → m ≤ n → take m out ≡ digits b m v
+fewer b v m n out h l =
+    let up : n ≡ m + (n - m) = omega arith in
+    let parts : digits b n v ≡ digits b m v ++ digits b (n - m) (v / b ^ m) = ap (λ (k : ℕ). digits b k v) up ∙ digits-append b m (n - m) v in
+    sym (take-take m n out l) ∙ ap (take m) (h ∙ parts) ∙ take-at (digits b m v) (digits b (n - m) (v / b ^ m)) m (digits-length b m v)
 
 pub resume : (wi wo : ℕ) {xs out : List ℕ} {n : ℕ} → Below (2 ^ wi) xs → (i j : ℕ) → length out ≡ n → wo * j ≡ wi * i → j ≤ n
     → take j out ≡ digits (2 ^ wo) j (value (2 ^ wi) xs) → Flow wi wo xs n out 0 0 i j

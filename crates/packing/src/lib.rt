@@ -1,6 +1,9 @@
-// Numbers of w bits as bytes and back, w from 1 to 32: 01, "Bytes on the wire". A bit accumulator in a machine word takes numbers in at one
-// end and gives bytes out at the other, four at a time; `unpack` is the same the other way round. Both fill the whole of `out`.
-// Between turns fewer than 32 bits are held, so 32 more still fit the accumulator.
+// Numbers of w bits as bytes and back, w from 1 to 32: 01, "Bytes on the wire". Both fill the whole of `out`.
+//
+// Eight numbers are w bytes. At the widths that the schemes use, groups of eight go through code that is made for the width: a loop with a literal
+// in place of w, in which every shift and every place is a constant. What is left behind the last group, and every other width, goes through a bit
+// accumulator in a machine word: numbers go in at one end and bytes come out at the other, four at a time, and the other way round. Between turns
+// fewer than 32 bits are held, so 32 more still fit it.
 ghost use mathlib.Core.Path.{_≡_};
 ghost use mathlib.Core.List.{_++_};
 ghost use Prim.Native.Nat.{_+_, _-_, _*_, _/_, _%_, _^_, _≤_, _<_};
@@ -32,6 +35,7 @@ fn pack_most(w: u32, xs: &[u32], out: &mut [u8]) -> usize
         12 => pack_groups(12, xs, out),
         14 => pack_groups(14, xs, out),
         15 => pack_groups(15, xs, out),
+        32 => pack_words(xs, out),
         _ => 0,
     }
 }
@@ -53,6 +57,20 @@ fn pack_groups(w: u32, xs: &[u32], out: &mut [u8]) -> usize
         g += 1;
     }
     g
+}
+
+// Numbers of 32 bits: four bytes each, all of them.
+fn pack_words(xs: &[u32], out: &mut [u8]) -> usize
+    requires { ⌜ Below (2 ^ 32) (now xs) ⌝ }
+    requires { ⌜ 32 * length (now xs) ≡ 8 * length (now out) ⌝ }
+    ensures { λ r. ⌜ (32 * r ≤ length (now (out .entry))) × (take (32 * r) (now (out .exit)) ≡ digits 256 (32 * r) (value (2 ^ 32) (now (xs .entry)))) ⌝ }
+{
+    let mut j: usize = 0;
+    while j < xs.len() {
+        put_word(out, 4 * j, xs[j] as u64);
+        j += 1;
+    }
+    j / 8
 }
 
 // Four numbers as one of 4 w bits.
@@ -201,16 +219,9 @@ fn number(w: u32, bytes: &[u8], i: usize, t: u32) -> u32
     requires { ⌜ (w ≤ 32) × (i + t / 8 + 8 ≤ length (now bytes)) ⌝ }
     ensures { λ r. ⌜ r ≡ value 256 (drop i (now (bytes .entry))) / 2 ^ t % 2 ^ w ⌝ }
 {
-    let v = eight(bytes, i + (t / 8) as usize);
+    let a = i + (t / 8) as usize;
+    let v = four(bytes, a) + 4294967296 * four(bytes, a + 4);
     ((v >> (t % 8)) % (1u64 << w)) as u32
-}
-
-// The number of the eight bytes from i on.
-fn eight(bytes: &[u8], i: usize) -> u64
-    requires { ⌜ i + 8 ≤ length (now bytes) ⌝ }
-    ensures { λ r. ⌜ r ≡ value 256 (take 8 (drop i (now (bytes .entry)))) ⌝ }
-{
-    four(bytes, i) + 4294967296 * four(bytes, i + 4)
 }
 
 // The number of the four bytes from i on.

@@ -42,6 +42,11 @@ requires7 c κs =
     let s = c .before .before .before .before in
     ((omega arith, omega arith, rw (c .before .match .keys7) at (s .pre .0 .2)), rw (c .before .match .keys7) at (s .pre .1))
 
+requires8 : tie.Need-pack-words-requires
+requires8 c κs =
+    let s = c .before .before .before .before in
+    (rw (c .before .match .keys8) at (s .pre .0 .2), rw (c .before .match .keys8) at (s .pre .1))
+
 returns1 : tie.Need-returns
 returns1 c = rw (c .before .before .before .before .match .keys1) (c .before .before .pack-groups .ensures)
 
@@ -63,12 +68,15 @@ returns6 c = rw (c .before .before .before .before .match .keys6) (c .before .be
 returns7 : tie.Need-returns-7
 returns7 c = rw (c .before .before .before .before .match .keys7) (c .before .before .pack-groups7 .ensures)
 
--- no group, no byte
 returns8 : tie.Need-returns-8
+returns8 c = rw (c .before .before .before .before .match .keys8) (c .before .before .pack-words .ensures)
+
+-- no group, no byte
+returns9 : tie.Need-returns-9
 unfolding digits
-returns8 c = (omega arith, simp mul-zero)
+returns9 c = (omega arith, simp mul-zero)
 
 pub pack-most-spec : {M : Type 1} → statement M
 pack-most-spec =
     tie.close
-    (tie.spec requires1 requires2 requires3 requires4 requires5 requires6 requires7 (search needs) returns1 (search needs) returns2 (search needs) returns3 (search needs) returns4 (search needs) returns5 (search needs) returns6 (search needs) returns7 returns8)
+    (tie.spec requires1 requires2 requires3 requires4 requires5 requires6 requires7 requires8 (search needs) returns1 (search needs) returns2 (search needs) returns3 (search needs) returns4 (search needs) returns5 (search needs) returns6 (search needs) returns7 (search needs) returns8 returns9)
