@@ -2,7 +2,7 @@
 --   upper-small, lower-small   each half is at most 32768 in size
 --   lift-low, lift-high, lift-lt   the number and 2147516416 more, with or without q less: by its size, and below 2^32
 --   halves-≅                   65536 upper + lower is the number modulo q
---   negative-zero, negative-rest, rest-small   -x modulo q, and a number below q
+--   negative-zero, negative-rest, minus-under, minus-over   -x and x - y modulo q
 --   less-fits, narrow-fits, narrow   a half in the machine: from 16 unsigned bits by way of an i32 to an i16
 use mathlib.Core.Path.{_≡_, _∙_, sym, ap, ap₂, subst}
 use Prim.Native.Nat.{ℕ, zero, suc, _+_, _*_, _-_, _/_, _%_, _^_, _≤_, _<_}
@@ -17,7 +17,7 @@ use mir.Facts.{toZ-ofZ, sfits-widen}
 use Rattle.numbers.specs.Residue.{residue, _≅⟨_⟩_}
 use Rattle.numbers.proofs.Difference.{diff, pos-diff, pos-sub, diff-≡, diff-ge, diff-lt, diffs, diff-add}
 use Rattle.numbers.proofs.Size.{abs-difference}
-use Rattle.numbers.proofs.Congruence.{eq-≅, _⨾_, sym-≅}
+use Rattle.numbers.proofs.Congruence.{eq-≅, _⨾_, sym-≅, residue-is}
 use Rattle.numbers.proofs.Machine.{toZ-pos}
 use Rattle.polynomial.specs.Window.{lift, upper, lower}
 
@@ -74,10 +74,6 @@ halves-≅ q x h r = eq-≅ (whole (lift q x)) ⨾ go (decLt x 2147450880)
 
 -- ---- numbers below q
 
-pub rest-small : (q x : ℕ) → x < q → residue q (pos x) ≡ x
-unfolding residue
-rest-small q x h = mod-eq-of-lt h
-
 pub negative-zero : (q x : ℕ) → x < q → x ≡ 0 → 0 ≡ residue q (negℤ (pos x))
 unfolding residue
 negative-zero q x h e = rw e (sym (mod-eq-of-lt (omega arith)))
@@ -86,6 +82,14 @@ pub negative-rest : (q x : ℕ) → x < q → 0 < x → q - x ≡ residue q (neg
 unfolding residue
 negative-rest q zero h p = absurd (omega arith)
 negative-rest q (suc n) h p = ap (λ (k : ℕ). q - suc k) (sym (mod-eq-of-lt (omega arith)))
+
+-- x - y, from y above x and from y at most x
+pub minus-under : (q x y : ℕ) → x < q → y < q → x < y → x + (q - y) ≡ residue q (pos x -ℤ pos y)
+minus-under q x y h k l =
+    residue-is (omega arith) (record { times = pos 1; equal = pos-diff (x + (q - y)) ∙ diff-≡ _ _ (x + 1 * q) (y + 0) (omega arith) ∙ sym (ap₂ (λ (a b : ℤ). a +ℤ b) (pos-sub x y) (pos-diff (1 * q)) ∙ diff-add x y (1 * q) 0) })
+
+pub minus-over : (q x y : ℕ) → x < q → y ≤ x → x - y ≡ residue q (pos x -ℤ pos y)
+minus-over q x y h l = residue-is (omega arith) (eq-≅ (sym (pos-sub x y ∙ diff-ge x y l)))
 
 -- ---- a half in the machine
 

@@ -1,19 +1,23 @@
 -- The kernel's numbers in the machine: one product, two sums added, and the two halves put together.
 --   widen-fits, widen        a number of 16 bits in 32
 --   one-fits, one            one product
---   span-one, span-join, span-size   the products of some neighbouring entries: of one, of some and those behind them, and their size
+--   span-one, span-join, span-small   the products of some neighbouring entries: of one, of some and those behind them, and their size
+--   secret-small             the size of one secret
 --   pair-fits, pair          two such sums, one behind the other, added
 --   first-none, first-fits, first-read, first-more   the sum of the first i products
---   join-*                   65536 times one sum, another, and the noise
+--   times-*, both-*          65536 times one sum, and another
+--   noise-*                  a sum and the noise
+--   plus-*                   two numbers of one type
 use mathlib.Core.Path.{_≡_, refl, sym, ap, ap₂, _∙_, subst}
 use mathlib.Core.List.{List}
-use Prim.Native.Nat.{ℕ, _+_, _*_, _^_, _≤_}
+use Prim.Native.Nat.{ℕ, _+_, _*_, _^_, _≤_, _<_}
 use native.Mathlib.Omega.{arith}
-use lib.ListN.{getD}
+use native.Mathlib.Nat.{mul-le-mul, le-refl}
+use lib.ListN.{getD, length}
 use lib.IntN.{ℤ, pos, natAbs, _+ℤ_, _*ℤ_, +ℤ-idl}
 use lib.Signed.{natAbs-le}
-use mir.Syntax.{w16, w32, w64}
-use mir.Val.{SFits, toZ, ofZ}
+use mir.Syntax.{Width, w16, w32, w64}
+use mir.Val.{SFits, toZ, ofZ, hbits}
 use mir.Facts.{toZ-ofZ, sfits-widen}
 use Rattle.numbers.specs.Sum.{sum}
 use Rattle.numbers.proofs.Size.{abs-add, abs-mul, abs-mul-≤, abs-sum}
@@ -34,7 +38,7 @@ widen-fits z f = rw (toZ-ofZ f) (sfits-widen tt f)
 pub widen : (z : ℤ) → SFits w16 z → widened16 z ≡ z
 widen z f = toZ-ofZ (widen-fits z f) ∙ toZ-ofZ f
 
-module _ (x s : ℤ) (fx : SFits w16 x) (fs : SFits w16 s) (hx : natAbs x ≤ 32768) (hs : natAbs s ≤ 51) where
+module _ (x s : ℤ) (fx : SFits w16 x) (fs : SFits w16 s) (hx : natAbs x ≤ 32768) (hs : natAbs s ≤ 52224) where
   one-is : widened16 x *ℤ widened16 s ≡ x *ℤ s
   one-is = ap₂ (λ (y z : ℤ). y *ℤ z) (widen x fx) (widen s fs)
 
@@ -62,16 +66,28 @@ span-join m n w s i =
     let e : i + (m + j) ≡ i + m + j = omega arith in
     ap (λ (k : ℕ). ints w k *ℤ ints s k) e)))
 
-pub span-size : (m : ℕ) (w s : List ℤ) (i : ℕ) → Pair w s → natAbs (span m w s i) ≤ m * 1671168
+pub span-size : (m : ℕ) (w s : List ℤ) (i : ℕ) (p : Pair w s) → natAbs (span m w s i) ≤ m * (32768 * p .size)
 unfolding span dot ints
 span-size m w s i p =
-    abs-sum m 1671168 _ (λ j l. abs-mul-≤ (getD w (i + j) (pos 0)) (getD s (i + j) (pos 0)) (p .w-within .within (i + j)) (p .s-within .within (i + j)))
+    abs-sum m (32768 * p .size) _ (λ j l. abs-mul-≤ (getD w (i + j) (pos 0)) (getD s (i + j) (pos 0)) (p .w-within .within (i + j)) (p .s-within .within (i + j)))
 
-span-fits : (m : ℕ) (w s : List ℤ) (i : ℕ) → Pair w s → m ≤ 1024 → SFits w32 (span m w s i)
-span-fits m w s i p h = fits-abs w32 _ (omega (arith, span-size m w s i p))
+-- in all at most 32768 * 51 * 1024
+pub span-small : (m : ℕ) (w s : List ℤ) (i : ℕ) → Pair w s → m ≤ length w → natAbs (span m w s i) ≤ 1711276032
+span-small m w s i p h =
+    let k : m * p .size ≤ length w * p .size = mul-le-mul h (le-refl (p .size)) in
+    omega (arith, span-size m w s i p, p .room, k)
+
+span-fits : (m : ℕ) (w s : List ℤ) (i : ℕ) → Pair w s → m ≤ length w → SFits w32 (span m w s i)
+span-fits m w s i p h = fits-abs w32 _ (omega (arith, span-small m w s i p h))
+
+pub secret-small : (w s : List ℤ) (i : ℕ) → Pair w s → i < length w → natAbs (getD s i (pos 0)) ≤ 52224
+secret-small w s i p h =
+    let o : 1 ≤ length w = omega arith in
+    let k : 1 * p .size ≤ length w * p .size = mul-le-mul o (le-refl (p .size)) in
+    omega (arith, p .s-within .within i, p .room, k)
 
 -- two sums, one behind the other
-module _ (m n : ℕ) (w s : List ℤ) (i : ℕ) (p : Pair w s) (few : m + n ≤ 1024) (x y : ℤ) (ex : x ≡ span m w s i) (ey : y ≡ span n w s (i + m)) where
+module _ (m n : ℕ) (w s : List ℤ) (i : ℕ) (p : Pair w s) (few : m + n ≤ length w) (x y : ℤ) (ex : x ≡ span m w s i) (ey : y ≡ span n w s (i + m)) where
   pair-is : toZ w32 (ofZ w32 x) +ℤ toZ w32 (ofZ w32 y) ≡ span (m + n) w s i
   pair-is =
       ap₂ (λ (a b : ℤ). toZ w32 (ofZ w32 a) +ℤ toZ w32 (ofZ w32 b)) ex ey
@@ -90,10 +106,10 @@ pub first-none : (w s : List ℤ) → 0 ≡ ofZ w32 (span 0 w s 0)
 unfolding span dot sum
 first-none w s = refl
 
-pub first-read : (w s : List ℤ) (i t : ℕ) → Pair w s → i ≤ 1024 → t ≡ ofZ w32 (span i w s 0) → toZ w32 t ≡ span i w s 0
+pub first-read : (w s : List ℤ) (i t : ℕ) → Pair w s → i ≤ length w → t ≡ ofZ w32 (span i w s 0) → toZ w32 t ≡ span i w s 0
 first-read w s i t p h e = ap (toZ w32) e ∙ toZ-ofZ (span-fits i w s 0 p h)
 
-module _ (m : ℕ) (w s : List ℤ) (i t : ℕ) (y : ℤ) (p : Pair w s) (few : i + m ≤ 1024) (et : t ≡ ofZ w32 (span i w s 0)) (ey : y ≡ span m w s i) where
+module _ (m : ℕ) (w s : List ℤ) (i t : ℕ) (y : ℤ) (p : Pair w s) (few : i + m ≤ length w) (et : t ≡ ofZ w32 (span i w s 0)) (ey : y ≡ span m w s i) where
   first-is : toZ w32 t +ℤ toZ w32 (ofZ w32 y) ≡ span (i + m) w s 0
   first-is =
       let e : i ≡ 0 + i = omega arith in
@@ -108,41 +124,51 @@ module _ (m : ℕ) (w s : List ℤ) (i t : ℕ) (y : ℤ) (p : Pair w s) (few : 
   pub first-more : ofZ w32 (toZ w32 t +ℤ toZ w32 (ofZ w32 y)) ≡ ofZ w32 (span (i + m) w s 0)
   first-more = ap (ofZ w32) first-is
 
--- ---- the two halves and the noise
+-- ---- the two halves put together, and the noise added
 
-module _ (x y e : ℤ) (fx : SFits w32 x) (fy : SFits w32 y) (fe : SFits w32 e) where
-  size : {z : ℤ} → SFits w32 z → natAbs z ≤ 2 ^ 31
-  size {z} f = natAbs-le z {H = 2 ^ 31} (f .sfits)
-
-  times-is : widened x *ℤ pos 65536 ≡ x *ℤ pos 65536
-  times-is = ap (λ (z : ℤ). z *ℤ pos 65536) (wide x fx)
+module _ (x y : ℤ) (fx : SFits w64 x) (fy : SFits w64 y) (hx : natAbs x ≤ 2 ^ 31) (hy : natAbs y ≤ 2 ^ 31) where
+  times-is : toZ w64 (ofZ w64 x) *ℤ pos 65536 ≡ x *ℤ pos 65536
+  times-is = ap (λ (z : ℤ). z *ℤ pos 65536) (toZ-ofZ fx)
 
   times-small : natAbs (x *ℤ pos 65536) ≤ 2 ^ 47
-  times-small = omega (arith, abs-mul x (pos 65536), size fx)
+  times-small = omega (arith, abs-mul x (pos 65536))
 
-  pub times-fits : SFits w64 (widened x *ℤ pos 65536)
+  pub times-fits : SFits w64 (toZ w64 (ofZ w64 x) *ℤ pos 65536)
   times-fits = subst (SFits w64) (sym times-is) (fits-abs w64 _ (omega (arith, times-small)))
 
-  halves-is : toZ w64 (ofZ w64 (widened x *ℤ pos 65536)) +ℤ widened y ≡ x *ℤ pos 65536 +ℤ y
-  halves-is = ap₂ (λ (a b : ℤ). a +ℤ b) (toZ-ofZ times-fits ∙ times-is) (wide y fy)
+  both-is : toZ w64 (ofZ w64 (toZ w64 (ofZ w64 x) *ℤ pos 65536)) +ℤ toZ w64 (ofZ w64 y) ≡ x *ℤ pos 65536 +ℤ y
+  both-is = ap₂ (λ (a b : ℤ). a +ℤ b) (toZ-ofZ times-fits ∙ times-is) (toZ-ofZ fy)
 
-  halves-small : natAbs (x *ℤ pos 65536 +ℤ y) ≤ 2 ^ 47 + 2 ^ 31
-  halves-small = omega (arith, abs-add (x *ℤ pos 65536) y, times-small, size fy)
+  pub both-fits : SFits w64 (toZ w64 (ofZ w64 (toZ w64 (ofZ w64 x) *ℤ pos 65536)) +ℤ toZ w64 (ofZ w64 y))
+  both-fits = subst (SFits w64) (sym both-is) (fits-abs w64 _ (omega (arith, abs-add (x *ℤ pos 65536) y, times-small)))
 
-  pub halves-fits : SFits w64 (toZ w64 (ofZ w64 (widened x *ℤ pos 65536)) +ℤ widened y)
-  halves-fits = subst (SFits w64) (sym halves-is) (fits-abs w64 _ (omega (arith, halves-small)))
+  pub both-read : toZ w64 (ofZ w64 (toZ w64 (ofZ w64 (toZ w64 (ofZ w64 x) *ℤ pos 65536)) +ℤ toZ w64 (ofZ w64 y))) ≡ x *ℤ pos 65536 +ℤ y
+  both-read = toZ-ofZ both-fits ∙ both-is
 
-  all-is : toZ w64 (ofZ w64 (toZ w64 (ofZ w64 (widened x *ℤ pos 65536)) +ℤ widened y)) +ℤ widened e ≡ x *ℤ pos 65536 +ℤ y +ℤ e
-  all-is = ap₂ (λ (a b : ℤ). a +ℤ b) (toZ-ofZ halves-fits ∙ halves-is) (wide e fe)
+module _ (x e : ℤ) (fx : SFits w64 x) (fe : SFits w32 e) (hx : natAbs x ≤ 2 ^ 60) where
+  noise-is : toZ w64 (ofZ w64 x) +ℤ widened e ≡ x +ℤ e
+  noise-is = ap₂ (λ (a b : ℤ). a +ℤ b) (toZ-ofZ fx) (wide e fe)
 
-  pub all-small : natAbs (x *ℤ pos 65536 +ℤ y +ℤ e) ≤ 2 ^ 48
-  all-small = omega (arith, abs-add (x *ℤ pos 65536 +ℤ y) e, halves-small, size fe)
+  pub noise-small : natAbs (x +ℤ e) ≤ 2 ^ 61
+  noise-small = omega (arith, abs-add x e, natAbs-le e {H = 2 ^ 31} (fe .sfits))
 
-  pub all-fits : SFits w64 (toZ w64 (ofZ w64 (toZ w64 (ofZ w64 (widened x *ℤ pos 65536)) +ℤ widened y)) +ℤ widened e)
-  all-fits = subst (SFits w64) (sym all-is) (fits-abs w64 _ (omega (arith, all-small)))
+  pub noise-fits : SFits w64 (toZ w64 (ofZ w64 x) +ℤ widened e)
+  noise-fits = subst (SFits w64) (sym noise-is) (fits-abs w64 _ (omega (arith, noise-small)))
 
-  pub all-read : toZ w64 (ofZ w64 (toZ w64 (ofZ w64 (toZ w64 (ofZ w64 (widened x *ℤ pos 65536)) +ℤ widened y)) +ℤ widened e)) ≡ x *ℤ pos 65536 +ℤ y +ℤ e
-  all-read = toZ-ofZ all-fits ∙ all-is
+  pub noise-read : toZ w64 (ofZ w64 (toZ w64 (ofZ w64 x) +ℤ widened e)) ≡ x +ℤ e
+  noise-read = toZ-ofZ noise-fits ∙ noise-is
+
+-- ---- two numbers added where they stand
+
+module _ (w : Width) (x y : ℤ) (fx : SFits w x) (fy : SFits w y) (few : natAbs x + natAbs y < 2 ^ hbits w) where
+  plus-is : toZ w (ofZ w x) +ℤ toZ w (ofZ w y) ≡ x +ℤ y
+  plus-is = ap₂ (λ (a b : ℤ). a +ℤ b) (toZ-ofZ fx) (toZ-ofZ fy)
+
+  pub plus-fits : SFits w (toZ w (ofZ w x) +ℤ toZ w (ofZ w y))
+  plus-fits = subst (SFits w) (sym plus-is) (fits-abs w _ (omega (arith, abs-add x y)))
+
+  pub plus-read : toZ w (ofZ w (toZ w (ofZ w x) +ℤ toZ w (ofZ w y))) ≡ x +ℤ y
+  plus-read = toZ-ofZ plus-fits ∙ plus-is
 
 -- ---- a secret in 16 bits
 

@@ -4,5 +4,8 @@ pub mod Size
 pub mod Halves
 pub mod Mixing
 pub mod Kernel
+pub mod Stores
+pub mod Three
 pub mod Window
+pub mod Level
 pub mod Cards

@@ -1,20 +1,25 @@
 // Products modulo X^n + 1 and q of public numbers with secrets, which are small and signed: 01, "The calls" (BCNS). The laws of the ring, and that
 // the two ends differ by s'e + e'' - e's, stand in `proofs/`, once over n and q.
 // Entry k of as is the dot product of the secret, its last entry first, with n neighbouring entries of [-a | a], those behind entry k: what passes
-// X^(n - 1) meets -a. Each entry of [-a | a] is split into two signed halves of 16 bits, 65536 h + l, so that the products of a half with the secret,
-// and 1,024 of them, fit an i32; the two sums are put together in an i64, and each entry is reduced once, where q is 4294967295 without a division (02b).
-// Sixty-four products are one expression, which the compiler makes instructions of that multiply and add eight each (pmaddwd); in a plain loop it does not.
+// X^(n - 1) meets -a. The n dot products of a window of 2 n numbers are made of three times n / 2, W1 (s0 + s1), (W0 - W1) s0 and (W2 - W1) s1, where W0, W1
+// and W2 are the three windows of n numbers in it (`proofs/Three.antt`): the secrets double where their number halves, so that the sums keep their bound.
+// Where n is 64 at most, or odd, each number of the window is split into two signed halves of 16 bits, 65536 h + l, so that the sums of the products
+// of a half with the secrets fit an i32; the two sums are put together in an i64, and each entry is reduced once, where q is 4294967295 without a division
+// (02b). Sixty-four products are one expression, which the compiler makes instructions of that multiply and add eight each (pmaddwd); in a plain loop it does
+// not.
 ghost use mathlib.Core.Path.{_≡_};
-ghost use Prim.Native.Nat.{_+_, _*_, _^_, _<_, _≤_};
-ghost use lib.ListN.{length};
-ghost use lib.IntN.{pos, negℤ, natAbs, _+ℤ_, _*ℤ_};
+ghost use Prim.Native.Nat.{ℕ, _+_, _*_, _%_, _^_, _<_, _≤_, _-_};
+ghost use lib.ListN.{length, getD};
+ghost use lib.IntN.{pos, negℤ, natAbs, _+ℤ_, _-ℤ_, _*ℤ_};
 ghost use Rattle.numbers.specs.Residue.{residue};
-ghost use Rattle.lists.specs.Entries.{nums, ints, Below, Within};
+ghost use Rattle.lists.specs.Entries.{tab, nums, ints, Below, Within};
+ghost use Rattle.lists.specs.Lent.{was, left, room};
 ghost use Rattle.polynomial.specs.Mixing.{mixed, bare};
 ghost use Rattle.polynomial.specs.Fit.{Fit};
-ghost use Rattle.polynomial.specs.Window.{lift, liftAt, upper, lower, highs, lows, backwards, span, joined, slid, Pair, Laid};
+ghost use Rattle.polynomial.specs.Window.{lift, upper, lower, span, slide, Pair};
+ghost use Rattle.polynomial.specs.Steps.{Stored, Ready, Laid, Halved, Made, Joined, Windowed};
 
-// One product: at most 32768 * 51 in size. The functions below it are a tree of sums.
+// One product. The functions below it are a tree of sums.
 fn product(w: &[i16], s: &[i16], i: usize) -> i32
     requires { ⌜ Pair (now w) (now s) × (i < length (now w)) ⌝ }
     ensures { λ r. ⌜ r ≡ span 1 (now (w .entry)) (now (s .entry)) i ⌝ }
@@ -64,17 +69,26 @@ fn sixty_four(w: &[i16], s: &[i16], i: usize) -> i32
     thirty_two(w, s, i) + thirty_two(w, s, i + 32)
 }
 
-// The kernel: the sum of the products of the entries of two slices.
-fn dot_product(w: &[i16], s: &[i16]) -> i32
+// The kernel: the sum of the products of the entries of two slices, sixty-four at a time where they come out even.
+fn by_blocks(w: &[i16], s: &[i16]) -> i32
+    requires { ⌜ Pair (now w) (now s) × (length (now w) % 64 ≡ 0) ⌝ }
+    ensures { λ r. ⌜ r ≡ span (length (now (w .entry))) (now (w .entry)) (now (s .entry)) 0 ⌝ }
+{
+    let mut sum: i32 = 0;
+    let mut i: usize = 0;
+    while i < w.len() {
+        sum = sum + sixty_four(w, s, i);
+        i += 64;
+    }
+    sum
+}
+
+fn one_by_one(w: &[i16], s: &[i16]) -> i32
     requires { ⌜ Pair (now w) (now s) ⌝ }
     ensures { λ r. ⌜ r ≡ span (length (now (w .entry))) (now (w .entry)) (now (s .entry)) 0 ⌝ }
 {
     let mut sum: i32 = 0;
     let mut i: usize = 0;
-    while i + 64 <= w.len() {
-        sum = sum + sixty_four(w, s, i);
-        i += 64;
-    }
     while i < w.len() {
         sum = sum + product(w, s, i);
         i += 1;
@@ -82,54 +96,29 @@ fn dot_product(w: &[i16], s: &[i16]) -> i32
     sum
 }
 
-// Two sums put together, with the noise: less than 2^48 in size.
-fn join(high: i32, low: i32, e: i32) -> i64
-    ensures { λ r. ⌜ (r ≡ high *ℤ pos 65536 +ℤ low +ℤ e) × (natAbs r ≤ 2 ^ 48) ⌝ }
+fn dot_product(w: &[i16], s: &[i16]) -> i32
+    requires { ⌜ Pair (now w) (now s) ⌝ }
+    ensures { λ r. ⌜ r ≡ span (length (now (w .entry))) (now (w .entry)) (now (s .entry)) 0 ⌝ }
 {
-    (high as i64) * 65536 + (low as i64) + (e as i64)
-}
-
-// The same, reduced to 0 .. q - 1.
-fn reduce(q: u32, high: i32, low: i32, e: i32) -> u32
-    requires { ⌜ 0 < q ⌝ }
-    ensures { λ r. ⌜ r ≡ residue q (high *ℤ pos 65536 +ℤ low +ℤ e) ⌝ }
-{
-    let sum = join(high, low, e);
-    if q == 4294967295 {
-        numbers::residue_folded(sum)
+    if w.len() % 64 == 0 {
+        by_blocks(w, s)
     } else {
-        numbers::residue64(sum, q as u64) as u32
+        one_by_one(w, s)
     }
 }
 
-// Entry k of as + e, from the halves h and l of the window of a and the secret s, backwards.
-fn entry(q: u32, h: &[i16], l: &[i16], s: &[i16], e: &[i32], k: usize) -> u32
-    requires { ⌜ Laid q (length (now s)) (now h) (now l) (now s) × (length (now e) ≡ length (now s)) × (k < length (now s)) ⌝ }
-    ensures { λ r. ⌜ r ≡ residue q (joined (length (now (s .entry))) (now (h .entry)) (now (l .entry)) (now (s .entry)) k +ℤ ints (now (e .entry)) k) ⌝ }
-{
-    let from = k + 1;
-    let high = dot_product(&h[from..from + s.len()], s);
-    let low = dot_product(&l[from..from + s.len()], s);
-    reduce(q, high, low, e[k])
-}
-
-fn entries(q: u32, h: &[i16], l: &[i16], s: &[i16], e: &[i32], out: &mut [u32])
-    requires { ⌜ Laid q (length (now out)) (now h) (now l) (now s) × (length (now e) ≡ length (now out)) ⌝ }
-    ensures { λ _. ⌜ now (out .exit) ≡ slid q (length (now (out .entry))) (now (h .entry)) (now (l .entry)) (now (s .entry)) (now (e .entry)) ⌝ }
+// The n dot products of the secrets in front of t with its entries from x on, at `to` of o.
+fn dots(t: &[i16], x: usize, o: &mut [i64], to: usize, n: usize)
+    requires { ⌜ Laid x n (now t) × (to + n ≤ length (now o)) ⌝ }
+    ensures { λ _. ⌜ Stored (pos 0) (was o) to n (slide n (λ (i : ℕ). ints (was t) (x + i)) (ints (was t))) (left o) ⌝ }
 {
     let mut k: usize = 0;
-    while k < out.len() {
-        out[k] = entry(q, h, l, s, e, k);
+    while k < n {
+        let a = x + k;
+        let c = to + k;
+        o[c] = dot_product(&t[a..a + n], &t[..n]) as i64;
         k += 1;
     }
-}
-
-// -x, reduced.
-fn negative(q: u32, x: u32) -> u32
-    requires { ⌜ x < q ⌝ }
-    ensures { λ r. ⌜ r ≡ residue q (negℤ (pos x)) ⌝ }
-{
-    if x == 0 { 0 } else { q - x }
 }
 
 // x, or q less, so that two halves hold it; 2147516416 more.
@@ -141,19 +130,6 @@ fn lifted(q: u32, x: u32) -> u32
         x + 2147516416
     } else {
         ((x as u64) + 2147516416 - (q as u64)) as u32
-    }
-}
-
-// Entry i of [-a | a], lifted.
-fn window_entry(q: u32, a: &[u32], i: usize) -> u32
-    requires { ⌜ Below q (now a) × (i < length (now a) + length (now a)) ⌝ }
-    ensures { λ r. ⌜ r ≡ liftAt q (length (now (a .entry))) (now (a .entry)) i ⌝ }
-{
-    let n = a.len();
-    if i < n {
-        lifted(q, negative(q, a[i]))
-    } else {
-        lifted(q, a[i - n])
     }
 }
 
@@ -170,65 +146,266 @@ fn low_half(y: u32) -> i16
     (((y % 65536) as i32) - 32768) as i16
 }
 
-fn lay_window(q: u32, a: &[u32], h: &mut [i16], l: &mut [i16])
-    requires { ⌜ Below q (now a) ⌝ }
-    requires { ⌜ (length (now h) ≡ length (now a) + length (now a)) × (length (now l) ≡ length (now a) + length (now a)) ⌝ }
-    ensures { λ _. ⌜ now (h .exit) ≡ highs q (length (now (a .entry))) (now (a .entry)) ⌝ }
-    ensures { λ _. ⌜ now (l .exit) ≡ lows q (length (now (a .entry))) (now (a .entry)) ⌝ }
+// The halves of the window of 2 n numbers in front of d, behind the n secrets of t.
+fn lay_halves(q: u32, d: &[u32], t: &mut [i16], n: usize)
+    requires { ⌜ Ready q n (now d) (now t) ⌝ }
+    requires { ⌜ (2 * n ≤ length (now d)) × (5 * n ≤ length (now t)) ⌝ }
+    ensures { λ _. ⌜ Halved q n (was d) (was t) (left t) ⌝ }
 {
     let mut i: usize = 0;
-    while i < h.len() {
-        let y = window_entry(q, a, i);
-        h[i] = high_half(y);
-        l[i] = low_half(y);
+    while i < 2 * n {
+        let y = lifted(q, d[i]);
+        let a = n + i;
+        let b = 3 * n + i;
+        t[a] = high_half(y);
+        t[b] = low_half(y);
         i += 1;
     }
 }
 
-// The secret, its last entry first.
-fn reverse(s: &[i32], out: &mut [i16])
-    requires { ⌜ (length (now s) ≡ length (now out)) × Within 51 (now s) ⌝ }
-    ensures { λ _. ⌜ now (out .exit) ≡ backwards (length (now (s .entry))) (now (s .entry)) ⌝ }
+fn together(high: i64, low: i64) -> i64
+    requires { ⌜ (natAbs high ≤ 2 ^ 31) × (natAbs low ≤ 2 ^ 31) ⌝ }
+    ensures { λ r. ⌜ r ≡ high *ℤ pos 65536 +ℤ low ⌝ }
+{
+    high * 65536 + low
+}
+
+// The n sums of high halves in front of o, put together with those of low halves behind them.
+fn put_together(o: &mut [i64], n: usize)
+    requires { ⌜ (n + n ≤ length (now o)) × ((k : ℕ) → k < n + n → natAbs (ints (now o) k) ≤ 2 ^ 31) ⌝ }
+    ensures { λ _. ⌜ Stored (pos 0) (was o) 0 n (λ (k : ℕ). ints (was o) k *ℤ pos 65536 +ℤ ints (was o) (n + k)) (left o) ⌝ }
+{
+    let mut k: usize = 0;
+    while k < n {
+        let b = n + k;
+        o[k] = together(o[k], o[b]);
+        k += 1;
+    }
+}
+
+// The sums by the plain rule.
+fn leaf(q: u32, d: &[u32], t: &mut [i16], o: &mut [i64], n: usize)
+    requires { ⌜ Ready q n (now d) (now t) ⌝ }
+    requires { ⌜ (2 * n ≤ length (now d)) × (5 * n ≤ length (now t)) × (n + n ≤ length (now o)) ⌝ }
+    ensures { λ _. ⌜ Made q n (nums (was d)) (ints (was t)) (left o) ⌝ }
+{
+    let three = 3 * n;
+    lay_halves(q, d, t, n);
+    dots(t, n, o, 0, n);
+    dots(t, three, o, n, n);
+    put_together(o, n);
+}
+
+// x - y, reduced.
+fn minus(q: u32, x: u32, y: u32) -> u32
+    requires { ⌜ (x < q) × (y < q) ⌝ }
+    ensures { λ r. ⌜ r ≡ residue q (pos x -ℤ pos y) ⌝ }
+{
+    if x < y { x + (q - y) } else { x - y }
+}
+
+// The n numbers at x less those at y, behind them all.
+fn subtract(q: u32, d: &mut [u32], x: usize, y: usize, to: usize, n: usize)
+    requires { ⌜ (x + n ≤ to) × (y + n ≤ to) × (to + n ≤ length (now d)) ⌝ }
+    requires { ⌜ ((i : ℕ) → i < to → getD (now d) i 0 < q) ⌝ }
+    ensures { λ _. ⌜ Stored 0 (was d) to n (λ (k : ℕ). residue q (nums (was d) (x + k) -ℤ nums (was d) (y + k))) (left d) ⌝ }
+{
+    let mut i: usize = 0;
+    while i < n {
+        let a = x + i;
+        let b = y + i;
+        let c = to + i;
+        d[c] = minus(q, d[a], d[b]);
+        i += 1;
+    }
+}
+
+// The first n secrets, copied behind them.
+fn copy(t: &mut [i16], to: usize, n: usize)
+    requires { ⌜ (n ≤ to) × (to + n ≤ length (now t)) ⌝ }
+    ensures { λ _. ⌜ Stored (pos 0) (was t) to n (ints (was t)) (left t) ⌝ }
+{
+    let mut i: usize = 0;
+    while i < n {
+        let c = to + i;
+        t[c] = t[i];
+        i += 1;
+    }
+}
+
+// The next n secrets, added to the first n.
+fn add(t: &mut [i16], n: usize)
+    requires { ⌜ (n + n ≤ length (now t)) × ((j : ℕ) → j < n + n → natAbs (ints (now t) j) ≤ 16383) ⌝ }
+    ensures { λ _. ⌜ Stored (pos 0) (was t) 0 n (λ (j : ℕ). ints (was t) j +ℤ ints (was t) (n + j)) (left t) ⌝ }
+{
+    let mut i: usize = 0;
+    while i < n {
+        let c = n + i;
+        t[i] = t[i] + t[c];
+        i += 1;
+    }
+}
+
+// The n sums at x, added to those at `to`.
+fn raise(o: &mut [i64], to: usize, x: usize, n: usize)
+    requires { ⌜ (to + n ≤ x) × (x + n ≤ length (now o)) × ((k : ℕ) → k < x + n → natAbs (ints (now o) k) ≤ 2 ^ 61) ⌝ }
+    ensures { λ _. ⌜ Stored (pos 0) (was o) to n (λ (k : ℕ). ints (was o) (to + k) +ℤ ints (was o) (x + k)) (left o) ⌝ }
+{
+    let mut k: usize = 0;
+    while k < n {
+        let b = x + k;
+        let c = to + k;
+        o[c] = o[c] + o[b];
+        k += 1;
+    }
+}
+
+fn join(o: &mut [i64], m: usize)
+    requires { ⌜ (m + m + m ≤ length (now o)) × ((k : ℕ) → k < m + m + m → natAbs (ints (now o) k) ≤ 2 ^ 60) ⌝ }
+    ensures { λ _. ⌜ Joined m (was o) (left o) ⌝ }
+{
+    let two = m + m;
+    raise(o, 0, two, m);
+    raise(o, m, two, m);
+}
+
+// The n sums of the window of 2 n numbers in front of d and the n secrets in front of t, in front of o. Each of the three products of half the length is lent what
+// lies behind its own numbers, and so the middle one comes last.
+fn windows(q: u32, d: &mut [u32], t: &mut [i16], o: &mut [i64], n: usize)
+    requires { ⌜ Ready q n (now d) (now t) ⌝ }
+    requires { ⌜ (4 * n ≤ length (now d)) × (5 * n ≤ length (now t)) × (n + n ≤ length (now o)) ⌝ }
+    ensures { λ _. ⌜ Made q n (nums (was d)) (ints (was t)) (left o) ⌝ }
+{
+    if n <= 64 {
+        leaf(q, d, t, o, n);
+        return;
+    }
+    if n % 2 == 1 {
+        leaf(q, d, t, o, n);
+        return;
+    }
+    let m = n / 2;
+    let two = m + m;
+    let four = two + two;
+    subtract(q, d, 0, m, four, two);
+    copy(t, two, m);
+    windows(q, &mut d[four..], &mut t[two..], o, m);
+    subtract(q, d, two, m, four, two);
+    add(t, m);
+    windows(q, &mut d[four..], &mut t[m..], &mut o[m..], m);
+    windows(q, &mut d[m..], t, &mut o[two..], m);
+    join(o, m);
+}
+
+// -x, reduced.
+fn negative(q: u32, x: u32) -> u32
+    requires { ⌜ x < q ⌝ }
+    ensures { λ r. ⌜ r ≡ residue q (negℤ (pos x)) ⌝ }
+{
+    if x == 0 { 0 } else { q - x }
+}
+
+fn lay_negatives(q: u32, a: &[u32], d: &mut [u32])
+    requires { ⌜ Below q (now a) × (length (now a) ≤ length (now d)) ⌝ }
+    ensures { λ _. ⌜ Stored 0 (was d) 0 (room a - 1) (λ (i : ℕ). residue q (negℤ (nums (was a) (i + 1)))) (left d) ⌝ }
+{
+    let mut i: usize = 0;
+    while i + 1 < a.len() {
+        d[i] = negative(q, a[i + 1]);
+        i += 1;
+    }
+}
+
+fn lay_numbers(a: &[u32], d: &mut [u32], to: usize)
+    requires { ⌜ to + length (now a) ≤ length (now d) ⌝ }
+    ensures { λ _. ⌜ Stored 0 (was d) to (room a) (λ (i : ℕ). getD (was a) i 0) (left d) ⌝ }
+{
+    let mut i: usize = 0;
+    while i < a.len() {
+        let c = to + i;
+        d[c] = a[i];
+        i += 1;
+    }
+}
+
+// [-a | a] without its first entry, in front of d.
+fn lay_window(q: u32, a: &[u32], d: &mut [u32])
+    requires { ⌜ Below q (now a) × Below q (now d) ⌝ }
+    requires { ⌜ (0 < length (now a)) × (length (now a) + length (now a) ≤ length (now d)) ⌝ }
+    ensures { λ _. ⌜ Windowed q (room a) (was a) (left d) ⌝ }
+{
+    lay_negatives(q, a, d);
+    lay_numbers(a, d, a.len() - 1);
+}
+
+// The secret, its last entry first, in front of t.
+fn reverse(s: &[i32], t: &mut [i16])
+    requires { ⌜ (length (now s) ≤ length (now t)) × Within 51 (now s) ⌝ }
+    ensures { λ _. ⌜ Stored (pos 0) (was t) 0 (room s) (λ (j : ℕ). ints (was s) (room s - (j + 1))) (left t) ⌝ }
 {
     let mut j: usize = 0;
-    while j < out.len() {
-        out[j] = s[s.len() - 1 - j] as i16;
+    while j < s.len() {
+        t[j] = s[s.len() - 1 - j] as i16;
         j += 1;
     }
 }
 
-// as + e, with room lent for the halves of the window, h and l, and the secret backwards r: as literals these arrays would stand in every goal.
+// A sum with the noise, reduced to 0 .. q - 1.
+fn reduce(q: u32, x: i64, e: i32) -> u32
+    requires { ⌜ (0 < q) × (natAbs x ≤ 2 ^ 60) ⌝ }
+    ensures { λ r. ⌜ r ≡ residue q (x +ℤ e) ⌝ }
+{
+    let sum = x + (e as i64);
+    if q == 4294967295 {
+        numbers::residue_folded(sum)
+    } else {
+        numbers::residue64(sum, q as u64) as u32
+    }
+}
+
+fn entries(q: u32, o: &[i64], e: &[i32], out: &mut [u32])
+    requires { ⌜ (0 < q) × (length (now out) ≤ length (now o)) × (length (now e) ≡ length (now out)) ⌝ }
+    requires { ⌜ ((k : ℕ) → k < length (now out) → natAbs (ints (now o) k) ≤ 2 ^ 60) ⌝ }
+    ensures { λ _. ⌜ left out ≡ tab (room out) (λ (k : ℕ). residue q (ints (was o) k +ℤ ints (was e) k)) ⌝ }
+{
+    let mut k: usize = 0;
+    while k < out.len() {
+        out[k] = reduce(q, o[k], e[k]);
+        k += 1;
+    }
+}
+
+// as + e, with room lent for the window, the secrets and the sums: as literals these arrays would stand in every goal.
 fn mix_lent(
     q: u32,
     a: &[u32],
     s: &[i32],
     e: &[i32],
-    h: &mut [i16],
-    l: &mut [i16],
-    r: &mut [i16],
+    d: &mut [u32],
+    t: &mut [i16],
+    o: &mut [i64],
     out: &mut [u32],
 )
-    requires { ⌜ Fit q (length (now out)) (now a) (now s) × (length (now e) ≡ length (now out)) ⌝ }
-    requires { ⌜ (length (now h) ≡ length (now out) + length (now out)) × (length (now l) ≡ length (now out) + length (now out)) × (length (now r) ≡ length (now out)) ⌝ }
+    requires { ⌜ Fit q (length (now out)) (now a) (now s) × (length (now e) ≡ length (now out)) × Below q (now d) ⌝ }
+    requires { ⌜ (length (now d) ≡ 4096) × (length (now t) ≡ 5120) × (length (now o) ≡ 2048) ⌝ }
     ensures { λ _. ⌜ now (out .exit) ≡ mixed q (length (now (out .entry))) (now (a .entry)) (now (s .entry)) (now (e .entry)) ⌝ }
 {
-    lay_window(q, a, h, l);
-    reverse(s, r);
-    entries(q, h, l, r, e, out);
+    lay_window(q, a, d);
+    reverse(s, t);
+    windows(q, d, t, o, out.len());
+    entries(q, o, e, out);
 }
 
-// as + e. Its arrays take 10 KiB.
+// as + e. Its arrays take 42 KiB.
 pub fn mix(q: u32, a: &[u32], s: &[i32], e: &[i32], out: &mut [u32])
     requires { ⌜ Fit q (length (now out)) (now a) (now s) ⌝ }
     requires { ⌜ (length (now e) ≡ length (now out)) × Within 51 (now e) ⌝ }
     ensures { λ _. ⌜ now (out .exit) ≡ mixed q (length (now (out .entry))) (now (a .entry)) (now (s .entry)) (now (e .entry)) ⌝ }
 {
-    let n = out.len();
-    let m = n + n;
-    let mut h = [0i16; 2048];
-    let mut l = [0i16; 2048];
-    let mut r = [0i16; 1024];
-    mix_lent(q, a, s, e, &mut h[..m], &mut l[..m], &mut r[..n], out);
+    let mut d = [0u32; 4096];
+    let mut t = [0i16; 5120];
+    let mut o = [0i64; 2048];
+    mix_lent(q, a, s, e, &mut d, &mut t, &mut o, out);
 }
 
 // us: the same without noise.

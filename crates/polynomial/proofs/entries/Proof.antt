@@ -1,55 +1,66 @@
--- `polynomial::entries` meets its contract: it fills with the entries of the product.
-use mathlib.Core.Path.{_∙_, sym, ap, subst}
-use mathlib.Core.List.{List}
-use Prim.Native.Nat.{ℕ, _-_}
+-- `polynomial::entries` meets its contract: it fills with the sums, reduced.
+use mathlib.Core.Path.{_≡_, _∙_, sym, ap₂, subst}
+use Prim.Native.Nat.{ℕ, _-_, _^_, _≤_}
 use native.Mathlib.Omega.{arith}
-use lib.ListN.{length, length-set}
-use lib.IntN.{ℤ, _+ℤ_}
+use mathlib.Core.List.{List}
+use lib.ListN.{length, getD, length-set}
+use lib.IntN.{ℤ, pos, natAbs, _+ℤ_}
+use mir.Syntax.{w32, w64}
+use mir.Val.{toZ, ofZ}
+use mir.Facts.{toZ-ofZ}
+use borrow.Author.Needs.{needs}
 use Rattle.numbers.specs.Residue.{residue}
-use Rattle.lists.specs.Entries.{tab, ints}
+use Rattle.lists.specs.Entries.{ints}
 use Rattle.lists.proofs.Fill.{Filled, fill-start, fill-next, fill-end}
-use Rattle.polynomial.specs.Window.{joined, slid, Laid}
 use Rattle.polynomial.proofs.entries.Statement.{statement}
 use Rattle.polynomial.proofs.entries.Tie as tie
 
-abbrev by : ℕ → List ℤ → List ℤ → List ℤ → List ℤ → ℕ → ℕ
-by q h l s e k = residue q (joined (length s) h l s k +ℤ ints e k)
+abbrev by : ℕ → List ℤ → List ℤ → ℕ → ℕ
+by q o e k = residue q (ints o k +ℤ ints e k)
 
 abbrev Inv-loop : tie.InvT-loop
-Inv-loop q h l s e out₀ k₀ out k = Filled (by q h l s e) out₀ out k
+Inv-loop q o e out₀ k₀ out k = Filled (by q o e) out₀ out k
 
 abbrev μ-loop : tie.MeasureT-loop
-μ-loop q h l s e out₀ k₀ out k = length out - k
+μ-loop q o e out₀ k₀ out k = length out - k
 
 loop-holds : tie.Need-loop-holds Inv-loop μ-loop
 loop-holds c = fill-start _ _
 
-entry-requires : tie.Need-entry-requires Inv-loop μ-loop
-entry-requires c κs =
-    let s = c .before .before .before in
-    let a = s .args in
-    let l = s .pre .0 .s-long in
-    (subst (λ (n : ℕ). Laid (a .q) n (a .h .now) (a .l .now) (a .s .now)) (sym l) (s .pre .0), omega (arith, l), omega (arith, l))
+abbrev at : tie.After-reduce-arg2 Inv-loop μ-loop → tie.At-loop Inv-loop μ-loop
+at c = search needs
+
+abbrev start : tie.After-reduce-arg2 Inv-loop μ-loop → tie.Start Inv-loop μ-loop
+start c = search needs
+
+sum-is : (c : tie.After-reduce-arg2 Inv-loop μ-loop)
+    → toZ w64 (ofZ w64 (getD (start c .args .o .now) (at c .loop .k) (pos 0))) ≡ ints (start c .args .o .now) (at c .loop .k)
+unfolding ints
+sum-is c = toZ-ofZ {z = getD (start c .args .o .now) (at c .loop .k) (pos 0)} (record { sfits = c .before .reduce-arg .given })
+
+noise-is : (c : tie.After-reduce-arg2 Inv-loop μ-loop)
+    → toZ w32 (ofZ w32 (getD (start c .args .e .now) (at c .loop .k) (pos 0))) ≡ ints (start c .args .e .now) (at c .loop .k)
+unfolding ints
+noise-is c = toZ-ofZ {z = getD (start c .args .e .now) (at c .loop .k) (pos 0)} (record { sfits = c .reduce-arg2 .given })
+
+reduce-requires : tie.Need-reduce-requires Inv-loop μ-loop
+reduce-requires c κs = let s : tie.Start Inv-loop μ-loop = search needs in
+    let l : tie.At-loop Inv-loop μ-loop = search needs in
+    (s .pre .0 .0, subst (λ (z : ℤ). natAbs z ≤ 2 ^ 60) (sym (sum-is c)) (s .pre .1 (l .loop .k) (omega arith)))
 
 loop-less : tie.Need-loop-less Inv-loop μ-loop
 loop-less c = simp length-set (omega arith)
 
 loop-again : tie.Need-loop-again Inv-loop μ-loop
-loop-again c = fill-next _ (c .before .before .loop .inv) (omega arith) (c .entry .ensures)
+loop-again c = let s : tie.Start Inv-loop μ-loop = search needs in
+    let l : tie.At-loop Inv-loop μ-loop = search needs in
+    fill-next _ (l .loop .inv) (omega arith) (c .reduce .ensures ∙ ap₂ (λ (x y : ℤ). residue (s .args .q) (x +ℤ y)) (sum-is (c .before)) (noise-is (c .before)))
 
 same-length : tie.Need-same-length Inv-loop μ-loop
 same-length c = c .before .loop .inv .long
 
 returns : tie.Need-returns Inv-loop μ-loop
-unfolding slid
-returns c =
-    let s = c .before .before .before in
-    let a = s .args in
-    fill-end (c .before .loop .inv) (omega arith)
-    ∙ ap (λ (n : ℕ). tab (length (a .out .now)) (λ k. residue (a .q) (joined n (a .h .now) (a .l .now) (a .s .now) k +ℤ ints (a .e .now) k))) (s .pre .0 .s-long)
+returns c = fill-end (c .before .loop .inv) (omega arith)
 
 pub entries-spec : {M : Type 1} → statement M
-entries-spec =
-    tie.close
-    (tie.spec Inv-loop μ-loop loop-holds entry-requires (λ c. omega arith) (λ c. omega arith) (λ c. omega arith) loop-less loop-again
-    same-length returns)
+entries-spec = tie.close (tie.spec Inv-loop μ-loop loop-holds (λ c. omega arith) (λ c. omega arith) (λ c. omega arith) (λ c. omega arith) reduce-requires (λ c. omega arith) (λ c. omega arith) (λ c. omega arith) loop-less loop-again same-length returns)

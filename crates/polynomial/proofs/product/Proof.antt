@@ -3,7 +3,7 @@ use mathlib.Core.Path.{_∙_}
 use lib.ListN.{getD}
 use lib.IntN.{ℤ, pos}
 use borrow.Author.Needs.{needs}
-use Rattle.polynomial.proofs.Kernel.{widen-fits, one-fits, one, span-one}
+use Rattle.polynomial.proofs.Kernel.{widen-fits, one-fits, one, span-one, secret-small}
 use Rattle.polynomial.proofs.product.Statement.{statement}
 use Rattle.polynomial.proofs.product.Tie as tie
 
@@ -25,14 +25,14 @@ mul-result-3 c =
     let s = c .before .before in
     let p = s .pre .0 in
     one-fits (half s) (small s) (record { sfits = c .before .result .given }) (record { sfits = c .result2 .given })
-    (p .w-within .within (s .args .i)) (p .s-within .within (s .args .i))
+    (p .w-within .within (s .args .i)) (secret-small _ _ (s .args .i) p (s .pre .1))
 
 returns : tie.Need-returns
 returns c =
     let s = c .before .before in
     let p = s .pre .0 in
     one (half s) (small s) (record { sfits = c .before .result .given }) (record { sfits = c .result2 .given })
-    (p .w-within .within (s .args .i)) (p .s-within .within (s .args .i))
+    (p .w-within .within (s .args .i)) (secret-small _ _ (s .args .i) p (s .pre .1))
     ∙ span-one (s .args .w .now) (s .args .s .now) (s .args .i)
 
 pub product-spec : {M : Type 1} → statement M

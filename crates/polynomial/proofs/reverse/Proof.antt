@@ -1,62 +1,52 @@
--- `polynomial::reverse` meets its contract: it fills with the entries of the secret, the last one first.
+-- `polynomial::reverse` meets its contract: it writes the entries of the secret, the last one first.
 use mathlib.Core.Path.{_∙_, ap}
-use mathlib.Core.List.{List}
-use Prim.Native.Nat.{ℕ, suc, _-_}
+use Prim.Native.Nat.{ℕ, _+_, _-_, _≤_}
 use native.Mathlib.Omega.{arith}
-use lib.ListN.{length, getD, length-set}
+use lib.ListN.{length, getD}
 use lib.IntN.{ℤ, pos}
-use Rattle.lists.specs.Entries.{tab, ints}
-use Rattle.lists.proofs.Fill.{Filled, fill-start, fill-next, fill-end}
-use Rattle.polynomial.specs.Window.{backwards}
+use mathlib.Core.List.{List}
+use borrow.Author.Needs.{needs}
+use Rattle.lists.specs.Entries.{ints}
+use Rattle.polynomial.specs.Steps.{Stored}
 use Rattle.polynomial.proofs.Kernel.{secret-fits, secret}
+use Rattle.polynomial.proofs.Stores.{store-none, store-front, stored-all}
 use Rattle.polynomial.proofs.reverse.Statement.{statement}
 use Rattle.polynomial.proofs.reverse.Tie as tie
-
-abbrev by : List ℤ → ℕ → ℤ
-by s j = ints s (length s - suc j)
 
 -- the entry that the code reads
 abbrev at : List ℤ → ℕ → ℤ
 at s j = getD s (length s - 1 - j) (pos 0)
 
 abbrev Inv-loop : tie.InvT-loop
-Inv-loop s out₀ j₀ out j = Filled (by s) out₀ out j
+Inv-loop s t₀ j₀ t j = (j ≤ length s) × Stored (pos 0) t₀ 0 j (λ i. ints s (length s - (i + 1))) t
 
 abbrev μ-loop : tie.MeasureT-loop
-μ-loop s out₀ j₀ out j = length out - j
+μ-loop s t₀ j₀ t j = length s - j
 
 loop-holds : tie.Need-loop-holds Inv-loop μ-loop
-loop-holds c = fill-start _ _
+loop-holds c = (omega arith, store-none _ _ _)
 
-cast-out : tie.Need-cast-out Inv-loop μ-loop
-cast-out c =
-    let s = c .before .before .before in
+cast-t : tie.Need-cast-t Inv-loop μ-loop
+cast-t c = let s = c .before .before .before in
     let j = c .before .before .loop .j in
-    secret-fits (at (s .args .s .now) j) (record { sfits = c .out .given }) (s .pre .1 .within (length (s .args .s .now) - 1 - j))
-
-loop-less : tie.Need-loop-less Inv-loop μ-loop
-loop-less c = simp length-set (omega arith)
+    secret-fits (at (s .args .s .now) j) (record { sfits = c .t .given }) (s .pre .1 .within (length (s .args .s .now) - 1 - j))
 
 loop-again : tie.Need-loop-again Inv-loop μ-loop
 unfolding ints
-loop-again c =
-    let s = c .before .before .before in
-    let j = c .before .before .loop .j in
-    fill-next _ (c .before .before .loop .inv) (omega arith)
-    (secret (at (s .args .s .now) j) (record { sfits = c .out .given }) (s .pre .1 .within (length (s .args .s .now) - 1 - j))
-    ∙ ap (λ (k : ℕ). getD (s .args .s .now) k (pos 0)) (omega arith))
+loop-again c = let s = c .before .before .before in
+    let l = c .before .before in
+    let j = l .loop .j in (
+      omega arith,
+      store-front (l .loop .inv .1) (omega arith)
+          (secret (at (s .args .s .now) j) (record { sfits = c .t .given }) (s .pre .1 .within (length (s .args .s .now) - 1 - j))
+          ∙ ap (λ (k : ℕ). getD (s .args .s .now) k (pos 0)) (omega arith)),
+    )
 
 same-length : tie.Need-same-length Inv-loop μ-loop
-same-length c = c .before .loop .inv .long
+same-length c = c .before .loop .inv .1 .long
 
 returns : tie.Need-returns Inv-loop μ-loop
-unfolding backwards
-returns c =
-    let s = c .before .before in
-    fill-end (c .before .loop .inv) (omega arith) ∙ ap (λ (k : ℕ). tab k (by (s .args .s .now))) (omega arith)
+returns c = let s : tie.Start Inv-loop μ-loop = search needs in stored-all (c .before .loop .inv .1) (omega arith)
 
 pub reverse-spec : {M : Type 1} → statement M
-reverse-spec =
-    tie.close
-    (tie.spec Inv-loop μ-loop loop-holds (λ c. omega arith) (λ c. omega arith) (λ c. omega arith) (λ c. omega arith) cast-out
-    (λ c. omega arith) (λ c. omega arith) (λ c. omega arith) loop-less loop-again same-length returns)
+reverse-spec = tie.close (tie.spec Inv-loop μ-loop loop-holds (λ c. omega arith) (λ c. omega arith) (λ c. omega arith) (λ c. omega arith) cast-t (λ c. omega arith) (λ c. omega arith) (λ c. omega arith) (λ c. omega arith) loop-again same-length returns)

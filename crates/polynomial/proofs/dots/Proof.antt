@@ -1,0 +1,52 @@
+-- `polynomial::dots` meets its contract.
+use mathlib.Core.Path.{_∙_, sym}
+use Prim.Native.Nat.{_+_, _-_, _≤_}
+use native.Mathlib.Omega.{arith}
+use lib.IntN.{pos}
+use borrow.Author.Needs.{needs}
+use Rattle.numbers.proofs.Machine.{wide, wide-fits}
+use Rattle.lists.specs.Entries.{ints}
+use Rattle.lists.proofs.Parts.{front-long}
+use Rattle.polynomial.specs.Window.{slide}
+use Rattle.polynomial.specs.Steps.{Stored}
+use Rattle.polynomial.proofs.Level.{dot-pair, dot-part}
+use Rattle.polynomial.proofs.Stores.{store-none, store-next, stored-all}
+use Rattle.polynomial.proofs.dots.Statement.{statement}
+use Rattle.polynomial.proofs.dots.Tie as tie
+
+abbrev Inv-loop : tie.InvT-loop
+Inv-loop t x o₀ to n k₀ o k = (k ≤ n) × Stored (pos 0) o₀ to k (slide n (λ i. ints t (x + i)) (ints t)) o
+
+abbrev μ-loop : tie.MeasureT-loop
+μ-loop t x o₀ to n k₀ o k = n - k
+
+loop-holds : tie.Need-loop-holds Inv-loop μ-loop
+loop-holds c = (omega arith, store-none _ _ _)
+
+slice-aggregate-dot-product : tie.Need-slice-aggregate-dot-product Inv-loop μ-loop
+slice-aggregate-dot-product c = let s : tie.Start Inv-loop μ-loop = search needs in sym (front-long (s .args .n) (s .args .t .now) (s .pre .0 .front))
+
+dot-product-requires : tie.Need-dot-product-requires Inv-loop μ-loop
+dot-product-requires c κs = let s : tie.Start Inv-loop μ-loop = search needs in
+    let l : tie.At-loop Inv-loop μ-loop = search needs in
+    dot-pair (s .pre .0) (l .loop .k) (omega arith)
+
+cast-o : tie.Need-cast-o Inv-loop μ-loop
+cast-o c = wide-fits (c .dot-product .result) (record { sfits = c .dot-product .ok })
+
+loop-again : tie.Need-loop-again Inv-loop μ-loop
+loop-again c = let s : tie.Start Inv-loop μ-loop = search needs in
+    let l : tie.At-loop Inv-loop μ-loop = search needs in
+    let o = l .loop .inv .1 in (
+      omega arith,
+      store-next o (omega arith) (wide (c .dot-product .result) (record { sfits = c .dot-product .ok }) ∙ c .dot-product .ensures ∙ dot-part (s .pre .0) (l .loop .k) (omega arith)),
+    )
+
+same-length : tie.Need-same-length Inv-loop μ-loop
+same-length c = c .before .loop .inv .1 .long
+
+returns : tie.Need-returns Inv-loop μ-loop
+returns c = let s : tie.Start Inv-loop μ-loop = search needs in stored-all (c .before .loop .inv .1) (omega arith)
+
+pub dots-spec : {M : Type 1} → statement M
+dots-spec = tie.close (tie.spec Inv-loop μ-loop loop-holds (λ c. omega arith) (λ c. omega arith) (λ c. omega arith) (λ c. omega arith) (λ c. omega arith) (λ c. omega arith) (λ c. omega arith) slice-aggregate-dot-product dot-product-requires cast-o (λ c. omega arith) (λ c. omega arith) (λ c. omega arith) (λ c. omega arith) loop-again same-length returns)

@@ -1,0 +1,44 @@
+-- `polynomial::lay_halves` meets its contract.
+use mathlib.Core.Path.{_∙_, ap}
+use Prim.Native.Nat.{_+_, _*_, _-_, _≤_}
+use native.Mathlib.Omega.{arith}
+use lib.ListN.{length-set}
+use mir.Facts.{toZ-ofZ}
+use borrow.Author.Needs.{needs}
+use Rattle.polynomial.specs.Window.{upper, lower}
+use Rattle.polynomial.proofs.Level.{Halving, halving-none, halving-next, halving-all}
+use Rattle.polynomial.proofs.lay_halves.Statement.{statement}
+use Rattle.polynomial.proofs.lay_halves.Tie as tie
+
+abbrev Inv-loop : tie.InvT-loop
+Inv-loop q d t₀ n i₀ t i = (i ≤ n + n) × Halving q n d t₀ t i
+
+abbrev μ-loop : tie.MeasureT-loop
+μ-loop q d t₀ n i₀ t i = 2 * n - i
+
+loop-holds : tie.Need-loop-holds Inv-loop μ-loop
+loop-holds c = (omega arith, halving-none)
+
+lifted-requires : tie.Need-lifted-requires Inv-loop μ-loop
+lifted-requires c κs = let s : tie.Start Inv-loop μ-loop = search needs in
+    let l : tie.At-loop Inv-loop μ-loop = search needs in
+    s .pre .0 .below (l .loop .i) (omega arith)
+
+loop-again : tie.Need-loop-again Inv-loop μ-loop
+loop-again c = let s : tie.Start Inv-loop μ-loop = search needs in
+    let l : tie.At-loop Inv-loop μ-loop = search needs in
+    let y = c .before .before .lifted .ensures in (
+      omega arith,
+      halving-next (l .loop .inv .1) (omega arith) (s .pre .1 .1)
+          (toZ-ofZ (record { sfits = c .before .high-half .ok }) ∙ c .before .high-half .ensures ∙ ap upper y)
+          (toZ-ofZ (record { sfits = c .low-half .ok }) ∙ c .low-half .ensures ∙ ap lower y),
+    )
+
+same-length : tie.Need-same-length Inv-loop μ-loop
+same-length c = c .before .loop .inv .1 .long
+
+returns : tie.Need-returns Inv-loop μ-loop
+returns c = halving-all (c .before .loop .inv .1) (omega arith)
+
+pub lay-halves-spec : {M : Type 1} → statement M
+lay-halves-spec = tie.close (tie.spec Inv-loop μ-loop loop-holds (λ c. omega arith) (λ c. omega arith) (λ c. omega arith) lifted-requires (λ c. omega arith) (λ c. omega arith) (λ c. omega arith) (λ c κs. search needs) (λ c. omega arith) (λ c. omega arith) (λ c κs. search needs) (λ c. omega arith) (λ c. simp length-set (omega arith)) (λ c. omega arith) (λ c. omega arith) loop-again same-length returns)

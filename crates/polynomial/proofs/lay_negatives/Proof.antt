@@ -1,0 +1,42 @@
+-- `polynomial::lay_negatives` meets its contract.
+use Prim.Native.Nat.{_+_, _-_, _≤_}
+use native.Mathlib.Omega.{arith}
+use lib.ListN.{length}
+use lib.IntN.{negℤ}
+use borrow.Author.Needs.{needs}
+use Rattle.numbers.specs.Residue.{residue}
+use Rattle.lists.specs.Entries.{nums}
+use Rattle.polynomial.specs.Steps.{Stored}
+use Rattle.polynomial.proofs.Stores.{store-none, store-front, stored-all}
+use Rattle.polynomial.proofs.lay_negatives.Statement.{statement}
+use Rattle.polynomial.proofs.lay_negatives.Tie as tie
+
+abbrev Inv-loop : tie.InvT-loop
+Inv-loop q a d₀ i₀ d i = (i ≤ length a - 1) × Stored 0 d₀ 0 i (λ j. residue q (negℤ (nums a (j + 1)))) d
+
+abbrev μ-loop : tie.MeasureT-loop
+μ-loop q a d₀ i₀ d i = length a - i
+
+loop-holds : tie.Need-loop-holds Inv-loop μ-loop
+loop-holds c = (omega arith, store-none _ _ _)
+
+negative-requires : tie.Need-negative-requires Inv-loop μ-loop
+negative-requires c κs = let s : tie.Start Inv-loop μ-loop = search needs in
+    let l : tie.At-loop Inv-loop μ-loop = search needs in
+    s .pre .0 .below (l .loop .i + 1)
+
+loop-again : tie.Need-loop-again Inv-loop μ-loop
+unfolding nums
+loop-again c = let s : tie.Start Inv-loop μ-loop = search needs in
+    let l : tie.At-loop Inv-loop μ-loop = search needs in
+    let o = l .loop .inv .1 in
+    (omega arith, store-front o (omega arith) (c .negative .ensures))
+
+same-length : tie.Need-same-length Inv-loop μ-loop
+same-length c = c .before .loop .inv .1 .long
+
+returns : tie.Need-returns Inv-loop μ-loop
+returns c = let s : tie.Start Inv-loop μ-loop = search needs in stored-all (c .before .loop .inv .1) (omega arith)
+
+pub lay-negatives-spec : {M : Type 1} → statement M
+lay-negatives-spec = tie.close (tie.spec Inv-loop μ-loop loop-holds (λ c. omega arith) (λ c. omega arith) (λ c. omega arith) (λ c. omega arith) negative-requires (λ c. omega arith) (λ c. omega arith) (λ c. omega arith) (λ c. omega arith) loop-again same-length returns)

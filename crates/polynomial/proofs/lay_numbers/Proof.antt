@@ -1,0 +1,34 @@
+-- `polynomial::lay_numbers` meets its contract.
+use mathlib.Core.Path.{refl}
+use Prim.Native.Nat.{_-_, _≤_}
+use native.Mathlib.Omega.{arith}
+use lib.ListN.{length, getD}
+use borrow.Author.Needs.{needs}
+use Rattle.polynomial.specs.Steps.{Stored}
+use Rattle.polynomial.proofs.Stores.{store-none, store-next, stored-all}
+use Rattle.polynomial.proofs.lay_numbers.Statement.{statement}
+use Rattle.polynomial.proofs.lay_numbers.Tie as tie
+
+abbrev Inv-loop : tie.InvT-loop
+Inv-loop a d₀ to i₀ d i = (i ≤ length a) × Stored 0 d₀ to i (λ j. getD a j 0) d
+
+abbrev μ-loop : tie.MeasureT-loop
+μ-loop a d₀ to i₀ d i = length a - i
+
+loop-holds : tie.Need-loop-holds Inv-loop μ-loop
+loop-holds c = (omega arith, store-none _ _ _)
+
+loop-again : tie.Need-loop-again Inv-loop μ-loop
+loop-again c = let s : tie.Start Inv-loop μ-loop = search needs in
+    let l : tie.At-loop Inv-loop μ-loop = search needs in
+    let o = l .loop .inv .1 in
+    (omega arith, store-next o (omega arith) refl)
+
+same-length : tie.Need-same-length Inv-loop μ-loop
+same-length c = c .before .loop .inv .1 .long
+
+returns : tie.Need-returns Inv-loop μ-loop
+returns c = let s : tie.Start Inv-loop μ-loop = search needs in stored-all (c .before .loop .inv .1) (omega arith)
+
+pub lay-numbers-spec : {M : Type 1} → statement M
+lay-numbers-spec = tie.close (tie.spec Inv-loop μ-loop loop-holds (λ c. omega arith) (λ c. omega arith) (λ c. omega arith) (λ c. omega arith) (λ c. omega arith) (λ c. omega arith) (λ c. omega arith) loop-again same-length returns)

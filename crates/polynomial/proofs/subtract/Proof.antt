@@ -1,0 +1,49 @@
+-- `polynomial::subtract` meets its contract.
+use mathlib.Core.Path.{_∙_, ap₂}
+use Prim.Native.Nat.{ℕ, _+_, _-_, _≤_}
+use native.Mathlib.Omega.{arith}
+use lib.IntN.{pos, _-ℤ_}
+use borrow.Author.Needs.{needs}
+use Rattle.numbers.specs.Residue.{residue}
+use Rattle.lists.specs.Entries.{nums}
+use Rattle.polynomial.specs.Steps.{Stored}
+use Rattle.polynomial.proofs.Stores.{store-none, store-next, stored-all}
+use Rattle.polynomial.proofs.subtract.Statement.{statement}
+use Rattle.polynomial.proofs.subtract.Tie as tie
+
+abbrev Inv-loop : tie.InvT-loop
+Inv-loop q d₀ x y to n i₀ d i = (i ≤ n) × Stored 0 d₀ to i (λ k. residue q (nums d₀ (x + k) -ℤ nums d₀ (y + k))) d
+
+abbrev μ-loop : tie.MeasureT-loop
+μ-loop q d₀ x y to n i₀ d i = n - i
+
+loop-holds : tie.Need-loop-holds Inv-loop μ-loop
+loop-holds c = (omega arith, store-none _ _ _)
+
+minus-requires : tie.Need-minus-requires Inv-loop μ-loop
+minus-requires c κs = let s : tie.Start Inv-loop μ-loop = search needs in
+    let l : tie.At-loop Inv-loop μ-loop = search needs in
+    let o = l .loop .inv .1 in (
+      rw (o .below (s .args .x + l .loop .i) (omega arith)) (s .pre .1 (s .args .x + l .loop .i) (omega arith)),
+      rw (o .below (s .args .y + l .loop .i) (omega arith)) (s .pre .1 (s .args .y + l .loop .i) (omega arith)),
+    )
+
+loop-again : tie.Need-loop-again Inv-loop μ-loop
+unfolding nums
+loop-again c = let s : tie.Start Inv-loop μ-loop = search needs in
+    let l : tie.At-loop Inv-loop μ-loop = search needs in
+    let o = l .loop .inv .1 in (
+      omega arith,
+      store-next o (omega arith)
+          (c .minus .ensures
+          ∙ ap₂ (λ (u v : ℕ). residue (s .args .q) (pos u -ℤ pos v)) (o .below (s .args .x + l .loop .i) (omega arith)) (o .below (s .args .y + l .loop .i) (omega arith))),
+    )
+
+same-length : tie.Need-same-length Inv-loop μ-loop
+same-length c = c .before .loop .inv .1 .long
+
+returns : tie.Need-returns Inv-loop μ-loop
+returns c = let s : tie.Start Inv-loop μ-loop = search needs in stored-all (c .before .loop .inv .1) (omega arith)
+
+pub subtract-spec : {M : Type 1} → statement M
+subtract-spec = tie.close (tie.spec Inv-loop μ-loop loop-holds (λ c. omega arith) (λ c. omega arith) (λ c. omega arith) (λ c. omega arith) (λ c. omega arith) (λ c. omega arith) (λ c. omega arith) minus-requires (λ c. omega arith) (λ c. omega arith) (λ c. omega arith) (λ c. omega arith) loop-again same-length returns)
