@@ -1,25 +1,41 @@
 -- Grow.
 --   sizes-failed         its verdict where a test of lengths fails
---   blocks-sized         where they pass, Expand's pass of 24 blocks
---   grown                its promise is then Expand's of the blocks
+--   first-numbers        where the first bytes give 1,024 numbers, these are those of all 24 blocks
+--   bytes-sized          where Grow's tests of lengths pass, so do Expand's of up to 24 blocks
+--   grown-all, grown-first   its promise is then Expand's of all blocks, and Expand's of the first bytes where they are not refused
 --   grow-unknown, grow-named   its promise where no rule is named, and under another name and room
-use mathlib.Core.Path.{_≡_, refl, _∙_, sym}
-use mathlib.Core.List.{List}
-use Prim.Native.Nat.{ℕ, _*_}
+use mathlib.Core.Path.{_≡_, refl, _∙_, sym, ap}
+use mathlib.Core.List.{List, _++_}
+use Prim.Native.Nat.{ℕ, _+_, _-_, _*_, _%_, _≤_}
 use native.Mathlib.Omega.{arith}
-use lib.ListN.{length, replicate}
+use lib.ListN.{length, take, drop, replicate, take-append-drop}
 use Rattle.front.specs.declared.Refusal.{Refusal}
 use Rattle.front.specs.declared.Verdict.{Verdict}
 use Rattle.front.specs.declared.Verdict.the-variants.{Pass, Fail}
-use Rattle.front.proofs.Laws.{both, all-pass, room-passed, up-to-passes, room-passes, failed, went-on}
+use Rattle.front.proofs.Laws.{number-zero, both, all-pass, room-passed, up-to-passes, room-passes, failed, went-on}
 use Rattle.front.proofs.Promise.{told-failed, wrote-failed}
+use Rattle.noise.specs.Expand.{expanded, rule}
 use Rattle.noise.specs.declared.RuleName.{RuleName}
 use Rattle.noise.specs.declared.Ruled.{Ruled}
 use Rattle.noise.specs.declared.Ruled.the-variants.{By, Unknown}
-use Rattle.sponge.proofs.Output.{shake-length}
-use Rattle.sampling.specs.Expand.{expandOf, expandSizes, expandTests, Expanded}
-use Rattle.sampling.specs.Grow.{Grow, growOf, blocks, growSizes, growTests, Grown}
-use Rattle.sampling.proofs.Expanding.{sizes-passed}
+use Rattle.noise.proofs.Stream.{expanded-counted, unread}
+use Rattle.sponge.specs.Sponge.{shake128}
+use Rattle.sponge.proofs.Output.{shake-length, longer}
+use Rattle.sampling.specs.Expand.{expandOf, expandNumbers, enough, expandSizes, expandTests, Expanded}
+use Rattle.sampling.specs.Grow.{Grow, growOf, blocks, growNumbers, growSizes, growTests, Grown}
+use Rattle.sampling.proofs.Expanding.{sizes-passed, enough-passed}
+
+-- the words of the first bytes stand in front of the others, and Expand reads no further than it has to
+first-numbers : (k : RuleName) (seed : List ℕ) (n : ℕ) → n ≤ 24 * 168 → n % 2 ≡ 0 → 1024 ≤ length (expandNumbers (By k) (shake128 seed n))
+    → growNumbers (By k) seed ≡ expandNumbers (By k) (shake128 seed n)
+unfolding expandNumbers
+first-numbers k seed n few even many =
+    let firsts = shake128 seed n in
+    let more = drop n (blocks seed) in
+    let all : n + (24 * 168 - n) ≡ 24 * 168 = omega arith in
+    let front : take n (blocks seed) ≡ firsts = rw all at (longer seed n (24 * 168 - n)) in
+    ap (expanded (rule k)) (sym (take-append-drop n (blocks seed)) ∙ ap (λ (bs : List ℕ). bs ++ more) front)
+    ∙ unread (rule k) firsts more (omega (arith, shake-length seed n)) (omega (arith, expanded-counted (rule k) firsts))
 
 module _ (k : RuleName) (x : Grow) (room : ℕ) where
   pub sizes-failed : {v : Verdict} {r : Refusal} → v ≡ growSizes x room → v ≡ Fail r → growTests (By k) x room ≡ Fail r
@@ -27,21 +43,34 @@ module _ (k : RuleName) (x : Grow) (room : ℕ) where
   sizes-failed e f = failed _ e f
 
   module _ (e : growSizes x room ≡ Pass) where
-    pub blocks-sized : (bytes : List ℕ) → length bytes ≡ 24 * 168 → expandSizes (expandOf bytes) room ≡ Pass
+    pub bytes-sized : (bytes : List ℕ) → length bytes ≤ 24 * 168 → expandSizes (expandOf bytes) room ≡ Pass
     unfolding expandSizes growSizes
-    blocks-sized bytes l = all-pass (up-to-passes (omega arith)) (room-passes (room-passed room 1024 (both _ _ e .1)))
+    bytes-sized bytes l = all-pass (up-to-passes (omega arith)) (room-passes (room-passed room 1024 (both _ _ e .1)))
 
-    same-tests : expandTests (By k) (expandOf (blocks (x .seed))) room ≡ growTests (By k) x room
-    unfolding growTests
-    same-tests =
-        sizes-passed k (expandOf (blocks (x .seed))) room (blocks-sized (blocks (x .seed)) (shake-length (x .seed) (24 * 168)))
-        ∙ sym (went-on _ refl e)
+    module _ (n : ℕ) (few : n ≤ 24 * 168) where
+      abbrev firsts : List ℕ
+      firsts = shake128 (x .seed) n
 
-    pub grown : {bytes : List ℕ} {number place count : ℕ} {out : List ℕ} → bytes ≡ blocks (x .seed)
-        → Expanded (By k) (expandOf bytes) number place room count out → Grown (By k) x number place room count out
-    grown b p =
-        let q = rw b at p in
-        record { told = rw (← same-tests) (q .told); numbers = rw (← same-tests) (q .numbers) }
+      tests : expandTests (By k) (expandOf firsts) room ≡ enough (length (expandNumbers (By k) firsts))
+      tests = sizes-passed k (expandOf firsts) room (bytes-sized firsts (omega (arith, shake-length (x .seed) n)))
+
+      grown-by : {number place count : ℕ} {out : List ℕ} → growNumbers (By k) (x .seed) ≡ expandNumbers (By k) firsts
+          → Expanded (By k) (expandOf firsts) number place room count out → Grown (By k) x number place room count out
+      unfolding growTests
+      grown-by s p =
+          let t : growTests (By k) x room ≡ expandTests (By k) (expandOf firsts) room =
+          went-on _ refl e ∙ ap (λ (xs : List ℕ). enough (length xs)) s ∙ sym tests in
+          record { told = rw t (p .told); numbers = rw (t, s) (p .numbers) }
+
+      pub grown-all : {number place count : ℕ} {out : List ℕ} → n ≡ 24 * 168 → Expanded (By k) (expandOf firsts) number place room count out
+          → Grown (By k) x number place room count out
+      grown-all f p = grown-by (ap (λ (m : ℕ). expandNumbers (By k) (shake128 (x .seed) m)) (sym f)) p
+
+      pub grown-first : {number place count : ℕ} {out : List ℕ} → n % 2 ≡ 0 → number ≡ 0 → Expanded (By k) (expandOf firsts) number place room count out
+          → Grown (By k) x number place room count out
+      grown-first f z p =
+          let v = number-zero (expandTests (By k) (expandOf firsts) room) (sym z ∙ p .told .refusal) in
+          grown-by (first-numbers k (x .seed) n few f (enough-passed _ _ refl (sym tests ∙ v))) p
 
 -- ---- the promise
 

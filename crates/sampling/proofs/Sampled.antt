@@ -11,7 +11,7 @@ use mathlib.Core.Bool.{Bool, true, false}
 use mathlib.Core.List.{List}
 use Prim.Native.Nat.{ℕ, _*_, _/_, _<_, _≤_}
 use native.Mathlib.Omega.{arith}
-use lib.Dec.{eqb, leb, ltb}
+use lib.Dec.{eqb, ltb}
 use lib.IntN.{ℤ, pos, natAbs}
 use lib.ListN.{length, take}
 use lib.Seq.{take-at}
@@ -21,7 +21,7 @@ use Rattle.schemes.specs.declared.Scheme.the-variants.{Bcns, NewHope, Challenge
 use Rattle.schemes.specs.declared.Named.the-variants.{Is}
 use Rattle.lists.specs.Entries.{Below, Within}
 use Rattle.lists.proofs.Parts.{below-take, below-drop, part-within}
-use borrow.Author.Tests.{leb-true, ltb-true}
+use borrow.Author.Tests.{ltb-true}
 use Rattle.front.specs.Front.{numberIn, placeIn, _then_, lengthIs, tableIn, held}
 use Rattle.front.specs.declared.Verdict.{Verdict}
 use Rattle.front.specs.declared.Verdict.the-variants.{Pass, Fail}
@@ -36,10 +36,10 @@ use Rattle.noise.specs.declared.Ruled.{Ruled}
 use Rattle.noise.specs.declared.Ruled.the-variants.{By, Unknown}
 use Rattle.noise.proofs.Stream.{by-name-below}
 use Rattle.sampling.specs.Noise.{Noise, lengthEither, noiseSizes, noiseTests, noiseValues, Noised, OneNoise, NoisePasses, NeverEighteen, EighteenSays}
-use Rattle.sampling.specs.Expand.{Expand, expandNumbers, enough, Expanded, OneExpand, ExpandPasses}
+use Rattle.sampling.specs.Expand.{Expand, expandNumbers, Expanded, OneExpand, ExpandPasses}
 use Rattle.sampling.specs.Grow.{Grow, blocks, growNumbers, growTests, Grown, OneGrow, SameGrown, GrowPasses}
 use Rattle.sampling.proofs.Noising.{sizes-passed, tests-passed}
-use Rattle.sampling.proofs.Expanding.{numbers-few}
+use Rattle.sampling.proofs.Expanding.{enough-passed, numbers-few}
 
 pub one-noise : OneNoise
 one-noise c x n r r′ out out′ p q = (same-answer r r′ (cc) (cc) (cc), cc)
@@ -143,11 +143,6 @@ eighteen-says x n e =
     (rw (a .2) (a .1), rw (a .2) (each-place (x .table) (omega arith)))
 
 -- ---- two boxes
-
-enough-passed : (m : ℕ) (t : Bool) → leb 1024 m ≡ t → enough m ≡ Pass → 1024 ≤ m
-unfolding enough
-enough-passed m true e f = leb-true 1024 m e
-enough-passed m false e f = differ (rw e at f)
 
 grown-long : (k : Ruled) (x : Grow) (n : ℕ) → growTests k x n ≡ Pass → length (growNumbers k (x .seed)) ≡ 1024
 unfolding growTests

@@ -2,7 +2,7 @@
 // and `bcns_noise` into the part of the output that the answer takes.
 ghost use mathlib.Core.Path.{_≡_};
 ghost use mathlib.Core.List.{_++_};
-ghost use Prim.Native.Nat.{_*_, _/_, _≤_, _<_};
+ghost use Prim.Native.Nat.{_*_, _/_, _%_, _≤_, _<_};
 ghost use lib.ListN.{length, drop, replicate};
 ghost use lib.IntN.{pos};
 ghost use Rattle.schemes.specs.Schemes.{familyOf, by};
@@ -15,6 +15,7 @@ ghost use Rattle.noise.specs.declared.Ruled.the-variants.{By};
 ghost use Rattle.sampling.specs.Noise.{noiseOf, noise, lengthEither, noiseSizes, noiseTests, noiseValues, Noises};
 ghost use Rattle.sampling.specs.Expand.{expandOf, expand, expandSizes, Expands};
 ghost use Rattle.sampling.specs.Grow.{growOf, grow, growSizes, Grows};
+ghost use Rattle.sampling.specs.Steps.{GrowsFrom};
 use front::Answer;
 use front::Refusal;
 use front::Verdict;
@@ -163,24 +164,49 @@ fn grow_sizes(seed: &[u8], room: usize) -> Verdict
     front::room_for(v, room, NewHope::PUBLIC)
 }
 
-// The blocks of the seed, then their numbers.
-fn grow_from(name: RuleName, seed: &[u8], blocks: &mut [u8], out: &mut [u32]) -> Answer
-    requires { ⌜ (growSizes (growOf (now seed)) (length (now out)) ≡ Pass) × (length (now blocks) ≡ 24 * 168) ⌝ }
+// The bytes that are made first, of whole words: 17 blocks by the low bits, too few for one seed in about 500, and 14 by the whole word, too few for none that
+// is known.
+fn first_bytes(name: RuleName) -> usize
+    ensures { λ r. ⌜ (r ≤ 24 * 168) × (r % 2 ≡ 0) ⌝ }
+{
+    match name {
+        RuleName::LowBits => 17 * 168,
+        RuleName::WholeWord => 14 * 168,
+    }
+}
+
+// As many bytes of the seed as are lent, then their numbers.
+fn grow_from(name: RuleName, seed: &[u8], bytes: &mut [u8], out: &mut [u32]) -> Answer
+    requires { ⌜ (growSizes (growOf (now seed)) (length (now out)) ≡ Pass) × (length (now bytes) ≤ 24 * 168) ⌝ }
+    requires { ⌜ now out ≡ replicate (length (now out)) 0 ⌝ }
+    ensures { λ r. ⌜ GrowsFrom (By name) (length (was bytes)) seed out r ⌝ }
+{
+    sponge::shake128(seed, bytes);
+    expand_in(name, bytes, out)
+}
+
+// By the first bytes, and only where they run out by all. What decides is public, as the seed is.
+fn grow_first(name: RuleName, seed: &[u8], bytes: &mut [u8], out: &mut [u32]) -> Answer
+    requires { ⌜ (growSizes (growOf (now seed)) (length (now out)) ≡ Pass) × (length (now bytes) ≡ 24 * 168) ⌝ }
     requires { ⌜ now out ≡ replicate (length (now out)) 0 ⌝ }
     ensures { λ r. ⌜ Grows (By name) seed out r ⌝ }
 {
-    sponge::shake128(seed, blocks);
-    expand_in(name, blocks, out)
+    let n = first_bytes(name);
+    let a = grow_from(name, seed, &mut bytes[..n], out);
+    let Answer::Refused(_) = a else {
+        return a;
+    };
+    grow_from(name, seed, bytes, out)
 }
 
-// The same with room for 24 blocks of 168 bytes, which are made once.
+// The same with room for 24 blocks of 168 bytes.
 fn grow_in(name: RuleName, seed: &[u8], out: &mut [u32]) -> Answer
     requires { ⌜ growSizes (growOf (now seed)) (length (now out)) ≡ Pass ⌝ }
     requires { ⌜ now out ≡ replicate (length (now out)) 0 ⌝ }
     ensures { λ r. ⌜ Grows (By name) seed out r ⌝ }
 {
     let mut blocks = [0u8; 4032];
-    grow_from(name, seed, &mut blocks, out)
+    grow_first(name, seed, &mut blocks, out)
 }
 
 // Grow by a known rule.
