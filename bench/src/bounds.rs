@@ -9,8 +9,9 @@ use second::schemes::{Family, Scheme};
 /// How often BCNS's product is taken apart into three of half the length.
 pub const LEVELS: u32 = 0;
 
-/// Blocks of SHAKE-128 that Grow makes.
-pub const GROW_BLOCKS: usize = 24;
+/// Blocks of SHAKE-128 that Grow makes by rule 14, for nearly all seeds: only where
+/// these give too few numbers does it make all 24.
+pub const GROW_BLOCKS: usize = 17;
 
 /// Multiplications of 16 bits in a product of NewHope: the product's upper half,
 /// and for its reduction a lower and an upper half more.
