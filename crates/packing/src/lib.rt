@@ -59,7 +59,7 @@ fn pack_groups(w: u32, xs: &[u32], out: &mut [u8]) -> usize
     g
 }
 
-// Numbers of 32 bits: four bytes each, all of them.
+// Numbers of 32 bits: four bytes each, which the compiler copies several at a time. All are packed; the whole groups of them count.
 fn pack_words(xs: &[u32], out: &mut [u8]) -> usize
     requires { ⌜ Below (2 ^ 32) (now xs) ⌝ }
     requires { ⌜ 32 * length (now xs) ≡ 8 * length (now out) ⌝ }
@@ -73,7 +73,7 @@ fn pack_words(xs: &[u32], out: &mut [u8]) -> usize
     j / 8
 }
 
-// Four numbers as one of 4 w bits.
+// Four numbers as one of 4 w bits, in four turns, which the compiler unrolls.
 fn quad(w: u32, xs: &[u32], j: usize) -> u64
     requires { ⌜ (w < 16) × Below (2 ^ w) (now xs) × (j + 4 ≤ length (now xs)) ⌝ }
     ensures { λ r. ⌜ r ≡ value (2 ^ w) (take 4 (drop j (now (xs .entry)))) ⌝ }
@@ -87,6 +87,7 @@ fn quad(w: u32, xs: &[u32], j: usize) -> u64
     v
 }
 
+// v, with x in the w bits below it.
 fn onto(w: u32, v: u64, x: u32) -> u64
     requires { ⌜ (w < 64) × (v * 2 ^ w + x < 18446744073709551616) ⌝ }
     ensures { λ r. ⌜ r ≡ v * 2 ^ w + x ⌝ }
