@@ -9,3 +9,4 @@ pub mod Products
 pub mod Theorems
 pub mod Mixing
 pub mod Entrywise
+pub mod Small

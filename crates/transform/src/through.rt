@@ -2,29 +2,56 @@
 // and noise come signed, in natural order. The contracts speak of polynomials modulo X^1024 + 1; what runs are products entry by entry
 // (`proofs/Mixing.antt` shows the two equal).
 ghost use mathlib.Core.Path.{_≡_};
+ghost use Prim.Native.Nat.{_%_, _<_, _≤_};
 ghost use lib.ListN.{length};
-ghost use Rattle.lists.specs.Entries.{Below};
+ghost use lib.IntN.{natAbs};
+ghost use Rattle.numbers.specs.Residue.{residue};
+ghost use Rattle.lists.specs.Entries.{Below, Within};
 ghost use Rattle.lists.specs.Lent.{was, left};
 ghost use Rattle.polynomial.specs.Mixing.{mixed, bare};
 ghost use Rattle.transform.specs.Transform.{transformed, inverted, entrywise, summed};
 ghost use Rattle.transform.specs.Level.{reduced};
 use schemes::NewHope;
 
+// A secret or noise value, reduced to 0 .. q - 1: it is small, so that q added once where it is below 0 is all.
+fn lifted(z: i32) -> u32
+    requires { ⌜ natAbs z ≤ 16 ⌝ }
+    ensures { λ r. ⌜ r ≡ residue 12289 z ⌝ }
+{
+    if z < 0 {
+        (z + (NewHope::Q as i32)) as u32
+    } else {
+        z as u32
+    }
+}
+
+// A sum of two numbers below q, reduced. The test is signed: four unsigned ones at a time take x86-64 twice as long.
+fn wrapped(x: u32) -> u32
+    requires { ⌜ x < 24578 ⌝ }
+    ensures { λ r. ⌜ r ≡ x % 12289 ⌝ }
+{
+    if (x as i32) < (NewHope::Q as i32) {
+        x
+    } else {
+        x - NewHope::Q
+    }
+}
+
 // Secrets or noise, each reduced to 0 .. q - 1.
 fn reduce(s: &[i32], out: &mut [u32; 1024])
-    requires { ⌜ (length (now s) ≡ 1024) × (length (now out) ≡ 1024) ⌝ }
+    requires { ⌜ (length (now s) ≡ 1024) × Within 16 (now s) × (length (now out) ≡ 1024) ⌝ }
     ensures { λ _. ⌜ left out ≡ reduced (was s) ⌝ }
 {
     let mut k: usize = 0;
     while k < NewHope::N {
-        out[k] = numbers::residue32(s[k], NewHope::Q);
+        out[k] = lifted(s[k]);
         k += 1;
     }
 }
 
 // Their transform.
 fn turn(s: &[i32], out: &mut [u32; 1024])
-    requires { ⌜ (length (now s) ≡ 1024) × (length (now out) ≡ 1024) ⌝ }
+    requires { ⌜ (length (now s) ≡ 1024) × Within 16 (now s) × (length (now out) ≡ 1024) ⌝ }
     ensures { λ _. ⌜ left out ≡ transformed (reduced (was s)) ⌝ }
 {
     reduce(s, out);
@@ -58,7 +85,7 @@ fn weigh(u: &[u32], x: &mut [u32; 1024])
 
 // us, into x.
 fn multiply_in(u: &[u32], s: &[i32], x: &mut [u32; 1024])
-    requires { ⌜ (length (now u) ≡ 1024) × Below 12289 (now u) × (length (now s) ≡ 1024) × (length (now x) ≡ 1024) ⌝ }
+    requires { ⌜ (length (now u) ≡ 1024) × Below 12289 (now u) × (length (now s) ≡ 1024) × Within 16 (now s) × (length (now x) ≡ 1024) ⌝ }
     ensures { λ _. ⌜ left x ≡ bare 12289 1024 (inverted (was u)) (was s) ⌝ }
 {
     turn(s, x);
@@ -68,12 +95,12 @@ fn multiply_in(u: &[u32], s: &[i32], x: &mut [u32; 1024])
 
 // x + e, into out.
 fn add_noise(x: &[u32; 1024], e: &[i32], out: &mut [u32])
-    requires { ⌜ Below 12289 (now x) × (length (now e) ≡ 1024) × (length (now out) ≡ 1024) ⌝ }
+    requires { ⌜ Below 12289 (now x) × (length (now e) ≡ 1024) × Within 16 (now e) × (length (now out) ≡ 1024) ⌝ }
     ensures { λ _. ⌜ left out ≡ summed (was x) (reduced (was e)) ⌝ }
 {
     let mut k: usize = 0;
     while k < NewHope::N {
-        out[k] = (x[k] + numbers::residue32(e[k], NewHope::Q)) % NewHope::Q;
+        out[k] = wrapped(x[k] + lifted(e[k]));
         k += 1;
     }
 }
@@ -93,6 +120,8 @@ fn put(x: &[u32; 1024], out: &mut [u32])
 pub fn mix(a: &[u32], s: &[i32], e: &[i32], out: &mut [u32])
     requires { ⌜ (length (now a) ≡ 1024) × Below 12289 (now a) × (length (now s) ≡ 1024) × (length (now out) ≡ 1024) ⌝ }
     requires { ⌜ length (now e) ≡ 1024 ⌝ }
+    requires { ⌜ Within 16 (now s) ⌝ }
+    requires { ⌜ Within 16 (now e) ⌝ }
     ensures { λ _. ⌜ left out ≡ transformed (mixed 12289 1024 (inverted (was a)) (was s) (was e)) ⌝ }
 {
     let mut x = [0u32; 1024];
@@ -105,6 +134,7 @@ pub fn mix(a: &[u32], s: &[i32], e: &[i32], out: &mut [u32])
 // us, of the transform of u: the initiator's w.
 pub fn multiply(u: &[u32], s: &[i32], out: &mut [u32])
     requires { ⌜ (length (now u) ≡ 1024) × Below 12289 (now u) × (length (now s) ≡ 1024) × (length (now out) ≡ 1024) ⌝ }
+    requires { ⌜ Within 16 (now s) ⌝ }
     ensures { λ _. ⌜ left out ≡ bare 12289 1024 (inverted (was u)) (was s) ⌝ }
 {
     let mut x = [0u32; 1024];
@@ -116,6 +146,8 @@ pub fn multiply(u: &[u32], s: &[i32], out: &mut [u32])
 pub fn value(b: &[u32], s: &[i32], e: &[i32], out: &mut [u32])
     requires { ⌜ (length (now b) ≡ 1024) × Below 12289 (now b) × (length (now s) ≡ 1024) × (length (now out) ≡ 1024) ⌝ }
     requires { ⌜ length (now e) ≡ 1024 ⌝ }
+    requires { ⌜ Within 16 (now s) ⌝ }
+    requires { ⌜ Within 16 (now e) ⌝ }
     ensures { λ _. ⌜ left out ≡ mixed 12289 1024 (inverted (was b)) (was s) (was e) ⌝ }
 {
     let mut x = [0u32; 1024];

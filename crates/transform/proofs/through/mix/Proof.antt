@@ -27,4 +27,4 @@ returns c =
     ∙ sym (mixed-through _ _ (b .pre .0 .1) (b .pre .0 .0) _)
 
 pub mix-spec : {M : Type 1} → statement M
-mix-spec = tie.close (tie.spec (search needs) (search needs) combine-requires (search needs) returns)
+mix-spec = tie.close (tie.spec (λ c κs. search needs) (λ c κs. search needs) combine-requires (search needs) returns)

@@ -10,7 +10,7 @@ put-requires : tie.Need-put-requires
 put-requires c κs =
     let b : tie.Start = search needs in
     let m : tie.After-multiply-in = search needs in
-    (ap length (m .multiply-in .ensures) ∙ bare-length 12289 1024 _ _, b .pre .3)
+    (ap length (m .multiply-in .ensures) ∙ bare-length 12289 1024 _ _, b .pre .0 .3)
 
 returns : tie.Need-returns
 returns c =

@@ -33,4 +33,4 @@ returns c =
     ∙ sym (bare-through _ _ (b .pre .1) (b .pre .0))
 
 pub multiply-in-spec : {M : Type 1} → statement M
-multiply-in-spec = tie.close (tie.spec (search needs) weigh-requires inverse-requires returns)
+multiply-in-spec = tie.close (tie.spec (λ c κs. search needs) weigh-requires inverse-requires returns)

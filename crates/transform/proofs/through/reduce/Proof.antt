@@ -2,12 +2,12 @@
 use mathlib.Core.Path.{_≡_}
 use Prim.Native.Nat.{_-_}
 use native.Mathlib.Omega.{arith}
-use borrow.Author.Needs.{needs}
 use mir.Facts.{toZ-ofZ}
 use Rattle.numbers.specs.Residue.{residue}
 use Rattle.lists.specs.Entries.{ints}
 use Rattle.lists.proofs.Fill.{Filled, fill-start, fill-next, fill-whole}
 use Rattle.transform.specs.Level.{reduced}
+use Rattle.transform.proofs.Small.{entry-small}
 use Rattle.transform.proofs.through.reduce.Statement.{statement}
 use Rattle.transform.proofs.through.reduce.Tie as tie
 
@@ -20,19 +20,19 @@ abbrev μ-loop : tie.MeasureT-loop
 loop-holds : tie.Need-loop-holds Inv-loop μ-loop
 loop-holds c = fill-start _ _
 
-mul-residue32 : tie.Need-mul-residue32 Inv-loop μ-loop
-mul-residue32 c = omega arith
+mul-lifted : tie.Need-mul-lifted Inv-loop μ-loop
+mul-lifted c = omega arith
 
-shared-slice-copy-out-residue32 : tie.Need-shared-slice-copy-out-residue32 Inv-loop μ-loop
-shared-slice-copy-out-residue32 c = omega arith
+shared-slice-copy-out-lifted : tie.Need-shared-slice-copy-out-lifted Inv-loop μ-loop
+shared-slice-copy-out-lifted c = omega arith
 
-residue32-requires : tie.Need-residue32-requires Inv-loop μ-loop
-residue32-requires c κs = search needs
+lifted-requires : tie.Need-lifted-requires Inv-loop μ-loop
+lifted-requires c κs = entry-small (c .before .before .loop .k) (c .before .before .before .pre .1) (record { sfits = c .lifted-arg .given })
 
 -- what the callee says of the entry that it was handed
-remainder : (c : tie.After-residue32 Inv-loop μ-loop) → c .residue32 .result ≡ residue 12289 (ints (c .before .before .before .before .args .s .now) (c .before .before .before .loop .k))
+remainder : (c : tie.After-lifted Inv-loop μ-loop) → c .lifted .result ≡ residue 12289 (ints (c .before .before .before .before .args .s .now) (c .before .before .before .loop .k))
 unfolding ints
-remainder c = rw (toZ-ofZ (record { sfits = c .before .residue32-arg .given })) at (c .residue32 .ensures)
+remainder c = rw (toZ-ofZ (record { sfits = c .before .lifted-arg .given })) at (c .lifted .ensures)
 
 mul-out : tie.Need-mul-out Inv-loop μ-loop
 mul-out c = omega arith
@@ -51,7 +51,7 @@ loop-again c = fill-next _ (c .before .before .before .loop .inv) (omega arith) 
 
 returns : tie.Need-returns Inv-loop μ-loop
 unfolding reduced
-returns c = fill-whole (c .before .loop .inv) (c .before .before .pre .1) (omega arith)
+returns c = fill-whole (c .before .loop .inv) (c .before .before .pre .2) (omega arith)
 
 pub reduce-spec : {M : Type 1} → statement M
 reduce-spec =
@@ -60,9 +60,9 @@ reduce-spec =
     Inv-loop
     μ-loop
     loop-holds
-    mul-residue32
-    shared-slice-copy-out-residue32
-    residue32-requires
+    mul-lifted
+    shared-slice-copy-out-lifted
+    lifted-requires
     mul-out
     element-write-out
     add-k

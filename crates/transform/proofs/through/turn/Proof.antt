@@ -19,4 +19,4 @@ returns c =
     c .forward .ensures ∙ ap transformed (r .reduce .ensures)
 
 pub turn-spec : {M : Type 1} → statement M
-turn-spec = tie.close (tie.spec (search needs) forward-requires returns)
+turn-spec = tie.close (tie.spec (λ c κs. search needs) forward-requires returns)

@@ -15,7 +15,7 @@ add-noise-requires : tie.Need-add-noise-requires
 add-noise-requires c κs =
     let b : tie.Start = search needs in
     let m : tie.After-multiply-in = search needs in
-    (rw (m .multiply-in .ensures) (bare-below 12289 1024 _ _ (omega arith)), b .pre .1, b .pre .0 .3)
+    (rw (m .multiply-in .ensures) (bare-below 12289 1024 _ _ (omega arith)), b .pre .1 .0, b .pre .1 .1 .1, b .pre .0 .3)
 
 returns : tie.Need-returns
 returns c =
