@@ -1,12 +1,9 @@
 -- What NewHope's ends compute through the transform is what 01 says of polynomials (`polynomial`, `specs/Mixing.antt`); a, b and u lie transformed.
--- The closed forms that run, entry by entry:
---   mixedThrough a s e   a times the transform of s, and the transform of e
---   bareThrough u s      the inverse of u times the transform of s
---   valueThrough b s e   the same of b, and e
--- What they are:
---   mixed-through    the transform of as + e
---   bare-through     us
---   value-through    bs + e; summed-bare is its last step
+-- What runs, entry by entry, on any x that is the transform of s:
+--   mixed-through    a x and the transform of e: the transform of as + e
+--   bare-through     the inverse of a x: as
+--   value-through    the same, and e: as + e
+-- And of the two ends:
 --   travelled        as + e travels transformed, and the inverse gives it back
 --   apart-through    NewHope's identity: how far v and w are apart is how far d = s'e + e'' - e's is from a multiple of 12289
 use mathlib.Core.Path.{_≡_, _∙_, sym, ap, ap₂}
@@ -28,15 +25,6 @@ use Rattle.transform.specs.Level.{reduced}
 use Rattle.transform.proofs.Sizes.{multiplied-length, multiplied-below, summed-length, summed-below}
 use Rattle.transform.proofs.Inverses.{inverted-transformed, transformed-inverted}
 use Rattle.transform.proofs.Products.{multiplied-at, summed-at, transformed-multiplied, transformed-summed}
-
-abbrev pub mixedThrough : List ℕ → List ℤ → List ℤ → List ℕ
-mixedThrough a s e = summed (entrywise a (transformed (reduced s))) (transformed (reduced e))
-
-abbrev pub bareThrough : List ℕ → List ℤ → List ℕ
-bareThrough u s = inverted (entrywise u (transformed (reduced s)))
-
-abbrev pub valueThrough : List ℕ → List ℤ → List ℤ → List ℕ
-valueThrough b s e = summed (bareThrough b s) (reduced e)
 
 -- ---- the same with secrets and noise reduced
 
@@ -60,31 +48,29 @@ summed-mixed a s e =
     ⨾ add-≅ (multiplied-at a (reduced s) k l ⨾ product-reduced a s k l) (reduced-at e k l)
     ⨾ sym-≅ (mixed-at 12289 1024 (omega arith) a s e k l))
 
-pub summed-bare : (a : List ℕ) (s e : List ℤ) → summed (bare 12289 1024 a s) (reduced e) ≡ mixed 12289 1024 a s e
-summed-bare a s e = ap (λ (x : List ℕ). summed x (reduced e)) (sym (multiplied-bare a s)) ∙ summed-mixed a s e
-
 -- ---- through the transform
 
-module _ (a : List ℕ) (s : List ℤ) (b : Below 12289 a) (l : length a ≡ 1024) where
+module _ (a : List ℕ) (s : List ℤ) (b : Below 12289 a) (l : length a ≡ 1024) (x : List ℕ) (t : x ≡ transformed (reduced s)) where
   -- what lies transformed times a secret
-  entrywise-through : transformed (multiplied (inverted a) (reduced s)) ≡ entrywise a (transformed (reduced s))
-  entrywise-through =
-      transformed-multiplied (inverted a) (reduced s) ∙ ap (λ (x : List ℕ). entrywise x (transformed (reduced s))) (transformed-inverted a b l)
+  entrywise-through : entrywise a x ≡ transformed (multiplied (inverted a) (reduced s))
+  entrywise-through = ap₂ entrywise (sym (transformed-inverted a b l)) t ∙ sym (transformed-multiplied (inverted a) (reduced s))
 
-  pub bare-through : bare 12289 1024 (inverted a) s ≡ bareThrough a s
-  bare-through =
-      sym (multiplied-bare (inverted a) s)
-      ∙ sym (inverted-transformed (multiplied (inverted a) (reduced s)) (multiplied-below _ _) (multiplied-length _ _))
-      ∙ ap inverted entrywise-through
+  multiplied-through : inverted (entrywise a x) ≡ multiplied (inverted a) (reduced s)
+  multiplied-through =
+      ap inverted entrywise-through
+      ∙ inverted-transformed (multiplied (inverted a) (reduced s)) (multiplied-below _ _) (multiplied-length _ _)
 
-  pub value-through : (e : List ℤ) → mixed 12289 1024 (inverted a) s e ≡ valueThrough a s e
-  value-through e = sym (summed-bare (inverted a) s e) ∙ ap (λ (x : List ℕ). summed x (reduced e)) bare-through
+  pub bare-through : inverted (entrywise a x) ≡ bare 12289 1024 (inverted a) s
+  bare-through = multiplied-through ∙ multiplied-bare (inverted a) s
 
-  pub mixed-through : (e : List ℤ) → transformed (mixed 12289 1024 (inverted a) s e) ≡ mixedThrough a s e
+  pub value-through : (e : List ℤ) → summed (inverted (entrywise a x)) (reduced e) ≡ mixed 12289 1024 (inverted a) s e
+  value-through e = ap (λ (y : List ℕ). summed y (reduced e)) multiplied-through ∙ summed-mixed (inverted a) s e
+
+  pub mixed-through : (e : List ℤ) → summed (entrywise a x) (transformed (reduced e)) ≡ transformed (mixed 12289 1024 (inverted a) s e)
   mixed-through e =
-      ap transformed (sym (summed-mixed (inverted a) s e))
-      ∙ transformed-summed (multiplied (inverted a) (reduced s)) (reduced e)
-      ∙ ap (λ (x : List ℕ). summed x (transformed (reduced e))) entrywise-through
+      ap (λ (y : List ℕ). summed y (transformed (reduced e))) entrywise-through
+      ∙ sym (transformed-summed (multiplied (inverted a) (reduced s)) (reduced e))
+      ∙ ap transformed (summed-mixed (inverted a) s e)
 
 -- ---- the identity
 

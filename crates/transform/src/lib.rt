@@ -134,13 +134,20 @@ fn sums(t: &[u32; 2048], g: &mut [u32; 1024], a: usize)
     reduce(&s, g);
 }
 
-// The transform, in place.
+// The transform, in place. Whoever makes several lends the table to all: making it copies it.
+fn ahead(t: &[u32; 2048], g: &mut [u32; 1024])
+    requires { ⌜ (now t ≡ powers) × Below 12289 (now g) × (length (now g) ≡ 1024) ⌝ }
+    ensures { λ _. ⌜ now (g .exit) ≡ transformed (now (g .entry)) ⌝ }
+{
+    sums(t, g, 1);
+}
+
 pub fn forward(g: &mut [u32; 1024])
     requires { ⌜ Below 12289 (now g) × (length (now g) ≡ 1024) ⌝ }
     ensures { λ _. ⌜ now (g .exit) ≡ transformed (now (g .entry)) ⌝ }
 {
     let t = powers::table();
-    sums(&t, g, 1);
+    ahead(&t, g);
 }
 
 // Entry k of the inverse is entry 1024 - k of the sums times 12277 7^-k, which is 12 7^(1024 - k): 12277 is -12, and -1 is 7^1024. 12288 * (12 * 12288) fits.
@@ -157,6 +164,7 @@ fn scale(t: &[u32; 2048], src: &[u32; 1024], dst: &mut [u32; 1024])
     }
 }
 
+// The inverse, in place.
 fn back(t: &[u32; 2048], g: &mut [u32; 1024])
     requires { ⌜ (now t ≡ powers) × Below 12289 (now g) × (length (now g) ≡ 1024) ⌝ }
     ensures { λ _. ⌜ now (g .exit) ≡ inverted (now (g .entry)) ⌝ }
@@ -166,7 +174,6 @@ fn back(t: &[u32; 2048], g: &mut [u32; 1024])
     scale(t, &s, g);
 }
 
-// Its inverse, in place.
 pub fn inverse(g: &mut [u32; 1024])
     requires { ⌜ Below 12289 (now g) × (length (now g) ≡ 1024) ⌝ }
     ensures { λ _. ⌜ now (g .exit) ≡ inverted (now (g .entry)) ⌝ }
@@ -194,8 +201,8 @@ pub fn product(a: &mut [u32; 1024], b: &mut [u32; 1024])
     ensures { λ _. ⌜ now (b .exit) ≡ transformed (now (b .entry)) ⌝ }
 {
     let t = powers::table();
-    sums(&t, a, 1);
-    sums(&t, b, 1);
+    ahead(&t, a);
+    ahead(&t, b);
     times(a, b);
     back(&t, a);
 }

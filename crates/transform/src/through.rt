@@ -9,7 +9,7 @@ ghost use Rattle.numbers.specs.Residue.{residue};
 ghost use Rattle.lists.specs.Entries.{Below, Within};
 ghost use Rattle.lists.specs.Lent.{was, left};
 ghost use Rattle.polynomial.specs.Mixing.{mixed, bare};
-ghost use Rattle.transform.specs.Transform.{transformed, inverted, entrywise, summed};
+ghost use Rattle.transform.specs.Transform.{transformed, inverted, entrywise, summed, powers};
 ghost use Rattle.transform.specs.Level.{reduced};
 use schemes::NewHope;
 
@@ -50,12 +50,12 @@ fn reduce(s: &[i32], out: &mut [u32; 1024])
 }
 
 // Their transform.
-fn turn(s: &[i32], out: &mut [u32; 1024])
-    requires { ⌜ (length (now s) ≡ 1024) × Within 16 (now s) × (length (now out) ≡ 1024) ⌝ }
+fn turn(t: &[u32; 2048], s: &[i32], out: &mut [u32; 1024])
+    requires { ⌜ (now t ≡ powers) × (length (now s) ≡ 1024) × Within 16 (now s) × (length (now out) ≡ 1024) ⌝ }
     ensures { λ _. ⌜ left out ≡ transformed (reduced (was s)) ⌝ }
 {
     reduce(s, out);
-    crate::forward(out);
+    crate::ahead(t, out);
 }
 
 // a x + y, entry by entry.
@@ -83,14 +83,13 @@ fn weigh(u: &[u32], x: &mut [u32; 1024])
     }
 }
 
-// us, into x.
-fn multiply_in(u: &[u32], s: &[i32], x: &mut [u32; 1024])
-    requires { ⌜ (length (now u) ≡ 1024) × Below 12289 (now u) × (length (now s) ≡ 1024) × Within 16 (now s) × (length (now x) ≡ 1024) ⌝ }
-    ensures { λ _. ⌜ left x ≡ bare 12289 1024 (inverted (was u)) (was s) ⌝ }
+// us, of the transforms of u and of s, into x.
+fn weigh_back(t: &[u32; 2048], u: &[u32], x: &mut [u32; 1024])
+    requires { ⌜ (now t ≡ powers) × (length (now u) ≡ 1024) × Below 12289 (now u) × (length (now x) ≡ 1024) × Below 12289 (now x) ⌝ }
+    ensures { λ _. ⌜ left x ≡ inverted (entrywise (was u) (was x)) ⌝ }
 {
-    turn(s, x);
     weigh(u, x);
-    crate::inverse(x);
+    crate::back(t, x);
 }
 
 // x + e, into out.
@@ -116,6 +115,34 @@ fn put(x: &[u32; 1024], out: &mut [u32])
     }
 }
 
+// The transform of as + e, of those of a and of s; y is room.
+fn mix_turned(
+    t: &[u32; 2048],
+    a: &[u32],
+    x: &[u32; 1024],
+    e: &[i32],
+    y: &mut [u32; 1024],
+    out: &mut [u32],
+)
+    requires { ⌜ (now t ≡ powers) × (length (now a) ≡ 1024) × Below 12289 (now a) × Below 12289 (now x) ⌝ }
+    requires { ⌜ (length (now e) ≡ 1024) × Within 16 (now e) × (length (now y) ≡ 1024) × (length (now out) ≡ 1024) ⌝ }
+    ensures { λ _. ⌜ left out ≡ summed (entrywise (was a) (was x)) (transformed (reduced (was e))) ⌝ }
+{
+    turn(t, e, y);
+    combine(a, x, y, out);
+}
+
+// bs + e, of the transforms of b and of s, which becomes bs.
+fn value_turned(t: &[u32; 2048], b: &[u32], x: &mut [u32; 1024], e: &[i32], out: &mut [u32])
+    requires { ⌜ (now t ≡ powers) × (length (now b) ≡ 1024) × Below 12289 (now b) × (length (now x) ≡ 1024) × Below 12289 (now x) ⌝ }
+    requires { ⌜ (length (now e) ≡ 1024) × Within 16 (now e) × (length (now out) ≡ 1024) ⌝ }
+    ensures { λ _. ⌜ left out ≡ summed (inverted (entrywise (was b) (was x))) (reduced (was e)) ⌝ }
+    ensures { λ _. ⌜ length (left x) ≡ 1024 ⌝ }
+{
+    weigh_back(t, b, x);
+    add_noise(x, e, out);
+}
+
 // The transform of as + e, of the transform of a: b and u as they travel.
 pub fn mix(a: &[u32], s: &[i32], e: &[i32], out: &mut [u32])
     requires { ⌜ (length (now a) ≡ 1024) × Below 12289 (now a) × (length (now s) ≡ 1024) × (length (now out) ≡ 1024) ⌝ }
@@ -124,11 +151,11 @@ pub fn mix(a: &[u32], s: &[i32], e: &[i32], out: &mut [u32])
     requires { ⌜ Within 16 (now e) ⌝ }
     ensures { λ _. ⌜ left out ≡ transformed (mixed 12289 1024 (inverted (was a)) (was s) (was e)) ⌝ }
 {
+    let t = crate::powers::table();
     let mut x = [0u32; 1024];
     let mut y = [0u32; 1024];
-    turn(s, &mut x);
-    turn(e, &mut y);
-    combine(a, &x, &y, out);
+    turn(&t, s, &mut x);
+    mix_turned(&t, a, &x, e, &mut y, out);
 }
 
 // us, of the transform of u: the initiator's w.
@@ -137,8 +164,10 @@ pub fn multiply(u: &[u32], s: &[i32], out: &mut [u32])
     requires { ⌜ Within 16 (now s) ⌝ }
     ensures { λ _. ⌜ left out ≡ bare 12289 1024 (inverted (was u)) (was s) ⌝ }
 {
+    let t = crate::powers::table();
     let mut x = [0u32; 1024];
-    multiply_in(u, s, &mut x);
+    turn(&t, s, &mut x);
+    weigh_back(&t, u, &mut x);
     put(&x, out);
 }
 
@@ -150,7 +179,23 @@ pub fn value(b: &[u32], s: &[i32], e: &[i32], out: &mut [u32])
     requires { ⌜ Within 16 (now e) ⌝ }
     ensures { λ _. ⌜ left out ≡ mixed 12289 1024 (inverted (was b)) (was s) (was e) ⌝ }
 {
+    let t = crate::powers::table();
     let mut x = [0u32; 1024];
-    multiply_in(b, s, &mut x);
-    add_noise(&x, e, out);
+    turn(&t, s, &mut x);
+    value_turned(&t, b, &mut x, e, out);
+}
+
+// The replier's u = as + e', transformed as it travels, and v = bs + e'', from one transform of s; b, the opening's numbers, becomes u.
+pub fn reply(a: &[u32], s: &[i32], e1: &[i32], e2: &[i32], b: &mut [u32], v: &mut [u32])
+    requires { ⌜ (length (now a) ≡ 1024) × Below 12289 (now a) × (length (now b) ≡ 1024) × Below 12289 (now b) × (length (now v) ≡ 1024) ⌝ }
+    requires { ⌜ (length (now s) ≡ 1024) × Within 16 (now s) × (length (now e1) ≡ 1024) × Within 16 (now e1) × (length (now e2) ≡ 1024) × Within 16 (now e2) ⌝ }
+    ensures { λ _. ⌜ left b ≡ transformed (mixed 12289 1024 (inverted (was a)) (was s) (was e1)) ⌝ }
+    ensures { λ _. ⌜ left v ≡ mixed 12289 1024 (inverted (was b)) (was s) (was e2) ⌝ }
+{
+    let t = crate::powers::table();
+    let mut x = [0u32; 1024];
+    turn(&t, s, &mut x);
+    let mut y = x;
+    value_turned(&t, b, &mut y, e2, v);
+    mix_turned(&t, a, &x, e1, &mut y, b);
 }

@@ -1,20 +1,19 @@
 -- `transform::product` meets its contract.
-use mathlib.Core.Path.{_∙_, sym, ap, ap₂}
+use mathlib.Core.Path.{_∙_, ap, ap₂}
 use borrow.Author.Needs.{needs}
 use lib.ListN.{length}
 use Rattle.transform.specs.Transform.{inverted, entrywise}
-use Rattle.transform.proofs.Sizes.{sums-length, sums-below, entrywise-length, entrywise-below}
-use Rattle.transform.proofs.Inverses.{transformed-sums}
+use Rattle.transform.proofs.Sizes.{transformed-length, transformed-below, entrywise-length, entrywise-below}
 use Rattle.transform.proofs.Products.{multiplied-through}
 use Rattle.transform.proofs.product.Statement.{statement}
 use Rattle.transform.proofs.product.Tie as tie
 
 times-requires : tie.Need-times-requires
 times-requires c κs =
-    let x : tie.After-sums = search needs in
-    let y : tie.After-sums2 = search needs in
-    let e = x .sums .ensures in
-    (rw e (sums-below 1 _), ap length e ∙ sums-length 1 _, rw (y .sums2 .ensures) (sums-below 1 _))
+    let x : tie.After-ahead = search needs in
+    let y : tie.After-ahead2 = search needs in
+    let e = x .ahead .ensures in
+    (rw e (transformed-below _), ap length e ∙ transformed-length _, rw (y .ahead2 .ensures) (transformed-below _))
 
 back-requires : tie.Need-back-requires
 back-requires c κs =
@@ -25,11 +24,11 @@ back-requires c κs =
 
 returns : tie.Need-returns
 returns c =
-    let x : tie.After-sums = search needs in
-    let y : tie.After-sums2 = search needs in
+    let x : tie.After-ahead = search needs in
+    let y : tie.After-ahead2 = search needs in
     let z : tie.After-times = search needs in
-    let e = x .sums .ensures ∙ sym (transformed-sums _) in
-    let f = y .sums2 .ensures ∙ sym (transformed-sums _) in
+    let e = x .ahead .ensures in
+    let f = y .ahead2 .ensures in
     (c .back .ensures ∙ ap inverted (z .times .ensures ∙ ap₂ entrywise e f) ∙ multiplied-through _ _, f)
 
 pub product-spec : {M : Type 1} → statement M

@@ -7,16 +7,17 @@ use Rattle.transform.proofs.Sizes.{reduced-length, reduced-below}
 use Rattle.transform.proofs.through.turn.Statement.{statement}
 use Rattle.transform.proofs.through.turn.Tie as tie
 
-forward-requires : tie.Need-forward-requires
-forward-requires c κs =
+ahead-requires : tie.Need-ahead-requires
+ahead-requires c κs =
+    let b : tie.Start = search needs in
     let r : tie.After-reduce = search needs in
     let e = r .reduce .ensures in
-    (rw e (reduced-below _), ap length e ∙ reduced-length _)
+    (b .pre .0, rw e (reduced-below _), ap length e ∙ reduced-length _)
 
 returns : tie.Need-returns
 returns c =
     let r : tie.After-reduce = search needs in
-    c .forward .ensures ∙ ap transformed (r .reduce .ensures)
+    c .ahead .ensures ∙ ap transformed (r .reduce .ensures)
 
 pub turn-spec : {M : Type 1} → statement M
-turn-spec = tie.close (tie.spec (λ c κs. search needs) forward-requires returns)
+turn-spec = tie.close (tie.spec (λ c κs. search needs) ahead-requires returns)

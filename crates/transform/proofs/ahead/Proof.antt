@@ -1,0 +1,12 @@
+-- `transform::ahead` meets its contract.
+use mathlib.Core.Path.{_∙_, sym}
+use borrow.Author.Needs.{needs}
+use Rattle.transform.proofs.Inverses.{transformed-sums}
+use Rattle.transform.proofs.ahead.Statement.{statement}
+use Rattle.transform.proofs.ahead.Tie as tie
+
+returns : tie.Need-returns
+returns c = c .sums .ensures ∙ sym (transformed-sums _)
+
+pub ahead-spec : {M : Type 1} → statement M
+ahead-spec = tie.close (tie.spec (λ c κs. search needs) returns)
