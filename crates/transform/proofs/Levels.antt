@@ -1,14 +1,13 @@
--- The levels of the fast transform: from sums of length m at the stride 4h to sums of length 4m at the stride h.
+-- The levels of the fast transform: from sums of length m at the stride 2h to sums of length 2m at the stride h.
 --   part g a m s i o    the sum of length m over the entries o, o + s, o + 2s, .. of g, at the point 7^(s (a + 2i))
---   Holds g a m s b xs  xs holds all of them modulo 12289, that of point i and offset o at i s + o, each below b times 12289
+--   Holds g a m s xs    xs holds all of them modulo 12289, that of point i and offset o at i s + o, each in 16 bits
 --   holds-start, holds-level, holds-end   before, at each level, and after
---   holds-room          what a level asks of its source
 use mathlib.Core.Path.{_≡_, refl, _∙_, sym, ap, ap₂}
 use mathlib.Core.List.{List}
 use Prim.Native.Nat.{ℕ, _+_, _-_, _*_, _/_, _%_, _^_, _<_, _≤_}
 use native.Mathlib.Omega.{arith}
 use native.Mathlib.Decide.{decLt}
-use native.Mathlib.Nat.{mul-left-comm, mul-assoc, mod-lt, mul-le-mul-right}
+use native.Mathlib.Nat.{mul-left-comm, mul-assoc, mul-le-mul-right}
 use lib.Arith.{digits-div}
 use lib.IntN.{pos}
 use lib.ListN.{getD, List·getD-eq-default}
@@ -19,31 +18,37 @@ use Rattle.numbers.proofs.Congruence.{eq-≅, refl-≅, sym-≅, _⨾_, add-≅
 use Rattle.numbers.proofs.Modular.{more-≅, sumℕ-≅}
 use Rattle.lists.specs.Entries.{Below}
 use Rattle.lists.proofs.Entries.{tab-ext}
-use Rattle.transform.specs.Level.{low, high, Quarter, first, second, third, fourth, place, joined, entry, Joined, remainders, sums}
+use Rattle.transform.specs.Level.{tight, factor, powered, low, high, Half, first, second, place, joined, entry, Joined, remainders, sums}
 use Rattle.transform.proofs.Seven.{_≈_, seven-turn, seven-minus}
+use Rattle.transform.proofs.Words.{quotient-≤, tight-lt, powered-lt}
 
 pub part : List ℕ → ℕ → ℕ → ℕ → ℕ → ℕ → ℕ
 part g a m s i o = sumℕ m (λ j. getD g (o + j * s) 0 * 7 ^ (s * j * (a + 2 * i)))
 
-pub record Holds (g : List ℕ) (a m s b : ℕ) (xs : List ℕ) : Type 0 where
-  pub small : Below (b * 12289) xs
+pub record Holds (g : List ℕ) (a m s : ℕ) (xs : List ℕ) : Type 0 where
+  pub small : Below 65536 xs
   pub holds : (i o : ℕ) → i < m → o < s → getD xs (i * s + o) 0 ≈ part g a m s i o
 
 -- ---- x + w y and x - w y
 
-less-≅ : (x t : ℕ) → t ≤ 12289 → x + 12289 - t ≈ x + 12288 * t
+-- less a multiple
+less-multiple : (x d : ℕ) → d * 12289 ≤ x → x - d * 12289 ≈ x
+less-multiple x d h =
+    let e : x - d * 12289 + d * 12289 ≡ x = omega arith in
+    sym-≅ (more-≅ (x - d * 12289) d) ⨾ eq-≅ (ap pos e)
+
+tight-≅ : (x : ℕ) → tight x ≈ x
+unfolding tight
+tight-≅ x = less-multiple x (5 * x / 65536) (omega arith)
+
+powered-≅ : (w y : ℕ) → powered w y ≈ w * y
+unfolding powered
+powered-≅ w y = less-multiple (w * y) (y * factor w / 65536) (quotient-≤ w y)
+
+less-≅ : (x t : ℕ) → t ≤ 24578 → x + 24578 - t ≈ x + 12288 * t
 less-≅ x t h =
-    let e : x + 12289 - t + t * 12289 ≡ x + 12288 * t + 1 * 12289 = omega arith in
-    sym-≅ (more-≅ (x + 12289 - t) t) ⨾ eq-≅ (ap pos e) ⨾ more-≅ (x + 12288 * t) 1
-
-module _ (b w x y : ℕ) (h : x < b * 12289) where
-  low-lt : low w x y < (b + 1) * 12289
-  unfolding low
-  low-lt = omega (arith, mod-lt (w * y) {m = 12289} (omega arith))
-
-  high-lt : high w x y < (b + 1) * 12289
-  unfolding high
-  high-lt = omega (arith, mod-lt (w * y) {m = 12289} (omega arith))
+    let e : x + 24578 - t + t * 12289 ≡ x + 12288 * t + 2 * 12289 = omega arith in
+    sym-≅ (more-≅ (x + 24578 - t) t) ⨾ eq-≅ (ap pos e) ⨾ more-≅ (x + 12288 * t) 2
 
 -- ---- a sum from two of half its length
 
@@ -78,147 +83,94 @@ module _ (g : List ℕ) (a : ℕ) where
   module _ (m h i o w x y : ℕ) (hw : w ≈ 7 ^ (h * (a + 2 * i))) (hx : x ≈ part g a m (2 * h) i o) (hy : y ≈ part g a m (2 * h) i (o + h)) where
     step-low : low w x y ≈ part g a (2 * m) h i o
     unfolding low
-    step-low = add-≅ hx (mod-≅ 12289 (w * y) ⨾ mul-≅ hw hy) ⨾ eq-≅ (ap pos (sym (part-double m h i o)))
+    step-low = add-≅ (tight-≅ x ⨾ hx) (powered-≅ w y ⨾ mul-≅ hw hy) ⨾ eq-≅ (ap pos (sym (part-double m h i o)))
 
-    step-high : m * h ≡ 512 → high w x y ≈ part g a (2 * m) h (m + i) o
+    step-high : y < 65536 → m * h ≡ 512 → high w x y ≈ part g a (2 * m) h (m + i) o
     unfolding high
-    step-high fit =
+    step-high room fit =
         let e : m * (2 * h) ≡ 1024 = omega arith in
         let f : h * (a + 2 * (m + i)) ≡ 2 * (m * h) + h * (a + 2 * i) = omega arith in
         let p : 7 ^ (h * (a + 2 * (m + i))) ≈ 12288 * 7 ^ (h * (a + 2 * i)) =
         eq-≅ (ap (λ (n : ℕ). pos (7 ^ n)) (f ∙ ap (λ (n : ℕ). 2 * n + h * (a + 2 * i)) fit)) ⨾ seven-minus (h * (a + 2 * i)) in
-        less-≅ x (w * y % 12289) (omega (arith, mod-lt (w * y) {m = 12289} (omega arith)))
-        ⨾ add-≅ hx (mul-≅ (refl-≅ (pos 12288)) (mod-≅ 12289 (w * y) ⨾ mul-≅ hw hy))
+        less-≅ (tight x) (powered w y) (omega (arith, powered-lt w y room))
+        ⨾ add-≅ (tight-≅ x ⨾ hx) (mul-≅ (refl-≅ (pos 12288)) (powered-≅ w y ⨾ mul-≅ hw hy))
         ⨾ sym-≅
         (eq-≅ (ap pos (part-double m h (m + i) o))
         ⨾ add-≅ (part-period m (2 * h) i o e) (mul-≅ p (part-period m (2 * h) i (o + h) e) ⨾ eq-≅ (ap pos (mul-assoc 12288 _ _))))
 
--- ---- a level: four of them, by two halvings
+-- ---- a level: one halving
 
--- the point of an entry, from that of the four it is made of
-block : ℕ → Quarter → ℕ → ℕ
+-- the point of an entry, from that of the two it is made of
+block : ℕ → Half → ℕ → ℕ
 block m first i = i
 block m second i = m + i
-block m third i = 2 * m + i
-block m fourth i = 2 * m + (m + i)
 
-two-more : (b : ℕ) {x : ℕ} → x < (b + 1 + 1) * 12289 → x < (b + 2) * 12289
-two-more b h = omega arith
+joined-lt : (c : Half) (src : List ℕ) (w r h : ℕ) → Below 65536 src → joined c src w r h < 65536
+unfolding joined low high
+joined-lt first src w r h s = omega (arith, tight-lt (getD src r 0) (s .below r), powered-lt w (getD src (r + h) 0) (s .below (r + h)))
+joined-lt second src w r h s = omega (arith, tight-lt (getD src r 0) (s .below r))
 
-joined-lt : (c : Quarter) (src : List ℕ) (b w v z r h : ℕ) → Below (b * 12289) src → joined c src w v z r h < (b + 2) * 12289
-unfolding joined
-joined-lt first src b w v z r h s = two-more b (low-lt (b + 1) v _ _ (low-lt b w _ _ (s .below r)))
-joined-lt second src b w v z r h s = two-more b (low-lt (b + 1) z _ _ (high-lt b w _ _ (s .below r)))
-joined-lt third src b w v z r h s = two-more b (high-lt (b + 1) v _ _ (low-lt b w _ _ (s .below r)))
-joined-lt fourth src b w v z r h s = two-more b (high-lt (b + 1) z _ _ (high-lt b w _ _ (s .below r)))
-
-module _ (g src : List ℕ) (a m h b : ℕ) (fit : m * h ≡ 256) (had : Holds g a m (2 * (2 * h)) b src) where
+module _ (g src : List ℕ) (a m h : ℕ) (fit : m * h ≡ 512) (had : Holds g a m (2 * h) src) where
   module _ (i o : ℕ) (hi : i < m) (ho : o < h) where
-    -- the four entries that are read
-    read : (d r : ℕ) → d < 2 * (2 * h) → r ≡ i * (2 * (2 * h)) + d → getD src r 0 ≈ part g a m (2 * (2 * h)) i d
+    -- the two entries that are read
+    read : (d r : ℕ) → d < 2 * h → r ≡ i * (2 * h) + d → getD src r 0 ≈ part g a m (2 * h) i d
     read d r l e = eq-≅ (ap (λ (n : ℕ). pos (getD src n 0)) e) ⨾ had .holds i d hi l
 
-    module _ (w v z r : ℕ) (hr : r ≡ i * (2 * (2 * h)) + o) (hw : w ≈ 7 ^ (2 * h * (a + 2 * i))) (hv : v ≈ 7 ^ (h * (a + 2 * i))) (hz : z ≈ 7 ^ (h * (a + 2 * (m + i)))) where
-      x₀ : getD src r 0 ≈ part g a m (2 * (2 * h)) i o
-      x₀ = read o r (omega arith) hr
+    joined-≅ : (w r : ℕ) → r ≡ i * (2 * h) + o → w ≈ 7 ^ (h * (a + 2 * i)) → (c : Half) → joined c src w r h ≈ part g a (2 * m) h (block m c i) o
+    unfolding joined block
+    joined-≅ w r hr hw first = step-low g a m h i o w _ _ hw (read o r (omega arith) hr) (read (o + h) (r + h) (omega arith) (omega arith))
+    joined-≅ w r hr hw second =
+        step-high g a m h i o w _ _ hw (read o r (omega arith) hr) (read (o + h) (r + h) (omega arith) (omega arith)) (had .small .below (r + h)) fit
 
-      x₁ : getD src (r + h) 0 ≈ part g a m (2 * (2 * h)) i (o + h)
-      x₁ = read (o + h) (r + h) (omega arith) (omega arith)
-
-      x₂ : getD src (r + h + h) 0 ≈ part g a m (2 * (2 * h)) i (o + 2 * h)
-      x₂ = read (o + 2 * h) (r + h + h) (omega arith) (omega arith)
-
-      x₃ : getD src (r + h + h + h) 0 ≈ part g a m (2 * (2 * h)) i (o + h + 2 * h)
-      x₃ = read (o + h + 2 * h) (r + h + h + h) (omega arith) (omega arith)
-
-      twice : m * (2 * h) ≡ 512
-      twice = omega arith
-
-      half : 2 * m * h ≡ 512
-      half = omega arith
-
-      even : low w (getD src r 0) (getD src (r + h + h) 0) ≈ part g a (2 * m) (2 * h) i o
-      even = step-low g a m (2 * h) i o w _ _ hw x₀ x₂
-
-      even′ : low w (getD src (r + h) 0) (getD src (r + h + h + h) 0) ≈ part g a (2 * m) (2 * h) i (o + h)
-      even′ = step-low g a m (2 * h) i (o + h) w _ _ hw x₁ x₃
-
-      odd : high w (getD src r 0) (getD src (r + h + h) 0) ≈ part g a (2 * m) (2 * h) (m + i) o
-      odd = step-high g a m (2 * h) i o w _ _ hw x₀ x₂ twice
-
-      odd′ : high w (getD src (r + h) 0) (getD src (r + h + h + h) 0) ≈ part g a (2 * m) (2 * h) (m + i) (o + h)
-      odd′ = step-high g a m (2 * h) i (o + h) w _ _ hw x₁ x₃ twice
-
-      joined-≅ : (c : Quarter) → joined c src w v z r h ≈ part g a (2 * (2 * m)) h (block m c i) o
-      unfolding joined block
-      joined-≅ first = step-low g a (2 * m) h i o v _ _ hv even even′
-      joined-≅ second = step-low g a (2 * m) h (m + i) o z _ _ hz odd odd′
-      joined-≅ third = step-high g a (2 * m) h i o v _ _ hv even even′ half
-      joined-≅ fourth = step-high g a (2 * m) h (m + i) o z _ _ hz odd odd′ half
-
-    entry-≅ : (c : Quarter) → entry c src a h (i * h + o) ≈ part g a (2 * (2 * m)) h (block m c i) o
+    entry-≅ : (c : Half) → entry c src a h (i * h + o) ≈ part g a (2 * m) h (block m c i) o
     unfolding entry
     entry-≅ c =
         let d : (i * h + o) / h ≡ i = digits-div i ho in
-        let f : h * (a + 2 * (m + i)) ≡ h * (a + 2 * i) + 2 * (m * h) = omega arith in
-        rw d
-        (joined-≅ _ _ _ (i * h + o + 3 * (i * h)) (omega arith)
-        (mod-≅ 12289 _ ⨾ eq-≅ (ap (λ (n : ℕ). pos (7 ^ n)) (omega arith)))
-        (mod-≅ 12289 _)
-        (mod-≅ 12289 _ ⨾ eq-≅ (ap (λ (n : ℕ). pos (7 ^ n)) (sym (f ∙ ap (λ (n : ℕ). h * (a + 2 * i) + 2 * n) fit))))
-        c)
+        rw d (joined-≅ _ (i * h + o + i * h) (omega arith) (mod-≅ 12289 _) c)
 
-  module _ (dst : List ℕ) (new : Joined src a h 256 dst) where
-    -- each entry stands in a quarter
-    at-≅ : (c : Quarter) (i o : ℕ) → i < m → o < h → getD dst (i * h + o + place c) 0 ≈ part g a (2 * (2 * m)) h (block m c i) o
+  module _ (dst : List ℕ) (new : Joined src a h 512 dst) where
+    -- each entry stands in a half
+    at-≅ : (c : Half) (i o : ℕ) → i < m → o < h → getD dst (i * h + o + place c) 0 ≈ part g a (2 * m) h (block m c i) o
     at-≅ c i o hi ho =
         let l : (i + 1) * h ≤ m * h = mul-le-mul-right h (omega arith) in
         eq-≅ (ap pos (new .made c (i * h + o) (omega arith))) ⨾ entry-≅ i o hi ho c
 
-    moved : (c : Quarter) (i o j : ℕ) → j ≡ block m c i → i < m → o < h → i * h + o + place c ≡ j * h + o → getD dst (j * h + o) 0 ≈ part g a (2 * (2 * m)) h j o
+    moved : (c : Half) (i o j : ℕ) → j ≡ block m c i → i < m → o < h → i * h + o + place c ≡ j * h + o → getD dst (j * h + o) 0 ≈ part g a (2 * m) h j o
     moved c i o j e hi ho p =
-        eq-≅ (ap (λ (n : ℕ). pos (getD dst n 0)) (sym p)) ⨾ at-≅ c i o hi ho ⨾ eq-≅ (ap (λ (n : ℕ). pos (part g a (2 * (2 * m)) h n o)) (sym e))
+        eq-≅ (ap (λ (n : ℕ). pos (getD dst n 0)) (sym p)) ⨾ at-≅ c i o hi ho ⨾ eq-≅ (ap (λ (n : ℕ). pos (part g a (2 * m) h n o)) (sym e))
 
-    all-≅ : (j o : ℕ) → j < 2 * (2 * m) → o < h → getD dst (j * h + o) 0 ≈ part g a (2 * (2 * m)) h j o
+    all-≅ : (j o : ℕ) → j < 2 * m → o < h → getD dst (j * h + o) 0 ≈ part g a (2 * m) h j o
     unfolding block place
-    all-≅ j o hj ho = go (decLt j m) (decLt j (2 * m)) (decLt j (2 * m + m))
+    all-≅ j o hj ho = go (decLt j m)
       where
-        go : Dec (j < m) → Dec (j < 2 * m) → Dec (j < 2 * m + m) → getD dst (j * h + o) 0 ≈ part g a (2 * (2 * m)) h j o
-        go (yes p) q r = moved first j o j refl p ho (omega arith)
-        go (no p) (yes q) r =
+        go : Dec (j < m) → getD dst (j * h + o) 0 ≈ part g a (2 * m) h j o
+        go (yes p) = moved first j o j refl p ho (omega arith)
+        go (no p) =
             let e : j ≡ m + (j - m) = omega arith in
             moved second (j - m) o j e (omega arith) ho (omega (arith, ap (λ (n : ℕ). n * h) e))
-        go (no p) (no q) (yes r) =
-            let e : j ≡ 2 * m + (j - 2 * m) = omega arith in
-            moved third (j - 2 * m) o j e (omega arith) ho (omega (arith, ap (λ (n : ℕ). n * h) e))
-        go (no p) (no q) (no r) =
-            let e : j ≡ 2 * m + (m + (j - 2 * m - m)) = omega arith in
-            moved fourth (j - 2 * m - m) o j e (omega arith) ho (omega (arith, ap (λ (n : ℕ). n * h) e))
 
-    made-lt : (c : Quarter) (j k : ℕ) → j < 256 → k ≡ j + place c → getD dst k 0 < (b + 2) * 12289
+    made-lt : (c : Half) (j k : ℕ) → j < 512 → k ≡ j + place c → getD dst k 0 < 65536
     unfolding entry
-    made-lt c j k l e = rw (e, new .made c j l) (joined-lt c src b _ _ _ _ h (had .small))
+    made-lt c j k l e = rw (e, new .made c j l) (joined-lt c src _ _ h (had .small))
 
-    all-lt : (k : ℕ) → getD dst k 0 < (b + 2) * 12289
+    all-lt : (k : ℕ) → getD dst k 0 < 65536
     unfolding place
-    all-lt k = go (decLt k 256) (decLt k 512) (decLt k 768) (decLt k 1024)
+    all-lt k = go (decLt k 512) (decLt k 1024)
       where
-        go : Dec (k < 256) → Dec (k < 512) → Dec (k < 768) → Dec (k < 1024) → getD dst k 0 < (b + 2) * 12289
-        go (yes p) q r s = made-lt first k k p (omega arith)
-        go (no p) (yes q) r s = made-lt second (k - 256) k (omega arith) (omega arith)
-        go (no p) (no q) (yes r) s = made-lt third (k - 512) k (omega arith) (omega arith)
-        go (no p) (no q) (no r) (yes s) = made-lt fourth (k - 768) k (omega arith) (omega arith)
-        go (no p) (no q) (no r) (no s) = rw (List·getD-eq-default dst 0 {n = k} (omega (arith, new .size))) (omega arith)
+        go : Dec (k < 512) → Dec (k < 1024) → getD dst k 0 < 65536
+        go (yes p) q = made-lt first k k p (omega arith)
+        go (no p) (yes q) = made-lt second (k - 512) k (omega arith) (omega arith)
+        go (no p) (no q) = rw (List·getD-eq-default dst 0 {n = k} (omega (arith, new .size))) (omega arith)
 
-    pub holds-level : Holds g a (2 * (2 * m)) h (b + 2) dst
+    pub holds-level : Holds g a (2 * m) h dst
     holds-level = record { small = record { below = all-lt }; holds = all-≅ }
 
 -- ---- before the first level, and after the last
 
 -- a sum of length 1 is the entry itself
-pub holds-start : (g : List ℕ) (a : ℕ) → Below 12289 g → Holds g a 1 1024 1 g
+pub holds-start : (g xs : List ℕ) (a : ℕ) → xs ≡ g → Below 12289 g → Holds g a 1 1024 xs
 unfolding part sum
-holds-start g a s = record { small = record { below = λ k. omega (arith, s .below k) }; holds = λ i o p q. eq-≅ (ap pos (only i o p)) }
+holds-start g xs a e s = rw e (record { small = record { below = λ k. omega (arith, s .below k) }; holds = λ i o p q. eq-≅ (ap pos (only i o p)) })
   where
     only : (i o : ℕ) → i < 1 → getD g (i * 1024 + o) 0 ≡ 0 + getD g (o + 0 * 1024) 0 * 7 ^ (1024 * 0 * (a + 2 * i))
     only i o p =
@@ -227,9 +179,9 @@ holds-start g a s = record { small = record { below = λ k. omega (arith, s .bel
         ap (λ (n : ℕ). getD g n 0) e ∙ sym (ap (λ (n : ℕ). 0 + getD g (o + 0 * 1024) 0 * 7 ^ n) z ∙ omega arith)
 
 -- a sum of length 1,024 is the whole
-pub holds-end : (g xs : List ℕ) (a b : ℕ) → Holds g a 1024 1 b xs → remainders xs ≡ sums a g
+pub holds-end : (g xs : List ℕ) (a : ℕ) → Holds g a 1024 1 xs → remainders xs ≡ sums a g
 unfolding part sums remainders
-holds-end g xs a b had = tab-ext 1024 _ _ same
+holds-end g xs a had = tab-ext 1024 _ _ same
   where
     each : (i j : ℕ) → getD g (0 + j * 1) 0 * 7 ^ (1 * j * (a + 2 * i)) ≡ getD g j 0 * 7 ^ (j * (a + 2 * i))
     each i j = ap₂ (λ (x y : ℕ). getD g x 0 * 7 ^ y) (omega arith) (omega arith)
@@ -239,6 +191,3 @@ holds-end g xs a b had = tab-ext 1024 _ _ same
         let e : i ≡ i * 1 + 0 = omega arith in
         ap (λ (n : ℕ). getD xs n 0 % 12289) e
         ∙ same-mod (omega arith) (had .holds i 0 p (omega arith) ⨾ eq-≅ (ap pos (sum-ext natural 1024 _ _ (λ j l. each i j))))
-
-pub holds-room : {g : List ℕ} {a m s b : ℕ} {xs : List ℕ} → Holds g a m s b xs → b ≤ 9 → Below 110601 xs
-holds-room had l = record { below = λ k. omega (arith, had .small .below k) }

@@ -1,137 +1,135 @@
 // The NewHope transform: 01, "The NewHope transform". `forward` yields 01's sums, `inverse` undoes them, and `product` is the product modulo X^1024 + 1, each in
 // place on 1,024 numbers below 12289 and with the table of the powers of 7 (`powers`). The theorems, that the table has the
 // powers, that the two undo each other and that products go through the transform, are stated in `specs/Theorems.antt`.
-// The sums are made by Stockham's method, decimation in time, two halvings at a time (`specs/Level.antt`): five levels between two buffers, all of whose powers stand
-// below the table's middle, so that no index is reduced. Only products are reduced on the way. A level adds at most 2 * 12289, so all stays below 11 * 12289.
+// The sums are made by Stockham's method, decimation in time (`specs/Level.antt`): ten levels between two buffers, all of whose powers stand below the table's
+// middle, so that no index is reduced. The buffers have 16 bits a number, so that eight are reckoned at a time, and nothing is reduced further than that asks.
 ghost use mathlib.Core.Path.{_≡_};
-ghost use Prim.Native.Nat.{_+_, _%_, _<_, _≤_};
+ghost use Prim.Native.Nat.{_+_, _%_, _<_};
 ghost use lib.ListN.{length};
 ghost use Rattle.lists.specs.Entries.{Below};
 ghost use Rattle.transform.specs.Transform.{transformed, inverted, entrywise, multiplied, powers};
-ghost use Rattle.transform.specs.Level.{low, high, stored, Joined, Room, remainders, sums, scaled};
+ghost use Rattle.transform.specs.Level.{tight, factor, powered, stored, Joined, Room, remainders, sums, scaled};
 use schemes::NewHope;
 
 mod powers;
 pub mod through;
 
-// x + w y. What is read is below 10 * 12289, so the product fits.
-fn low(w: u32, x: u32, y: u32) -> u32
-    requires { ⌜ (w < 12289) × (x < 122890) × (y < 122890) ⌝ }
-    ensures { λ r. ⌜ (r ≡ low w x y) × (r ≤ x + 12289) ⌝ }
+// x, less a multiple of 12289: far enough below 2^16 that twice 12289 can be added.
+fn tight(x: u16) -> u16
+    ensures { λ r. ⌜ (r ≡ tight x) × (r < 16380) ⌝ }
 {
-    x + w * y % NewHope::Q
+    let h = 5 * (x as u32) / 65536;
+    x - ((h * NewHope::Q) as u16)
 }
 
-// x - w y, likewise.
-fn high(w: u32, x: u32, y: u32) -> u32
-    requires { ⌜ (w < 12289) × (x < 122890) × (y < 122890) ⌝ }
-    ensures { λ r. ⌜ (r ≡ high w x y) × (r ≤ x + 12289) ⌝ }
+// w y, less a multiple of 12289: f is w / 12289, cut after 16 bits, so that f y misses the quotient by less than 2. Both products are taken modulo 2^16, where
+// their difference fits.
+fn powered(w: u16, f: u16, y: u16) -> u16
+    requires { ⌜ f ≡ factor w ⌝ }
+    ensures { λ r. ⌜ (r ≡ powered w y) × (r < 24578) ⌝ }
 {
-    x + NewHope::Q - w * y % NewHope::Q
+    let p = (w as u32) * (y as u32);
+    let h = (y as u32) * (f as u32) / 65536;
+    std::num::wrapping_sub_u16((p % 65536) as u16, (h * NewHope::Q % 65536) as u16)
 }
 
-// Four entries of the level before, each below 9 * 12289, make entry k of each quarter.
-fn join(
-    src: &[u32; 1024],
-    dst: &mut [u32; 1024],
-    w: u32,
-    v: u32,
-    z: u32,
-    r: usize,
-    h: usize,
-    k: usize,
-)
-    requires { ⌜ (w < 12289) × (v < 12289) × (z < 12289) × (r + h + h + h < 1024) × (k < 256) × Below 110601 (now src) ⌝ }
-    ensures { λ _. ⌜ now (dst .exit) ≡ stored (now (src .entry)) w v z r h k (now (dst .entry)) ⌝ }
+// Two entries of the level before make entry k of each half.
+fn join(src: &[u16; 1024], dst: &mut [u16; 1024], w: u16, f: u16, r: usize, h: usize, k: usize)
+    requires { ⌜ (f ≡ factor w) × (r + h < 1024) × (k < 512) ⌝ }
+    ensures { λ _. ⌜ now (dst .exit) ≡ stored (now (src .entry)) w r h k (now (dst .entry)) ⌝ }
 {
     let r1 = r + h;
-    let r2 = r1 + h;
-    let r3 = r2 + h;
-    let x0 = src[r];
-    let x1 = src[r1];
-    let x2 = src[r2];
-    let x3 = src[r3];
-    let even0 = low(w, x0, x2);
-    let even1 = low(w, x1, x3);
-    let odd0 = high(w, x0, x2);
-    let odd1 = high(w, x1, x3);
-    let k1 = k + 256;
-    let k2 = k + 512;
-    let k3 = k + 768;
-    dst[k] = low(v, even0, even1);
-    dst[k1] = low(z, odd0, odd1);
-    dst[k2] = high(v, even0, even1);
-    dst[k3] = high(z, odd0, odd1);
+    let k1 = k + 512;
+    let x = tight(src[r]);
+    let y = powered(w, f, src[r1]);
+    dst[k] = x + y;
+    dst[k1] = x + 24578 - y;
 }
 
-// c entries of one block, from k on: they share their powers.
+// c entries of one block, from k on: they share their power.
 fn run(
     t: &[u32; 2048],
-    src: &[u32; 1024],
-    dst: &mut [u32; 1024],
+    src: &[u16; 1024],
+    dst: &mut [u16; 1024],
     a: usize,
     h: usize,
     c: usize,
     k: usize,
 )
     requires { ⌜ (a < 2) × (0 < h) × Room h c k ⌝ }
-    requires { ⌜ (now t ≡ powers) × Below 110601 (now src) × Joined (now src) a h k (now dst) ⌝ }
+    requires { ⌜ (now t ≡ powers) × Joined (now src) a h k (now dst) ⌝ }
     ensures { λ _. ⌜ Joined (now (src .entry)) a h (k + c) (now (dst .exit)) ⌝ }
 {
     let i = k / h;
-    let b = i * h;
-    let r = k + 3 * b;
+    let r = k + i * h;
     let e = h * (a + 2 * i);
-    let e1 = e + 512;
-    let e2 = 2 * e;
-    let w = t[e2];
     let v = t[e];
-    let z = t[e1];
+    let w = v as u16;
+    let f = (65536 * v / NewHope::Q) as u16;
     let mut j: usize = 0;
     while j < c {
-        join(src, dst, w, v, z, r + j, h, k + j);
+        join(src, dst, w, f, r + j, h, k + j);
         j += 1;
     }
 }
 
-// One level, in runs of c entries. It is small enough to be compiled anew into each of its five calls, where h and c are constants and a run is laid out in
-// vectors: c is 16 where h allows it, which was the quickest. A body some seven operations longer is called instead, and the whole then takes twice as long.
-fn level(t: &[u32; 2048], src: &[u32; 1024], dst: &mut [u32; 1024], a: usize, h: usize, c: usize)
-    requires { ⌜ (a < 2) × (0 < h) × (256 % h ≡ 0) × (0 < c) × (h % c ≡ 0) ⌝ }
-    requires { ⌜ (now t ≡ powers) × Below 110601 (now src) × (length (now dst) ≡ 1024) ⌝ }
-    ensures { λ _. ⌜ Joined (now (src .entry)) a h 256 (now (dst .exit)) ⌝ }
+// One level, in runs of c entries. It is small enough to be compiled anew into each of its ten calls, where h and c are constants and a run is laid out in
+// vectors: c is 32 where h allows it, which was the quickest.
+fn level(t: &[u32; 2048], src: &[u16; 1024], dst: &mut [u16; 1024], a: usize, h: usize, c: usize)
+    requires { ⌜ (a < 2) × (0 < h) × (512 % h ≡ 0) × (0 < c) × (h % c ≡ 0) ⌝ }
+    requires { ⌜ (now t ≡ powers) × (length (now dst) ≡ 1024) ⌝ }
+    ensures { λ _. ⌜ Joined (now (src .entry)) a h 512 (now (dst .exit)) ⌝ }
 {
     let mut k: usize = 0;
-    while k < 256 {
+    while k < 512 {
         run(t, src, dst, a, h, c, k);
         k += c;
     }
 }
 
-fn reduce(src: &[u32; 1024], dst: &mut [u32; 1024])
-    requires { ⌜ length (now dst) ≡ 1024 ⌝ }
+// The numbers, in 16 bits.
+fn narrow(src: &[u32; 1024], dst: &mut [u16; 1024])
+    requires { ⌜ Below 12289 (now src) × (length (now src) ≡ 1024) × (length (now dst) ≡ 1024) ⌝ }
+    ensures { λ _. ⌜ now (dst .exit) ≡ now (src .entry) ⌝ }
+{
+    let mut k: usize = 0;
+    while k < NewHope::N {
+        dst[k] = src[k] as u16;
+        k += 1;
+    }
+}
+
+fn reduce(src: &[u16; 1024], dst: &mut [u32; 1024])
+    requires { ⌜ Below 65536 (now src) × (length (now dst) ≡ 1024) ⌝ }
     ensures { λ _. ⌜ now (dst .exit) ≡ remainders (now (src .entry)) ⌝ }
 {
     let mut k: usize = 0;
     while k < NewHope::N {
-        dst[k] = src[k] % NewHope::Q;
+        dst[k] = (src[k] as u32) % NewHope::Q;
         k += 1;
     }
 }
 
 // Entry i becomes the sum over j of g_j 7^(j (a + 2i)): the transform where a is 1, and the sums of its inverse, the other way round, where a is 0.
-// The second buffer is a local, so that the compiler sees that the two do not overlap.
+// The buffers are locals, so that the compiler sees that they do not overlap.
 fn sums(t: &[u32; 2048], g: &mut [u32; 1024], a: usize)
     requires { ⌜ (a < 2) × (now t ≡ powers) × Below 12289 (now g) × (length (now g) ≡ 1024) ⌝ }
     ensures { λ _. ⌜ now (g .exit) ≡ sums a (now (g .entry)) ⌝ }
 {
-    let mut s = [0u32; 1024];
-    level(t, g, &mut s, a, 256, 16);
-    level(t, &s, g, a, 64, 16);
-    level(t, g, &mut s, a, 16, 16);
-    level(t, &s, g, a, 4, 4);
-    level(t, g, &mut s, a, 1, 1);
-    reduce(&s, g);
+    let mut p = [0u16; 1024];
+    let mut s = [0u16; 1024];
+    narrow(g, &mut p);
+    level(t, &p, &mut s, a, 512, 32);
+    level(t, &s, &mut p, a, 256, 32);
+    level(t, &p, &mut s, a, 128, 32);
+    level(t, &s, &mut p, a, 64, 32);
+    level(t, &p, &mut s, a, 32, 32);
+    level(t, &s, &mut p, a, 16, 16);
+    level(t, &p, &mut s, a, 8, 8);
+    level(t, &s, &mut p, a, 4, 4);
+    level(t, &p, &mut s, a, 2, 2);
+    level(t, &s, &mut p, a, 1, 1);
+    reduce(&p, g);
 }
 
 // The transform, in place. Whoever makes several lends the table to all: making it copies it.

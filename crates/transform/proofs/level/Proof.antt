@@ -9,13 +9,13 @@ use Rattle.transform.proofs.level.Statement.{statement}
 use Rattle.transform.proofs.level.Tie as tie
 
 abbrev Inv-loop : tie.InvT-loop
-Inv-loop t src dst₀ a h c k₀ dst k = (k ≤ 256) × (k % c ≡ 0) × Joined src a h k dst
+Inv-loop t src dst₀ a h c k₀ dst k = (k ≤ 512) × (k % c ≡ 0) × Joined src a h k dst
 
 abbrev μ-loop : tie.MeasureT-loop
-μ-loop t src dst₀ a h c k₀ dst k = 256 - k
+μ-loop t src dst₀ a h c k₀ dst k = 512 - k
 
 loop-holds : tie.Need-loop-holds Inv-loop μ-loop
-loop-holds c = (omega arith, zero-mod _, joined-none _ _ _ _ (c .pre .1 .2))
+loop-holds c = (omega arith, zero-mod _, joined-none _ _ _ _ (c .pre .1 .1))
 
 -- the next run lies in one block
 within : (c : tie.In-loop Inv-loop μ-loop) → Room (c .before .before .args .h) (c .before .before .args .c) (c .before .loop .k)
@@ -27,22 +27,22 @@ within c =
 run-requires : tie.Need-run-requires Inv-loop μ-loop
 run-requires c κs =
     let a = c .before .before .before in
-    ((a .pre .0 .0, a .pre .0 .1, within (c .before)), (a .pre .1 .0, a .pre .1 .1, c .before .before .loop .inv .2))
+    ((a .pre .0 .0, a .pre .0 .1, within (c .before)), (a .pre .1 .0, c .before .before .loop .inv .2))
 
 add-k : tie.Need-add-k Inv-loop μ-loop
-add-k c = omega (arith, within (c .before .before) .block, within (c .before .before) .quarter)
+add-k c = omega (arith, within (c .before .before) .block, within (c .before .before) .half)
 
 loop-less : tie.Need-loop-less Inv-loop μ-loop
-loop-less c = omega (arith, within (c .before .before) .block, within (c .before .before) .quarter)
+loop-less c = omega (arith, within (c .before .before) .block, within (c .before .before) .half)
 
 loop-again : tie.Need-loop-again Inv-loop μ-loop
 loop-again c =
     let l = c .before .before .before .loop in
-    (omega (arith, within (c .before .before) .block, within (c .before .before) .quarter), add-mod-right (l .k) _ ∙ l .inv .1, c .run .ensures)
+    (omega (arith, within (c .before .before) .block, within (c .before .before) .half), add-mod-right (l .k) _ ∙ l .inv .1, c .run .ensures)
 
 returns : tie.Need-returns Inv-loop μ-loop
 returns c =
-    let e : c .before .loop .k ≡ 256 = omega arith in
+    let e : c .before .loop .k ≡ 512 = omega arith in
     rw e at (c .before .loop .inv .2)
 
 pub level-spec : {M : Type 1} → statement M

@@ -1,10 +1,9 @@
 -- `transform::reduce` meets its contract: it fills with the remainders.
-use mathlib.Core.Path.{refl, _∙_, ap}
-use Prim.Native.Nat.{ℕ, _-_, _%_}
+use mathlib.Core.Path.{refl}
+use Prim.Native.Nat.{_-_, _%_}
 use native.Mathlib.Omega.{arith}
 use lib.ListN.{getD}
-use Rattle.lists.specs.Entries.{tab}
-use Rattle.lists.proofs.Fill.{Filled, fill-start, fill-next, fill-end}
+use Rattle.lists.proofs.Fill.{Filled, fill-start, fill-next, fill-whole}
 use Rattle.transform.specs.Level.{remainders}
 use Rattle.transform.proofs.reduce.Statement.{statement}
 use Rattle.transform.proofs.reduce.Tie as tie
@@ -24,6 +23,9 @@ mul-dst c = omega arith
 element-copy-out-dst : tie.Need-element-copy-out-dst Inv-loop μ-loop
 element-copy-out-dst c = omega arith
 
+cast-dst : tie.Need-cast-dst Inv-loop μ-loop
+cast-dst c = omega (arith, c .before .before .before .pre .0 .below (c .before .before .loop .k))
+
 mul-dst-2 : tie.Need-mul-dst-2 Inv-loop μ-loop
 mul-dst-2 c = omega arith
 
@@ -41,9 +43,7 @@ loop-again c = fill-next _ (c .before .before .loop .inv) (omega arith) refl
 
 returns : tie.Need-returns Inv-loop μ-loop
 unfolding remainders
-returns c =
-    let a = c .before .before in
-    fill-end (c .before .loop .inv) (omega arith) ∙ ap (λ (n : ℕ). tab n (λ k. getD (a .args .src .now) k 0 % 12289)) (a .pre)
+returns c = fill-whole (c .before .loop .inv) (c .before .before .pre .1) (omega arith)
 
 pub reduce-spec : {M : Type 1} → statement M
 reduce-spec =
@@ -54,6 +54,7 @@ reduce-spec =
     loop-holds
     mul-dst
     element-copy-out-dst
+    cast-dst
     mul-dst-2
     element-write-dst
     add-k

@@ -1,36 +1,33 @@
--- `transform::run` meets its contract: each turn makes one more entry of each quarter.
-use mathlib.Core.Path.{_≡_}
+-- `transform::run` meets its contract: each turn makes one more entry of each half.
+use mathlib.Core.Path.{_≡_, refl}
 use Prim.Native.Nat.{ℕ, _+_, _-_, _*_, _/_, _%_, _^_, _≤_, _<_}
 use native.Mathlib.Omega.{arith}
 use native.Mathlib.Nat.{add-zero, div-le-self, div-mul-le-self}
 use lib.ListN.{getD}
-use Rattle.transform.specs.Level.{Joined}
+use Rattle.transform.specs.Level.{factor, Joined}
 use Rattle.transform.proofs.Seven.{powers-at, powers-lt}
 use Rattle.transform.proofs.Joins.{exponent-≤, run-more}
 use Rattle.transform.proofs.run.Statement.{statement}
 use Rattle.transform.proofs.run.Tie as tie
 
 abbrev Inv-loop : tie.InvT-loop
-Inv-loop t src dst₀ a h c k i b r e e1 e2 w v z j₀ dst j = (j ≤ c) × Joined src a h (k + j) dst
+Inv-loop t src dst₀ a h c k i r e v w f j₀ dst j = (j ≤ c) × Joined src a h (k + j) dst
 
 abbrev μ-loop : tie.MeasureT-loop
-μ-loop t src dst₀ a h c k i b r e e1 e2 w v z j₀ dst j = c - j
+μ-loop t src dst₀ a h c k i r e v w f j₀ dst j = c - j
 
--- the powers that are read
+-- the power that is read
 abbrev exponent : tie.Start Inv-loop μ-loop → ℕ
 exponent c = c .args .h * (c .args .a + 2 * (c .args .k / c .args .h))
 
-below : (c : tie.Start Inv-loop μ-loop) → exponent c ≤ 768
+below : (c : tie.Start Inv-loop μ-loop) → exponent c ≤ 1536
 below c = exponent-≤ (c .args .a) (c .args .h) (c .args .k) (omega arith) (omega arith) (omega arith)
 
-power : (c : tie.Start Inv-loop μ-loop) (e : ℕ) → e < 2048 → getD (c .args .t .now) e 0 ≡ 7 ^ e % 12289
-power c e l = powers-at (c .pre .1 .0) e l
+small : (c : tie.Start Inv-loop μ-loop) → getD (c .args .t .now) (exponent c) 0 < 12289
+small c = powers-lt (c .pre .1 .0) (exponent c)
 
 div-i : tie.Need-div-i Inv-loop μ-loop
 div-i c = omega arith
-
-mul-b : tie.Need-mul-b Inv-loop μ-loop
-mul-b c = omega (arith, div-mul-le-self (c .args .k) (c .args .h))
 
 mul-r : tie.Need-mul-r Inv-loop μ-loop
 mul-r c = omega (arith, div-mul-le-self (c .args .k) (c .args .h))
@@ -47,32 +44,23 @@ add-e c = omega (arith, div-le-self (c .args .k) (c .args .h))
 mul-e-2 : tie.Need-mul-e-2 Inv-loop μ-loop
 mul-e-2 c = omega (arith, below c)
 
-add-e1 : tie.Need-add-e1 Inv-loop μ-loop
-add-e1 c = omega (arith, below c)
-
-mul-e2 : tie.Need-mul-e2 Inv-loop μ-loop
-mul-e2 c = omega (arith, below c)
-
-mul-w : tie.Need-mul-w Inv-loop μ-loop
-mul-w c = omega (arith, below c)
-
-element-copy-out-w : tie.Need-element-copy-out-w Inv-loop μ-loop
-element-copy-out-w c = omega (arith, below c)
-
 mul-v : tie.Need-mul-v Inv-loop μ-loop
-mul-v c = omega (arith, below (c .before))
+mul-v c = omega (arith, below c)
 
 element-copy-out-v : tie.Need-element-copy-out-v Inv-loop μ-loop
-element-copy-out-v c = omega (arith, below (c .before))
+element-copy-out-v c = omega (arith, below c)
 
-mul-z : tie.Need-mul-z Inv-loop μ-loop
-mul-z c = omega (arith, below (c .before .before))
+cast-w : tie.Need-cast-w Inv-loop μ-loop
+cast-w c = omega (arith, small (c .before))
 
-element-copy-out-z : tie.Need-element-copy-out-z Inv-loop μ-loop
-element-copy-out-z c = omega (arith, below (c .before .before))
+mul-f : tie.Need-mul-f Inv-loop μ-loop
+mul-f c = omega (arith, small (c .before))
+
+cast-f : tie.Need-cast-f Inv-loop μ-loop
+cast-f c = omega (arith, small (c .before))
 
 loop-holds : tie.Need-loop-holds Inv-loop μ-loop
-loop-holds c = (omega arith, rw add-zero (c .before .before .before .pre .1 .2))
+loop-holds c = (omega arith, rw add-zero (c .before .pre .1 .1))
 
 add-join : tie.Need-add-join Inv-loop μ-loop
 add-join c = omega arith
@@ -81,15 +69,8 @@ add-join-2 : tie.Need-add-join-2 Inv-loop μ-loop
 add-join-2 c = omega arith
 
 join-requires : tie.Need-join-requires Inv-loop μ-loop
-join-requires c κs =
-    let d = c .before .before .before .before .before .before in (
-      powers-lt (d .pre .1 .0) _,
-      powers-lt (d .pre .1 .0) _,
-      powers-lt (d .pre .1 .0) _,
-      omega arith,
-      omega arith,
-      d .pre .1 .1,
-    )
+unfolding factor
+join-requires c κs = (refl, omega arith, omega arith)
 
 add-j : tie.Need-add-j Inv-loop μ-loop
 add-j c = omega arith
@@ -99,19 +80,17 @@ loop-less c = omega arith
 
 loop-again : tie.Need-loop-again Inv-loop μ-loop
 loop-again c =
-    let d = c .before .before .before .before .before .before .before in
+    let d : tie.Start Inv-loop μ-loop = c .before .before .before .before .before in
     let l = c .before .before .before .loop in (
       omega arith,
-      run-more _ _ _ (d .args .a) (d .args .h) (d .args .k) (l .j) _ _ _ (omega arith) (omega arith) (l .inv .1)
-          (power d (2 * exponent d) (omega (arith, below d)))
-          (power d (exponent d) (omega (arith, below d)))
-          (power d (exponent d + 512) (omega (arith, below d)))
+      run-more _ _ _ (d .args .a) (d .args .h) (d .args .k) (l .j) _ (omega arith) (omega arith) (l .inv .1)
+          (powers-at (d .pre .1 .0) (exponent d) (omega (arith, below d)))
           (c .join .ensures),
     )
 
 returns : tie.Need-returns Inv-loop μ-loop
 returns c =
-    let d = c .before .before .before .before .before in
+    let d : tie.Start Inv-loop μ-loop = c .before .before .before in
     let e : c .before .loop .j ≡ d .args .c = omega arith in
     rw e at (c .before .loop .inv .1)
 
@@ -122,20 +101,16 @@ run-spec =
     Inv-loop
     μ-loop
     div-i
-    mul-b
     mul-r
     add-r
     mul-e
     add-e
     mul-e-2
-    add-e1
-    mul-e2
-    mul-w
-    element-copy-out-w
     mul-v
     element-copy-out-v
-    mul-z
-    element-copy-out-z
+    cast-w
+    mul-f
+    cast-f
     loop-holds
     add-join
     add-join-2
