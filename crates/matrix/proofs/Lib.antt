@@ -1,5 +1,6 @@
 pub mod Laws
 pub mod Rows
+pub mod Search
 pub mod Mixing
 pub mod Quotient
 pub mod Steps

@@ -2,7 +2,7 @@
 --   words-length, words-at     secrets or noise as words: how many, and an entry
 --   gained-length, gained-at, gained-none   a list of sums: its length, its entries, and with no product yet
 --   wrapped, gain-next, gained-next, gained-more   a sum that wrapped before it gained; one product more for a sum; for each; n more
---   reduced-gained, steps-are  from the noise to the remainders, by place; in three steps
+--   reduced-gained, steps-are, row-are  from the noise to the remainders, by place; in three steps; of a row
 --   mixed                      they are those of the whole sums, by row and column
 use mathlib.Core.Path.{_≡_, _∙_, sym, ap}
 use mathlib.Core.List.{List}
@@ -19,7 +19,7 @@ use Rattle.numbers.proofs.Congruence.{finer-≅, eq-≅, _⨾_, add-≅, sum-�
 use Rattle.lists.specs.Entries.{tab, ints}
 use Rattle.lists.proofs.Entries.{tab-length, tab-at, tab-ext, tab-getD}
 use Rattle.matrix.specs.Matrix.{times, rows, intsAt}
-use Rattle.matrix.specs.Steps.{wordsOf, gained, reduced}
+use Rattle.matrix.specs.Steps.{wordsOf, gained, reduced, dotTerm}
 
 pub words-length : (m : ℕ) (zs : List ℤ) → length (wordsOf m zs) ≡ length zs
 unfolding wordsOf
@@ -88,6 +88,12 @@ reduced-gained m q n f e =
 pub steps-are : (m : ℕ) (q n : ℕ) (f : ℕ → ℕ → ℕ) (e : List ℤ) {l x out : List ℕ} → l ≡ wordsOf m e → x ≡ gained m n f l → out ≡ reduced q x
     → out ≡ reduced q (gained m n f (wordsOf m e))
 steps-are m q n f e s g d = d ∙ ap (reduced q) (g ∙ ap (gained m n f) s)
+
+-- of a row of numbers, and b, the same as words
+pub row-are :
+    (m : ℕ) (q n : ℕ) (row cols : List ℕ) (e : List ℤ) {b l x out : List ℕ} → b ≡ row → l ≡ wordsOf m e → x ≡ gained m n (dotTerm n b cols) l → out ≡ reduced q x →
+    out ≡ reduced q (gained m n (dotTerm n row cols) (wordsOf m e))
+row-are m q n row cols e {l = l} r s g d = steps-are m q n (dotTerm n row cols) e s (g ∙ ap (λ (b : List ℕ). gained m n (dotTerm n b cols) l) r) d
 
 -- a remainder of words is that of whole numbers which they are modulo m, a multiple of q
 module _ (m q n : ℕ) (o : 0 < q) (some : 0 < m) (w : m % q ≡ 0) where

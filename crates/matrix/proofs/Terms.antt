@@ -1,7 +1,7 @@
 -- The products that the sums gain: how the parts of the matrices that are lent make up the whole. Row i of a matrix with n columns lies from i n on.
---   row-in, lent-row       a row ends inside, and is lent
+--   row-in                 a row ends inside
 --   column-row             column j of S is row j of its columns
---   right-row              row i of XS + E
+--   right-sums, right-row  row i of the sums of XS, and of XS + E
 --   in-s, block-long, block-row   a block of rows of Y and their words, for row i of SY
 --   in-y, part-terms       a block as it lies in Y
 use mathlib.Core.Path.{_≡_, _∙_, sym, ap, ap₂}
@@ -17,20 +17,12 @@ use Rattle.numbers.specs.Residue.{residue}
 use Rattle.numbers.proofs.Sums.{natural, sum-ext}
 use Rattle.lists.specs.Entries.{tab, ints}
 use Rattle.lists.proofs.Entries.{tab-ext}
-use Rattle.lists.proofs.Parts.{slice-long, slice-at, slice-below}
-use Rattle.matrix.specs.Steps.{wordsOf, gained, reduced, dotTerm, rightTerm, blockTerm, partTerm, leftTerm, blockGained, Lent}
+use Rattle.lists.proofs.Parts.{slice-long, slice-at}
+use Rattle.matrix.specs.Steps.{wordsOf, gained, reduced, dotTerm, rightTerm, blockTerm, partTerm, leftTerm, blockGained}
 use Rattle.matrix.proofs.Steps.{reduced-gained}
 
 pub row-in : (r n i : ℕ) → i < r → i * n + n ≤ r * n
 row-in r n i h = let m : suc i * n ≤ r * n = mul-le-mul-right n h in omega arith
-
-pub lent-row : {n r : ℕ} {x ws : List ℕ} (i : ℕ) → i < r → Lent n r x ws → Lent n 1 (take (i * n + n - i * n) (drop (i * n) x)) ws
-lent-row {n} {r} {x} {ws} i h f =
-    record {
-      xs-long = slice-long (i * n) n x (omega (arith, row-in r n i h, f .xs-long)) ∙ omega arith;
-      ws-long = f .ws-long;
-      xs-below = slice-below (i * n) n (f .xs-below);
-    }
 
 pub column-row : (w n m j : ℕ) (s : List ℤ) → m ≡ n
     → tab m (λ t. residue w (ints s (t * 8 + j))) ≡ tab n (λ t. residue w (ints s ((j * n + t) % n * 8 + (j * n + t) / n)))
@@ -38,24 +30,41 @@ column-row w n m j s e =
     ap (λ (k : ℕ). tab k (λ t. residue w (ints s (t * 8 + j)))) e
     ∙ tab-ext n _ _ (λ t p. ap₂ (λ (a b : ℕ). residue w (ints s (a * 8 + b))) (sym (digits-mod j p)) (sym (digits-div j p)))
 
-pub right-row :
-    (q n i : ℕ) (x cols : List ℕ) (e : List ℤ) → i * 8 + 8 ≤ length e → {p : List ℕ} →
-    p ≡ reduced q (gained 65536 n (dotTerm n (take (i * n + n - i * n) (drop (i * n) x)) cols) (wordsOf 65536 (take (i * 8 + 8 - i * 8) (drop (i * 8) e)))) →
-    p ≡ tab 8 (λ j. (residue 65536 (ints e (i * 8 + j)) + sumℕ n (rightTerm n x cols (i * 8 + j))) % 65536 % q)
-unfolding dotTerm rightTerm ints
-right-row q n i x cols e h o =
-    o
-    ∙ reduced-gained _ q n _ _
-    ∙ ap (λ (k : ℕ). tab k (λ j. (residue 65536 (ints (take (i * 8 + 8 - i * 8) (drop (i * 8) e)) j) + sumℕ n (dotTerm n (take (i * n + n - i * n) (drop (i * n) x)) cols j)) % 65536 % q))
-    (slice-long (i * 8) 8 e h)
-    ∙ tab-ext 8 _ _
-    (λ j p.
-    ap₂ (λ (z : ℤ) (s : ℕ). (residue 65536 z + s) % 65536 % q) (slice-at (i * 8) 8 e (pos 0) j p)
-    (sum-ext natural n _ _
-    (λ t l.
-    ap₂ (λ (a b : ℕ). a * b)
-    (slice-at (i * n) n x 0 t l ∙ ap (λ (k : ℕ). getD x (k * n + t) 0) (sym (digits-div i p)))
-    (ap (λ (k : ℕ). getD cols (k * n + t) 0) (sym (digits-mod i p))))))
+module _ (n i : ℕ) (x cols : List ℕ) where
+  -- row i of X with column j
+  dot-terms : (j : ℕ) → j < 8 → sumℕ n (dotTerm n (take (i * n + n - i * n) (drop (i * n) x)) cols j) ≡ sumℕ n (rightTerm n x cols (i * 8 + j))
+  unfolding dotTerm rightTerm
+  dot-terms j p =
+      sum-ext natural n _ _
+      (λ t l.
+      ap₂ (λ (a b : ℕ). a * b)
+      (slice-at (i * n) n x 0 t l ∙ ap (λ (k : ℕ). getD x (k * n + t) 0) (sym (digits-div i p)))
+      (ap (λ (k : ℕ). getD cols (k * n + t) 0) (sym (digits-mod i p))))
+
+  pub right-sums :
+      (sums l : List ℕ) → i * 8 + 8 ≤ length sums → l ≡ take (i * 8 + 8 - i * 8) (drop (i * 8) sums) → {p : List ℕ} →
+      p ≡ gained 65536 n (dotTerm n (take (i * n + n - i * n) (drop (i * n) x)) cols) l →
+      p ≡ tab 8 (λ j. (getD sums (i * 8 + j) 0 + sumℕ n (rightTerm n x cols (i * 8 + j))) % 65536)
+  unfolding gained
+  right-sums sums l h d o =
+      o
+      ∙ rw d
+      (ap (λ (k : ℕ). tab k (λ j. (getD (take (i * 8 + 8 - i * 8) (drop (i * 8) sums)) j 0 + sumℕ n (dotTerm n (take (i * n + n - i * n) (drop (i * n) x)) cols j)) % 65536))
+      (slice-long (i * 8) 8 sums h)
+      ∙ tab-ext 8 _ _ (λ j p. ap₂ (λ (z s : ℕ). (z + s) % 65536) (slice-at (i * 8) 8 sums 0 j p) (dot-terms j p)))
+
+  pub right-row :
+      (q : ℕ) (e : List ℤ) → i * 8 + 8 ≤ length e → {p : List ℕ} →
+      p ≡ reduced q (gained 65536 n (dotTerm n (take (i * n + n - i * n) (drop (i * n) x)) cols) (wordsOf 65536 (take (i * 8 + 8 - i * 8) (drop (i * 8) e)))) →
+      p ≡ tab 8 (λ j. (residue 65536 (ints e (i * 8 + j)) + sumℕ n (rightTerm n x cols (i * 8 + j))) % 65536 % q)
+  unfolding ints
+  right-row q e h o =
+      o
+      ∙ reduced-gained _ q n _ _
+      ∙ ap (λ (k : ℕ). tab k (λ j. (residue 65536 (ints (take (i * 8 + 8 - i * 8) (drop (i * 8) e)) j) + sumℕ n (dotTerm n (take (i * n + n - i * n) (drop (i * n) x)) cols j)) % 65536 % q))
+      (slice-long (i * 8) 8 e h)
+      ∙ tab-ext 8 _ _
+      (λ j p. ap₂ (λ (z : ℤ) (s : ℕ). (residue 65536 z + s) % 65536 % q) (slice-at (i * 8) 8 e (pos 0) j p) (dot-terms j p))
 
 -- the block y of m rows, from row t of Y on, into row i of the 8 rows of sums
 module _ (n c t m : ℕ) (s y : List ℕ) (hs : length s ≡ 8 * n) (b : t + m ≤ n) (hy : length y ≡ m * c) (i : ℕ) (r : i < 8) where
@@ -86,15 +95,15 @@ module _ (n c t m : ℕ) (s y : List ℕ) (hs : length s ≡ 8 * n) (b : t + m �
         (ap (λ (k : ℕ). getD y (u * c + k) 0) (sym (digits-mod i p)))
         (slice-at (i * n + t) m s 0 u g ∙ ap (λ (k : ℕ). getD s k 0) e ∙ ap (λ (k : ℕ). getD s (k * n + (t + u)) 0) (sym (digits-div i p)))))))
 
-module _ (n c t m : ℕ) (s y : List ℕ) (f : Lent n c y s) (b : t + m ≤ n) where
+module _ (n c t m : ℕ) (s y : List ℕ) (f : length y ≡ c * n) (b : t + m ≤ n) where
   pub in-y : t * c + m * c ≤ length y
-  in-y = omega (arith, mul-le-mul-right c b, f .xs-long)
+  in-y = omega (arith, mul-le-mul-right c b, f)
 
   pub part-terms :
-      (p ws : List ℕ) → p ≡ take (t * c + m * c - t * c) (drop (t * c) y) → length ws ≡ 8 * c → {l : List ℕ} → l ≡ gained 65536 m (partTerm n c t s p) ws →
+      (ws : List ℕ) → length ws ≡ 8 * c → {l : List ℕ} → l ≡ gained 65536 m (partTerm n c t s (take (t * c + m * c - t * c) (drop (t * c) y))) ws →
       l ≡ gained 65536 m (λ k u. leftTerm n c s y k (t + u)) ws
   unfolding gained partTerm leftTerm
-  part-terms p ws e h o =
+  part-terms ws h o =
       o
       ∙ tab-ext (length ws) _ _
       (λ k l.
@@ -104,4 +113,4 @@ module _ (n c t m : ℕ) (s y : List ℕ) (f : Lent n c y s) (b : t + m ≤ n) w
       let j : k % c < c = mod-lt k (omega arith) in
       let a : t * c + (u * c + k % c) ≡ (t + u) * c + k % c = omega arith in
       ap (λ (x : ℕ). x * getD s (k / c * n + (t + u)) 0)
-      (ap (λ (x : List ℕ). getD x (u * c + k % c) 0) e ∙ slice-at (t * c) (m * c) y 0 (u * c + k % c) (digits-lt g j) ∙ ap (λ (x : ℕ). getD y x 0) a))))
+      (slice-at (t * c) (m * c) y 0 (u * c + k % c) (digits-lt g j) ∙ ap (λ (x : ℕ). getD y x 0) a))))

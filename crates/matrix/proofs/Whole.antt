@@ -1,6 +1,6 @@
 -- What the code makes of whole matrices is what the definitions say.
---   column-at              an entry of the columns of S
---   lent-columns, lent-words   what fits is lent, with the columns of S, or its rows, as words
+--   column-at, columns-length   an entry of the columns of S, and how many there are
+--   shape, fit             what fits has the shape; what has it fits where its numbers are below q
 --   zeros-within           zeros as noise
 --   right-is, left-is, bare-is   words of any modulus m that is a multiple of q: XS + E by rows of X and columns of S; SY + E by rows of Y; US as XS + E without noise
 use mathlib.Core.Path.{_≡_, refl, _∙_, ap, ap₂}
@@ -13,30 +13,55 @@ use lib.ListN.{length, getD, replicate}
 use lib.IntN.{ℤ, pos, natAbs, _+ℤ_, _*ℤ_, +ℤ-idr, *ℤ-comm}
 use Rattle.numbers.specs.Residue.{residue, _≅⟨_⟩_}
 use Rattle.numbers.proofs.Congruence.{eq-≅, refl-≅, _⨾_, mul-≅, residue-≅}
-use Rattle.lists.specs.Entries.{nums, ints, Within}
+use Rattle.lists.specs.Entries.{nums, ints, Below, Within}
 use Rattle.lists.proofs.Entries.{tab-length, tab-at, tab-ext}
 use Rattle.lists.proofs.Same.{equal-all}
 use Rattle.matrix.specs.Matrix.{times, rows, numsAt, intsAt}
 use Rattle.matrix.specs.Mixing.{rightMixed, leftMixed, bare}
-use Rattle.matrix.specs.Fit.{Fit}
-use Rattle.matrix.specs.Steps.{wordsOf, gained, reduced, columnsOf, rightTerm, leftTerm, Lent}
-use Rattle.matrix.proofs.Steps.{words-length, words-at, mixed}
+use Rattle.matrix.specs.Fit.{Fit, Shape}
+use Rattle.matrix.specs.Steps.{wordsOf, gained, reduced, columnsOf, rightTerm, leftTerm}
+use Rattle.matrix.proofs.Steps.{words-at, mixed}
 
 pub column-at : (m n : ℕ) (s : List ℤ) (j t : ℕ) → j < 8 → t < n → getD (columnsOf m n s) (j * n + t) 0 ≡ residue m (ints s (t * 8 + j))
 unfolding columnsOf
 column-at m n s j t p l =
     tab-at (8 * n) _ (j * n + t) 0 (digits-lt p l) ∙ ap₂ (λ (a b : ℕ). residue m (ints s (a * 8 + b))) (digits-mod j l) (digits-div j l)
 
--- what fits is lent, with the secrets as words
-lent : {q n r : ℕ} {x : List ℕ} {s : List ℤ} {l : List ℕ} → length l ≡ 8 * n → Fit q n r x s → Lent n r x l
-lent e f = record { xs-long = f .xs-long; ws-long = e; xs-below = record { below = λ k. omega (arith, f .xs-below .below k, f .room) } }
-
-pub lent-columns : {q n r : ℕ} {x : List ℕ} {s : List ℤ} {l : List ℕ} → l ≡ columnsOf 65536 n s → Fit q n r x s → Lent n r x l
+pub columns-length : (m n : ℕ) (s : List ℤ) → length (columnsOf m n s) ≡ 8 * n
 unfolding columnsOf
-lent-columns {q} {n} e f = lent (rw e (tab-length (8 * n) _)) f
+columns-length m n s = tab-length (8 * n) _
 
-pub lent-words : {q n r : ℕ} {x : List ℕ} {s : List ℤ} {l : List ℕ} → l ≡ wordsOf 65536 s → Fit q n r x s → Lent n r x l
-lent-words {s = s} e f = lent (rw e (words-length _ s ∙ f .s-long)) f
+module _ {q n r : ℕ} {x : List ℕ} {s : List ℤ} where
+  pub shape : Fit q n r x s → Shape q n r x s
+  shape f =
+      record {
+        some = f .some;
+        room = f .room;
+        whole = f .whole;
+        many = f .many;
+        few = f .few;
+        rows-many = f .rows-many;
+        rows-few = f .rows-few;
+        xs-long = f .xs-long;
+        s-long = f .s-long;
+        s-within = f .s-within;
+      }
+
+  pub fit : Shape q n r x s → Below q x → Fit q n r x s
+  fit f b =
+      record {
+        some = f .some;
+        room = f .room;
+        whole = f .whole;
+        many = f .many;
+        few = f .few;
+        rows-many = f .rows-many;
+        rows-few = f .rows-few;
+        xs-long = f .xs-long;
+        s-long = f .s-long;
+        xs-below = b;
+        s-within = f .s-within;
+      }
 
 -- a number times a word that is a secret modulo m
 product-≅ : (m : ℕ) → 0 < m → (x w : ℕ) (z : ℤ) → w ≡ residue m z → pos (x * w) ≅⟨ m ⟩ pos x *ℤ z

@@ -8,15 +8,13 @@
 --   blockTerm, partTerm, leftTerm   the products of a block y of rows of Y, each with its word of w, at column j; of the block that starts at row t, with
 --                       the words of S, for the entry k of SY; of all rows for that entry
 --   blockGained w y ws  the sums ws, a row of them, with the products of the block
---   Lent n r xs ws      r rows of n numbers that are words, or n rows of r, and 8 n words
-use mathlib.Core.Path.{_≡_}
 use mathlib.Core.List.{List}
 use Prim.Native.Nat.{ℕ, _+_, _*_, _/_, _%_}
 use lib.ListN.{length, getD}
 use lib.IntN.{ℤ}
 use Rattle.numbers.specs.Sum.{sumℕ}
 use Rattle.numbers.specs.Residue.{residue}
-use Rattle.lists.specs.Entries.{tab, ints, Below}
+use Rattle.lists.specs.Entries.{tab, ints}
 
 unfoldable pub wordsOf : ℕ → List ℤ → List ℕ
 wordsOf m zs = tab (length zs) (λ k. residue m (ints zs k))
@@ -47,8 +45,3 @@ leftTerm n c s y k t = getD y (t * c + k % c) 0 * getD s (k / c * n + t) 0
 
 unfoldable pub blockGained : List ℕ → List ℕ → List ℕ → List ℕ
 blockGained w y ws = gained 65536 (length w) (blockTerm (length ws) w y) ws
-
-pub record Lent (n r : ℕ) (xs ws : List ℕ) : Type 0 where
-  pub xs-long : length xs ≡ r * n
-  pub ws-long : length ws ≡ 8 * n
-  pub xs-below : Below 65536 xs

@@ -3,15 +3,18 @@
 //
 // All work is in words of 16 bits, eight to a vector, which wrap at 65,536: q divides it, so a remainder modulo 65,536 has the one modulo q in it.
 // Every sum starts as the noise, gains n products and is reduced once. XS goes row by row through X, with the columns of S laid side by side; SY goes
-// through Y four rows at a time, into 8 rows of sums. So A, up to 3 MB, is read once.
+// through Y four rows at a time, into 8 rows of sums. A row, or a block of four, is looked through for a number that is q or more, and then multiplied
+// while it is near: so A, up to 3 MB, is read once.
 ghost use mathlib.Core.Path.{_≡_};
 ghost use Prim.Native.Nat.{_+_, _*_, _/_, _%_, _<_, _≤_};
 ghost use lib.ListN.{length, getD};
 ghost use Rattle.numbers.specs.Sum.{sumℕ};
 ghost use Rattle.numbers.specs.Residue.{residue};
+ghost use Rattle.lists.specs.Lent.{was, left};
+ghost use Rattle.lists.specs.First.{firstOver};
 ghost use Rattle.lists.specs.Entries.{tab, ints, Below, Within};
 ghost use Rattle.matrix.specs.Mixing.{rightMixed, leftMixed, bare};
-ghost use Rattle.matrix.specs.Fit.{Fit};
+ghost use Rattle.matrix.specs.Fit.{Fit, Shape};
 ghost use Rattle.matrix.specs.Steps.{
   wordsOf,
   gained,
@@ -23,7 +26,6 @@ ghost use Rattle.matrix.specs.Steps.{
   partTerm,
   leftTerm,
   blockGained,
-  Lent,
 };
 
 // One product more. A sum of words is below 2^32, so nothing is lost before it wraps; the compiler makes one multiplication of 16 bits of it.
@@ -40,7 +42,7 @@ fn word(z: i32) -> u16
     numbers::residue32(z, 65536) as u16
 }
 
-fn words(zs: &[i32], out: &mut [u16])
+pub fn words(zs: &[i32], out: &mut [u16])
     requires { ⌜ length (now zs) ≡ length (now out) ⌝ }
     ensures { λ _. ⌜ now (out .exit) ≡ wordsOf 65536 (now (zs .entry)) ⌝ }
 {
@@ -51,14 +53,36 @@ fn words(zs: &[i32], out: &mut [u16])
     }
 }
 
-// Numbers, which are words already, in 16 bits each.
-fn narrow(xs: &[u32], out: &mut [u16])
-    requires { ⌜ (length (now xs) ≡ length (now out)) × Below 65536 (now xs) ⌝ }
-    ensures { λ _. ⌜ now (out .exit) ≡ now (xs .entry) ⌝ }
+// A number in 16 bits. The bounds change nothing: they tell the compiler that it fits, signed, and so that one instruction packs eight.
+fn packed(x: u32) -> u16
+    requires { ⌜ x < 32768 ⌝ }
+    ensures { λ r. ⌜ r ≡ x ⌝ }
+{
+    let z = x as i32;
+    let low = if z < -32768 { -32768 } else { z };
+    let both = if 32767 < low { 32767 } else { low };
+    both as u16
+}
+
+// Numbers in 16 bits each.
+pub fn narrow(xs: &[u32], out: &mut [u16])
+    requires { ⌜ (length (now xs) ≡ length (now out)) × Below 32768 (now xs) ⌝ }
+    ensures { λ _. ⌜ left out ≡ was xs ⌝ }
 {
     let mut k: usize = 0;
     while k < out.len() {
-        out[k] = xs[k] as u16;
+        out[k] = packed(xs[k]);
+        k += 1;
+    }
+}
+
+fn copy(src: &[u16], out: &mut [u16])
+    requires { ⌜ length (now src) ≡ length (now out) ⌝ }
+    ensures { λ _. ⌜ left out ≡ was src ⌝ }
+{
+    let mut k: usize = 0;
+    while k < out.len() {
+        out[k] = src[k];
         k += 1;
     }
 }
@@ -74,7 +98,7 @@ pub fn remainder(u: u32, q: u32, m: u32) -> u32
 }
 
 // The remainders of the sums in 0 .. q - 1.
-fn reduce(q: u32, sums: &[u16], out: &mut [u32])
+pub fn reduce(q: u32, sums: &[u16], out: &mut [u32])
     requires { ⌜ (0 < q) × (length (now out) ≡ length (now sums)) ⌝ }
     ensures { λ _. ⌜ now (out .exit) ≡ reduced q (now (sums .entry)) ⌝ }
 {
@@ -99,7 +123,7 @@ fn column(s: &[i32], j: usize, out: &mut [u16])
 }
 
 // The columns of S, one after the other.
-fn columns(n: usize, s: &[i32], cols: &mut [u16])
+pub fn columns(n: usize, s: &[i32], cols: &mut [u16])
     requires { ⌜ (0 < n) × (length (now s) ≡ 8 * n) × (length (now cols) ≡ 8 * n) ⌝ }
     ensures { λ _. ⌜ now (cols .exit) ≡ columnsOf 65536 n (now (s .entry)) ⌝ }
 {
@@ -124,43 +148,95 @@ fn add_products(x: u16, n: usize, t: usize, cols: &[u16], sums: &mut [u16])
 }
 
 // A row with each of the 8 columns: one load of the row serves 8 dot products.
-fn add_dots(n: usize, row: &[u32], cols: &[u16], sums: &mut [u16])
-    requires { ⌜ Lent n 1 (now row) (now cols) × (length (now sums) ≡ 8) ⌝ }
-    ensures { λ _. ⌜ now (sums .exit) ≡ gained 65536 n (dotTerm n (now (row .entry)) (now (cols .entry))) (now (sums .entry)) ⌝ }
+fn dots_on(n: usize, row: &[u16], cols: &[u16], sums: &mut [u16])
+    requires { ⌜ (length (now row) ≡ n) × (length (now cols) ≡ 8 * n) × (length (now sums) ≡ 8) ⌝ }
+    ensures { λ _. ⌜ left sums ≡ gained 65536 n (dotTerm n (was row) (was cols)) (was sums) ⌝ }
 {
     let mut t: usize = 0;
     while t < n {
-        add_products(row[t] as u16, n, t, cols, sums);
+        add_products(row[t], n, t, cols, sums);
         t += 1;
     }
 }
 
-// A row of XS + E.
-fn right_row(q: u32, n: usize, row: &[u32], cols: &[u16], e: &[i32], out: &mut [u32])
-    requires { ⌜ (0 < q) × Lent n 1 (now row) (now cols) × (length (now e) ≡ 8) × (length (now out) ≡ 8) ⌝ }
-    ensures { λ _. ⌜ now (out .exit) ≡ reduced q (gained 65536 n (dotTerm n (now (row .entry)) (now (cols .entry))) (wordsOf 65536 (now (e .entry)))) ⌝ }
+// The same, on sums of its own: the compiler keeps those in registers, where lent ones, which might lie in the row, would go to memory each time.
+fn add_dots(n: usize, row: &[u16], cols: &[u16], sums: &mut [u16])
+    requires { ⌜ (length (now row) ≡ n) × (length (now cols) ≡ 8 * n) × (length (now sums) ≡ 8) ⌝ }
+    ensures { λ _. ⌜ left sums ≡ gained 65536 n (dotTerm n (was row) (was cols)) (was sums) ⌝ }
 {
-    let mut sums: [u16; 8] = [0; 8];
-    words(e, &mut sums);
-    add_dots(n, row, cols, &mut sums);
-    reduce(q, &sums, out);
+    let mut own: [u16; 8] = [0; 8];
+    copy(sums, &mut own);
+    dots_on(n, row, cols, &mut own);
+    copy(&own, sums);
 }
 
-// XS + E, by rows of X and columns of S.
-fn right_rows(q: u32, n: usize, r: usize, x: &[u32], cols: &[u16], e: &[i32], out: &mut [u32])
-    requires { ⌜ (0 < q) × Lent n r (now x) (now cols) × (length (now e) ≡ 8 * r) × (length (now out) ≡ 8 * r) ⌝ }
-    ensures { λ _. ⌜ now (out .exit) ≡ reduced q (gained 65536 n (rightTerm n (now (x .entry)) (now (cols .entry))) (wordsOf 65536 (now (e .entry)))) ⌝ }
+// The r rows of X, as words, with the columns.
+pub fn add_right(n: usize, r: usize, x: &[u16], cols: &[u16], sums: &mut [u16])
+    requires { ⌜ (length (now x) ≡ r * n) × (length (now cols) ≡ 8 * n) × (length (now sums) ≡ 8 * r) ⌝ }
+    ensures { λ _. ⌜ left sums ≡ gained 65536 n (rightTerm n (was x) (was cols)) (was sums) ⌝ }
 {
     let mut i: usize = 0;
     while i < r {
         let a = i * n;
         let b = i * 8;
-        right_row(q, n, &x[a..a + n], cols, &e[b..b + 8], &mut out[b..b + 8]);
+        add_dots(n, &x[a..a + n], cols, &mut sums[b..b + 8]);
         i += 1;
     }
 }
 
-// XS + E, with room for the columns.
+// A row of XS + E, whose numbers are words; with room for them.
+fn right_row(
+    q: u32,
+    n: usize,
+    row: &[u32],
+    cols: &[u16],
+    e: &[i32],
+    line: &mut [u16],
+    out: &mut [u32],
+)
+    requires { ⌜ (0 < q) × (length (now row) ≡ n) × Below 32768 (now row) × (length (now cols) ≡ 8 * n) ⌝ }
+    requires { ⌜ (length (now e) ≡ 8) × (length (now line) ≡ n) × (length (now out) ≡ 8) ⌝ }
+    ensures { λ _. ⌜ left out ≡ reduced q (gained 65536 n (dotTerm n (was row) (was cols)) (wordsOf 65536 (was e))) ⌝ }
+{
+    let mut sums: [u16; 8] = [0; 8];
+    narrow(row, line);
+    words(e, &mut sums);
+    add_dots(n, line, cols, &mut sums);
+    reduce(q, &sums, out);
+}
+
+// XS + E, by rows of X and columns of S, up to the first row that has a number which is q or more. The answer is its place, or X's length.
+fn right_rows(
+    q: u32,
+    n: usize,
+    r: usize,
+    x: &[u32],
+    cols: &[u16],
+    e: &[i32],
+    line: &mut [u16],
+    out: &mut [u32],
+) -> usize
+    requires { ⌜ (0 < q) × (q ≤ 32768) × (length (now x) ≡ r * n) × (length (now cols) ≡ 8 * n) ⌝ }
+    requires { ⌜ (length (now e) ≡ 8 * r) × (length (now line) ≡ n) × (length (now out) ≡ 8 * r) ⌝ }
+    ensures { λ at. ⌜ at ≡ firstOver q (was x) ⌝ }
+    ensures { λ _. ⌜ (Below q (was x) → left out ≡ reduced q (gained 65536 n (rightTerm n (was x) (was cols)) (wordsOf 65536 (was e)))) ⌝ }
+{
+    let mut i: usize = 0;
+    while i < r {
+        let a = i * n;
+        let b = i * 8;
+        let row = &x[a..a + n];
+        let at = lists::first_over(q, row);
+        if at < n {
+            return a + at;
+        }
+        right_row(q, n, row, cols, &e[b..b + 8], line, &mut out[b..b + 8]);
+        i += 1;
+    }
+    x.len()
+}
+
+// XS + E, with room for the columns and a row.
 fn right_on(
     q: u32,
     n: usize,
@@ -169,24 +245,37 @@ fn right_on(
     s: &[i32],
     e: &[i32],
     cols: &mut [u16],
+    line: &mut [u16],
     out: &mut [u32],
-)
-    requires { ⌜ Fit q n r (now x) (now s) × (length (now e) ≡ 8 * r) × (length (now cols) ≡ 8 * n) × (length (now out) ≡ 8 * r) ⌝ }
-    ensures { λ _. ⌜ now (out .exit) ≡ rightMixed q r n 8 (now (x .entry)) (now (s .entry)) (now (e .entry)) ⌝ }
+) -> usize
+    requires { ⌜ Shape q n r (now x) (now s) × (length (now e) ≡ 8 * r) × (length (now out) ≡ 8 * r) ⌝ }
+    requires { ⌜ (length (now cols) ≡ 8 * n) × (length (now line) ≡ n) ⌝ }
+    ensures { λ at. ⌜ at ≡ firstOver q (was x) ⌝ }
+    ensures { λ _. ⌜ (Below q (was x) → left out ≡ rightMixed q r n 8 (was x) (was s) (was e)) ⌝ }
 {
     columns(n, s, cols);
-    right_rows(q, n, r, x, cols, e, out);
+    right_rows(q, n, r, x, cols, e, line, out)
 }
 
-// XS + E, where X has r rows and n columns: AS + E.
-pub fn mix_right(q: u32, n: usize, r: usize, x: &[u32], s: &[i32], e: &[i32], out: &mut [u32])
-    requires { ⌜ Fit q n r (now x) (now s) × (length (now out) ≡ 8 * r) ⌝ }
+// XS + E, where X has r rows and n columns: AS + E. The answer is the place of the first number of X that is q or more, or X's length where none is.
+pub fn mix_right(
+    q: u32,
+    n: usize,
+    r: usize,
+    x: &[u32],
+    s: &[i32],
+    e: &[i32],
+    out: &mut [u32],
+) -> usize
+    requires { ⌜ Shape q n r (now x) (now s) × (length (now out) ≡ 8 * r) ⌝ }
     requires { ⌜ (length (now e) ≡ 8 * r) × Within 6 (now e) ⌝ }
-    ensures { λ _. ⌜ now (out .exit) ≡ rightMixed q r n 8 (now (x .entry)) (now (s .entry)) (now (e .entry)) ⌝ }
+    ensures { λ at. ⌜ at ≡ firstOver q (was x) ⌝ }
+    ensures { λ _. ⌜ (Below q (was x) → left out ≡ rightMixed q r n 8 (was x) (was s) (was e)) ⌝ }
 {
     let mut cols: [u16; 6912] = [0; 6912];
+    let mut line: [u16; 864] = [0; 864];
     let m = 8 * n;
-    right_on(q, n, r, x, s, e, &mut cols[..m], out);
+    right_on(q, n, r, x, s, e, &mut cols[..m], &mut line[..n], out)
 }
 
 // The number at column j of the row that starts at a. Read through the row, each row of a block has a place of its own, and all share one index.
@@ -239,7 +328,7 @@ fn add_block(w: &[u16], y: &[u16], sums: &mut [u16])
 }
 
 // A block of m rows, the first of which is row t of Y, into each of the 8 rows of sums.
-fn add_to_all(n: usize, c: usize, t: usize, m: usize, s: &[u16], y: &[u16], sums: &mut [u16])
+pub fn add_left(n: usize, c: usize, t: usize, m: usize, s: &[u16], y: &[u16], sums: &mut [u16])
     requires { ⌜ (length (now s) ≡ 8 * n) × (t + m ≤ n) × (length (now y) ≡ m * c) × (length (now sums) ≡ 8 * c) ⌝ }
     ensures { λ _. ⌜ now (sums .exit) ≡ gained 65536 m (partTerm n c t (now (s .entry)) (now (y .entry))) (now (sums .entry)) ⌝ }
 {
@@ -252,7 +341,7 @@ fn add_to_all(n: usize, c: usize, t: usize, m: usize, s: &[u16], y: &[u16], sums
     }
 }
 
-// The m rows of Y from t on, which are made narrow once for all 8 rows of sums.
+// A block of m rows, as numbers, which are made narrow once for all 8 rows of sums.
 fn left_block(
     n: usize,
     c: usize,
@@ -263,13 +352,12 @@ fn left_block(
     block: &mut [u16],
     sums: &mut [u16],
 )
-    requires { ⌜ Lent n c (now y) (now s) × (t + m ≤ n) × (length (now block) ≡ m * c) × (length (now sums) ≡ 8 * c) ⌝ }
-    ensures { λ _. ⌜ now (sums .exit) ≡ gained 65536 m (λ k u. leftTerm n c (now (s .entry)) (now (y .entry)) k (t + u)) (now (sums .entry)) ⌝ }
+    requires { ⌜ (length (now s) ≡ 8 * n) × (t + m ≤ n) × (length (now y) ≡ m * c) × Below 32768 (now y) ⌝ }
+    requires { ⌜ (length (now block) ≡ m * c) × (length (now sums) ≡ 8 * c) ⌝ }
+    ensures { λ _. ⌜ left sums ≡ gained 65536 m (partTerm n c t (was s) (was y)) (was sums) ⌝ }
 {
-    let d = t * c;
-    let f = d + m * c;
-    narrow(&y[d..f], block);
-    add_to_all(n, c, t, m, s, block, sums);
+    narrow(y, block);
+    add_left(n, c, t, m, s, block, sums);
 }
 
 // A block is four rows, or what is left of them.
@@ -280,18 +368,35 @@ fn at_most_four(n: usize) -> usize
     if n < 4 { n } else { 4 }
 }
 
-// All rows of Y, a block at a time.
-fn left_rows(n: usize, c: usize, s: &[u16], y: &[u32], block: &mut [u16], sums: &mut [u16])
-    requires { ⌜ Lent n c (now y) (now s) × (4 * c ≤ length (now block)) × (length (now sums) ≡ 8 * c) ⌝ }
-    ensures { λ _. ⌜ now (sums .exit) ≡ gained 65536 n (leftTerm n c (now (s .entry)) (now (y .entry))) (now (sums .entry)) ⌝ }
+// All rows of Y, a block at a time, up to the first block that has a number which is q or more. The answer is its place, or Y's length.
+fn left_rows(
+    q: u32,
+    n: usize,
+    c: usize,
+    s: &[u16],
+    y: &[u32],
+    block: &mut [u16],
+    sums: &mut [u16],
+) -> usize
+    requires { ⌜ (0 < q) × (q ≤ 32768) × (length (now y) ≡ c * n) × (length (now s) ≡ 8 * n) ⌝ }
+    requires { ⌜ (4 * c ≤ length (now block)) × (length (now sums) ≡ 8 * c) ⌝ }
+    ensures { λ at. ⌜ at ≡ firstOver q (was y) ⌝ }
+    ensures { λ _. ⌜ (Below q (was y) → left sums ≡ gained 65536 n (leftTerm n c (was s) (was y)) (was sums)) ⌝ }
 {
     let mut t: usize = 0;
     while t < n {
         let m = at_most_four(n - t);
         let l = m * c;
-        left_block(n, c, t, m, s, y, &mut block[..l], sums);
+        let d = t * c;
+        let rows = &y[d..d + l];
+        let at = lists::first_over(q, rows);
+        if at < l {
+            return d + at;
+        }
+        left_block(n, c, t, m, s, rows, &mut block[..l], sums);
         t += m;
     }
+    y.len()
 }
 
 // SY + E, with room for the secrets as words, a block of Y and the sums.
@@ -306,22 +411,33 @@ fn left_on(
     block: &mut [u16],
     sums: &mut [u16],
     out: &mut [u32],
-)
-    requires { ⌜ Fit q n c (now y) (now s) × (length (now e) ≡ 8 * c) × (length (now out) ≡ 8 * c) ⌝ }
+) -> usize
+    requires { ⌜ Shape q n c (now y) (now s) × (length (now e) ≡ 8 * c) × (length (now out) ≡ 8 * c) ⌝ }
     requires { ⌜ (length (now factors) ≡ 8 * n) × (4 * c ≤ length (now block)) × (length (now sums) ≡ 8 * c) ⌝ }
-    ensures { λ _. ⌜ now (out .exit) ≡ leftMixed q n c 8 (now (s .entry)) (now (y .entry)) (now (e .entry)) ⌝ }
+    ensures { λ at. ⌜ at ≡ firstOver q (was y) ⌝ }
+    ensures { λ _. ⌜ (Below q (was y) → left out ≡ leftMixed q n c 8 (was s) (was y) (was e)) ⌝ }
 {
     words(s, factors);
     words(e, sums);
-    left_rows(n, c, factors, y, block, sums);
+    let at = left_rows(q, n, c, factors, y, block, sums);
     reduce(q, sums, out);
+    at
 }
 
-// SY + E, where Y has n rows and c columns: S'A + E' and S'B + E''.
-pub fn mix_left(q: u32, n: usize, c: usize, s: &[i32], y: &[u32], e: &[i32], out: &mut [u32])
-    requires { ⌜ Fit q n c (now y) (now s) × (length (now out) ≡ 8 * c) ⌝ }
+// SY + E, where Y has n rows and c columns: S'A + E' and S'B + E''. The answer is the place of the first number of Y that is q or more, or Y's length.
+pub fn mix_left(
+    q: u32,
+    n: usize,
+    c: usize,
+    s: &[i32],
+    y: &[u32],
+    e: &[i32],
+    out: &mut [u32],
+) -> usize
+    requires { ⌜ Shape q n c (now y) (now s) × (length (now out) ≡ 8 * c) ⌝ }
     requires { ⌜ (length (now e) ≡ 8 * c) × Within 6 (now e) ⌝ }
-    ensures { λ _. ⌜ now (out .exit) ≡ leftMixed q n c 8 (now (s .entry)) (now (y .entry)) (now (e .entry)) ⌝ }
+    ensures { λ at. ⌜ at ≡ firstOver q (was y) ⌝ }
+    ensures { λ _. ⌜ (Below q (was y) → left out ≡ leftMixed q n c 8 (was s) (was y) (was e)) ⌝ }
 {
     let mut factors: [u16; 6912] = [0; 6912];
     let mut block: [u16; 3456] = [0; 3456];
@@ -339,7 +455,7 @@ pub fn mix_left(q: u32, n: usize, c: usize, s: &[i32], y: &[u32], e: &[i32], out
         &mut block,
         &mut sums[..m],
         out,
-    );
+    )
 }
 
 // US, where U has 8 rows and n columns: B'S.

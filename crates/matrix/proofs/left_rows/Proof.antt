@@ -1,76 +1,157 @@
--- `matrix::left_rows` meets its contract: after t rows each sum has gained t products.
+-- `matrix::left_rows` meets its contract: after t rows each sum has gained t products, and none of their numbers is q or more.
 use mathlib.Core.Path.{_≡_, refl, _∙_, sym, ap}
-use Prim.Native.Nat.{ℕ, _*_, _-_, _≤_}
+use mathlib.Core.List.{List}
+use Prim.Native.Nat.{ℕ, _+_, _*_, _-_, _≤_}
 use native.Mathlib.Omega.{arith}
-use native.Mathlib.Nat.{mul-le-mul-right}
+use native.Mathlib.Nat.{mul-comm, mul-le-mul-right}
 use borrow.Author.Needs.{needs}
 use lib.ListN.{length, take}
 use lib.Seq.{length-take-le}
+use Rattle.lists.proofs.Parts.{slice-long}
 use Rattle.matrix.specs.Steps.{gained, leftTerm}
+use Rattle.matrix.proofs.Search.{Clear, clear-start, clear-part, clear-all, part-below, part-place, part-full}
 use Rattle.matrix.proofs.Steps.{gained-length, gained-none, gained-more}
+use Rattle.matrix.proofs.Terms.{in-y, part-terms}
 use Rattle.matrix.proofs.left_rows.Statement.{statement}
 use Rattle.matrix.proofs.left_rows.Tie as tie
 
 abbrev Inv-loop : tie.InvT-loop
-Inv-loop n c s y block₀ sums₀ t₀ block sums t = (t ≤ n) × (length block ≡ length block₀) × (sums ≡ gained 65536 t (leftTerm n c s y) sums₀)
+Inv-loop q n c s y block₀ sums₀ t₀ block sums t =
+    (t ≤ n) × (length block ≡ length block₀) × Clear q y (t * c) × (sums ≡ gained 65536 t (leftTerm n c s y) sums₀)
 
 abbrev μ-loop : tie.MeasureT-loop
-μ-loop n c s y block₀ sums₀ t₀ block sums t = n - t
+μ-loop q n c s y block₀ sums₀ t₀ block sums t = n - t
 
 loop-holds : tie.Need-loop-holds Inv-loop μ-loop
-loop-holds c = (omega arith, refl, sym (gained-none 65536 _ _ (λ k. omega (arith, c .slice-known2 .given k))))
+loop-holds c =
+    let a : tie.Start Inv-loop μ-loop = search needs in
+    (omega arith, refl, clear-start (a .args .q) (a .args .y .now) (a .args .c), sym (gained-none 65536 _ _ (λ k. omega (arith, c .slice-known2 .given k))))
 
--- the sums are as many as ever, and four rows fit the block
-long : (c : tie.At-loop Inv-loop μ-loop) → length (c .loop .sums) ≡ 8 * c .before .before .before .before .before .args .c
-long c = rw (c .loop .inv .2) (gained-length _ _ _ _ ∙ c .before .before .before .before .before .pre .2)
-
-module _ (c : tie.After-at-most-four Inv-loop μ-loop) where
+module _ (c : tie.At-loop Inv-loop μ-loop) where
   abbrev a : tie.Start Inv-loop μ-loop
-  a = c .before .before .before .before .before .before .before
+  a = c .before .before .before .before .before
 
-  room : c .at-most-four .result * a .args .c ≤ length (c .before .before .loop .block)
-  room = omega (arith, mul-le-mul-right (a .args .c) (c .at-most-four .ensures .2), a .pre .1, c .before .before .loop .inv .1)
+  -- the sums are as many as ever
+  long : length (c .loop .sums) ≡ 8 * a .args .c
+  long = ap length (c .loop .inv .3) ∙ gained-length _ _ _ _ ∙ a .pre .1 .1
 
-  part : length (take (c .at-most-four .result * a .args .c) (c .before .before .loop .block)) ≡ c .at-most-four .result * a .args .c
+-- the block at t
+module _ (c : tie.After-at-most-four Inv-loop μ-loop) where
+  abbrev at : tie.At-loop Inv-loop μ-loop
+  at = c .before .before
+
+  abbrev m : ℕ
+  m = c .at-most-four .result
+
+  abbrev w : ℕ
+  w = a at .args .c
+
+  abbrev y : List ℕ
+  y = a at .args .y .now
+
+  inside : at .loop .t + m ≤ a at .args .n
+  inside = omega arith
+
+  -- it ends inside Y, and there is room for it
+  rows : at .loop .t * w + m * w ≤ length y
+  rows = in-y (a at .args .n) w (at .loop .t) m (a at .args .s .now) y (a at .pre .0 .2) inside
+
+  room : m * w ≤ length (at .loop .block)
+  room = omega (arith, mul-le-mul-right w (c .at-most-four .ensures .2), a at .pre .1 .0, at .loop .inv .1)
+
+  part : length (take (m * w) (at .loop .block)) ≡ m * w
   part = length-take-le _ _ room
 
 mul-l : tie.Need-mul-l Inv-loop μ-loop
 mul-l c = omega (arith, room c)
 
-slice-relend-prefix-left-block : tie.Need-slice-relend-prefix-left-block Inv-loop μ-loop
-slice-relend-prefix-left-block c = room c
+mul-d : tie.Need-mul-d Inv-loop μ-loop
+mul-d c = omega (arith, rows c)
 
-slice-aggregate-left-block : tie.Need-slice-aggregate-left-block Inv-loop μ-loop
-slice-aggregate-left-block c = sym (part (c .before))
+add-rows : tie.Need-add-rows Inv-loop μ-loop
+add-rows c = omega (arith, rows c)
 
-left-block-requires : tie.Need-left-block-requires Inv-loop μ-loop
-left-block-requires c κs =
-    let d = c .before .before in
-    (a d .pre .0, omega arith, part d, long (d .before .before))
+mul-rows : tie.Need-mul-rows Inv-loop μ-loop
+mul-rows c = omega (arith, rows c)
 
-loop-again : tie.Need-loop-again Inv-loop μ-loop
-loop-again c =
-    let d = c .before .before .before .before .before .before .before in
-    let l = d .before .before in
-    let g = a d .args in
-    let f = leftTerm (g .n) (g .c) (g .s .now) (g .y .now) in (
-      omega arith,
-      search needs,
-      gained-more 65536 (l .loop .t) (d .at-most-four .result) f (g .sums .now) (l .loop .inv .2) (c .before .before .before .before .left-block .ensures),
-    )
+part-rows-end : tie.Need-part-rows-end Inv-loop μ-loop
+part-rows-end c = rows c
+
+add-result : tie.Need-add-result Inv-loop μ-loop
+add-result c = omega (arith, rows (c .before .before .before))
 
 same-length : tie.Need-same-length Inv-loop μ-loop
-same-length c = c .before .loop .inv .1
+same-length c = at (c .before .before .before) .loop .inv .1
 
 same-length-2 : tie.Need-same-length-2 Inv-loop μ-loop
-same-length-2 c = long (c .before) ∙ sym (c .before .before .before .before .before .before .pre .2)
+same-length-2 c = let l = at (c .before .before .before) in long l ∙ sym (a l .pre .1 .1)
 
 returns : tie.Need-returns Inv-loop μ-loop
 returns c =
-    let a = c .before .before .before .before .before .before .args in
-    c .before .loop .inv .2 ∙ ap (λ (t : ℕ). gained 65536 t (leftTerm (a .n) (a .c) (a .s .now) (a .y .now)) (a .sums .now)) (omega arith)
+    let f = c .before in
+    let d = f .before .before in
+    let l = at d in
+    let q = a l .args .q in (
+      part-place q (y d) (l .loop .t * w d) (m d * w d) (l .loop .inv .2) (rows d) (f .first-over .ensures) (c .if1 .taken),
+      λ b. absurd (omega (arith, part-full q (y d) (l .loop .t * w d) (m d * w d) (l .loop .inv .2) (rows d) (f .first-over .ensures) b, c .if1 .taken)),
+    )
+
+slice-relend-prefix-left-block : tie.Need-slice-relend-prefix-left-block Inv-loop μ-loop
+slice-relend-prefix-left-block c = room (c .before .before .before)
+
+slice-aggregate-left-block : tie.Need-slice-aggregate-left-block Inv-loop μ-loop
+slice-aggregate-left-block c = sym (part (c .before .before .before .before))
+
+left-block-requires : tie.Need-left-block-requires Inv-loop μ-loop
+left-block-requires c κs =
+    let e = c .before .before in
+    let f = e .before in
+    let d = f .before .before in
+    let l = at d in
+    let p = a l .pre in (
+      (
+        p .0 .3,
+        inside d,
+        slice-long (l .loop .t * w d) (m d * w d) (y d) (rows d),
+        part-below (a l .args .q) (y d) (l .loop .t * w d) (m d * w d) (l .loop .inv .2) (rows d) (f .first-over .ensures) (p .0 .0) 32768 (p .0 .1) (e .if1 .left),
+      ),
+      (part d, long l),
+    )
+
+loop-again : tie.Need-loop-again Inv-loop μ-loop
+loop-again c =
+    let b = c .before .before .before .before in
+    let e = b .before .before .before in
+    let f = e .before in
+    let d = f .before .before in
+    let l = at d in
+    let g = a l .args in (
+      omega arith,
+      search needs,
+      clear-part (g .q) (y d) (l .loop .t * w d) (m d * w d) (l .loop .inv .2) (rows d) (f .first-over .ensures) (e .if1 .left) _ (omega arith),
+      gained-more 65536 (l .loop .t) (m d) (leftTerm (g .n) (g .c) (g .s .now) (g .y .now)) (g .sums .now) (l .loop .inv .3)
+          (part-terms (g .n) (g .c) (l .loop .t) (m d) (g .s .now) (g .y .now) (a l .pre .0 .2) (inside d) (l .loop .sums) (long l) (b .left-block .ensures)),
+    )
+
+same-length-3 : tie.Need-same-length-3 Inv-loop μ-loop
+same-length-3 c = c .before .loop .inv .1
+
+same-length-4 : tie.Need-same-length-4 Inv-loop μ-loop
+same-length-4 c = long (c .before) ∙ sym (a (c .before) .pre .1 .1)
+
+returns-2 : tie.Need-returns-2 Inv-loop μ-loop
+returns-2 c =
+    let l = c .before .loop in
+    let b = a (c .before) in
+    let g = b .args in
+    let k : l .t ≡ g .n = omega arith in (
+      clear-all (g .q) (g .y .now) _ (l .inv .2) (b .pre .0 .2 ∙ mul-comm (g .c) (g .n) ∙ ap (λ (j : ℕ). j * g .c) (sym k)),
+      λ _. l .inv .3 ∙ ap (λ (t : ℕ). gained 65536 t (leftTerm (g .n) (g .c) (g .s .now) (g .y .now)) (g .sums .now)) k,
+    )
 
 pub left-rows-spec : {M : Type 1} → statement M
 left-rows-spec =
     tie.close
-    (tie.spec Inv-loop μ-loop loop-holds (λ c. omega arith) (λ c κs. omega arith) mul-l slice-relend-prefix-left-block slice-aggregate-left-block left-block-requires (λ c. omega arith) (λ c. omega arith) loop-again same-length same-length-2 returns)
+    (tie.spec Inv-loop μ-loop loop-holds (λ c. omega arith) (λ c κs. omega arith) mul-l mul-d add-rows mul-rows (λ c. omega arith) (λ c. search needs) part-rows-end (λ c κs. search needs)
+    add-result same-length same-length-2 returns slice-relend-prefix-left-block slice-aggregate-left-block left-block-requires
+    (λ c. omega arith) (λ c. omega arith) loop-again same-length-3 same-length-4 returns-2)

@@ -20,7 +20,10 @@ left-on-requires c κs =
       (buffer-long (8 * a .args .n) 6912 (omega arith), omega arith, buffer-long (8 * a .args .c) 6912 (omega arith)),
     )
 
+returns : tie.Need-returns
+returns c = c .before .before .before .before .before .left-on .ensures
+
 pub mix-left-spec : {M : Type 1} → statement M
 mix-left-spec =
     tie.close
-    (tie.spec (search needs) (search needs) (search needs) slice-aggregate-left-on (search needs) (search needs) slice-aggregate-left-on-3 left-on-requires (search needs) (λ c. search needs))
+    (tie.spec (search needs) (search needs) (search needs) slice-aggregate-left-on (search needs) (search needs) slice-aggregate-left-on-3 left-on-requires (search needs) returns)

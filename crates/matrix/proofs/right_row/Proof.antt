@@ -1,24 +1,19 @@
 -- `matrix::right_row` meets its contract.
-use mathlib.Core.Path.{_∙_}
 use borrow.Author.Needs.{needs}
-use Rattle.matrix.proofs.Steps.{words-length, steps-are}
+use Rattle.matrix.proofs.Steps.{row-are}
 use Rattle.matrix.proofs.right_row.Statement.{statement}
 use Rattle.matrix.proofs.right_row.Tie as tie
 
-add-dots-requires : tie.Need-add-dots-requires
-add-dots-requires c κs =
-    let a = c .before .before .before .before .before .before .before in
-    (a .pre .1, rw (c .before .before .words .ensures) (words-length _ _ ∙ a .pre .2))
-
 returns : tie.Need-returns
 returns c =
-    let r = c .before .before in
-    let g = r .before .before .before .before in
-    let s = g .before .before .before in
-    let a = s .before .before .before .before .before in
-    steps-are 65536 (a .args .q) _ _ (a .args .e .now) (s .words .ensures) (g .add-dots .ensures) (r .reduce .ensures)
+    let r : tie.After-reduce = search needs in
+    let d : tie.After-add-dots = search needs in
+    let w = d .before .before .before .before in
+    let l = w .before .before .before .before in
+    let a = l .before .before .before .before .before .before .args in
+    row-are 65536 (a .q) (a .n) (a .row .now) (a .cols .now) (a .e .now) (l .narrow .ensures) (w .words .ensures) (d .add-dots .ensures) (r .reduce .ensures)
 
 pub right-row-spec : {M : Type 1} → statement M
 right-row-spec =
     tie.close
-    (tie.spec (search needs) (search needs) (search needs) add-dots-requires (search needs) (search needs) (search needs) returns)
+    (tie.spec (λ c κs. search needs) (search needs) (λ c κs. search needs) (search needs) (λ c κs. search needs) (search needs) (λ c κs. search needs) (search needs) (search needs) returns)

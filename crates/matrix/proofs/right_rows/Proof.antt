@@ -1,5 +1,5 @@
--- `matrix::right_rows` meets its contract: it fills a row at a time.
-use mathlib.Core.Path.{_≡_, _∙_, sym, ap}
+-- `matrix::right_rows` meets its contract: it fills a row at a time, and no number of the rows before is q or more.
+use mathlib.Core.Path.{_≡_, refl, _∙_, sym, ap}
 use mathlib.Core.List.{List}
 use Prim.Native.Nat.{ℕ, _+_, _*_, _-_, _%_, _≤_}
 use native.Mathlib.Omega.{arith}
@@ -12,8 +12,9 @@ use Rattle.lists.specs.Entries.{tab, ints}
 use Rattle.lists.proofs.Fill.{Filled, fill-end, rows-start, rows-next}
 use Rattle.lists.proofs.Parts.{slice-long}
 use Rattle.matrix.specs.Steps.{rightTerm}
+use Rattle.matrix.proofs.Search.{Clear, clear-start, clear-part, clear-all, part-below, part-place, part-full}
 use Rattle.matrix.proofs.Steps.{reduced-gained}
-use Rattle.matrix.proofs.Terms.{row-in, lent-row, right-row}
+use Rattle.matrix.proofs.Terms.{row-in, right-row}
 use Rattle.matrix.proofs.right_rows.Statement.{statement}
 use Rattle.matrix.proofs.right_rows.Tie as tie
 
@@ -21,27 +22,33 @@ abbrev from : ℕ → ℕ → List ℕ → List ℕ → List ℤ → ℕ → ℕ
 from q n x cols e k = (residue 65536 (ints e k) + sumℕ n (rightTerm n x cols k)) % 65536 % q
 
 abbrev Inv-loop : tie.InvT-loop
-Inv-loop q n r x cols e out₀ i₀ out i = (i ≤ r) × Filled (from q n x cols e) out₀ out (i * 8)
+Inv-loop q n r x cols e line₀ out₀ i₀ line out i =
+    (i ≤ r) × (length line ≡ length line₀) × Clear q x (i * n) × Filled (from q n x cols e) out₀ out (i * 8)
 
 abbrev μ-loop : tie.MeasureT-loop
-μ-loop q n r x cols e out₀ i₀ out i = r - i
+μ-loop q n r x cols e line₀ out₀ i₀ line out i = r - i
 
 loop-holds : tie.Need-loop-holds Inv-loop μ-loop
-loop-holds c = (omega arith, rows-start _ _ 8)
+loop-holds c =
+    let a : tie.Start Inv-loop μ-loop = search needs in
+    (omega arith, refl, clear-start (a .args .q) (a .args .x .now) (a .args .n), rows-start _ _ 8)
 
 module _ (c : tie.In-loop Inv-loop μ-loop) where
   abbrev a : tie.Start Inv-loop μ-loop
-  a = c .before .before .before .before .before
+  a = c .before .before .before .before .before .before
+
+  abbrev i : ℕ
+  i = c .before .loop .i
 
   -- row i ends inside X, the noise and the output
-  in-x : c .before .loop .i * a .args .n + a .args .n ≤ length (a .args .x .now)
-  in-x = rw (a .pre .1 .xs-long) (row-in (a .args .r) (a .args .n) (c .before .loop .i) (c .loop-test .taken))
+  in-x : i * a .args .n + a .args .n ≤ length (a .args .x .now)
+  in-x = rw (a .pre .0 .2) (row-in (a .args .r) (a .args .n) i (c .loop-test .taken))
 
-  in-e : c .before .loop .i * 8 + 8 ≤ length (a .args .e .now)
-  in-e = rw (a .pre .2) (omega arith)
+  in-e : i * 8 + 8 ≤ length (a .args .e .now)
+  in-e = rw (a .pre .1 .0) (omega arith)
 
-  in-out : c .before .loop .i * 8 + 8 ≤ length (c .before .loop .out)
-  in-out = rw (c .before .loop .inv .1 .long, a .pre .3) (omega arith)
+  in-out : i * 8 + 8 ≤ length (c .before .loop .out)
+  in-out = rw (c .before .loop .inv .3 .long, a .pre .1 .2) (omega arith)
 
 mul-a : tie.Need-mul-a Inv-loop μ-loop
 mul-a c = omega (arith, in-x c)
@@ -49,67 +56,118 @@ mul-a c = omega (arith, in-x c)
 mul-b : tie.Need-mul-b Inv-loop μ-loop
 mul-b c = omega (arith, in-e c)
 
+add-row : tie.Need-add-row Inv-loop μ-loop
+add-row c = omega (arith, in-x c)
+
+mul-row : tie.Need-mul-row Inv-loop μ-loop
+mul-row c = omega (arith, in-x c)
+
+part-row-end : tie.Need-part-row-end Inv-loop μ-loop
+part-row-end c = in-x c
+
+-- the test of row i
+module _ (c : tie.After-first-over Inv-loop μ-loop) where
+  abbrev t : tie.In-loop Inv-loop μ-loop
+  t = c .before .before
+
+  abbrev x : List ℕ
+  x = a t .args .x .now
+
+  abbrev n : ℕ
+  n = a t .args .n
+
+add-result : tie.Need-add-result Inv-loop μ-loop
+add-result c = omega (arith, in-x (t (c .before)))
+
+same-length : tie.Need-same-length Inv-loop μ-loop
+same-length c = t (c .before) .before .loop .inv .1
+
+same-length-2 : tie.Need-same-length-2 Inv-loop μ-loop
+same-length-2 c = t (c .before) .before .loop .inv .3 .long
+
+returns : tie.Need-returns Inv-loop μ-loop
+returns c =
+    let d = c .before in
+    let q = a (t d) .args .q in
+    let h = t d .before .loop .inv .2 in (
+      part-place q (x d) (i (t d) * n d) (n d) h (in-x (t d)) (d .first-over .ensures) (c .if1 .taken),
+      λ b. absurd (omega (arith, part-full q (x d) (i (t d) * n d) (n d) h (in-x (t d)) (d .first-over .ensures) b, c .if1 .taken)),
+    )
+
 add-right-row : tie.Need-add-right-row Inv-loop μ-loop
-add-right-row c = omega (arith, in-x c)
+add-right-row c = omega (arith, in-e (t (c .before)))
 
 mul-right-row : tie.Need-mul-right-row Inv-loop μ-loop
-mul-right-row c = omega (arith, in-x c)
+mul-right-row c = omega (arith, in-e (t (c .before)))
 
 part-right-row-end : tie.Need-part-right-row-end Inv-loop μ-loop
-part-right-row-end c = in-x c
+part-right-row-end c = in-e (t (c .before))
 
 add-right-row-2 : tie.Need-add-right-row-2 Inv-loop μ-loop
-add-right-row-2 c = omega (arith, in-e (c .before))
+add-right-row-2 c = omega (arith, in-out (t (c .before .before .before)))
 
 mul-right-row-2 : tie.Need-mul-right-row-2 Inv-loop μ-loop
-mul-right-row-2 c = omega (arith, in-e (c .before))
+mul-right-row-2 c = omega (arith, in-out (t (c .before .before .before)))
 
 part-right-row-end-2 : tie.Need-part-right-row-end-2 Inv-loop μ-loop
-part-right-row-end-2 c = in-e (c .before)
-
-add-right-row-3 : tie.Need-add-right-row-3 Inv-loop μ-loop
-add-right-row-3 c = omega (arith, in-out (c .before .before))
-
-mul-right-row-3 : tie.Need-mul-right-row-3 Inv-loop μ-loop
-mul-right-row-3 c = omega (arith, in-out (c .before .before))
-
-part-right-row-end-3 : tie.Need-part-right-row-end-3 Inv-loop μ-loop
-part-right-row-end-3 c = in-out (c .before .before)
+part-right-row-end-2 c = in-out (t (c .before .before .before))
 
 right-row-requires : tie.Need-right-row-requires Inv-loop μ-loop
 right-row-requires c κs =
-    let t = c .before .before .before in
-    let l = t .before .loop in
-    let b = a t in (
-      b .pre .0,
-      lent-row (l .i) (t .loop-test .taken) (b .pre .1),
-      slice-long (l .i * 8) 8 (b .args .e .now) (in-e t),
-      slice-long (l .i * 8) 8 (l .out) (in-out t),
+    let f = c .before .before .before in
+    let d = f .before in
+    let b = t d in
+    let l = b .before .loop in
+    let p = a b .pre in
+    let q = a b .args .q in (
+      (
+        p .0 .0,
+        slice-long (i b * n d) (n d) (x d) (in-x b),
+        part-below q (x d) (i b * n d) (n d) (l .inv .2) (in-x b) (d .first-over .ensures) (p .0 .0) 32768 (p .0 .1) (f .if1 .left),
+        p .0 .3,
+      ),
+      (slice-long (i b * 8) 8 (a b .args .e .now) (in-e b), l .inv .1 ∙ p .1 .1, slice-long (i b * 8) 8 (l .out) (in-out b)),
     )
 
 loop-again : tie.Need-loop-again Inv-loop μ-loop
 loop-again c =
-    let t = c .before .before .before .before .before .before in
-    let l = t .before .loop in
-    let b = a t .args in (
+    let w = c .before .before .before .before in
+    let f = w .before .before .before .before in
+    let d = f .before in
+    let b = t d in
+    let l = b .before .loop in
+    let g = a b .args in (
       omega arith,
-      rows-next (l .i) 8 _ (l .inv .1) (rw (← l .inv .1 .long) (in-out t))
-          (right-row (b .q) (b .n) (l .i) (b .x .now) (b .cols .now) (b .e .now) (in-e t) (c .before .before .right-row .ensures)),
+      search needs,
+      clear-part (g .q) (x d) (i b * n d) (n d) (l .inv .2) (in-x b) (d .first-over .ensures) (f .if1 .left) _ (omega arith),
+      rows-next (i b) 8 _ (l .inv .3) (rw (← l .inv .3 .long) (in-out b))
+          (right-row (g .n) (i b) (g .x .now) (g .cols .now) (g .q) (g .e .now) (in-e b) (w .right-row .ensures)),
     )
 
-same-length : tie.Need-same-length Inv-loop μ-loop
-same-length c = c .before .loop .inv .1 .long
+same-length-3 : tie.Need-same-length-3 Inv-loop μ-loop
+same-length-3 c = c .before .loop .inv .1
 
-returns : tie.Need-returns Inv-loop μ-loop
-returns c =
+same-length-4 : tie.Need-same-length-4 Inv-loop μ-loop
+same-length-4 c = c .before .loop .inv .3 .long
+
+returns-2 : tie.Need-returns-2 Inv-loop μ-loop
+returns-2 c =
     let l = c .before .loop in
-    let b = c .before .before .before .before .before in
-    let i : l .i ≡ b .args .r = omega arith in
-    fill-end (l .inv .1) (rw (i, b .pre .3) (omega arith))
-    ∙ ap (λ (k : ℕ). tab k (from (b .args .q) (b .args .n) (b .args .x .now) (b .args .cols .now) (b .args .e .now))) (b .pre .3 ∙ sym (b .pre .2))
-    ∙ sym (reduced-gained 65536 (b .args .q) (b .args .n) (rightTerm (b .args .n) (b .args .x .now) (b .args .cols .now)) (b .args .e .now))
+    let b : tie.Start Inv-loop μ-loop = search needs in
+    let g = b .args in
+    let k : l .i ≡ g .r = omega arith in (
+      clear-all (g .q) (g .x .now) _ (l .inv .2) (b .pre .0 .2 ∙ ap (λ (j : ℕ). j * g .n) (sym k)),
+      λ _.
+          fill-end (l .inv .3) (rw (k, b .pre .1 .2) (omega arith))
+          ∙ ap (λ (j : ℕ). tab j (from (g .q) (g .n) (g .x .now) (g .cols .now) (g .e .now))) (b .pre .1 .2 ∙ sym (b .pre .1 .0))
+          ∙ sym (reduced-gained 65536 (g .q) (g .n) (rightTerm (g .n) (g .x .now) (g .cols .now)) (g .e .now)),
+    )
 
 pub right-rows-spec : {M : Type 1} → statement M
 right-rows-spec =
     tie.close
-    (tie.spec Inv-loop μ-loop loop-holds mul-a mul-b add-right-row mul-right-row (λ c. omega arith) (search needs) part-right-row-end add-right-row-2 mul-right-row-2 (λ c. omega arith) (search needs) part-right-row-end-2 add-right-row-3 mul-right-row-3 (λ c. omega arith) (search needs) part-right-row-end-3 right-row-requires (λ c. omega arith) (λ c. omega arith) loop-again same-length returns)
+    (tie.spec Inv-loop μ-loop loop-holds mul-a mul-b add-row mul-row (λ c. omega arith) (λ c. search needs) part-row-end (λ c κs. search needs)
+    add-result same-length same-length-2 returns
+    add-right-row mul-right-row (λ c. omega arith) (λ c. search needs) part-right-row-end
+    add-right-row-2 mul-right-row-2 (λ c. omega arith) (λ c. search needs) part-right-row-end-2 right-row-requires
+    (λ c. omega arith) (λ c. omega arith) loop-again same-length-3 same-length-4 returns-2)

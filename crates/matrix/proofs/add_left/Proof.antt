@@ -1,4 +1,4 @@
--- `matrix::add_to_all` meets its contract: it fills a row of sums at a time.
+-- `matrix::add_left` meets its contract: it fills a row of sums at a time.
 use mathlib.Core.Path.{_≡_, ap}
 use mathlib.Core.List.{List}
 use Prim.Native.Nat.{ℕ, _+_, _*_, _-_, _%_, _≤_}
@@ -9,8 +9,8 @@ use Rattle.numbers.specs.Sum.{sumℕ}
 use Rattle.lists.proofs.Fill.{Filled, fill-end, rows-start, rows-next, fill-rest}
 use Rattle.matrix.specs.Steps.{gained, partTerm}
 use Rattle.matrix.proofs.Terms.{row-in, in-s, block-long, block-row}
-use Rattle.matrix.proofs.add_to_all.Statement.{statement}
-use Rattle.matrix.proofs.add_to_all.Tie as tie
+use Rattle.matrix.proofs.add_left.Statement.{statement}
+use Rattle.matrix.proofs.add_left.Tie as tie
 
 abbrev from : ℕ → ℕ → ℕ → ℕ → List ℕ → List ℕ → List ℕ → ℕ → ℕ
 from n c t m s y sums k = (getD sums k 0 + sumℕ m (partTerm n c t s y k)) % 65536
@@ -101,7 +101,7 @@ returns c =
     let k : l .i ≡ 8 = omega arith in
     fill-end (l .inv .1) (rw (k, c .before .before .before .before .before .pre .3) (omega arith))
 
-pub add-to-all-spec : {M : Type 1} → statement M
-add-to-all-spec =
+pub add-left-spec : {M : Type 1} → statement M
+add-left-spec =
     tie.close
     (tie.spec Inv-loop μ-loop loop-holds mul-a mul-b add-b add-add-block mul-add-block (λ c. omega arith) (search needs) part-add-block-end add-add-block-2 mul-add-block-2 (λ c. omega arith) (search needs) part-add-block-end-2 add-block-requires (λ c. omega arith) (λ c. omega arith) loop-again same-length returns)

@@ -1,0 +1,40 @@
+-- `matrix::copy` meets its contract: it fills with the words.
+use mathlib.Core.Path.{refl, _∙_, ap}
+use Prim.Native.Nat.{ℕ, _-_}
+use native.Mathlib.Omega.{arith}
+use lib.ListN.{length, getD, length-set}
+use Rattle.lists.specs.Entries.{tab}
+use Rattle.lists.proofs.Entries.{tab-getD}
+use Rattle.lists.proofs.Fill.{Filled, fill-start, fill-next, fill-end}
+use Rattle.matrix.proofs.copy.Statement.{statement}
+use Rattle.matrix.proofs.copy.Tie as tie
+
+abbrev Inv-loop : tie.InvT-loop
+Inv-loop src out₀ k₀ out k = Filled (λ i. getD src i 0) out₀ out k
+
+abbrev μ-loop : tie.MeasureT-loop
+μ-loop src out₀ k₀ out k = length out - k
+
+loop-holds : tie.Need-loop-holds Inv-loop μ-loop
+loop-holds c = fill-start _ _
+
+loop-less : tie.Need-loop-less Inv-loop μ-loop
+loop-less c = simp length-set (omega arith)
+
+loop-again : tie.Need-loop-again Inv-loop μ-loop
+loop-again c = fill-next _ (c .before .before .loop .inv) (omega arith) refl
+
+same-length : tie.Need-same-length Inv-loop μ-loop
+same-length c = c .before .loop .inv .long
+
+returns : tie.Need-returns Inv-loop μ-loop
+returns c =
+    let a = c .before .before .args in
+    fill-end (c .before .loop .inv) (omega arith)
+    ∙ ap (λ (n : ℕ). tab n (λ i. getD (a .src .now) i 0)) (omega arith)
+    ∙ tab-getD (a .src .now) 0
+
+pub copy-spec : {M : Type 1} → statement M
+copy-spec =
+    tie.close
+    (tie.spec Inv-loop μ-loop loop-holds (λ c. omega arith) (λ c. omega arith) (λ c. omega arith) (λ c. omega arith) (λ c. omega arith) loop-less loop-again same-length returns)
