@@ -27,7 +27,7 @@ loop-holds c = (omega arith, rows-start _ _ 8)
 
 module _ (c : tie.In-loop Inv-loop μ-loop) where
   abbrev a : tie.Start Inv-loop μ-loop
-  a = search needs
+  a = c .before .before .before .before .before
 
   abbrev i : ℕ
   i = c .before .loop .i
