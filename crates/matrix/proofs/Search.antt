@@ -1,9 +1,10 @@
 -- A search for a number that is q or more, which goes through a list part by part.
 --   Clear q xs a           none of the first a numbers is
 --   clear-start, clear-all    before the first part, and after the last
---   clear-part, part-below    after a part that has none, whose numbers are below any b that is not below q
+--   all-clear, below-wider    where all are below q, without parts; and they are below what is no less than q
+--   clear-part, part-below    after a part that has none, whose numbers are below q
 --   part-place, part-full     the place in the list of the one that a part has; there is none where all are below q
-use mathlib.Core.Path.{_≡_, _∙_, sym, ap, subst}
+use mathlib.Core.Path.{_≡_, refl, _∙_, sym, ap, subst}
 use mathlib.Core.Bool.{true, false}
 use mathlib.Core.List.{List}
 use Prim.Native.Nat.{ℕ, _+_, _*_, _-_, _≤_, _<_}
@@ -21,6 +22,9 @@ use Rattle.lists.proofs.Parts.{slice-long, slice-at, slice-below}
 abbrev pub Clear : ℕ → List ℕ → ℕ → Type 0
 Clear q xs a = Passed (λ x. leb q x) xs 0 a
 
+pub below-wider : {q b : ℕ} {xs : List ℕ} → q ≤ b → Below q xs → Below b xs
+below-wider g h = record { below = λ k. omega (arith, h .below k) }
+
 module _ (q : ℕ) (xs : List ℕ) where
   -- of parts of n numbers
   pub clear-start : (n : ℕ) → Clear q xs (0 * n)
@@ -29,6 +33,9 @@ module _ (q : ℕ) (xs : List ℕ) where
   pub clear-all : (a : ℕ) → Clear q xs a → length xs ≡ a → length xs ≡ firstOver q xs
   unfolding firstOver
   clear-all a h l = l ∙ missing _ _ _ a h (omega arith)
+
+  pub all-clear : ((k : ℕ) → k < length xs → getD xs k 0 < q) → length xs ≡ firstOver q xs
+  all-clear h = clear-all (length xs) (record { tried = record { seen = omega arith; none = λ k l. lt-leb q _ (h k l) } }) refl
 
   module _ (a m : ℕ) (h : Clear q xs a) (fits : a + m ≤ length xs) {at : ℕ} (e : at ≡ firstOver q (take (a + m - a) (drop a xs))) where
     up-to : (b : ℕ) → b ≤ m → b ≤ at → Clear q xs (a + b)
@@ -46,10 +53,8 @@ module _ (q : ℕ) (xs : List ℕ) where
     pub clear-part : m ≤ at → (b : ℕ) → a + m ≡ b → Clear q xs b
     clear-part l b d = subst (Clear q xs) d (up-to m (omega arith) l)
 
-    pub part-below : 0 < q → (b : ℕ) → q ≤ b → m ≤ at → Below b (take (a + m - a) (drop a xs))
-    part-below o b g l =
-        let h : Below q (take (a + m - a) (drop a xs)) = all-below q _ o (rw (slice-long a m xs fits) (omega (arith, e))) in
-        record { below = λ k. omega (arith, h .below k) }
+    pub part-below : 0 < q → m ≤ at → Below q (take (a + m - a) (drop a xs))
+    part-below o l = all-below q _ o (rw (slice-long a m xs fits) (omega (arith, e)))
 
     pub part-place : at < m → a + at ≡ firstOver q xs
     unfolding firstOver

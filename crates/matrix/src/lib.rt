@@ -3,11 +3,12 @@
 //
 // All work is in words of 16 bits, eight to a vector, which wrap at 65,536: q divides it, so a remainder modulo 65,536 has the one modulo q in it.
 // Every sum starts as the noise, gains n products and is reduced once. XS goes row by row through X, with the columns of S laid side by side; SY goes
-// through Y four rows at a time, into 8 rows of sums. A row, or a block of four, is looked through for a number that is q or more, and then multiplied
-// while it is near: so A, up to 3 MB, is read once.
+// through Y four rows at a time, into 8 rows of sums. A row, or a block of four, is laid down as words and tested in one pass, and multiplied while it is
+// near: so A, up to 3 MB, is read once.
 ghost use mathlib.Core.Path.{_≡_};
-ghost use Prim.Native.Nat.{_+_, _*_, _/_, _%_, _<_, _≤_};
+ghost use Prim.Native.Nat.{ℕ, _+_, _*_, _/_, _%_, _<_, _≤_};
 ghost use lib.ListN.{length, getD};
+ghost use lib.IntN.{pos};
 ghost use Rattle.numbers.specs.Sum.{sumℕ};
 ghost use Rattle.numbers.specs.Residue.{residue};
 ghost use Rattle.lists.specs.Lent.{was, left};
@@ -53,15 +54,43 @@ pub fn words(zs: &[i32], out: &mut [u16])
     }
 }
 
-// A number in 16 bits. The bounds change nothing: they tell the compiler that it fits, signed, and so that one instruction packs eight.
-fn packed(x: u32) -> u16
-    requires { ⌜ x < 32768 ⌝ }
-    ensures { λ r. ⌜ r ≡ x ⌝ }
+// The bits of a number, read with a sign. The compiler sees that they stay as they are.
+fn signed(x: u32) -> i32
+    ensures { λ r. ⌜ (x < 32768 → r ≡ pos x) ⌝ }
 {
-    let z = x as i32;
+    if x < 2147483648 {
+        return x as i32;
+    }
+    let rest = 4294967295 - x;
+    -1 - (rest as i32)
+}
+
+// A number in 16 bits, where it fits. What does not is cut to the bounds of the instruction that packs eight numbers at a time: with them the compiler
+// takes it, and without them it shuffles.
+fn packed(x: u32) -> u16
+    ensures { λ r. ⌜ (x < 32768 → r ≡ x) ⌝ }
+{
+    let z = signed(x);
     let low = if z < -32768 { -32768 } else { z };
     let both = if 32767 < low { 32767 } else { low };
-    both as u16
+    word(both)
+}
+
+// Numbers in 16 bits each, where they fit. The answer has every bit that some number has, so no number is over it.
+fn narrow_bits(xs: &[u32], out: &mut [u16]) -> u32
+    requires { ⌜ length (now xs) ≡ length (now out) ⌝ }
+    ensures { λ r. ⌜ ((k : ℕ) → k < length (was xs) → getD (was xs) k 0 ≤ r) ⌝ }
+    ensures { λ _. ⌜ (Below 32768 (was xs) → left out ≡ was xs) ⌝ }
+{
+    let mut bits: u32 = 0;
+    let mut k: usize = 0;
+    while k < out.len() {
+        let x = xs[k];
+        bits = bits | x;
+        out[k] = packed(x);
+        k += 1;
+    }
+    bits
 }
 
 // Numbers in 16 bits each.
@@ -69,11 +98,20 @@ pub fn narrow(xs: &[u32], out: &mut [u16])
     requires { ⌜ (length (now xs) ≡ length (now out)) × Below 32768 (now xs) ⌝ }
     ensures { λ _. ⌜ left out ≡ was xs ⌝ }
 {
-    let mut k: usize = 0;
-    while k < out.len() {
-        out[k] = packed(xs[k]);
-        k += 1;
+    narrow_bits(xs, out);
+}
+
+// The same, with the test. The answer is the place of the first number that is q or more, or how many there are. Where q is a power of two, as in Frodo,
+// numbers are all below it where their bits are, and so one pass does both.
+pub fn narrow_below(q: u32, xs: &[u32], out: &mut [u16]) -> usize
+    requires { ⌜ (0 < q) × (q ≤ 32768) × (length (now xs) ≡ length (now out)) ⌝ }
+    ensures { λ at. ⌜ at ≡ firstOver q (was xs) ⌝ }
+    ensures { λ _. ⌜ (Below q (was xs) → left out ≡ was xs) ⌝ }
+{
+    if narrow_bits(xs, out) < q {
+        return xs.len();
     }
+    lists::first_over(q, xs)
 }
 
 fn copy(src: &[u16], out: &mut [u16])
@@ -184,7 +222,7 @@ pub fn add_right(n: usize, r: usize, x: &[u16], cols: &[u16], sums: &mut [u16])
     }
 }
 
-// A row of XS + E, whose numbers are words; with room for them.
+// A row of XS + E, with room for its numbers as words. The answer is the place of the first that is q or more, or n.
 fn right_row(
     q: u32,
     n: usize,
@@ -193,16 +231,18 @@ fn right_row(
     e: &[i32],
     line: &mut [u16],
     out: &mut [u32],
-)
-    requires { ⌜ (0 < q) × (length (now row) ≡ n) × Below 32768 (now row) × (length (now cols) ≡ 8 * n) ⌝ }
+) -> usize
+    requires { ⌜ (0 < q) × (q ≤ 32768) × (length (now row) ≡ n) × (length (now cols) ≡ 8 * n) ⌝ }
     requires { ⌜ (length (now e) ≡ 8) × (length (now line) ≡ n) × (length (now out) ≡ 8) ⌝ }
-    ensures { λ _. ⌜ left out ≡ reduced q (gained 65536 n (dotTerm n (was row) (was cols)) (wordsOf 65536 (was e))) ⌝ }
+    ensures { λ at. ⌜ at ≡ firstOver q (was row) ⌝ }
+    ensures { λ _. ⌜ (Below q (was row) → left out ≡ reduced q (gained 65536 n (dotTerm n (was row) (was cols)) (wordsOf 65536 (was e)))) ⌝ }
 {
     let mut sums: [u16; 8] = [0; 8];
-    narrow(row, line);
+    let at = narrow_below(q, row, line);
     words(e, &mut sums);
     add_dots(n, line, cols, &mut sums);
     reduce(q, &sums, out);
+    at
 }
 
 // XS + E, by rows of X and columns of S, up to the first row that has a number which is q or more. The answer is its place, or X's length.
@@ -225,12 +265,18 @@ fn right_rows(
     while i < r {
         let a = i * n;
         let b = i * 8;
-        let row = &x[a..a + n];
-        let at = lists::first_over(q, row);
+        let at = right_row(
+            q,
+            n,
+            &x[a..a + n],
+            cols,
+            &e[b..b + 8],
+            line,
+            &mut out[b..b + 8],
+        );
         if at < n {
             return a + at;
         }
-        right_row(q, n, row, cols, &e[b..b + 8], line, &mut out[b..b + 8]);
         i += 1;
     }
     x.len()
@@ -341,8 +387,10 @@ pub fn add_left(n: usize, c: usize, t: usize, m: usize, s: &[u16], y: &[u16], su
     }
 }
 
-// A block of m rows, as numbers, which are made narrow once for all 8 rows of sums.
+// A block of m rows, as numbers, which are made narrow once for all 8 rows of sums. The answer is the place of the first that is q or more, or how many
+// there are.
 fn left_block(
+    q: u32,
     n: usize,
     c: usize,
     t: usize,
@@ -351,13 +399,15 @@ fn left_block(
     y: &[u32],
     block: &mut [u16],
     sums: &mut [u16],
-)
-    requires { ⌜ (length (now s) ≡ 8 * n) × (t + m ≤ n) × (length (now y) ≡ m * c) × Below 32768 (now y) ⌝ }
+) -> usize
+    requires { ⌜ (0 < q) × (q ≤ 32768) × (length (now s) ≡ 8 * n) × (t + m ≤ n) × (length (now y) ≡ m * c) ⌝ }
     requires { ⌜ (length (now block) ≡ m * c) × (length (now sums) ≡ 8 * c) ⌝ }
-    ensures { λ _. ⌜ left sums ≡ gained 65536 m (partTerm n c t (was s) (was y)) (was sums) ⌝ }
+    ensures { λ at. ⌜ at ≡ firstOver q (was y) ⌝ }
+    ensures { λ _. ⌜ (Below q (was y) → left sums ≡ gained 65536 m (partTerm n c t (was s) (was y)) (was sums)) ⌝ }
 {
-    narrow(y, block);
+    let at = narrow_below(q, y, block);
     add_left(n, c, t, m, s, block, sums);
+    at
 }
 
 // A block is four rows, or what is left of them.
@@ -388,12 +438,10 @@ fn left_rows(
         let m = at_most_four(n - t);
         let l = m * c;
         let d = t * c;
-        let rows = &y[d..d + l];
-        let at = lists::first_over(q, rows);
+        let at = left_block(q, n, c, t, m, s, &y[d..d + l], &mut block[..l], sums);
         if at < l {
             return d + at;
         }
-        left_block(n, c, t, m, s, rows, &mut block[..l], sums);
         t += m;
     }
     y.len()

@@ -9,11 +9,14 @@ use Rattle.matrix.proofs.left_block.Tie as tie
 
 returns : tie.Need-returns
 returns c =
-    let a : tie.Start = search needs in
-    let b : tie.After-narrow = search needs in
-    let d : tie.After-add-left = search needs in
-    let g = a .args in
-    d .add-left .ensures ∙ ap (λ (l : List ℕ). gained 65536 (g .m) (partTerm (g .n) (g .c) (g .t) (g .s .now) l) (g .sums .now)) (b .narrow .ensures)
+    let d = c .before .before in
+    let b = d .before .before .before .before .before in
+    let g = b .before .before .before .before .before .before .args in (
+      b .narrow-below .ensures .0,
+      λ h.
+          d .add-left .ensures
+          ∙ ap (λ (l : List ℕ). gained 65536 (g .m) (partTerm (g .n) (g .c) (g .t) (g .s .now) l) (g .sums .now)) (b .narrow-below .ensures .1 h),
+    )
 
 pub left-block-spec : {M : Type 1} → statement M
 left-block-spec = tie.close (tie.spec (λ c κs. search needs) (λ c κs. search needs) (search needs) (search needs) returns)

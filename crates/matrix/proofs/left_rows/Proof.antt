@@ -68,69 +68,63 @@ mul-l c = omega (arith, room c)
 mul-d : tie.Need-mul-d Inv-loop μ-loop
 mul-d c = omega (arith, rows c)
 
-add-rows : tie.Need-add-rows Inv-loop μ-loop
-add-rows c = omega (arith, rows c)
+add-left-block : tie.Need-add-left-block Inv-loop μ-loop
+add-left-block c = omega (arith, rows c)
 
-mul-rows : tie.Need-mul-rows Inv-loop μ-loop
-mul-rows c = omega (arith, rows c)
+mul-left-block : tie.Need-mul-left-block Inv-loop μ-loop
+mul-left-block c = omega (arith, rows c)
 
-part-rows-end : tie.Need-part-rows-end Inv-loop μ-loop
-part-rows-end c = rows c
-
-add-result : tie.Need-add-result Inv-loop μ-loop
-add-result c = omega (arith, rows (c .before .before .before))
-
-same-length : tie.Need-same-length Inv-loop μ-loop
-same-length c = at (c .before .before .before) .loop .inv .1
-
-same-length-2 : tie.Need-same-length-2 Inv-loop μ-loop
-same-length-2 c = let l = at (c .before .before .before) in long l ∙ sym (a l .pre .1 .1)
-
-returns : tie.Need-returns Inv-loop μ-loop
-returns c =
-    let f = c .before in
-    let d = f .before .before in
-    let l = at d in
-    let q = a l .args .q in (
-      part-place q (y d) (l .loop .t * w d) (m d * w d) (l .loop .inv .2) (rows d) (f .first-over .ensures) (c .if1 .taken),
-      λ b. absurd (omega (arith, part-full q (y d) (l .loop .t * w d) (m d * w d) (l .loop .inv .2) (rows d) (f .first-over .ensures) b, c .if1 .taken)),
-    )
+part-left-block-end : tie.Need-part-left-block-end Inv-loop μ-loop
+part-left-block-end c = rows c
 
 slice-relend-prefix-left-block : tie.Need-slice-relend-prefix-left-block Inv-loop μ-loop
-slice-relend-prefix-left-block c = room (c .before .before .before)
+slice-relend-prefix-left-block c = room (c .before)
 
 slice-aggregate-left-block : tie.Need-slice-aggregate-left-block Inv-loop μ-loop
-slice-aggregate-left-block c = sym (part (c .before .before .before .before))
+slice-aggregate-left-block c = sym (part (c .before .before))
 
 left-block-requires : tie.Need-left-block-requires Inv-loop μ-loop
 left-block-requires c κs =
-    let e = c .before .before in
-    let f = e .before in
-    let d = f .before .before in
+    let d = c .before .before .before in
     let l = at d in
-    let p = a l .pre in (
-      (
-        p .0 .3,
-        inside d,
-        slice-long (l .loop .t * w d) (m d * w d) (y d) (rows d),
-        part-below (a l .args .q) (y d) (l .loop .t * w d) (m d * w d) (l .loop .inv .2) (rows d) (f .first-over .ensures) (p .0 .0) 32768 (p .0 .1) (e .if1 .left),
-      ),
-      (part d, long l),
+    let p = a l .pre in
+    ((p .0 .0, p .0 .1, p .0 .3, inside d, slice-long (l .loop .t * w d) (m d * w d) (y d) (rows d)), (part d, long l))
+
+-- after the block
+abbrev block : tie.After-left-block Inv-loop μ-loop → tie.After-at-most-four Inv-loop μ-loop
+block c = c .before .before .before .before
+
+add-result : tie.Need-add-result Inv-loop μ-loop
+add-result c = omega (arith, rows (block (c .before .before .before .before .before)))
+
+same-length : tie.Need-same-length Inv-loop μ-loop
+same-length c = search needs
+
+same-length-2 : tie.Need-same-length-2 Inv-loop μ-loop
+same-length-2 c = let l = at (block (c .before .before .before .before .before)) in omega (arith, long l, a l .pre .1 .1)
+
+returns : tie.Need-returns Inv-loop μ-loop
+returns c =
+    let b = c .before .before .before .before .before in
+    let d = block b in
+    let l = at d in
+    let q = a l .args .q in (
+      part-place q (y d) (l .loop .t * w d) (m d * w d) (l .loop .inv .2) (rows d) (b .left-block .ensures .0) (c .if1 .taken),
+      λ k. absurd (omega (arith, part-full q (y d) (l .loop .t * w d) (m d * w d) (l .loop .inv .2) (rows d) (b .left-block .ensures .0) k, c .if1 .taken)),
     )
 
 loop-again : tie.Need-loop-again Inv-loop μ-loop
 loop-again c =
-    let b = c .before .before .before .before in
-    let e = b .before .before .before in
-    let f = e .before in
-    let d = f .before .before in
+    let b = c .before .before .before .before .before in
+    let d = block b in
     let l = at d in
-    let g = a l .args in (
+    let g = a l .args in
+    let f = part-below (g .q) (y d) (l .loop .t * w d) (m d * w d) (l .loop .inv .2) (rows d) (b .left-block .ensures .0) (a l .pre .0 .0) (c .if1 .left) in (
       omega arith,
       search needs,
-      clear-part (g .q) (y d) (l .loop .t * w d) (m d * w d) (l .loop .inv .2) (rows d) (f .first-over .ensures) (e .if1 .left) _ (omega arith),
+      clear-part (g .q) (y d) (l .loop .t * w d) (m d * w d) (l .loop .inv .2) (rows d) (b .left-block .ensures .0) (c .if1 .left) _ (omega arith),
       gained-more 65536 (l .loop .t) (m d) (leftTerm (g .n) (g .c) (g .s .now) (g .y .now)) (g .sums .now) (l .loop .inv .3)
-          (part-terms (g .n) (g .c) (l .loop .t) (m d) (g .s .now) (g .y .now) (a l .pre .0 .2) (inside d) (l .loop .sums) (long l) (b .left-block .ensures)),
+          (part-terms (g .n) (g .c) (l .loop .t) (m d) (g .s .now) (g .y .now) (a l .pre .0 .2) (inside d) (l .loop .sums) (long l) (b .left-block .ensures .1 f)),
     )
 
 same-length-3 : tie.Need-same-length-3 Inv-loop μ-loop
@@ -152,6 +146,6 @@ returns-2 c =
 pub left-rows-spec : {M : Type 1} → statement M
 left-rows-spec =
     tie.close
-    (tie.spec Inv-loop μ-loop loop-holds (λ c. omega arith) (λ c κs. omega arith) mul-l mul-d add-rows mul-rows (λ c. omega arith) (λ c. search needs) part-rows-end (λ c κs. search needs)
-    add-result same-length same-length-2 returns slice-relend-prefix-left-block slice-aggregate-left-block left-block-requires
+    (tie.spec Inv-loop μ-loop loop-holds (λ c. omega arith) (λ c κs. omega arith) mul-l mul-d add-left-block mul-left-block (λ c. omega arith) (λ c. search needs) part-left-block-end
+    slice-relend-prefix-left-block slice-aggregate-left-block left-block-requires add-result same-length same-length-2 returns
     (λ c. omega arith) (λ c. omega arith) loop-again same-length-3 same-length-4 returns-2)

@@ -6,12 +6,16 @@ use Rattle.matrix.proofs.right_row.Tie as tie
 
 returns : tie.Need-returns
 returns c =
-    let r : tie.After-reduce = search needs in
-    let d : tie.After-add-dots = search needs in
+    let r = c .before .before in
+    let d = r .before .before .before .before in
     let w = d .before .before .before .before in
     let l = w .before .before .before .before in
-    let a = l .before .before .before .before .before .before .args in
-    row-are 65536 (a .q) (a .n) (a .row .now) (a .cols .now) (a .e .now) (l .narrow .ensures) (w .words .ensures) (d .add-dots .ensures) (r .reduce .ensures)
+    let a = l .before .before .before .before .before .before .args in (
+      l .narrow-below .ensures .0,
+      λ h.
+          row-are 65536 (a .q) (a .n) (a .row .now) (a .cols .now) (a .e .now) (l .narrow-below .ensures .1 h) (w .words .ensures) (d .add-dots .ensures)
+          (r .reduce .ensures),
+    )
 
 pub right-row-spec : {M : Type 1} → statement M
 right-row-spec =

@@ -56,92 +56,85 @@ mul-a c = omega (arith, in-x c)
 mul-b : tie.Need-mul-b Inv-loop μ-loop
 mul-b c = omega (arith, in-e c)
 
-add-row : tie.Need-add-row Inv-loop μ-loop
-add-row c = omega (arith, in-x c)
-
-mul-row : tie.Need-mul-row Inv-loop μ-loop
-mul-row c = omega (arith, in-x c)
-
-part-row-end : tie.Need-part-row-end Inv-loop μ-loop
-part-row-end c = in-x c
-
--- the test of row i
-module _ (c : tie.After-first-over Inv-loop μ-loop) where
-  abbrev t : tie.In-loop Inv-loop μ-loop
-  t = c .before .before
-
-  abbrev x : List ℕ
-  x = a t .args .x .now
-
-  abbrev n : ℕ
-  n = a t .args .n
-
-add-result : tie.Need-add-result Inv-loop μ-loop
-add-result c = omega (arith, in-x (t (c .before)))
-
-same-length : tie.Need-same-length Inv-loop μ-loop
-same-length c = t (c .before) .before .loop .inv .1
-
-same-length-2 : tie.Need-same-length-2 Inv-loop μ-loop
-same-length-2 c = t (c .before) .before .loop .inv .3 .long
-
-returns : tie.Need-returns Inv-loop μ-loop
-returns c =
-    let d = c .before in
-    let q = a (t d) .args .q in
-    let h = t d .before .loop .inv .2 in (
-      part-place q (x d) (i (t d) * n d) (n d) h (in-x (t d)) (d .first-over .ensures) (c .if1 .taken),
-      λ b. absurd (omega (arith, part-full q (x d) (i (t d) * n d) (n d) h (in-x (t d)) (d .first-over .ensures) b, c .if1 .taken)),
-    )
-
 add-right-row : tie.Need-add-right-row Inv-loop μ-loop
-add-right-row c = omega (arith, in-e (t (c .before)))
+add-right-row c = omega (arith, in-x c)
 
 mul-right-row : tie.Need-mul-right-row Inv-loop μ-loop
-mul-right-row c = omega (arith, in-e (t (c .before)))
+mul-right-row c = omega (arith, in-x c)
 
 part-right-row-end : tie.Need-part-right-row-end Inv-loop μ-loop
-part-right-row-end c = in-e (t (c .before))
+part-right-row-end c = in-x c
 
 add-right-row-2 : tie.Need-add-right-row-2 Inv-loop μ-loop
-add-right-row-2 c = omega (arith, in-out (t (c .before .before .before)))
+add-right-row-2 c = omega (arith, in-e (c .before))
 
 mul-right-row-2 : tie.Need-mul-right-row-2 Inv-loop μ-loop
-mul-right-row-2 c = omega (arith, in-out (t (c .before .before .before)))
+mul-right-row-2 c = omega (arith, in-e (c .before))
 
 part-right-row-end-2 : tie.Need-part-right-row-end-2 Inv-loop μ-loop
-part-right-row-end-2 c = in-out (t (c .before .before .before))
+part-right-row-end-2 c = in-e (c .before)
+
+add-right-row-3 : tie.Need-add-right-row-3 Inv-loop μ-loop
+add-right-row-3 c = omega (arith, in-out (c .before .before .before))
+
+mul-right-row-3 : tie.Need-mul-right-row-3 Inv-loop μ-loop
+mul-right-row-3 c = omega (arith, in-out (c .before .before .before))
+
+part-right-row-end-3 : tie.Need-part-right-row-end-3 Inv-loop μ-loop
+part-right-row-end-3 c = in-out (c .before .before .before)
 
 right-row-requires : tie.Need-right-row-requires Inv-loop μ-loop
 right-row-requires c κs =
-    let f = c .before .before .before in
-    let d = f .before in
-    let b = t d in
+    let b = c .before .before .before .before in
     let l = b .before .loop in
-    let p = a b .pre in
-    let q = a b .args .q in (
-      (
-        p .0 .0,
-        slice-long (i b * n d) (n d) (x d) (in-x b),
-        part-below q (x d) (i b * n d) (n d) (l .inv .2) (in-x b) (d .first-over .ensures) (p .0 .0) 32768 (p .0 .1) (f .if1 .left),
-        p .0 .3,
-      ),
-      (slice-long (i b * 8) 8 (a b .args .e .now) (in-e b), l .inv .1 ∙ p .1 .1, slice-long (i b * 8) 8 (l .out) (in-out b)),
+    let g = a b .args in
+    let p = a b .pre in (
+      (p .0 .0, p .0 .1, slice-long (i b * g .n) (g .n) (g .x .now) (in-x b), p .0 .3),
+      (slice-long (i b * 8) 8 (g .e .now) (in-e b), l .inv .1 ∙ p .1 .1, slice-long (i b * 8) 8 (l .out) (in-out b)),
+    )
+
+-- after row i
+module _ (c : tie.After-right-row Inv-loop μ-loop) where
+  abbrev at : tie.In-loop Inv-loop μ-loop
+  at = c .before .before .before .before .before
+
+  abbrev x : List ℕ
+  x = a at .args .x .now
+
+  abbrev n : ℕ
+  n = a at .args .n
+
+add-result : tie.Need-add-result Inv-loop μ-loop
+add-result c = omega (arith, in-x (at (c .before .before .before .before .before)))
+
+same-length : tie.Need-same-length Inv-loop μ-loop
+same-length c = search needs
+
+same-length-2 : tie.Need-same-length-2 Inv-loop μ-loop
+same-length-2 c = search needs
+
+returns : tie.Need-returns Inv-loop μ-loop
+returns c =
+    let w = c .before .before .before .before .before in
+    let b = at w in
+    let q = a b .args .q in
+    let h = b .before .loop .inv .2 in (
+      part-place q (x w) (i b * n w) (n w) h (in-x b) (w .right-row .ensures .0) (c .if1 .taken),
+      λ k. absurd (omega (arith, part-full q (x w) (i b * n w) (n w) h (in-x b) (w .right-row .ensures .0) k, c .if1 .taken)),
     )
 
 loop-again : tie.Need-loop-again Inv-loop μ-loop
 loop-again c =
-    let w = c .before .before .before .before in
-    let f = w .before .before .before .before in
-    let d = f .before in
-    let b = t d in
+    let w = c .before .before .before .before .before in
+    let b = at w in
     let l = b .before .loop in
-    let g = a b .args in (
+    let g = a b .args in
+    let f = part-below (g .q) (x w) (i b * n w) (n w) (l .inv .2) (in-x b) (w .right-row .ensures .0) (a b .pre .0 .0) (c .if1 .left) in (
       omega arith,
       search needs,
-      clear-part (g .q) (x d) (i b * n d) (n d) (l .inv .2) (in-x b) (d .first-over .ensures) (f .if1 .left) _ (omega arith),
+      clear-part (g .q) (x w) (i b * n w) (n w) (l .inv .2) (in-x b) (w .right-row .ensures .0) (c .if1 .left) _ (omega arith),
       rows-next (i b) 8 _ (l .inv .3) (rw (← l .inv .3 .long) (in-out b))
-          (right-row (g .n) (i b) (g .x .now) (g .cols .now) (g .q) (g .e .now) (in-e b) (w .right-row .ensures)),
+          (right-row (g .n) (i b) (g .x .now) (g .cols .now) (g .q) (g .e .now) (in-e b) (w .right-row .ensures .1 f)),
     )
 
 same-length-3 : tie.Need-same-length-3 Inv-loop μ-loop
@@ -166,8 +159,7 @@ returns-2 c =
 pub right-rows-spec : {M : Type 1} → statement M
 right-rows-spec =
     tie.close
-    (tie.spec Inv-loop μ-loop loop-holds mul-a mul-b add-row mul-row (λ c. omega arith) (λ c. search needs) part-row-end (λ c κs. search needs)
-    add-result same-length same-length-2 returns
-    add-right-row mul-right-row (λ c. omega arith) (λ c. search needs) part-right-row-end
-    add-right-row-2 mul-right-row-2 (λ c. omega arith) (λ c. search needs) part-right-row-end-2 right-row-requires
-    (λ c. omega arith) (λ c. omega arith) loop-again same-length-3 same-length-4 returns-2)
+    (tie.spec Inv-loop μ-loop loop-holds mul-a mul-b add-right-row mul-right-row (λ c. omega arith) (λ c. search needs) part-right-row-end
+    add-right-row-2 mul-right-row-2 (λ c. omega arith) (λ c. search needs) part-right-row-end-2
+    add-right-row-3 mul-right-row-3 (λ c. omega arith) (λ c. search needs) part-right-row-end-3 right-row-requires
+    add-result same-length same-length-2 returns (λ c. omega arith) (λ c. omega arith) loop-again same-length-3 same-length-4 returns-2)

@@ -1,0 +1,31 @@
+-- `matrix::signed` meets its contract.
+use mathlib.Core.Path.{_≡_}
+use Prim.Native.Nat.{ℕ, zero, suc, _-_, _<_}
+use native.Mathlib.Omega.{arith}
+use borrow.Author.Needs.{needs}
+use lib.IntN.{pos, negsuc, _-ℤ_}
+use mir.Syntax.{w32}
+use mir.Val.{toZ, SFits}
+use mir.Facts.{toZ-ofZ}
+use Rattle.matrix.proofs.signed.Statement.{statement}
+use Rattle.matrix.proofs.signed.Tie as tie
+
+read : (n : ℕ) → n < 2147483648 → toZ w32 n ≡ pos n
+read n h = toZ-ofZ {w = w32} {z = pos n} (record { sfits = h })
+
+-- a number below 0
+below : (n : ℕ) → n < 2147483648 → SFits w32 (negsuc 0 -ℤ pos n)
+below zero h = record { sfits = omega arith }
+below (suc n) h = record { sfits = omega arith }
+
+returns : tie.Need-returns
+returns c = λ h. read _ (omega arith)
+
+sub-result : tie.Need-sub-result
+sub-result c = let n = 4294967295 - c .before .args .x in rw (read n (omega arith)) (below n (omega arith))
+
+returns-2 : tie.Need-returns-2
+returns-2 c = λ h. absurd (omega arith)
+
+pub signed-spec : {M : Type 1} → statement M
+signed-spec = tie.close (tie.spec (search needs) returns (search needs) (search needs) sub-result returns-2)
