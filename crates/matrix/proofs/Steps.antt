@@ -2,6 +2,7 @@
 --   words-length, words-at     secrets or noise as words: how many, and an entry
 --   gained-length, gained-at, gained-none   a list of sums: its length, its entries, and with no product yet
 --   wrapped, gain-next, gained-next, gained-more   a sum that wrapped before it gained; one product more for a sum; for each; n more
+--   on-copy                    what is made of a copy
 --   reduced-gained, steps-are, row-are  from the noise to the remainders, by place; in three steps; of a row
 --   mixed                      they are those of the whole sums, by row and column
 use mathlib.Core.Path.{_≡_, _∙_, sym, ap}
@@ -72,6 +73,10 @@ gained-more m t n f ws e d =
     ∙ wrapped m (getD ws k 0) (sumℕ t (f k)) (sumℕ n (λ u. f k (t + u)))
     ∙ ap (λ (z : ℕ). (getD ws k 0 + z) % m) (sym (sum-split natural t n (f k))))
 
+-- of y, made of b, which holds the same
+pub on-copy : (f : List ℕ → List ℕ) {b y o : List ℕ} → b ≡ y → o ≡ f b → o ≡ f y
+on-copy f e d = d ∙ ap f e
+
 -- ---- from the noise e to the remainders
 
 pub reduced-gained : (m : ℕ) (q n : ℕ) (f : ℕ → ℕ → ℕ) (e : List ℤ)
@@ -93,7 +98,8 @@ steps-are m q n f e s g d = d ∙ ap (reduced q) (g ∙ ap (gained m n f) s)
 pub row-are :
     (m : ℕ) (q n : ℕ) (row cols : List ℕ) (e : List ℤ) {b l x out : List ℕ} → b ≡ row → l ≡ wordsOf m e → x ≡ gained m n (dotTerm n b cols) l → out ≡ reduced q x →
     out ≡ reduced q (gained m n (dotTerm n row cols) (wordsOf m e))
-row-are m q n row cols e {l = l} r s g d = steps-are m q n (dotTerm n row cols) e s (g ∙ ap (λ (b : List ℕ). gained m n (dotTerm n b cols) l) r) d
+row-are m q n row cols e {l = l} r s g d =
+    steps-are m q n (dotTerm n row cols) e s (on-copy (λ (b : List ℕ). gained m n (dotTerm n b cols) l) r g) d
 
 -- a remainder of words is that of whole numbers which they are modulo m, a multiple of q
 module _ (m q n : ℕ) (o : 0 < q) (some : 0 < m) (w : m % q ≡ 0) where

@@ -1,7 +1,9 @@
 -- `matrix::add_dots` meets its contract.
-use mathlib.Core.Path.{_∙_, ap}
+use mathlib.Core.List.{List}
+use Prim.Native.Nat.{ℕ}
 use borrow.Author.Needs.{needs}
 use Rattle.matrix.specs.Steps.{gained, dotTerm}
+use Rattle.matrix.proofs.Steps.{on-copy}
 use Rattle.matrix.proofs.add_dots.Statement.{statement}
 use Rattle.matrix.proofs.add_dots.Tie as tie
 
@@ -11,7 +13,8 @@ returns c =
     let i : tie.After-copy = search needs in
     let d : tie.After-dots-on = search needs in
     let o : tie.After-copy2 = search needs in
-    o .copy2 .ensures ∙ d .dots-on .ensures ∙ ap (gained 65536 (a .args .n) (dotTerm (a .args .n) (a .args .row .now) (a .args .cols .now))) (i .copy .ensures)
+    on-copy (gained 65536 (a .args .n) (dotTerm (a .args .n) (a .args .row .now) (a .args .cols .now))) (i .copy .ensures)
+    (on-copy (λ (l : List ℕ). l) (d .dots-on .ensures) (o .copy2 .ensures))
 
 pub add-dots-spec : {M : Type 1} → statement M
 add-dots-spec =

@@ -1,9 +1,9 @@
 -- `matrix::left_block` meets its contract: the block is made narrow, and then serves all 8 rows of sums.
-use mathlib.Core.Path.{_∙_, ap}
 use mathlib.Core.List.{List}
 use Prim.Native.Nat.{ℕ}
 use borrow.Author.Needs.{needs}
 use Rattle.matrix.specs.Steps.{gained, partTerm}
+use Rattle.matrix.proofs.Steps.{on-copy}
 use Rattle.matrix.proofs.left_block.Statement.{statement}
 use Rattle.matrix.proofs.left_block.Tie as tie
 
@@ -14,8 +14,8 @@ returns c =
     let g = b .before .before .before .before .before .before .args in (
       b .narrow-below .ensures .0,
       λ h.
-          d .add-left .ensures
-          ∙ ap (λ (l : List ℕ). gained 65536 (g .m) (partTerm (g .n) (g .c) (g .t) (g .s .now) l) (g .sums .now)) (b .narrow-below .ensures .1 h),
+          on-copy (λ (l : List ℕ). gained 65536 (g .m) (partTerm (g .n) (g .c) (g .t) (g .s .now) l) (g .sums .now)) (b .narrow-below .ensures .1 h)
+          (d .add-left .ensures),
     )
 
 pub left-block-spec : {M : Type 1} → statement M
