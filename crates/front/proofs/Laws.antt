@@ -6,12 +6,15 @@
 --   within-passes, below-passes, message-passes, length-passes, up-to-passes, room-passes, turn-passes   and what passes
 --   all-pass        so does a sequence of such tests
 --   stays, goes-on  one test more, after a failure and after none
+--   publics-over, publics-under   the verdict on public numbers, by the first that is too large
 --   over, under     the unpack step's verdict, by the first number that is too large
 --   blank-fails, not-blank-passes, not-blank-passed, not-blank-packed   a part that is blank, and one that is not; numbers tested for their bytes
 --   first, also     a sequence as the code goes through it
 --   held-all        what holds of each entry of the answer, where there is one, and of zero, holds of the whole output
 --   then-assoc, failed, went-on   a sequence in two parts: the first fails, or the second decides
-use mathlib.Core.Path.{_≡_, refl, ap₂, _∙_}
+--   before-pass, before-fail      a test that is made only where the later one fails
+--   before-failed, before-passed  a sequence in which the middle is left for last: where it fails, and where it passes
+use mathlib.Core.Path.{_≡_, refl, sym, ap₂, _∙_}
 use mathlib.Core.Bool.{Bool, true, false, cond}
 use mathlib.Core.List.{List}
 use Prim.Native.Nat.{ℕ, _-_, _*_, _^_, _≤_, _<_}
@@ -27,7 +30,7 @@ use Rattle.lists.proofs.Same.{append-all, equal-all}
 use Rattle.packing.specs.Packing.{packed}
 use Rattle.blank.specs.Blank.{blank}
 use Rattle.blank.proofs.Laws.{blank-packed}
-use Rattle.front.specs.Front.{numberOf, numberIn, _then_, lengthIs, lengthUpTo, roomFor, inTurn, tableIn, publicsIn, messageIn, notBlank, secretsIn, held}
+use Rattle.front.specs.Front.{numberOf, numberIn, _then_, _before_, lengthIs, lengthUpTo, roomFor, inTurn, tableIn, publicsIn, messageIn, notBlank, secretsIn, held}
 use Rattle.front.specs.declared.Refusal.{Refusal}
 use Rattle.front.specs.declared.Refusal.the-variants.{NoScheme, BadLength, Short, PublicOver, MessageOver, SecretBeyond, RanOut, Misfit, OutOfStage, OutOfTurn, NoRule, NewerFormat, NoStudio, Blank, NotAscending}
 use Rattle.front.specs.declared.Verdict.{Verdict}
@@ -103,6 +106,14 @@ pub goes-on : {v u w : Verdict} → v ≡ Pass → u ≡ w → u ≡ v then w
 unfolding _then_
 goes-on e f = rw e f
 
+pub publics-over : (q : ℕ) (xs : List ℕ) {k : ℕ} → k ≡ firstOver q xs → k < length xs → Fail (PublicOver k) ≡ publicsIn q xs
+unfolding publicsIn
+publics-over q xs e h = rw (e, lt-ltb _ _ (rw e at h))
+
+pub publics-under : (q : ℕ) (xs : List ℕ) {k : ℕ} → k ≡ firstOver q xs → length xs ≤ k → Pass ≡ publicsIn q xs
+unfolding publicsIn
+publics-under q xs e h = rw (le-ltb _ _ (rw e at h))
+
 pub over : (q : ℕ) (xs : List ℕ) (k : ℕ) → k ≡ firstOver q xs → k < length xs → Fail (MessageOver k) ≡ messageIn q xs
 unfolding messageIn
 over q xs k e h = rw (e, lt-ltb _ _ (rw e at h))
@@ -158,6 +169,34 @@ failed w e f = rw (← e, f)
 pub went-on : {v t : Verdict} (w : Verdict) → v ≡ t → v ≡ Pass → t then w ≡ w
 unfolding _then_
 went-on w e f = rw (← e, f)
+
+-- ---- a test that is made only where the later one fails
+
+pub before-pass : {w : Verdict} (v : Verdict) → w ≡ Pass → w ≡ v before w
+unfolding _before_
+before-pass v e = rw e
+
+pub before-fail : {w : Verdict} {r : Refusal} (v : Verdict) → w ≡ Fail r → v then w ≡ v before w
+unfolding _before_
+before-fail v e = rw e
+
+last-passes : (v : Verdict) → v then Pass ≡ v
+unfolding _then_
+last-passes Pass = refl
+last-passes (Fail r) = refl
+
+-- first p, then s, and a before s only where s fails: what that says of p, a and s in this order
+pub before-failed : (p a s : Verdict) {r : Refusal} → p then (a before s) ≡ Fail r → p then a then s ≡ Fail r
+unfolding _then_ _before_
+before-failed Pass a Pass e = differ (sym e)
+before-failed Pass a (Fail t) e = e
+before-failed (Fail t) a s e = e
+
+pub before-passed : (p a s : Verdict) → p then (a before s) ≡ Pass → (p ≡ Pass) × (s ≡ Pass) × (p then a then s ≡ a)
+unfolding _then_ _before_
+before-passed Pass a Pass e = (refl, refl, last-passes a)
+before-passed Pass a (Fail t) e = differ (both a (Fail t) e .1)
+before-passed (Fail t) a s e = differ e
 
 pub within-passes : {B : ℕ} {s : List ℤ} → Within B s → secretsIn B s ≡ Pass
 unfolding secretsIn firstBeyond

@@ -1,10 +1,11 @@
 // The refusals by number and place, and the tests that give them, each once for all calls: 01, "Refusal numbers and their order". A call's tests are a
 // sequence of these in the order of its inputs; each takes the verdict so far and tests only where nothing was refused before it.
 ghost use mathlib.Core.Path.{_≡_};
-ghost use Prim.Native.Nat.{_*_, _≤_, _<_};
+ghost use Prim.Native.Nat.{ℕ, _*_, _≤_, _<_};
 ghost use lib.ListN.{length};
+ghost use Rattle.lists.specs.First.{firstOver};
 ghost use Rattle.packing.specs.Packing.{unpacked};
-ghost use Rattle.front.specs.Front.{_then_, lengthIs, lengthUpTo, roomFor, inTurn, tableIn, publicsIn, notBlank, receivedIn, secretsIn, numberOf, placeOf};
+ghost use Rattle.front.specs.Front.{_then_, _before_, lengthIs, lengthUpTo, roomFor, inTurn, tableIn, publicsIn, notBlank, receivedIn, secretsIn, numberOf, placeOf};
 ghost use Rattle.front.specs.Promise.{outcome};
 use lists::Peak;
 
@@ -167,18 +168,39 @@ pub fn table_in(v: Verdict, at: usize, n: usize) -> Verdict
     }
 }
 
-// No lent public number is q or more.
+// No lent public number is q or more; `at` is the first that is, or how many there are.
+pub fn publics_at(at: usize, xs: &[u32]) -> Verdict
+    ensures { λ r. ⌜ ((q : ℕ) → at ≡ firstOver q (now (xs .entry)) → r ≡ publicsIn q (now (xs .entry))) ⌝ }
+{
+    if at < xs.len() {
+        Verdict::Fail(Refusal::PublicOver(at))
+    } else {
+        Verdict::Pass
+    }
+}
+
+// The same of numbers in which it has still to be found.
 pub fn publics_in(v: Verdict, q: u32, xs: &[u32]) -> Verdict
     ensures { λ r. ⌜ r ≡ v then publicsIn q (now (xs .entry)) ⌝ }
 {
     let Verdict::Pass = v else {
         return v;
     };
+    publics_at(lists::first_over(q, xs), xs)
+}
+
+// The same, ahead of a verdict that stands already: where that is no refusal the numbers are not looked at.
+pub fn publics_before(w: Verdict, q: u32, xs: &[u32]) -> Verdict
+    ensures { λ r. ⌜ r ≡ publicsIn q (now (xs .entry)) before w ⌝ }
+{
+    let Verdict::Fail(_) = w else {
+        return w;
+    };
     let at = lists::first_over(q, xs);
     if at < xs.len() {
         Verdict::Fail(Refusal::PublicOver(at))
     } else {
-        Verdict::Pass
+        w
     }
 }
 
