@@ -1,8 +1,9 @@
 -- What is asked and what is made in the arms of the functions of `values`, F being the arm's family.
 --   Travelling, Mixing, Multiplying   what the functions are given: numbers, secrets, noise and room, with the scheme's counts and ranges
 --   Told X, tell               what a function knows before its match: what it is given, and what `scheme.fixed()` and `scheme.family()` returned
---   travel-asks                what is asked by the products that travel, b and u
---   offer-made, reply-made     and what they are
+--   none-over, goes-by         no number is q or more exactly where the place of the first is their count
+--   travel-asks                what is asked by the products that travel, b and u, of public numbers that may be q or more
+--   offer-made, reply-made     and what they are where none is
 --   mix-asks, mix-made         the replier's value
 --   multiply-asks, multiply-made   the initiator's value
 use mathlib.Core.Path.{_≡_, refl, _∙_, sym, ap}
@@ -10,20 +11,24 @@ use mathlib.Core.List.{List}
 use Prim.Native.Nat.{ℕ, _*_, _<_, _≤_}
 use native.Mathlib.Nat.{le-trans}
 use native.Mathlib.Omega.{arith}
-use lib.Dec.{lit≤}
+use lib.Dec.{leb, lit≤}
 use lib.ListN.{length}
 use lib.IntN.{ℤ}
+use borrow.Author.Tests.{lt-leb}
 use Rattle.schemes.specs.Schemes.{by, familyOf, fixedOf}
 use Rattle.schemes.specs.declared.Family.{Family}
 use Rattle.schemes.specs.declared.Fixed.{Fixed}
 use Rattle.schemes.specs.declared.Scheme.{Scheme}
+use Rattle.schemes.proofs.Sound.{sound}
 use Rattle.lists.specs.Entries.{Below, Within}
+use Rattle.lists.specs.First.{firstOver}
+use Rattle.lists.proofs.First.{none-found, all-below}
 use Rattle.polynomial.specs.Fit as polynomial-fit
 use Rattle.polynomial.specs.Mixing as polynomial
 use Rattle.transform.specs.Transform.{transformed, inverted}
 use Rattle.matrix.specs.Fit as matrix-fit
 use Rattle.matrix.specs.Mixing as matrix
-use Rattle.ends.specs.Fit.{Counted, Small}
+use Rattle.ends.specs.Fit.{Counted, Small, NewHopeAsks}
 use Rattle.ends.specs.Values.{offered, replied, mixedValue, bareValue}
 use Rattle.ends.proofs.Numbers.{Bcns, NewHope, Frodo, Each, in-arm, arm-asks}
 use Rattle.ends.proofs.Settling.{counted}
@@ -36,8 +41,12 @@ Bare f m n a s l = (Counted m (f .q) a × (l ≡ n)) × Small (f .secret) (f .la
 abbrev Noised : Fixed → ℕ → ℕ → ℕ → List ℕ → List ℤ → List ℤ → ℕ → Type 0
 Noised f m n k a s e l = (Counted m (f .q) a × (l ≡ n)) × (Small (f .secret) (f .largest) s × Small k (f .largest) e)
 
+-- of public numbers that may be q or more
 abbrev pub Travelling : Fixed → List ℕ → List ℤ → List ℤ → ℕ → Type 0
-Travelling f = Noised f (f .public) (f .secret) (f .noise)
+Travelling f a s e l = ((length a ≡ f .public) × (l ≡ f .secret)) × (Small (f .secret) (f .largest) s × Small (f .noise) (f .largest) e)
+
+known : (f : Fixed) {a : List ℕ} {s e : List ℤ} {l : ℕ} → Travelling f a s e l → Below (f .q) a → Noised f (f .public) (f .secret) (f .noise) a s e l
+known f h b = ((record { long = h .0 .0; below = b }, h .0 .1), h .1)
 
 abbrev pub Mixing : Fixed → List ℕ → List ℤ → List ℤ → ℕ → Type 0
 Mixing f = Noised f (f .secret) (f .mixed) (f .mixed)
@@ -61,6 +70,18 @@ pub record Told (X : Fixed → List ℕ → List ℤ → List ℤ → ℕ → Ty
 abbrev pub tell : {X : Fixed → List ℕ → List ℤ → List ℤ → ℕ → Type 0} (c : Scheme) (a : List ℕ) (s e : List ℤ) (l : ℕ) {f : Fixed} {F : Family}
     → f ≡ fixedOf c → F ≡ familyOf c → X (fixedOf c) a s e l → Told X
 tell c a s e l {f} {F} d i h = record { c = c; a = a; s = s; e = e; room = l; f = f; fixed = d; kind = F; family = i; given = h }
+
+-- ---- the place of the first number that is q or more
+
+pub none-over : {q at : ℕ} (xs : List ℕ) → 0 < q → at ≡ firstOver q xs → length xs ≤ at → Below q xs
+none-over {q} xs h e l = all-below q xs h (omega arith)
+
+over-none : (q : ℕ) (xs : List ℕ) → Below q xs → firstOver q xs ≡ length xs
+unfolding firstOver
+over-none q xs h = none-found (λ x. leb q x) 0 xs (λ k. lt-leb _ _ (h .below k))
+
+pub goes-by : {X : Type 0} {q at : ℕ} (xs : List ℕ) → at ≡ firstOver q xs → at < length xs → Below q xs → X
+goes-by {q = q} xs e l h = absurd (omega (arith, over-none q xs h))
 
 -- ---- what each family's products ask of f's counts and ranges
 
@@ -89,10 +110,10 @@ module _ {f : Fixed} {a : List ℕ} {s : List ℤ} {l m n : ℕ} (h : Bare f m n
         s-within = y .within;
       })
 
-  frodo-fit : (r : ℕ) → Frodo f → 0 < r → r ≤ 864 → m ≡ r * f .n → n ≡ 8 * r → matrix-fit.Fit (f .q) (f .n) r a s × (l ≡ 8 * r)
-  frodo-fit r k o u p t =
-      let x = counted p refl (h .0 .0) in
-      let y = small (k .secret) (k .small) (h .1) in (
+module _ {f : Fixed} {a : List ℕ} {s : List ℤ} {l m n : ℕ} (y : length a ≡ m) (z : l ≡ n) (h : Small (f .secret) (f .largest) s) where
+  frodo-shape : (r : ℕ) → Frodo f → 0 < r → r ≤ 864 → m ≡ r * f .n → n ≡ 8 * r → matrix-fit.Shape (f .q) (f .n) r a s × (l ≡ 8 * r)
+  frodo-shape r k o u p t =
+      let w = small (k .secret) (k .small) h in (
         record {
           some = k .q-some;
           room = k .q-room;
@@ -101,13 +122,34 @@ module _ {f : Fixed} {a : List ℕ} {s : List ℤ} {l m n : ℕ} (h : Bare f m n
           few = k .few;
           rows-many = o;
           rows-few = u;
-          xs-long = x .long;
-          s-long = y .long;
-          xs-below = x .below;
-          s-within = y .within;
+          xs-long = y ∙ p;
+          s-long = w .long;
+          s-within = w .within;
         },
-        h .0 .1 ∙ t,
+        z ∙ t,
       )
+
+-- of 8 rows of numbers below q
+frodo-fit : {f : Fixed} {a : List ℕ} {s : List ℤ} {l m n : ℕ} → Bare f m n a s l → Frodo f → m ≡ 8 * f .n → n ≡ 64
+    → matrix-fit.Fit (f .q) (f .n) 8 a s × (l ≡ 64)
+frodo-fit {a = a} {s = s} h k p t =
+    let x = frodo-shape {a = a} {s = s} (h .0 .0 .long) (h .0 .1) (h .1) 8 k (lit≤ tt) (lit≤ tt) p t in
+    let y = x .0 in (
+      record {
+        some = y .some;
+        room = y .room;
+        whole = y .whole;
+        many = y .many;
+        few = y .few;
+        rows-many = y .rows-many;
+        rows-few = y .rows-few;
+        xs-long = y .xs-long;
+        s-long = y .s-long;
+        xs-below = h .0 .0 .below;
+        s-within = y .s-within;
+      },
+      x .1,
+    )
 
 bcns-noise-fit : {f : Fixed} {a : List ℕ} {s e : List ℤ} {l m n k : ℕ} → Noised f m n k a s e l → Bcns f → m ≡ 1024 → n ≡ 1024 → k ≡ 1024
     → polynomial-fit.Fit (f .q) l a s × ((length e ≡ l) × Within 51 e)
@@ -115,14 +157,18 @@ bcns-noise-fit h b p r t = (bcns-fit (h .0, h .1 .0) b p r, noise (t ∙ sym (h 
 
 -- ---- in the arms
 
--- NewHope's numbers, secrets and room
-abbrev NewHopeAsks : List ℕ → List ℤ → ℕ → Type 0
-NewHopeAsks a s l = (length a ≡ 1024) × Below 12289 a × (length s ≡ 1024) × (l ≡ 1024)
-
-newhope-asks : {f : Fixed} {m n l : ℕ} {a : List ℕ} {s : List ℤ} → Bare f m n a s l → NewHope f → m ≡ 1024 → n ≡ 1024 → NewHopeAsks a s l
+newhope-asks : {f : Fixed} {m n l : ℕ} {a : List ℕ} {s : List ℤ} → Bare f m n a s l → NewHope f → m ≡ 1024 → n ≡ 1024 → NewHopeAsks a s l × Within 16 s
 newhope-asks h k p r =
     let x = counted p (k .q) (h .0 .0) in
-    (x .long, x .below, h .1 .long ∙ k .secret, h .0 .1 ∙ r)
+    let y : Small 1024 16 _ = small (k .secret) (omega arith) (h .1) in
+    ((x .long, x .below, y .long, h .0 .1 ∙ r), y .within)
+
+newhope-noise-asks : {f : Fixed} {a : List ℕ} {s e : List ℤ} {l m n k : ℕ} → Noised f m n k a s e l → NewHope f → m ≡ 1024 → n ≡ 1024 → k ≡ 1024
+    → NewHopeAsks a s l × ((length e ≡ 1024) × (Within 16 s × Within 16 e))
+newhope-noise-asks h b p r t =
+    let x = newhope-asks (h .0, h .1 .0) b p r in
+    let o = noise {B = 16} t (omega arith) (h .1 .1) in
+    (x .0, (o .0, (x .1, o .1)))
 
 -- as + e with the numbers of the code, and of the definitions
 module _ {X : Fixed → List ℕ → List ℤ → List ℤ → ℕ → Type 0} (t : Told X) where
@@ -135,13 +181,13 @@ module _ {X : Fixed → List ℕ → List ℤ → List ℤ → ℕ → Type 0} (
   newhope-words k = rw (k .q, k .n) refl
 
 module _ (F : Family) (t : Told Multiplying) (i : t .kind ≡ F) where
-  pub multiply-asks : Each F (polynomial-fit.Fit (t .f .q) (t .room) (t .a) (t .s)) (NewHopeAsks (t .a) (t .s) (t .room))
+  pub multiply-asks : Each F (polynomial-fit.Fit (t .f .q) (t .room) (t .a) (t .s)) (NewHopeAsks (t .a) (t .s) (t .room) × Within 16 (t .s))
       (matrix-fit.Fit (t .f .q) (t .f .n) 8 (t .a) (t .s) × (t .room ≡ 64))
   multiply-asks =
       arm-asks F (t .c) (sym (t .family) ∙ i)
       (λ k. rw (t .fixed) (bcns-fit (t .given) k (k .secret) (k .mixed)))
       (λ k. newhope-asks (t .given) k (k .secret) (k .mixed))
-      (λ k. rw (t .fixed) (frodo-fit (t .given) 8 k (lit≤ tt) (lit≤ tt) (k .secret) (k .mixed)))
+      (λ k. rw (t .fixed) (frodo-fit (t .given) k (k .secret) (k .mixed)))
 
   pub multiply-made : {out : List ℕ}
       → out
@@ -156,16 +202,19 @@ module _ (F : Family) (t : Told Multiplying) (i : t .kind ≡ F) where
       (λ k. rw (t .fixed) refl)
 
 module _ (F : Family) (t : Told Travelling) (i : t .kind ≡ F) where
+  some : 0 < t .f .q
+  some = rw (t .fixed) (omega (arith, sound (t .c) .some))
+
   pub travel-asks : Each F
-      (polynomial-fit.Fit (t .f .q) (t .room) (t .a) (t .s) × ((length (t .e) ≡ t .room) × Within 51 (t .e)))
-      (NewHopeAsks (t .a) (t .s) (t .room) × (length (t .e) ≡ 1024))
-      ((matrix-fit.Fit (t .f .q) (t .f .n) (t .f .n) (t .a) (t .s) × (t .room ≡ 8 * t .f .n)) × ((length (t .e) ≡ 8 * t .f .n) × Within 6 (t .e)))
+      ((0 < t .f .q) × (Below (t .f .q) (t .a) → polynomial-fit.Fit (t .f .q) (t .room) (t .a) (t .s) × ((length (t .e) ≡ t .room) × Within 51 (t .e))))
+      ((0 < t .f .q) × (Below (t .f .q) (t .a) → NewHopeAsks (t .a) (t .s) (t .room) × ((length (t .e) ≡ 1024) × (Within 16 (t .s) × Within 16 (t .e)))))
+      ((matrix-fit.Shape (t .f .q) (t .f .n) (t .f .n) (t .a) (t .s) × (t .room ≡ 8 * t .f .n)) × ((length (t .e) ≡ 8 * t .f .n) × Within 6 (t .e)))
   travel-asks =
       let h = t .given in
       arm-asks F (t .c) (sym (t .family) ∙ i)
-      (λ k. rw (t .fixed) (bcns-noise-fit h k (k .public) (k .secret) (k .noise)))
-      (λ k. (newhope-asks (h .0, h .1 .0) k (k .public) (k .secret), h .1 .1 .long ∙ k .noise))
-      (λ k. rw (t .fixed) (frodo-fit (h .0, h .1 .0) _ k (k .some) (k .few) (k .public) (k .secret), noise (k .noise) (k .small) (h .1 .1)))
+      (λ k. (some, λ b. rw (t .fixed) (bcns-noise-fit (known (fixedOf (t .c)) h (rw (t .fixed) at b)) k (k .public) (k .secret) (k .noise))))
+      (λ k. (some, λ b. newhope-noise-asks (known (fixedOf (t .c)) h (rw (t .fixed) at b)) k (k .public) (k .secret) (k .noise)))
+      (λ k. rw (t .fixed) (frodo-shape (h .0 .0) (h .0 .1) (h .1 .0) _ k (k .some) (k .few) (k .public) (k .secret), noise (k .noise) (k .small) (h .1 .1)))
 
   -- as the code has it in BCNS and NewHope, and as the definitions have it; z and z' in Frodo
   abbrev Run : List ℕ → List ℕ
@@ -182,27 +231,39 @@ module _ (F : Family) (t : Told Travelling) (i : t .kind ≡ F) where
       (λ k. ap transformed (newhope-words t k))
       (λ k. o)
 
-  pub offer-made : {out : List ℕ} → out ≡ Run (matrix.rightMixed (t .f .q) (t .f .n) (t .f .n) 8 (t .a) (t .s) (t .e))
-      → out ≡ offered (t .c) (t .a) (t .s) (t .e)
-  unfolding offered
-  offer-made p = travel-made p (rw (t .fixed) refl)
+  -- public numbers are below the code's q where they are below the scheme's
+  pub publics-below : Below (fixedOf (t .c) .q) (t .a) → Below (t .f .q) (t .a)
+  publics-below h = rw (t .fixed) h
 
-  pub reply-made : {out : List ℕ} → out ≡ Run (matrix.leftMixed (t .f .q) (t .f .n) (t .f .n) 8 (t .s) (t .a) (t .e))
-      → out ≡ replied (t .c) (t .a) (t .s) (t .e)
+  -- the place, and what is made where there is none, of the code's q and the scheme's
+  abbrev Found : ℕ → ℕ → List ℕ → List ℕ → Type 0
+  Found q at out z = (at ≡ firstOver q (t .a)) × (Below q (t .a) → out ≡ z)
+
+  pub offer-made : {at : ℕ} {out : List ℕ} → Found (t .f .q) at out (Run (matrix.rightMixed (t .f .q) (t .f .n) (t .f .n) 8 (t .a) (t .s) (t .e)))
+      → Found (fixedOf (t .c) .q) at out (offered (t .c) (t .a) (t .s) (t .e))
+  unfolding offered
+  offer-made p = (rw (t .fixed) at (p .0), λ h. travel-made (p .1 (publics-below h)) (rw (t .fixed) refl))
+
+  pub reply-made : {at : ℕ} {out : List ℕ} → Found (t .f .q) at out (Run (matrix.leftMixed (t .f .q) (t .f .n) (t .f .n) 8 (t .s) (t .a) (t .e)))
+      → Found (fixedOf (t .c) .q) at out (replied (t .c) (t .a) (t .s) (t .e))
   unfolding replied
-  reply-made p = travel-made p (rw (t .fixed) refl)
+  reply-made p = (rw (t .fixed) at (p .0), λ h. travel-made (p .1 (publics-below h)) (rw (t .fixed) refl))
 
 module _ (F : Family) (t : Told Mixing) (i : t .kind ≡ F) where
   pub mix-asks : Each F
       (polynomial-fit.Fit (t .f .q) (t .room) (t .a) (t .s) × ((length (t .e) ≡ t .room) × Within 51 (t .e)))
-      (NewHopeAsks (t .a) (t .s) (t .room) × (length (t .e) ≡ 1024))
-      ((matrix-fit.Fit (t .f .q) (t .f .n) 8 (t .a) (t .s) × (t .room ≡ 64)) × ((length (t .e) ≡ 64) × Within 6 (t .e)))
+      (NewHopeAsks (t .a) (t .s) (t .room) × ((length (t .e) ≡ 1024) × (Within 16 (t .s) × Within 16 (t .e))))
+      ((matrix-fit.Shape (t .f .q) (t .f .n) 8 (t .a) (t .s) × (t .room ≡ 64)) × ((length (t .e) ≡ 64) × Within 6 (t .e)))
   mix-asks =
       let h = t .given in
       arm-asks F (t .c) (sym (t .family) ∙ i)
       (λ k. rw (t .fixed) (bcns-noise-fit h k (k .secret) (k .mixed) (k .mixed)))
-      (λ k. (newhope-asks (h .0, h .1 .0) k (k .secret) (k .mixed), h .1 .1 .long ∙ k .mixed))
-      (λ k. rw (t .fixed) (frodo-fit (h .0, h .1 .0) 8 k (lit≤ tt) (lit≤ tt) (k .secret) (k .mixed), noise (k .mixed) (k .small) (h .1 .1)))
+      (λ k. newhope-noise-asks h k (k .secret) (k .mixed) (k .mixed))
+      (λ k. rw (t .fixed) (frodo-shape (h .0 .0 .long) (h .0 .1) (h .1 .0) 8 k (lit≤ tt) (lit≤ tt) (k .secret) (k .mixed), noise (k .mixed) (k .small) (h .1 .1)))
+
+  -- the numbers that came are below the code's q
+  pub numbers-below : Below (t .f .q) (t .a)
+  numbers-below = rw (t .fixed) (t .given .0 .0 .below)
 
   pub mix-made : {out : List ℕ}
       → out

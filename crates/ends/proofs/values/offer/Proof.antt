@@ -6,13 +6,13 @@ use Rattle.ends.proofs.values.offer.Statement.{statement}
 use Rattle.ends.proofs.values.offer.Tie as tie
 
 abbrev told : tie.After-family → Told Travelling
-told m = let b : tie.Start = search needs in tell (b .args .scheme) _ _ _ _ (m .before .fixed .ensures) (m .family .ensures) (b .pre)
+told m = let b : tie.Start = search needs in tell (b .args .scheme) (b .args .a .now) _ _ _ (m .before .fixed .ensures) (m .family .ensures) (b .pre)
 
 pub offer-spec : {M : Type 1} → statement M
 offer-spec =
     tie.close (tie.spec (search needs) (search needs) (search needs) (λ c κs. travel-asks Bcns (told (search needs)) (search needs))
     (search needs) (λ c κs. travel-asks NewHope (told (search needs)) (search needs))
     (search needs) (λ c κs. travel-asks Frodo (told (search needs)) (search needs))
-    (search needs) (λ c. offer-made Bcns (told (search needs)) (search needs) (c .before .before .mix .ensures))
-    (search needs) (λ c. offer-made NewHope (told (search needs)) (search needs) (c .before .before .mix2 .ensures))
+    (search needs) (λ c. offer-made Bcns (told (search needs)) (search needs) (c .before .before .mix-bcns .ensures))
+    (search needs) (λ c. offer-made NewHope (told (search needs)) (search needs) (c .before .before .mix-newhope .ensures))
     (search needs) (λ c. offer-made Frodo (told (search needs)) (search needs) (c .before .before .mix-right .ensures)))
