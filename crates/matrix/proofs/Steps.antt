@@ -2,7 +2,7 @@
 --   words-length, words-at     secrets or noise as words: how many, and an entry
 --   gained-length, gained-at, gained-none   a list of sums: its length, its entries, and with no product yet
 --   wrapped, gain-next, gained-next, gained-more   a sum that wrapped before it gained; one product more for a sum; for each; n more
---   on-copy                    what is made of a copy
+--   on-copy, known             what is made of a copy; the products of a row whose length is known
 --   reduced-gained, steps-are, row-are  from the noise to the remainders, by place; in three steps; of a row
 --   mixed                      they are those of the whole sums, by row and column
 use mathlib.Core.Path.{_≡_, _∙_, sym, ap}
@@ -76,6 +76,10 @@ gained-more m t n f ws e d =
 -- of y, made of b, which holds the same
 pub on-copy : (f : List ℕ → List ℕ) {b y o : List ℕ} → b ≡ y → o ≡ f b → o ≡ f y
 on-copy f e d = d ∙ ap f e
+
+-- of n numbers, where n is known to be k
+pub known : (m : ℕ) {n k : ℕ} (row cols ws : List ℕ) {o : List ℕ} → n ≡ k → o ≡ gained m k (dotTerm k row cols) ws → o ≡ gained m n (dotTerm n row cols) ws
+known m row cols ws e d = d ∙ ap (λ (j : ℕ). gained m j (dotTerm j row cols) ws) (sym e)
 
 -- ---- from the noise e to the remainders
 
