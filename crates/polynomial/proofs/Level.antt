@@ -1,12 +1,16 @@
 -- The sums of a window and secrets in the code: by the plain rule, from halves of 16 bits, and from three times half as many.
 --   slide-size              the sums of halves and secrets fit 32 bits
---   laid-high, laid-low     the halves are what the dot products ask
---   dot-pair, dot-part      what one of them asks, and what it is
+--   dot-pair, dot-part      what a dot product asks, and what it is
+--   halving-*               the halves, laid one after the other
+--   laid-high, laid-low     they are what the dot products ask
 --   sums-small, leaf-made   the sums of both halves, their size, and what they are put together
 --   made-ext                the sums of numbers that are congruent, and of the same secrets
+--   raise-fits, raise-next  numbers added to others, where they stand
 --   raised-small, joined    what is added to both halves
 --   three-small, level-made both halves of the sums from three products, and that they fit
 --   low-*, high-*, middle-* what these three are lent, and what they make
+--   few-size                where there are many secrets, none is large
+--   ready-at, made-at       by another count
 use mathlib.Core.Path.{_≡_, refl, _∙_, sym, ap, ap₂, subst}
 use mathlib.Core.List.{List}
 use Prim.Native.Nat.{ℕ, _+_, _-_, _*_, _^_, _<_, _≤_}
@@ -15,6 +19,8 @@ use native.Mathlib.Decide.{decLt}
 use native.Mathlib.Nat.{mul-le-mul, le-refl}
 use lib.ListN.{length, getD, set, take, drop, length-set}
 use lib.Seq.{getD-take, getD-drop, getD-set-same, getD-set-other}
+use mir.Syntax.{Width}
+use mir.Val.{SFits, toZ, ofZ, hbits}
 use lib.IntN.{ℤ, pos, natAbs, _+ℤ_, _-ℤ_, _*ℤ_}
 use borrow.Author.Count.{below-more}
 use Rattle.numbers.specs.Residue.{residue, _≅⟨_⟩_}
@@ -28,7 +34,8 @@ use Rattle.polynomial.specs.Window.{lift, upper, lower, dot, span, slide
 use Rattle.polynomial.specs.Steps.{Stored, Few, Ready, Laid, Halved, Made, Joined}
 use Rattle.polynomial.proofs.Halves.{upper-small, lower-small, lift-lt, halves-≅}
 use Rattle.polynomial.proofs.Three.{slide-≅, three-low, three-high, few-low, few-high, few-middle, few-ext}
-use Rattle.polynomial.proofs.Stores.{front-at, ints-is, part-entry, take-within}
+use Rattle.polynomial.proofs.Kernel.{plus-fits, plus-read}
+use Rattle.polynomial.proofs.Stores.{store-next, not-yet, front-at, ints-is, part-entry, take-within}
 
 -- (x s) c + y s = (x c + y) s
 regroup : (x y s c : ℤ) → (x *ℤ s) *ℤ c +ℤ y *ℤ s ≡ (x *ℤ c +ℤ y) *ℤ s
@@ -114,8 +121,8 @@ module _ {q n : ℕ} {d : List ℕ} {t : List ℤ} where
   halving-all o e = record { long = o .long; secrets = o .secrets; high = λ i p. o .high i (omega arith); low = λ i p. o .low i (omega arith) }
 
 module _ {q n : ℕ} {d : List ℕ} {t t′ : List ℤ} (r : Ready q n d t) (h : Halved q n d t t′) (long : 5 * n ≤ length t) where
-  few′ : Few n (ints t′)
-  few′ = few-ext (r .secrets) (h .secrets)
+  secrets′ : Few n (ints t′)
+  secrets′ = few-ext (r .secrets) (h .secrets)
 
   high-small : (i : ℕ) → i < n + n → natAbs (ints t′ (n + i)) ≤ 32768
   high-small i p = rw (h .high i p) (upper-small _ (lift-lt q _ (r .below i p) (r .modulus)))
@@ -124,10 +131,10 @@ module _ {q n : ℕ} {d : List ℕ} {t t′ : List ℤ} (r : Ready q n d t) (h :
   low-small i p = rw (h .low i p) (lower-small _)
 
   pub laid-high : Laid n n t′
-  laid-high = record { long = omega (arith, h .long); front = omega (arith, h .long); halves = high-small; secrets = few′ }
+  laid-high = record { long = omega (arith, h .long); front = omega (arith, h .long); halves = high-small; secrets = secrets′ }
 
   pub laid-low : Laid (3 * n) n t′
-  laid-low = record { long = omega (arith, h .long); front = omega (arith, h .long); halves = low-small; secrets = few′ }
+  laid-low = record { long = omega (arith, h .long); front = omega (arith, h .long); halves = low-small; secrets = secrets′ }
 
   -- the sums of both halves with the secrets
   abbrev highs : ℕ → ℤ
@@ -146,10 +153,10 @@ module _ {q n : ℕ} {d : List ℕ} {t t′ : List ℤ} (r : Ready q n d t) (h :
     low-at k p = s₂ .inside k p
 
     highs-small : (k : ℕ) → k < n → natAbs (ints o₂ k) ≤ 1711276032
-    highs-small k p = rw (high-at k p) (slide-size n _ _ k p high-small few′)
+    highs-small k p = rw (high-at k p) (slide-size n _ _ k p high-small secrets′)
 
     lows-small : (k : ℕ) → k < n → natAbs (ints o₂ (n + k)) ≤ 1711276032
-    lows-small k p = rw (low-at k p) (slide-size n _ _ k p low-small few′)
+    lows-small k p = rw (low-at k p) (slide-size n _ _ k p low-small secrets′)
 
     pub sums-small : (k : ℕ) → k < n + n → natAbs (ints o₂ k) ≤ 2 ^ 31
     sums-small k p = go (decLt k n)
@@ -187,6 +194,28 @@ module _ {q n : ℕ} {d : List ℕ} {t t′ : List ℤ} (r : Ready q n d t) (h :
         small k p =
             rw (put-at k p)
             (omega (arith, abs-add (ints o₂ k *ℤ pos 65536) (ints o₂ (n + k)), abs-mul (ints o₂ k) (pos 65536), highs-small k p, lows-small k p))
+
+-- ---- numbers added to others in front of them
+
+module _ (W : Width) {o o′ : List ℤ} {to x k : ℕ} (old : Stored (pos 0) o to k (λ j. ints o (to + j) +ℤ ints o (x + j)) o′) (ahead : to + k ≤ x)
+    (fx : SFits W (getD o′ (to + k) (pos 0))) (fy : SFits W (getD o′ (x + k) (pos 0))) (few : natAbs (ints o (to + k)) + natAbs (ints o (x + k)) < 2 ^ hbits W) where
+  to-is : getD o′ (to + k) (pos 0) ≡ ints o (to + k)
+  to-is = not-yet old ∙ sym (ints-is o (to + k))
+
+  from-is : getD o′ (x + k) (pos 0) ≡ ints o (x + k)
+  from-is = old .above (x + k) (omega arith) ∙ sym (ints-is o (x + k))
+
+  few′ : natAbs (getD o′ (to + k) (pos 0)) + natAbs (getD o′ (x + k) (pos 0)) < 2 ^ hbits W
+  few′ = rw (to-is, from-is) few
+
+  pub raise-fits : SFits W (toZ W (ofZ W (getD o′ (to + k) (pos 0))) +ℤ toZ W (ofZ W (getD o′ (x + k) (pos 0))))
+  raise-fits = plus-fits W _ _ fx fy few′
+
+  pub raise-next :
+      to + k < length o →
+      Stored (pos 0) o to (k + 1) (λ j. ints o (to + j) +ℤ ints o (x + j))
+      (set o′ (to + k) (toZ W (ofZ W (toZ W (ofZ W (getD o′ (to + k) (pos 0))) +ℤ toZ W (ofZ W (getD o′ (x + k) (pos 0)))))))
+  raise-next l = store-next old l (plus-read W _ _ fx fy few′ ∙ ap₂ (λ (y z : ℤ). y +ℤ z) to-is from-is)
 
 -- ---- three products
 
@@ -301,7 +330,7 @@ module _ {q : ℕ} (m : ℕ) {d₀ : List ℕ} {t₀ : List ℤ} (r : Ready q (m
 
   -- the upper half: differences of W2 and W1, and s1, behind the sums of s0 and s1
   module _ {d₂ d₃ : List ℕ} {t₂ t₃ : List ℤ} (same : (i : ℕ) → i < (m + m + (m + m)) → getD d₂ i 0 ≡ getD d₀ i 0) (same-t : (j : ℕ) → j < (m + m) → getD t₂ j (pos 0) ≡ getD t₀ j (pos 0))
-      (s : Stored 0 d₂ (m + m + (m + m)) (m + m) (λ k. residue q (nums d₂ (m + m + k) -ℤ nums d₂ (m + k))) d₃) (a : Stored (pos 0) t₂ 0 m (λ j. ints t₂ j +ℤ ints t₂ (m + j)) t₃) where
+      (s : Stored 0 d₂ (m + m + (m + m)) (m + m) (λ k. residue q (nums d₂ (m + m + k) -ℤ nums d₂ (m + k))) d₃) (a : Stored (pos 0) t₂ 0 m (λ j. ints t₂ (0 + j) +ℤ ints t₂ (m + j)) t₃) where
     same-n : (i : ℕ) → i < (m + m + (m + m)) → nums d₂ i ≡ nums d₀ i
     unfolding nums
     same-n i p = ap pos (same i p)
@@ -332,7 +361,11 @@ module _ {q : ℕ} (m : ℕ) {d₀ : List ℕ} {t₀ : List ℤ} (r : Ready q (m
 
       middle-secret : (j : ℕ) → j < m → ints t₄ j ≡ ints t₀ j +ℤ ints t₀ (m + j)
       middle-secret j p =
-          ints-is t₄ j ∙ kept-t j p ∙ front-at a j p ∙ ap₂ (λ (u v : ℤ). u +ℤ v) (same-s j (omega arith)) (same-s (m + j) (omega arith))
+          let e : 0 + j ≡ j = omega arith in
+          ints-is t₄ j
+          ∙ kept-t j p
+          ∙ front-at a j p
+          ∙ ap₂ (λ (u v : ℤ). u +ℤ v) (ap (ints t₂) e ∙ same-s j (omega arith)) (same-s (m + j) (omega arith))
 
       pub middle-ready : Ready q m (part d₄ m) t₄
       middle-ready =

@@ -1,7 +1,7 @@
 -- The sums of a window of 4 m numbers with 2 m secrets from three times m sums. Once over m, on the definitions alone.
---   slide-≅, slide-ext      of numbers that are congruent, or the same
+--   slide-≅                 the sums of numbers that are congruent, and of the same secrets
 --   three-low, three-high   the middle window times both halves of the secrets added, and a difference of two windows times one half
---   few-low, few-high, few-middle   the sizes keep their bound: half as many products of secrets twice as large
+--   few-low, few-high, few-middle, few-ext   the sizes keep their bound: half as many products of secrets twice as large
 use mathlib.Core.Path.{_≡_, _∙_, sym, ap, ap₂}
 use Prim.Native.Nat.{ℕ, _+_, _*_, _<_}
 use native.Mathlib.Omega.{arith}

@@ -233,20 +233,21 @@ fn copy(t: &mut [i16], to: usize, n: usize)
     }
 }
 
-// The next n secrets, added to the first n.
-fn add(t: &mut [i16], n: usize)
-    requires { ⌜ (n + n ≤ length (now t)) × ((j : ℕ) → j < n + n → natAbs (ints (now t) j) ≤ 16383) ⌝ }
-    ensures { λ _. ⌜ Stored (pos 0) (was t) 0 n (λ (j : ℕ). ints (was t) j +ℤ ints (was t) (n + j)) (left t) ⌝ }
+// The n secrets at x, added to those at `to`.
+fn add(t: &mut [i16], to: usize, x: usize, n: usize)
+    requires { ⌜ (to + n ≤ x) × (x + n ≤ length (now t)) × ((k : ℕ) → k < x + n → natAbs (ints (now t) k) ≤ 16383) ⌝ }
+    ensures { λ _. ⌜ Stored (pos 0) (was t) to n (λ (k : ℕ). ints (was t) (to + k) +ℤ ints (was t) (x + k)) (left t) ⌝ }
 {
-    let mut i: usize = 0;
-    while i < n {
-        let c = n + i;
-        t[i] = t[i] + t[c];
-        i += 1;
+    let mut k: usize = 0;
+    while k < n {
+        let b = x + k;
+        let c = to + k;
+        t[c] = t[c] + t[b];
+        k += 1;
     }
 }
 
-// The n sums at x, added to those at `to`.
+// The same of sums.
 fn raise(o: &mut [i64], to: usize, x: usize, n: usize)
     requires { ⌜ (to + n ≤ x) × (x + n ≤ length (now o)) × ((k : ℕ) → k < x + n → natAbs (ints (now o) k) ≤ 2 ^ 61) ⌝ }
     ensures { λ _. ⌜ Stored (pos 0) (was o) to n (λ (k : ℕ). ints (was o) (to + k) +ℤ ints (was o) (x + k)) (left o) ⌝ }
@@ -291,7 +292,7 @@ fn windows(q: u32, d: &mut [u32], t: &mut [i16], o: &mut [i64], n: usize)
     copy(t, two, m);
     windows(q, &mut d[four..], &mut t[two..], o, m);
     subtract(q, d, two, m, four, two);
-    add(t, m);
+    add(t, 0, m, m);
     windows(q, &mut d[four..], &mut t[m..], &mut o[m..], m);
     windows(q, &mut d[m..], t, &mut o[two..], m);
     join(o, m);

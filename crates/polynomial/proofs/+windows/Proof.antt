@@ -454,7 +454,7 @@ module _ (t : ℕ) where
   add-requires c κs = let c₄ = c .before .before .before in
       let c₃ = at₄ c₄ in
       let u = even₃ c₃ in
-      (omega (arith, t-long₂ c₃), λ j p. secrets-small u (t₂ c₃) (t-same₂ c₃) j p)
+      (omega arith, omega (arith, t-long₂ c₃), λ j p. secrets-small u (t₂ c₃) (t-same₂ c₃) j p)
 
   mul-windows-3 : lts.Need-mul-windows-3 (known t) (windows-at t) windows.Post
   mul-windows-3 c = let c₀ = c .before in omega (arith, d-long₃ (at₅ c₀), few (even₅ c₀))

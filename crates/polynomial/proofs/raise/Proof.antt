@@ -1,15 +1,13 @@
 -- `polynomial::raise` meets its contract.
-use mathlib.Core.Path.{_≡_, _∙_, ap₂}
 use Prim.Native.Nat.{_+_, _-_, _^_, _≤_, _<_}
 use native.Mathlib.Omega.{arith}
-use lib.ListN.{getD}
-use lib.IntN.{ℤ, pos, natAbs, _+ℤ_}
+use lib.IntN.{pos, natAbs, _+ℤ_}
 use mir.Syntax.{w64}
 use borrow.Author.Needs.{needs}
 use Rattle.lists.specs.Entries.{ints}
 use Rattle.polynomial.specs.Steps.{Stored}
-use Rattle.polynomial.proofs.Kernel.{plus-fits, plus-read}
-use Rattle.polynomial.proofs.Stores.{store-none, store-next, not-yet, stored-all}
+use Rattle.polynomial.proofs.Stores.{store-none, stored-all}
+use Rattle.polynomial.proofs.Level.{raise-fits, raise-next}
 use Rattle.polynomial.proofs.raise.Statement.{statement}
 use Rattle.polynomial.proofs.raise.Tie as tie
 
@@ -22,36 +20,25 @@ abbrev μ-loop : tie.MeasureT-loop
 loop-holds : tie.Need-loop-holds Inv-loop μ-loop
 loop-holds c = (omega arith, store-none _ _ _)
 
--- the two sums are as they were
-old : (c : tie.After-o2 Inv-loop μ-loop)
-    → let l = c .before .before .before in
-    let s = l .before in
-    (getD (l .loop .o) (s .args .to + l .loop .k) (pos 0) ≡ ints (s .args .o .now) (s .args .to + l .loop .k))
-    × (getD (l .loop .o) (s .args .x + l .loop .k) (pos 0) ≡ ints (s .args .o .now) (s .args .x + l .loop .k))
-unfolding ints
-old c = let l = c .before .before .before in (not-yet (l .loop .inv .1), l .loop .inv .1 .above _ (omega arith))
-
 few : (c : tie.After-o2 Inv-loop μ-loop)
     → let l = c .before .before .before in
-    natAbs (getD (l .loop .o) (l .before .args .to + l .loop .k) (pos 0)) + natAbs (getD (l .loop .o) (l .before .args .x + l .loop .k) (pos 0)) < 2 ^ 63
+    let a = l .before .args in
+    natAbs (ints (a .o .now) (a .to + l .loop .k)) + natAbs (ints (a .o .now) (a .x + l .loop .k)) < 2 ^ 63
 few c =
     let l = c .before .before .before in
     let s = l .before in
-    rw (old c .0, old c .1) (omega (arith, s .pre .2 (s .args .to + l .loop .k) (omega arith), s .pre .2 (s .args .x + l .loop .k) (omega arith)))
+    omega (arith, s .pre .2 (s .args .to + l .loop .k) (omega arith), s .pre .2 (s .args .x + l .loop .k) (omega arith))
 
 add-o : tie.Need-add-o Inv-loop μ-loop
-add-o c = let s : tie.Start Inv-loop μ-loop = search needs in
-    let l : tie.At-loop Inv-loop μ-loop = search needs in
-    plus-fits w64 (getD (l .loop .o) (s .args .to + l .loop .k) (pos 0)) (getD (l .loop .o) (s .args .x + l .loop .k) (pos 0)) (record { sfits = c .before .o .given }) (record { sfits = c .o2 .given }) (few c)
+add-o c =
+    let l = c .before .before .before in
+    raise-fits w64 (l .loop .inv .1) (omega arith) (record { sfits = c .before .o .given }) (record { sfits = c .o2 .given }) (few c)
 
 loop-again : tie.Need-loop-again Inv-loop μ-loop
-loop-again c = let s : tie.Start Inv-loop μ-loop = search needs in
-    let l : tie.At-loop Inv-loop μ-loop = search needs in
-    let o = l .loop .inv .1 in (
+loop-again c =
+    let l = c .before .before .before in (
       omega arith,
-      store-next o (omega arith)
-          (plus-read w64 (getD (l .loop .o) (s .args .to + l .loop .k) (pos 0)) (getD (l .loop .o) (s .args .x + l .loop .k) (pos 0)) (record { sfits = c .before .o .given }) (record { sfits = c .o2 .given }) (few c)
-          ∙ ap₂ (λ (y z : ℤ). y +ℤ z) (old c .0) (old c .1)),
+      raise-next w64 (l .loop .inv .1) (omega arith) (record { sfits = c .before .o .given }) (record { sfits = c .o2 .given }) (few c) (omega arith),
     )
 
 same-length : tie.Need-same-length Inv-loop μ-loop
