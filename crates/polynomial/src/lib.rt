@@ -270,6 +270,19 @@ fn join(o: &mut [i64], m: usize)
     raise(o, m, two, m);
 }
 
+// Half of a length that is even and above 64, else 0.
+fn half(n: usize) -> usize
+    ensures { λ r. ⌜ (0 < r → (n ≡ r + r) × (32 < r)) ⌝ }
+{
+    if n <= 64 {
+        return 0;
+    }
+    if n % 2 == 1 {
+        return 0;
+    }
+    n / 2
+}
+
 // The n sums of the window of 2 n numbers in front of d and the n secrets in front of t, in front of o. Each of the three products of half the length is lent what
 // lies behind its own numbers, and so the middle one comes last.
 fn windows(q: u32, d: &mut [u32], t: &mut [i16], o: &mut [i64], n: usize)
@@ -277,15 +290,11 @@ fn windows(q: u32, d: &mut [u32], t: &mut [i16], o: &mut [i64], n: usize)
     requires { ⌜ (4 * n ≤ length (now d)) × (5 * n ≤ length (now t)) × (n + n ≤ length (now o)) ⌝ }
     ensures { λ _. ⌜ Made q n (nums (was d)) (ints (was t)) (left o) ⌝ }
 {
-    if n <= 64 {
+    let m = half(n);
+    if m == 0 {
         leaf(q, d, t, o, n);
         return;
     }
-    if n % 2 == 1 {
-        leaf(q, d, t, o, n);
-        return;
-    }
-    let m = n / 2;
     let two = m + m;
     let four = two + two;
     subtract(q, d, 0, m, four, two);

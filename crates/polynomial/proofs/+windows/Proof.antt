@@ -1,7 +1,7 @@
 -- `polynomial::windows` meets its contract: the length falls at each call of itself.
 use mathlib.Core.Path.{_≡_, _∙_, sym}
 use mathlib.Core.List.{List}
-use Prim.Native.Nat.{ℕ, _+_, _*_, _-_, _/_, _<_, _≤_}
+use Prim.Native.Nat.{ℕ, _+_, _*_, _-_, _<_, _≤_}
 use native.Mathlib.Omega.{arith}
 use lib.ListN.{length, getD}
 use lib.IntN.{ℤ, pos, natAbs, _+ℤ_, _-ℤ_}
@@ -18,6 +18,7 @@ use Rattle.polynomial.proofs.windows.Kinds as windows-kinds
 use Rattle.polynomial.proofs.+windows.Lts-windows as lts
 use Rattle.polynomial.proofs.add.Reads as add-reads
 use Rattle.polynomial.proofs.copy.Reads as copy-reads
+use Rattle.polynomial.proofs.half.Reads as half-reads
 use Rattle.polynomial.proofs.join.Reads as join-reads
 use Rattle.polynomial.proofs.leaf.Reads as leaf-reads
 use Rattle.polynomial.proofs.subtract.Reads as subtract-reads
@@ -36,6 +37,8 @@ windows-below t = and 3 windows-kinds.ps (falls 3 windows-kinds.ps _<_ μ-window
 -- what the calls ask and tell
 abbrev known : ℕ → lts.Claims
 known t = (
+  half-reads.Asked,
+  half-reads.Learnt,
   leaf-reads.Asked,
   leaf-reads.Learnt,
   subtract-reads.Asked,
@@ -55,7 +58,7 @@ module _ (t : ℕ) where
   Start = lts.Start (known t) (windows-at t) windows.Post
 
   abbrev Even : Type 0
-  Even = lts.Else2 (known t) (windows-at t) windows.Post
+  Even = lts.Else1 (known t) (windows-at t) windows.Post
 
   abbrev After₁ : Type 0
   After₁ = lts.After-subtract (known t) (windows-at t) windows.Post
@@ -87,7 +90,7 @@ module _ (t : ℕ) where
   start c = c .before .before .before
 
   abbrev m₀ : Even → ℕ
-  m₀ c = start c .args .n / 2
+  m₀ c = c .before .half .result
 
   abbrev d₀ : Even → List ℕ
   d₀ c = start c .args .d .now
@@ -99,10 +102,10 @@ module _ (t : ℕ) where
   o₀ c = start c .args .o .now
 
   even : (c : Even) → start c .args .n ≡ m₀ c + m₀ c
-  even c = omega (arith, c .if2 .left)
+  even c = c .before .half .ensures (omega arith) .0
 
   some : (c : Even) → 32 < m₀ c
-  some c = omega (arith, even c, c .before .if1 .left)
+  some c = c .before .half .ensures (omega arith) .1
 
   falling : (c : Even) → m₀ c < t
   falling c =
@@ -367,6 +370,9 @@ module _ (t : ℕ) where
 
   -- ---- the needs
 
+  half-requires : lts.Need-half-requires (known t) (windows-at t) windows.Post
+  half-requires c κs = search needs
+
   leaf-requires : lts.Need-leaf-requires (known t) (windows-at t) windows.Post
   leaf-requires c κs = search needs
 
@@ -381,21 +387,6 @@ module _ (t : ℕ) where
 
   returns : lts.Need-returns (known t) (windows-at t) windows.Post
   returns c = c .before .before .leaf .ensures
-
-  leaf-requires-2 : lts.Need-leaf-requires-2 (known t) (windows-at t) windows.Post
-  leaf-requires-2 c κs = search needs
-
-  same-length-4 : lts.Need-same-length-4 (known t) (windows-at t) windows.Post
-  same-length-4 c = search needs
-
-  same-length-5 : lts.Need-same-length-5 (known t) (windows-at t) windows.Post
-  same-length-5 c = search needs
-
-  same-length-6 : lts.Need-same-length-6 (known t) (windows-at t) windows.Post
-  same-length-6 c = search needs
-
-  returns-2 : lts.Need-returns-2 (known t) (windows-at t) windows.Post
-  returns-2 c = c .before .before .leaf2 .ensures
 
   add-two : lts.Need-add-two (known t) (windows-at t) windows.Post
   add-two c = omega (arith, few c)
@@ -548,43 +539,39 @@ module _ (t : ℕ) where
         three-small (nums (d₀ u)) (ints (t₀ u)) (o₃ c₇) (low c₇) (high c₇) (middle c₇) (low-at c₇) (high-at c₇) (middle-at c₇) (omega (arith, few u)),
       )
 
-  same-length-7 : lts.Need-same-length-7 (known t) (windows-at t) windows.Post
-  same-length-7 c = let c₇ = at₈ (c .before) in
+  same-length-4 : lts.Need-same-length-4 (known t) (windows-at t) windows.Post
+  same-length-4 c = let c₇ = at₈ (c .before) in
       let c₆ = at₇ c₇ in
       let c₄ = at₅ (at₆ c₆) in
       let c₃ = at₄ c₄ in
       put-long 0 (m₇ c₇) (d₄ c₆) (c₇ .windows3 .last .1 .0) (omega (arith, d-long₄ c₆)) (c₇ .windows3 .kept .1 .0 ∙ rest-long (m₇ c₇) (d₄ c₆))
       ∙ d-is₄ c₆ ∙ c₄ .subtract2 .ensures .long ∙ d-is₂ c₃ ∙ at₂ (at₃ c₃) .subtract .ensures .long
 
-  same-length-8 : lts.Need-same-length-8 (known t) (windows-at t) windows.Post
-  same-length-8 c = let c₇ = at₈ (c .before) in
+  same-length-5 : lts.Need-same-length-5 (known t) (windows-at t) windows.Post
+  same-length-5 c = let c₇ = at₈ (c .before) in
       let c₆ = at₇ c₇ in
       let c₃ = at₄ (at₅ (at₆ c₆)) in
       c₇ .windows3 .kept .1 .1 .0 ∙ t-is₄ c₆ ∙ at₆ c₆ .add .ensures .long ∙ t-is₂ c₃ ∙ at₃ c₃ .copy .ensures .long
 
-  same-length-9 : lts.Need-same-length-9 (known t) (windows-at t) windows.Post
-  same-length-9 c = let c₇ = at₈ (c .before) in
+  same-length-6 : lts.Need-same-length-6 (known t) (windows-at t) windows.Post
+  same-length-6 c = let c₇ = at₈ (c .before) in
       let c₆ = at₇ c₇ in
       let c₃ = at₄ (at₅ (at₆ c₆)) in
       c .before .join .kept .0 ∙ o-same₃ c₇ ∙ o-is₂ c₆ ∙ c₃ .windows .kept .1 .1 .1 .0
 
-  returns-3 : lts.Need-returns-3 (known t) (windows-at t) windows.Post
-  returns-3 c = let c₈ = c .before in made-at (sym (even (even₇ (at₈ c₈)))) (made c₈)
+  returns-2 : lts.Need-returns-2 (known t) (windows-at t) windows.Post
+  returns-2 c = let c₈ = c .before in made-at (sym (even (even₇ (at₈ c₈)))) (made c₈)
 
 pub +windows-spec : {M : Type 1} → statement M
 +windows-spec =
     close μ-windows λ t.
     lts.spec (known t) (windows-at t) windows.Post
+    (half-requires t)
     (leaf-requires t)
     (same-length t)
     (same-length-2 t)
     (same-length-3 t)
     (returns t)
-    (leaf-requires-2 t)
-    (same-length-4 t)
-    (same-length-5 t)
-    (same-length-6 t)
-    (returns-2 t)
     (add-two t)
     (add-four t)
     (subtract-requires t)
@@ -623,7 +610,7 @@ pub +windows-spec : {M : Type 1} → statement M
     (part-windows-end-7 t)
     (windows-requires-3 t)
     (join-requires t)
-    (same-length-7 t)
-    (same-length-8 t)
-    (same-length-9 t)
-    (returns-3 t)
+    (same-length-4 t)
+    (same-length-5 t)
+    (same-length-6 t)
+    (returns-2 t)
