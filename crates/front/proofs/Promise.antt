@@ -1,6 +1,7 @@
 -- The parts of a promise.
 --   told-passed, wrote-passed, gave-passed, used-passed   where nothing is refused
 --   told-failed, wrote-failed, gave-failed, used-failed   where a test has failed
+--   put-kept                                    where tests fail, whatever is made ahead of them, a part is left as it was
 --   wrote-kept                                  where a step has left a part as it was
 --   wrote-restored                              where a part was written before, and zeroed again
 --   wrote-front                                 what a call says that it wrote is its answer
@@ -19,7 +20,7 @@ use lib.ListN.{length, take, drop, replicate, take-append-drop}
 use lib.Seq.{take-append-seam}
 use Rattle.lists.specs.declared.Peak.{Peak}
 use Rattle.lists.proofs.Same.{restored}
-use Rattle.front.specs.Front.{numberOf, placeOf, countIn, held}
+use Rattle.front.specs.Front.{numberOf, placeOf, countIn, _then_, held}
 use Rattle.front.specs.declared.Refusal.{Refusal}
 use Rattle.front.specs.declared.Refusal.the-variants.{NoScheme, BadLength, Short, PublicOver, MessageOver, SecretBeyond, RanOut, Misfit, OutOfStage, OutOfTurn, NoRule, NewerFormat, NoStudio, Blank, NotAscending}
 use Rattle.front.specs.declared.Verdict.{Verdict}
@@ -80,6 +81,12 @@ module _ {v : Verdict} {r : Refusal} (e : v ≡ Fail r) where
 
   pub outcome-refused : (p : Peak) → outcome v p ≡ Outcome.Refused r
   outcome-refused p = rw e
+
+-- tests p ahead of some that fail
+pub put-kept : {A : Type 0} (p : Verdict) {r w : Verdict} {t : Refusal} (xs : List A) {old : List A} → r ≡ p then w → w ≡ Fail t → old ≡ put r xs old
+unfolding _then_
+put-kept Pass xs e f = rw (e, f)
+put-kept (Fail s) xs e f = rw e
 
 -- ---- one result
 
