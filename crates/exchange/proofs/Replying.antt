@@ -1,15 +1,14 @@
 -- Reply.
 --   message-length, key-length   message and key are as long as the scheme says
 --   message-taken, key-taken     those of the opening's own numbers are Reply's
---   Sized, reply-sized           what passed sizes say: the lengths, the public numbers, and room for message, key and digest
+--   Sized, rooms-sized, reply-sized   what passed sizes say: the lengths, and room for message, key and digest
 --   secrets-small                what the secrets' tests say
---   reply-sizes-failed, reply-rest-decides   its verdict by the test that decides
+--   reply-rooms-failed, reply-rest-decides   its verdict by the test that decides
 --   reply-unknown                its tests where the number names no scheme
 --   reply-refused                its promise after a refusal
 use mathlib.Core.Path.{_≡_, refl, _∙_, sym}
 use mathlib.Core.List.{List}
 use Prim.Native.Nat.{ℕ, _≤_}
-use native.Mathlib.Omega.{arith}
 use lib.IntN.{ℤ}
 use lib.ListN.{length, replicate}
 use Rattle.lists.specs.Entries.{Within}
@@ -17,21 +16,19 @@ use Rattle.schemes.specs.Schemes.{fixedOf}
 use Rattle.schemes.specs.declared.Named.{Named}
 use Rattle.schemes.specs.declared.Named.the-variants.{Is, Unknown}
 use Rattle.schemes.specs.declared.Scheme.{Scheme}
-use Rattle.schemes.proofs.Sound.{sound}
-use Rattle.front.specs.Front.{numberOf, placeOf}
+use Rattle.front.specs.Front.{numberOf, placeOf, _then_, publicsIn}
 use Rattle.front.specs.declared.Verdict.{Verdict}
 use Rattle.front.specs.declared.Verdict.the-variants.{Pass, Fail}
 use Rattle.front.specs.declared.Refusal.{Refusal}
 use Rattle.front.specs.declared.Refusal.the-variants.{NoScheme}
-use Rattle.front.proofs.Laws.{both, length-passed, room-passed, publics-passed, secrets-passed, failed, went-on}
+use Rattle.front.proofs.Laws.{both, length-passed, room-passed, secrets-passed, then-assoc, failed, went-on}
 use Rattle.front.proofs.Promise.{told-failed, wrote-failed}
-use Rattle.ends.specs.Fit.{Counted}
 use Rattle.ends.specs.Values.{replied, mixedValue}
 use Rattle.ends.proofs.Ranges.{replied-counted, mixed-counted}
 use Rattle.ends.proofs.Settling.{hints-counted, keys-counted}
 use Rattle.wire.specs.Wire.{coinsIn}
 use Rattle.wire.proofs.Travel.{key-long, reply-length}
-use Rattle.exchange.specs.Reply.{Reply, replyLengths, replySizes, openedOf, replySecrets, replyRest, replyTests, messageFrom, keyFrom, messageOf, keyOf, Replied}
+use Rattle.exchange.specs.Reply.{Reply, replyLengths, replyRooms, replySizes, openedOf, replySecrets, replyRest, replyTests, messageFrom, keyFrom, messageOf, keyOf, Replied}
 
 module _ (c : Scheme) (b : List ℕ) (s' e'' : List ℤ) (coins : List ℕ) where
   pub key-from-length : length (keyFrom c b s' e'' coins) ≡ fixedOf c .key
@@ -65,7 +62,7 @@ module _ (c : Scheme) (x : Reply) where
 
 pub record Sized (c : Scheme) (x : Reply) (n k d : ℕ) : Type 0 where
   pub opening-long : length (x .opening) ≡ fixedOf c .opening
-  pub public : Counted (fixedOf c .public) (fixedOf c .q) (x .a)
+  pub public-long : length (x .a) ≡ fixedOf c .public
   pub secret-long : length (x .s') ≡ fixedOf c .secret
   pub noise-long : length (x .e') ≡ fixedOf c .noise
   pub last-long : length (x .e'') ≡ fixedOf c .mixed
@@ -75,11 +72,10 @@ pub record Sized (c : Scheme) (x : Reply) (n k d : ℕ) : Type 0 where
   pub digest-roomy : 32 ≤ d
 
 module _ (c : Scheme) (x : Reply) where
-  pub reply-sized : (n k d : ℕ) → replySizes c x n k d ≡ Pass → Sized c x n k d
-  unfolding replySizes replyLengths
-  reply-sized n k d t =
-      let public = both _ _ t in
-      let digest = both _ _ (public .0) in
+  pub rooms-sized : (n k d : ℕ) → replyRooms c x n k d ≡ Pass → Sized c x n k d
+  unfolding replyLengths
+  rooms-sized n k d t =
+      let digest = both _ _ t in
       let key = both _ _ (digest .0) in
       let roomy = both _ _ (key .0) in
       let coins = both _ _ (roomy .0) in
@@ -89,7 +85,7 @@ module _ (c : Scheme) (x : Reply) where
       let first = both _ _ (secret .0) in
       record {
         opening-long = length-passed _ _ (first .0);
-        public = record { long = length-passed _ _ (first .1); below = publics-passed _ (x .a) (omega (arith, sound c .some)) (public .1) };
+        public-long = length-passed _ _ (first .1);
         secret-long = length-passed _ _ (secret .1);
         noise-long = length-passed _ _ (noise .1);
         last-long = length-passed _ _ (last .1);
@@ -99,13 +95,19 @@ module _ (c : Scheme) (x : Reply) where
         digest-roomy = room-passed _ _ (digest .1);
       }
 
-  pub reply-sizes-failed : (n k d : ℕ) {v : Verdict} {r : Refusal} → v ≡ replySizes c x n k d → v ≡ Fail r → replyTests (Is c) x n k d ≡ Fail r
-  unfolding replyTests
-  reply-sizes-failed n k d e f = failed _ e f
+  pub reply-sized : (n k d : ℕ) → replySizes c x n k d ≡ Pass → Sized c x n k d
+  unfolding replySizes
+  reply-sized n k d t = rooms-sized n k d (both _ _ t .0)
 
-  pub reply-rest-decides : (n k d : ℕ) {v : Verdict} → replySizes c x n k d ≡ Pass → v ≡ replyRest c x → replyTests (Is c) x n k d ≡ v
-  unfolding replyTests
-  reply-rest-decides n k d t e = went-on _ refl t ∙ sym e
+  pub reply-rooms-failed : (n k d : ℕ) {v : Verdict} {r : Refusal} → v ≡ replyRooms c x n k d → v ≡ Fail r → replyTests (Is c) x n k d ≡ Fail r
+  unfolding replyTests replySizes
+  reply-rooms-failed n k d e f = failed _ refl (failed _ e f)
+
+  -- the public numbers and what follows
+  pub reply-rest-decides : (n k d : ℕ) {v : Verdict} → replyRooms c x n k d ≡ Pass → v ≡ publicsIn (fixedOf c .q) (x .a) then replyRest c x
+      → replyTests (Is c) x n k d ≡ v
+  unfolding replyTests replySizes
+  reply-rest-decides n k d t e = then-assoc (replyRooms c x n k d) _ _ ∙ went-on _ refl t ∙ sym e
 
 pub secrets-small : (c : Scheme) (s' e' e'' : List ℤ) → replySecrets c s' e' e'' ≡ Pass
     → Within (fixedOf c .largest) s' × Within (fixedOf c .largest) e' × Within (fixedOf c .largest) e''

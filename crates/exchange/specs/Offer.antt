@@ -1,7 +1,7 @@
 -- What Offer promises: 01, "The calls", "Bytes on the wire" and "Refusal numbers and their order"; a blank part: 02, request l.
 --   Offer                    what it is lent: public a, secret s, noise e, seed
---   offerLengths c x, offerIn c x n, offerTests   its tests in 01's order, with room for n bytes: of lengths; of these, room and ranges; and all of them,
---                            by the scheme's number, the part about to be sent last
+--   offerLengths c x, offerRooms c x n, offerIn c x n, offerTests   its tests in 01's order, with room for n bytes: of lengths; of these and room; of these
+--                            and ranges; and all of them, by the scheme's number, the part about to be sent last
 --   offeredPart c x          b = as + e packed
 --   openingOf c x, offerMessage   the opening message: the seed and that part
 --   Offered                  its promise: what it tells, and what its output holds
@@ -37,10 +37,12 @@ offerLengths c x =
     lengthIs (length (x .a)) (fixedOf c .public) then lengthIs (length (x .s)) (fixedOf c .secret) then lengthIs (length (x .e)) (fixedOf c .noise)
     then lengthIs (length (x .seed)) (fixedOf c .seed)
 
+abbrev pub offerRooms : Scheme → Offer → ℕ → Verdict
+offerRooms c x n = offerLengths c x then roomFor n (fixedOf c .opening)
+
 unfoldable pub offerIn : Scheme → Offer → ℕ → Verdict
 offerIn c x n =
-    offerLengths c x
-    then roomFor n (fixedOf c .opening)
+    offerRooms c x n
     then publicsIn (fixedOf c .q) (x .a)
     then secretsIn (fixedOf c .largest) (x .s) then secretsIn (fixedOf c .largest) (x .e)
 

@@ -1,7 +1,8 @@
 -- What Reply promises: 01, "The calls", "Bytes on the wire" and "Refusal numbers and their order"; its digest and a blank part: 02, requests c and l.
 --   Reply                     what it is lent: opening message, public a, s', e', e'', coins
---   replyLengths c x, replySizes c x n k d, replyRest c x, replyTests   its tests in 01's order, with room for n bytes of message, k of key and d of
---                             digest: of lengths; of these, rooms and public numbers; of the opening and what follows; and all, by the scheme's number
+--   replyLengths c x, replyRooms c x n k d, replySizes c x n k d, replyRest c x, replyTests   its tests in 01's order, with room for n bytes of message,
+--                             k of key and d of digest: of lengths; of these and rooms; of these and public numbers; of the opening and what follows; and
+--                             all, by the scheme's number
 --   replySecrets, replyLast   the last of these: of the secrets; and of the part about to be sent
 --   openedOf c x              b, the numbers of the opening
 --   repliedPart               u = as' + e' packed
@@ -45,11 +46,11 @@ replyLengths c x =
     lengthIs (length (x .opening)) (fixedOf c .opening) then lengthIs (length (x .a)) (fixedOf c .public) then lengthIs (length (x .s')) (fixedOf c .secret)
     then lengthIs (length (x .e')) (fixedOf c .noise) then lengthIs (length (x .e'')) (fixedOf c .mixed) then lengthIs (length (x .coins)) (fixedOf c .coins)
 
+abbrev pub replyRooms : Scheme → Reply → ℕ → ℕ → ℕ → Verdict
+replyRooms c x n k d = replyLengths c x then roomFor n (fixedOf c .reply) then roomFor k (fixedOf c .key) then roomFor d 32
+
 unfoldable pub replySizes : Scheme → Reply → ℕ → ℕ → ℕ → Verdict
-replySizes c x n k d =
-    replyLengths c x
-    then roomFor n (fixedOf c .reply) then roomFor k (fixedOf c .key) then roomFor d 32
-    then publicsIn (fixedOf c .q) (x .a)
+replySizes c x n k d = replyRooms c x n k d then publicsIn (fixedOf c .q) (x .a)
 
 unfoldable pub openedOf : Scheme → Reply → List ℕ
 openedOf c x = numbersIn c (openedIn c (x .opening))

@@ -1,18 +1,39 @@
-// Offer, once the scheme is known and the output holds zeros: the tests in 01's order, then the opening's numbers, and, where they are not all 0, its bytes
-// into the part of the output that it takes.
+// Offer, once the scheme is known and the output holds zeros: the tests in 01's order, the last of them with the product, which reads the public numbers once;
+// then, where its numbers are not all 0, the opening's bytes into the part of the output that it takes.
 ghost use mathlib.Core.Path.{_≡_};
 ghost use lib.ListN.{length, replicate};
 ghost use Rattle.schemes.specs.Schemes.{fixedOf};
 ghost use Rattle.schemes.specs.declared.Named.the-variants.{Is};
-ghost use Rattle.front.specs.Front.{notBlank};
+ghost use Rattle.lists.specs.Lent.{was};
+ghost use Rattle.packing.specs.Packing.{packed};
+ghost use Rattle.front.specs.Front.{_then_, publicsIn, notBlank};
 ghost use Rattle.front.specs.declared.Verdict.the-variants.{Pass};
-ghost use Rattle.exchange.specs.Offer.{offerOf, offer, offerIn, offeredPart, openingOf, Offers};
-ghost use Rattle.exchange.specs.Inside.{Laid, Opens};
+ghost use Rattle.ends.specs.Fit.{Counted};
+ghost use Rattle.wire.specs.Wire.{opening};
+ghost use Rattle.exchange.specs.Offer.{offerOf, offer, offeredPart, openingOf, Offers};
+ghost use Rattle.exchange.specs.Inside.{Laid, offerAhead, Opens};
 use front::Answer;
 use front::Verdict;
 use schemes::Scheme;
 
-// The numbers of the opening into b, then its bytes. A blank part is refused before anything is written.
+// The opening's bytes, of its numbers b. A blank part is refused before anything is written.
+fn lay_numbers(scheme: Scheme, b: &[u32], seed: &[u8], out: &mut [u8]) -> Verdict
+    requires { ⌜ Counted (fixedOf scheme .secret) (fixedOf scheme .q) (now b) ⌝ }
+    requires { ⌜ (length (now seed) ≡ fixedOf scheme .seed) × (length (now out) ≡ fixedOf scheme .opening) ⌝ }
+    ensures { λ r. ⌜ r ≡ notBlank (packed (fixedOf scheme .width) (was b)) ⌝ }
+    ensures { λ r. ⌜ Laid r (opening scheme (was seed) (packed (fixedOf scheme .width) (was b))) out ⌝ }
+{
+    let v = front::not_blank(b);
+    match v {
+        Verdict::Fail(r) => Verdict::Fail(r),
+        Verdict::Pass => {
+            wire::lay_opening(scheme, b, seed, out);
+            Verdict::Pass
+        }
+    }
+}
+
+// The same of what is lent, with the test of the public numbers; the opening's numbers go into b.
 fn lay(
     scheme: Scheme,
     a: &[u32],
@@ -24,17 +45,14 @@ fn lay(
 ) -> Verdict
     requires { ⌜ Opens scheme (offerOf (now a) (now s) (now e) (now seed)) ⌝ }
     requires { ⌜ (length (now b) ≡ fixedOf scheme .secret) × (length (now out) ≡ fixedOf scheme .opening) ⌝ }
-    ensures { λ r. ⌜ r ≡ notBlank (offeredPart scheme (offer a s e seed)) ⌝ }
+    ensures { λ r. ⌜ r ≡ publicsIn (fixedOf scheme .q) (was a) then notBlank (offeredPart scheme (offer a s e seed)) ⌝ }
     ensures { λ r. ⌜ Laid r (openingOf scheme (offer a s e seed)) out ⌝ }
 {
-    ends::values::offer(scheme, a, s, e, b);
-    let v = front::not_blank(b);
+    let at = ends::values::offer(scheme, a, s, e, b);
+    let v = front::publics_at(at, a);
     match v {
         Verdict::Fail(r) => Verdict::Fail(r),
-        Verdict::Pass => {
-            wire::lay_opening(scheme, b, seed, out);
-            Verdict::Pass
-        }
+        Verdict::Pass => lay_numbers(scheme, b, seed, out),
     }
 }
 
@@ -50,16 +68,16 @@ fn write(
 ) -> Verdict
     requires { ⌜ Opens scheme (offerOf (now a) (now s) (now e) (now seed)) ⌝ }
     requires { ⌜ (n ≡ fixedOf scheme .secret) × (length (now out) ≡ fixedOf scheme .opening) ⌝ }
-    ensures { λ r. ⌜ r ≡ notBlank (offeredPart scheme (offer a s e seed)) ⌝ }
+    ensures { λ r. ⌜ r ≡ publicsIn (fixedOf scheme .q) (was a) then notBlank (offeredPart scheme (offer a s e seed)) ⌝ }
     ensures { λ r. ⌜ Laid r (openingOf scheme (offer a s e seed)) out ⌝ }
 {
     let mut b = [0u32; 6912];
     lay(scheme, a, s, e, seed, &mut b[..n], out)
 }
 
-// Where all tests of what is lent have passed.
+// Where all tests but that of the public numbers have passed.
 fn send(scheme: Scheme, a: &[u32], s: &[i32], e: &[i32], seed: &[u8], message: &mut [u8]) -> Answer
-    requires { ⌜ offerIn scheme (offerOf (now a) (now s) (now e) (now seed)) (length (now message)) ≡ Pass ⌝ }
+    requires { ⌜ offerAhead scheme (offerOf (now a) (now s) (now e) (now seed)) (length (now message)) ≡ Pass ⌝ }
     requires { ⌜ now message ≡ replicate (length (now message)) 0 ⌝ }
     ensures { λ r. ⌜ Offers (Is scheme) a s e seed message r ⌝ }
 {

@@ -1,5 +1,6 @@
-// Reply, once the scheme is known and all outputs hold zeros: lengths, rooms and public numbers, then the opening, then the secrets, in 01's order; then
-// the message's numbers, and, where they are not all 0, message and key into the parts of the outputs that they take, and the key's digest.
+// Reply, once the scheme is known and all outputs hold zeros: lengths and rooms, then the opening, then the secrets; then the message's numbers, with the test of
+// the public numbers, which the product reads once, and, where they are not all 0, message and key into the parts of the outputs that they take, and the key's
+// digest. In 01's order the public numbers come before the opening and the secrets: where one of these is refused, they are tested first.
 ghost use mathlib.Core.Path.{_≡_};
 ghost use mathlib.Core.List.{_++_};
 ghost use Prim.Native.Nat.{_^_};
@@ -8,14 +9,13 @@ ghost use Rattle.schemes.specs.Schemes.{fixedOf};
 ghost use Rattle.schemes.specs.declared.Named.the-variants.{Is};
 ghost use Rattle.lists.specs.Lent.{was, left, room};
 ghost use Rattle.packing.specs.Packing.{packed};
-ghost use Rattle.front.specs.Front.{notBlank};
+ghost use Rattle.front.specs.Front.{_then_, publicsIn, notBlank};
 ghost use Rattle.front.specs.declared.Verdict.the-variants.{Pass};
 ghost use Rattle.ends.specs.Fit.{Counted};
-ghost use Rattle.ends.specs.Values.{mixedValue};
 ghost use Rattle.ends.specs.Keys as settled;
 ghost use Rattle.wire.specs.Wire.{coinsIn};
-ghost use Rattle.exchange.specs.Reply.{replyOf, reply, replySizes, repliedPart, replyLast, replyRest, messageFrom, keyFrom, messageOf, keyOf, Replies};
-ghost use Rattle.exchange.specs.Inside.{Laid, Settles, Mixes, Replying};
+ghost use Rattle.exchange.specs.Reply.{replyOf, reply, replyRooms, repliedPart, replyLast, replyRest, messageFrom, keyFrom, messageOf, keyOf, Replies};
+ghost use Rattle.exchange.specs.Inside.{Laid, Rooms, messageBy, keyBy, Settles, Mixes, Replying};
 use crate::ReplyAnswer;
 use crate::ReplyCounts;
 use front::Verdict;
@@ -30,46 +30,32 @@ pub(crate) fn zero_outputs(message: &mut [u8], key: &mut [u8])
     lists::zero_bytes(key);
 }
 
-// The hints and the entries of the key, from the opening's numbers b; flips, as numbers of the coins, and v are room for what lies between.
+// The hints and the entries of the key, of v; flips, as numbers of the coins, is room for what lies between.
 fn settle(
     scheme: Scheme,
-    b: &[u32],
-    s1: &[i32],
-    e2: &[i32],
     coins: &[u8],
+    v: &[u32],
     flips: &mut [u32],
-    v: &mut [u32],
     hints: &mut [u32],
     entries: &mut [u32],
 )
-    requires { ⌜ Settles scheme (now b) (now s1) (now e2) (now coins) ⌝ }
-    requires { ⌜ (length (now flips) ≡ fixedOf scheme .groups) × (length (now v) ≡ fixedOf scheme .mixed) ⌝ }
-    requires { ⌜ (length (now hints) ≡ fixedOf scheme .mixed) × (length (now entries) ≡ fixedOf scheme .groups) ⌝ }
-    ensures { λ _. ⌜ left hints ≡ settled.hints scheme (coinsIn scheme (was coins)) (mixedValue scheme (was b) (was s1) (was e2)) ⌝ }
-    ensures { λ _. ⌜ left entries ≡ settled.keys scheme (coinsIn scheme (was coins)) (mixedValue scheme (was b) (was s1) (was e2)) ⌝ }
+    requires { ⌜ Counted (fixedOf scheme .mixed) (fixedOf scheme .q) (now v) × (length (now coins) ≡ fixedOf scheme .coins) ⌝ }
+    requires { ⌜ Rooms scheme (now flips) (now hints) (now entries) ⌝ }
+    ensures { λ _. ⌜ left hints ≡ settled.hints scheme (coinsIn scheme (was coins)) (was v) ⌝ }
+    ensures { λ _. ⌜ left entries ≡ settled.keys scheme (coinsIn scheme (was coins)) (was v) ⌝ }
 {
-    ends::values::mix(scheme, b, s1, e2, v);
     wire::take_coins(scheme, coins, flips);
     ends::settle::hints(scheme, flips, v, hints);
     ends::settle::keys(scheme, flips, hints, v, entries);
 }
 
-// The message's numbers into u, then its bytes. A blank part is refused before anything is written.
-fn lay_message(
-    scheme: Scheme,
-    a: &[u32],
-    s1: &[i32],
-    e1: &[i32],
-    hints: &[u32],
-    u: &mut [u32],
-    message: &mut [u8],
-) -> Verdict
-    requires { ⌜ Mixes scheme (now a) (now s1) (now e1) × Counted (fixedOf scheme .mixed) (2 ^ fixedOf scheme .hintbits) (now hints) ⌝ }
-    requires { ⌜ (length (now u) ≡ fixedOf scheme .secret) × (length (now message) ≡ fixedOf scheme .reply) ⌝ }
-    ensures { λ r. ⌜ r ≡ notBlank (repliedPart scheme (was a) (was s1) (was e1)) ⌝ }
-    ensures { λ r. ⌜ Laid r (repliedPart scheme (was a) (was s1) (was e1) ++ packed (fixedOf scheme .hintbits) (was hints)) message ⌝ }
+// The message's bytes, of its numbers u and the hints. A blank part is refused before anything is written.
+fn lay_message(scheme: Scheme, u: &[u32], hints: &[u32], message: &mut [u8]) -> Verdict
+    requires { ⌜ Counted (fixedOf scheme .secret) (fixedOf scheme .q) (now u) ⌝ }
+    requires { ⌜ Counted (fixedOf scheme .mixed) (2 ^ fixedOf scheme .hintbits) (now hints) × (length (now message) ≡ fixedOf scheme .reply) ⌝ }
+    ensures { λ r. ⌜ r ≡ notBlank (packed (fixedOf scheme .width) (was u)) ⌝ }
+    ensures { λ r. ⌜ Laid r (packed (fixedOf scheme .width) (was u) ++ packed (fixedOf scheme .hintbits) (was hints)) message ⌝ }
 {
-    ends::values::reply(scheme, a, s1, e1, u);
     let v = front::not_blank(u);
     match v {
         Verdict::Fail(r) => Verdict::Fail(r),
@@ -80,7 +66,37 @@ fn lay_message(
     }
 }
 
-// Message and key. The opening's numbers b, once they are read, give room for the message's; flips, v, hints and entries are room for what lies between.
+// Message and key, of u and v; flips, hints and entries are room for what lies between.
+fn lay_values(
+    scheme: Scheme,
+    u: &[u32],
+    v: &[u32],
+    coins: &[u8],
+    flips: &mut [u32],
+    hints: &mut [u32],
+    entries: &mut [u32],
+    message: &mut [u8],
+    key: &mut [u8],
+) -> Verdict
+    requires { ⌜ Counted (fixedOf scheme .secret) (fixedOf scheme .q) (now u) × Counted (fixedOf scheme .mixed) (fixedOf scheme .q) (now v) ⌝ }
+    requires { ⌜ (length (now coins) ≡ fixedOf scheme .coins) × Rooms scheme (now flips) (now hints) (now entries) ⌝ }
+    requires { ⌜ (length (now message) ≡ fixedOf scheme .reply) × (length (now key) ≡ fixedOf scheme .key) ⌝ }
+    ensures { λ r. ⌜ r ≡ notBlank (packed (fixedOf scheme .width) (was u)) ⌝ }
+    ensures { λ r. ⌜ Laid r (messageBy scheme (was u) (was v) (was coins)) message ⌝ }
+    ensures { λ r. ⌜ Laid r (keyBy scheme (was v) (was coins)) key ⌝ }
+{
+    settle(scheme, coins, v, flips, hints, entries);
+    let sent = lay_message(scheme, u, hints, message);
+    match sent {
+        Verdict::Fail(r) => Verdict::Fail(r),
+        Verdict::Pass => {
+            wire::lay_key(scheme, entries, key);
+            Verdict::Pass
+        }
+    }
+}
+
+// The same of what is lent, with the test of the public numbers. The opening's numbers b become the message's; v is room too.
 fn lay(
     scheme: Scheme,
     b: &mut [u32],
@@ -97,21 +113,17 @@ fn lay(
     key: &mut [u8],
 ) -> Verdict
     requires { ⌜ Settles scheme (now b) (now s1) (now e2) (now coins) × Mixes scheme (now a) (now s1) (now e1) ⌝ }
-    requires { ⌜ (length (now flips) ≡ fixedOf scheme .groups) × (length (now v) ≡ fixedOf scheme .mixed) ⌝ }
-    requires { ⌜ (length (now hints) ≡ fixedOf scheme .mixed) × (length (now entries) ≡ fixedOf scheme .groups) ⌝ }
+    requires { ⌜ (length (now v) ≡ fixedOf scheme .mixed) × Rooms scheme (now flips) (now hints) (now entries) ⌝ }
     requires { ⌜ (length (now message) ≡ fixedOf scheme .reply) × (length (now key) ≡ fixedOf scheme .key) ⌝ }
-    ensures { λ r. ⌜ r ≡ notBlank (repliedPart scheme (was a) (was s1) (was e1)) ⌝ }
+    ensures { λ r. ⌜ r ≡ publicsIn (fixedOf scheme .q) (was a) then notBlank (repliedPart scheme (was a) (was s1) (was e1)) ⌝ }
     ensures { λ r. ⌜ Laid r (messageFrom scheme (was b) (was a) (was s1) (was e1) (was e2) (was coins)) message ⌝ }
     ensures { λ r. ⌜ Laid r (keyFrom scheme (was b) (was s1) (was e2) (was coins)) key ⌝ }
 {
-    settle(scheme, b, s1, e2, coins, flips, v, hints, entries);
-    let sent = lay_message(scheme, a, s1, e1, hints, b, message);
-    match sent {
+    let at = ends::values::reply(scheme, a, s1, e1, e2, b, v);
+    let w = front::publics_at(at, a);
+    match w {
         Verdict::Fail(r) => Verdict::Fail(r),
-        Verdict::Pass => {
-            wire::lay_key(scheme, entries, key);
-            Verdict::Pass
-        }
+        Verdict::Pass => { lay_values(scheme, b, v, coins, flips, hints, entries, message, key) }
     }
 }
 
@@ -132,7 +144,7 @@ fn write(
     requires { ⌜ Settles scheme (now b) (now s1) (now e2) (now coins) × Mixes scheme (now a) (now s1) (now e1) ⌝ }
     requires { ⌜ (n ≡ fixedOf scheme .mixed) × (g ≡ fixedOf scheme .groups) ⌝ }
     requires { ⌜ (length (now message) ≡ fixedOf scheme .reply) × (length (now key) ≡ fixedOf scheme .key) ⌝ }
-    ensures { λ r. ⌜ r ≡ notBlank (repliedPart scheme (was a) (was s1) (was e1)) ⌝ }
+    ensures { λ r. ⌜ r ≡ publicsIn (fixedOf scheme .q) (was a) then notBlank (repliedPart scheme (was a) (was s1) (was e1)) ⌝ }
     ensures { λ r. ⌜ Laid r (messageFrom scheme (was b) (was a) (was s1) (was e1) (was e2) (was coins)) message ⌝ }
     ensures { λ r. ⌜ Laid r (keyFrom scheme (was b) (was s1) (was e2) (was coins)) key ⌝ }
 {
@@ -157,7 +169,7 @@ fn write(
     )
 }
 
-// The secrets' tests, then message and key. What is refused leaves zeros.
+// The secrets' tests, then message and key. What is refused leaves zeros; a secret is refused behind the public numbers.
 fn with_secrets(
     scheme: Scheme,
     b: &mut [u32],
@@ -171,15 +183,15 @@ fn with_secrets(
 ) -> Verdict
     requires { ⌜ Replying scheme (now a) (now s1) (now e1) (now e2) (now coins) (now message) (now key) ⌝ }
     requires { ⌜ Counted (fixedOf scheme .secret) (fixedOf scheme .q) (now b) ⌝ }
-    ensures { λ r. ⌜ r ≡ replyLast scheme (was a) (was s1) (was e1) (was e2) ⌝ }
+    ensures { λ r. ⌜ r ≡ publicsIn (fixedOf scheme .q) (was a) then replyLast scheme (was a) (was s1) (was e1) (was e2) ⌝ }
     ensures { λ r. ⌜ Laid r (messageFrom scheme (was b) (was a) (was s1) (was e1) (was e2) (was coins)) message ⌝ }
     ensures { λ r. ⌜ Laid r (keyFrom scheme (was b) (was s1) (was e2) (was coins)) key ⌝ }
 {
+    let f = scheme.fixed();
     let v = crate::tests::reply_secrets(scheme, s1, e1, e2);
     match v {
-        Verdict::Fail(r) => Verdict::Fail(r),
+        Verdict::Fail(_) => front::publics_before(v, f.q, a),
         Verdict::Pass => {
-            let f = scheme.fixed();
             write(
                 scheme,
                 f.mixed,
@@ -197,7 +209,7 @@ fn with_secrets(
     }
 }
 
-// The opening's numbers into b. A refused message ends the call here, with its place.
+// The opening's numbers into b. A refused message ends the call here, with its place, behind the public numbers.
 fn with_opening(
     scheme: Scheme,
     opening: &[u8],
@@ -212,14 +224,15 @@ fn with_opening(
 ) -> Verdict
     requires { ⌜ Replying scheme (now a) (now s1) (now e1) (now e2) (now coins) (now message) (now key) ⌝ }
     requires { ⌜ (length (now opening) ≡ fixedOf scheme .opening) × (length (now b) ≡ fixedOf scheme .secret) ⌝ }
-    ensures { λ r. ⌜ r ≡ replyRest scheme (reply opening a s1 e1 e2 coins) ⌝ }
+    ensures { λ r. ⌜ r ≡ publicsIn (fixedOf scheme .q) (was a) then replyRest scheme (reply opening a s1 e1 e2 coins) ⌝ }
     ensures { λ r. ⌜ Laid r (messageOf scheme (reply opening a s1 e1 e2 coins)) message ⌝ }
     ensures { λ r. ⌜ Laid r (keyOf scheme (reply opening a s1 e1 e2 coins)) key ⌝ }
 {
+    let f = scheme.fixed();
     let v = wire::take_opening(scheme, opening, b);
     let Verdict::Pass = v else {
         zero_outputs(message, key);
-        return v;
+        return front::publics_before(v, f.q, a);
     };
     with_secrets(scheme, b, a, s1, e1, e2, coins, message, key)
 }
@@ -239,7 +252,7 @@ fn answer_in(
 ) -> Verdict
     requires { ⌜ Replying scheme (now a) (now s1) (now e1) (now e2) (now coins) (now message) (now key) ⌝ }
     requires { ⌜ (length (now opening) ≡ fixedOf scheme .opening) × (n ≡ fixedOf scheme .secret) ⌝ }
-    ensures { λ r. ⌜ r ≡ replyRest scheme (reply opening a s1 e1 e2 coins) ⌝ }
+    ensures { λ r. ⌜ r ≡ publicsIn (fixedOf scheme .q) (was a) then replyRest scheme (reply opening a s1 e1 e2 coins) ⌝ }
     ensures { λ r. ⌜ Laid r (messageOf scheme (reply opening a s1 e1 e2 coins)) message ⌝ }
     ensures { λ r. ⌜ Laid r (keyOf scheme (reply opening a s1 e1 e2 coins)) key ⌝ }
 {
@@ -258,7 +271,7 @@ fn answer_in(
     )
 }
 
-// Where sizes and public numbers have passed.
+// Where lengths and rooms have passed.
 fn reply_sized(
     scheme: Scheme,
     opening: &[u8],
@@ -272,7 +285,7 @@ fn reply_sized(
     digest: &mut [u8],
 ) -> ReplyAnswer
     requires { ⌜
-        replySizes scheme (replyOf (now opening) (now a) (now s1) (now e1) (now e2) (now coins)) (length (now message)) (length (now key)) (length (now digest))
+        replyRooms scheme (replyOf (now opening) (now a) (now s1) (now e1) (now e2) (now coins)) (length (now message)) (length (now key)) (length (now digest))
         ≡ Pass
         ⌝ }
     requires { ⌜ (now message ≡ replicate (length (now message)) 0) × (now key ≡ replicate (length (now key)) 0) ⌝ }

@@ -1,9 +1,11 @@
-// The tests of Offer, Reply and Finish, in 01's order.
+// The tests of Offer, Reply and Finish, in 01's order. That of the public numbers is the product's own, which reads them once; it is made here only where a later
+// test fails.
 ghost use mathlib.Core.Path.{_≡_};
 ghost use Rattle.lists.specs.Lent.{was};
-ghost use Rattle.exchange.specs.Offer.{offer, offerLengths, offerIn};
-ghost use Rattle.exchange.specs.Reply.{reply, replyLengths, replySizes, replySecrets};
+ghost use Rattle.exchange.specs.Offer.{offer, offerLengths};
+ghost use Rattle.exchange.specs.Reply.{reply, replyLengths, replyRooms, replySecrets};
 ghost use Rattle.exchange.specs.Finish.{finish, finishSizes};
+ghost use Rattle.exchange.specs.Inside.{offerAhead};
 use front::Verdict;
 use schemes::Scheme;
 
@@ -25,14 +27,17 @@ pub(crate) fn offer(
     seed: &[u8],
     room: usize,
 ) -> Verdict
-    ensures { λ r. ⌜ r ≡ offerIn scheme (offer a s e seed) room ⌝ }
+    ensures { λ r. ⌜ r ≡ offerAhead scheme (offer a s e seed) room ⌝ }
 {
     let f = scheme.fixed();
     let v = offer_lengths(scheme, a, s, e, seed);
     let v = front::room_for(v, room, f.opening);
-    let v = front::publics_in(v, f.q, a);
-    let v = front::secrets_in(v, f.largest, s);
-    front::secrets_in(v, f.largest, e)
+    let Verdict::Pass = v else {
+        return v;
+    };
+    let w = front::secrets_in(Verdict::Pass, f.largest, s);
+    let w = front::secrets_in(w, f.largest, e);
+    front::publics_before(w, f.q, a)
 }
 
 fn reply_lengths(
@@ -67,14 +72,13 @@ pub(crate) fn reply_sizes(
     keyroom: usize,
     digestroom: usize,
 ) -> Verdict
-    ensures { λ r. ⌜ r ≡ replySizes scheme (reply opening a s1 e1 e2 coins) room keyroom digestroom ⌝ }
+    ensures { λ r. ⌜ r ≡ replyRooms scheme (reply opening a s1 e1 e2 coins) room keyroom digestroom ⌝ }
 {
     let f = scheme.fixed();
     let v = reply_lengths(scheme, opening, a, s1, e1, e2, coins);
     let v = front::room_for(v, room, f.reply);
     let v = front::room_for(v, keyroom, f.key);
-    let v = front::room_for(v, digestroom, 32);
-    front::publics_in(v, f.q, a)
+    front::room_for(v, digestroom, 32)
 }
 
 pub(crate) fn reply_secrets(scheme: Scheme, s1: &[i32], e1: &[i32], e2: &[i32]) -> Verdict

@@ -1,4 +1,4 @@
--- `exchange::opener::offer_in` meets its contract: the tests of what is lent, then that of the part about to be sent.
+-- `exchange::opener::offer_in` meets its contract: the tests but that of the public numbers, then that one and that of the part about to be sent.
 use mathlib.Core.Path.{sym, _∙_}
 use Rattle.exchange.proofs.Offering.{offer-failed, offer-refused}
 use borrow.Author.Needs.{needs}

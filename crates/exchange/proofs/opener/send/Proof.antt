@@ -1,4 +1,4 @@
--- `exchange::opener::send` meets its contract: what the output holds, by the verdict on the part about to be sent.
+-- `exchange::opener::send` meets its contract: what the output holds, by the verdict on the public numbers and on the part about to be sent.
 use mathlib.Core.Path.{_≡_, sym, ap, _∙_}
 use mathlib.Core.List.{List, _++_}
 use Prim.Native.Nat.{ℕ, _≤_}
@@ -10,7 +10,7 @@ use Rattle.lists.proofs.Parts.{front-long}
 use Rattle.front.proofs.Promise.{told-passed, wrote-passed, told-failed, wrote-kept}
 use Rattle.exchange.specs.Offer.{Offer, offerOf, offerMessage}
 use Rattle.exchange.specs.Inside.{Opens}
-use Rattle.exchange.proofs.Offering.{offer-opens, opening-long, offer-last-decides}
+use Rattle.exchange.proofs.Offering.{ahead-opens, opening-long, offer-last-decides}
 use borrow.Author.Needs.{needs}
 use Rattle.exchange.proofs.opener.send.Statement.{statement}
 use Rattle.exchange.proofs.opener.send.Tie as tie
@@ -24,7 +24,7 @@ lent b = let a = b .args in offerOf (a .a .now) (a .s .now) (a .e .now) (a .seed
 -- the part that the opening takes
 module _ (c : tie.After-fixed) where
   opens : let a = start c .args in Opens (a .scheme) (lent (start c)) × (fixedOf (a .scheme) .opening ≤ length (a .message .now))
-  opens = offer-opens _ _ _ (start c .pre .0)
+  opens = ahead-opens _ _ _ (start c .pre .0)
 
   long : c .fixed .result .opening ≡ fixedOf (start c .args .scheme) .opening
   long = ap (λ (g : Fixed). g .opening) (c .fixed .ensures)

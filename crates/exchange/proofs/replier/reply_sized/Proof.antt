@@ -12,7 +12,7 @@ use Rattle.front.proofs.Held.{blank-front}
 use Rattle.front.proofs.Promise.{told-passed, wrote-passed, told-failed, wrote-failed, wrote-kept}
 use Rattle.exchange.specs.Reply.{Reply, replyOf, replyMessage, replyKey}
 use Rattle.exchange.proofs.Digest.{digest-laid}
-use Rattle.exchange.proofs.Replying.{message-length, key-length, Sized, reply-sized, reply-rest-decides}
+use Rattle.exchange.proofs.Replying.{message-length, key-length, Sized, rooms-sized, reply-rest-decides}
 use borrow.Author.Needs.{needs}
 use Rattle.exchange.proofs.replier.reply_sized.Statement.{statement}
 use Rattle.exchange.proofs.replier.reply_sized.Tie as tie
@@ -32,7 +32,7 @@ module _ (c : tie.After-fixed) where
   key-long = ap (λ (g : Fixed). g .key) (c .fixed .ensures)
 
   sized : let a = start c .args in Sized (a .scheme) (lent (start c)) (length (a .message .now)) (length (a .key .now)) (length (a .digest .now))
-  sized = reply-sized _ _ _ _ _ (start c .pre .0)
+  sized = rooms-sized _ _ _ _ _ (start c .pre .0)
 
   roomy : c .fixed .result .reply ≤ length (start c .args .message .now)
   roomy = omega (arith, long, sized .roomy)
@@ -58,7 +58,7 @@ answer-in-requires c κs =
     let b = start f in
     let z = sized f in (
       record {
-        public = z .public;
+        public-long = z .public-long;
         secret-long = z .secret-long;
         noise-long = z .noise-long;
         last-long = z .last-long;

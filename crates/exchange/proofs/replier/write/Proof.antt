@@ -43,7 +43,7 @@ lay-requires c κs =
     let b : tie.Start = search needs in
     let n = buffer-long (b .args .n) 1024 (values b) ∙ b .pre .1 .0 .0 in
     let g = buffer-long (b .args .g) 1024 (groups b) ∙ b .pre .1 .0 .1 in
-    (b .pre .0, ((g, n), ((n, g), b .pre .1 .1)))
+    (b .pre .0, ((n, record { flips-long = g; hints-long = n; entries-long = g }), b .pre .1 .1))
 
 pub write-spec : {M : Type 1} → statement M
 write-spec =
