@@ -7,7 +7,7 @@ use second::noise::{bytes_a_value, lengths};
 use second::schemes::{Family, Scheme};
 
 /// How often BCNS's product is taken apart into three of half the length.
-pub const LEVELS: u32 = 0;
+pub const LEVELS: u32 = 4;
 
 /// Blocks of SHAKE-128 that Grow makes by rule 14, for nearly all seeds: only where
 /// these give too few numbers does it make all 24.
