@@ -33,6 +33,7 @@ pub fn offer_begin(
         come: 0,
         secret: words(s),
         sums: words(e),
+        held: vec![0; 8 * scheme.n],
     }));
     Ok(())
 }
@@ -69,6 +70,7 @@ pub fn reply_begin(
         come: 0,
         secret: words(s1),
         sums: words(e1),
+        held: vec![0; 8 * scheme.n],
     }));
     Ok(())
 }
@@ -181,8 +183,8 @@ fn take(mut begun: State, part: &[u32], state: &mut [u32]) -> Result<(), Refusal
     Ok(())
 }
 
-/// Values modulo 2^32.
-fn words(values: &[i32]) -> Vec<u32> {
-    let word = |&value: &i32| i64::from(value).rem_euclid(1 << 32) as u32;
+/// Values modulo 2^16.
+fn words(values: &[i32]) -> Vec<u16> {
+    let word = |&value: &i32| value.rem_euclid(65536) as u16;
     values.iter().map(word).collect()
 }

@@ -6,8 +6,12 @@
 //! | 1 | the scheme, 2 to 5 |
 //! | 2 | how many numbers of A have come, up to n n |
 //! | 3 | Offer: the seed's 16 bytes, then 48 zeros; Reply: the 64 values of V, below q |
-//! | 67 | the secret, 8n: Offer's S column after column, Reply's S' row after row |
-//! | 67 + 8n | the running sums, 8n: B or B' row after row |
+//! | 67 | the secret, 8n words: Offer's S column after column, Reply's S' row after row |
+//! | 67 + 4n | the running sums, 8n words: B or B' row after row |
+//! | 67 + 8n | eight rows of A, 8n numbers: those held back, then zeros |
+//!
+//! A word is of 16 bits; two stand in one number, the first in its low half. From 67
+//! on any number is in range.
 
 use super::{Carried, State};
 use crate::schemes::{scheme, Family, Scheme};
@@ -34,11 +38,13 @@ pub fn parse(lent: &[u32]) -> Option<State> {
     if come > scheme.n * scheme.n {
         return None;
     }
-    let (secret, sums) = lent[SECRET..].split_at(8 * scheme.n);
+    let (secret, behind) = lent[SECRET..].split_at(4 * scheme.n);
+    let (sums, held) = behind.split_at(4 * scheme.n);
+    let (secret, sums) = (words(secret), words(sums));
     let carried = &lent[CARRIED..SECRET];
     let (carried, secret) = match call {
-        1 => (seed(scheme, carried)?, turned(secret, 8)),
-        2 => (values(scheme, carried)?, secret.to_vec()),
+        1 => (seed(scheme, carried)?, turned(&secret, 8)),
+        2 => (values(scheme, carried)?, secret),
         _ => return None,
     };
     Some(State {
@@ -46,7 +52,8 @@ pub fn parse(lent: &[u32]) -> Option<State> {
         carried,
         come,
         secret,
-        sums: sums.to_vec(),
+        sums,
+        held: held.to_vec(),
     })
 }
 
@@ -79,11 +86,24 @@ pub fn lay(state: &State) -> Vec<u32> {
         Carried::V(v) => (2, v.clone(), state.secret.clone()),
     };
     let head = [call, state.scheme.number as u32, state.come as u32];
-    [&head[..], &carried, &secret, &state.sums].concat()
+    let (secret, sums) = (pairs(&secret), pairs(&state.sums));
+    [&head[..], &carried, &secret, &sums, &state.held].concat()
+}
+
+/// The two words of each number.
+fn words(numbers: &[u32]) -> Vec<u16> {
+    let two = |&number: &u32| [(number % 65536) as u16, (number / 65536) as u16];
+    numbers.iter().flat_map(two).collect()
+}
+
+/// Words, two in each number.
+fn pairs(words: &[u16]) -> Vec<u32> {
+    let one = |two: &[u16]| u32::from(two[0]) + 65536 * u32::from(two[1]);
+    words.chunks_exact(2).map(one).collect()
 }
 
 /// A matrix of so many rows that lie one after the other, its columns laid so.
-fn turned(matrix: &[u32], rows: usize) -> Vec<u32> {
+fn turned(matrix: &[u16], rows: usize) -> Vec<u16> {
     let columns = matrix.len() / rows;
     let mut turned = vec![];
     for column in 0..columns {

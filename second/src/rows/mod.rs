@@ -20,12 +20,14 @@ pub struct State {
     pub carried: Carried,
     /// Numbers of A so far, row after row.
     pub come: usize,
-    /// S, n by 8, or S', 8 by n, row after row; values modulo 2^32, which is a
+    /// S, n by 8, or S', 8 by n, row after row; values modulo 2^16, which is a
     /// multiple of every Frodo q.
-    pub secret: Vec<u32>,
-    /// E, n by 8, or E', 8 by n, to which the products are added, so that it
-    /// becomes B or B'; modulo 2^32.
-    pub sums: Vec<u32>,
+    pub secret: Vec<u16>,
+    /// E, n by 8, or E', 8 by n, to which the products of each eight rows are added
+    /// once they have come, so that it becomes B or B'; modulo 2^16.
+    pub sums: Vec<u16>,
+    /// Eight rows: what has come of them is held back in front.
+    pub held: Vec<u32>,
 }
 
 /// What the two calls keep for their end: Offer its seed; Reply V, which needs the
@@ -52,10 +54,26 @@ impl State {
         self.come == self.scheme.n * self.scheme.n
     }
 
-    /// The next number of A, in row i and column j.
+    /// The next number of A. With the last one of eight rows these enter the sums, and
+    /// none is held back.
     pub fn take(&mut self, number: u32) {
+        let eight_rows = 8 * self.scheme.n;
+        self.held[self.come % eight_rows] = number;
+        self.come += 1;
+        if self.come % eight_rows == 0 {
+            for at in 0..eight_rows {
+                self.enter(self.come - eight_rows + at, self.held[at]);
+            }
+            self.held.fill(0);
+        }
+    }
+
+    /// The number of A at this place, in row i and column j, into the sums.
+    fn enter(&mut self, at: usize, number: u32) {
         let n = self.scheme.n;
-        let (i, j) = (self.come / n, self.come % n);
+        let (i, j) = (at / n, at % n);
+        // A lent state may hold larger ones.
+        let number = (number % 65536) as u16;
         for k in 0..8 {
             // (AS)[i][k] has A[i][j] S[j][k]; (S'A)[k][j] has S'[k][i] A[i][j].
             let (factor, sum) = match self.carried {
@@ -65,7 +83,6 @@ impl State {
             let product = number.wrapping_mul(self.secret[factor]);
             self.sums[sum] = self.sums[sum].wrapping_add(product);
         }
-        self.come += 1;
     }
 
     /// The sums modulo q: B or B'.

@@ -109,8 +109,9 @@ pub fn run(
         let mut rest = numbers;
         for length in parts(&mut stream, cut, scheme.n) {
             let (part, behind) = rest.split_at(length);
-            // Some of the points at which to go wrong: always at the ends.
-            let often = row == 0 || row + 1 == scheme.n || stream.below(64) == 0;
+            // Some of the points at which to go wrong: always in the first row and in the
+            // last of each eight.
+            let often = row == 0 || row % 8 == 7 || stream.below(64) == 0;
             if mixed && often && stream.below(4) == 0 {
                 for wrong in wrong(&mut stream, scheme, which, part, rest.len()) {
                     make(&wrong);
@@ -223,23 +224,25 @@ fn end_of(scheme: &Scheme, which: Which, short: Option<usize>) -> Call {
     }
 }
 
-/// A state in range with any words in it, of which so many numbers have come.
+/// A state in range with any numbers in it from 67 on, behind those held back as
+/// well, of which so many numbers of A have come.
 pub fn any_state(scheme: &'static Scheme, which: Which, come: usize, seed: u64) -> Vec<u32> {
     let mut stream = Stream::new(1000 * seed + 17);
     // Draws don't reach all of 32 bits at once.
-    let mut word = || (stream.below(1 << 16) << 16 | stream.below(1 << 16)) as u32;
+    let mut number = || (stream.below(1 << 16) << 16 | stream.below(1 << 16)) as u32;
     let q = scheme.q as u32;
     let carried = match which {
-        Which::Offer => Carried::Seed((0..16).map(|_| word() as u8).collect()),
-        Which::Reply => Carried::V((0..64).map(|_| word() % q).collect()),
+        Which::Offer => Carried::Seed((0..16).map(|_| number() as u8).collect()),
+        Which::Reply => Carried::V((0..64).map(|_| number() % q).collect()),
     };
     let count = scheme.secret_count();
     lay(&State {
         scheme,
         carried,
         come,
-        secret: (0..count).map(|_| word()).collect(),
-        sums: (0..count).map(|_| word()).collect(),
+        secret: (0..count).map(|_| number() as u16).collect(),
+        sums: (0..count).map(|_| number() as u16).collect(),
+        held: (0..8 * scheme.n).map(|_| number()).collect(),
     })
 }
 
@@ -265,6 +268,8 @@ pub fn damaged(scheme: &'static Scheme, which: Which, come: usize, seed: u64) ->
             1,
             n - 1,
             n,
+            8 * n - 1,
+            8 * n,
             n * n - n,
             n * n - 1,
             n * n,
@@ -275,9 +280,13 @@ pub fn damaged(scheme: &'static Scheme, which: Which, come: usize, seed: u64) ->
     for at in [3, 18, 19, 66] {
         with(at, &[0, 1, 255, 256, q - 1, q, u32::MAX]);
     }
-    for at in [67, 66 + 8 * scheme.n, 67 + 8 * scheme.n, 66 + 16 * scheme.n] {
-        with(at, &[0, 1, q, 1 << 31, u32::MAX]);
+    // The first and the last of the secret, of the sums and of the rows held back, and
+    // where the next number of A comes to stand.
+    let (secret, sums, held) = (67, 67 + 4 * scheme.n, 67 + 8 * scheme.n);
+    for at in [secret, sums - 1, sums, held - 1, held, good.len() - 1] {
+        with(at, &[0, 1, q, 65535, 65536, 1 << 31, u32::MAX]);
     }
+    with(held + come % (8 * scheme.n), &[0, 65536, u32::MAX]);
     let mut longer = good.clone();
     longer.push(0);
     states.push(longer);

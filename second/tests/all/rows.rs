@@ -21,6 +21,11 @@ fn frodo() -> &'static [Scheme] {
     &SIX[2..]
 }
 
+/// Where the running sums of a state start, and the rows held back.
+fn starts(n: usize) -> (usize, usize) {
+    (67 + 4 * n, 67 + 8 * n)
+}
+
 /// Frodo Challenge, and its state of one pattern.
 fn challenge() -> (&'static Scheme, Vec<u32>) {
     (&SIX[2], vec![0xA5A5A5A5; state_count(&SIX[2])])
@@ -76,37 +81,74 @@ fn offers_state_by_hand() {
     for (at, byte) in inputs.seed.iter_mut().enumerate() {
         *byte = 240 + at as u8;
     }
-    // S[5][3] is 2, S[351][0] is -3; E[7][1] is -1, E[0][3] is 1.
-    (inputs.s[5 * 8 + 3], inputs.s[351 * 8]) = (2, -3);
-    (inputs.e[7 * 8 + 1], inputs.e[3]) = (-1, 1);
+    // S[5][3] is 2, S[350][0] is -3; E[7][2] is -1, E[0][3] is 1.
+    (inputs.s[5 * 8 + 3], inputs.s[350 * 8]) = (2, -3);
+    (inputs.e[7 * 8 + 2], inputs.e[3]) = (-1, 1);
     assert_eq!(offer_begin(&inputs, &mut state), Ok(()));
     let mut expected = vec![0; 5699];
     (expected[0], expected[1], expected[2]) = (1, 2, 0);
     for at in 0..16 {
         expected[3 + at] = 240 + at as u32;
     }
-    let (secret, sums) = (67, 67 + 8 * n);
-    (expected[secret + 3 * n + 5], expected[secret + 351]) = (2, u32::MAX - 2);
-    (expected[sums + 7 * 8 + 1], expected[sums + 3]) = (u32::MAX, 1);
+    // Words 3 * 352 + 5 and 350 of the secret, 58 and 3 of the sums.
+    let (sums, held) = (67 + 4 * n, 67 + 8 * n);
+    (expected[67 + 530], expected[67 + 175]) = (2 << 16, 65533);
+    (expected[sums + 29], expected[sums + 1]) = (65535, 1 << 16);
     assert_eq!(state, expected);
 
-    // Row 0: column 5 is 30 and column 351 is 7, in parts.
+    // Row 0 in parts, with 30 in column 5 and 7 in column 350: it is held back.
     assert_eq!(rows::offer_part(&[9, 9, 9, 9, 9], &mut state), Ok(()));
+    expected[held..held + 5].fill(9);
     expected[2] = 5;
     assert_eq!(state, expected);
     assert_eq!(rows::offer_part(&[30, 2047], &mut state), Ok(()));
-    (expected[2], expected[sums + 3]) = (7, 61);
+    (expected[held + 5], expected[held + 6]) = (30, 2047);
+    expected[2] = 7;
     assert_eq!(state, expected);
     let mut rest = vec![0; n - 7];
-    rest[n - 8] = 7;
+    rest[350 - 7] = 7;
     assert_eq!(rows::offer_part(&rest, &mut state), Ok(()));
-    (expected[2], expected[sums]) = (352, u32::MAX - 20);
+    expected[held + 350] = 7;
+    expected[2] = 352;
     assert_eq!(state, expected);
-    // Row 1 all at once.
-    assert_eq!(rows::offer_part(&vec![1; n], &mut state), Ok(()));
-    expected[2] = 704;
-    (expected[sums + 8 + 3], expected[sums + 8]) = (2, u32::MAX - 2);
+    // Rows 1 to 6 all at once, row 7 but for its last number.
+    for row in 1..7 {
+        assert_eq!(rows::offer_part(&vec![1; n], &mut state), Ok(()));
+        expected[held + row * n..held + (row + 1) * n].fill(1);
+        expected[2] += 352;
+        assert_eq!(state, expected);
+    }
+    assert_eq!(rows::offer_part(&vec![1; n - 1], &mut state), Ok(()));
+    expected[held + 7 * n..held + 8 * n - 1].fill(1);
+    expected[2] = 8 * 352 - 1;
     assert_eq!(state, expected);
+    // With it all eight enter, and none is held back.
+    assert_eq!(rows::offer_part(&[1], &mut state), Ok(()));
+    expected[held..].fill(0);
+    expected[2] = 8 * 352;
+    // B[0][3] is 1 + 2 * 30, B[0][0] is -3 * 7.
+    (expected[sums + 1], expected[sums]) = (61 << 16, 65515);
+    for row in 1..8 {
+        (expected[sums + 4 * row + 1], expected[sums + 4 * row]) = (2 << 16, 65533);
+    }
+    // B[7][2] stays -1, in one number with B[7][3].
+    expected[sums + 29] = 65535 + (2 << 16);
+    assert_eq!(state, expected);
+    assert_eq!(rows::offer_part(&[], &mut state), Ok(()));
+    assert_eq!(state, expected);
+
+    // The next eight: zeros, but for 2 in row 9 and column 350.
+    for row in 8..16 {
+        let mut numbers = vec![0; n];
+        numbers[350] = if row == 9 { 2 } else { 0 };
+        assert_eq!(rows::offer_part(&numbers, &mut state), Ok(()));
+        expected[2] += 352;
+        expected[held + n + 350] = if (9..15).contains(&row) { 2 } else { 0 };
+        if row == 15 {
+            expected[sums + 4 * 9] = 65530;
+        }
+        assert_eq!(state, expected);
+    }
 }
 
 #[test]
@@ -114,8 +156,8 @@ fn replys_state_by_hand() {
     let (s, mut state) = challenge();
     let n = 352;
     let mut inputs = Inputs::zero(s);
-    // S'[2][4] is -1; E'[6][9] is 1; E''[0][0] is -2, E''[7][7] is 3.
-    inputs.s1[2 * n + 4] = -1;
+    // S'[2][4] is -1, S'[7][13] is 3; E'[6][9] is 1; E''[0][0] is -2, E''[7][7] is 3.
+    (inputs.s1[2 * n + 4], inputs.s1[7 * n + 13]) = (-1, 3);
     inputs.e1[6 * n + 9] = 1;
     (inputs.e2[0], inputs.e2[63]) = (-2, 3);
     // Of B the entry [4][1] is 5, of 11 bits; V[2][1] is -5.
@@ -127,21 +169,47 @@ fn replys_state_by_hand() {
     let mut expected = vec![0; 5699];
     (expected[0], expected[1], expected[2]) = (2, 2, 0);
     (expected[3], expected[3 + 63], expected[3 + 2 * 8 + 1]) = (2046, 3, 2043);
-    let (secret, sums) = (67, 67 + 8 * n);
-    expected[secret + 2 * n + 4] = u32::MAX;
-    expected[sums + 6 * n + 9] = 1;
+    // Words 708 and 2477 of the secret, 2121 of the sums.
+    let (sums, held) = (67 + 4 * n, 67 + 8 * n);
+    (expected[67 + 354], expected[67 + 1238]) = (65535, 3 << 16);
+    expected[sums + 1060] = 1 << 16;
     assert_eq!(state, expected);
 
-    // Rows 0 to 3 meet zeros of S'; in row 4 stand 7 and 8.
+    // In row 4 stand 7 and 8; the other rows meet zeros of S'.
     for row in 0..4 {
         assert_eq!(rows::reply_part(&vec![2047; n], &mut state), Ok(()));
-        expected[2] = 352 * (row + 1);
+        expected[held + row * n..held + (row + 1) * n].fill(2047);
+        expected[2] += 352;
         assert_eq!(state, expected);
     }
     assert_eq!(rows::reply_part(&[7, 8], &mut state), Ok(()));
+    (expected[held + 4 * n], expected[held + 4 * n + 1]) = (7, 8);
     expected[2] += 2;
-    expected[sums + 2 * n] = u32::MAX - 6;
-    expected[sums + 2 * n + 1] = u32::MAX - 7;
+    assert_eq!(state, expected);
+    assert_eq!(rows::reply_part(&vec![0; n - 2], &mut state), Ok(()));
+    expected[2] += 350;
+    assert_eq!(state, expected);
+    for row in 5..7 {
+        assert_eq!(rows::reply_part(&vec![2047; n], &mut state), Ok(()));
+        expected[held + row * n..held + (row + 1) * n].fill(2047);
+        expected[2] += 352;
+        assert_eq!(state, expected);
+    }
+    assert_eq!(rows::reply_part(&vec![2047; n], &mut state), Ok(()));
+    expected[held..].fill(0);
+    expected[2] += 352;
+    // B'[2][0] and B'[2][1] are -7 and -8: two words of one number.
+    expected[sums + n] = 65529 + 65528 * 65536;
+    assert_eq!(state, expected);
+
+    // The next eight: 5 at the end of row 13.
+    for row in 8..16 {
+        let mut numbers = vec![0; n];
+        numbers[351] = if row == 13 { 5 } else { 0 };
+        assert_eq!(rows::reply_part(&numbers, &mut state), Ok(()));
+    }
+    expected[2] += 8 * 352;
+    expected[sums + 4 * n - 1] = 15 << 16;
     assert_eq!(state, expected);
 }
 
@@ -156,9 +224,13 @@ fn by_rows_as_whole() {
                 }
                 let mut calls = 0;
                 let mut last = vec![];
+                let (_, held) = starts(s.n);
                 let (rows, whole) = run(s, which, cut, false, 3, &mut |_, seen, state| {
                     assert_eq!(seen.refusal, None);
                     calls += 1;
+                    // Behind those held back are zeros.
+                    let behind = &state[held + state[2] as usize % (8 * s.n)..];
+                    assert!(behind.iter().all(|&number| number == 0));
                     last = state.to_vec();
                 });
                 assert_eq!(rows, whole, "{} {which:?} {cut:?}", s.name);
@@ -260,14 +332,25 @@ fn an_exchange_by_rows() {
 fn the_cut_makes_no_difference() {
     let mut generator = Generator::new(180);
     let s = &SIX[2];
+    let (sums, held) = starts(352);
     for which in BOTH {
-        for come in [0, 352 * 7, 352 * 7 + 300, 352 * 352 - 352] {
+        // Inside eight rows, and to their end.
+        for (come, ends) in [
+            (0, false),
+            (352 * 6 + 300, false),
+            (352 * 7, true),
+            (352 * 7 + 300, true),
+            (352 * 8, false),
+            (352 * 352 - 352, true),
+        ] {
             let before = any_state(s, which, come, generator.below(1000) + 1);
             let left = 352 - come % 352;
             let numbers = numbers(&mut generator, left, s.q);
             let mut whole = before.clone();
             assert_eq!(part(which, &numbers, &mut whole), Ok(()));
             assert_eq!(whole[2] as usize, come + left);
+            assert_eq!(whole[sums..held] != before[sums..held], ends);
+            assert_eq!(whole[held..].iter().all(|&number| number == 0), ends);
             for at in 0..=left {
                 let mut state = before.clone();
                 assert_eq!(part(which, &numbers[..at], &mut state), Ok(()));
@@ -280,22 +363,89 @@ fn the_cut_makes_no_difference() {
 }
 
 #[test]
-fn words_wrap_at_two_to_the_32() {
+fn words_wrap_at_two_to_the_16() {
     let s = &SIX[2];
-    let (n, secret, sums) = (352, 67, 67 + 8 * 352);
-    let mut state = any_state(s, Which::Offer, 0, 1);
+    let (n, secret, (sums, held)) = (352, 67, starts(352));
+    let mut state = any_state(s, Which::Offer, 8 * n - 1, 1);
     state[secret..].fill(0);
-    (state[secret], state[sums]) = (u32::MAX, 3);
-    assert_eq!(rows::offer_part(&[5], &mut state), Ok(()));
-    assert_eq!(state[sums], u32::MAX - 1);
-    state[secret + 1] = 1 << 31;
-    assert_eq!(rows::offer_part(&[2046], &mut state), Ok(()));
-    assert_eq!(state[sums], u32::MAX - 1);
-    // Reduced at the end: 2^32 - 2 is -2 modulo 2048.
-    state[2] = n * n;
+    // S[0][0] is 65535, S[1][0] is 32768, S[2][0] is 1; B[0][0] is 3, B[0][1] is 7.
+    (state[secret], state[secret + 1]) = (65535 + 32768 * 65536, 1);
+    state[sums] = 3 + 7 * 65536;
+    // 5, 2046 and 0 in row 0, by their remainders.
+    (state[held], state[held + 1], state[held + 2]) = (65536 + 5, 2046, 1 << 31);
+    assert_eq!(rows::offer_part(&[0], &mut state), Ok(()));
+    // No word goes into the other of its number.
+    assert_eq!(state[sums], 65534 + 7 * 65536);
+    assert!(state[sums + 1..].iter().all(|&number| number == 0));
+    // Reduced at the end: 2^16 - 2 is -2 modulo 2048.
+    state[2] = 352 * 352;
     let mut opening = vec![0; s.opening_bytes()];
     assert_eq!(rows::offer_end(&mut state, &mut opening), Ok(opening.len()));
-    assert_eq!((opening[16], opening[17], opening[18]), (0xFE, 0x07, 0));
+    assert_eq!((opening[16], opening[17], opening[18]), (0xFE, 0x3F, 0));
+}
+
+#[test]
+fn of_what_is_held_back_the_remainder_counts() {
+    for s in frodo() {
+        let (n, (sums, held)) = (s.n, starts(s.n));
+        for which in BOTH {
+            for come in [8 * n - 1, 7 * n, 16 * n - 5, n * n - n, n * n - 1] {
+                let before = any_state(s, which, come, 8);
+                let rest = vec![s.q as u32 - 1; n - come % n];
+                let mut after = before.clone();
+                assert_eq!(part(which, &rest, &mut after), Ok(()));
+                let mut other = before.clone();
+                for number in &mut other[held..] {
+                    *number %= 65536;
+                }
+                assert_ne!(other, before);
+                assert_eq!(part(which, &rest, &mut other), Ok(()));
+                assert_eq!(other, after);
+                assert_ne!(after[sums..held], before[sums..held]);
+                // What stood behind them does not count at all.
+                let mut other = before.clone();
+                other[held + come % (8 * n)..].fill(77);
+                assert_eq!(part(which, &rest, &mut other), Ok(()));
+                assert_eq!(other, after);
+                // The remainder does.
+                let mut other = before.clone();
+                other[held] ^= 1;
+                assert_eq!(part(which, &rest, &mut other), Ok(()));
+                assert_ne!(other, after);
+            }
+        }
+    }
+}
+
+#[test]
+fn a_part_that_ends_no_eight_rows_is_a_copy() {
+    let mut generator = Generator::new(181);
+    for s in frodo() {
+        let (n, held) = (s.n, starts(s.n).1);
+        for which in BOTH {
+            for (come, length) in [
+                (0, n),
+                (0, 1),
+                (6 * n, n),
+                (8 * n - 2, 1),
+                (8 * n - 1, 0),
+                (8 * n, 0),
+                (8 * n, 1),
+                (n * n - n, n - 1),
+                (n * n, 0),
+            ] {
+                let before = any_state(s, which, come, 10);
+                let numbers = numbers(&mut generator, length, s.q);
+                let mut expected = before.clone();
+                expected[2] += length as u32;
+                let at = held + come % (8 * n);
+                expected[at..at + length].copy_from_slice(&numbers);
+                let mut state = before.clone();
+                assert_eq!(part(which, &numbers, &mut state), Ok(()));
+                assert_eq!(state, expected, "{come} {length}");
+            }
+        }
+    }
 }
 
 #[test]
@@ -303,7 +453,7 @@ fn a_state_and_its_numbers() {
     for s in frodo() {
         for which in BOTH {
             let all = s.n * s.n;
-            for come in [0, 1, s.n, all - 1, all] {
+            for come in [0, 1, s.n, 8 * s.n - 1, 8 * s.n, all - 1, all] {
                 let lent = any_state(s, which, come, 7);
                 let state = parse(&lent).unwrap();
                 assert_eq!(lay(&state), lent);
@@ -351,7 +501,9 @@ fn a_state_out_of_range_counts_as_none() {
             assert!(!fine(at, largest + 1) && !fine(at, u32::MAX), "{at}");
         }
         for at in (67..good.len()).step_by(97).chain([good.len() - 1]) {
-            assert!(fine(at, 0) && fine(at, q) && fine(at, u32::MAX));
+            assert!([0, q, 65535, 65536, u32::MAX]
+                .into_iter()
+                .all(|x| fine(at, x)));
         }
         for length in [0, 1, 2, 3, good.len() - 1] {
             assert_eq!(parse(&good[..length]), None);
@@ -371,7 +523,7 @@ fn damaged_states_give_11_or_go_on() {
     let s = &SIX[2];
     let mut counts = [0; 2];
     for which in BOTH {
-        for come in [352, 352 * 352] {
+        for come in [352, 352 * 8 - 1, 352 * 8, 352 * 352] {
             for before in damaged(s, which, come, 11) {
                 let begun = parse(&before);
                 let mut state = before.clone();
@@ -554,6 +706,8 @@ fn a_parts_refusals() {
             (1, 351),
             (351, 1),
             (352, 352),
+            (2815, 1),
+            (2816, 352),
             (123903, 1),
             (123904, 0),
         ] {
@@ -605,7 +759,7 @@ fn ends_refusals() {
     let s = &SIX[2];
     for which in BOTH {
         // Before all n rows: 11 before 3.
-        for come in [0, 1, 352, 352 * 352 - 1] {
+        for come in [0, 1, 352, 352 * 8, 352 * 352 - 1] {
             let mut state = any_state(s, which, come, 14);
             let before = state.clone();
             assert_eq!(end_refused(which, s, &mut state), NO_BEGIN);
@@ -619,9 +773,10 @@ fn ends_refusals() {
     }
     // 3 before 17: all sums are multiples of q. Then 17, and the state stays.
     let mut offered = any_state(s, Which::Offer, 352 * 352, 15);
-    let sums = 67 + 8 * 352;
-    for (at, sum) in offered[sums..].iter_mut().enumerate() {
-        *sum = at as u32 * 2048;
+    let (sums, held) = starts(352);
+    for (at, two) in offered[sums..held].iter_mut().enumerate() {
+        let at = at as u32;
+        *two = at % 32 * 2048 + at / 32 % 32 * 2048 * 65536;
     }
     let before = offered.clone();
     let mut short = vec![0xAA; s.opening_bytes() - 1];
@@ -630,7 +785,7 @@ fn ends_refusals() {
     assert_eq!(short, vec![0; short.len()]);
     assert_eq!(end_refused(Which::Offer, s, &mut offered), refusal(17, 0));
     assert_eq!(offered, before);
-    offered[sums + 2815] += 1;
+    offered[held - 1] += 65536;
     let mut opening = vec![0xAA; s.opening_bytes()];
     assert_eq!(
         rows::offer_end(&mut offered, &mut opening),
@@ -639,7 +794,7 @@ fn ends_refusals() {
     assert_eq!(offered, vec![0; offered.len()]);
 
     let mut replied = any_state(s, Which::Reply, 352 * 352, 15);
-    replied[sums..].fill(1 << 31);
+    replied[sums..held].fill(0x8000_F800);
     let before = replied.clone();
     let rooms = [s.reply_bytes(), s.key_bytes, 32];
     for at in 0..3 {
