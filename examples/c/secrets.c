@@ -52,15 +52,15 @@ static void hide(size_t call)
         HIDE(lent.e1, x->s);
         HIDE(lent.e2, x->e2);
     }
-    /* secret and sums, and in Reply the values before them; the seed is public */
+    /* secret and sums, and in Reply the values before them; the seed and the rows are public */
     if (call == ROWS_OFFER_PART)
-        HIDE(lent.offer_begun + 67, 2 * x->s);
+        HIDE(lent.offer_seven + 67, x->s);
     if (call == ROWS_OFFER_END)
-        HIDE(lent.offer_full + 67, 2 * x->s);
+        HIDE(lent.offer_full + 67, x->s);
     if (call == ROWS_REPLY_PART)
-        HIDE(lent.reply_begun + 3, 64 + 2 * x->s);
+        HIDE(lent.reply_seven + 3, 64 + x->s);
     if (call == ROWS_REPLY_END)
-        HIDE(lent.reply_full + 3, 64 + 2 * x->s);
+        HIDE(lent.reply_full + 3, 64 + x->s);
 }
 
 int main(void)
