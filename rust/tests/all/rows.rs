@@ -188,8 +188,8 @@ fn refused_calls_in_between() {
     }
 }
 
-/// The calls of either on a state: an empty part, one number, a number too many, a
-/// wrong number, an end.
+/// The calls of either on a state: an empty part, one number, a row, a number too
+/// many, a wrong number, an end.
 fn calls(scheme: &Scheme) -> Vec<Call> {
     let parts = [
         vec![],
@@ -212,8 +212,8 @@ fn calls(scheme: &Scheme) -> Vec<Call> {
 }
 
 /// States out of range, of other lengths and just within range, of both calls, in
-/// all four sets, at the beginning, inside a row, at a row's end and behind the last
-/// row.
+/// all four sets, at the beginning, inside a row, at a row's end, before the last row
+/// of eight and its last number, behind it, and behind the last row.
 #[test]
 fn damaged_states() {
     let mut numbers = BTreeMap::new();
@@ -221,7 +221,7 @@ fn damaged_states() {
         let n = scheme.n;
         let calls = calls(scheme);
         for which in BOTH {
-            for come in [0, n + 1, 2 * n - 1, n * n - n, n * n] {
+            for come in [0, n + 1, 2 * n - 1, 8 * n - 1, 8 * n, n * n - n, n * n] {
                 for state in damaged(scheme, which, come, 11) {
                     for call in &calls {
                         let seen = alone(call, &state);
@@ -236,16 +236,23 @@ fn damaged_states() {
     assert!(numbers.values().all(|&count| count > 300), "{numbers:?}");
 }
 
-/// States in range with any words, of which the sums may wrap, and a few rows on.
+/// States in range with any numbers in them, of which the sums may wrap and those held
+/// back are 65536 and more, and a few rows on: parts that end eight rows, of one and of
+/// many numbers, empty parts there, and eight rows more up to the end.
 #[test]
 fn random_states() {
     for scheme in frodo() {
+        let n = scheme.n;
         let mut generator = Generator::new(70 + scheme.number);
+        let mut parts = vec![n - 5, 0, n - 1, 1, 0, 1, n - 1];
+        parts.extend([n; 4]);
+        parts.extend([n / 2, n - n / 2, 1, n - 2, 1, n - 1, 0, 1, 0]);
         for which in BOTH {
-            let come = scheme.n * (scheme.n - 2) + 5;
+            // Two rows before the last eight.
+            let come = n * (n - 10) + 5;
             let mut after = any_state(scheme, which, come, 12);
             let mut state = Lent::new(&after, 9);
-            for length in [scheme.n - 5, 0, 1, scheme.n - 1, 0] {
+            for &length in &parts {
                 let number = |byte: u8| (u32::from(byte) * 40_503) % scheme.q as u32;
                 let part: Vec<u32> = generator.bytes(length).into_iter().map(number).collect();
                 let call = match which {
@@ -336,7 +343,7 @@ fn refused_begins() {
 }
 
 /// By rows as by the archive's own calls on the whole matrix, in ones and in parts
-/// of eight as well, and a whole exchange of one end by rows with the other.
+/// of eight numbers as well, and a whole exchange of one end by rows with the other.
 #[test]
 fn as_the_whole_matrix() {
     for s in frodo() {
