@@ -112,7 +112,9 @@ pub fn run(
             // Some of the points at which to go wrong: always in the first row and in the
             // last of each eight.
             let often = row == 0 || row % 8 == 7 || stream.below(64) == 0;
-            if mixed && often && stream.below(4) == 0 {
+            // Behind the last number an end is good.
+            let over = row + 1 == scheme.n && rest.is_empty();
+            if mixed && often && !over && stream.below(4) == 0 {
                 for wrong in wrong(&mut stream, scheme, which, part, rest.len()) {
                     make(&wrong);
                 }
