@@ -160,8 +160,12 @@
  * - A state is handed on as it is: each part and end gets it as the call before left it. It may be
  *   moved between calls. One that is not of its length, that no call leaves in its first 67 numbers
  *   (which call, which scheme, how many numbers of A have come, the seed or the replier's values),
- *   or that was begun for the other of the two calls, counts as none: 11. The other numbers may be
+ *   or that was begun for the other of the two calls, counts as none: 11. The other numbers (the
+ *   secret and the sums, as words of 16 bits, two in a number, and the rows held back) may be
  *   anything, so that changing them is not found out, but makes another message.
+ * - A part is copied into the state, and held back there until eight rows have come, which then
+ *   enter the sums together: the part that ends them takes the time of all eight, the others that
+ *   of a copy.
  * - A state is a secret: it holds s or s', and what the key is made of. A good end zeroes it, and
  *   so does a refused begin. Where the exchange is given up before the end, the caller zeroes it,
  *   all WIM_X_STATE numbers. No copy of it goes on by itself: that would use the secrets twice.
@@ -305,7 +309,7 @@
  * nothing. By rows begin has those of its secrets, 2 and 3, and end those of what is sent; each
  * part and end of Reply has one more, the verdict on the values in its state, and a part of Offer
  * none. A refused secret is searched value by value for its place. Nothing is divided but 2^32 - 1
- * by q, and by rows how many numbers have come by n. So it is in the archive for x86-64, by
+ * by q, and by rows how many numbers have come by n and 8 n. So it is in the archive for x86-64, by
  * valgrind with the secrets marked as undefined, in all schemes (runs/secrets); another compiler
  * may do otherwise, and what the processor makes of it is not measured.
  */
