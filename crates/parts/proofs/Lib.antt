@@ -1,4 +1,4 @@
 pub mod Joining
 pub mod Put
-pub mod Rows
-pub mod Columns
+pub mod Words
+pub mod Blocks

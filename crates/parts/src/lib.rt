@@ -1,38 +1,46 @@
-// Frodo's running sums, where A comes in parts: 02, request e. Numbers of a part, words of the secret and sums all lie in slices of u32, as the lent state
-// holds them. Words wrap at 2^32, a multiple of every q. `right` has what a part brings to AS + E, `left` what it brings to S'A + E'; the laws, that the cut
-// makes no difference, stand in `proofs/`, once over n and the modulus.
+// Frodo's running sums, where A comes in parts: 02, request e. The lent state holds words of 16 bits, two in each number; here they are taken apart and put
+// together again, for crate `matrix`, whose products serve both ways. The laws, that the cut makes no difference, stand in `proofs/`, once over n and the modulus.
 ghost use mathlib.Core.Path.{_≡_};
-ghost use Prim.Native.Nat.{_+_, _*_, _%_, _<_};
+ghost use Prim.Native.Nat.{_*_};
 ghost use lib.ListN.{length};
-ghost use Rattle.numbers.specs.Residue.{residue};
 ghost use Rattle.lists.specs.Lent.{was, left};
-ghost use Rattle.matrix.specs.Steps.{wordsOf, reduced};
-ghost use Rattle.parts.specs.Parts.{wrap};
+ghost use Rattle.matrix.specs.Steps.{reduced};
+ghost use Rattle.parts.specs.Parts.{wrap, words, pairs};
 
-pub mod left;
-pub mod right;
-
-// One product more; the compiler makes one multiplication of 32 bits of it.
-fn add_product(sum: u32, x: u32, w: u32) -> u32
-    ensures { λ r. ⌜ r ≡ (sum + x * w) % wrap ⌝ }
+// Both words of each number. Where the lower word lies first the compiler makes one copy of it.
+pub fn unpair(xs: &[u32], out: &mut [u16])
+    requires { ⌜ length (now out) ≡ 2 * length (now xs) ⌝ }
+    ensures { λ _. ⌜ left out ≡ words (was xs) ⌝ }
 {
-    ((sum as u64 + x as u64 * w as u64) % 4294967296) as u32
+    let mut i: usize = 0;
+    while i < xs.len() {
+        let x = xs[i];
+        out[2 * i] = (x % 65536) as u16;
+        out[2 * i + 1] = (x / 65536) as u16;
+        i += 1;
+    }
 }
 
-// A secret or a noise value as a word.
-fn word(z: i32) -> u32
-    ensures { λ r. ⌜ r ≡ residue wrap z ⌝ }
+// The way back.
+pub fn pair(ws: &[u16], out: &mut [u32])
+    requires { ⌜ length (now ws) ≡ 2 * length (now out) ⌝ }
+    ensures { λ _. ⌜ left out ≡ pairs (was ws) ⌝ }
 {
-    numbers::residue64(z as i64, 4294967296) as u32
+    let mut i: usize = 0;
+    while i < out.len() {
+        out[i] = ws[2 * i] as u32 + 65536 * ws[2 * i + 1] as u32;
+        i += 1;
+    }
 }
 
-pub fn words(zs: &[i32], out: &mut [u32])
-    requires { ⌜ length (now zs) ≡ length (now out) ⌝ }
-    ensures { λ _. ⌜ left out ≡ wordsOf wrap (was zs) ⌝ }
+// The lower word of each number: a lent state may hold any number among the rows that are held back.
+pub fn narrow(xs: &[u32], out: &mut [u16])
+    requires { ⌜ length (now xs) ≡ length (now out) ⌝ }
+    ensures { λ _. ⌜ left out ≡ reduced wrap (was xs) ⌝ }
 {
     let mut k: usize = 0;
     while k < out.len() {
-        out[k] = word(zs[k]);
+        out[k] = (xs[k] % 65536) as u16;
         k += 1;
     }
 }
@@ -44,19 +52,6 @@ pub fn copy(src: &[u32], out: &mut [u32])
     let mut k: usize = 0;
     while k < out.len() {
         out[k] = src[k];
-        k += 1;
-    }
-}
-
-// The remainders of the sums in 0 .. q - 1, without a division, since they are secret.
-pub fn reduce(q: u32, sums: &[u32], out: &mut [u32])
-    requires { ⌜ (0 < q) × (length (now out) ≡ length (now sums)) ⌝ }
-    ensures { λ _. ⌜ left out ≡ reduced q (was sums) ⌝ }
-{
-    let m = 4294967295 / q;
-    let mut k: usize = 0;
-    while k < out.len() {
-        out[k] = matrix::remainder(sums[k], q, m);
         k += 1;
     }
 }

@@ -2,10 +2,10 @@
 --   wrote-same, wrote-none   an output under an equal verdict; after a refusal, whatever the answer would be
 --   number-names             the number of a scheme of Frodo's names it
 --   by-frodo                 what is meant in Frodo
---   words-below              words are below 2^32
+--   words-below, columns-below   secrets and noise are words
 use mathlib.Core.Path.{_≡_, refl, subst}
 use mathlib.Core.List.{List, []}
-use Prim.Native.Nat.{ℕ}
+use Prim.Native.Nat.{ℕ, _*_}
 use native.Mathlib.Omega.{arith}
 use lib.IntN.{ℤ}
 use lib.ListN.{length}
@@ -17,7 +17,7 @@ use Rattle.schemes.specs.declared.Scheme.{Scheme}
 use Rattle.schemes.specs.declared.Scheme.the-variants.{Bcns, NewHope, Challenge, Classical, Recommended, Paranoid}
 use Rattle.lists.specs.Entries.{Below}
 use Rattle.lists.proofs.Entries.{below-tab}
-use Rattle.matrix.specs.Steps.{wordsOf}
+use Rattle.matrix.specs.Steps.{wordsOf, columnsOf}
 use Rattle.parts.specs.Parts.{wrap}
 use Rattle.front.specs.Front.{held}
 use Rattle.front.specs.Promise.{Wrote}
@@ -57,3 +57,7 @@ by-frodo x y z e = rw e
 pub words-below : (zs : List ℤ) → Below wrap (wordsOf wrap zs)
 unfolding wordsOf
 words-below zs = below-tab wrap (length zs) _ (omega arith) (λ k p. residue-lt wrap _ (omega arith))
+
+pub columns-below : (n : ℕ) (s : List ℤ) → Below wrap (columnsOf wrap n s)
+unfolding columnsOf
+columns-below n s = below-tab wrap (8 * n) _ (omega arith) (λ k p. residue-lt wrap _ (omega arith))

@@ -1,19 +1,28 @@
 -- A state of its parts.
 --   three            a list of three numbers or more
 --   apart            a state of the right length is laid of its own parts
---   laid-long, laid-kept, laid-secret, laid-sums   the parts of a state that is laid
+--   kept-long, secret-long, sums-long, held-long   how long they are
+--   laid-long, laid-kept, laid-secret, laid-sums, laid-held   the parts of a state that is laid
+--   again-words, made-words   words that come back from their numbers: those of a state; sums
+--   pairs-laid       words into zeros, two in each number
 --   seed-kept-long, take-less   what is kept: its length; the front of a front
---   kept-zeros, headed, headed-long, behind-long, lay-is   the parts, written one after the other into zeros
+--   kept-zeros, headed, headed-long, behind-zeros, lay-is   the parts, written one after the other into zeros
 use mathlib.Core.Path.{_≡_, refl, _∙_, sym, ap, ap₂}
-use mathlib.Core.List.{List, [], _∷_, _++_, append-nil}
+use mathlib.Core.List.{List, [], _∷_, _++_, append-nil, append-assoc}
 use Prim.Native.Nat.{ℕ, zero, suc, _+_, _*_, _-_, _≤_}
 use native.Mathlib.Omega.{arith}
 use lib.ListN.{length, getD, take, drop, set, replicate, length-append, length-take, length-drop, length-replicate, take-append-drop, drop-of-length-le}
-use lib.Seq.{take-at, drop-at, drop-drop}
+use lib.Seq.{take-at, drop-at, drop-drop, take-add}
 use native.Mathlib.Nat.{suc-add}
 use borrow.Rule.Slice.PartMut.{putMid}
+use Rattle.lists.proofs.Parts.{drop-same}
 use Rattle.lists.proofs.Same.{take-same}
-use Rattle.rows.specs.State.{long, taken, keptOf, secretOf, sumsOf, laid}
+use Rattle.matrix.specs.Steps.{gained}
+use Rattle.matrix.proofs.Steps.{gained-length}
+use Rattle.parts.specs.Parts.{wrap, words, pairs}
+use Rattle.parts.proofs.Words.{words-long, pairs-long, pairs-words, words-pairs}
+use Rattle.parts.proofs.Blocks.{gained-below}
+use Rattle.rows.specs.State.{long, taken, keptOf, secretOf, sumsOf, heldOf, laid}
 
 pub three : (st : List ℕ) → 3 ≤ length st → st ≡ getD st 0 0 ∷ getD st 1 0 ∷ getD st 2 0 ∷ drop 3 st
 three [] h = absurd (omega arith)
@@ -21,41 +30,101 @@ three (a ∷ []) h = absurd (omega arith)
 three (a ∷ b ∷ []) h = absurd (omega arith)
 three (a ∷ b ∷ c ∷ st) h = refl
 
+-- where the rows are held back
+pub held-at : (n : ℕ) (st : List ℕ) → drop (4 * n) (drop (67 + 4 * n) st) ≡ heldOf n st
+held-at n st = let e : 67 + 4 * n + 4 * n ≡ 67 + 8 * n = omega arith in drop-drop (4 * n) (67 + 4 * n) st ∙ ap (λ (k : ℕ). drop k st) e
+
 -- what stands behind the first three
-pub rest : (n : ℕ) (st : List ℕ) → drop 3 st ≡ keptOf st ++ (secretOf n st ++ sumsOf n st)
+pub rest : (n : ℕ) (st : List ℕ) → drop 3 st ≡ keptOf st ++ (pairs (secretOf n st) ++ (pairs (sumsOf n st) ++ heldOf n st))
 rest n st =
     sym (take-append-drop 64 (drop 3 st))
     ∙ ap (λ (l : List ℕ). keptOf st ++ l)
-    (drop-drop 64 3 st ∙ sym (take-append-drop (8 * n) (drop 67 st)) ∙ ap (λ (l : List ℕ). secretOf n st ++ l) (drop-drop (8 * n) 67 st))
+    (drop-drop 64 3 st
+    ∙ sym (take-append-drop (4 * n) (drop 67 st))
+    ∙ ap₂ (λ (u v : List ℕ). u ++ v) (sym (pairs-words _))
+    (drop-drop (4 * n) 67 st
+    ∙ sym (take-append-drop (4 * n) (drop (67 + 4 * n) st))
+    ∙ ap₂ (λ (u v : List ℕ). u ++ v) (sym (pairs-words _)) (held-at n st)))
 
-pub apart : (n : ℕ) (st : List ℕ) → length st ≡ long n → st ≡ laid (getD st 0 0) (getD st 1 0) (taken st) (keptOf st) (secretOf n st) (sumsOf n st)
+pub apart : (n : ℕ) (st : List ℕ) → length st ≡ long n
+    → st ≡ laid (getD st 0 0) (getD st 1 0) (taken st) (keptOf st) (secretOf n st) (sumsOf n st) (heldOf n st)
 apart n st e = three st (omega arith) ∙ ap (λ (l : List ℕ). getD st 0 0 ∷ getD st 1 0 ∷ getD st 2 0 ∷ l) (rest n st)
+
+-- the front of a state, up to the secret
+pub front : (n : ℕ) (st : List ℕ) → 3 ≤ length st
+    → take (67 + 4 * n) st ≡ getD st 0 0 ∷ getD st 1 0 ∷ getD st 2 0 ∷ (keptOf st ++ pairs (secretOf n st))
+front n st h =
+    take-add 67 (4 * n) st ∙ ap₂ (λ (l m : List ℕ). take 67 l ++ m) (three st h) (sym (pairs-words _))
 
 module _ (n : ℕ) (st : List ℕ) (e : length st ≡ long n) where
   pub kept-long : length (keptOf st) ≡ 64
   kept-long = simp (length-take, length-drop) (omega arith)
 
   pub secret-long : length (secretOf n st) ≡ 8 * n
-  secret-long = simp (length-take, length-drop) (omega arith)
+  secret-long = words-long _ ∙ simp (length-take, length-drop) (omega arith)
 
   pub sums-long : length (sumsOf n st) ≡ 8 * n
-  sums-long = simp length-drop (omega arith)
+  sums-long = words-long _ ∙ simp (length-take, length-drop) (omega arith)
 
-module _ (n call scheme t : ℕ) (kept secret sums : List ℕ) (k : length kept ≡ 64) (s : length secret ≡ 8 * n) where
-  pub laid-long : length sums ≡ 8 * n → length (laid call scheme t kept secret sums) ≡ long n
-  laid-long e = simp length-append (omega arith)
+  pub held-long : length (heldOf n st) ≡ 8 * n
+  held-long = simp length-drop (omega arith)
 
-  pub laid-kept : keptOf (laid call scheme t kept secret sums) ≡ kept
-  laid-kept = take-at kept (secret ++ sums) 64 k
+-- ---- words that come back from their numbers
 
-  behind-kept : drop 67 (laid call scheme t kept secret sums) ≡ secret ++ sums
-  behind-kept = drop-at kept (secret ++ sums) 64 k
+pub again-words : (xs : List ℕ) → words (pairs (words xs)) ≡ words xs
+again-words xs = ap words (pairs-words xs)
 
-  pub laid-secret : secretOf n (laid call scheme t kept secret sums) ≡ secret
-  laid-secret = ap (take (8 * n)) behind-kept ∙ take-at secret sums (8 * n) s
+pub made-words : (n m : ℕ) (f : ℕ → ℕ → ℕ) (ws : List ℕ) → length ws ≡ 8 * n → words (pairs (gained wrap m f ws)) ≡ gained wrap m f ws
+made-words n m f ws e = words-pairs _ (4 * n) (gained-length wrap m f ws ∙ omega arith) (gained-below wrap m f ws (omega arith))
 
-  pub laid-sums : sumsOf n (laid call scheme t kept secret sums) ≡ sums
-  laid-sums = sym (drop-drop (8 * n) 67 (laid call scheme t kept secret sums)) ∙ ap (drop (8 * n)) behind-kept ∙ drop-at secret sums (8 * n) s
+module _ (n call scheme t : ℕ) (kept secret sums held : List ℕ) (k : length kept ≡ 64) (s : length secret ≡ 8 * n) (u : length sums ≡ 8 * n) where
+  secret-half : length (pairs secret) ≡ 4 * n
+  secret-half = pairs-long secret (4 * n) (omega arith)
+
+  sums-half : length (pairs sums) ≡ 4 * n
+  sums-half = pairs-long sums (4 * n) (omega arith)
+
+  pub laid-long : length held ≡ 8 * n → length (laid call scheme t kept secret sums held) ≡ long n
+  laid-long e = simp length-append (omega (arith, secret-half, sums-half))
+
+  pub laid-kept : keptOf (laid call scheme t kept secret sums held) ≡ kept
+  laid-kept = take-at kept (pairs secret ++ (pairs sums ++ held)) 64 k
+
+  behind-kept : drop 67 (laid call scheme t kept secret sums held) ≡ pairs secret ++ (pairs sums ++ held)
+  behind-kept = drop-at kept (pairs secret ++ (pairs sums ++ held)) 64 k
+
+  behind-secret : drop (67 + 4 * n) (laid call scheme t kept secret sums held) ≡ pairs sums ++ held
+  behind-secret =
+      sym (drop-drop (4 * n) 67 (laid call scheme t kept secret sums held))
+      ∙ ap (drop (4 * n)) behind-kept
+      ∙ drop-at (pairs secret) (pairs sums ++ held) (4 * n) secret-half
+
+  pub laid-secret : words (pairs secret) ≡ secret → secretOf n (laid call scheme t kept secret sums held) ≡ secret
+  laid-secret w = ap words (ap (take (4 * n)) behind-kept ∙ take-at (pairs secret) (pairs sums ++ held) (4 * n) secret-half) ∙ w
+
+  pub laid-sums : words (pairs sums) ≡ sums → sumsOf n (laid call scheme t kept secret sums held) ≡ sums
+  laid-sums w = ap words (ap (take (4 * n)) behind-secret ∙ take-at (pairs sums) held (4 * n) sums-half) ∙ w
+
+  pub laid-held : heldOf n (laid call scheme t kept secret sums held) ≡ held
+  laid-held = sym (held-at n (laid call scheme t kept secret sums held)) ∙ ap (drop (4 * n)) behind-secret ∙ drop-at (pairs sums) held (4 * n) sums-half
+
+-- ---- words into zeros, two in each number
+
+pub pairs-laid :
+    (n : ℕ) (secret noise out x y : List ℕ) → length secret ≡ 8 * n → out ≡ replicate (16 * n) 0 → x ≡ pairs secret → y ≡ pairs noise →
+    take (4 * n) (x ++ drop (4 * n) out) ++ (y ++ drop (4 * n + 4 * n - 4 * n) (drop (4 * n) (x ++ drop (4 * n) out)))
+    ≡ pairs secret ++ (pairs noise ++ replicate (8 * n) 0)
+pairs-laid n secret noise out x y s z d e =
+    let l : length x ≡ 4 * n = ap length d ∙ pairs-long secret (4 * n) (omega arith) in
+    let m : 4 * n + 4 * n - 4 * n ≡ 4 * n = omega arith in
+    let r : 16 * n - (4 * n + 4 * n) ≡ 8 * n = omega arith in
+    ap₂ (λ (u v : List ℕ). u ++ (y ++ drop (4 * n + 4 * n - 4 * n) v)) (take-at x (drop (4 * n) out) (4 * n) l ∙ d) (drop-at x (drop (4 * n) out) (4 * n) l)
+    ∙ ap₂ (λ (u v : List ℕ). pairs secret ++ (u ++ v)) e
+    (ap (λ (k : ℕ). drop k (drop (4 * n) out)) m
+    ∙ drop-drop (4 * n) (4 * n) out
+    ∙ ap (drop (4 * n + 4 * n)) z
+    ∙ drop-same (4 * n + 4 * n) (16 * n) 0
+    ∙ ap (λ (k : ℕ). replicate {A = ℕ} k 0) r)
 
 -- ---- what is kept
 
@@ -85,9 +154,12 @@ module _ (n call scheme : ℕ) (st : List ℕ) (l : length st ≡ long n) (z : s
       let o : st ≡ 0 ∷ 0 ∷ 0 ∷ replicate (16 * n + 64) 0 = z ∙ ap (λ (m : ℕ). replicate {A = ℕ} m 0) a in
       rw o
 
-  left-long : length (drop 64 zeros) ≡ 16 * n
+  left-zeros : drop 64 zeros ≡ replicate (16 * n) 0
   unfolding zeros
-  left-long = simp (length-drop, length-replicate) (omega arith)
+  left-zeros = let e : 16 * n + 64 - 64 ≡ 16 * n = omega arith in drop-same 64 (16 * n + 64) 0 ∙ ap (λ (m : ℕ). replicate {A = ℕ} m 0) e
+
+  left-long : length (drop 64 zeros) ≡ 16 * n
+  left-long = ap length left-zeros ∙ length-replicate (16 * n) 0
 
   pub kept-zeros : take 64 (drop 3 (set (set st 0 call) 1 scheme)) ≡ replicate 64 0
   kept-zeros =
@@ -99,12 +171,16 @@ module _ (n call scheme : ℕ) (st : List ℕ) (l : length st ≡ long n) (z : s
   headed-long {k} d e = ap length (headed-is k) ∙ simp length-append (omega (arith, left-long, ap length d))
 
   -- the room behind them
-  pub behind-long : {k kept : List ℕ} → k ≡ kept → length kept ≡ 64 → length (take (length (headed k) - 67) (drop 67 (headed k))) ≡ 16 * n
-  behind-long d e = simp (length-take, length-drop) (omega (arith, headed-long d e))
+  pub behind-zeros : {k kept : List ℕ} → k ≡ kept → length kept ≡ 64 → take (length (headed k) - 67) (drop 67 (headed k)) ≡ replicate (16 * n) 0
+  behind-zeros {k} d e =
+      let b : length (headed k) - 67 ≡ 16 * n = omega (arith, headed-long d e) in
+      ap₂ (λ (m : ℕ) (v : List ℕ). take m (drop 67 v)) b (headed-is k)
+      ∙ ap (take (16 * n)) (drop-at k (drop 64 zeros) 64 (ap length d ∙ e) ∙ left-zeros)
+      ∙ take-same (16 * n) (16 * n) 0 (omega arith)
 
-  pub lay-is : (kept secret sums : List ℕ) {k w : List ℕ} → length kept ≡ 64 → k ≡ kept → w ≡ secret ++ sums
-      → putMid 67 (length (headed k) - 67) (headed k) w ≡ laid call scheme 0 kept secret sums
-  lay-is kept secret sums {k} {w} h e d =
+  pub lay-is : (kept secret sums held : List ℕ) {k w : List ℕ} → length kept ≡ 64 → k ≡ kept → w ≡ pairs secret ++ (pairs sums ++ held)
+      → putMid 67 (length (headed k) - 67) (headed k) w ≡ laid call scheme 0 kept secret sums held
+  lay-is kept secret sums held {k} {w} h e d =
       let lk : length k ≡ 64 = ap length e ∙ h in
       let b : length (headed k) - 67 ≡ 16 * n = omega (arith, headed-long e h) in
       let short : length (drop 64 zeros) ≤ 16 * n = omega (arith, left-long) in

@@ -7,7 +7,7 @@ use mathlib.Core.List.{List, _++_}
 use Prim.Native.Nat.{ℕ, _+_, _*_}
 use native.Mathlib.Omega.{arith}
 use native.Mathlib.Nat.{le-trans}
-use lib.ListN.{length, getD, take, drop, replicate}
+use lib.ListN.{length, getD, take, drop, replicate, length-replicate}
 use lib.Seq.{take-at, drop-at}
 use Rattle.schemes.specs.Schemes.{familyOf, fixedOf, numberOf}
 use Rattle.schemes.specs.declared.Family.{Family}
@@ -21,6 +21,7 @@ use Rattle.matrix.specs.Steps.{wordsOf, columnsOf, gained, reduced, rightTerm}
 use Rattle.matrix.proofs.Steps.{words-length}
 use Rattle.parts.specs.Parts.{wrap}
 use Rattle.parts.proofs.Joining.{whole-right}
+use Rattle.parts.proofs.Words.{words-pairs}
 use Rattle.front.specs.Front.{_then_, inTurn, notBlank, secretsIn}
 use Rattle.front.specs.Promise.{Told, put}
 use Rattle.front.specs.declared.Verdict.{Verdict}
@@ -38,9 +39,9 @@ use Rattle.rows.specs.Shown.{OfferTry, SameOffer, EarlyOffer}
 use Rattle.rows.specs.declared.Call.{Call}
 use Rattle.rows.proofs.Tests.{goes, below-all, starts, completes, complete-so, frodos}
 use Rattle.rows.proofs.Laying.{laid-long, laid-kept, laid-secret, laid-sums, seed-kept-long}
-use Rattle.rows.proofs.Running.{kept-still, after-kept, after-sums, after-long, Walked, walked}
+use Rattle.rows.proofs.Running.{kept-still, whole-front, after-kept, after-sums, after-long, Walked, walked}
 use Rattle.rows.proofs.Opening.{OfferSized, begin-sized, columns-long}
-use Rattle.rows.proofs.Ends.{wrote-same, wrote-none, number-names, by-frodo, words-below}
+use Rattle.rows.proofs.Ends.{wrote-same, wrote-none, number-names, by-frodo, words-below, columns-below}
 
 -- turn, room and blank part; and of the whole call lengths, room, numbers, secrets and blank part
 chain : (i r b l p s e b' : Verdict) → i ≡ Pass → l ≡ Pass → p ≡ Pass → s ≡ Pass → e ≡ Pass → b ≡ b'
@@ -63,13 +64,16 @@ module _ (c : Scheme) (x : OfferBegin) (m : ℕ) (first : List ℕ) (frodo : fam
   abbrev kept : List ℕ
   kept = x .seed ++ replicate 48 0
 
+  abbrev zeros : List ℕ
+  zeros = replicate (8 * fixedOf c .n) 0
+
   abbrev columns : List ℕ
   columns = columnsOf wrap (fixedOf c .n) (x .s)
 
   passes : offerBeginTests (Is c) x m ≡ Pass
   passes = number-zero _ (begins .told .refusal)
 
-  first-is : first ≡ laid 1 (numberOf c) 0 kept columns (wordsOf wrap (x .e))
+  first-is : first ≡ laid 1 (numberOf c) 0 kept columns (wordsOf wrap (x .e)) (replicate (8 * fixedOf c .n) 0)
   unfolding offerState
   first-is = begins .state ∙ ap (λ (v : Verdict). put v (offerState (Is c) x) (replicate m 0)) passes
 
@@ -96,19 +100,28 @@ module _ (c : Scheme) (x : OfferBegin) (m : ℕ) (first : List ℕ) (frodo : fam
   noise-is : length (x .e) ≡ 8 * fixedOf c .n
   noise-is = sized .noise ∙ f .noise
 
+  sums-is : length (wordsOf wrap (x .e)) ≡ 8 * fixedOf c .n
+  sums-is = words-length wrap (x .e) ∙ noise-is
+
   first-long : length first ≡ long (fixedOf c .n)
   first-long =
       ap length first-is
-      ∙ laid-long (fixedOf c .n) 1 (numberOf c) 0 kept columns (wordsOf wrap (x .e)) kept-is secret-is (words-length wrap (x .e) ∙ noise-is)
+      ∙ laid-long (fixedOf c .n) 1 (numberOf c) 0 kept columns (wordsOf wrap (x .e)) zeros kept-is secret-is sums-is (length-replicate (8 * fixedOf c .n) 0)
 
   first-kept : keptOf first ≡ kept
-  first-kept = ap keptOf first-is ∙ laid-kept (fixedOf c .n) 1 (numberOf c) 0 kept columns (wordsOf wrap (x .e)) kept-is secret-is
+  first-kept = ap keptOf first-is ∙ laid-kept (fixedOf c .n) 1 (numberOf c) 0 kept columns (wordsOf wrap (x .e)) zeros kept-is secret-is sums-is
 
   first-secret : secretOf (fixedOf c .n) first ≡ columns
-  first-secret = ap (secretOf (fixedOf c .n)) first-is ∙ laid-secret (fixedOf c .n) 1 (numberOf c) 0 kept columns (wordsOf wrap (x .e)) kept-is secret-is
+  first-secret =
+      ap (secretOf (fixedOf c .n)) first-is
+      ∙ laid-secret (fixedOf c .n) 1 (numberOf c) 0 kept columns (wordsOf wrap (x .e)) zeros kept-is secret-is sums-is
+      (words-pairs columns (4 * fixedOf c .n) (secret-is ∙ omega arith) (columns-below (fixedOf c .n) (x .s)))
 
   first-sums : sumsOf (fixedOf c .n) first ≡ wordsOf wrap (x .e)
-  first-sums = ap (sumsOf (fixedOf c .n)) first-is ∙ laid-sums (fixedOf c .n) 1 (numberOf c) 0 kept columns (wordsOf wrap (x .e)) kept-is secret-is
+  first-sums =
+      ap (sumsOf (fixedOf c .n)) first-is
+      ∙ laid-sums (fixedOf c .n) 1 (numberOf c) 0 kept columns (wordsOf wrap (x .e)) zeros kept-is secret-is sums-is
+      (words-pairs (wordsOf wrap (x .e)) (4 * fixedOf c .n) (sums-is ∙ omega arith) (words-below (x .e)))
 
   first-named : named first ≡ Is c
   first-named = ap named first-is ∙ number-names c frodo
@@ -128,7 +141,7 @@ module _ (c : Scheme) (x : OfferBegin) (m : ℕ) (first : List ℕ) (frodo : fam
     last-taken = ap taken (walk .is)
 
     last-kept : keptOf last ≡ kept
-    last-kept = ap keptOf (walk .is) ∙ after-kept Call.Offer (fixedOf c .n) first first-long a ∙ first-kept
+    last-kept = ap keptOf (walk .is) ∙ after-kept Call.Offer (fixedOf c .n) first first-long a (walk .held) ∙ first-kept
 
     last-seed : take 16 (keptOf last) ≡ x .seed
     last-seed = ap (take 16) last-kept ∙ take-at (x .seed) (replicate 48 0) 16 seed-is
@@ -136,17 +149,20 @@ module _ (c : Scheme) (x : OfferBegin) (m : ℕ) (first : List ℕ) (frodo : fam
     last-rest : drop 16 (keptOf last) ≡ replicate 48 0
     last-rest = ap (drop 16) last-kept ∙ drop-at (x .seed) (replicate 48 0) 16 seed-is
 
-    last-sums : sumsOf (fixedOf c .n) last ≡ gained wrap (fixedOf c .n) (rightTerm (fixedOf c .n) a columns) (wordsOf wrap (x .e))
-    last-sums =
+    -- all of A has come in whole blocks
+    last-sums : length a ≡ fixedOf c .public → sumsOf (fixedOf c .n) last ≡ gained wrap (fixedOf c .n) (rightTerm (fixedOf c .n) a columns) (wordsOf wrap (x .e))
+    last-sums all =
         ap (sumsOf (fixedOf c .n)) (walk .is)
-        ∙ after-sums Call.Offer (fixedOf c .n) first first-long a
+        ∙ after-sums Call.Offer (fixedOf c .n) first first-long a (walk .held)
+        ∙ ap (λ (l : List ℕ). gained wrap (fixedOf c .n) (rightTerm (fixedOf c .n) l (secretOf (fixedOf c .n) first)) (sumsOf (fixedOf c .n) first))
+        (whole-front (fixedOf c .n) a (f .some) (frodos c frodo .eights) (all ∙ f .public))
         ∙ ap₂ (λ (s e : List ℕ). gained wrap (fixedOf c .n) (rightTerm (fixedOf c .n) a s) e) first-secret first-sums
 
     last-begun : begun Call.Offer (fixedOf c) last ≡ true
     last-begun =
         starts Call.Offer (fixedOf c) last
         (record {
-          is-long = ap length (walk .is) ∙ after-long Call.Offer (fixedOf c .n) first first-long a;
+          is-long = ap length (walk .is) ∙ after-long Call.Offer (fixedOf c .n) first first-long a (walk .held) (walk .behind .is-long);
           is-call = ap (λ (l : List ℕ). getD l 0 0) (walk .is) ∙ ap (λ (l : List ℕ). getD l 0 0) first-is;
           at-most = omega (arith, last-taken, walk .few);
           kept-in =
@@ -190,7 +206,7 @@ module _ (c : Scheme) (x : OfferBegin) (m : ℕ) (first : List ℕ) (frodo : fam
       sent : sentPart c last ≡ offeredPart c whole
       unfolding offered
       sent =
-          ap (λ (l : List ℕ). packed (fixedOf c .width) (reduced (fixedOf c .q) l)) last-sums
+          ap (λ (l : List ℕ). packed (fixedOf c .width) (reduced (fixedOf c .q) l)) (last-sums all)
           ∙ ap (packed (fixedOf c .width))
           (whole-right wrap (fixedOf c .q) (fixedOf c .n) a (x .s) (x .e) (omega arith) (frodos c frodo .words) fit noise-is ∙ sym (by-frodo _ _ _ frodo))
 

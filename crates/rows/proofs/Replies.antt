@@ -7,7 +7,7 @@ use mathlib.Core.List.{List, [], _++_}
 use Prim.Native.Nat.{ℕ, _*_}
 use native.Mathlib.Omega.{arith}
 use native.Mathlib.Nat.{le-trans}
-use lib.ListN.{length, getD, replicate}
+use lib.ListN.{length, getD, replicate, length-replicate}
 use Rattle.schemes.specs.Schemes.{familyOf, fixedOf, numberOf}
 use Rattle.schemes.specs.declared.Family.{Family}
 use Rattle.schemes.specs.declared.Named.the-variants.{Is}
@@ -20,6 +20,7 @@ use Rattle.matrix.specs.Steps.{wordsOf, gained, reduced, leftTerm}
 use Rattle.matrix.proofs.Steps.{words-length}
 use Rattle.parts.specs.Parts.{wrap}
 use Rattle.parts.proofs.Joining.{whole-left}
+use Rattle.parts.proofs.Words.{words-pairs}
 use Rattle.front.specs.Front.{_then_, inTurn, notBlank}
 use Rattle.front.specs.Promise.{Told, put}
 use Rattle.front.specs.declared.Verdict.{Verdict}
@@ -42,7 +43,7 @@ use Rattle.rows.specs.Shown.{ReplyTry, SameReply, EarlyReply}
 use Rattle.rows.specs.declared.Call.{Call}
 use Rattle.rows.proofs.Tests.{below-all, starts, completes, complete-so, frodos}
 use Rattle.rows.proofs.Laying.{laid-long, laid-kept, laid-secret, laid-sums}
-use Rattle.rows.proofs.Running.{kept-still, after-kept, after-sums, after-long, Walked, walked}
+use Rattle.rows.proofs.Running.{kept-still, whole-front, after-kept, after-sums, after-long, Walked, walked}
 use Rattle.rows.proofs.Ends.{wrote-same, wrote-none, number-names, by-frodo, words-below}
 use Rattle.rows.proofs.Replying.{Sized, begin-sized, opened-tests, no-coins-hints, no-coins-keys}
 
@@ -66,7 +67,7 @@ module _ (c : Scheme) (x : ReplyBegin) (m : ℕ) (first : List ℕ) (frodo : fam
   passes : replyBeginTests (Is c) x m ≡ Pass
   passes = number-zero _ (begins .told .refusal)
 
-  first-is : first ≡ laid 2 (numberOf c) 0 (valueOf c x) (wordsOf wrap (x .s')) (wordsOf wrap (x .e'))
+  first-is : first ≡ laid 2 (numberOf c) 0 (valueOf c x) (wordsOf wrap (x .s')) (wordsOf wrap (x .e')) (replicate (8 * fixedOf c .n) 0)
   unfolding replyState
   first-is = begins .state ∙ ap (λ (v : Verdict). put v (replyState (Is c) x) (replicate m 0)) passes
 
@@ -95,24 +96,33 @@ module _ (c : Scheme) (x : ReplyBegin) (m : ℕ) (first : List ℕ) (frodo : fam
   noise-long : length (x .e') ≡ 8 * fixedOf c .n
   noise-long = sized .noise-long ∙ f .noise
 
+  abbrev zeros : List ℕ
+  zeros = replicate (8 * fixedOf c .n) 0
+
+  sums-is : length (wordsOf wrap (x .e')) ≡ 8 * fixedOf c .n
+  sums-is = words-length wrap (x .e') ∙ noise-long
+
   first-long : length first ≡ long (fixedOf c .n)
   first-long =
       ap length first-is
-      ∙ laid-long (fixedOf c .n) 2 (numberOf c) 0 (valueOf c x) (wordsOf wrap (x .s')) (wordsOf wrap (x .e')) value-long secret-long (words-length wrap (x .e') ∙ noise-long)
+      ∙ laid-long (fixedOf c .n) 2 (numberOf c) 0 (valueOf c x) (wordsOf wrap (x .s')) (wordsOf wrap (x .e')) zeros value-long secret-long sums-is
+      (length-replicate (8 * fixedOf c .n) 0)
 
   first-kept : keptOf first ≡ valueOf c x
   first-kept =
-      ap keptOf first-is ∙ laid-kept (fixedOf c .n) 2 (numberOf c) 0 (valueOf c x) (wordsOf wrap (x .s')) (wordsOf wrap (x .e')) value-long secret-long
+      ap keptOf first-is ∙ laid-kept (fixedOf c .n) 2 (numberOf c) 0 (valueOf c x) (wordsOf wrap (x .s')) (wordsOf wrap (x .e')) zeros value-long secret-long sums-is
 
   first-secret : secretOf (fixedOf c .n) first ≡ wordsOf wrap (x .s')
   first-secret =
       ap (secretOf (fixedOf c .n)) first-is
-      ∙ laid-secret (fixedOf c .n) 2 (numberOf c) 0 (valueOf c x) (wordsOf wrap (x .s')) (wordsOf wrap (x .e')) value-long secret-long
+      ∙ laid-secret (fixedOf c .n) 2 (numberOf c) 0 (valueOf c x) (wordsOf wrap (x .s')) (wordsOf wrap (x .e')) zeros value-long secret-long sums-is
+      (words-pairs (wordsOf wrap (x .s')) (4 * fixedOf c .n) (secret-long ∙ omega arith) (words-below (x .s')))
 
   first-sums : sumsOf (fixedOf c .n) first ≡ wordsOf wrap (x .e')
   first-sums =
       ap (sumsOf (fixedOf c .n)) first-is
-      ∙ laid-sums (fixedOf c .n) 2 (numberOf c) 0 (valueOf c x) (wordsOf wrap (x .s')) (wordsOf wrap (x .e')) value-long secret-long
+      ∙ laid-sums (fixedOf c .n) 2 (numberOf c) 0 (valueOf c x) (wordsOf wrap (x .s')) (wordsOf wrap (x .e')) zeros value-long secret-long sums-is
+      (words-pairs (wordsOf wrap (x .e')) (4 * fixedOf c .n) (sums-is ∙ omega arith) (words-below (x .e')))
 
   first-named : named first ≡ Is c
   first-named = ap named first-is ∙ number-names c frodo
@@ -132,19 +142,23 @@ module _ (c : Scheme) (x : ReplyBegin) (m : ℕ) (first : List ℕ) (frodo : fam
     last-taken = ap taken (walk .is)
 
     last-kept : keptOf last ≡ valueOf c x
-    last-kept = ap keptOf (walk .is) ∙ after-kept Call.Reply (fixedOf c .n) first first-long a ∙ first-kept
+    last-kept = ap keptOf (walk .is) ∙ after-kept Call.Reply (fixedOf c .n) first first-long a (walk .held) ∙ first-kept
 
-    last-sums : sumsOf (fixedOf c .n) last ≡ gained wrap (fixedOf c .n) (leftTerm (fixedOf c .n) (fixedOf c .n) (wordsOf wrap (x .s')) a) (wordsOf wrap (x .e'))
-    last-sums =
+    -- all of A has come in whole blocks
+    last-sums : length a ≡ fixedOf c .public
+        → sumsOf (fixedOf c .n) last ≡ gained wrap (fixedOf c .n) (leftTerm (fixedOf c .n) (fixedOf c .n) (wordsOf wrap (x .s')) a) (wordsOf wrap (x .e'))
+    last-sums all =
         ap (sumsOf (fixedOf c .n)) (walk .is)
-        ∙ after-sums Call.Reply (fixedOf c .n) first first-long a
+        ∙ after-sums Call.Reply (fixedOf c .n) first first-long a (walk .held)
+        ∙ ap (λ (l : List ℕ). gained wrap (fixedOf c .n) (leftTerm (fixedOf c .n) (fixedOf c .n) (secretOf (fixedOf c .n) first) l) (sumsOf (fixedOf c .n) first))
+        (whole-front (fixedOf c .n) a (f .some) (frodos c frodo .eights) (all ∙ f .public))
         ∙ ap₂ (λ (s e : List ℕ). gained wrap (fixedOf c .n) (leftTerm (fixedOf c .n) (fixedOf c .n) s a) e) first-secret first-sums
 
     last-begun : begun Call.Reply (fixedOf c) last ≡ true
     last-begun =
         starts Call.Reply (fixedOf c) last
         (record {
-          is-long = ap length (walk .is) ∙ after-long Call.Reply (fixedOf c .n) first first-long a;
+          is-long = ap length (walk .is) ∙ after-long Call.Reply (fixedOf c .n) first first-long a (walk .held) (walk .behind .is-long);
           is-call = ap (λ (l : List ℕ). getD l 0 0) (walk .is) ∙ ap (λ (l : List ℕ). getD l 0 0) first-is;
           at-most = omega (arith, last-taken, walk .few);
           kept-in = ap (allBelow (fixedOf c .q)) last-kept ∙ below-all (fixedOf c .q) (valueOf c x) (value .below);
@@ -182,7 +196,7 @@ module _ (c : Scheme) (x : ReplyBegin) (m : ℕ) (first : List ℕ) (frodo : fam
       sent : sentPart c last ≡ repliedPart c a (x .s') (x .e')
       unfolding replied
       sent =
-          ap (λ (l : List ℕ). packed (fixedOf c .width) (reduced (fixedOf c .q) l)) last-sums
+          ap (λ (l : List ℕ). packed (fixedOf c .width) (reduced (fixedOf c .q) l)) (last-sums all)
           ∙ ap (packed (fixedOf c .width))
           (whole-left wrap (fixedOf c .q) (fixedOf c .n) a (x .s') (x .e') (omega arith) (frodos c frodo .words) fit noise-long ∙ sym (by-frodo _ _ _ frodo))
 

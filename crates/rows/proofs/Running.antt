@@ -1,38 +1,46 @@
 -- Parts, one after the other, some of them refused.
 --   kept-still       a verdict with a number leaves what was there
---   after            the state st, once the numbers xs have come
---   after-kept, after-sums, after-long, after-none   its parts, its length, and where none has come
---   stepped-after    a part behind the numbers xs that have come
+--   after            the state st, once the numbers xs have come, with the rows `held` behind
+--   after-kept, after-sums, after-held, after-long, after-none   its parts, its length, and where none has come
+--   Behind           the numbers behind the blocks that have come whole are held back
+--   whole-front      all of A is whole blocks
+--   Stepped, stepped-after   a part behind the numbers xs that have come
 --   Walked, walked   what any parts leave: the state after the numbers that they join into, which are in range and not too many
 --   running          what is shown of the sums and the count
 use mathlib.Core.Path.{_≡_, refl, _∙_, sym, ap, ap₂, subst}
+use mathlib.Core.Bool.{Bool, true, false, cond}
 use mathlib.Core.List.{List, [], _++_, append-assoc, append-nil}
-use Prim.Native.Nat.{ℕ, zero, suc, _+_, _*_, _≤_, _<_}
+use Prim.Native.Nat.{ℕ, zero, suc, _+_, _*_, _-_, _/_, _%_, _≤_, _<_}
 use native.Mathlib.Omega.{arith}
-use lib.ListN.{length, getD, length-append}
+use native.Mathlib.Nat.{zero-mod, div-add-mod', div-mul-le-self}
+use lib.ListN.{length, getD, take, drop, replicate, length-append, length-take, length-drop, length-replicate, take-append-drop, drop-of-length-le}
+use lib.Seq.{take-at, take-all, take-nil, drop-nil, take-append-le, drop-append-le, length-take-le}
 use Rattle.schemes.specs.Schemes.{fixedOf}
 use Rattle.schemes.specs.declared.Named.the-variants.{Is}
 use Rattle.schemes.specs.declared.Scheme.{Scheme}
 use Rattle.schemes.proofs.Sound.{sound}
 use Rattle.lists.specs.Entries.{Below}
-use Rattle.lists.proofs.Parts.{below-drop}
+use Rattle.lists.proofs.Parts.{below-drop, below-take}
 use Rattle.lists.proofs.Same.{append-all}
 use Rattle.matrix.specs.Steps.{gained}
 use Rattle.matrix.proofs.Steps.{gained-length}
 use Rattle.parts.specs.Parts.{wrap, placed}
 use Rattle.parts.proofs.Joining.{so-far, nothing}
+use Rattle.parts.proofs.Words.{words-below}
+use Rattle.ends.proofs.Numbers.{numbers-in}
 use Rattle.front.specs.Front.{numberIn}
 use Rattle.front.specs.Promise.{put}
 use Rattle.front.specs.declared.Verdict.{Verdict}
 use Rattle.front.specs.declared.Verdict.the-variants.{Pass, Fail}
 use Rattle.front.proofs.Laws.{both, number-zero, turn-passed, publics-passed}
-use Rattle.rows.specs.State.{long, named, taken, keptOf, secretOf, sumsOf, laid, terms, stepped}
+use Rattle.rows.specs.State.{long, named, taken, keptOf, secretOf, sumsOf, heldOf, laid, terms, fills, heldWith, sumsWith, heldAfter, stepped}
 use Rattle.rows.specs.Part.{partIn, partTests, partState, Taken}
 use Rattle.rows.specs.Runs.{Parts}
-use Rattle.rows.specs.Shown.{Running}
+use Rattle.rows.specs.Shown.{blocks, Running}
 use Rattle.rows.specs.declared.Call.{Call}
-use Rattle.rows.proofs.Tests.{passed, started, fits}
-use Rattle.rows.proofs.Laying.{apart, kept-long, secret-long, sums-long, laid-long, laid-kept, laid-secret, laid-sums}
+use Rattle.rows.proofs.Tests.{passed, started, fits, frodo-named}
+use Rattle.rows.proofs.Filling.{fills-up, holds-back, held-div, held-mod, filled-div, filled-mod, start-is, whole-blocks}
+use Rattle.rows.proofs.Laying.{apart, kept-long, secret-long, sums-long, held-long, again-words, made-words, laid-long, laid-kept, laid-secret, laid-sums, laid-held}
 use Rattle.rows.proofs.Taking.{linear}
 
 pub kept-still : {A : Type 0} (v : Verdict) (x old : List A) {number : ℕ} → number ≡ numberIn v → 0 < number → put v x old ≡ old
@@ -41,41 +49,199 @@ kept-still (Fail r) x old e h = refl
 
 module _ (k : Call) (n : ℕ) (st : List ℕ) where
   abbrev pub sums : List ℕ → List ℕ
-  sums xs = gained wrap n (terms k n (secretOf n st) xs) (sumsOf n st)
+  sums xs = gained wrap n (terms k n (secretOf n st) (take (blocks n xs) xs)) (sumsOf n st)
 
-  abbrev pub after : List ℕ → List ℕ
-  after xs = laid (getD st 0 0) (getD st 1 0) (length xs) (keptOf st) (secretOf n st) (sums xs)
+  abbrev pub after : List ℕ → List ℕ → List ℕ
+  after xs held = laid (getD st 0 0) (getD st 1 0) (length xs) (keptOf st) (secretOf n st) (sums xs) held
 
   module _ (l : length st ≡ long n) where
-    pub after-kept : (xs : List ℕ) → keptOf (after xs) ≡ keptOf st
-    after-kept xs = laid-kept n (getD st 0 0) (getD st 1 0) (length xs) (keptOf st) (secretOf n st) (sums xs) (kept-long n st l) (secret-long n st l)
+    sums-wide : (xs : List ℕ) → length (sums xs) ≡ 8 * n
+    sums-wide xs = gained-length wrap n (terms k n (secretOf n st) (take (blocks n xs) xs)) (sumsOf n st) ∙ sums-long n st l
 
-    after-secret : (xs : List ℕ) → secretOf n (after xs) ≡ secretOf n st
-    after-secret xs = laid-secret n (getD st 0 0) (getD st 1 0) (length xs) (keptOf st) (secretOf n st) (sums xs) (kept-long n st l) (secret-long n st l)
+    module _ (xs held : List ℕ) where
+      pub after-kept : keptOf (after xs held) ≡ keptOf st
+      after-kept =
+          laid-kept n (getD st 0 0) (getD st 1 0) (length xs) (keptOf st) (secretOf n st) (sums xs) held (kept-long n st l) (secret-long n st l) (sums-wide xs)
 
-    pub after-sums : (xs : List ℕ) → sumsOf n (after xs) ≡ sums xs
-    after-sums xs = laid-sums n (getD st 0 0) (getD st 1 0) (length xs) (keptOf st) (secretOf n st) (sums xs) (kept-long n st l) (secret-long n st l)
+      after-secret : secretOf n (after xs held) ≡ secretOf n st
+      after-secret =
+          laid-secret n (getD st 0 0) (getD st 1 0) (length xs) (keptOf st) (secretOf n st) (sums xs) held (kept-long n st l) (secret-long n st l) (sums-wide xs)
+          (again-words _)
 
-    pub stepped-after : (xs p : List ℕ) → stepped k n (after xs) p ≡ after (xs ++ p)
-    unfolding stepped
-    stepped-after xs p =
-        rw (after-kept xs, after-secret xs, after-sums xs, so-far wrap n (terms k n (secretOf n st)) (linear k n (secretOf n st)) xs p (sumsOf n st), length-append xs p)
-        refl
+      pub after-sums : sumsOf n (after xs held) ≡ sums xs
+      after-sums =
+          laid-sums n (getD st 0 0) (getD st 1 0) (length xs) (keptOf st) (secretOf n st) (sums xs) held (kept-long n st l) (secret-long n st l) (sums-wide xs)
+          (made-words n n _ (sumsOf n st) (sums-long n st l))
 
-    pub after-long : (xs : List ℕ) → length (after xs) ≡ long n
-    after-long xs = laid-long n (getD st 0 0) (getD st 1 0) (length xs) (keptOf st) (secretOf n st) (sums xs) (kept-long n st l) (secret-long n st l)
-        (gained-length wrap n (terms k n (secretOf n st) xs) (sumsOf n st) ∙ sums-long n st l)
+      pub after-held : heldOf n (after xs held) ≡ held
+      after-held =
+          laid-held n (getD st 0 0) (getD st 1 0) (length xs) (keptOf st) (secretOf n st) (sums xs) held (kept-long n st l) (secret-long n st l) (sums-wide xs)
 
-    pub after-none : taken st ≡ 0 → Below wrap (sumsOf n st) → after [] ≡ st
+      pub after-long : length held ≡ 8 * n → length (after xs held) ≡ long n
+      after-long =
+          laid-long n (getD st 0 0) (getD st 1 0) (length xs) (keptOf st) (secretOf n st) (sums xs) held (kept-long n st l) (secret-long n st l) (sums-wide xs)
+
+    pub after-none : taken st ≡ 0 → Below wrap (sumsOf n st) → after [] (heldOf n st) ≡ st
     unfolding placed
     after-none t b =
-        ap₂ (λ (c : ℕ) (s : List ℕ). laid (getD st 0 0) (getD st 1 0) c (keptOf st) (secretOf n st) s) (sym t)
-        (nothing wrap n _ (linear k n (secretOf n st)) 0 (sumsOf n st) b)
+        ap₂ (λ (c : ℕ) (s : List ℕ). laid (getD st 0 0) (getD st 1 0) c (keptOf st) (secretOf n st) s (heldOf n st)) (sym t)
+        (ap (λ (x : List ℕ). gained wrap n (terms k n (secretOf n st) x) (sumsOf n st)) (take-nil (blocks n []))
+        ∙ nothing wrap n _ (linear k n (secretOf n st)) 0 (sumsOf n st) b)
         ∙ sym (apart n st l)
+
+-- ---- what is held back
+
+pub record Behind (n : ℕ) (xs held : List ℕ) : Type 0 where
+  pub is-long : length held ≡ 8 * n
+  pub is : take (length xs % (8 * n)) held ≡ drop (blocks n xs) xs
+
+module _ (n : ℕ) (xs p held : List ℕ) (some : 0 < n) (row : length xs % n + length p ≤ n) (h : Behind n xs held) where
+  abbrev o : ℕ
+  o = length xs % (8 * n)
+
+  abbrev b : ℕ
+  b = length xs / (8 * n) * (8 * n)
+
+  few : b ≤ length xs
+  few = div-mul-le-self (length xs) (8 * n)
+
+  -- the rows with the part
+  abbrev more : List ℕ
+  more = take o held ++ (p ++ drop (o + length p) held)
+
+  joint : take o held ++ p ≡ drop b (xs ++ p)
+  joint = ap (λ (l : List ℕ). l ++ p) (h .is) ∙ sym (drop-append-le b xs p few)
+
+  module _ (f : fills n (length xs) (length p) ≡ false) where
+    same-blocks : blocks n (xs ++ p) ≡ b
+    same-blocks = ap (λ (m : ℕ). m / (8 * n) * (8 * n)) (length-append xs p) ∙ ap (λ (m : ℕ). m * (8 * n)) (held-div n (length xs) (length p) some row f)
+
+    same-front : take (blocks n (xs ++ p)) (xs ++ p) ≡ take b xs
+    same-front = ap (λ (m : ℕ). take m (xs ++ p)) same-blocks ∙ take-append-le b xs p few
+
+    still-behind : Behind n (xs ++ p) more
+    still-behind =
+        let e = holds-back n (length xs) (length p) some row f in
+        let m : length (xs ++ p) % (8 * n) ≡ o + length p = ap (λ (j : ℕ). j % (8 * n)) (length-append xs p) ∙ held-mod n (length xs) (length p) some row f in
+        let s : length (take o held ++ p) ≡ o + length p = simp (length-append, length-take) (omega (arith, e, h .is-long)) in
+        record {
+          is-long = simp (length-append, length-take, length-drop) (omega (arith, e, h .is-long));
+          is =
+              ap₂ (λ (j : ℕ) (l : List ℕ). take j l) m (sym (append-assoc (take o held) p (drop (o + length p) held)))
+              ∙ take-at (take o held ++ p) (drop (o + length p) held) (o + length p) s
+              ∙ joint
+              ∙ ap (λ (j : ℕ). drop j (xs ++ p)) (sym same-blocks);
+        }
+
+  module _ (f : fills n (length xs) (length p) ≡ true) where
+    all-front : take (blocks n (xs ++ p)) (xs ++ p) ≡ xs ++ p
+    all-front =
+        let e : blocks n (xs ++ p) ≡ length (xs ++ p) =
+        ap (λ (m : ℕ). m / (8 * n) * (8 * n)) (length-append xs p) ∙ filled-div n (length xs) (length p) some row f ∙ sym (length-append xs p)
+        in
+        take-all (blocks n (xs ++ p)) (xs ++ p) (omega arith)
+
+    -- the eight rows
+    eight : more ≡ drop b xs ++ p
+    eight =
+        let e = fills-up n (length xs) (length p) some row f in
+        let g : drop (o + length p) held ≡ [] = drop-of-length-le held {i = o + length p} (omega (arith, e, h .is-long)) in
+        ap₂ (λ (u v : List ℕ). u ++ (p ++ v)) (h .is) g ∙ ap (λ (l : List ℕ). drop b xs ++ l) (append-nil p)
+
+    none-behind : Behind n (xs ++ p) (replicate (8 * n) 0)
+    none-behind =
+        let m : length (xs ++ p) % (8 * n) ≡ 0 = ap (λ (j : ℕ). j % (8 * n)) (length-append xs p) ∙ filled-mod n (length xs) (length p) some row f in
+        let e : blocks n (xs ++ p) ≡ length (xs ++ p) =
+        ap (λ (j : ℕ). j / (8 * n) * (8 * n)) (length-append xs p) ∙ filled-div n (length xs) (length p) some row f ∙ sym (length-append xs p)
+        in
+        record {
+          is-long = length-replicate (8 * n) 0;
+          is = ap (λ (j : ℕ). take j (replicate {A = ℕ} (8 * n) 0)) m ∙ sym (drop-of-length-le (xs ++ p) {i = blocks n (xs ++ p)} (omega arith));
+        }
+
+pub whole-front : (n : ℕ) (a : List ℕ) → 0 < n → n % 8 ≡ 0 → length a ≡ n * n → take (blocks n a) a ≡ a
+whole-front n a o e h =
+    let d : blocks n a ≡ length a = ap (λ (m : ℕ). m / (8 * n) * (8 * n)) h ∙ whole-blocks n o e ∙ sym h in
+    take-all (blocks n a) a (omega arith)
+
+-- ---- a part
+
+pub record Stepped (k : Call) (n : ℕ) (st xs p held : List ℕ) : Type 0 where
+  pub rows : List ℕ
+  pub is : stepped k n (after k n st xs held) p ≡ after k n st (xs ++ p) rows
+  pub behind : Behind n (xs ++ p) rows
+
+module _ (k : Call) (n : ℕ) (st : List ℕ) (l : length st ≡ long n) (xs p held : List ℕ) where
+  abbrev now : List ℕ
+  now = after k n st xs held
+
+  abbrev T : List ℕ → ℕ → ℕ → ℕ
+  T = terms k n (secretOf n st)
+
+  step-of : (s h : List ℕ) → sumsWith k n now p ≡ s → heldAfter n now p ≡ h
+      → stepped k n now p ≡ laid (getD st 0 0) (getD st 1 0) (length (xs ++ p)) (keptOf st) (secretOf n st) s h
+  unfolding stepped
+  step-of s h d e =
+      ap (λ (x : List ℕ). laid (getD st 0 0) (getD st 1 0) (length xs + length p) x (secretOf n now) (sumsWith k n now p) (heldAfter n now p)) (after-kept k n st l xs held)
+      ∙ ap (λ (x : List ℕ). laid (getD st 0 0) (getD st 1 0) (length xs + length p) (keptOf st) x (sumsWith k n now p) (heldAfter n now p)) (after-secret k n st l xs held)
+      ∙ ap₂ (λ (x y : List ℕ). laid (getD st 0 0) (getD st 1 0) (length xs + length p) (keptOf st) (secretOf n st) x y) d e
+      ∙ ap (λ (t : ℕ). laid (getD st 0 0) (getD st 1 0) t (keptOf st) (secretOf n st) s h) (sym (length-append xs p))
+
+  with-is : heldWith n now p ≡ take (length xs % (8 * n)) held ++ (p ++ drop (length xs % (8 * n) + length p) held)
+  unfolding heldWith
+  with-is =
+      ap (λ (h : List ℕ). take (length xs % (8 * n)) h ++ (p ++ drop (length xs % (8 * n) + length p) h)) (after-held k n st l xs held)
+
+  module _ (some : 0 < n) (row : length xs % n + length p ≤ n) (h : Behind n xs held) where
+    holds : fills n (length xs) (length p) ≡ false → Stepped k n st xs p held
+    unfolding sumsWith heldAfter
+    holds f =
+        record {
+          rows = more n xs p held some row h;
+          is =
+              step-of _ _
+              (ap (λ (t : Bool). cond t (gained wrap n (terms k n (secretOf n now) (placed (length xs + length p - 8 * n) (heldWith n now p))) (sumsOf n now)) (sumsOf n now)) f
+              ∙ after-sums k n st l xs held
+              ∙ ap (λ (x : List ℕ). gained wrap n (T x) (sumsOf n st)) (sym (same-front n xs p held some row h f)))
+              (ap (λ (t : Bool). cond t (replicate (8 * n) 0) (heldWith n now p)) f ∙ with-is);
+          behind = still-behind n xs p held some row h f;
+        }
+
+    enters : fills n (length xs) (length p) ≡ true → Stepped k n st xs p held
+    unfolding sumsWith heldAfter
+    enters f =
+        let c = length xs / (8 * n) * (8 * n) in
+        let s : length (take c xs) ≡ c = length-take-le c xs (div-mul-le-self (length xs) (8 * n)) in
+        record {
+          rows = replicate (8 * n) 0;
+          is =
+              step-of _ _
+              (ap (λ (t : Bool). cond t (gained wrap n (terms k n (secretOf n now) (placed (length xs + length p - 8 * n) (heldWith n now p))) (sumsOf n now)) (sumsOf n now)) f
+              ∙ ap₂ (λ (x y : List ℕ). gained wrap n (terms k n x (placed (length xs + length p - 8 * n) (heldWith n now p))) y) (after-secret k n st l xs held) (after-sums k n st l xs held)
+              ∙ ap₂ (λ (i : ℕ) (x : List ℕ). gained wrap n (T (placed i x)) (sums k n st xs)) (start-is n (length xs) (length p) some row f ∙ sym s) (with-is ∙ eight n xs p held some row h f)
+              ∙ so-far wrap n T (linear k n (secretOf n st)) (take c xs) (drop c xs ++ p) (sumsOf n st)
+              ∙ ap (λ (x : List ℕ). gained wrap n (T x) (sumsOf n st))
+              (sym (append-assoc (take c xs) (drop c xs) p)
+              ∙ ap (λ (x : List ℕ). x ++ p) (take-append-drop c xs)
+              ∙ sym (all-front n xs p held some row h f)))
+              (ap (λ (t : Bool). cond t (replicate (8 * n) 0) (heldWith n now p)) f);
+          behind = none-behind n xs p held some row h f;
+        }
+
+    pub stepped-after : Stepped k n st xs p held
+    stepped-after = go (fills n (length xs) (length p)) refl
+      where
+        go : (t : Bool) → fills n (length xs) (length p) ≡ t → Stepped k n st xs p held
+        go true f = enters f
+        go false f = holds f
+
+-- ---- any parts
 
 module _ (k : Call) (c : Scheme) (st : List ℕ) where
   pub record Walked (xs last : List ℕ) : Type 0 where
-    pub is : last ≡ after k (fixedOf c .n) st xs
+    pub held : List ℕ
+    pub is : last ≡ after k (fixedOf c .n) st xs held
+    pub behind : Behind (fixedOf c .n) xs held
     pub below : Below (fixedOf c .q) xs
     pub few : length xs ≤ fixedOf c .n * fixedOf c .n
 
@@ -93,13 +259,17 @@ module _ (k : Call) (c : Scheme) (st : List ℕ) where
           let o = both _ _ (sym (ap (λ m. partTests k m s p) still-named) ∙ z) in
           let f = fits n (taken s) (length p) (passed _ _ (turn-passed _ (o .0)) .1) in
           let at : taken s ≡ length xs = ap taken (w .is) in
+          let row : length xs % n + length p ≤ n = rw at at (f .in-row) in
+          let g = stepped-after k n st l xs p (w .held) (numbers-in c (frodo-named (getD st 1 0) c called) .some) row (w .behind) in
           record {
+            held = g .rows;
             is =
                 t .state
                 ∙ ap (λ v. put v (partState k (named s) s p) s) z
                 ∙ ap (λ m. partState k m s p) still-named
                 ∙ ap (λ (y : List ℕ). stepped k n y p) (w .is)
-                ∙ stepped-after k n st l xs p;
+                ∙ g .is;
+            behind = g .behind;
             below =
                 record {
                   below = append-all (λ x. x < fixedOf c .q) 0 xs p (w .below .below) (publics-passed _ p (omega (arith, sound c .some)) (o .1) .below);
@@ -110,7 +280,13 @@ module _ (k : Call) (c : Scheme) (st : List ℕ) where
       -- one that is
       leaving : {p s' : List ℕ} {number place : ℕ} → Taken k s p (suc number) place s' → Walked xs s'
       leaving {p} t =
-          record { is = t .state ∙ kept-still (partTests k (named s) s p) _ s (t .told .refusal) (omega arith) ∙ w .is; below = w .below; few = w .few }
+          record {
+            held = w .held;
+            is = t .state ∙ kept-still (partTests k (named s) s p) _ s (t .told .refusal) (omega arith) ∙ w .is;
+            behind = w .behind;
+            below = w .below;
+            few = w .few;
+          }
 
     walk : (xs : List ℕ) {s ys last : List ℕ} → Walked xs s → Parts k s ys last → Walked (xs ++ ys) last
     walk xs {last = last} w Parts.none = subst (λ (l : List ℕ). Walked l last) (sym (append-nil xs)) w
@@ -120,15 +296,28 @@ module _ (k : Call) (c : Scheme) (st : List ℕ) where
 
     pub walked : {xs last : List ℕ} → taken st ≡ 0 → Below wrap (sumsOf (fixedOf c .n) st) → Parts k st xs last → Walked xs last
     walked t b ps =
+        let n = fixedOf c .n in
         walk []
         (record {
-          is = sym (after-none k (fixedOf c .n) st l t b);
+          held = heldOf n st;
+          is = sym (after-none k n st l t b);
+          behind =
+              record {
+                is-long = held-long n st l;
+                is = ap (λ (j : ℕ). take j (heldOf n st)) (zero-mod (8 * n)) ∙ sym (drop-nil (blocks n []));
+              };
           below = record { below = λ i. omega (arith, sound c .some) };
           few = omega arith;
         }) ps
 
 pub running : Running
 running k c st xs last called b t w ps =
+    let n = fixedOf c .n in
     let l = started k (fixedOf c) st b .is-long in
-    let e = walked k c st called l t (below-drop w (67 + 8 * fixedOf c .n)) ps .is in
-    (ap taken e, ap (sumsOf (fixedOf c .n)) e ∙ after-sums k (fixedOf c .n) st l xs)
+    let o = walked k c st called l t (words-below _ (below-take (below-drop w (67 + 4 * n)) (4 * n))) ps in (
+      ap taken (o .is),
+      ap (sumsOf n) (o .is) ∙ after-sums k n st l xs (o .held),
+      ap (λ (y : List ℕ). take (length xs % (8 * n)) (heldOf n y)) (o .is)
+          ∙ ap (take (length xs % (8 * n))) (after-held k n st l xs (o .held))
+          ∙ o .behind .is,
+    )

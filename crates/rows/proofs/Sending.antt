@@ -4,15 +4,14 @@
 --   sent-blank     they are tested for their bytes
 use mathlib.Core.Path.{_≡_, _∙_, sym, ap}
 use mathlib.Core.List.{List}
-use Prim.Native.Nat.{ℕ, _+_, _*_, _-_}
+use Prim.Native.Nat.{ℕ}
 use native.Mathlib.Nat.{mod-lt}
-use lib.ListN.{length, take, drop}
+use lib.ListN.{length}
 use Rattle.schemes.specs.Schemes.{familyOf, fixedOf}
 use Rattle.schemes.specs.declared.Family.{Family}
 use Rattle.schemes.specs.declared.Fixed.{Fixed}
 use Rattle.schemes.specs.declared.Scheme.{Scheme}
 use Rattle.lists.proofs.Entries.{tab-length, below-tab}
-use Rattle.lists.proofs.Parts.{to-end}
 use Rattle.matrix.specs.Steps.{reduced}
 use Rattle.front.specs.Front.{notBlank}
 use Rattle.ends.specs.Fit.{Counted}
@@ -33,10 +32,8 @@ module _ (c : Scheme) (st : List ℕ) (frodo : familyOf c ≡ Family.Frodo) (l :
       }
 
   -- as the code makes them, of the fixed numbers f
-  pub sent-is : {f : Fixed} {x : List ℕ} → f ≡ fixedOf c → x ≡ reduced (f .q) (take (length st - (67 + 8 * f .n)) (drop (67 + 8 * f .n) st))
-      → x ≡ sentNumbers c st
-  sent-is {f} e d =
-      d ∙ ap (reduced (f .q)) (to-end st (67 + 8 * f .n)) ∙ ap (λ (g : Fixed). reduced (g .q) (sumsOf (g .n) st)) e
+  pub sent-is : {f : Fixed} {x : List ℕ} → f ≡ fixedOf c → x ≡ reduced (f .q) (sumsOf (f .n) st) → x ≡ sentNumbers c st
+  sent-is e d = d ∙ ap (λ (g : Fixed). reduced (g .q) (sumsOf (g .n) st)) e
 
   pub sent-blank : notBlank (sentNumbers c st) ≡ notBlank (sentPart c st)
   sent-blank = sym (numbers-blank c sent-counted)

@@ -1,23 +1,25 @@
 -- What is shown of parts and states: one result each, joining, empty and refused parts.
 --   one-part, one-offer-begin, one-offer-end, one-reply-begin, one-reply-end, frodos-are, allowed, joining, empty-part, again   what is shown
-use mathlib.Core.Path.{_≡_, refl, _∙_, sym, ap, subst}
-use mathlib.Core.Bool.{true}
-use mathlib.Core.List.{List, [], _++_}
-use Prim.Native.Nat.{ℕ, zero, suc, _+_, _*_, _%_, _≤_, _<_}
+use mathlib.Core.Path.{_≡_, refl, _∙_, sym, ap, ap₂, subst}
+use mathlib.Core.Bool.{Bool, true, false, cond}
+use mathlib.Core.List.{List, [], _∷_, _++_, append-assoc, append-nil}
+use Prim.Native.Nat.{ℕ, zero, suc, _+_, _*_, _-_, _%_, _≤_, _<_}
 use native.Mathlib.Omega.{arith}
 use native.Mathlib.Nat.{mod-lt, mod-eq-of-lt, mod-add-mod}
-use lib.ListN.{length, getD, length-append}
+use borrow.Author.Tests.{lt-leb, le-leb}
+use lib.Dec.{eqb}
+use lib.ListN.{length, getD, take, drop, replicate, length-append, length-take, length-drop, length-replicate, take-append-drop}
+use lib.Seq.{take-at, drop-at, drop-drop}
 use Rattle.schemes.specs.Schemes.{fixedOf, schemeOf}
 use Rattle.schemes.specs.declared.Named.{Named}
 use Rattle.schemes.specs.declared.Named.the-variants.{Is, Unknown}
 use Rattle.schemes.specs.declared.Scheme.{Scheme}
 use Rattle.schemes.proofs.Sound.{sound}
 use Rattle.lists.specs.Entries.{Below}
-use Rattle.lists.proofs.Parts.{below-drop}
 use Rattle.matrix.specs.Steps.{gained}
 use Rattle.matrix.proofs.Steps.{gained-length}
-use Rattle.parts.specs.Parts.{wrap, placed}
-use Rattle.parts.proofs.Joining.{joined, nothing, append-at, placed-in}
+use Rattle.parts.specs.Parts.{wrap, words, pairs, placed}
+use Rattle.parts.proofs.Joining.{append-at, placed-in}
 use Rattle.ends.proofs.Numbers.{numbers-in}
 use Rattle.front.specs.Front.{numberIn, placeIn}
 use Rattle.front.specs.Promise.{put}
@@ -26,14 +28,14 @@ use Rattle.front.specs.declared.Verdict.the-variants.{Pass, Fail}
 use Rattle.front.proofs.Laws.{some, differ, number-zero, both, turn-passed, publics-passed, turn-passes, below-passes, all-pass}
 use Rattle.front.proofs.Promise.{told-only, wrote-only, same-refusal, same-answer}
 use Rattle.exchange.proofs.Shown.{same-reply}
-use Rattle.rows.specs.State.{frodoIn, named, taken, keptOf, secretOf, sumsOf, keptIn, begun, terms, stepped}
+use Rattle.rows.specs.State.{frodoIn, named, taken, keptOf, secretOf, sumsOf, heldOf, laid, _and_, keptIn, begun, terms, fills, heldWith, sumsWith, heldAfter, stepped}
 use Rattle.rows.specs.Part.{partIn, partTests, partState, Taken}
 use Rattle.rows.specs.Runs.{Parts, Good}
 use Rattle.rows.specs.Shown.{OnePart, OneOfferBegin, OneOfferEnd, OneReplyBegin, OneReplyEnd, Frodos, Allowed, Joining, Empty, Again}
 use Rattle.rows.specs.declared.Call.{Call}
-use Rattle.rows.proofs.Tests.{goes, passed, started, starts, Fits, fits, fits-so, frodo-in, frodo-named}
-use Rattle.rows.proofs.Laying.{apart, kept-long, secret-long, sums-long, laid-long, laid-kept, laid-secret, laid-sums}
-use Rattle.rows.proofs.Taking.{linear}
+use Rattle.rows.proofs.Tests.{stops, goes, passed, started, starts, Fits, fits, fits-so, frodo-in, frodo-named}
+use Rattle.rows.proofs.Filling.{block-fits, fills-up, held-mod}
+use Rattle.rows.proofs.Laying.{apart, kept-long, secret-long, sums-long, held-long, again-words, made-words, laid-long, laid-kept, laid-secret, laid-sums, laid-held}
 use Rattle.rows.proofs.Turns.{part-known}
 use Rattle.rows.proofs.Ends.{by-frodo}
 use Rattle.rows.proofs.Running.{kept-still}
@@ -114,48 +116,199 @@ unfolding partIn
 part-good k c st p e b f l =
     part-known k st p c {r = Pass} e (sym (all-pass (turn-passes (sym (goes b (sym (fits-so (fixedOf c .n) (taken st) (length p) f))))) (below-passes l))) refl
 
-module _ (k : Call) (c : Scheme) (st : List ℕ) (b : begun k (fixedOf c) st ≡ true) where
+either : {A : Type 0} (P : A → Type 0) (t : Bool) (x y : A) → P x → P y → P (cond t x y)
+either P true x y a b = a
+either P false x y a b = b
+
+-- the parts of a state with the part p
+module _ (k : Call) (c : Scheme) (st : List ℕ) (b : begun k (fixedOf c) st ≡ true) (some : 0 < fixedOf c .n) where
   abbrev n : ℕ
   n = fixedOf c .n
 
   long-is : length st ≡ 16 * n + 67
   long-is = started k (fixedOf c) st b .is-long
 
-  module _ (p : List ℕ) where
-    abbrev sums : List ℕ
-    sums = gained wrap n (terms k n (secretOf n st) (placed (taken st) p)) (sumsOf n st)
+  module _ (p : List ℕ) (f : Fits (fixedOf c .n) (taken st) (length p)) where
+    in-block : taken st % (8 * n) + length p ≤ 8 * n
+    in-block = block-fits n (taken st) (length p) some (f .in-row)
+
+    abbrev full : Bool
+    full = fills n (taken st) (length p)
+
+    abbrev entered : List ℕ
+    entered = gained wrap n (terms k n (secretOf n st) (placed (taken st + length p - 8 * n) (heldWith n st p))) (sumsOf n st)
+
+    sums-wide : length (sumsWith k n st p) ≡ 8 * n
+    unfolding sumsWith
+    sums-wide =
+        either (λ (l : List ℕ). length l ≡ 8 * n) full entered (sumsOf n st) (gained-length wrap n _ (sumsOf n st) ∙ sums-long n st long-is) (sums-long n st long-is)
+
+    sums-words : words (pairs (sumsWith k n st p)) ≡ sumsWith k n st p
+    unfolding sumsWith
+    sums-words =
+        either (λ (l : List ℕ). words (pairs l) ≡ l) full entered (sumsOf n st) (made-words n n _ (sumsOf n st) (sums-long n st long-is)) (again-words _)
+
+    held-wide : length (heldAfter n st p) ≡ 8 * n
+    unfolding heldAfter heldWith
+    held-wide =
+        either (λ (l : List ℕ). length l ≡ 8 * n) full (replicate (8 * n) 0) (heldWith n st p) (length-replicate {A = ℕ} (8 * n) 0)
+        (simp (length-append, length-take, length-drop) (omega (arith, in-block, long-is)))
 
     step-kept : keptOf (stepped k n st p) ≡ keptOf st
     unfolding stepped
-    step-kept = laid-kept n (getD st 0 0) (getD st 1 0) (taken st + length p) (keptOf st) (secretOf n st) sums (kept-long n st long-is) (secret-long n st long-is)
+    step-kept =
+        laid-kept n (getD st 0 0) (getD st 1 0) (taken st + length p) (keptOf st) (secretOf n st) (sumsWith k n st p) (heldAfter n st p) (kept-long n st long-is)
+        (secret-long n st long-is) sums-wide
 
     step-secret : secretOf n (stepped k n st p) ≡ secretOf n st
     unfolding stepped
-    step-secret = laid-secret n (getD st 0 0) (getD st 1 0) (taken st + length p) (keptOf st) (secretOf n st) sums (kept-long n st long-is) (secret-long n st long-is)
+    step-secret =
+        laid-secret n (getD st 0 0) (getD st 1 0) (taken st + length p) (keptOf st) (secretOf n st) (sumsWith k n st p) (heldAfter n st p) (kept-long n st long-is)
+        (secret-long n st long-is) sums-wide (again-words _)
 
-    step-sums : sumsOf n (stepped k n st p) ≡ sums
+    step-sums : sumsOf n (stepped k n st p) ≡ sumsWith k n st p
     unfolding stepped
-    step-sums = laid-sums n (getD st 0 0) (getD st 1 0) (taken st + length p) (keptOf st) (secretOf n st) sums (kept-long n st long-is) (secret-long n st long-is)
+    step-sums =
+        laid-sums n (getD st 0 0) (getD st 1 0) (taken st + length p) (keptOf st) (secretOf n st) (sumsWith k n st p) (heldAfter n st p) (kept-long n st long-is)
+        (secret-long n st long-is) sums-wide sums-words
 
-    step-begun : taken st + length p ≤ n * n → begun k (fixedOf c) (stepped k n st p) ≡ true
+    step-held : heldOf n (stepped k n st p) ≡ heldAfter n st p
     unfolding stepped
-    step-begun h =
+    step-held =
+        laid-held n (getD st 0 0) (getD st 1 0) (taken st + length p) (keptOf st) (secretOf n st) (sumsWith k n st p) (heldAfter n st p) (kept-long n st long-is)
+        (secret-long n st long-is) sums-wide
+
+    step-begun : begun k (fixedOf c) (stepped k n st p) ≡ true
+    unfolding stepped
+    step-begun =
         starts k (fixedOf c) (stepped k n st p)
         (record {
           is-long =
-              laid-long n (getD st 0 0) (getD st 1 0) (taken st + length p) (keptOf st) (secretOf n st) sums (kept-long n st long-is) (secret-long n st long-is)
-              (gained-length wrap n (terms k n (secretOf n st) (placed (taken st) p)) (sumsOf n st) ∙ sums-long n st long-is);
+              laid-long n (getD st 0 0) (getD st 1 0) (taken st + length p) (keptOf st) (secretOf n st) (sumsWith k n st p) (heldAfter n st p) (kept-long n st long-is)
+              (secret-long n st long-is) sums-wide held-wide;
           is-call = started k (fixedOf c) st b .is-call;
-          at-most = h;
+          at-most = f .in-all;
           kept-in = ap (keptIn k (fixedOf c .q)) step-kept ∙ started k (fixedOf c) st b .kept-in;
         })
 
-  -- part after part is the part of both joined
-  steps-join : (p p' : List ℕ) → stepped k n (stepped k n st p) p' ≡ stepped k n st (p ++ p')
+-- an empty part ends no block, and is no number
+none : (k : Call) (c : Scheme) (st : List ℕ) → begun k (fixedOf c) st ≡ true → stepped k (fixedOf c .n) st [] ≡ st
+unfolding stepped sumsWith heldAfter heldWith fills
+none k c st b =
+    let n = fixedOf c .n in
+    let o : taken st + 0 ≡ taken st = omega arith in
+    let d : taken st % (8 * n) + 0 ≡ taken st % (8 * n) = omega arith in
+    let z : false ≡ fills n (taken st) 0 = stops _ (lt-leb 1 0 (omega arith)) in
+    let h : take (taken st % (8 * n)) (heldOf n st) ++ drop (taken st % (8 * n) + 0) (heldOf n st) ≡ heldOf n st =
+    ap (λ (j : ℕ). take (taken st % (8 * n)) (heldOf n st) ++ drop j (heldOf n st)) d ∙ take-append-drop (taken st % (8 * n)) (heldOf n st)
+    in
+    rw (sym z, o)
+    (ap (λ (l : List ℕ). laid (getD st 0 0) (getD st 1 0) (taken st) (keptOf st) (secretOf n st) (sumsOf n st) l) h
+    ∙ sym (apart n st (started k (fixedOf c) st b .is-long)))
+
+-- ---- part after part
+
+-- the rows held back, with one part and then the next
+split-more : (o : ℕ) (H p p' : List ℕ) → o ≤ length H
+    → take (o + length p) (take o H ++ (p ++ drop (o + length p) H)) ++ (p' ++ drop (o + length p + length p') (take o H ++ (p ++ drop (o + length p) H)))
+    ≡ take o H ++ ((p ++ p') ++ drop (o + length (p ++ p')) H)
+split-more o H p p' h =
+    let D = drop (o + length p) H in
+    let w : take o H ++ (p ++ D) ≡ (take o H ++ p) ++ D = sym (append-assoc (take o H) p D) in
+    let s : length (take o H ++ p) ≡ o + length p = simp (length-append, length-take) (omega arith) in
+    let e : o + length p + length p' ≡ o + length (p ++ p') = omega (arith, length-append p p') in
+    ap₂ (λ (u v : List ℕ). u ++ (p' ++ v)) (ap (take (o + length p)) w ∙ take-at (take o H ++ p) D (o + length p) s)
+    (sym (drop-drop (length p') (o + length p) (take o H ++ (p ++ D)))
+    ∙ ap (drop (length p')) (ap (drop (o + length p)) w ∙ drop-at (take o H ++ p) D (o + length p) s)
+    ∙ drop-drop (length p') (o + length p) H
+    ∙ ap (λ (i : ℕ). drop i H) e)
+    ∙ append-assoc (take o H) p _
+    ∙ ap (λ (l : List ℕ). take o H ++ l) (sym (append-assoc p p' _))
+
+fills-same : (n at a b : ℕ) → 1 ≤ b → fills n (at + a) b ≡ fills n at (a + b)
+unfolding fills
+fills-same n at a b h =
+    let e : at + a + b ≡ at + (a + b) = omega arith in
+    ap₂ (λ (s t : Bool). s and t) (le-leb 1 b h ∙ sym (le-leb 1 (a + b) (omega arith))) (ap (λ (i : ℕ). eqb (i % (8 * n)) 0) e)
+
+module _ (k : Call) (c : Scheme) (st : List ℕ) (b : begun k (fixedOf c) st ≡ true) (some : 0 < fixedOf c .n) (p p' : List ℕ)
+    (f : Fits (fixedOf c .n) (taken st) (length p + length p')) (more : 1 ≤ length p') where
+  first-fits : Fits (fixedOf c .n) (taken st) (length p)
+  first-fits = record { in-row = omega (arith, f .in-row); in-all = omega (arith, f .in-all) }
+
+  -- so the first part ends no block
+  not-yet : fills (fixedOf c .n) (taken st) (length p) ≡ false
+  not-yet = go (fills (fixedOf c .n) (taken st) (length p)) refl
+    where
+      go : (t : Bool) → fills (fixedOf c .n) (taken st) (length p) ≡ t → t ≡ false
+      go false e = refl
+      go true e =
+          let u = fills-up (fixedOf c .n) (taken st) (length p) some (first-fits .in-row) e in
+          let v = block-fits (fixedOf c .n) (taken st) (length p + length p') some (f .in-row) in
+          absurd (omega (arith, u, v))
+
+  abbrev next : List ℕ
+  next = stepped k (fixedOf c .n) st p
+
+  same-fills : fills (fixedOf c .n) (taken st + length p) (length p') ≡ fills (fixedOf c .n) (taken st) (length (p ++ p'))
+  same-fills = fills-same (fixedOf c .n) (taken st) (length p) (length p') more ∙ ap (fills (fixedOf c .n) (taken st)) (sym (length-append p p'))
+
+  next-sums : sumsOf (fixedOf c .n) next ≡ sumsOf (fixedOf c .n) st
+  unfolding sumsWith
+  next-sums = step-sums k c st b some p first-fits ∙ rw not-yet refl
+
+  next-held : heldOf (fixedOf c .n) next ≡ heldWith (fixedOf c .n) st p
+  unfolding heldAfter
+  next-held = step-held k c st b some p first-fits ∙ rw not-yet refl
+
+  with-join : heldWith (fixedOf c .n) next p' ≡ heldWith (fixedOf c .n) st (p ++ p')
+  unfolding heldWith stepped
+  with-join =
+      let n = fixedOf c .n in
+      let o = taken st % (8 * n) in
+      let e : (taken st + length p) % (8 * n) ≡ o + length p = held-mod n (taken st) (length p) some (first-fits .in-row) not-yet in
+      ap₂ (λ (j : ℕ) (l : List ℕ). take j l ++ (p' ++ drop (j + length p') l)) e next-held
+      ∙ split-more o (heldOf n st) p p' (omega (arith, block-fits n (taken st) (length p) some (first-fits .in-row), held-long n st (long-is k c st b some)))
+
+  last-at : taken st + length p + length p' ≡ taken st + length (p ++ p')
+  last-at = omega (arith, length-append p p')
+
+  sums-join : sumsWith k (fixedOf c .n) next p' ≡ sumsWith k (fixedOf c .n) st (p ++ p')
+  unfolding sumsWith stepped
+  sums-join =
+      let n = fixedOf c .n in
+      ap₂ (λ (x y : List ℕ). cond (fills n (taken st + length p) (length p'))
+      (gained wrap n (terms k n x (placed (taken st + length p + length p' - 8 * n) y)) (sumsOf n next)) (sumsOf n next))
+      (step-secret k c st b some p first-fits) with-join
+      ∙ ap₂ (λ (t : Bool) (x : List ℕ). cond t
+      (gained wrap n (terms k n (secretOf n st) (placed (taken st + length p + length p' - 8 * n) (heldWith n st (p ++ p')))) x) x)
+      same-fills next-sums
+      ∙ ap (λ (i : ℕ). cond (fills n (taken st) (length (p ++ p')))
+      (gained wrap n (terms k n (secretOf n st) (placed (i - 8 * n) (heldWith n st (p ++ p')))) (sumsOf n st)) (sumsOf n st))
+      last-at
+
+  held-join : heldAfter (fixedOf c .n) next p' ≡ heldAfter (fixedOf c .n) st (p ++ p')
+  unfolding heldAfter stepped
+  held-join = ap₂ (λ (t : Bool) (x : List ℕ). cond t (replicate (8 * fixedOf c .n) 0) x) same-fills with-join
+
+  two-steps : stepped k (fixedOf c .n) next p' ≡ stepped k (fixedOf c .n) st (p ++ p')
   unfolding stepped
-  steps-join p p' =
-      let l : taken st + length p + length p' ≡ taken st + length (p ++ p') = omega (arith, length-append p p') in
-      rw (step-kept p, step-secret p, step-sums p, joined wrap n (terms k n (secretOf n st)) (linear k n (secretOf n st)) (taken st) p p' (sumsOf n st), l) refl
+  two-steps =
+      let n = fixedOf c .n in
+      ap₂ (λ (x y : List ℕ). laid (getD st 0 0) (getD st 1 0) (taken st + length p + length p') x y (sumsWith k n next p') (heldAfter n next p'))
+      (step-kept k c st b some p first-fits) (step-secret k c st b some p first-fits)
+      ∙ ap₂ (λ (x y : List ℕ). laid (getD st 0 0) (getD st 1 0) (taken st + length p + length p') (keptOf st) (secretOf n st) x y) sums-join held-join
+      ∙ ap (λ (t : ℕ). laid (getD st 0 0) (getD st 1 0) t (keptOf st) (secretOf n st) (sumsWith k n st (p ++ p')) (heldAfter n st (p ++ p'))) last-at
+
+-- part after part is the part of both joined
+steps-join : (k : Call) (c : Scheme) (st p p' : List ℕ) → begun k (fixedOf c) st ≡ true → 0 < fixedOf c .n
+    → Fits (fixedOf c .n) (taken st) (length p + length p')
+    → stepped k (fixedOf c .n) (stepped k (fixedOf c .n) st p) p' ≡ stepped k (fixedOf c .n) st (p ++ p')
+steps-join k c st p [] b some f =
+    none k c (stepped k (fixedOf c .n) st p)
+    (step-begun k c st b some p (record { in-row = omega (arith, f .in-row); in-all = omega (arith, f .in-all) }))
+    ∙ ap (stepped k (fixedOf c .n) st) (sym (append-nil p))
+steps-join k c st p (x ∷ p') b some f = two-steps k c st b some p (x ∷ p') f (omega arith)
 
 -- the second of two parts of one row fits behind the first
 fits-behind : (n at a b : ℕ) → 0 < n → Fits n at (a + b) → Fits n (at + a) b
@@ -177,10 +330,11 @@ join : (k : Call) (c : Scheme) (st p p' after : List ℕ) → named st ≡ Is c 
 unfolding stepped
 join k c st p p' after called b f l e =
     let n = fixedOf c .n in
-    let frodo = frodo-named (getD st 1 0) c called in
-    rw (e ∙ sym (steps-join k c st b p p'))
-    (part-good k c (stepped k n st p) p' called (step-begun k c st b p (omega (arith, f .in-all)))
-    (fits-behind n (taken st) (length p) (length p') (numbers-in c frodo .some) f) l)
+    let some = numbers-in c (frodo-named (getD st 1 0) c called) .some in
+    let first : Fits n (taken st) (length p) = record { in-row = omega (arith, f .in-row); in-all = omega (arith, f .in-all) } in
+    rw (e ∙ sym (steps-join k c st p p' b some f))
+    (part-good k c (stepped k n st p) p' called (step-begun k c st b some p first)
+    (fits-behind n (taken st) (length p) (length p') some f) l)
 
 pub joining : Joining
 joining k st p p' after t =
@@ -194,19 +348,11 @@ joining k st p p' after t =
     let first = part-good k c st p (g .called) (g .has-begun) front (below-front p p' (g .below)) in
     (next, (first, join k c st p p' after (g .called) (g .has-begun) whole (below-behind p p' (g .below)) (g .is)))
 
-none : (k : Call) (c : Scheme) (st : List ℕ) → begun k (fixedOf c) st ≡ true → Below wrap st → stepped k (fixedOf c .n) st [] ≡ st
-unfolding stepped
-none k c st b w =
-    let n = fixedOf c .n in
-    let o : taken st + 0 ≡ taken st = omega arith in
-    rw (nothing wrap n (terms k n (secretOf n st)) (linear k n (secretOf n st)) (taken st) (sumsOf n st) (below-drop w (67 + 8 * n)), o)
-    (sym (apart n st (started k (fixedOf c) st b .is-long)))
-
 pub empty-part : Empty
-empty-part k st after zero place w t =
+empty-part k st after zero place t =
     let g = good-part k st [] after t in
-    g .is ∙ none k (g .scheme) st (g .has-begun) w
-empty-part k st after (suc number) place w t = t .state ∙ kept-still (partTests k (named st) st []) _ st (t .told .refusal) (omega arith)
+    g .is ∙ none k (g .scheme) st (g .has-begun)
+empty-part k st after (suc number) place t = t .state ∙ kept-still (partTests k (named st) st []) _ st (t .told .refusal) (omega arith)
 
 -- ---- refused parts
 

@@ -1,123 +1,253 @@
--- A part into the state.
---   put-left         Reply: the 8 rows of sums
---   put-right        Offer: the 8 sums of a row, written in their place
---   put-nothing      an empty part
---   summed-at, summed-long   the same part by row and column; the state stays as long
---   step-is          the sums, then the count
---   most-passes, most-fails, none-passes   a part by its largest number; an empty one
+-- A part into the state, as the code lays it.
+--   linear                    what the numbers of A bring adds up
+--   hold-is                   the part behind the numbers that are held back, then the count
+--   sized-holding, sized-held   the state stays as long
+--   right-made, left-made     the sums with eight rows, of the slices that the code takes
+--   back-right, back-left     they are written in their place
+--   entered-wide, entered-long, clear-is   the state stays as long; then zeros for the rows
+--   step-holds, step-enters   so the part is in the state, whether it ends a block or not
 use mathlib.Core.Path.{_≡_, refl, _∙_, sym, ap, ap₂}
+use mathlib.Core.Bool.{Bool, true, false, cond}
 use mathlib.Core.List.{List, [], _∷_, _++_, append-assoc, append-nil}
 use Prim.Native.Nat.{ℕ, _+_, _*_, _-_, _/_, _%_, _<_, _≤_}
 use native.Mathlib.Omega.{arith}
-use native.Mathlib.Nat.{div-add-mod', le-of-eq}
-use borrow.Author.Tests.{le-ltb}
-use lib.ListN.{length, getD, take, drop, set, length-append, length-drop, take-append-drop, drop-of-length-le}
-use lib.Seq.{take-add, length-take-le}
+use native.Mathlib.Nat.{le-of-eq}
+use lib.ListN.{length, getD, take, drop, set, replicate, length-append, length-take, length-drop, length-replicate, take-append-drop, drop-of-length-le}
+use lib.Seq.{take-add, take-take, take-at, drop-at, take-append-le, drop-append-le, drop-drop, length-take-le}
 use Rattle.lists.specs.Entries.{Below}
-use Rattle.lists.specs.First.{firstWhere, firstOver}
-use Rattle.lists.specs.Top.{largest, peakOf}
-use Rattle.lists.proofs.First.{none-over}
-use Rattle.lists.proofs.Parts.{below-drop, to-end}
-use Rattle.lists.proofs.Same.{empty}
-use Rattle.lists.proofs.Top.{peak-le}
-use Rattle.matrix.specs.Steps.{gained}
+use Rattle.lists.proofs.Parts.{below-drop, below-take, to-end}
+use Rattle.matrix.specs.Steps.{gained, reduced, rightTerm, partTerm}
 use Rattle.matrix.proofs.Steps.{gained-length}
-use Rattle.parts.specs.Parts.{wrap, placed, rowTerm, columnOf, columnGained}
+use Rattle.parts.specs.Parts.{wrap, words, pairs, placed}
 use Rattle.parts.specs.Joining.{Linear}
-use Rattle.parts.proofs.Joining.{nothing, right-linear, left-linear}
-use Rattle.parts.proofs.Rows.{row-behind}
-use Rattle.parts.proofs.Columns.{column-is}
-use Rattle.front.specs.Front.{publicsIn}
-use Rattle.front.specs.Promise.{put}
-use Rattle.front.specs.declared.Verdict.{Verdict}
-use Rattle.front.specs.declared.Verdict.the-variants.{Pass, Fail}
-use Rattle.front.proofs.Laws.{publics-passed}
-use Rattle.rows.specs.State.{long, taken, keptOf, secretOf, sumsOf, terms, stepped}
-use Rattle.rows.specs.Inside.{summed, Sized}
+use Rattle.parts.proofs.Joining.{right-linear, left-linear}
+use Rattle.parts.proofs.Words.{pairs-long, pairs-words}
+use Rattle.parts.proofs.Blocks.{right-back, narrow-left, left-is}
+use Rattle.rows.specs.State.{long, taken, keptOf, secretOf, sumsOf, heldOf, laid, terms, fills, heldWith, sumsWith, heldAfter, stepped}
+use Rattle.rows.specs.Inside.{holding, sumsEntered, entered, Sized}
 use Rattle.rows.specs.declared.Call.{Call}
-use Rattle.rows.proofs.Laying.{three, sums-long}
+use Rattle.rows.proofs.Laying.{three, held-at, front, kept-long, secret-long, sums-long, held-long, again-words, laid-long, laid-kept, laid-secret, laid-sums, laid-held}
 
 pub linear : (k : Call) (n : ℕ) (s : List ℕ) → Linear (terms k n s)
 linear Call.Offer n s = right-linear n s
 linear Call.Reply n s = left-linear n s
 
-module _ (n : ℕ) (st : List ℕ) (z : Sized n st) where
-  pub put-left :
-      (i c : ℕ) (p : List ℕ) {w x : List ℕ} → c + length p ≤ n → i < n → w ≡ columnOf n i (take (67 + 8 * n - 67) (drop 67 st)) →
-      x ≡ columnGained n c w p (take (length st - (67 + 8 * n)) (drop (67 + 8 * n) st)) →
-      take (67 + 8 * n) st ++ (x ++ drop (length st - (67 + 8 * n)) (drop (67 + 8 * n) st)) ≡ summed Call.Reply n st (i * n + c) p
-  unfolding summed
-  put-left i c p {w} {x} f r d e =
-      let a : 67 + 8 * n - 67 ≡ 8 * n = omega arith in
-      let column : w ≡ columnOf n i (secretOf n st) = d ∙ ap (λ (k : ℕ). columnOf n i (take k (drop 67 st))) a in
-      let gone : drop (length st - (67 + 8 * n)) (drop (67 + 8 * n) st) ≡ [] = drop-of-length-le (drop (67 + 8 * n) st) (le-of-eq (length-drop (67 + 8 * n) st)) in
-      ap (λ (y : List ℕ). take (67 + 8 * n) st ++ (x ++ y)) gone
-      ∙ ap (λ (y : List ℕ). take (67 + 8 * n) st ++ y)
-      (append-nil x
-      ∙ e
-      ∙ ap₂ (λ (u v : List ℕ). columnGained n c u p v) column (to-end st (67 + 8 * n))
-      ∙ column-is n i c (secretOf n st) p (sumsOf n st) f r (sums-long n st (z .long)))
-
-module _ (n : ℕ) (st : List ℕ) (z : Sized n st) (b : Below wrap st) where
-  module _ (i c : ℕ) (p x : List ℕ) (f : c + length p ≤ n) (r : i < n) where
-    pub put-right :
-        x ≡ gained wrap (length p) (rowTerm n c p (take (67 + 8 * n - 67) (drop 67 st))) (take (67 + 8 * n + i * 8 + 8 - (67 + 8 * n + i * 8)) (drop (67 + 8 * n + i * 8) st)) →
-        take (67 + 8 * n + i * 8) st ++ (x ++ drop (67 + 8 * n + i * 8 + 8 - (67 + 8 * n + i * 8)) (drop (67 + 8 * n + i * 8) st))
-        ≡ summed Call.Offer n st (i * n + c) p
-    unfolding summed
-    put-right e =
-        let a : 67 + 8 * n - 67 ≡ 8 * n = omega arith in
-        let d : 67 + 8 * n + i * 8 + 8 - (67 + 8 * n + i * 8) ≡ 8 = omega arith in
-        ap (λ (k : ℕ). take (67 + 8 * n + i * 8) st ++ (x ++ drop k (drop (67 + 8 * n + i * 8) st))) d
-        ∙ row-behind wrap (67 + 8 * n) n i c (secretOf n st) p st x f r (sums-long n st (z .long)) (below-drop b (67 + 8 * n))
-        (e ∙ ap₂ (λ (k j : ℕ). gained wrap (length p) (rowTerm n c p (take k (drop 67 st))) (take j (drop (67 + 8 * n + i * 8) st))) a d)
-
-  pub put-nothing : (k : Call) (at : ℕ) (p : List ℕ) → length p ≡ 0 → st ≡ summed k n st at p
-  unfolding summed
-  put-nothing k at p e =
-      rw (empty p e)
-      (sym (take-append-drop (67 + 8 * n) st)
-      ∙ ap (λ (y : List ℕ). take (67 + 8 * n) st ++ y)
-      (sym (nothing wrap n _ (linear k n (secretOf n st)) at (sumsOf n st) (below-drop b (67 + 8 * n)))))
-
-pub summed-at : (k : Call) (n : ℕ) (st : List ℕ) (at : ℕ) (p : List ℕ) → summed k n st (at / n * n + at % n) p ≡ summed k n st at p
-summed-at k n st at p = ap (λ (i : ℕ). summed k n st i p) (div-add-mod' at n)
-
-pub summed-long : (k : Call) (n : ℕ) (st : List ℕ) (at : ℕ) (p : List ℕ) → length st ≡ long n → length (summed k n st at p) ≡ long n
-unfolding summed
-summed-long k n st at p e =
-    length-append (take (67 + 8 * n) st) _
-    ∙ ap₂ (λ (a b : ℕ). a + b) (length-take-le (67 + 8 * n) st (omega arith)) (gained-length wrap n (terms k n (secretOf n st) (placed at p)) (sumsOf n st) ∙ sums-long n st e)
-    ∙ omega arith
+-- ---- the part
 
 -- three numbers, of which the last is set
-set-third : (a b c d : ℕ) (u v g : List ℕ) → set ((a ∷ b ∷ c ∷ (u ++ v)) ++ g) 2 d ≡ a ∷ b ∷ d ∷ (u ++ (v ++ g))
-set-third a b c d u v g = ap (λ (l : List ℕ). a ∷ b ∷ d ∷ l) (append-assoc u v g)
+set-third : (a b c d : ℕ) (u v w g : List ℕ) → set ((a ∷ b ∷ c ∷ ((u ++ v) ++ w)) ++ g) 2 d ≡ a ∷ b ∷ d ∷ (u ++ (v ++ (w ++ g)))
+set-third a b c d u v w g = ap (λ (l : List ℕ). a ∷ b ∷ d ∷ l) (append-assoc (u ++ v) w g ∙ append-assoc u v (w ++ g))
 
-pub step-is : (k : Call) (n : ℕ) (st p : List ℕ) → length st ≡ long n → set (summed k n st (taken st) p) 2 (taken st + length p) ≡ stepped k n st p
-unfolding summed stepped
-step-is k n st p e =
-    let g = gained wrap n (terms k n (secretOf n st) (placed (taken st) p)) (sumsOf n st) in
-    let o : take (67 + 8 * n) st ≡ getD st 0 0 ∷ getD st 1 0 ∷ getD st 2 0 ∷ (keptOf st ++ secretOf n st) =
-    take-add 67 (8 * n) st ∙ ap (λ (l : List ℕ). take 67 l ++ secretOf n st) (three st (omega arith))
-    in
-    ap (λ (l : List ℕ). set (l ++ g) 2 (taken st + length p)) o
-    ∙ set-third (getD st 0 0) (getD st 1 0) (getD st 2 0) (taken st + length p) (keptOf st) (secretOf n st) g
+module _ (n : ℕ) (st : List ℕ) (z : Sized n st) where
+  -- the front, up to the sums
+  front-sums : take (67 + 8 * n) st ≡ getD st 0 0 ∷ getD st 1 0 ∷ getD st 2 0 ∷ ((keptOf st ++ pairs (secretOf n st)) ++ pairs (sumsOf n st))
+  front-sums =
+      let e : 67 + 8 * n ≡ 67 + 4 * n + 4 * n = omega arith in
+      ap (λ (k : ℕ). take k st) e
+      ∙ take-add (67 + 4 * n) (4 * n) st
+      ∙ ap₂ (λ (u v : List ℕ). u ++ v) (front n st (omega (arith, z .long))) (sym (pairs-words (take (4 * n) (drop (67 + 4 * n) st))))
 
--- ---- by its largest number
+  module _ (p x : List ℕ) (is : x ≡ p) where
+    abbrev o : ℕ
+    o = taken st % (8 * n)
 
-largest-below : (q : ℕ) (p : List ℕ) → 0 < q → Below q p → largest p < q
-unfolding peakOf
-largest-below q p o b = let h = peak-le p (q - 1) (λ k l. omega (arith, b .below k)) in omega (arith, h)
+    abbrev at : ℕ
+    at = 67 + 8 * n + taken st % (8 * n)
 
-pub most-passes : (q : ℕ) (p : List ℕ) → largest p < q → publicsIn q p ≡ Pass
-unfolding publicsIn largest
-most-passes q p h = let e = none-over q p h in rw (e, le-ltb (length p) (length p) (omega arith))
+    put-held : take at st ++ (x ++ drop (at + length p - at) (drop at st)) ≡ take (67 + 8 * n) st ++ heldWith n st p
+    unfolding heldWith
+    put-held =
+        let m : at + length p - at ≡ length p = omega arith in
+        ap (λ (k : ℕ). take at st ++ (x ++ drop k (drop at st))) m
+        ∙ ap₂ (λ (u v : List ℕ). u ++ (x ++ v)) (take-add (67 + 8 * n) o st)
+        (ap (drop (length p)) (sym (drop-drop o (67 + 8 * n) st)) ∙ drop-drop (length p) o (heldOf n st))
+        ∙ append-assoc (take (67 + 8 * n) st) _ _
+        ∙ ap (λ (l : List ℕ). take (67 + 8 * n) st ++ (take o (heldOf n st) ++ (l ++ drop (o + length p) (heldOf n st)))) is
 
-pub most-fails : {q : ℕ} (p : List ℕ) (v : Verdict) (x old : List ℕ) → 0 < q → q ≤ largest p → v ≡ publicsIn q p → old ≡ put v x old
-most-fails {q} p Pass x old o h e = let b = largest-below q p o (publics-passed q p o (sym e)) in absurd (omega arith)
-most-fails p (Fail r) x old o h e = refl
+    pub hold-is : set (take at st ++ (x ++ drop (at + length p - at) (drop at st))) 2 (taken st + length p) ≡ holding n st p
+    unfolding holding
+    hold-is =
+        ap (λ (l : List ℕ). set l 2 (taken st + length p)) (put-held ∙ ap (λ (l : List ℕ). l ++ heldWith n st p) front-sums)
+        ∙ set-third (getD st 0 0) (getD st 1 0) (getD st 2 0) (taken st + length p) (keptOf st) (pairs (secretOf n st)) (pairs (sumsOf n st)) (heldWith n st p)
 
-pub none-passes : (q : ℕ) (p : List ℕ) → length p ≡ 0 → publicsIn q p ≡ Pass
-unfolding publicsIn firstOver firstWhere
-none-passes q p e = rw (empty p e)
+    -- by the count that the code has read
+    pub hold-at : (a : ℕ) → a ≡ taken st
+        → set (take (67 + 8 * n + a % (8 * n)) st ++ (x ++ drop (67 + 8 * n + a % (8 * n) + length p - (67 + 8 * n + a % (8 * n))) (drop (67 + 8 * n + a % (8 * n)) st))) 2 (a + length p)
+        ≡ holding n st p
+    hold-at a e = rw e hold-is
+
+  module _ (p : List ℕ) (f : taken st % (8 * n) + length p ≤ 8 * n) where
+    with-long : length (heldWith n st p) ≡ 8 * n
+    unfolding heldWith
+    with-long = simp (length-append, length-take, length-drop) (omega (arith, z .long))
+
+    pub sized-holding : Sized n (holding n st p)
+    unfolding holding
+    sized-holding =
+        record {
+          some = z .some;
+          few = z .few;
+          long =
+              laid-long n (getD st 0 0) (getD st 1 0) (taken st + length p) (keptOf st) (secretOf n st) (sumsOf n st) (heldWith n st p) (kept-long n st (z .long))
+              (secret-long n st (z .long)) (sums-long n st (z .long)) with-long;
+        }
+
+    pub sized-held : {x : List ℕ} → x ≡ holding n st p → Sized n x
+    sized-held e = rw e sized-holding
+
+  -- ---- eight rows into the sums
+
+  module _ (i : ℕ) (fits : i + 8 ≤ n) where
+    abbrev numbers : List ℕ
+    numbers = take (4 * n) (drop (67 + 4 * n) st)
+
+    numbers-long : length numbers ≡ 4 * n
+    numbers-long = simp (length-take, length-drop) (omega (arith, z .long))
+
+    numbers-rest : drop (67 + 4 * n) st ≡ numbers ++ heldOf n st
+    numbers-rest = sym (take-append-drop (4 * n) (drop (67 + 4 * n) st)) ∙ ap (λ (l : List ℕ). numbers ++ l) (held-at n st)
+
+    inside : drop (67 + 4 * n + i * 4) st ≡ drop (i * 4) numbers ++ heldOf n st
+    inside =
+        sym (drop-drop (i * 4) (67 + 4 * n) st)
+        ∙ ap (drop (i * 4)) numbers-rest
+        ∙ drop-append-le (i * 4) numbers (heldOf n st) (omega (arith, numbers-long))
+
+    room : 32 ≤ length (drop (i * 4) numbers)
+    room = rw (length-drop (i * 4) numbers) (omega (arith, numbers-long))
+
+    -- as the code makes them, of the slices that it takes
+    pub right-made :
+        {block cols old x : List ℕ} → block ≡ reduced wrap (take (length st - (67 + 8 * n)) (drop (67 + 8 * n) st)) →
+        cols ≡ words (take (67 + 4 * n - 67) (drop 67 st)) →
+        old ≡ words (take (67 + 4 * n + i * 4 + 32 - (67 + 4 * n + i * 4)) (drop (67 + 4 * n + i * 4) st)) → x ≡ gained wrap n (rightTerm n block cols) old →
+        x ≡ gained wrap n (rightTerm n (reduced wrap (heldOf n st)) (secretOf n st)) (words (take 32 (drop (67 + 4 * n + i * 4) st)))
+    right-made {block} {cols} {old} b d u e =
+        let m : 67 + 4 * n - 67 ≡ 4 * n = omega arith in
+        let o : 67 + 4 * n + i * 4 + 32 - (67 + 4 * n + i * 4) ≡ 32 = omega arith in
+        e
+        ∙ ap₂ (λ (v y : List ℕ). gained wrap n (rightTerm n v y) old) (b ∙ ap (reduced wrap) (to-end st (67 + 8 * n))) (d ∙ ap (λ (k : ℕ). words (take k (drop 67 st))) m)
+        ∙ ap (gained wrap n (rightTerm n (reduced wrap (heldOf n st)) (secretOf n st))) (u ∙ ap (λ (k : ℕ). words (take k (drop (67 + 4 * n + i * 4) st))) o)
+
+    pub left-made :
+        {block secret old x : List ℕ} → block ≡ reduced wrap (take (length st - (67 + 4 * n + 4 * n)) (drop (67 + 4 * n + 4 * n) st)) →
+        secret ≡ words (take (67 + 4 * n - 67) (drop 67 st)) → old ≡ words (take (67 + 4 * n + 4 * n - (67 + 4 * n)) (drop (67 + 4 * n) st)) →
+        x ≡ gained wrap 8 (partTerm n n i secret block) old →
+        x ≡ gained wrap 8 (partTerm n n i (secretOf n st) (reduced wrap (heldOf n st))) (sumsOf n st)
+    left-made {block} {secret} {old} b d u e =
+        let m : 67 + 4 * n - 67 ≡ 4 * n = omega arith in
+        let o : 67 + 4 * n + 4 * n - (67 + 4 * n) ≡ 4 * n = omega arith in
+        let h : 67 + 4 * n + 4 * n ≡ 67 + 8 * n = omega arith in
+        e
+        ∙ ap₂ (λ (v y : List ℕ). gained wrap 8 (partTerm n n i y v) old)
+        (b ∙ ap (reduced wrap) (to-end st (67 + 4 * n + 4 * n) ∙ ap (λ (k : ℕ). drop k st) h)) (d ∙ ap (λ (k : ℕ). words (take k (drop 67 st))) m)
+        ∙ ap (gained wrap 8 (partTerm n n i (secretOf n st) (reduced wrap (heldOf n st)))) (u ∙ ap (λ (k : ℕ). words (take k (drop (67 + 4 * n) st))) o)
+
+    pub back-right : (y x : List ℕ) → Below 4294967296 st
+        → y ≡ gained wrap n (rightTerm n (reduced wrap (heldOf n st)) (secretOf n st)) (words (take 32 (drop (67 + 4 * n + i * 4) st))) → x ≡ pairs y
+        → take (67 + 4 * n + i * 4) st ++ (x ++ drop (67 + 4 * n + i * 4 + 32 - (67 + 4 * n + i * 4)) (drop (67 + 4 * n + i * 4) st))
+        ≡ entered Call.Offer n (i * n) st (heldOf n st)
+    unfolding entered
+    back-right y x b e d =
+        let m : 67 + 4 * n + i * 4 + 32 - (67 + 4 * n + i * 4) ≡ 32 = omega arith in
+        let part : take 32 (drop (67 + 4 * n + i * 4) st) ≡ take 32 (drop (i * 4) numbers) =
+        ap (take 32) inside ∙ take-append-le 32 (drop (i * 4) numbers) (heldOf n st) room
+        in
+        let first : take (i * 4) (drop (67 + 4 * n) st) ≡ take (i * 4) numbers = sym (take-take (i * 4) (4 * n) (drop (67 + 4 * n) st) (omega arith)) in
+        ap (λ (k : ℕ). take (67 + 4 * n + i * 4) st ++ (x ++ drop k (drop (67 + 4 * n + i * 4) st))) m
+        ∙ ap₂ (λ (u v : List ℕ). u ++ (x ++ v)) (take-add (67 + 4 * n) (i * 4) st ∙ ap (λ (l : List ℕ). take (67 + 4 * n) st ++ l) first)
+        (ap (drop 32) inside ∙ drop-append-le 32 (drop (i * 4) numbers) (heldOf n st) room)
+        ∙ append-assoc (take (67 + 4 * n) st) _ _
+        ∙ ap (λ (l : List ℕ). take (67 + 4 * n) st ++ l)
+        (ap (λ (l : List ℕ). take (i * 4) numbers ++ l) (sym (append-assoc x _ (heldOf n st)))
+        ∙ sym (append-assoc (take (i * 4) numbers) _ (heldOf n st))
+        ∙ ap (λ (l : List ℕ). l ++ heldOf n st)
+        (ap (λ (l : List ℕ). take (i * 4) numbers ++ (l ++ drop 32 (drop (i * 4) numbers))) d
+        ∙ right-back n i (heldOf n st) (secretOf n st) numbers y fits (held-long n st (z .long)) numbers-long
+        (below-take (below-drop b (67 + 4 * n)) (4 * n))
+        (e ∙ ap (λ (l : List ℕ). gained wrap n (rightTerm n (reduced wrap (heldOf n st)) (secretOf n st)) (words l)) part)))
+
+    pub back-left : (y x : List ℕ)
+        → y ≡ gained wrap 8 (partTerm n n i (secretOf n st) (reduced wrap (heldOf n st))) (sumsOf n st) → x ≡ pairs y
+        → take (67 + 4 * n) st ++ (x ++ drop (67 + 4 * n + 4 * n - (67 + 4 * n)) (drop (67 + 4 * n) st))
+        ≡ entered Call.Reply n (i * n) st (heldOf n st)
+    unfolding entered
+    back-left y x e d =
+        let m : 67 + 4 * n + 4 * n - (67 + 4 * n) ≡ 4 * n = omega arith in
+        ap (λ (k : ℕ). take (67 + 4 * n) st ++ (x ++ drop k (drop (67 + 4 * n) st))) m
+        ∙ ap₂ (λ (u v : List ℕ). take (67 + 4 * n) st ++ (u ++ v))
+        (d
+        ∙ ap pairs
+        (e
+        ∙ narrow-left wrap n 8 i (secretOf n st) (heldOf n st) (sumsOf n st)
+        ∙ left-is n i (heldOf n st) fits (held-long n st (z .long)) wrap (secretOf n st) (sumsOf n st)))
+        (held-at n st)
+
+  pub entered-wide : (k : Call) (at : ℕ) (held : List ℕ) → length held ≡ 8 * n → length (entered k n at st held) ≡ long n
+  unfolding entered
+  entered-wide k at held h =
+      let u = pairs-long (sumsEntered k n at st) (4 * n) (gained-length wrap n _ (sumsOf n st) ∙ sums-long n st (z .long) ∙ omega arith) in
+      simp (length-append, length-take) (omega (arith, u, h, z .long))
+
+  -- zeros in the place of the rows, once they have entered
+  module _ (k : Call) (at : ℕ) {x : List ℕ} (e : x ≡ entered k n at st (heldOf n st)) where
+    abbrev summed : List ℕ
+    summed = pairs (sumsEntered k n at st)
+
+    summed-long : length summed ≡ 4 * n
+    summed-long = pairs-long _ (4 * n) (gained-length wrap n _ (sumsOf n st) ∙ sums-long n st (z .long) ∙ omega arith)
+
+    before-long : length (take (67 + 4 * n) st ++ summed) ≡ 67 + 8 * n
+    before-long = simp (length-append, length-take) (omega (arith, summed-long, z .long))
+
+    entered-is : x ≡ (take (67 + 4 * n) st ++ summed) ++ heldOf n st
+    unfolding entered
+    entered-is = e ∙ sym (append-assoc (take (67 + 4 * n) st) summed (heldOf n st))
+
+    pub entered-long : length x ≡ long n
+    entered-long = ap length entered-is ∙ length-append (take (67 + 4 * n) st ++ summed) _ ∙ omega (arith, before-long, held-long n st (z .long))
+
+    pub clear-is : {y : List ℕ} → y ≡ replicate (length (take (length x - (67 + 8 * n)) (drop (67 + 8 * n) x))) 0
+        → take (67 + 8 * n) x ++ (y ++ drop (length x - (67 + 8 * n)) (drop (67 + 8 * n) x)) ≡ entered k n at st (replicate (8 * n) 0)
+    unfolding entered
+    clear-is {y} d =
+        let gone : drop (length x - (67 + 8 * n)) (drop (67 + 8 * n) x) ≡ [] = drop-of-length-le (drop (67 + 8 * n) x) (le-of-eq (length-drop (67 + 8 * n) x)) in
+        let many : length (take (length x - (67 + 8 * n)) (drop (67 + 8 * n) x)) ≡ 8 * n =
+        ap length (to-end x (67 + 8 * n)) ∙ length-drop (67 + 8 * n) x ∙ omega (arith, entered-long)
+        in
+        ap₂ (λ (u v : List ℕ). u ++ (y ++ v)) (ap (take (67 + 8 * n)) entered-is ∙ take-at (take (67 + 4 * n) st ++ summed) (heldOf n st) (67 + 8 * n) before-long) gone
+        ∙ ap (λ (l : List ℕ). (take (67 + 4 * n) st ++ summed) ++ l) (append-nil y ∙ d ∙ ap (λ (m : ℕ). replicate {A = ℕ} m 0) many)
+        ∙ append-assoc (take (67 + 4 * n) st) summed (replicate (8 * n) 0)
+
+  -- ---- the part is in the state
+
+  module _ (k : Call) (p : List ℕ) where
+    pub step-holds : fills n (taken st) (length p) ≡ false → holding n st p ≡ stepped k n st p
+    unfolding holding stepped sumsWith heldAfter
+    step-holds h = rw h refl
+
+    abbrev held-laid : List ℕ
+    held-laid = laid (getD st 0 0) (getD st 1 0) (taken st + length p) (keptOf st) (secretOf n st) (sumsOf n st) (heldWith n st p)
+
+    pub step-enters : (at : ℕ) → fills n (taken st) (length p) ≡ true → at ≡ taken st + length p - 8 * n
+        → entered k n at (holding n st p) (replicate (8 * n) 0) ≡ stepped k n st p
+    unfolding holding stepped sumsWith heldAfter entered
+    step-enters at h e =
+        let l = z .long in
+        let a = getD st 0 0 in
+        let b = getD st 1 0 in
+        let t = taken st + length p in
+        let s = laid-secret n a b t (keptOf st) (secretOf n st) (sumsOf n st) (heldWith n st p) (kept-long n st l) (secret-long n st l) (sums-long n st l) (again-words _) in
+        let u = laid-sums n a b t (keptOf st) (secretOf n st) (sumsOf n st) (heldWith n st p) (kept-long n st l) (secret-long n st l) (sums-long n st l) (again-words _) in
+        let v = laid-held n a b t (keptOf st) (secretOf n st) (sumsOf n st) (heldWith n st p) (kept-long n st l) (secret-long n st l) (sums-long n st l) in
+        let f : take (67 + 4 * n) held-laid ≡ a ∷ b ∷ t ∷ (keptOf st ++ pairs (secretOf n st)) =
+        front n held-laid (omega arith)
+        ∙ ap₂ (λ (x y : List ℕ). a ∷ b ∷ t ∷ (x ++ pairs y))
+        (laid-kept n a b t (keptOf st) (secretOf n st) (sumsOf n st) (heldWith n st p) (kept-long n st l) (secret-long n st l) (sums-long n st l)) s
+        in
+        let g : sumsEntered k n at held-laid ≡ gained wrap n (terms k n (secretOf n st) (placed (t - 8 * n) (heldWith n st p))) (sumsOf n st) =
+        rw (s, u, v, e) refl
+        in
+        ap₂ (λ (x y : List ℕ). x ++ (pairs y ++ replicate (8 * n) 0)) f g
+        ∙ ap (λ (x : List ℕ). a ∷ b ∷ t ∷ x) (append-assoc (keptOf st) (pairs (secretOf n st)) _)
+        ∙ rw h refl

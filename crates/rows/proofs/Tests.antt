@@ -106,15 +106,16 @@ not-newhope e = let z : _≡_ {A = ℕ} 0 1 = cc in absurd (omega arith)
 pub record Frodos (f : Fixed) : Type 0 where
   pub seed : f .seed ≡ 16
   pub coins : f .coins ≡ 0
-  pub words : 4294967296 % f .q ≡ 0
+  pub words : 65536 % f .q ≡ 0
+  pub eights : f .n % 8 ≡ 0
 
 pub frodos : (c : Scheme) → familyOf c ≡ Family.Frodo → Frodos (fixedOf c)
 frodos Bcns e = not-bcns e
 frodos NewHope e = not-newhope e
-frodos Challenge e = record { seed = refl; coins = refl; words = refl }
-frodos Classical e = record { seed = refl; coins = refl; words = refl }
-frodos Recommended e = record { seed = refl; coins = refl; words = refl }
-frodos Paranoid e = record { seed = refl; coins = refl; words = refl }
+frodos Challenge e = record { seed = refl; coins = refl; words = refl; eights = refl }
+frodos Classical e = record { seed = refl; coins = refl; words = refl; eights = refl }
+frodos Recommended e = record { seed = refl; coins = refl; words = refl; eights = refl }
+frodos Paranoid e = record { seed = refl; coins = refl; words = refl; eights = refl }
 
 unknown-is : {X : Type 0} {c : Scheme} → Unknown ≡ Is c → X
 unknown-is e = let z : _≡_ {A = ℕ} 0 1 = cc in absurd (omega arith)

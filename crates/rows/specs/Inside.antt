@@ -1,17 +1,26 @@
 -- What the steps of a call ask of each other, where the tests before them have passed.
---   summed k n st at p   the state with the part p of A from entry `at` on in its sums, and its count as it was
---   Sized n st           the length of a state, and numbers that the code can count with
+--   holding n st p      the state with the part p among the numbers that are held back, and in its count
+--   sumsEntered k n at st    the sums, once the eight rows that are held back have entered them: those from entry `at` of A on
+--   entered k n at st held   the state with these sums, and with `held` in the place of the rows
+--   Sized n st          the length of a state, and numbers that the code can count with
 use mathlib.Core.Path.{_≡_}
 use mathlib.Core.List.{List, _++_}
 use Prim.Native.Nat.{ℕ, _+_, _*_, _<_, _≤_}
-use lib.ListN.{length, take}
+use lib.ListN.{length, getD, take}
 use Rattle.matrix.specs.Steps.{gained}
-use Rattle.parts.specs.Parts.{wrap, placed}
-use Rattle.rows.specs.State.{long, secretOf, sumsOf, terms}
+use Rattle.parts.specs.Parts.{wrap, pairs, placed}
+use Rattle.rows.specs.State.{long, taken, keptOf, secretOf, sumsOf, heldOf, laid, terms, heldWith}
 use Rattle.rows.specs.declared.Call.{Call}
 
-unfoldable pub summed : Call → ℕ → List ℕ → ℕ → List ℕ → List ℕ
-summed k n st at p = take (67 + 8 * n) st ++ gained wrap n (terms k n (secretOf n st) (placed at p)) (sumsOf n st)
+unfoldable pub holding : ℕ → List ℕ → List ℕ → List ℕ
+holding n st p =
+    laid (getD st 0 0) (getD st 1 0) (taken st + length p) (keptOf st) (secretOf n st) (sumsOf n st) (heldWith n st p)
+
+abbrev pub sumsEntered : Call → ℕ → ℕ → List ℕ → List ℕ
+sumsEntered k n at st = gained wrap n (terms k n (secretOf n st) (placed at (heldOf n st))) (sumsOf n st)
+
+unfoldable pub entered : Call → ℕ → ℕ → List ℕ → List ℕ → List ℕ
+entered k n at st held = take (67 + 4 * n) st ++ (pairs (sumsEntered k n at st) ++ held)
 
 pub record Sized (n : ℕ) (st : List ℕ) : Type 0 where
   pub some : 0 < n

@@ -9,7 +9,7 @@
 --   ReplyBegins, ReplyEnds    the same of a call: the slices that it is lent, and its verdict or answer
 use mathlib.Core.Path.{_≡_}
 use mathlib.Core.List.{List, [], _++_}
-use Prim.Native.Nat.{ℕ}
+use Prim.Native.Nat.{ℕ, _*_}
 use lib.IntN.{ℤ}
 use lib.ListN.{length, replicate}
 use Rattle.schemes.specs.Schemes.{fixedOf, numberOf}
@@ -57,7 +57,8 @@ valueOf c x = mixedValue c (numbersIn c (openedIn c (x .opening))) (x .s') (x .e
 
 unfoldable pub replyState : Named → ReplyBegin → List ℕ
 replyState Unknown x = []
-replyState (Is c) x = laid 2 (numberOf c) 0 (valueOf c x) (wordsOf wrap (x .s')) (wordsOf wrap (x .e'))
+replyState (Is c) x =
+    laid 2 (numberOf c) 0 (valueOf c x) (wordsOf wrap (x .s')) (wordsOf wrap (x .e')) (replicate (8 * fixedOf c .n) 0)
 
 pub record ReplyBegun (c : Named) (x : ReplyBegin) (number place stateRoom : ℕ) (after : List ℕ) : Type 0 where
   pub told : Told (replyBeginTests c x stateRoom) number place

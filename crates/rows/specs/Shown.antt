@@ -3,18 +3,20 @@
 --   Frodos            a number names a scheme here exactly if it does in the whole-matrix calls and the scheme is one of Frodo's
 --   Allowed           a state has at most 32 n + 256 numbers
 --   Joining           part after part is the part of both joined, for every cut: where the joined one is accepted, so are both, and the state is the same
---   Empty             an empty part changes nothing, where the state is of words
+--   Empty             an empty part changes nothing
 --   Again             a refused part changes nothing, so that it can be sent again: the run without the refused parts leaves the same state
 --   OfferTry, ReplyTry   so does a refused end
---   Running           the sums after any parts are those of the numbers that they join into, and the count is their number
+--   Running           after any parts the count is how many numbers they join into, the sums are those of the blocks of eight rows that have come whole,
+--                     and the numbers behind these are held back
+--   blocks n xs       how many numbers those blocks have
 --   SameOffer, SameReply   end gives what Offer and Reply promise on the joined matrix, refusals of room and blank parts included
 --   EarlyOffer, EarlyReply   where the parts do not fill the rows, it gives 11, and zeros
 use mathlib.Core.Path.{_≡_}
 use mathlib.Core.Logic.{_↔_, _≢_}
 use mathlib.Core.Bool.{true}
 use mathlib.Core.List.{List, [], _++_}
-use Prim.Native.Nat.{ℕ, _+_, _*_, _≤_, _<_}
-use lib.ListN.{length}
+use Prim.Native.Nat.{ℕ, _+_, _*_, _/_, _%_, _≤_, _<_}
+use lib.ListN.{length, take, drop}
 use Rattle.schemes.specs.Schemes.{familyOf, fixedOf, schemeOf}
 use Rattle.schemes.specs.declared.Family.{Family}
 use Rattle.schemes.specs.declared.Named.{Named}
@@ -34,7 +36,7 @@ use Rattle.exchange.specs.Offer.{offerOf, Offered}
 use Rattle.exchange.specs.Reply.{replyOf, Replied}
 use Rattle.exchange.specs.Reply as reply
 use Rattle.exchange.specs.declared.ReplyAnswer.{ReplyAnswer}
-use Rattle.rows.specs.State.{frodoOf, long, named, taken, secretOf, sumsOf, begun, terms}
+use Rattle.rows.specs.State.{frodoOf, long, named, taken, secretOf, sumsOf, heldOf, begun, terms}
 use Rattle.rows.specs.Part.{Taken}
 use Rattle.rows.specs.Offer.{OfferBegin, OfferBegun, OfferEnded}
 use Rattle.rows.specs.Reply.{ReplyBegin, ReplyBegun, ReplyEnded}
@@ -86,7 +88,7 @@ Joining =
     (between : List ℕ) × (Taken k st p 0 0 between × Taken k between p' 0 0 after)
 
 abbrev pub Empty : Type 0
-Empty = (k : Call) (st after : List ℕ) (number place : ℕ) → Below wrap st → Taken k st [] number place after → after ≡ st
+Empty = (k : Call) (st after : List ℕ) (number place : ℕ) → Taken k st [] number place after → after ≡ st
 
 abbrev pub Again : Type 0
 Again =
@@ -102,10 +104,17 @@ ReplyTry =
     (st message key digest after : List ℕ) (number place n m k l d e : ℕ) → ReplyEnded st number place n m message k l key d e digest after → 0 < number →
     after ≡ st
 
+abbrev pub blocks : ℕ → List ℕ → ℕ
+blocks n xs = length xs / (8 * n) * (8 * n)
+
 abbrev pub Running : Type 0
 Running =
-    (k : Call) (c : Scheme) (st xs last : List ℕ) → named st ≡ Is c → begun k (fixedOf c) st ≡ true → taken st ≡ 0 → Below wrap st → Parts k st xs last →
-    (taken last ≡ length xs) × (sumsOf (fixedOf c .n) last ≡ gained wrap (fixedOf c .n) (terms k (fixedOf c .n) (secretOf (fixedOf c .n) st) xs) (sumsOf (fixedOf c .n) st))
+    (k : Call) (c : Scheme) (st xs last : List ℕ) → named st ≡ Is c → begun k (fixedOf c) st ≡ true → taken st ≡ 0 → Below (wrap * wrap) st →
+    Parts k st xs last →
+    (taken last ≡ length xs)
+    × (sumsOf (fixedOf c .n) last
+    ≡ gained wrap (fixedOf c .n) (terms k (fixedOf c .n) (secretOf (fixedOf c .n) st) (take (blocks (fixedOf c .n) xs) xs)) (sumsOf (fixedOf c .n) st))
+    × (take (length xs % (8 * fixedOf c .n)) (heldOf (fixedOf c .n) last) ≡ drop (blocks (fixedOf c .n) xs) xs)
 
 -- ---- the same as whole
 

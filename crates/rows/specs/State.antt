@@ -3,30 +3,35 @@
 --   1          the scheme's number, 2 to 5
 --   2          how many numbers of A have come, 0 to n n: the next stands at row taken / n and column taken % n
 --   3 .. 66    what is kept for the end: Offer the seed's 16 bytes, then zeros; Reply the 64 values of V, below q
---   67 ..      the secret as 8 n words: Offer the columns of S, one after the other, Reply S' as it lies
---   67 + 8n .. the running sums as 8 n words, which start as the noise
--- Words wrap at 2^32, so every number of 32 bits is one, and only the first 67 have a range. Any other list is no state: nothing has begun.
+--   67 ..      the secret as 8 n words, two in each number: Offer the columns of S, one after the other, Reply S' as it lies
+--   67 + 4n .. the running sums as 8 n words, two in each number, which start as the noise
+--   67 + 8n .. the numbers of the rows that are held back until eight have come, then zeros
+-- Words wrap at 2^16, so every number of 32 bits is a pair of them, and of a number that is held back its lower word counts: only the first 67 have a range.
+-- Any other list is no state: nothing has begun.
 --   frodoOf k            the scheme that a number names, where it is one of Frodo's
 --   long n               how many numbers a state has
---   named, taken, keptOf, secretOf, sumsOf   its parts
+--   named, taken, keptOf, secretOf, sumsOf, heldOf   its parts
 --   laid                 a state of its parts
 --   keptIn, begun        what is kept is in range; the call has begun
 --   fitsIn n at m        m more numbers end inside the row, and inside A
 --   complete             the call has begun, and all of A has come
 --   terms k n s a        how the numbers a of A enter the sums of the call k, with the secret's words s
+--   fills n at m         m more numbers end a block of eight rows
+--   heldWith n st p      the numbers that are held back, with the part p behind them
+--   sumsWith, heldAfter  the sums with the part p, which eight rows enter where it fills them; what is held back then: zeros where they entered
 --   stepped k n st p     the state with the part p
-use mathlib.Core.Bool.{Bool, true, false}
+use mathlib.Core.Bool.{Bool, true, false, cond}
 use mathlib.Core.List.{List, _∷_, _++_}
-use Prim.Native.Nat.{ℕ, _+_, _*_, _%_}
+use Prim.Native.Nat.{ℕ, _+_, _*_, _-_, _%_}
 use lib.Dec.{eqb, leb}
-use lib.ListN.{length, getD, take, drop}
+use lib.ListN.{length, getD, take, drop, replicate}
 use Rattle.lists.specs.First.{firstOver}
 use Rattle.schemes.specs.Schemes.{by, familyOf, schemeOf}
 use Rattle.schemes.specs.declared.Fixed.{Fixed}
 use Rattle.schemes.specs.declared.Named.{Named}
 use Rattle.schemes.specs.declared.Named.the-variants.{Is, Unknown}
 use Rattle.matrix.specs.Steps.{gained, rightTerm, leftTerm}
-use Rattle.parts.specs.Parts.{wrap, placed}
+use Rattle.parts.specs.Parts.{wrap, words, pairs, placed}
 use Rattle.rows.specs.declared.Call.{Call}
 
 -- 1 reads here: the scheme is not 2 to 5
@@ -56,13 +61,16 @@ abbrev pub keptOf : List ℕ → List ℕ
 keptOf st = take 64 (drop 3 st)
 
 abbrev pub secretOf : ℕ → List ℕ → List ℕ
-secretOf n st = take (8 * n) (drop 67 st)
+secretOf n st = words (take (4 * n) (drop 67 st))
 
 abbrev pub sumsOf : ℕ → List ℕ → List ℕ
-sumsOf n st = drop (67 + 8 * n) st
+sumsOf n st = words (take (4 * n) (drop (67 + 4 * n) st))
 
-abbrev pub laid : ℕ → ℕ → ℕ → List ℕ → List ℕ → List ℕ → List ℕ
-laid call scheme taken kept secret sums = call ∷ scheme ∷ taken ∷ (kept ++ (secret ++ sums))
+abbrev pub heldOf : ℕ → List ℕ → List ℕ
+heldOf n st = drop (67 + 8 * n) st
+
+abbrev pub laid : ℕ → ℕ → ℕ → List ℕ → List ℕ → List ℕ → List ℕ → List ℕ
+laid call scheme taken kept secret sums held = call ∷ scheme ∷ taken ∷ (kept ++ (pairs secret ++ (pairs sums ++ held)))
 
 -- ---- its ranges
 
@@ -97,7 +105,21 @@ abbrev pub terms : Call → ℕ → List ℕ → List ℕ → ℕ → ℕ → �
 terms Call.Offer n s a = rightTerm n a s
 terms Call.Reply n s a = leftTerm n n s a
 
+unfoldable pub fills : ℕ → ℕ → ℕ → Bool
+fills n at m = leb 1 m and eqb ((at + m) % (8 * n)) 0
+
+unfoldable pub heldWith : ℕ → List ℕ → List ℕ → List ℕ
+heldWith n st p = take (taken st % (8 * n)) (heldOf n st) ++ (p ++ drop (taken st % (8 * n) + length p) (heldOf n st))
+
+unfoldable pub sumsWith : Call → ℕ → List ℕ → List ℕ → List ℕ
+sumsWith k n st p =
+    cond (fills n (taken st) (length p))
+    (gained wrap n (terms k n (secretOf n st) (placed (taken st + length p - 8 * n) (heldWith n st p))) (sumsOf n st))
+    (sumsOf n st)
+
+unfoldable pub heldAfter : ℕ → List ℕ → List ℕ → List ℕ
+heldAfter n st p = cond (fills n (taken st) (length p)) (replicate (8 * n) 0) (heldWith n st p)
+
 unfoldable pub stepped : Call → ℕ → List ℕ → List ℕ → List ℕ
 stepped k n st p =
-    laid (getD st 0 0) (getD st 1 0) (taken st + length p) (keptOf st) (secretOf n st)
-    (gained wrap n (terms k n (secretOf n st) (placed (taken st) p)) (sumsOf n st))
+    laid (getD st 0 0) (getD st 1 0) (taken st + length p) (keptOf st) (secretOf n st) (sumsWith k n st p) (heldAfter n st p)

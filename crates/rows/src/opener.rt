@@ -10,7 +10,7 @@ ghost use Rattle.schemes.specs.declared.Named.the-variants.{Is};
 ghost use Rattle.lists.specs.Lent.{was, left, room};
 ghost use Rattle.lists.specs.Entries.{Below};
 ghost use Rattle.matrix.specs.Steps.{wordsOf, columnsOf};
-ghost use Rattle.parts.specs.Parts.{wrap};
+ghost use Rattle.parts.specs.Parts.{wrap, pairs};
 ghost use Rattle.packing.specs.Packing.{packed};
 ghost use Rattle.front.specs.Front.{notBlank};
 ghost use Rattle.front.specs.declared.Verdict.the-variants.{Pass};
@@ -66,21 +66,32 @@ fn lay_seed(seed: &[u8], kept: &mut [u32])
     spread(seed, &mut kept[..16]);
 }
 
-// The secret in columns, then the noise.
-fn lay_words(n: usize, s: &[i32], e: &[i32], out: &mut [u32])
-    requires { ⌜ (0 < n) × (n ≤ 864) × (length (now s) ≡ 8 * n) × (length (now e) ≡ 8 * n) × (length (now out) ≡ 16 * n) ⌝ }
-    ensures { λ _. ⌜ left out ≡ columnsOf wrap n (was s) ++ wordsOf wrap (was e) ⌝ }
+// The secret in columns, then the noise, with room for their words.
+fn words_on(n: usize, s: &[i32], e: &[i32], secret: &mut [u16], noise: &mut [u16], out: &mut [u32])
+    requires { ⌜ (0 < n) × (n ≤ 864) × (length (now s) ≡ 8 * n) × (length (now e) ≡ 8 * n) × (now out ≡ replicate (16 * n) 0) ⌝ }
+    requires { ⌜ (length (now secret) ≡ 8 * n) × (length (now noise) ≡ 8 * n) ⌝ }
+    ensures { λ _. ⌜ left out ≡ pairs (columnsOf wrap n (was s)) ++ (pairs (wordsOf wrap (was e)) ++ replicate (8 * n) 0) ⌝ }
 {
+    matrix::columns(n, s, secret);
+    matrix::words(e, noise);
+    crate::state::lay_pairs(n, secret, noise, out);
+}
+
+fn lay_words(n: usize, s: &[i32], e: &[i32], out: &mut [u32])
+    requires { ⌜ (0 < n) × (n ≤ 864) × (length (now s) ≡ 8 * n) × (length (now e) ≡ 8 * n) × (now out ≡ replicate (16 * n) 0) ⌝ }
+    ensures { λ _. ⌜ left out ≡ pairs (columnsOf wrap n (was s)) ++ (pairs (wordsOf wrap (was e)) ++ replicate (8 * n) 0) ⌝ }
+{
+    let mut secret = [0u16; 6912];
+    let mut noise = [0u16; 6912];
     let k = 8 * n;
-    parts::right::columns(n, s, &mut out[..k]);
-    parts::words(e, &mut out[k..]);
+    words_on(n, s, e, &mut secret[..k], &mut noise[..k], out);
 }
 
 // The state, which is zeros.
 fn lay_state(number: u32, n: usize, s: &[i32], e: &[i32], seed: &[u8], state: &mut [u32])
     requires { ⌜ Sized n (now state) × (now state ≡ replicate (length (now state)) 0) ⌝ }
     requires { ⌜ (length (now s) ≡ 8 * n) × (length (now e) ≡ 8 * n) × (length (now seed) ≡ 16) ⌝ }
-    ensures { λ _. ⌜ left state ≡ laid 1 number 0 (was seed ++ replicate 48 0) (columnsOf wrap n (was s)) (wordsOf wrap (was e)) ⌝ }
+    ensures { λ _. ⌜ left state ≡ laid 1 number 0 (was seed ++ replicate 48 0) (columnsOf wrap n (was s)) (wordsOf wrap (was e)) (replicate (8 * n) 0) ⌝ }
 {
     state[0] = 1;
     state[1] = number;
@@ -140,8 +151,7 @@ fn lay(scheme: Scheme, state: &[u32], b: &mut [u32], out: &mut [u8]) -> Verdict
     ensures { λ r. ⌜ Laid r (offerEndMessage (Is scheme) (was state)) out ⌝ }
 {
     let f = scheme.fixed();
-    let d = 67 + 8 * f.n;
-    parts::reduce(f.q, &state[d..], b);
+    crate::state::reduce(f.q, f.n, state, b);
     let v = front::not_blank(b);
     match v {
         Verdict::Fail(r) => Verdict::Fail(r),

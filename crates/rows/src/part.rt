@@ -1,110 +1,183 @@
-// A part of either call: its turn, then its numbers, then the sums. A refused part changes nothing.
+// A part of either call: its turn, then its numbers, then the state. A refused part changes nothing. Numbers are held back until eight rows have come;
+// then the eight enter the sums by the products of crate `matrix`.
 ghost use mathlib.Core.Path.{_≡_};
 ghost use mathlib.Core.Bool.{true};
-ghost use Prim.Native.Nat.{_+_, _*_, _<_, _≤_};
-ghost use lib.ListN.{length};
+ghost use Prim.Native.Nat.{_+_, _*_, _%_, _<_, _≤_};
+ghost use lib.ListN.{length, take, drop, replicate};
 ghost use Rattle.schemes.specs.Schemes.{familyOf, fixedOf};
 ghost use Rattle.schemes.specs.declared.Family.{Family};
 ghost use Rattle.lists.specs.Lent.{was, left};
+ghost use Rattle.matrix.specs.Steps.{gained, reduced, rightTerm, partTerm};
+ghost use Rattle.parts.specs.Parts.{wrap, words};
 ghost use Rattle.front.specs.Front.{publicsIn};
 ghost use Rattle.front.specs.Promise.{put};
-ghost use Rattle.rows.specs.State.{taken, fitsIn, stepped};
+ghost use Rattle.rows.specs.State.{taken, secretOf, sumsOf, heldOf, fitsIn, stepped};
 ghost use Rattle.rows.specs.Part.{partIn, Takes};
-ghost use Rattle.rows.specs.Inside.{summed, Sized};
+ghost use Rattle.rows.specs.Inside.{holding, entered, Sized};
 use crate::Call;
 use front::Refusal;
 use front::Verdict;
 use schemes::Named;
 use schemes::Scheme;
 
-// Offer: the part p of row `row`, from column `col` on. The sums of that row are made apart, with the part's largest number, and laid down where that is
-// below q; only where it is not, its place is looked for.
-fn add_right(q: u32, n: usize, row: usize, col: usize, p: &[u32], state: &mut [u32]) -> Verdict
-    requires { ⌜ (0 < q) × Sized n (now state) × (row < n) × (col + length (now p) ≤ n) ⌝ }
-    ensures { λ r. ⌜ r ≡ publicsIn q (was p) ⌝ }
-    ensures { λ r. ⌜ left state ≡ put r (summed Call.Offer n (was state) (row * n + col) (was p)) (was state) ⌝ }
+// The part p behind the numbers that are held back, and in the count.
+fn hold(n: usize, at: usize, p: &[u32], state: &mut [u32])
+    requires { ⌜ Sized n (now state) × (at ≡ taken (now state)) × (at % (8 * n) + length (now p) ≤ 8 * n) × (at + length (now p) ≤ n * n) ⌝ }
+    ensures { λ _. ⌜ left state ≡ holding n (was state) (was p) ⌝ }
 {
-    let mut sums: [u32; 8] = [0; 8];
-    let e = 67 + 8 * n;
-    let d = e + row * 8;
-    let most = parts::right::row_sums(n, col, p, &state[67..e], &state[d..d + 8], &mut sums);
-    if q <= most {
-        return front::publics_in(Verdict::Pass, q, p);
-    }
-    parts::copy(&sums, &mut state[d..d + 8]);
-    Verdict::Pass
+    let d = 67 + 8 * n + at % (8 * n);
+    let e = d + p.len();
+    parts::copy(p, &mut state[d..e]);
+    state[2] = (at + p.len()) as u32;
 }
 
-// Reply: the same part into the 8 rows of sums, which lie in the state itself.
-fn lay_left(n: usize, row: usize, col: usize, p: &[u32], state: &mut [u32])
-    requires { ⌜ Sized n (now state) × (row < n) × (col + length (now p) ≤ n) ⌝ }
-    ensures { λ _. ⌜ left state ≡ summed Call.Reply n (was state) (row * n + col) (was p) ⌝ }
-{
-    let mut w: [u32; 8] = [0; 8];
-    let e = 67 + 8 * n;
-    parts::left::column(n, row, &state[67..e], &mut w);
-    parts::left::add_part(n, col, &w, p, &mut state[e..]);
-}
-
-// So its numbers come first.
-fn add_left(q: u32, n: usize, row: usize, col: usize, p: &[u32], state: &mut [u32]) -> Verdict
-    requires { ⌜ (0 < q) × Sized n (now state) × (row < n) × (col + length (now p) ≤ n) ⌝ }
-    ensures { λ r. ⌜ r ≡ publicsIn q (was p) ⌝ }
-    ensures { λ r. ⌜ left state ≡ put r (summed Call.Reply n (was state) (row * n + col) (was p)) (was state) ⌝ }
-{
-    let v = front::publics_in(Verdict::Pass, q, p);
-    match v {
-        Verdict::Fail(r) => Verdict::Fail(r),
-        Verdict::Pass => {
-            lay_left(n, row, col, p, state);
-            Verdict::Pass
-        }
-    }
-}
-
-fn add(
-    call: Call,
-    q: u32,
+// Offer: the 64 sums of the eight rows from row `row` on, with these rows. All three are made words first.
+fn sums_right(
     n: usize,
     row: usize,
-    col: usize,
-    p: &[u32],
+    state: &[u32],
+    block: &mut [u16],
+    cols: &mut [u16],
+    sums: &mut [u16],
+)
+    requires { ⌜ Sized n (now state) × (row + 8 ≤ n) × (length (now block) ≡ 8 * n) × (length (now cols) ≡ 8 * n) × (length (now sums) ≡ 64) ⌝ }
+    ensures { λ _. ⌜ left sums ≡ gained wrap n (rightTerm n (reduced wrap (heldOf n (was state))) (secretOf n (was state))) (words (take 32 (drop (67 + 4 * n + row * 4) (was state)))) ⌝ }
+{
+    let a = 67 + 4 * n;
+    let h = 67 + 8 * n;
+    let d = a + row * 4;
+    parts::unpair(&state[67..a], cols);
+    parts::narrow(&state[h..], block);
+    parts::unpair(&state[d..d + 32], sums);
+    matrix::add_right(n, 8, block, cols, sums);
+}
+
+fn put_right(
+    n: usize,
+    row: usize,
+    block: &mut [u16],
+    cols: &mut [u16],
+    sums: &mut [u16],
     state: &mut [u32],
-) -> Verdict
-    requires { ⌜ (0 < q) × Sized n (now state) × (row < n) × (col + length (now p) ≤ n) ⌝ }
-    ensures { λ r. ⌜ r ≡ publicsIn q (was p) ⌝ }
-    ensures { λ r. ⌜ left state ≡ put r (summed call n (was state) (row * n + col) (was p)) (was state) ⌝ }
+)
+    requires { ⌜ Sized n (now state) × (row + 8 ≤ n) × (length (now block) ≡ 8 * n) × (length (now cols) ≡ 8 * n) × (length (now sums) ≡ 64) ⌝ }
+    ensures { λ _. ⌜ left state ≡ entered Call.Offer n (row * n) (was state) (heldOf n (was state)) ⌝ }
+{
+    sums_right(n, row, state, block, cols, sums);
+    let d = 67 + 4 * n + row * 4;
+    parts::pair(sums, &mut state[d..d + 32]);
+}
+
+fn add_right(n: usize, row: usize, state: &mut [u32])
+    requires { ⌜ Sized n (now state) × (row + 8 ≤ n) ⌝ }
+    ensures { λ _. ⌜ left state ≡ entered Call.Offer n (row * n) (was state) (heldOf n (was state)) ⌝ }
+{
+    let mut block = [0u16; 6912];
+    let mut cols = [0u16; 6912];
+    let mut sums = [0u16; 64];
+    let k = 8 * n;
+    put_right(n, row, &mut block[..k], &mut cols[..k], &mut sums, state);
+}
+
+// Reply: all sums, with these rows.
+fn sums_left(
+    n: usize,
+    row: usize,
+    state: &[u32],
+    block: &mut [u16],
+    secret: &mut [u16],
+    sums: &mut [u16],
+)
+    requires { ⌜ Sized n (now state) × (row + 8 ≤ n) × (length (now block) ≡ 8 * n) × (length (now secret) ≡ 8 * n) × (length (now sums) ≡ 8 * n) ⌝ }
+    ensures { λ _. ⌜ left sums ≡ gained wrap 8 (partTerm n n row (secretOf n (was state)) (reduced wrap (heldOf n (was state)))) (sumsOf n (was state)) ⌝ }
+{
+    let a = 67 + 4 * n;
+    let h = a + 4 * n;
+    parts::unpair(&state[67..a], secret);
+    parts::narrow(&state[h..], block);
+    parts::unpair(&state[a..h], sums);
+    matrix::add_left(n, n, row, 8, secret, block, sums);
+}
+
+fn put_left(
+    n: usize,
+    row: usize,
+    block: &mut [u16],
+    secret: &mut [u16],
+    sums: &mut [u16],
+    state: &mut [u32],
+)
+    requires { ⌜ Sized n (now state) × (row + 8 ≤ n) × (length (now block) ≡ 8 * n) × (length (now secret) ≡ 8 * n) × (length (now sums) ≡ 8 * n) ⌝ }
+    ensures { λ _. ⌜ left state ≡ entered Call.Reply n (row * n) (was state) (heldOf n (was state)) ⌝ }
+{
+    sums_left(n, row, state, block, secret, sums);
+    let a = 67 + 4 * n;
+    let h = a + 4 * n;
+    parts::pair(sums, &mut state[a..h]);
+}
+
+fn add_left(n: usize, row: usize, state: &mut [u32])
+    requires { ⌜ Sized n (now state) × (row + 8 ≤ n) ⌝ }
+    ensures { λ _. ⌜ left state ≡ entered Call.Reply n (row * n) (was state) (heldOf n (was state)) ⌝ }
+{
+    let mut block = [0u16; 6912];
+    let mut secret = [0u16; 6912];
+    let mut sums = [0u16; 6912];
+    let k = 8 * n;
+    put_left(
+        n,
+        row,
+        &mut block[..k],
+        &mut secret[..k],
+        &mut sums[..k],
+        state,
+    );
+}
+
+fn add(call: Call, n: usize, row: usize, state: &mut [u32])
+    requires { ⌜ Sized n (now state) × (row + 8 ≤ n) ⌝ }
+    ensures { λ _. ⌜ left state ≡ entered call n (row * n) (was state) (heldOf n (was state)) ⌝ }
 {
     match call {
-        Call::Offer => add_right(q, n, row, col, p, state),
-        Call::Reply => add_left(q, n, row, col, p, state),
+        Call::Offer => add_right(n, row, state),
+        Call::Reply => add_left(n, row, state),
     }
 }
 
-// The same at the number `at` of A; behind the last row there is no row for an empty part.
-fn add_at(call: Call, q: u32, n: usize, at: usize, p: &[u32], state: &mut [u32]) -> Verdict
-    requires { ⌜ (0 < q) × Sized n (now state) × (fitsIn n at (length (now p)) ≡ true) ⌝ }
-    ensures { λ r. ⌜ r ≡ publicsIn q (was p) ⌝ }
-    ensures { λ r. ⌜ left state ≡ put r (summed call n (was state) at (was p)) (was state) ⌝ }
+// Then they are held back no longer.
+fn enter(call: Call, n: usize, row: usize, state: &mut [u32])
+    requires { ⌜ Sized n (now state) × (row + 8 ≤ n) ⌝ }
+    ensures { λ _. ⌜ left state ≡ entered call n (row * n) (was state) (replicate (8 * n) 0) ⌝ }
 {
-    if p.len() == 0 {
-        return Verdict::Pass;
-    }
-    add(call, q, n, at / n, at % n, p, state)
+    add(call, n, row, state);
+    let h = 67 + 8 * n;
+    lists::zero_numbers(&mut state[h..]);
 }
 
-// Where it has its turn: the sums, then the count.
+// The part into the state, and the eight rows that it ends into the sums.
+fn put_part(call: Call, n: usize, p: &[u32], state: &mut [u32])
+    requires { ⌜ Sized n (now state) × (fitsIn n (taken (now state)) (length (now p)) ≡ true) ⌝ }
+    ensures { λ _. ⌜ left state ≡ stepped call n (was state) (was p) ⌝ }
+{
+    let at = state[2] as usize;
+    let e = at + p.len();
+    hold(n, at, p, state);
+    if crate::state::fills(n, at, p.len()) {
+        enter(call, n, e / n - 8, state);
+    }
+}
+
+// Where it has its turn: its numbers first.
 fn take_part(call: Call, q: u32, n: usize, p: &[u32], state: &mut [u32]) -> Verdict
     requires { ⌜ (0 < q) × Sized n (now state) × (fitsIn n (taken (now state)) (length (now p)) ≡ true) ⌝ }
     ensures { λ r. ⌜ r ≡ publicsIn q (was p) ⌝ }
     ensures { λ r. ⌜ left state ≡ put r (stepped call n (was state) (was p)) (was state) ⌝ }
 {
-    let at = state[2] as usize;
-    let v = add_at(call, q, n, at, p, state);
+    let v = front::publics_in(Verdict::Pass, q, p);
     match v {
         Verdict::Fail(r) => Verdict::Fail(r),
         Verdict::Pass => {
-            state[2] = (at + p.len()) as u32;
+            put_part(call, n, p, state);
             Verdict::Pass
         }
     }

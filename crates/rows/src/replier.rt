@@ -3,7 +3,7 @@
 ghost use mathlib.Core.Path.{_≡_};
 ghost use mathlib.Core.Bool.{true};
 ghost use mathlib.Core.List.{[], _++_};
-ghost use Prim.Native.Nat.{_*_, _^_, _≤_};
+ghost use Prim.Native.Nat.{_+_, _*_, _^_, _≤_};
 ghost use lib.ListN.{length, drop, replicate};
 ghost use Rattle.schemes.specs.Schemes.{familyOf, fixedOf, numberOf};
 ghost use Rattle.schemes.specs.declared.Family.{Family};
@@ -12,7 +12,7 @@ ghost use Rattle.lists.specs.Lent.{was, left, room};
 ghost use Rattle.packing.specs.Packing.{packed};
 ghost use Rattle.sponge.specs.Sponge.{sha3};
 ghost use Rattle.matrix.specs.Steps.{wordsOf};
-ghost use Rattle.parts.specs.Parts.{wrap};
+ghost use Rattle.parts.specs.Parts.{wrap, pairs};
 ghost use Rattle.front.specs.Front.{_then_, notBlank};
 ghost use Rattle.front.specs.Promise.{put};
 ghost use Rattle.front.specs.declared.Verdict.the-variants.{Pass};
@@ -69,14 +69,32 @@ fn secrets(v: Verdict, scheme: Scheme, s1: &[i32], e1: &[i32], e2: &[i32]) -> Ve
     front::secrets_in(v, f.largest, e2)
 }
 
-// The secret as it lies, then the noise.
-fn lay_words(n: usize, s1: &[i32], e1: &[i32], out: &mut [u32])
-    requires { ⌜ (n ≤ 864) × (length (now s1) ≡ 8 * n) × (length (now e1) ≡ 8 * n) × (length (now out) ≡ 16 * n) ⌝ }
-    ensures { λ _. ⌜ left out ≡ wordsOf wrap (was s1) ++ wordsOf wrap (was e1) ⌝ }
+// The secret as it lies, then the noise, with room for their words.
+fn words_on(
+    n: usize,
+    s1: &[i32],
+    e1: &[i32],
+    secret: &mut [u16],
+    noise: &mut [u16],
+    out: &mut [u32],
+)
+    requires { ⌜ (n ≤ 864) × (length (now s1) ≡ 8 * n) × (length (now e1) ≡ 8 * n) × (now out ≡ replicate (16 * n) 0) ⌝ }
+    requires { ⌜ (length (now secret) ≡ 8 * n) × (length (now noise) ≡ 8 * n) ⌝ }
+    ensures { λ _. ⌜ left out ≡ pairs (wordsOf wrap (was s1)) ++ (pairs (wordsOf wrap (was e1)) ++ replicate (8 * n) 0) ⌝ }
 {
+    matrix::words(s1, secret);
+    matrix::words(e1, noise);
+    crate::state::lay_pairs(n, secret, noise, out);
+}
+
+fn lay_words(n: usize, s1: &[i32], e1: &[i32], out: &mut [u32])
+    requires { ⌜ (n ≤ 864) × (length (now s1) ≡ 8 * n) × (length (now e1) ≡ 8 * n) × (now out ≡ replicate (16 * n) 0) ⌝ }
+    ensures { λ _. ⌜ left out ≡ pairs (wordsOf wrap (was s1)) ++ (pairs (wordsOf wrap (was e1)) ++ replicate (8 * n) 0) ⌝ }
+{
+    let mut secret = [0u16; 6912];
+    let mut noise = [0u16; 6912];
     let k = 8 * n;
-    parts::words(s1, &mut out[..k]);
-    parts::words(e1, &mut out[k..]);
+    words_on(n, s1, e1, &mut secret[..k], &mut noise[..k], out);
 }
 
 // The state, which is zeros. V needs only the opening, whose numbers are b, and is made here.
@@ -93,7 +111,7 @@ fn lay_state(
     requires { ⌜ (length (now state) ≡ long n) × (now state ≡ replicate (length (now state)) 0) ⌝ }
     requires { ⌜ Counted (fixedOf scheme .secret) (fixedOf scheme .q) (now b) × (length (now e1) ≡ fixedOf scheme .noise) ⌝ }
     requires { ⌜ Small (fixedOf scheme .secret) (fixedOf scheme .largest) (now s1) × Small (fixedOf scheme .mixed) (fixedOf scheme .largest) (now e2) ⌝ }
-    ensures { λ _. ⌜ left state ≡ laid 2 (numberOf scheme) 0 (mixedValue scheme (was b) (was s1) (was e2)) (wordsOf wrap (was s1)) (wordsOf wrap (was e1)) ⌝ }
+    ensures { λ _. ⌜ left state ≡ laid 2 (numberOf scheme) 0 (mixedValue scheme (was b) (was s1) (was e2)) (wordsOf wrap (was s1)) (wordsOf wrap (was e1)) (replicate (8 * n) 0) ⌝ }
 {
     state[0] = 2;
     state[1] = scheme.number();
@@ -199,8 +217,7 @@ fn lay(
     ensures { λ r. ⌜ Laid r (packed (fixedOf scheme .keybits) (was entries)) key ⌝ }
 {
     let f = scheme.fixed();
-    let d = 67 + 8 * f.n;
-    parts::reduce(f.q, &state[d..], u);
+    crate::state::reduce(f.q, f.n, state, u);
     let v = front::not_blank(u);
     match v {
         Verdict::Fail(r) => Verdict::Fail(r),

@@ -1,9 +1,12 @@
-// What a state says: which scheme, whether a call has begun, and whether a part or an end has its turn.
+// What a state says: which scheme, whether a call has begun, and whether a part or an end has its turn; and its words, two in each number.
 ghost use mathlib.Core.Path.{_≡_};
-ghost use Prim.Native.Nat.{_*_, _<_, _≤_};
-ghost use lib.ListN.{length};
-ghost use Rattle.lists.specs.Lent.{was};
-ghost use Rattle.rows.specs.State.{frodoOf, named, taken, _and_, allBelow, keptIn, begun, fitsIn, complete};
+ghost use mathlib.Core.List.{_++_};
+ghost use Prim.Native.Nat.{_+_, _*_, _<_, _≤_};
+ghost use lib.ListN.{length, replicate};
+ghost use Rattle.lists.specs.Lent.{was, left};
+ghost use Rattle.matrix.specs.Steps.{reduced};
+ghost use Rattle.parts.specs.Parts.{pairs};
+ghost use Rattle.rows.specs.State.{frodoOf, long, named, taken, sumsOf, _and_, allBelow, keptIn, begun, fitsIn, complete, fills};
 use crate::Call;
 use schemes::Family;
 use schemes::Fixed;
@@ -109,4 +112,46 @@ pub(crate) fn is_complete(call: Call, f: Fixed, state: &[u32]) -> bool
         return false;
     }
     state[2] as usize == f.n * f.n
+}
+
+// m more numbers end a block of eight rows.
+pub(crate) fn fills(n: usize, at: usize, m: usize) -> bool
+    requires { ⌜ (0 < n) × (n ≤ 864) × (at + m ≤ n * n) ⌝ }
+    ensures { λ r. ⌜ r ≡ fills n at m ⌝ }
+{
+    if m < 1 {
+        return false;
+    }
+    (at + m) % (8 * n) == 0
+}
+
+// The words of secret and noise into zeros; no row is held back yet.
+pub(crate) fn lay_pairs(n: usize, secret: &[u16], noise: &[u16], out: &mut [u32])
+    requires { ⌜ (n ≤ 864) × (length (now secret) ≡ 8 * n) × (length (now noise) ≡ 8 * n) × (now out ≡ replicate (16 * n) 0) ⌝ }
+    ensures { λ _. ⌜ left out ≡ pairs (was secret) ++ (pairs (was noise) ++ replicate (8 * n) 0) ⌝ }
+{
+    let a = 4 * n;
+    let e = a + 4 * n;
+    parts::pair(secret, &mut out[..a]);
+    parts::pair(noise, &mut out[a..e]);
+}
+
+// The remainders of the sums, with room for their words.
+fn reduce_on(q: u32, n: usize, state: &[u32], sums: &mut [u16], out: &mut [u32])
+    requires { ⌜ (0 < q) × (n ≤ 864) × (length (now state) ≡ long n) × (length (now sums) ≡ 8 * n) × (length (now out) ≡ 8 * n) ⌝ }
+    ensures { λ _. ⌜ left out ≡ reduced q (sumsOf n (was state)) ⌝ }
+{
+    let a = 67 + 4 * n;
+    let e = a + 4 * n;
+    parts::unpair(&state[a..e], sums);
+    matrix::reduce(q, sums, out);
+}
+
+pub(crate) fn reduce(q: u32, n: usize, state: &[u32], out: &mut [u32])
+    requires { ⌜ (0 < q) × (n ≤ 864) × (length (now state) ≡ long n) × (length (now out) ≡ 8 * n) ⌝ }
+    ensures { λ _. ⌜ left out ≡ reduced q (sumsOf n (was state)) ⌝ }
+{
+    let mut sums = [0u16; 6912];
+    let k = 8 * n;
+    reduce_on(q, n, state, &mut sums[..k], out);
 }

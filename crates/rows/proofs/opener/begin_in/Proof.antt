@@ -1,7 +1,7 @@
 -- `rows::opener::begin_in` meets its contract: by the verdict of its tests.
 use mathlib.Core.Path.{_≡_, _∙_, sym, ap}
 use mathlib.Core.List.{_++_}
-use Prim.Native.Nat.{ℕ}
+use Prim.Native.Nat.{ℕ, _*_}
 use borrow.Author.Needs.{needs}
 use lib.ListN.{length, replicate}
 use Rattle.schemes.specs.Schemes.{numberOf}
@@ -55,8 +55,8 @@ returns-2 c =
     let a = s .args in
     begin-done (passes o)
     (l .lay-state .ensures
-    ∙ ap (λ (k : ℕ). laid 1 k 0 (a .seed .now ++ replicate 48 0) (columnsOf 4294967296 (f .fixed .result .n) (a .s .now)) (wordsOf 4294967296 (a .e .now))) (m .number .ensures)
-    ∙ ap (λ (g : Fixed). laid 1 (numberOf (a .scheme)) 0 (a .seed .now ++ replicate 48 0) (columnsOf 4294967296 (g .n) (a .s .now)) (wordsOf 4294967296 (a .e .now))) (f .fixed .ensures))
+    ∙ ap (λ (k : ℕ). laid 1 k 0 (a .seed .now ++ replicate 48 0) (columnsOf 65536 (f .fixed .result .n) (a .s .now)) (wordsOf 65536 (a .e .now)) (replicate (8 * f .fixed .result .n) 0)) (m .number .ensures)
+    ∙ ap (λ (g : Fixed). laid 1 (numberOf (a .scheme)) 0 (a .seed .now ++ replicate 48 0) (columnsOf 65536 (g .n) (a .s .now)) (wordsOf 65536 (a .e .now)) (replicate (8 * g .n) 0)) (f .fixed .ensures))
 
 pub begin-in-spec : {M : Type 1} → statement M
 begin-in-spec =

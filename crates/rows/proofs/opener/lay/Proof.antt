@@ -6,19 +6,30 @@ use native.Mathlib.Omega.{arith}
 use borrow.Author.Needs.{needs}
 use lib.ListN.{length, drop}
 use Rattle.schemes.specs.Schemes.{fixedOf}
-use Rattle.schemes.specs.declared.Fixed.{Fixed}
-use Rattle.lists.proofs.Parts.{to-end}
 use Rattle.packing.specs.Packing.{packed}
 use Rattle.ends.proofs.Numbers.{numbers-in}
 use Rattle.front.specs.Front.{notBlank}
 use Rattle.wire.specs.Wire.{opening}
 use Rattle.rows.specs.Offer.{sentPart, offerEndMessage}
 use Rattle.rows.proofs.Tests.{frodos}
-use Rattle.rows.proofs.Laying.{sums-long, take-less}
+use Rattle.rows.proofs.Laying.{take-less}
 use Rattle.rows.proofs.Sending.{sent-counted, sent-is, sent-blank}
 use Rattle.rows.proofs.Opening.{state-long, seed-bytes, seed-long}
 use Rattle.rows.proofs.opener.lay.Statement.{statement}
 use Rattle.rows.proofs.opener.lay.Tie as tie
+
+-- the places before, step by step
+abbrev not-blank : tie.After-enum-told → tie.After-not-blank
+not-blank t = search needs
+
+abbrev reduced : tie.After-not-blank → tie.After-reduce
+reduced n = search needs
+
+abbrev fixed : tie.After-reduce → tie.After-fixed
+fixed r = search needs
+
+abbrev start : tie.After-fixed → tie.Start
+start f = search needs
 
 module _ (s : tie.Start) where
   abbrev lent : List ℕ
@@ -30,31 +41,12 @@ module _ (s : tie.Start) where
   few : fixedOf (s .args .scheme) .n ≤ 864
   few = numbers-in (s .args .scheme) (s .pre .0 .0) .few
 
-same-n : (f : tie.After-fixed) → let s : tie.Start = search needs in f .fixed .result .n ≡ fixedOf (s .args .scheme) .n
-same-n f = ap (λ (g : Fixed). g .n) (f .fixed .ensures)
-
-mul-d : tie.Need-mul-d
-mul-d c = let s : tie.Start = search needs in let f : tie.After-fixed = search needs in record { fits = omega (arith, same-n f, few s) }
-
-add-d : tie.Need-add-d
-add-d c = let s : tie.Start = search needs in let f : tie.After-fixed = search needs in record { fits = omega (arith, same-n f, few s) }
-
-sub-reduce : tie.Need-sub-reduce
-sub-reduce c = let s : tie.Start = search needs in let f : tie.After-fixed = search needs in omega (arith, same-n f, long s)
-
-part-reduce-start : tie.Need-part-reduce-start
-part-reduce-start c = let s : tie.Start = search needs in let f : tie.After-fixed = search needs in omega (arith, same-n f, long s)
-
 reduce-requires : tie.Need-reduce-requires
 reduce-requires c κs =
     let s : tie.Start = search needs in
     let f : tie.After-fixed = search needs in
     let h = numbers-in (s .args .scheme) (s .pre .0 .0) in
-    rw (f .fixed .ensures)
-    (h .q-some, s .pre .1 .0 ∙ h .secret ∙ sym (ap length (to-end (lent s) (67 + 8 * fixedOf (s .args .scheme) .n)) ∙ sums-long (fixedOf (s .args .scheme) .n) (lent s) (long s)))
-
-mul-reduce : tie.Need-mul-reduce
-mul-reduce c = let s : tie.Start = search needs in let f : tie.After-fixed = search needs in omega (arith, same-n f, long s)
+    rw (f .fixed .ensures) (h .q-some, few s, long s, s .pre .1 .0 ∙ h .secret)
 
 -- the numbers are tested for their bytes
 tested : (n : tie.After-not-blank) → let s : tie.Start = search needs in n .not-blank .result ≡ notBlank (sentPart (s .args .scheme) (lent s))
@@ -91,12 +83,12 @@ returns c =
 returns-2 : tie.Need-returns-2
 unfolding offerEndMessage
 returns-2 c =
-    let s : tie.Start = search needs in
-    let f : tie.After-fixed = search needs in
-    let r : tie.After-reduce = search needs in
-    let n : tie.After-not-blank = search needs in
-    let t : tie.After-enum-told = search needs in
     let o : tie.After-lay-opening = search needs in
+    let t : tie.After-enum-told = search needs in
+    let n = not-blank t in
+    let r = reduced n in
+    let f : tie.After-fixed = fixed r in
+    let s = start f in
     let d = s .args .scheme in (
       sym (t .enum-told .given .1) ∙ tested n,
       o .lay-opening .ensures
@@ -107,4 +99,4 @@ returns-2 c =
 pub lay-spec : {M : Type 1} → statement M
 lay-spec =
     tie.close
-    (tie.spec (λ c κs. search needs) mul-d add-d mul-reduce sub-reduce part-reduce-start (search needs) reduce-requires (λ c κs. search needs) (search needs) (search needs) (search needs) (search needs) part-lay-opening-end lay-opening-requires (search needs) returns (search needs) (search needs) returns-2)
+    (tie.spec (λ c κs. search needs) reduce-requires (λ c κs. search needs) (search needs) (search needs) (search needs) (search needs) part-lay-opening-end lay-opening-requires (search needs) returns (search needs) (search needs) returns-2)

@@ -1,29 +1,36 @@
--- `rows::opener::lay_words` meets its contract: one behind the other.
+-- `rows::opener::lay_words` meets its contract: it lends room for the words.
 use mathlib.Core.Path.{sym}
-use Prim.Native.Nat.{_*_}
+use Prim.Native.Nat.{_*_, _≤_}
 use native.Mathlib.Omega.{arith}
 use borrow.Author.Needs.{needs}
-use Rattle.lists.proofs.Parts.{front-long, joined}
-use Rattle.matrix.proofs.Steps.{words-length}
-use Rattle.rows.proofs.Opening.{columns-long}
+use Rattle.lists.proofs.Parts.{buffer-long}
 use Rattle.rows.proofs.opener.lay_words.Statement.{statement}
 use Rattle.rows.proofs.opener.lay_words.Tie as tie
 
-slice-aggregate-columns : tie.Need-slice-aggregate-columns
-slice-aggregate-columns c = let s : tie.Start = search needs in sym (front-long (8 * s .args .n) (s .args .out .now) (omega (arith, s .pre .4)))
+few : (s : tie.Start) → 8 * s .args .n ≤ 6912
+few s = omega (arith, s .pre .1)
 
-columns-requires : tie.Need-columns-requires
-columns-requires c κs = let s : tie.Start = search needs in (s .pre .0, s .pre .2, front-long (8 * s .args .n) (s .args .out .now) (omega (arith, s .pre .4)))
+array-borrow-prefix-secret : tie.Need-array-borrow-prefix-secret
+array-borrow-prefix-secret c = let s : tie.Start = search needs in few s
+
+slice-aggregate-words-on : tie.Need-slice-aggregate-words-on
+slice-aggregate-words-on c = let s : tie.Start = search needs in sym (buffer-long (8 * s .args .n) 6912 (few s))
+
+array-borrow-prefix-noise : tie.Need-array-borrow-prefix-noise
+array-borrow-prefix-noise c = let s : tie.Start = search needs in few s
+
+slice-aggregate-words-on-2 : tie.Need-slice-aggregate-words-on-2
+slice-aggregate-words-on-2 c = let s : tie.Start = search needs in sym (buffer-long (8 * s .args .n) 6912 (few s))
+
+words-on-requires : tie.Need-words-on-requires
+words-on-requires c κs =
+    let s : tie.Start = search needs in
+    (s .pre, (buffer-long (8 * s .args .n) 6912 (few s), buffer-long (8 * s .args .n) 6912 (few s)))
 
 returns : tie.Need-returns
-returns c =
-    let s : tie.Start = search needs in
-    let o : tie.After-columns = search needs in
-    let w : tie.After-words = search needs in
-    joined (8 * s .args .n) (s .args .out .now) _ _ _ _ (o .columns .ensures) (w .words .ensures) (columns-long 4294967296 (s .args .n) (s .args .s .now))
-    (omega (arith, s .pre .4, words-length 4294967296 (s .args .e .now), s .pre .3))
+returns c = let o : tie.After-words-on = search needs in o .words-on .ensures
 
 pub lay-words-spec : {M : Type 1} → statement M
 lay-words-spec =
     tie.close
-    (tie.spec (search needs) (search needs) slice-aggregate-columns columns-requires (search needs) (search needs) (search needs) (search needs) (λ c κs. search needs) (search needs) returns)
+    (tie.spec (search needs) array-borrow-prefix-secret slice-aggregate-words-on array-borrow-prefix-noise slice-aggregate-words-on-2 words-on-requires (search needs) returns)

@@ -1,9 +1,9 @@
 -- `rows::part::add` meets its contract: by the call.
 use mathlib.Core.Path.{_∙_, sym, ap}
-use Prim.Native.Nat.{_+_, _*_}
+use Prim.Native.Nat.{_*_}
 use borrow.Author.Needs.{needs}
-use Rattle.front.specs.Promise.{put}
-use Rattle.rows.specs.Inside.{summed}
+use Rattle.rows.specs.State.{heldOf}
+use Rattle.rows.specs.Inside.{entered}
 use Rattle.rows.specs.declared.Call.{Call}
 use Rattle.rows.proofs.part.add.Statement.{statement}
 use Rattle.rows.proofs.part.add.Tie as tie
@@ -14,7 +14,7 @@ returns c =
     let t : tie.After-enum-told = search needs in
     let r : tie.After-add-right = search needs in
     let a = s .args in
-    (r .add-right .ensures .0, r .add-right .ensures .1 ∙ ap (λ (k : Call). put (r .add-right .result) (summed k (a .n) (a .state .now) (a .row * a .n + a .col) (a .p .now)) (a .state .now)) (sym (t .enum-told .given .1)))
+    r .add-right .ensures ∙ ap (λ (k : Call). entered k (a .n) (a .row * a .n) (a .state .now) (heldOf (a .n) (a .state .now))) (sym (t .enum-told .given .1))
 
 returns-2 : tie.Need-returns-2
 returns-2 c =
@@ -22,7 +22,7 @@ returns-2 c =
     let t : tie.After-enum-told2 = search needs in
     let r : tie.After-add-left = search needs in
     let a = s .args in
-    (r .add-left .ensures .0, r .add-left .ensures .1 ∙ ap (λ (k : Call). put (r .add-left .result) (summed k (a .n) (a .state .now) (a .row * a .n + a .col) (a .p .now)) (a .state .now)) (sym (t .enum-told2 .given .1)))
+    r .add-left .ensures ∙ ap (λ (k : Call). entered k (a .n) (a .row * a .n) (a .state .now) (heldOf (a .n) (a .state .now))) (sym (t .enum-told2 .given .1))
 
 pub add-spec : {M : Type 1} → statement M
 add-spec =

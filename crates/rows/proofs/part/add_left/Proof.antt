@@ -1,24 +1,43 @@
--- `rows::part::add_left` meets its contract: its numbers, then the sums.
-use mathlib.Core.Path.{refl, _∙_, sym}
+-- `rows::part::add_left` meets its contract: it lends room for the words.
+use mathlib.Core.Path.{sym}
+use Prim.Native.Nat.{_*_, _≤_}
+use native.Mathlib.Omega.{arith}
 use borrow.Author.Needs.{needs}
-use Rattle.front.proofs.Laws.{first}
+use Rattle.lists.proofs.Parts.{buffer-long}
 use Rattle.rows.proofs.part.add_left.Statement.{statement}
 use Rattle.rows.proofs.part.add_left.Tie as tie
 
-returns : tie.Need-returns
-returns c =
-    let v : tie.After-v = search needs in
-    let p : tie.After-publics-in = search needs in
-    (sym (v .v .given .1) ∙ first (p .publics-in .ensures) refl, refl)
+few : (s : tie.Start) → 8 * s .args .n ≤ 6912
+few s = omega (arith, s .pre .0 .few)
 
-returns-2 : tie.Need-returns-2
-returns-2 c =
-    let t : tie.After-enum-told = search needs in
-    let p : tie.After-publics-in = search needs in
-    let l : tie.After-lay-left = search needs in
-    (sym (t .enum-told .given .1) ∙ first (p .publics-in .ensures) refl, l .lay-left .ensures)
+array-borrow-prefix-block : tie.Need-array-borrow-prefix-block
+array-borrow-prefix-block c = let s : tie.Start = search needs in few s
+
+slice-aggregate-put-left : tie.Need-slice-aggregate-put-left
+slice-aggregate-put-left c = let s : tie.Start = search needs in sym (buffer-long (8 * s .args .n) 6912 (few s))
+
+array-borrow-prefix-secret : tie.Need-array-borrow-prefix-secret
+array-borrow-prefix-secret c = let s : tie.Start = search needs in few s
+
+slice-aggregate-put-left-2 : tie.Need-slice-aggregate-put-left-2
+slice-aggregate-put-left-2 c = let s : tie.Start = search needs in sym (buffer-long (8 * s .args .n) 6912 (few s))
+
+array-borrow-prefix-sums : tie.Need-array-borrow-prefix-sums
+array-borrow-prefix-sums c = let s : tie.Start = search needs in few s
+
+slice-aggregate-put-left-3 : tie.Need-slice-aggregate-put-left-3
+slice-aggregate-put-left-3 c = let s : tie.Start = search needs in sym (buffer-long (8 * s .args .n) 6912 (few s))
+
+put-left-requires : tie.Need-put-left-requires
+put-left-requires c κs =
+    let s : tie.Start = search needs in
+    let b = buffer-long (8 * s .args .n) 6912 (few s) in
+    (s .pre .0, s .pre .1, b, b, b)
+
+returns : tie.Need-returns
+returns c = let o : tie.After-put-left = search needs in o .put-left .ensures
 
 pub add-left-spec : {M : Type 1} → statement M
 add-left-spec =
     tie.close
-    (tie.spec (λ c κs. search needs) (search needs) (search needs) (λ c κs. search needs) returns (search needs) returns-2)
+    (tie.spec (search needs) array-borrow-prefix-block slice-aggregate-put-left array-borrow-prefix-secret slice-aggregate-put-left-2 array-borrow-prefix-sums slice-aggregate-put-left-3 put-left-requires (search needs) returns)

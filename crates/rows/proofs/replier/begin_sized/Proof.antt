@@ -1,8 +1,8 @@
 -- `rows::replier::begin_sized` meets its contract: the opening, the secrets, and then the state.
 use mathlib.Core.Path.{_≡_, refl, _∙_, sym, ap}
 use mathlib.Core.List.{List}
-use Prim.Native.Nat.{ℕ}
-use lib.ListN.{length}
+use Prim.Native.Nat.{ℕ, _*_}
+use lib.ListN.{length, replicate}
 use Rattle.schemes.specs.Schemes.{numberOf}
 use Rattle.matrix.specs.Steps.{wordsOf}
 use Rattle.parts.specs.Parts.{wrap}
@@ -10,7 +10,7 @@ use Rattle.front.specs.Front.{_then_, notBlank}
 use Rattle.front.specs.declared.Verdict.{Verdict}
 use Rattle.front.proofs.Laws.{both}
 use Rattle.ends.specs.Values.{mixedValue}
-use Rattle.wire.specs.Wire.{openedIn}
+use Rattle.wire.specs.Wire.{openedIn, numbersIn}
 use Rattle.wire.proofs.Travel.{message-counted}
 use Rattle.exchange.specs.Reply.{replySecrets}
 use Rattle.exchange.proofs.Replying.{secrets-small}
@@ -84,8 +84,10 @@ returns-2 c =
     let a = start t .args in (
       sym (o .enum-told .given .1) ∙ tested s,
       l .lay-state .ensures
-          ∙ ap (λ (xs : List ℕ). laid 2 (numberOf (a .scheme)) 0 (mixedValue (a .scheme) xs (a .s1 .now) (a .e2 .now)) (wordsOf wrap (a .s1 .now)) (wordsOf wrap (a .e1 .now)))
-          (t .take-opening .ensures .1),
+          ∙ ap (λ (xs : List ℕ). laid 2 (numberOf (a .scheme)) 0 (mixedValue (a .scheme) xs (a .s1 .now) (a .e2 .now)) (wordsOf wrap (a .s1 .now)) (wordsOf wrap (a .e1 .now)) (replicate (8 * a .n) 0))
+          (t .take-opening .ensures .1)
+          ∙ ap (λ (k : ℕ). laid 2 (numberOf (a .scheme)) 0 (mixedValue (a .scheme) (numbersIn (a .scheme) (openedIn (a .scheme) (a .opening .now))) (a .s1 .now) (a .e2 .now)) (wordsOf wrap (a .s1 .now)) (wordsOf wrap (a .e1 .now)) (replicate (8 * k) 0))
+          (start t .pre .0 .1),
     )
 
 pub begin-sized-spec : {M : Type 1} → statement M

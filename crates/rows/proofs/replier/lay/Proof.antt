@@ -1,11 +1,8 @@
 -- `rows::replier::lay` meets its contract: the numbers, then, where they are not blank, message and key.
 use mathlib.Core.Path.{_≡_, refl, _∙_, sym, ap}
 use mathlib.Core.List.{List, _++_}
-use Prim.Native.Nat.{ℕ, _+_, _*_, _≤_}
-use native.Mathlib.Omega.{arith}
-use lib.ListN.{length, length-take, length-drop}
+use Prim.Native.Nat.{ℕ}
 use Rattle.schemes.specs.Schemes.{fixedOf}
-use Rattle.schemes.specs.declared.Fixed.{Fixed}
 use Rattle.packing.specs.Packing.{packed}
 use Rattle.front.specs.Front.{notBlank}
 use Rattle.ends.specs.Fit.{Counted}
@@ -30,40 +27,13 @@ module _ (c : tie.After-fixed) where
   frodo : Frodo (fixedOf (start c .args .scheme))
   frodo = numbers-in (start c .args .scheme) (start c .pre .0 .0)
 
-  n-is : c .fixed .result .n ≡ fixedOf (start c .args .scheme) .n
-  n-is = ap (λ (g : Fixed). g .n) (c .fixed .ensures)
-
-  -- the sums begin inside
-  inside : 67 + 8 * c .fixed .result .n ≤ length (start c .args .state .now)
-  inside = omega (arith, n-is, start c .pre .0 .1)
-
-  few : c .fixed .result .n ≤ 864
-  few = omega (arith, n-is, frodo .few)
-
   counted : Counted (fixedOf (start c .args .scheme) .secret) (fixedOf (start c .args .scheme) .q) (sentNumbers (start c .args .scheme) (start c .args .state .now))
   counted = sent-counted (start c .args .scheme) (start c .args .state .now) (start c .pre .0 .0) (start c .pre .0 .1)
 
-mul-d : tie.Need-mul-d
-mul-d c = let f : tie.After-fixed = search needs in omega (arith, few f)
-
-add-d : tie.Need-add-d
-add-d c = let f : tie.After-fixed = search needs in omega (arith, few f)
-
-mul-reduce : tie.Need-mul-reduce
-mul-reduce c = let f : tie.After-fixed = search needs in omega (arith, few f)
-
-sub-reduce : tie.Need-sub-reduce
-sub-reduce c = let f : tie.After-fixed = search needs in inside f
-
-part-reduce-start : tie.Need-part-reduce-start
-part-reduce-start c = let f : tie.After-fixed = search needs in inside f
-
 reduce-requires : tie.Need-reduce-requires
 reduce-requires c κs =
-    let f : tie.After-fixed = search needs in (
-      omega (arith, ap (λ (g : Fixed). g .q) (f .fixed .ensures), frodo f .q-some),
-      simp (length-take, length-drop) (omega (arith, n-is f, start f .pre .0 .1, start f .pre .0 .2, frodo f .secret)),
-    )
+    let f : tie.After-fixed = search needs in
+    rw (f .fixed .ensures) (frodo f .q-some, frodo f .few, start f .pre .0 .1, start f .pre .0 .2 ∙ frodo f .secret)
 
 lay-reply-requires : tie.Need-lay-reply-requires
 lay-reply-requires c κs =
@@ -109,4 +79,4 @@ returns-2 c =
 pub lay-spec : {M : Type 1} → statement M
 lay-spec =
     tie.close
-    (tie.spec (λ c κs. search needs) mul-d add-d mul-reduce sub-reduce part-reduce-start (search needs) reduce-requires (λ c κs. search needs) (search needs) (search needs) lay-reply-requires (λ c κs. search needs) (search needs) returns (search needs) (search needs) (search needs) returns-2)
+    (tie.spec (λ c κs. search needs) reduce-requires (λ c κs. search needs) (search needs) (search needs) lay-reply-requires (λ c κs. search needs) (search needs) returns (search needs) (search needs) (search needs) returns-2)

@@ -4,7 +4,7 @@ use mathlib.Core.List.{List}
 use Prim.Native.Nat.{ℕ, _*_}
 use native.Mathlib.Omega.{arith}
 use borrow.Author.Needs.{needs}
-use lib.ListN.{length, length-set}
+use lib.ListN.{length, replicate, length-set, length-replicate}
 use Rattle.schemes.specs.Schemes.{fixedOf}
 use Rattle.matrix.specs.Steps.{wordsOf}
 use Rattle.matrix.proofs.Steps.{words-length}
@@ -13,7 +13,7 @@ use Rattle.ends.specs.Values.{mixedValue}
 use Rattle.ends.proofs.Numbers.{Frodo, numbers-in}
 use Rattle.ends.proofs.Ranges.{mixed-counted}
 use Rattle.rows.specs.State.{long, laid}
-use Rattle.rows.proofs.Laying.{laid-long, headed-long, behind-long, lay-is}
+use Rattle.rows.proofs.Laying.{laid-long, headed-long, behind-zeros, lay-is}
 use Rattle.rows.proofs.Replying.{middle-long}
 use Rattle.rows.proofs.replier.lay_state.Statement.{statement}
 use Rattle.rows.proofs.replier.lay_state.Tie as tie
@@ -76,7 +76,7 @@ lay-words-requires c κs =
       omega (arith, b .pre .0 .1, frodo b .few),
       s-long b,
       e-long b,
-      behind-long (b .args .n) 2 (n .number .result) (b .args .state .now) (b .pre .1 .0 .0) (b .pre .1 .0 .1) (m .mix .ensures) (kept-long b),
+      behind-zeros (b .args .n) 2 (n .number .result) (b .args .state .now) (b .pre .1 .0 .0) (b .pre .1 .0 .1) (m .mix .ensures) (kept-long b),
     )
 
 same-length : tie.Need-same-length
@@ -88,8 +88,8 @@ same-length c =
     let a = b .args in
     let secret = wordsOf wrap (a .s1 .now) in
     let noise = wordsOf wrap (a .e1 .now) in
-    ap length (lay-is (a .n) 2 (n .number .result) (a .state .now) (b .pre .1 .0 .0) (b .pre .1 .0 .1) (kept b) secret noise (kept-long b) (m .mix .ensures) (w .lay-words .ensures))
-    ∙ laid-long (a .n) 2 (n .number .result) 0 (kept b) secret noise (kept-long b) (words-length wrap (a .s1 .now) ∙ s-long b) (words-length wrap (a .e1 .now) ∙ e-long b)
+    ap length (lay-is (a .n) 2 (n .number .result) (a .state .now) (b .pre .1 .0 .0) (b .pre .1 .0 .1) (kept b) secret noise (replicate (8 * a .n) 0) (kept-long b) (m .mix .ensures) (w .lay-words .ensures))
+    ∙ laid-long (a .n) 2 (n .number .result) 0 (kept b) secret noise (replicate (8 * a .n) 0) (kept-long b) (words-length wrap (a .s1 .now) ∙ s-long b) (words-length wrap (a .e1 .now) ∙ e-long b) (length-replicate {A = ℕ} (8 * a .n) 0)
     ∙ sym (b .pre .1 .0 .0)
 
 returns : tie.Need-returns
@@ -101,8 +101,8 @@ returns c =
     let a = b .args in
     let secret = wordsOf wrap (a .s1 .now) in
     let noise = wordsOf wrap (a .e1 .now) in
-    lay-is (a .n) 2 (n .number .result) (a .state .now) (b .pre .1 .0 .0) (b .pre .1 .0 .1) (kept b) secret noise (kept-long b) (m .mix .ensures) (w .lay-words .ensures)
-    ∙ ap (λ (k : ℕ). laid 2 k 0 (kept b) secret noise) (n .number .ensures)
+    lay-is (a .n) 2 (n .number .result) (a .state .now) (b .pre .1 .0 .0) (b .pre .1 .0 .1) (kept b) secret noise (replicate (8 * a .n) 0) (kept-long b) (m .mix .ensures) (w .lay-words .ensures)
+    ∙ ap (λ (k : ℕ). laid 2 k 0 (kept b) secret noise (replicate (8 * a .n) 0)) (n .number .ensures)
 
 pub lay-state-spec : {M : Type 1} → statement M
 lay-state-spec =

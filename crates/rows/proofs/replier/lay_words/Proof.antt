@@ -1,35 +1,36 @@
--- `rows::replier::lay_words` meets its contract: it fills in two parts.
-use mathlib.Core.Path.{_∙_, sym}
+-- `rows::replier::lay_words` meets its contract: it lends room for the words.
+use mathlib.Core.Path.{sym}
 use Prim.Native.Nat.{_*_, _≤_}
 use native.Mathlib.Omega.{arith}
-use lib.ListN.{length}
-use Rattle.lists.proofs.Parts.{front-long, joined}
-use Rattle.matrix.specs.Steps.{wordsOf}
-use Rattle.matrix.proofs.Steps.{words-length}
-use Rattle.parts.specs.Parts.{wrap}
 use borrow.Author.Needs.{needs}
+use Rattle.lists.proofs.Parts.{buffer-long}
 use Rattle.rows.proofs.replier.lay_words.Statement.{statement}
 use Rattle.rows.proofs.replier.lay_words.Tie as tie
 
-front : (b : tie.Start) → 8 * b .args .n ≤ length (b .args .out .now)
-front b = omega (arith, b .pre .3)
+few : (s : tie.Start) → 8 * s .args .n ≤ 6912
+few s = omega (arith, s .pre .0)
 
-slice-aggregate-words : tie.Need-slice-aggregate-words
-slice-aggregate-words c = let b : tie.Start = search needs in sym (front-long (8 * b .args .n) (b .args .out .now) (front b))
+array-borrow-prefix-secret : tie.Need-array-borrow-prefix-secret
+array-borrow-prefix-secret c = let s : tie.Start = search needs in few s
 
-words-requires : tie.Need-words-requires
-words-requires c κs = let b : tie.Start = search needs in b .pre .1 ∙ sym (front-long (8 * b .args .n) (b .args .out .now) (front b))
+slice-aggregate-words-on : tie.Need-slice-aggregate-words-on
+slice-aggregate-words-on c = let s : tie.Start = search needs in sym (buffer-long (8 * s .args .n) 6912 (few s))
+
+array-borrow-prefix-noise : tie.Need-array-borrow-prefix-noise
+array-borrow-prefix-noise c = let s : tie.Start = search needs in few s
+
+slice-aggregate-words-on-2 : tie.Need-slice-aggregate-words-on-2
+slice-aggregate-words-on-2 c = let s : tie.Start = search needs in sym (buffer-long (8 * s .args .n) 6912 (few s))
+
+words-on-requires : tie.Need-words-on-requires
+words-on-requires c κs =
+    let s : tie.Start = search needs in
+    (s .pre, (buffer-long (8 * s .args .n) 6912 (few s), buffer-long (8 * s .args .n) 6912 (few s)))
 
 returns : tie.Need-returns
-returns c =
-    let b : tie.Start = search needs in
-    let w : tie.After-words = search needs in
-    let v : tie.After-words2 = search needs in
-    let a = b .args in
-    joined (8 * a .n) (a .out .now) (wordsOf wrap (a .s1 .now)) (wordsOf wrap (a .e1 .now)) _ _ (w .words .ensures) (v .words2 .ensures)
-    (words-length wrap (a .s1 .now) ∙ b .pre .1) (omega (arith, words-length wrap (a .e1 .now), b .pre .2, b .pre .3))
+returns c = let o : tie.After-words-on = search needs in o .words-on .ensures
 
 pub lay-words-spec : {M : Type 1} → statement M
 lay-words-spec =
     tie.close
-    (tie.spec (search needs) (search needs) slice-aggregate-words words-requires (search needs) (search needs) (search needs) (search needs) (λ c κs. search needs) (search needs) returns)
+    (tie.spec (search needs) array-borrow-prefix-secret slice-aggregate-words-on array-borrow-prefix-noise slice-aggregate-words-on-2 words-on-requires (search needs) returns)

@@ -1,0 +1,60 @@
+-- `parts::unpair` meets its contract: it fills with the words, two at a time.
+use mathlib.Core.Path.{_≡_, _∙_, sym, ap, subst}
+use mathlib.Core.List.{List}
+use Prim.Native.Nat.{ℕ, _+_, _*_, _-_, _≤_}
+use native.Mathlib.Omega.{arith}
+use borrow.Author.Needs.{needs}
+use lib.ListN.{length, getD, length-set}
+use Rattle.lists.specs.Entries.{tab}
+use Rattle.lists.proofs.Entries.{tab-getD}
+use Rattle.lists.proofs.Fill.{Filled, fill-start, fill-next, fill-end}
+use Rattle.parts.specs.Parts.{words}
+use Rattle.parts.proofs.Words.{words-long, words-even, words-odd}
+use Rattle.parts.proofs.unpair.Statement.{statement}
+use Rattle.parts.proofs.unpair.Tie as tie
+
+abbrev from : List ℕ → ℕ → ℕ
+from xs k = getD (words xs) k 0
+
+abbrev Inv-loop : tie.InvT-loop
+Inv-loop xs out₀ i₀ out i = (i ≤ length xs) × Filled (from xs) out₀ out (2 * i)
+
+abbrev μ-loop : tie.MeasureT-loop
+μ-loop xs out₀ i₀ out i = length xs - i
+
+loop-holds : tie.Need-loop-holds Inv-loop μ-loop
+loop-holds c = (omega arith, fill-start _ _)
+
+slice-write-out : tie.Need-slice-write-out Inv-loop μ-loop
+slice-write-out c = omega (arith, c .before .before .loop .inv .1 .long)
+
+slice-write-out-2 : tie.Need-slice-write-out-2 Inv-loop μ-loop
+slice-write-out-2 c = simp length-set (omega (arith, c .before .before .loop .inv .1 .long))
+
+-- a number of 32 bits
+cast-out-2 : tie.Need-cast-out-2 Inv-loop μ-loop
+cast-out-2 c = record { fits = omega (arith, c .shared-slice-known .given (c .before .before .loop .i)) }
+
+loop-again : tie.Need-loop-again Inv-loop μ-loop
+loop-again c =
+    let l = c .before .before .loop in
+    let a = c .before .before .before .args in
+    let e : 2 * l .i + 1 + 1 ≡ 2 * (l .i + 1) = omega arith in
+    let one = fill-next _ (l .inv .1) (omega arith) (sym (words-even (a .xs .now) (l .i))) in
+    let two = fill-next _ one (omega arith) (sym (words-odd (a .xs .now) (l .i))) in
+    (omega arith, rw e at two)
+
+same-length : tie.Need-same-length Inv-loop μ-loop
+same-length c = c .before .loop .inv .1 .long
+
+returns : tie.Need-returns Inv-loop μ-loop
+returns c =
+    let a = c .before .before in
+    fill-end (c .before .loop .inv .1) (omega arith)
+    ∙ ap (λ (n : ℕ). tab n (from (a .args .xs .now))) (a .pre ∙ sym (words-long (a .args .xs .now)))
+    ∙ tab-getD (words (a .args .xs .now)) 0
+
+pub unpair-spec : {M : Type 1} → statement M
+unpair-spec =
+    tie.close
+    (tie.spec Inv-loop μ-loop loop-holds (search needs) (search needs) (search needs) (search needs) (search needs) slice-write-out cast-out-2 (search needs) (search needs) (search needs) slice-write-out-2 (search needs) (search needs) loop-again same-length returns)

@@ -1,0 +1,103 @@
+-- Blocks of eight rows, by the count.
+--   block-fits        a part of one row lies in one block
+--   fills-up, holds-back   it ends the block, or it does not
+--   filled-div, filled-mod, held-div, held-mod   the blocks that have come whole after it, and the numbers behind them
+--   row-is, row-fits  the first of the eight rows that it ends
+--   whole-blocks      n is a multiple of 8, so that at the end nothing is held back
+use mathlib.Core.Path.{_≡_, refl, _∙_, sym, ap}
+use mathlib.Core.Bool.{Bool, true, false, cond}
+use Prim.Native.Nat.{ℕ, _+_, _*_, _-_, _/_, _%_, _<_, _≤_}
+use native.Mathlib.Omega.{arith}
+use native.Mathlib.Nat.{mul-le-mul-right, mod-lt, mod-eq-of-lt, mod-self, mod-add-mod, mod-mod-of-dvd, div-add-mod', div-lt-iff-lt-mul, div-eq-of-eq-mul-left, mul-mod-left, dvd-of-mod-eq-zero, mul-div-cancel, div-le-of-le-mul}
+use native.Mathlib.Decide.{decLt}
+use borrow.Author.Tests.{leb-true, eqb-true, le-leb, eq-eqb}
+use lib.Arith.{digits-div, digits-mod}
+use Rattle.rows.specs.State.{fills}
+use Rattle.rows.proofs.Tests.{goes, passed}
+
+module _ (n at m : ℕ) (some : 0 < n) (row : at % n + m ≤ n) where
+  wide : 0 < 8 * n
+  wide = omega arith
+
+  pub block-fits : at % (8 * n) + m ≤ 8 * n
+  block-fits =
+      let o = at % (8 * n) in
+      let e : o % n ≡ at % n = mod-mod-of-dvd n at (dvd-of-mod-eq-zero n (mul-mod-left 8 n)) in
+      let l : o / n < 8 = div-lt-iff-lt-mul some .1 (mod-lt at wide) in
+      omega (arith, div-add-mod' o n, mul-le-mul-right n l)
+
+  -- as the count goes on
+  next : (at + m) % (8 * n) ≡ (at % (8 * n) + m) % (8 * n)
+  next = sym (mod-add-mod at (8 * n) m)
+
+  pub fills-up : fills n at m ≡ true → at % (8 * n) + m ≡ 8 * n
+  unfolding fills
+  fills-up h = go (decLt (at % (8 * n) + m) (8 * n))
+    where
+      go : Dec (at % (8 * n) + m < 8 * n) → at % (8 * n) + m ≡ 8 * n
+      go (yes l) =
+          let a = passed _ _ h in
+          let z : at % (8 * n) + m ≡ 0 = sym (mod-eq-of-lt l) ∙ sym next ∙ eqb-true _ _ (a .1) in
+          absurd (omega (arith, leb-true 1 m (a .0)))
+      go (no l) = omega (arith, block-fits)
+
+  pub holds-back : fills n at m ≡ false → at % (8 * n) + m < 8 * n
+  unfolding fills
+  holds-back h = go (decLt (at % (8 * n) + m) (8 * n))
+    where
+      go : Dec (at % (8 * n) + m < 8 * n) → at % (8 * n) + m < 8 * n
+      go (yes l) = l
+      go (no l) =
+          let e : at % (8 * n) + m ≡ 8 * n = omega (arith, block-fits) in
+          let o : 1 ≤ m = omega (arith, mod-lt at wide) in
+          let z : (at + m) % (8 * n) ≡ 0 = next ∙ ap (λ (k : ℕ). k % (8 * n)) e ∙ mod-self (8 * n) in
+          let t : fills n at m ≡ true = sym (goes (le-leb 1 m o) (sym (eq-eqb _ _ z))) in
+          let d : _≡_ {A = ℕ} 0 1 = ap (λ (b : Bool). cond b 1 0) (sym h ∙ t) in
+          absurd (omega arith)
+
+  parted : at + m ≡ at / (8 * n) * (8 * n) + (at % (8 * n) + m)
+  parted = omega (arith, div-add-mod' at (8 * n))
+
+  module _ (h : fills n at m ≡ false) where
+    pub held-div : (at + m) / (8 * n) ≡ at / (8 * n)
+    held-div = ap (λ (k : ℕ). k / (8 * n)) parted ∙ digits-div (at / (8 * n)) (holds-back h)
+
+    pub held-mod : (at + m) % (8 * n) ≡ at % (8 * n) + m
+    held-mod = ap (λ (k : ℕ). k % (8 * n)) parted ∙ digits-mod (at / (8 * n)) (holds-back h)
+
+  module _ (h : fills n at m ≡ true) where
+    all : at + m ≡ (at / (8 * n) + 1) * (8 * n)
+    all = omega (arith, parted, fills-up h)
+
+    pub filled-div : (at + m) / (8 * n) * (8 * n) ≡ at + m
+    filled-div = ap (λ (k : ℕ). k / (8 * n) * (8 * n)) all ∙ ap (λ (k : ℕ). k * (8 * n)) (mul-div-cancel (at / (8 * n) + 1) wide) ∙ sym all
+
+    pub filled-mod : (at + m) % (8 * n) ≡ 0
+    filled-mod = ap (λ (k : ℕ). k % (8 * n)) all ∙ mul-mod-left (at / (8 * n) + 1) (8 * n)
+
+    -- where the block started
+    pub start-is : at + m - 8 * n ≡ at / (8 * n) * (8 * n)
+    start-is = omega (arith, all)
+
+    quotient : (at + m) / n ≡ (at / (8 * n) + 1) * 8
+    quotient = div-eq-of-eq-mul-left some (all ∙ omega arith)
+
+    pub row-some : 8 ≤ (at + m) / n
+    row-some = omega (arith, quotient)
+
+    pub row-is : ((at + m) / n - 8) * n ≡ at + m - 8 * n
+    row-is =
+        let e : (at / (8 * n) + 1) * 8 - 8 ≡ at / (8 * n) * 8 = omega arith in
+        ap (λ (k : ℕ). (k - 8) * n) quotient ∙ ap (λ (k : ℕ). k * n) e ∙ sym (start-is ∙ omega arith)
+
+    pub row-fits : at + m ≤ n * n → (at + m) / n - 8 + 8 ≤ n
+    row-fits l =
+        let u : (at + m) / n ≤ n = div-le-of-le-mul n l in
+        omega (arith, quotient)
+
+pub whole-blocks : (n : ℕ) → 0 < n → n % 8 ≡ 0 → n * n / (8 * n) * (8 * n) ≡ n * n
+whole-blocks n o e =
+    let d : n ≡ n / 8 * 8 = omega arith in
+    let f : n * n ≡ n / 8 * (8 * n) = ap (λ (k : ℕ). k * n) d ∙ omega arith in
+    let w : 0 < 8 * n = omega arith in
+    ap (λ (k : ℕ). k / (8 * n) * (8 * n)) f ∙ ap (λ (k : ℕ). k * (8 * n)) (mul-div-cancel (n / 8) w) ∙ sym f
