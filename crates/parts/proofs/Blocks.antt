@@ -1,6 +1,7 @@
 -- What eight rows of A, from row i on, bring to the sums: the numbers `held`.
 --   gained-same, gained-below   products that are equal modulo m; sums are words
 --   narrow-right, narrow-left   so lower words serve for the numbers
+--   two-fours       four rows, then the four behind them
 --   right-put, right-back   Offer: the 64 sums of these rows are exchanged, and no other; as they lie, two in each number
 --   left-is         Reply: of all rows of A it is these that meet something
 use mathlib.Core.Path.{_≡_, refl, _∙_, sym, ap, ap₂}
@@ -14,9 +15,11 @@ use Rattle.numbers.specs.Sum.{sum, sumℕ}
 use Rattle.numbers.proofs.Sums.{natural, sum-ext, sum-none, sum-split}
 use Rattle.lists.specs.Entries.{tab, Below}
 use Rattle.lists.proofs.Entries.{tab-ext, tab-at, tab-length, below-tab}
-use Rattle.lists.proofs.Parts.{part-long, part-at}
+use lib.Arith.{digits-lt}
+use lib.Seq.{getD-take, getD-drop}
+use Rattle.lists.proofs.Parts.{part-long, part-at, to-end}
 use Rattle.matrix.specs.Steps.{gained, reduced, rightTerm, leftTerm, partTerm}
-use Rattle.matrix.proofs.Steps.{gained-length, gained-at}
+use Rattle.matrix.proofs.Steps.{gained-length, gained-at, gained-more}
 use Rattle.parts.specs.Parts.{wrap, words, pairs, placed}
 use Rattle.parts.proofs.Joining.{placed-before, placed-in, placed-after}
 use Rattle.parts.proofs.Put.{put-tab}
@@ -67,6 +70,29 @@ narrow-right m n x cols ws = gained-same m n _ _ ws (λ k t. narrow-term m x (k 
 pub narrow-left : (m n r i : ℕ) (s y ws : List ℕ) → gained m r (partTerm n n i s (reduced m y)) ws ≡ gained m r (partTerm n n i s y) ws
 unfolding partTerm
 narrow-left m n r i s y ws = gained-same m r _ _ ws (λ k u. narrow-term m y (u * n + k % n) (getD s (k / n * n + (i + u)) 0))
+
+-- ---- four rows, and the four behind them
+
+gained-ext : (m r : ℕ) (f g : ℕ → ℕ → ℕ) (ws : List ℕ) → ((k u : ℕ) → u < r → f k u ≡ g k u) → gained m r f ws ≡ gained m r g ws
+unfolding gained
+gained-ext m r f g ws h = tab-ext (length ws) _ _ (λ k l. ap (λ (a : ℕ). (getD ws k 0 + a) % m) (sum-ext natural r (f k) (g k) (h k)))
+
+pub two-fours :
+    (m n i : ℕ) (s y ws : List ℕ) {x z : List ℕ} → 0 < n → x ≡ gained m 4 (partTerm n n i s (take (4 * n) y)) ws →
+    z ≡ gained m 4 (partTerm n n (i + 4) s (take (length y - 4 * n) (drop (4 * n) y))) x → z ≡ gained m 8 (partTerm n n i s y) ws
+unfolding partTerm
+two-fours m n i s y ws {x} o e d =
+    gained-more m 4 4 (partTerm n n i s y) ws
+    (e
+    ∙ gained-ext m 4 _ _ ws
+    (λ k u l. ap (λ (a : ℕ). a * getD s (k / n * n + (i + u)) 0) (getD-take (4 * n) y (u * n + k % n) 0 (digits-lt l (mod-lt k o)))))
+    (d
+    ∙ gained-ext m 4 _ _ x
+    (λ k u l.
+    let a : 4 * n + (u * n + k % n) ≡ (4 + u) * n + k % n = omega arith in
+    let b : i + 4 + u ≡ i + (4 + u) = omega arith in
+    ap₂ (λ (v w : ℕ). v * getD s (k / n * n + w) 0)
+    (ap (λ (q : List ℕ). getD q (u * n + k % n) 0) (to-end y (4 * n)) ∙ getD-drop (4 * n) y (u * n + k % n) 0 ∙ ap (λ (j : ℕ). getD y j 0) a) b))
 
 -- ---- eight rows
 

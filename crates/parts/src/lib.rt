@@ -1,10 +1,10 @@
 // Frodo's running sums, where A comes in parts: 02, request e. The lent state holds words of 16 bits, two in each number; here they are taken apart and put
 // together again, for crate `matrix`, whose products serve both ways. The laws, that the cut makes no difference, stand in `proofs/`, once over n and the modulus.
 ghost use mathlib.Core.Path.{_≡_};
-ghost use Prim.Native.Nat.{_*_};
+ghost use Prim.Native.Nat.{_+_, _*_, _<_, _≤_};
 ghost use lib.ListN.{length};
 ghost use Rattle.lists.specs.Lent.{was, left};
-ghost use Rattle.matrix.specs.Steps.{reduced};
+ghost use Rattle.matrix.specs.Steps.{gained, reduced, partTerm};
 ghost use Rattle.parts.specs.Parts.{wrap, words, pairs};
 
 // Both words of each number. Where the lower word lies first the compiler makes one copy of it.
@@ -54,4 +54,14 @@ pub fn copy(src: &[u32], out: &mut [u32])
         out[k] = src[k];
         k += 1;
     }
+}
+
+// Reply: eight rows of A, the first of which is row `row`, into all sums; four at a time, for which the product is made.
+pub fn add_eight(n: usize, row: usize, s: &[u16], y: &[u16], sums: &mut [u16])
+    requires { ⌜ (0 < n) × (n ≤ 864) × (row + 8 ≤ n) × (length (now s) ≡ 8 * n) × (length (now y) ≡ 8 * n) × (length (now sums) ≡ 8 * n) ⌝ }
+    ensures { λ _. ⌜ left sums ≡ gained wrap 8 (partTerm n n row (was s) (was y)) (was sums) ⌝ }
+{
+    let k = 4 * n;
+    matrix::add_left(n, n, row, 4, s, &y[..k], sums);
+    matrix::add_left(n, n, row + 4, 4, s, &y[k..], sums);
 }

@@ -96,7 +96,7 @@ fn sums_left(
     parts::unpair(&state[67..a], secret);
     parts::narrow(&state[h..], block);
     parts::unpair(&state[a..h], sums);
-    matrix::add_left(n, n, row, 8, secret, block, sums);
+    parts::add_eight(n, row, secret, block, sums);
 }
 
 fn put_left(

@@ -10,8 +10,8 @@ returns c =
     let o : tie.After-unpair = search needs in
     let b : tie.After-narrow = search needs in
     let u : tie.After-unpair2 = search needs in
-    let x : tie.After-add-left = search needs in
-    left-made (s .args .n) (s .args .state .now) (s .pre .0) (s .args .row) (s .pre .1) (b .narrow .ensures) (o .unpair .ensures) (u .unpair2 .ensures) (x .add-left .ensures)
+    let x : tie.After-add-eight = search needs in
+    left-made (s .args .n) (s .args .state .now) (s .pre .0) (s .args .row) (s .pre .1) (b .narrow .ensures) (o .unpair .ensures) (u .unpair2 .ensures) (x .add-eight .ensures)
 
 pub sums-left-spec : {M : Type 1} → statement M
 sums-left-spec =
