@@ -33,8 +33,8 @@ pub fn pair(ws: &[u16], out: &mut [u32])
     }
 }
 
-// The lower word of each number: a lent state may hold any number among the rows that are held back.
-pub fn narrow(xs: &[u32], out: &mut [u16])
+// The lower word of each number.
+fn cut(xs: &[u32], out: &mut [u16])
     requires { ⌜ length (now xs) ≡ length (now out) ⌝ }
     ensures { λ _. ⌜ left out ≡ reduced wrap (was xs) ⌝ }
 {
@@ -43,6 +43,17 @@ pub fn narrow(xs: &[u32], out: &mut [u16])
         out[k] = (xs[k] % 65536) as u16;
         k += 1;
     }
+}
+
+// The same. A lent state may hold any number among the rows that are held back; but numbers of A are below 32768, and for these `matrix` has a quicker way.
+pub fn narrow(xs: &[u32], out: &mut [u16])
+    requires { ⌜ length (now xs) ≡ length (now out) ⌝ }
+    ensures { λ _. ⌜ left out ≡ reduced wrap (was xs) ⌝ }
+{
+    if matrix::narrow_below(32768, xs, out) == xs.len() {
+        return;
+    }
+    cut(xs, out);
 }
 
 pub fn copy(src: &[u32], out: &mut [u32])
