@@ -33,7 +33,7 @@ use Rattle.front.specs.Promise.{put}
 use Rattle.front.specs.declared.Verdict.{Verdict}
 use Rattle.front.specs.declared.Verdict.the-variants.{Pass, Fail}
 use Rattle.front.proofs.Laws.{both, number-zero, turn-passed, publics-passed}
-use Rattle.rows.specs.State.{long, named, taken, keptOf, secretOf, sumsOf, heldOf, laid, terms, fills, heldWith, sumsWith, heldAfter, stepped}
+use Rattle.rows.specs.State.{long, named, taken, keptOf, secretOf, sumsOf, heldOf, laid, terms, fills, heldWith, sumsWith, stepped}
 use Rattle.rows.specs.Part.{partIn, partTests, partState, Taken}
 use Rattle.rows.specs.Runs.{Parts}
 use Rattle.rows.specs.Shown.{blocks, Running}
@@ -148,15 +148,15 @@ module _ (n : ℕ) (xs p held : List ℕ) (some : 0 < n) (row : length xs % n + 
         let g : drop (o + length p) held ≡ [] = drop-of-length-le held {i = o + length p} (omega (arith, e, h .is-long)) in
         ap₂ (λ (u v : List ℕ). u ++ (p ++ v)) (h .is) g ∙ ap (λ (l : List ℕ). drop b xs ++ l) (append-nil p)
 
-    none-behind : Behind n (xs ++ p) (replicate (8 * n) 0)
+    none-behind : Behind n (xs ++ p) more
     none-behind =
         let m : length (xs ++ p) % (8 * n) ≡ 0 = ap (λ (j : ℕ). j % (8 * n)) (length-append xs p) ∙ filled-mod n (length xs) (length p) some row f in
         let e : blocks n (xs ++ p) ≡ length (xs ++ p) =
         ap (λ (j : ℕ). j / (8 * n) * (8 * n)) (length-append xs p) ∙ filled-div n (length xs) (length p) some row f ∙ sym (length-append xs p)
         in
         record {
-          is-long = length-replicate (8 * n) 0;
-          is = ap (λ (j : ℕ). take j (replicate {A = ℕ} (8 * n) 0)) m ∙ sym (drop-of-length-le (xs ++ p) {i = blocks n (xs ++ p)} (omega arith));
+          is-long = simp (length-append, length-take, length-drop) (omega (arith, fills-up n (length xs) (length p) some row f, h .is-long));
+          is = ap (λ (j : ℕ). take j more) m ∙ sym (drop-of-length-le (xs ++ p) {i = blocks n (xs ++ p)} (omega arith));
         }
 
 pub whole-front : (n : ℕ) (a : List ℕ) → 0 < n → n % 8 ≡ 0 → length a ≡ n * n → take (blocks n a) a ≡ a
@@ -178,12 +178,12 @@ module _ (k : Call) (n : ℕ) (st : List ℕ) (l : length st ≡ long n) (xs p h
   abbrev T : List ℕ → ℕ → ℕ → ℕ
   T = terms k n (secretOf n st)
 
-  step-of : (s h : List ℕ) → sumsWith k n now p ≡ s → heldAfter n now p ≡ h
+  step-of : (s h : List ℕ) → sumsWith k n now p ≡ s → heldWith n now p ≡ h
       → stepped k n now p ≡ laid (getD st 0 0) (getD st 1 0) (length (xs ++ p)) (keptOf st) (secretOf n st) s h
   unfolding stepped
   step-of s h d e =
-      ap (λ (x : List ℕ). laid (getD st 0 0) (getD st 1 0) (length xs + length p) x (secretOf n now) (sumsWith k n now p) (heldAfter n now p)) (after-kept k n st l xs held)
-      ∙ ap (λ (x : List ℕ). laid (getD st 0 0) (getD st 1 0) (length xs + length p) (keptOf st) x (sumsWith k n now p) (heldAfter n now p)) (after-secret k n st l xs held)
+      ap (λ (x : List ℕ). laid (getD st 0 0) (getD st 1 0) (length xs + length p) x (secretOf n now) (sumsWith k n now p) (heldWith n now p)) (after-kept k n st l xs held)
+      ∙ ap (λ (x : List ℕ). laid (getD st 0 0) (getD st 1 0) (length xs + length p) (keptOf st) x (sumsWith k n now p) (heldWith n now p)) (after-secret k n st l xs held)
       ∙ ap₂ (λ (x y : List ℕ). laid (getD st 0 0) (getD st 1 0) (length xs + length p) (keptOf st) (secretOf n st) x y) d e
       ∙ ap (λ (t : ℕ). laid (getD st 0 0) (getD st 1 0) t (keptOf st) (secretOf n st) s h) (sym (length-append xs p))
 
@@ -194,7 +194,7 @@ module _ (k : Call) (n : ℕ) (st : List ℕ) (l : length st ≡ long n) (xs p h
 
   module _ (some : 0 < n) (row : length xs % n + length p ≤ n) (h : Behind n xs held) where
     holds : fills n (length xs) (length p) ≡ false → Stepped k n st xs p held
-    unfolding sumsWith heldAfter
+    unfolding sumsWith
     holds f =
         record {
           rows = more n xs p held some row h;
@@ -203,17 +203,17 @@ module _ (k : Call) (n : ℕ) (st : List ℕ) (l : length st ≡ long n) (xs p h
               (ap (λ (t : Bool). cond t (gained wrap n (terms k n (secretOf n now) (placed (length xs + length p - 8 * n) (heldWith n now p))) (sumsOf n now)) (sumsOf n now)) f
               ∙ after-sums k n st l xs held
               ∙ ap (λ (x : List ℕ). gained wrap n (T x) (sumsOf n st)) (sym (same-front n xs p held some row h f)))
-              (ap (λ (t : Bool). cond t (replicate (8 * n) 0) (heldWith n now p)) f ∙ with-is);
+              with-is;
           behind = still-behind n xs p held some row h f;
         }
 
     enters : fills n (length xs) (length p) ≡ true → Stepped k n st xs p held
-    unfolding sumsWith heldAfter
+    unfolding sumsWith
     enters f =
         let c = length xs / (8 * n) * (8 * n) in
         let s : length (take c xs) ≡ c = length-take-le c xs (div-mul-le-self (length xs) (8 * n)) in
         record {
-          rows = replicate (8 * n) 0;
+          rows = more n xs p held some row h;
           is =
               step-of _ _
               (ap (λ (t : Bool). cond t (gained wrap n (terms k n (secretOf n now) (placed (length xs + length p - 8 * n) (heldWith n now p))) (sumsOf n now)) (sumsOf n now)) f
@@ -224,7 +224,7 @@ module _ (k : Call) (n : ℕ) (st : List ℕ) (l : length st ≡ long n) (xs p h
               (sym (append-assoc (take c xs) (drop c xs) p)
               ∙ ap (λ (x : List ℕ). x ++ p) (take-append-drop c xs)
               ∙ sym (all-front n xs p held some row h f)))
-              (ap (λ (t : Bool). cond t (replicate (8 * n) 0) (heldWith n now p)) f);
+              with-is;
           behind = none-behind n xs p held some row h f;
         }
 

@@ -28,7 +28,7 @@ use Rattle.front.specs.declared.Verdict.the-variants.{Pass, Fail}
 use Rattle.front.proofs.Laws.{some, differ, number-zero, both, turn-passed, publics-passed, turn-passes, below-passes, all-pass}
 use Rattle.front.proofs.Promise.{told-only, wrote-only, same-refusal, same-answer}
 use Rattle.exchange.proofs.Shown.{same-reply}
-use Rattle.rows.specs.State.{frodoIn, named, taken, keptOf, secretOf, sumsOf, heldOf, laid, _and_, keptIn, begun, terms, fills, heldWith, sumsWith, heldAfter, stepped}
+use Rattle.rows.specs.State.{frodoIn, named, taken, keptOf, secretOf, sumsOf, heldOf, laid, _and_, keptIn, begun, terms, fills, heldWith, sumsWith, stepped}
 use Rattle.rows.specs.Part.{partIn, partTests, partState, Taken}
 use Rattle.rows.specs.Runs.{Parts, Good}
 use Rattle.rows.specs.Shown.{OnePart, OneOfferBegin, OneOfferEnd, OneReplyBegin, OneReplyEnd, Frodos, Allowed, Joining, Empty, Again}
@@ -148,34 +148,32 @@ module _ (k : Call) (c : Scheme) (st : List ℕ) (b : begun k (fixedOf c) st ≡
     sums-words =
         either (λ (l : List ℕ). words (pairs l) ≡ l) full entered (sumsOf n st) (made-words n n _ (sumsOf n st) (sums-long n st long-is)) (again-words _)
 
-    held-wide : length (heldAfter n st p) ≡ 8 * n
-    unfolding heldAfter heldWith
-    held-wide =
-        either (λ (l : List ℕ). length l ≡ 8 * n) full (replicate (8 * n) 0) (heldWith n st p) (length-replicate {A = ℕ} (8 * n) 0)
-        (simp (length-append, length-take, length-drop) (omega (arith, in-block, long-is)))
+    held-wide : length (heldWith n st p) ≡ 8 * n
+    unfolding heldWith
+    held-wide = simp (length-append, length-take, length-drop) (omega (arith, in-block, long-is))
 
     step-kept : keptOf (stepped k n st p) ≡ keptOf st
     unfolding stepped
     step-kept =
-        laid-kept n (getD st 0 0) (getD st 1 0) (taken st + length p) (keptOf st) (secretOf n st) (sumsWith k n st p) (heldAfter n st p) (kept-long n st long-is)
+        laid-kept n (getD st 0 0) (getD st 1 0) (taken st + length p) (keptOf st) (secretOf n st) (sumsWith k n st p) (heldWith n st p) (kept-long n st long-is)
         (secret-long n st long-is) sums-wide
 
     step-secret : secretOf n (stepped k n st p) ≡ secretOf n st
     unfolding stepped
     step-secret =
-        laid-secret n (getD st 0 0) (getD st 1 0) (taken st + length p) (keptOf st) (secretOf n st) (sumsWith k n st p) (heldAfter n st p) (kept-long n st long-is)
+        laid-secret n (getD st 0 0) (getD st 1 0) (taken st + length p) (keptOf st) (secretOf n st) (sumsWith k n st p) (heldWith n st p) (kept-long n st long-is)
         (secret-long n st long-is) sums-wide (again-words _)
 
     step-sums : sumsOf n (stepped k n st p) ≡ sumsWith k n st p
     unfolding stepped
     step-sums =
-        laid-sums n (getD st 0 0) (getD st 1 0) (taken st + length p) (keptOf st) (secretOf n st) (sumsWith k n st p) (heldAfter n st p) (kept-long n st long-is)
+        laid-sums n (getD st 0 0) (getD st 1 0) (taken st + length p) (keptOf st) (secretOf n st) (sumsWith k n st p) (heldWith n st p) (kept-long n st long-is)
         (secret-long n st long-is) sums-wide sums-words
 
-    step-held : heldOf n (stepped k n st p) ≡ heldAfter n st p
+    step-held : heldOf n (stepped k n st p) ≡ heldWith n st p
     unfolding stepped
     step-held =
-        laid-held n (getD st 0 0) (getD st 1 0) (taken st + length p) (keptOf st) (secretOf n st) (sumsWith k n st p) (heldAfter n st p) (kept-long n st long-is)
+        laid-held n (getD st 0 0) (getD st 1 0) (taken st + length p) (keptOf st) (secretOf n st) (sumsWith k n st p) (heldWith n st p) (kept-long n st long-is)
         (secret-long n st long-is) sums-wide
 
     step-begun : begun k (fixedOf c) (stepped k n st p) ≡ true
@@ -184,7 +182,7 @@ module _ (k : Call) (c : Scheme) (st : List ℕ) (b : begun k (fixedOf c) st ≡
         starts k (fixedOf c) (stepped k n st p)
         (record {
           is-long =
-              laid-long n (getD st 0 0) (getD st 1 0) (taken st + length p) (keptOf st) (secretOf n st) (sumsWith k n st p) (heldAfter n st p) (kept-long n st long-is)
+              laid-long n (getD st 0 0) (getD st 1 0) (taken st + length p) (keptOf st) (secretOf n st) (sumsWith k n st p) (heldWith n st p) (kept-long n st long-is)
               (secret-long n st long-is) sums-wide held-wide;
           is-call = started k (fixedOf c) st b .is-call;
           at-most = f .in-all;
@@ -193,7 +191,7 @@ module _ (k : Call) (c : Scheme) (st : List ℕ) (b : begun k (fixedOf c) st ≡
 
 -- an empty part ends no block, and is no number
 none : (k : Call) (c : Scheme) (st : List ℕ) → begun k (fixedOf c) st ≡ true → stepped k (fixedOf c .n) st [] ≡ st
-unfolding stepped sumsWith heldAfter heldWith fills
+unfolding stepped sumsWith heldWith fills
 none k c st b =
     let n = fixedOf c .n in
     let o : taken st + 0 ≡ taken st = omega arith in
@@ -258,8 +256,7 @@ module _ (k : Call) (c : Scheme) (st : List ℕ) (b : begun k (fixedOf c) st ≡
   next-sums = step-sums k c st b some p first-fits ∙ rw not-yet refl
 
   next-held : heldOf (fixedOf c .n) next ≡ heldWith (fixedOf c .n) st p
-  unfolding heldAfter
-  next-held = step-held k c st b some p first-fits ∙ rw not-yet refl
+  next-held = step-held k c st b some p first-fits
 
   with-join : heldWith (fixedOf c .n) next p' ≡ heldWith (fixedOf c .n) st (p ++ p')
   unfolding heldWith stepped
@@ -287,18 +284,14 @@ module _ (k : Call) (c : Scheme) (st : List ℕ) (b : begun k (fixedOf c) st ≡
       (gained wrap n (terms k n (secretOf n st) (placed (i - 8 * n) (heldWith n st (p ++ p')))) (sumsOf n st)) (sumsOf n st))
       last-at
 
-  held-join : heldAfter (fixedOf c .n) next p' ≡ heldAfter (fixedOf c .n) st (p ++ p')
-  unfolding heldAfter stepped
-  held-join = ap₂ (λ (t : Bool) (x : List ℕ). cond t (replicate (8 * fixedOf c .n) 0) x) same-fills with-join
-
   two-steps : stepped k (fixedOf c .n) next p' ≡ stepped k (fixedOf c .n) st (p ++ p')
   unfolding stepped
   two-steps =
       let n = fixedOf c .n in
-      ap₂ (λ (x y : List ℕ). laid (getD st 0 0) (getD st 1 0) (taken st + length p + length p') x y (sumsWith k n next p') (heldAfter n next p'))
+      ap₂ (λ (x y : List ℕ). laid (getD st 0 0) (getD st 1 0) (taken st + length p + length p') x y (sumsWith k n next p') (heldWith n next p'))
       (step-kept k c st b some p first-fits) (step-secret k c st b some p first-fits)
-      ∙ ap₂ (λ (x y : List ℕ). laid (getD st 0 0) (getD st 1 0) (taken st + length p + length p') (keptOf st) (secretOf n st) x y) sums-join held-join
-      ∙ ap (λ (t : ℕ). laid (getD st 0 0) (getD st 1 0) t (keptOf st) (secretOf n st) (sumsWith k n st (p ++ p')) (heldAfter n st (p ++ p'))) last-at
+      ∙ ap₂ (λ (x y : List ℕ). laid (getD st 0 0) (getD st 1 0) (taken st + length p + length p') (keptOf st) (secretOf n st) x y) sums-join with-join
+      ∙ ap (λ (t : ℕ). laid (getD st 0 0) (getD st 1 0) t (keptOf st) (secretOf n st) (sumsWith k n st (p ++ p')) (heldWith n st (p ++ p'))) last-at
 
 -- part after part is the part of both joined
 steps-join : (k : Call) (c : Scheme) (st p p' : List ℕ) → begun k (fixedOf c) st ≡ true → 0 < fixedOf c .n

@@ -4,7 +4,7 @@
 --   sized-holding, sized-held   the state stays as long
 --   right-made, left-made     the sums with eight rows, of the slices that the code takes
 --   back-right, back-left     they are written in their place
---   entered-wide, entered-long, clear-is   the state stays as long; then zeros for the rows
+--   entered-wide              the state stays as long
 --   step-holds, step-enters   so the part is in the state, whether it ends a block or not
 use mathlib.Core.Path.{_≡_, refl, _∙_, sym, ap, ap₂}
 use mathlib.Core.Bool.{Bool, true, false, cond}
@@ -23,7 +23,7 @@ use Rattle.parts.specs.Joining.{Linear}
 use Rattle.parts.proofs.Joining.{right-linear, left-linear}
 use Rattle.parts.proofs.Words.{pairs-long, pairs-words}
 use Rattle.parts.proofs.Blocks.{right-back, narrow-left, left-is}
-use Rattle.rows.specs.State.{long, taken, keptOf, secretOf, sumsOf, heldOf, laid, terms, fills, heldWith, sumsWith, heldAfter, stepped}
+use Rattle.rows.specs.State.{long, taken, keptOf, secretOf, sumsOf, heldOf, laid, terms, fills, heldWith, sumsWith, stepped}
 use Rattle.rows.specs.Inside.{holding, sumsEntered, entered, Sized}
 use Rattle.rows.specs.declared.Call.{Call}
 use Rattle.rows.proofs.Laying.{three, held-at, front, kept-long, secret-long, sums-long, held-long, again-words, laid-long, laid-kept, laid-secret, laid-sums, laid-held}
@@ -146,7 +146,7 @@ module _ (n : ℕ) (st : List ℕ) (z : Sized n st) where
     pub back-right : (y x : List ℕ) → Below 4294967296 st
         → y ≡ gained wrap n (rightTerm n (reduced wrap (heldOf n st)) (secretOf n st)) (words (take 32 (drop (67 + 4 * n + i * 4) st))) → x ≡ pairs y
         → take (67 + 4 * n + i * 4) st ++ (x ++ drop (67 + 4 * n + i * 4 + 32 - (67 + 4 * n + i * 4)) (drop (67 + 4 * n + i * 4) st))
-        ≡ entered Call.Offer n (i * n) st (heldOf n st)
+        ≡ entered Call.Offer n (i * n) st
     unfolding entered
     back-right y x b e d =
         let m : 67 + 4 * n + i * 4 + 32 - (67 + 4 * n + i * 4) ≡ 32 = omega arith in
@@ -170,7 +170,7 @@ module _ (n : ℕ) (st : List ℕ) (z : Sized n st) where
     pub back-left : (y x : List ℕ)
         → y ≡ gained wrap 8 (partTerm n n i (secretOf n st) (reduced wrap (heldOf n st))) (sumsOf n st) → x ≡ pairs y
         → take (67 + 4 * n) st ++ (x ++ drop (67 + 4 * n + 4 * n - (67 + 4 * n)) (drop (67 + 4 * n) st))
-        ≡ entered Call.Reply n (i * n) st (heldOf n st)
+        ≡ entered Call.Reply n (i * n) st
     unfolding entered
     back-left y x e d =
         let m : 67 + 4 * n + 4 * n - (67 + 4 * n) ≡ 4 * n = omega arith in
@@ -183,55 +183,25 @@ module _ (n : ℕ) (st : List ℕ) (z : Sized n st) where
         ∙ left-is n i (heldOf n st) fits (held-long n st (z .long)) wrap (secretOf n st) (sumsOf n st)))
         (held-at n st)
 
-  pub entered-wide : (k : Call) (at : ℕ) (held : List ℕ) → length held ≡ 8 * n → length (entered k n at st held) ≡ long n
+  pub entered-wide : (k : Call) (at : ℕ) → length (entered k n at st) ≡ long n
   unfolding entered
-  entered-wide k at held h =
+  entered-wide k at =
       let u = pairs-long (sumsEntered k n at st) (4 * n) (gained-length wrap n _ (sumsOf n st) ∙ sums-long n st (z .long) ∙ omega arith) in
-      simp (length-append, length-take) (omega (arith, u, h, z .long))
-
-  -- zeros in the place of the rows, once they have entered
-  module _ (k : Call) (at : ℕ) {x : List ℕ} (e : x ≡ entered k n at st (heldOf n st)) where
-    abbrev summed : List ℕ
-    summed = pairs (sumsEntered k n at st)
-
-    summed-long : length summed ≡ 4 * n
-    summed-long = pairs-long _ (4 * n) (gained-length wrap n _ (sumsOf n st) ∙ sums-long n st (z .long) ∙ omega arith)
-
-    before-long : length (take (67 + 4 * n) st ++ summed) ≡ 67 + 8 * n
-    before-long = simp (length-append, length-take) (omega (arith, summed-long, z .long))
-
-    entered-is : x ≡ (take (67 + 4 * n) st ++ summed) ++ heldOf n st
-    unfolding entered
-    entered-is = e ∙ sym (append-assoc (take (67 + 4 * n) st) summed (heldOf n st))
-
-    pub entered-long : length x ≡ long n
-    entered-long = ap length entered-is ∙ length-append (take (67 + 4 * n) st ++ summed) _ ∙ omega (arith, before-long, held-long n st (z .long))
-
-    pub clear-is : {y : List ℕ} → y ≡ replicate (length (take (length x - (67 + 8 * n)) (drop (67 + 8 * n) x))) 0
-        → take (67 + 8 * n) x ++ (y ++ drop (length x - (67 + 8 * n)) (drop (67 + 8 * n) x)) ≡ entered k n at st (replicate (8 * n) 0)
-    unfolding entered
-    clear-is {y} d =
-        let gone : drop (length x - (67 + 8 * n)) (drop (67 + 8 * n) x) ≡ [] = drop-of-length-le (drop (67 + 8 * n) x) (le-of-eq (length-drop (67 + 8 * n) x)) in
-        let many : length (take (length x - (67 + 8 * n)) (drop (67 + 8 * n) x)) ≡ 8 * n =
-        ap length (to-end x (67 + 8 * n)) ∙ length-drop (67 + 8 * n) x ∙ omega (arith, entered-long)
-        in
-        ap₂ (λ (u v : List ℕ). u ++ (y ++ v)) (ap (take (67 + 8 * n)) entered-is ∙ take-at (take (67 + 4 * n) st ++ summed) (heldOf n st) (67 + 8 * n) before-long) gone
-        ∙ ap (λ (l : List ℕ). (take (67 + 4 * n) st ++ summed) ++ l) (append-nil y ∙ d ∙ ap (λ (m : ℕ). replicate {A = ℕ} m 0) many)
-        ∙ append-assoc (take (67 + 4 * n) st) summed (replicate (8 * n) 0)
+      simp (length-append, length-take) (omega (arith, u, held-long n st (z .long), z .long))
 
   -- ---- the part is in the state
 
   module _ (k : Call) (p : List ℕ) where
     pub step-holds : fills n (taken st) (length p) ≡ false → holding n st p ≡ stepped k n st p
-    unfolding holding stepped sumsWith heldAfter
+    unfolding holding stepped sumsWith
     step-holds h = rw h refl
 
     abbrev held-laid : List ℕ
     held-laid = laid (getD st 0 0) (getD st 1 0) (taken st + length p) (keptOf st) (secretOf n st) (sumsOf n st) (heldWith n st p)
 
     pub step-enters : (at : ℕ) → fills n (taken st) (length p) ≡ true → at ≡ taken st + length p - 8 * n
-        → entered k n at (holding n st p) (replicate (8 * n) 0) ≡ stepped k n st p
-    unfolding holding stepped sumsWith heldAfter entered
+        → entered k n at (holding n st p) ≡ stepped k n st p
+    unfolding holding stepped sumsWith entered
     step-enters at h e =
         let l = z .long in
         let a = getD st 0 0 in
@@ -248,6 +218,7 @@ module _ (n : ℕ) (st : List ℕ) (z : Sized n st) where
         let g : sumsEntered k n at held-laid ≡ gained wrap n (terms k n (secretOf n st) (placed (t - 8 * n) (heldWith n st p))) (sumsOf n st) =
         rw (s, u, v, e) refl
         in
-        ap₂ (λ (x y : List ℕ). x ++ (pairs y ++ replicate (8 * n) 0)) f g
+        ap₂ (λ (x y : List ℕ). x ++ (pairs y ++ heldOf n held-laid)) f g
+        ∙ ap (λ (x : List ℕ). (a ∷ b ∷ t ∷ (keptOf st ++ pairs (secretOf n st))) ++ (pairs (gained wrap n (terms k n (secretOf n st) (placed (t - 8 * n) (heldWith n st p))) (sumsOf n st)) ++ x)) v
         ∙ ap (λ (x : List ℕ). a ∷ b ∷ t ∷ x) (append-assoc (keptOf st) (pairs (secretOf n st)) _)
         ∙ rw h refl

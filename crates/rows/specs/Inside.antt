@@ -1,7 +1,7 @@
 -- What the steps of a call ask of each other, where the tests before them have passed.
 --   holding n st p      the state with the part p among the numbers that are held back, and in its count
 --   sumsEntered k n at st    the sums, once the eight rows that are held back have entered them: those from entry `at` of A on
---   entered k n at st held   the state with these sums, and with `held` in the place of the rows
+--   entered k n at st   the state with these sums
 --   Sized n st          the length of a state, and numbers that the code can count with
 use mathlib.Core.Path.{_≡_}
 use mathlib.Core.List.{List, _++_}
@@ -19,8 +19,8 @@ holding n st p =
 abbrev pub sumsEntered : Call → ℕ → ℕ → List ℕ → List ℕ
 sumsEntered k n at st = gained wrap n (terms k n (secretOf n st) (placed at (heldOf n st))) (sumsOf n st)
 
-unfoldable pub entered : Call → ℕ → ℕ → List ℕ → List ℕ → List ℕ
-entered k n at st held = take (67 + 4 * n) st ++ (pairs (sumsEntered k n at st) ++ held)
+unfoldable pub entered : Call → ℕ → ℕ → List ℕ → List ℕ
+entered k n at st = take (67 + 4 * n) st ++ (pairs (sumsEntered k n at st) ++ heldOf n st)
 
 pub record Sized (n : ℕ) (st : List ℕ) : Type 0 where
   pub some : 0 < n

@@ -5,7 +5,7 @@
 --   3 .. 66    what is kept for the end: Offer the seed's 16 bytes, then zeros; Reply the 64 values of V, below q
 --   67 ..      the secret as 8 n words, two in each number: Offer the columns of S, one after the other, Reply S' as it lies
 --   67 + 4n .. the running sums as 8 n words, two in each number, which start as the noise
---   67 + 8n .. the numbers of the rows that are held back until eight have come, then zeros
+--   67 + 8n .. the numbers of the rows that are held back until eight have come; what lies behind them is of no account
 -- Words wrap at 2^16, so every number of 32 bits is a pair of them, and of a number that is held back its lower word counts: only the first 67 have a range.
 -- Any other list is no state: nothing has begun.
 --   frodoOf k            the scheme that a number names, where it is one of Frodo's
@@ -18,13 +18,13 @@
 --   terms k n s a        how the numbers a of A enter the sums of the call k, with the secret's words s
 --   fills n at m         m more numbers end a block of eight rows
 --   heldWith n st p      the numbers that are held back, with the part p behind them
---   sumsWith, heldAfter  the sums with the part p, which eight rows enter where it fills them; what is held back then: zeros where they entered
+--   sumsWith k n st p    the sums with the part p, which eight rows enter where it fills them
 --   stepped k n st p     the state with the part p
 use mathlib.Core.Bool.{Bool, true, false, cond}
 use mathlib.Core.List.{List, _∷_, _++_}
 use Prim.Native.Nat.{ℕ, _+_, _*_, _-_, _%_}
 use lib.Dec.{eqb, leb}
-use lib.ListN.{length, getD, take, drop, replicate}
+use lib.ListN.{length, getD, take, drop}
 use Rattle.lists.specs.First.{firstOver}
 use Rattle.schemes.specs.Schemes.{by, familyOf, schemeOf}
 use Rattle.schemes.specs.declared.Fixed.{Fixed}
@@ -117,9 +117,6 @@ sumsWith k n st p =
     (gained wrap n (terms k n (secretOf n st) (placed (taken st + length p - 8 * n) (heldWith n st p))) (sumsOf n st))
     (sumsOf n st)
 
-unfoldable pub heldAfter : ℕ → List ℕ → List ℕ → List ℕ
-heldAfter n st p = cond (fills n (taken st) (length p)) (replicate (8 * n) 0) (heldWith n st p)
-
 unfoldable pub stepped : Call → ℕ → List ℕ → List ℕ → List ℕ
 stepped k n st p =
-    laid (getD st 0 0) (getD st 1 0) (taken st + length p) (keptOf st) (secretOf n st) (sumsWith k n st p) (heldAfter n st p)
+    laid (getD st 0 0) (getD st 1 0) (taken st + length p) (keptOf st) (secretOf n st) (sumsWith k n st p) (heldWith n st p)

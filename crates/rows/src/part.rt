@@ -3,7 +3,7 @@
 ghost use mathlib.Core.Path.{_≡_};
 ghost use mathlib.Core.Bool.{true};
 ghost use Prim.Native.Nat.{_+_, _*_, _%_, _<_, _≤_};
-ghost use lib.ListN.{length, take, drop, replicate};
+ghost use lib.ListN.{length, take, drop};
 ghost use Rattle.schemes.specs.Schemes.{familyOf, fixedOf};
 ghost use Rattle.schemes.specs.declared.Family.{Family};
 ghost use Rattle.lists.specs.Lent.{was, left};
@@ -61,7 +61,7 @@ fn put_right(
     state: &mut [u32],
 )
     requires { ⌜ Sized n (now state) × (row + 8 ≤ n) × (length (now block) ≡ 8 * n) × (length (now cols) ≡ 8 * n) × (length (now sums) ≡ 64) ⌝ }
-    ensures { λ _. ⌜ left state ≡ entered Call.Offer n (row * n) (was state) (heldOf n (was state)) ⌝ }
+    ensures { λ _. ⌜ left state ≡ entered Call.Offer n (row * n) (was state) ⌝ }
 {
     sums_right(n, row, state, block, cols, sums);
     let d = 67 + 4 * n + row * 4;
@@ -70,7 +70,7 @@ fn put_right(
 
 fn add_right(n: usize, row: usize, state: &mut [u32])
     requires { ⌜ Sized n (now state) × (row + 8 ≤ n) ⌝ }
-    ensures { λ _. ⌜ left state ≡ entered Call.Offer n (row * n) (was state) (heldOf n (was state)) ⌝ }
+    ensures { λ _. ⌜ left state ≡ entered Call.Offer n (row * n) (was state) ⌝ }
 {
     let mut block = [0u16; 6912];
     let mut cols = [0u16; 6912];
@@ -108,7 +108,7 @@ fn put_left(
     state: &mut [u32],
 )
     requires { ⌜ Sized n (now state) × (row + 8 ≤ n) × (length (now block) ≡ 8 * n) × (length (now secret) ≡ 8 * n) × (length (now sums) ≡ 8 * n) ⌝ }
-    ensures { λ _. ⌜ left state ≡ entered Call.Reply n (row * n) (was state) (heldOf n (was state)) ⌝ }
+    ensures { λ _. ⌜ left state ≡ entered Call.Reply n (row * n) (was state) ⌝ }
 {
     sums_left(n, row, state, block, secret, sums);
     let a = 67 + 4 * n;
@@ -118,7 +118,7 @@ fn put_left(
 
 fn add_left(n: usize, row: usize, state: &mut [u32])
     requires { ⌜ Sized n (now state) × (row + 8 ≤ n) ⌝ }
-    ensures { λ _. ⌜ left state ≡ entered Call.Reply n (row * n) (was state) (heldOf n (was state)) ⌝ }
+    ensures { λ _. ⌜ left state ≡ entered Call.Reply n (row * n) (was state) ⌝ }
 {
     let mut block = [0u16; 6912];
     let mut secret = [0u16; 6912];
@@ -134,24 +134,15 @@ fn add_left(n: usize, row: usize, state: &mut [u32])
     );
 }
 
-fn add(call: Call, n: usize, row: usize, state: &mut [u32])
+// The eight rows that are held back into the sums. Their numbers stay where they lie until the next rows take their place.
+fn enter(call: Call, n: usize, row: usize, state: &mut [u32])
     requires { ⌜ Sized n (now state) × (row + 8 ≤ n) ⌝ }
-    ensures { λ _. ⌜ left state ≡ entered call n (row * n) (was state) (heldOf n (was state)) ⌝ }
+    ensures { λ _. ⌜ left state ≡ entered call n (row * n) (was state) ⌝ }
 {
     match call {
         Call::Offer => add_right(n, row, state),
         Call::Reply => add_left(n, row, state),
     }
-}
-
-// Then they are held back no longer.
-fn enter(call: Call, n: usize, row: usize, state: &mut [u32])
-    requires { ⌜ Sized n (now state) × (row + 8 ≤ n) ⌝ }
-    ensures { λ _. ⌜ left state ≡ entered call n (row * n) (was state) (replicate (8 * n) 0) ⌝ }
-{
-    add(call, n, row, state);
-    let h = 67 + 8 * n;
-    lists::zero_numbers(&mut state[h..]);
 }
 
 // The part into the state, and the eight rows that it ends into the sums.

@@ -1,42 +1,29 @@
--- `rows::part::enter` meets its contract: the sums, then zeros.
+-- `rows::part::enter` meets its contract: by the call.
 use mathlib.Core.Path.{_∙_, sym, ap}
-use Prim.Native.Nat.{ℕ, _*_}
-use native.Mathlib.Omega.{arith}
+use Prim.Native.Nat.{_*_}
 use borrow.Author.Needs.{needs}
-use lib.ListN.{length, length-replicate}
-use Rattle.rows.proofs.Taking.{entered-wide, entered-long, clear-is}
+use Rattle.rows.specs.Inside.{entered}
+use Rattle.rows.specs.declared.Call.{Call}
 use Rattle.rows.proofs.part.enter.Statement.{statement}
 use Rattle.rows.proofs.part.enter.Tie as tie
-
-sub-zero-numbers : tie.Need-sub-zero-numbers
-sub-zero-numbers c =
-    let s : tie.Start = search needs in
-    let o : tie.After-add = search needs in
-    omega (arith, entered-long (s .args .n) (s .args .state .now) (s .pre .0) (s .args .call) (s .args .row * s .args .n) (o .add .ensures))
-
-part-zero-numbers-start : tie.Need-part-zero-numbers-start
-part-zero-numbers-start c =
-    let s : tie.Start = search needs in
-    let o : tie.After-add = search needs in
-    omega (arith, entered-long (s .args .n) (s .args .state .now) (s .pre .0) (s .args .call) (s .args .row * s .args .n) (o .add .ensures))
-
-same-length : tie.Need-same-length
-same-length c =
-    let s : tie.Start = search needs in
-    let o : tie.After-add = search needs in
-    let y : tie.After-zero-numbers = search needs in
-    ap length (clear-is (s .args .n) (s .args .state .now) (s .pre .0) (s .args .call) (s .args .row * s .args .n) (o .add .ensures) (y .zero-numbers .ensures))
-    ∙ entered-wide (s .args .n) (s .args .state .now) (s .pre .0) (s .args .call) (s .args .row * s .args .n) _ (length-replicate {A = ℕ} (8 * s .args .n) 0)
-    ∙ sym (s .pre .0 .long)
 
 returns : tie.Need-returns
 returns c =
     let s : tie.Start = search needs in
-    let o : tie.After-add = search needs in
-    let y : tie.After-zero-numbers = search needs in
-    clear-is (s .args .n) (s .args .state .now) (s .pre .0) (s .args .call) (s .args .row * s .args .n) (o .add .ensures) (y .zero-numbers .ensures)
+    let t : tie.After-enum-told = search needs in
+    let r : tie.After-add-right = search needs in
+    let a = s .args in
+    r .add-right .ensures ∙ ap (λ (k : Call). entered k (a .n) (a .row * a .n) (a .state .now)) (sym (t .enum-told .given .1))
+
+returns-2 : tie.Need-returns-2
+returns-2 c =
+    let s : tie.Start = search needs in
+    let t : tie.After-enum-told2 = search needs in
+    let r : tie.After-add-left = search needs in
+    let a = s .args in
+    r .add-left .ensures ∙ ap (λ (k : Call). entered k (a .n) (a .row * a .n) (a .state .now)) (sym (t .enum-told2 .given .1))
 
 pub enter-spec : {M : Type 1} → statement M
 enter-spec =
     tie.close
-    (tie.spec (λ c κs. search needs) (search needs) (search needs) (search needs) sub-zero-numbers part-zero-numbers-start (search needs) (λ c κs. search needs) same-length returns)
+    (tie.spec (search needs) (λ c κs. search needs) (search needs) (λ c κs. search needs) (search needs) returns (search needs) returns-2)

@@ -4,7 +4,7 @@ use mathlib.Core.List.{List}
 use Prim.Native.Nat.{ℕ, _+_, _*_, _-_, _/_, _%_, _≤_}
 use native.Mathlib.Omega.{arith}
 use borrow.Author.Needs.{needs}
-use lib.ListN.{length, replicate, length-replicate}
+use lib.ListN.{length}
 use Rattle.rows.specs.State.{taken}
 use Rattle.rows.specs.Inside.{entered}
 use Rattle.rows.proofs.Tests.{Fits, fits, square}
@@ -65,7 +65,7 @@ same-length c =
     let o : tie.After-hold = search needs in
     let e : tie.After-enter = search needs in
     ap length (e .enter .ensures)
-    ∙ entered-wide (s .args .n) _ (sized-held (s .args .n) (st s) (s .pre .0) (s .args .p .now) (in-block s) (o .hold .ensures)) (s .args .call) _ _ (length-replicate {A = ℕ} (8 * s .args .n) 0)
+    ∙ entered-wide (s .args .n) _ (sized-held (s .args .n) (st s) (s .pre .0) (s .args .p .now) (in-block s) (o .hold .ensures)) (s .args .call) _
     ∙ sym (s .pre .0 .long)
 
 returns : tie.Need-returns
@@ -78,7 +78,7 @@ returns c =
     let a = s .args in
     let full = sym (f .fills .ensures) ∙ i .if1 .taken in
     e .enter .ensures
-    ∙ ap (λ (l : List ℕ). entered (a .call) (a .n) (((taken (st s) + m s) / a .n - 8) * a .n) l (replicate (8 * a .n) 0)) (o .hold .ensures)
+    ∙ ap (λ (l : List ℕ). entered (a .call) (a .n) (((taken (st s) + m s) / a .n - 8) * a .n) l) (o .hold .ensures)
     ∙ step-enters (a .n) (st s) (s .pre .0) (a .call) (a .p .now) _ full (row-is (a .n) (taken (st s)) (m s) (s .pre .0 .some) (fit s .in-row) full)
 
 same-length-2 : tie.Need-same-length-2
