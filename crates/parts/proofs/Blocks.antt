@@ -1,6 +1,7 @@
 -- What eight rows of A, from row i on, bring to the sums: the numbers `held`.
 --   gained-same, gained-below   products that are equal modulo m; sums are words
 --   narrow-right, narrow-left   so lower words serve for the numbers
+--   row-words, one-row   a row of A by itself: as words; for its eight sums
 --   two-fours       four rows, then the four behind them
 --   right-put, right-back   Offer: the 64 sums of these rows are exchanged, and no other; as they lie, two in each number
 --   left-is         Reply: of all rows of A it is these that meet something
@@ -15,9 +16,9 @@ use Rattle.numbers.specs.Sum.{sum, sumℕ}
 use Rattle.numbers.proofs.Sums.{natural, sum-ext, sum-none, sum-split}
 use Rattle.lists.specs.Entries.{tab, Below}
 use Rattle.lists.proofs.Entries.{tab-ext, tab-at, tab-length, below-tab}
-use lib.Arith.{digits-lt}
+use lib.Arith.{digits-lt, digits-div, digits-mod}
 use lib.Seq.{getD-take, getD-drop}
-use Rattle.lists.proofs.Parts.{part-long, part-at, to-end}
+use Rattle.lists.proofs.Parts.{part-long, part-at, slice-long, slice-at, to-end}
 use Rattle.matrix.specs.Steps.{gained, reduced, rightTerm, leftTerm, partTerm}
 use Rattle.matrix.proofs.Steps.{gained-length, gained-at, gained-more}
 use Rattle.parts.specs.Parts.{wrap, words, pairs, placed}
@@ -70,6 +71,38 @@ narrow-right m n x cols ws = gained-same m n _ _ ws (λ k t. narrow-term m x (k 
 pub narrow-left : (m n r i : ℕ) (s y ws : List ℕ) → gained m r (partTerm n n i s (reduced m y)) ws ≡ gained m r (partTerm n n i s y) ws
 unfolding partTerm
 narrow-left m n r i s y ws = gained-same m r _ _ ws (λ k u. narrow-term m y (u * n + k % n) (getD s (k / n * n + (i + u)) 0))
+
+-- ---- a row by itself
+
+pub row-words :
+    (n i : ℕ) (x : List ℕ) → i * n + n ≤ length x → {line : List ℕ} → line ≡ reduced wrap (take (i * n + n - i * n) (drop (i * n) x)) →
+    length line ≡ n
+unfolding reduced
+row-words n i x h e = ap length e ∙ tab-length _ _ ∙ slice-long (i * n) n x h
+
+pub one-row :
+    (n i : ℕ) (x cols sums l line : List ℕ) → i * 8 + 8 ≤ length sums → l ≡ take (i * 8 + 8 - i * 8) (drop (i * 8) sums) →
+    line ≡ reduced wrap (take (i * n + n - i * n) (drop (i * n) x)) → {p : List ℕ} → p ≡ gained wrap n (rightTerm n line cols) l →
+    p ≡ tab 8 (λ j. (getD sums (i * 8 + j) 0 + sumℕ n (rightTerm n (reduced wrap x) cols (i * 8 + j))) % wrap)
+unfolding gained rightTerm
+one-row n i x cols sums l line h d f o =
+    let wide : length l ≡ 8 = ap length d ∙ slice-long (i * 8) 8 sums h in
+    o
+    ∙ ap (λ (k : ℕ). tab k (λ j. (getD l j 0 + sumℕ n (λ t. getD line (j / 8 * n + t) 0 * getD cols (j % 8 * n + t) 0)) % wrap)) wide
+    ∙ tab-ext 8 _ _
+    (λ j p.
+    ap₂ (λ (z s : ℕ). (z + s) % wrap)
+    (ap (λ (k : List ℕ). getD k j 0) d ∙ slice-at (i * 8) 8 sums 0 j p)
+    (sum-ext natural n _ _
+    (λ t q.
+    let z : j / 8 ≡ 0 = omega arith in
+    let e : j / 8 * n + t ≡ t = ap (λ (k : ℕ). k * n + t) z ∙ omega arith in
+    ap₂ (λ (a b : ℕ). a * getD cols (b * n + t) 0)
+    (ap₂ (λ (k : List ℕ) (u : ℕ). getD k u 0) f e
+    ∙ reduced-at wrap (take (i * n + n - i * n) (drop (i * n) x)) t
+    ∙ ap (λ (a : ℕ). a % wrap) (slice-at (i * n) n x 0 t q ∙ ap (λ (k : ℕ). getD x (k * n + t) 0) (sym (digits-div i p)))
+    ∙ sym (reduced-at wrap x ((i * 8 + j) / 8 * n + t)))
+    (mod-eq-of-lt p ∙ sym (digits-mod i p)))))
 
 -- ---- four rows, and the four behind them
 

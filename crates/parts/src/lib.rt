@@ -4,7 +4,7 @@ ghost use mathlib.Core.Path.{_≡_};
 ghost use Prim.Native.Nat.{_+_, _*_, _<_, _≤_};
 ghost use lib.ListN.{length};
 ghost use Rattle.lists.specs.Lent.{was, left};
-ghost use Rattle.matrix.specs.Steps.{gained, reduced, partTerm};
+ghost use Rattle.matrix.specs.Steps.{gained, reduced, rightTerm, partTerm};
 ghost use Rattle.parts.specs.Parts.{wrap, words, pairs};
 
 // Both words of each number. Where the lower word lies first the compiler makes one copy of it.
@@ -64,6 +64,21 @@ pub fn copy(src: &[u32], out: &mut [u32])
     while k < out.len() {
         out[k] = src[k];
         k += 1;
+    }
+}
+
+// Offer: r rows of A into their sums. One row at a time is made words, in a line that serves for all.
+pub fn add_rows(n: usize, r: usize, x: &[u32], cols: &[u16], line: &mut [u16], sums: &mut [u16])
+    requires { ⌜ (length (now x) ≡ r * n) × (length (now cols) ≡ 8 * n) × (length (now line) ≡ n) × (length (now sums) ≡ 8 * r) ⌝ }
+    ensures { λ _. ⌜ left sums ≡ gained wrap n (rightTerm n (reduced wrap (was x)) (was cols)) (was sums) ⌝ }
+{
+    let mut i: usize = 0;
+    while i < r {
+        let a = i * n;
+        let b = i * 8;
+        narrow(&x[a..a + n], line);
+        matrix::add_right(n, 1, line, cols, &mut sums[b..b + 8]);
+        i += 1;
     }
 }
 

@@ -8,12 +8,11 @@
 --   step-holds, step-enters   so the part is in the state, whether it ends a block or not
 use mathlib.Core.Path.{_≡_, refl, _∙_, sym, ap, ap₂}
 use mathlib.Core.Bool.{Bool, true, false, cond}
-use mathlib.Core.List.{List, [], _∷_, _++_, append-assoc, append-nil}
+use mathlib.Core.List.{List, _∷_, _++_, append-assoc}
 use Prim.Native.Nat.{ℕ, _+_, _*_, _-_, _/_, _%_, _<_, _≤_}
 use native.Mathlib.Omega.{arith}
-use native.Mathlib.Nat.{le-of-eq}
-use lib.ListN.{length, getD, take, drop, set, replicate, length-append, length-take, length-drop, length-replicate, take-append-drop, drop-of-length-le}
-use lib.Seq.{take-add, take-take, take-at, drop-at, take-append-le, drop-append-le, drop-drop, length-take-le}
+use lib.ListN.{length, getD, take, drop, set, length-append, length-take, length-drop, take-append-drop}
+use lib.Seq.{take-add, take-take, drop-at, take-append-le, drop-append-le, drop-drop, length-take-le}
 use Rattle.lists.specs.Entries.{Below}
 use Rattle.lists.proofs.Parts.{below-drop, below-take, to-end}
 use Rattle.matrix.specs.Steps.{gained, reduced, rightTerm, partTerm}
@@ -118,15 +117,15 @@ module _ (n : ℕ) (st : List ℕ) (z : Sized n st) where
 
     -- as the code makes them, of the slices that it takes
     pub right-made :
-        {block cols old x : List ℕ} → block ≡ reduced wrap (take (length st - (67 + 8 * n)) (drop (67 + 8 * n) st)) →
-        cols ≡ words (take (67 + 4 * n - 67) (drop 67 st)) →
-        old ≡ words (take (67 + 4 * n + i * 4 + 32 - (67 + 4 * n + i * 4)) (drop (67 + 4 * n + i * 4) st)) → x ≡ gained wrap n (rightTerm n block cols) old →
+        {cols old x : List ℕ} → cols ≡ words (take (67 + 4 * n - 67) (drop 67 st)) →
+        old ≡ words (take (67 + 4 * n + i * 4 + 32 - (67 + 4 * n + i * 4)) (drop (67 + 4 * n + i * 4) st)) →
+        x ≡ gained wrap n (rightTerm n (reduced wrap (take (length st - (67 + 8 * n)) (drop (67 + 8 * n) st))) cols) old →
         x ≡ gained wrap n (rightTerm n (reduced wrap (heldOf n st)) (secretOf n st)) (words (take 32 (drop (67 + 4 * n + i * 4) st)))
-    right-made {block} {cols} {old} b d u e =
+    right-made {cols} {old} d u e =
         let m : 67 + 4 * n - 67 ≡ 4 * n = omega arith in
         let o : 67 + 4 * n + i * 4 + 32 - (67 + 4 * n + i * 4) ≡ 32 = omega arith in
         e
-        ∙ ap₂ (λ (v y : List ℕ). gained wrap n (rightTerm n v y) old) (b ∙ ap (reduced wrap) (to-end st (67 + 8 * n))) (d ∙ ap (λ (k : ℕ). words (take k (drop 67 st))) m)
+        ∙ ap₂ (λ (v y : List ℕ). gained wrap n (rightTerm n v y) old) (ap (reduced wrap) (to-end st (67 + 8 * n))) (d ∙ ap (λ (k : ℕ). words (take k (drop 67 st))) m)
         ∙ ap (gained wrap n (rightTerm n (reduced wrap (heldOf n st)) (secretOf n st))) (u ∙ ap (λ (k : ℕ). words (take k (drop (67 + 4 * n + i * 4) st))) o)
 
     pub left-made :

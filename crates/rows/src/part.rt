@@ -31,39 +31,38 @@ fn hold(n: usize, at: usize, p: &[u32], state: &mut [u32])
     state[2] = (at + p.len()) as u32;
 }
 
-// Offer: the 64 sums of the eight rows from row `row` on, with these rows. All three are made words first.
+// Offer: the 64 sums of the eight rows from row `row` on, with these rows. All three are made words first, the rows one at a time.
 fn sums_right(
     n: usize,
     row: usize,
     state: &[u32],
-    block: &mut [u16],
+    line: &mut [u16],
     cols: &mut [u16],
     sums: &mut [u16],
 )
-    requires { ⌜ Sized n (now state) × (row + 8 ≤ n) × (length (now block) ≡ 8 * n) × (length (now cols) ≡ 8 * n) × (length (now sums) ≡ 64) ⌝ }
+    requires { ⌜ Sized n (now state) × (row + 8 ≤ n) × (length (now line) ≡ n) × (length (now cols) ≡ 8 * n) × (length (now sums) ≡ 64) ⌝ }
     ensures { λ _. ⌜ left sums ≡ gained wrap n (rightTerm n (reduced wrap (heldOf n (was state))) (secretOf n (was state))) (words (take 32 (drop (67 + 4 * n + row * 4) (was state)))) ⌝ }
 {
     let a = 67 + 4 * n;
     let h = 67 + 8 * n;
     let d = a + row * 4;
     parts::unpair(&state[67..a], cols);
-    parts::narrow(&state[h..], block);
     parts::unpair(&state[d..d + 32], sums);
-    matrix::add_right(n, 8, block, cols, sums);
+    parts::add_rows(n, 8, &state[h..], cols, line, sums);
 }
 
 fn put_right(
     n: usize,
     row: usize,
-    block: &mut [u16],
+    line: &mut [u16],
     cols: &mut [u16],
     sums: &mut [u16],
     state: &mut [u32],
 )
-    requires { ⌜ Sized n (now state) × (row + 8 ≤ n) × (length (now block) ≡ 8 * n) × (length (now cols) ≡ 8 * n) × (length (now sums) ≡ 64) ⌝ }
+    requires { ⌜ Sized n (now state) × (row + 8 ≤ n) × (length (now line) ≡ n) × (length (now cols) ≡ 8 * n) × (length (now sums) ≡ 64) ⌝ }
     ensures { λ _. ⌜ left state ≡ entered Call.Offer n (row * n) (was state) ⌝ }
 {
-    sums_right(n, row, state, block, cols, sums);
+    sums_right(n, row, state, line, cols, sums);
     let d = 67 + 4 * n + row * 4;
     parts::pair(sums, &mut state[d..d + 32]);
 }
@@ -72,11 +71,11 @@ fn add_right(n: usize, row: usize, state: &mut [u32])
     requires { ⌜ Sized n (now state) × (row + 8 ≤ n) ⌝ }
     ensures { λ _. ⌜ left state ≡ entered Call.Offer n (row * n) (was state) ⌝ }
 {
-    let mut block = [0u16; 6912];
+    let mut line = [0u16; 864];
     let mut cols = [0u16; 6912];
     let mut sums = [0u16; 64];
     let k = 8 * n;
-    put_right(n, row, &mut block[..k], &mut cols[..k], &mut sums, state);
+    put_right(n, row, &mut line[..n], &mut cols[..k], &mut sums, state);
 }
 
 // Reply: all sums, with these rows.

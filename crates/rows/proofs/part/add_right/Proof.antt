@@ -12,11 +12,11 @@ use Rattle.rows.proofs.part.add_right.Tie as tie
 few : (s : tie.Start) → 8 * s .args .n ≤ 6912
 few s = omega (arith, s .pre .0 .few)
 
-array-borrow-prefix-block : tie.Need-array-borrow-prefix-block
-array-borrow-prefix-block c = let s : tie.Start = search needs in few s
+array-borrow-prefix-line : tie.Need-array-borrow-prefix-line
+array-borrow-prefix-line c = let s : tie.Start = search needs in s .pre .0 .few
 
 slice-aggregate-put-right : tie.Need-slice-aggregate-put-right
-slice-aggregate-put-right c = let s : tie.Start = search needs in sym (buffer-long (8 * s .args .n) 6912 (few s))
+slice-aggregate-put-right c = let s : tie.Start = search needs in sym (buffer-long (s .args .n) 864 (s .pre .0 .few))
 
 array-borrow-prefix-cols : tie.Need-array-borrow-prefix-cols
 array-borrow-prefix-cols c = let s : tie.Start = search needs in few s
@@ -27,7 +27,7 @@ slice-aggregate-put-right-2 c = let s : tie.Start = search needs in sym (buffer-
 put-right-requires : tie.Need-put-right-requires
 put-right-requires c κs =
     let s : tie.Start = search needs in
-    (s .pre .0, s .pre .1, buffer-long (8 * s .args .n) 6912 (few s), buffer-long (8 * s .args .n) 6912 (few s), length-replicate {A = ℕ} 64 0)
+    (s .pre .0, s .pre .1, buffer-long (s .args .n) 864 (s .pre .0 .few), buffer-long (8 * s .args .n) 6912 (few s), length-replicate {A = ℕ} 64 0)
 
 returns : tie.Need-returns
 returns c = let o : tie.After-put-right = search needs in o .put-right .ensures
@@ -35,4 +35,4 @@ returns c = let o : tie.After-put-right = search needs in o .put-right .ensures
 pub add-right-spec : {M : Type 1} → statement M
 add-right-spec =
     tie.close
-    (tie.spec (search needs) array-borrow-prefix-block slice-aggregate-put-right array-borrow-prefix-cols slice-aggregate-put-right-2 (search needs) put-right-requires (search needs) returns)
+    (tie.spec (search needs) array-borrow-prefix-line slice-aggregate-put-right array-borrow-prefix-cols slice-aggregate-put-right-2 (search needs) put-right-requires (search needs) returns)

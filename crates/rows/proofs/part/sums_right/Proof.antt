@@ -8,12 +8,11 @@ returns : tie.Need-returns
 returns c =
     let s : tie.Start = search needs in
     let o : tie.After-unpair = search needs in
-    let b : tie.After-narrow = search needs in
     let u : tie.After-unpair2 = search needs in
-    let x : tie.After-add-right = search needs in
-    right-made (s .args .n) (s .args .state .now) (s .pre .0) (s .args .row) (s .pre .1) (b .narrow .ensures) (o .unpair .ensures) (u .unpair2 .ensures) (x .add-right .ensures)
+    let x : tie.After-add-rows = search needs in
+    right-made (s .args .n) (s .args .state .now) (s .pre .0) (s .args .row) (s .pre .1) (o .unpair .ensures) (u .unpair2 .ensures) (x .add-rows .ensures)
 
 pub sums-right-spec : {M : Type 1} → statement M
 sums-right-spec =
     tie.close
-    (tie.spec (search needs) (search needs) (search needs) (search needs) (search needs) (search needs) (search needs) (search needs) (search needs) (λ c κs. search needs) (search needs) (search needs) (search needs) (search needs) (λ c κs. search needs) (search needs) (search needs) (search needs) (search needs) (search needs) (λ c κs. search needs) (λ c κs. search needs) (search needs) (search needs) (search needs) returns)
+    (tie.spec (search needs) (search needs) (search needs) (search needs) (search needs) (search needs) (search needs) (search needs) (search needs) (λ c κs. search needs) (search needs) (search needs) (search needs) (search needs) (search needs) (λ c κs. search needs) (search needs) (search needs) (search needs) (search needs) (λ c κs. search needs) (search needs) (search needs) (search needs) returns)
