@@ -3,6 +3,7 @@
 --   narrow-right, narrow-left   so lower words serve for the numbers
 --   row-words, one-row   a row of A by itself: as words; for its eight sums
 --   two-fours       four rows, then the four behind them
+--   eight-row, eight-met   of S' only the columns that they meet
 --   right-put, right-back   Offer: the 64 sums of these rows are exchanged, and no other; as they lie, two in each number
 --   left-is         Reply: of all rows of A it is these that meet something
 use mathlib.Core.Path.{_≡_, refl, _∙_, sym, ap, ap₂}
@@ -15,13 +16,13 @@ use lib.ListN.{length, getD, take, drop, List·getD-eq-default}
 use Rattle.numbers.specs.Sum.{sum, sumℕ}
 use Rattle.numbers.proofs.Sums.{natural, sum-ext, sum-none, sum-split}
 use Rattle.lists.specs.Entries.{tab, Below}
-use Rattle.lists.proofs.Entries.{tab-ext, tab-at, tab-length, below-tab}
+use Rattle.lists.proofs.Entries.{tab-ext, tab-at, tab-getD, tab-length, below-tab}
 use lib.Arith.{digits-lt, digits-div, digits-mod}
 use lib.Seq.{getD-take, getD-drop}
 use Rattle.lists.proofs.Parts.{part-long, part-at, slice-long, slice-at, to-end}
 use Rattle.matrix.specs.Steps.{gained, reduced, rightTerm, leftTerm, partTerm}
 use Rattle.matrix.proofs.Steps.{gained-length, gained-at, gained-more}
-use Rattle.parts.specs.Parts.{wrap, words, pairs, placed}
+use Rattle.parts.specs.Parts.{wrap, words, pairs, eightFrom, placed}
 use Rattle.parts.proofs.Joining.{placed-before, placed-in, placed-after}
 use Rattle.parts.proofs.Put.{put-tab}
 use Rattle.parts.proofs.Words.{words-long, words-append, words-take, words-drop, words-below, pairs-words, words-pairs}
@@ -111,21 +112,59 @@ unfolding gained
 gained-ext m r f g ws h = tab-ext (length ws) _ _ (λ k l. ap (λ (a : ℕ). (getD ws k 0 + a) % m) (sum-ext natural r (f k) (g k) (h k)))
 
 pub two-fours :
-    (m n i : ℕ) (s y ws : List ℕ) {x z : List ℕ} → 0 < n → x ≡ gained m 4 (partTerm n n i s (take (4 * n) y)) ws →
-    z ≡ gained m 4 (partTerm n n (i + 4) s (take (length y - 4 * n) (drop (4 * n) y))) x → z ≡ gained m 8 (partTerm n n i s y) ws
+    (m n : ℕ) (s y ws : List ℕ) {x z : List ℕ} → 0 < n → x ≡ gained m 4 (partTerm 8 n 0 s (take (4 * n) y)) ws →
+    z ≡ gained m 4 (partTerm 8 n 4 s (take (length y - 4 * n) (drop (4 * n) y))) x → z ≡ gained m 8 (partTerm 8 n 0 s y) ws
 unfolding partTerm
-two-fours m n i s y ws {x} o e d =
-    gained-more m 4 4 (partTerm n n i s y) ws
+two-fours m n s y ws {x} o e d =
+    gained-more m 4 4 (partTerm 8 n 0 s y) ws
     (e
     ∙ gained-ext m 4 _ _ ws
-    (λ k u l. ap (λ (a : ℕ). a * getD s (k / n * n + (i + u)) 0) (getD-take (4 * n) y (u * n + k % n) 0 (digits-lt l (mod-lt k o)))))
+    (λ k u l. ap (λ (a : ℕ). a * getD s (k / n * 8 + (0 + u)) 0) (getD-take (4 * n) y (u * n + k % n) 0 (digits-lt l (mod-lt k o)))))
     (d
     ∙ gained-ext m 4 _ _ x
     (λ k u l.
     let a : 4 * n + (u * n + k % n) ≡ (4 + u) * n + k % n = omega arith in
-    let b : i + 4 + u ≡ i + (4 + u) = omega arith in
-    ap₂ (λ (v w : ℕ). v * getD s (k / n * n + w) 0)
+    let b : 4 + u ≡ 0 + (4 + u) = omega arith in
+    ap₂ (λ (v w : ℕ). v * getD s (k / n * 8 + w) 0)
     (ap (λ (q : List ℕ). getD q (u * n + k % n) 0) (to-end y (4 * n)) ∙ getD-drop (4 * n) y (u * n + k % n) 0 ∙ ap (λ (j : ℕ). getD y j 0) a) b))
+
+-- ---- the eight columns of S' that eight rows meet
+
+-- as they lie, two in each number, in a row of 2 h words
+pub eight-row : (h r k : ℕ) (xs : List ℕ) → k * h + r + 4 ≤ length xs → {p : List ℕ}
+    → p ≡ words (take (k * h + r + 4 - (k * h + r)) (drop (k * h + r) xs))
+    → p ≡ tab 8 (λ j. getD (words xs) ((k * 8 + j) / 8 * (2 * h) + (2 * r + (k * 8 + j) % 8)) 0)
+eight-row h r k xs l e =
+    let m : k * h + r + 4 - (k * h + r) ≡ 4 = omega arith in
+    let at = 2 * (k * h + r) in
+    e
+    ∙ ap (λ (q : ℕ). words (take q (drop (k * h + r) xs))) m
+    ∙ words-take 4 (drop (k * h + r) xs)
+    ∙ ap (take 8) (words-drop (k * h + r) xs)
+    ∙ sym (tab-getD (take 8 (drop at (words xs))) 0)
+    ∙ ap (λ (q : ℕ). tab q (λ j. getD (take 8 (drop at (words xs))) j 0)) (part-long at 8 (words xs) (omega (arith, words-long xs)))
+    ∙ tab-ext 8 _ _
+    (λ j g.
+    let a : at + j ≡ k * (2 * h) + (2 * r + j) = omega arith in
+    part-at at 8 (words xs) 0 j g
+    ∙ ap (λ (q : ℕ). getD (words xs) q 0) a
+    ∙ ap₂ (λ (u v : ℕ). getD (words xs) (u * (2 * h) + (2 * r + v)) 0) (sym (digits-div k g)) (sym (digits-mod k g)))
+
+pub eight-met : (m n i : ℕ) (s y ws : List ℕ) → 0 < n → length ws ≡ 8 * n
+    → gained m 8 (partTerm 8 n 0 (eightFrom n i s) y) ws ≡ gained m 8 (partTerm n n i s y) ws
+unfolding gained partTerm eightFrom
+eight-met m n i s y ws o wide =
+    tab-ext (length ws) _ _
+    (λ k l.
+    ap (λ (a : ℕ). (getD ws k 0 + a) % m)
+    (sum-ext natural 8 _ _
+    (λ u g.
+    let j : k / n < 8 = div-lt-iff-lt-mul o .1 (omega arith) in
+    let e : k / n * 8 + (0 + u) ≡ k / n * 8 + u = omega arith in
+    ap (λ (z : ℕ). getD y (u * n + k % n) 0 * z)
+    (ap (λ (q : ℕ). getD (tab 64 (λ v. getD s (v / 8 * n + (i + v % 8)) 0)) q 0) e
+    ∙ tab-at 64 _ (k / n * 8 + u) 0 (digits-lt j g)
+    ∙ ap₂ (λ (a b : ℕ). getD s (a * n + (i + b)) 0) (digits-div (k / n) g) (digits-mod (k / n) g)))))
 
 -- ---- eight rows
 

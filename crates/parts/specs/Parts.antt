@@ -3,6 +3,7 @@
 --   wrap          2^16, where words wrap: a multiple of every q
 --   words xs      the words of numbers: of each the lower one, and then the upper one
 --   pairs ws      words, two in each number
+--   eightFrom n i s   of a matrix of 8 rows and n columns the eight columns from column i on
 --   placed at p   the matrix that holds the numbers p from entry `at` on, and zeros elsewhere: a list reads 0 past its end
 use mathlib.Core.List.{List, [], _∷_, _++_}
 use Prim.Native.Nat.{ℕ, _+_, _*_, _/_, _%_}
@@ -18,6 +19,9 @@ words (x ∷ xs) = x % wrap ∷ x / wrap ∷ words xs
 
 unfoldable pub pairs : List ℕ → List ℕ
 pairs ws = tab (length ws / 2) (λ k. getD ws (2 * k) 0 + wrap * getD ws (2 * k + 1) 0)
+
+unfoldable pub eightFrom : ℕ → ℕ → List ℕ → List ℕ
+eightFrom n i s = tab 64 (λ k. getD s (k / 8 * n + (i + k % 8)) 0)
 
 unfoldable pub placed : ℕ → List ℕ → List ℕ
 placed at p = replicate at 0 ++ p

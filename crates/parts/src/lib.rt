@@ -5,7 +5,7 @@ ghost use Prim.Native.Nat.{_+_, _*_, _<_, _≤_};
 ghost use lib.ListN.{length};
 ghost use Rattle.lists.specs.Lent.{was, left};
 ghost use Rattle.matrix.specs.Steps.{gained, reduced, rightTerm, partTerm};
-ghost use Rattle.parts.specs.Parts.{wrap, words, pairs};
+ghost use Rattle.parts.specs.Parts.{wrap, words, pairs, eightFrom};
 
 // Both words of each number. Where the lower word lies first the compiler makes one copy of it.
 pub fn unpair(xs: &[u32], out: &mut [u16])
@@ -82,12 +82,26 @@ pub fn add_rows(n: usize, r: usize, x: &[u32], cols: &[u16], line: &mut [u16], s
     }
 }
 
-// Reply: eight rows of A, the first of which is row `row`, into all sums; four at a time, for which the product is made.
-pub fn add_eight(n: usize, row: usize, s: &[u16], y: &[u16], sums: &mut [u16])
-    requires { ⌜ (0 < n) × (n ≤ 864) × (row + 8 ≤ n) × (length (now s) ≡ 8 * n) × (length (now y) ≡ 8 * n) × (length (now sums) ≡ 8 * n) ⌝ }
-    ensures { λ _. ⌜ left sums ≡ gained wrap 8 (partTerm n n row (was s) (was y)) (was sums) ⌝ }
+// Reply: the eight words of each row of S' that eight rows of A meet, from word 2r on; a row has 2h words.
+pub fn eight_columns(h: usize, r: usize, secret: &[u32], out: &mut [u16])
+    requires { ⌜ (r + 4 ≤ h) × (length (now secret) ≡ 8 * h) × (length (now out) ≡ 64) ⌝ }
+    ensures { λ _. ⌜ left out ≡ eightFrom (2 * h) (2 * r) (words (was secret)) ⌝ }
+{
+    let mut k: usize = 0;
+    while k < 8 {
+        let a = k * h + r;
+        let b = k * 8;
+        unpair(&secret[a..a + 4], &mut out[b..b + 8]);
+        k += 1;
+    }
+}
+
+// Reply: eight rows of A into all sums, with the eight columns of S' that they meet; four at a time, for which the product is made.
+pub fn add_eight(n: usize, s: &[u16], y: &[u16], sums: &mut [u16])
+    requires { ⌜ (0 < n) × (n ≤ 864) × (length (now s) ≡ 64) × (length (now y) ≡ 8 * n) × (length (now sums) ≡ 8 * n) ⌝ }
+    ensures { λ _. ⌜ left sums ≡ gained wrap 8 (partTerm 8 n 0 (was s) (was y)) (was sums) ⌝ }
 {
     let k = 4 * n;
-    matrix::add_left(n, n, row, 4, s, &y[..k], sums);
-    matrix::add_left(n, n, row + 4, 4, s, &y[k..], sums);
+    matrix::add_left(8, n, 0, 4, s, &y[..k], sums);
+    matrix::add_left(8, n, 4, 4, s, &y[k..], sums);
 }

@@ -2,7 +2,8 @@
 --   block-fits        a part of one row lies in one block
 --   fills-up, holds-back   it ends the block, or it does not
 --   filled-div, filled-mod, held-div, held-mod   the blocks that have come whole after it, and the numbers behind them
---   row-is, row-fits  the first of the eight rows that it ends
+--   row-is, row-fits, row-eighth   the first of the eight rows that it ends: its place, and that it is a multiple of 8
+--   halves            which can be halved
 --   whole-blocks      n is a multiple of 8, so that at the end nothing is held back
 use mathlib.Core.Path.{_≡_, refl, _∙_, sym, ap}
 use mathlib.Core.Bool.{Bool, true, false, cond}
@@ -90,10 +91,21 @@ module _ (n at m : ℕ) (some : 0 < n) (row : at % n + m ≤ n) where
         let e : (at / (8 * n) + 1) * 8 - 8 ≡ at / (8 * n) * 8 = omega arith in
         ap (λ (k : ℕ). (k - 8) * n) quotient ∙ ap (λ (k : ℕ). k * n) e ∙ sym (start-is ∙ omega arith)
 
+    pub row-eighth : ((at + m) / n - 8) % 8 ≡ 0
+    row-eighth =
+        let e : (at / (8 * n) + 1) * 8 - 8 ≡ at / (8 * n) * 8 = omega arith in
+        ap (λ (k : ℕ). (k - 8) % 8) quotient ∙ ap (λ (k : ℕ). k % 8) e ∙ mul-mod-left (at / (8 * n)) 8
+
     pub row-fits : at + m ≤ n * n → (at + m) / n - 8 + 8 ≤ n
     row-fits l =
         let u : (at + m) / n ≤ n = div-le-of-le-mul n l in
         omega (arith, quotient)
+
+pub halves : (n : ℕ) → n % 8 ≡ 0 → 2 * (n / 2) ≡ n
+halves n e =
+    let d : n ≡ n / 8 * 4 * 2 = omega arith in
+    let h : n / 2 ≡ n / 8 * 4 = ap (λ (k : ℕ). k / 2) d ∙ mul-div-cancel (n / 8 * 4) (omega arith) in
+    ap (λ (k : ℕ). 2 * k) h ∙ sym (d ∙ omega arith)
 
 pub whole-blocks : (n : ℕ) → 0 < n → n % 8 ≡ 0 → n * n / (8 * n) * (8 * n) ≡ n * n
 whole-blocks n o e =

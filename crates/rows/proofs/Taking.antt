@@ -17,14 +17,15 @@ use Rattle.lists.specs.Entries.{Below}
 use Rattle.lists.proofs.Parts.{below-drop, below-take, to-end}
 use Rattle.matrix.specs.Steps.{gained, reduced, rightTerm, partTerm}
 use Rattle.matrix.proofs.Steps.{gained-length}
-use Rattle.parts.specs.Parts.{wrap, words, pairs, placed}
+use Rattle.parts.specs.Parts.{wrap, words, pairs, eightFrom, placed}
 use Rattle.parts.specs.Joining.{Linear}
 use Rattle.parts.proofs.Joining.{right-linear, left-linear}
 use Rattle.parts.proofs.Words.{pairs-long, pairs-words}
-use Rattle.parts.proofs.Blocks.{right-back, narrow-left, left-is}
+use Rattle.parts.proofs.Blocks.{right-back, narrow-left, eight-met, left-is}
 use Rattle.rows.specs.State.{long, taken, keptOf, secretOf, sumsOf, heldOf, laid, terms, fills, heldWith, sumsWith, stepped}
 use Rattle.rows.specs.Inside.{holding, sumsEntered, entered, Sized}
 use Rattle.rows.specs.declared.Call.{Call}
+use Rattle.rows.proofs.Filling.{halves}
 use Rattle.rows.proofs.Laying.{three, held-at, front, kept-long, secret-long, sums-long, held-long, again-words, laid-long, laid-kept, laid-secret, laid-sums, laid-held}
 
 pub linear : (k : Call) (n : ℕ) (s : List ℕ) → Linear (terms k n s)
@@ -86,6 +87,7 @@ module _ (n : ℕ) (st : List ℕ) (z : Sized n st) where
         record {
           some = z .some;
           few = z .few;
+          eights = z .eights;
           long =
               laid-long n (getD st 0 0) (getD st 1 0) (taken st + length p) (keptOf st) (secretOf n st) (sumsOf n st) (heldWith n st p) (kept-long n st (z .long))
               (secret-long n st (z .long)) (sums-long n st (z .long)) with-long;
@@ -95,6 +97,10 @@ module _ (n : ℕ) (st : List ℕ) (z : Sized n st) where
     sized-held e = rw e sized-holding
 
   -- ---- eight rows into the sums
+
+  -- the slice that holds the secret
+  pub secret-room : length (take (67 + 4 * n - 67) (drop 67 st)) ≡ 8 * (n / 2)
+  secret-room = simp (length-take, length-drop) (omega (arith, z .long, halves n (z .eights)))
 
   module _ (i : ℕ) (fits : i + 8 ≤ n) where
     abbrev numbers : List ℕ
@@ -129,18 +135,22 @@ module _ (n : ℕ) (st : List ℕ) (z : Sized n st) where
         ∙ ap (gained wrap n (rightTerm n (reduced wrap (heldOf n st)) (secretOf n st))) (u ∙ ap (λ (k : ℕ). words (take k (drop (67 + 4 * n + i * 4) st))) o)
 
     pub left-made :
-        {block secret old x : List ℕ} → block ≡ reduced wrap (take (length st - (67 + 4 * n + 4 * n)) (drop (67 + 4 * n + 4 * n) st)) →
-        secret ≡ words (take (67 + 4 * n - 67) (drop 67 st)) → old ≡ words (take (67 + 4 * n + 4 * n - (67 + 4 * n)) (drop (67 + 4 * n) st)) →
-        x ≡ gained wrap 8 (partTerm n n i secret block) old →
+        i % 8 ≡ 0 → {block secret old x : List ℕ} → block ≡ reduced wrap (take (length st - (67 + 4 * n + 4 * n)) (drop (67 + 4 * n + 4 * n) st)) →
+        secret ≡ eightFrom (2 * (n / 2)) (2 * (i / 2)) (words (take (67 + 4 * n - 67) (drop 67 st))) →
+        old ≡ words (take (67 + 4 * n + 4 * n - (67 + 4 * n)) (drop (67 + 4 * n) st)) → x ≡ gained wrap 8 (partTerm 8 n 0 secret block) old →
         x ≡ gained wrap 8 (partTerm n n i (secretOf n st) (reduced wrap (heldOf n st))) (sumsOf n st)
-    left-made {block} {secret} {old} b d u e =
+    left-made eighth {block} {secret} {old} b d u e =
         let m : 67 + 4 * n - 67 ≡ 4 * n = omega arith in
         let o : 67 + 4 * n + 4 * n - (67 + 4 * n) ≡ 4 * n = omega arith in
         let h : 67 + 4 * n + 4 * n ≡ 67 + 8 * n = omega arith in
         e
-        ∙ ap₂ (λ (v y : List ℕ). gained wrap 8 (partTerm n n i y v) old)
-        (b ∙ ap (reduced wrap) (to-end st (67 + 4 * n + 4 * n) ∙ ap (λ (k : ℕ). drop k st) h)) (d ∙ ap (λ (k : ℕ). words (take k (drop 67 st))) m)
-        ∙ ap (gained wrap 8 (partTerm n n i (secretOf n st) (reduced wrap (heldOf n st)))) (u ∙ ap (λ (k : ℕ). words (take k (drop (67 + 4 * n) st))) o)
+        ∙ ap₂ (λ (v y : List ℕ). gained wrap 8 (partTerm 8 n 0 y v) old)
+        (b ∙ ap (reduced wrap) (to-end st (67 + 4 * n + 4 * n) ∙ ap (λ (k : ℕ). drop k st) h))
+        (d
+        ∙ ap₂ (λ (k j : ℕ). eightFrom k j (words (take (67 + 4 * n - 67) (drop 67 st)))) (halves n (z .eights)) (halves i eighth)
+        ∙ ap (λ (k : ℕ). eightFrom n i (words (take k (drop 67 st)))) m)
+        ∙ ap (gained wrap 8 (partTerm 8 n 0 (eightFrom n i (secretOf n st)) (reduced wrap (heldOf n st)))) (u ∙ ap (λ (k : ℕ). words (take k (drop (67 + 4 * n) st))) o)
+        ∙ eight-met wrap n i (secretOf n st) (reduced wrap (heldOf n st)) (sumsOf n st) (z .some) (sums-long n st (z .long))
 
     pub back-right : (y x : List ℕ) → Below 4294967296 st
         → y ≡ gained wrap n (rightTerm n (reduced wrap (heldOf n st)) (secretOf n st)) (words (take 32 (drop (67 + 4 * n + i * 4) st))) → x ≡ pairs y

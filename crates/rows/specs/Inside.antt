@@ -5,7 +5,7 @@
 --   Sized n st          the length of a state, and numbers that the code can count with
 use mathlib.Core.Path.{_≡_}
 use mathlib.Core.List.{List, _++_}
-use Prim.Native.Nat.{ℕ, _+_, _*_, _<_, _≤_}
+use Prim.Native.Nat.{ℕ, _+_, _*_, _%_, _<_, _≤_}
 use lib.ListN.{length, getD, take}
 use Rattle.matrix.specs.Steps.{gained}
 use Rattle.parts.specs.Parts.{wrap, pairs, placed}
@@ -25,4 +25,5 @@ entered k n at st = take (67 + 4 * n) st ++ (pairs (sumsEntered k n at st) ++ he
 pub record Sized (n : ℕ) (st : List ℕ) : Type 0 where
   pub some : 0 < n
   pub few : n ≤ 864
+  pub eights : n % 8 ≡ 0
   pub long : length st ≡ long n

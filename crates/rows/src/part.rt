@@ -78,7 +78,7 @@ fn add_right(n: usize, row: usize, state: &mut [u32])
     put_right(n, row, &mut line[..n], &mut cols[..k], &mut sums, state);
 }
 
-// Reply: all sums, with these rows.
+// Reply: all sums, with these rows. Of the secret it is eight columns that they meet.
 fn sums_left(
     n: usize,
     row: usize,
@@ -87,15 +87,15 @@ fn sums_left(
     secret: &mut [u16],
     sums: &mut [u16],
 )
-    requires { ⌜ Sized n (now state) × (row + 8 ≤ n) × (length (now block) ≡ 8 * n) × (length (now secret) ≡ 8 * n) × (length (now sums) ≡ 8 * n) ⌝ }
+    requires { ⌜ Sized n (now state) × (row + 8 ≤ n) × (row % 8 ≡ 0) × (length (now block) ≡ 8 * n) × (length (now secret) ≡ 64) × (length (now sums) ≡ 8 * n) ⌝ }
     ensures { λ _. ⌜ left sums ≡ gained wrap 8 (partTerm n n row (secretOf n (was state)) (reduced wrap (heldOf n (was state)))) (sumsOf n (was state)) ⌝ }
 {
     let a = 67 + 4 * n;
     let h = a + 4 * n;
-    parts::unpair(&state[67..a], secret);
+    parts::eight_columns(n / 2, row / 2, &state[67..a], secret);
     parts::narrow(&state[h..], block);
     parts::unpair(&state[a..h], sums);
-    parts::add_eight(n, row, secret, block, sums);
+    parts::add_eight(n, secret, block, sums);
 }
 
 fn put_left(
@@ -106,7 +106,7 @@ fn put_left(
     sums: &mut [u16],
     state: &mut [u32],
 )
-    requires { ⌜ Sized n (now state) × (row + 8 ≤ n) × (length (now block) ≡ 8 * n) × (length (now secret) ≡ 8 * n) × (length (now sums) ≡ 8 * n) ⌝ }
+    requires { ⌜ Sized n (now state) × (row + 8 ≤ n) × (row % 8 ≡ 0) × (length (now block) ≡ 8 * n) × (length (now secret) ≡ 64) × (length (now sums) ≡ 8 * n) ⌝ }
     ensures { λ _. ⌜ left state ≡ entered Call.Reply n (row * n) (was state) ⌝ }
 {
     sums_left(n, row, state, block, secret, sums);
@@ -116,26 +116,19 @@ fn put_left(
 }
 
 fn add_left(n: usize, row: usize, state: &mut [u32])
-    requires { ⌜ Sized n (now state) × (row + 8 ≤ n) ⌝ }
+    requires { ⌜ Sized n (now state) × (row + 8 ≤ n) × (row % 8 ≡ 0) ⌝ }
     ensures { λ _. ⌜ left state ≡ entered Call.Reply n (row * n) (was state) ⌝ }
 {
     let mut block = [0u16; 6912];
-    let mut secret = [0u16; 6912];
+    let mut secret = [0u16; 64];
     let mut sums = [0u16; 6912];
     let k = 8 * n;
-    put_left(
-        n,
-        row,
-        &mut block[..k],
-        &mut secret[..k],
-        &mut sums[..k],
-        state,
-    );
+    put_left(n, row, &mut block[..k], &mut secret, &mut sums[..k], state);
 }
 
 // The eight rows that are held back into the sums. Their numbers stay where they lie until the next rows take their place.
 fn enter(call: Call, n: usize, row: usize, state: &mut [u32])
-    requires { ⌜ Sized n (now state) × (row + 8 ≤ n) ⌝ }
+    requires { ⌜ Sized n (now state) × (row + 8 ≤ n) × (row % 8 ≡ 0) ⌝ }
     ensures { λ _. ⌜ left state ≡ entered call n (row * n) (was state) ⌝ }
 {
     match call {

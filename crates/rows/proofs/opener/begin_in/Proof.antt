@@ -33,7 +33,7 @@ lay-state-requires c κs =
     let z = begin-sized _ _ _ (passes o) in
     let h = numbers-in (s .args .scheme) (s .pre .0) in
     rw (f .fixed .ensures) (
-      (record { some = h .some; few = h .few; long = z .state }, s .pre .1),
+      (record { some = h .some; few = h .few; eights = frodos (s .args .scheme) (s .pre .0) .eights; long = z .state }, s .pre .1),
       (z .secret ∙ h .secret, z .noise ∙ h .noise, z .seed ∙ frodos (s .args .scheme) (s .pre .0) .seed),
     )
 

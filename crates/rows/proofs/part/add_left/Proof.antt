@@ -1,8 +1,9 @@
 -- `rows::part::add_left` meets its contract: it lends room for the words.
 use mathlib.Core.Path.{sym}
-use Prim.Native.Nat.{_*_, _≤_}
+use Prim.Native.Nat.{ℕ, _*_, _≤_}
 use native.Mathlib.Omega.{arith}
 use borrow.Author.Needs.{needs}
+use lib.ListN.{length-replicate}
 use Rattle.lists.proofs.Parts.{buffer-long}
 use Rattle.rows.proofs.part.add_left.Statement.{statement}
 use Rattle.rows.proofs.part.add_left.Tie as tie
@@ -16,12 +17,6 @@ array-borrow-prefix-block c = let s : tie.Start = search needs in few s
 slice-aggregate-put-left : tie.Need-slice-aggregate-put-left
 slice-aggregate-put-left c = let s : tie.Start = search needs in sym (buffer-long (8 * s .args .n) 6912 (few s))
 
-array-borrow-prefix-secret : tie.Need-array-borrow-prefix-secret
-array-borrow-prefix-secret c = let s : tie.Start = search needs in few s
-
-slice-aggregate-put-left-2 : tie.Need-slice-aggregate-put-left-2
-slice-aggregate-put-left-2 c = let s : tie.Start = search needs in sym (buffer-long (8 * s .args .n) 6912 (few s))
-
 array-borrow-prefix-sums : tie.Need-array-borrow-prefix-sums
 array-borrow-prefix-sums c = let s : tie.Start = search needs in few s
 
@@ -32,7 +27,7 @@ put-left-requires : tie.Need-put-left-requires
 put-left-requires c κs =
     let s : tie.Start = search needs in
     let b = buffer-long (8 * s .args .n) 6912 (few s) in
-    (s .pre .0, s .pre .1, b, b, b)
+    (s .pre .0, s .pre .1, s .pre .2, b, length-replicate {A = ℕ} 64 0, b)
 
 returns : tie.Need-returns
 returns c = let o : tie.After-put-left = search needs in o .put-left .ensures
@@ -40,4 +35,4 @@ returns c = let o : tie.After-put-left = search needs in o .put-left .ensures
 pub add-left-spec : {M : Type 1} → statement M
 add-left-spec =
     tie.close
-    (tie.spec (search needs) array-borrow-prefix-block slice-aggregate-put-left array-borrow-prefix-secret slice-aggregate-put-left-2 array-borrow-prefix-sums slice-aggregate-put-left-3 put-left-requires (search needs) returns)
+    (tie.spec (search needs) array-borrow-prefix-block slice-aggregate-put-left (search needs) array-borrow-prefix-sums slice-aggregate-put-left-3 put-left-requires (search needs) returns)

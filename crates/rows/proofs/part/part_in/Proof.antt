@@ -6,7 +6,7 @@ use Rattle.schemes.specs.declared.Fixed.{Fixed}
 use Rattle.ends.proofs.Numbers.{numbers-in, Frodo}
 use Rattle.front.specs.Promise.{put}
 use Rattle.rows.specs.State.{stepped}
-use Rattle.rows.proofs.Tests.{started}
+use Rattle.rows.proofs.Tests.{started, frodos}
 use Rattle.rows.proofs.Turns.{turn-fails, turn-goes, turn-begins}
 use Rattle.rows.proofs.part.part_in.Statement.{statement}
 use Rattle.rows.proofs.part.part_in.Tie as tie
@@ -28,7 +28,7 @@ take-part-requires c κs =
     let i : tie.After-in-turn = search needs in
     let t : tie.After-enum-told = search needs in
     let b = turn-begins (s .args .call) (s .args .scheme) (s .args .state .now) (s .args .p .now) (f .fixed .ensures) (m .may-take .ensures) (i .in-turn .ensures) (t .enum-told .given .1) in
-    rw (f .fixed .ensures) (frodo s .q-some, record { some = frodo s .some; few = frodo s .few; long = started _ _ _ (b .0) .is-long }, b .1)
+    rw (f .fixed .ensures) (frodo s .q-some, record { some = frodo s .some; few = frodo s .few; eights = frodos (s .args .scheme) (s .pre) .eights; long = started _ _ _ (b .0) .is-long }, b .1)
 
 returns : tie.Need-returns
 returns c =

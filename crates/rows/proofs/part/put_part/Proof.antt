@@ -8,7 +8,7 @@ use lib.ListN.{length}
 use Rattle.rows.specs.State.{taken}
 use Rattle.rows.specs.Inside.{entered}
 use Rattle.rows.proofs.Tests.{Fits, fits, square}
-use Rattle.rows.proofs.Filling.{block-fits, row-some, row-is, row-fits}
+use Rattle.rows.proofs.Filling.{block-fits, row-some, row-is, row-fits, row-eighth}
 use Rattle.rows.proofs.Taking.{sized-held, entered-wide, step-holds, step-enters}
 use Rattle.rows.proofs.part.put_part.Statement.{statement}
 use Rattle.rows.proofs.part.put_part.Tie as tie
@@ -57,7 +57,11 @@ enter-requires c κs =
     let o : tie.After-hold = search needs in
     let f : tie.After-fills = search needs in
     let i : tie.Then1 = search needs in
-    (sized-held (s .args .n) (st s) (s .pre .0) (s .args .p .now) (in-block s) (o .hold .ensures), row-fits (s .args .n) (taken (st s)) (m s) (s .pre .0 .some) (fit s .in-row) (sym (f .fills .ensures) ∙ i .if1 .taken) (fit s .in-all))
+    let full = sym (f .fills .ensures) ∙ i .if1 .taken in (
+      sized-held (s .args .n) (st s) (s .pre .0) (s .args .p .now) (in-block s) (o .hold .ensures),
+      row-fits (s .args .n) (taken (st s)) (m s) (s .pre .0 .some) (fit s .in-row) full (fit s .in-all),
+      row-eighth (s .args .n) (taken (st s)) (m s) (s .pre .0 .some) (fit s .in-row) full,
+    )
 
 same-length : tie.Need-same-length
 same-length c =
