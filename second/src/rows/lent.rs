@@ -8,7 +8,7 @@
 //! | 3 | Offer: the seed's 16 bytes, then 48 zeros; Reply: the 64 values of V, below q |
 //! | 67 | the secret, 8n words: Offer's S column after column, Reply's S' row after row |
 //! | 67 + 4n | the running sums, 8n words: B or B' row after row |
-//! | 67 + 8n | eight rows of A, 8n numbers: those held back, then zeros |
+//! | 67 + 8n | eight rows of A, 8n numbers: those held back; others behind them do not count |
 //!
 //! A word is of 16 bits; two stand in one number, the first in its low half. From 67
 //! on any number is in range.

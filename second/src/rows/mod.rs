@@ -26,7 +26,8 @@ pub struct State {
     /// E, n by 8, or E', 8 by n, to which the products of each eight rows are added
     /// once they have come, so that it becomes B or B'; modulo 2^16.
     pub sums: Vec<u16>,
-    /// Eight rows: what has come of them is held back in front.
+    /// Eight rows: what has come of them is held back in front; behind it lies what was
+    /// held back before.
     pub held: Vec<u32>,
 }
 
@@ -64,7 +65,6 @@ impl State {
             for at in 0..eight_rows {
                 self.enter(self.come - eight_rows + at, self.held[at]);
             }
-            self.held.fill(0);
         }
     }
 
