@@ -1,17 +1,23 @@
 -- Words, two in each number.
 --   words-long, words-even, words-odd   how many, and each of them
 --   words-append, words-take, words-drop   of lists joined and cut
+--   slice-words-long, slice-words-at   of a part, as the code lends it
 --   words-below        words of numbers of 32 bits
+--   append-below       two lists of small numbers joined
 --   pairs-long, pairs-words, words-pairs   there and back
+--   set-lower, set-upper   a number with one of its words exchanged
+--   put-whole          words in the middle that start and end on whole numbers
 use mathlib.Core.Path.{_≡_, refl, _∙_, sym, ap, ap₂}
 use mathlib.Core.List.{List, [], _∷_, _++_}
 use Prim.Native.Nat.{ℕ, zero, suc, _+_, _*_, _-_, _/_, _%_, _<_, _≤_}
 use native.Mathlib.Omega.{arith}
 use native.Mathlib.Nat.{mod-lt}
-use lib.ListN.{length, getD, take, drop}
-use lib.Seq.{ext-getD}
+use lib.ListN.{length, getD, set, take, drop}
+use lib.Seq.{ext-getD, drop-drop}
 use Rattle.lists.specs.Entries.{tab, Below}
 use Rattle.lists.proofs.Entries.{tab-at, tab-length, tab-ext, tab-getD}
+use Rattle.lists.proofs.Parts.{slice-long, part-at}
+use Rattle.lists.proofs.Same.{append-all}
 use Rattle.parts.specs.Parts.{wrap, words, pairs}
 
 pub words-long : (xs : List ℕ) → length (words xs) ≡ 2 * length xs
@@ -53,6 +59,17 @@ words-drop zero xs = refl
 words-drop (suc k) [] = sym (ap (λ (i : ℕ). drop i []) (twice k))
 words-drop (suc k) (x ∷ xs) = words-drop k xs ∙ ap (λ (i : ℕ). drop i (words (x ∷ xs))) (sym (twice k))
 
+module _ (a m : ℕ) (xs : List ℕ) where
+  pub slice-words-long : a + m ≤ length xs → {l : List ℕ} → l ≡ words (take (a + m - a) (drop a xs)) → length l ≡ 2 * m
+  slice-words-long h e = ap length e ∙ words-long _ ∙ ap (λ (k : ℕ). 2 * k) (slice-long a m xs h)
+
+  pub slice-words-at : (j : ℕ) → j < 2 * m → getD (words (take (a + m - a) (drop a xs))) j 0 ≡ getD (words xs) (2 * a + j) 0
+  slice-words-at j l =
+      let e : a + m - a ≡ m = omega arith in
+      ap (λ (k : ℕ). getD (words (take k (drop a xs))) j 0) e
+      ∙ ap (λ (y : List ℕ). getD y j 0) (words-take m (drop a xs) ∙ ap (take (2 * m)) (words-drop a xs))
+      ∙ part-at (2 * a) (2 * m) (words xs) 0 j l
+
 -- each number is even or odd
 by-two : (P : ℕ → Type 0) → ((j : ℕ) → P (2 * j)) → ((j : ℕ) → P (2 * j + 1)) → (k : ℕ) → P k
 by-two P even odd k = go (k % 2) refl
@@ -71,6 +88,9 @@ words-below xs b =
           by-two (λ (k : ℕ). getD (words xs) k 0 < wrap) (λ j. rw (words-even xs j) (mod-lt _ (omega arith)))
           (λ j. rw (words-odd xs j) (upper-below (getD xs j 0) (b .below j)));
     }
+
+pub append-below : {m : ℕ} (xs ys : List ℕ) → Below m xs → Below m ys → Below m (xs ++ ys)
+append-below {m} xs ys f g = record { below = append-all (λ (x : ℕ). x < m) 0 xs ys (f .below) (g .below) }
 
 -- ---- there and back
 
@@ -103,3 +123,42 @@ words-pairs ws k e b =
 
     upper : (x y : ℕ) → x < wrap → (x + wrap * y) / wrap ≡ y
     upper x y h = omega arith
+
+-- ---- words into numbers
+
+pub set-lower : (xs : List ℕ) (i w : ℕ) → w < wrap → words (set xs i (getD xs i 0 / wrap * wrap + w)) ≡ set (words xs) (2 * i) w
+unfolding words
+set-lower [] i w h = refl
+set-lower (x ∷ xs) zero w h =
+    let e : (x / wrap * wrap + w) % wrap ≡ w = omega arith in
+    let d : (x / wrap * wrap + w) / wrap ≡ x / wrap = omega arith in
+    ap₂ (λ (a b : ℕ). a ∷ b ∷ words xs) e d
+set-lower (x ∷ xs) (suc i) w h =
+    ap (λ (l : List ℕ). x % wrap ∷ x / wrap ∷ l) (set-lower xs i w h) ∙ sym (ap (λ (k : ℕ). set (words (x ∷ xs)) k w) (twice i))
+
+pub set-upper : (xs : List ℕ) (i w : ℕ) → words (set xs i (getD xs i 0 % wrap + wrap * w)) ≡ set (words xs) (2 * i + 1) w
+unfolding words
+set-upper [] i w = refl
+set-upper (x ∷ xs) zero w =
+    let e : (x % wrap + wrap * w) % wrap ≡ x % wrap = omega arith in
+    let d : (x % wrap + wrap * w) / wrap ≡ w = omega arith in
+    ap₂ (λ (a b : ℕ). a ∷ b ∷ words xs) e d
+set-upper (x ∷ xs) (suc i) w =
+    let e : suc (suc (2 * i + 1)) ≡ 2 * suc i + 1 = omega arith in
+    ap (λ (l : List ℕ). x % wrap ∷ x / wrap ∷ l) (set-upper xs i w) ∙ ap (λ (k : ℕ). set (words (x ∷ xs)) k w) e
+
+-- m numbers from number a on, exchanged for the words ws
+pub put-whole : (a m : ℕ) (xs ws : List ℕ) {p : List ℕ} → length ws ≡ 2 * m → Below wrap ws → p ≡ pairs ws
+    → take a xs ++ (p ++ drop (a + m - a) (drop a xs)) ≡ pairs (take (2 * a) (words xs) ++ (ws ++ drop (2 * a + length ws) (words xs)))
+put-whole a m xs ws {p} e b d =
+    let f : a + (a + m - a) ≡ a + m = omega arith in
+    let g : 2 * (a + m) ≡ 2 * a + length ws = omega arith in
+    sym (pairs-words _)
+    ∙ ap pairs
+    (words-append (take a xs) _
+    ∙ ap₂ (λ (u v : List ℕ). u ++ v) (words-take a xs)
+    (words-append p _
+    ∙ ap₂ (λ (u v : List ℕ). u ++ v) (ap words d ∙ words-pairs ws m e b)
+    (ap words (drop-drop (a + m - a) a xs ∙ ap (λ (k : ℕ). drop k xs) f)
+    ∙ words-drop (a + m) xs
+    ∙ ap (λ (k : ℕ). drop k (words xs)) g)))

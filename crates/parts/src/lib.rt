@@ -1,11 +1,13 @@
-// Frodo's running sums, where A comes in parts: 02, request e. The lent state holds words of 16 bits, two in each number; here they are taken apart and put
-// together again, for crate `matrix`, whose products serve both ways. The laws, that the cut makes no difference, stand in `proofs/`, once over n and the modulus.
+// Frodo's running sums, where A comes in parts: 02, request e. The lent state holds words of 16 bits, two in each number: the secret, the sums, and the rows
+// of A that are held back. Here they are put together, from any word on, and taken apart again for crate `matrix`, whose products serve both ways. The laws,
+// that the cut makes no difference, stand in `proofs/`, once over n, the modulus and the number of rows.
 ghost use mathlib.Core.Path.{_≡_};
-ghost use Prim.Native.Nat.{_+_, _*_, _<_, _≤_};
-ghost use lib.ListN.{length};
+ghost use mathlib.Core.List.{_++_};
+ghost use Prim.Native.Nat.{_+_, _*_, _%_, _<_, _≤_};
+ghost use lib.ListN.{length, take, drop, set};
 ghost use Rattle.lists.specs.Lent.{was, left};
-ghost use Rattle.matrix.specs.Steps.{gained, reduced, rightTerm, partTerm};
-ghost use Rattle.parts.specs.Parts.{wrap, words, pairs, eightFrom};
+ghost use Rattle.matrix.specs.Steps.{gained, rightTerm, partTerm};
+ghost use Rattle.parts.specs.Parts.{wrap, words, pairs, columnsFrom};
 
 // Both words of each number. Where the lower word lies first the compiler makes one copy of it.
 pub fn unpair(xs: &[u32], out: &mut [u16])
@@ -33,75 +35,104 @@ pub fn pair(ws: &[u16], out: &mut [u32])
     }
 }
 
-// The lower word of each number.
-fn cut(xs: &[u32], out: &mut [u16])
-    requires { ⌜ length (now xs) ≡ length (now out) ⌝ }
-    ensures { λ _. ⌜ left out ≡ reduced wrap (was xs) ⌝ }
+// Word k: the lower half of number k / 2 where k is even, and its upper half where k is odd.
+fn put_word(k: usize, w: u16, out: &mut [u32])
+    requires { ⌜ k < 2 * length (now out) ⌝ }
+    ensures { λ _. ⌜ words (left out) ≡ set (words (was out)) k w ⌝ }
+{
+    let i = k / 2;
+    let x = out[i];
+    if k % 2 == 0 {
+        out[i] = x / 65536 * 65536 + w as u32;
+    } else {
+        out[i] = x % 65536 + 65536 * w as u32;
+    }
+}
+
+// Words from word `at` on, of numbers that hold two each, one at a time.
+fn put_each(at: usize, ws: &[u16], out: &mut [u32])
+    requires { ⌜ at + length (now ws) ≤ 2 * length (now out) ⌝ }
+    ensures { λ _. ⌜ left out ≡ pairs (take at (words (was out)) ++ (was ws ++ drop (at + length (was ws)) (words (was out)))) ⌝ }
 {
     let mut k: usize = 0;
-    while k < out.len() {
-        out[k] = (xs[k] % 65536) as u16;
+    while k < ws.len() {
+        put_word(at + k, ws[k], out);
         k += 1;
     }
 }
 
-// The same. A lent state may hold any number among the rows that are held back; but numbers of A are below 32768, and for these `matrix` has a quicker way.
-pub fn narrow(xs: &[u32], out: &mut [u16])
-    requires { ⌜ length (now xs) ≡ length (now out) ⌝ }
-    ensures { λ _. ⌜ left out ≡ reduced wrap (was xs) ⌝ }
+// The same. Where they start and end on whole numbers, as whole rows do, it is one copy.
+pub fn put_words(at: usize, ws: &[u16], out: &mut [u32])
+    requires { ⌜ at + length (now ws) ≤ 2 * length (now out) ⌝ }
+    ensures { λ _. ⌜ left out ≡ pairs (take at (words (was out)) ++ (was ws ++ drop (at + length (was ws)) (words (was out)))) ⌝ }
 {
-    if matrix::narrow_below(32768, xs, out) == xs.len() {
-        return;
-    }
-    cut(xs, out);
-}
-
-pub fn copy(src: &[u32], out: &mut [u32])
-    requires { ⌜ length (now src) ≡ length (now out) ⌝ }
-    ensures { λ _. ⌜ left out ≡ was src ⌝ }
-{
-    let mut k: usize = 0;
-    while k < out.len() {
-        out[k] = src[k];
-        k += 1;
+    if at % 2 == 0 && ws.len() % 2 == 0 {
+        let a = at / 2;
+        let m = ws.len() / 2;
+        pair(ws, &mut out[a..a + m]);
+    } else {
+        put_each(at, ws, out);
     }
 }
 
-// Offer: r rows of A into their sums. One row at a time is made words, in a line that serves for all.
-pub fn add_rows(n: usize, r: usize, x: &[u32], cols: &[u16], line: &mut [u16], sums: &mut [u16])
-    requires { ⌜ (length (now x) ≡ r * n) × (length (now cols) ≡ 8 * n) × (length (now line) ≡ n) × (length (now sums) ≡ 8 * r) ⌝ }
-    ensures { λ _. ⌜ left sums ≡ gained wrap n (rightTerm n (reduced wrap (was x)) (was cols)) (was sums) ⌝ }
+// Offer: r rows of A, held as words, two in a number, into their sums. One row at a time is taken apart, in a line that serves for all.
+pub fn add_rows(
+    n: usize,
+    h: usize,
+    r: usize,
+    x: &[u32],
+    cols: &[u16],
+    line: &mut [u16],
+    sums: &mut [u16],
+)
+    requires { ⌜ (n ≡ 2 * h) × (length (now x) ≡ r * h) × (length (now cols) ≡ 8 * n) × (length (now line) ≡ n) × (length (now sums) ≡ 8 * r) ⌝ }
+    ensures { λ _. ⌜ left sums ≡ gained wrap n (rightTerm n (words (was x)) (was cols)) (was sums) ⌝ }
 {
     let mut i: usize = 0;
     while i < r {
-        let a = i * n;
+        let a = i * h;
         let b = i * 8;
-        narrow(&x[a..a + n], line);
+        unpair(&x[a..a + h], line);
         matrix::add_right(n, 1, line, cols, &mut sums[b..b + 8]);
         i += 1;
     }
 }
 
-// Reply: the eight words of each row of S' that eight rows of A meet, from word 2r on; a row has 2h words.
-pub fn eight_columns(h: usize, r: usize, secret: &[u32], out: &mut [u16])
-    requires { ⌜ (r + 4 ≤ h) × (length (now secret) ≡ 8 * h) × (length (now out) ≡ 64) ⌝ }
-    ensures { λ _. ⌜ left out ≡ eightFrom (2 * h) (2 * r) (words (was secret)) ⌝ }
+// Reply: 2c words of each row of S', from word 2r on, which 2c rows of A meet; a row has 2h words.
+pub fn some_columns(h: usize, r: usize, c: usize, secret: &[u32], out: &mut [u16])
+    requires { ⌜ (0 < c) × (r + c ≤ h) × (length (now secret) ≡ 8 * h) × (length (now out) ≡ 8 * (2 * c)) ⌝ }
+    ensures { λ _. ⌜ left out ≡ columnsFrom (2 * h) (2 * r) (2 * c) (words (was secret)) ⌝ }
 {
+    let w = 2 * c;
     let mut k: usize = 0;
     while k < 8 {
         let a = k * h + r;
-        let b = k * 8;
-        unpair(&secret[a..a + 4], &mut out[b..b + 8]);
+        let b = k * w;
+        unpair(&secret[a..a + c], &mut out[b..b + w]);
         k += 1;
     }
 }
 
-// Reply: eight rows of A into all sums, with the eight columns of S' that they meet; four at a time, for which the product is made.
-pub fn add_eight(n: usize, s: &[u16], y: &[u16], sums: &mut [u16])
-    requires { ⌜ (0 < n) × (n ≤ 864) × (length (now s) ≡ 64) × (length (now y) ≡ 8 * n) × (length (now sums) ≡ 8 * n) ⌝ }
-    ensures { λ _. ⌜ left sums ≡ gained wrap 8 (partTerm 8 n 0 (was s) (was y)) (was sums) ⌝ }
+// Reply: w rows of A, held as words, two in a number, into all sums, with the w columns of S' that they meet. Four at a time are taken apart, in a block that
+// serves for all: for four the product is made.
+pub fn add_left(
+    n: usize,
+    h: usize,
+    w: usize,
+    s: &[u16],
+    x: &[u32],
+    block: &mut [u16],
+    sums: &mut [u16],
+)
+    requires { ⌜ (0 < n) × (n ≡ 2 * h) × (w % 4 ≡ 0) × (length (now s) ≡ 8 * w) × (length (now x) ≡ w * h) × (length (now block) ≡ 4 * n) × (length (now sums) ≡ 8 * n) ⌝ }
+    ensures { λ _. ⌜ left sums ≡ gained wrap w (partTerm w n 0 (was s) (words (was x))) (was sums) ⌝ }
 {
-    let k = 4 * n;
-    matrix::add_left(8, n, 0, 4, s, &y[..k], sums);
-    matrix::add_left(8, n, 4, 4, s, &y[k..], sums);
+    let l = 4 * h;
+    let mut t: usize = 0;
+    while t < w {
+        let a = t * h;
+        unpair(&x[a..a + l], block);
+        matrix::add_left(w, n, t, 4, s, block, sums);
+        t += 4;
+    }
 }

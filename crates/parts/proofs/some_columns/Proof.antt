@@ -1,0 +1,108 @@
+-- `parts::some_columns` meets its contract: it fills with the words of one row of S' at a time.
+use mathlib.Core.Path.{_≡_, _∙_, sym, ap}
+use mathlib.Core.List.{List}
+use Prim.Native.Nat.{ℕ, _+_, _*_, _-_, _/_, _%_, _≤_}
+use native.Mathlib.Omega.{arith}
+use borrow.Author.Needs.{needs}
+use lib.ListN.{length, getD}
+use Rattle.lists.proofs.Fill.{Filled, fill-whole, rows-start, rows-next}
+use Rattle.lists.proofs.Parts.{slice-long}
+use Rattle.matrix.proofs.Terms.{row-in}
+use Rattle.parts.specs.Parts.{words, columnsFrom}
+use Rattle.parts.proofs.Blocks.{columns-row}
+use Rattle.parts.proofs.some_columns.Statement.{statement}
+use Rattle.parts.proofs.some_columns.Tie as tie
+
+abbrev from : ℕ → ℕ → ℕ → List ℕ → ℕ → ℕ
+from h r c secret k = getD (words secret) (k / (2 * c) * (2 * h) + (2 * r + k % (2 * c))) 0
+
+abbrev Inv-loop : tie.InvT-loop
+Inv-loop h r c secret out₀ w k₀ out k = (k ≤ 8) × Filled (from h r c secret) out₀ out (k * (2 * c))
+
+abbrev μ-loop : tie.MeasureT-loop
+μ-loop h r c secret out₀ w k₀ out k = 8 - k
+
+loop-holds : tie.Need-loop-holds Inv-loop μ-loop
+loop-holds c = let a : tie.Start Inv-loop μ-loop = search needs in (omega arith, rows-start _ _ (2 * a .args .c))
+
+module _ (c : tie.In-loop Inv-loop μ-loop) where
+  abbrev a : tie.Start Inv-loop μ-loop
+  a = c .before .before .before .before
+
+  abbrev k : ℕ
+  k = c .before .loop .k
+
+  -- so many words of a row
+  abbrev w : ℕ
+  w = 2 * a .args .c
+
+  -- the words of row k lie inside S', and have room
+  in-secret : k * a .args .h + a .args .r + a .args .c ≤ length (a .args .secret .now)
+  in-secret = omega (arith, row-in 8 (a .args .h) k (c .loop-test .taken), a .pre .1, a .pre .2)
+
+  first : k * w + w ≤ length (a .args .out .now)
+  first = rw (a .pre .3) (row-in 8 w k (c .loop-test .taken))
+
+  row : k * w + w ≤ length (c .before .loop .out)
+  row = rw (c .before .loop .inv .1 .long) first
+
+mul-w : tie.Need-mul-w Inv-loop μ-loop
+mul-w c = let a : tie.Start Inv-loop μ-loop = search needs in omega (arith, a .pre .3)
+
+mul-a : tie.Need-mul-a Inv-loop μ-loop
+mul-a c = omega (arith, in-secret c)
+
+add-a : tie.Need-add-a Inv-loop μ-loop
+add-a c = omega (arith, in-secret c)
+
+mul-b : tie.Need-mul-b Inv-loop μ-loop
+mul-b c = omega (arith, row c)
+
+add-unpair : tie.Need-add-unpair Inv-loop μ-loop
+add-unpair c = omega (arith, in-secret c)
+
+mul-unpair : tie.Need-mul-unpair Inv-loop μ-loop
+mul-unpair c = omega (arith, in-secret c)
+
+part-unpair-end : tie.Need-part-unpair-end Inv-loop μ-loop
+part-unpair-end c = in-secret c
+
+add-unpair-2 : tie.Need-add-unpair-2 Inv-loop μ-loop
+add-unpair-2 c = omega (arith, row (c .before))
+
+mul-unpair-2 : tie.Need-mul-unpair-2 Inv-loop μ-loop
+mul-unpair-2 c = omega (arith, row (c .before))
+
+part-unpair-end-2 : tie.Need-part-unpair-end-2 Inv-loop μ-loop
+part-unpair-end-2 c = row (c .before)
+
+unpair-requires : tie.Need-unpair-requires Inv-loop μ-loop
+unpair-requires c κs =
+    let b : tie.In-loop Inv-loop μ-loop = search needs in
+    let g = a b .args in
+    let e = slice-long (k b * g .h + g .r) (g .c) (g .secret .now) (in-secret b) in
+    slice-long (k b * w b) (w b) (b .before .loop .out) (row b) ∙ sym (ap (λ (j : ℕ). 2 * j) e)
+
+loop-again : tie.Need-loop-again Inv-loop μ-loop
+loop-again c =
+    let b : tie.In-loop Inv-loop μ-loop = search needs in
+    let u : tie.After-unpair Inv-loop μ-loop = search needs in
+    let g = a b .args in (
+      omega arith,
+      rows-next (k b) (w b) _ (b .before .loop .inv .1) (first b) (columns-row (g .h) (g .r) (g .c) (k b) (g .secret .now) (in-secret b) (u .unpair .ensures)),
+    )
+
+same-length : tie.Need-same-length Inv-loop μ-loop
+same-length c = c .before .loop .inv .1 .long
+
+returns : tie.Need-returns Inv-loop μ-loop
+unfolding columnsFrom
+returns c =
+    let s : tie.Start Inv-loop μ-loop = search needs in
+    let e : c .before .loop .k ≡ 8 = omega arith in
+    fill-whole (c .before .loop .inv .1) (s .pre .3) (rw e (omega arith))
+
+pub some-columns-spec : {M : Type 1} → statement M
+some-columns-spec =
+    tie.close
+    (tie.spec Inv-loop μ-loop mul-w loop-holds mul-a add-a mul-b add-unpair mul-unpair (λ c. omega arith) (search needs) part-unpair-end add-unpair-2 mul-unpair-2 (λ c. omega arith) (search needs) part-unpair-end-2 unpair-requires (λ c. omega arith) (λ c. omega arith) loop-again same-length returns)
