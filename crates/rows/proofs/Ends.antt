@@ -2,13 +2,13 @@
 --   wrote-same, wrote-none   an output under an equal verdict; after a refusal, whatever the answer would be
 --   number-names             the number of a scheme of Frodo's names it
 --   by-frodo                 what is meant in Frodo
---   words-below, columns-below   secrets and noise are words
+--   words-below, columns-below, zeros-below   secrets, noise and zeros are words
 use mathlib.Core.Path.{_≡_, refl, subst}
 use mathlib.Core.List.{List, []}
-use Prim.Native.Nat.{ℕ, _*_}
+use Prim.Native.Nat.{ℕ, _*_, _<_}
 use native.Mathlib.Omega.{arith}
 use lib.IntN.{ℤ}
-use lib.ListN.{length}
+use lib.ListN.{length, replicate}
 use Rattle.numbers.proofs.Congruence.{residue-lt}
 use Rattle.schemes.specs.Schemes.{by, familyOf, numberOf}
 use Rattle.schemes.specs.declared.Family.{Family}
@@ -17,6 +17,7 @@ use Rattle.schemes.specs.declared.Scheme.{Scheme}
 use Rattle.schemes.specs.declared.Scheme.the-variants.{Bcns, NewHope, Challenge, Classical, Recommended, Paranoid}
 use Rattle.lists.specs.Entries.{Below}
 use Rattle.lists.proofs.Entries.{below-tab}
+use Rattle.lists.proofs.Same.{equal-all}
 use Rattle.matrix.specs.Steps.{wordsOf, columnsOf}
 use Rattle.parts.specs.Parts.{wrap}
 use Rattle.front.specs.Front.{held}
@@ -61,3 +62,6 @@ words-below zs = below-tab wrap (length zs) _ (omega arith) (λ k p. residue-lt 
 pub columns-below : (n : ℕ) (s : List ℤ) → Below wrap (columnsOf wrap n s)
 unfolding columnsOf
 columns-below n s = below-tab wrap (8 * n) _ (omega arith) (λ k p. residue-lt wrap _ (omega arith))
+
+pub zeros-below : (k : ℕ) → Below wrap (replicate k 0)
+zeros-below k = record { below = equal-all (λ (x : ℕ). x < wrap) 0 k (omega arith) }

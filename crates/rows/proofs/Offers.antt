@@ -32,16 +32,16 @@ use Rattle.ends.specs.Values.{offered}
 use Rattle.ends.proofs.Numbers.{Frodo, numbers-in}
 use Rattle.wire.specs.Wire.{opening}
 use Rattle.exchange.specs.Offer.{Offer, offerOf, offerLengths, offerIn, offerTests, offeredPart, openingOf, offerMessage}
-use Rattle.rows.specs.State.{long, named, taken, keptOf, secretOf, sumsOf, laid, allBelow, begun, complete}
+use Rattle.rows.specs.State.{long, named, taken, keptOf, secretOf, sumsOf, heldOf, laid, allBelow, begun, complete}
 use Rattle.rows.specs.Offer.{OfferBegin, offerBeginTests, offerState, OfferBegun, sentPart, offerEndSizes, offerEndTests, offerEndMessage}
 use Rattle.rows.specs.Runs.{Parts}
 use Rattle.rows.specs.Shown.{OfferTry, SameOffer, EarlyOffer}
 use Rattle.rows.specs.declared.Call.{Call}
 use Rattle.rows.proofs.Tests.{goes, below-all, starts, completes, complete-so, frodos}
-use Rattle.rows.proofs.Laying.{laid-long, laid-kept, laid-secret, laid-sums, seed-kept-long}
+use Rattle.rows.proofs.Laying.{held-words, laid-long, laid-kept, laid-secret, laid-sums, laid-held, seed-kept-long}
 use Rattle.rows.proofs.Running.{kept-still, whole-front, after-kept, after-sums, after-long, Walked, walked}
 use Rattle.rows.proofs.Opening.{OfferSized, begin-sized, columns-long}
-use Rattle.rows.proofs.Ends.{wrote-same, wrote-none, number-names, by-frodo, words-below, columns-below}
+use Rattle.rows.proofs.Ends.{wrote-same, wrote-none, number-names, by-frodo, words-below, columns-below, zeros-below}
 
 -- turn, room and blank part; and of the whole call lengths, room, numbers, secrets and blank part
 chain : (i r b l p s e b' : Verdict) → i ≡ Pass → l ≡ Pass → p ≡ Pass → s ≡ Pass → e ≡ Pass → b ≡ b'
@@ -65,7 +65,7 @@ module _ (c : Scheme) (x : OfferBegin) (m : ℕ) (first : List ℕ) (frodo : fam
   kept = x .seed ++ replicate 48 0
 
   abbrev zeros : List ℕ
-  zeros = replicate (8 * fixedOf c .n) 0
+  zeros = replicate (16 * fixedOf c .n) 0
 
   abbrev columns : List ℕ
   columns = columnsOf wrap (fixedOf c .n) (x .s)
@@ -73,7 +73,7 @@ module _ (c : Scheme) (x : OfferBegin) (m : ℕ) (first : List ℕ) (frodo : fam
   passes : offerBeginTests (Is c) x m ≡ Pass
   passes = number-zero _ (begins .told .refusal)
 
-  first-is : first ≡ laid 1 (numberOf c) 0 kept columns (wordsOf wrap (x .e)) (replicate (8 * fixedOf c .n) 0)
+  first-is : first ≡ laid 1 (numberOf c) 0 kept columns (wordsOf wrap (x .e)) (replicate (16 * fixedOf c .n) 0)
   unfolding offerState
   first-is = begins .state ∙ ap (λ (v : Verdict). put v (offerState (Is c) x) (replicate m 0)) passes
 
@@ -106,7 +106,7 @@ module _ (c : Scheme) (x : OfferBegin) (m : ℕ) (first : List ℕ) (frodo : fam
   first-long : length first ≡ long (fixedOf c .n)
   first-long =
       ap length first-is
-      ∙ laid-long (fixedOf c .n) 1 (numberOf c) 0 kept columns (wordsOf wrap (x .e)) zeros kept-is secret-is sums-is (length-replicate (8 * fixedOf c .n) 0)
+      ∙ laid-long (fixedOf c .n) 1 (numberOf c) 0 kept columns (wordsOf wrap (x .e)) zeros kept-is secret-is sums-is (length-replicate (16 * fixedOf c .n) 0)
 
   first-kept : keptOf first ≡ kept
   first-kept = ap keptOf first-is ∙ laid-kept (fixedOf c .n) 1 (numberOf c) 0 kept columns (wordsOf wrap (x .e)) zeros kept-is secret-is sums-is
@@ -123,6 +123,12 @@ module _ (c : Scheme) (x : OfferBegin) (m : ℕ) (first : List ℕ) (frodo : fam
       ∙ laid-sums (fixedOf c .n) 1 (numberOf c) 0 kept columns (wordsOf wrap (x .e)) zeros kept-is secret-is sums-is
       (words-pairs (wordsOf wrap (x .e)) (4 * fixedOf c .n) (sums-is ∙ omega arith) (words-below (x .e)))
 
+  first-held : heldOf (fixedOf c .n) first ≡ zeros
+  first-held =
+      ap (heldOf (fixedOf c .n)) first-is
+      ∙ laid-held (fixedOf c .n) 1 (numberOf c) 0 kept columns (wordsOf wrap (x .e)) zeros kept-is secret-is sums-is
+      (held-words (fixedOf c .n) zeros (length-replicate (16 * fixedOf c .n) 0) (zeros-below (16 * fixedOf c .n)))
+
   first-named : named first ≡ Is c
   first-named = ap named first-is ∙ number-names c frodo
 
@@ -132,7 +138,8 @@ module _ (c : Scheme) (x : OfferBegin) (m : ℕ) (first : List ℕ) (frodo : fam
     walk : Walked Call.Offer c first a last
     walk =
         walked Call.Offer c first first-named first-long (ap taken first-is)
-        (subst (λ (l : List ℕ). Below wrap l) (sym first-sums) (words-below (x .e))) parts
+        (subst (λ (l : List ℕ). Below wrap l) (sym first-sums) (words-below (x .e)))
+        (subst (λ (l : List ℕ). Below wrap l) (sym first-held) (zeros-below (16 * fixedOf c .n))) parts
 
     last-named : named last ≡ Is c
     last-named = ap named (walk .is) ∙ first-named
@@ -155,7 +162,7 @@ module _ (c : Scheme) (x : OfferBegin) (m : ℕ) (first : List ℕ) (frodo : fam
         ap (sumsOf (fixedOf c .n)) (walk .is)
         ∙ after-sums Call.Offer (fixedOf c .n) first first-long a (walk .held)
         ∙ ap (λ (l : List ℕ). gained wrap (fixedOf c .n) (rightTerm (fixedOf c .n) l (secretOf (fixedOf c .n) first)) (sumsOf (fixedOf c .n) first))
-        (whole-front (fixedOf c .n) a (f .some) (frodos c frodo .eights) (all ∙ f .public))
+        (whole-front (fixedOf c .n) a (f .some) (frodos c frodo .sixteens) (all ∙ f .public))
         ∙ ap₂ (λ (s e : List ℕ). gained wrap (fixedOf c .n) (rightTerm (fixedOf c .n) a s) e) first-secret first-sums
 
     last-begun : begun Call.Offer (fixedOf c) last ≡ true

@@ -35,16 +35,16 @@ use Rattle.ends.proofs.Ranges.{mixed-counted}
 use Rattle.wire.specs.Wire.{openedIn, coinsIn}
 use Rattle.exchange.specs.Reply.{Reply, replyOf, replyLengths, replySizes, replyLast, replyRest, replyTests, openedOf, repliedPart, messageFrom, keyFrom, messageOf, keyOf, replyMessage, replyKey, replySecrets}
 use Rattle.exchange.proofs.Replying.{secrets-small}
-use Rattle.rows.specs.State.{long, named, taken, keptOf, secretOf, sumsOf, laid, allBelow, begun, complete}
+use Rattle.rows.specs.State.{long, named, taken, keptOf, secretOf, sumsOf, heldOf, laid, allBelow, begun, complete}
 use Rattle.rows.specs.Offer.{sentPart}
 use Rattle.rows.specs.Reply.{ReplyBegin, replyBeginTests, valueOf, replyState, ReplyBegun, replyEndSizes, replyEndTests, replyEndMessage, replyEndKey}
 use Rattle.rows.specs.Runs.{Parts}
 use Rattle.rows.specs.Shown.{ReplyTry, SameReply, EarlyReply}
 use Rattle.rows.specs.declared.Call.{Call}
 use Rattle.rows.proofs.Tests.{below-all, starts, completes, complete-so, frodos}
-use Rattle.rows.proofs.Laying.{laid-long, laid-kept, laid-secret, laid-sums}
+use Rattle.rows.proofs.Laying.{held-words, laid-long, laid-kept, laid-secret, laid-sums, laid-held}
 use Rattle.rows.proofs.Running.{kept-still, whole-front, after-kept, after-sums, after-long, Walked, walked}
-use Rattle.rows.proofs.Ends.{wrote-same, wrote-none, number-names, by-frodo, words-below}
+use Rattle.rows.proofs.Ends.{wrote-same, wrote-none, number-names, by-frodo, words-below, zeros-below}
 use Rattle.rows.proofs.Replying.{Sized, begin-sized, opened-tests, no-coins-hints, no-coins-keys}
 
 -- ---- verdicts and outputs
@@ -67,7 +67,7 @@ module _ (c : Scheme) (x : ReplyBegin) (m : ℕ) (first : List ℕ) (frodo : fam
   passes : replyBeginTests (Is c) x m ≡ Pass
   passes = number-zero _ (begins .told .refusal)
 
-  first-is : first ≡ laid 2 (numberOf c) 0 (valueOf c x) (wordsOf wrap (x .s')) (wordsOf wrap (x .e')) (replicate (8 * fixedOf c .n) 0)
+  first-is : first ≡ laid 2 (numberOf c) 0 (valueOf c x) (wordsOf wrap (x .s')) (wordsOf wrap (x .e')) (replicate (16 * fixedOf c .n) 0)
   unfolding replyState
   first-is = begins .state ∙ ap (λ (v : Verdict). put v (replyState (Is c) x) (replicate m 0)) passes
 
@@ -97,7 +97,7 @@ module _ (c : Scheme) (x : ReplyBegin) (m : ℕ) (first : List ℕ) (frodo : fam
   noise-long = sized .noise-long ∙ f .noise
 
   abbrev zeros : List ℕ
-  zeros = replicate (8 * fixedOf c .n) 0
+  zeros = replicate (16 * fixedOf c .n) 0
 
   sums-is : length (wordsOf wrap (x .e')) ≡ 8 * fixedOf c .n
   sums-is = words-length wrap (x .e') ∙ noise-long
@@ -106,7 +106,7 @@ module _ (c : Scheme) (x : ReplyBegin) (m : ℕ) (first : List ℕ) (frodo : fam
   first-long =
       ap length first-is
       ∙ laid-long (fixedOf c .n) 2 (numberOf c) 0 (valueOf c x) (wordsOf wrap (x .s')) (wordsOf wrap (x .e')) zeros value-long secret-long sums-is
-      (length-replicate (8 * fixedOf c .n) 0)
+      (length-replicate (16 * fixedOf c .n) 0)
 
   first-kept : keptOf first ≡ valueOf c x
   first-kept =
@@ -124,6 +124,12 @@ module _ (c : Scheme) (x : ReplyBegin) (m : ℕ) (first : List ℕ) (frodo : fam
       ∙ laid-sums (fixedOf c .n) 2 (numberOf c) 0 (valueOf c x) (wordsOf wrap (x .s')) (wordsOf wrap (x .e')) zeros value-long secret-long sums-is
       (words-pairs (wordsOf wrap (x .e')) (4 * fixedOf c .n) (sums-is ∙ omega arith) (words-below (x .e')))
 
+  first-held : heldOf (fixedOf c .n) first ≡ zeros
+  first-held =
+      ap (heldOf (fixedOf c .n)) first-is
+      ∙ laid-held (fixedOf c .n) 2 (numberOf c) 0 (valueOf c x) (wordsOf wrap (x .s')) (wordsOf wrap (x .e')) zeros value-long secret-long sums-is
+      (held-words (fixedOf c .n) zeros (length-replicate (16 * fixedOf c .n) 0) (zeros-below (16 * fixedOf c .n)))
+
   first-named : named first ≡ Is c
   first-named = ap named first-is ∙ number-names c frodo
 
@@ -133,7 +139,8 @@ module _ (c : Scheme) (x : ReplyBegin) (m : ℕ) (first : List ℕ) (frodo : fam
     walk : Walked Call.Reply c first a last
     walk =
         walked Call.Reply c first first-named first-long (ap taken first-is)
-        (subst (λ (l : List ℕ). Below wrap l) (sym first-sums) (words-below (x .e'))) parts
+        (subst (λ (l : List ℕ). Below wrap l) (sym first-sums) (words-below (x .e')))
+        (subst (λ (l : List ℕ). Below wrap l) (sym first-held) (zeros-below (16 * fixedOf c .n))) parts
 
     last-named : named last ≡ Is c
     last-named = ap named (walk .is) ∙ first-named
@@ -151,7 +158,7 @@ module _ (c : Scheme) (x : ReplyBegin) (m : ℕ) (first : List ℕ) (frodo : fam
         ap (sumsOf (fixedOf c .n)) (walk .is)
         ∙ after-sums Call.Reply (fixedOf c .n) first first-long a (walk .held)
         ∙ ap (λ (l : List ℕ). gained wrap (fixedOf c .n) (leftTerm (fixedOf c .n) (fixedOf c .n) (secretOf (fixedOf c .n) first) l) (sumsOf (fixedOf c .n) first))
-        (whole-front (fixedOf c .n) a (f .some) (frodos c frodo .eights) (all ∙ f .public))
+        (whole-front (fixedOf c .n) a (f .some) (frodos c frodo .sixteens) (all ∙ f .public))
         ∙ ap₂ (λ (s e : List ℕ). gained wrap (fixedOf c .n) (leftTerm (fixedOf c .n) (fixedOf c .n) s a) e) first-secret first-sums
 
     last-begun : begun Call.Reply (fixedOf c) last ≡ true

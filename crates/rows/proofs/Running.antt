@@ -2,7 +2,7 @@
 --   kept-still       a verdict with a number leaves what was there
 --   after            the state st, once the numbers xs have come, with the rows `held` behind
 --   after-kept, after-sums, after-held, after-long, after-none   its parts, its length, and where none has come
---   Behind           the numbers behind the blocks that have come whole are held back
+--   Behind           the numbers behind the blocks that have come whole are held back, as words
 --   whole-front      all of A is whole blocks
 --   Stepped, stepped-after   a part behind the numbers xs that have come
 --   Walked, walked   what any parts leave: the state after the numbers that they join into, which are in range and not too many
@@ -24,9 +24,9 @@ use Rattle.lists.proofs.Parts.{below-drop, below-take}
 use Rattle.lists.proofs.Same.{append-all}
 use Rattle.matrix.specs.Steps.{gained}
 use Rattle.matrix.proofs.Steps.{gained-length}
-use Rattle.parts.specs.Parts.{wrap, placed}
+use Rattle.parts.specs.Parts.{wrap, words, pairs, placed}
 use Rattle.parts.proofs.Joining.{so-far, nothing}
-use Rattle.parts.proofs.Words.{words-below}
+use Rattle.parts.proofs.Words.{words-below, append-below}
 use Rattle.ends.proofs.Numbers.{numbers-in}
 use Rattle.front.specs.Front.{numberIn}
 use Rattle.front.specs.Promise.{put}
@@ -40,7 +40,7 @@ use Rattle.rows.specs.Shown.{blocks, Running}
 use Rattle.rows.specs.declared.Call.{Call}
 use Rattle.rows.proofs.Tests.{passed, started, fits, frodo-named}
 use Rattle.rows.proofs.Filling.{fills-up, holds-back, held-div, held-mod, filled-div, filled-mod, start-is, whole-blocks}
-use Rattle.rows.proofs.Laying.{apart, kept-long, secret-long, sums-long, held-long, again-words, made-words, laid-long, laid-kept, laid-secret, laid-sums, laid-held}
+use Rattle.rows.proofs.Laying.{apart, kept-long, secret-long, sums-long, held-long, again-words, made-words, held-words, laid-long, laid-kept, laid-secret, laid-sums, laid-held}
 use Rattle.rows.proofs.Taking.{linear}
 
 pub kept-still : {A : Type 0} (v : Verdict) (x old : List A) {number : ℕ} → number ≡ numberIn v → 0 < number → put v x old ≡ old
@@ -73,11 +73,11 @@ module _ (k : Call) (n : ℕ) (st : List ℕ) where
           laid-sums n (getD st 0 0) (getD st 1 0) (length xs) (keptOf st) (secretOf n st) (sums xs) held (kept-long n st l) (secret-long n st l) (sums-wide xs)
           (made-words n n _ (sumsOf n st) (sums-long n st l))
 
-      pub after-held : heldOf n (after xs held) ≡ held
+      pub after-held : words (pairs held) ≡ held → heldOf n (after xs held) ≡ held
       after-held =
           laid-held n (getD st 0 0) (getD st 1 0) (length xs) (keptOf st) (secretOf n st) (sums xs) held (kept-long n st l) (secret-long n st l) (sums-wide xs)
 
-      pub after-long : length held ≡ 8 * n → length (after xs held) ≡ long n
+      pub after-long : length held ≡ 16 * n → length (after xs held) ≡ long n
       after-long =
           laid-long n (getD st 0 0) (getD st 1 0) (length xs) (keptOf st) (secretOf n st) (sums xs) held (kept-long n st l) (secret-long n st l) (sums-wide xs)
 
@@ -92,29 +92,33 @@ module _ (k : Call) (n : ℕ) (st : List ℕ) where
 -- ---- what is held back
 
 pub record Behind (n : ℕ) (xs held : List ℕ) : Type 0 where
-  pub is-long : length held ≡ 8 * n
-  pub is : take (length xs % (8 * n)) held ≡ drop (blocks n xs) xs
+  pub is-long : length held ≡ 16 * n
+  pub below : Below wrap held
+  pub is : take (length xs % (16 * n)) held ≡ drop (blocks n xs) xs
 
-module _ (n : ℕ) (xs p held : List ℕ) (some : 0 < n) (row : length xs % n + length p ≤ n) (h : Behind n xs held) where
+module _ (n : ℕ) (xs p held : List ℕ) (some : 0 < n) (row : length xs % n + length p ≤ n) (small : Below wrap p) (h : Behind n xs held) where
   abbrev o : ℕ
-  o = length xs % (8 * n)
+  o = length xs % (16 * n)
 
   abbrev b : ℕ
-  b = length xs / (8 * n) * (8 * n)
+  b = length xs / (16 * n) * (16 * n)
 
   few : b ≤ length xs
-  few = div-mul-le-self (length xs) (8 * n)
+  few = div-mul-le-self (length xs) (16 * n)
 
   -- the rows with the part
   abbrev more : List ℕ
   more = take o held ++ (p ++ drop (o + length p) held)
+
+  more-below : Below wrap more
+  more-below = append-below (take o held) _ (below-take (h .below) o) (append-below p _ small (below-drop (h .below) (o + length p)))
 
   joint : take o held ++ p ≡ drop b (xs ++ p)
   joint = ap (λ (l : List ℕ). l ++ p) (h .is) ∙ sym (drop-append-le b xs p few)
 
   module _ (f : fills n (length xs) (length p) ≡ false) where
     same-blocks : blocks n (xs ++ p) ≡ b
-    same-blocks = ap (λ (m : ℕ). m / (8 * n) * (8 * n)) (length-append xs p) ∙ ap (λ (m : ℕ). m * (8 * n)) (held-div n (length xs) (length p) some row f)
+    same-blocks = ap (λ (m : ℕ). m / (16 * n) * (16 * n)) (length-append xs p) ∙ ap (λ (m : ℕ). m * (16 * n)) (held-div n (length xs) (length p) some row f)
 
     same-front : take (blocks n (xs ++ p)) (xs ++ p) ≡ take b xs
     same-front = ap (λ (m : ℕ). take m (xs ++ p)) same-blocks ∙ take-append-le b xs p few
@@ -122,10 +126,11 @@ module _ (n : ℕ) (xs p held : List ℕ) (some : 0 < n) (row : length xs % n + 
     still-behind : Behind n (xs ++ p) more
     still-behind =
         let e = holds-back n (length xs) (length p) some row f in
-        let m : length (xs ++ p) % (8 * n) ≡ o + length p = ap (λ (j : ℕ). j % (8 * n)) (length-append xs p) ∙ held-mod n (length xs) (length p) some row f in
+        let m : length (xs ++ p) % (16 * n) ≡ o + length p = ap (λ (j : ℕ). j % (16 * n)) (length-append xs p) ∙ held-mod n (length xs) (length p) some row f in
         let s : length (take o held ++ p) ≡ o + length p = simp (length-append, length-take) (omega (arith, e, h .is-long)) in
         record {
           is-long = simp (length-append, length-take, length-drop) (omega (arith, e, h .is-long));
+          below = more-below;
           is =
               ap₂ (λ (j : ℕ) (l : List ℕ). take j l) m (sym (append-assoc (take o held) p (drop (o + length p) held)))
               ∙ take-at (take o held ++ p) (drop (o + length p) held) (o + length p) s
@@ -137,31 +142,32 @@ module _ (n : ℕ) (xs p held : List ℕ) (some : 0 < n) (row : length xs % n + 
     all-front : take (blocks n (xs ++ p)) (xs ++ p) ≡ xs ++ p
     all-front =
         let e : blocks n (xs ++ p) ≡ length (xs ++ p) =
-        ap (λ (m : ℕ). m / (8 * n) * (8 * n)) (length-append xs p) ∙ filled-div n (length xs) (length p) some row f ∙ sym (length-append xs p)
+        ap (λ (m : ℕ). m / (16 * n) * (16 * n)) (length-append xs p) ∙ filled-div n (length xs) (length p) some row f ∙ sym (length-append xs p)
         in
         take-all (blocks n (xs ++ p)) (xs ++ p) (omega arith)
 
-    -- the eight rows
-    eight : more ≡ drop b xs ++ p
-    eight =
+    -- the sixteen rows
+    sixteen : more ≡ drop b xs ++ p
+    sixteen =
         let e = fills-up n (length xs) (length p) some row f in
         let g : drop (o + length p) held ≡ [] = drop-of-length-le held {i = o + length p} (omega (arith, e, h .is-long)) in
         ap₂ (λ (u v : List ℕ). u ++ (p ++ v)) (h .is) g ∙ ap (λ (l : List ℕ). drop b xs ++ l) (append-nil p)
 
     none-behind : Behind n (xs ++ p) more
     none-behind =
-        let m : length (xs ++ p) % (8 * n) ≡ 0 = ap (λ (j : ℕ). j % (8 * n)) (length-append xs p) ∙ filled-mod n (length xs) (length p) some row f in
+        let m : length (xs ++ p) % (16 * n) ≡ 0 = ap (λ (j : ℕ). j % (16 * n)) (length-append xs p) ∙ filled-mod n (length xs) (length p) some row f in
         let e : blocks n (xs ++ p) ≡ length (xs ++ p) =
-        ap (λ (j : ℕ). j / (8 * n) * (8 * n)) (length-append xs p) ∙ filled-div n (length xs) (length p) some row f ∙ sym (length-append xs p)
+        ap (λ (j : ℕ). j / (16 * n) * (16 * n)) (length-append xs p) ∙ filled-div n (length xs) (length p) some row f ∙ sym (length-append xs p)
         in
         record {
           is-long = simp (length-append, length-take, length-drop) (omega (arith, fills-up n (length xs) (length p) some row f, h .is-long));
+          below = more-below;
           is = ap (λ (j : ℕ). take j more) m ∙ sym (drop-of-length-le (xs ++ p) {i = blocks n (xs ++ p)} (omega arith));
         }
 
-pub whole-front : (n : ℕ) (a : List ℕ) → 0 < n → n % 8 ≡ 0 → length a ≡ n * n → take (blocks n a) a ≡ a
+pub whole-front : (n : ℕ) (a : List ℕ) → 0 < n → n % 16 ≡ 0 → length a ≡ n * n → take (blocks n a) a ≡ a
 whole-front n a o e h =
-    let d : blocks n a ≡ length a = ap (λ (m : ℕ). m / (8 * n) * (8 * n)) h ∙ whole-blocks n o e ∙ sym h in
+    let d : blocks n a ≡ length a = ap (λ (m : ℕ). m / (16 * n) * (16 * n)) h ∙ whole-blocks n o e ∙ sym h in
     take-all (blocks n a) a (omega arith)
 
 -- ---- a part
@@ -187,45 +193,45 @@ module _ (k : Call) (n : ℕ) (st : List ℕ) (l : length st ≡ long n) (xs p h
       ∙ ap₂ (λ (x y : List ℕ). laid (getD st 0 0) (getD st 1 0) (length xs + length p) (keptOf st) (secretOf n st) x y) d e
       ∙ ap (λ (t : ℕ). laid (getD st 0 0) (getD st 1 0) t (keptOf st) (secretOf n st) s h) (sym (length-append xs p))
 
-  with-is : heldWith n now p ≡ take (length xs % (8 * n)) held ++ (p ++ drop (length xs % (8 * n) + length p) held)
+  with-is : Behind n xs held → heldWith n now p ≡ take (length xs % (16 * n)) held ++ (p ++ drop (length xs % (16 * n) + length p) held)
   unfolding heldWith
-  with-is =
-      ap (λ (h : List ℕ). take (length xs % (8 * n)) h ++ (p ++ drop (length xs % (8 * n) + length p) h)) (after-held k n st l xs held)
+  with-is h =
+      ap (λ (h : List ℕ). take (length xs % (16 * n)) h ++ (p ++ drop (length xs % (16 * n) + length p) h)) (after-held k n st l xs held (held-words n held (h .is-long) (h .below)))
 
-  module _ (some : 0 < n) (row : length xs % n + length p ≤ n) (h : Behind n xs held) where
+  module _ (some : 0 < n) (row : length xs % n + length p ≤ n) (small : Below wrap p) (h : Behind n xs held) where
     holds : fills n (length xs) (length p) ≡ false → Stepped k n st xs p held
     unfolding sumsWith
     holds f =
         record {
-          rows = more n xs p held some row h;
+          rows = more n xs p held some row small h;
           is =
               step-of _ _
-              (ap (λ (t : Bool). cond t (gained wrap n (terms k n (secretOf n now) (placed (length xs + length p - 8 * n) (heldWith n now p))) (sumsOf n now)) (sumsOf n now)) f
+              (ap (λ (t : Bool). cond t (gained wrap n (terms k n (secretOf n now) (placed (length xs + length p - 16 * n) (heldWith n now p))) (sumsOf n now)) (sumsOf n now)) f
               ∙ after-sums k n st l xs held
-              ∙ ap (λ (x : List ℕ). gained wrap n (T x) (sumsOf n st)) (sym (same-front n xs p held some row h f)))
-              with-is;
-          behind = still-behind n xs p held some row h f;
+              ∙ ap (λ (x : List ℕ). gained wrap n (T x) (sumsOf n st)) (sym (same-front n xs p held some row small h f)))
+              (with-is h);
+          behind = still-behind n xs p held some row small h f;
         }
 
     enters : fills n (length xs) (length p) ≡ true → Stepped k n st xs p held
     unfolding sumsWith
     enters f =
-        let c = length xs / (8 * n) * (8 * n) in
-        let s : length (take c xs) ≡ c = length-take-le c xs (div-mul-le-self (length xs) (8 * n)) in
+        let c = length xs / (16 * n) * (16 * n) in
+        let s : length (take c xs) ≡ c = length-take-le c xs (div-mul-le-self (length xs) (16 * n)) in
         record {
-          rows = more n xs p held some row h;
+          rows = more n xs p held some row small h;
           is =
               step-of _ _
-              (ap (λ (t : Bool). cond t (gained wrap n (terms k n (secretOf n now) (placed (length xs + length p - 8 * n) (heldWith n now p))) (sumsOf n now)) (sumsOf n now)) f
-              ∙ ap₂ (λ (x y : List ℕ). gained wrap n (terms k n x (placed (length xs + length p - 8 * n) (heldWith n now p))) y) (after-secret k n st l xs held) (after-sums k n st l xs held)
-              ∙ ap₂ (λ (i : ℕ) (x : List ℕ). gained wrap n (T (placed i x)) (sums k n st xs)) (start-is n (length xs) (length p) some row f ∙ sym s) (with-is ∙ eight n xs p held some row h f)
+              (ap (λ (t : Bool). cond t (gained wrap n (terms k n (secretOf n now) (placed (length xs + length p - 16 * n) (heldWith n now p))) (sumsOf n now)) (sumsOf n now)) f
+              ∙ ap₂ (λ (x y : List ℕ). gained wrap n (terms k n x (placed (length xs + length p - 16 * n) (heldWith n now p))) y) (after-secret k n st l xs held) (after-sums k n st l xs held)
+              ∙ ap₂ (λ (i : ℕ) (x : List ℕ). gained wrap n (T (placed i x)) (sums k n st xs)) (start-is n (length xs) (length p) some row f ∙ sym s) (with-is h ∙ sixteen n xs p held some row small h f)
               ∙ so-far wrap n T (linear k n (secretOf n st)) (take c xs) (drop c xs ++ p) (sumsOf n st)
               ∙ ap (λ (x : List ℕ). gained wrap n (T x) (sumsOf n st))
               (sym (append-assoc (take c xs) (drop c xs) p)
               ∙ ap (λ (x : List ℕ). x ++ p) (take-append-drop c xs)
-              ∙ sym (all-front n xs p held some row h f)))
-              with-is;
-          behind = none-behind n xs p held some row h f;
+              ∙ sym (all-front n xs p held some row small h f)))
+              (with-is h);
+          behind = none-behind n xs p held some row small h f;
         }
 
     pub stepped-after : Stepped k n st xs p held
@@ -260,7 +266,10 @@ module _ (k : Call) (c : Scheme) (st : List ℕ) where
           let f = fits n (taken s) (length p) (passed _ _ (turn-passed _ (o .0)) .1) in
           let at : taken s ≡ length xs = ap taken (w .is) in
           let row : length xs % n + length p ≤ n = rw at at (f .in-row) in
-          let g = stepped-after k n st l xs p (w .held) (numbers-in c (frodo-named (getD st 1 0) c called) .some) row (w .behind) in
+          let num = numbers-in c (frodo-named (getD st 1 0) c called) in
+          let small = publics-passed _ p (omega (arith, sound c .some)) (o .1) in
+          let word : Below wrap p = record { below = λ i. omega (arith, small .below i, num .q-room) } in
+          let g = stepped-after k n st l xs p (w .held) (num .some) row word (w .behind) in
           record {
             held = g .rows;
             is =
@@ -272,7 +281,7 @@ module _ (k : Call) (c : Scheme) (st : List ℕ) where
             behind = g .behind;
             below =
                 record {
-                  below = append-all (λ x. x < fixedOf c .q) 0 xs p (w .below .below) (publics-passed _ p (omega (arith, sound c .some)) (o .1) .below);
+                  below = append-all (λ x. x < fixedOf c .q) 0 xs p (w .below .below) (small .below);
                 };
             few = omega (arith, length-append xs p, at, f .in-all);
           }
@@ -294,8 +303,9 @@ module _ (k : Call) (c : Scheme) (st : List ℕ) where
         subst (λ (l : List ℕ). Walked l last) (append-assoc xs p ys) (walk (xs ++ p) (taking xs w t) ps)
     walk xs w (Parts.more p (suc number) place t ps) = walk xs (leaving xs w t) ps
 
-    pub walked : {xs last : List ℕ} → taken st ≡ 0 → Below wrap (sumsOf (fixedOf c .n) st) → Parts k st xs last → Walked xs last
-    walked t b ps =
+    pub walked : {xs last : List ℕ} → taken st ≡ 0 → Below wrap (sumsOf (fixedOf c .n) st) → Below wrap (heldOf (fixedOf c .n) st) → Parts k st xs last
+        → Walked xs last
+    walked t b h ps =
         let n = fixedOf c .n in
         walk []
         (record {
@@ -304,7 +314,8 @@ module _ (k : Call) (c : Scheme) (st : List ℕ) where
           behind =
               record {
                 is-long = held-long n st l;
-                is = ap (λ (j : ℕ). take j (heldOf n st)) (zero-mod (8 * n)) ∙ sym (drop-nil (blocks n []));
+                below = h;
+                is = ap (λ (j : ℕ). take j (heldOf n st)) (zero-mod (16 * n)) ∙ sym (drop-nil (blocks n []));
               };
           below = record { below = λ i. omega (arith, sound c .some) };
           few = omega arith;
@@ -314,10 +325,10 @@ pub running : Running
 running k c st xs last called b t w ps =
     let n = fixedOf c .n in
     let l = started k (fixedOf c) st b .is-long in
-    let o = walked k c st called l t (words-below _ (below-take (below-drop w (67 + 4 * n)) (4 * n))) ps in (
+    let o = walked k c st called l t (words-below _ (below-take (below-drop w (67 + 4 * n)) (4 * n))) (words-below _ (below-drop w (67 + 8 * n))) ps in (
       ap taken (o .is),
       ap (sumsOf n) (o .is) ∙ after-sums k n st l xs (o .held),
-      ap (λ (y : List ℕ). take (length xs % (8 * n)) (heldOf n y)) (o .is)
-          ∙ ap (take (length xs % (8 * n))) (after-held k n st l xs (o .held))
+      ap (λ (y : List ℕ). take (length xs % (16 * n)) (heldOf n y)) (o .is)
+          ∙ ap (take (length xs % (16 * n))) (after-held k n st l xs (o .held) (held-words n (o .held) (o .behind .is-long) (o .behind .below)))
           ∙ o .behind .is,
     )

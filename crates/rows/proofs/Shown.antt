@@ -35,7 +35,7 @@ use Rattle.rows.specs.Shown.{OnePart, OneOfferBegin, OneOfferEnd, OneRep
 use Rattle.rows.specs.declared.Call.{Call}
 use Rattle.rows.proofs.Tests.{stops, goes, passed, started, starts, Fits, fits, fits-so, frodo-in, frodo-named}
 use Rattle.rows.proofs.Filling.{block-fits, fills-up, held-mod}
-use Rattle.rows.proofs.Laying.{apart, kept-long, secret-long, sums-long, held-long, again-words, made-words, laid-long, laid-kept, laid-secret, laid-sums, laid-held}
+use Rattle.rows.proofs.Laying.{apart, kept-long, secret-long, sums-long, held-long, again-words, made-words, held-words, with-below, laid-long, laid-kept, laid-secret, laid-sums, laid-held}
 use Rattle.rows.proofs.Turns.{part-known}
 use Rattle.rows.proofs.Ends.{by-frodo}
 use Rattle.rows.proofs.Running.{kept-still}
@@ -129,14 +129,14 @@ module _ (k : Call) (c : Scheme) (st : List ℕ) (b : begun k (fixedOf c) st ≡
   long-is = started k (fixedOf c) st b .is-long
 
   module _ (p : List ℕ) (f : Fits (fixedOf c .n) (taken st) (length p)) where
-    in-block : taken st % (8 * n) + length p ≤ 8 * n
+    in-block : taken st % (16 * n) + length p ≤ 16 * n
     in-block = block-fits n (taken st) (length p) some (f .in-row)
 
     abbrev full : Bool
     full = fills n (taken st) (length p)
 
     abbrev entered : List ℕ
-    entered = gained wrap n (terms k n (secretOf n st) (placed (taken st + length p - 8 * n) (heldWith n st p))) (sumsOf n st)
+    entered = gained wrap n (terms k n (secretOf n st) (placed (taken st + length p - 16 * n) (heldWith n st p))) (sumsOf n st)
 
     sums-wide : length (sumsWith k n st p) ≡ 8 * n
     unfolding sumsWith
@@ -148,9 +148,9 @@ module _ (k : Call) (c : Scheme) (st : List ℕ) (b : begun k (fixedOf c) st ≡
     sums-words =
         either (λ (l : List ℕ). words (pairs l) ≡ l) full entered (sumsOf n st) (made-words n n _ (sumsOf n st) (sums-long n st long-is)) (again-words _)
 
-    held-wide : length (heldWith n st p) ≡ 8 * n
+    held-wide : length (heldWith n st p) ≡ 16 * n
     unfolding heldWith
-    held-wide = simp (length-append, length-take, length-drop) (omega (arith, in-block, long-is))
+    held-wide = simp (length-append, length-take, length-drop) (omega (arith, in-block, held-long n st long-is))
 
     step-kept : keptOf (stepped k n st p) ≡ keptOf st
     unfolding stepped
@@ -170,11 +170,11 @@ module _ (k : Call) (c : Scheme) (st : List ℕ) (b : begun k (fixedOf c) st ≡
         laid-sums n (getD st 0 0) (getD st 1 0) (taken st + length p) (keptOf st) (secretOf n st) (sumsWith k n st p) (heldWith n st p) (kept-long n st long-is)
         (secret-long n st long-is) sums-wide sums-words
 
-    step-held : heldOf n (stepped k n st p) ≡ heldWith n st p
+    step-held : Below (wrap * wrap) st → Below wrap p → heldOf n (stepped k n st p) ≡ heldWith n st p
     unfolding stepped
-    step-held =
+    step-held w l =
         laid-held n (getD st 0 0) (getD st 1 0) (taken st + length p) (keptOf st) (secretOf n st) (sumsWith k n st p) (heldWith n st p) (kept-long n st long-is)
-        (secret-long n st long-is) sums-wide
+        (secret-long n st long-is) sums-wide (held-words n (heldWith n st p) held-wide (with-below n st p w l))
 
     step-begun : begun k (fixedOf c) (stepped k n st p) ≡ true
     unfolding stepped
@@ -195,10 +195,10 @@ unfolding stepped sumsWith heldWith fills
 none k c st b =
     let n = fixedOf c .n in
     let o : taken st + 0 ≡ taken st = omega arith in
-    let d : taken st % (8 * n) + 0 ≡ taken st % (8 * n) = omega arith in
+    let d : taken st % (16 * n) + 0 ≡ taken st % (16 * n) = omega arith in
     let z : false ≡ fills n (taken st) 0 = stops _ (lt-leb 1 0 (omega arith)) in
-    let h : take (taken st % (8 * n)) (heldOf n st) ++ drop (taken st % (8 * n) + 0) (heldOf n st) ≡ heldOf n st =
-    ap (λ (j : ℕ). take (taken st % (8 * n)) (heldOf n st) ++ drop j (heldOf n st)) d ∙ take-append-drop (taken st % (8 * n)) (heldOf n st)
+    let h : take (taken st % (16 * n)) (heldOf n st) ++ drop (taken st % (16 * n) + 0) (heldOf n st) ≡ heldOf n st =
+    ap (λ (j : ℕ). take (taken st % (16 * n)) (heldOf n st) ++ drop j (heldOf n st)) d ∙ take-append-drop (taken st % (16 * n)) (heldOf n st)
     in
     rw (sym z, o)
     (ap (λ (l : List ℕ). laid (getD st 0 0) (getD st 1 0) (taken st) (keptOf st) (secretOf n st) (sumsOf n st) l) h
@@ -227,10 +227,10 @@ fills-same : (n at a b : ℕ) → 1 ≤ b → fills n (at + a) b ≡ fills n at 
 unfolding fills
 fills-same n at a b h =
     let e : at + a + b ≡ at + (a + b) = omega arith in
-    ap₂ (λ (s t : Bool). s and t) (le-leb 1 b h ∙ sym (le-leb 1 (a + b) (omega arith))) (ap (λ (i : ℕ). eqb (i % (8 * n)) 0) e)
+    ap₂ (λ (s t : Bool). s and t) (le-leb 1 b h ∙ sym (le-leb 1 (a + b) (omega arith))) (ap (λ (i : ℕ). eqb (i % (16 * n)) 0) e)
 
 module _ (k : Call) (c : Scheme) (st : List ℕ) (b : begun k (fixedOf c) st ≡ true) (some : 0 < fixedOf c .n) (p p' : List ℕ)
-    (f : Fits (fixedOf c .n) (taken st) (length p + length p')) (more : 1 ≤ length p') where
+    (f : Fits (fixedOf c .n) (taken st) (length p + length p')) (w : Below (wrap * wrap) st) (l : Below wrap p) (more : 1 ≤ length p') where
   first-fits : Fits (fixedOf c .n) (taken st) (length p)
   first-fits = record { in-row = omega (arith, f .in-row); in-all = omega (arith, f .in-all) }
 
@@ -256,14 +256,14 @@ module _ (k : Call) (c : Scheme) (st : List ℕ) (b : begun k (fixedOf c) st ≡
   next-sums = step-sums k c st b some p first-fits ∙ rw not-yet refl
 
   next-held : heldOf (fixedOf c .n) next ≡ heldWith (fixedOf c .n) st p
-  next-held = step-held k c st b some p first-fits
+  next-held = step-held k c st b some p first-fits w l
 
   with-join : heldWith (fixedOf c .n) next p' ≡ heldWith (fixedOf c .n) st (p ++ p')
   unfolding heldWith stepped
   with-join =
       let n = fixedOf c .n in
-      let o = taken st % (8 * n) in
-      let e : (taken st + length p) % (8 * n) ≡ o + length p = held-mod n (taken st) (length p) some (first-fits .in-row) not-yet in
+      let o = taken st % (16 * n) in
+      let e : (taken st + length p) % (16 * n) ≡ o + length p = held-mod n (taken st) (length p) some (first-fits .in-row) not-yet in
       ap₂ (λ (j : ℕ) (l : List ℕ). take j l ++ (p' ++ drop (j + length p') l)) e next-held
       ∙ split-more o (heldOf n st) p p' (omega (arith, block-fits n (taken st) (length p) some (first-fits .in-row), held-long n st (long-is k c st b some)))
 
@@ -275,13 +275,13 @@ module _ (k : Call) (c : Scheme) (st : List ℕ) (b : begun k (fixedOf c) st ≡
   sums-join =
       let n = fixedOf c .n in
       ap₂ (λ (x y : List ℕ). cond (fills n (taken st + length p) (length p'))
-      (gained wrap n (terms k n x (placed (taken st + length p + length p' - 8 * n) y)) (sumsOf n next)) (sumsOf n next))
+      (gained wrap n (terms k n x (placed (taken st + length p + length p' - 16 * n) y)) (sumsOf n next)) (sumsOf n next))
       (step-secret k c st b some p first-fits) with-join
       ∙ ap₂ (λ (t : Bool) (x : List ℕ). cond t
-      (gained wrap n (terms k n (secretOf n st) (placed (taken st + length p + length p' - 8 * n) (heldWith n st (p ++ p')))) x) x)
+      (gained wrap n (terms k n (secretOf n st) (placed (taken st + length p + length p' - 16 * n) (heldWith n st (p ++ p')))) x) x)
       same-fills next-sums
       ∙ ap (λ (i : ℕ). cond (fills n (taken st) (length (p ++ p')))
-      (gained wrap n (terms k n (secretOf n st) (placed (i - 8 * n) (heldWith n st (p ++ p')))) (sumsOf n st)) (sumsOf n st))
+      (gained wrap n (terms k n (secretOf n st) (placed (i - 16 * n) (heldWith n st (p ++ p')))) (sumsOf n st)) (sumsOf n st))
       last-at
 
   two-steps : stepped k (fixedOf c .n) next p' ≡ stepped k (fixedOf c .n) st (p ++ p')
@@ -295,13 +295,13 @@ module _ (k : Call) (c : Scheme) (st : List ℕ) (b : begun k (fixedOf c) st ≡
 
 -- part after part is the part of both joined
 steps-join : (k : Call) (c : Scheme) (st p p' : List ℕ) → begun k (fixedOf c) st ≡ true → 0 < fixedOf c .n
-    → Fits (fixedOf c .n) (taken st) (length p + length p')
+    → Fits (fixedOf c .n) (taken st) (length p + length p') → Below (wrap * wrap) st → Below wrap p
     → stepped k (fixedOf c .n) (stepped k (fixedOf c .n) st p) p' ≡ stepped k (fixedOf c .n) st (p ++ p')
-steps-join k c st p [] b some f =
+steps-join k c st p [] b some f w l =
     none k c (stepped k (fixedOf c .n) st p)
     (step-begun k c st b some p (record { in-row = omega (arith, f .in-row); in-all = omega (arith, f .in-all) }))
     ∙ ap (stepped k (fixedOf c .n) st) (sym (append-nil p))
-steps-join k c st p (x ∷ p') b some f = two-steps k c st b some p (x ∷ p') f (omega arith)
+steps-join k c st p (x ∷ p') b some f w l = two-steps k c st b some p (x ∷ p') f w l (omega arith)
 
 -- the second of two parts of one row fits behind the first
 fits-behind : (n at a b : ℕ) → 0 < n → Fits n at (a + b) → Fits n (at + a) b
@@ -318,19 +318,21 @@ below-behind p p' h =
     record { below = λ i. omega (arith, append-at p p' (length p + i), placed-in (length p) p' i, h .below (length p + i)) }
 
 join : (k : Call) (c : Scheme) (st p p' after : List ℕ) → named st ≡ Is c → begun k (fixedOf c) st ≡ true
-    → Fits (fixedOf c .n) (taken st) (length p + length p') → Below (fixedOf c .q) p' → after ≡ stepped k (fixedOf c .n) st (p ++ p')
+    → Fits (fixedOf c .n) (taken st) (length p + length p') → Below (wrap * wrap) st → Below (fixedOf c .q) p → Below (fixedOf c .q) p' → after ≡ stepped k (fixedOf c .n) st (p ++ p')
     → Taken k (stepped k (fixedOf c .n) st p) p' 0 0 after
 unfolding stepped
-join k c st p p' after called b f l e =
+join k c st p p' after called b f w h l e =
     let n = fixedOf c .n in
-    let some = numbers-in c (frodo-named (getD st 1 0) c called) .some in
+    let num = numbers-in c (frodo-named (getD st 1 0) c called) in
+    let some = num .some in
+    let word : Below wrap p = record { below = λ i. omega (arith, h .below i, num .q-room) } in
     let first : Fits n (taken st) (length p) = record { in-row = omega (arith, f .in-row); in-all = omega (arith, f .in-all) } in
-    rw (e ∙ sym (steps-join k c st p p' b some f))
+    rw (e ∙ sym (steps-join k c st p p' b some f w word))
     (part-good k c (stepped k n st p) p' called (step-begun k c st b some p first)
     (fits-behind n (taken st) (length p) (length p') some f) l)
 
 pub joining : Joining
-joining k st p p' after t =
+joining k st p p' after w t =
     let g = good-part k st (p ++ p') after t in
     let c = g .scheme in
     let n = fixedOf c .n in
@@ -339,7 +341,7 @@ joining k st p p' after t =
     let front : Fits n (taken st) (length p) = record { in-row = omega (arith, whole .in-row); in-all = omega (arith, whole .in-all) } in
     let next = stepped k n st p in
     let first = part-good k c st p (g .called) (g .has-begun) front (below-front p p' (g .below)) in
-    (next, (first, join k c st p p' after (g .called) (g .has-begun) whole (below-behind p p' (g .below)) (g .is)))
+    (next, (first, join k c st p p' after (g .called) (g .has-begun) whole w (below-front p p' (g .below)) (below-behind p p' (g .below)) (g .is)))
 
 pub empty-part : Empty
 empty-part k st after zero place t =

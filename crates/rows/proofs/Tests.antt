@@ -107,15 +107,15 @@ pub record Frodos (f : Fixed) : Type 0 where
   pub seed : f .seed ≡ 16
   pub coins : f .coins ≡ 0
   pub words : 65536 % f .q ≡ 0
-  pub eights : f .n % 8 ≡ 0
+  pub sixteens : f .n % 16 ≡ 0
 
 pub frodos : (c : Scheme) → familyOf c ≡ Family.Frodo → Frodos (fixedOf c)
 frodos Bcns e = not-bcns e
 frodos NewHope e = not-newhope e
-frodos Challenge e = record { seed = refl; coins = refl; words = refl; eights = refl }
-frodos Classical e = record { seed = refl; coins = refl; words = refl; eights = refl }
-frodos Recommended e = record { seed = refl; coins = refl; words = refl; eights = refl }
-frodos Paranoid e = record { seed = refl; coins = refl; words = refl; eights = refl }
+frodos Challenge e = record { seed = refl; coins = refl; words = refl; sixteens = refl }
+frodos Classical e = record { seed = refl; coins = refl; words = refl; sixteens = refl }
+frodos Recommended e = record { seed = refl; coins = refl; words = refl; sixteens = refl }
+frodos Paranoid e = record { seed = refl; coins = refl; words = refl; sixteens = refl }
 
 unknown-is : {X : Type 0} {c : Scheme} → Unknown ≡ Is c → X
 unknown-is e = let z : _≡_ {A = ℕ} 0 1 = cc in absurd (omega arith)

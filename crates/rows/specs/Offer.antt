@@ -51,7 +51,7 @@ offerBeginTests (Is c) x m = offerBeginSizes c x m then secretsIn (fixedOf c .la
 unfoldable pub offerState : Named → OfferBegin → List ℕ
 offerState Unknown x = []
 offerState (Is c) x =
-    laid 1 (numberOf c) 0 (x .seed ++ replicate 48 0) (columnsOf wrap (fixedOf c .n) (x .s)) (wordsOf wrap (x .e)) (replicate (8 * fixedOf c .n) 0)
+    laid 1 (numberOf c) 0 (x .seed ++ replicate 48 0) (columnsOf wrap (fixedOf c .n) (x .s)) (wordsOf wrap (x .e)) (replicate (16 * fixedOf c .n) 0)
 
 pub record OfferBegun (c : Named) (x : OfferBegin) (number place stateRoom : ℕ) (after : List ℕ) : Type 0 where
   pub told : Told (offerBeginTests c x stateRoom) number place

@@ -58,7 +58,7 @@ valueOf c x = mixedValue c (numbersIn c (openedIn c (x .opening))) (x .s') (x .e
 unfoldable pub replyState : Named → ReplyBegin → List ℕ
 replyState Unknown x = []
 replyState (Is c) x =
-    laid 2 (numberOf c) 0 (valueOf c x) (wordsOf wrap (x .s')) (wordsOf wrap (x .e')) (replicate (8 * fixedOf c .n) 0)
+    laid 2 (numberOf c) 0 (valueOf c x) (wordsOf wrap (x .s')) (wordsOf wrap (x .e')) (replicate (16 * fixedOf c .n) 0)
 
 pub record ReplyBegun (c : Named) (x : ReplyBegin) (number place stateRoom : ℕ) (after : List ℕ) : Type 0 where
   pub told : Told (replyBeginTests c x stateRoom) number place

@@ -2,11 +2,12 @@
 --   OnePart, OneOfferBegin, OneOfferEnd, OneReplyBegin, OneReplyEnd   no two results satisfy one promise
 --   Frodos            a number names a scheme here exactly if it does in the whole-matrix calls and the scheme is one of Frodo's
 --   Allowed           a state has at most 32 n + 256 numbers
---   Joining           part after part is the part of both joined, for every cut: where the joined one is accepted, so are both, and the state is the same
+--   Joining           part after part is the part of both joined, for every cut: where the joined one is accepted, so are both, and the state, which is of numbers
+--                     of 32 bits, is the same
 --   Empty             an empty part changes nothing
 --   Again             a refused part changes nothing, so that it can be sent again: the run without the refused parts leaves the same state
 --   OfferTry, ReplyTry   so does a refused end
---   Running           after any parts the count is how many numbers they join into, the sums are those of the blocks of eight rows that have come whole,
+--   Running           after any parts the count is how many numbers they join into, the sums are those of the blocks of sixteen rows that have come whole,
 --                     and the numbers behind these are held back
 --   blocks n xs       how many numbers those blocks have
 --   SameOffer, SameReply   end gives what Offer and Reply promise on the joined matrix, refusals of room and blank parts included
@@ -84,7 +85,7 @@ Allowed = (n : ℕ) → long n ≤ 32 * n + 256
 
 abbrev pub Joining : Type 0
 Joining =
-    (k : Call) (st p p' after : List ℕ) → Taken k st (p ++ p') 0 0 after →
+    (k : Call) (st p p' after : List ℕ) → Below (wrap * wrap) st → Taken k st (p ++ p') 0 0 after →
     (between : List ℕ) × (Taken k st p 0 0 between × Taken k between p' 0 0 after)
 
 abbrev pub Empty : Type 0
@@ -105,7 +106,7 @@ ReplyTry =
     after ≡ st
 
 abbrev pub blocks : ℕ → List ℕ → ℕ
-blocks n xs = length xs / (8 * n) * (8 * n)
+blocks n xs = length xs / (16 * n) * (16 * n)
 
 abbrev pub Running : Type 0
 Running =
@@ -114,7 +115,7 @@ Running =
     (taken last ≡ length xs)
     × (sumsOf (fixedOf c .n) last
     ≡ gained wrap (fixedOf c .n) (terms k (fixedOf c .n) (secretOf (fixedOf c .n) st) (take (blocks (fixedOf c .n) xs) xs)) (sumsOf (fixedOf c .n) st))
-    × (take (length xs % (8 * fixedOf c .n)) (heldOf (fixedOf c .n) last) ≡ drop (blocks (fixedOf c .n) xs) xs)
+    × (take (length xs % (16 * fixedOf c .n)) (heldOf (fixedOf c .n) last) ≡ drop (blocks (fixedOf c .n) xs) xs)
 
 -- ---- the same as whole
 

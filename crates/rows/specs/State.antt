@@ -5,8 +5,8 @@
 --   3 .. 66    what is kept for the end: Offer the seed's 16 bytes, then zeros; Reply the 64 values of V, below q
 --   67 ..      the secret as 8 n words, two in each number: Offer the columns of S, one after the other, Reply S' as it lies
 --   67 + 4n .. the running sums as 8 n words, two in each number, which start as the noise
---   67 + 8n .. the numbers of the rows that are held back until eight have come; what lies behind them is of no account
--- Words wrap at 2^16, so every number of 32 bits is a pair of them, and of a number that is held back its lower word counts: only the first 67 have a range.
+--   67 + 8n .. the numbers of the rows that are held back until sixteen have come, as 16 n words, two in each number; what lies behind them is of no account
+-- Words wrap at 2^16, so every number of 32 bits is a pair of them: only the first 67 have a range.
 -- Any other list is no state: nothing has begun.
 --   frodoOf k            the scheme that a number names, where it is one of Frodo's
 --   long n               how many numbers a state has
@@ -16,9 +16,9 @@
 --   fitsIn n at m        m more numbers end inside the row, and inside A
 --   complete             the call has begun, and all of A has come
 --   terms k n s a        how the numbers a of A enter the sums of the call k, with the secret's words s
---   fills n at m         m more numbers end a block of eight rows
+--   fills n at m         m more numbers end a block of sixteen rows
 --   heldWith n st p      the numbers that are held back, with the part p behind them
---   sumsWith k n st p    the sums with the part p, which eight rows enter where it fills them
+--   sumsWith k n st p    the sums with the part p, which sixteen rows enter where it fills them
 --   stepped k n st p     the state with the part p
 use mathlib.Core.Bool.{Bool, true, false, cond}
 use mathlib.Core.List.{List, _∷_, _++_}
@@ -67,10 +67,10 @@ abbrev pub sumsOf : ℕ → List ℕ → List ℕ
 sumsOf n st = words (take (4 * n) (drop (67 + 4 * n) st))
 
 abbrev pub heldOf : ℕ → List ℕ → List ℕ
-heldOf n st = drop (67 + 8 * n) st
+heldOf n st = words (drop (67 + 8 * n) st)
 
 abbrev pub laid : ℕ → ℕ → ℕ → List ℕ → List ℕ → List ℕ → List ℕ → List ℕ
-laid call scheme taken kept secret sums held = call ∷ scheme ∷ taken ∷ (kept ++ (pairs secret ++ (pairs sums ++ held)))
+laid call scheme taken kept secret sums held = call ∷ scheme ∷ taken ∷ (kept ++ (pairs secret ++ (pairs sums ++ pairs held)))
 
 -- ---- its ranges
 
@@ -106,15 +106,15 @@ terms Call.Offer n s a = rightTerm n a s
 terms Call.Reply n s a = leftTerm n n s a
 
 unfoldable pub fills : ℕ → ℕ → ℕ → Bool
-fills n at m = leb 1 m and eqb ((at + m) % (8 * n)) 0
+fills n at m = leb 1 m and eqb ((at + m) % (16 * n)) 0
 
 unfoldable pub heldWith : ℕ → List ℕ → List ℕ → List ℕ
-heldWith n st p = take (taken st % (8 * n)) (heldOf n st) ++ (p ++ drop (taken st % (8 * n) + length p) (heldOf n st))
+heldWith n st p = take (taken st % (16 * n)) (heldOf n st) ++ (p ++ drop (taken st % (16 * n) + length p) (heldOf n st))
 
 unfoldable pub sumsWith : Call → ℕ → List ℕ → List ℕ → List ℕ
 sumsWith k n st p =
     cond (fills n (taken st) (length p))
-    (gained wrap n (terms k n (secretOf n st) (placed (taken st + length p - 8 * n) (heldWith n st p))) (sumsOf n st))
+    (gained wrap n (terms k n (secretOf n st) (placed (taken st + length p - 16 * n) (heldWith n st p))) (sumsOf n st))
     (sumsOf n st)
 
 unfoldable pub stepped : Call → ℕ → List ℕ → List ℕ → List ℕ

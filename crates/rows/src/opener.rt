@@ -91,7 +91,7 @@ fn lay_words(n: usize, s: &[i32], e: &[i32], out: &mut [u32])
 fn lay_state(number: u32, n: usize, s: &[i32], e: &[i32], seed: &[u8], state: &mut [u32])
     requires { ⌜ Sized n (now state) × (now state ≡ replicate (length (now state)) 0) ⌝ }
     requires { ⌜ (length (now s) ≡ 8 * n) × (length (now e) ≡ 8 * n) × (length (now seed) ≡ 16) ⌝ }
-    ensures { λ _. ⌜ left state ≡ laid 1 number 0 (was seed ++ replicate 48 0) (columnsOf wrap n (was s)) (wordsOf wrap (was e)) (replicate (8 * n) 0) ⌝ }
+    ensures { λ _. ⌜ left state ≡ laid 1 number 0 (was seed ++ replicate 48 0) (columnsOf wrap n (was s)) (wordsOf wrap (was e)) (replicate (16 * n) 0) ⌝ }
 {
     state[0] = 1;
     state[1] = number;

@@ -111,7 +111,7 @@ fn lay_state(
     requires { ⌜ (length (now state) ≡ long n) × (now state ≡ replicate (length (now state)) 0) ⌝ }
     requires { ⌜ Counted (fixedOf scheme .secret) (fixedOf scheme .q) (now b) × (length (now e1) ≡ fixedOf scheme .noise) ⌝ }
     requires { ⌜ Small (fixedOf scheme .secret) (fixedOf scheme .largest) (now s1) × Small (fixedOf scheme .mixed) (fixedOf scheme .largest) (now e2) ⌝ }
-    ensures { λ _. ⌜ left state ≡ laid 2 (numberOf scheme) 0 (mixedValue scheme (was b) (was s1) (was e2)) (wordsOf wrap (was s1)) (wordsOf wrap (was e1)) (replicate (8 * n) 0) ⌝ }
+    ensures { λ _. ⌜ left state ≡ laid 2 (numberOf scheme) 0 (mixedValue scheme (was b) (was s1) (was e2)) (wordsOf wrap (was s1)) (wordsOf wrap (was e1)) (replicate (16 * n) 0) ⌝ }
 {
     state[0] = 2;
     state[1] = scheme.number();

@@ -114,7 +114,7 @@ pub(crate) fn is_complete(call: Call, f: Fixed, state: &[u32]) -> bool
     state[2] as usize == f.n * f.n
 }
 
-// m more numbers end a block of eight rows.
+// m more numbers end a block of sixteen rows.
 pub(crate) fn fills(n: usize, at: usize, m: usize) -> bool
     requires { ⌜ (0 < n) × (n ≤ 864) × (at + m ≤ n * n) ⌝ }
     ensures { λ r. ⌜ r ≡ fills n at m ⌝ }
@@ -122,7 +122,7 @@ pub(crate) fn fills(n: usize, at: usize, m: usize) -> bool
     if m < 1 {
         return false;
     }
-    (at + m) % (8 * n) == 0
+    (at + m) % (16 * n) == 0
 }
 
 // The words of secret and noise into zeros; no row is held back yet.

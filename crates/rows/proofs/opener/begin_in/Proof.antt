@@ -33,7 +33,7 @@ lay-state-requires c κs =
     let z = begin-sized _ _ _ (passes o) in
     let h = numbers-in (s .args .scheme) (s .pre .0) in
     rw (f .fixed .ensures) (
-      (record { some = h .some; few = h .few; eights = frodos (s .args .scheme) (s .pre .0) .eights; long = z .state }, s .pre .1),
+      (record { some = h .some; few = h .few; sixteens = frodos (s .args .scheme) (s .pre .0) .sixteens; long = z .state }, s .pre .1),
       (z .secret ∙ h .secret, z .noise ∙ h .noise, z .seed ∙ frodos (s .args .scheme) (s .pre .0) .seed),
     )
 
@@ -55,8 +55,8 @@ returns-2 c =
     let a = s .args in
     begin-done (passes o)
     (l .lay-state .ensures
-    ∙ ap (λ (k : ℕ). laid 1 k 0 (a .seed .now ++ replicate 48 0) (columnsOf 65536 (f .fixed .result .n) (a .s .now)) (wordsOf 65536 (a .e .now)) (replicate (8 * f .fixed .result .n) 0)) (m .number .ensures)
-    ∙ ap (λ (g : Fixed). laid 1 (numberOf (a .scheme)) 0 (a .seed .now ++ replicate 48 0) (columnsOf 65536 (g .n) (a .s .now)) (wordsOf 65536 (a .e .now)) (replicate (8 * g .n) 0)) (f .fixed .ensures))
+    ∙ ap (λ (k : ℕ). laid 1 k 0 (a .seed .now ++ replicate 48 0) (columnsOf 65536 (f .fixed .result .n) (a .s .now)) (wordsOf 65536 (a .e .now)) (replicate (16 * f .fixed .result .n) 0)) (m .number .ensures)
+    ∙ ap (λ (g : Fixed). laid 1 (numberOf (a .scheme)) 0 (a .seed .now ++ replicate 48 0) (columnsOf 65536 (g .n) (a .s .now)) (wordsOf 65536 (a .e .now)) (replicate (16 * g .n) 0)) (f .fixed .ensures))
 
 pub begin-in-spec : {M : Type 1} → statement M
 begin-in-spec =

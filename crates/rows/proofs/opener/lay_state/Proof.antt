@@ -43,9 +43,9 @@ same-length c =
     let s : tie.Start = search needs in
     let o : tie.After-lay-seed = search needs in
     let w : tie.After-lay-words = search needs in
-    ap length (lay-is (s .args .n) 1 (s .args .number) (s .args .state .now) (s .pre .0 .0 .long) (s .pre .0 .1) (s .args .seed .now ++ replicate 48 0) (columnsOf 65536 (s .args .n) (s .args .s .now)) (wordsOf 65536 (s .args .e .now)) (replicate (8 * s .args .n) 0) (seed-kept-long (s .args .seed .now) (s .pre .1 .2)) (o .lay-seed .ensures) (w .lay-words .ensures))
-    ∙ laid-long (s .args .n) 1 (s .args .number) 0 (s .args .seed .now ++ replicate 48 0) (columnsOf 65536 (s .args .n) (s .args .s .now)) (wordsOf 65536 (s .args .e .now)) (replicate (8 * s .args .n) 0) (seed-kept-long (s .args .seed .now) (s .pre .1 .2)) (columns-long 65536 (s .args .n) (s .args .s .now))
-    (words-length 65536 (s .args .e .now) ∙ s .pre .1 .1) (length-replicate {A = ℕ} (8 * s .args .n) 0)
+    ap length (lay-is (s .args .n) 1 (s .args .number) (s .args .state .now) (s .pre .0 .0 .long) (s .pre .0 .1) (s .args .seed .now ++ replicate 48 0) (columnsOf 65536 (s .args .n) (s .args .s .now)) (wordsOf 65536 (s .args .e .now)) (seed-kept-long (s .args .seed .now) (s .pre .1 .2)) (o .lay-seed .ensures) (w .lay-words .ensures))
+    ∙ laid-long (s .args .n) 1 (s .args .number) 0 (s .args .seed .now ++ replicate 48 0) (columnsOf 65536 (s .args .n) (s .args .s .now)) (wordsOf 65536 (s .args .e .now)) (replicate (16 * s .args .n) 0) (seed-kept-long (s .args .seed .now) (s .pre .1 .2)) (columns-long 65536 (s .args .n) (s .args .s .now))
+    (words-length 65536 (s .args .e .now) ∙ s .pre .1 .1) (length-replicate {A = ℕ} (16 * s .args .n) 0)
     ∙ sym (s .pre .0 .0 .long)
 
 returns : tie.Need-returns
@@ -53,7 +53,7 @@ returns c =
     let s : tie.Start = search needs in
     let o : tie.After-lay-seed = search needs in
     let w : tie.After-lay-words = search needs in
-    lay-is (s .args .n) 1 (s .args .number) (s .args .state .now) (s .pre .0 .0 .long) (s .pre .0 .1) (s .args .seed .now ++ replicate 48 0) (columnsOf 65536 (s .args .n) (s .args .s .now)) (wordsOf 65536 (s .args .e .now)) (replicate (8 * s .args .n) 0) (seed-kept-long (s .args .seed .now) (s .pre .1 .2)) (o .lay-seed .ensures) (w .lay-words .ensures)
+    lay-is (s .args .n) 1 (s .args .number) (s .args .state .now) (s .pre .0 .0 .long) (s .pre .0 .1) (s .args .seed .now ++ replicate 48 0) (columnsOf 65536 (s .args .n) (s .args .s .now)) (wordsOf 65536 (s .args .e .now)) (seed-kept-long (s .args .seed .now) (s .pre .1 .2)) (o .lay-seed .ensures) (w .lay-words .ensures)
 
 pub lay-state-spec : {M : Type 1} → statement M
 lay-state-spec =

@@ -27,7 +27,7 @@ slice-aggregate-put-right-2 c = let s : tie.Start = search needs in sym (buffer-
 put-right-requires : tie.Need-put-right-requires
 put-right-requires c κs =
     let s : tie.Start = search needs in
-    (s .pre .0, s .pre .1, buffer-long (s .args .n) 864 (s .pre .0 .few), buffer-long (8 * s .args .n) 6912 (few s), length-replicate {A = ℕ} 64 0)
+    (s .pre .0, s .pre .1, buffer-long (s .args .n) 864 (s .pre .0 .few), buffer-long (8 * s .args .n) 6912 (few s), length-replicate {A = ℕ} 128 0)
 
 returns : tie.Need-returns
 returns c = let o : tie.After-put-right = search needs in o .put-right .ensures

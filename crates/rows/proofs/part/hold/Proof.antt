@@ -1,4 +1,4 @@
--- `rows::part::hold` meets its contract: the numbers, then the count.
+-- `rows::part::hold` meets its contract: the words, then the count.
 use mathlib.Core.Path.{_∙_, sym, ap}
 use Prim.Native.Nat.{_+_, _≤_}
 use native.Mathlib.Omega.{arith}
@@ -21,18 +21,18 @@ cast-state c = let s : tie.Start = search needs in record { fits = omega (arith,
 same-length : tie.Need-same-length
 same-length c =
     let s : tie.Start = search needs in
-    let o : tie.After-copy = search needs in
-    ap length (hold-at (s .args .n) (s .args .state .now) (s .pre .0) (s .args .p .now) _ (o .copy .ensures) (s .args .at) (s .pre .1))
+    let o : tie.After-put-words = search needs in
+    ap length (hold-at (s .args .n) (s .args .state .now) (s .pre .0) (s .args .p .now) (s .args .at) _ (s .pre .1) (o .put-words .ensures))
     ∙ sized-holding (s .args .n) (s .args .state .now) (s .pre .0) (s .args .p .now) (rw (s .pre .1) at (s .pre .2)) .long
     ∙ sym (s .pre .0 .long)
 
 returns : tie.Need-returns
 returns c =
     let s : tie.Start = search needs in
-    let o : tie.After-copy = search needs in
-    hold-at (s .args .n) (s .args .state .now) (s .pre .0) (s .args .p .now) _ (o .copy .ensures) (s .args .at) (s .pre .1)
+    let o : tie.After-put-words = search needs in
+    hold-at (s .args .n) (s .args .state .now) (s .pre .0) (s .args .p .now) (s .args .at) _ (s .pre .1) (o .put-words .ensures)
 
 pub hold-spec : {M : Type 1} → statement M
 hold-spec =
     tie.close
-    (tie.spec (search needs) (search needs) (search needs) (search needs) (search needs) (search needs) (search needs) (search needs) (search needs) (search needs) (λ c κs. search needs) add-state cast-state (search needs) same-length returns)
+    (tie.spec (search needs) (search needs) (search needs) (search needs) (search needs) (search needs) (search needs) (search needs) (λ c κs. search needs) add-state cast-state (search needs) same-length returns)

@@ -28,7 +28,7 @@ take-part-requires c κs =
     let i : tie.After-in-turn = search needs in
     let t : tie.After-enum-told = search needs in
     let b = turn-begins (s .args .call) (s .args .scheme) (s .args .state .now) (s .args .p .now) (f .fixed .ensures) (m .may-take .ensures) (i .in-turn .ensures) (t .enum-told .given .1) in
-    rw (f .fixed .ensures) (frodo s .q-some, record { some = frodo s .some; few = frodo s .few; eights = frodos (s .args .scheme) (s .pre) .eights; long = started _ _ _ (b .0) .is-long }, b .1)
+    rw (f .fixed .ensures) (frodo s .q-some, frodo s .q-room, record { some = frodo s .some; few = frodo s .few; sixteens = frodos (s .args .scheme) (s .pre) .sixteens; long = started _ _ _ (b .0) .is-long }, b .1)
 
 returns : tie.Need-returns
 returns c =

@@ -8,8 +8,9 @@ use lib.ListN.{length}
 use Rattle.rows.specs.State.{taken}
 use Rattle.rows.specs.Inside.{entered}
 use Rattle.rows.proofs.Tests.{Fits, fits, square}
-use Rattle.rows.proofs.Filling.{block-fits, row-some, row-is, row-fits, row-eighth}
-use Rattle.rows.proofs.Taking.{sized-held, entered-wide, step-holds, step-enters}
+use Rattle.rows.proofs.Filling.{block-fits, row-some, row-is, row-fits, row-sixteenth}
+use Rattle.rows.proofs.Laying.{held-words, with-below}
+use Rattle.rows.proofs.Taking.{with-long, sized-held, entered-wide, step-holds, step-enters}
 use Rattle.rows.proofs.part.put_part.Statement.{statement}
 use Rattle.rows.proofs.part.put_part.Tie as tie
 
@@ -26,7 +27,7 @@ module _ (s : tie.Start) where
   inside : taken st + m ≤ 746496
   inside = omega (arith, fit .in-all, square (s .args .n) (s .pre .0 .few))
 
-  in-block : taken st % (8 * s .args .n) + m ≤ 8 * s .args .n
+  in-block : taken st % (16 * s .args .n) + m ≤ 16 * s .args .n
   in-block = block-fits (s .args .n) (taken st) m (s .pre .0 .some) (fit .in-row)
 
 slice-read-at : tie.Need-slice-read-at
@@ -60,7 +61,7 @@ enter-requires c κs =
     let full = sym (f .fills .ensures) ∙ i .if1 .taken in (
       sized-held (s .args .n) (st s) (s .pre .0) (s .args .p .now) (in-block s) (o .hold .ensures),
       row-fits (s .args .n) (taken (st s)) (m s) (s .pre .0 .some) (fit s .in-row) full (fit s .in-all),
-      row-eighth (s .args .n) (taken (st s)) (m s) (s .pre .0 .some) (fit s .in-row) full,
+      row-sixteenth (s .args .n) (taken (st s)) (m s) (s .pre .0 .some) (fit s .in-row) full,
     )
 
 same-length : tie.Need-same-length
@@ -80,10 +81,14 @@ returns c =
     let i : tie.Then1 = search needs in
     let e : tie.After-enter = search needs in
     let a = s .args in
+    let w : tie.After-shared-slice-known = search needs in
+    let k : tie.After-slice-known = search needs in
     let full = sym (f .fills .ensures) ∙ i .if1 .taken in
+    let small = with-below (a .n) (st s) (a .p .now) (record { below = λ j. omega (arith, k .slice-known .given j) }) (record { below = λ j. omega (arith, w .shared-slice-known .given j) }) in
     e .enter .ensures
-    ∙ ap (λ (l : List ℕ). entered (a .call) (a .n) (((taken (st s) + m s) / a .n - 8) * a .n) l) (o .hold .ensures)
+    ∙ ap (λ (l : List ℕ). entered (a .call) (a .n) (((taken (st s) + m s) / a .n - 16) * a .n) l) (o .hold .ensures)
     ∙ step-enters (a .n) (st s) (s .pre .0) (a .call) (a .p .now) _ full (row-is (a .n) (taken (st s)) (m s) (s .pre .0 .some) (fit s .in-row) full)
+    (held-words (a .n) _ (with-long (a .n) (st s) (s .pre .0) (a .p .now) (in-block s)) small)
 
 same-length-2 : tie.Need-same-length-2
 same-length-2 c =

@@ -1,24 +1,31 @@
--- `rows::part::take_part` meets its contract: its numbers, then the state.
-use mathlib.Core.Path.{refl, _∙_, sym}
+-- `rows::part::take_part` meets its contract: it lends room for the words, which are no more than a row has.
+use mathlib.Core.Path.{sym}
+use Prim.Native.Nat.{_≤_}
+use native.Mathlib.Omega.{arith}
 use borrow.Author.Needs.{needs}
-use Rattle.front.proofs.Laws.{first}
+use lib.ListN.{length}
+use Rattle.lists.proofs.Parts.{buffer-long}
+use Rattle.rows.specs.State.{taken}
+use Rattle.rows.proofs.Tests.{fits}
 use Rattle.rows.proofs.part.take_part.Statement.{statement}
 use Rattle.rows.proofs.part.take_part.Tie as tie
 
-returns : tie.Need-returns
-returns c =
-    let v : tie.After-v = search needs in
-    let p : tie.After-publics-in = search needs in
-    (sym (v .v .given .1) ∙ first (p .publics-in .ensures) refl, refl)
+few : (s : tie.Start) → length (s .args .p .now) ≤ 864
+few s = omega (arith, fits (s .args .n) (taken (s .args .state .now)) (length (s .args .p .now)) (s .pre .3) .in-row, s .pre .2 .few)
 
-returns-2 : tie.Need-returns-2
-returns-2 c =
-    let t : tie.After-enum-told = search needs in
-    let p : tie.After-publics-in = search needs in
-    let l : tie.After-put-part = search needs in
-    (sym (t .enum-told .given .1) ∙ first (p .publics-in .ensures) refl, l .put-part .ensures)
+array-borrow-prefix-line : tie.Need-array-borrow-prefix-line
+array-borrow-prefix-line c = let s : tie.Start = search needs in few s
+
+slice-aggregate-take-words : tie.Need-slice-aggregate-take-words
+slice-aggregate-take-words c = let s : tie.Start = search needs in sym (buffer-long (length (s .args .p .now)) 864 (few s))
+
+take-words-requires : tie.Need-take-words-requires
+take-words-requires c κs =
+    let s : tie.Start = search needs in
+    (s .pre .0, s .pre .1, s .pre .2, s .pre .3, sym (buffer-long (length (s .args .p .now)) 864 (few s)))
+
+returns : tie.Need-returns
+returns c = let t : tie.After-take-words = search needs in t .take-words .ensures
 
 pub take-part-spec : {M : Type 1} → statement M
-take-part-spec =
-    tie.close
-    (tie.spec (λ c κs. search needs) (search needs) (search needs) (λ c κs. search needs) returns (search needs) returns-2)
+take-part-spec = tie.close (tie.spec array-borrow-prefix-line slice-aggregate-take-words take-words-requires (search needs) returns)

@@ -84,9 +84,9 @@ returns-2 c =
     let a = start t .args in (
       sym (o .enum-told .given .1) ∙ tested s,
       l .lay-state .ensures
-          ∙ ap (λ (xs : List ℕ). laid 2 (numberOf (a .scheme)) 0 (mixedValue (a .scheme) xs (a .s1 .now) (a .e2 .now)) (wordsOf wrap (a .s1 .now)) (wordsOf wrap (a .e1 .now)) (replicate (8 * a .n) 0))
+          ∙ ap (λ (xs : List ℕ). laid 2 (numberOf (a .scheme)) 0 (mixedValue (a .scheme) xs (a .s1 .now) (a .e2 .now)) (wordsOf wrap (a .s1 .now)) (wordsOf wrap (a .e1 .now)) (replicate (16 * a .n) 0))
           (t .take-opening .ensures .1)
-          ∙ ap (λ (k : ℕ). laid 2 (numberOf (a .scheme)) 0 (mixedValue (a .scheme) (numbersIn (a .scheme) (openedIn (a .scheme) (a .opening .now))) (a .s1 .now) (a .e2 .now)) (wordsOf wrap (a .s1 .now)) (wordsOf wrap (a .e1 .now)) (replicate (8 * k) 0))
+          ∙ ap (λ (k : ℕ). laid 2 (numberOf (a .scheme)) 0 (mixedValue (a .scheme) (numbersIn (a .scheme) (openedIn (a .scheme) (a .opening .now))) (a .s1 .now) (a .e2 .now)) (wordsOf wrap (a .s1 .now)) (wordsOf wrap (a .e1 .now)) (replicate (16 * k) 0))
           (start t .pre .0 .1),
     )
 

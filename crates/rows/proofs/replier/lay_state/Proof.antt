@@ -88,8 +88,8 @@ same-length c =
     let a = b .args in
     let secret = wordsOf wrap (a .s1 .now) in
     let noise = wordsOf wrap (a .e1 .now) in
-    ap length (lay-is (a .n) 2 (n .number .result) (a .state .now) (b .pre .1 .0 .0) (b .pre .1 .0 .1) (kept b) secret noise (replicate (8 * a .n) 0) (kept-long b) (m .mix .ensures) (w .lay-words .ensures))
-    ∙ laid-long (a .n) 2 (n .number .result) 0 (kept b) secret noise (replicate (8 * a .n) 0) (kept-long b) (words-length wrap (a .s1 .now) ∙ s-long b) (words-length wrap (a .e1 .now) ∙ e-long b) (length-replicate {A = ℕ} (8 * a .n) 0)
+    ap length (lay-is (a .n) 2 (n .number .result) (a .state .now) (b .pre .1 .0 .0) (b .pre .1 .0 .1) (kept b) secret noise (kept-long b) (m .mix .ensures) (w .lay-words .ensures))
+    ∙ laid-long (a .n) 2 (n .number .result) 0 (kept b) secret noise (replicate (16 * a .n) 0) (kept-long b) (words-length wrap (a .s1 .now) ∙ s-long b) (words-length wrap (a .e1 .now) ∙ e-long b) (length-replicate {A = ℕ} (16 * a .n) 0)
     ∙ sym (b .pre .1 .0 .0)
 
 returns : tie.Need-returns
@@ -101,8 +101,8 @@ returns c =
     let a = b .args in
     let secret = wordsOf wrap (a .s1 .now) in
     let noise = wordsOf wrap (a .e1 .now) in
-    lay-is (a .n) 2 (n .number .result) (a .state .now) (b .pre .1 .0 .0) (b .pre .1 .0 .1) (kept b) secret noise (replicate (8 * a .n) 0) (kept-long b) (m .mix .ensures) (w .lay-words .ensures)
-    ∙ ap (λ (k : ℕ). laid 2 k 0 (kept b) secret noise (replicate (8 * a .n) 0)) (n .number .ensures)
+    lay-is (a .n) 2 (n .number .result) (a .state .now) (b .pre .1 .0 .0) (b .pre .1 .0 .1) (kept b) secret noise (kept-long b) (m .mix .ensures) (w .lay-words .ensures)
+    ∙ ap (λ (k : ℕ). laid 2 k 0 (kept b) secret noise (replicate (16 * a .n) 0)) (n .number .ensures)
 
 pub lay-state-spec : {M : Type 1} → statement M
 lay-state-spec =
