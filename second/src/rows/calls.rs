@@ -33,7 +33,7 @@ pub fn offer_begin(
         come: 0,
         secret: words(s),
         sums: words(e),
-        held: vec![0; 8 * scheme.n],
+        held: vec![0; 16 * scheme.n],
     }));
     Ok(())
 }
@@ -70,7 +70,7 @@ pub fn reply_begin(
         come: 0,
         secret: words(s1),
         sums: words(e1),
-        held: vec![0; 8 * scheme.n],
+        held: vec![0; 16 * scheme.n],
     }));
     Ok(())
 }
@@ -177,7 +177,7 @@ fn take(mut begun: State, part: &[u32], state: &mut [u32]) -> Result<(), Refusal
     }
     refusal::large_public(begun.scheme, part)?;
     for &number in part {
-        begun.take(number);
+        begun.take(u16::try_from(number).expect("below q"));
     }
     state.copy_from_slice(&lay(&begun));
     Ok(())

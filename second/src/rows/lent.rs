@@ -8,7 +8,7 @@
 //! | 3 | Offer: the seed's 16 bytes, then 48 zeros; Reply: the 64 values of V, below q |
 //! | 67 | the secret, 8n words: Offer's S column after column, Reply's S' row after row |
 //! | 67 + 4n | the running sums, 8n words: B or B' row after row |
-//! | 67 + 8n | eight rows of A, 8n numbers: those held back; others behind them do not count |
+//! | 67 + 8n | sixteen rows of A, 16n words: those held back; others behind them do not count |
 //!
 //! A word is of 16 bits; two stand in one number, the first in its low half. From 67
 //! on any number is in range.
@@ -40,7 +40,7 @@ pub fn parse(lent: &[u32]) -> Option<State> {
     }
     let (secret, behind) = lent[SECRET..].split_at(4 * scheme.n);
     let (sums, held) = behind.split_at(4 * scheme.n);
-    let (secret, sums) = (words(secret), words(sums));
+    let [secret, sums, held] = [secret, sums, held].map(words);
     let carried = &lent[CARRIED..SECRET];
     let (carried, secret) = match call {
         1 => (seed(scheme, carried)?, turned(&secret, 8)),
@@ -53,7 +53,7 @@ pub fn parse(lent: &[u32]) -> Option<State> {
         come,
         secret,
         sums,
-        held: held.to_vec(),
+        held,
     })
 }
 
@@ -86,8 +86,8 @@ pub fn lay(state: &State) -> Vec<u32> {
         Carried::V(v) => (2, v.clone(), state.secret.clone()),
     };
     let head = [call, state.scheme.number as u32, state.come as u32];
-    let (secret, sums) = (pairs(&secret), pairs(&state.sums));
-    [&head[..], &carried, &secret, &sums, &state.held].concat()
+    let [secret, sums, held] = [&secret, &state.sums, &state.held].map(|words| pairs(words));
+    [&head[..], &carried, &secret, &sums, &held].concat()
 }
 
 /// The two words of each number.

@@ -23,12 +23,12 @@ pub struct State {
     /// S, n by 8, or S', 8 by n, row after row; values modulo 2^16, which is a
     /// multiple of every Frodo q.
     pub secret: Vec<u16>,
-    /// E, n by 8, or E', 8 by n, to which the products of each eight rows are added
+    /// E, n by 8, or E', 8 by n, to which the products of each sixteen rows are added
     /// once they have come, so that it becomes B or B'; modulo 2^16.
     pub sums: Vec<u16>,
-    /// Eight rows: what has come of them is held back in front; behind it lies what was
-    /// held back before.
-    pub held: Vec<u32>,
+    /// Sixteen rows: what has come of them is held back in front; behind it lies what was
+    /// held back before. Numbers of A are below q, but a lent state may hold any words.
+    pub held: Vec<u16>,
 }
 
 /// What the two calls keep for their end: Offer its seed; Reply V, which needs the
@@ -55,25 +55,23 @@ impl State {
         self.come == self.scheme.n * self.scheme.n
     }
 
-    /// The next number of A. With the last one of eight rows these enter the sums, and
-    /// none is held back.
-    pub fn take(&mut self, number: u32) {
-        let eight_rows = 8 * self.scheme.n;
-        self.held[self.come % eight_rows] = number;
+    /// The next number of A. With the last one of sixteen rows these enter the sums,
+    /// and none is held back.
+    pub fn take(&mut self, number: u16) {
+        let sixteen_rows = 16 * self.scheme.n;
+        self.held[self.come % sixteen_rows] = number;
         self.come += 1;
-        if self.come % eight_rows == 0 {
-            for at in 0..eight_rows {
-                self.enter(self.come - eight_rows + at, self.held[at]);
+        if self.come % sixteen_rows == 0 {
+            for at in 0..sixteen_rows {
+                self.enter(self.come - sixteen_rows + at, self.held[at]);
             }
         }
     }
 
     /// The number of A at this place, in row i and column j, into the sums.
-    fn enter(&mut self, at: usize, number: u32) {
+    fn enter(&mut self, at: usize, number: u16) {
         let n = self.scheme.n;
         let (i, j) = (at / n, at % n);
-        // A lent state may hold larger ones.
-        let number = (number % 65536) as u16;
         for k in 0..8 {
             // (AS)[i][k] has A[i][j] S[j][k]; (S'A)[k][j] has S'[k][i] A[i][j].
             let (factor, sum) = match self.carried {

@@ -110,8 +110,8 @@ pub fn run(
         for length in parts(&mut stream, cut, scheme.n) {
             let (part, behind) = rest.split_at(length);
             // Some of the points at which to go wrong: always in the first row and in the
-            // last of each eight.
-            let often = row == 0 || row % 8 == 7 || stream.below(64) == 0;
+            // last of each sixteen.
+            let often = row == 0 || row % 16 == 15 || stream.below(64) == 0;
             // Behind the last number an end is good.
             let over = row + 1 == scheme.n && rest.is_empty();
             if mixed && often && !over && stream.below(4) == 0 {
@@ -244,7 +244,7 @@ pub fn any_state(scheme: &'static Scheme, which: Which, come: usize, seed: u64) 
         come,
         secret: (0..count).map(|_| number() as u16).collect(),
         sums: (0..count).map(|_| number() as u16).collect(),
-        held: (0..8 * scheme.n).map(|_| number()).collect(),
+        held: (0..16 * scheme.n).map(|_| number() as u16).collect(),
     })
 }
 
@@ -271,7 +271,8 @@ pub fn damaged(scheme: &'static Scheme, which: Which, come: usize, seed: u64) ->
             n - 1,
             n,
             8 * n - 1,
-            8 * n,
+            16 * n - 1,
+            16 * n,
             n * n - n,
             n * n - 1,
             n * n,
@@ -283,12 +284,13 @@ pub fn damaged(scheme: &'static Scheme, which: Which, come: usize, seed: u64) ->
         with(at, &[0, 1, 255, 256, q - 1, q, u32::MAX]);
     }
     // The first and the last of the secret, of the sums and of the rows held back, and
-    // where the next number of A comes to stand.
+    // where the next number of A comes to stand: either of the two words there.
     let (secret, sums, held) = (67, 67 + 4 * scheme.n, 67 + 8 * scheme.n);
     for at in [secret, sums - 1, sums, held - 1, held, good.len() - 1] {
         with(at, &[0, 1, q, 65535, 65536, 1 << 31, u32::MAX]);
     }
-    with(held + come % (8 * scheme.n), &[0, 65536, u32::MAX]);
+    let next = held + come % (16 * scheme.n) / 2;
+    with(next, &[0, 65535, u32::MAX - 65535, u32::MAX]);
     let mut longer = good.clone();
     longer.push(0);
     states.push(longer);

@@ -26,6 +26,18 @@ fn starts(n: usize) -> (usize, usize) {
     (67 + 4 * n, 67 + 8 * n)
 }
 
+/// Numbers of A among the rows held back, from word `from` of these on: two words in a
+/// number, the one before the other in its low half. The other words stay.
+fn lay_back(held: &mut [u32], from: usize, numbers: &[u32]) {
+    for (word, &number) in (from..).zip(numbers) {
+        let (low, high) = (held[word / 2] % 65536, held[word / 2] / 65536);
+        held[word / 2] = match word % 2 {
+            0 => number + 65536 * high,
+            _ => low + 65536 * number,
+        };
+    }
+}
+
 /// Frodo Challenge, and its state of one pattern.
 fn challenge() -> (&'static Scheme, Vec<u32>) {
     (&SIX[2], vec![0xA5A5A5A5; state_count(&SIX[2])])
@@ -96,39 +108,41 @@ fn offers_state_by_hand() {
     (expected[sums + 29], expected[sums + 1]) = (65535, 1 << 16);
     assert_eq!(state, expected);
 
-    // Row 0 in parts, with 30 in column 5 and 7 in column 350: it is held back.
+    // Row 0 in parts, with 30 in column 5 and 7 in column 350: it is held back, two
+    // numbers in one. The first part leaves the upper half of its last one as it was.
     assert_eq!(rows::offer_part(&[9, 9, 9, 9, 9], &mut state), Ok(()));
-    expected[held..held + 5].fill(9);
+    expected[held..held + 3].copy_from_slice(&[589833, 589833, 9]);
     expected[2] = 5;
     assert_eq!(state, expected);
     assert_eq!(rows::offer_part(&[30, 2047], &mut state), Ok(()));
-    (expected[held + 5], expected[held + 6]) = (30, 2047);
+    (expected[held + 2], expected[held + 3]) = (9 + (30 << 16), 2047);
     expected[2] = 7;
     assert_eq!(state, expected);
     let mut rest = vec![0; n - 7];
     rest[350 - 7] = 7;
     assert_eq!(rows::offer_part(&rest, &mut state), Ok(()));
-    expected[held + 350] = 7;
+    expected[held + 175] = 7;
     expected[2] = 352;
     assert_eq!(state, expected);
-    // Rows 1 to 6 all at once, row 7 but for its last number.
-    for row in 1..7 {
+    // Rows 1 to 14 all at once, row 15 but for its last number.
+    for row in 1..15 {
         assert_eq!(rows::offer_part(&vec![1; n], &mut state), Ok(()));
-        expected[held + row * n..held + (row + 1) * n].fill(1);
+        expected[held + row * 176..held + (row + 1) * 176].fill(65537);
         expected[2] += 352;
         assert_eq!(state, expected);
     }
     assert_eq!(rows::offer_part(&vec![1; n - 1], &mut state), Ok(()));
-    expected[held + 7 * n..held + 8 * n - 1].fill(1);
-    expected[2] = 8 * 352 - 1;
+    expected[held + 15 * 176..].fill(65537);
+    expected[5698] = 1;
+    expected[2] = 16 * 352 - 1;
     assert_eq!(state, expected);
-    // With it all eight enter, and none is held back: they stay where they lie.
+    // With it all sixteen enter, and none is held back: they stay where they lie.
     assert_eq!(rows::offer_part(&[1], &mut state), Ok(()));
-    expected[held + 8 * n - 1] = 1;
-    expected[2] = 8 * 352;
+    expected[5698] = 65537;
+    expected[2] = 16 * 352;
     // B[0][3] is 1 + 2 * 30, B[0][0] is -3 * 7.
     (expected[sums + 1], expected[sums]) = (61 << 16, 65515);
-    for row in 1..8 {
+    for row in 1..16 {
         (expected[sums + 4 * row + 1], expected[sums + 4 * row]) = (2 << 16, 65533);
     }
     // B[7][2] stays -1, in one number with B[7][3].
@@ -137,15 +151,17 @@ fn offers_state_by_hand() {
     assert_eq!(rows::offer_part(&[], &mut state), Ok(()));
     assert_eq!(state, expected);
 
-    // The next eight: zeros, but for 2 in row 9 and column 350.
-    for row in 8..16 {
+    // The next sixteen: zeros, but for 2 in row 17 and column 350.
+    for row in 16..32 {
         let mut numbers = vec![0; n];
-        numbers[350] = if row == 9 { 2 } else { 0 };
+        numbers[350] = if row == 17 { 2 } else { 0 };
         assert_eq!(rows::offer_part(&numbers, &mut state), Ok(()));
         expected[2] += 352;
-        expected[held + (row - 8) * n..held + (row - 7) * n].copy_from_slice(&numbers);
-        if row == 15 {
-            expected[sums + 4 * 9] = 65530;
+        let at = held + (row - 16) * 176;
+        expected[at..at + 176].fill(0);
+        expected[at + 175] = numbers[350];
+        if row == 31 {
+            expected[sums + 4 * 17] = 65530;
         }
         assert_eq!(state, expected);
     }
@@ -156,8 +172,8 @@ fn replys_state_by_hand() {
     let (s, mut state) = challenge();
     let n = 352;
     let mut inputs = Inputs::zero(s);
-    // S'[2][4] is -1, S'[7][13] is 3; E'[6][9] is 1; E''[0][0] is -2, E''[7][7] is 3.
-    (inputs.s1[2 * n + 4], inputs.s1[7 * n + 13]) = (-1, 3);
+    // S'[2][4] is -1, S'[7][21] is 3; E'[6][9] is 1; E''[0][0] is -2, E''[7][7] is 3.
+    (inputs.s1[2 * n + 4], inputs.s1[7 * n + 21]) = (-1, 3);
     inputs.e1[6 * n + 9] = 1;
     (inputs.e2[0], inputs.e2[63]) = (-2, 3);
     // Of B the entry [4][1] is 5, of 11 bits; V[2][1] is -5.
@@ -169,49 +185,110 @@ fn replys_state_by_hand() {
     let mut expected = vec![0; 5699];
     (expected[0], expected[1], expected[2]) = (2, 2, 0);
     (expected[3], expected[3 + 63], expected[3 + 2 * 8 + 1]) = (2046, 3, 2043);
-    // Words 708 and 2477 of the secret, 2121 of the sums.
+    // Words 708 and 2485 of the secret, 2121 of the sums.
     let (sums, held) = (67 + 4 * n, 67 + 8 * n);
-    (expected[67 + 354], expected[67 + 1238]) = (65535, 3 << 16);
+    (expected[67 + 354], expected[67 + 1242]) = (65535, 3 << 16);
     expected[sums + 1060] = 1 << 16;
     assert_eq!(state, expected);
 
     // In row 4 stand 7 and 8; the other rows meet zeros of S'.
+    let two = 2047 + (2047 << 16);
     for row in 0..4 {
         assert_eq!(rows::reply_part(&vec![2047; n], &mut state), Ok(()));
-        expected[held + row * n..held + (row + 1) * n].fill(2047);
+        expected[held + row * 176..held + (row + 1) * 176].fill(two);
         expected[2] += 352;
         assert_eq!(state, expected);
     }
     assert_eq!(rows::reply_part(&[7, 8], &mut state), Ok(()));
-    (expected[held + 4 * n], expected[held + 4 * n + 1]) = (7, 8);
+    expected[held + 4 * 176] = 7 + (8 << 16);
     expected[2] += 2;
     assert_eq!(state, expected);
     assert_eq!(rows::reply_part(&vec![0; n - 2], &mut state), Ok(()));
     expected[2] += 350;
     assert_eq!(state, expected);
-    for row in 5..7 {
+    for row in 5..15 {
         assert_eq!(rows::reply_part(&vec![2047; n], &mut state), Ok(()));
-        expected[held + row * n..held + (row + 1) * n].fill(2047);
+        expected[held + row * 176..held + (row + 1) * 176].fill(two);
         expected[2] += 352;
         assert_eq!(state, expected);
     }
     assert_eq!(rows::reply_part(&vec![2047; n], &mut state), Ok(()));
-    expected[held + 7 * n..].fill(2047);
+    expected[held + 15 * 176..].fill(two);
     expected[2] += 352;
     // B'[2][0] and B'[2][1] are -7 and -8: two words of one number.
     expected[sums + n] = 65529 + 65528 * 65536;
     assert_eq!(state, expected);
 
-    // The next eight: 5 at the end of row 13.
-    for row in 8..16 {
+    // The next sixteen: 5 at the end of row 21.
+    for row in 16..32 {
         let mut numbers = vec![0; n];
-        numbers[351] = if row == 13 { 5 } else { 0 };
+        numbers[351] = if row == 21 { 5 } else { 0 };
         assert_eq!(rows::reply_part(&numbers, &mut state), Ok(()));
-        expected[held + (row - 8) * n..held + (row - 7) * n].copy_from_slice(&numbers);
     }
-    expected[2] += 8 * 352;
+    expected[held..].fill(0);
+    expected[held + 6 * 176 - 1] = 5 << 16;
+    expected[2] += 16 * 352;
     expected[sums + 4 * n - 1] = 15 << 16;
     assert_eq!(state, expected);
+}
+
+/// Parts that end in the middle of a pair: the other half of the number that they
+/// share with what stands before or behind them stays as it was.
+#[test]
+fn an_odd_cut_by_hand() {
+    for s in frodo() {
+        let (n, (sums, held)) = (s.n, starts(s.n));
+        let last = 67 + 16 * n - 1;
+        for which in BOTH {
+            // Words 51,000 and 52,000 by turns, which no number of A is.
+            let (low, high) = (51000, 52000 << 16);
+            let mut state = any_state(s, which, 0, 22);
+            state[held..].fill(low + high);
+            let mut expected = state.clone();
+            let mut step = |numbers: &[u32], laid: &[(usize, u32)]| {
+                assert_eq!(part(which, numbers, &mut state), Ok(()));
+                expected[2] += numbers.len() as u32;
+                for &(at, number) in laid {
+                    expected[at] = number;
+                }
+                assert_eq!(state, expected, "{} {which:?} {numbers:?}", s.name);
+            };
+            // An odd end, from an even place.
+            step(&[1, 2, 3], &[(held, 1 + (2 << 16)), (held + 1, 3 + high)]);
+            // None from an odd place.
+            step(&[], &[]);
+            // An even end, from an odd place.
+            step(&[4], &[(held + 1, 3 + (4 << 16))]);
+            // One number, low; then from an odd place to an odd end.
+            step(&[5], &[(held + 2, 5 + high)]);
+            let (third, fourth) = (5 + (6 << 16), 7 + high);
+            step(&[6, 7], &[(held + 2, third), (held + 3, fourth)]);
+            step(&[0], &[(held + 3, 7)]);
+
+            // The end of sixteen rows: three numbers from an odd place, in two parts. The
+            // second of them brings all words into the sums, as they lie.
+            let before = any_state(s, which, 16 * n - 3, 23);
+            let mut state = before.clone();
+            assert_eq!(part(which, &[8, 9], &mut state), Ok(()));
+            let mut expected = before.clone();
+            expected[2] = 16 * n as u32 - 1;
+            expected[last - 1] = before[last - 1] % 65536 + (8 << 16);
+            expected[last] = before[last] / 65536 * 65536 + 9;
+            assert_eq!(state, expected);
+            assert_eq!(part(which, &[10], &mut state), Ok(()));
+            expected[2] += 1;
+            expected[last] = 9 + (10 << 16);
+            assert_eq!(state[..sums], expected[..sums]);
+            assert_ne!(state[sums..held], expected[sums..held]);
+            assert_eq!(state[held..], expected[held..]);
+            // Then the first word again, and no other.
+            let mut expected = state.clone();
+            assert_eq!(part(which, &[11], &mut state), Ok(()));
+            expected[2] += 1;
+            expected[held] = before[held] / 65536 * 65536 + 11;
+            assert_eq!(state, expected);
+        }
+    }
 }
 
 #[test]
@@ -331,13 +408,15 @@ fn the_cut_makes_no_difference() {
     let s = &SIX[2];
     let (sums, held) = starts(352);
     for which in BOTH {
-        // Inside eight rows, and to their end.
+        // Inside sixteen rows, also where eight end, and to their end; from odd places too.
         for (come, ends) in [
             (0, false),
-            (352 * 6 + 300, false),
-            (352 * 7, true),
-            (352 * 7 + 300, true),
-            (352 * 8, false),
+            (352 * 7 + 300, false),
+            (352 * 14 + 301, false),
+            (352 * 15, true),
+            (352 * 15 + 300, true),
+            (352 * 15 + 301, true),
+            (352 * 16, false),
             (352 * 352 - 352, true),
         ] {
             let before = any_state(s, which, come, generator.below(1000) + 1);
@@ -349,8 +428,7 @@ fn the_cut_makes_no_difference() {
             assert_eq!(whole[sums..held] != before[sums..held], ends);
             // The part's numbers stand where they came to, and the others stay.
             let mut lies = before[held..].to_vec();
-            let at = come % (8 * 352);
-            lies[at..at + left].copy_from_slice(&numbers);
+            lay_back(&mut lies, come % (16 * 352), &numbers);
             assert_eq!(whole[held..], lies);
             for at in 0..=left {
                 let mut state = before.clone();
@@ -367,59 +445,59 @@ fn the_cut_makes_no_difference() {
 fn words_wrap_at_two_to_the_16() {
     let s = &SIX[2];
     let (n, secret, (sums, held)) = (352, 67, starts(352));
-    let mut state = any_state(s, Which::Offer, 8 * n - 1, 1);
+    let mut state = any_state(s, Which::Offer, 16 * n - 1, 1);
     state[secret..].fill(0);
     // S[0][0] is 65535, S[1][0] is 32768, S[2][0] is 1; B[0][0] is 3, B[0][1] is 7.
     (state[secret], state[secret + 1]) = (65535 + 32768 * 65536, 1);
     state[sums] = 3 + 7 * 65536;
-    // 5, 2046 and 0 in row 0, by their remainders.
-    (state[held], state[held + 1], state[held + 2]) = (65536 + 5, 2046, 1 << 31);
+    // 5, 65534 and 65535 in row 0, and behind them 1 where S is 0.
+    (state[held], state[held + 1]) = (5 + 65534 * 65536, 65535 + 65536);
     assert_eq!(rows::offer_part(&[0], &mut state), Ok(()));
-    // No word goes into the other of its number.
-    assert_eq!(state[sums], 65534 + 7 * 65536);
+    // 3 - 5 + 0 - 1: no word goes into the other of its number.
+    assert_eq!(state[sums], 65533 + 7 * 65536);
     assert!(state[sums + 1..held].iter().all(|&number| number == 0));
-    // Reduced at the end: 2^16 - 2 is -2 modulo 2048.
+    // Reduced at the end: 2^16 - 3 is -3 modulo 2048.
     state[2] = 352 * 352;
     let mut opening = vec![0; s.opening_bytes()];
     assert_eq!(rows::offer_end(&mut state, &mut opening), Ok(opening.len()));
-    assert_eq!((opening[16], opening[17], opening[18]), (0xFE, 0x3F, 0));
+    assert_eq!((opening[16], opening[17], opening[18]), (0xFD, 0x3F, 0));
 }
 
 #[test]
-fn of_what_is_held_back_the_remainder_counts() {
+fn what_is_held_back_counts_and_nothing_behind_it() {
     for s in frodo() {
         let (n, (sums, held)) = (s.n, starts(s.n));
         for which in BOTH {
-            for come in [8 * n - 1, 7 * n, 16 * n - 5, n * n - n, n * n - 1] {
+            let ends = [16 * n - 1, 15 * n, 32 * n - 5, n * n - n, n * n - 2];
+            for come in ends {
                 let before = any_state(s, which, come, 8);
                 let rest = vec![s.q as u32 - 1; n - come % n];
                 let mut after = before.clone();
                 assert_eq!(part(which, &rest, &mut after), Ok(()));
+                assert_ne!(after[sums..held], before[sums..held]);
+                // What stood behind does not count, the second word of a pair neither.
+                let at = come % (16 * n);
                 let mut other = before.clone();
-                for number in &mut other[held..] {
-                    *number %= 65536;
-                }
+                lay_back(&mut other[held..], at, &vec![65535; rest.len()]);
                 assert_ne!(other, before);
                 assert_eq!(part(which, &rest, &mut other), Ok(()));
-                assert_eq!(other[..held], after[..held]);
-                assert_ne!(after[sums..held], before[sums..held]);
-                // What stood behind them does not count at all.
-                let mut other = before.clone();
-                other[held + come % (8 * n)..].fill(77);
-                assert_eq!(part(which, &rest, &mut other), Ok(()));
-                assert_eq!(other[..held], after[..held]);
-                // The remainder does.
-                let mut other = before.clone();
-                other[held] ^= 1;
-                assert_eq!(part(which, &rest, &mut other), Ok(()));
-                assert_ne!(other[..held], after[..held]);
+                assert_eq!(other, after);
+                // Of the first, the second and the last of them all 16 bits do.
+                for word in [0, 1, at - 1] {
+                    for bit in [0, 15] {
+                        let mut other = before.clone();
+                        other[held + word / 2] ^= 1 << (word % 2 * 16 + bit);
+                        assert_eq!(part(which, &rest, &mut other), Ok(()));
+                        assert_ne!(other[sums..held], after[sums..held]);
+                    }
+                }
             }
         }
     }
 }
 
 #[test]
-fn a_part_that_ends_no_eight_rows_is_a_copy() {
+fn a_part_that_ends_no_sixteen_rows_is_laid_back_and_no_more() {
     let mut generator = Generator::new(181);
     for s in frodo() {
         let (n, held) = (s.n, starts(s.n).1);
@@ -427,11 +505,18 @@ fn a_part_that_ends_no_eight_rows_is_a_copy() {
             for (come, length) in [
                 (0, n),
                 (0, 1),
-                (6 * n, n),
-                (8 * n - 2, 1),
-                (8 * n - 1, 0),
-                (8 * n, 0),
-                (8 * n, 1),
+                (1, 1),
+                (1, n - 2),
+                (7, n - 7),
+                (7 * n, n),
+                (8 * n - 1, 1),
+                (14 * n, n),
+                (15 * n, n - 1),
+                (16 * n - 2, 1),
+                (16 * n - 1, 0),
+                (16 * n, 0),
+                (16 * n, 1),
+                (24 * n - 1, 1),
                 (n * n - n, n - 1),
                 (n * n, 0),
             ] {
@@ -439,8 +524,7 @@ fn a_part_that_ends_no_eight_rows_is_a_copy() {
                 let numbers = numbers(&mut generator, length, s.q);
                 let mut expected = before.clone();
                 expected[2] += length as u32;
-                let at = held + come % (8 * n);
-                expected[at..at + length].copy_from_slice(&numbers);
+                lay_back(&mut expected[held..], come % (16 * n), &numbers);
                 let mut state = before.clone();
                 assert_eq!(part(which, &numbers, &mut state), Ok(()));
                 assert_eq!(state, expected, "{come} {length}");
@@ -454,7 +538,7 @@ fn a_state_and_its_numbers() {
     for s in frodo() {
         for which in BOTH {
             let all = s.n * s.n;
-            for come in [0, 1, s.n, 8 * s.n - 1, 8 * s.n, all - 1, all] {
+            for come in [0, 1, s.n, 16 * s.n - 1, 16 * s.n, all - 1, all] {
                 let lent = any_state(s, which, come, 7);
                 let state = parse(&lent).unwrap();
                 assert_eq!(lay(&state), lent);
@@ -524,7 +608,7 @@ fn damaged_states_give_11_or_go_on() {
     let s = &SIX[2];
     let mut counts = [0; 2];
     for which in BOTH {
-        for come in [352, 352 * 8 - 1, 352 * 8, 352 * 352] {
+        for come in [352, 352 * 16 - 1, 352 * 16, 352 * 352] {
             for before in damaged(s, which, come, 11) {
                 let begun = parse(&before);
                 let mut state = before.clone();
@@ -707,8 +791,8 @@ fn a_parts_refusals() {
             (1, 351),
             (351, 1),
             (352, 352),
-            (2815, 1),
-            (2816, 352),
+            (5631, 1),
+            (5632, 352),
             (123903, 1),
             (123904, 0),
         ] {
@@ -760,7 +844,7 @@ fn ends_refusals() {
     let s = &SIX[2];
     for which in BOTH {
         // Before all n rows: 11 before 3.
-        for come in [0, 1, 352, 352 * 8, 352 * 352 - 1] {
+        for come in [0, 1, 352, 352 * 16, 352 * 352 - 1] {
             let mut state = any_state(s, which, come, 14);
             let before = state.clone();
             assert_eq!(end_refused(which, s, &mut state), NO_BEGIN);
