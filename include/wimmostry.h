@@ -161,11 +161,11 @@
  *   moved between calls. One that is not of its length, that no call leaves in its first 67 numbers
  *   (which call, which scheme, how many numbers of A have come, the seed or the replier's values),
  *   or that was begun for the other of the two calls, counts as none: 11. The other numbers (the
- *   secret and the sums, as words of 16 bits, two in a number, and the rows held back) may be
- *   anything, so that changing them is not found out, but makes another message.
- * - A part is copied into the state, and held back there until eight rows have come, which then
- *   enter the sums together: the part that ends them takes the time of all eight, the others that
- *   of a copy.
+ *   secret, the sums and the rows held back, as words of 16 bits, two in a number) may be anything,
+ *   so that changing them is not found out, but makes another message.
+ * - A part is laid into the state as words, and held back there until sixteen rows have come, which
+ *   then enter the sums together: the part that ends them takes the time of all sixteen, the others
+ *   that of a copy.
  * - A state is a secret: it holds s or s', and what the key is made of. A good end zeroes it, and
  *   so does a refused begin. Where the exchange is given up before the end, the caller zeroes it,
  *   all WIM_X_STATE numbers. No copy of it goes on by itself: that would use the secrets twice.

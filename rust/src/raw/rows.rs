@@ -4,10 +4,10 @@
 //! Begin starts afresh, whatever the state held; refused, it zeroes the state. A
 //! part is some numbers of the current row, and any cut of a row will do; a
 //! refused part or end leaves the state as it was and may be tried again. The state
-//! holds rows back until eight have come: the part that ends them takes the time of
-//! all eight, the others that of a copy. A good end zeroes it. Until then the state
-//! holds the secret: it is the caller's to wipe where the exchange is given up.
-//! [`rows`](crate::rows) sees to that.
+//! holds rows back until sixteen have come: the part that ends them takes the time
+//! of all sixteen, the others that of a copy. A good end zeroes it. Until then the
+//! state holds the secret: it is the caller's to wipe where the exchange is given
+//! up. [`rows`](crate::rows) sees to that.
 //!
 //! Begin and end scrub the stack. A part does not, since there are many of them and
 //! a scrub takes longer than a row: what parts leave there goes with the end, or by
