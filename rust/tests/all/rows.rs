@@ -213,7 +213,8 @@ fn calls(scheme: &Scheme) -> Vec<Call> {
 
 /// States out of range, of other lengths and just within range, of both calls, in
 /// all four sets, at the beginning, inside a row, at a row's end, before the last row
-/// of eight and its last number, behind it, and behind the last row.
+/// of sixteen and its last number, behind it, and behind the last row; at odd places,
+/// in the middle of two words of one number, as well.
 #[test]
 fn damaged_states() {
     let mut numbers = BTreeMap::new();
@@ -221,7 +222,7 @@ fn damaged_states() {
         let n = scheme.n;
         let calls = calls(scheme);
         for which in BOTH {
-            for come in [0, n + 1, 2 * n - 1, 8 * n - 1, 8 * n, n * n - n, n * n] {
+            for come in [0, n + 1, 2 * n - 1, 16 * n - 1, 16 * n, n * n - n, n * n] {
                 for state in damaged(scheme, which, come, 11) {
                     for call in &calls {
                         let seen = alone(call, &state);
@@ -236,21 +237,24 @@ fn damaged_states() {
     assert!(numbers.values().all(|&count| count > 300), "{numbers:?}");
 }
 
-/// States in range with any numbers in them, of which the sums may wrap and those held
-/// back are 65536 and more, and a few rows on: parts that end eight rows, of one and of
-/// many numbers, empty parts there, and eight rows more up to the end.
+/// States in range with any numbers in them, of which the sums may wrap and the words
+/// held back are q and more, and a few rows on: parts that end sixteen rows, of one and
+/// of many numbers, empty parts there, and sixteen rows more up to the end; parts that
+/// start or end in the middle of two words of one number, and the other word stays.
 #[test]
 fn random_states() {
     for scheme in frodo() {
         let n = scheme.n;
         let mut generator = Generator::new(70 + scheme.number);
-        let mut parts = vec![n - 5, 0, n - 1, 1, 0, 1, n - 1];
-        parts.extend([n; 4]);
+        let mut parts = vec![n - 5, 0, 1, n - 1, 0, 1, n - 1];
+        parts.extend([n; 12]);
         parts.extend([n / 2, n - n / 2, 1, n - 2, 1, n - 1, 0, 1, 0]);
         for which in BOTH {
-            // Two rows before the last eight.
-            let come = n * (n - 10) + 5;
+            // Two rows before the last sixteen.
+            let come = n * (n - 18) + 5;
             let mut after = any_state(scheme, which, come, 12);
+            let sums = 67 + 4 * n..67 + 8 * n;
+            let mut entered = 0;
             let mut state = Lent::new(&after, 9);
             for &length in &parts {
                 let number = |byte: u8| (u32::from(byte) * 40_503) % scheme.q as u32;
@@ -259,10 +263,14 @@ fn random_states() {
                     Which::Offer => Call::OfferPart(part),
                     Which::Reply => Call::ReplyPart(part),
                 };
+                let before = after[sums.clone()].to_vec();
                 let seen = call.run(&mut after);
                 assert_eq!(seen.refusal, None);
                 held(&call, &mut state, &seen, &after);
+                entered += usize::from(after[sums.clone()] != before);
             }
+            // At the end of each sixteen rows, and nowhere else.
+            assert_eq!(entered, 2);
             let end = calls(scheme).split_off(10).remove(which as usize);
             let seen = end.run(&mut after);
             assert_eq!(seen.refusal, None);
