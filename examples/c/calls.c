@@ -225,14 +225,14 @@ static uint32_t rows_offer_begin(struct lent *l)
                                 x->state, &l->place);
 }
 
-/* The eighth row. */
+/* The sixteenth row. */
 static uint32_t rows_offer_part(struct lent *l)
 {
     const struct scheme *x = l->scheme;
 
-    if (!ready(l, l->offer_seven))
+    if (!ready(l, l->offer_fifteen))
         return WIM_DONE;
-    return wim_rows_offer_part(l->a + 7 * x->row, x->row, l->state, x->state, &l->place);
+    return wim_rows_offer_part(l->a + 15 * x->row, x->row, l->state, x->state, &l->place);
 }
 
 static uint32_t rows_offer_end(struct lent *l)
@@ -257,9 +257,9 @@ static uint32_t rows_reply_part(struct lent *l)
 {
     const struct scheme *x = l->scheme;
 
-    if (!ready(l, l->reply_seven))
+    if (!ready(l, l->reply_fifteen))
         return WIM_DONE;
-    return wim_rows_reply_part(l->a + 7 * x->row, x->row, l->state, x->state, &l->place);
+    return wim_rows_reply_part(l->a + 15 * x->row, x->row, l->state, x->state, &l->place);
 }
 
 static uint32_t rows_reply_end(struct lent *l)
@@ -290,15 +290,15 @@ const struct call calls[CALLS] = {
 typedef uint32_t (*part_call)(const uint32_t *, size_t, uint32_t *, size_t, uint64_t *);
 
 /* All rows of A by one of the two calls, on the state that was begun, which is kept as it is after
- * seven and after all of them; 0 or the refusal. */
-static uint32_t all_rows(struct lent *l, part_call part, uint32_t *seven, uint32_t *full)
+ * fifteen and after all of them; 0 or the refusal. */
+static uint32_t all_rows(struct lent *l, part_call part, uint32_t *fifteen, uint32_t *full)
 {
     const struct scheme *x = l->scheme;
     uint32_t refusal = WIM_DONE;
 
     for (size_t i = 0; i < x->row && refusal == WIM_DONE; i++) {
-        if (i == 7)
-            memcpy(seven, l->state, sizeof l->state);
+        if (i == 15)
+            memcpy(fifteen, l->state, sizeof l->state);
         refusal = part(l->a + i * x->row, x->row, l->state, x->state, &l->place);
     }
     memcpy(full, l->state, sizeof l->state);
@@ -311,13 +311,13 @@ static uint32_t draw_states(struct lent *l)
     uint32_t refusal = rows_offer_begin(l);
 
     if (refusal == WIM_DONE)
-        refusal = all_rows(l, wim_rows_offer_part, l->offer_seven, l->offer_full);
+        refusal = all_rows(l, wim_rows_offer_part, l->offer_fifteen, l->offer_full);
     if (refusal == WIM_DONE)
         refusal = rows_offer_end(l);
     if (refusal == WIM_DONE)
         refusal = rows_reply_begin(l);
     if (refusal == WIM_DONE)
-        refusal = all_rows(l, wim_rows_reply_part, l->reply_seven, l->reply_full);
+        refusal = all_rows(l, wim_rows_reply_part, l->reply_fifteen, l->reply_full);
     return refusal;
 }
 

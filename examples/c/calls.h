@@ -20,11 +20,11 @@ struct lent {
     uint8_t text[WIM_SETTINGS_TEXT], label[WIM_SETTINGS_LABEL];
     uint64_t place, written, key_written, digest_written, differ, slack, slack_index;
     uint64_t text_written, format, scheme_read, rule_read;
-    /* by rows: the state that a call is lent, and what it starts from: with seven rows, so that a
-     * row more makes eight, which enter the sums, and with all rows */
+    /* by rows: the state that a call is lent, and what it starts from: with fifteen rows, so that
+     * a row more makes sixteen, which enter the sums, and with all rows */
     uint32_t state[WIM_MAX_STATE];
-    uint32_t offer_seven[WIM_MAX_STATE], offer_full[WIM_MAX_STATE];
-    uint32_t reply_seven[WIM_MAX_STATE], reply_full[WIM_MAX_STATE];
+    uint32_t offer_fifteen[WIM_MAX_STATE], offer_full[WIM_MAX_STATE];
+    uint32_t reply_fifteen[WIM_MAX_STATE], reply_full[WIM_MAX_STATE];
 };
 
 struct call {

@@ -323,10 +323,10 @@ static void rows_part(int nulls)
     uint32_t refusal;
 
     written = 0;
-    memcpy(lent.state, lent.offer_seven, sizeof lent.state);
+    memcpy(lent.state, lent.offer_fifteen, sizeof lent.state);
     refusal = wim_rows_offer_part(LEND(0, lent.a, x->row), LEND(1, lent.state, x->state), &place);
     held("wim_rows_offer_part", nulls, refusal, none);
-    memcpy(lent.state, lent.reply_seven, sizeof lent.state);
+    memcpy(lent.state, lent.reply_fifteen, sizeof lent.state);
     refusal = wim_rows_reply_part(LEND(0, lent.a, x->row), LEND(1, lent.state, x->state), &place);
     held("wim_rows_reply_part", nulls, refusal, none);
 }

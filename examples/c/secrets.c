@@ -54,11 +54,11 @@ static void hide(size_t call)
     }
     /* secret and sums, and in Reply the values before them; the seed and the rows are public */
     if (call == ROWS_OFFER_PART)
-        HIDE(lent.offer_seven + 67, x->s);
+        HIDE(lent.offer_fifteen + 67, x->s);
     if (call == ROWS_OFFER_END)
         HIDE(lent.offer_full + 67, x->s);
     if (call == ROWS_REPLY_PART)
-        HIDE(lent.reply_seven + 3, 64 + x->s);
+        HIDE(lent.reply_fifteen + 3, 64 + x->s);
     if (call == ROWS_REPLY_END)
         HIDE(lent.reply_full + 3, 64 + x->s);
 }
