@@ -3,7 +3,7 @@
 --   gained-length, gained-at, gained-none   a list of sums: its length, its entries, and with no product yet
 --   wrapped, gain-next, gained-next, gained-more   a sum that wrapped before it gained; one product more for a sum; for each; n more
 --   on-copy, known             what is made of a copy; the products of a row whose length is known
---   reduced-gained, steps-are, row-are  from the noise to the remainders, by place; in three steps; of a row
+--   reduced-gained, steps-are  from the noise to the remainders, by place; in three steps
 --   mixed                      they are those of the whole sums, by row and column
 use mathlib.Core.Path.{_≡_, _∙_, sym, ap}
 use mathlib.Core.List.{List}
@@ -83,7 +83,7 @@ known m row cols ws e d = d ∙ ap (λ (j : ℕ). gained m j (dotTerm j row cols
 
 -- ---- from the noise e to the remainders
 
-pub reduced-gained : (m : ℕ) (q n : ℕ) (f : ℕ → ℕ → ℕ) (e : List ℤ)
+reduced-gained : (m : ℕ) (q n : ℕ) (f : ℕ → ℕ → ℕ) (e : List ℤ)
     → reduced q (gained m n f (wordsOf m e)) ≡ tab (length e) (λ k. (residue m (ints e k) + sumℕ n (f k)) % m % q)
 unfolding reduced
 reduced-gained m q n f e =
@@ -97,13 +97,6 @@ reduced-gained m q n f e =
 pub steps-are : (m : ℕ) (q n : ℕ) (f : ℕ → ℕ → ℕ) (e : List ℤ) {l x out : List ℕ} → l ≡ wordsOf m e → x ≡ gained m n f l → out ≡ reduced q x
     → out ≡ reduced q (gained m n f (wordsOf m e))
 steps-are m q n f e s g d = d ∙ ap (reduced q) (g ∙ ap (gained m n f) s)
-
--- of a row of numbers, and b, the same as words
-pub row-are :
-    (m : ℕ) (q n : ℕ) (row cols : List ℕ) (e : List ℤ) {b l x out : List ℕ} → b ≡ row → l ≡ wordsOf m e → x ≡ gained m n (dotTerm n b cols) l → out ≡ reduced q x →
-    out ≡ reduced q (gained m n (dotTerm n row cols) (wordsOf m e))
-row-are m q n row cols e {l = l} r s g d =
-    steps-are m q n (dotTerm n row cols) e s (on-copy (λ (b : List ℕ). gained m n (dotTerm n b cols) l) r g) d
 
 -- a remainder of words is that of whole numbers which they are modulo m, a multiple of q
 module _ (m q n : ℕ) (o : 0 < q) (some : 0 < m) (w : m % q ≡ 0) where

@@ -1,7 +1,7 @@
 -- The products that the sums gain: how the parts of the matrices that are lent make up the whole. Row i of a matrix with n columns lies from i n on.
 --   row-in                 a row ends inside
 --   column-row             column j of S is row j of its columns
---   right-sums, right-row  row i of the sums of XS, and of XS + E
+--   right-sums             row i of the sums of XS
 --   in-s, block-long, block-row   a block of rows of Y and their words, for row i of SY
 --   in-y, part-terms       a block as it lies in Y
 use mathlib.Core.Path.{_≡_, _∙_, sym, ap, ap₂}
@@ -11,15 +11,14 @@ use native.Mathlib.Omega.{arith}
 use native.Mathlib.Nat.{mul-le-mul-right, mod-lt}
 use lib.Arith.{digits-div, digits-mod, digits-lt}
 use lib.ListN.{length, getD, take, drop}
-use lib.IntN.{ℤ, pos}
+use lib.IntN.{ℤ}
 use Rattle.numbers.specs.Sum.{sumℕ}
 use Rattle.numbers.specs.Residue.{residue}
 use Rattle.numbers.proofs.Sums.{natural, sum-ext}
 use Rattle.lists.specs.Entries.{tab, ints}
 use Rattle.lists.proofs.Entries.{tab-ext}
 use Rattle.lists.proofs.Parts.{slice-long, slice-at}
-use Rattle.matrix.specs.Steps.{wordsOf, gained, reduced, dotTerm, rightTerm, blockTerm, partTerm, leftTerm, blockGained}
-use Rattle.matrix.proofs.Steps.{reduced-gained}
+use Rattle.matrix.specs.Steps.{gained, dotTerm, rightTerm, blockTerm, partTerm, leftTerm, blockGained}
 
 pub row-in : (r n i : ℕ) → i < r → i * n + n ≤ r * n
 row-in r n i h = let m : suc i * n ≤ r * n = mul-le-mul-right n h in omega arith
@@ -52,19 +51,6 @@ module _ (n i : ℕ) (x cols : List ℕ) where
       (ap (λ (k : ℕ). tab k (λ j. (getD (take (i * 8 + 8 - i * 8) (drop (i * 8) sums)) j 0 + sumℕ n (dotTerm n (take (i * n + n - i * n) (drop (i * n) x)) cols j)) % 65536))
       (slice-long (i * 8) 8 sums h)
       ∙ tab-ext 8 _ _ (λ j p. ap₂ (λ (z s : ℕ). (z + s) % 65536) (slice-at (i * 8) 8 sums 0 j p) (dot-terms j p)))
-
-  pub right-row :
-      (q : ℕ) (e : List ℤ) → i * 8 + 8 ≤ length e → {p : List ℕ} →
-      p ≡ reduced q (gained 65536 n (dotTerm n (take (i * n + n - i * n) (drop (i * n) x)) cols) (wordsOf 65536 (take (i * 8 + 8 - i * 8) (drop (i * 8) e)))) →
-      p ≡ tab 8 (λ j. (residue 65536 (ints e (i * 8 + j)) + sumℕ n (rightTerm n x cols (i * 8 + j))) % 65536 % q)
-  unfolding ints
-  right-row q e h o =
-      o
-      ∙ reduced-gained _ q n _ _
-      ∙ ap (λ (k : ℕ). tab k (λ j. (residue 65536 (ints (take (i * 8 + 8 - i * 8) (drop (i * 8) e)) j) + sumℕ n (dotTerm n (take (i * n + n - i * n) (drop (i * n) x)) cols j)) % 65536 % q))
-      (slice-long (i * 8) 8 e h)
-      ∙ tab-ext 8 _ _
-      (λ j p. ap₂ (λ (z : ℤ) (s : ℕ). (residue 65536 z + s) % 65536 % q) (slice-at (i * 8) 8 e (pos 0) j p) (dot-terms j p))
 
 -- the block y of m rows, from row t of Y on, into row i of the 8 rows of sums
 module _ (n c t m : ℕ) (s y : List ℕ) (hs : length s ≡ 8 * n) (b : t + m ≤ n) (hy : length y ≡ m * c) (i : ℕ) (r : i < 8) where

@@ -1,19 +1,18 @@
 -- What the code makes of whole matrices is what the definitions say.
 --   column-at, columns-length   an entry of the columns of S, and how many there are
 --   shape, fit             what fits has the shape; what has it fits where its numbers are below q
---   zeros-within           zeros as noise
 --   right-is, left-is, bare-is   words of any modulus m that is a multiple of q: XS + E by rows of X and columns of S; SY + E by rows of Y; US as XS + E without noise
 use mathlib.Core.Path.{_≡_, refl, _∙_, ap, ap₂}
 use mathlib.Core.List.{List}
-use Prim.Native.Nat.{ℕ, _+_, _*_, _/_, _%_, _<_, _≤_}
+use Prim.Native.Nat.{ℕ, _+_, _*_, _/_, _%_, _<_}
 use native.Mathlib.Omega.{arith}
 use native.Mathlib.Nat.{mod-lt, div-lt-iff-lt-mul}
 use lib.Arith.{digits-div, digits-mod, digits-lt}
 use lib.ListN.{length, getD, replicate}
-use lib.IntN.{ℤ, pos, natAbs, _+ℤ_, _*ℤ_, +ℤ-idr, *ℤ-comm}
+use lib.IntN.{ℤ, pos, _+ℤ_, _*ℤ_, +ℤ-idr, *ℤ-comm}
 use Rattle.numbers.specs.Residue.{residue, _≅⟨_⟩_}
 use Rattle.numbers.proofs.Congruence.{eq-≅, refl-≅, _⨾_, mul-≅, residue-≅}
-use Rattle.lists.specs.Entries.{nums, ints, Below, Within}
+use Rattle.lists.specs.Entries.{nums, ints, Below}
 use Rattle.lists.proofs.Entries.{tab-length, tab-at, tab-ext}
 use Rattle.lists.proofs.Same.{equal-all}
 use Rattle.matrix.specs.Matrix.{times, rows, numsAt, intsAt}
@@ -89,9 +88,6 @@ left-is m {q} {n} {c} {s} {y} some w e f d h o =
     let i : k / c < 8 = div-lt-iff-lt-mul (f .rows-many) .1 p in
     product-≅ m some (getD y (t * c + k % c) 0) _ _ (words-at m s (k / c * n + t) (rw (f .s-long) (digits-lt i b)))
     ⨾ eq-≅ (*ℤ-comm (pos (getD y (t * c + k % c) 0)) (ints s (k / c * n + t)))))
-
-pub zeros-within : (m : ℕ) → Within 6 (replicate m (pos 0))
-zeros-within m = record { within = equal-all (λ z. natAbs z ≤ 6) (pos 0) m (omega arith) }
 
 pub bare-is : (q n : ℕ) (u : List ℕ) (s : List ℤ) {out : List ℕ} → out ≡ rightMixed q 8 n 8 u s (replicate 64 (pos 0)) → out ≡ bare q n 8 u s
 unfolding rightMixed bare rows intsAt ints

@@ -126,7 +126,7 @@ fn copy(src: &[u16], out: &mut [u16])
 }
 
 // The remainder without a division, so that it runs many numbers at a time. Where m is (2^32 - 1) / q, u m / 2^32 is the quotient or one less.
-pub fn remainder(u: u32, q: u32, m: u32) -> u32
+fn remainder(u: u32, q: u32, m: u32) -> u32
     requires { ⌜ (0 < q) × (m ≡ 4294967295 / q) ⌝ }
     ensures { λ r. ⌜ r ≡ u % q ⌝ }
 {
@@ -236,58 +236,43 @@ pub fn add_right(n: usize, r: usize, x: &[u16], cols: &[u16], sums: &mut [u16])
     }
 }
 
-// A row of XS + E, with room for its numbers as words. The answer is the place of the first that is q or more, or n.
+// A row of numbers with the columns, into its 8 sums, with room for the row as words. The answer is the place of the first number that is q or more, or n.
 fn right_row(
     q: u32,
     n: usize,
     row: &[u32],
     cols: &[u16],
-    e: &[i32],
     line: &mut [u16],
-    out: &mut [u32],
+    sums: &mut [u16],
 ) -> usize
-    requires { ⌜ (0 < q) × (q ≤ 32768) × (length (now row) ≡ n) × (length (now cols) ≡ 8 * n) ⌝ }
-    requires { ⌜ (length (now e) ≡ 8) × (length (now line) ≡ n) × (length (now out) ≡ 8) ⌝ }
+    requires { ⌜ (0 < q) × (q ≤ 32768) × (length (now row) ≡ n) × (length (now cols) ≡ 8 * n) × (length (now line) ≡ n) × (length (now sums) ≡ 8) ⌝ }
     ensures { λ at. ⌜ at ≡ firstOver q (was row) ⌝ }
-    ensures { λ _. ⌜ (Below q (was row) → left out ≡ reduced q (gained 65536 n (dotTerm n (was row) (was cols)) (wordsOf 65536 (was e)))) ⌝ }
+    ensures { λ _. ⌜ (Below q (was row) → left sums ≡ gained 65536 n (dotTerm n (was row) (was cols)) (was sums)) ⌝ }
 {
-    let mut sums: [u16; 8] = [0; 8];
     let at = narrow_below(q, row, line);
-    words(e, &mut sums);
-    add_dots(n, line, cols, &mut sums);
-    reduce(q, &sums, out);
+    add_dots(n, line, cols, sums);
     at
 }
 
-// XS + E, by rows of X and columns of S, up to the first row that has a number which is q or more. The answer is its place, or X's length.
+// The r rows of X, up to the first that has a number which is q or more. The answer is its place, or X's length.
 fn right_rows(
     q: u32,
     n: usize,
     r: usize,
     x: &[u32],
     cols: &[u16],
-    e: &[i32],
     line: &mut [u16],
-    out: &mut [u32],
+    sums: &mut [u16],
 ) -> usize
-    requires { ⌜ (0 < q) × (q ≤ 32768) × (length (now x) ≡ r * n) × (length (now cols) ≡ 8 * n) ⌝ }
-    requires { ⌜ (length (now e) ≡ 8 * r) × (length (now line) ≡ n) × (length (now out) ≡ 8 * r) ⌝ }
+    requires { ⌜ (0 < q) × (q ≤ 32768) × (length (now x) ≡ r * n) × (length (now cols) ≡ 8 * n) × (length (now line) ≡ n) × (length (now sums) ≡ 8 * r) ⌝ }
     ensures { λ at. ⌜ at ≡ firstOver q (was x) ⌝ }
-    ensures { λ _. ⌜ (Below q (was x) → left out ≡ reduced q (gained 65536 n (rightTerm n (was x) (was cols)) (wordsOf 65536 (was e)))) ⌝ }
+    ensures { λ _. ⌜ (Below q (was x) → left sums ≡ gained 65536 n (rightTerm n (was x) (was cols)) (was sums)) ⌝ }
 {
     let mut i: usize = 0;
     while i < r {
         let a = i * n;
         let b = i * 8;
-        let at = right_row(
-            q,
-            n,
-            &x[a..a + n],
-            cols,
-            &e[b..b + 8],
-            line,
-            &mut out[b..b + 8],
-        );
+        let at = right_row(q, n, &x[a..a + n], cols, line, &mut sums[b..b + 8]);
         if at < n {
             return a + at;
         }
@@ -296,7 +281,7 @@ fn right_rows(
     x.len()
 }
 
-// XS + E, with room for the columns and a row.
+// XS + E, with room for the columns, a row and the sums.
 fn right_on(
     q: u32,
     n: usize,
@@ -306,18 +291,23 @@ fn right_on(
     e: &[i32],
     cols: &mut [u16],
     line: &mut [u16],
+    sums: &mut [u16],
     out: &mut [u32],
 ) -> usize
     requires { ⌜ Shape q n r (now x) (now s) × (length (now e) ≡ 8 * r) × (length (now out) ≡ 8 * r) ⌝ }
-    requires { ⌜ (length (now cols) ≡ 8 * n) × (length (now line) ≡ n) ⌝ }
+    requires { ⌜ (length (now cols) ≡ 8 * n) × (length (now line) ≡ n) × (length (now sums) ≡ 8 * r) ⌝ }
     ensures { λ at. ⌜ at ≡ firstOver q (was x) ⌝ }
     ensures { λ _. ⌜ (Below q (was x) → left out ≡ rightMixed q r n 8 (was x) (was s) (was e)) ⌝ }
 {
     columns(n, s, cols);
-    right_rows(q, n, r, x, cols, e, line, out)
+    words(e, sums);
+    let at = right_rows(q, n, r, x, cols, line, sums);
+    reduce(q, sums, out);
+    at
 }
 
-// XS + E, where X has r rows and n columns: AS + E. The answer is the place of the first number of X that is q or more, or X's length where none is.
+// XS + E, where X has r rows and n columns: AS + E. The answer is the place of the first number of X that is q or more, or X's length where none is. The
+// columns have four words of room that nobody needs: with them all three arrays start where 16 bytes do, and no vector lies in two lines of the cache.
 pub fn mix_right(
     q: u32,
     n: usize,
@@ -332,10 +322,23 @@ pub fn mix_right(
     ensures { λ at. ⌜ at ≡ firstOver q (was x) ⌝ }
     ensures { λ _. ⌜ (Below q (was x) → left out ≡ rightMixed q r n 8 (was x) (was s) (was e)) ⌝ }
 {
-    let mut cols: [u16; 6912] = [0; 6912];
+    let mut cols: [u16; 6916] = [0; 6916];
     let mut line: [u16; 864] = [0; 864];
+    let mut sums: [u16; 6912] = [0; 6912];
     let m = 8 * n;
-    right_on(q, n, r, x, s, e, &mut cols[..m], &mut line[..n], out)
+    let k = 8 * r;
+    right_on(
+        q,
+        n,
+        r,
+        x,
+        s,
+        e,
+        &mut cols[..m],
+        &mut line[..n],
+        &mut sums[..k],
+        out,
+    )
 }
 
 // The number at column j of the row that starts at a. Read through the row, each row of a block has a place of its own, and all share one index.
@@ -501,7 +504,7 @@ pub fn mix_left(
     ensures { λ at. ⌜ at ≡ firstOver q (was y) ⌝ }
     ensures { λ _. ⌜ (Below q (was y) → left out ≡ leftMixed q n c 8 (was s) (was y) (was e)) ⌝ }
 {
-    let mut factors: [u16; 6912] = [0; 6912];
+    let mut factors: [u16; 6916] = [0; 6916];
     let mut block: [u16; 3456] = [0; 3456];
     let mut sums: [u16; 6912] = [0; 6912];
     let k = 8 * n;
@@ -526,5 +529,20 @@ pub fn multiply(q: u32, n: usize, u: &[u32], s: &[i32], out: &mut [u32])
     ensures { λ _. ⌜ now (out .exit) ≡ bare q n 8 (now (u .entry)) (now (s .entry)) ⌝ }
 {
     let zeros: [i32; 64] = [0; 64];
-    mix_right(q, n, 8, u, s, &zeros, out);
+    let mut cols: [u16; 6916] = [0; 6916];
+    let mut line: [u16; 864] = [0; 864];
+    let mut sums: [u16; 64] = [0; 64];
+    let m = 8 * n;
+    right_on(
+        q,
+        n,
+        8,
+        u,
+        s,
+        &zeros,
+        &mut cols[..m],
+        &mut line[..n],
+        &mut sums,
+        out,
+    );
 }

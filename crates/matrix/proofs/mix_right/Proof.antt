@@ -1,4 +1,4 @@
--- `matrix::mix_right` meets its contract: it lends room for the columns and a row.
+-- `matrix::mix_right` meets its contract: it lends room for the columns, a row and the sums.
 use mathlib.Core.Path.{sym}
 use Prim.Native.Nat.{_*_}
 use native.Mathlib.Omega.{arith}
@@ -8,20 +8,26 @@ use Rattle.matrix.proofs.mix_right.Statement.{statement}
 use Rattle.matrix.proofs.mix_right.Tie as tie
 
 slice-aggregate-right-on : tie.Need-slice-aggregate-right-on
-slice-aggregate-right-on c = sym (buffer-long (8 * c .before .before .before .args .n) 6912 (omega arith))
+slice-aggregate-right-on c = let a : tie.Start = search needs in sym (buffer-long (8 * a .args .n) 6916 (omega (arith, a .pre .0 .0 .few)))
 
 slice-aggregate-right-on-2 : tie.Need-slice-aggregate-right-on-2
-slice-aggregate-right-on-2 c = sym (buffer-long (c .before .before .before .before .args .n) 864 (omega arith))
+slice-aggregate-right-on-2 c = let a : tie.Start = search needs in sym (buffer-long (a .args .n) 864 (a .pre .0 .0 .few))
+
+slice-aggregate-right-on-3 : tie.Need-slice-aggregate-right-on-3
+slice-aggregate-right-on-3 c = let a : tie.Start = search needs in sym (buffer-long (8 * a .args .r) 6912 (omega (arith, a .pre .0 .0 .rows-few)))
 
 right-on-requires : tie.Need-right-on-requires
 right-on-requires c κs =
-    let a = c .before .before .before .before .before in
-    ((a .pre .0 .0, a .pre .1 .0, a .pre .0 .1), (buffer-long (8 * a .args .n) 6912 (omega arith), buffer-long (a .args .n) 864 (omega arith)))
+    let a : tie.Start = search needs in
+    let f = a .pre .0 .0 in (
+      (f, a .pre .1 .0, a .pre .0 .1),
+      (buffer-long (8 * a .args .n) 6916 (omega (arith, f .few)), buffer-long (a .args .n) 864 (f .few), buffer-long (8 * a .args .r) 6912 (omega (arith, f .rows-few))),
+    )
 
 returns : tie.Need-returns
-returns c = c .before .before .before .before .right-on .ensures
+returns c = let o : tie.After-right-on = search needs in o .right-on .ensures
 
 pub mix-right-spec : {M : Type 1} → statement M
 mix-right-spec =
     tie.close
-    (tie.spec (search needs) (search needs) slice-aggregate-right-on (search needs) slice-aggregate-right-on-2 right-on-requires (search needs) returns)
+    (tie.spec (search needs) (search needs) (search needs) slice-aggregate-right-on (search needs) slice-aggregate-right-on-2 (search needs) slice-aggregate-right-on-3 right-on-requires (search needs) returns)

@@ -1,23 +1,21 @@
--- `matrix::right_row` meets its contract.
+-- `matrix::right_row` meets its contract: the row is made words, and then serves all 8 columns.
+use mathlib.Core.List.{List}
+use Prim.Native.Nat.{ℕ}
 use borrow.Author.Needs.{needs}
-use Rattle.matrix.proofs.Steps.{row-are}
+use Rattle.matrix.specs.Steps.{gained, dotTerm}
+use Rattle.matrix.proofs.Steps.{on-copy}
 use Rattle.matrix.proofs.right_row.Statement.{statement}
 use Rattle.matrix.proofs.right_row.Tie as tie
 
 returns : tie.Need-returns
 returns c =
-    let r = c .before .before in
-    let d = r .before .before .before .before in
-    let w = d .before .before .before .before in
-    let l = w .before .before .before .before in
-    let a = l .before .before .before .before .before .before .args in (
+    let d : tie.After-add-dots = search needs in
+    let l : tie.After-narrow-below = search needs in
+    let s : tie.Start = search needs in
+    let a = s .args in (
       l .narrow-below .ensures .0,
-      λ h.
-          row-are 65536 (a .q) (a .n) (a .row .now) (a .cols .now) (a .e .now) (l .narrow-below .ensures .1 h) (w .words .ensures) (d .add-dots .ensures)
-          (r .reduce .ensures),
+      λ h. on-copy (λ (b : List ℕ). gained 65536 (a .n) (dotTerm (a .n) b (a .cols .now)) (a .sums .now)) (l .narrow-below .ensures .1 h) (d .add-dots .ensures),
     )
 
 pub right-row-spec : {M : Type 1} → statement M
-right-row-spec =
-    tie.close
-    (tie.spec (λ c κs. search needs) (search needs) (λ c κs. search needs) (search needs) (λ c κs. search needs) (search needs) (λ c κs. search needs) (search needs) (search needs) returns)
+right-row-spec = tie.close (tie.spec (λ c κs. search needs) (λ c κs. search needs) (search needs) (search needs) returns)
