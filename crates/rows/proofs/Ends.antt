@@ -26,7 +26,7 @@ use Rattle.front.specs.declared.Verdict.{Verdict}
 use Rattle.front.specs.declared.Verdict.the-variants.{Fail}
 use Rattle.front.specs.declared.Refusal.{Refusal}
 use Rattle.ends.proofs.Numbers.{Each}
-use Rattle.rows.specs.State.{frodoOf}
+use Rattle.running.specs.State.{frodoOf}
 
 pub wrote-same : {v v' : Verdict} {xs xs' : List ℕ} {room count : ℕ} {out : List ℕ} → v ≡ v' → xs ≡ xs' → Wrote v xs 0 room count out
     → Wrote v' xs' 0 room count out

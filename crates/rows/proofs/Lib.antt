@@ -1,8 +1,3 @@
-pub mod Tests
-pub mod Filling
-pub mod Laying
-pub mod Taking
-pub mod Turns
 pub mod Sending
 pub mod Opening
 pub mod Running

@@ -32,13 +32,13 @@ use Rattle.ends.specs.Values.{offered}
 use Rattle.ends.proofs.Numbers.{Frodo, numbers-in}
 use Rattle.wire.specs.Wire.{opening}
 use Rattle.exchange.specs.Offer.{Offer, offerOf, offerLengths, offerIn, offerTests, offeredPart, openingOf, offerMessage}
-use Rattle.rows.specs.State.{long, named, taken, keptOf, secretOf, sumsOf, heldOf, laid, allBelow, begun, complete}
+use Rattle.running.specs.State.{long, named, taken, keptOf, secretOf, sumsOf, heldOf, laid, allBelow, begun, complete}
 use Rattle.rows.specs.Offer.{OfferBegin, offerBeginTests, offerState, OfferBegun, sentPart, offerEndSizes, offerEndTests, offerEndMessage}
 use Rattle.rows.specs.Runs.{Parts}
 use Rattle.rows.specs.Shown.{OfferTry, SameOffer, EarlyOffer}
-use Rattle.rows.specs.declared.Call.{Call}
-use Rattle.rows.proofs.Tests.{goes, below-all, starts, completes, complete-so, frodos}
-use Rattle.rows.proofs.Laying.{held-words, laid-long, laid-kept, laid-secret, laid-sums, laid-held, seed-kept-long}
+use Rattle.running.specs.declared.Call.{Call}
+use Rattle.running.proofs.Tests.{goes, below-all, starts, completes, complete-so, frodos}
+use Rattle.running.proofs.Laying.{held-words, laid-long, laid-kept, laid-secret, laid-sums, laid-held, seed-kept-long}
 use Rattle.rows.proofs.Running.{kept-still, whole-front, after-kept, after-sums, after-long, Walked, walked}
 use Rattle.rows.proofs.Opening.{OfferSized, begin-sized, columns-long}
 use Rattle.rows.proofs.Ends.{wrote-same, wrote-none, number-names, by-frodo, words-below, columns-below, zeros-below}

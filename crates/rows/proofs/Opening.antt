@@ -29,11 +29,11 @@ use Rattle.front.specs.declared.Refusal.the-variants.{NoScheme, OutOfTurn}
 use Rattle.front.proofs.Laws.{both, length-passed, room-passed, turn-passed, failed, went-on}
 use Rattle.front.proofs.Promise.{told-passed, told-failed, wrote-failed}
 use Rattle.wire.proofs.Travel.{opening-length, numbers-long}
-use Rattle.rows.specs.State.{long, named, keptOf, begun}
+use Rattle.running.specs.State.{long, named, keptOf, begun}
 use Rattle.rows.specs.Offer.{OfferBegin, offerBeginSizes, offerBeginTests, offerState, OfferBegun, sentPart, offerEndSizes, offerEndTests, offerEndMessage, OfferEnded}
-use Rattle.rows.specs.declared.Call.{Call}
-use Rattle.rows.proofs.Tests.{passed, all-below, started, completes, frodos}
-use Rattle.rows.proofs.Laying.{kept-long}
+use Rattle.running.specs.declared.Call.{Call}
+use Rattle.running.proofs.Tests.{passed, all-below, started, completes, frodos}
+use Rattle.running.proofs.Laying.{kept-long}
 use Rattle.rows.proofs.Sending.{sent-counted}
 
 -- ---- begin

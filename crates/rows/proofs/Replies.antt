@@ -35,14 +35,14 @@ use Rattle.ends.proofs.Ranges.{mixed-counted}
 use Rattle.wire.specs.Wire.{openedIn, coinsIn}
 use Rattle.exchange.specs.Reply.{Reply, replyOf, replyLengths, replySizes, replyLast, replyRest, replyTests, openedOf, repliedPart, messageFrom, keyFrom, messageOf, keyOf, replyMessage, replyKey, replySecrets}
 use Rattle.exchange.proofs.Replying.{secrets-small}
-use Rattle.rows.specs.State.{long, named, taken, keptOf, secretOf, sumsOf, heldOf, laid, allBelow, begun, complete}
+use Rattle.running.specs.State.{long, named, taken, keptOf, secretOf, sumsOf, heldOf, laid, allBelow, begun, complete}
 use Rattle.rows.specs.Offer.{sentPart}
 use Rattle.rows.specs.Reply.{ReplyBegin, replyBeginTests, valueOf, replyState, ReplyBegun, replyEndSizes, replyEndTests, replyEndMessage, replyEndKey}
 use Rattle.rows.specs.Runs.{Parts}
 use Rattle.rows.specs.Shown.{ReplyTry, SameReply, EarlyReply}
-use Rattle.rows.specs.declared.Call.{Call}
-use Rattle.rows.proofs.Tests.{below-all, starts, completes, complete-so, frodos}
-use Rattle.rows.proofs.Laying.{held-words, laid-long, laid-kept, laid-secret, laid-sums, laid-held}
+use Rattle.running.specs.declared.Call.{Call}
+use Rattle.running.proofs.Tests.{below-all, starts, completes, complete-so, frodos}
+use Rattle.running.proofs.Laying.{held-words, laid-long, laid-kept, laid-secret, laid-sums, laid-held}
 use Rattle.rows.proofs.Running.{kept-still, whole-front, after-kept, after-sums, after-long, Walked, walked}
 use Rattle.rows.proofs.Ends.{wrote-same, wrote-none, number-names, by-frodo, words-below, zeros-below}
 use Rattle.rows.proofs.Replying.{Sized, begin-sized, opened-tests, no-coins-hints, no-coins-keys}

@@ -42,12 +42,12 @@ use Rattle.ends.proofs.Settling.{hints-counted, keys-counted}
 use Rattle.wire.specs.Wire.{openedIn, numbersIn}
 use Rattle.wire.proofs.Travel.{reply-length, key-long}
 use Rattle.exchange.specs.Reply.{replySecrets}
-use Rattle.rows.specs.State.{long, named, keptOf, begun}
+use Rattle.running.specs.State.{long, named, keptOf, begun}
 use Rattle.rows.specs.Offer.{sentPart}
 use Rattle.rows.specs.Reply.{ReplyBegin, replyBeginSizes, replyBeginTests, replyState, ReplyBegun, replyEndSizes, replyEndTests, replyEndMessage, replyEndKey, ReplyEnded}
-use Rattle.rows.specs.declared.Call.{Call}
-use Rattle.rows.proofs.Tests.{all-below, started, completes}
-use Rattle.rows.proofs.Laying.{kept-long}
+use Rattle.running.specs.declared.Call.{Call}
+use Rattle.running.proofs.Tests.{all-below, started, completes}
+use Rattle.running.proofs.Laying.{kept-long}
 use Rattle.rows.proofs.Sending.{sent-counted}
 
 -- ---- Frodo's numbers

@@ -33,15 +33,15 @@ use Rattle.front.specs.Promise.{put}
 use Rattle.front.specs.declared.Verdict.{Verdict}
 use Rattle.front.specs.declared.Verdict.the-variants.{Pass, Fail}
 use Rattle.front.proofs.Laws.{both, number-zero, turn-passed, publics-passed}
-use Rattle.rows.specs.State.{long, named, taken, keptOf, secretOf, sumsOf, heldOf, laid, terms, fills, heldWith, sumsWith, stepped}
-use Rattle.rows.specs.Part.{partIn, partTests, partState, Taken}
+use Rattle.running.specs.State.{long, named, taken, keptOf, secretOf, sumsOf, heldOf, laid, terms, fills, heldWith, sumsWith, stepped}
+use Rattle.running.specs.Part.{partIn, partTests, partState, Taken}
 use Rattle.rows.specs.Runs.{Parts}
 use Rattle.rows.specs.Shown.{blocks, Running}
-use Rattle.rows.specs.declared.Call.{Call}
-use Rattle.rows.proofs.Tests.{passed, started, fits, frodo-named}
-use Rattle.rows.proofs.Filling.{fills-up, holds-back, held-div, held-mod, filled-div, filled-mod, start-is, whole-blocks}
-use Rattle.rows.proofs.Laying.{apart, kept-long, secret-long, sums-long, held-long, again-words, made-words, held-words, laid-long, laid-kept, laid-secret, laid-sums, laid-held}
-use Rattle.rows.proofs.Taking.{linear}
+use Rattle.running.specs.declared.Call.{Call}
+use Rattle.running.proofs.Tests.{passed, started, fits, frodo-named}
+use Rattle.running.proofs.Filling.{fills-up, holds-back, held-div, held-mod, filled-div, filled-mod, start-is, whole-blocks}
+use Rattle.running.proofs.Laying.{apart, kept-long, secret-long, sums-long, held-long, again-words, made-words, held-words, laid-long, laid-kept, laid-secret, laid-sums, laid-held}
+use Rattle.running.proofs.Taking.{linear}
 
 pub kept-still : {A : Type 0} (v : Verdict) (x old : List A) {number : ℕ} → number ≡ numberIn v → 0 < number → put v x old ≡ old
 kept-still Pass x old e h = absurd (omega arith)

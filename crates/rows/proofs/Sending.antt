@@ -17,9 +17,9 @@ use Rattle.front.specs.Front.{notBlank}
 use Rattle.ends.specs.Fit.{Counted}
 use Rattle.ends.proofs.Numbers.{numbers-in}
 use Rattle.wire.proofs.Travel.{numbers-blank}
-use Rattle.rows.specs.State.{long, sumsOf}
+use Rattle.running.specs.State.{long, sumsOf}
 use Rattle.rows.specs.Offer.{sentNumbers, sentPart}
-use Rattle.rows.proofs.Laying.{sums-long}
+use Rattle.running.proofs.Laying.{sums-long}
 
 module _ (c : Scheme) (st : List ℕ) (frodo : familyOf c ≡ Family.Frodo) (l : length st ≡ long (fixedOf c .n)) where
   pub sent-counted : Counted (fixedOf c .secret) (fixedOf c .q) (sentNumbers c st)

@@ -28,15 +28,15 @@ use Rattle.front.specs.declared.Verdict.the-variants.{Pass, Fail}
 use Rattle.front.proofs.Laws.{some, differ, number-zero, both, turn-passed, publics-passed, turn-passes, below-passes, all-pass}
 use Rattle.front.proofs.Promise.{told-only, wrote-only, same-refusal, same-answer}
 use Rattle.exchange.proofs.Shown.{same-reply}
-use Rattle.rows.specs.State.{frodoIn, named, taken, keptOf, secretOf, sumsOf, heldOf, laid, _and_, keptIn, begun, terms, fills, heldWith, sumsWith, stepped}
-use Rattle.rows.specs.Part.{partIn, partTests, partState, Taken}
+use Rattle.running.specs.State.{frodoIn, named, taken, keptOf, secretOf, sumsOf, heldOf, laid, _and_, keptIn, begun, terms, fills, heldWith, sumsWith, stepped}
+use Rattle.running.specs.Part.{partIn, partTests, partState, Taken}
 use Rattle.rows.specs.Runs.{Parts, Good}
 use Rattle.rows.specs.Shown.{OnePart, OneOfferBegin, OneOfferEnd, OneReplyBegin, OneReplyEnd, Frodos, Allowed, Joining, Empty, Again}
-use Rattle.rows.specs.declared.Call.{Call}
-use Rattle.rows.proofs.Tests.{stops, goes, passed, started, starts, Fits, fits, fits-so, frodo-in, frodo-named}
-use Rattle.rows.proofs.Filling.{block-fits, fills-up, held-mod}
-use Rattle.rows.proofs.Laying.{apart, kept-long, secret-long, sums-long, held-long, again-words, made-words, held-words, with-below, laid-long, laid-kept, laid-secret, laid-sums, laid-held}
-use Rattle.rows.proofs.Turns.{part-known}
+use Rattle.running.specs.declared.Call.{Call}
+use Rattle.running.proofs.Tests.{stops, goes, passed, started, starts, Fits, fits, fits-so, frodo-in, frodo-named}
+use Rattle.running.proofs.Filling.{block-fits, fills-up, held-mod}
+use Rattle.running.proofs.Laying.{apart, kept-long, secret-long, sums-long, held-long, again-words, made-words, held-words, with-below, laid-long, laid-kept, laid-secret, laid-sums, laid-held}
+use Rattle.running.proofs.Turns.{part-known}
 use Rattle.rows.proofs.Ends.{by-frodo}
 use Rattle.rows.proofs.Running.{kept-still}
 

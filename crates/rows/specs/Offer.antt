@@ -29,8 +29,8 @@ use Rattle.front.specs.declared.Verdict.{Verdict}
 use Rattle.front.specs.declared.Verdict.the-variants.{Fail}
 use Rattle.front.specs.declared.Refusal.the-variants.{NoScheme, OutOfTurn}
 use Rattle.wire.specs.Wire.{opening}
-use Rattle.rows.specs.State.{long, named, keptOf, sumsOf, laid, complete}
-use Rattle.rows.specs.declared.Call.{Call}
+use Rattle.running.specs.State.{long, named, keptOf, sumsOf, laid, complete}
+use Rattle.running.specs.declared.Call.{Call}
 
 -- ---- begin
 

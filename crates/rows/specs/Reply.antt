@@ -31,9 +31,9 @@ use Rattle.ends.specs.Keys.{hints, keys}
 use Rattle.wire.specs.Wire.{openedIn, numbersIn}
 use Rattle.exchange.specs.Reply.{replySecrets, number, place, counts}
 use Rattle.exchange.specs.declared.ReplyAnswer.{ReplyAnswer}
-use Rattle.rows.specs.State.{long, named, keptOf, laid, complete}
+use Rattle.running.specs.State.{long, named, keptOf, laid, complete}
 use Rattle.rows.specs.Offer.{sentPart}
-use Rattle.rows.specs.declared.Call.{Call}
+use Rattle.running.specs.declared.Call.{Call}
 
 -- ---- begin
 

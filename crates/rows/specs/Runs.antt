@@ -9,10 +9,10 @@ use mathlib.Core.List.{List, [], _++_}
 use Prim.Native.Nat.{ℕ, zero, suc}
 use Rattle.schemes.specs.declared.Named.the-variants.{Is}
 use Rattle.schemes.specs.declared.Scheme.{Scheme}
-use Rattle.rows.specs.Part.{Taken}
+use Rattle.running.specs.Part.{Taken}
 use Rattle.rows.specs.Offer.{OfferBegin, OfferBegun, OfferEnded}
 use Rattle.rows.specs.Reply.{ReplyBegin, ReplyBegun, ReplyEnded}
-use Rattle.rows.specs.declared.Call.{Call}
+use Rattle.running.specs.declared.Call.{Call}
 
 abbrev pub accepted : ℕ → List ℕ → List ℕ
 accepted zero p = p

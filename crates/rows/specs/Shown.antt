@@ -37,12 +37,12 @@ use Rattle.exchange.specs.Offer.{offerOf, Offered}
 use Rattle.exchange.specs.Reply.{replyOf, Replied}
 use Rattle.exchange.specs.Reply as reply
 use Rattle.exchange.specs.declared.ReplyAnswer.{ReplyAnswer}
-use Rattle.rows.specs.State.{frodoOf, long, named, taken, secretOf, sumsOf, heldOf, begun, terms}
-use Rattle.rows.specs.Part.{Taken}
+use Rattle.running.specs.State.{frodoOf, long, named, taken, secretOf, sumsOf, heldOf, begun, terms}
+use Rattle.running.specs.Part.{Taken}
 use Rattle.rows.specs.Offer.{OfferBegin, OfferBegun, OfferEnded}
 use Rattle.rows.specs.Reply.{ReplyBegin, ReplyBegun, ReplyEnded}
 use Rattle.rows.specs.Runs.{Parts, Good, OfferRun, ReplyRun}
-use Rattle.rows.specs.declared.Call.{Call}
+use Rattle.running.specs.declared.Call.{Call}
 
 -- ---- one result
 

@@ -2,45 +2,27 @@
 // `requires`: each ends with an answer or a numbered refusal. A refused begin zeroes the state; a refused part or end leaves it as it was, and every output
 // zero, and may be tried again; a good end zeroes it.
 ghost use mathlib.Core.Path.{_≡_};
-ghost use Rattle.rows.specs.State.{frodoOf, numberOf};
-ghost use Rattle.rows.specs.Part.{Takes};
+ghost use Rattle.running.specs.State.{frodoOf, numberOf};
+ghost use Rattle.running.specs.Part.{Takes};
 ghost use Rattle.rows.specs.Offer.{OfferBegins, OfferEnds};
 ghost use Rattle.rows.specs.Reply.{ReplyBegins, ReplyEnds};
 
 mod opener;
-mod part;
 mod replier;
-mod state;
 
 use exchange::ReplyAnswer;
 use front::Answer;
 use front::Refusal;
 use front::Verdict;
+use running::Call;
 use schemes::Named;
-
-// The two calls that go by rows.
-pub enum Call {
-    Offer,
-    Reply,
-}
-
-impl Call {
-    fn number(self) -> u32
-        ensures { λ r. ⌜ r ≡ numberOf self ⌝ }
-    {
-        match self {
-            Call::Offer => 1,
-            Call::Reply => 2,
-        }
-    }
-}
 
 // Offer, begin: the secret s, the noise e and the seed into the state, afresh.
 pub fn offer_begin(scheme: u32, s: &[i32], e: &[i32], seed: &[u8], state: &mut [u32]) -> Verdict
     ensures { λ r. ⌜ OfferBegins (frodoOf scheme) s e seed state r ⌝ }
 {
     lists::zero_numbers(state);
-    let Named::Is(known) = state::frodo_of(scheme) else {
+    let Named::Is(known) = running::state::frodo_of(scheme) else {
         return Verdict::Fail(Refusal::NoScheme);
     };
     opener::begin_in(known, s, e, seed, state)
@@ -50,7 +32,7 @@ pub fn offer_begin(scheme: u32, s: &[i32], e: &[i32], seed: &[u8], state: &mut [
 pub fn offer_part(p: &[u32], state: &mut [u32]) -> Verdict
     ensures { λ r. ⌜ Takes Call.Offer p state r ⌝ }
 {
-    part::part(Call::Offer, p, state)
+    running::part::part(Call::Offer, p, state)
 }
 
 // Offer, end: the opening message.
@@ -58,7 +40,7 @@ pub fn offer_end(state: &mut [u32], message: &mut [u8]) -> Answer
     ensures { λ r. ⌜ OfferEnds state message r ⌝ }
 {
     lists::zero_bytes(message);
-    let Named::Is(known) = state::named(state) else {
+    let Named::Is(known) = running::state::named(state) else {
         return Answer::Refused(Refusal::OutOfTurn);
     };
     opener::end_in(known, state, message)
@@ -76,7 +58,7 @@ pub fn reply_begin(
     ensures { λ r. ⌜ ReplyBegins (frodoOf scheme) opening s1 e1 e2 state r ⌝ }
 {
     lists::zero_numbers(state);
-    let Named::Is(known) = state::frodo_of(scheme) else {
+    let Named::Is(known) = running::state::frodo_of(scheme) else {
         return Verdict::Fail(Refusal::NoScheme);
     };
     replier::begin_in(known, opening, s1, e1, e2, state)
@@ -86,7 +68,7 @@ pub fn reply_begin(
 pub fn reply_part(p: &[u32], state: &mut [u32]) -> Verdict
     ensures { λ r. ⌜ Takes Call.Reply p state r ⌝ }
 {
-    part::part(Call::Reply, p, state)
+    running::part::part(Call::Reply, p, state)
 }
 
 // Reply, end: the reply message, the replier's key and its digest.
@@ -99,7 +81,7 @@ pub fn reply_end(
     ensures { λ r. ⌜ ReplyEnds state message key digest r ⌝ }
 {
     replier::zero_outputs(message, key, digest);
-    let Named::Is(known) = state::named(state) else {
+    let Named::Is(known) = running::state::named(state) else {
         return ReplyAnswer::Refused(Refusal::OutOfTurn);
     };
     replier::end_in(known, state, message, key, digest)

@@ -17,12 +17,12 @@ ghost use Rattle.front.specs.declared.Verdict.the-variants.{Pass};
 ghost use Rattle.ends.specs.Fit.{Counted};
 ghost use Rattle.wire.specs.Wire.{opening};
 ghost use Rattle.exchange.specs.Inside.{Laid};
-ghost use Rattle.rows.specs.State.{laid, named, begun};
+ghost use Rattle.running.specs.State.{laid, named, begun};
 ghost use Rattle.rows.specs.Offer.{offerBeginOf, offerBeginSizes, offerBeginTests, sentPart, offerEndSizes, offerEndMessage, OfferBegins, OfferEnds};
-ghost use Rattle.rows.specs.Inside.{Sized};
-use crate::Call;
+ghost use Rattle.running.specs.Inside.{Sized};
 use front::Answer;
 use front::Verdict;
+use running::Call;
 use schemes::Scheme;
 
 fn begin_sizes(scheme: Scheme, s: &[i32], e: &[i32], seed: &[u8], room: usize) -> Verdict
@@ -74,7 +74,7 @@ fn words_on(n: usize, s: &[i32], e: &[i32], secret: &mut [u16], noise: &mut [u16
 {
     matrix::columns(n, s, secret);
     matrix::words(e, noise);
-    crate::state::lay_pairs(n, secret, noise, out);
+    running::state::lay_pairs(n, secret, noise, out);
 }
 
 fn lay_words(n: usize, s: &[i32], e: &[i32], out: &mut [u32])
@@ -151,7 +151,7 @@ fn lay(scheme: Scheme, state: &[u32], b: &mut [u32], out: &mut [u8]) -> Verdict
     ensures { λ r. ⌜ Laid r (offerEndMessage (Is scheme) (was state)) out ⌝ }
 {
     let f = scheme.fixed();
-    crate::state::reduce(f.q, f.n, state, b);
+    running::state::reduce(f.q, f.n, state, b);
     let v = front::not_blank(b);
     match v {
         Verdict::Fail(r) => Verdict::Fail(r),
@@ -178,7 +178,7 @@ fn end_tests(scheme: Scheme, state: &[u32], room: usize) -> Verdict
     ensures { λ r. ⌜ r ≡ offerEndSizes scheme (was state) room ⌝ }
 {
     let f = scheme.fixed();
-    let v = front::in_turn(crate::state::is_complete(Call::Offer, f, state));
+    let v = front::in_turn(running::state::is_complete(Call::Offer, f, state));
     front::room_for(v, room, f.opening)
 }
 

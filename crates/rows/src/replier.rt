@@ -22,7 +22,7 @@ ghost use Rattle.ends.specs.Keys as settled;
 ghost use Rattle.wire.specs.Wire.{openedIn};
 ghost use Rattle.exchange.specs.Reply.{replySecrets};
 ghost use Rattle.exchange.specs.Inside.{Laid};
-ghost use Rattle.rows.specs.State.{long, laid, named, begun};
+ghost use Rattle.running.specs.State.{long, laid, named, begun};
 ghost use Rattle.rows.specs.Offer.{sentPart};
 ghost use Rattle.rows.specs.Reply.{
   replyBeginOf,
@@ -34,10 +34,10 @@ ghost use Rattle.rows.specs.Reply.{
   ReplyBegins,
   ReplyEnds,
 };
-use crate::Call;
 use exchange::ReplyAnswer;
 use exchange::ReplyCounts;
 use front::Verdict;
+use running::Call;
 use schemes::Scheme;
 
 fn begin_sizes(
@@ -84,7 +84,7 @@ fn words_on(
 {
     matrix::words(s1, secret);
     matrix::words(e1, noise);
-    crate::state::lay_pairs(n, secret, noise, out);
+    running::state::lay_pairs(n, secret, noise, out);
 }
 
 fn lay_words(n: usize, s1: &[i32], e1: &[i32], out: &mut [u32])
@@ -217,7 +217,7 @@ fn lay(
     ensures { λ r. ⌜ Laid r (packed (fixedOf scheme .keybits) (was entries)) key ⌝ }
 {
     let f = scheme.fixed();
-    crate::state::reduce(f.q, f.n, state, u);
+    running::state::reduce(f.q, f.n, state, u);
     let v = front::not_blank(u);
     match v {
         Verdict::Fail(r) => Verdict::Fail(r),
@@ -287,7 +287,7 @@ fn end_sizes(
     ensures { λ r. ⌜ r ≡ replyEndSizes scheme (was state) room keyroom digestroom ⌝ }
 {
     let f = scheme.fixed();
-    let v = front::in_turn(crate::state::is_complete(Call::Reply, f, state));
+    let v = front::in_turn(running::state::is_complete(Call::Reply, f, state));
     let v = front::room_for(v, room, f.reply);
     let v = front::room_for(v, keyroom, f.key);
     front::room_for(v, digestroom, 32)

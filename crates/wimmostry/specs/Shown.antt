@@ -18,10 +18,10 @@ use Rattle.halves.specs.Halves.{Factors, Multiplied}
 use Rattle.exchange.specs.Offer.{Offer, Offered}
 use Rattle.exchange.specs.Reply.{Reply, Replied}
 use Rattle.exchange.specs.Finish.{Finish, Finished}
-use Rattle.rows.specs.Part.{Taken}
+use Rattle.running.specs.Part.{Taken}
 use Rattle.rows.specs.Offer.{OfferBegin, OfferBegun, OfferEnded}
 use Rattle.rows.specs.Reply.{ReplyBegin, ReplyBegun, ReplyEnded}
-use Rattle.rows.specs.declared.Call.{Call}
+use Rattle.running.specs.declared.Call.{Call}
 use Rattle.bench.specs.Bench.{Bench, Benched}
 use Rattle.session.specs.Table.{offering, replying, finishing, closing}
 use Rattle.session.specs.Seen.{output, noOutput, offerSeen, replySeen, finishSeen, closeSeen}

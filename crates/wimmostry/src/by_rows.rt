@@ -2,11 +2,11 @@
 ghost use mathlib.Core.Path.{_≡_};
 ghost use Rattle.lists.specs.Lent.{was, left, room};
 ghost use Rattle.front.specs.Front.{numberIn, placeIn};
-ghost use Rattle.rows.specs.State.{frodoOf};
-ghost use Rattle.rows.specs.Part.{Taken};
+ghost use Rattle.running.specs.State.{frodoOf};
+ghost use Rattle.running.specs.Part.{Taken};
 ghost use Rattle.rows.specs.Offer.{offerBeginOf, OfferBegun, OfferEnded};
 ghost use Rattle.rows.specs.Reply.{replyBeginOf, ReplyBegun, ReplyEnded};
-ghost use Rattle.rows.specs.declared.Call.{Call};
+ghost use Rattle.running.specs.declared.Call.{Call};
 use front::Verdict;
 
 // A verdict in numbers.

@@ -3,7 +3,7 @@ use mathlib.Core.Path.{_∙_, sym}
 use borrow.Author.Needs.{needs}
 use lib.ListN.{length}
 use Rattle.lists.proofs.Same.{zeros, zeros-long}
-use Rattle.rows.proofs.Tests.{frodo-named}
+use Rattle.running.proofs.Tests.{frodo-named}
 use Rattle.rows.proofs.Opening.{begin-unknown, begin-failed, begin-named}
 use Rattle.rows.proofs.offer_begin.Statement.{statement}
 use Rattle.rows.proofs.offer_begin.Tie as tie

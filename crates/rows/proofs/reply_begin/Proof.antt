@@ -2,7 +2,7 @@
 use mathlib.Core.Path.{refl, sym, _∙_}
 use lib.ListN.{length}
 use Rattle.lists.proofs.Same.{zeros, zeros-long}
-use Rattle.rows.proofs.Tests.{frodo-named}
+use Rattle.running.proofs.Tests.{frodo-named}
 use Rattle.rows.proofs.Replying.{begin-unknown, begun-by}
 use borrow.Author.Needs.{needs}
 use Rattle.rows.proofs.reply_begin.Statement.{statement}

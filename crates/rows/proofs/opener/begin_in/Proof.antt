@@ -10,9 +10,9 @@ use Rattle.schemes.specs.declared.Named.the-variants.{Is}
 use Rattle.ends.proofs.Numbers.{numbers-in}
 use Rattle.front.specs.declared.Verdict.the-variants.{Pass}
 use Rattle.matrix.specs.Steps.{wordsOf, columnsOf}
-use Rattle.rows.specs.State.{laid}
+use Rattle.running.specs.State.{laid}
 use Rattle.rows.specs.Offer.{offerBeginOf, offerBeginTests, offerState}
-use Rattle.rows.proofs.Tests.{frodos}
+use Rattle.running.proofs.Tests.{frodos}
 use Rattle.rows.proofs.Opening.{begin-sized, begin-failed, begin-done}
 use Rattle.rows.proofs.opener.begin_in.Statement.{statement}
 use Rattle.rows.proofs.opener.begin_in.Tie as tie

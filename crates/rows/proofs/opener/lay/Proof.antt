@@ -11,8 +11,8 @@ use Rattle.ends.proofs.Numbers.{numbers-in}
 use Rattle.front.specs.Front.{notBlank}
 use Rattle.wire.specs.Wire.{opening}
 use Rattle.rows.specs.Offer.{sentPart, offerEndMessage}
-use Rattle.rows.proofs.Tests.{frodos}
-use Rattle.rows.proofs.Laying.{take-less}
+use Rattle.running.proofs.Tests.{frodos}
+use Rattle.running.proofs.Laying.{take-less}
 use Rattle.rows.proofs.Sending.{sent-counted, sent-is, sent-blank}
 use Rattle.rows.proofs.Opening.{state-long, seed-bytes, seed-long}
 use Rattle.rows.proofs.opener.lay.Statement.{statement}

@@ -8,7 +8,7 @@ use lib.ListN.{length, replicate, length-set, length-replicate}
 use Rattle.matrix.specs.Steps.{wordsOf, columnsOf}
 use Rattle.matrix.proofs.Steps.{words-length}
 use Rattle.rows.proofs.Opening.{columns-long}
-use Rattle.rows.proofs.Laying.{kept-zeros, laid-long, headed-long, behind-zeros, lay-is, seed-kept-long}
+use Rattle.running.proofs.Laying.{kept-zeros, laid-long, headed-long, behind-zeros, lay-is, seed-kept-long}
 use Rattle.rows.proofs.opener.lay_state.Statement.{statement}
 use Rattle.rows.proofs.opener.lay_state.Tie as tie
 

@@ -8,7 +8,7 @@ use Rattle.packing.specs.Packing.{packed}
 use Rattle.front.specs.Promise.{put}
 use Rattle.ends.specs.Fit.{Counted}
 use Rattle.ends.proofs.Settling.{hints-counted, keys-counted}
-use Rattle.rows.specs.State.{keptOf}
+use Rattle.running.specs.State.{keptOf}
 use Rattle.rows.specs.Offer.{sentPart}
 use Rattle.rows.specs.Reply.{replyEndMessage, replyEndKey}
 use Rattle.rows.proofs.Replying.{state-long, kept-counted}

@@ -14,7 +14,7 @@ use Rattle.wire.specs.Wire.{openedIn, numbersIn}
 use Rattle.wire.proofs.Travel.{message-counted}
 use Rattle.exchange.specs.Reply.{replySecrets}
 use Rattle.exchange.proofs.Replying.{secrets-small}
-use Rattle.rows.specs.State.{long, laid}
+use Rattle.running.specs.State.{long, laid}
 use Rattle.rows.specs.Reply.{ReplyBegin, replyBeginOf, valueOf, replyState}
 use Rattle.rows.proofs.Replying.{Sized, begin-sized, opened-tests}
 use borrow.Author.Needs.{needs}

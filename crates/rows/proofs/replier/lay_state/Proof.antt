@@ -12,8 +12,8 @@ use Rattle.parts.specs.Parts.{wrap}
 use Rattle.ends.specs.Values.{mixedValue}
 use Rattle.ends.proofs.Numbers.{Frodo, numbers-in}
 use Rattle.ends.proofs.Ranges.{mixed-counted}
-use Rattle.rows.specs.State.{long, laid}
-use Rattle.rows.proofs.Laying.{laid-long, headed-long, behind-zeros, lay-is}
+use Rattle.running.specs.State.{long, laid}
+use Rattle.running.proofs.Laying.{laid-long, headed-long, behind-zeros, lay-is}
 use Rattle.rows.proofs.Replying.{middle-long}
 use Rattle.rows.proofs.replier.lay_state.Statement.{statement}
 use Rattle.rows.proofs.replier.lay_state.Tie as tie

@@ -14,7 +14,7 @@ use Rattle.front.specs.declared.Verdict.{Verdict}
 use Rattle.front.proofs.Promise.{told-passed, wrote-passed, told-failed, wrote-failed, wrote-kept}
 use Rattle.exchange.proofs.Digest.{digest-laid}
 use Rattle.exchange.proofs.Laid.{laid-on}
-use Rattle.rows.specs.State.{named}
+use Rattle.running.specs.State.{named}
 use Rattle.rows.specs.Reply.{replyEndTests, replyEndMessage, replyEndKey}
 use Rattle.rows.proofs.Replying.{Roomy, end-roomy, end-decides, message-length, key-length}
 use borrow.Author.Needs.{needs}
