@@ -1,43 +1,39 @@
--- The remainder without a division: with m = (2^32 - 1) / q and t = u m / 2^32, cut to whole numbers, t is u / q or one less.
---   scaled-fits, times-fits, times-le   u m, t and t q fit
---   rest-low, rest-high    the remainder of u is u - t q, or q less
+-- The remainder without a division: q divides 65536, k times. Of u k, modulo 65536, is left the remainder of u, k times.
+--   kept        so it is with k modulo 65536, as a word has it
+--   back        and q times that, by 65536, is the remainder
+--   kept-fits, back-fits   both fit
 use mathlib.Core.Path.{_≡_, _∙_, sym, ap}
-use Prim.Native.Nat.{ℕ, suc, _+_, _*_, _-_, _/_, _%_, _<_, _≤_}
+use Prim.Native.Nat.{ℕ, suc, _+_, _*_, _/_, _%_, _<_, _≤_}
 use native.Mathlib.Omega.{arith}
-use native.Mathlib.Nat.{div-mul-le-self, lt-div-mul-add, div-le-self, mul-le-mul, mul-le-mul-left, mul-le-mul-right, mul-lt-mul-of-pos-right, le-mul-of-pos-right}
+use native.Mathlib.Nat.{div-add-mod', add-mul-mod-self-right, mod-lt, mul-div-cancel, mul-le-mul-right, le-div-iff-mul-le}
 use lib.Arith.{digits-mod}
 
--- the quotient, or one less
-abbrev times : ℕ → ℕ → ℕ
-times u m = u * m / 4294967296
+module _ (q c u : ℕ) (some : 0 < q) (few : q < 65536) (whole : 65536 % q ≡ 0) (is : c ≡ 65536 / q % 65536) where
+  abbrev k : ℕ
+  k = 65536 / q
 
-module _ (q u m : ℕ) (hq : 0 < q) (hm : m ≡ 4294967295 / q) (hu : u < 4294967296) where
-  most : m * q ≤ 4294967295
-  most = rw hm (div-mul-le-self 4294967295 q)
+  all : k * q ≡ 65536
+  all = omega (arith, div-add-mod' 65536 q)
 
-  least : 4294967296 ≤ m * q + q
-  least = rw hm (lt-div-mul-add {a = 4294967295} hq)
+  k-some : 1 ≤ k
+  k-some = let h : 1 * q ≤ 65536 = omega arith in le-div-iff-mul-le some .1 h
 
-  pub scaled-fits : u * m < 18446744073709551616
-  scaled-fits =
-      let h : m ≤ 4294967295 = rw hm (div-le-self 4294967295 q) in
-      omega (arith, mul-le-mul {n₁ = u} {m₁ = m} {n₂ = 4294967295} {m₂ = 4294967295} (omega arith) h)
+  small : u % q * k < 65536
+  small = let h : suc (u % q) * k ≤ q * k = mul-le-mul-right k (mod-lt u some) in omega (arith, h, all, k-some)
 
-  pub times-le : times u m * q ≤ u
-  times-le = omega (arith, mul-le-mul-right q (div-mul-le-self (u * m) 4294967296), mul-le-mul-left u most)
+  pub kept : u * c % 65536 ≡ u % q * k
+  kept =
+      let e : u * k ≡ u * c + u * (k / 65536) * 65536 = ap (λ (x : ℕ). u * x) (sym (div-add-mod' k 65536)) ∙ rw is (omega arith) in
+      let f : u * k ≡ u / q * (k * q) + u % q * k = ap (λ (x : ℕ). x * k) (sym (div-add-mod' u q)) ∙ omega arith in
+      sym (ap (λ (x : ℕ). x % 65536) e ∙ add-mul-mod-self-right (u * c) (u * (k / 65536)) 65536)
+      ∙ ap (λ (x : ℕ). x % 65536) (f ∙ ap (λ (x : ℕ). u / q * x + u % q * k) all)
+      ∙ digits-mod (u / q) small
 
-  pub times-fits : times u m < 4294967296
-  times-fits = omega (arith, times-le, le-mul-of-pos-right (times u m) hq)
+  whole-times : u * c % 65536 * q ≡ u % q * 65536
+  whole-times = ap (λ (x : ℕ). x * q) kept ∙ omega arith ∙ ap (λ (x : ℕ). u % q * x) all
 
-  near : u < times u m * q + 2 * q
-  near =
-      omega
-      (arith, mul-lt-mul-of-pos-right (lt-div-mul-add {a = u * m} {b = 4294967296} (omega arith)) hq, mul-le-mul-left u least, mul-lt-mul-of-pos-right hu hq)
+  pub back : u * c % 65536 * q / 65536 ≡ u % q
+  back = ap (λ (x : ℕ). x / 65536) whole-times ∙ mul-div-cancel (u % q) (omega arith)
 
-  pub rest-low : u - times u m * q < q → u - times u m * q ≡ u % q
-  rest-low h = sym (digits-mod (times u m) h) ∙ ap (λ (n : ℕ). n % q) (omega (arith, times-le))
-
-  pub rest-high : q ≤ u - times u m * q → u - times u m * q - q ≡ u % q
-  rest-high h =
-      let r : u - times u m * q - q < q = omega (arith, near) in
-      sym (digits-mod (suc (times u m)) r) ∙ ap (λ (n : ℕ). n % q) (omega (arith, times-le))
+  pub back-fits : u * c % 65536 * q / 65536 < 65536
+  back-fits = rw back (omega (arith, mod-lt u some))

@@ -125,25 +125,26 @@ fn copy(src: &[u16], out: &mut [u16])
     }
 }
 
-// The remainder without a division, so that it runs many numbers at a time. Where m is (2^32 - 1) / q, u m / 2^32 is the quotient or one less.
-fn remainder(u: u32, q: u32, m: u32) -> u32
-    requires { ⌜ (0 < q) × (m ≡ 4294967295 / q) ⌝ }
+// The remainder of a word, where q divides 65536 and c is 65536 / q: u c keeps, of 16 bits, the remainder c times. Without a division it runs many words at a
+// time.
+fn remainder(u: u16, c: u16, q: u16) -> u16
+    requires { ⌜ (0 < q) × (65536 % q ≡ 0) × (c ≡ 65536 / q % 65536) ⌝ }
     ensures { λ r. ⌜ r ≡ u % q ⌝ }
 {
-    let t = (u as u64) * (m as u64) / 4294967296;
-    let r = u - (t as u32) * q;
-    if r < q { r } else { r - q }
+    let x = (u as u32) * (c as u32) % 65536;
+    (x * (q as u32) / 65536) as u16
 }
 
 // The remainders of the sums in 0 .. q - 1.
 pub fn reduce(q: u32, sums: &[u16], out: &mut [u32])
-    requires { ⌜ (0 < q) × (length (now out) ≡ length (now sums)) ⌝ }
+    requires { ⌜ (0 < q) × (q ≤ 32768) × (65536 % q ≡ 0) × (length (now out) ≡ length (now sums)) ⌝ }
     ensures { λ _. ⌜ now (out .exit) ≡ reduced q (now (sums .entry)) ⌝ }
 {
-    let m = 4294967295 / q;
+    let c = (65536 / q % 65536) as u16;
+    let w = q as u16;
     let mut k: usize = 0;
     while k < out.len() {
-        out[k] = remainder(sums[k] as u32, q, m);
+        out[k] = remainder(sums[k], c, w) as u32;
         k += 1;
     }
 }

@@ -66,11 +66,12 @@ fn put_right(
     parts::pair(sums, &mut state[d..d + 64]);
 }
 
+// The line has four words of room that nobody needs: with them all three arrays start where 16 bytes do. So has the block below.
 fn add_right(n: usize, row: usize, state: &mut [u32])
     requires { ⌜ Sized n (now state) × (row + 16 ≤ n) ⌝ }
     ensures { λ _. ⌜ left state ≡ entered Call.Offer n (row * n) (was state) ⌝ }
 {
-    let mut line = [0u16; 864];
+    let mut line = [0u16; 868];
     let mut cols = [0u16; 6912];
     let mut sums = [0u16; 128];
     let k = 8 * n;
@@ -117,7 +118,7 @@ fn add_left(n: usize, row: usize, state: &mut [u32])
     requires { ⌜ Sized n (now state) × (row + 16 ≤ n) × (row % 16 ≡ 0) ⌝ }
     ensures { λ _. ⌜ left state ≡ entered Call.Reply n (row * n) (was state) ⌝ }
 {
-    let mut block = [0u16; 3456];
+    let mut block = [0u16; 3460];
     let mut secret = [0u16; 128];
     let mut sums = [0u16; 6912];
     let b = 4 * n;

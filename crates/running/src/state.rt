@@ -1,7 +1,7 @@
 // What a state says: which scheme, whether a call has begun, and whether a part or an end has its turn; and its words, two in each number.
 ghost use mathlib.Core.Path.{_≡_};
 ghost use mathlib.Core.List.{_++_};
-ghost use Prim.Native.Nat.{_+_, _*_, _<_, _≤_};
+ghost use Prim.Native.Nat.{_+_, _*_, _%_, _<_, _≤_};
 ghost use lib.ListN.{length, replicate};
 ghost use Rattle.lists.specs.Lent.{was, left};
 ghost use Rattle.matrix.specs.Steps.{reduced};
@@ -138,7 +138,7 @@ pub fn lay_pairs(n: usize, secret: &[u16], noise: &[u16], out: &mut [u32])
 
 // The remainders of the sums, with room for their words.
 fn reduce_on(q: u32, n: usize, state: &[u32], sums: &mut [u16], out: &mut [u32])
-    requires { ⌜ (0 < q) × (n ≤ 864) × (length (now state) ≡ long n) × (length (now sums) ≡ 8 * n) × (length (now out) ≡ 8 * n) ⌝ }
+    requires { ⌜ (0 < q) × (q ≤ 32768) × (65536 % q ≡ 0) × (n ≤ 864) × (length (now state) ≡ long n) × (length (now sums) ≡ 8 * n) × (length (now out) ≡ 8 * n) ⌝ }
     ensures { λ _. ⌜ left out ≡ reduced q (sumsOf n (was state)) ⌝ }
 {
     let a = 67 + 4 * n;
@@ -148,7 +148,7 @@ fn reduce_on(q: u32, n: usize, state: &[u32], sums: &mut [u16], out: &mut [u32])
 }
 
 pub fn reduce(q: u32, n: usize, state: &[u32], out: &mut [u32])
-    requires { ⌜ (0 < q) × (n ≤ 864) × (length (now state) ≡ long n) × (length (now out) ≡ 8 * n) ⌝ }
+    requires { ⌜ (0 < q) × (q ≤ 32768) × (65536 % q ≡ 0) × (n ≤ 864) × (length (now state) ≡ long n) × (length (now out) ≡ 8 * n) ⌝ }
     ensures { λ _. ⌜ left out ≡ reduced q (sumsOf n (was state)) ⌝ }
 {
     let mut sums = [0u16; 6912];

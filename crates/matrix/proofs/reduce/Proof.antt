@@ -1,8 +1,10 @@
 -- `matrix::reduce` meets its contract: it fills with the remainders of the sums.
 use mathlib.Core.Path.{refl, _∙_, ap}
 use mathlib.Core.List.{List}
-use Prim.Native.Nat.{ℕ, _-_, _%_}
+use Prim.Native.Nat.{ℕ, _-_, _/_, _%_}
 use native.Mathlib.Omega.{arith}
+use native.Mathlib.Nat.{mod-lt}
+use borrow.Author.Needs.{needs}
 use lib.ListN.{length, length-set, getD}
 use Rattle.lists.specs.Entries.{tab}
 use Rattle.lists.proofs.Fill.{Filled, fill-start, fill-next, fill-end}
@@ -14,19 +16,19 @@ abbrev from : ℕ → List ℕ → ℕ → ℕ
 from q sums k = getD sums k 0 % q
 
 abbrev Inv-loop : tie.InvT-loop
-Inv-loop q sums out₀ m k₀ out k = Filled (from q sums) out₀ out k
+Inv-loop q sums out₀ c w k₀ out k = Filled (from q sums) out₀ out k
 
 abbrev μ-loop : tie.MeasureT-loop
-μ-loop q sums out₀ m k₀ out k = length out - k
+μ-loop q sums out₀ c w k₀ out k = length out - k
 
 loop-holds : tie.Need-loop-holds Inv-loop μ-loop
 loop-holds c = fill-start _ _
 
-cast-remainder : tie.Need-cast-remainder Inv-loop μ-loop
-cast-remainder c = omega (arith, c .shared-slice-known2 .given (c .before .before .loop .k))
-
 remainder-requires : tie.Need-remainder-requires Inv-loop μ-loop
-remainder-requires c κs = (c .before .before .before .before .before .pre .0, refl)
+remainder-requires c κs = let s : tie.Start Inv-loop μ-loop = search needs in (s .pre .0, s .pre .2, refl)
+
+cast-c : tie.Need-cast-c Inv-loop μ-loop
+cast-c c = let s : tie.Start Inv-loop μ-loop = search needs in record { fits = mod-lt (65536 / s .args .q) (omega arith) }
 
 loop-less : tie.Need-loop-less Inv-loop μ-loop
 loop-less c = simp length-set (omega arith)
@@ -40,10 +42,10 @@ same-length c = c .before .loop .inv .long
 returns : tie.Need-returns Inv-loop μ-loop
 unfolding reduced
 returns c =
-    let a = c .before .before .before .before in
-    fill-end (c .before .loop .inv) (omega arith) ∙ ap (λ (k : ℕ). tab k (from (a .args .q) (a .args .sums .now))) (a .pre .1)
+    let s : tie.Start Inv-loop μ-loop = search needs in
+    fill-end (c .before .loop .inv) (omega arith) ∙ ap (λ (k : ℕ). tab k (from (s .args .q) (s .args .sums .now))) (s .pre .3)
 
 pub reduce-spec : {M : Type 1} → statement M
 reduce-spec =
     tie.close
-    (tie.spec Inv-loop μ-loop (λ c. omega arith) loop-holds (λ c. omega arith) (λ c. omega arith) cast-remainder remainder-requires (λ c. omega arith) (λ c. omega arith) (λ c. omega arith) loop-less loop-again same-length returns)
+    (tie.spec Inv-loop μ-loop (search needs) cast-c (search needs) loop-holds (λ c. omega arith) (λ c. omega arith) remainder-requires (search needs) (λ c. omega arith) (λ c. omega arith) (λ c. omega arith) loop-less loop-again same-length returns)

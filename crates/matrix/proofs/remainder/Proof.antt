@@ -1,26 +1,34 @@
 -- `matrix::remainder` meets its contract.
+use Prim.Native.Nat.{_*_, _%_, _<_, _≤_}
 use native.Mathlib.Omega.{arith}
-use Rattle.matrix.proofs.Quotient.{scaled-fits, times-le, times-fits, rest-low, rest-high}
+use native.Mathlib.Nat.{mul-le-mul, mod-lt}
+use borrow.Author.Needs.{needs}
+use Rattle.matrix.proofs.Quotient.{back, back-fits}
 use Rattle.matrix.proofs.remainder.Statement.{statement}
 use Rattle.matrix.proofs.remainder.Tie as tie
 
-mul-t : tie.Need-mul-t
-mul-t c = record { fits = scaled-fits (c .args .q) (c .args .u) (c .args .m) (c .pre .0) (c .pre .1) (omega arith) }
+-- words times words
+module _ (u c q : _) (hu : u < 65536) (hc : c < 65536) (hq : q < 65536) where
+  once : u * c < 4294967296
+  once = omega (arith, mul-le-mul {n₁ = u} {m₁ = c} {n₂ = 65535} {m₂ = 65535} (omega arith) (omega arith))
 
-cast-r : tie.Need-cast-r
-cast-r c = record { fits = times-fits (c .args .q) (c .args .u) (c .args .m) (c .pre .0) (c .pre .1) (omega arith) }
+  twice : u * c % 65536 * q < 4294967296
+  twice =
+      let l : u * c % 65536 < 65536 = mod-lt (u * c) (omega arith) in
+      let h : u * c % 65536 ≤ 65535 = omega arith in
+      omega (arith, mul-le-mul {n₁ = u * c % 65536} {m₁ = q} {n₂ = 65535} {m₂ = 65535} h (omega arith))
 
-mul-r : tie.Need-mul-r
-mul-r c = record { fits = omega (arith, times-le (c .args .q) (c .args .u) (c .args .m) (c .pre .0) (c .pre .1) (omega arith)) }
+mul-x : tie.Need-mul-x
+mul-x c = let s : tie.Start = search needs in record { fits = once (s .args .u) (s .args .c) (s .args .q) (omega arith) (omega arith) (omega arith) }
 
-sub-r : tie.Need-sub-r
-sub-r c = times-le (c .args .q) (c .args .u) (c .args .m) (c .pre .0) (c .pre .1) (omega arith)
+mul-result : tie.Need-mul-result
+mul-result c = let s : tie.Start = search needs in record { fits = twice (s .args .u) (s .args .c) (s .args .q) (omega arith) (omega arith) (omega arith) }
+
+cast-result : tie.Need-cast-result
+cast-result c = let s : tie.Start = search needs in record { fits = back-fits (s .args .q) (s .args .c) (s .args .u) (s .pre .0) (omega arith) (s .pre .1) (s .pre .2) }
 
 returns : tie.Need-returns
-returns c = let a = c .before in rest-low (a .args .q) (a .args .u) (a .args .m) (a .pre .0) (a .pre .1) (omega arith) (c .if1 .taken)
-
-returns-2 : tie.Need-returns-2
-returns-2 c = let a = c .before in rest-high (a .args .q) (a .args .u) (a .args .m) (a .pre .0) (a .pre .1) (omega arith) (c .if1 .left)
+returns c = let s : tie.Start = search needs in back (s .args .q) (s .args .c) (s .args .u) (s .pre .0) (omega arith) (s .pre .1) (s .pre .2)
 
 pub remainder-spec : {M : Type 1} → statement M
-remainder-spec = tie.close (tie.spec mul-t cast-r mul-r sub-r returns returns-2)
+remainder-spec = tie.close (tie.spec mul-x mul-result cast-result returns)

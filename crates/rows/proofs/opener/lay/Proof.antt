@@ -46,7 +46,7 @@ reduce-requires c κs =
     let s : tie.Start = search needs in
     let f : tie.After-fixed = search needs in
     let h = numbers-in (s .args .scheme) (s .pre .0 .0) in
-    rw (f .fixed .ensures) (h .q-some, few s, long s, s .pre .1 .0 ∙ h .secret)
+    rw (f .fixed .ensures) (h .q-some, h .q-room, h .words, few s, long s, s .pre .1 .0 ∙ h .secret)
 
 -- the numbers are tested for their bytes
 tested : (n : tie.After-not-blank) → let s : tie.Start = search needs in n .not-blank .result ≡ notBlank (sentPart (s .args .scheme) (lent s))

@@ -33,7 +33,7 @@ module _ (c : tie.After-fixed) where
 reduce-requires : tie.Need-reduce-requires
 reduce-requires c κs =
     let f : tie.After-fixed = search needs in
-    rw (f .fixed .ensures) (frodo f .q-some, frodo f .few, start f .pre .0 .1, start f .pre .0 .2 ∙ frodo f .secret)
+    rw (f .fixed .ensures) (frodo f .q-some, frodo f .q-room, frodo f .words, frodo f .few, start f .pre .0 .1, start f .pre .0 .2 ∙ frodo f .secret)
 
 lay-reply-requires : tie.Need-lay-reply-requires
 lay-reply-requires c κs =

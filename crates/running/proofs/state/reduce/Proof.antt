@@ -8,7 +8,7 @@ use Rattle.running.proofs.state.reduce.Statement.{statement}
 use Rattle.running.proofs.state.reduce.Tie as tie
 
 few : (s : tie.Start) → 8 * s .args .n ≤ 6912
-few s = omega (arith, s .pre .1)
+few s = omega (arith, s .pre .3)
 
 array-borrow-prefix-sums : tie.Need-array-borrow-prefix-sums
 array-borrow-prefix-sums c = let s : tie.Start = search needs in few s
@@ -19,7 +19,7 @@ slice-aggregate-reduce-on c = let s : tie.Start = search needs in sym (buffer-lo
 reduce-on-requires : tie.Need-reduce-on-requires
 reduce-on-requires c κs =
     let s : tie.Start = search needs in
-    (s .pre .0, s .pre .1, s .pre .2, buffer-long (8 * s .args .n) 6912 (few s), s .pre .3)
+    (s .pre .0, s .pre .1, s .pre .2, s .pre .3, s .pre .4, buffer-long (8 * s .args .n) 6912 (few s), s .pre .5)
 
 returns : tie.Need-returns
 returns c = let o : tie.After-reduce-on = search needs in o .reduce-on .ensures

@@ -15,14 +15,14 @@ use Rattle.running.proofs.state.reduce_on.Tie as tie
 unpair-requires : tie.Need-unpair-requires
 unpair-requires c κs =
     let s : tie.Start = search needs in
-    omega (arith, s .pre .3, slice-long (67 + 4 * s .args .n) (4 * s .args .n) (s .args .state .now) (omega (arith, s .pre .2)))
+    omega (arith, s .pre .5, slice-long (67 + 4 * s .args .n) (4 * s .args .n) (s .args .state .now) (omega (arith, s .pre .4)))
 
 reduce-requires : tie.Need-reduce-requires
 reduce-requires c κs =
     let s : tie.Start = search needs in
     let u : tie.After-unpair = search needs in
-    let l = slice-long (67 + 4 * s .args .n) (4 * s .args .n) (s .args .state .now) (omega (arith, s .pre .2)) in
-    (s .pre .0, s .pre .4 ∙ sym (ap length (u .unpair .ensures) ∙ words-long _ ∙ omega (arith, l)))
+    let l = slice-long (67 + 4 * s .args .n) (4 * s .args .n) (s .args .state .now) (omega (arith, s .pre .4)) in
+    (s .pre .0, s .pre .1, s .pre .2, s .pre .6 ∙ sym (ap length (u .unpair .ensures) ∙ words-long _ ∙ omega (arith, l)))
 
 returns : tie.Need-returns
 returns c =
