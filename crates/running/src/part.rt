@@ -66,13 +66,13 @@ fn put_right(
     parts::pair(sums, &mut state[d..d + 64]);
 }
 
-// The line has four words of room that nobody needs: with them all three arrays start where 16 bytes do. So has the block below.
+// The columns have four words of room that nobody needs: with them all three arrays start where 16 bytes do. So have the sums below.
 fn add_right(n: usize, row: usize, state: &mut [u32])
     requires { ⌜ Sized n (now state) × (row + 16 ≤ n) ⌝ }
     ensures { λ _. ⌜ left state ≡ entered Call.Offer n (row * n) (was state) ⌝ }
 {
-    let mut line = [0u16; 868];
-    let mut cols = [0u16; 6912];
+    let mut line = [0u16; 864];
+    let mut cols = [0u16; 6916];
     let mut sums = [0u16; 128];
     let k = 8 * n;
     put_right(n, row, &mut line[..n], &mut cols[..k], &mut sums, state);
@@ -118,9 +118,9 @@ fn add_left(n: usize, row: usize, state: &mut [u32])
     requires { ⌜ Sized n (now state) × (row + 16 ≤ n) × (row % 16 ≡ 0) ⌝ }
     ensures { λ _. ⌜ left state ≡ entered Call.Reply n (row * n) (was state) ⌝ }
 {
-    let mut block = [0u16; 3460];
+    let mut block = [0u16; 3456];
     let mut secret = [0u16; 128];
-    let mut sums = [0u16; 6912];
+    let mut sums = [0u16; 6916];
     let b = 4 * n;
     let k = 8 * n;
     put_left(n, row, &mut block[..b], &mut secret, &mut sums[..k], state);

@@ -9,28 +9,25 @@ use lib.ListN.{length-replicate}
 use Rattle.running.proofs.part.add_right.Statement.{statement}
 use Rattle.running.proofs.part.add_right.Tie as tie
 
-few : (s : tie.Start) → 8 * s .args .n ≤ 6912
+few : (s : tie.Start) → 8 * s .args .n ≤ 6916
 few s = omega (arith, s .pre .0 .few)
 
-one : (s : tie.Start) → s .args .n ≤ 868
-one s = omega (arith, s .pre .0 .few)
-
 array-borrow-prefix-line : tie.Need-array-borrow-prefix-line
-array-borrow-prefix-line c = let s : tie.Start = search needs in one s
+array-borrow-prefix-line c = let s : tie.Start = search needs in s .pre .0 .few
 
 slice-aggregate-put-right : tie.Need-slice-aggregate-put-right
-slice-aggregate-put-right c = let s : tie.Start = search needs in sym (buffer-long (s .args .n) 868 (one s))
+slice-aggregate-put-right c = let s : tie.Start = search needs in sym (buffer-long (s .args .n) 864 (s .pre .0 .few))
 
 array-borrow-prefix-cols : tie.Need-array-borrow-prefix-cols
 array-borrow-prefix-cols c = let s : tie.Start = search needs in few s
 
 slice-aggregate-put-right-2 : tie.Need-slice-aggregate-put-right-2
-slice-aggregate-put-right-2 c = let s : tie.Start = search needs in sym (buffer-long (8 * s .args .n) 6912 (few s))
+slice-aggregate-put-right-2 c = let s : tie.Start = search needs in sym (buffer-long (8 * s .args .n) 6916 (few s))
 
 put-right-requires : tie.Need-put-right-requires
 put-right-requires c κs =
     let s : tie.Start = search needs in
-    (s .pre .0, s .pre .1, buffer-long (s .args .n) 868 (one s), buffer-long (8 * s .args .n) 6912 (few s), length-replicate {A = ℕ} 128 0)
+    (s .pre .0, s .pre .1, buffer-long (s .args .n) 864 (s .pre .0 .few), buffer-long (8 * s .args .n) 6916 (few s), length-replicate {A = ℕ} 128 0)
 
 returns : tie.Need-returns
 returns c = let o : tie.After-put-right = search needs in o .put-right .ensures
