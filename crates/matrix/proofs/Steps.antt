@@ -2,16 +2,16 @@
 --   words-length, words-at     secrets or noise as words: how many, and an entry
 --   gained-length, gained-at, gained-none   a list of sums: its length, its entries, and with no product yet
 --   wrapped, gain-next, gained-next, gained-more   a sum that wrapped before it gained; one product more for a sum; for each; n more
---   on-copy, known             what is made of a copy; the products of a row whose length is known
+--   on-zeros, on-copy, known   sums that start as zeros and are added at the end; what is made of a copy; the products of a row whose length is known
 --   reduced-gained, steps-are  from the noise to the remainders, by place; in three steps
 --   mixed                      they are those of the whole sums, by row and column
-use mathlib.Core.Path.{_≡_, _∙_, sym, ap}
+use mathlib.Core.Path.{_≡_, refl, _∙_, sym, ap}
 use mathlib.Core.List.{List}
 use Prim.Native.Nat.{ℕ, _+_, _*_, _/_, _%_, _<_}
 use native.Mathlib.Omega.{arith}
 use native.Mathlib.Nat.{mod-add-mod, mod-eq-of-lt, div-add-mod'}
 use native.Mathlib.Numerals.{add-one}
-use lib.ListN.{length, getD}
+use lib.ListN.{length, getD, replicate, length-replicate}
 use lib.IntN.{ℤ, pos, _+ℤ_, _*ℤ_, +ℤ-comm}
 use Rattle.numbers.specs.Sum.{sum, sumℕ, sumℤ}
 use Rattle.numbers.specs.Residue.{residue, _≅⟨_⟩_}
@@ -19,6 +19,7 @@ use Rattle.numbers.proofs.Sums.{natural, sum-split, pos-sum}
 use Rattle.numbers.proofs.Congruence.{finer-≅, eq-≅, _⨾_, add-≅, sum-≅, mod-≅, residue-≅, same-residue}
 use Rattle.lists.specs.Entries.{tab, ints}
 use Rattle.lists.proofs.Entries.{tab-length, tab-at, tab-ext, tab-getD}
+use Rattle.lists.proofs.Same.{equal-all}
 use Rattle.matrix.specs.Matrix.{times, rows, intsAt}
 use Rattle.matrix.specs.Steps.{wordsOf, gained, reduced, dotTerm}
 
@@ -72,6 +73,26 @@ gained-more m t n f ws e d =
     ap (λ (z : ℕ). (z + sumℕ n (λ u. f k (t + u))) % m) (gained-at m t f ws k p)
     ∙ wrapped m (getD ws k 0) (sumℕ t (f k)) (sumℕ n (λ u. f k (t + u)))
     ∙ ap (λ (z : ℕ). (getD ws k 0 + z) % m) (sym (sum-split natural t n (f k))))
+
+-- on sums l of their own, which start as zeros and are added at the end
+pub on-zeros : (m n r : ℕ) (f : ℕ → ℕ → ℕ) (ws : List ℕ) {l x : List ℕ} → length ws ≡ r → l ≡ gained m n f (replicate r 0)
+    → x ≡ tab (length ws) (λ k. (getD ws k 0 + getD l k 0) % m) → x ≡ gained m n f ws
+unfolding gained
+on-zeros m n r f ws {l} s e d =
+    d
+    ∙ tab-ext (length ws) _ _
+    (λ k p.
+    let z : getD (replicate r 0) k 0 ≡ 0 = equal-all (λ (y : ℕ). y ≡ 0) 0 r refl k in
+    let j : k < length (replicate {A = ℕ} r 0) = rw (length-replicate {A = ℕ} r 0) (rw s at p) in
+    let a : getD l k 0 ≡ (0 + sumℕ n (f k)) % m =
+    ap (λ (y : List ℕ). getD y k 0) e ∙ gained-at m n f (replicate r 0) k j ∙ ap (λ (y : ℕ). (y + sumℕ n (f k)) % m) z
+    in
+    let b : getD ws k 0 + (0 + sumℕ n (f k)) % m ≡ (0 + sumℕ n (f k)) % m + getD ws k 0 = omega arith in
+    let c : 0 + (sumℕ n (f k) + getD ws k 0) ≡ getD ws k 0 + sumℕ n (f k) = omega arith in
+    ap (λ (y : ℕ). (getD ws k 0 + y) % m) a
+    ∙ ap (λ (y : ℕ). y % m) b
+    ∙ wrapped m 0 (sumℕ n (f k)) (getD ws k 0)
+    ∙ ap (λ (y : ℕ). y % m) c)
 
 -- of y, made of b, which holds the same
 pub on-copy : (f : List ℕ → List ℕ) {b y o : List ℕ} → b ≡ y → o ≡ f b → o ≡ f y

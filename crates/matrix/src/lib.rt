@@ -114,13 +114,14 @@ pub fn narrow_below(q: u32, xs: &[u32], out: &mut [u16]) -> usize
     lists::first_over(q, xs)
 }
 
-fn copy(src: &[u16], out: &mut [u16])
-    requires { ⌜ length (now src) ≡ length (now out) ⌝ }
-    ensures { λ _. ⌜ left out ≡ was src ⌝ }
+// Sums with others.
+fn add_words(ws: &[u16], sums: &mut [u16])
+    requires { ⌜ length (now ws) ≡ length (now sums) ⌝ }
+    ensures { λ _. ⌜ left sums ≡ tab (length (was sums)) (λ k. (getD (was sums) k 0 + getD (was ws) k 0) % 65536) ⌝ }
 {
     let mut k: usize = 0;
-    while k < out.len() {
-        out[k] = src[k];
+    while k < sums.len() {
+        sums[k] = add_product(sums[k], ws[k], 1);
         k += 1;
     }
 }
@@ -212,15 +213,15 @@ fn dots_by(n: usize, row: &[u16], cols: &[u16], sums: &mut [u16])
     }
 }
 
-// The same, on sums of its own: the compiler keeps those in registers, where lent ones, which might lie in the row, would go to memory each time.
+// The same, on sums of its own, which are added at the end: the compiler keeps those in registers, where lent ones, which might lie in the row, would go to
+// memory each time.
 fn add_dots(n: usize, row: &[u16], cols: &[u16], sums: &mut [u16])
     requires { ⌜ (length (now row) ≡ n) × (length (now cols) ≡ 8 * n) × (length (now sums) ≡ 8) ⌝ }
     ensures { λ _. ⌜ left sums ≡ gained 65536 n (dotTerm n (was row) (was cols)) (was sums) ⌝ }
 {
     let mut own: [u16; 8] = [0; 8];
-    copy(sums, &mut own);
     dots_by(n, row, cols, &mut own);
-    copy(&own, sums);
+    add_words(&own, sums);
 }
 
 // The r rows of X, as words, with the columns.
