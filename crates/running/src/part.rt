@@ -174,26 +174,12 @@ fn take_words(
     }
 }
 
-// The same of a short part, or of a row of the smallest set, with as much room as that needs.
-fn take_short(call: Call, q: u32, n: usize, p: &[u32], state: &mut [u32]) -> Verdict
-    requires { ⌜ (0 < q) × (q ≤ 32768) × Sized n (now state) × (fitsIn n (taken (now state)) (length (now p)) ≡ true) × (length (now p) ≤ 352) ⌝ }
-    ensures { λ r. ⌜ r ≡ publicsIn q (was p) ⌝ }
-    ensures { λ r. ⌜ left state ≡ put r (stepped call n (was state) (was p)) (was state) ⌝ }
-{
-    let mut line = [0u16; 352];
-    let m = p.len();
-    take_words(call, q, n, p, &mut line[..m], state)
-}
-
 // Where it has its turn: it is no longer than a row.
 fn take_part(call: Call, q: u32, n: usize, p: &[u32], state: &mut [u32]) -> Verdict
     requires { ⌜ (0 < q) × (q ≤ 32768) × Sized n (now state) × (fitsIn n (taken (now state)) (length (now p)) ≡ true) ⌝ }
     ensures { λ r. ⌜ r ≡ publicsIn q (was p) ⌝ }
     ensures { λ r. ⌜ left state ≡ put r (stepped call n (was state) (was p)) (was state) ⌝ }
 {
-    if p.len() <= 352 {
-        return take_short(call, q, n, p, state);
-    }
     let mut line = [0u16; 864];
     let m = p.len();
     take_words(call, q, n, p, &mut line[..m], state)

@@ -24,19 +24,8 @@ take-words-requires c κs =
     let s : tie.Start = search needs in
     (s .pre .0, s .pre .1, s .pre .2, s .pre .3, sym (buffer-long (length (s .args .p .now)) 864 (few s)))
 
-take-short-requires : tie.Need-take-short-requires
-take-short-requires c κs =
-    let s : tie.Start = search needs in
-    let i : tie.Then1 = search needs in
-    (s .pre .0, s .pre .1, s .pre .2, s .pre .3, i .if1 .taken)
-
 returns : tie.Need-returns
-returns c = let t : tie.After-take-short = search needs in t .take-short .ensures
-
-returns-2 : tie.Need-returns-2
-returns-2 c = let t : tie.After-take-words = search needs in t .take-words .ensures
+returns c = let t : tie.After-take-words = search needs in t .take-words .ensures
 
 pub take-part-spec : {M : Type 1} → statement M
-take-part-spec =
-    tie.close
-    (tie.spec take-short-requires (search needs) returns array-borrow-prefix-line slice-aggregate-take-words take-words-requires (search needs) returns-2)
+take-part-spec = tie.close (tie.spec array-borrow-prefix-line slice-aggregate-take-words take-words-requires (search needs) returns)
