@@ -66,11 +66,27 @@ fn put_right(
     parts::pair(sums, &mut state[d..d + 64]);
 }
 
-// The columns have four words of room that nobody needs: with them all three arrays start where 16 bytes do. So have the sums below.
+// In the smallest set, with as much room as that needs. The columns have four words of room that nobody needs: with them all three arrays start where 16
+// bytes do.
+fn add_right_small(n: usize, row: usize, state: &mut [u32])
+    requires { ⌜ Sized n (now state) × (row + 16 ≤ n) × (n ≤ 352) ⌝ }
+    ensures { λ _. ⌜ left state ≡ entered Call.Offer n (row * n) (was state) ⌝ }
+{
+    let mut line = [0u16; 352];
+    let mut cols = [0u16; 2820];
+    let mut sums = [0u16; 128];
+    let k = 8 * n;
+    put_right(n, row, &mut line[..n], &mut cols[..k], &mut sums, state);
+}
+
+// The same in any set.
 fn add_right(n: usize, row: usize, state: &mut [u32])
     requires { ⌜ Sized n (now state) × (row + 16 ≤ n) ⌝ }
     ensures { λ _. ⌜ left state ≡ entered Call.Offer n (row * n) (was state) ⌝ }
 {
+    if n <= 352 {
+        return add_right_small(n, row, state);
+    }
     let mut line = [0u16; 864];
     let mut cols = [0u16; 6916];
     let mut sums = [0u16; 128];

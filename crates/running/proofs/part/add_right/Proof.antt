@@ -29,10 +29,16 @@ put-right-requires c κs =
     let s : tie.Start = search needs in
     (s .pre .0, s .pre .1, buffer-long (s .args .n) 864 (s .pre .0 .few), buffer-long (8 * s .args .n) 6916 (few s), length-replicate {A = ℕ} 128 0)
 
+add-right-small-requires : tie.Need-add-right-small-requires
+add-right-small-requires c κs = let s : tie.Start = search needs in let i : tie.Then1 = search needs in (s .pre .0, s .pre .1, i .if1 .taken)
+
 returns : tie.Need-returns
-returns c = let o : tie.After-put-right = search needs in o .put-right .ensures
+returns c = let o : tie.After-add-right-small = search needs in o .add-right-small .ensures
+
+returns-2 : tie.Need-returns-2
+returns-2 c = let o : tie.After-put-right = search needs in o .put-right .ensures
 
 pub add-right-spec : {M : Type 1} → statement M
 add-right-spec =
     tie.close
-    (tie.spec (search needs) array-borrow-prefix-line slice-aggregate-put-right array-borrow-prefix-cols slice-aggregate-put-right-2 (search needs) put-right-requires (search needs) returns)
+    (tie.spec add-right-small-requires (search needs) returns (search needs) array-borrow-prefix-line slice-aggregate-put-right array-borrow-prefix-cols slice-aggregate-put-right-2 (search needs) put-right-requires (search needs) returns-2)
