@@ -253,17 +253,13 @@ module _ (F : Family) (t : Told Mixing) (i : t .kind ≡ F) where
   pub mix-asks : Each F
       (polynomial-fit.Fit (t .f .q) (t .room) (t .a) (t .s) × ((length (t .e) ≡ t .room) × Within 51 (t .e)))
       (NewHopeAsks (t .a) (t .s) (t .room) × ((length (t .e) ≡ 1024) × (Within 16 (t .s) × Within 16 (t .e))))
-      ((matrix-fit.Shape (t .f .q) (t .f .n) 8 (t .a) (t .s) × (t .room ≡ 64)) × ((length (t .e) ≡ 64) × Within 6 (t .e)))
+      ((matrix-fit.Fit (t .f .q) (t .f .n) 8 (t .a) (t .s) × (t .room ≡ 64)) × (length (t .e) ≡ 64))
   mix-asks =
       let h = t .given in
       arm-asks F (t .c) (sym (t .family) ∙ i)
       (λ k. rw (t .fixed) (bcns-noise-fit h k (k .secret) (k .mixed) (k .mixed)))
       (λ k. newhope-noise-asks h k (k .secret) (k .mixed) (k .mixed))
-      (λ k. rw (t .fixed) (frodo-shape (h .0 .0 .long) (h .0 .1) (h .1 .0) 8 k (lit≤ tt) (lit≤ tt) (k .secret) (k .mixed), noise (k .mixed) (k .small) (h .1 .1)))
-
-  -- the numbers that came are below the code's q
-  pub numbers-below : Below (t .f .q) (t .a)
-  numbers-below = rw (t .fixed) (t .given .0 .0 .below)
+      (λ k. (rw (t .fixed) (frodo-fit (h .0, h .1 .0) k (k .secret) (k .mixed)), noise (k .mixed) (k .small) (h .1 .1) .0))
 
   pub mix-made : {out : List ℕ}
       → out

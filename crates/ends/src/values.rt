@@ -111,7 +111,7 @@ pub fn reply(
         }
         Family::NewHope => reply_newhope(f.q, a, s1, e1, e2, b, v),
         Family::Frodo => {
-            matrix::mix_left(f.q, f.n, 8, s1, b, e2, v);
+            matrix::mix_eight(f.q, f.n, s1, b, e2, v);
             matrix::mix_left(f.q, f.n, f.n, s1, a, e1, b)
         }
     }
@@ -128,9 +128,7 @@ pub fn mix(scheme: Scheme, b: &[u32], s1: &[i32], e2: &[i32], out: &mut [u32])
     match family {
         Family::Bcns => polynomial::mix(f.q, b, s1, e2, out),
         Family::NewHope => transform::through::value(b, s1, e2, out),
-        Family::Frodo => {
-            matrix::mix_left(f.q, f.n, 8, s1, b, e2, out);
-        }
+        Family::Frodo => matrix::mix_eight(f.q, f.n, s1, b, e2, out),
     }
 }
 

@@ -1,6 +1,7 @@
 -- The products that the sums gain: how the parts of the matrices that are lent make up the whole. Row i of a matrix with n columns lies from i n on.
 --   row-in                 a row ends inside
---   column-row             column j of S is row j of its columns
+--   column-row             column j is row j of the columns
+--   eight-terms            the sums of SY where Y has 8 columns, by its columns
 --   right-sums             row i of the sums of XS
 --   in-s, block-long, block-row   a block of rows of Y and their words, for row i of SY
 --   in-y, part-terms       a block as it lies in Y
@@ -8,26 +9,44 @@ use mathlib.Core.Path.{_≡_, _∙_, sym, ap, ap₂}
 use mathlib.Core.List.{List}
 use Prim.Native.Nat.{ℕ, suc, _+_, _*_, _-_, _/_, _%_, _<_, _≤_}
 use native.Mathlib.Omega.{arith}
-use native.Mathlib.Nat.{mul-le-mul-right, mod-lt}
+use native.Mathlib.Nat.{mul-le-mul-right, mul-comm, mod-lt}
 use lib.Arith.{digits-div, digits-mod, digits-lt}
 use lib.ListN.{length, getD, take, drop}
 use lib.IntN.{ℤ}
 use Rattle.numbers.specs.Sum.{sumℕ}
-use Rattle.numbers.specs.Residue.{residue}
 use Rattle.numbers.proofs.Sums.{natural, sum-ext}
-use Rattle.lists.specs.Entries.{tab, ints}
-use Rattle.lists.proofs.Entries.{tab-ext}
+use Rattle.lists.specs.Entries.{tab}
+use Rattle.lists.proofs.Entries.{tab-at, tab-ext}
 use Rattle.lists.proofs.Parts.{slice-long, slice-at}
-use Rattle.matrix.specs.Steps.{gained, dotTerm, rightTerm, blockTerm, partTerm, leftTerm, blockGained}
+use Rattle.matrix.specs.Steps.{gained, turned, dotTerm, rightTerm, blockTerm, partTerm, leftTerm, blockGained}
 
 pub row-in : (r n i : ℕ) → i < r → i * n + n ≤ r * n
 row-in r n i h = let m : suc i * n ≤ r * n = mul-le-mul-right n h in omega arith
 
-pub column-row : (w n m j : ℕ) (s : List ℤ) → m ≡ n
-    → tab m (λ t. residue w (ints s (t * 8 + j))) ≡ tab n (λ t. residue w (ints s ((j * n + t) % n * 8 + (j * n + t) / n)))
-column-row w n m j s e =
-    ap (λ (k : ℕ). tab k (λ t. residue w (ints s (t * 8 + j)))) e
-    ∙ tab-ext n _ _ (λ t p. ap₂ (λ (a b : ℕ). residue w (ints s (a * 8 + b))) (sym (digits-mod j p)) (sym (digits-div j p)))
+pub column-row : (f : ℕ → ℕ) (n m j : ℕ) → m ≡ n → tab m (λ t. f (t * 8 + j)) ≡ tab n (λ t. f ((j * n + t) % n * 8 + (j * n + t) / n))
+column-row f n m j e =
+    ap (λ (k : ℕ). tab k (λ t. f (t * 8 + j))) e ∙ tab-ext n _ _ (λ t p. ap₂ (λ (a b : ℕ). f (a * 8 + b)) (sym (digits-mod j p)) (sym (digits-div j p)))
+
+turned-at : (n : ℕ) (y : List ℕ) (j t : ℕ) → j < 8 → t < n → getD (turned n y) (j * n + t) 0 ≡ getD y (t * 8 + j) 0
+unfolding turned
+turned-at n y j t p l =
+    tab-at (8 * n) _ (j * n + t) 0 (digits-lt p l) ∙ ap₂ (λ (a b : ℕ). getD y (a * 8 + b) 0) (digits-mod j l) (digits-div j l)
+
+-- the sums of SY, by the columns of Y
+pub eight-terms :
+    (m n : ℕ) (s y ws : List ℕ) {cols x : List ℕ} → cols ≡ turned n y → x ≡ gained m n (rightTerm n s cols) ws →
+    x ≡ gained m n (leftTerm n 8 s y) ws
+unfolding gained rightTerm leftTerm
+eight-terms m n s y ws c o =
+    o
+    ∙ rw c
+    (tab-ext (length ws) _ _
+    (λ k p.
+    ap (λ (z : ℕ). (getD ws k 0 + z) % m)
+    (sum-ext natural n _ _
+    (λ t l.
+    mul-comm (getD s (k / 8 * n + t) 0) _
+    ∙ ap (λ (z : ℕ). z * getD s (k / 8 * n + t) 0) (turned-at n y (k % 8) t (mod-lt k (omega arith)) l)))))
 
 module _ (n i : ℕ) (x cols : List ℕ) where
   -- row i of X with column j

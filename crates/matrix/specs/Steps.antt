@@ -4,6 +4,7 @@
 --   gained m n f ws     the sums ws, of which sum k has gained f k 0 + .. + f k (n - 1)
 --   reduced q ws        the remainders of the sums in 0 .. q - 1
 --   columnsOf m n s     the 8 columns of S, one after the other, as words
+--   turned n y          the 8 columns of Y, likewise
 --   dotTerm, rightTerm  the products of a row with column j; of the entry k of XS
 --   blockTerm, partTerm, leftTerm   the products of a block y of rows of Y, each with its word of w, at column j; of the block that starts at row t, with
 --                       the words of S, for the entry k of SY; of all rows for that entry
@@ -27,6 +28,9 @@ reduced q ws = tab (length ws) (λ k. getD ws k 0 % q)
 
 unfoldable pub columnsOf : ℕ → ℕ → List ℤ → List ℕ
 columnsOf m n s = tab (8 * n) (λ k. residue m (ints s (k % n * 8 + k / n)))
+
+unfoldable pub turned : ℕ → List ℕ → List ℕ
+turned n y = tab (8 * n) (λ k. getD y (k % n * 8 + k / n) 0)
 
 unfoldable pub dotTerm : ℕ → List ℕ → List ℕ → ℕ → ℕ → ℕ
 dotTerm n row cols j t = getD row t 0 * getD cols (j * n + t) 0

@@ -20,6 +20,7 @@ ghost use Rattle.matrix.specs.Steps.{
   wordsOf,
   gained,
   reduced,
+  turned,
   columnsOf,
   dotTerm,
   rightTerm,
@@ -491,7 +492,7 @@ fn left_on(
     at
 }
 
-// SY + E, where Y has n rows and c columns: S'A + E' and S'B + E''. The answer is the place of the first number of Y that is q or more, or Y's length.
+// SY + E, where Y has n rows and c columns: S'A + E'. The answer is the place of the first number of Y that is q or more, or Y's length.
 pub fn mix_left(
     q: u32,
     n: usize,
@@ -506,9 +507,9 @@ pub fn mix_left(
     ensures { λ at. ⌜ at ≡ firstOver q (was y) ⌝ }
     ensures { λ _. ⌜ (Below q (was y) → left out ≡ leftMixed q n c 8 (was s) (was y) (was e)) ⌝ }
 {
-    let mut factors: [u16; 6916] = [0; 6916];
-    let mut block: [u16; 3456] = [0; 3456];
-    let mut sums: [u16; 6912] = [0; 6912];
+    let mut factors: [u16; 6912] = [0; 6912];
+    let mut block: [u16; 3460] = [0; 3460];
+    let mut sums: [u16; 6920] = [0; 6920];
     let k = 8 * n;
     let m = 8 * c;
     left_on(
@@ -523,6 +524,68 @@ pub fn mix_left(
         &mut sums[..m],
         out,
     )
+}
+
+// Column j of Y, which has 8, as words.
+fn turn_column(y: &[u32], j: usize, out: &mut [u16])
+    requires { ⌜ (j < 8) × (length (now y) ≡ 8 * length (now out)) × Below 32768 (now y) ⌝ }
+    ensures { λ _. ⌜ left out ≡ tab (length (was out)) (λ t. getD (was y) (t * 8 + j) 0) ⌝ }
+{
+    let mut t: usize = 0;
+    while t < out.len() {
+        out[t] = y[t * 8 + j] as u16;
+        t += 1;
+    }
+}
+
+// The columns of Y, one after the other.
+fn turn(n: usize, y: &[u32], cols: &mut [u16])
+    requires { ⌜ (0 < n) × (length (now y) ≡ 8 * n) × (length (now cols) ≡ 8 * n) × Below 32768 (now y) ⌝ }
+    ensures { λ _. ⌜ left cols ≡ turned n (was y) ⌝ }
+{
+    let mut j: usize = 0;
+    while j < 8 {
+        let a = j * n;
+        turn_column(y, j, &mut cols[a..a + n]);
+        j += 1;
+    }
+}
+
+// SY + E, where Y has 8 columns, with room for S as words, the columns of Y and the sums.
+fn eight_on(
+    q: u32,
+    n: usize,
+    s: &[i32],
+    y: &[u32],
+    e: &[i32],
+    ws: &mut [u16],
+    cols: &mut [u16],
+    sums: &mut [u16],
+    out: &mut [u32],
+)
+    requires { ⌜ Fit q n 8 (now y) (now s) × (length (now e) ≡ 64) × (length (now out) ≡ 64) ⌝ }
+    requires { ⌜ (length (now ws) ≡ 8 * n) × (length (now cols) ≡ 8 * n) × (length (now sums) ≡ 64) ⌝ }
+    ensures { λ _. ⌜ left out ≡ leftMixed q n 8 8 (was s) (was y) (was e) ⌝ }
+{
+    turn(n, y, cols);
+    words(s, ws);
+    words(e, sums);
+    add_right(n, 8, ws, cols, sums);
+    reduce(q, sums, out);
+}
+
+// SY + E, where Y has n rows and 8 columns: S'B + E''. A row of 8 numbers is one vector, so by rows each sum would be loaded and stored for few products: it
+// goes by the columns of Y, as XS goes by those of S.
+pub fn mix_eight(q: u32, n: usize, s: &[i32], y: &[u32], e: &[i32], out: &mut [u32])
+    requires { ⌜ Fit q n 8 (now y) (now s) × (length (now out) ≡ 64) ⌝ }
+    requires { ⌜ length (now e) ≡ 64 ⌝ }
+    ensures { λ _. ⌜ left out ≡ leftMixed q n 8 8 (was s) (was y) (was e) ⌝ }
+{
+    let mut ws: [u16; 6912] = [0; 6912];
+    let mut cols: [u16; 6916] = [0; 6916];
+    let mut sums: [u16; 64] = [0; 64];
+    let k = 8 * n;
+    eight_on(q, n, s, y, e, &mut ws[..k], &mut cols[..k], &mut sums, out);
 }
 
 // US, where U has 8 rows and n columns: B'S.

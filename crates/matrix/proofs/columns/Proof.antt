@@ -57,7 +57,7 @@ loop-again c =
     let s = l .before .before .args .s .now in (
       omega arith,
       rows-next (l .loop .j) n _ (l .loop .inv .1) (omega (arith, inside i, l .loop .inv .1 .long))
-          (c .before .before .column .ensures ∙ column-row 65536 n _ (l .loop .j) s (slice-long (l .loop .j * n) n (l .loop .cols) (inside i))),
+          (c .before .before .column .ensures ∙ column-row (λ k. residue 65536 (ints s k)) n _ (l .loop .j) (slice-long (l .loop .j * n) n (l .loop .cols) (inside i))),
     )
 
 same-length : tie.Need-same-length Inv-loop μ-loop

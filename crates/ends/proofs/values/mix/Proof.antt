@@ -1,7 +1,7 @@
 -- `ends::values::mix` meets its contract: in each arm by what is asked and what is made there.
 use borrow.Author.Needs.{needs}
 use Rattle.schemes.specs.declared.Family.the-variants.{Bcns, NewHope, Frodo}
-use Rattle.ends.proofs.Valuing.{Told, tell, Mixing, mix-asks, mix-made, numbers-below}
+use Rattle.ends.proofs.Valuing.{Told, tell, Mixing, mix-asks, mix-made}
 use Rattle.ends.proofs.values.mix.Statement.{statement}
 use Rattle.ends.proofs.values.mix.Tie as tie
 
@@ -15,4 +15,4 @@ mix-spec =
     (search needs) (λ c κs. mix-asks Frodo (told (search needs)) (search needs))
     (search needs) (λ c. mix-made Bcns (told (search needs)) (search needs) (c .before .before .mix .ensures))
     (search needs) (λ c. mix-made NewHope (told (search needs)) (search needs) (c .before .before .value .ensures))
-    (search needs) (λ c. mix-made Frodo (told (search needs)) (search needs) (c .before .before .mix-left .ensures .1 (numbers-below Frodo (told (search needs)) (search needs)))))
+    (search needs) (λ c. mix-made Frodo (told (search needs)) (search needs) (c .before .before .mix-eight .ensures)))

@@ -2,7 +2,7 @@
 use lib.ListN.{length}
 use borrow.Author.Needs.{needs}
 use Rattle.schemes.specs.declared.Family.the-variants.{Bcns, NewHope, Frodo}
-use Rattle.ends.proofs.Valuing.{Told, tell, Travelling, Mixing, travel-asks, mix-asks, publics-below, numbers-below, reply-made, mix-made}
+use Rattle.ends.proofs.Valuing.{Told, tell, Travelling, Mixing, travel-asks, mix-asks, publics-below, reply-made, mix-made}
 use Rattle.ends.proofs.values.reply.Statement.{statement}
 use Rattle.ends.proofs.values.reply.Tie as tie
 
@@ -56,10 +56,10 @@ returns-2 c =
 returns-3 : tie.Need-returns-3
 returns-3 c =
     let m : tie.After-family = search needs in
-    let v : tie.After-mix-left = search needs in
-    let u : tie.After-mix-left2 = search needs in
-    let r = reply-made Frodo (sent m) (search needs) (u .mix-left2 .ensures) in
-    (r .0, (r .1, λ h. mix-made Frodo (kept m) (search needs) (v .mix-left .ensures .1 (numbers-below Frodo (kept m) (search needs)))))
+    let v : tie.After-mix-eight = search needs in
+    let u : tie.After-mix-left = search needs in
+    let r = reply-made Frodo (sent m) (search needs) (u .mix-left .ensures) in
+    (r .0, (r .1, λ h. mix-made Frodo (kept m) (search needs) (v .mix-eight .ensures)))
 
 pub reply-spec : {M : Type 1} → statement M
 reply-spec =
