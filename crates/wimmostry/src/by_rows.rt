@@ -1,29 +1,10 @@
 // Frodo by rows: each exported function hands on to one call of crate `rows`. Begin and part have no output but the state.
-ghost use mathlib.Core.Path.{_≡_};
 ghost use Rattle.lists.specs.Lent.{was, left, room};
-ghost use Rattle.front.specs.Front.{numberIn, placeIn};
 ghost use Rattle.running.specs.State.{frodoOf};
 ghost use Rattle.running.specs.Part.{Taken};
 ghost use Rattle.rows.specs.Offer.{offerBeginOf, OfferBegun, OfferEnded};
 ghost use Rattle.rows.specs.Reply.{replyBeginOf, ReplyBegun, ReplyEnded};
 ghost use Rattle.running.specs.declared.Call.{Call};
-use front::Verdict;
-
-// A verdict in numbers.
-fn tell(verdict: Verdict, place: &mut u64) -> u32
-    ensures { λ r. ⌜ (r ≡ numberIn verdict) × (left place ≡ placeIn verdict) ⌝ }
-{
-    match verdict {
-        Verdict::Pass => {
-            *place = 0;
-            0
-        }
-        Verdict::Fail(why) => {
-            *place = why.place() as u64;
-            why.number()
-        }
-    }
-}
 
 // Offer, begin: the secret s, the noise e and the seed into the state.
 #[no_mangle]
@@ -38,7 +19,7 @@ pub extern "C" fn wim_rows_offer_begin(
     ensures { λ r. ⌜ OfferBegun (frodoOf scheme) (offerBeginOf (was s) (was e) (was seed)) r (left place) (room state) (left state) ⌝ }
 {
     let verdict = rows::offer_begin(scheme, s, e, seed, state);
-    tell(verdict, place)
+    told::tell_verdict(verdict, place)
 }
 
 // Offer, a part: some numbers of the current row of A.
@@ -47,7 +28,7 @@ pub extern "C" fn wim_rows_offer_part(part: &[u32], state: &mut [u32], place: &m
     ensures { λ r. ⌜ Taken Call.Offer (was state) (was part) r (left place) (left state) ⌝ }
 {
     let verdict = rows::offer_part(part, state);
-    tell(verdict, place)
+    told::tell_verdict(verdict, place)
 }
 
 // Offer, end: the opening message.
@@ -61,7 +42,7 @@ pub extern "C" fn wim_rows_offer_end(
     ensures { λ r. ⌜ OfferEnded (was state) r (left place) (room message) (left written) (left message) (left state) ⌝ }
 {
     let answer = rows::offer_end(state, message);
-    crate::tell(answer, place, written)
+    told::tell(answer, place, written)
 }
 
 // Reply, begin: the opening message, the secret s' and the noise e' and e'' into the state.
@@ -80,7 +61,7 @@ pub extern "C" fn wim_rows_reply_begin(
         ⌝ }
 {
     let verdict = rows::reply_begin(scheme, opening, s1, e1, e2, state);
-    tell(verdict, place)
+    told::tell_verdict(verdict, place)
 }
 
 // Reply, a part: some numbers of the current row of A.
@@ -89,7 +70,7 @@ pub extern "C" fn wim_rows_reply_part(part: &[u32], state: &mut [u32], place: &m
     ensures { λ r. ⌜ Taken Call.Reply (was state) (was part) r (left place) (left state) ⌝ }
 {
     let verdict = rows::reply_part(part, state);
-    tell(verdict, place)
+    told::tell_verdict(verdict, place)
 }
 
 // Reply, end: the reply message, the replier's key and its digest.
@@ -110,5 +91,5 @@ pub extern "C" fn wim_rows_reply_end(
         ⌝ }
 {
     let answer = rows::reply_end(state, message, key, digest);
-    crate::tell_reply(answer, place, written, keyed, digested)
+    told::tell_reply(answer, place, written, keyed, digested)
 }

@@ -1,12 +1,7 @@
 // The library for programs in C and Rust: each exported function hands on to one call and tells its answer in numbers. It returns 0 or the refusal's number,
 // has no `requires`, and promises what the call promises. `include/wimmostry.h` says what a caller has to know.
-ghost use mathlib.Core.Path.{_≡_};
-ghost use Prim.Native.Nat.{_≤_};
 ghost use Rattle.schemes.specs.Schemes.{schemeOf};
-ghost use Rattle.lists.specs.Lent.{left, room};
-ghost use Rattle.front.specs.Front.{numberIn, placeIn};
 ghost use Rattle.lists.specs.Lent.{was, left, room};
-ghost use Rattle.front.specs.Answers as answers;
 ghost use Rattle.sampling.specs.Noise.{noise, Noised};
 ghost use Rattle.noise.specs.Expand.{ruleOf};
 ghost use Rattle.sampling.specs.Expand.{expand, Expanded};
@@ -15,11 +10,8 @@ ghost use Rattle.hashing.specs.Hashing.{hash, Shaken, Digested};
 ghost use Rattle.halves.specs.Halves.{factors, Multiplied};
 ghost use Rattle.exchange.specs.Offer.{offer, Offered};
 ghost use Rattle.exchange.specs.Reply.{reply, Replied};
-ghost use Rattle.exchange.specs.Reply as replies;
 ghost use Rattle.exchange.specs.Finish.{finish, Finished};
-ghost use Rattle.exchange.specs.Finish as finishes;
 ghost use Rattle.bench.specs.Bench.{bench, Benched};
-ghost use Rattle.bench.specs.Bench as benches;
 
 mod racks;
 mod sessions;
@@ -29,142 +21,6 @@ ghost use Rattle.settings.specs.Calls.{SettingsWritten, SettingsRead};
 ghost use Rattle.settings.specs.Calls as settings;
 
 mod by_rows;
-
-use bench::BenchAnswer;
-use exchange::FinishAnswer;
-use exchange::ReplyAnswer;
-use front::Answer;
-use front::Verdict;
-use lists::Peak;
-
-// An answer in numbers.
-fn tell(answer: Answer, place: &mut u64, written: &mut u64) -> u32
-    ensures { λ r. ⌜ (r ≡ answers.number answer) × (left place ≡ answers.place answer) × (left written ≡ answers.written answer) ⌝ }
-{
-    match answer {
-        Answer::Done(n) => {
-            *place = 0;
-            *written = n as u64;
-            0
-        }
-        Answer::Refused(why) => {
-            *place = why.place() as u64;
-            *written = 0;
-            why.number()
-        }
-    }
-}
-
-// A verdict in numbers, of a call that has no count.
-fn tell_verdict(verdict: Verdict, place: &mut u64) -> u32
-    ensures { λ r. ⌜ (r ≡ numberIn verdict) × (left place ≡ placeIn verdict) ⌝ }
-{
-    match verdict {
-        Verdict::Pass => {
-            *place = 0;
-            0
-        }
-        Verdict::Fail(why) => {
-            *place = why.place() as u64;
-            why.number()
-        }
-    }
-}
-
-// The same of Reply, with its three counts.
-fn tell_reply(
-    answer: ReplyAnswer,
-    place: &mut u64,
-    written: &mut u64,
-    keyed: &mut u64,
-    digested: &mut u64,
-) -> u32
-    ensures { λ r. ⌜ (r ≡ replies.number answer) × (left place ≡ replies.place answer) ⌝ }
-    ensures { λ r. ⌜ (left written ≡ replies.counts answer .message) × (left keyed ≡ replies.counts answer .key) ⌝ }
-    ensures { λ r. ⌜ left digested ≡ replies.counts answer .digest ⌝ }
-{
-    match answer {
-        ReplyAnswer::Done(n) => {
-            *keyed = n.key as u64;
-            *digested = n.digest as u64;
-            tell(Answer::Done(n.message), place, written)
-        }
-        ReplyAnswer::Refused(why) => {
-            *keyed = 0;
-            *digested = 0;
-            tell(Answer::Refused(why), place, written)
-        }
-    }
-}
-
-// The same with the slack used.
-fn tell_used(
-    answer: Answer,
-    used: Peak,
-    place: &mut u64,
-    written: &mut u64,
-    slack: &mut u64,
-    index: &mut u64,
-) -> u32
-    ensures { λ r. ⌜ (r ≡ answers.number answer) × (left place ≡ answers.place answer) × (left written ≡ answers.written answer) ⌝ }
-    ensures { λ _. ⌜ (left slack ≡ used .most) × (left index ≡ used .at) ⌝ }
-{
-    *slack = used.most as u64;
-    *index = used.at as u64;
-    tell(answer, place, written)
-}
-
-// What a refusal tells of it.
-const UNUSED: Peak = Peak { most: 0, at: 0 };
-
-// The same of Finish, with its two counts.
-fn tell_finish(
-    answer: FinishAnswer,
-    place: &mut u64,
-    keyed: &mut u64,
-    digested: &mut u64,
-    slack: &mut u64,
-    index: &mut u64,
-) -> u32
-    ensures { λ r. ⌜ (r ≡ finishes.number answer) × (left place ≡ finishes.place answer) ⌝ }
-    ensures { λ _. ⌜ (left keyed ≡ finishes.counts answer .key) × (left digested ≡ finishes.counts answer .digest) ⌝ }
-    ensures { λ _. ⌜ (left slack ≡ finishes.counts answer .slack .most) × (left index ≡ finishes.counts answer .slack .at) ⌝ }
-{
-    match answer {
-        FinishAnswer::Done(n) => {
-            let used = n.slack;
-            *digested = n.digest as u64;
-            tell_used(Answer::Done(n.key), used, place, keyed, slack, index)
-        }
-        FinishAnswer::Refused(why) => {
-            *digested = 0;
-            tell_used(Answer::Refused(why), UNUSED, place, keyed, slack, index)
-        }
-    }
-}
-
-// The same of Bench: 0 where the keys agree, else 1 + the first differing bit, of which a key has no more than 1024.
-fn tell_bench(
-    answer: BenchAnswer,
-    place: &mut u64,
-    differ: &mut u64,
-    slack: &mut u64,
-    index: &mut u64,
-) -> u32
-    requires { ⌜ benches.differ answer ≤ 1024 ⌝ }
-    ensures { λ r. ⌜ (r ≡ benches.number answer) × (left place ≡ benches.place answer) × (left differ ≡ benches.differ answer) ⌝ }
-    ensures { λ _. ⌜ (left slack ≡ benches.slack answer .most) × (left index ≡ benches.slack answer .at) ⌝ }
-{
-    match answer {
-        BenchAnswer::Agree(used) => tell_used(Answer::Done(0), used, place, differ, slack, index),
-        BenchAnswer::Differ(bit, used) => {
-            tell_used(Answer::Done(bit + 1), used, place, differ, slack, index)
-        }
-        BenchAnswer::Refused(why) => {
-            tell_used(Answer::Refused(why), UNUSED, place, differ, slack, index)
-        }
-    }
-}
 
 // Offer: the opening message, from the public numbers a, the secret s, the noise e and the seed.
 #[no_mangle]
@@ -181,7 +37,7 @@ pub extern "C" fn wim_offer(
     ensures { λ r. ⌜ Offered (schemeOf scheme) (offer a s e seed) r (left place) (room message) (left written) (left message) ⌝ }
 {
     let answer = exchange::offer(scheme, a, s, e, seed, message);
-    tell(answer, place, written)
+    told::tell(answer, place, written)
 }
 
 // Reply: the reply message, the replier's key and its digest, from the opening message, the public numbers a, the secret s', the noise e' and e'' and the coins.
@@ -208,7 +64,7 @@ pub extern "C" fn wim_reply(
         ⌝ }
 {
     let answer = exchange::reply(scheme, opening, a, s1, e1, e2, coins, message, key, digest);
-    tell_reply(answer, place, written, keyed, digested)
+    told::tell_reply(answer, place, written, keyed, digested)
 }
 
 // Finish: the initiator's key, its digest and the slack used, from the reply message and the secret s.
@@ -231,7 +87,7 @@ pub extern "C" fn wim_finish(
         ⌝ }
 {
     let answer = exchange::finish(scheme, reply, s, key, digest);
-    tell_finish(answer, place, keyed, digested, slack, index)
+    told::tell_finish(answer, place, keyed, digested, slack, index)
 }
 
 // Noise: the values that the bytes give, in BCNS by the table.
@@ -247,7 +103,7 @@ pub extern "C" fn wim_noise(
     ensures { λ r. ⌜ Noised (schemeOf scheme) (noise bytes table) r (left place) (room out) (left written) (left out) ⌝ }
 {
     let answer = sampling::noise(scheme, bytes, table, out);
-    tell(answer, place, written)
+    told::tell(answer, place, written)
 }
 
 // Expand: the first 1,024 numbers that the rule takes from the stream.
@@ -262,7 +118,7 @@ pub extern "C" fn wim_expand(
     ensures { λ r. ⌜ Expanded (ruleOf rule) (expand stream) r (left place) (room out) (left written) (left out) ⌝ }
 {
     let answer = sampling::expand(rule, stream, out);
-    tell(answer, place, written)
+    told::tell(answer, place, written)
 }
 
 // Grow: the first 1,024 numbers that the rule takes from the blocks of SHAKE-128 of the seed.
@@ -277,7 +133,7 @@ pub extern "C" fn wim_grow(
     ensures { λ r. ⌜ Grown (ruleOf rule) (grow seed) r (left place) (room out) (left written) (left out) ⌝ }
 {
     let answer = sampling::grow(rule, seed, out);
-    tell(answer, place, written)
+    told::tell(answer, place, written)
 }
 
 // SHAKE-128: it fills the output.
@@ -291,7 +147,7 @@ pub extern "C" fn wim_shake128(
     ensures { λ r. ⌜ Shaken (hash input) r (left place) (room out) (left written) (left out) ⌝ }
 {
     let answer = hashing::shake128(input, out);
-    tell(answer, place, written)
+    told::tell(answer, place, written)
 }
 
 // SHA3-256: its 32 bytes.
@@ -305,7 +161,7 @@ pub extern "C" fn wim_sha3_256(
     ensures { λ r. ⌜ Digested (hash input) r (left place) (room out) (left written) (left out) ⌝ }
 {
     let answer = hashing::sha3_256(input, out);
-    tell(answer, place, written)
+    told::tell(answer, place, written)
 }
 
 // Product: the product of two BCNS polynomials, by halves, on lent scratch space, which is zero afterwards.
@@ -321,7 +177,7 @@ pub extern "C" fn wim_product(
     ensures { λ r. ⌜ Multiplied (factors a b) r (left place) (room out) (left written) (left out) (room scratch) (left scratch) ⌝ }
 {
     let answer = halves::product(a, b, out, scratch);
-    tell(answer, place, written)
+    told::tell(answer, place, written)
 }
 
 // Bench: both ends on lent secrets; the keys agree, or differ from a bit on; with the slack used.
@@ -344,7 +200,7 @@ pub extern "C" fn wim_bench(
     ensures { λ r. ⌜ Benched (schemeOf scheme) (bench a s e seed s1 e1 e2 coins) r (left place) (left differ) (left slack) (left index) ⌝ }
 {
     let answer = bench::bench(scheme, a, s, e, seed, s1, e1, e2, coins);
-    tell_bench(answer, place, differ, slack, index)
+    told::tell_bench(answer, place, differ, slack, index)
 }
 
 // The settings that a text holds, read by a reader of the formats up to its own number.
@@ -364,11 +220,7 @@ pub extern "C" fn wim_settings_read(
         ⌝ }
 {
     let found = settings::read_lent(reader, text, label);
-    let answer = found.answer;
-    *format = found.format;
-    *scheme = found.scheme as u64;
-    *rule = found.rule as u64;
-    tell(answer, place, labelled)
+    told::tell_settings(found, place, labelled, format, scheme, rule)
 }
 
 // The text of settings.
@@ -384,5 +236,5 @@ pub extern "C" fn wim_settings_write(
     ensures { λ r. ⌜ SettingsWritten (keptOf scheme rule (was label)) r (left place) (room text) (left written) (left text) ⌝ }
 {
     let answer = settings::write(scheme, rule, label, text);
-    tell(answer, place, written)
+    told::tell(answer, place, written)
 }

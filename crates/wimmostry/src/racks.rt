@@ -28,7 +28,7 @@ pub extern "C" fn wim_rack_offer(
         ⌝ }
 {
     let answer = rack_bytes::offer(rack, studio, scheme, a, s, e, seed, message);
-    crate::tell(answer, place, written)
+    told::tell(answer, place, written)
 }
 
 // Reply for one.
@@ -71,7 +71,7 @@ pub extern "C" fn wim_rack_reply(
         key,
         digest,
     );
-    crate::tell_reply(answer, place, written, keyed, digested)
+    told::tell_reply(answer, place, written, keyed, digested)
 }
 
 // Finish for one.
@@ -97,7 +97,7 @@ pub extern "C" fn wim_rack_finish(
         ⌝ }
 {
     let answer = rack_bytes::finish(rack, studio, scheme, reply, s, key, digest);
-    crate::tell_finish(answer, place, keyed, digested, slack, index)
+    told::tell_finish(answer, place, keyed, digested, slack, index)
 }
 
 // Close for one: its slot's number and zeros, whatever the slot held.
@@ -106,7 +106,7 @@ pub extern "C" fn wim_rack_close(rack: &mut [u8], studio: u32, place: &mut u64) 
     ensures { λ r. ⌜ RackMovesBytes (was rack) studio closing (left rack) (offerSeen r (left place) noOutput) ⌝ }
 {
     let verdict = rack_bytes::close(rack, studio);
-    crate::tell_verdict(verdict, place)
+    told::tell_verdict(verdict, place)
 }
 
 // An empty rack: eight idle records with their numbers.
@@ -115,5 +115,5 @@ pub extern "C" fn wim_rack_clear(rack: &mut [u8], place: &mut u64) -> u32
     ensures { λ r. ⌜ Cleared (was rack) (left rack) r (left place) ⌝ }
 {
     let verdict = rack_bytes::clear(rack);
-    crate::tell_verdict(verdict, place)
+    told::tell_verdict(verdict, place)
 }

@@ -26,7 +26,7 @@ pub extern "C" fn wim_session_offer(
         ⌝ }
 {
     let answer = session_bytes::offer(session, scheme, a, s, e, seed, message);
-    crate::tell(answer, place, written)
+    told::tell(answer, place, written)
 }
 
 // Reply on a session: when idle. The session keeps the key too.
@@ -67,7 +67,7 @@ pub extern "C" fn wim_session_reply(
         key,
         digest,
     );
-    crate::tell_reply(answer, place, written, keyed, digested)
+    told::tell_reply(answer, place, written, keyed, digested)
 }
 
 // Finish on a session: when offered, with that scheme. The session keeps the key too.
@@ -92,7 +92,7 @@ pub extern "C" fn wim_session_finish(
         ⌝ }
 {
     let answer = session_bytes::finish(session, scheme, reply, s, key, digest);
-    crate::tell_finish(answer, place, keyed, digested, slack, index)
+    told::tell_finish(answer, place, keyed, digested, slack, index)
 }
 
 // Close on any buffer: it zeroes it, and returns 0 always.

@@ -1,8 +1,8 @@
--- `wimmostry::tell_reply` meets its contract, by the answer's case.
+-- `told::tell_reply` meets its contract, by the answer's case.
 use mathlib.Core.Path.{refl}
 use borrow.Author.Needs.{needs}
-use Rattle.wimmostry.proofs.tell_reply.Statement.{statement}
-use Rattle.wimmostry.proofs.tell_reply.Tie as tie
+use Rattle.told.proofs.tell_reply.Statement.{statement}
+use Rattle.told.proofs.tell_reply.Tie as tie
 
 returns : tie.Need-returns
 returns c =

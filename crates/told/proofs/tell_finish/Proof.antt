@@ -1,8 +1,8 @@
--- `wimmostry::tell_finish` meets its contract, by the answer's case.
+-- `told::tell_finish` meets its contract, by the answer's case.
 use mathlib.Core.Path.{refl}
 use borrow.Author.Needs.{needs}
-use Rattle.wimmostry.proofs.tell_finish.Statement.{statement}
-use Rattle.wimmostry.proofs.tell_finish.Tie as tie
+use Rattle.told.proofs.tell_finish.Statement.{statement}
+use Rattle.told.proofs.tell_finish.Tie as tie
 
 returns : tie.Need-returns
 returns c =

@@ -1,10 +1,10 @@
--- `wimmostry::tell_bench` meets its contract, by the answer's case: a bit below 1,024 has a successor.
+-- `told::tell_bench` meets its contract, by the answer's case: a bit below 1,024 has a successor.
 use mathlib.Core.Path.{_∙_}
 use native.Mathlib.Numerals.{add-one}
 use native.Mathlib.Omega.{arith}
 use borrow.Author.Needs.{needs}
-use Rattle.wimmostry.proofs.tell_bench.Statement.{statement}
-use Rattle.wimmostry.proofs.tell_bench.Tie as tie
+use Rattle.told.proofs.tell_bench.Statement.{statement}
+use Rattle.told.proofs.tell_bench.Tie as tie
 
 add-t16 : tie.Need-add-t16
 add-t16 c =
