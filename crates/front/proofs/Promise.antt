@@ -1,6 +1,7 @@
 -- The parts of a promise.
 --   told-passed, wrote-passed, gave-passed, used-passed   where nothing is refused
 --   told-failed, wrote-failed, gave-failed, used-failed   where a test has failed
+--   laid-on                                     what a step has left of the part that it is lent, where it refused nothing
 --   put-kept                                    where tests fail, whatever is made ahead of them, a part is left as it was
 --   wrote-kept                                  where a step has left a part as it was
 --   wrote-restored                              where a part was written before, and zeroed again
@@ -81,6 +82,10 @@ module _ {v : Verdict} {r : Refusal} (e : v ≡ Fail r) where
 
   pub outcome-refused : (p : Peak) → outcome v p ≡ Outcome.Refused r
   outcome-refused p = rw e
+
+-- a step that refused nothing
+pub laid-on : {v : Verdict} (xs old : List ℕ) {out : List ℕ} → v ≡ Pass → out ≡ put v xs old → out ≡ xs
+laid-on xs old e p = p ∙ ap (λ (u : Verdict). put u xs old) e
 
 -- tests p ahead of some that fail
 pub put-kept : {A : Type 0} (p : Verdict) {r w : Verdict} {t : Refusal} (xs : List A) {old : List A} → r ≡ p then w → w ≡ Fail t → old ≡ put r xs old

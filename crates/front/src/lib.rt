@@ -1,13 +1,17 @@
 // The refusals by number and place, and the tests that give them, each once for all calls: 01, "Refusal numbers and their order". A call's tests are a
 // sequence of these in the order of its inputs; each takes the verdict so far and tests only where nothing was refused before it.
+// `named` begins Offer, Reply and Finish.
 ghost use mathlib.Core.Path.{_≡_};
 ghost use Prim.Native.Nat.{ℕ, _*_, _≤_, _<_};
-ghost use lib.ListN.{length};
+ghost use lib.ListN.{length, replicate};
+ghost use Rattle.schemes.specs.Schemes.{schemeOf};
 ghost use Rattle.lists.specs.First.{firstOver};
+ghost use Rattle.lists.specs.Lent.{left, room};
 ghost use Rattle.packing.specs.Packing.{unpacked};
 ghost use Rattle.front.specs.Front.{_then_, _before_, lengthIs, lengthUpTo, roomFor, inTurn, tableIn, publicsIn, notBlank, receivedIn, secretsIn, numberOf, placeOf};
 ghost use Rattle.front.specs.Promise.{outcome};
 use lists::Peak;
+use schemes::Named;
 
 pub enum Refusal {
     NoScheme,
@@ -89,6 +93,15 @@ pub enum Answer {
 pub enum Outcome {
     Slack(Peak),
     Refused(Refusal),
+}
+
+// The scheme that a number names. The output, a call's last, is zeroed first, so that whatever ends the call leaves zeros.
+pub fn named(scheme: u32, out: &mut [u8]) -> Named
+    ensures { λ r. ⌜ (r ≡ schemeOf scheme) × (left out ≡ replicate (room out) 0) ⌝ }
+    ensures { λ _. ⌜ left out ≡ replicate (length (left out)) 0 ⌝ }
+{
+    lists::zero_bytes(out);
+    schemes::scheme_of(scheme)
 }
 
 // What a verdict is, with the slack that was used.

@@ -3,3 +3,4 @@ pub mod Ending
 pub mod Absorbing
 pub mod Squeezing
 pub mod Output
+pub mod Digest

@@ -1,9 +1,9 @@
 // SHAKE-128 and SHA3-256 by FIPS 202, on bytes and for a message of any length: padding, absorbing and squeezing (sections 4 to 6) around the permutation of
-// crate `keccak`. A function that writes fills the whole of the slice it is lent.
+// crate `keccak`. A function that writes fills the whole of the slice it is lent, but for `lay_digest`.
 ghost use mathlib.Core.Path.{_≡_};
 ghost use mathlib.Core.List.{_++_};
 ghost use Prim.Native.Nat.{_+_, _-_, _*_, _/_, _%_, _^_, _<_, _≤_};
-ghost use lib.ListN.{length};
+ghost use lib.ListN.{length, drop};
 ghost use Rattle.lists.specs.Entries.{tab};
 ghost use Rattle.lists.specs.Lent.{was, left, room};
 ghost use Rattle.packing.specs.Packing.{value};
@@ -164,4 +164,12 @@ pub fn sha3_256(input: &[u8], out: &mut [u8])
 {
     let s = absorb(input, 136, 6);
     squeeze(s, 136, out);
+}
+
+// The digest of a key, at the front of its output; what lies behind it stays.
+pub fn lay_digest(key: &[u8], digest: &mut [u8])
+    requires { ⌜ 32 ≤ length (now digest) ⌝ }
+    ensures { λ _. ⌜ left digest ≡ sha3 (was key) ++ drop 32 (was digest) ⌝ }
+{
+    sha3_256(key, &mut digest[..32]);
 }
