@@ -24,14 +24,14 @@ use Rattle.front.proofs.Laws.{number-zero}
 use Rattle.front.proofs.Promise.{told-passed, wrote-passed, wrote-front, used-passed, same-peak}
 use Rattle.sponge.specs.Sponge.{sha3}
 use Rattle.sponge.proofs.Output.{sha3-length}
-use Rattle.exchange.specs.Offer.{Offer, offerTests, openingOf, offerMessage, Offered}
-use Rattle.exchange.specs.Reply.{Reply, replyTests, messageOf, keyOf, replyMessage, replyKey, Replied}
-use Rattle.exchange.specs.Finish.{Finish, peerKeyOf, finishKey, slackOf, finishSlack, number, counts, Answered}
-use Rattle.exchange.specs.declared.ReplyAnswer.{ReplyAnswer}
-use Rattle.exchange.specs.declared.FinishAnswer.{FinishAnswer}
-use Rattle.exchange.proofs.Offering.{opening-long, offer-unknown}
-use Rattle.exchange.proofs.Replying.{key-length, message-length}
-use Rattle.exchange.proofs.Finishing.{peer-key-length}
+use Rattle.offer.specs.Offer.{Offer, offerTests, openingOf, offerMessage, Offered}
+use Rattle.reply.specs.Reply.{Reply, replyTests, messageOf, keyOf, replyMessage, replyKey, Replied}
+use Rattle.finish.specs.Finish.{Finish, peerKeyOf, finishKey, slackOf, finishSlack, number, counts, Answered}
+use Rattle.reply.specs.declared.ReplyAnswer.{ReplyAnswer}
+use Rattle.finish.specs.declared.FinishAnswer.{FinishAnswer}
+use Rattle.offer.proofs.Offering.{opening-long, offer-unknown}
+use Rattle.reply.proofs.Replying.{key-length, message-length}
+use Rattle.finish.proofs.Finishing.{peer-key-length}
 use Rattle.agreement.specs.Run.{Run, offering, replying, finishing}
 use Rattle.agreement.specs.Exchange.{Sendable, Exchange, ownKey, peerKey, ownDigest, peerDigest, toldSlack, Accepted, Numbered, OneNumber}
 use Rattle.agreement.proofs.Tests.{sendable-by, offer-passes, reply-passes, finish-passes}

@@ -22,11 +22,11 @@ use Rattle.ends.proofs.Ranges.{offered-counted, replied-counted, mixed-counted}
 use Rattle.ends.proofs.Settling.{hints-counted}
 use Rattle.wire.specs.Wire.{openedIn, repliedIn, hintsIn, coinsIn}
 use Rattle.wire.proofs.Travel.{opened-part, opened-back, replied-part, replied-back, hints-back}
-use Rattle.exchange.specs.Offer.{offerLengths, offerIn, offeredPart, offerTests, openingOf}
-use Rattle.exchange.specs.Reply.{replyOf, replyLengths, replySizes, openedOf, replySecrets, repliedPart, replyLast, replyRest, replyTests, messageFrom, messageOf}
-use Rattle.exchange.specs.Finish.{finishSizes, repliedOf, finishRest, finishTests}
-use Rattle.exchange.proofs.Offering.{opening-long, offer-opens}
-use Rattle.exchange.proofs.Replying.{message-length, reply-sized, secrets-small}
+use Rattle.offer.specs.Offer.{offerLengths, offerIn, offeredPart, offerTests, openingOf}
+use Rattle.reply.specs.Reply.{replyOf, replyLengths, replySizes, openedOf, replySecrets, repliedPart, replyLast, replyRest, replyTests, messageFrom, messageOf}
+use Rattle.finish.specs.Finish.{finishSizes, repliedOf, finishRest, finishTests}
+use Rattle.offer.proofs.Offering.{opening-long, offer-opens}
+use Rattle.reply.proofs.Replying.{message-length, reply-sized, secrets-small}
 use Rattle.agreement.specs.Run.{Run, offering, replying, finishing}
 use Rattle.agreement.specs.Exchange.{Ranged, Sendable}
 

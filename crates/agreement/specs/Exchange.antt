@@ -24,13 +24,13 @@ use Rattle.front.specs.Answers.{number, place, written}
 use Rattle.front.specs.declared.Answer.{Answer}
 use Rattle.ends.specs.Fit.{Counted, Small}
 use Rattle.blank.specs.Blank.{blank}
-use Rattle.exchange.specs.Offer.{Offer, offeredPart, Offered}
-use Rattle.exchange.specs.Reply.{replyOf, repliedPart, Replied}
-use Rattle.exchange.specs.Reply as ofReply
-use Rattle.exchange.specs.Finish.{finishOf}
-use Rattle.exchange.specs.Finish as ofFinish
-use Rattle.exchange.specs.declared.ReplyAnswer.{ReplyAnswer}
-use Rattle.exchange.specs.declared.FinishAnswer.{FinishAnswer}
+use Rattle.offer.specs.Offer.{Offer, offeredPart, Offered}
+use Rattle.reply.specs.Reply.{replyOf, repliedPart, Replied}
+use Rattle.reply.specs.Reply as ofReply
+use Rattle.finish.specs.Finish.{finishOf}
+use Rattle.finish.specs.Finish as ofFinish
+use Rattle.reply.specs.declared.ReplyAnswer.{ReplyAnswer}
+use Rattle.finish.specs.declared.FinishAnswer.{FinishAnswer}
 use Rattle.agreement.specs.Run.{Run, offering}
 
 pub record Ranged (c : Scheme) (x : Run) : Type 0 where

@@ -29,18 +29,18 @@ use Rattle.front.specs.declared.Verdict.the-variants.{Pass, Fail}
 use Rattle.front.proofs.Laws.{differ, some, number-zero, both}
 use Rattle.front.proofs.Held.{held-whole}
 use Rattle.front.proofs.Promise.{told-passed, gave-passed, used-passed, told-failed, gave-failed, used-failed, outcome-slack, outcome-refused, passed-by, failed-by, same-refusal, same-peak}
-use Rattle.exchange.specs.Offer.{offerTests, offerMessage, Offered}
-use Rattle.exchange.specs.Reply.{Reply, replyOf, messageOf, keyOf, replyMessage, replyKey, Replied}
-use Rattle.exchange.specs.Reply as reply
-use Rattle.exchange.specs.Finish.{Finish, finishOf, finishKey, peerKeyOf, slackOf, finishSlack}
-use Rattle.exchange.specs.Finish as finish
-use Rattle.exchange.specs.declared.ReplyAnswer.{ReplyAnswer}
-use Rattle.exchange.specs.declared.ReplyCounts.{ReplyCounts}
-use Rattle.exchange.specs.declared.FinishAnswer.{FinishAnswer}
-use Rattle.exchange.specs.declared.FinishCounts.{FinishCounts}
-use Rattle.exchange.proofs.Offering.{offer-opens, opening-long}
-use Rattle.exchange.proofs.Replying.{message-length, key-length}
-use Rattle.exchange.proofs.Finishing.{peer-key-length}
+use Rattle.offer.specs.Offer.{offerTests, offerMessage, Offered}
+use Rattle.reply.specs.Reply.{Reply, replyOf, messageOf, keyOf, replyMessage, replyKey, Replied}
+use Rattle.reply.specs.Reply as reply
+use Rattle.finish.specs.Finish.{Finish, finishOf, finishKey, peerKeyOf, slackOf, finishSlack}
+use Rattle.finish.specs.Finish as finish
+use Rattle.reply.specs.declared.ReplyAnswer.{ReplyAnswer}
+use Rattle.reply.specs.declared.ReplyCounts.{ReplyCounts}
+use Rattle.finish.specs.declared.FinishAnswer.{FinishAnswer}
+use Rattle.finish.specs.declared.FinishCounts.{FinishCounts}
+use Rattle.offer.proofs.Offering.{offer-opens, opening-long}
+use Rattle.reply.proofs.Replying.{message-length, key-length}
+use Rattle.finish.proofs.Finishing.{peer-key-length}
 use Rattle.agreement.specs.Run.{offering, replying, finishing}
 use Rattle.agreement.proofs.Tests.{sendable-by, finish-passes}
 use Rattle.bench.specs.Bench.{Bench, benchIn, benchTests, keysDiffer, benchDiffers, benchSlack, differing, Benched, Answered, told}

@@ -25,9 +25,9 @@ use Rattle.front.specs.declared.Verdict.{Verdict}
 use Rattle.front.specs.declared.Verdict.the-variants.{Pass, Fail}
 use Rattle.front.proofs.Laws.{both, number-zero, all-pass}
 use Rattle.front.proofs.Promise.{same-peak}
-use Rattle.exchange.specs.Reply.{keyOf}
-use Rattle.exchange.specs.Finish.{peerKeyOf, slackOf}
-use Rattle.exchange.proofs.Replying.{key-length}
+use Rattle.reply.specs.Reply.{keyOf}
+use Rattle.finish.specs.Finish.{peerKeyOf, slackOf}
+use Rattle.reply.proofs.Replying.{key-length}
 use Rattle.agreement.specs.Run.{replying, finishing}
 use Rattle.agreement.specs.Exchange.{Sendable}
 use Rattle.agreement.proofs.Tests.{sendable-by, offer-passes, reply-passes}

@@ -16,10 +16,10 @@ use Rattle.front.specs.Promise.{Gave}
 use Rattle.front.specs.declared.Verdict.{Verdict}
 use Rattle.front.specs.declared.Verdict.the-variants.{Pass, Fail}
 use Rattle.front.proofs.Laws.{both}
-use Rattle.exchange.specs.Reply.{keyOf, keyFrom}
-use Rattle.exchange.specs.Finish.{peerKeyOf, peerKeyFrom}
-use Rattle.exchange.proofs.Replying.{key-length}
-use Rattle.exchange.proofs.Finishing.{peer-key-length}
+use Rattle.reply.specs.Reply.{keyOf, keyFrom}
+use Rattle.finish.specs.Finish.{peerKeyOf, peerKeyFrom}
+use Rattle.reply.proofs.Replying.{key-length}
+use Rattle.finish.proofs.Finishing.{peer-key-length}
 use Rattle.agreement.specs.Run.{replying, finishing}
 use Rattle.agreement.specs.Agreement.{Near}
 use Rattle.agreement.proofs.Tests.{sendable-by}

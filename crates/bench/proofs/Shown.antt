@@ -19,9 +19,9 @@ use Rattle.front.proofs.Laws.{some, both, room-passes, not-blank-passed}
 use Rattle.front.proofs.Promise.{used-only, same-refusal, same-peak}
 use Rattle.front.proofs.Number.{and, passes, lengths, publics, secrets, blanks}
 use Rattle.wire.specs.Wire.{openedIn}
-use Rattle.exchange.specs.Offer.{Offer, offerLengths, offerIn, offerTests}
-use Rattle.exchange.specs.Reply.{Reply, replyTests, replyLengths, replySizes, replyRest, replySecrets, replyLast, openedOf}
-use Rattle.exchange.proofs.Offering.{offer-opens}
+use Rattle.offer.specs.Offer.{Offer, offerLengths, offerIn, offerTests}
+use Rattle.reply.specs.Reply.{Reply, replyTests, replyLengths, replySizes, replyRest, replySecrets, replyLast, openedOf}
+use Rattle.offer.proofs.Offering.{offer-opens}
 use Rattle.agreement.specs.Run.{offering, replying}
 use Rattle.agreement.proofs.Tests.{sendable-by, opening-received, finish-passes}
 use Rattle.bench.specs.Bench.{Bench, benchIn, benchTests, number, place, differ, slack}

@@ -30,9 +30,9 @@ use Rattle.front.specs.Promise.{Told, Gave, Used}
 use Rattle.front.specs.declared.Verdict.{Verdict}
 use Rattle.front.specs.declared.Verdict.the-variants.{Fail}
 use Rattle.front.specs.declared.Refusal.the-variants.{NoScheme}
-use Rattle.exchange.specs.Offer.{offerTests}
-use Rattle.exchange.specs.Reply.{replyTests, keyOf}
-use Rattle.exchange.specs.Finish.{peerKeyOf, slackOf}
+use Rattle.offer.specs.Offer.{offerTests}
+use Rattle.reply.specs.Reply.{replyTests, keyOf}
+use Rattle.finish.specs.Finish.{peerKeyOf, slackOf}
 use Rattle.agreement.specs.Run.{Run, offering, replying, finishing}
 use Rattle.lists.specs.First.{firstApart}
 use Rattle.bench.specs.declared.BcnsAnswer.{BcnsAnswer}

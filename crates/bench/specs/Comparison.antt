@@ -11,7 +11,7 @@ use Prim.Native.Nat.{ℕ, _<_}
 use lib.ListN.{getD}
 use Rattle.schemes.specs.declared.Scheme.{Scheme}
 use Rattle.schemes.specs.declared.Named.the-variants.{Is}
-use Rattle.exchange.specs.Finish.{slackOf}
+use Rattle.finish.specs.Finish.{slackOf}
 use Rattle.agreement.specs.Run.{finishing}
 use Rattle.agreement.specs.Exchange.{Exchange, ownKey, peerKey, toldSlack}
 use Rattle.agreement.specs.Agreement.{Near}

@@ -19,9 +19,9 @@ use Rattle.front.specs.Promise.{outcome}
 use Rattle.front.specs.declared.Outcome.{Outcome}
 use Rattle.front.specs.declared.Verdict.{Verdict}
 use Rattle.front.specs.declared.Verdict.the-variants.{Pass}
-use Rattle.exchange.specs.Offer.{offerTests}
-use Rattle.exchange.specs.Reply.{Reply, replyTests, messageOf, keyOf}
-use Rattle.exchange.specs.Finish.{Finish, finishOf, finishTests, peerKeyOf, slackOf}
+use Rattle.offer.specs.Offer.{offerTests}
+use Rattle.reply.specs.Reply.{Reply, replyTests, messageOf, keyOf}
+use Rattle.finish.specs.Finish.{Finish, finishOf, finishTests, peerKeyOf, slackOf}
 use Rattle.agreement.specs.Run.{offering, replying, finishing}
 use Rattle.bench.specs.Bench.{Bench}
 use Rattle.bench.specs.declared.BcnsAnswer.{BcnsAnswer}

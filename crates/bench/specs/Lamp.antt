@@ -12,8 +12,8 @@ use Rattle.schemes.specs.declared.Named.{Named}
 use Rattle.schemes.specs.declared.Named.the-variants.{Is, Unknown}
 use Rattle.front.specs.Promise.{Told, Gave, Used}
 use Rattle.front.specs.declared.Verdict.the-variants.{Pass}
-use Rattle.exchange.specs.Reply.{keyOf}
-use Rattle.exchange.specs.Finish.{peerKeyOf}
+use Rattle.reply.specs.Reply.{keyOf}
+use Rattle.finish.specs.Finish.{peerKeyOf}
 use Rattle.agreement.specs.Run.{replying, finishing}
 use Rattle.bench.specs.Bench.{Bench, benchTests, keysDiffer, benchSlack, Benched}
 

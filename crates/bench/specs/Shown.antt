@@ -12,9 +12,9 @@ use Rattle.schemes.specs.declared.Named.the-variants.{Is}
 use Rattle.front.specs.Front.{receivedIn}
 use Rattle.front.specs.declared.Verdict.the-variants.{Pass}
 use Rattle.wire.specs.Wire.{openedIn}
-use Rattle.exchange.specs.Offer.{offerTests, openingOf}
-use Rattle.exchange.specs.Reply.{openedOf}
-use Rattle.exchange.specs.Finish.{finishTests}
+use Rattle.offer.specs.Offer.{offerTests, openingOf}
+use Rattle.reply.specs.Reply.{openedOf}
+use Rattle.finish.specs.Finish.{finishTests}
 use Rattle.agreement.specs.Run.{offering, replying, finishing}
 use Rattle.bench.specs.Bench.{Bench, benchIn, Benched, Answered}
 use Rattle.bench.specs.declared.BenchAnswer.{BenchAnswer}

@@ -1,4 +1,4 @@
-// Bench: both ends of an exchange on lent secrets, by the public calls of `exchange`, one after the other, and then the two keys bit by bit. It has no
+// Bench: both ends of an exchange on lent secrets, by the calls Offer, Reply and Finish, one after the other, and then the two keys bit by bit. It has no
 // `requires`: it answers agree, differ with the first differing key bit, or the first refusal of Offer or Reply, and passes on the slack that Finish used.
 // Messages, keys and digests stay inside.
 ghost use mathlib.Core.Path.{_≡_};
@@ -6,19 +6,19 @@ ghost use lib.ListN.{length};
 ghost use Rattle.schemes.specs.Schemes.{fixedOf, schemeOf};
 ghost use Rattle.schemes.specs.declared.Named.the-variants.{Is};
 ghost use Rattle.lists.specs.Lent.{was, left};
-ghost use Rattle.exchange.specs.Reply as lent;
-ghost use Rattle.exchange.specs.Finish.{finish};
+ghost use Rattle.reply.specs.Reply as lent;
+ghost use Rattle.finish.specs.Finish.{finish};
 ghost use Rattle.bench.specs.Bench.{bench, told, Benches, BcnsBenches};
 ghost use Rattle.bench.specs.Inside.{FromFinish, FromReply, FromOffer, agreed};
 
 mod compare;
 
-use exchange::FinishAnswer;
-use exchange::ReplyAnswer;
+use finish::FinishAnswer;
 use front::Answer;
 use front::Outcome;
 use front::Refusal;
 use lists::Peak;
+use reply::ReplyAnswer;
 use schemes::Named;
 use schemes::Scheme;
 
@@ -46,7 +46,7 @@ fn from_finish(
     requires { ⌜ (length (now peer) ≡ fixedOf scheme .key) × (length (now digest) ≡ 32) ⌝ }
     ensures { λ r. ⌜ FromFinish scheme (finish reply s) r (left peer) ⌝ }
 {
-    let v = exchange::finish(scheme.number(), reply, s, peer, digest);
+    let v = finish::finish(scheme.number(), reply, s, peer, digest);
     match v {
         FinishAnswer::Refused(r) => Outcome::Refused(r),
         FinishAnswer::Done(n) => {
@@ -75,7 +75,7 @@ fn from_reply(
     requires { ⌜ (length (now own) ≡ fixedOf scheme .key) × (length (now peer) ≡ fixedOf scheme .key) × (length (now digest) ≡ 32) ⌝ }
     ensures { λ r. ⌜ FromReply scheme (lent.reply opening a s1 e1 e2 coins) (was s) r (left own) (left peer) ⌝ }
 {
-    let v = exchange::reply(
+    let v = reply::reply(
         scheme.number(),
         opening,
         a,
@@ -114,7 +114,7 @@ fn from_offer(
     requires { ⌜ (length (now own) ≡ fixedOf scheme .key) × (length (now peer) ≡ fixedOf scheme .key) × (length (now digest) ≡ 32) ⌝ }
     ensures { λ r. ⌜ FromOffer scheme (bench a s e seed s1 e1 e2 coins) r (left own) (left peer) ⌝ }
 {
-    let v = exchange::offer(scheme.number(), a, s, e, seed, opening);
+    let v = offer::offer(scheme.number(), a, s, e, seed, opening);
     match v {
         Answer::Refused(r) => Outcome::Refused(r),
         Answer::Done(_) => from_reply(

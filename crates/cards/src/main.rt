@@ -1,11 +1,11 @@
 // The bench cards, run: 01, "Bench cards", as amended by request d (docs/AMENDMENTS.md). A line has a card's inputs and what the library's functions give for them.
 // It begins with `*` where 01 marks the card, which is then a theorem on the definitions too (`specs/Table.antt`). `stdout` is what the second program prints.
-use exchange::FinishAnswer;
-use exchange::ReplyAnswer;
+use finish::FinishAnswer;
 use front::Answer;
 use front::Refusal;
 use libc::STDOUT_FILENO;
 use newhope::Four;
+use reply::ReplyAnswer;
 use schemes::FrodoRecommended;
 ghost use Prim.Native.Nat.{_<_};
 ghost use Rattle.schemes.specs.Schemes.{bcns, newHope, recommended};
@@ -229,7 +229,7 @@ fn reply_card(n: u32)
     let mut message = [0u8; 2048];
     let mut key = [0u8; 32];
     let mut digest = [0u8; 32];
-    let answer = exchange::reply(
+    let answer = reply::reply(
         1,
         &given,
         &a,
@@ -257,7 +257,7 @@ fn finish_card(n: u32)
     let secret = [0i32; 1024];
     let mut key = [0u8; 32];
     let mut digest = [0u8; 32];
-    let answer = exchange::finish(1, &given, &secret, &mut key, &mut digest);
+    let answer = finish::finish(1, &given, &secret, &mut key, &mut digest);
     field(b"- finish scheme=1 index=0 number=", n);
     text(b" : ");
     match answer {

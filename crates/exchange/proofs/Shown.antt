@@ -22,17 +22,17 @@ use Rattle.ends.specs.Keys.{slacks}
 use Rattle.ends.specs.Values.{bareValue}
 use Rattle.wire.specs.Wire.{numbersIn}
 use Rattle.wire.proofs.Travel.{opening-again, reply-again}
-use Rattle.exchange.specs.Reply.{replyTests, replyLengths, replySizes, replyRest, replySecrets, replyLast, openedOf, replyKey}
-use Rattle.exchange.specs.Reply as reply
-use Rattle.exchange.specs.Finish.{finishTests, finishSizes, finishRest, repliedOf, finishKey, slackFrom, slackOf, finishSlack}
-use Rattle.exchange.specs.Finish as finish
+use Rattle.reply.specs.Reply.{replyTests, replyLengths, replySizes, replyRest, replySecrets, replyLast, openedOf, replyKey}
+use Rattle.reply.specs.Reply as reply
+use Rattle.finish.specs.Finish.{finishTests, finishSizes, finishRest, repliedOf, finishKey, slackFrom, slackOf, finishSlack}
+use Rattle.finish.specs.Finish as finish
 use Rattle.exchange.specs.Shown.{OneOffer, OneReply, OneFinish, OpeningComesBack, ReplyComesBack, NeverFive, NoSlack, KeysFit}
-use Rattle.exchange.specs.declared.ReplyCounts.{ReplyCounts}
-use Rattle.exchange.specs.declared.ReplyAnswer.{ReplyAnswer}
-use Rattle.exchange.specs.declared.FinishCounts.{FinishCounts}
-use Rattle.exchange.specs.declared.FinishAnswer.{FinishAnswer}
-use Rattle.exchange.proofs.Replying.{key-length, reply-sized}
-use Rattle.exchange.proofs.Finishing.{peer-key-length, finish-sized}
+use Rattle.reply.specs.declared.ReplyCounts.{ReplyCounts}
+use Rattle.reply.specs.declared.ReplyAnswer.{ReplyAnswer}
+use Rattle.finish.specs.declared.FinishCounts.{FinishCounts}
+use Rattle.finish.specs.declared.FinishAnswer.{FinishAnswer}
+use Rattle.reply.proofs.Replying.{key-length, reply-sized}
+use Rattle.finish.proofs.Finishing.{peer-key-length, finish-sized}
 
 -- ---- one result
 

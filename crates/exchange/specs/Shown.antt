@@ -20,13 +20,13 @@ use Rattle.front.specs.Answers.{number, place, written}
 use Rattle.front.specs.declared.Answer.{Answer}
 use Rattle.front.specs.declared.Verdict.the-variants.{Pass}
 use Rattle.wire.specs.Wire.{opening, seedIn, hintsIn}
-use Rattle.exchange.specs.Offer.{Offer, Offered}
-use Rattle.exchange.specs.Reply.{Reply, replyTests, openedOf, replyKey, Replied}
-use Rattle.exchange.specs.Reply as reply
-use Rattle.exchange.specs.Finish.{Finish, finishTests, repliedOf, finishKey, finishSlack}
-use Rattle.exchange.specs.Finish as finish
-use Rattle.exchange.specs.declared.ReplyAnswer.{ReplyAnswer}
-use Rattle.exchange.specs.declared.FinishAnswer.{FinishAnswer}
+use Rattle.offer.specs.Offer.{Offer, Offered}
+use Rattle.reply.specs.Reply.{Reply, replyTests, openedOf, replyKey, Replied}
+use Rattle.reply.specs.Reply as reply
+use Rattle.finish.specs.Finish.{Finish, finishTests, repliedOf, finishKey, finishSlack}
+use Rattle.finish.specs.Finish as finish
+use Rattle.reply.specs.declared.ReplyAnswer.{ReplyAnswer}
+use Rattle.finish.specs.declared.FinishAnswer.{FinishAnswer}
 
 abbrev pub OneOffer : Type 0
 OneOffer =

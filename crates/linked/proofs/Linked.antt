@@ -16,11 +16,11 @@ use Rattle.front.specs.declared.Answer.{Answer}
 use Rattle.front.specs.declared.Verdict.{Verdict}
 use Rattle.front.proofs.Laws.{number-zero}
 use Rattle.front.proofs.Promise.{wrote-front}
-use Rattle.exchange.specs.Offer.{Offer, Offered}
-use Rattle.exchange.specs.Reply.{Reply, Replied, replyTests, replyKey}
-use Rattle.exchange.specs.Finish.{Finish, Finished, finishTests, finishKey}
-use Rattle.exchange.specs.declared.ReplyAnswer.{ReplyAnswer}
-use Rattle.exchange.specs.declared.FinishAnswer.{FinishAnswer}
+use Rattle.offer.specs.Offer.{Offer, Offered}
+use Rattle.reply.specs.Reply.{Reply, Replied, replyTests, replyKey}
+use Rattle.finish.specs.Finish.{Finish, Finished, finishTests, finishKey}
+use Rattle.reply.specs.declared.ReplyAnswer.{ReplyAnswer}
+use Rattle.finish.specs.declared.FinishAnswer.{FinishAnswer}
 use Rattle.agreement.specs.Run.{Run}
 use Rattle.agreement.specs.Exchange.{Exchange}
 use Rattle.agreement.specs.Agreement.{Near, publishedKey}

@@ -9,8 +9,8 @@ use Prim.Native.Nat.{ℕ}
 use lib.ListN.{take}
 use Rattle.schemes.specs.Schemes.{numberOf}
 use Rattle.schemes.specs.declared.Scheme.{Scheme}
-use Rattle.exchange.specs.Reply.{replyOf}
-use Rattle.exchange.specs.Finish.{finishOf}
+use Rattle.reply.specs.Reply.{replyOf}
+use Rattle.finish.specs.Finish.{finishOf}
 use Rattle.agreement.specs.Run.{Run}
 use Rattle.agreement.specs.Run as inputs
 use Rattle.agreement.specs.Agreement.{Near, publishedKey}

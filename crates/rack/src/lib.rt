@@ -5,16 +5,16 @@ ghost use mathlib.Core.List.{[]};
 ghost use Prim.Native.Nat.{_<_};
 ghost use lib.ListN.{set};
 ghost use Rattle.lists.specs.Lent.{room, left};
-ghost use Rattle.exchange.specs.Offer as offers;
-ghost use Rattle.exchange.specs.Reply as replies;
-ghost use Rattle.exchange.specs.Finish as finishes;
+ghost use Rattle.offer.specs.Offer as offers;
+ghost use Rattle.reply.specs.Reply as replies;
+ghost use Rattle.finish.specs.Finish as finishes;
 ghost use Rattle.session.specs.Table.{offering, replying, finishing, closing};
 ghost use Rattle.session.specs.Seen.{toldOffer, toldReply, toldFinish};
 ghost use Rattle.rack.specs.Table.{slot, holding, RackMoves};
-use exchange::FinishAnswer;
-use exchange::ReplyAnswer;
+use finish::FinishAnswer;
 use front::Answer;
 use front::Refusal;
+use reply::ReplyAnswer;
 use session::Session;
 
 pub struct Record {

@@ -5,17 +5,17 @@ ghost use Prim.Native.Nat.{_<_};
 ghost use lib.ListN.{length};
 ghost use Rattle.lists.specs.Lent.{was, left, room};
 ghost use Rattle.front.specs.Front.{numberIn, placeIn};
-ghost use Rattle.exchange.specs.Offer as offers;
-ghost use Rattle.exchange.specs.Reply as replies;
-ghost use Rattle.exchange.specs.Finish as finishes;
+ghost use Rattle.offer.specs.Offer as offers;
+ghost use Rattle.reply.specs.Reply as replies;
+ghost use Rattle.finish.specs.Finish as finishes;
 ghost use Rattle.session.specs.Table.{offering, replying, finishing, closing};
 ghost use Rattle.session.specs.Seen.{toldOffer, toldReply, toldFinish};
 ghost use Rattle.rack_bytes.specs.Slots.{owned, emptyRack, RackMovesBytes, Cleared, toldClose};
-use exchange::FinishAnswer;
-use exchange::ReplyAnswer;
+use finish::FinishAnswer;
 use front::Answer;
 use front::Refusal;
 use front::Verdict;
+use reply::ReplyAnswer;
 
 // Whether the bytes are a rack whose slot has the studio's number.
 fn owns(bytes: &[u8], studio: u32) -> bool

@@ -31,7 +31,7 @@ use Rattle.front.proofs.Laws.{number-zero, both, failed, length-passes, turn-pa
 use Rattle.ends.specs.Values.{offered}
 use Rattle.ends.proofs.Numbers.{Frodo, numbers-in}
 use Rattle.wire.specs.Wire.{opening}
-use Rattle.exchange.specs.Offer.{Offer, offerOf, offerLengths, offerIn, offerTests, offeredPart, openingOf, offerMessage}
+use Rattle.offer.specs.Offer.{Offer, offerOf, offerLengths, offerIn, offerTests, offeredPart, openingOf, offerMessage}
 use Rattle.running.specs.State.{long, named, taken, keptOf, secretOf, sumsOf, heldOf, laid, allBelow, begun, complete}
 use Rattle.rows.specs.Offer.{OfferBegin, offerBeginTests, offerState, OfferBegun, sentPart, offerEndSizes, offerEndTests, offerEndMessage}
 use Rattle.rows.specs.Runs.{Parts}

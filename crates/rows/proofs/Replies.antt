@@ -33,8 +33,8 @@ use Rattle.ends.specs.Values.{replied}
 use Rattle.ends.proofs.Numbers.{Frodo, numbers-in}
 use Rattle.ends.proofs.Ranges.{mixed-counted}
 use Rattle.wire.specs.Wire.{openedIn, coinsIn}
-use Rattle.exchange.specs.Reply.{Reply, replyOf, replyLengths, replySizes, replyLast, replyRest, replyTests, openedOf, repliedPart, messageFrom, keyFrom, messageOf, keyOf, replyMessage, replyKey, replySecrets}
-use Rattle.exchange.proofs.Replying.{secrets-small}
+use Rattle.reply.specs.Reply.{Reply, replyOf, replyLengths, replySizes, replyLast, replyRest, replyTests, openedOf, repliedPart, messageFrom, keyFrom, messageOf, keyOf, replyMessage, replyKey, replySecrets}
+use Rattle.reply.proofs.Replying.{secrets-small}
 use Rattle.running.specs.State.{long, named, taken, keptOf, secretOf, sumsOf, heldOf, laid, allBelow, begun, complete}
 use Rattle.rows.specs.Offer.{sentPart}
 use Rattle.rows.specs.Reply.{ReplyBegin, replyBeginTests, valueOf, replyState, ReplyBegun, replyEndSizes, replyEndTests, replyEndMessage, replyEndKey}

@@ -41,7 +41,7 @@ use Rattle.ends.proofs.Numbers.{Each, numbers-in}
 use Rattle.ends.proofs.Settling.{hints-counted, keys-counted}
 use Rattle.wire.specs.Wire.{openedIn, numbersIn}
 use Rattle.wire.proofs.Travel.{reply-length, key-long}
-use Rattle.exchange.specs.Reply.{replySecrets}
+use Rattle.reply.specs.Reply.{replySecrets}
 use Rattle.running.specs.State.{long, named, keptOf, begun}
 use Rattle.rows.specs.Offer.{sentPart}
 use Rattle.rows.specs.Reply.{ReplyBegin, replyBeginSizes, replyBeginTests, replyState, ReplyBegun, replyEndSizes, replyEndTests, replyEndMessage, replyEndKey, ReplyEnded}

@@ -29,8 +29,8 @@ use Rattle.front.specs.declared.Refusal.the-variants.{NoScheme, OutOfTurn}
 use Rattle.ends.specs.Values.{mixedValue}
 use Rattle.ends.specs.Keys.{hints, keys}
 use Rattle.wire.specs.Wire.{openedIn, numbersIn}
-use Rattle.exchange.specs.Reply.{replySecrets, number, place, counts}
-use Rattle.exchange.specs.declared.ReplyAnswer.{ReplyAnswer}
+use Rattle.reply.specs.Reply.{replySecrets, number, place, counts}
+use Rattle.reply.specs.declared.ReplyAnswer.{ReplyAnswer}
 use Rattle.running.specs.State.{long, named, keptOf, laid, complete}
 use Rattle.rows.specs.Offer.{sentPart}
 use Rattle.running.specs.declared.Call.{Call}

@@ -33,10 +33,10 @@ use Rattle.front.specs.declared.Answer.{Answer}
 use Rattle.front.specs.declared.Verdict.{Verdict}
 use Rattle.front.specs.declared.Verdict.the-variants.{Fail}
 use Rattle.front.specs.declared.Refusal.the-variants.{OutOfTurn}
-use Rattle.exchange.specs.Offer.{offerOf, Offered}
-use Rattle.exchange.specs.Reply.{replyOf, Replied}
-use Rattle.exchange.specs.Reply as reply
-use Rattle.exchange.specs.declared.ReplyAnswer.{ReplyAnswer}
+use Rattle.offer.specs.Offer.{offerOf, Offered}
+use Rattle.reply.specs.Reply.{replyOf, Replied}
+use Rattle.reply.specs.Reply as reply
+use Rattle.reply.specs.declared.ReplyAnswer.{ReplyAnswer}
 use Rattle.running.specs.State.{frodoOf, long, named, taken, secretOf, sumsOf, heldOf, begun, terms}
 use Rattle.running.specs.Part.{Taken}
 use Rattle.rows.specs.Offer.{OfferBegin, OfferBegun, OfferEnded}

@@ -10,10 +10,10 @@ ghost use Rattle.rows.specs.Reply.{ReplyBegins, ReplyEnds};
 mod opener;
 mod replier;
 
-use exchange::ReplyAnswer;
 use front::Answer;
 use front::Refusal;
 use front::Verdict;
+use reply::ReplyAnswer;
 use running::Call;
 use schemes::Named;
 

@@ -14,14 +14,13 @@ ghost use Rattle.sponge.specs.Sponge.{sha3};
 ghost use Rattle.matrix.specs.Steps.{wordsOf};
 ghost use Rattle.parts.specs.Parts.{wrap, pairs};
 ghost use Rattle.front.specs.Front.{_then_, notBlank};
-ghost use Rattle.front.specs.Promise.{put};
+ghost use Rattle.front.specs.Promise.{put, Laid};
 ghost use Rattle.front.specs.declared.Verdict.the-variants.{Pass};
 ghost use Rattle.ends.specs.Fit.{Counted, Small};
 ghost use Rattle.ends.specs.Values.{mixedValue};
 ghost use Rattle.ends.specs.Keys as settled;
 ghost use Rattle.wire.specs.Wire.{openedIn};
-ghost use Rattle.exchange.specs.Reply.{replySecrets};
-ghost use Rattle.exchange.specs.Inside.{Laid};
+ghost use Rattle.reply.specs.Reply.{replySecrets};
 ghost use Rattle.running.specs.State.{long, laid, named, begun};
 ghost use Rattle.rows.specs.Offer.{sentPart};
 ghost use Rattle.rows.specs.Reply.{
@@ -34,9 +33,9 @@ ghost use Rattle.rows.specs.Reply.{
   ReplyBegins,
   ReplyEnds,
 };
-use exchange::ReplyAnswer;
-use exchange::ReplyCounts;
 use front::Verdict;
+use reply::ReplyAnswer;
+use reply::ReplyCounts;
 use running::Call;
 use schemes::Scheme;
 

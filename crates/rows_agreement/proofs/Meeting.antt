@@ -15,9 +15,9 @@ use Rattle.schemes.specs.declared.Named.the-variants.{Is}
 use Rattle.schemes.specs.declared.Scheme.{Scheme}
 use Rattle.lists.specs.Entries.{Below}
 use Rattle.front.specs.Answers.{number, place, written}
-use Rattle.exchange.specs.Offer.{offerOf, Offered}
-use Rattle.exchange.specs.Reply.{replyOf, Replied}
-use Rattle.exchange.specs.Reply as ofReply
+use Rattle.offer.specs.Offer.{offerOf, Offered}
+use Rattle.reply.specs.Reply.{replyOf, Replied}
+use Rattle.reply.specs.Reply as ofReply
 use Rattle.agreement.specs.Run.{Run, offering}
 use Rattle.agreement.specs.Exchange.{Exchange}
 use Rattle.agreement.proofs.Accepted.{accepted}

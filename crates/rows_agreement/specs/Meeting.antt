@@ -15,13 +15,13 @@ use Rattle.schemes.specs.declared.Scheme.{Scheme}
 use Rattle.lists.specs.Entries.{Below}
 use Rattle.front.specs.Answers.{number, place, written}
 use Rattle.front.specs.declared.Answer.{Answer}
-use Rattle.exchange.specs.Offer.{Offered}
-use Rattle.exchange.specs.Reply.{replyOf, Replied}
-use Rattle.exchange.specs.Reply as ofReply
-use Rattle.exchange.specs.Finish.{finishOf}
-use Rattle.exchange.specs.Finish as ofFinish
-use Rattle.exchange.specs.declared.ReplyAnswer.{ReplyAnswer}
-use Rattle.exchange.specs.declared.FinishAnswer.{FinishAnswer}
+use Rattle.offer.specs.Offer.{Offered}
+use Rattle.reply.specs.Reply.{replyOf, Replied}
+use Rattle.reply.specs.Reply as ofReply
+use Rattle.finish.specs.Finish.{finishOf}
+use Rattle.finish.specs.Finish as ofFinish
+use Rattle.reply.specs.declared.ReplyAnswer.{ReplyAnswer}
+use Rattle.finish.specs.declared.FinishAnswer.{FinishAnswer}
 use Rattle.agreement.specs.Run.{Run, offering}
 use Rattle.agreement.specs.Exchange.{Sendable}
 use Rattle.agreement.specs.Agreement.{Near, publishedKey}

@@ -29,15 +29,15 @@ use Rattle.front.specs.declared.Verdict.{Verdict}
 use Rattle.front.specs.declared.Verdict.the-variants.{Pass, Fail}
 use Rattle.front.proofs.Laws.{some, number-zero}
 use Rattle.front.proofs.Promise.{wrote-front, told-failed, wrote-failed, used-failed}
-use Rattle.exchange.specs.Offer.{Offer, Offered, offerTests}
-use Rattle.exchange.specs.Reply.{Reply, Replied, replyTests, replyKey}
-use Rattle.exchange.specs.Reply as replies
-use Rattle.exchange.specs.Finish.{Finish, Finished, finishTests, finishKey}
-use Rattle.exchange.specs.Finish as finishes
-use Rattle.exchange.specs.declared.ReplyAnswer.{ReplyAnswer}
-use Rattle.exchange.specs.declared.ReplyCounts.{ReplyCounts}
-use Rattle.exchange.specs.declared.FinishCounts.{FinishCounts}
-use Rattle.exchange.specs.declared.FinishAnswer.{FinishAnswer}
+use Rattle.offer.specs.Offer.{Offer, Offered, offerTests}
+use Rattle.reply.specs.Reply.{Reply, Replied, replyTests, replyKey}
+use Rattle.reply.specs.Reply as replies
+use Rattle.finish.specs.Finish.{Finish, Finished, finishTests, finishKey}
+use Rattle.finish.specs.Finish as finishes
+use Rattle.reply.specs.declared.ReplyAnswer.{ReplyAnswer}
+use Rattle.reply.specs.declared.ReplyCounts.{ReplyCounts}
+use Rattle.finish.specs.declared.FinishCounts.{FinishCounts}
+use Rattle.finish.specs.declared.FinishAnswer.{FinishAnswer}
 use Rattle.exchange.proofs.Shown.{keys-fit}
 use Rattle.session.specs.declared.Session.{Session}
 use Rattle.session.specs.Table.{Call, offering, replying, finishing, closing, whenIdle, whenOffered, padded, noKey, idle, offered, keyed, row, outcome, after, step}

@@ -18,8 +18,8 @@ use Rattle.front.specs.declared.Verdict.{Verdict}
 use Rattle.front.specs.declared.Verdict.the-variants.{Pass, Fail}
 use Rattle.front.proofs.Laws.{number-zero}
 use Rattle.front.proofs.Promise.{wrote-only, used-only, told-only, same-peak}
-use Rattle.exchange.specs.Reply.{Reply, replyKey}
-use Rattle.exchange.specs.Finish.{Finish, finishKey}
+use Rattle.reply.specs.Reply.{Reply, replyKey}
+use Rattle.finish.specs.Finish.{Finish, finishKey}
 use Rattle.exchange.proofs.Shown.{keys-fit}
 use Rattle.session.specs.declared.Stage.{Stage}
 use Rattle.session.specs.declared.Session.{Session}

@@ -15,13 +15,13 @@ use Rattle.front.specs.Answers as answers
 use Rattle.front.specs.Promise.{Told, Wrote, Used}
 use Rattle.front.specs.declared.Answer.{Answer}
 use Rattle.front.specs.declared.Verdict.{Verdict}
-use Rattle.exchange.specs.Offer.{offerMessage}
-use Rattle.exchange.specs.Reply.{replyMessage, replyKey, replyDigest}
-use Rattle.exchange.specs.Reply as replies
-use Rattle.exchange.specs.Finish.{finishKey, finishDigest, finishSlack}
-use Rattle.exchange.specs.Finish as finishes
-use Rattle.exchange.specs.declared.ReplyAnswer.{ReplyAnswer}
-use Rattle.exchange.specs.declared.FinishAnswer.{FinishAnswer}
+use Rattle.offer.specs.Offer.{offerMessage}
+use Rattle.reply.specs.Reply.{replyMessage, replyKey, replyDigest}
+use Rattle.reply.specs.Reply as replies
+use Rattle.finish.specs.Finish.{finishKey, finishDigest, finishSlack}
+use Rattle.finish.specs.Finish as finishes
+use Rattle.reply.specs.declared.ReplyAnswer.{ReplyAnswer}
+use Rattle.finish.specs.declared.FinishAnswer.{FinishAnswer}
 use Rattle.session.specs.declared.Session.{Session}
 use Rattle.session.specs.Table.{Call, offering, replying, finishing, closing, outcome, step}
 

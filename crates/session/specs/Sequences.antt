@@ -18,10 +18,10 @@ use Prim.Native.Nat.{ℕ}
 use lib.ListN.{length, replicate}
 use Rattle.schemes.specs.Schemes.{schemeOf, fixedOf}
 use Rattle.lists.specs.declared.Peak.{Peak}
-use Rattle.exchange.specs.Offer.{Offer}
-use Rattle.exchange.specs.Offer as offer
-use Rattle.exchange.specs.Reply.{Reply, Replied}
-use Rattle.exchange.specs.Finish.{Finish, Finished}
+use Rattle.offer.specs.Offer.{Offer}
+use Rattle.offer.specs.Offer as offer
+use Rattle.reply.specs.Reply.{Reply, Replied}
+use Rattle.finish.specs.Finish.{Finish, Finished}
 use Rattle.session.specs.declared.Stage.{Stage}
 use Rattle.session.specs.declared.Stage.the-variants.{Idle, Offered, Keyed}
 use Rattle.session.specs.declared.Session.{Session}

@@ -1,5 +1,5 @@
 -- Link sessions: 02, request a. The small table as one definition.
---   Call            a call with all that it is given: the scheme's number, its inputs as `exchange` has them, and the room of each output
+--   Call            a call with all that it is given: the scheme's number, its inputs as the crate of the call has them, and the room of each output
 --   Row, row x      the table's row of a call: in which stage it is allowed, the tests of the call beneath, and the session that it leads to
 --   outcome st x    the verdict of a call in the stage st: 10 is tested before all of 01's
 --   step y x        the session after the call x on the session y: a refused call changes no stage and no key byte
@@ -15,9 +15,9 @@ use Rattle.schemes.specs.declared.Named.the-variants.{Is, Unknown}
 use Rattle.front.specs.declared.Refusal.the-variants.{OutOfStage}
 use Rattle.front.specs.declared.Verdict.{Verdict}
 use Rattle.front.specs.declared.Verdict.the-variants.{Pass, Fail}
-use Rattle.exchange.specs.Offer.{Offer, offerTests}
-use Rattle.exchange.specs.Reply.{Reply, replyTests, replyKey}
-use Rattle.exchange.specs.Finish.{Finish, finishTests, finishKey}
+use Rattle.offer.specs.Offer.{Offer, offerTests}
+use Rattle.reply.specs.Reply.{Reply, replyTests, replyKey}
+use Rattle.finish.specs.Finish.{Finish, finishTests, finishKey}
 use Rattle.session.specs.declared.Stage.{Stage}
 use Rattle.session.specs.declared.Stage.the-variants.{Idle, Offered, Keyed}
 use Rattle.session.specs.declared.Session.{Session}

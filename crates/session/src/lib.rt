@@ -7,16 +7,16 @@ ghost use Prim.Native.Nat.{_≤_};
 ghost use lib.ListN.{length, take};
 ghost use Rattle.schemes.specs.Schemes.{schemeOf};
 ghost use Rattle.lists.specs.Lent.{was, left, room};
-ghost use Rattle.exchange.specs.Offer as offers;
-ghost use Rattle.exchange.specs.Reply as replies;
-ghost use Rattle.exchange.specs.Finish as finishes;
+ghost use Rattle.offer.specs.Offer as offers;
+ghost use Rattle.reply.specs.Reply as replies;
+ghost use Rattle.finish.specs.Finish as finishes;
 ghost use Rattle.session.specs.Table.{offering, replying, finishing, closing, whenIdle, whenOffered, padded, noKey};
 ghost use Rattle.session.specs.Table as table;
 ghost use Rattle.session.specs.Seen.{Moves, toldOffer, toldReply, toldFinish};
-use exchange::FinishAnswer;
-use exchange::ReplyAnswer;
+use finish::FinishAnswer;
 use front::Answer;
 use front::Refusal;
+use reply::ReplyAnswer;
 use schemes::Named;
 use schemes::Scheme;
 
@@ -145,7 +145,7 @@ pub fn offer(
             answer: Answer::Refused(Refusal::OutOfStage),
         };
     }
-    let answer = exchange::offer(scheme, a, s, e, seed, message);
+    let answer = offer::offer(scheme, a, s, e, seed, message);
     let Answer::Done(_) = answer else {
         return Moved { session, answer };
     };
@@ -184,7 +184,7 @@ pub fn reply(
             answer: ReplyAnswer::Refused(Refusal::OutOfStage),
         };
     }
-    let answer = exchange::reply(scheme, opening, a, s1, e1, e2, coins, message, key, digest);
+    let answer = reply::reply(scheme, opening, a, s1, e1, e2, coins, message, key, digest);
     let ReplyAnswer::Done(counts) = answer else {
         return ReplyMoved { session, answer };
     };
@@ -217,7 +217,7 @@ pub fn finish(
             answer: FinishAnswer::Refused(Refusal::OutOfStage),
         };
     }
-    let answer = exchange::finish(scheme, reply, s, key, digest);
+    let answer = finish::finish(scheme, reply, s, key, digest);
     let FinishAnswer::Done(counts) = answer else {
         return FinishMoved { session, answer };
     };

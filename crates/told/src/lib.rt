@@ -5,15 +5,15 @@ ghost use Prim.Native.Nat.{_≤_};
 ghost use Rattle.lists.specs.Lent.{left};
 ghost use Rattle.front.specs.Front.{numberIn, placeIn};
 ghost use Rattle.front.specs.Answers as answers;
-ghost use Rattle.exchange.specs.Reply as replies;
-ghost use Rattle.exchange.specs.Finish as finishes;
+ghost use Rattle.reply.specs.Reply as replies;
+ghost use Rattle.finish.specs.Finish as finishes;
 ghost use Rattle.bench.specs.Bench as benches;
 use bench::BenchAnswer;
-use exchange::FinishAnswer;
-use exchange::ReplyAnswer;
+use finish::FinishAnswer;
 use front::Answer;
 use front::Verdict;
 use lists::Peak;
+use reply::ReplyAnswer;
 use settings::LentAnswer;
 
 // An answer in numbers.

@@ -16,9 +16,9 @@ use crate::shape::cut;
 use crate::shape::lengths;
 use crate::shape::secret_part;
 use bench::BenchAnswer;
-use exchange::FinishAnswer;
-use exchange::ReplyAnswer;
+use finish::FinishAnswer;
 use front::Answer;
+use reply::ReplyAnswer;
 use schemes::Fixed;
 
 pub enum Call {
@@ -57,7 +57,7 @@ fn offer_secrets(
     let s1 = s.to;
     let e0 = e.from;
     let e1 = e.to;
-    exchange::offer(scheme, a, &values[s0..s1], &values[e0..e1], seed, message)
+    offer::offer(scheme, a, &values[s0..s1], &values[e0..e1], seed, message)
 }
 
 pub fn reply(
@@ -110,7 +110,7 @@ fn reply_secrets(
     let e1 = e.to;
     let v0 = v.from;
     let v1 = v.to;
-    exchange::reply(
+    reply::reply(
         scheme,
         opening,
         a,
@@ -138,7 +138,7 @@ pub fn finish(
     let r1 = reply.to;
     let s0 = s.from;
     let s1 = s.to;
-    exchange::finish(scheme, &bytes[r0..r1], &values[s0..s1], key, digest)
+    finish::finish(scheme, &bytes[r0..r1], &values[s0..s1], key, digest)
 }
 
 pub fn bench(

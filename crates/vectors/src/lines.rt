@@ -6,12 +6,12 @@ use crate::shape::KEY;
 use crate::shape::MESSAGE;
 use crate::shape::cut;
 use bench::BenchAnswer;
-use exchange::FinishAnswer;
-use exchange::ReplyAnswer;
+use finish::FinishAnswer;
 use front::Answer;
 use front::Refusal;
 use libc::STDOUT_FILENO;
 use lists::Peak;
+use reply::ReplyAnswer;
 
 // A case's name.
 pub enum Case {

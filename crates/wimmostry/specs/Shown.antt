@@ -15,9 +15,9 @@ use Rattle.sampling.specs.Expand.{Expand, Expanded}
 use Rattle.sampling.specs.Grow.{Grow, Grown}
 use Rattle.hashing.specs.Hashing.{Hash, Shaken, Digested}
 use Rattle.halves.specs.Halves.{Factors, Multiplied}
-use Rattle.exchange.specs.Offer.{Offer, Offered}
-use Rattle.exchange.specs.Reply.{Reply, Replied}
-use Rattle.exchange.specs.Finish.{Finish, Finished}
+use Rattle.offer.specs.Offer.{Offer, Offered}
+use Rattle.reply.specs.Reply.{Reply, Replied}
+use Rattle.finish.specs.Finish.{Finish, Finished}
 use Rattle.running.specs.Part.{Taken}
 use Rattle.rows.specs.Offer.{OfferBegin, OfferBegun, OfferEnded}
 use Rattle.rows.specs.Reply.{ReplyBegin, ReplyBegun, ReplyEnded}

@@ -8,9 +8,9 @@ ghost use Rattle.sampling.specs.Expand.{expand, Expanded};
 ghost use Rattle.sampling.specs.Grow.{grow, Grown};
 ghost use Rattle.hashing.specs.Hashing.{hash, Shaken, Digested};
 ghost use Rattle.halves.specs.Halves.{factors, Multiplied};
-ghost use Rattle.exchange.specs.Offer.{offer, Offered};
-ghost use Rattle.exchange.specs.Reply.{reply, Replied};
-ghost use Rattle.exchange.specs.Finish.{finish, Finished};
+ghost use Rattle.offer.specs.Offer.{offer, Offered};
+ghost use Rattle.reply.specs.Reply.{reply, Replied};
+ghost use Rattle.finish.specs.Finish.{finish, Finished};
 ghost use Rattle.bench.specs.Bench.{bench, Benched};
 
 mod racks;
@@ -36,7 +36,7 @@ pub extern "C" fn wim_offer(
 ) -> u32
     ensures { λ r. ⌜ Offered (schemeOf scheme) (offer a s e seed) r (left place) (room message) (left written) (left message) ⌝ }
 {
-    let answer = exchange::offer(scheme, a, s, e, seed, message);
+    let answer = offer::offer(scheme, a, s, e, seed, message);
     told::tell(answer, place, written)
 }
 
@@ -63,7 +63,7 @@ pub extern "C" fn wim_reply(
         r (left place) (room message) (left written) (left message) (room key) (left keyed) (left key) (room digest) (left digested) (left digest)
         ⌝ }
 {
-    let answer = exchange::reply(scheme, opening, a, s1, e1, e2, coins, message, key, digest);
+    let answer = reply::reply(scheme, opening, a, s1, e1, e2, coins, message, key, digest);
     told::tell_reply(answer, place, written, keyed, digested)
 }
 
@@ -86,7 +86,7 @@ pub extern "C" fn wim_finish(
         r (left place) (room key) (left keyed) (left key) (room digest) (left digested) (left digest) (left slack) (left index)
         ⌝ }
 {
-    let answer = exchange::finish(scheme, reply, s, key, digest);
+    let answer = finish::finish(scheme, reply, s, key, digest);
     told::tell_finish(answer, place, keyed, digested, slack, index)
 }
 

@@ -1,9 +1,9 @@
 // The calls on a rack behind a pointer, eight records of 131 lent bytes: 02, request k. Each takes the rack and a studio's number first, and then what the
 // plain call takes.
 ghost use Rattle.lists.specs.Lent.{was, left, room};
-ghost use Rattle.exchange.specs.Offer.{offer};
-ghost use Rattle.exchange.specs.Reply.{reply};
-ghost use Rattle.exchange.specs.Finish.{finish};
+ghost use Rattle.offer.specs.Offer.{offer};
+ghost use Rattle.reply.specs.Reply.{reply};
+ghost use Rattle.finish.specs.Finish.{finish};
 ghost use Rattle.session.specs.Table.{offering, replying, finishing, closing};
 ghost use Rattle.session.specs.Seen.{output, noOutput, offerSeen, replySeen, finishSeen};
 ghost use Rattle.rack_bytes.specs.Slots.{RackMovesBytes, Cleared};

@@ -1,8 +1,8 @@
 // The calls on a session behind a pointer, 130 lent bytes: 02, request a. Each takes the session first, and then what the plain call takes.
 ghost use Rattle.lists.specs.Lent.{was, left, room};
-ghost use Rattle.exchange.specs.Offer.{offer};
-ghost use Rattle.exchange.specs.Reply.{reply};
-ghost use Rattle.exchange.specs.Finish.{finish};
+ghost use Rattle.offer.specs.Offer.{offer};
+ghost use Rattle.reply.specs.Reply.{reply};
+ghost use Rattle.finish.specs.Finish.{finish};
 ghost use Rattle.session.specs.Table.{offering, replying, finishing, closing};
 ghost use Rattle.session.specs.Seen.{output, offerSeen, replySeen, finishSeen, closeSeen};
 ghost use Rattle.session_bytes.specs.Bytes.{MovesBytes};

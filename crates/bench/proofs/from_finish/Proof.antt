@@ -1,5 +1,5 @@
 -- `bench::from_finish` meets its contract: Finish's refusal, or the slack that it used and its key.
-use Rattle.exchange.specs.Finish.{finishOf}
+use Rattle.finish.specs.Finish.{finishOf}
 use Rattle.bench.proofs.Answering.{named, finish-refused, finish-done}
 use borrow.Author.Needs.{needs}
 use Rattle.bench.proofs.from_finish.Statement.{statement}

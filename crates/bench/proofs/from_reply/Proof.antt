@@ -1,5 +1,5 @@
 -- `bench::from_reply` meets its contract: Reply's refusal, or what follows from Finish on.
-use Rattle.exchange.specs.Reply.{replyOf}
+use Rattle.reply.specs.Reply.{replyOf}
 use Rattle.bench.proofs.Answering.{named, reply-refused, reply-told}
 use borrow.Author.Needs.{needs}
 use Rattle.bench.proofs.from_reply.Statement.{statement}

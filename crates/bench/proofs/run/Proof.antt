@@ -3,8 +3,8 @@ use mathlib.Core.Path.{sym, ap, _∙_}
 use native.Mathlib.Omega.{arith}
 use lib.ListN.{length}
 use Rattle.schemes.proofs.Sound.{sound}
-use Rattle.exchange.proofs.Replying.{key-length}
-use Rattle.exchange.proofs.Finishing.{peer-key-length}
+use Rattle.reply.proofs.Replying.{key-length}
+use Rattle.finish.proofs.Finishing.{peer-key-length}
 use Rattle.agreement.specs.Run.{replying, finishing}
 use Rattle.bench.specs.Bench.{Bench, benchOf}
 use Rattle.bench.proofs.Answering.{bench-refused, bench-told, own-kept, peer-kept}

@@ -12,8 +12,8 @@ use Rattle.front.proofs.Laws.{both}
 use Rattle.ends.specs.Values.{mixedValue}
 use Rattle.wire.specs.Wire.{openedIn, numbersIn}
 use Rattle.wire.proofs.Travel.{message-counted}
-use Rattle.exchange.specs.Reply.{replySecrets}
-use Rattle.exchange.proofs.Replying.{secrets-small}
+use Rattle.reply.specs.Reply.{replySecrets}
+use Rattle.reply.proofs.Replying.{secrets-small}
 use Rattle.running.specs.State.{long, laid}
 use Rattle.rows.specs.Reply.{ReplyBegin, replyBeginOf, valueOf, replyState}
 use Rattle.rows.proofs.Replying.{Sized, begin-sized, opened-tests}

@@ -1,7 +1,7 @@
 -- `rows::replier::secrets` meets its contract: one test after the other.
 use mathlib.Core.Path.{refl, _∙_}
 use Rattle.front.proofs.Laws.{also}
-use Rattle.exchange.specs.Reply.{replySecrets}
+use Rattle.reply.specs.Reply.{replySecrets}
 use Rattle.rows.proofs.Replying.{three-more}
 use borrow.Author.Needs.{needs}
 use Rattle.rows.proofs.replier.secrets.Statement.{statement}

@@ -9,11 +9,10 @@ use Rattle.schemes.specs.declared.Fixed.{Fixed}
 use Rattle.schemes.specs.declared.Named.{Named}
 use Rattle.lists.proofs.Parts.{front-long}
 use Rattle.sponge.proofs.Output.{sha3-length}
+use Rattle.sponge.proofs.Digest.{digest-laid}
 use Rattle.front.specs.Promise.{put}
 use Rattle.front.specs.declared.Verdict.{Verdict}
-use Rattle.front.proofs.Promise.{told-passed, wrote-passed, told-failed, wrote-failed, wrote-kept}
-use Rattle.exchange.proofs.Digest.{digest-laid}
-use Rattle.exchange.proofs.Laid.{laid-on}
+use Rattle.front.proofs.Promise.{told-passed, wrote-passed, told-failed, wrote-failed, wrote-kept, laid-on}
 use Rattle.running.specs.State.{named}
 use Rattle.rows.specs.Reply.{replyEndTests, replyEndMessage, replyEndKey}
 use Rattle.rows.proofs.Replying.{Roomy, end-roomy, end-decides, message-length, key-length}

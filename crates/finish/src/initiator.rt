@@ -1,0 +1,170 @@
+// Finish, once the scheme is known and both outputs hold zeros: lengths and rooms, then the reply's numbers, then the secret, in 01's order; then the key into
+// the part of the output that it takes, and its digest.
+ghost use mathlib.Core.Path.{_≡_};
+ghost use Prim.Native.Nat.{_^_};
+ghost use lib.ListN.{length, replicate};
+ghost use Rattle.schemes.specs.Schemes.{fixedOf};
+ghost use Rattle.schemes.specs.declared.Named.the-variants.{Is};
+ghost use Rattle.lists.specs.Lent.{was, left};
+ghost use Rattle.lists.specs.Top.{peakOf};
+ghost use Rattle.packing.specs.Packing.{packed};
+ghost use Rattle.front.specs.Front.{secretsIn};
+ghost use Rattle.front.specs.Promise.{Laid, outcome};
+ghost use Rattle.front.specs.declared.Verdict.the-variants.{Pass};
+ghost use Rattle.ends.specs.Fit.{Counted};
+ghost use Rattle.ends.specs.Keys as settled;
+ghost use Rattle.finish.specs.Finish.{finishOf, finish, finishSizes, finishRest, peerKeyFrom, peerKeyOf, slackFrom, slackOf, Finishes};
+ghost use Rattle.finish.specs.Inside.{Derives, Finishing};
+use crate::FinishAnswer;
+use crate::FinishCounts;
+use front::Outcome;
+use front::Verdict;
+use lists::Peak;
+use schemes::Scheme;
+
+// The key of w under the hints, then the slack used; entries is room for what lies between, and w becomes the slacks.
+fn settle(scheme: Scheme, hints: &[u32], w: &mut [u32], entries: &mut [u32], key: &mut [u8]) -> Peak
+    requires { ⌜ Counted (fixedOf scheme .mixed) (fixedOf scheme .q) (now w) × (length (now entries) ≡ fixedOf scheme .groups) ⌝ }
+    requires { ⌜ Counted (fixedOf scheme .mixed) (2 ^ fixedOf scheme .hintbits) (now hints) × (length (now key) ≡ fixedOf scheme .key) ⌝ }
+    ensures { λ _. ⌜ left key ≡ packed (fixedOf scheme .keybits) (settled.peers scheme (was hints) (was w)) ⌝ }
+    ensures { λ r. ⌜ r ≡ peakOf (settled.slacks scheme (was hints) (was w)) ⌝ }
+{
+    ends::settle::peers(scheme, hints, w, entries);
+    wire::lay_key(scheme, entries, key);
+    ends::settle::slacks(scheme, hints, w);
+    lists::peak_of(w)
+}
+
+// The same of the reply and its numbers u; w, hints and entries are room for what lies between.
+fn derive(
+    scheme: Scheme,
+    reply: &[u8],
+    u: &[u32],
+    s: &[i32],
+    w: &mut [u32],
+    hints: &mut [u32],
+    entries: &mut [u32],
+    key: &mut [u8],
+) -> Peak
+    requires { ⌜ Derives scheme (finishOf (now reply) (now s)) (now u) × (length (now key) ≡ fixedOf scheme .key) ⌝ }
+    requires { ⌜ (length (now w) ≡ fixedOf scheme .mixed) × (length (now hints) ≡ fixedOf scheme .mixed) × (length (now entries) ≡ fixedOf scheme .groups) ⌝ }
+    ensures { λ _. ⌜ left key ≡ peerKeyFrom scheme (was u) (finish reply s) ⌝ }
+    ensures { λ r. ⌜ r ≡ slackFrom scheme (was u) (finish reply s) ⌝ }
+{
+    ends::values::multiply(scheme, u, s, w);
+    wire::take_hints(scheme, reply, hints);
+    settle(scheme, hints, w, entries, key)
+}
+
+// The same with room for n values and g groups, of which no scheme has more than 1024.
+fn write(
+    scheme: Scheme,
+    n: usize,
+    g: usize,
+    reply: &[u8],
+    u: &[u32],
+    s: &[i32],
+    key: &mut [u8],
+) -> Peak
+    requires { ⌜ Derives scheme (finishOf (now reply) (now s)) (now u) × (length (now key) ≡ fixedOf scheme .key) ⌝ }
+    requires { ⌜ (n ≡ fixedOf scheme .mixed) × (g ≡ fixedOf scheme .groups) ⌝ }
+    ensures { λ _. ⌜ left key ≡ peerKeyFrom scheme (was u) (finish reply s) ⌝ }
+    ensures { λ r. ⌜ r ≡ slackFrom scheme (was u) (finish reply s) ⌝ }
+{
+    let mut w = [0u32; 1024];
+    let mut hints = [0u32; 1024];
+    let mut entries = [0u32; 1024];
+    derive(
+        scheme,
+        reply,
+        u,
+        s,
+        &mut w[..n],
+        &mut hints[..n],
+        &mut entries[..g],
+        key,
+    )
+}
+
+// The secret's test, then the key. What is refused leaves zeros.
+fn with_secret(scheme: Scheme, reply: &[u8], u: &[u32], s: &[i32], key: &mut [u8]) -> Outcome
+    requires { ⌜ Finishing scheme (finishOf (now reply) (now s)) (now key) × Counted (fixedOf scheme .secret) (fixedOf scheme .q) (now u) ⌝ }
+    ensures { λ r. ⌜ r ≡ outcome (secretsIn (fixedOf scheme .largest) (was s)) (slackFrom scheme (was u) (finish reply s)) ⌝ }
+    ensures { λ _. ⌜ Laid (secretsIn (fixedOf scheme .largest) (was s)) (peerKeyFrom scheme (was u) (finish reply s)) key ⌝ }
+{
+    let f = scheme.fixed();
+    let v = front::secrets_in(Verdict::Pass, f.largest, s);
+    match v {
+        Verdict::Fail(r) => Outcome::Refused(r),
+        Verdict::Pass => Outcome::Slack(write(scheme, f.mixed, f.groups, reply, u, s, key)),
+    }
+}
+
+// The reply's numbers into u. A refused message ends the call here, with its place.
+fn with_reply(scheme: Scheme, reply: &[u8], s: &[i32], u: &mut [u32], key: &mut [u8]) -> Outcome
+    requires { ⌜ Finishing scheme (finishOf (now reply) (now s)) (now key) × (length (now u) ≡ fixedOf scheme .secret) ⌝ }
+    ensures { λ r. ⌜ r ≡ outcome (finishRest scheme (finish reply s)) (slackOf scheme (finish reply s)) ⌝ }
+    ensures { λ _. ⌜ Laid (finishRest scheme (finish reply s)) (peerKeyOf scheme (finish reply s)) key ⌝ }
+{
+    let v = wire::take_reply(scheme, reply, u);
+    let Verdict::Pass = v else {
+        lists::zero_bytes(key);
+        return front::ended(v, Peak { most: 0, at: 0 });
+    };
+    with_secret(scheme, reply, u, s, key)
+}
+
+// The same with room for n numbers, of which no scheme has more than 6912.
+fn key_in(scheme: Scheme, n: usize, reply: &[u8], s: &[i32], key: &mut [u8]) -> Outcome
+    requires { ⌜ Finishing scheme (finishOf (now reply) (now s)) (now key) × (n ≡ fixedOf scheme .secret) ⌝ }
+    ensures { λ r. ⌜ r ≡ outcome (finishRest scheme (finish reply s)) (slackOf scheme (finish reply s)) ⌝ }
+    ensures { λ _. ⌜ Laid (finishRest scheme (finish reply s)) (peerKeyOf scheme (finish reply s)) key ⌝ }
+{
+    let mut u = [0u32; 6912];
+    with_reply(scheme, reply, s, &mut u[..n], key)
+}
+
+// Where the sizes have passed.
+fn finish_sized(
+    scheme: Scheme,
+    reply: &[u8],
+    s: &[i32],
+    key: &mut [u8],
+    digest: &mut [u8],
+) -> FinishAnswer
+    requires { ⌜ finishSizes scheme (finishOf (now reply) (now s)) (length (now key)) (length (now digest)) ≡ Pass ⌝ }
+    requires { ⌜ (now key ≡ replicate (length (now key)) 0) × (now digest ≡ replicate (length (now digest)) 0) ⌝ }
+    ensures { λ r. ⌜ Finishes (Is scheme) reply s key digest r ⌝ }
+{
+    let f = scheme.fixed();
+    let k = f.key;
+    let v = key_in(scheme, f.secret, reply, s, &mut key[..k]);
+    match v {
+        Outcome::Refused(r) => FinishAnswer::Refused(r),
+        Outcome::Slack(used) => {
+            sponge::lay_digest(&key[..k], digest);
+            FinishAnswer::Done(FinishCounts {
+                key: k,
+                digest: 32,
+                slack: used,
+            })
+        }
+    }
+}
+
+pub(crate) fn finish_in(
+    scheme: Scheme,
+    reply: &[u8],
+    s: &[i32],
+    key: &mut [u8],
+    digest: &mut [u8],
+) -> FinishAnswer
+    requires { ⌜ (now key ≡ replicate (length (now key)) 0) × (now digest ≡ replicate (length (now digest)) 0) ⌝ }
+    ensures { λ r. ⌜ Finishes (Is scheme) reply s key digest r ⌝ }
+{
+    let v = crate::tests::finish_sizes(scheme, reply, s, key.len(), digest.len());
+    match v {
+        Verdict::Fail(r) => FinishAnswer::Refused(r),
+        Verdict::Pass => finish_sized(scheme, reply, s, key, digest),
+    }
+}

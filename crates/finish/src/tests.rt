@@ -1,0 +1,21 @@
+// The tests of Finish that come first, in 01's order.
+ghost use mathlib.Core.Path.{_≡_};
+ghost use Rattle.finish.specs.Finish.{finish, finishSizes};
+use front::Verdict;
+use schemes::Scheme;
+
+pub(crate) fn finish_sizes(
+    scheme: Scheme,
+    reply: &[u8],
+    s: &[i32],
+    room: usize,
+    digestroom: usize,
+) -> Verdict
+    ensures { λ r. ⌜ r ≡ finishSizes scheme (finish reply s) room digestroom ⌝ }
+{
+    let f = scheme.fixed();
+    let v = front::length_is(Verdict::Pass, reply.len(), f.reply);
+    let v = front::length_is(v, s.len(), f.secret);
+    let v = front::room_for(v, room, f.key);
+    front::room_for(v, digestroom, 32)
+}

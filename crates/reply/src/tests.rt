@@ -1,0 +1,56 @@
+// The tests of Reply, in 01's order. That of the public numbers is the product's own, which reads them once.
+ghost use mathlib.Core.Path.{_≡_};
+ghost use Rattle.lists.specs.Lent.{was};
+ghost use Rattle.reply.specs.Reply.{reply, replyLengths, replyRooms, replySecrets};
+use front::Verdict;
+use schemes::Scheme;
+
+fn reply_lengths(
+    scheme: Scheme,
+    opening: &[u8],
+    a: &[u32],
+    s1: &[i32],
+    e1: &[i32],
+    e2: &[i32],
+    coins: &[u8],
+) -> Verdict
+    ensures { λ r. ⌜ r ≡ replyLengths scheme (reply opening a s1 e1 e2 coins) ⌝ }
+{
+    let f = scheme.fixed();
+    let v = front::length_is(Verdict::Pass, opening.len(), f.opening);
+    let v = front::length_is(v, a.len(), f.public);
+    let v = front::length_is(v, s1.len(), f.secret);
+    let v = front::length_is(v, e1.len(), f.noise);
+    let v = front::length_is(v, e2.len(), f.mixed);
+    front::length_is(v, coins.len(), f.coins)
+}
+
+pub(crate) fn reply_sizes(
+    scheme: Scheme,
+    opening: &[u8],
+    a: &[u32],
+    s1: &[i32],
+    e1: &[i32],
+    e2: &[i32],
+    coins: &[u8],
+    room: usize,
+    keyroom: usize,
+    digestroom: usize,
+) -> Verdict
+    ensures { λ r. ⌜ r ≡ replyRooms scheme (reply opening a s1 e1 e2 coins) room keyroom digestroom ⌝ }
+{
+    let f = scheme.fixed();
+    let v = reply_lengths(scheme, opening, a, s1, e1, e2, coins);
+    let v = front::room_for(v, room, f.reply);
+    let v = front::room_for(v, keyroom, f.key);
+    front::room_for(v, digestroom, 32)
+}
+
+pub(crate) fn reply_secrets(scheme: Scheme, s1: &[i32], e1: &[i32], e2: &[i32]) -> Verdict
+    ensures { λ r. ⌜ r ≡ replySecrets scheme (was s1) (was e1) (was e2) ⌝ }
+{
+    let f = scheme.fixed();
+    let v = front::secrets_in(Verdict::Pass, f.largest, s1);
+    let v = front::secrets_in(v, f.largest, e1);
+    front::secrets_in(v, f.largest, e2)
+}
