@@ -309,8 +309,8 @@ fn right_on(
     at
 }
 
-// XS + E, where X has r rows and n columns: AS + E. The answer is the place of the first number of X that is q or more, or X's length where none is. The
-// columns have four words of room that nobody needs: with them all three arrays start where 16 bytes do, and no vector lies in two lines of the cache.
+// XS + E, where X has r rows and n columns: AS + E. The answer is the place of the first number of X that is q or more, or X's length where none is. Here as
+// below arrays have some words that nobody needs: with them those that matter start where 16 bytes do, and no vector lies in two lines of the cache.
 pub fn mix_right(
     q: u32,
     n: usize,
@@ -325,9 +325,9 @@ pub fn mix_right(
     ensures { λ at. ⌜ at ≡ firstOver q (was x) ⌝ }
     ensures { λ _. ⌜ (Below q (was x) → left out ≡ rightMixed q r n 8 (was x) (was s) (was e)) ⌝ }
 {
-    let mut cols: [u16; 6916] = [0; 6916];
+    let mut cols: [u16; 6920] = [0; 6920];
     let mut line: [u16; 864] = [0; 864];
-    let mut sums: [u16; 6912] = [0; 6912];
+    let mut sums: [u16; 6916] = [0; 6916];
     let m = 8 * n;
     let k = 8 * r;
     right_on(
@@ -581,8 +581,8 @@ pub fn mix_eight(q: u32, n: usize, s: &[i32], y: &[u32], e: &[i32], out: &mut [u
     requires { ⌜ length (now e) ≡ 64 ⌝ }
     ensures { λ _. ⌜ left out ≡ leftMixed q n 8 8 (was s) (was y) (was e) ⌝ }
 {
-    let mut ws: [u16; 6912] = [0; 6912];
-    let mut cols: [u16; 6916] = [0; 6916];
+    let mut ws: [u16; 6916] = [0; 6916];
+    let mut cols: [u16; 6920] = [0; 6920];
     let mut sums: [u16; 64] = [0; 64];
     let k = 8 * n;
     eight_on(q, n, s, y, e, &mut ws[..k], &mut cols[..k], &mut sums, out);
