@@ -94,17 +94,9 @@ fn narrow_bits(xs: &[u32], out: &mut [u16]) -> u32
     bits
 }
 
-// Numbers in 16 bits each.
-pub fn narrow(xs: &[u32], out: &mut [u16])
-    requires { ⌜ (length (now xs) ≡ length (now out)) × Below 32768 (now xs) ⌝ }
-    ensures { λ _. ⌜ left out ≡ was xs ⌝ }
-{
-    narrow_bits(xs, out);
-}
-
-// The same, with the test. The answer is the place of the first number that is q or more, or how many there are. Where q is a power of two, as in Frodo,
-// numbers are all below it where their bits are, and so one pass does both.
-pub fn narrow_below(q: u32, xs: &[u32], out: &mut [u16]) -> usize
+// Numbers in 16 bits each, with the test. The answer is the place of the first number that is q or more, or how many there are. Where q is a power of two,
+// as in Frodo, numbers are all below it where their bits are, and so one pass does both.
+fn narrow_below(q: u32, xs: &[u32], out: &mut [u16]) -> usize
     requires { ⌜ (0 < q) × (q ≤ 32768) × (length (now xs) ≡ length (now out)) ⌝ }
     ensures { λ at. ⌜ at ≡ firstOver q (was xs) ⌝ }
     ensures { λ _. ⌜ (Below q (was xs) → left out ≡ was xs) ⌝ }

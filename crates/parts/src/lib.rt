@@ -6,6 +6,7 @@ ghost use mathlib.Core.List.{_++_};
 ghost use Prim.Native.Nat.{_+_, _*_, _%_, _<_, _≤_};
 ghost use lib.ListN.{length, take, drop, set};
 ghost use Rattle.lists.specs.Lent.{was, left};
+ghost use Rattle.lists.specs.Entries.{Below};
 ghost use Rattle.matrix.specs.Steps.{gained, rightTerm, partTerm};
 ghost use Rattle.parts.specs.Parts.{wrap, words, pairs, columnsFrom};
 
@@ -36,22 +37,22 @@ pub fn pair(ws: &[u16], out: &mut [u32])
 }
 
 // Word k: the lower half of number k / 2 where k is even, and its upper half where k is odd.
-fn put_word(k: usize, w: u16, out: &mut [u32])
-    requires { ⌜ k < 2 * length (now out) ⌝ }
+fn put_word(k: usize, w: u32, out: &mut [u32])
+    requires { ⌜ (k < 2 * length (now out)) × (w < 65536) ⌝ }
     ensures { λ _. ⌜ words (left out) ≡ set (words (was out)) k w ⌝ }
 {
     let i = k / 2;
     let x = out[i];
     if k % 2 == 0 {
-        out[i] = x / 65536 * 65536 + w as u32;
+        out[i] = x / 65536 * 65536 + w;
     } else {
-        out[i] = x % 65536 + 65536 * w as u32;
+        out[i] = x % 65536 + 65536 * w;
     }
 }
 
-// Words from word `at` on, of numbers that hold two each, one at a time.
-fn put_each(at: usize, ws: &[u16], out: &mut [u32])
-    requires { ⌜ at + length (now ws) ≤ 2 * length (now out) ⌝ }
+// Numbers of 16 bits as words, from word `at` on, one at a time.
+fn put_each(at: usize, ws: &[u32], out: &mut [u32])
+    requires { ⌜ (at + length (now ws) ≤ 2 * length (now out)) × Below 65536 (now ws) ⌝ }
     ensures { λ _. ⌜ left out ≡ pairs (take at (words (was out)) ++ (was ws ++ drop (at + length (was ws)) (words (was out)))) ⌝ }
 {
     let mut k: usize = 0;
@@ -61,15 +62,27 @@ fn put_each(at: usize, ws: &[u16], out: &mut [u32])
     }
 }
 
-// The same. Where they start and end on whole numbers, as whole rows do, it is one copy.
-pub fn put_words(at: usize, ws: &[u16], out: &mut [u32])
-    requires { ⌜ at + length (now ws) ≤ 2 * length (now out) ⌝ }
+// Two numbers of 16 bits in one.
+fn pair_numbers(xs: &[u32], out: &mut [u32])
+    requires { ⌜ (length (now xs) ≡ 2 * length (now out)) × Below 65536 (now xs) ⌝ }
+    ensures { λ _. ⌜ left out ≡ pairs (was xs) ⌝ }
+{
+    let mut i: usize = 0;
+    while i < out.len() {
+        out[i] = xs[2 * i] + 65536 * xs[2 * i + 1];
+        i += 1;
+    }
+}
+
+// The same from any word on. Where they start and end on whole numbers, as whole rows do, two go at a time.
+pub fn put_words(at: usize, ws: &[u32], out: &mut [u32])
+    requires { ⌜ (at + length (now ws) ≤ 2 * length (now out)) × Below 65536 (now ws) ⌝ }
     ensures { λ _. ⌜ left out ≡ pairs (take at (words (was out)) ++ (was ws ++ drop (at + length (was ws)) (words (was out)))) ⌝ }
 {
     if at % 2 == 0 && ws.len() % 2 == 0 {
         let a = at / 2;
         let m = ws.len() / 2;
-        pair(ws, &mut out[a..a + m]);
+        pair_numbers(ws, &mut out[a..a + m]);
     } else {
         put_each(at, ws, out);
     }

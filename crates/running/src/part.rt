@@ -1,5 +1,5 @@
-// A part of either call: its turn, then its numbers, which are tested and made words in one pass, then the state. A refused part changes nothing. Words are
-// held back until sixteen rows have come; then these enter the sums by the products of crate `matrix`.
+// A part of either call: its turn, then its numbers, then the state. A refused part changes nothing. Its numbers are held back as words until sixteen rows
+// have come; then these enter the sums by the products of crate `matrix`.
 ghost use mathlib.Core.Path.{_≡_};
 ghost use mathlib.Core.Bool.{true};
 ghost use Prim.Native.Nat.{_+_, _*_, _%_, _<_, _≤_};
@@ -7,6 +7,7 @@ ghost use lib.ListN.{length, take, drop};
 ghost use Rattle.schemes.specs.Schemes.{familyOf, fixedOf};
 ghost use Rattle.schemes.specs.declared.Family.{Family};
 ghost use Rattle.lists.specs.Lent.{was, left};
+ghost use Rattle.lists.specs.Entries.{Below};
 ghost use Rattle.matrix.specs.Steps.{gained, rightTerm, partTerm};
 ghost use Rattle.parts.specs.Parts.{wrap, words};
 ghost use Rattle.front.specs.Front.{publicsIn};
@@ -21,8 +22,9 @@ use schemes::Named;
 use schemes::Scheme;
 
 // The part p, as words, behind those that are held back, and in the count.
-fn hold(n: usize, at: usize, p: &[u16], state: &mut [u32])
+fn hold(n: usize, at: usize, p: &[u32], state: &mut [u32])
     requires { ⌜ Sized n (now state) × (at ≡ taken (now state)) × (at % (16 * n) + length (now p) ≤ 16 * n) × (at + length (now p) ≤ n * n) ⌝ }
+    requires { ⌜ Below 65536 (now p) ⌝ }
     ensures { λ _. ⌜ left state ≡ holding n (was state) (was p) ⌝ }
 {
     let d = 67 + 8 * n;
@@ -154,8 +156,8 @@ fn enter(call: Call, n: usize, row: usize, state: &mut [u32])
 }
 
 // The part, as words, into the state, and the sixteen rows that it ends into the sums.
-fn put_part(call: Call, n: usize, p: &[u16], state: &mut [u32])
-    requires { ⌜ Sized n (now state) × (fitsIn n (taken (now state)) (length (now p)) ≡ true) ⌝ }
+fn put_part(call: Call, n: usize, p: &[u32], state: &mut [u32])
+    requires { ⌜ Sized n (now state) × (fitsIn n (taken (now state)) (length (now p)) ≡ true) × Below 65536 (now p) ⌝ }
     ensures { λ _. ⌜ left state ≡ stepped call n (was state) (was p) ⌝ }
 {
     let at = state[2] as usize;
@@ -166,39 +168,20 @@ fn put_part(call: Call, n: usize, p: &[u16], state: &mut [u32])
     }
 }
 
-// Its numbers first, with room for their words.
-fn take_words(
-    call: Call,
-    q: u32,
-    n: usize,
-    p: &[u32],
-    line: &mut [u16],
-    state: &mut [u32],
-) -> Verdict
-    requires { ⌜ (0 < q) × (q ≤ 32768) × Sized n (now state) × (fitsIn n (taken (now state)) (length (now p)) ≡ true) × (length (now p) ≡ length (now line)) ⌝ }
-    ensures { λ r. ⌜ r ≡ publicsIn q (was p) ⌝ }
-    ensures { λ r. ⌜ left state ≡ put r (stepped call n (was state) (was p)) (was state) ⌝ }
-{
-    let at = matrix::narrow_below(q, p, line);
-    let v = front::publics_at(at, p);
-    match v {
-        Verdict::Fail(r) => Verdict::Fail(r),
-        Verdict::Pass => {
-            put_part(call, n, line, state);
-            Verdict::Pass
-        }
-    }
-}
-
-// Where it has its turn: it is no longer than a row.
+// Its numbers first.
 fn take_part(call: Call, q: u32, n: usize, p: &[u32], state: &mut [u32]) -> Verdict
     requires { ⌜ (0 < q) × (q ≤ 32768) × Sized n (now state) × (fitsIn n (taken (now state)) (length (now p)) ≡ true) ⌝ }
     ensures { λ r. ⌜ r ≡ publicsIn q (was p) ⌝ }
     ensures { λ r. ⌜ left state ≡ put r (stepped call n (was state) (was p)) (was state) ⌝ }
 {
-    let mut line = [0u16; 864];
-    let m = p.len();
-    take_words(call, q, n, p, &mut line[..m], state)
+    let v = front::publics_in(Verdict::Pass, q, p);
+    match v {
+        Verdict::Fail(r) => Verdict::Fail(r),
+        Verdict::Pass => {
+            put_part(call, n, p, state);
+            Verdict::Pass
+        }
+    }
 }
 
 fn part_in(call: Call, scheme: Scheme, p: &[u32], state: &mut [u32]) -> Verdict

@@ -53,7 +53,8 @@ add-put-word c = omega arith
 put-word-requires : tie.Need-put-word-requires Inv-loop μ-loop
 put-word-requires c κs =
     let l : tie.In-loop Inv-loop μ-loop = search needs in
-    omega (arith, l .before .loop .inv .1)
+    let a : tie.Start Inv-loop μ-loop = search needs in
+    (omega (arith, l .before .loop .inv .1, a .pre .0), a .pre .1 .below (l .before .loop .k))
 
 loop-again : tie.Need-loop-again Inv-loop μ-loop
 loop-again c =

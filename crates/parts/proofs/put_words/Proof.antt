@@ -6,34 +6,31 @@ use native.Mathlib.Omega.{arith}
 use borrow.Author.Needs.{needs}
 use borrow.Author.Tests.{eqb-true}
 use lib.ListN.{length, take, drop}
-use Rattle.lists.specs.Entries.{Below}
 use Rattle.lists.proofs.Parts.{slice-long}
 use Rattle.parts.specs.Parts.{words, pairs}
 use Rattle.parts.proofs.Words.{put-whole}
 use Rattle.parts.proofs.put_words.Statement.{statement}
 use Rattle.parts.proofs.put_words.Tie as tie
 
-pair-requires : tie.Need-pair-requires
-pair-requires c κs =
+pair-numbers-requires : tie.Need-pair-numbers-requires
+pair-numbers-requires c κs =
     let s : tie.Start = search needs in
     let g = s .args in
     let even : length (g .ws .now) % 2 ≡ 0 = eqb-true (length (g .ws .now) % 2) 0 (c .before .if2 .taken) in
     let e : length (g .ws .now) ≡ 2 * (length (g .ws .now) / 2) = omega (arith, even) in
-    e ∙ sym (ap (λ (k : ℕ). 2 * k) (slice-long (g .at / 2) (length (g .ws .now) / 2) (g .out .now) (omega (arith, s .pre))))
+    (e ∙ sym (ap (λ (k : ℕ). 2 * k) (slice-long (g .at / 2) (length (g .ws .now) / 2) (g .out .now) (omega (arith, s .pre .0)))), s .pre .1)
 
 returns : tie.Need-returns
 returns c =
     let s : tie.Start = search needs in
-    let d : tie.After-pair = search needs in
+    let d : tie.After-pair-numbers = search needs in
     let g = s .args in
     let e : 2 * (g .at / 2) ≡ g .at = omega arith in
     let even : length (g .ws .now) % 2 ≡ 0 = eqb-true (length (g .ws .now) % 2) 0 (c .before .before .before .before .if2 .taken) in
-    let each = c .before .before .before .before .before .before .before .shared-slice-known .given in
-    let small : Below 65536 (g .ws .now) = record { below = λ k. omega (arith, each k) } in
-    put-whole (g .at / 2) (length (g .ws .now) / 2) (g .out .now) (g .ws .now) (omega (arith, even)) small (d .pair .ensures)
+    put-whole (g .at / 2) (length (g .ws .now) / 2) (g .out .now) (g .ws .now) (omega (arith, even)) (s .pre .1) (d .pair-numbers .ensures)
     ∙ ap (λ (k : ℕ). pairs (take k (words (g .out .now)) ++ (g .ws .now ++ drop (k + length (g .ws .now)) (words (g .out .now))))) e
 
 pub put-words-spec : {M : Type 1} → statement M
 put-words-spec =
     tie.close
-    (tie.spec (search needs) (search needs) (search needs) (search needs) (search needs) pair-requires (λ c κs. search needs) (search needs) returns (search needs) (λ c. search needs))
+    (tie.spec (search needs) (search needs) (search needs) (search needs) (search needs) pair-numbers-requires (λ c κs. search needs) (search needs) returns (search needs) (λ c. search needs))

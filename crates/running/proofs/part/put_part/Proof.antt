@@ -40,7 +40,7 @@ add-e : tie.Need-add-e
 add-e c = let s : tie.Start = search needs in record { fits = omega (arith, inside s) }
 
 hold-requires : tie.Need-hold-requires
-hold-requires c κs = let s : tie.Start = search needs in (s .pre .0, refl, in-block s, fit s .in-all)
+hold-requires c κs = let s : tie.Start = search needs in ((s .pre .0, refl, in-block s, fit s .in-all), s .pre .2)
 
 fills-requires : tie.Need-fills-requires
 fills-requires c κs = let s : tie.Start = search needs in (s .pre .0 .some, s .pre .0 .few, fit s .in-all)
@@ -81,10 +81,9 @@ returns c =
     let i : tie.Then1 = search needs in
     let e : tie.After-enter = search needs in
     let a = s .args in
-    let w : tie.After-shared-slice-known = search needs in
     let k : tie.After-slice-known = search needs in
     let full = sym (f .fills .ensures) ∙ i .if1 .taken in
-    let small = with-below (a .n) (st s) (a .p .now) (record { below = λ j. omega (arith, k .slice-known .given j) }) (record { below = λ j. omega (arith, w .shared-slice-known .given j) }) in
+    let small = with-below (a .n) (st s) (a .p .now) (record { below = λ j. omega (arith, k .slice-known .given j) }) (s .pre .2) in
     e .enter .ensures
     ∙ ap (λ (l : List ℕ). entered (a .call) (a .n) (((taken (st s) + m s) / a .n - 16) * a .n) l) (o .hold .ensures)
     ∙ step-enters (a .n) (st s) (s .pre .0) (a .call) (a .p .now) _ full (row-is (a .n) (taken (st s)) (m s) (s .pre .0 .some) (fit s .in-row) full)

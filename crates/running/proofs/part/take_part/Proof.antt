@@ -1,31 +1,39 @@
--- `running::part::take_part` meets its contract: it lends room for the words, which are no more than a row has.
-use mathlib.Core.Path.{sym}
-use Prim.Native.Nat.{_≤_}
+-- `running::part::take_part` meets its contract: its numbers, then the state. Where none is too large they are words.
+use mathlib.Core.Path.{_≡_, refl, _∙_, sym}
 use native.Mathlib.Omega.{arith}
 use borrow.Author.Needs.{needs}
-use lib.ListN.{length}
-use Rattle.lists.proofs.Parts.{buffer-long}
-use Rattle.running.specs.State.{taken}
-use Rattle.running.proofs.Tests.{fits}
+use Rattle.front.specs.Front.{_then_}
+use Rattle.front.proofs.Laws.{publics-passed}
+use Rattle.matrix.proofs.Search.{below-wider}
 use Rattle.running.proofs.part.take_part.Statement.{statement}
 use Rattle.running.proofs.part.take_part.Tie as tie
 
-few : (s : tie.Start) → length (s .args .p .now) ≤ 864
-few s = omega (arith, fits (s .args .n) (taken (s .args .state .now)) (length (s .args .p .now)) (s .pre .3) .in-row, s .pre .2 .few)
-
-array-borrow-prefix-line : tie.Need-array-borrow-prefix-line
-array-borrow-prefix-line c = let s : tie.Start = search needs in few s
-
-slice-aggregate-take-words : tie.Need-slice-aggregate-take-words
-slice-aggregate-take-words c = let s : tie.Start = search needs in sym (buffer-long (length (s .args .p .now)) 864 (few s))
-
-take-words-requires : tie.Need-take-words-requires
-take-words-requires c κs =
+put-part-requires : tie.Need-put-part-requires
+unfolding _then_
+put-part-requires c κs =
+    let t : tie.After-enum-told = search needs in
+    let p : tie.After-publics-in = search needs in
     let s : tie.Start = search needs in
-    (s .pre .0, s .pre .1, s .pre .2, s .pre .3, sym (buffer-long (length (s .args .p .now)) 864 (few s)))
+    let a = s .args in
+    let b = publics-passed (a .q) (a .p .now) (s .pre .0) (sym (p .publics-in .ensures) ∙ t .enum-told .given .1) in
+    (s .pre .2, s .pre .3, below-wider (omega (arith, s .pre .1)) b)
 
 returns : tie.Need-returns
-returns c = let t : tie.After-take-words = search needs in t .take-words .ensures
+unfolding _then_
+returns c =
+    let v : tie.After-v = search needs in
+    let p : tie.After-publics-in = search needs in
+    (sym (v .v .given .1) ∙ p .publics-in .ensures, refl)
+
+returns-2 : tie.Need-returns-2
+unfolding _then_
+returns-2 c =
+    let t : tie.After-enum-told = search needs in
+    let p : tie.After-publics-in = search needs in
+    let l : tie.After-put-part = search needs in
+    (sym (t .enum-told .given .1) ∙ p .publics-in .ensures, l .put-part .ensures)
 
 pub take-part-spec : {M : Type 1} → statement M
-take-part-spec = tie.close (tie.spec array-borrow-prefix-line slice-aggregate-take-words take-words-requires (search needs) returns)
+take-part-spec =
+    tie.close
+    (tie.spec (λ c κs. search needs) (search needs) (search needs) put-part-requires returns (search needs) returns-2)
