@@ -4,6 +4,7 @@
 
 use crate::lent::table;
 use second::noise::{bytes_a_value, lengths};
+use second::rows::state_count;
 use second::schemes::{Family, Scheme};
 
 /// How often BCNS's product is taken apart into three of half the length.
@@ -93,10 +94,45 @@ pub fn finish(scheme: &Scheme) -> Work {
     }
 }
 
+/// It is lent what both ends are and makes the work of all three; the messages stay
+/// inside.
+pub fn bench(scheme: &Scheme) -> Work {
+    let lent = scheme.public_count() + 4 * scheme.secret_count() + scheme.last_noise_count();
+    let three = [offer(scheme), reply(scheme), finish(scheme)];
+    Work {
+        bytes: words(lent) + scheme.seed_bytes() + scheme.coin_bytes(),
+        products: three.iter().map(|it| it.products).sum(),
+        permutations: three.iter().map(|it| it.permutations).sum(),
+    }
+}
+
+/// By rows the state is lent besides what the whole call is.
+pub fn by_rows(scheme: &Scheme, whole: Work) -> Work {
+    Work { bytes: whole.bytes + words(state_count(scheme)), ..whole }
+}
+
 /// BCNS's table is read besides.
 pub fn noise(scheme: &Scheme) -> Work {
     let bytes = lengths(scheme)[0];
     Work { bytes: bytes + 8 * table(scheme).len() + words(bytes / bytes_a_value(scheme)), products: 0, permutations: 0 }
+}
+
+/// Two bytes a number, where none is passed over.
+pub fn expand() -> Work {
+    Work { bytes: 2 * 1024 + words(1024), products: 0, permutations: 0 }
+}
+
+/// A permutation a block that comes in, the last of them for what ends the input, and
+/// one a block that goes out after the first.
+pub fn hash(rate: usize, input: usize, out: usize) -> Work {
+    Work { bytes: input + out, products: 0, permutations: input / rate + out.div_ceil(rate) }
+}
+
+/// Two numbers of 32 bits, of which a vector makes as many products as a quarter of
+/// those of 16: three products of half the length, down to factors of 32. The scratch
+/// is zeroed.
+pub fn product(length: usize) -> Work {
+    Work { bytes: words(9 * length), products: 4 * 32 * 32 * 3usize.pow((length / 32).ilog2()), permutations: 0 }
 }
 
 pub fn grow() -> Work {

@@ -62,6 +62,16 @@ fn works() {
     assert_eq!(bounds::noise(&BCNS), work(25_600 + 1224 + 4096, 0, 0));
     assert_eq!(bounds::noise(&NEWHOPE), work(4096 + 4096, 0, 0));
     assert_eq!(bounds::grow(), work(32 + 4096, 0, GROW_BLOCKS));
+    assert_eq!(bounds::bench(&BCNS), work(6 * 4096 + 256, 4 * product, 2));
+    assert_eq!(bounds::bench(&FRODO_CHALLENGE), work(495_616 + 4 * 11_264 + 256 + 16, 2 * 991_232 + 2 * 22_528, 2));
+    assert_eq!(bounds::by_rows(&FRODO_CHALLENGE, bounds::offer(&FRODO_CHALLENGE)).bytes, bounds::offer(&FRODO_CHALLENGE).bytes + 22_796);
+    assert_eq!(bounds::expand(), work(2048 + 4096, 0, 0));
+    assert_eq!(bounds::hash(168, 65536, 32), work(65568, 0, 391));
+    assert_eq!(bounds::hash(168, 32, 65536), work(65568, 0, 391));
+    assert_eq!(bounds::hash(136, 65536, 32), work(65568, 0, 482));
+    assert_eq!(bounds::hash(136, 32, 32), work(64, 0, 1));
+    assert_eq!(bounds::product(32), work(9 * 128, 4096, 0));
+    assert_eq!(bounds::product(1024), work(9 * 4096, 4096 * 243, 0));
 }
 
 #[test]

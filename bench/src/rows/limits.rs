@@ -3,8 +3,10 @@
 //! so that they lie in the same cache; products are made in registers, as wide as
 //! the kit's target has them; a permutation is that of the long SHAKE-128.
 
+use super::by_rows::ByRows;
 use super::calls::Exchange;
-use super::seeds::shake128;
+use super::products::{factors, halves};
+use super::seeds::{sha3_256, shake128, Hash};
 use super::Rows;
 use crate::bounds::{self, Bounds, Work};
 use crate::draw::Draw;
@@ -12,7 +14,7 @@ use crate::grown::seeds;
 use crate::lent::{table, Lent};
 use crate::ours::Ours;
 use crate::plain::Calls;
-use second::schemes::{Scheme, SIX};
+use second::schemes::{Family, Scheme, SIX};
 use std::arch::asm;
 use std::hint::black_box;
 
@@ -88,6 +90,17 @@ impl Limits<'_> {
         self.call(&format!("{name}, Offer"), bounds::offer(scheme), &mut || ours.offer(&mut x.opening));
         self.call(&format!("{name}, Reply"), bounds::reply(scheme), &mut || ours.reply(&x.opening, &mut x.reply, &mut x.key));
         self.call(&format!("{name}, Finish"), bounds::finish(scheme), &mut || ours.finish(&x.reply, &mut x.peer));
+        self.call(&format!("{name}, Bench"), bounds::bench(scheme), &mut || assert!(ours.bench()));
+    }
+
+    /// Whole rows at a time.
+    fn by_rows(&mut self, scheme: &'static Scheme) {
+        let lent = Lent::drawn(scheme, 5);
+        let (mut x, name) = (Exchange::of(scheme, &Ours(&lent)), scheme.name);
+        let mut rows = ByRows::of(&lent, scheme.n);
+        let [offer, reply] = [bounds::offer(scheme), bounds::reply(scheme)].map(|whole| bounds::by_rows(scheme, whole));
+        self.call(&format!("{name}, Offer by rows"), offer, &mut || rows.offer(&mut x.opening));
+        self.call(&format!("{name}, Reply by rows"), reply, &mut || rows.reply(&x.opening, &mut x.reply, &mut x.key));
     }
 
     fn noise(&mut self, scheme: &Scheme) {
@@ -95,6 +108,25 @@ impl Limits<'_> {
         self.call(&format!("{}, Noise", scheme.name), bounds::noise(scheme), &mut || {
             assert!(wimmostry::raw::noise(scheme.number as u32, &bytes, &table, &mut out).is_ok());
         });
+    }
+
+    fn expand(&mut self, rule: u32) {
+        let (streams, mut out) = ((0..64).map(|k| Draw::new(700 + k).bytes(4096)).collect::<Vec<_>>(), [0; 1024]);
+        let mut stream = streams.iter().cycle();
+        self.call(&format!("Expand by rule {rule}"), bounds::expand(), &mut || {
+            assert!(wimmostry::raw::expand(rule, stream.next().unwrap(), &mut out).is_ok());
+        });
+    }
+
+    fn hash(&mut self, what: &str, hash: Hash, rate: usize, input: usize, out: usize) {
+        let (input, mut out) = (Draw::new(8).bytes(input), vec![0; out]);
+        self.call(what, bounds::hash(rate, input.len(), out.len()), &mut || hash(&input, &mut out));
+    }
+
+    fn product(&mut self, length: usize) {
+        let (a, b) = factors(&mut Draw::new(11), length);
+        let (mut out, mut scratch) = (vec![0; length], vec![0; 6 * length]);
+        self.call(&format!("Product, L = {length}"), bounds::product(length), &mut || halves(&a, &b, &mut out, &mut scratch));
     }
 
     fn grow(&mut self) {
@@ -107,6 +139,12 @@ impl Limits<'_> {
 pub fn rows(rows: &mut dyn Rows) {
     let mut limits = Limits::of(rows);
     SIX.iter().for_each(|it| limits.scheme(it));
+    SIX.iter().filter(|it| it.family == Family::Frodo).for_each(|it| limits.by_rows(it));
     SIX.iter().for_each(|it| limits.noise(it));
+    [14, 16].into_iter().for_each(|rule| limits.expand(rule));
     limits.grow();
+    limits.hash("SHAKE-128, 64 KiB in, 32 bytes out", shake128, 168, 65536, 32);
+    limits.hash("SHAKE-128, 32 bytes in, 64 KiB out", shake128, 168, 32, 65536);
+    limits.hash("SHA3-256 of 64 KiB", sha3_256, 136, 65536, 32);
+    limits.product(1024);
 }
