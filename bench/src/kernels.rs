@@ -34,7 +34,7 @@ pub fn fold(x: u64) -> u64 {
 pub fn polynomial_mix(q: u32, a: &[u32], s: &[i32], e: &[i32], out: &mut [u32]) {
     let n = out.len();
     debug_assert!(1 <= n && n <= 1024 && a.len() == n && s.len() == n && e.len() == n);
-    debug_assert!(below(q, a) && within(51, s) && within(51, e));
+    debug_assert!(below(q, a) && within(51, s));
     unsafe { raw::polynomial_mix(q, a.as_ptr(), n, s.as_ptr(), n, e.as_ptr(), n, out.as_mut_ptr(), n) }
 }
 
@@ -68,13 +68,13 @@ fn fits(q: u32, n: usize, rows: usize, numbers: &[u32], s: &[i32]) -> bool {
 
 /// X s + e, X of r rows of n numbers, s of n rows of 8.
 pub fn matrix_mix_right(q: u32, n: usize, r: usize, x: &[u32], s: &[i32], e: &[i32], out: &mut [u32]) {
-    debug_assert!(fits(q, n, r, x, s) && e.len() == 8 * r && out.len() == 8 * r && within(6, e));
+    debug_assert!(fits(q, n, r, x, s) && e.len() == 8 * r && out.len() == 8 * r);
     unsafe { raw::matrix_mix_right(q, n, r, x.as_ptr(), x.len(), s.as_ptr(), s.len(), e.as_ptr(), e.len(), out.as_mut_ptr(), out.len()) }
 }
 
 /// s Y + e, s of 8 rows of n, Y of n rows of c numbers.
 pub fn matrix_mix_left(q: u32, n: usize, c: usize, s: &[i32], y: &[u32], e: &[i32], out: &mut [u32]) {
-    debug_assert!(fits(q, n, c, y, s) && e.len() == 8 * c && out.len() == 8 * c && within(6, e));
+    debug_assert!(fits(q, n, c, y, s) && e.len() == 8 * c && out.len() == 8 * c);
     unsafe { raw::matrix_mix_left(q, n, c, s.as_ptr(), s.len(), y.as_ptr(), y.len(), e.as_ptr(), e.len(), out.as_mut_ptr(), out.len()) }
 }
 

@@ -152,8 +152,8 @@ frodo-fit {a = a} {s = s} h k p t =
     )
 
 bcns-noise-fit : {f : Fixed} {a : List ℕ} {s e : List ℤ} {l m n k : ℕ} → Noised f m n k a s e l → Bcns f → m ≡ 1024 → n ≡ 1024 → k ≡ 1024
-    → polynomial-fit.Fit (f .q) l a s × ((length e ≡ l) × Within 51 e)
-bcns-noise-fit h b p r t = (bcns-fit (h .0, h .1 .0) b p r, noise (t ∙ sym (h .0 .1 ∙ r)) (omega arith) (h .1 .1))
+    → polynomial-fit.Fit (f .q) l a s × (length e ≡ l)
+bcns-noise-fit h b p r t = (bcns-fit (h .0, h .1 .0) b p r, h .1 .1 .long ∙ t ∙ sym (h .0 .1 ∙ r))
 
 -- ---- in the arms
 
@@ -206,15 +206,15 @@ module _ (F : Family) (t : Told Travelling) (i : t .kind ≡ F) where
   some = rw (t .fixed) (omega (arith, sound (t .c) .some))
 
   pub travel-asks : Each F
-      ((0 < t .f .q) × (Below (t .f .q) (t .a) → polynomial-fit.Fit (t .f .q) (t .room) (t .a) (t .s) × ((length (t .e) ≡ t .room) × Within 51 (t .e))))
+      ((0 < t .f .q) × (Below (t .f .q) (t .a) → polynomial-fit.Fit (t .f .q) (t .room) (t .a) (t .s) × (length (t .e) ≡ t .room)))
       ((0 < t .f .q) × (Below (t .f .q) (t .a) → NewHopeAsks (t .a) (t .s) (t .room) × ((length (t .e) ≡ 1024) × (Within 16 (t .s) × Within 16 (t .e)))))
-      ((matrix-fit.Shape (t .f .q) (t .f .n) (t .f .n) (t .a) (t .s) × (t .room ≡ 8 * t .f .n)) × ((length (t .e) ≡ 8 * t .f .n) × Within 6 (t .e)))
+      ((matrix-fit.Shape (t .f .q) (t .f .n) (t .f .n) (t .a) (t .s) × (t .room ≡ 8 * t .f .n)) × (length (t .e) ≡ 8 * t .f .n))
   travel-asks =
       let h = t .given in
       arm-asks F (t .c) (sym (t .family) ∙ i)
       (λ k. (some, λ b. rw (t .fixed) (bcns-noise-fit (known (fixedOf (t .c)) h (rw (t .fixed) at b)) k (k .public) (k .secret) (k .noise))))
       (λ k. (some, λ b. newhope-noise-asks (known (fixedOf (t .c)) h (rw (t .fixed) at b)) k (k .public) (k .secret) (k .noise)))
-      (λ k. rw (t .fixed) (frodo-shape (h .0 .0) (h .0 .1) (h .1 .0) _ k (k .some) (k .few) (k .public) (k .secret), noise (k .noise) (k .small) (h .1 .1)))
+      (λ k. rw (t .fixed) (frodo-shape (h .0 .0) (h .0 .1) (h .1 .0) _ k (k .some) (k .few) (k .public) (k .secret), h .1 .1 .long ∙ k .noise))
 
   -- as the code has it in BCNS and NewHope, and as the definitions have it; z and z' in Frodo
   abbrev Run : List ℕ → List ℕ
@@ -251,7 +251,7 @@ module _ (F : Family) (t : Told Travelling) (i : t .kind ≡ F) where
 
 module _ (F : Family) (t : Told Mixing) (i : t .kind ≡ F) where
   pub mix-asks : Each F
-      (polynomial-fit.Fit (t .f .q) (t .room) (t .a) (t .s) × ((length (t .e) ≡ t .room) × Within 51 (t .e)))
+      (polynomial-fit.Fit (t .f .q) (t .room) (t .a) (t .s) × (length (t .e) ≡ t .room))
       (NewHopeAsks (t .a) (t .s) (t .room) × ((length (t .e) ≡ 1024) × (Within 16 (t .s) × Within 16 (t .e))))
       ((matrix-fit.Fit (t .f .q) (t .f .n) 8 (t .a) (t .s) × (t .room ≡ 64)) × (length (t .e) ≡ 64))
   mix-asks =
@@ -259,7 +259,7 @@ module _ (F : Family) (t : Told Mixing) (i : t .kind ≡ F) where
       arm-asks F (t .c) (sym (t .family) ∙ i)
       (λ k. rw (t .fixed) (bcns-noise-fit h k (k .secret) (k .mixed) (k .mixed)))
       (λ k. newhope-noise-asks h k (k .secret) (k .mixed) (k .mixed))
-      (λ k. (rw (t .fixed) (frodo-fit (h .0, h .1 .0) k (k .secret) (k .mixed)), noise (k .mixed) (k .small) (h .1 .1) .0))
+      (λ k. (rw (t .fixed) (frodo-fit (h .0, h .1 .0) k (k .secret) (k .mixed)), h .1 .1 .long ∙ k .mixed))
 
   pub mix-made : {out : List ℕ}
       → out

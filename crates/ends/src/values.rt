@@ -17,7 +17,7 @@ use schemes::Scheme;
 // as + e in BCNS, where no number of a is q or more. The answer is the place of the first that is, or how many there are.
 fn mix_bcns(q: u32, a: &[u32], s: &[i32], e: &[i32], out: &mut [u32]) -> usize
     requires { ⌜ 0 < q ⌝ }
-    requires { ⌜ (Below q (now a) → Fit q (length (now out)) (now a) (now s) × ((length (now e) ≡ length (now out)) × Within 51 (now e))) ⌝ }
+    requires { ⌜ (Below q (now a) → Fit q (length (now out)) (now a) (now s) × (length (now e) ≡ length (now out))) ⌝ }
     ensures { λ r. ⌜ r ≡ firstOver q (was a) ⌝ }
     ensures { λ _. ⌜ (Below q (was a) → left out ≡ mixed q (room out) (was a) (was s) (was e)) ⌝ }
 {

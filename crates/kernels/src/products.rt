@@ -3,7 +3,7 @@ ghost use mathlib.Core.Path.{_≡_};
 ghost use Prim.Native.Nat.{_*_};
 ghost use lib.ListN.{length};
 ghost use Rattle.lists.specs.Lent.{was, left, room};
-ghost use Rattle.lists.specs.Entries.{Below, Within};
+ghost use Rattle.lists.specs.Entries.{Below};
 ghost use Rattle.polynomial.specs.Fit as polynomial;
 ghost use Rattle.polynomial.specs.Mixing as polynomials;
 ghost use Rattle.transform.specs.Transform.{transformed, inverted, multiplied};
@@ -13,7 +13,7 @@ ghost use Rattle.matrix.specs.Mixing as matrices;
 #[no_mangle]
 pub extern "C" fn polynomial_mix(q: u32, a: &[u32], s: &[i32], e: &[i32], out: &mut [u32])
     requires { ⌜ polynomial.Fit q (length (now out)) (now a) (now s) ⌝ }
-    requires { ⌜ (length (now e) ≡ length (now out)) × Within 51 (now e) ⌝ }
+    requires { ⌜ length (now e) ≡ length (now out) ⌝ }
     ensures { λ _. ⌜ left out ≡ polynomials.mixed q (room out) (was a) (was s) (was e) ⌝ }
 {
     polynomial::mix(q, a, s, e, out);
@@ -62,7 +62,7 @@ pub extern "C" fn matrix_mix_right(
     out: &mut [u32],
 )
     requires { ⌜ matrix.Fit q n r (now x) (now s) × (length (now out) ≡ 8 * r) ⌝ }
-    requires { ⌜ (length (now e) ≡ 8 * r) × Within 6 (now e) ⌝ }
+    requires { ⌜ length (now e) ≡ 8 * r ⌝ }
     ensures { λ _. ⌜ left out ≡ matrices.rightMixed q r n 8 (was x) (was s) (was e) ⌝ }
 {
     matrix::mix_right(q, n, r, x, s, e, out);
@@ -79,7 +79,7 @@ pub extern "C" fn matrix_mix_left(
     out: &mut [u32],
 )
     requires { ⌜ matrix.Fit q n c (now y) (now s) × (length (now out) ≡ 8 * c) ⌝ }
-    requires { ⌜ (length (now e) ≡ 8 * c) × Within 6 (now e) ⌝ }
+    requires { ⌜ length (now e) ≡ 8 * c ⌝ }
     ensures { λ _. ⌜ left out ≡ matrices.leftMixed q n c 8 (was s) (was y) (was e) ⌝ }
 {
     matrix::mix_left(q, n, c, s, y, e, out);

@@ -13,7 +13,7 @@ ghost use Rattle.numbers.specs.Sum.{sumℕ};
 ghost use Rattle.numbers.specs.Residue.{residue};
 ghost use Rattle.lists.specs.Lent.{was, left};
 ghost use Rattle.lists.specs.First.{firstOver};
-ghost use Rattle.lists.specs.Entries.{tab, ints, Below, Within};
+ghost use Rattle.lists.specs.Entries.{tab, ints, Below};
 ghost use Rattle.matrix.specs.Mixing.{rightMixed, leftMixed, bare};
 ghost use Rattle.matrix.specs.Fit.{Fit, Shape};
 ghost use Rattle.matrix.specs.Steps.{
@@ -313,7 +313,7 @@ pub fn mix_right(
     out: &mut [u32],
 ) -> usize
     requires { ⌜ Shape q n r (now x) (now s) × (length (now out) ≡ 8 * r) ⌝ }
-    requires { ⌜ (length (now e) ≡ 8 * r) × Within 6 (now e) ⌝ }
+    requires { ⌜ length (now e) ≡ 8 * r ⌝ }
     ensures { λ at. ⌜ at ≡ firstOver q (was x) ⌝ }
     ensures { λ _. ⌜ (Below q (was x) → left out ≡ rightMixed q r n 8 (was x) (was s) (was e)) ⌝ }
 {
@@ -495,7 +495,7 @@ pub fn mix_left(
     out: &mut [u32],
 ) -> usize
     requires { ⌜ Shape q n c (now y) (now s) × (length (now out) ≡ 8 * c) ⌝ }
-    requires { ⌜ (length (now e) ≡ 8 * c) × Within 6 (now e) ⌝ }
+    requires { ⌜ length (now e) ≡ 8 * c ⌝ }
     ensures { λ at. ⌜ at ≡ firstOver q (was y) ⌝ }
     ensures { λ _. ⌜ (Below q (was y) → left out ≡ leftMixed q n c 8 (was s) (was y) (was e)) ⌝ }
 {

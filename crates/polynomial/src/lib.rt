@@ -409,7 +409,7 @@ fn mix_lent(
 // as + e. Its arrays take 42 KiB.
 pub fn mix(q: u32, a: &[u32], s: &[i32], e: &[i32], out: &mut [u32])
     requires { ⌜ Fit q (length (now out)) (now a) (now s) ⌝ }
-    requires { ⌜ (length (now e) ≡ length (now out)) × Within 51 (now e) ⌝ }
+    requires { ⌜ length (now e) ≡ length (now out) ⌝ }
     ensures { λ _. ⌜ now (out .exit) ≡ mixed q (length (now (out .entry))) (now (a .entry)) (now (s .entry)) (now (e .entry)) ⌝ }
 {
     let mut d = [0u32; 4096];

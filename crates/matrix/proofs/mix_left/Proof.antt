@@ -16,7 +16,7 @@ slice-aggregate-left-on-3 c = sym (buffer-long (8 * c .before .before .before .b
 left-on-requires : tie.Need-left-on-requires
 left-on-requires c κs =
     let a = c .before .before .before .before .before .before in (
-      (a .pre .0 .0, a .pre .1 .0, a .pre .0 .1),
+      (a .pre .0 .0, a .pre .1, a .pre .0 .1),
       (buffer-long (8 * a .args .n) 6912 (omega arith), omega arith, buffer-long (8 * a .args .c) 6920 (omega arith)),
     )
 

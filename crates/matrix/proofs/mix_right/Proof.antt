@@ -20,7 +20,7 @@ right-on-requires : tie.Need-right-on-requires
 right-on-requires c κs =
     let a : tie.Start = search needs in
     let f = a .pre .0 .0 in (
-      (f, a .pre .1 .0, a .pre .0 .1),
+      (f, a .pre .1, a .pre .0 .1),
       (buffer-long (8 * a .args .n) 6920 (omega (arith, f .few)), buffer-long (a .args .n) 864 (f .few), buffer-long (8 * a .args .r) 6916 (omega (arith, f .rows-few))),
     )
 
