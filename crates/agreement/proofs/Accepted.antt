@@ -88,8 +88,8 @@ module _ (c : Scheme) (x : Run) (h : Sendable c x) where
   unfolding offerMessage replyMessage replyKey finishKey finishSlack
   runs =
       let f = fixedOf c in
-      let o = offer-passes c x h in
-      let r = reply-passes c x h in
+      let o = offer-passes c x h (f .opening) (le-refl _) in
+      let r = reply-passes c x h (f .reply) (f .key) 32 (le-refl _) (le-refl _) (le-refl _) in
       let k = finish-passes c x h (f .key) 32 (le-refl _) (le-refl _) in
       let opened = opening-long c (offering x) (h .ranged .seed) in
       let replied = message-length c (replying c x) in

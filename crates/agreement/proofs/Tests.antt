@@ -2,12 +2,12 @@
 --   sendable-by      inputs that pass the tests of Offer and Reply are in range, and neither packed part is blank
 --   opened-is, replied-is, hints-are   the numbers and the hints of the run's messages come back
 --   opening-received an opening that Offer has made passes the tests of a part that has come
---   offer-passes, reply-passes, finish-passes   such inputs pass the tests of each call, each with the room that it needs
+--   offer-passes, reply-passes, finish-passes   such inputs pass the tests of each call, in any rooms that are enough
+--   offer-room, reply-rooms, finish-rooms       a call that passes its tests was lent such rooms
 use mathlib.Core.Path.{_≡_}
 use mathlib.Core.Bool.{false}
 use mathlib.Core.List.{List}
 use Prim.Native.Nat.{ℕ, _≤_}
-use native.Mathlib.Nat.{le-refl}
 use lib.ListN.{length}
 use Rattle.schemes.specs.Schemes.{fixedOf}
 use Rattle.schemes.specs.declared.Named.the-variants.{Is}
@@ -22,11 +22,12 @@ use Rattle.ends.proofs.Ranges.{offered-counted, replied-counted, mixed-counted}
 use Rattle.ends.proofs.Settling.{hints-counted}
 use Rattle.wire.specs.Wire.{openedIn, repliedIn, hintsIn, coinsIn}
 use Rattle.wire.proofs.Travel.{opened-part, opened-back, replied-part, replied-back, hints-back}
-use Rattle.offer.specs.Offer.{offerLengths, offerIn, offeredPart, offerTests, openingOf}
-use Rattle.reply.specs.Reply.{replyOf, replyLengths, replySizes, openedOf, replySecrets, repliedPart, replyLast, replyRest, replyTests, messageFrom, messageOf}
-use Rattle.finish.specs.Finish.{finishSizes, repliedOf, finishRest, finishTests}
+use Rattle.offer.specs.Offer.{Offer, offerLengths, offerIn, offeredPart, offerTests, openingOf}
+use Rattle.reply.specs.Reply.{Reply, replyOf, replyLengths, replySizes, openedOf, replySecrets, repliedPart, replyLast, replyRest, replyTests, messageFrom, messageOf}
+use Rattle.finish.specs.Finish.{Finish, finishSizes, repliedOf, finishRest, finishTests}
 use Rattle.offer.proofs.Offering.{opening-long, offer-opens}
 use Rattle.reply.proofs.Replying.{message-length, reply-sized, secrets-small}
+use Rattle.finish.proofs.Finishing.{finish-sized}
 use Rattle.agreement.specs.Run.{Run, offering, replying, finishing}
 use Rattle.agreement.specs.Exchange.{Ranged, Sendable}
 
@@ -92,9 +93,9 @@ module _ (c : Scheme) (x : Run) where
     h : Ranged c x
     h = s .ranged
 
-    pub offer-passes : offerTests (Is c) (offering x) (fixedOf c .opening) ≡ Pass
+    pub offer-passes : (n : ℕ) → fixedOf c .opening ≤ n → offerTests (Is c) (offering x) n ≡ Pass
     unfolding offerTests offerIn offerLengths
-    offer-passes =
+    offer-passes n l =
         all-pass
         (all-pass
         (all-pass
@@ -102,15 +103,15 @@ module _ (c : Scheme) (x : Run) where
         (all-pass
         (all-pass (all-pass (all-pass (length-passes (h .public .long)) (length-passes (h .secret .long))) (length-passes (h .noise .long)))
         (length-passes (h .seed)))
-        (room-passes (le-refl _)))
+        (room-passes l))
         (below-passes (h .public .below)))
         (within-passes (h .secret .within)))
         (within-passes (h .noise .within)))
         (not-blank-passes _ (s .opening))
 
-    sizes-pass : replySizes c (replying c x) (fixedOf c .reply) (fixedOf c .key) 32 ≡ Pass
+    sizes-pass : (n k d : ℕ) → fixedOf c .reply ≤ n → fixedOf c .key ≤ k → 32 ≤ d → replySizes c (replying c x) n k d ≡ Pass
     unfolding replySizes replyLengths
-    sizes-pass =
+    sizes-pass n k d l m o =
         all-pass
         (all-pass
         (all-pass
@@ -122,9 +123,9 @@ module _ (c : Scheme) (x : Run) where
         (length-passes (h .noise' .long)))
         (length-passes (h .noise'' .long)))
         (length-passes (h .coins)))
-        (room-passes (le-refl _)))
-        (room-passes (le-refl _)))
-        (room-passes (le-refl _)))
+        (room-passes l))
+        (room-passes m))
+        (room-passes o))
         (below-passes (h .public .below))
 
     reply-received : receivedIn (fixedOf c .q) (repliedIn c (messageOf c (replying c x))) (repliedOf c (finishing c x)) ≡ Pass
@@ -132,10 +133,10 @@ module _ (c : Scheme) (x : Run) where
     reply-received =
         all-pass (rw replied-is (message-passes (replied-counted c (x .a) (x .s') (x .e') .below))) (rw replied-part-is (not-blank-passes _ (s .reply)))
 
-    pub reply-passes : replyTests (Is c) (replying c x) (fixedOf c .reply) (fixedOf c .key) 32 ≡ Pass
+    pub reply-passes : (n k d : ℕ) → fixedOf c .reply ≤ n → fixedOf c .key ≤ k → 32 ≤ d → replyTests (Is c) (replying c x) n k d ≡ Pass
     unfolding replyTests replyRest replySecrets replyLast
-    reply-passes =
-        all-pass sizes-pass
+    reply-passes n k d l m o =
+        all-pass (sizes-pass n k d l m o)
         (all-pass (opening-received (h .seed) (s .opening))
         (all-pass (all-pass (all-pass (within-passes (h .secret' .within)) (within-passes (h .noise' .within))) (within-passes (h .noise'' .within)))
         (not-blank-passes _ (s .reply))))
@@ -146,3 +147,18 @@ module _ (c : Scheme) (x : Run) where
         all-pass
         (all-pass (all-pass (all-pass (length-passes (message-length c (replying c x))) (length-passes (h .secret .long))) (room-passes l)) (room-passes m))
         (all-pass reply-received (within-passes (h .secret .within)))
+
+-- ---- the rooms
+
+module _ (c : Scheme) where
+  pub offer-room : (x : Offer) (n : ℕ) → offerTests (Is c) x n ≡ Pass → fixedOf c .opening ≤ n
+  unfolding offerTests
+  offer-room x n t = offer-opens c x n (both _ _ t .0) .1
+
+  pub reply-rooms : (x : Reply) (n k d : ℕ) → replyTests (Is c) x n k d ≡ Pass → (fixedOf c .reply ≤ n) × (fixedOf c .key ≤ k) × (32 ≤ d)
+  unfolding replyTests
+  reply-rooms x n k d t = let s = reply-sized c x n k d (both _ _ t .0) in (s .roomy, s .key-roomy, s .digest-roomy)
+
+  pub finish-rooms : (x : Finish) (k d : ℕ) → finishTests (Is c) x k d ≡ Pass → (fixedOf c .key ≤ k) × (32 ≤ d)
+  unfolding finishTests
+  finish-rooms x k d t = let s = finish-sized c x k d (both _ _ t .0) in (s .2, s .3)

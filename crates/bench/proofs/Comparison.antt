@@ -7,6 +7,7 @@ use mathlib.Core.Bool.{Bool, true, false, cond}
 use mathlib.Core.List.{List}
 use mathlib.Core.Logic.{_↔_}
 use Prim.Native.Nat.{ℕ, zero, suc, _*_, _≤_}
+use native.Mathlib.Nat.{le-refl}
 use native.Mathlib.Omega.{arith}
 use lib.Dec.{ltb}
 use lib.ListN.{length}
@@ -75,7 +76,7 @@ module _ (c : Scheme) (x : Bench) (r : BenchAnswer) (b : Answered (Is c) x r) wh
 
   bench-passes : Sendable c x → benchTests (Is c) x ≡ Pass
   unfolding benchTests benchIn
-  bench-passes h = all-pass (offer-passes c x h) (reply-passes c x h)
+  bench-passes h = all-pass (offer-passes c x h _ (le-refl _)) (reply-passes c x h _ _ _ (le-refl _) (le-refl _) (le-refl _))
 
   bench-gave : Sendable c x → r ≡ comparison (differing (keyOf c (replying c x)) (peerKeyOf c (finishing c x))) (slackOf c (finishing c x))
   unfolding keysDiffer benchSlack
