@@ -1,7 +1,9 @@
 -- The theorems of specs/Shown.
 --   taken-back, laid-back, fresh, closed, untouched, run-bytes, only-bytes
+--   by-value, in-bytes   a call on the bytes of a session is the call by value, and back
+--   held-by              a buffer on which a call other than close refuses nothing is a session
 use mathlib.Core.Path.{_≡_, refl, _∙_, sym, ap, subst}
-use mathlib.Core.Bool.{true}
+use mathlib.Core.Bool.{true, false}
 use mathlib.Core.List.{List, [], _∷_, _++_}
 use Prim.Native.Nat.{ℕ, suc, _-_, _≤_}
 use native.Mathlib.Omega.{arith}
@@ -21,7 +23,7 @@ use Rattle.session.specs.Table.{Call, closing, row, outcome, step, run, noKey, 
 use Rattle.session.specs.Seen.{Seen, Gives, Moves}
 use Rattle.session.specs.Sequences.{Ran, Sound, Holds, Fits, fits}
 use Rattle.session.proofs.Sequences.{step-sound, gives-only}
-use Rattle.session_bytes.specs.Bytes.{stageByte, schemeByte, bytesOf, stageIn, keyLength, staged, sessionIn, outcomeAt, stepAt, outcomeBytes, stepBytes, MovesBytes}
+use Rattle.session_bytes.specs.Bytes.{stageByte, schemeByte, bytesOf, stageIn, keyLength, staged, sessionIn, closes, outcomeAt, stepAt, outcomeBytes, stepBytes, MovesBytes}
 use Rattle.session_bytes.specs.Shown.{TakenBack, LaidBack, Fresh, Closed, Untouched, RanBytes, RunBytes, OnlyBytes}
 use Rattle.session_bytes.specs.declared.Found.{Found}
 use Rattle.session_bytes.specs.declared.Found.the-variants.{At, Nowhere}
@@ -131,14 +133,33 @@ module _ (y : Session) (h : Sound y) where
   unfolding outcomeBytes
   outcome-bytes x = rw (taken-back y h .0)
 
+-- a call by value, of one on bytes, and back
+module _ (y : Session) (h : Sound y) {x : Call} {t : Seen} where
+  pub by-value : {bs cs : List ℕ} → bs ≡ bytesOf y → MovesBytes bs x cs t → Moves y x (step y x) t × (cs ≡ bytesOf (step y x))
+  by-value {cs = cs} e m =
+      let s : MovesBytes (bytesOf y) x cs t = subst (λ (us : List ℕ). MovesBytes us x cs t) e m in
+      (record { moved = refl; gives = rw (outcome-bytes y h x) at (s .gives) }, s .moved ∙ step-bytes y h x)
+
+  pub in-bytes : {z : Session} → Moves y x z t → MovesBytes (bytesOf y) x (bytesOf z) t
+  in-bytes m = record { moved = ap bytesOf (m .moved) ∙ sym (step-bytes y h x); gives = rw (outcome-bytes y h x) (m .gives) }
+
+-- a buffer on which a call other than close is accepted is a session
+pub held-by : (bs : List ℕ) {x : Call} {cs : List ℕ} {t : Seen} → closes x ≡ false → MovesBytes bs x cs t → t .number ≡ 0
+    → (y : Session) × (bs ≡ bytesOf y) × Sound y
+held-by bs {x} {cs} {t} f m z = go (staged bs) refl
+  where
+    go : (s : Found) → staged bs ≡ s → (y : Session) × (bs ≡ bytesOf y) × Sound y
+    go (At st) e = let l = laid-back bs st e in (sessionIn st bs, sym (l .0), l .1)
+    go Nowhere e = let n : t .number ≡ 10 = rw (untouched bs x e f .0) at (m .gives .told .refusal) in absurd (omega (arith, n, z))
+
 run-from : (y : Session) (bs : List ℕ) (xs : List Call) (cs : List ℕ) (ts : List Seen) → Sound y → bs ≡ bytesOf y → RanBytes bs xs cs ts
     → (cs ≡ bytesOf (run y xs)) × Ran y xs (run y xs) ts
 unfolding run
 run-from y bs _ _ _ h e RanBytes.none = (e, Ran.none)
 run-from y bs _ ds _ h e (RanBytes.more {cs = cs} {x = x} {xs = xs} {t = t} {ts = ts} m r) =
-    let s : MovesBytes (bytesOf y) x cs t = subst (λ (us : List ℕ). MovesBytes us x cs t) e m in
-    let q = run-from (step y x) cs xs ds ts (step-sound y x h) (s .moved ∙ step-bytes y h x) r in
-    (q .0, Ran.more (record { moved = refl; gives = rw (outcome-bytes y h x) at (s .gives) }) (q .1))
+    let s = by-value y h e m in
+    let q = run-from (step y x) cs xs ds ts (step-sound y x h) (s .1) r in
+    (q .0, Ran.more (s .0) (q .1))
 
 pub run-bytes : RunBytes
 run-bytes y xs cs ts h r = run-from y (bytesOf y) xs cs ts h refl r
