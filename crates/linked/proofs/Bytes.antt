@@ -1,0 +1,100 @@
+-- The theorems of specs/Linked, of sessions as lent bytes: a link of bytes is a link of the sessions that they hold.
+--   ByValue t, by-values   that link
+--   laid-link              and back: a link of sessions, laid out
+--   linking-bytes, same-key-bytes   as specs/Linked states them
+use mathlib.Core.Path.{_≡_, refl, _∙_, sym, ap, subst}
+use mathlib.Core.List.{List}
+use Prim.Native.Nat.{ℕ}
+use Rattle.schemes.specs.declared.Scheme.{Scheme}
+use Rattle.agreement.specs.Run.{Run}
+use Rattle.session.specs.declared.Stage.{Stage}
+use Rattle.session.specs.declared.Session.{Session}
+use Rattle.session.specs.Table.{step}
+use Rattle.session.specs.Sequences.{Sound}
+use Rattle.session.proofs.Sequences.{step-sound}
+use Rattle.session_bytes.specs.Bytes.{bytesOf, staged, sessionIn}
+use Rattle.session_bytes.specs.declared.Found.the-variants.{At}
+use Rattle.session_bytes.proofs.Stages.{parts}
+use Rattle.session_bytes.proofs.Bytes.{taken-back, laid-back, by-value, in-bytes, held-by}
+use Rattle.linked.specs.Linked.{Rooms, Link, LinkBytes, linkedBy, LinkingBytes, SameKeyBytes}
+use Rattle.linked.proofs.Linked.{linking, same-key}
+
+record ByValue {c : Scheme} {x : Run} {bs cs : List ℕ} {r : Rooms} (t : LinkBytes c x bs cs r) : Type 0 where
+  pub y : Session
+  pub z : Session
+  pub link : Link c x y z r
+  pub first : staged bs ≡ At (y .stage)
+  pub second : staged cs ≡ At (z .stage)
+  pub initiator : t .initiator ≡ bytesOf (link .initiator)
+  pub replier : t .replier ≡ bytesOf (link .replier)
+  pub sound : Sound (link .initiator)
+
+by-values : {c : Scheme} {x : Run} {bs cs : List ℕ} {r : Rooms} (t : LinkBytes c x bs cs r) → ByValue t
+by-values {bs = bs} {cs} t =
+    let f = held-by bs refl (t .offers) (t .offer-accepted) in
+    let g = held-by cs refl (t .replies) (t .reply-accepted) in
+    let after = step-sound (f .0) _ (f .2) in
+    let o = by-value (f .0) (f .2) (f .1) (t .offers) in
+    let p = by-value (g .0) (g .2) (g .1) (t .replies) in
+    let q = by-value _ after (o .1) (t .finishes) in
+    record {
+      y = f .0;
+      z = g .0;
+      link =
+          record {
+            opened = step (f .0) _;
+            offer = t .offer;
+            offers = o .0;
+            offer-accepted = t .offer-accepted;
+            replier = step (g .0) _;
+            reply = t .reply;
+            replies = p .0;
+            reply-accepted = t .reply-accepted;
+            initiator = step _ _;
+            finish = t .finish;
+            finishes = q .0;
+            finish-accepted = t .finish-accepted;
+          };
+      first = ap staged (f .1) ∙ taken-back (f .0) (f .2) .0;
+      second = ap staged (g .1) ∙ taken-back (g .0) (g .2) .0;
+      initiator = q .1;
+      replier = p .1;
+      sound = step-sound _ _ after;
+    }
+
+laid-link : {c : Scheme} {x : Run} {y z : Session} {r : Rooms} → Sound y → Sound z → Link c x y z r → LinkBytes c x (bytesOf y) (bytesOf z) r
+laid-link {y = y} {z} h i t =
+    let after : Sound (t .opened) = rw (t .offers .moved) (step-sound y _ h) in
+    record {
+      opened = bytesOf (t .opened);
+      offer = t .offer;
+      offers = in-bytes y h (t .offers);
+      offer-accepted = t .offer-accepted;
+      replier = bytesOf (t .replier);
+      reply = t .reply;
+      replies = in-bytes z i (t .replies);
+      reply-accepted = t .reply-accepted;
+      initiator = bytesOf (t .initiator);
+      finish = t .finish;
+      finishes = in-bytes (t .opened) after (t .finishes);
+      finish-accepted = t .finish-accepted;
+    }
+
+pub linking-bytes : LinkingBytes
+linking-bytes c x bs cs r = (
+  λ t. let v = by-values t in
+      let h = linking c x _ _ r .0 (v .link) in
+      (v .first ∙ ap At (h .0), v .second ∙ ap At (h .1), h .2, h .3),
+  λ h. let y = laid-back bs Stage.Idle (h .0) in
+      let z = laid-back cs Stage.Idle (h .1) in
+      let t = laid-link (y .1) (z .1) (linking c x (sessionIn Stage.Idle bs) (sessionIn Stage.Idle cs) r .1 (refl, refl, h .2, h .3)) in
+      subst (λ (us : List ℕ). LinkBytes c x us cs r) (y .0) (subst (λ (us : List ℕ). LinkBytes c x (bytesOf (sessionIn Stage.Idle bs)) us r) (z .0) t),
+)
+
+pub same-key-bytes : SameKeyBytes
+same-key-bytes c x bs cs r t near =
+    let v = by-values t in
+    let same = same-key c x _ _ r (v .link) near in
+    let i : t .initiator ≡ bytesOf (linkedBy c x) = v .initiator ∙ ap bytesOf (same .1) in
+    let p : t .replier ≡ bytesOf (linkedBy c x) = v .replier ∙ ap bytesOf (same .2) in
+    (parts (t .initiator) _ (ap staged (v .initiator) ∙ taken-back _ (v .sound) .0) .long, i ∙ sym p, i, p)
