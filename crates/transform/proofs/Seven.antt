@@ -3,21 +3,26 @@
 --   seven-turn        the exponent counts modulo 2048
 --   seven-minus       1024 more are a minus, which is 12288
 --   forty-nine, seven-back, forty-nine-back   49, 8778 and 1254 as powers of 7
---   powers-at, powers-lt   an entry of the table
-use mathlib.Core.Path.{_≡_, _∙_, sym, ap}
+--   table-rule        where the test passes over a table of 2,048 entries, each entry is its power of 7
+--   power-lt          an entry of the table is below 12289
+use mathlib.Core.Path.{_≡_, sym, ap}
+use mathlib.Core.Bool.{Bool}
 use mathlib.Core.List.{List}
 use Prim.Native.Nat.{ℕ, _+_, _*_, _%_, _^_, _<_}
 use native.Mathlib.Nat.{mul-one, mod-lt}
 use native.Mathlib.Omega.{arith}
+use native.Mathlib.Decide.{decLt}
 use lib.IntN.{pos}
 use lib.Pow.{pow-add}
-use lib.ListN.{getD}
+use lib.Dec.{T, eqb, eqb→eq}
+use lib.ListN.{length, getD, List·getD-eq-default}
 use Rattle.numbers.specs.Residue.{_≅⟨_⟩_}
 use Rattle.numbers.proofs.Congruence.{eq-≅, refl-≅, sym-≅, _⨾_, mul-≅, mod-≅}
 use Rattle.numbers.proofs.Natural.{one-pow, power-power}
 use Rattle.numbers.proofs.Modular.{pow-≅}
-use Rattle.lists.proofs.Entries.{tab-at, below-tab}
-use Rattle.transform.specs.Transform.{powers}
+use Rattle.lists.specs.Table.{every}
+use Rattle.lists.proofs.Table.{at}
+use Rattle.transform.specs.Theorems.{TableRule}
 
 infix 4 _≈_
 abbrev pub _≈_ : ℕ → ℕ → Type 0
@@ -42,10 +47,20 @@ seven-back n = pow-≅ n (mod-≅ 12289 (7 ^ 2047)) ⨾ eq-≅ (ap pos (power-po
 pub forty-nine-back : (n : ℕ) → 1254 ^ n ≈ 7 ^ (2046 * n)
 forty-nine-back n = pow-≅ n (mod-≅ 12289 (7 ^ 2046)) ⨾ eq-≅ (ap pos (power-power 7 2046 n))
 
-pub powers-at : {t : List ℕ} → t ≡ powers → (k : ℕ) → k < 2048 → getD t k 0 ≡ 7 ^ k % 12289
-unfolding powers
-powers-at e k h = ap (λ (t : List ℕ). getD t k 0) e ∙ tab-at 2048 (λ k. 7 ^ k % 12289) k 0 h
+-- the test of an entry, which the checker computes over the whole table
+abbrev right : ℕ → ℕ → Bool
+right k x = eqb x (7 ^ k % 12289)
 
-pub powers-lt : {t : List ℕ} → t ≡ powers → (k : ℕ) → getD t k 0 < 12289
-unfolding powers
-powers-lt e k = rw e (below-tab 12289 2048 (λ k. 7 ^ k % 12289) (omega arith) (λ k l. mod-lt (7 ^ k) (omega arith)) .below k)
+pub table-rule : (t : List ℕ) → T (every right 0 t) → length t ≡ 2048 → TableRule t
+table-rule t p l = record { size = l; power = power; minus = power 1024 (omega arith) }
+  where
+    power : (k : ℕ) → k < 2048 → getD t k 0 ≡ 7 ^ k % 12289
+    power k h = eqb→eq (getD t k 0) (7 ^ k % 12289) (at right 0 t p k (rw l h))
+
+-- past its end the table reads 0
+pub power-lt : {t : List ℕ} → TableRule t → (k : ℕ) → getD t k 0 < 12289
+power-lt {t} r k = go (decLt k 2048)
+  where
+    go : Dec (k < 2048) → getD t k 0 < 12289
+    go (yes h) = rw (r .power k h) (mod-lt (7 ^ k) (omega arith))
+    go (no h) = rw (List·getD-eq-default t 0 {n = k} (omega (arith, r .size))) (omega arith)

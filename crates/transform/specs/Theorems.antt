@@ -1,5 +1,5 @@
 -- What is shown of the transform: 01, "The NewHope transform".
---   TableRule         the table of 2,048 powers of 7 has 7^k modulo 12289 at each k; 7^1024 is 12288
+--   TableRule t       t, which `powers::table` returns, has 2,048 entries and 7^k modulo 12289 at each k; 7^1024 is 12288
 --   InverseUndoes     the inverse of the transform of 1,024 numbers below 12289 is what they were
 --   UndoesInverse     so is the transform of the inverse
 --   CarriesProducts   the product through the transform is the product modulo X^1024 + 1
@@ -8,10 +8,12 @@ use mathlib.Core.List.{List}
 use Prim.Native.Nat.{ℕ, _%_, _^_, _<_}
 use lib.ListN.{length, getD}
 use Rattle.lists.specs.Entries.{Below}
-use Rattle.transform.specs.Transform.{transformed, inverted, entrywise, multiplied, powers}
+use Rattle.transform.specs.Transform.{transformed, inverted, entrywise, multiplied}
 
-abbrev pub TableRule : Type 0
-TableRule = (length powers ≡ 2048) × ((k : ℕ) → k < 2048 → getD powers k 0 ≡ 7 ^ k % 12289) × (getD powers 1024 0 ≡ 12288)
+pub record TableRule (t : List ℕ) : Type 0 where
+  pub size : length t ≡ 2048
+  pub power : (k : ℕ) → k < 2048 → getD t k 0 ≡ 7 ^ k % 12289
+  pub minus : getD t 1024 0 ≡ 12288
 
 abbrev pub InverseUndoes : Type 0
 InverseUndoes = (g : List ℕ) → Below 12289 g → length g ≡ 1024 → inverted (transformed g) ≡ g

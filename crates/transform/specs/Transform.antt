@@ -4,7 +4,6 @@
 --   entrywise f g    the products of the entries
 --   multiplied a b   the product modulo X^1024 + 1
 --   summed a b       the sum
---   powers           the table of the 2,048 powers of 7
 use mathlib.Core.List.{List}
 use Prim.Native.Nat.{ℕ, _+_, _*_, _%_, _^_}
 use lib.ListN.{getD}
@@ -27,6 +26,3 @@ multiplied a b = tab 1024 (λ k. residue 12289 (product 1024 (nums a) (nums b) k
 
 unfoldable pub summed : List ℕ → List ℕ → List ℕ
 summed a b = tab 1024 (λ k. (getD a k 0 + getD b k 0) % 12289)
-
-unfoldable pub powers : List ℕ
-powers = tab 2048 (λ k. 7 ^ k % 12289)

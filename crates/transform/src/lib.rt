@@ -7,7 +7,8 @@ ghost use mathlib.Core.Path.{_≡_};
 ghost use Prim.Native.Nat.{_+_, _%_, _<_};
 ghost use lib.ListN.{length};
 ghost use Rattle.lists.specs.Entries.{Below};
-ghost use Rattle.transform.specs.Transform.{transformed, inverted, entrywise, multiplied, powers};
+ghost use Rattle.transform.specs.Transform.{transformed, inverted, entrywise, multiplied};
+ghost use Rattle.transform.specs.Theorems.{TableRule};
 ghost use Rattle.transform.specs.Level.{tight, factor, powered, stored, Joined, Room, remainders, sums, scaled};
 use schemes::NewHope;
 
@@ -57,7 +58,7 @@ fn run(
     k: usize,
 )
     requires { ⌜ (a < 2) × (0 < h) × Room h c k ⌝ }
-    requires { ⌜ (now t ≡ powers) × Joined (now src) a h k (now dst) ⌝ }
+    requires { ⌜ TableRule (now t) × Joined (now src) a h k (now dst) ⌝ }
     ensures { λ _. ⌜ Joined (now (src .entry)) a h (k + c) (now (dst .exit)) ⌝ }
 {
     let i = k / h;
@@ -77,7 +78,7 @@ fn run(
 // vectors: c is 32 where h allows it, which was the quickest.
 fn level(t: &[u32; 2048], src: &[u16; 1024], dst: &mut [u16; 1024], a: usize, h: usize, c: usize)
     requires { ⌜ (a < 2) × (0 < h) × (512 % h ≡ 0) × (0 < c) × (h % c ≡ 0) ⌝ }
-    requires { ⌜ (now t ≡ powers) × (length (now dst) ≡ 1024) ⌝ }
+    requires { ⌜ TableRule (now t) × (length (now dst) ≡ 1024) ⌝ }
     ensures { λ _. ⌜ Joined (now (src .entry)) a h 512 (now (dst .exit)) ⌝ }
 {
     let mut k: usize = 0;
@@ -113,7 +114,7 @@ fn reduce(src: &[u16; 1024], dst: &mut [u32; 1024])
 // Entry i becomes the sum over j of g_j 7^(j (a + 2i)): the transform where a is 1, and the sums of its inverse, the other way round, where a is 0.
 // The buffers are locals, so that the compiler sees that they do not overlap.
 fn sums(t: &[u32; 2048], g: &mut [u32; 1024], a: usize)
-    requires { ⌜ (a < 2) × (now t ≡ powers) × Below 12289 (now g) × (length (now g) ≡ 1024) ⌝ }
+    requires { ⌜ (a < 2) × TableRule (now t) × Below 12289 (now g) × (length (now g) ≡ 1024) ⌝ }
     ensures { λ _. ⌜ now (g .exit) ≡ sums a (now (g .entry)) ⌝ }
 {
     let mut p = [0u16; 1024];
@@ -134,7 +135,7 @@ fn sums(t: &[u32; 2048], g: &mut [u32; 1024], a: usize)
 
 // The transform, in place. Whoever makes several lends the table to all: making it copies it.
 fn ahead(t: &[u32; 2048], g: &mut [u32; 1024])
-    requires { ⌜ (now t ≡ powers) × Below 12289 (now g) × (length (now g) ≡ 1024) ⌝ }
+    requires { ⌜ TableRule (now t) × Below 12289 (now g) × (length (now g) ≡ 1024) ⌝ }
     ensures { λ _. ⌜ now (g .exit) ≡ transformed (now (g .entry)) ⌝ }
 {
     sums(t, g, 1);
@@ -150,7 +151,7 @@ pub fn forward(g: &mut [u32; 1024])
 
 // Entry k of the inverse is entry 1024 - k of the sums times 12277 7^-k, which is 12 7^(1024 - k): 12277 is -12, and -1 is 7^1024. 12288 * (12 * 12288) fits.
 fn scale(t: &[u32; 2048], src: &[u32; 1024], dst: &mut [u32; 1024])
-    requires { ⌜ (now t ≡ powers) × Below 12289 (now src) × (length (now dst) ≡ 1024) ⌝ }
+    requires { ⌜ TableRule (now t) × Below 12289 (now src) × (length (now dst) ≡ 1024) ⌝ }
     ensures { λ _. ⌜ now (dst .exit) ≡ scaled (now (src .entry)) ⌝ }
 {
     dst[0] = src[0] * (12 * t[NewHope::N]) % NewHope::Q;
@@ -164,7 +165,7 @@ fn scale(t: &[u32; 2048], src: &[u32; 1024], dst: &mut [u32; 1024])
 
 // The inverse, in place.
 fn back(t: &[u32; 2048], g: &mut [u32; 1024])
-    requires { ⌜ (now t ≡ powers) × Below 12289 (now g) × (length (now g) ≡ 1024) ⌝ }
+    requires { ⌜ TableRule (now t) × Below 12289 (now g) × (length (now g) ≡ 1024) ⌝ }
     ensures { λ _. ⌜ now (g .exit) ≡ inverted (now (g .entry)) ⌝ }
 {
     sums(t, g, 0);

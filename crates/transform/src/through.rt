@@ -9,7 +9,8 @@ ghost use Rattle.numbers.specs.Residue.{residue};
 ghost use Rattle.lists.specs.Entries.{Below, Within};
 ghost use Rattle.lists.specs.Lent.{was, left};
 ghost use Rattle.polynomial.specs.Mixing.{mixed, bare};
-ghost use Rattle.transform.specs.Transform.{transformed, inverted, entrywise, summed, powers};
+ghost use Rattle.transform.specs.Transform.{transformed, inverted, entrywise, summed};
+ghost use Rattle.transform.specs.Theorems.{TableRule};
 ghost use Rattle.transform.specs.Level.{reduced};
 use schemes::NewHope;
 
@@ -51,7 +52,7 @@ fn reduce(s: &[i32], out: &mut [u32; 1024])
 
 // Their transform.
 fn turn(t: &[u32; 2048], s: &[i32], out: &mut [u32; 1024])
-    requires { ⌜ (now t ≡ powers) × (length (now s) ≡ 1024) × Within 16 (now s) × (length (now out) ≡ 1024) ⌝ }
+    requires { ⌜ TableRule (now t) × (length (now s) ≡ 1024) × Within 16 (now s) × (length (now out) ≡ 1024) ⌝ }
     ensures { λ _. ⌜ left out ≡ transformed (reduced (was s)) ⌝ }
 {
     reduce(s, out);
@@ -85,7 +86,7 @@ fn weigh(u: &[u32], x: &mut [u32; 1024])
 
 // us, of the transforms of u and of s, into x.
 fn weigh_back(t: &[u32; 2048], u: &[u32], x: &mut [u32; 1024])
-    requires { ⌜ (now t ≡ powers) × (length (now u) ≡ 1024) × Below 12289 (now u) × (length (now x) ≡ 1024) × Below 12289 (now x) ⌝ }
+    requires { ⌜ TableRule (now t) × (length (now u) ≡ 1024) × Below 12289 (now u) × (length (now x) ≡ 1024) × Below 12289 (now x) ⌝ }
     ensures { λ _. ⌜ left x ≡ inverted (entrywise (was u) (was x)) ⌝ }
 {
     weigh(u, x);
@@ -124,7 +125,7 @@ fn mix_turned(
     y: &mut [u32; 1024],
     out: &mut [u32],
 )
-    requires { ⌜ (now t ≡ powers) × (length (now a) ≡ 1024) × Below 12289 (now a) × Below 12289 (now x) ⌝ }
+    requires { ⌜ TableRule (now t) × (length (now a) ≡ 1024) × Below 12289 (now a) × Below 12289 (now x) ⌝ }
     requires { ⌜ (length (now e) ≡ 1024) × Within 16 (now e) × (length (now y) ≡ 1024) × (length (now out) ≡ 1024) ⌝ }
     ensures { λ _. ⌜ left out ≡ summed (entrywise (was a) (was x)) (transformed (reduced (was e))) ⌝ }
 {
@@ -134,7 +135,7 @@ fn mix_turned(
 
 // bs + e, of the transforms of b and of s, which becomes bs.
 fn value_turned(t: &[u32; 2048], b: &[u32], x: &mut [u32; 1024], e: &[i32], out: &mut [u32])
-    requires { ⌜ (now t ≡ powers) × (length (now b) ≡ 1024) × Below 12289 (now b) × (length (now x) ≡ 1024) × Below 12289 (now x) ⌝ }
+    requires { ⌜ TableRule (now t) × (length (now b) ≡ 1024) × Below 12289 (now b) × (length (now x) ≡ 1024) × Below 12289 (now x) ⌝ }
     requires { ⌜ (length (now e) ≡ 1024) × Within 16 (now e) × (length (now out) ≡ 1024) ⌝ }
     ensures { λ _. ⌜ left out ≡ summed (inverted (entrywise (was b) (was x))) (reduced (was e)) ⌝ }
     ensures { λ _. ⌜ length (left x) ≡ 1024 ⌝ }

@@ -5,7 +5,7 @@ use native.Mathlib.Omega.{arith}
 use native.Mathlib.Nat.{add-zero, div-le-self, div-mul-le-self}
 use lib.ListN.{getD}
 use Rattle.transform.specs.Level.{factor, Joined}
-use Rattle.transform.proofs.Seven.{powers-at, powers-lt}
+use Rattle.transform.proofs.Seven.{power-lt}
 use Rattle.transform.proofs.Joins.{exponent-≤, run-more}
 use Rattle.transform.proofs.run.Statement.{statement}
 use Rattle.transform.proofs.run.Tie as tie
@@ -24,7 +24,7 @@ below : (c : tie.Start Inv-loop μ-loop) → exponent c ≤ 1536
 below c = exponent-≤ (c .args .a) (c .args .h) (c .args .k) (omega arith) (omega arith) (omega arith)
 
 small : (c : tie.Start Inv-loop μ-loop) → getD (c .args .t .now) (exponent c) 0 < 12289
-small c = powers-lt (c .pre .1 .0) (exponent c)
+small c = power-lt (c .pre .1 .0) (exponent c)
 
 div-i : tie.Need-div-i Inv-loop μ-loop
 div-i c = omega arith
@@ -84,7 +84,7 @@ loop-again c =
     let l = c .before .before .before .loop in (
       omega arith,
       run-more _ _ _ (d .args .a) (d .args .h) (d .args .k) (l .j) _ (omega arith) (omega arith) (l .inv .1)
-          (powers-at (d .pre .1 .0) (exponent d) (omega (arith, below d)))
+          (d .pre .1 .0 .power (exponent d) (omega (arith, below d)))
           (c .join .ensures),
     )
 

@@ -8,7 +8,7 @@ use lib.ListN.{length, getD, length-set}
 use Rattle.lists.specs.Entries.{tab}
 use Rattle.lists.proofs.Fill.{Filled, fill-next, fill-end, fill-first}
 use Rattle.transform.specs.Level.{scaled}
-use Rattle.transform.proofs.Seven.{powers-at, powers-lt}
+use Rattle.transform.proofs.Seven.{power-lt}
 use Rattle.transform.proofs.Joins.{product-fits}
 use Rattle.transform.proofs.scale.Statement.{statement}
 use Rattle.transform.proofs.scale.Tie as tie
@@ -30,10 +30,10 @@ element-copy-out-dst-2 : tie.Need-element-copy-out-dst-2 Inv-loop μ-loop
 element-copy-out-dst-2 c = omega arith
 
 mul-dst : tie.Need-mul-dst Inv-loop μ-loop
-mul-dst c = omega (arith, powers-lt (c .before .before .pre .0) 1024)
+mul-dst c = omega (arith, power-lt (c .before .before .pre .0) 1024)
 
 mul-dst-2 : tie.Need-mul-dst-2 Inv-loop μ-loop
-mul-dst-2 c = record { fits = product-fits _ _ (c .before .before .pre .1 .below 0) (omega (arith, powers-lt (c .before .before .pre .0) 1024)) }
+mul-dst-2 c = record { fits = product-fits _ _ (c .before .before .pre .1 .below 0) (omega (arith, power-lt (c .before .before .pre .0) 1024)) }
 
 element-write-dst : tie.Need-element-write-dst Inv-loop μ-loop
 element-write-dst c = omega arith
@@ -44,7 +44,7 @@ loop-holds c =
     let z : 0 < length (a .args .dst .now) = omega arith in (
       omega arith,
       simp length-set (a .pre .2),
-      fill-first _ (a .args .dst .now) _ z (ap (λ (x : ℕ). getD (a .args .src .now) 0 0 * (12 * x) % 12289) (powers-at (a .pre .0) 1024 (omega arith))),
+      fill-first _ (a .args .dst .now) _ z (ap (λ (x : ℕ). getD (a .args .src .now) 0 0 * (12 * x) % 12289) (a .pre .0 .power 1024 (omega arith))),
     )
 
 sub-r : tie.Need-sub-r Inv-loop μ-loop
@@ -63,13 +63,13 @@ element-copy-out-dst-4 : tie.Need-element-copy-out-dst-4 Inv-loop μ-loop
 element-copy-out-dst-4 c = omega arith
 
 mul-dst-5 : tie.Need-mul-dst-5 Inv-loop μ-loop
-mul-dst-5 c = omega (arith, powers-lt (c .before .before .before .before .before .before .pre .0) (1024 - c .before .before .before .loop .k))
+mul-dst-5 c = omega (arith, power-lt (c .before .before .before .before .before .before .pre .0) (1024 - c .before .before .before .loop .k))
 
 mul-dst-6 : tie.Need-mul-dst-6 Inv-loop μ-loop
 mul-dst-6 c =
     let a = c .before .before .before .before .before .before in
     let k = c .before .before .before .loop .k in
-    record { fits = product-fits _ _ (a .pre .1 .below (1024 - k)) (omega (arith, powers-lt (a .pre .0) (1024 - k))) }
+    record { fits = product-fits _ _ (a .pre .1 .below (1024 - k)) (omega (arith, power-lt (a .pre .0) (1024 - k))) }
 
 mul-dst-7 : tie.Need-mul-dst-7 Inv-loop μ-loop
 mul-dst-7 c = omega arith
@@ -91,7 +91,7 @@ loop-again c =
       omega arith,
       l .inv .1,
       fill-next _ (l .inv .2) (omega arith)
-          (ap₂ (λ (r x : ℕ). getD (a .args .src .now) r 0 * (12 * x) % 12289) m (powers-at (a .pre .0) (1024 - l .k) (omega arith))),
+          (ap₂ (λ (r x : ℕ). getD (a .args .src .now) r 0 * (12 * x) % 12289) m (a .pre .0 .power (1024 - l .k) (omega arith))),
     )
 
 returns : tie.Need-returns Inv-loop μ-loop
