@@ -1,5 +1,5 @@
 -- What is stated in specs/Shown.
---   one-bench             one answer a promise
+--   one-bench, one-bcns   one answer a promise
 --   never-three-or-five   3 and 5 cannot arise
 --   opening-passes        an opening that Offer has made is not refused
 --   finish-accepts        Finish refuses nothing there
@@ -11,6 +11,7 @@ use native.Mathlib.Omega.{arith}
 use lib.IntN.{ℤ}
 use Rattle.schemes.specs.Schemes.{fixedOf}
 use Rattle.schemes.specs.declared.Scheme.{Scheme}
+use Rattle.schemes.specs.declared.Scheme.the-variants.{Bcns}
 use Rattle.schemes.specs.declared.Named.{Named}
 use Rattle.schemes.specs.declared.Named.the-variants.{Is, Unknown}
 use Rattle.front.specs.Front.{numberIn, lengthIs, roomFor, publicsIn, notBlank, receivedIn, secretsIn}
@@ -24,8 +25,9 @@ use Rattle.reply.specs.Reply.{Reply, replyTests, replyLengths, replySizes, repl
 use Rattle.offer.proofs.Offering.{offer-opens}
 use Rattle.agreement.specs.Run.{offering, replying}
 use Rattle.agreement.proofs.Tests.{sendable-by, opening-received, finish-passes}
-use Rattle.bench.specs.Bench.{Bench, benchIn, benchTests, number, place, differ, slack}
-use Rattle.bench.specs.Shown.{OneBench, NeverThreeOrFive, OpeningPasses, FinishPasses}
+use Rattle.bench.specs.Bench.{Bench, benchIn, benchTests, number, place, differ, slack, told}
+use Rattle.bench.specs.Shown.{OneBench, OneBcns, NeverThreeOrFive, OpeningPasses, FinishPasses}
+use Rattle.bench.specs.declared.BcnsAnswer.{BcnsAnswer}
 use Rattle.bench.specs.declared.BenchAnswer.{BenchAnswer}
 use Rattle.bench.specs.declared.BenchAnswer.the-variants.{Agree, Differ, Refused}
 
@@ -44,6 +46,16 @@ same (Refused r) (Refused s) e f g h = ap Refused (same-refusal r s e f)
 
 pub one-bench : OneBench
 one-bench c x r r′ p q = let used = used-only (p .slacks) (q .slacks) in same r r′ (cc) (cc) (cc) (same-peak _ _ (used .0) (used .1))
+
+-- each answer of the bench of BCNS is one of Bench
+same-told : (a b : BcnsAnswer) → told a ≡ told b → a ≡ b
+same-told (BcnsAnswer.Agree p) (BcnsAnswer.Agree q) e = ap BcnsAnswer.Agree (ap slack e)
+same-told (BcnsAnswer.Agree p) (BcnsAnswer.Refused s) e = absurd (omega (arith, some s, ap number e))
+same-told (BcnsAnswer.Refused r) (BcnsAnswer.Agree q) e = absurd (omega (arith, some r, ap number e))
+same-told (BcnsAnswer.Refused r) (BcnsAnswer.Refused s) e = ap BcnsAnswer.Refused (same-refusal r s (ap number e) (ap place e))
+
+pub one-bcns : OneBcns
+one-bcns x r r′ p q = same-told r r′ (one-bench (Is Bcns) x (told r) (told r′) p q)
 
 -- ---- neither 3 nor 5
 
