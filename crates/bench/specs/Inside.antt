@@ -15,7 +15,7 @@ use Rattle.schemes.specs.declared.Scheme.{Scheme}
 use Rattle.schemes.specs.declared.Named.the-variants.{Is}
 use Rattle.lists.specs.declared.Peak.{Peak}
 use Rattle.front.specs.Front.{_then_}
-use Rattle.front.specs.Promise.{outcome}
+use Rattle.front.specs.Steps.{outcome}
 use Rattle.front.specs.declared.Outcome.{Outcome}
 use Rattle.front.specs.declared.Verdict.{Verdict}
 use Rattle.front.specs.declared.Verdict.the-variants.{Pass}

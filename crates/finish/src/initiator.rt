@@ -9,7 +9,7 @@ ghost use Rattle.lists.specs.Lent.{was, left};
 ghost use Rattle.lists.specs.Top.{peakOf};
 ghost use Rattle.packing.specs.Packing.{packed};
 ghost use Rattle.front.specs.Front.{secretsIn};
-ghost use Rattle.front.specs.Promise.{Laid, outcome};
+ghost use Rattle.front.specs.Steps.{Laid, outcome};
 ghost use Rattle.front.specs.declared.Verdict.the-variants.{Pass};
 ghost use Rattle.ends.specs.Fit.{Counted};
 ghost use Rattle.ends.specs.Keys as settled;

@@ -30,7 +30,8 @@ use Rattle.lists.proofs.Same.{append-all, equal-all}
 use Rattle.packing.specs.Packing.{packed}
 use Rattle.blank.specs.Blank.{blank}
 use Rattle.blank.proofs.Laws.{blank-packed}
-use Rattle.front.specs.Front.{numberOf, numberIn, _then_, _before_, lengthIs, lengthUpTo, roomFor, inTurn, tableIn, publicsIn, messageIn, notBlank, secretsIn, held}
+use Rattle.front.specs.Front.{numberOf, numberIn, _then_, lengthIs, lengthUpTo, roomFor, inTurn, tableIn, publicsIn, messageIn, notBlank, secretsIn, held}
+use Rattle.front.specs.Steps.{_before_}
 use Rattle.front.specs.declared.Refusal.{Refusal}
 use Rattle.front.specs.declared.Refusal.the-variants.{NoScheme, BadLength, Short, PublicOver, MessageOver, SecretBeyond, RanOut, Misfit, OutOfStage, OutOfTurn, NoRule, NewerFormat, NoStudio, Blank, NotAscending}
 use Rattle.front.specs.declared.Verdict.{Verdict}

@@ -28,7 +28,8 @@ use Rattle.front.specs.declared.Verdict.{Verdict}
 use Rattle.front.specs.declared.Verdict.the-variants.{Pass, Fail}
 use Rattle.front.proofs.Laws.{some}
 use Rattle.front.proofs.Held.{held-refused, held-written}
-use Rattle.front.specs.Promise.{Told, Wrote, put, Gave, Used, outcome}
+use Rattle.front.specs.Promise.{Told, Wrote, put, Gave, Used}
+use Rattle.front.specs.Steps.{outcome}
 use Rattle.front.specs.declared.Outcome.{Outcome}
 use Rattle.front.specs.Answers.{number, place, written}
 use Rattle.front.specs.declared.Answer.{Answer}

@@ -3,7 +3,6 @@
 --   numberIn v, placeIn v   those of a verdict: 0 where all tests passed
 --   countIn v n             what a call writes: n, and 0 after a refusal
 --   v then w                the first test that fails
---   v before w              the same, where v is not looked at unless w fails: of tests that all passed it says only that w has
 --   lengthIs m n            2: an input's length is not the fixed one
 --   lengthUpTo m n          2: it is over what is allowed
 --   roomFor room n          3: an output buffer is shorter than the answer
@@ -78,11 +77,6 @@ infixl 20 _then_
 unfoldable pub _then_ : Verdict → Verdict → Verdict
 Pass then w = w
 Fail r then w = Fail r
-
-infixl 20 _before_
-unfoldable pub _before_ : Verdict → Verdict → Verdict
-v before Pass = Pass
-v before (Fail r) = v then Fail r
 
 unfoldable pub lengthIs : ℕ → ℕ → Verdict
 lengthIs m n = cond (eqb m n) Pass (Fail BadLength)

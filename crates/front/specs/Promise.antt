@@ -3,19 +3,14 @@
 --   Wrote v xs z room count out   an output with so much room: the answer xs, z behind it, and the answer's length as its count; after a refusal z from end to
 --                                 end, and 0
 --   put v xs old                  what a step leaves of a part of an output that it is lent
---   Laid v xs out                 that this is what it left, where it is lent out
 --   Gave v d n                    a number that an answer carries: d, and 0 after a refusal
 --   Used v p slack index          the slack used and its first index, those of p; 0 and 0 after a refusal: 02, request f
---   outcome v p                   what a step hands on: p, or the refusal
 use mathlib.Core.Path.{_≡_}
 use mathlib.Core.List.{List}
 use Prim.Native.Nat.{ℕ}
 use lib.ListN.{length}
-use Rattle.lists.specs.Lent.{Lent, was, left}
 use Rattle.lists.specs.declared.Peak.{Peak}
 use Rattle.front.specs.Front.{numberIn, placeIn, countIn, held}
-use Rattle.front.specs.declared.Outcome.{Outcome}
-use Rattle.front.specs.declared.Outcome.the-variants.{Slack, Refused}
 use Rattle.front.specs.declared.Verdict.{Verdict}
 use Rattle.front.specs.declared.Verdict.the-variants.{Pass, Fail}
 
@@ -32,16 +27,9 @@ abbrev pub put : {A : Type 0} → Verdict → List A → List A → List A
 put Pass xs old = xs
 put (Fail r) xs old = old
 
-abbrev pub Laid : Verdict → List ℕ → Lent (List ℕ) → Type 0
-Laid v xs out = left out ≡ put v xs (was out)
-
 pub record Gave (v : Verdict) (d n : ℕ) : Type 0 where
   pub gives : n ≡ countIn v d
 
 pub record Used (v : Verdict) (p : Peak) (slack index : ℕ) : Type 0 where
   pub most : slack ≡ countIn v (p .most)
   pub first : index ≡ countIn v (p .at)
-
-abbrev pub outcome : Verdict → Peak → Outcome
-outcome Pass p = Slack p
-outcome (Fail r) p = Refused r

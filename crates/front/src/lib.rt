@@ -8,8 +8,8 @@ ghost use Rattle.schemes.specs.Schemes.{schemeOf};
 ghost use Rattle.lists.specs.First.{firstOver};
 ghost use Rattle.lists.specs.Lent.{left, room};
 ghost use Rattle.packing.specs.Packing.{unpacked};
-ghost use Rattle.front.specs.Front.{_then_, _before_, lengthIs, lengthUpTo, roomFor, inTurn, tableIn, publicsIn, notBlank, receivedIn, secretsIn, numberOf, placeOf};
-ghost use Rattle.front.specs.Promise.{outcome};
+ghost use Rattle.front.specs.Front.{_then_, lengthIs, lengthUpTo, roomFor, inTurn, tableIn, publicsIn, notBlank, receivedIn, secretsIn, numberOf, placeOf};
+ghost use Rattle.front.specs.Steps.{_before_, outcome};
 use lists::Peak;
 use schemes::Named;
 

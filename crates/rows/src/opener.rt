@@ -13,7 +13,7 @@ ghost use Rattle.matrix.specs.Steps.{wordsOf, columnsOf};
 ghost use Rattle.parts.specs.Parts.{wrap, pairs};
 ghost use Rattle.packing.specs.Packing.{packed};
 ghost use Rattle.front.specs.Front.{notBlank};
-ghost use Rattle.front.specs.Promise.{Laid};
+ghost use Rattle.front.specs.Steps.{Laid};
 ghost use Rattle.front.specs.declared.Verdict.the-variants.{Pass};
 ghost use Rattle.ends.specs.Fit.{Counted};
 ghost use Rattle.wire.specs.Wire.{opening};

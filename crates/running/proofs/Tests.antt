@@ -7,7 +7,7 @@
 --   Frodos, frodos, frodo-named   what Frodo's schemes have in common; a state names none but these
 --   square                   n n is small
 use mathlib.Core.Path.{_≡_, refl, sym, ap}
-use mathlib.Core.Bool.{Bool, true, false, cond}
+use mathlib.Core.Bool.{Bool, true, false}
 use mathlib.Core.List.{List}
 use Prim.Native.Nat.{ℕ, _+_, _*_, _%_, _<_, _≤_}
 use native.Mathlib.Omega.{arith}
@@ -26,6 +26,7 @@ use Rattle.lists.specs.Entries.{Below}
 use Rattle.lists.specs.First.{firstOver}
 use Rattle.lists.proofs.First.{none-found}
 use Rattle.lists.proofs.First as first
+use Rattle.lists.proofs.Table.{both-true}
 use Rattle.ends.proofs.Numbers.{Frodo}
 use Rattle.running.specs.State.{frodoIn, frodoOf, numberOf, long, taken, keptOf, _and_, allBelow, keptIn, begun, fitsIn, complete}
 use Rattle.running.specs.declared.Call.{Call}
@@ -40,8 +41,7 @@ goes e d = rw e d
 
 pub passed : (t b : Bool) → t and b ≡ true → (t ≡ true) × (b ≡ true)
 unfolding _and_
-passed true b e = (refl, e)
-passed false b e = let z : _≡_ {A = ℕ} 0 1 = ap (λ (t : Bool). cond t 1 0) e in absurd (omega arith)
+passed t b e = both-true t b e
 
 pub all-below : (b : ℕ) (xs : List ℕ) → 0 < b → allBelow b xs ≡ true → Below b xs
 unfolding allBelow

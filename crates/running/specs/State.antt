@@ -20,12 +20,13 @@
 --   heldWith n st p      the numbers that are held back, with the part p behind them
 --   sumsWith k n st p    the sums with the part p, which sixteen rows enter where it fills them
 --   stepped k n st p     the state with the part p
-use mathlib.Core.Bool.{Bool, true, false, cond}
+use mathlib.Core.Bool.{Bool, cond}
 use mathlib.Core.List.{List, _∷_, _++_}
 use Prim.Native.Nat.{ℕ, _+_, _*_, _-_, _%_}
 use lib.Dec.{eqb, leb}
 use lib.ListN.{length, getD, take, drop}
 use Rattle.lists.specs.First.{firstOver}
+use Rattle.lists.specs.Table.{both}
 use Rattle.schemes.specs.Schemes.{by, familyOf, schemeOf}
 use Rattle.schemes.specs.declared.Fixed.{Fixed}
 use Rattle.schemes.specs.declared.Named.{Named}
@@ -74,10 +75,10 @@ laid call scheme taken kept secret sums held = call ∷ scheme ∷ taken ∷ (ke
 
 -- ---- its ranges
 
+-- both, under a name that a promise keeps shut
 infixr 20 _and_
 unfoldable pub _and_ : Bool → Bool → Bool
-true and b = b
-false and b = false
+a and b = both a b
 
 unfoldable pub allBelow : ℕ → List ℕ → Bool
 allBelow b xs = eqb (firstOver b xs) (length xs)

@@ -20,8 +20,7 @@ use Rattle.numbers.specs.Residue.{_≅⟨_⟩_}
 use Rattle.numbers.proofs.Congruence.{eq-≅, refl-≅, sym-≅, _⨾_, mul-≅, mod-≅}
 use Rattle.numbers.proofs.Natural.{one-pow, power-power}
 use Rattle.numbers.proofs.Modular.{pow-≅}
-use Rattle.lists.specs.Table.{every}
-use Rattle.lists.proofs.Table.{at}
+use Rattle.lists.proofs.Table.{every, at}
 use Rattle.transform.specs.Theorems.{TableRule}
 
 infix 4 _≈_

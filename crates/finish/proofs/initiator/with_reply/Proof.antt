@@ -5,7 +5,8 @@ use Prim.Native.Nat.{ℕ}
 use lib.ListN.{length, replicate}
 use Rattle.schemes.specs.Schemes.{fixedOf}
 use Rattle.lists.proofs.Same.{zeros}
-use Rattle.front.specs.Promise.{put, outcome}
+use Rattle.front.specs.Promise.{put}
+use Rattle.front.specs.Steps.{outcome}
 use Rattle.front.specs.declared.Verdict.{Verdict}
 use Rattle.front.proofs.Laws.{failed, went-on}
 use Rattle.front.proofs.Promise.{outcome-refused}
