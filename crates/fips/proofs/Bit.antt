@@ -1,5 +1,6 @@
 -- One bit of what the operations on lanes give.
 --   bit-lt                     it is 0 or 1
+--   bit-suc, bit-low           of a half, and of the low part
 --   bit-xor, bit-and, bit-flip, bit-rot   of two lanes added, of two multiplied, of one flipped, and of one turned
 use mathlib.Core.Path.{_≡_, refl, sym, ap, ap₂, _∙_}
 use mathlib.Core.Logic.{⊎-elim}
@@ -51,7 +52,7 @@ bit-and z a b = bit-op bitAnd min and-shr and-step (λ x y. x * y) min-bits z a 
 
 -- ---- every bit flipped
 
-bit-suc : (z x : ℕ) → bit (suc z) x ≡ bit z (x / 2)
+pub bit-suc : (z x : ℕ) → bit (suc z) x ≡ bit z (x / 2)
 bit-suc z x = let e : suc z ≡ 1 + z = omega arith in ap (λ k. x / 2 ^ k % 2) e ∙ ap (λ k. k % 2) (sym (shr-shr x 1 z))
 
 flip-odd : (p a : ℕ) → a < p * 2 → ((p * 2 - 1) - a) % 2 ≡ 1 - a % 2
@@ -80,7 +81,7 @@ rot-parts m n a h =
     ap (λ p. bitOr p (a / 2 ^ m)) e ∙ or-shifted (a % 2 ^ m) n (a / 2 ^ m) (shr-lt n m h)
 
 -- a bit below the n-th is one of the low n
-bit-low : (n z x : ℕ) → z < n → bit z (x % 2 ^ n) ≡ bit z x
+pub bit-low : (n z x : ℕ) → z < n → bit z (x % 2 ^ n) ≡ bit z x
 bit-low n z x h =
     let i = n - z - 1 in
     let e : n ≡ i + 1 + z = omega arith in

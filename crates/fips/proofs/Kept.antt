@@ -1,5 +1,6 @@
 -- Lanes of 64 bits stay such.
 --   theta-keeps, rho-keeps, pi-keeps, chi-keeps, iota-keeps   through each step
+--   xor-keeps                                                 through a sum
 --   keccak-keeps                                              and through all rounds
 use mathlib.Core.Path.{refl}
 use mathlib.Core.List.{List, [], _∷_}
@@ -17,7 +18,7 @@ use Rattle.keccak.specs.Keccak.{state, lane, rot, flip, offsets, theta, rho, pi
 use Rattle.fips.specs.Steps.{Lanes, KeccakKeeps}
 use Rattle.fips.proofs.Steps.{lane-below, parity-below}
 
-xor-keeps : {a b : ℕ} → a < 2 ^ 64 → b < 2 ^ 64 → bitXor a b < 2 ^ 64
+pub xor-keeps : {a b : ℕ} → a < 2 ^ 64 → b < 2 ^ 64 → bitXor a b < 2 ^ 64
 xor-keeps {a} {b} p q = xor-lt 64 a b p q
 
 rot-keeps : (n : ℕ) {a : ℕ} → a < 2 ^ 64 → rot n a < 2 ^ 64

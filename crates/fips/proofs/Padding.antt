@@ -1,4 +1,5 @@
 -- The padding in bytes is the padding in bits, once over suffix and rate.
+--   string-append, string-length  the string of bytes in two parts, and its length
 --   shake-padding, sha3-padding   and so for SHAKE and for SHA-3
 use mathlib.Core.Path.{_≡_, refl, sym, ap, _∙_}
 use mathlib.Core.List.{List, [], _∷_, _++_, append-assoc}
@@ -17,13 +18,13 @@ zeros n = replicate n 0
 joined : (a b : ℕ) (t : List ℕ) → zeros a ++ (zeros b ++ t) ≡ zeros (a + b) ++ t
 joined a b t = sym (append-assoc (zeros a) (zeros b) t) ∙ ap (λ (s : List ℕ). s ++ t) (replicate-append-replicate {A = ℕ} a b 0)
 
-string-append : (a b : List ℕ) → string (a ++ b) ≡ string a ++ string b
+pub string-append : (a b : List ℕ) → string (a ++ b) ≡ string a ++ string b
 unfolding string
 string-append [] b = refl
 string-append (x ∷ a) b =
     ap (λ (l : List ℕ). digits 2 8 x ++ l) (string-append a b) ∙ sym (append-assoc (digits 2 8 x) (string a) (string b))
 
-string-length : (a : List ℕ) → length (string a) ≡ 8 * length a
+pub string-length : (a : List ℕ) → length (string a) ≡ 8 * length a
 unfolding string digits
 string-length [] = refl
 string-length (x ∷ a) = omega (arith, string-length a)

@@ -2,10 +2,11 @@
 --   lane-state                                  a state has the lanes that it is made of
 --   lane-below, parity-below, offset-below      lanes and parities have 64 bits; offsets are below 64, by one computed test
 --   theta-is, rho-is, pi-is, chi-is, iota-is    each step
-use mathlib.Core.Path.{_≡_, refl, ap, ap₂, _∙_}
+use mathlib.Core.Path.{_≡_, refl, sym, ap, ap₂, _∙_}
+use mathlib.Core.Logic.{_≢_}
 use mathlib.Core.List.{List}
-use Prim.Native.Nat.{ℕ, _+_, _-_, _*_, _/_, _%_, _^_, _<_}
-use native.Mathlib.Nat.{mod-eq-of-lt, le-of-eq}
+use Prim.Native.Nat.{ℕ, zero, suc, _+_, _-_, _*_, _/_, _%_, _^_, _<_}
+use native.Mathlib.Nat.{mod-eq-of-lt, mod-mod, le-of-eq}
 use native.Mathlib.Omega.{arith}
 use lib.Bits.{bitXor, bitAnd, xor-lt}
 use lib.ListN.{getD}
@@ -15,7 +16,7 @@ use Rattle.lists.specs.First.{firstOver, firstWhere}
 use Rattle.lists.proofs.Entries.{tab-at}
 use Rattle.lists.proofs.First.{all-below}
 use Rattle.keccak.specs.Keccak.{state, lane, rot, flip, parity, offsets, theta, rho, pi, chi, iota}
-use Rattle.fips.specs.Steps.{bit, bitAt, column, Lanes, ThetaIs, RhoIs, PiIs, ChiIs, IotaIs}
+use Rattle.fips.specs.Steps.{bit, bitAt, column, θ, ρ, π, χ, ι, Lanes, ThetaIs, RhoIs, PiIs, ChiIs, IotaIs}
 use Rattle.fips.proofs.Bit.{bit-xor, bit-and, bit-flip, bit-rot}
 
 pub lane-state : (f : ℕ → ℕ → ℕ) (x y : ℕ) → x < 5 → y < 5 → lane (state f) x y ≡ f x y
@@ -36,6 +37,10 @@ parity-below {a} h x =
     xor-lt 64 (bitXor (bitXor (bitXor (l 0) (l 1)) (l 2)) (l 3)) (l 4)
     (xor-lt 64 (bitXor (bitXor (l 0) (l 1)) (l 2)) (l 3) (xor-lt 64 (bitXor (l 0) (l 1)) (l 2) (xor-lt 64 (l 0) (l 1) (b 0) (b 1)) (b 2)) (b 3)) (b 4)
 
+-- the first coordinate is read modulo 5
+bit-mod : (a : List ℕ) (x y z : ℕ) → bitAt a x y z ≡ bitAt a (x % 5) y z
+bit-mod a x y z = ap (λ (k : ℕ). bit z (getD a (k + 5 * (y % 5)) 0)) (sym (mod-mod x 5))
+
 -- ---- theta
 
 once : (m n : ℕ) → (m + n % 2) % 2 ≡ (m + n) % 2
@@ -47,7 +52,11 @@ beside z a b n =
     let e : n + (bit z a + bit z b) ≡ n + bit z b + bit z a = omega arith in
     ap (λ (k : ℕ). (n + k) % 2) (bit-xor z a b) ∙ once n (bit z a + bit z b) ∙ ap (λ (k : ℕ). k % 2) e
 
-bit-parity : (a : List ℕ) (x z : ℕ) → bit z (parity a x) ≡ column a x z
+-- a column read modulo 5, as lanes are
+column-mod : (a : List ℕ) (x z : ℕ) → column (bitAt a) x z ≡ column (bitAt a) (x % 5) z
+column-mod a x z = ap (λ (k : ℕ). column (λ u y z. bit z (getD a (u + 5 * (y % 5)) 0)) k z) (sym (mod-mod x 5))
+
+bit-parity : (a : List ℕ) (x z : ℕ) → bit z (parity a x) ≡ column (bitAt a) (x % 5) z
 bit-parity a x z =
     let l = lane a x in
     let b : ℕ → ℕ = λ y. bit z (l y) in
@@ -62,14 +71,17 @@ bit-parity a x z =
     ∙ beside z s1 (l 2) (b 4 + b 3)
     ∙ beside z (l 0) (l 1) (b 4 + b 3 + b 2)
     ∙ ap (λ (k : ℕ). k % 2) e
+    ∙ column-mod a x z
 
 pub theta-is : ThetaIs
-unfolding theta
+unfolding theta θ
 theta-is a h x y z hx hy hz =
     let c = parity a (x + 4) in
     let d = rot 1 (parity a (x + 1)) in
     let n = bitAt a x y z in
-    let e : n + (column a (x + 4) z + column a (x + 1) ((z + 63) % 64)) ≡ n + column a (x + 4) z + column a (x + 1) ((z + 63) % 64) = omega arith in
+    let l = column (bitAt a) ((x + 4) % 5) z in
+    let r = column (bitAt a) ((x + 1) % 5) ((z + 63) % 64) in
+    let e : n + (l + r) ≡ n + l + r = omega arith in
     ap (bit z) (lane-state (λ x y. bitXor (lane a x y) (bitXor (parity a (x + 4)) (rot 1 (parity a (x + 1))))) x y hx hy)
     ∙ bit-xor z (lane a x y) (bitXor c d)
     ∙ ap (λ (k : ℕ). (n + k) % 2) (bit-xor z c d)
@@ -85,28 +97,31 @@ unfolding firstOver firstWhere
 offset-below = all-below 64 offsets (omega arith) (le-of-eq refl)
 
 pub rho-is : RhoIs
-unfolding rho
+unfolding rho ρ
 rho-is a h x y z hx hy hz =
     ap (bit z) (lane-state (λ x y. rot (lane offsets x y) (lane a x y)) x y hx hy)
     ∙ bit-rot (lane offsets x y) z (lane a x y) (offset-below .below (x % 5 + 5 * (y % 5))) hz (lane-below h x y)
 
 pub pi-is : PiIs
-unfolding pi
-pi-is a h x y z hx hy hz = ap (bit z) (lane-state (λ x y. lane a (x + 3 * y) x) x y hx hy)
+unfolding pi π
+pi-is a h x y z hx hy hz = ap (bit z) (lane-state (λ x y. lane a (x + 3 * y) x) x y hx hy) ∙ bit-mod a (x + 3 * y) x z
 
 pub chi-is : ChiIs
-unfolding chi
+unfolding chi χ
 chi-is a h x y z hx hy hz =
     let b = flip (lane a (x + 1) y) in
     ap (bit z) (lane-state (λ x y. bitXor (lane a x y) (bitAnd (flip (lane a (x + 1) y)) (lane a (x + 2) y))) x y hx hy)
     ∙ bit-xor z (lane a x y) (bitAnd b (lane a (x + 2) y))
     ∙ ap (λ (k : ℕ). (bitAt a x y z + k) % 2)
-    (bit-and z b (lane a (x + 2) y) ∙ ap (λ (k : ℕ). k * bitAt a (x + 2) y z) (bit-flip z (lane a (x + 1) y) hz (lane-below h (x + 1) y)))
+    (bit-and z b (lane a (x + 2) y)
+    ∙ ap₂ (λ (j k : ℕ). j * k) (bit-flip z (lane a (x + 1) y) hz (lane-below h (x + 1) y) ∙ ap (λ (k : ℕ). 1 - k) (bit-mod a (x + 1) y z)) (bit-mod a (x + 2) y z))
+
+iota-other : (rc : ℕ) (a : List ℕ) (x y z : ℕ) → x < 5 → y < 5 → x + 5 * y ≢ 0 → bitAt (iota rc a) x y z ≡ bitAt a x y z
+unfolding iota
+iota-other rc a x y z hx hy h = ap (bit z) (getD-set-other a 0 (x % 5 + 5 * (y % 5)) (bitXor (lane a 0 0) rc) 0 (λ e. h (omega arith)))
 
 pub iota-is : IotaIs
-unfolding iota
-iota-is =
-    record {
-      first = λ rc a z h. ap (bit z) (getD-set-same a 0 (bitXor (lane a 0 0) rc) 0 h) ∙ bit-xor z (lane a 0 0) rc;
-      others = λ rc a x y z hx hy h. ap (bit z) (getD-set-other a 0 (x % 5 + 5 * (y % 5)) (bitXor (lane a 0 0) rc) 0 (λ e. h (omega arith)));
-    }
+unfolding iota ι
+iota-is rc a l zero zero z hx hy hz = ap (bit z) (getD-set-same a 0 (bitXor (lane a 0 0) rc) 0 (omega arith)) ∙ bit-xor z (lane a 0 0) rc
+iota-is rc a l zero (suc y) z hx hy hz = iota-other rc a 0 (suc y) z hx hy (λ e. omega arith)
+iota-is rc a l (suc x) y z hx hy hz = iota-other rc a (suc x) y z hx hy (λ e. omega arith)

@@ -5,13 +5,23 @@
 --   ShakePadding, Sha3Padding   so it is with the suffix 1111 of SHAKE and with the suffix 01 of SHA-3
 --   LaneIs              the lane that bytes make has the bits of their string: what absorbing goes by
 --   BytesIs             the bytes of a lane have its bits in their order: what squeezing goes by
+--   array s, stringOf A   3.1.2, 3.1.3: the state array of a string of 1,600 bits, and its string
+--   permuted s          KECCAK-p[1600, 24](S)
+--   xored s p           S ⊕ (P ‖ 0^c); past its end a string reads 0
+--   absorbing r p j     algorithm 8, steps 5 and 6: the state after j blocks of r bits
+--   turning s j         step 10: a state, permuted j times
+--   squeezing r s d     steps 7 to 10: d bits, of each state the first r
+--   spongeOf r n d      algorithm 8 with pad10*1: P = N ‖ pad10*1(r, len N) is absorbed, and d bits are squeezed out
+--   ShakeIs             6.2: SHAKE128(M, d) is SPONGE with the rate 1344 of M ‖ 1111
+--   Sha3Is              6.1: SHA3-256(M) is SPONGE with the rate 1088 of M ‖ 01, 256 bits of it
 use mathlib.Core.Path.{_≡_}
 use mathlib.Core.List.{List, [], _∷_, _++_}
-use Prim.Native.Nat.{ℕ, _+_, _-_, _*_, _/_, _%_, _^_}
-use lib.ListN.{length, replicate}
+use Prim.Native.Nat.{ℕ, zero, suc, _+_, _-_, _*_, _/_, _%_, _^_}
+use lib.ListN.{length, getD, take, drop, replicate}
 use Rattle.lists.specs.Entries.{tab, Below}
 use Rattle.packing.specs.Packing.{value, digits}
-use Rattle.sponge.specs.Sponge.{padded}
+use Rattle.sponge.specs.Sponge.{padded, shake128, sha3}
+use Rattle.fips.specs.Steps.{Array, keccakP}
 
 unfoldable pub string : List ℕ → List ℕ
 string [] = []
@@ -34,3 +44,38 @@ LaneIs = (l : List ℕ) → Below 256 l → digits 2 (8 * length l) (value 256 l
 
 abbrev pub BytesIs : Type 0
 BytesIs = (n a : ℕ) → string (tab n (λ k. a / 2 ^ (8 * k) % 256)) ≡ digits 2 (8 * n) a
+
+-- ---- the sponge
+
+abbrev pub array : List ℕ → Array
+array s x y z = getD s (64 * (5 * y + x) + z) 0
+
+abbrev pub stringOf : Array → List ℕ
+stringOf A = tab 1600 (λ i. A (i / 64 % 5) (i / 64 / 5) (i % 64))
+
+unfoldable pub permuted : List ℕ → List ℕ
+permuted s = stringOf (keccakP (array s))
+
+unfoldable pub xored : List ℕ → List ℕ → List ℕ
+xored s p = tab 1600 (λ i. (getD s i 0 + getD p i 0) % 2)
+
+unfoldable pub absorbing : ℕ → List ℕ → ℕ → List ℕ
+absorbing r p zero = replicate 1600 0
+absorbing r p (suc j) = permuted (xored (absorbing r p j) (take r (drop (j * r) p)))
+
+unfoldable pub turning : List ℕ → ℕ → List ℕ
+turning s zero = s
+turning s (suc j) = permuted (turning s j)
+
+unfoldable pub squeezing : ℕ → List ℕ → ℕ → List ℕ
+squeezing r s d = tab d (λ i. getD (turning s (i / r)) (i % r) 0)
+
+unfoldable pub spongeOf : ℕ → List ℕ → ℕ → List ℕ
+spongeOf r n d =
+    squeezing r (absorbing r (n ++ pad r (length n)) (length (n ++ pad r (length n)) / r)) d
+
+abbrev pub ShakeIs : Type 0
+ShakeIs = (m : List ℕ) (n : ℕ) → Below 256 m → string (shake128 m n) ≡ spongeOf 1344 (string m ++ 1 ∷ 1 ∷ 1 ∷ 1 ∷ []) (8 * n)
+
+abbrev pub Sha3Is : Type 0
+Sha3Is = (m : List ℕ) → Below 256 m → string (sha3 m) ≡ spongeOf 1088 (string m ++ 0 ∷ 1 ∷ []) 256
