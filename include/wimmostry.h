@@ -75,8 +75,10 @@
  *
  * The tests go in the order of this table, and within one number in the order in which the inputs,
  * or for 3 the outputs, stand in the call; the first that fails is the refusal. 17 stands there for
- * a part received, after 5 and before 6; that of a part about to be sent comes last, after 6. An
- * index counts entries from 0 in its own input; in a message, the numbers of its packed part.
+ * a part received, after 5 and before 6; that of a part about to be sent comes last, after 6.
+ * wim_settings_read tests 3 last, after 15 and 8, since the label has to be read before its length
+ * is known. An index counts entries from 0 in its own input; in a message, the numbers of its
+ * packed part.
  *
  * After a success the answer stands at the start of its output, its length, in entries of that
  * output, in *written (where there are several, in the count with the output's name), and the rest
@@ -804,11 +806,13 @@ WIM_MUST_USE uint32_t wim_rack_clear(uint8_t *rack, size_t rack_len, uint64_t *p
 
 /*
  * Settings read: the reader's own number, 1 or 2 (WIM_SETTINGS_FORMAT), and a text. Gives the label
- * (none in format 1), and in *format, *scheme and *rule the numbers. Refuses with 3 where the label
- * has less room than WIM_SETTINGS_LABEL bytes, before the text is looked at; then with 15 where the
- * first line is `format=` with a number above the reader's, whatever follows, and *format is that
- * number; then with 8. Another number of a reader is no refusal: 0 knows no format, so that every
- * one is newer, and one above 2 reads what 2 reads, and has 8 for the formats that there are not.
+ * (none in format 1), and in *format, *scheme and *rule the numbers. Refuses with 15, 8, 3, in this
+ * order: with 15 where the first line is `format=` with a number above the reader's, whatever
+ * follows, and *format is that number; with 8 where the text is no settings otherwise; with 3 where
+ * label is shorter than the label in the text. WIM_SETTINGS_LABEL bytes are always enough, and a
+ * text in format 1 needs none. Another number of a reader is no refusal: 0 knows no format, so that
+ * every one is newer, and one above 2 reads what 2 reads, and has 8 for the formats that there are
+ * not.
  */
 WIM_MUST_USE uint32_t wim_settings_read(uint32_t reader, const uint8_t *text, size_t text_len,
                                         uint8_t *label, size_t label_len,

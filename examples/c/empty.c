@@ -287,7 +287,7 @@ static void settings_read(int nulls)
     int zero = format == 0 && scheme == 0 && number == 0;
 
     held("wim_settings_read", nulls, refusal,
-         nulls >> 1 ? WIM_ROOM : nulls ? WIM_MISFIT : WIM_DONE);
+         nulls & 1 ? WIM_MISFIT : nulls >> 1 ? WIM_ROOM : WIM_DONE);
     failures += zero != (refusal != WIM_DONE);
 }
 

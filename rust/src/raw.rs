@@ -554,8 +554,10 @@ pub struct Read {
 ///
 /// # Errors
 ///
-/// Refuses with 3 where `label` has less room than 16 bytes, before the text is
-/// looked at; then with 15, which carries the newer format's number, and 8.
+/// Refuses with 15, which carries the newer format's number, with 8, and with 3
+/// where `label` is shorter than the label in the text, in this order.
+/// [`LABEL`](crate::LABEL) bytes are always enough, and a text in format 1 needs
+/// none.
 pub fn settings_read(reader: u32, text: &[u8], label: &mut [u8]) -> Result<Read, Refusal> {
     let (mut place, mut label_written) = (0, 0);
     let (mut format, mut scheme, mut rule) = (0, 0, 0);

@@ -4,7 +4,7 @@ use core::fmt;
 /// Why a call was refused. The tests go in the order in which they stand here,
 /// and within a number in the order of the inputs; the first that fails is told.
 /// [`Blank`](Refusal::Blank) stands here for a message received; for one about to
-/// be sent it comes last.
+/// be sent it comes last. Reading settings tests [`Room`](Refusal::Room) last.
 #[derive(Clone, Copy, Debug, PartialEq, Eq, Hash)]
 pub enum Refusal {
     /// 16: the studio's number is over 7.

@@ -118,7 +118,8 @@ impl Settings {
     ///
     /// # Errors
     ///
-    /// Refuses with 15, which carries the newer format's number, and 8.
+    /// Refuses with 15, which carries the newer format's number, and 8. It lends
+    /// [`LABEL`] bytes, so that 3 can't arise.
     pub fn read(reader: Format, text: &[u8]) -> Result<Settings, Refusal> {
         let mut bytes = [0; LABEL];
         let read = raw::settings_read(reader.number(), text, &mut bytes)?;

@@ -3,8 +3,8 @@
 --   nothing      no settings: all zero
 --   ended e      an answer without settings
 --   answerOf r   the reader's answer to what it made of a text
---   lentOf e s   the same in numbers, for a caller that lends the label's room
---   shortOf      where that room is too short
+--   lentOf e s   the answer that ended with e and s, in numbers, for a caller that lends the label's room
+--   shortOf      that caller's answer where the room is shorter than the label that was read
 --   sizeOf n     how long the text with a label of n bytes is
 use mathlib.Core.Bool.{cond}
 use mathlib.Core.List.{_++_}

@@ -7,8 +7,10 @@
 --   Read                         what the reader is lent: its own number and the text
 --   readOf, read                 the same from its parts, and from what is lent in a contract
 --   readingOf x                  what the reader makes of it
---   readTests r n                the reader's tests, with a label lent of n bytes: 3, before the text is looked at, then 15 or 8
---   keptIn r, formatTold r       the settings that were read, none else; the format that was read or is newer, else 0
+--   verdictOf r                  15: the format is newer; 8: any other misfit
+--   keptIn r                     the settings that were read; after 15 and 8 the scheme and the rule are 0 and the label is empty
+--   readTests r n                the reader's tests in their order, with room for n bytes: 15 or 8, then 3 for the label that was read
+--   formatTold r v               the format that was read or is newer, where v is the tests' verdict; 0 after 8 and 3
 --   SettingsRead x ..            its promise: the refusal's number and place, the label with its count, the format, the scheme and the rule
 --   ReadsSettings ..             the same of what is lent and of an answer
 --   OneWritten, OneRead          no two results satisfy one promise
@@ -19,7 +21,7 @@ use Prim.Native.Nat.{ℕ}
 use lib.Dec.{leb}
 use lib.ListN.{length}
 use Rattle.lists.specs.Lent.{Lent, was, left, room}
-use Rattle.front.specs.Front.{_then_, lengthUpTo, roomFor}
+use Rattle.front.specs.Front.{countIn, _then_, lengthUpTo, roomFor}
 use Rattle.front.specs.Answers.{number, place, written}
 use Rattle.front.specs.Promise.{Told, Wrote, Gave}
 use Rattle.front.specs.declared.Answer.{Answer}
@@ -72,23 +74,23 @@ verdictOf (kept x) = Pass
 verdictOf (newer n) = Fail NewerFormat
 verdictOf misfit = Fail Misfit
 
-unfoldable pub readTests : Reading → ℕ → Verdict
-readTests r n = roomFor n 16 then verdictOf r
-
 abbrev pub keptIn : Reading → Kept
 keptIn (kept x) = x
 keptIn (newer n) = keptOf 0 0 []
 keptIn misfit = keptOf 0 0 []
 
-abbrev pub formatTold : Reading → ℕ
-formatTold (kept x) = formatOf (length (x .label))
-formatTold (newer n) = n
-formatTold misfit = 0
+unfoldable pub readTests : Reading → ℕ → Verdict
+readTests r n = verdictOf r then roomFor n (length (keptIn r .label))
+
+abbrev pub formatTold : Reading → Verdict → ℕ
+formatTold (kept x) v = countIn v (formatOf (length (x .label)))
+formatTold (newer n) v = n
+formatTold misfit v = 0
 
 pub record SettingsRead (x : Read) (number place labelRoom labelWritten : ℕ) (label : List ℕ) (format scheme rule : ℕ) : Type 0 where
   pub told : Told (readTests (readingOf x) labelRoom) number place
   pub bytes : Wrote (readTests (readingOf x) labelRoom) (keptIn (readingOf x) .label) 0 labelRoom labelWritten label
-  pub format-is : Gave (roomFor labelRoom 16) (formatTold (readingOf x)) format
+  pub format-is : format ≡ formatTold (readingOf x) (readTests (readingOf x) labelRoom)
   pub scheme-is : Gave (readTests (readingOf x) labelRoom) (keptIn (readingOf x) .scheme) scheme
   pub rule-is : Gave (readTests (readingOf x) labelRoom) (keptIn (readingOf x) .rule) rule
 

@@ -34,7 +34,7 @@ pub struct ReadAnswer {
     pub settings: Settings,
 }
 
-// The same for a caller that lends the label's room: how many bytes of it were written, or the refusal; and the format, which is also told where it is newer.
+// The answer to a caller that lends the label's room: how many bytes of it were written, or the refusal; and the format, which is also told where it is newer.
 pub struct LentAnswer {
     pub answer: Answer,
     pub format: u64,
@@ -101,15 +101,22 @@ pub fn read(reader: u32, text: &[u8]) -> ReadAnswer
     reader::scheme_line(format, text, end)
 }
 
-// The same into a lent label, of at least 16 bytes whatever the text is.
+// What a reader of that number makes of a text, into a lent label: 15 or 8, then 3 for the label that was read. After 15 and 8 that label is empty, so that
+// every room is enough for it.
 pub fn read_lent(reader: u32, text: &[u8], label: &mut [u8]) -> LentAnswer
     ensures { λ r. ⌜ ReadsSettings reader text label r ⌝ }
 {
     lists::zero_bytes(label);
-    if label.len() < 16 {
+    let a = read(reader, text);
+    let ending = a.ending;
+    let found = a.settings;
+    let n = found.count;
+    if label.len() < n {
         return reader::short();
     }
-    reader::read_in(reader, text, label)
+    let bytes = found.label;
+    lists::copy_bytes(&bytes[..n], &mut label[..n]);
+    reader::lent(ending, found)
 }
 
 // Write: scheme, rule, label. The text with zeros behind it, or zeros after a refusal: 1 scheme, 12 rule, 2 a label over 16 bytes, 3 an output too short, 8 a

@@ -1,12 +1,11 @@
 // Reading, a line at a time. Each function takes the position that the one before it came to and gives the whole answer.
 ghost use mathlib.Core.Path.{_≡_};
 ghost use Prim.Native.Nat.{_≤_};
-ghost use lib.ListN.{length, drop, replicate};
-ghost use Rattle.lists.specs.Lent.{was, left};
+ghost use lib.ListN.{length, drop};
+ghost use Rattle.lists.specs.Lent.{was};
 ghost use Rattle.text.specs.Text.{schemeName, fieldIn};
-ghost use Rattle.settings.specs.Settings.{keptOf, letters, kept, ruleName, wellSpelled, spelledIn, lastIn, tailIn, ruleIn, schemeIn, reads};
+ghost use Rattle.settings.specs.Settings.{keptOf, letters, kept, ruleName, wellSpelled, spelledIn, lastIn, tailIn, ruleIn, schemeIn};
 ghost use Rattle.settings.specs.Answers.{ended, answerOf, lentOf, shortOf};
-ghost use Rattle.settings.specs.Calls.{ReadsSettings};
 use crate::Ending;
 use crate::LentAnswer;
 use crate::ReadAnswer;
@@ -136,7 +135,7 @@ pub(crate) fn scheme_line(format: u64, s: &[u8], at: usize) -> ReadAnswer
 
 // ---- into a lent label
 
-// A label's room that is too short.
+// The room is shorter than the label that was read.
 pub(crate) fn short() -> LentAnswer
     ensures { λ r. ⌜ r ≡ shortOf ⌝ }
 {
@@ -148,8 +147,8 @@ pub(crate) fn short() -> LentAnswer
     }
 }
 
-// An answer in numbers.
-fn lent(e: Ending, s: Settings) -> LentAnswer
+// How reading ended, in numbers.
+pub(crate) fn lent(e: Ending, s: Settings) -> LentAnswer
     ensures { λ r. ⌜ r ≡ lentOf e s ⌝ }
 {
     match e {
@@ -172,17 +171,4 @@ fn lent(e: Ending, s: Settings) -> LentAnswer
             rule: 0,
         },
     }
-}
-
-// Reading into a label of room enough, which holds zeros. After a refusal the settings are zeros too, so that they are laid there whatever the answer is.
-pub(crate) fn read_in(number: u32, text: &[u8], label: &mut [u8]) -> LentAnswer
-    requires { ⌜ (16 ≤ length (now label)) × (now label ≡ replicate (length (now label)) 0) ⌝ }
-    ensures { λ r. ⌜ ReadsSettings number text label r ⌝ }
-{
-    let a = crate::read(number, text);
-    let ending = a.ending;
-    let found = a.settings;
-    let bytes = found.label;
-    lists::copy_bytes(&bytes, &mut label[..16]);
-    lent(ending, found)
 }

@@ -48,12 +48,35 @@ fn every_text_is_read_alike() {
             counts[read(reader, text, LABEL) as usize] += 1;
         }
         // a label's room of every length
-        read(2, text, k % 40);
-        counts[read(1, text, k % LABEL) as usize] += 1;
+        counts[read(2, text, k % 40) as usize] += 1;
+        read(1, text, k % LABEL);
     }
     for number in [0, 3, 8, 15] {
         assert!(counts[number] > 100, "refusal {number}: {}", counts[number]);
     }
+}
+
+/// 3 is for the label that was read: 15 and 8 come before it.
+#[test]
+fn every_room_of_a_label() {
+    for one in grid() {
+        let text = second::settings::write(&one);
+        for room in 0..=LABEL + 1 {
+            let short = if room < one.label.len() { 3 } else { 0 };
+            assert_eq!(read(2, &text, room), short);
+            let newer = if one.label.is_empty() { 0 } else { 15 };
+            assert_eq!(read(1, &text, room), newer);
+            assert_eq!(read(2, &text[1..], room), 8);
+        }
+    }
+    let text = b"format=2\nscheme=4\nrule=16\nlabel=STUDIO7\n";
+    assert_eq!(raw::settings_read(2, text, &mut [9; 6]), Err(Refusal::Room));
+    let read = raw::settings_read(2, text, &mut [9; 7]);
+    assert_eq!(read.map(|read| read.label), Ok(7));
+    let none = raw::settings_read(2, b"format=1\nscheme=4\nrule=16\n", &mut []);
+    assert_eq!(none.map(|none| none.label), Ok(0));
+    let newer = raw::settings_read(2, b"format=3\n", &mut []);
+    assert_eq!(newer, Err(Refusal::NewerFormat(3)));
 }
 
 #[test]

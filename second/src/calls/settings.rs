@@ -14,7 +14,8 @@ pub struct Read {
 }
 
 /// Settings read: the reader's number, the text. Gives the label, format, scheme
-/// and rule. There is always room for the longest label.
+/// and rule. The answer that 3 speaks of is the label that was read, so that 15
+/// and 8 are tested before it.
 pub fn settings_read(reader: u64, text: &[u8], label: &mut [u8]) -> Read {
     label.fill(0);
 
@@ -24,18 +25,19 @@ pub fn settings_read(reader: u64, text: &[u8], label: &mut [u8]) -> Read {
         scheme: 0,
         rule: 0,
     };
-    if let Err(short) = refusal::short_output(label.len(), LABEL) {
+    let read = match settings::read(reader, text) {
+        Ok(read) => read,
+        Err(Unread::Newer(format)) => return refused(refusal(15, 0), format),
+        Err(Unread::Misfit) => return refused(refusal(8, 0), 0),
+    };
+    if let Err(short) = refusal::short_output(label.len(), read.label.len()) {
         return refused(short, 0);
     }
-    match settings::read(reader, text) {
-        Ok(read) => Read {
-            told: Ok(write(&read.label, label)),
-            format: read.format(),
-            scheme: read.scheme,
-            rule: read.rule,
-        },
-        Err(Unread::Newer(format)) => refused(refusal(15, 0), format),
-        Err(Unread::Misfit) => refused(refusal(8, 0), 0),
+    Read {
+        told: Ok(write(&read.label, label)),
+        format: read.format(),
+        scheme: read.scheme,
+        rule: read.rule,
     }
 }
 

@@ -2,7 +2,7 @@
 //! line and as many bytes as the line's last number says:
 //!
 //! ```text
-//! read READER LENGTH         the text
+//! read READER ROOM LENGTH    the text, read into a label of ROOM bytes
 //! write SCHEME RULE LENGTH   the label
 //! ```
 //!
@@ -17,7 +17,6 @@
 //! format is the newer one. Where a frame does not fit this the last line is `no
 //! frame`.
 
-use super::LABEL;
 use crate::calls::{settings_read, settings_write};
 use crate::line::decimal;
 use crate::refusal::Refusal;
@@ -45,7 +44,10 @@ fn frame(input: &[u8]) -> Option<(String, &[u8])> {
     let length = usize::try_from(decimal(words.last()?)?).ok()?;
     let (bytes, left) = input[end + 1..].split_at_checked(length)?;
     let line = match words[..] {
-        [b"read", reader, _] => read(decimal(reader)?, bytes),
+        [b"read", reader, room, _] => {
+            let room = usize::try_from(decimal(room)?).ok()?;
+            read(decimal(reader)?, room, bytes)
+        }
         [b"write", scheme, rule, _] => {
             let rule = u32::try_from(decimal(rule)?).ok()?;
             written(decimal(scheme)?, rule, bytes)
@@ -55,8 +57,8 @@ fn frame(input: &[u8]) -> Option<(String, &[u8])> {
     Some((line, left))
 }
 
-fn read(reader: u64, text: &[u8]) -> String {
-    let mut label = [0; LABEL];
+fn read(reader: u64, room: usize, text: &[u8]) -> String {
+    let mut label = vec![0; room];
     let read = settings_read(reader, text, &mut label);
     let label = &label[..read.told.unwrap_or(0)];
     format!(

@@ -5,7 +5,7 @@ use second::calls::{settings_read, settings_write, Read};
 use second::refusal::refusal;
 use second::settings::frames::answers;
 use second::settings::texts::{grid, texts, writes};
-use second::settings::{read, write, Settings, Unread};
+use second::settings::{read, write, Settings, Unread, LABEL};
 use std::collections::BTreeMap;
 
 fn of(scheme: u64, rule: u64, label: &str) -> Settings {
@@ -201,7 +201,7 @@ fn no_text_but_the_written_ones_is_read() {
 
 #[test]
 fn the_reader_on_a_lent_label() {
-    for room in [16, 17, 40] {
+    for room in [7, 8, 16, 17, 40] {
         let mut label = vec![0xA5; room];
         let told = settings_read(2, FORMAT_2.as_bytes(), &mut label);
         let expected = Read {
@@ -239,18 +239,48 @@ fn the_reader_on_a_lent_label() {
         let mut label = [0xA5; 20];
         assert_eq!(settings_read(reader, text.as_bytes(), &mut label), expected);
         assert_eq!(label, [0; 20]);
-        // 3 comes before the text is looked at.
+        // 15 and 8 come before 3, and no label is read.
         for room in [0, 1, 15] {
             let mut label = vec![0xA5; room];
             let told = settings_read(reader, text.as_bytes(), &mut label);
-            assert_eq!(told, refused(3, 0));
+            assert_eq!(told, expected);
             assert_eq!(label, vec![0; room]);
         }
     }
-    assert_eq!(
-        settings_read(2, FORMAT_1.as_bytes(), &mut [0; 15]),
-        refused(3, 0)
-    );
+    // A label of 7 needs 7 bytes.
+    for room in 0..7 {
+        let mut label = vec![0xA5; room];
+        let told = settings_read(2, FORMAT_2.as_bytes(), &mut label);
+        assert_eq!(told, refused(3, 0));
+        assert_eq!(label, vec![0; room]);
+    }
+    // No label needs none.
+    let expected = Read {
+        told: Ok(0),
+        format: 1,
+        scheme: 4,
+        rule: 16,
+    };
+    assert_eq!(settings_read(2, FORMAT_1.as_bytes(), &mut []), expected);
+}
+
+/// Every label of the grid in every room: 3 exactly where the room is shorter.
+#[test]
+fn the_room_of_every_label() {
+    for settings in grid() {
+        let text = write(&settings);
+        for room in 0..=LABEL + 1 {
+            let mut label = vec![0xA5; room];
+            let told = settings_read(2, &text, &mut label);
+            let short = room < settings.label.len();
+            assert_eq!(told.told == Err(refusal(3, 0)), short, "{room} {text:?}");
+            let numbers = (told.format, told.scheme, told.rule);
+            let read = (settings.format(), settings.scheme, settings.rule);
+            assert_eq!(numbers, if short { (0, 0, 0) } else { read });
+            let bytes = if short { &[] } else { &settings.label[..] };
+            assert_eq!(label, [bytes, &vec![0; room - bytes.len()]].concat());
+        }
+    }
 }
 
 #[test]
@@ -316,10 +346,12 @@ fn frames() {
     let mut frame = |head: &str, bytes: &str| {
         input.extend(format!("{head} {}\n{bytes}", bytes.len()).bytes());
     };
-    frame("read 2", FORMAT_2);
-    frame("read 1", FORMAT_2);
-    frame("read 1", FORMAT_1);
-    frame("read 2", "");
+    frame("read 2 16", FORMAT_2);
+    frame("read 2 7", FORMAT_2);
+    frame("read 2 6", FORMAT_2);
+    frame("read 1 0", FORMAT_2);
+    frame("read 1 0", FORMAT_1);
+    frame("read 2 0", "");
     frame("write 4 16", "");
     frame("write 4 16", "a");
     frame("write 6 16", "");
@@ -327,6 +359,8 @@ fn frames() {
     let hex = |text: &str| -> String { text.bytes().map(|b| format!("{b:02x}")).collect() };
     let expected = [
         "refusal=0 format=2 scheme=0 rule=14 label=STUDIO7",
+        "refusal=0 format=2 scheme=0 rule=14 label=STUDIO7",
+        "refusal=3 format=0 scheme=0 rule=0 label=",
         "refusal=15 format=2 scheme=0 rule=0 label=",
         "refusal=0 format=1 scheme=4 rule=16 label=",
         "refusal=8 format=0 scheme=0 rule=0 label=",
@@ -353,18 +387,20 @@ fn no_frames() {
         "\n",
         "read\n",
         "read 2\n",
-        "read 2 3\nab",
-        "read 2 x\n",
-        "read x 0\n",
-        "read  2 0\n",
-        "read 2 0",
+        "read 2 0\n",
+        "read 2 16 3\nab",
+        "read 2 16 x\n",
+        "read 2 x 0\n",
+        "read x 16 0\n",
+        "read  2 16 0\n",
+        "read 2 16 0",
         "write 2 0\n",
         "write 2 4294967296 0\n",
         "wrote 2 14 0\n",
     ] {
         assert_eq!(answers(input.as_bytes()), b"no frame\n", "{input:?}");
     }
-    let after = answers(b"read 2 0\nread 2 1\nxread");
+    let after = answers(b"read 2 16 0\nread 2 16 1\nxread");
     assert!(after.ends_with(b"\nno frame\n"));
     assert_eq!(after.iter().filter(|&&byte| byte == b'\n').count(), 3);
 }

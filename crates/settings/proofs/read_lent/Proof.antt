@@ -1,16 +1,18 @@
--- `settings::read_lent` meets its contract: the label is zeroed first.
+-- `settings::read_lent` meets its contract: the label is zeroed first, and written where there is room for the one that was read.
 use mathlib.Core.Path.{_∙_, sym}
 use native.Mathlib.Omega.{arith}
-use lib.ListN.{length}
-use Rattle.lists.proofs.Same.{zeros-long, zeros}
+use Rattle.lists.proofs.Parts.{front-long}
 use Rattle.settings.specs.Calls.{readOf}
-use Rattle.settings.proofs.Lending.{read-short, roomed}
+use Rattle.settings.proofs.Lending.{label-fits, read-short, read-laid}
 use borrow.Author.Needs.{needs}
 use Rattle.settings.proofs.read_lent.Statement.{statement}
 use Rattle.settings.proofs.read_lent.Tie as tie
 
 zero-bytes-requires : tie.Need-zero-bytes-requires
 zero-bytes-requires c κs = search needs
+
+read-requires : tie.Need-read-requires
+read-requires c κs = search needs
 
 short-requires : tie.Need-short-requires
 short-requires c κs = search needs
@@ -22,15 +24,35 @@ returns : tie.Need-returns
 returns c =
     let s : tie.Start = search needs in
     let z : tie.After-zero-bytes = search needs in
-    let r : tie.After-short = search needs in
-    let n = zeros-long (length (s .args .label .now)) 0 (z .zero-bytes .ensures) in
-    read-short (readOf (s .args .reader) (s .args .text .now)) (omega arith) (z .zero-bytes .ensures) (r .short .ensures)
+    let r : tie.After-read = search needs in
+    read-short (readOf (s .args .reader) (s .args .text .now)) (z .zero-bytes .ensures) (r .read .ensures) (omega arith) (c .short .ensures)
 
-read-in-requires : tie.Need-read-in-requires
-read-in-requires c κs =
+array-share-prefix-bytes : tie.Need-array-share-prefix-bytes
+array-share-prefix-bytes c =
     let s : tie.Start = search needs in
-    let z : tie.After-zero-bytes = search needs in
-    (omega arith, zeros (length (s .args .label .now)) 0 (z .zero-bytes .ensures))
+    let r : tie.After-read = search needs in
+    label-fits (s .args .reader) (s .args .text .now) (r .read .ensures)
+
+slice-aggregate-copy-bytes : tie.Need-slice-aggregate-copy-bytes
+slice-aggregate-copy-bytes c =
+    let s : tie.Start = search needs in
+    let r : tie.After-read = search needs in
+    sym (front-long _ _ (label-fits (s .args .reader) (s .args .text .now) (r .read .ensures)))
+
+slice-relend-prefix-copy-bytes : tie.Need-slice-relend-prefix-copy-bytes
+slice-relend-prefix-copy-bytes c = search needs
+
+slice-aggregate-copy-bytes-2 : tie.Need-slice-aggregate-copy-bytes-2
+slice-aggregate-copy-bytes-2 c = sym (front-long _ _ (omega arith))
+
+copy-bytes-requires : tie.Need-copy-bytes-requires
+copy-bytes-requires c κs =
+    let s : tie.Start = search needs in
+    let r : tie.After-read = search needs in
+    front-long _ _ (label-fits (s .args .reader) (s .args .text .now) (r .read .ensures)) ∙ sym (front-long _ _ (omega arith))
+
+lent-requires : tie.Need-lent-requires
+lent-requires c κs = search needs
 
 same-length-2 : tie.Need-same-length-2
 same-length-2 c = search needs
@@ -39,17 +61,26 @@ returns-2 : tie.Need-returns-2
 returns-2 c =
     let s : tie.Start = search needs in
     let z : tie.After-zero-bytes = search needs in
-    let r : tie.After-read-in = search needs in
-    roomed (r .read-in .result) (zeros-long (length (s .args .label .now)) 0 (z .zero-bytes .ensures)) (r .read-in .ensures)
+    let r : tie.After-read = search needs in
+    let b : tie.After-copy-bytes = search needs in
+    let l : tie.After-lent = search needs in
+    read-laid (readOf (s .args .reader) (s .args .text .now)) (z .zero-bytes .ensures) (r .read .ensures) (omega arith) (b .copy-bytes .ensures)
+    (l .lent .ensures)
 
 pub read-lent-spec : {M : Type 1} → statement M
 read-lent-spec =
     tie.close
     (tie.spec
     zero-bytes-requires
+    read-requires
     short-requires
     same-length
     returns
-    read-in-requires
+    array-share-prefix-bytes
+    slice-aggregate-copy-bytes
+    slice-relend-prefix-copy-bytes
+    slice-aggregate-copy-bytes-2
+    copy-bytes-requires
+    lent-requires
     same-length-2
     returns-2)
