@@ -1,9 +1,9 @@
 -- Offer by rows is Offer on the joined matrix: what is stated of it in specs/Shown.
---   offer-try, same-offer, early-offer   what is shown
+--   offer-try, same-offer, early-offer, offer-taken   what is shown
 use mathlib.Core.Path.{_≡_, refl, _∙_, sym, ap, ap₂, subst}
 use mathlib.Core.Logic.{_≢_}
 use mathlib.Core.Bool.{Bool, true, false}
-use mathlib.Core.List.{List, _++_}
+use mathlib.Core.List.{List, [], _++_}
 use Prim.Native.Nat.{ℕ, _+_, _*_}
 use native.Mathlib.Omega.{arith}
 use native.Mathlib.Nat.{le-trans}
@@ -22,26 +22,29 @@ use Rattle.matrix.proofs.Steps.{words-length}
 use Rattle.parts.specs.Parts.{wrap}
 use Rattle.parts.proofs.Joining.{whole-right}
 use Rattle.parts.proofs.Words.{words-pairs}
-use Rattle.front.specs.Front.{_then_, inTurn, notBlank, secretsIn}
+use Rattle.front.specs.Front.{countIn, _then_, inTurn, notBlank, secretsIn, held}
 use Rattle.front.specs.Promise.{Told, put}
 use Rattle.front.specs.declared.Verdict.{Verdict}
 use Rattle.front.specs.declared.Verdict.the-variants.{Pass, Fail}
 use Rattle.front.specs.declared.Refusal.the-variants.{OutOfTurn}
-use Rattle.front.proofs.Laws.{number-zero, both, failed, length-passes, turn-passes, below-passes, secrets-passed, all-pass}
+use Rattle.front.proofs.Laws.{number-zero, both, failed, length-passes, turn-passed, turn-passes, below-passes, within-passes, secrets-passed, all-pass}
+use Rattle.front.proofs.Promise.{told-passed}
 use Rattle.ends.specs.Values.{offered}
 use Rattle.ends.proofs.Numbers.{Frodo, numbers-in}
 use Rattle.wire.specs.Wire.{opening}
 use Rattle.offer.specs.Offer.{Offer, offerOf, offerLengths, offerIn, offerTests, offeredPart, openingOf, offerMessage}
+use Rattle.offer.proofs.Offering.{Ranges, offer-opens}
 use Rattle.running.specs.State.{long, named, taken, keptOf, secretOf, sumsOf, heldOf, laid, allBelow, begun, complete}
-use Rattle.rows.specs.Offer.{OfferBegin, offerBeginTests, offerState, OfferBegun, sentPart, offerEndSizes, offerEndTests, offerEndMessage}
-use Rattle.rows.specs.Runs.{Parts}
-use Rattle.rows.specs.Shown.{OfferTry, SameOffer, EarlyOffer}
+use Rattle.rows.specs.Offer.{OfferBegin, offerBeginSizes, offerBeginTests, offerState, OfferBegun, sentPart, offerEndSizes, offerEndTests, offerEndMessage}
+use Rattle.rows.specs.Runs.{Parts, joined, WithinRows, OfferAccepted}
+use Rattle.rows.specs.Shown.{OfferTry, SameOffer, EarlyOffer, OfferTaken}
 use Rattle.running.specs.declared.Call.{Call}
 use Rattle.running.proofs.Tests.{goes, below-all, starts, completes, complete-so, frodos}
 use Rattle.running.proofs.Laying.{held-words, laid-long, laid-kept, laid-secret, laid-sums, laid-held, seed-kept-long}
 use Rattle.rows.proofs.Running.{kept-still, whole-front, after-kept, after-sums, after-long, Walked, walked}
-use Rattle.rows.proofs.Opening.{OfferSized, begin-sized, columns-long}
+use Rattle.rows.proofs.Opening.{OfferSized, begin-sized, begin-done, columns-long}
 use Rattle.rows.proofs.Ends.{wrote-same, wrote-none, number-names, by-frodo, words-below, columns-below, zeros-below}
+use Rattle.rows.proofs.Shown.{took-parts, takes}
 
 -- turn, room and blank part; and of the whole call lengths, room, numbers, secrets and blank part
 chain : (i r b l p s e b' : Verdict) → i ≡ Pass → l ≡ Pass → p ≡ Pass → s ≡ Pass → e ≡ Pass → b ≡ b'
@@ -248,3 +251,63 @@ pub early-offer : EarlyOffer
 early-offer c x a message number place room count frodo bytes r some =
     let t = early c x (r .stateRoom) (r .first) frodo bytes (r .begins) a (r .last) (r .parts) room some in
     (subst (λ (v : Verdict). Told v number place) t (r .ends .told), wrote-none t (r .ends .messages))
+
+-- ---- nothing is refused
+
+module _ (c : Scheme) (x : OfferBegin) (ps : List (List ℕ)) (room : ℕ) (frodo : familyOf c ≡ Family.Frodo) (bytes : Below 256 (x .seed)) where
+  abbrev joint : Offer
+  joint = offerOf (joined ps) (x .s) (x .e) (x .seed)
+
+  begin-passes : Ranges c joint → offerBeginTests (Is c) x (long (fixedOf c .n)) ≡ Pass
+  unfolding offerBeginTests offerBeginSizes
+  begin-passes r =
+      all-pass
+      (all-pass
+      (all-pass (all-pass (all-pass (length-passes (r .secret .long)) (length-passes (r .noise .long))) (length-passes (r .seed-long))) (length-passes refl))
+      (within-passes (r .secret .within)))
+      (within-passes (r .noise .within))
+
+  by-parts : offerTests (Is c) joint room ≡ Pass → WithinRows (fixedOf c .n) 0 ps → OfferAccepted c x ps room
+  unfolding offerTests offerState
+  by-parts t w =
+      let num = numbers-in c frodo in
+      let ranges = offer-opens c joint room (both _ _ t .0) .0 in
+      let m = long (fixedOf c .n) in
+      let first = offerState (Is c) x in
+      let begins : OfferBegun (Is c) x 0 0 m first = begin-done (begin-passes ranges) refl in
+      let b = last-begun c x m first frodo bytes begins [] first Parts.none in
+      let all = ranges .public .long in
+      let o =
+      takes Call.Offer c first ps (first-named c x m first frodo bytes begins) b (num .some) w (ranges .public .below)
+      (omega (arith, all, num .public))
+      in
+      let last = o .0 in
+      let v = offerEndTests (named last) last room in
+      let e : v ≡ Pass = same-tests c x m first frodo bytes begins (joined ps) last (took-parts (o .1)) all room ∙ t in
+      record {
+        first = first;
+        begins = begins;
+        last = last;
+        parts = o .1;
+        messageWritten = countIn v (length (offerEndMessage (named last) last));
+        message = held v (offerEndMessage (named last) last) room 0;
+        after = put v (replicate (length last) 0) last;
+        ends = record { told = told-passed e; messages = record { counts = refl; holds = refl }; state = refl };
+      }
+
+  as-whole : OfferAccepted c x ps room → offerTests (Is c) joint room ≡ Pass
+  unfolding offerEndTests offerEndSizes
+  as-whole a =
+      let m = long (fixedOf c .n) in
+      let p = took-parts (a .parts) in
+      let z : offerEndTests (named (a .last)) (a .last) room ≡ Pass = number-zero _ (a .ends .told .refusal) in
+      let i = last-named c x m (a .first) frodo bytes (a .begins) (joined ps) (a .last) p in
+      let o = both _ _ (sym (ap (λ d. offerEndTests d (a .last) room) i) ∙ z) in
+      let full = completes Call.Offer (fixedOf c) (a .last) (turn-passed _ (both _ _ (o .0) .0)) .1 in
+      let all : length (joined ps) ≡ fixedOf c .public =
+      sym (last-taken c x m (a .first) frodo bytes (a .begins) (joined ps) (a .last) p) ∙ full ∙ sym (numbers-in c frodo .public)
+      in
+      sym (same-tests c x m (a .first) frodo bytes (a .begins) (joined ps) (a .last) p all room) ∙ z
+
+pub offer-taken : OfferTaken
+offer-taken c x ps room frodo bytes w = (λ t. by-parts c x ps room frodo bytes t w, as-whole c x ps room frodo bytes)

@@ -1,5 +1,5 @@
 -- Reply by rows is Reply on the joined matrix: what is stated of it in specs/Shown.
---   reply-try, same-reply, early-reply   what is shown
+--   reply-try, same-reply, early-reply, reply-taken   what is shown
 use mathlib.Core.Path.{_≡_, refl, _∙_, sym, ap, ap₂, subst}
 use mathlib.Core.Logic.{_≢_}
 use mathlib.Core.Bool.{Bool, true, false}
@@ -21,12 +21,13 @@ use Rattle.matrix.proofs.Steps.{words-length}
 use Rattle.parts.specs.Parts.{wrap}
 use Rattle.parts.proofs.Joining.{whole-left}
 use Rattle.parts.proofs.Words.{words-pairs}
-use Rattle.front.specs.Front.{_then_, inTurn, notBlank}
+use Rattle.front.specs.Front.{countIn, _then_, inTurn, notBlank, held}
 use Rattle.front.specs.Promise.{Told, put}
 use Rattle.front.specs.declared.Verdict.{Verdict}
 use Rattle.front.specs.declared.Verdict.the-variants.{Pass, Fail}
 use Rattle.front.specs.declared.Refusal.the-variants.{OutOfTurn}
-use Rattle.front.proofs.Laws.{number-zero, both, failed, then-assoc, length-passes, turn-passes, below-passes, all-pass}
+use Rattle.front.proofs.Laws.{number-zero, both, failed, then-assoc, length-passes, publics-passed, turn-passed, turn-passes, below-passes, all-pass}
+use Rattle.front.proofs.Promise.{told-passed}
 use Rattle.ends.specs.Fit.{Counted}
 use Rattle.ends.specs.Keys.{hints, keys}
 use Rattle.ends.specs.Values.{replied}
@@ -34,18 +35,19 @@ use Rattle.ends.proofs.Numbers.{Frodo, numbers-in}
 use Rattle.ends.proofs.Ranges.{mixed-counted}
 use Rattle.wire.specs.Wire.{openedIn, coinsIn}
 use Rattle.reply.specs.Reply.{Reply, replyOf, replyLengths, replySizes, replyLast, replyRest, replyTests, openedOf, repliedPart, messageFrom, keyFrom, messageOf, keyOf, replyMessage, replyKey, replySecrets}
-use Rattle.reply.proofs.Replying.{secrets-small}
+use Rattle.reply.proofs.Replying.{reply-sized, secrets-small}
 use Rattle.running.specs.State.{long, named, taken, keptOf, secretOf, sumsOf, heldOf, laid, allBelow, begun, complete}
 use Rattle.rows.specs.Offer.{sentPart}
-use Rattle.rows.specs.Reply.{ReplyBegin, replyBeginTests, valueOf, replyState, ReplyBegun, replyEndSizes, replyEndTests, replyEndMessage, replyEndKey}
-use Rattle.rows.specs.Runs.{Parts}
-use Rattle.rows.specs.Shown.{ReplyTry, SameReply, EarlyReply}
+use Rattle.rows.specs.Reply.{ReplyBegin, replyBeginSizes, replyBeginTests, valueOf, replyState, ReplyBegun, replyEndSizes, replyEndTests, replyEndMessage, replyEndKey}
+use Rattle.rows.specs.Runs.{Parts, joined, WithinRows, ReplyAccepted}
+use Rattle.rows.specs.Shown.{ReplyTry, SameReply, EarlyReply, ReplyTaken}
 use Rattle.running.specs.declared.Call.{Call}
 use Rattle.running.proofs.Tests.{below-all, starts, completes, complete-so, frodos}
 use Rattle.running.proofs.Laying.{held-words, laid-long, laid-kept, laid-secret, laid-sums, laid-held}
 use Rattle.rows.proofs.Running.{kept-still, whole-front, after-kept, after-sums, after-long, Walked, walked}
 use Rattle.rows.proofs.Ends.{wrote-same, wrote-none, number-names, by-frodo, words-below, zeros-below}
-use Rattle.rows.proofs.Replying.{Sized, begin-sized, opened-tests, no-coins-hints, no-coins-keys}
+use Rattle.rows.proofs.Shown.{took-parts, takes}
+use Rattle.rows.proofs.Replying.{Sized, begin-sized, begun-by, opened-tests, no-coins-hints, no-coins-keys}
 
 -- ---- verdicts and outputs
 
@@ -262,3 +264,78 @@ early-reply c x a message key digest number place n m k l d e frodo r some =
       wrote-none t (r .ends .keys),
       wrote-none t (r .ends .digests),
     )
+
+-- ---- nothing is refused
+
+module _ (c : Scheme) (x : ReplyBegin) (ps : List (List ℕ)) (n k d : ℕ) (frodo : familyOf c ≡ Family.Frodo) where
+  abbrev joint : Reply
+  joint = replyOf (x .opening) (joined ps) (x .s') (x .e') (x .e'') []
+
+  begin-passes : replyTests (Is c) joint n k d ≡ Pass → replyBeginTests (Is c) x (long (fixedOf c .n)) ≡ Pass
+  unfolding replyBeginTests replyBeginSizes replyTests replyRest replyLast openedOf
+  begin-passes t =
+      let o = both _ _ t in
+      let s = reply-sized c joint n k d (o .0) in
+      let r = both _ _ (o .1) in
+      all-pass
+      (all-pass
+      (all-pass
+      (all-pass (all-pass (all-pass (length-passes (s .opening-long)) (length-passes (s .secret-long))) (length-passes (s .noise-long))) (length-passes (s .last-long)))
+      (length-passes refl))
+      (sym (opened-tests c frodo (openedIn c (x .opening))) ∙ r .0))
+      (both _ _ (r .1) .0)
+
+  by-parts : replyTests (Is c) joint n k d ≡ Pass → WithinRows (fixedOf c .n) 0 ps → ReplyAccepted c x ps n k d
+  unfolding replyTests replySizes replyState
+  by-parts t w =
+      let num = numbers-in c frodo in
+      let m = long (fixedOf c .n) in
+      let o = both _ _ t in
+      let all = reply-sized c joint n k d (o .0) .public-long in
+      let below = publics-passed _ (joined ps) (num .q-some) (both _ _ (o .0) .1) in
+      let first = replyState (Is c) x in
+      let begins : ReplyBegun (Is c) x 0 0 m first = begun-by (replicate m 0) {after = first} (begin-passes t) refl refl in
+      let b = last-begun c x m first frodo begins [] first Parts.none in
+      let o = takes Call.Reply c first ps (first-named c x m first frodo begins) b (num .some) w below (omega (arith, all, num .public)) in
+      let last = o .0 in
+      let v = replyEndTests (named last) last n k d in
+      let e : v ≡ Pass = same-tests c x m first frodo begins (joined ps) last (took-parts (o .1)) all n k d ∙ t in
+      record {
+        first = first;
+        begins = begins;
+        last = last;
+        parts = o .1;
+        messageWritten = countIn v (length (replyEndMessage (named last) last));
+        message = held v (replyEndMessage (named last) last) n 0;
+        keyWritten = countIn v (length (replyEndKey (named last) last));
+        key = held v (replyEndKey (named last) last) k 0;
+        digestWritten = countIn v (length (sha3 (replyEndKey (named last) last)));
+        digest = held v (sha3 (replyEndKey (named last) last)) d 0;
+        after = put v (replicate (length last) 0) last;
+        ends =
+            record {
+              told = told-passed e;
+              messages = record { counts = refl; holds = refl };
+              keys = record { counts = refl; holds = refl };
+              digests = record { counts = refl; holds = refl };
+              state = refl;
+            };
+      }
+
+  as-whole : ReplyAccepted c x ps n k d → replyTests (Is c) joint n k d ≡ Pass
+  unfolding replyEndTests replyEndSizes
+  as-whole a =
+      let m = long (fixedOf c .n) in
+      let p = took-parts (a .parts) in
+      let z : replyEndTests (named (a .last)) (a .last) n k d ≡ Pass = number-zero _ (a .ends .told .refusal) in
+      let i = last-named c x m (a .first) frodo (a .begins) (joined ps) (a .last) p in
+      let o = both _ _ (sym (ap (λ y. replyEndTests y (a .last) n k d) i) ∙ z) in
+      let turn = both _ _ (both _ _ (both _ _ (o .0) .0) .0) .0 in
+      let full = completes Call.Reply (fixedOf c) (a .last) (turn-passed _ turn) .1 in
+      let all : length (joined ps) ≡ fixedOf c .public =
+      sym (last-taken c x m (a .first) frodo (a .begins) (joined ps) (a .last) p) ∙ full ∙ sym (numbers-in c frodo .public)
+      in
+      sym (same-tests c x m (a .first) frodo (a .begins) (joined ps) (a .last) p all n k d) ∙ z
+
+pub reply-taken : ReplyTaken
+reply-taken c x ps n k d frodo w = (λ t. by-parts c x ps n k d frodo t w, as-whole c x ps n k d frodo)

@@ -1,4 +1,6 @@
 -- What is shown of parts and states: one result each, joining, empty and refused parts.
+--   took-parts       accepted parts are parts
+--   takes            parts that do not run past the end of their row, nor past the last row, are accepted where their numbers are in range
 --   one-part, one-offer-begin, one-offer-end, one-reply-begin, one-reply-end, frodos-are, allowed, joining, empty-part, again   what is shown
 use mathlib.Core.Path.{_≡_, refl, _∙_, sym, ap, ap₂, subst}
 use mathlib.Core.Bool.{Bool, true, false, cond}
@@ -20,6 +22,7 @@ use Rattle.matrix.specs.Steps.{gained}
 use Rattle.matrix.proofs.Steps.{gained-length}
 use Rattle.parts.specs.Parts.{wrap, words, pairs, placed}
 use Rattle.parts.proofs.Joining.{append-at, placed-in}
+use Rattle.parts.proofs.Words.{append-below}
 use Rattle.ends.proofs.Numbers.{numbers-in}
 use Rattle.front.specs.Front.{numberIn, placeIn}
 use Rattle.front.specs.Promise.{put}
@@ -30,7 +33,7 @@ use Rattle.front.proofs.Promise.{told-only, wrote-only, same-refusal, same-answ
 use Rattle.exchange.proofs.Shown.{same-reply}
 use Rattle.running.specs.State.{frodoIn, named, taken, keptOf, secretOf, sumsOf, heldOf, laid, _and_, keptIn, begun, terms, fills, heldWith, sumsWith, stepped}
 use Rattle.running.specs.Part.{partIn, partTests, partState, Taken}
-use Rattle.rows.specs.Runs.{Parts, Good}
+use Rattle.rows.specs.Runs.{Parts, joined, Took, Good, WithinRows}
 use Rattle.rows.specs.Shown.{OnePart, OneOfferBegin, OneOfferEnd, OneReplyBegin, OneReplyEnd, Frodos, Allowed, Joining, Empty, Again}
 use Rattle.running.specs.declared.Call.{Call}
 use Rattle.running.proofs.Tests.{stops, goes, passed, started, starts, Fits, fits, fits-so, frodo-in, frodo-named}
@@ -80,34 +83,33 @@ allowed n = omega arith
 -- ---- accepted parts
 
 -- what a part that is not refused says of the state before it and after it
-record Good-part (k : Call) (st p after : List ℕ) : Type 0 where
-  scheme : Scheme
-  called : named st ≡ Is scheme
-  has-begun : begun k (fixedOf scheme) st ≡ true
-  fit : Fits (fixedOf scheme .n) (taken st) (length p)
-  below : Below (fixedOf scheme .q) p
-  is : after ≡ stepped k (fixedOf scheme .n) st p
+record Good-part (k : Call) (c : Scheme) (st p after : List ℕ) : Type 0 where
+  has-begun : begun k (fixedOf c) st ≡ true
+  fit : Fits (fixedOf c .n) (taken st) (length p)
+  below : Below (fixedOf c .q) p
+  is : after ≡ stepped k (fixedOf c .n) st p
 
-good-part : (k : Call) (st p after : List ℕ) {place : ℕ} → Taken k st p 0 place after → Good-part k st p after
-unfolding partTests partIn partState
-good-part k st p after t = go (named st) refl
+-- it names a scheme
+scheme-named : (k : Call) (st p after : List ℕ) {place : ℕ} → Taken k st p 0 place after → (c : Scheme) × (named st ≡ Is c)
+unfolding partTests
+scheme-named k st p after t = go (named st) refl
   where
-    z : partTests k (named st) st p ≡ Pass
-    z = number-zero _ (t .told .refusal)
+    go : (x : Named) → named st ≡ x → (c : Scheme) × (named st ≡ Is c)
+    go Unknown e = differ (sym (ap (λ y. partTests k y st p) e) ∙ number-zero _ (t .told .refusal))
+    go (Is c) e = (c, e)
 
-    go : (x : Named) → named st ≡ x → Good-part k st p after
-    go Unknown e = differ (sym (ap (λ y. partTests k y st p) e) ∙ z)
-    go (Is c) e =
-        let o = both _ _ (sym (ap (λ y. partTests k y st p) e) ∙ z) in
-        let b = passed _ _ (turn-passed _ (o .0)) in
-        record {
-          scheme = c;
-          called = e;
-          has-begun = b .0;
-          fit = fits (fixedOf c .n) (taken st) (length p) (b .1);
-          below = publics-passed _ p (omega (arith, sound c .some)) (o .1);
-          is = t .state ∙ ap (λ v. put v (partState k (named st) st p) st) z ∙ ap (λ y. partState k y st p) e;
-        }
+good-part : (k : Call) (c : Scheme) (st p after : List ℕ) {place : ℕ} → named st ≡ Is c → Taken k st p 0 place after → Good-part k c st p after
+unfolding partTests partIn partState
+good-part k c st p after e t =
+    let z : partTests k (named st) st p ≡ Pass = number-zero _ (t .told .refusal) in
+    let o = both _ _ (sym (ap (λ y. partTests k y st p) e) ∙ z) in
+    let b = passed _ _ (turn-passed _ (o .0)) in
+    record {
+      has-begun = b .0;
+      fit = fits (fixedOf c .n) (taken st) (length p) (b .1);
+      below = publics-passed _ p (omega (arith, sound c .some)) (o .1);
+      is = t .state ∙ ap (λ v. put v (partState k (named st) st p) st) z ∙ ap (λ y. partState k y st p) e;
+    }
 
 -- and back
 part-good : (k : Call) (c : Scheme) (st p : List ℕ) → named st ≡ Is c → begun k (fixedOf c) st ≡ true → Fits (fixedOf c .n) (taken st) (length p)
@@ -331,23 +333,65 @@ join k c st p p' after called b f w h l e =
     (part-good k c (stepped k n st p) p' called (step-begun k c st b some p first)
     (fits-behind n (taken st) (length p) (length p') some f) l)
 
-pub joining : Joining
-joining k st p p' after w t =
-    let g = good-part k st (p ++ p') after t in
-    let c = g .scheme in
+splits : (k : Call) (st p p' after : List ℕ) → Below (wrap * wrap) st → Taken k st (p ++ p') 0 0 after
+    → (between : List ℕ) × (Taken k st p 0 0 between × Taken k between p' 0 0 after)
+splits k st p p' after w t =
+    let i = scheme-named k st (p ++ p') after t in
+    let c = i .0 in
+    let g = good-part k c st (p ++ p') after (i .1) t in
     let n = fixedOf c .n in
     let l = length-append p p' in
     let whole : Fits n (taken st) (length p + length p') = rw l at (g .fit) in
     let front : Fits n (taken st) (length p) = record { in-row = omega (arith, whole .in-row); in-all = omega (arith, whole .in-all) } in
     let next = stepped k n st p in
-    let first = part-good k c st p (g .called) (g .has-begun) front (below-front p p' (g .below)) in
-    (next, (first, join k c st p p' after (g .called) (g .has-begun) whole w (below-front p p' (g .below)) (below-behind p p' (g .below)) (g .is)))
+    let first = part-good k c st p (i .1) (g .has-begun) front (below-front p p' (g .below)) in
+    (next, (first, join k c st p p' after (i .1) (g .has-begun) whole w (below-front p p' (g .below)) (below-behind p p' (g .below)) (g .is)))
+
+joins : (k : Call) (c : Scheme) (st p p' between after : List ℕ) → named st ≡ Is c → Below (wrap * wrap) st
+    → taken st % fixedOf c .n + length (p ++ p') ≤ fixedOf c .n → Taken k st p 0 0 between → Taken k between p' 0 0 after → Taken k st (p ++ p') 0 0 after
+unfolding stepped
+joins k c st p p' between after called w row t u =
+    let n = fixedOf c .n in
+    let g = good-part k c st p between called t in
+    let h = good-part k c between p' after (ap named (g .is) ∙ called) u in
+    let at : taken between ≡ taken st + length p = ap taken (g .is) in
+    let num = numbers-in c (frodo-named (getD st 1 0) c called) in
+    let word : Below wrap p = record { below = λ i. omega (arith, g .below .below i, num .q-room) } in
+    let whole : Fits n (taken st) (length p + length p') = record { in-row = omega (arith, row, length-append p p'); in-all = omega (arith, h .fit .in-all) } in
+    let e : after ≡ stepped k n st (p ++ p') =
+    h .is ∙ ap (λ (s : List ℕ). stepped k n s p') (g .is) ∙ steps-join k c st p p' (g .has-begun) (num .some) whole w word
+    in
+    rw e (part-good k c st (p ++ p') called (g .has-begun) (rw (length-append p p') whole) (append-below p p' (g .below) (h .below)))
+
+pub joining : Joining
+joining = (splits, joins)
 
 pub empty-part : Empty
 empty-part k st after zero place t =
-    let g = good-part k st [] after t in
-    g .is ∙ none k (g .scheme) st (g .has-begun)
+    let i = scheme-named k st [] after t in
+    let g = good-part k (i .0) st [] after (i .1) t in
+    g .is ∙ none k (i .0) st (g .has-begun)
 empty-part k st after (suc number) place t = t .state ∙ kept-still (partTests k (named st) st []) _ st (t .told .refusal) (omega arith)
+
+-- ---- accepted parts, one after the other
+
+pub took-parts : {k : Call} {st last : List ℕ} {ps : List (List ℕ)} → Took k st ps last → Parts k st (joined ps) last
+unfolding joined
+took-parts Took.none = Parts.none
+took-parts (Took.more p t ts) = Parts.more p 0 0 t (took-parts ts)
+
+pub takes : (k : Call) (c : Scheme) (st : List ℕ) (ps : List (List ℕ)) → named st ≡ Is c → begun k (fixedOf c) st ≡ true → 0 < fixedOf c .n
+    → WithinRows (fixedOf c .n) (taken st) ps → Below (fixedOf c .q) (joined ps) → taken st + length (joined ps) ≤ fixedOf c .n * fixedOf c .n
+    → (last : List ℕ) × Took k st ps last
+unfolding joined stepped
+takes k c st [] called b some w l m = (st, Took.none)
+takes k c st (p ∷ ps) called b some w l m =
+    let n = fixedOf c .n in
+    let e = length-append p (joined ps) in
+    let f : Fits n (taken st) (length p) = record { in-row = w .0; in-all = omega arith } in
+    let t = part-good k c st p called b f (below-front p (joined ps) l) in
+    let r = takes k c (stepped k n st p) ps called (step-begun k c st b some p f) some (w .1) (below-behind p (joined ps) l) (omega arith) in
+    (r .0, Took.more p t (r .1))
 
 -- ---- refused parts
 
@@ -360,10 +404,12 @@ no-place Pass e f = f
 no-place (Fail r) e f = absurd (omega (arith, some r))
 
 without : (k : Call) (st xs last : List ℕ) → Parts k st xs last → Good k st xs last
-without k st xs last Parts.none = Good.none
+unfolding joined
+without k st xs last Parts.none = ([], (refl, Took.none))
 without k st xs last (Parts.more {st' = next} {xs = ys} p zero place t ps) =
     let e = no-place (partTests k (named st) st p) (t .told .refusal) (t .told .at) in
-    Good.more p (rw e at t) (without k next ys last ps)
+    let g = without k next ys last ps in
+    (p ∷ g .0, (ap (λ (l : List ℕ). p ++ l) (g .1 .0), Took.more p (rw e at t) (g .1 .1)))
 without k st xs last (Parts.more {st' = next} {xs = ys} p (suc number) place t ps) =
     subst (λ (s : List ℕ). Good k s ys last) (refused k st p next (suc number) place t (omega arith)) (without k next ys last ps)
 

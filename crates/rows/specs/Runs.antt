@@ -2,13 +2,22 @@
 -- promise and nothing else.
 --   accepted number p      the numbers that a part has brought: none where it was refused
 --   Parts k st xs st'      parts of the call k from the state st to the state st'; the accepted ones join into xs
---   Good k st xs st'       the same, where none is refused
+--   joined ps              the parts ps joined into one list
+--   Took k st ps st'       the parts ps, each of them accepted, from the state st to the state st'
+--   Good k st xs st'       some such parts, which join into xs
+--   WithinRows n at ps     none of the parts ps, of which the first starts at entry `at` of A, runs past the end of its row
 --   OfferRun, ReplyRun     a begin of the scheme c on the inputs x that was not refused, parts whose accepted ones join into a, and an end with its numbers,
 --                          rooms and outputs
-use mathlib.Core.List.{List, [], _++_}
-use Prim.Native.Nat.{ℕ, zero, suc}
+--   OfferAccepted, ReplyAccepted   a begin of the scheme c on the inputs x with a state of its fixed length, the parts ps and an end with such rooms, and none
+--                          of them refused
+use mathlib.Core.Path.{_≡_}
+use mathlib.Core.List.{List, [], _∷_, _++_}
+use Prim.Native.Nat.{ℕ, zero, suc, _+_, _%_, _≤_}
+use lib.ListN.{length}
+use Rattle.schemes.specs.Schemes.{fixedOf}
 use Rattle.schemes.specs.declared.Named.the-variants.{Is}
 use Rattle.schemes.specs.declared.Scheme.{Scheme}
+use Rattle.running.specs.State.{long}
 use Rattle.running.specs.Part.{Taken}
 use Rattle.rows.specs.Offer.{OfferBegin, OfferBegun, OfferEnded}
 use Rattle.rows.specs.Reply.{ReplyBegin, ReplyBegun, ReplyEnded}
@@ -24,9 +33,22 @@ pub data Parts (k : Call) : List ℕ → List ℕ → List ℕ → Type 0 where
       {st st' st'' xs : List ℕ} (p : List ℕ) (number place : ℕ) → Taken k st p number place st' → Parts k st' xs st'' →
       Parts k st (accepted number p ++ xs) st''
 
-pub data Good (k : Call) : List ℕ → List ℕ → List ℕ → Type 0 where
-  none : {st : List ℕ} → Good k st [] st
-  more : {st st' st'' xs : List ℕ} (p : List ℕ) → Taken k st p 0 0 st' → Good k st' xs st'' → Good k st (p ++ xs) st''
+unfoldable pub joined : List (List ℕ) → List ℕ
+joined [] = []
+joined (p ∷ ps) = p ++ joined ps
+
+pub data Took (k : Call) : List ℕ → List (List ℕ) → List ℕ → Type 0 where
+  none : {st : List ℕ} → Took k st [] st
+  more : {st st' st'' : List ℕ} {ps : List (List ℕ)} (p : List ℕ) → Taken k st p 0 0 st' → Took k st' ps st'' → Took k st (p ∷ ps) st''
+
+abbrev pub Good : Call → List ℕ → List ℕ → List ℕ → Type 0
+Good k st xs st' = (ps : List (List ℕ)) × ((joined ps ≡ xs) × Took k st ps st')
+
+abbrev pub WithinRows : ℕ → ℕ → List (List ℕ) → Type 0
+WithinRows n at [] = Unit
+WithinRows n at (p ∷ ps) = (at % n + length p ≤ n) × WithinRows n (at + length p) ps
+
+-- ---- a begin, parts, and an end
 
 pub record OfferRun (c : Scheme) (x : OfferBegin) (a : List ℕ) (number place messageRoom messageWritten : ℕ) (message : List ℕ) : Type 0 where
   pub stateRoom : ℕ
@@ -47,3 +69,29 @@ pub record ReplyRun
   pub parts : Parts Call.Reply first a last
   pub after : List ℕ
   pub ends : ReplyEnded last number place messageRoom messageWritten message keyRoom keyWritten key digestRoom digestWritten digest after
+
+-- ---- the same, where nothing is refused
+
+pub record OfferAccepted (c : Scheme) (x : OfferBegin) (ps : List (List ℕ)) (messageRoom : ℕ) : Type 0 where
+  pub first : List ℕ
+  pub begins : OfferBegun (Is c) x 0 0 (long (fixedOf c .n)) first
+  pub last : List ℕ
+  pub parts : Took Call.Offer first ps last
+  pub messageWritten : ℕ
+  pub message : List ℕ
+  pub after : List ℕ
+  pub ends : OfferEnded last 0 0 messageRoom messageWritten message after
+
+pub record ReplyAccepted (c : Scheme) (x : ReplyBegin) (ps : List (List ℕ)) (messageRoom keyRoom digestRoom : ℕ) : Type 0 where
+  pub first : List ℕ
+  pub begins : ReplyBegun (Is c) x 0 0 (long (fixedOf c .n)) first
+  pub last : List ℕ
+  pub parts : Took Call.Reply first ps last
+  pub messageWritten : ℕ
+  pub message : List ℕ
+  pub keyWritten : ℕ
+  pub key : List ℕ
+  pub digestWritten : ℕ
+  pub digest : List ℕ
+  pub after : List ℕ
+  pub ends : ReplyEnded last 0 0 messageRoom messageWritten message keyRoom keyWritten key digestRoom digestWritten digest after

@@ -2,8 +2,8 @@
 --   OnePart, OneOfferBegin, OneOfferEnd, OneReplyBegin, OneReplyEnd   no two results satisfy one promise
 --   Frodos            a number names a scheme here exactly if it does in the whole-matrix calls and the scheme is one of Frodo's
 --   Allowed           a state has at most 32 n + 256 numbers
---   Joining           part after part is the part of both joined, for every cut: where the joined one is accepted, so are both, and the state, which is of numbers
---                     of 32 bits, is the same
+--   Joining           part after part is the part of both joined, for every cut: where the joined one is accepted, so are both; where both are and do not run past
+--                     one row, so is the joined one; and the state, which is of numbers of 32 bits, is the same
 --   Empty             an empty part changes nothing
 --   Again             a refused part changes nothing, so that it can be sent again: the run without the refused parts leaves the same state
 --   OfferTry, ReplyTry   so does a refused end
@@ -12,6 +12,8 @@
 --   blocks n xs       how many numbers those blocks have
 --   SameOffer, SameReply   end gives what Offer and Reply promise on the joined matrix, refusals of room and blank parts included
 --   EarlyOffer, EarlyReply   where the parts do not fill the rows, it gives 11, and zeros
+--   OfferTaken, ReplyTaken   of parts that do not run past the end of their row, begin, all parts and end are accepted exactly if the whole-matrix call accepts the
+--                     joined matrix
 use mathlib.Core.Path.{_≡_}
 use mathlib.Core.Logic.{_↔_, _≢_}
 use mathlib.Core.Bool.{true}
@@ -31,17 +33,17 @@ use Rattle.front.specs.Promise.{Told, Wrote}
 use Rattle.front.specs.Answers.{number, place, written}
 use Rattle.front.specs.declared.Answer.{Answer}
 use Rattle.front.specs.declared.Verdict.{Verdict}
-use Rattle.front.specs.declared.Verdict.the-variants.{Fail}
+use Rattle.front.specs.declared.Verdict.the-variants.{Pass, Fail}
 use Rattle.front.specs.declared.Refusal.the-variants.{OutOfTurn}
-use Rattle.offer.specs.Offer.{offerOf, Offered}
-use Rattle.reply.specs.Reply.{replyOf, Replied}
+use Rattle.offer.specs.Offer.{offerOf, offerTests, Offered}
+use Rattle.reply.specs.Reply.{replyOf, replyTests, Replied}
 use Rattle.reply.specs.Reply as reply
 use Rattle.reply.specs.declared.ReplyAnswer.{ReplyAnswer}
 use Rattle.running.specs.State.{frodoOf, long, named, taken, secretOf, sumsOf, heldOf, begun, terms}
 use Rattle.running.specs.Part.{Taken}
 use Rattle.rows.specs.Offer.{OfferBegin, OfferBegun, OfferEnded}
 use Rattle.rows.specs.Reply.{ReplyBegin, ReplyBegun, ReplyEnded}
-use Rattle.rows.specs.Runs.{Parts, Good, OfferRun, ReplyRun}
+use Rattle.rows.specs.Runs.{Parts, Good, joined, WithinRows, OfferRun, ReplyRun, OfferAccepted, ReplyAccepted}
 use Rattle.running.specs.declared.Call.{Call}
 
 -- ---- one result
@@ -85,8 +87,10 @@ Allowed = (n : ℕ) → long n ≤ 32 * n + 256
 
 abbrev pub Joining : Type 0
 Joining =
-    (k : Call) (st p p' after : List ℕ) → Below (wrap * wrap) st → Taken k st (p ++ p') 0 0 after →
-    (between : List ℕ) × (Taken k st p 0 0 between × Taken k between p' 0 0 after)
+    ((k : Call) (st p p' after : List ℕ) → Below (wrap * wrap) st → Taken k st (p ++ p') 0 0 after →
+    (between : List ℕ) × (Taken k st p 0 0 between × Taken k between p' 0 0 after))
+    × ((k : Call) (c : Scheme) (st p p' between after : List ℕ) → named st ≡ Is c → Below (wrap * wrap) st →
+    taken st % fixedOf c .n + length (p ++ p') ≤ fixedOf c .n → Taken k st p 0 0 between → Taken k between p' 0 0 after → Taken k st (p ++ p') 0 0 after)
 
 abbrev pub Empty : Type 0
 Empty = (k : Call) (st after : List ℕ) (number place : ℕ) → Taken k st [] number place after → after ≡ st
@@ -142,3 +146,15 @@ EarlyReply =
     (c : Scheme) (x : ReplyBegin) (a message key digest : List ℕ) (number place n m k l d e : ℕ) → familyOf c ≡ Family.Frodo →
     ReplyRun c x a number place n m message k l key d e digest → length a ≢ fixedOf c .public →
     Told (Fail OutOfTurn) number place × Wrote (Fail OutOfTurn) [] 0 n m message × Wrote (Fail OutOfTurn) [] 0 k l key × Wrote (Fail OutOfTurn) [] 0 d e digest
+
+-- ---- accepted as whole
+
+abbrev pub OfferTaken : Type 0
+OfferTaken =
+    (c : Scheme) (x : OfferBegin) (ps : List (List ℕ)) (room : ℕ) → familyOf c ≡ Family.Frodo → Below 256 (x .seed) → WithinRows (fixedOf c .n) 0 ps →
+    (offerTests (Is c) (offerOf (joined ps) (x .s) (x .e) (x .seed)) room ≡ Pass) ↔ OfferAccepted c x ps room
+
+abbrev pub ReplyTaken : Type 0
+ReplyTaken =
+    (c : Scheme) (x : ReplyBegin) (ps : List (List ℕ)) (n k d : ℕ) → familyOf c ≡ Family.Frodo → WithinRows (fixedOf c .n) 0 ps →
+    (replyTests (Is c) (replyOf (x .opening) (joined ps) (x .s') (x .e') (x .e'') []) n k d ≡ Pass) ↔ ReplyAccepted c x ps n k d

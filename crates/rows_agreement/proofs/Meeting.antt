@@ -1,11 +1,13 @@
 -- A meeting is an exchange of the whole-matrix calls.
 --   whole-offer, whole-reply   where an end is not refused, the parts have filled the rows, and it promises what the whole call promises
 --   exchange      the exchange
---   by-rows, reached   what is shown
-use mathlib.Core.Path.{_≡_}
+--   meeting       and the other way round
+--   offer-passes, reply-passes   sendable inputs pass the tests with any rooms that are large enough
+--   by-rows, reached, every-cut   what is shown
+use mathlib.Core.Path.{_≡_, sym, subst}
 use mathlib.Core.Logic.{_⊎_, inl, inr}
 use mathlib.Core.List.{List, []}
-use Prim.Native.Nat.{ℕ}
+use Prim.Native.Nat.{ℕ, _≤_}
 use native.Mathlib.Omega.{arith}
 use native.Mathlib.Decide.{ℕ-discrete}
 use lib.ListN.{length, take}
@@ -15,19 +17,21 @@ use Rattle.schemes.specs.declared.Named.the-variants.{Is}
 use Rattle.schemes.specs.declared.Scheme.{Scheme}
 use Rattle.lists.specs.Entries.{Below}
 use Rattle.front.specs.Answers.{number, place, written}
-use Rattle.offer.specs.Offer.{offerOf, Offered}
-use Rattle.reply.specs.Reply.{replyOf, Replied}
+use Rattle.front.specs.declared.Verdict.the-variants.{Pass}
+use Rattle.offer.specs.Offer.{offerOf, offerTests, openingOf, Offered}
+use Rattle.reply.specs.Reply.{replyOf, replyTests, Replied}
 use Rattle.reply.specs.Reply as ofReply
-use Rattle.agreement.specs.Run.{Run, offering}
-use Rattle.agreement.specs.Exchange.{Exchange}
+use Rattle.agreement.specs.Run.{Run, offering, replying}
+use Rattle.agreement.specs.Exchange.{Sendable, Exchange}
 use Rattle.agreement.proofs.Accepted.{accepted}
 use Rattle.agreement.proofs.Agreement.{agreement}
+use Rattle.agreement.proofs.Tests.{offer-passes, reply-passes}
 use Rattle.rows.specs.Offer.{OfferBegin, offerBeginOf}
 use Rattle.rows.specs.Reply.{ReplyBegin, replyBeginOf}
 use Rattle.rows.specs.Runs.{OfferRun, ReplyRun}
-use Rattle.rows.proofs.Offers.{same-offer, early-offer}
-use Rattle.rows.proofs.Replies.{same-reply, early-reply}
-use Rattle.rows_agreement.specs.Meeting.{Meeting, ByRows, Reached}
+use Rattle.rows.proofs.Offers.{same-offer, early-offer, offer-taken}
+use Rattle.rows.proofs.Replies.{same-reply, early-reply, reply-taken}
+use Rattle.rows_agreement.specs.Meeting.{Meeting, ByRows, Reached, EveryCut}
 
 module _ (c : Scheme) (frodo : familyOf c ≡ Family.Frodo) where
   whole-offer : (x : OfferBegin) (a message : List ℕ) (number place room count : ℕ) → Below 256 (x .seed) → number ≡ 0
@@ -105,5 +109,43 @@ by-rows c x frodo b none t near =
     let k = agreement c x (exchange c frodo x b none t) near in
     record { same = k .same; published = k .published; digests = k .digests }
 
+meeting : {c : Scheme} {x : Run} → Exchange c x → Meeting c x
+meeting t =
+    record {
+      offerRoom = t .offerRoom;
+      offer = t .offer;
+      offerOut = t .offerOut;
+      offers = inl (t .offers);
+      offer-accepted = t .offer-accepted;
+      replyRoom = t .replyRoom;
+      keyRoom = t .keyRoom;
+      digestRoom = t .digestRoom;
+      reply = t .reply;
+      replyOut = t .replyOut;
+      keyOut = t .keyOut;
+      digestOut = t .digestOut;
+      replies = inl (t .replies);
+      reply-accepted = t .reply-accepted;
+      peerKeyRoom = t .peerKeyRoom;
+      peerDigestRoom = t .peerDigestRoom;
+      finish = t .finish;
+      peerKeyOut = t .peerKeyOut;
+      peerDigestOut = t .peerDigestOut;
+      finishes = t .finishes;
+      finish-accepted = t .finish-accepted;
+    }
+
 pub reached : Reached
-reached c x frodo b none t = accepted c x .0 (exchange c frodo x b none t)
+reached c x frodo b none = (λ t. accepted c x .0 (exchange c frodo x b none t), λ s. meeting (accepted c x .1 s))
+
+-- ---- every cut
+
+pub every-cut : EveryCut
+every-cut c x ps ps' o n k d frodo b none s e e' w w' ho hn hk hd = (
+  offer-taken c (offerBeginOf (x .s) (x .e) (x .seed)) ps o frodo b w .0
+      (subst (λ (a : List ℕ). offerTests (Is c) (offerOf a (x .s) (x .e) (x .seed)) o ≡ Pass) (sym e) (offer-passes c x s o ho)),
+  reply-taken c (replyBeginOf (openingOf c (offering x)) (x .s') (x .e') (x .e'')) ps' n k d frodo w' .0
+      (subst (λ (a : List ℕ). replyTests (Is c) (replyOf (openingOf c (offering x)) a (x .s') (x .e') (x .e'') []) n k d ≡ Pass) (sym e')
+      (subst (λ (cs : List ℕ). replyTests (Is c) (replyOf (openingOf c (offering x)) (x .a) (x .s') (x .e') (x .e'') cs) n k d ≡ Pass) none
+      (reply-passes c x s n k d hn hk hd))),
+)

@@ -2,20 +2,22 @@
 --   Meeting c x      as `Exchange` of crate `agreement`, with Offer and Reply each whole or by rows, where the accepted parts join into the a of x
 --   Agreed t         both keys are equal, and are the published bits; so are both digests
 --   ByRows           the demand, of every one of Frodo's schemes
---   Reached          a meeting is an exchange of the whole-matrix calls: its inputs are sendable
+--   Reached          the inputs of a meeting are sendable, and on any such there is a meeting
+--   EveryCut         on any such, in any parts that do not run past the end of their row and join into A, both boxes go by rows from begin to end and nothing is
+--                    refused; the two boxes need not cut A alike
 use mathlib.Core.Path.{_≡_}
-use mathlib.Core.Logic.{_⊎_}
+use mathlib.Core.Logic.{_↔_, _⊎_}
 use mathlib.Core.List.{List, []}
-use Prim.Native.Nat.{ℕ}
+use Prim.Native.Nat.{ℕ, _≤_}
 use lib.ListN.{take}
-use Rattle.schemes.specs.Schemes.{familyOf}
+use Rattle.schemes.specs.Schemes.{familyOf, fixedOf}
 use Rattle.schemes.specs.declared.Family.{Family}
 use Rattle.schemes.specs.declared.Named.the-variants.{Is}
 use Rattle.schemes.specs.declared.Scheme.{Scheme}
 use Rattle.lists.specs.Entries.{Below}
 use Rattle.front.specs.Answers.{number, place, written}
 use Rattle.front.specs.declared.Answer.{Answer}
-use Rattle.offer.specs.Offer.{Offered}
+use Rattle.offer.specs.Offer.{openingOf, Offered}
 use Rattle.reply.specs.Reply.{replyOf, Replied}
 use Rattle.reply.specs.Reply as ofReply
 use Rattle.finish.specs.Finish.{finishOf}
@@ -27,7 +29,7 @@ use Rattle.agreement.specs.Exchange.{Sendable}
 use Rattle.agreement.specs.Agreement.{Near, publishedKey}
 use Rattle.rows.specs.Offer.{offerBeginOf}
 use Rattle.rows.specs.Reply.{replyBeginOf}
-use Rattle.rows.specs.Runs.{OfferRun, ReplyRun}
+use Rattle.rows.specs.Runs.{joined, WithinRows, OfferRun, ReplyRun, OfferAccepted, ReplyAccepted}
 
 pub record Meeting (c : Scheme) (x : Run) : Type 0 where
   -- Offer
@@ -74,4 +76,12 @@ ByRows =
     (c : Scheme) (x : Run) → familyOf c ≡ Family.Frodo → Below 256 (x .seed) → x .coins ≡ [] → (t : Meeting c x) → Near c x → Agreed t
 
 abbrev pub Reached : Type 0
-Reached = (c : Scheme) (x : Run) → familyOf c ≡ Family.Frodo → Below 256 (x .seed) → x .coins ≡ [] → Meeting c x → Sendable c x
+Reached = (c : Scheme) (x : Run) → familyOf c ≡ Family.Frodo → Below 256 (x .seed) → x .coins ≡ [] → Meeting c x ↔ Sendable c x
+
+abbrev pub EveryCut : Type 0
+EveryCut =
+    (c : Scheme) (x : Run) (ps ps' : List (List ℕ)) (openingRoom replyRoom keyRoom digestRoom : ℕ) → familyOf c ≡ Family.Frodo → Below 256 (x .seed) →
+    x .coins ≡ [] → Sendable c x → joined ps ≡ x .a → joined ps' ≡ x .a → WithinRows (fixedOf c .n) 0 ps → WithinRows (fixedOf c .n) 0 ps' →
+    fixedOf c .opening ≤ openingRoom → fixedOf c .reply ≤ replyRoom → fixedOf c .key ≤ keyRoom → 32 ≤ digestRoom →
+    OfferAccepted c (offerBeginOf (x .s) (x .e) (x .seed)) ps openingRoom
+    × ReplyAccepted c (replyBeginOf (openingOf c (offering x)) (x .s') (x .e') (x .e'')) ps' replyRoom keyRoom digestRoom
