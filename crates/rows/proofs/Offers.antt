@@ -36,12 +36,12 @@ use Rattle.offer.specs.Offer.{Offer, offerOf, offerLengths, offerIn, offerTests
 use Rattle.offer.proofs.Offering.{Ranges, offer-opens}
 use Rattle.running.specs.State.{long, named, taken, keptOf, secretOf, sumsOf, heldOf, laid, allBelow, begun, complete}
 use Rattle.rows.specs.Offer.{OfferBegin, offerBeginSizes, offerBeginTests, offerState, OfferBegun, sentPart, offerEndSizes, offerEndTests, offerEndMessage}
-use Rattle.rows.specs.Runs.{Parts, joined, WithinRows, OfferAccepted}
+use Rattle.rows.specs.Runs.{Refused, Parts, joined, WithinRows, OfferAccepted}
 use Rattle.rows.specs.Shown.{OfferTry, SameOffer, EarlyOffer, OfferTaken}
 use Rattle.running.specs.declared.Call.{Call}
 use Rattle.running.proofs.Tests.{goes, below-all, starts, completes, complete-so, frodos}
 use Rattle.running.proofs.Laying.{held-words, laid-long, laid-kept, laid-secret, laid-sums, laid-held, seed-kept-long}
-use Rattle.rows.proofs.Running.{kept-still, whole-front, after-kept, after-sums, after-long, Walked, walked}
+use Rattle.rows.proofs.Running.{unchanged, whole-front, after-kept, after-sums, after-long, Walked, walked}
 use Rattle.rows.proofs.Opening.{OfferSized, begin-sized, begin-done, columns-long}
 use Rattle.rows.proofs.Ends.{wrote-same, wrote-none, number-names, by-frodo, words-below, columns-below, zeros-below}
 use Rattle.rows.proofs.Shown.{took-parts, takes}
@@ -55,7 +55,7 @@ chain i (Fail r) b l p s e b' h1 h2 h3 h4 h5 d = rw (h1, h2)
 
 pub offer-try : OfferTry
 offer-try st message after number place room count t h =
-    t .state ∙ kept-still (offerEndTests (named st) st room) _ st (t .told .refusal) h
+    unchanged (Refused.offerEnd number place room count t h)
 
 -- ---- after a good begin
 

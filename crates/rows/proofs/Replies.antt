@@ -39,12 +39,12 @@ use Rattle.reply.proofs.Replying.{reply-sized, secrets-small}
 use Rattle.running.specs.State.{long, named, taken, keptOf, secretOf, sumsOf, heldOf, laid, allBelow, begun, complete}
 use Rattle.rows.specs.Offer.{sentPart}
 use Rattle.rows.specs.Reply.{ReplyBegin, replyBeginSizes, replyBeginTests, valueOf, replyState, ReplyBegun, replyEndSizes, replyEndTests, replyEndMessage, replyEndKey}
-use Rattle.rows.specs.Runs.{Parts, joined, WithinRows, ReplyAccepted}
+use Rattle.rows.specs.Runs.{Refused, Parts, joined, WithinRows, ReplyAccepted}
 use Rattle.rows.specs.Shown.{ReplyTry, SameReply, EarlyReply, ReplyTaken}
 use Rattle.running.specs.declared.Call.{Call}
 use Rattle.running.proofs.Tests.{below-all, starts, completes, complete-so, frodos}
 use Rattle.running.proofs.Laying.{held-words, laid-long, laid-kept, laid-secret, laid-sums, laid-held}
-use Rattle.rows.proofs.Running.{kept-still, whole-front, after-kept, after-sums, after-long, Walked, walked}
+use Rattle.rows.proofs.Running.{unchanged, whole-front, after-kept, after-sums, after-long, Walked, walked}
 use Rattle.rows.proofs.Ends.{wrote-same, wrote-none, number-names, by-frodo, words-below, zeros-below}
 use Rattle.rows.proofs.Shown.{took-parts, takes}
 use Rattle.rows.proofs.Replying.{Sized, begin-sized, begun-by, opened-tests, no-coins-hints, no-coins-keys}
@@ -58,7 +58,7 @@ chain i r s t b l p o c b' e f g h k d = rw (e, f, g, h, k, d) (sym (then-assoc 
 
 pub reply-try : ReplyTry
 reply-try st message key digest after number place n m k l d e t h =
-    t .state ∙ kept-still (replyEndTests (named st) st n k d) _ st (t .told .refusal) h
+    unchanged (Refused.replyEnd number place n m k l d e t h)
 
 -- ---- after a good begin
 

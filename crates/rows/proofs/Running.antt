@@ -1,5 +1,6 @@
 -- Parts, one after the other, some of them refused.
 --   kept-still       a verdict with a number leaves what was there
+--   unchanged        so does a refused part, and a refused end
 --   after            the state st, once the numbers xs have come, with the rows `held` behind
 --   after-kept, after-sums, after-held, after-long, after-none   its parts, its length, and where none has come
 --   Behind           the numbers behind the blocks that have come whole are held back, as words
@@ -10,7 +11,7 @@
 use mathlib.Core.Path.{_≡_, refl, _∙_, sym, ap, ap₂, subst}
 use mathlib.Core.Bool.{Bool, true, false, cond}
 use mathlib.Core.List.{List, [], _++_, append-assoc, append-nil}
-use Prim.Native.Nat.{ℕ, zero, suc, _+_, _*_, _-_, _/_, _%_, _≤_, _<_}
+use Prim.Native.Nat.{ℕ, _+_, _*_, _-_, _/_, _%_, _≤_, _<_}
 use native.Mathlib.Omega.{arith}
 use native.Mathlib.Nat.{zero-mod, div-add-mod', div-mul-le-self}
 use lib.ListN.{length, getD, take, drop, length-append, length-take, length-drop, take-append-drop, drop-of-length-le}
@@ -35,7 +36,9 @@ use Rattle.front.specs.declared.Verdict.the-variants.{Pass, Fail}
 use Rattle.front.proofs.Laws.{both, number-zero, turn-passed, publics-passed}
 use Rattle.running.specs.State.{long, named, taken, keptOf, secretOf, sumsOf, heldOf, laid, terms, fills, heldWith, sumsWith, stepped}
 use Rattle.running.specs.Part.{partIn, partTests, partState, Taken}
-use Rattle.rows.specs.Runs.{Parts}
+use Rattle.rows.specs.Offer.{offerEndTests}
+use Rattle.rows.specs.Reply.{replyEndTests}
+use Rattle.rows.specs.Runs.{Refused, Parts}
 use Rattle.rows.specs.Shown.{blocks, Running}
 use Rattle.running.specs.declared.Call.{Call}
 use Rattle.running.proofs.Tests.{passed, started, fits, frodo-named}
@@ -46,6 +49,11 @@ use Rattle.running.proofs.Taking.{linear}
 pub kept-still : {A : Type 0} (v : Verdict) (x old : List A) {number : ℕ} → number ≡ numberIn v → 0 < number → put v x old ≡ old
 kept-still Pass x old e h = absurd (omega arith)
 kept-still (Fail r) x old e h = refl
+
+pub unchanged : {st after : List ℕ} → Refused st after → after ≡ st
+unchanged {st} (Refused.part k p number place t h) = t .state ∙ kept-still (partTests k (named st) st p) _ st (t .told .refusal) h
+unchanged {st} (Refused.offerEnd number place room count t h) = t .state ∙ kept-still (offerEndTests (named st) st room) _ st (t .told .refusal) h
+unchanged {st} (Refused.replyEnd number place n m k l d e t h) = t .state ∙ kept-still (replyEndTests (named st) st n k d) _ st (t .told .refusal) h
 
 module _ (k : Call) (n : ℕ) (st : List ℕ) where
   abbrev pub sums : List ℕ → List ℕ
@@ -286,22 +294,11 @@ module _ (k : Call) (c : Scheme) (st : List ℕ) where
             few = omega (arith, length-append xs p, at, f .in-all);
           }
 
-      -- one that is
-      leaving : {p s' : List ℕ} {number place : ℕ} → Taken k s p (suc number) place s' → Walked xs s'
-      leaving {p} t =
-          record {
-            held = w .held;
-            is = t .state ∙ kept-still (partTests k (named s) s p) _ s (t .told .refusal) (omega arith) ∙ w .is;
-            behind = w .behind;
-            below = w .below;
-            few = w .few;
-          }
-
     walk : (xs : List ℕ) {s ys last : List ℕ} → Walked xs s → Parts k s ys last → Walked (xs ++ ys) last
     walk xs {last = last} w Parts.none = subst (λ (l : List ℕ). Walked l last) (sym (append-nil xs)) w
-    walk xs {last = last} w (Parts.more {xs = ys} p zero place t ps) =
+    walk xs {last = last} w (Parts.more {xs = ys} p t ps) =
         subst (λ (l : List ℕ). Walked l last) (append-assoc xs p ys) (walk (xs ++ p) (taking xs w t) ps)
-    walk xs w (Parts.more p (suc number) place t ps) = walk xs (leaving xs w t) ps
+    walk xs w (Parts.again r ps) = walk xs (subst (λ (l : List ℕ). Walked xs l) (sym (unchanged r)) w) ps
 
     pub walked : {xs last : List ℕ} → taken st ≡ 0 → Below wrap (sumsOf (fixedOf c .n) st) → Below wrap (heldOf (fixedOf c .n) st) → Parts k st xs last
         → Walked xs last

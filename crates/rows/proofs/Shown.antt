@@ -33,7 +33,7 @@ use Rattle.front.proofs.Promise.{told-only, wrote-only, same-refusal, same-answ
 use Rattle.exchange.proofs.Shown.{same-reply}
 use Rattle.running.specs.State.{frodoIn, named, taken, keptOf, secretOf, sumsOf, heldOf, laid, _and_, keptIn, begun, terms, fills, heldWith, sumsWith, stepped}
 use Rattle.running.specs.Part.{partIn, partTests, partState, Taken}
-use Rattle.rows.specs.Runs.{Parts, joined, Took, Good, WithinRows}
+use Rattle.rows.specs.Runs.{Refused, Parts, joined, Took, Good, WithinRows}
 use Rattle.rows.specs.Shown.{OnePart, OneOfferBegin, OneOfferEnd, OneReplyBegin, OneReplyEnd, Frodos, Allowed, Joining, Empty, Again}
 use Rattle.running.specs.declared.Call.{Call}
 use Rattle.running.proofs.Tests.{stops, goes, passed, started, starts, Fits, fits, fits-so, frodo-in, frodo-named}
@@ -41,7 +41,7 @@ use Rattle.running.proofs.Filling.{block-fits, fills-up, held-mod}
 use Rattle.running.proofs.Laying.{apart, kept-long, secret-long, sums-long, held-long, again-words, made-words, held-words, with-below, laid-long, laid-kept, laid-secret, laid-sums, laid-held}
 use Rattle.running.proofs.Turns.{part-known}
 use Rattle.rows.proofs.Ends.{by-frodo}
-use Rattle.rows.proofs.Running.{kept-still}
+use Rattle.rows.proofs.Running.{unchanged}
 
 same-verdict : (v w : Verdict) → numberIn v ≡ numberIn w → placeIn v ≡ placeIn w → v ≡ w
 same-verdict Pass Pass e f = refl
@@ -371,14 +371,14 @@ empty-part k st after zero place t =
     let i = scheme-named k st [] after t in
     let g = good-part k (i .0) st [] after (i .1) t in
     g .is ∙ none k (i .0) st (g .has-begun)
-empty-part k st after (suc number) place t = t .state ∙ kept-still (partTests k (named st) st []) _ st (t .told .refusal) (omega arith)
+empty-part k st after (suc number) place t = unchanged (Refused.part k [] (suc number) place t (omega arith))
 
 -- ---- accepted parts, one after the other
 
 pub took-parts : {k : Call} {st last : List ℕ} {ps : List (List ℕ)} → Took k st ps last → Parts k st (joined ps) last
 unfolding joined
 took-parts Took.none = Parts.none
-took-parts (Took.more p t ts) = Parts.more p 0 0 t (took-parts ts)
+took-parts (Took.more p t ts) = Parts.more p t (took-parts ts)
 
 pub takes : (k : Call) (c : Scheme) (st : List ℕ) (ps : List (List ℕ)) → named st ≡ Is c → begun k (fixedOf c) st ≡ true → 0 < fixedOf c .n
     → WithinRows (fixedOf c .n) (taken st) ps → Below (fixedOf c .q) (joined ps) → taken st + length (joined ps) ≤ fixedOf c .n * fixedOf c .n
@@ -393,25 +393,18 @@ takes k c st (p ∷ ps) called b some w l m =
     let r = takes k c (stepped k n st p) ps called (step-begun k c st b some p f) some (w .1) (below-behind p (joined ps) l) (omega arith) in
     (r .0, Took.more p t (r .1))
 
--- ---- refused parts
+-- ---- refused parts and ends
 
 refused : (k : Call) (st p after : List ℕ) (number place : ℕ) → Taken k st p number place after → 0 < number → after ≡ st
-refused k st p after number place t h = t .state ∙ kept-still (partTests k (named st) st p) _ st (t .told .refusal) h
-
--- a part that is not refused tells no place
-no-place : (v : Verdict) {place : ℕ} → 0 ≡ numberIn v → place ≡ placeIn v → place ≡ 0
-no-place Pass e f = f
-no-place (Fail r) e f = absurd (omega (arith, some r))
+refused k st p after number place t h = unchanged (Refused.part k p number place t h)
 
 without : (k : Call) (st xs last : List ℕ) → Parts k st xs last → Good k st xs last
 unfolding joined
 without k st xs last Parts.none = ([], (refl, Took.none))
-without k st xs last (Parts.more {st' = next} {xs = ys} p zero place t ps) =
-    let e = no-place (partTests k (named st) st p) (t .told .refusal) (t .told .at) in
+without k st xs last (Parts.more {st' = next} {xs = ys} p t ps) =
     let g = without k next ys last ps in
-    (p ∷ g .0, (ap (λ (l : List ℕ). p ++ l) (g .1 .0), Took.more p (rw e at t) (g .1 .1)))
-without k st xs last (Parts.more {st' = next} {xs = ys} p (suc number) place t ps) =
-    subst (λ (s : List ℕ). Good k s ys last) (refused k st p next (suc number) place t (omega arith)) (without k next ys last ps)
+    (p ∷ g .0, (ap (λ (l : List ℕ). p ++ l) (g .1 .0), Took.more p t (g .1 .1)))
+without k st xs last (Parts.again {st' = next} r ps) = subst (λ (s : List ℕ). Good k s xs last) (unchanged r) (without k next xs last ps)
 
 pub again : Again
 again = (refused, without)

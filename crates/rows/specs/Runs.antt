@@ -1,18 +1,18 @@
--- Any sequence of parts after a begin, some of them refused, each with the state as the call before left it; then an end: 02, request e. All by what the calls
--- promise and nothing else.
---   accepted number p      the numbers that a part has brought: none where it was refused
---   Parts k st xs st'      parts of the call k from the state st to the state st'; the accepted ones join into xs
+-- Any sequence of parts and refused ends after a begin, each with the state as the call before left it; then an end: 02, request e. All by what the calls promise
+-- and nothing else.
+--   Refused st st'         a part or an end, of either call, that was refused, from the state st to the state st'
+--   Parts k st xs st'      accepted parts of the call k, which join into xs, and refused parts and ends among them, from the state st to the state st'
 --   joined ps              the parts ps joined into one list
 --   Took k st ps st'       the parts ps, each of them accepted, from the state st to the state st'
 --   Good k st xs st'       some such parts, which join into xs
 --   WithinRows n at ps     none of the parts ps, of which the first starts at entry `at` of A, runs past the end of its row
---   OfferRun, ReplyRun     a begin of the scheme c on the inputs x that was not refused, parts whose accepted ones join into a, and an end with its numbers,
---                          rooms and outputs
+--   OfferRun, ReplyRun     a begin of the scheme c on the inputs x that was not refused, parts whose accepted ones join into a, refused parts and ends among
+--                          them, and an end with its numbers, rooms and outputs
 --   OfferAccepted, ReplyAccepted   a begin of the scheme c on the inputs x with a state of its fixed length, the parts ps and an end with such rooms, and none
 --                          of them refused
 use mathlib.Core.Path.{_≡_}
 use mathlib.Core.List.{List, [], _∷_, _++_}
-use Prim.Native.Nat.{ℕ, zero, suc, _+_, _%_, _≤_}
+use Prim.Native.Nat.{ℕ, _+_, _%_, _≤_, _<_}
 use lib.ListN.{length}
 use Rattle.schemes.specs.Schemes.{fixedOf}
 use Rattle.schemes.specs.declared.Named.the-variants.{Is}
@@ -23,15 +23,19 @@ use Rattle.rows.specs.Offer.{OfferBegin, OfferBegun, OfferEnded}
 use Rattle.rows.specs.Reply.{ReplyBegin, ReplyBegun, ReplyEnded}
 use Rattle.running.specs.declared.Call.{Call}
 
-abbrev pub accepted : ℕ → List ℕ → List ℕ
-accepted zero p = p
-accepted (suc number) p = []
+pub data Refused : List ℕ → List ℕ → Type 0 where
+  part : {st st' : List ℕ} (k : Call) (p : List ℕ) (number place : ℕ) → Taken k st p number place st' → 0 < number → Refused st st'
+  offerEnd :
+      {st st' message : List ℕ} (number place messageRoom messageWritten : ℕ) →
+      OfferEnded st number place messageRoom messageWritten message st' → 0 < number → Refused st st'
+  replyEnd :
+      {st st' message key digest : List ℕ} (number place messageRoom messageWritten keyRoom keyWritten digestRoom digestWritten : ℕ) →
+      ReplyEnded st number place messageRoom messageWritten message keyRoom keyWritten key digestRoom digestWritten digest st' → 0 < number → Refused st st'
 
 pub data Parts (k : Call) : List ℕ → List ℕ → List ℕ → Type 0 where
   none : {st : List ℕ} → Parts k st [] st
-  more :
-      {st st' st'' xs : List ℕ} (p : List ℕ) (number place : ℕ) → Taken k st p number place st' → Parts k st' xs st'' →
-      Parts k st (accepted number p ++ xs) st''
+  more : {st st' st'' xs : List ℕ} (p : List ℕ) → Taken k st p 0 0 st' → Parts k st' xs st'' → Parts k st (p ++ xs) st''
+  again : {st st' st'' xs : List ℕ} → Refused st st' → Parts k st' xs st'' → Parts k st xs st''
 
 unfoldable pub joined : List (List ℕ) → List ℕ
 joined [] = []

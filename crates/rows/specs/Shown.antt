@@ -5,9 +5,9 @@
 --   Joining           part after part is the part of both joined, for every cut: where the joined one is accepted, so are both; where both are and do not run past
 --                     one row, so is the joined one; and the state, which is of numbers of 32 bits, is the same
 --   Empty             an empty part changes nothing
---   Again             a refused part changes nothing, so that it can be sent again: the run without the refused parts leaves the same state
---   OfferTry, ReplyTry   so does a refused end
---   Running           after any parts the count is how many numbers they join into, the sums are those of the blocks of sixteen rows that have come whole,
+--   Again             a refused part changes nothing, so that it can be sent again: the run without the refused parts and ends leaves the same state
+--   OfferTry, ReplyTry   a refused end changes nothing, so that it can be tried again
+--   Running           after any parts the count is how many numbers the accepted ones join into, the sums are those of the blocks of sixteen rows that have come whole,
 --                     and the numbers behind these are held back
 --   blocks n xs       how many numbers those blocks have
 --   SameOffer, SameReply   end gives what Offer and Reply promise on the joined matrix, refusals of room and blank parts included
