@@ -1,9 +1,9 @@
 -- What the ends of Offer and Reply by rows have in common with the whole calls.
 --   wrote-same, wrote-none   an output under an equal verdict; after a refusal, whatever the answer would be
---   number-names             the number of a scheme of Frodo's names it
 --   by-frodo                 what is meant in Frodo
+--   number-names             the number of a scheme of Frodo's names it
 --   words-below, columns-below, zeros-below   secrets, noise and zeros are words
-use mathlib.Core.Path.{_≡_, refl, subst}
+use mathlib.Core.Path.{_≡_, refl, _∙_, ap, subst}
 use mathlib.Core.List.{List, []}
 use Prim.Native.Nat.{ℕ, _*_, _<_}
 use native.Mathlib.Omega.{arith}
@@ -14,7 +14,7 @@ use Rattle.schemes.specs.Schemes.{by, familyOf, numberOf}
 use Rattle.schemes.specs.declared.Family.{Family}
 use Rattle.schemes.specs.declared.Named.the-variants.{Is}
 use Rattle.schemes.specs.declared.Scheme.{Scheme}
-use Rattle.schemes.specs.declared.Scheme.the-variants.{Bcns, NewHope, Challenge, Classical, Recommended, Paranoid}
+use Rattle.schemes.proofs.Laws.{by-number}
 use Rattle.lists.specs.Entries.{Below}
 use Rattle.lists.proofs.Entries.{below-tab}
 use Rattle.lists.proofs.Same.{equal-all}
@@ -25,8 +25,7 @@ use Rattle.front.specs.Promise.{Wrote}
 use Rattle.front.specs.declared.Verdict.{Verdict}
 use Rattle.front.specs.declared.Verdict.the-variants.{Fail}
 use Rattle.front.specs.declared.Refusal.{Refusal}
-use Rattle.ends.proofs.Numbers.{Each}
-use Rattle.running.specs.State.{frodoOf}
+use Rattle.running.specs.State.{frodoIn, frodoOf}
 
 pub wrote-same : {v v' : Verdict} {xs xs' : List ℕ} {room count : ℕ} {out : List ℕ} → v ≡ v' → xs ≡ xs' → Wrote v xs 0 room count out
     → Wrote v' xs' 0 room count out
@@ -38,22 +37,11 @@ pub wrote-none : {v : Verdict} {r : Refusal} {xs : List ℕ} {room count : ℕ} 
 unfolding held
 wrote-none e w = let u = wrote-same e refl w in record { counts = u .counts; holds = u .holds }
 
-abbrev Names : Scheme → Family → Type 0
-Names c F = Each F Unit Unit (frodoOf (numberOf c) ≡ Is c)
-
-names-of : (c : Scheme) → Names c (familyOf c)
-names-of Bcns = tt
-names-of NewHope = tt
-names-of Challenge = refl
-names-of Classical = refl
-names-of Recommended = refl
-names-of Paranoid = refl
-
-pub number-names : (c : Scheme) → familyOf c ≡ Family.Frodo → frodoOf (numberOf c) ≡ Is c
-number-names c e = subst (λ (F : Family). Names c F) e (names-of c)
-
 pub by-frodo : {A : Type 0} {F : Family} (x y z : A) → F ≡ Family.Frodo → by F x y z ≡ z
 by-frodo x y z e = rw e
+
+pub number-names : (c : Scheme) → familyOf c ≡ Family.Frodo → frodoOf (numberOf c) ≡ Is c
+number-names c e = ap frodoIn (by-number c) ∙ by-frodo _ _ (Is c) e
 
 pub words-below : (zs : List ℤ) → Below wrap (wordsOf wrap zs)
 unfolding wordsOf

@@ -2,7 +2,8 @@ pub mod Sending
 pub mod Opening
 pub mod Running
 pub mod Ends
-pub mod Offers
 pub mod Shown
+pub mod Fresh
+pub mod Offers
 pub mod Replying
 pub mod Replies

@@ -2,51 +2,45 @@
 --   reply-try, same-reply, early-reply, reply-taken   what is shown
 use mathlib.Core.Path.{_≡_, refl, _∙_, sym, ap, ap₂, subst}
 use mathlib.Core.Logic.{_≢_}
-use mathlib.Core.Bool.{Bool, true, false}
+use mathlib.Core.Bool.{true}
 use mathlib.Core.List.{List, [], _++_}
-use Prim.Native.Nat.{ℕ, _*_}
+use Prim.Native.Nat.{ℕ}
 use native.Mathlib.Omega.{arith}
 use native.Mathlib.Nat.{le-trans}
-use lib.ListN.{length, getD, replicate, length-replicate}
-use Rattle.schemes.specs.Schemes.{familyOf, fixedOf, numberOf}
+use lib.ListN.{length, replicate}
+use Rattle.schemes.specs.Schemes.{familyOf, fixedOf}
 use Rattle.schemes.specs.declared.Family.{Family}
 use Rattle.schemes.specs.declared.Named.the-variants.{Is}
 use Rattle.schemes.specs.declared.Scheme.{Scheme}
-use Rattle.lists.specs.Entries.{Below}
+use Rattle.lists.specs.Entries.{Within}
 use Rattle.packing.specs.Packing.{packed}
 use Rattle.sponge.specs.Sponge.{sha3}
-use Rattle.matrix.specs.Fit.{Fit}
-use Rattle.matrix.specs.Steps.{wordsOf, gained, reduced, leftTerm}
-use Rattle.matrix.proofs.Steps.{words-length}
-use Rattle.parts.specs.Parts.{wrap}
-use Rattle.parts.proofs.Joining.{whole-left}
-use Rattle.parts.proofs.Words.{words-pairs}
-use Rattle.front.specs.Front.{countIn, _then_, inTurn, notBlank, held}
+use Rattle.front.specs.Front.{countIn, _then_, notBlank, held}
 use Rattle.front.specs.Promise.{Told, put}
 use Rattle.front.specs.declared.Verdict.{Verdict}
 use Rattle.front.specs.declared.Verdict.the-variants.{Pass, Fail}
 use Rattle.front.specs.declared.Refusal.the-variants.{OutOfTurn}
-use Rattle.front.proofs.Laws.{number-zero, both, failed, then-assoc, length-passes, publics-passed, turn-passed, turn-passes, below-passes, all-pass}
+use Rattle.front.proofs.Laws.{number-zero, both, failed, then-assoc, length-passes, publics-passed, turn-passed, below-passes, all-pass}
 use Rattle.front.proofs.Promise.{told-passed}
 use Rattle.ends.specs.Fit.{Counted}
 use Rattle.ends.specs.Keys.{hints, keys}
 use Rattle.ends.specs.Values.{replied}
-use Rattle.ends.proofs.Numbers.{Frodo, numbers-in}
+use Rattle.ends.proofs.Numbers.{numbers-in}
 use Rattle.ends.proofs.Ranges.{mixed-counted}
 use Rattle.wire.specs.Wire.{openedIn, coinsIn}
 use Rattle.reply.specs.Reply.{Reply, replyOf, replyLengths, replySizes, replyLast, replyRest, replyTests, openedOf, repliedPart, messageFrom, keyFrom, messageOf, keyOf, replyMessage, replyKey, replySecrets}
 use Rattle.reply.proofs.Replying.{reply-sized, secrets-small}
-use Rattle.running.specs.State.{long, named, taken, keptOf, secretOf, sumsOf, heldOf, laid, allBelow, begun, complete}
+use Rattle.running.specs.State.{long, named, keptIn}
 use Rattle.rows.specs.Offer.{sentPart}
 use Rattle.rows.specs.Reply.{ReplyBegin, replyBeginSizes, replyBeginTests, valueOf, replyState, ReplyBegun, replyEndSizes, replyEndTests, replyEndMessage, replyEndKey}
 use Rattle.rows.specs.Runs.{Refused, Parts, joined, WithinRows, ReplyAccepted}
 use Rattle.rows.specs.Shown.{ReplyTry, SameReply, EarlyReply, ReplyTaken}
 use Rattle.running.specs.declared.Call.{Call}
-use Rattle.running.proofs.Tests.{below-all, starts, completes, complete-so, frodos}
-use Rattle.running.proofs.Laying.{held-words, laid-long, laid-kept, laid-secret, laid-sums, laid-held}
-use Rattle.rows.proofs.Running.{unchanged, whole-front, after-kept, after-sums, after-long, Walked, walked}
-use Rattle.rows.proofs.Ends.{wrote-same, wrote-none, number-names, by-frodo, words-below, zeros-below}
+use Rattle.running.proofs.Tests.{below-all, frodos}
+use Rattle.rows.proofs.Running.{unchanged}
+use Rattle.rows.proofs.Ends.{wrote-same, wrote-none, by-frodo}
 use Rattle.rows.proofs.Shown.{took-parts, takes}
+use Rattle.rows.proofs.Fresh.{Left, begins, left, in-turn, has-all, too-early}
 use Rattle.rows.proofs.Replying.{Sized, begin-sized, begun-by, opened-tests, no-coins-hints, no-coins-keys}
 
 -- ---- verdicts and outputs
@@ -62,16 +56,9 @@ reply-try st message key digest after number place n m k l d e t h =
 
 -- ---- after a good begin
 
-module _ (c : Scheme) (x : ReplyBegin) (m : ℕ) (first : List ℕ) (frodo : familyOf c ≡ Family.Frodo) (begins : ReplyBegun (Is c) x 0 0 m first) where
-  f : Frodo (fixedOf c)
-  f = numbers-in c frodo
-
+module _ (c : Scheme) (x : ReplyBegin) (m : ℕ) (first : List ℕ) (frodo : familyOf c ≡ Family.Frodo) (good : ReplyBegun (Is c) x 0 0 m first) where
   passes : replyBeginTests (Is c) x m ≡ Pass
-  passes = number-zero _ (begins .told .refusal)
-
-  first-is : first ≡ laid 2 (numberOf c) 0 (valueOf c x) (wordsOf wrap (x .s')) (wordsOf wrap (x .e')) (replicate (16 * fixedOf c .n) 0)
-  unfolding replyState
-  first-is = begins .state ∙ ap (λ (v : Verdict). put v (replyState (Is c) x) (replicate m 0)) passes
+  passes = number-zero _ (good .told .refusal)
 
   sized : Sized c x m
   unfolding replyBeginTests
@@ -90,124 +77,38 @@ module _ (c : Scheme) (x : ReplyBegin) (m : ℕ) (first : List ℕ) (frodo : fam
   value = mixed-counted c _ (x .s') (x .e'')
 
   value-long : length (valueOf c x) ≡ 64
-  value-long = value .long ∙ f .mixed
+  value-long = value .long ∙ numbers-in c frodo .mixed
 
-  secret-long : length (wordsOf wrap (x .s')) ≡ 8 * fixedOf c .n
-  secret-long = words-length wrap (x .s') ∙ sized .secret-long ∙ f .secret
+  value-in : keptIn Call.Reply (fixedOf c .q) (valueOf c x) ≡ true
+  value-in = below-all (fixedOf c .q) (valueOf c x) (value .below)
 
-  noise-long : length (x .e') ≡ 8 * fixedOf c .n
-  noise-long = sized .noise-long ∙ f .noise
+  secret-within : Within 6 (x .s')
+  secret-within =
+      record { within = λ i. le-trans (secrets-small c (x .s') (x .e') (x .e'') secrets .0 .within i) (numbers-in c frodo .small) }
 
-  abbrev zeros : List ℕ
-  zeros = replicate (16 * fixedOf c .n) 0
-
-  sums-is : length (wordsOf wrap (x .e')) ≡ 8 * fixedOf c .n
-  sums-is = words-length wrap (x .e') ∙ noise-long
-
-  first-long : length first ≡ long (fixedOf c .n)
-  first-long =
-      ap length first-is
-      ∙ laid-long (fixedOf c .n) 2 (numberOf c) 0 (valueOf c x) (wordsOf wrap (x .s')) (wordsOf wrap (x .e')) zeros value-long secret-long sums-is
-      (length-replicate (16 * fixedOf c .n) 0)
-
-  first-kept : keptOf first ≡ valueOf c x
-  first-kept =
-      ap keptOf first-is ∙ laid-kept (fixedOf c .n) 2 (numberOf c) 0 (valueOf c x) (wordsOf wrap (x .s')) (wordsOf wrap (x .e')) zeros value-long secret-long sums-is
-
-  first-secret : secretOf (fixedOf c .n) first ≡ wordsOf wrap (x .s')
-  first-secret =
-      ap (secretOf (fixedOf c .n)) first-is
-      ∙ laid-secret (fixedOf c .n) 2 (numberOf c) 0 (valueOf c x) (wordsOf wrap (x .s')) (wordsOf wrap (x .e')) zeros value-long secret-long sums-is
-      (words-pairs (wordsOf wrap (x .s')) (4 * fixedOf c .n) (secret-long ∙ omega arith) (words-below (x .s')))
-
-  first-sums : sumsOf (fixedOf c .n) first ≡ wordsOf wrap (x .e')
-  first-sums =
-      ap (sumsOf (fixedOf c .n)) first-is
-      ∙ laid-sums (fixedOf c .n) 2 (numberOf c) 0 (valueOf c x) (wordsOf wrap (x .s')) (wordsOf wrap (x .e')) zeros value-long secret-long sums-is
-      (words-pairs (wordsOf wrap (x .e')) (4 * fixedOf c .n) (sums-is ∙ omega arith) (words-below (x .e')))
-
-  first-held : heldOf (fixedOf c .n) first ≡ zeros
-  first-held =
-      ap (heldOf (fixedOf c .n)) first-is
-      ∙ laid-held (fixedOf c .n) 2 (numberOf c) 0 (valueOf c x) (wordsOf wrap (x .s')) (wordsOf wrap (x .e')) zeros value-long secret-long sums-is
-      (held-words (fixedOf c .n) zeros (length-replicate (16 * fixedOf c .n) 0) (zeros-below (16 * fixedOf c .n)))
-
-  first-named : named first ≡ Is c
-  first-named = ap named first-is ∙ number-names c frodo
+  first-is : first ≡ begins Call.Reply c (valueOf c x) (x .s') (x .e')
+  unfolding replyState
+  first-is = good .state ∙ ap (λ (v : Verdict). put v (replyState (Is c) x) (replicate m 0)) passes
 
   -- ---- and any parts
 
   module _ (a last : List ℕ) (parts : Parts Call.Reply first a last) where
-    walk : Walked Call.Reply c first a last
+    walk : Left Call.Reply c (valueOf c x) (x .s') (x .e') a last
     walk =
-        walked Call.Reply c first first-named first-long (ap taken first-is)
-        (subst (λ (l : List ℕ). Below wrap l) (sym first-sums) (words-below (x .e')))
-        (subst (λ (l : List ℕ). Below wrap l) (sym first-held) (zeros-below (16 * fixedOf c .n))) parts
-
-    last-named : named last ≡ Is c
-    last-named = ap named (walk .is) ∙ first-named
-
-    last-taken : taken last ≡ length a
-    last-taken = ap taken (walk .is)
-
-    last-kept : keptOf last ≡ valueOf c x
-    last-kept = ap keptOf (walk .is) ∙ after-kept Call.Reply (fixedOf c .n) first first-long a (walk .held) ∙ first-kept
-
-    -- all of A has come in whole blocks
-    last-sums : length a ≡ fixedOf c .public
-        → sumsOf (fixedOf c .n) last ≡ gained wrap (fixedOf c .n) (leftTerm (fixedOf c .n) (fixedOf c .n) (wordsOf wrap (x .s')) a) (wordsOf wrap (x .e'))
-    last-sums all =
-        ap (sumsOf (fixedOf c .n)) (walk .is)
-        ∙ after-sums Call.Reply (fixedOf c .n) first first-long a (walk .held)
-        ∙ ap (λ (l : List ℕ). gained wrap (fixedOf c .n) (leftTerm (fixedOf c .n) (fixedOf c .n) (secretOf (fixedOf c .n) first) l) (sumsOf (fixedOf c .n) first))
-        (whole-front (fixedOf c .n) a (f .some) (frodos c frodo .sixteens) (all ∙ f .public))
-        ∙ ap₂ (λ (s e : List ℕ). gained wrap (fixedOf c .n) (leftTerm (fixedOf c .n) (fixedOf c .n) s a) e) first-secret first-sums
-
-    last-begun : begun Call.Reply (fixedOf c) last ≡ true
-    last-begun =
-        starts Call.Reply (fixedOf c) last
-        (record {
-          is-long = ap length (walk .is) ∙ after-long Call.Reply (fixedOf c .n) first first-long a (walk .held) (walk .behind .is-long);
-          is-call = ap (λ (l : List ℕ). getD l 0 0) (walk .is) ∙ ap (λ (l : List ℕ). getD l 0 0) first-is;
-          at-most = omega (arith, last-taken, walk .few);
-          kept-in = ap (allBelow (fixedOf c .q)) last-kept ∙ below-all (fixedOf c .q) (valueOf c x) (value .below);
-        })
+        left Call.Reply c (valueOf c x) (x .s') (x .e') frodo value-long value-in (sized .secret-long) secret-within (sized .noise-long)
+        (subst (λ (st : List ℕ). Parts Call.Reply st a last) first-is parts)
 
     early : (n k d : ℕ) → length a ≢ fixedOf c .public → replyEndTests (named last) last n k d ≡ Fail OutOfTurn
-    unfolding replyEndTests replyEndSizes inTurn
+    unfolding replyEndTests replyEndSizes
     early n k d h =
-        ap (λ m. replyEndTests m last n k d) last-named
-        ∙ failed _ refl (failed _ refl (failed _ refl (failed _ refl (ap (λ (b : Bool). inTurn b) (go (complete Call.Reply (fixedOf c) last) refl)))))
-      where
-        go : (b : Bool) → complete Call.Reply (fixedOf c) last ≡ b → complete Call.Reply (fixedOf c) last ≡ false
-        go true e = absurd (h (sym last-taken ∙ completes Call.Reply (fixedOf c) last e .1 ∙ sym (f .public)))
-        go false e = e
+        ap (λ m. replyEndTests m last n k d) (walk .is-named) ∙ failed _ refl (failed _ refl (failed _ refl (failed _ refl (too-early frodo walk h))))
 
     -- ---- all of A has come
 
     module _ (all : length a ≡ fixedOf c .public) where
-      fit : Fit (fixedOf c .q) (fixedOf c .n) (fixedOf c .n) a (x .s')
-      fit =
-          record {
-            some = f .q-some;
-            room = f .q-room;
-            whole = f .words;
-            many = f .some;
-            few = f .few;
-            rows-many = f .some;
-            rows-few = f .few;
-            xs-long = all ∙ f .public;
-            s-long = sized .secret-long ∙ f .secret;
-            xs-below = walk .below;
-            s-within = record { within = λ k. le-trans (secrets-small c (x .s') (x .e') (x .e'') secrets .0 .within k) (f .small) };
-          }
-
       sent : sentPart c last ≡ repliedPart c a (x .s') (x .e')
       unfolding replied
-      sent =
-          ap (λ (l : List ℕ). packed (fixedOf c .width) (reduced (fixedOf c .q) l)) (last-sums all)
-          ∙ ap (packed (fixedOf c .width))
-          (whole-left wrap (fixedOf c .q) (fixedOf c .n) a (x .s') (x .e') (omega arith) (frodos c frodo .words) fit noise-long ∙ sym (by-frodo _ _ _ frodo))
+      sent = ap (packed (fixedOf c .width)) (walk .sums all ∙ sym (by-frodo _ _ _ frodo))
 
       abbrev whole : Reply
       whole = replyOf (x .opening) a (x .s') (x .e') (x .e'') []
@@ -225,22 +126,21 @@ module _ (c : Scheme) (x : ReplyBegin) (m : ℕ) (first : List ℕ) (frodo : fam
       same-tests : (n k d : ℕ) → replyEndTests (named last) last n k d ≡ replyTests (Is c) whole n k d
       unfolding replyEndTests replyEndSizes replyTests replySizes replyRest replyLast openedOf
       same-tests n k d =
-          ap (λ m. replyEndTests m last n k d) last-named
-          ∙ chain _ _ _ _ _ _ _ _ _ _
-          (turn-passes (complete-so Call.Reply (fixedOf c) last last-begun (last-taken ∙ all ∙ f .public)))
-          lengths (below-passes (walk .below)) (opened-tests c frodo (openedIn c (x .opening)) ∙ not-blank) secrets (ap notBlank sent)
+          ap (λ m. replyEndTests m last n k d) (walk .is-named)
+          ∙ chain _ _ _ _ _ _ _ _ _ _ (in-turn frodo walk all) lengths (below-passes (walk .below))
+          (opened-tests c frodo (openedIn c (x .opening)) ∙ not-blank) secrets (ap notBlank sent)
 
       same-message : replyEndMessage (named last) last ≡ replyMessage (Is c) whole
       unfolding replyEndMessage replyMessage messageOf messageFrom openedOf valueOf
       same-message =
-          ap (λ m. replyEndMessage m last) last-named
-          ∙ ap₂ (λ (u h : List ℕ). u ++ packed (fixedOf c .hintbits) h) sent (ap (hints c []) last-kept ∙ sym (no-coins-hints c frodo (coinsIn c []) _))
+          ap (λ m. replyEndMessage m last) (walk .is-named)
+          ∙ ap₂ (λ (u h : List ℕ). u ++ packed (fixedOf c .hintbits) h) sent (ap (hints c []) (walk .kept-is) ∙ sym (no-coins-hints c frodo (coinsIn c []) _))
 
       same-key : replyEndKey (named last) last ≡ replyKey (Is c) whole
       unfolding replyEndKey replyKey keyOf keyFrom openedOf valueOf
       same-key =
-          ap (λ m. replyEndKey m last) last-named
-          ∙ ap (packed (fixedOf c .keybits)) (ap (keys c []) last-kept ∙ sym (no-coins-keys c frodo (coinsIn c []) _))
+          ap (λ m. replyEndKey m last) (walk .is-named)
+          ∙ ap (packed (fixedOf c .keybits)) (ap (keys c []) (walk .kept-is) ∙ sym (no-coins-keys c frodo (coinsIn c []) _))
 
 -- ---- what is shown
 
@@ -294,15 +194,15 @@ module _ (c : Scheme) (x : ReplyBegin) (ps : List (List ℕ)) (n k d : ℕ) (fro
       let all = reply-sized c joint n k d (o .0) .public-long in
       let below = publics-passed _ (joined ps) (num .q-some) (both _ _ (o .0) .1) in
       let first = replyState (Is c) x in
-      let begins : ReplyBegun (Is c) x 0 0 m first = begun-by (replicate m 0) {after = first} (begin-passes t) refl refl in
-      let b = last-begun c x m first frodo begins [] first Parts.none in
-      let o = takes Call.Reply c first ps (first-named c x m first frodo begins) b (num .some) w below (omega (arith, all, num .public)) in
+      let good : ReplyBegun (Is c) x 0 0 m first = begun-by (replicate m 0) {after = first} (begin-passes t) refl refl in
+      let w0 = walk c x m first frodo good [] first Parts.none in
+      let o = takes Call.Reply c first ps (w0 .is-named) (w0 .has-begun) (num .some) w below (omega (arith, all, num .public)) in
       let last = o .0 in
       let v = replyEndTests (named last) last n k d in
-      let e : v ≡ Pass = same-tests c x m first frodo begins (joined ps) last (took-parts (o .1)) all n k d ∙ t in
+      let e : v ≡ Pass = same-tests c x m first frodo good (joined ps) last (took-parts (o .1)) all n k d ∙ t in
       record {
         first = first;
-        begins = begins;
+        begins = good;
         last = last;
         parts = o .1;
         messageWritten = countIn v (length (replyEndMessage (named last) last));
@@ -328,13 +228,10 @@ module _ (c : Scheme) (x : ReplyBegin) (ps : List (List ℕ)) (n k d : ℕ) (fro
       let m = long (fixedOf c .n) in
       let p = took-parts (a .parts) in
       let z : replyEndTests (named (a .last)) (a .last) n k d ≡ Pass = number-zero _ (a .ends .told .refusal) in
-      let i = last-named c x m (a .first) frodo (a .begins) (joined ps) (a .last) p in
-      let o = both _ _ (sym (ap (λ y. replyEndTests y (a .last) n k d) i) ∙ z) in
+      let l = walk c x m (a .first) frodo (a .begins) (joined ps) (a .last) p in
+      let o = both _ _ (sym (ap (λ y. replyEndTests y (a .last) n k d) (l .is-named)) ∙ z) in
       let turn = both _ _ (both _ _ (both _ _ (o .0) .0) .0) .0 in
-      let full = completes Call.Reply (fixedOf c) (a .last) (turn-passed _ turn) .1 in
-      let all : length (joined ps) ≡ fixedOf c .public =
-      sym (last-taken c x m (a .first) frodo (a .begins) (joined ps) (a .last) p) ∙ full ∙ sym (numbers-in c frodo .public)
-      in
+      let all = has-all frodo l (turn-passed _ turn) in
       sym (same-tests c x m (a .first) frodo (a .begins) (joined ps) (a .last) p all n k d) ∙ z
 
 pub reply-taken : ReplyTaken

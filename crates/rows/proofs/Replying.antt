@@ -1,6 +1,5 @@
 -- Reply by rows: its tests, and what begin and end lay.
---   powers               q is a power of 2 in Frodo, as wide as a packed number, and there are no coins
---   opened-tests         so 5 cannot arise in the unpack step
+--   opened-tests         5 cannot arise in the unpack step: q is a power of 2, as wide as a packed number
 --   no-coins-hints, no-coins-keys   hints and key entries whatever the coins are
 --   no-flips             zeros serve as coins
 --   three-more           three tests more
@@ -22,7 +21,6 @@ use Rattle.schemes.specs.declared.Family.{Family}
 use Rattle.schemes.specs.declared.Named.{Named}
 use Rattle.schemes.specs.declared.Named.the-variants.{Is, Unknown}
 use Rattle.schemes.specs.declared.Scheme.{Scheme}
-use Rattle.schemes.specs.declared.Scheme.the-variants.{Bcns, NewHope, Challenge, Classical, Recommended, Paranoid}
 use Rattle.lists.specs.Entries.{Below}
 use Rattle.lists.proofs.Parts.{part-long}
 use Rattle.lists.proofs.Same.{equal-all}
@@ -37,7 +35,7 @@ use Rattle.front.proofs.Laws.{both, length-passed, room-passed, turn-passed, me
 use Rattle.front.proofs.Promise.{told-failed, wrote-failed}
 use Rattle.ends.specs.Fit.{Counted}
 use Rattle.ends.specs.Keys.{hints, keys}
-use Rattle.ends.proofs.Numbers.{Each, numbers-in}
+use Rattle.ends.proofs.Numbers.{numbers-in}
 use Rattle.ends.proofs.Settling.{hints-counted, keys-counted}
 use Rattle.wire.specs.Wire.{openedIn, numbersIn}
 use Rattle.wire.proofs.Travel.{reply-length, key-long}
@@ -46,33 +44,19 @@ use Rattle.running.specs.State.{long, named, keptOf, begun}
 use Rattle.rows.specs.Offer.{sentPart}
 use Rattle.rows.specs.Reply.{ReplyBegin, replyBeginSizes, replyBeginTests, replyState, ReplyBegun, replyEndSizes, replyEndTests, replyEndMessage, replyEndKey, ReplyEnded}
 use Rattle.running.specs.declared.Call.{Call}
-use Rattle.running.proofs.Tests.{all-below, started, completes}
+use Rattle.running.proofs.Tests.{all-below, started, completes, frodos}
 use Rattle.running.proofs.Laying.{kept-long}
 use Rattle.rows.proofs.Sending.{sent-counted}
 
--- ---- Frodo's numbers
-
-abbrev Powers : Scheme → Family → Type 0
-Powers c F = Each F Unit Unit ((fixedOf c .q ≡ 2 ^ fixedOf c .width) × (fixedOf c .coinbits ≡ 0))
-
-powers-of : (c : Scheme) → Powers c (familyOf c)
-powers-of Bcns = tt
-powers-of NewHope = tt
-powers-of Challenge = (refl, refl)
-powers-of Classical = (refl, refl)
-powers-of Recommended = (refl, refl)
-powers-of Paranoid = (refl, refl)
+-- ---- no coins
 
 same-by : {A : Type 0} {F : Family} (x y x' y' z : A) → F ≡ Family.Frodo → by F x y z ≡ by F x' y' z
 same-by x y x' y' z e = rw e
 
 module _ (c : Scheme) (frodo : familyOf c ≡ Family.Frodo) where
-  pub powers : (fixedOf c .q ≡ 2 ^ fixedOf c .width) × (fixedOf c .coinbits ≡ 0)
-  powers = subst (λ (F : Family). Powers c F) frodo (powers-of c)
-
   pub opened-tests : (p : List ℕ) → receivedIn (fixedOf c .q) p (numbersIn c p) ≡ notBlank p
   unfolding receivedIn numbersIn
-  opened-tests p = went-on _ refl (message-passes (rw (powers .0) (unpacked-below (fixedOf c .width) (fixedOf c .secret) p)))
+  opened-tests p = went-on _ refl (message-passes (rw (frodos c frodo .power) (unpacked-below (fixedOf c .width) (fixedOf c .secret) p)))
 
   module _ (cs v : List ℕ) where
     pub no-coins-hints : hints c cs v ≡ hints c [] v
@@ -88,7 +72,7 @@ module _ (c : Scheme) (frodo : familyOf c ≡ Family.Frodo) where
   no-flips =
       record {
         long = length-replicate {A = ℕ} 64 0 ∙ sym (numbers-in c frodo .groups);
-        below = subst (λ (b : ℕ). Below (2 ^ b) (replicate 64 0)) (sym (powers .1)) (record { below = equal-all (λ (y : ℕ). y < 1) 0 64 (omega arith) });
+        below = subst (λ (b : ℕ). Below (2 ^ b) (replicate 64 0)) (sym (frodos c frodo .coinbits)) (record { below = equal-all (λ (y : ℕ). y < 1) 0 64 (omega arith) });
       }
 
 -- three tests more, one after the other

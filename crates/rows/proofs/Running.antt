@@ -1,4 +1,4 @@
--- Parts, one after the other, some of them refused.
+-- Parts, one after the other, over any n.
 --   kept-still       a verdict with a number leaves what was there
 --   unchanged        so does a refused part, and a refused end
 --   after            the state st, once the numbers xs have come, with the rows `held` behind
@@ -6,42 +6,34 @@
 --   Behind           the numbers behind the blocks that have come whole are held back, as words
 --   whole-front      all of A is whole blocks
 --   Stepped, stepped-after   a part behind the numbers xs that have come
---   Walked, walked   what any parts leave: the state after the numbers that they join into, which are in range and not too many
---   running          what is shown of the sums and the count
+--   below-front, below-behind   of two lists joined
+--   Walked, walked   what any parts leave: the state after the numbers that they join into
 use mathlib.Core.Path.{_≡_, refl, _∙_, sym, ap, ap₂, subst}
 use mathlib.Core.Bool.{Bool, true, false, cond}
-use mathlib.Core.List.{List, [], _++_, append-assoc, append-nil}
+use mathlib.Core.List.{List, [], _∷_, _++_, append-assoc, append-nil}
 use Prim.Native.Nat.{ℕ, _+_, _*_, _-_, _/_, _%_, _≤_, _<_}
 use native.Mathlib.Omega.{arith}
-use native.Mathlib.Nat.{zero-mod, div-add-mod', div-mul-le-self}
+use native.Mathlib.Nat.{zero-mod, div-mul-le-self}
 use lib.ListN.{length, getD, take, drop, length-append, length-take, length-drop, take-append-drop, drop-of-length-le}
 use lib.Seq.{take-at, take-all, take-nil, drop-nil, take-append-le, drop-append-le, length-take-le}
-use Rattle.schemes.specs.Schemes.{fixedOf}
-use Rattle.schemes.specs.declared.Named.the-variants.{Is}
-use Rattle.schemes.specs.declared.Scheme.{Scheme}
-use Rattle.schemes.proofs.Sound.{sound}
 use Rattle.lists.specs.Entries.{Below}
 use Rattle.lists.proofs.Parts.{below-drop, below-take}
-use Rattle.lists.proofs.Same.{append-all}
 use Rattle.matrix.specs.Steps.{gained}
 use Rattle.matrix.proofs.Steps.{gained-length}
 use Rattle.parts.specs.Parts.{wrap, words, pairs, placed}
-use Rattle.parts.proofs.Joining.{so-far, nothing}
-use Rattle.parts.proofs.Words.{words-below, append-below}
-use Rattle.ends.proofs.Numbers.{numbers-in}
+use Rattle.parts.proofs.Joining.{append-at, placed-in, so-far, nothing}
+use Rattle.parts.proofs.Words.{append-below}
 use Rattle.front.specs.Front.{numberIn}
 use Rattle.front.specs.Promise.{put}
 use Rattle.front.specs.declared.Verdict.{Verdict}
 use Rattle.front.specs.declared.Verdict.the-variants.{Pass, Fail}
-use Rattle.front.proofs.Laws.{both, number-zero, turn-passed, publics-passed}
 use Rattle.running.specs.State.{long, named, taken, keptOf, secretOf, sumsOf, heldOf, laid, terms, fills, heldWith, sumsWith, stepped}
-use Rattle.running.specs.Part.{partIn, partTests, partState, Taken}
+use Rattle.running.specs.Part.{partTests}
 use Rattle.rows.specs.Offer.{offerEndTests}
 use Rattle.rows.specs.Reply.{replyEndTests}
-use Rattle.rows.specs.Runs.{Refused, Parts}
-use Rattle.rows.specs.Shown.{blocks, Running}
+use Rattle.rows.specs.Runs.{Refused, joined, steps, WithinRows}
+use Rattle.rows.specs.Shown.{blocks}
 use Rattle.running.specs.declared.Call.{Call}
-use Rattle.running.proofs.Tests.{passed, started, fits, frodo-named}
 use Rattle.running.proofs.Filling.{fills-up, holds-back, held-div, held-mod, filled-div, filled-mod, start-is, whole-blocks}
 use Rattle.running.proofs.Laying.{apart, kept-long, secret-long, sums-long, held-long, again-words, made-words, held-words, laid-long, laid-kept, laid-secret, laid-sums, laid-held}
 use Rattle.running.proofs.Taking.{linear}
@@ -251,81 +243,44 @@ module _ (k : Call) (n : ℕ) (st : List ℕ) (l : length st ≡ long n) (xs p h
 
 -- ---- any parts
 
-module _ (k : Call) (c : Scheme) (st : List ℕ) where
-  pub record Walked (xs last : List ℕ) : Type 0 where
-    pub held : List ℕ
-    pub is : last ≡ after k (fixedOf c .n) st xs held
-    pub behind : Behind (fixedOf c .n) xs held
-    pub below : Below (fixedOf c .q) xs
-    pub few : length xs ≤ fixedOf c .n * fixedOf c .n
+pub below-front : {q : ℕ} (p p' : List ℕ) → Below q (p ++ p') → Below q p
+below-front p p' h = record { below = λ i. omega (arith, append-at p p' i, h .below i) }
 
-  module _ (called : named st ≡ Is c) (l : length st ≡ long (fixedOf c .n)) where
-    module _ (xs : List ℕ) {s : List ℕ} (w : Walked xs s) where
-      still-named : named s ≡ Is c
-      still-named = ap named (w .is) ∙ called
+pub below-behind : {q : ℕ} (p p' : List ℕ) → Below q (p ++ p') → Below q p'
+below-behind p p' h =
+    record { below = λ i. omega (arith, append-at p p' (length p + i), placed-in (length p) p' i, h .below (length p + i)) }
 
-      -- a part that is not refused
-      taking : {p s' : List ℕ} {place : ℕ} → Taken k s p 0 place s' → Walked (xs ++ p) s'
-      unfolding partTests partIn partState
-      taking {p} {s'} t =
-          let n = fixedOf c .n in
-          let z : partTests k (named s) s p ≡ Pass = number-zero _ (t .told .refusal) in
-          let o = both _ _ (sym (ap (λ m. partTests k m s p) still-named) ∙ z) in
-          let f = fits n (taken s) (length p) (passed _ _ (turn-passed _ (o .0)) .1) in
-          let at : taken s ≡ length xs = ap taken (w .is) in
-          let row : length xs % n + length p ≤ n = rw at at (f .in-row) in
-          let num = numbers-in c (frodo-named (getD st 1 0) c called) in
-          let small = publics-passed _ p (omega (arith, sound c .some)) (o .1) in
-          let word : Below wrap p = record { below = λ i. omega (arith, small .below i, num .q-room) } in
-          let g = stepped-after k n st l xs p (w .held) (num .some) row word (w .behind) in
-          record {
-            held = g .rows;
-            is =
-                t .state
-                ∙ ap (λ v. put v (partState k (named s) s p) s) z
-                ∙ ap (λ m. partState k m s p) still-named
-                ∙ ap (λ (y : List ℕ). stepped k n y p) (w .is)
-                ∙ g .is;
-            behind = g .behind;
-            below =
-                record {
-                  below = append-all (λ x. x < fixedOf c .q) 0 xs p (w .below .below) (small .below);
-                };
-            few = omega (arith, length-append xs p, at, f .in-all);
-          }
+pub record Walked (k : Call) (n : ℕ) (st xs last : List ℕ) : Type 0 where
+  pub held : List ℕ
+  pub is : last ≡ after k n st xs held
+  pub behind : Behind n xs held
 
-    walk : (xs : List ℕ) {s ys last : List ℕ} → Walked xs s → Parts k s ys last → Walked (xs ++ ys) last
-    walk xs {last = last} w Parts.none = subst (λ (l : List ℕ). Walked l last) (sym (append-nil xs)) w
-    walk xs {last = last} w (Parts.more {xs = ys} p t ps) =
-        subst (λ (l : List ℕ). Walked l last) (append-assoc xs p ys) (walk (xs ++ p) (taking xs w t) ps)
-    walk xs w (Parts.again r ps) = walk xs (subst (λ (l : List ℕ). Walked xs l) (sym (unchanged r)) w) ps
+module _ (k : Call) (n : ℕ) (st : List ℕ) (some : 0 < n) (l : length st ≡ long n) where
+  walk : (xs : List ℕ) {s : List ℕ} → Walked k n st xs s → (ps : List (List ℕ)) → WithinRows n (length xs) ps → Below wrap (joined ps)
+      → Walked k n st (xs ++ joined ps) (steps k n s ps)
+  unfolding joined steps
+  walk xs {s} w [] r b = subst (λ (y : List ℕ). Walked k n st y s) (sym (append-nil xs)) w
+  walk xs {s} w (p ∷ ps) r b =
+      let g = stepped-after k n st l xs p (w .held) some (r .0) (below-front p (joined ps) b) (w .behind) in
+      let next : Walked k n st (xs ++ p) (stepped k n s p) = record {
+        held = g .rows;
+        is = ap (λ (y : List ℕ). stepped k n y p) (w .is) ∙ g .is;
+        behind = g .behind;
+      } in
+      subst (λ (y : List ℕ). Walked k n st y (steps k n (stepped k n s p) ps)) (append-assoc xs p (joined ps))
+      (walk (xs ++ p) next ps (subst (λ (m : ℕ). WithinRows n m ps) (sym (length-append xs p)) (r .1)) (below-behind p (joined ps) b))
 
-    pub walked : {xs last : List ℕ} → taken st ≡ 0 → Below wrap (sumsOf (fixedOf c .n) st) → Below wrap (heldOf (fixedOf c .n) st) → Parts k st xs last
-        → Walked xs last
-    walked t b h ps =
-        let n = fixedOf c .n in
-        walk []
-        (record {
-          held = heldOf n st;
-          is = sym (after-none k n st l t b);
-          behind =
-              record {
-                is-long = held-long n st l;
-                below = h;
-                is = ap (λ (j : ℕ). take j (heldOf n st)) (zero-mod (16 * n)) ∙ sym (drop-nil (blocks n []));
-              };
-          below = record { below = λ i. omega (arith, sound c .some) };
-          few = omega arith;
-        }) ps
-
-pub running : Running
-running k c st xs last called b t w ps =
-    let n = fixedOf c .n in
-    let l = started k (fixedOf c) st b .is-long in
-    let o = walked k c st called l t (words-below _ (below-take (below-drop w (67 + 4 * n)) (4 * n))) (words-below _ (below-drop w (67 + 8 * n))) ps in (
-      ap taken (o .is),
-      ap (sumsOf n) (o .is) ∙ after-sums k n st l xs (o .held),
-      ap (λ (y : List ℕ). take (length xs % (16 * n)) (heldOf n y)) (o .is)
-          ∙ ap (take (length xs % (16 * n))) (after-held k n st l xs (o .held) (held-words n (o .held) (o .behind .is-long) (o .behind .below)))
-          ∙ o .behind .is,
-    )
+  pub walked : (ps : List (List ℕ)) → taken st ≡ 0 → Below wrap (sumsOf n st) → Below wrap (heldOf n st) → WithinRows n 0 ps → Below wrap (joined ps)
+      → Walked k n st (joined ps) (steps k n st ps)
+  walked ps t b h r w =
+      walk []
+      (record {
+        held = heldOf n st;
+        is = sym (after-none k n st l t b);
+        behind =
+            record {
+              is-long = held-long n st l;
+              below = h;
+              is = ap (λ (j : ℕ). take j (heldOf n st)) (zero-mod (16 * n)) ∙ sym (drop-nil (blocks n []));
+            };
+      }) ps r w

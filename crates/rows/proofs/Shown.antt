@@ -1,7 +1,10 @@
--- What is shown of parts and states: one result each, joining, empty and refused parts.
+-- What is shown of parts and states: one result each, joining, empty and refused parts, and what any parts leave.
 --   took-parts       accepted parts are parts
 --   takes            parts that do not run past the end of their row, nor past the last row, are accepted where their numbers are in range
---   one-part, one-offer-begin, one-offer-end, one-reply-begin, one-reply-end, frodos-are, allowed, joining, empty-part, again   what is shown
+--   without          the run without what was refused
+--   Cut, took-cut    accepted parts: what they leave, and that none runs past the end of its row or past the last row
+--   one-part, one-offer-begin, one-offer-end, one-reply-begin, one-reply-end, frodos-are, allowed, joining, empty-part, again, running   what is
+--                    shown
 use mathlib.Core.Path.{_≡_, refl, _∙_, sym, ap, ap₂, subst}
 use mathlib.Core.Bool.{Bool, true, false, cond}
 use mathlib.Core.List.{List, [], _∷_, _++_, append-assoc, append-nil}
@@ -12,17 +15,18 @@ use borrow.Author.Tests.{lt-leb, le-leb}
 use lib.Dec.{eqb}
 use lib.ListN.{length, getD, take, drop, length-append, length-take, length-drop, take-append-drop}
 use lib.Seq.{take-at, drop-at, drop-drop}
-use Rattle.schemes.specs.Schemes.{fixedOf, schemeOf}
+use Rattle.schemes.specs.Schemes.{familyOf, fixedOf, schemeOf}
+use Rattle.schemes.specs.declared.Family.{Family}
 use Rattle.schemes.specs.declared.Named.{Named}
 use Rattle.schemes.specs.declared.Named.the-variants.{Is, Unknown}
 use Rattle.schemes.specs.declared.Scheme.{Scheme}
 use Rattle.schemes.proofs.Sound.{sound}
 use Rattle.lists.specs.Entries.{Below}
+use Rattle.lists.proofs.Parts.{below-drop, below-take}
 use Rattle.matrix.specs.Steps.{gained}
 use Rattle.matrix.proofs.Steps.{gained-length}
 use Rattle.parts.specs.Parts.{wrap, words, pairs, placed}
-use Rattle.parts.proofs.Joining.{append-at, placed-in}
-use Rattle.parts.proofs.Words.{append-below}
+use Rattle.parts.proofs.Words.{words-below, append-below}
 use Rattle.ends.proofs.Numbers.{numbers-in}
 use Rattle.front.specs.Front.{numberIn, placeIn}
 use Rattle.front.specs.Promise.{put}
@@ -33,15 +37,15 @@ use Rattle.front.proofs.Promise.{told-only, wrote-only, same-refusal, same-answ
 use Rattle.exchange.proofs.Shown.{same-reply}
 use Rattle.running.specs.State.{frodoIn, named, taken, keptOf, secretOf, sumsOf, heldOf, laid, _and_, keptIn, begun, terms, fills, heldWith, sumsWith, stepped}
 use Rattle.running.specs.Part.{partIn, partTests, partState, Taken}
-use Rattle.rows.specs.Runs.{Refused, Parts, joined, Took, Good, WithinRows}
-use Rattle.rows.specs.Shown.{OnePart, OneOfferBegin, OneOfferEnd, OneReplyBegin, OneReplyEnd, Frodos, Allowed, Joining, Empty, Again}
+use Rattle.rows.specs.Runs.{Refused, Parts, joined, Took, Good, steps, WithinRows}
+use Rattle.rows.specs.Shown.{OnePart, OneOfferBegin, OneOfferEnd, OneReplyBegin, OneReplyEnd, Frodos, Allowed, Joining, Empty, Again, Running}
 use Rattle.running.specs.declared.Call.{Call}
 use Rattle.running.proofs.Tests.{stops, goes, passed, started, starts, Fits, fits, fits-so, frodo-in, frodo-named}
 use Rattle.running.proofs.Filling.{block-fits, fills-up, held-mod}
 use Rattle.running.proofs.Laying.{apart, kept-long, secret-long, sums-long, held-long, again-words, made-words, held-words, with-below, laid-long, laid-kept, laid-secret, laid-sums, laid-held}
 use Rattle.running.proofs.Turns.{part-known}
 use Rattle.rows.proofs.Ends.{by-frodo}
-use Rattle.rows.proofs.Running.{unchanged}
+use Rattle.rows.proofs.Running.{unchanged, below-front, below-behind, after-sums, after-held, Walked, walked}
 
 same-verdict : (v w : Verdict) → numberIn v ≡ numberIn w → placeIn v ≡ placeIn w → v ≡ w
 same-verdict Pass Pass e f = refl
@@ -312,13 +316,6 @@ fits-behind n at a (suc b) o f =
     let e : (at + a) % n ≡ at % n + a = sym (mod-add-mod at n a) ∙ mod-eq-of-lt (omega (arith, f .in-row)) in
     record { in-row = omega (arith, e, f .in-row); in-all = omega (arith, f .in-all) }
 
-below-front : {q : ℕ} (p p' : List ℕ) → Below q (p ++ p') → Below q p
-below-front p p' h = record { below = λ i. omega (arith, append-at p p' i, h .below i) }
-
-below-behind : {q : ℕ} (p p' : List ℕ) → Below q (p ++ p') → Below q p'
-below-behind p p' h =
-    record { below = λ i. omega (arith, append-at p p' (length p + i), placed-in (length p) p' i, h .below (length p + i)) }
-
 join : (k : Call) (c : Scheme) (st p p' after : List ℕ) → named st ≡ Is c → begun k (fixedOf c) st ≡ true
     → Fits (fixedOf c .n) (taken st) (length p + length p') → Below (wrap * wrap) st → Below (fixedOf c .q) p → Below (fixedOf c .q) p' → after ≡ stepped k (fixedOf c .n) st (p ++ p')
     → Taken k (stepped k (fixedOf c .n) st p) p' 0 0 after
@@ -398,7 +395,7 @@ takes k c st (p ∷ ps) called b some w l m =
 refused : (k : Call) (st p after : List ℕ) (number place : ℕ) → Taken k st p number place after → 0 < number → after ≡ st
 refused k st p after number place t h = unchanged (Refused.part k p number place t h)
 
-without : (k : Call) (st xs last : List ℕ) → Parts k st xs last → Good k st xs last
+pub without : (k : Call) (st xs last : List ℕ) → Parts k st xs last → Good k st xs last
 unfolding joined
 without k st xs last Parts.none = ([], (refl, Took.none))
 without k st xs last (Parts.more {st' = next} {xs = ys} p t ps) =
@@ -408,3 +405,54 @@ without k st xs last (Parts.again {st' = next} r ps) = subst (λ (s : List ℕ).
 
 pub again : Again
 again = (refused, without)
+
+-- ---- what any parts leave
+
+pub record Cut (k : Call) (c : Scheme) (st : List ℕ) (ps : List (List ℕ)) (last : List ℕ) : Type 0 where
+  pub is : last ≡ steps k (fixedOf c .n) st ps
+  pub rows : WithinRows (fixedOf c .n) (taken st) ps
+  pub below : Below (fixedOf c .q) (joined ps)
+  pub few : taken st + length (joined ps) ≤ fixedOf c .n * fixedOf c .n
+
+pub took-cut : (k : Call) (c : Scheme) {st last : List ℕ} {ps : List (List ℕ)} → named st ≡ Is c → taken st ≤ fixedOf c .n * fixedOf c .n
+    → Took k st ps last → Cut k c st ps last
+unfolding joined steps stepped
+took-cut k c called m Took.none =
+    record { is = refl; rows = tt; below = record { below = λ i. omega (arith, sound c .some) }; few = omega arith }
+took-cut k c {st} called m (Took.more {st' = next} {ps = ps} p t ts) =
+    let n = fixedOf c .n in
+    let g = good-part k c st p next called t in
+    let at : taken next ≡ taken st + length p = ap taken (g .is) in
+    let h = took-cut k c (ap named (g .is) ∙ called) (omega (arith, g .fit .in-all)) ts in
+    record {
+      is = h .is ∙ ap (λ (s : List ℕ). steps k n s ps) (g .is);
+      rows = (g .fit .in-row, subst (λ (i : ℕ). WithinRows n i ps) at (h .rows));
+      below = append-below p (joined ps) (g .below) (h .below);
+      few = omega (arith, length-append p (joined ps), h .few);
+    }
+
+pub cut-words : {k : Call} {c : Scheme} {st last : List ℕ} {ps : List (List ℕ)} → familyOf c ≡ Family.Frodo → Cut k c st ps last → Below wrap (joined ps)
+cut-words {c = c} e o = record { below = λ i. omega (arith, o .below .below i, numbers-in c e .q-room) }
+
+pub running : Running
+running k c st xs last called b t w parts =
+    let n = fixedOf c .n in
+    let s = started k (fixedOf c) st b in
+    let l = s .is-long in
+    let frodo = frodo-named (getD st 1 0) c called in
+    let g = without k st xs last parts in
+    let ps = g .0 in
+    let u = took-cut k c called (s .at-most) (g .1 .1) in
+    let v =
+    walked k n st (numbers-in c frodo .some) l ps t (words-below _ (below-take (below-drop w (67 + 4 * n)) (4 * n))) (words-below _ (below-drop w (67 + 8 * n)))
+    (subst (λ (i : ℕ). WithinRows n i ps) t (u .rows)) (cut-words frodo u)
+    in
+    let o : Walked k n st xs last =
+    subst (λ (y : List ℕ). Walked k n st y last) (g .1 .0) (subst (λ (y : List ℕ). Walked k n st (joined ps) y) (sym (u .is)) v)
+    in (
+      ap taken (o .is),
+      ap (sumsOf n) (o .is) ∙ after-sums k n st l xs (o .held),
+      ap (λ (y : List ℕ). take (length xs % (16 * n)) (heldOf n y)) (o .is)
+          ∙ ap (take (length xs % (16 * n))) (after-held k n st l xs (o .held) (held-words n (o .held) (o .behind .is-long) (o .behind .below)))
+          ∙ o .behind .is,
+    )

@@ -5,6 +5,7 @@
 --   joined ps              the parts ps joined into one list
 --   Took k st ps st'       the parts ps, each of them accepted, from the state st to the state st'
 --   Good k st xs st'       some such parts, which join into xs
+--   steps k n st ps        the state st with the parts ps, one after the other
 --   WithinRows n at ps     none of the parts ps, of which the first starts at entry `at` of A, runs past the end of its row
 --   OfferRun, ReplyRun     a begin of the scheme c on the inputs x that was not refused, parts whose accepted ones join into a, refused parts and ends among
 --                          them, and an end with its numbers, rooms and outputs
@@ -17,7 +18,7 @@ use lib.ListN.{length}
 use Rattle.schemes.specs.Schemes.{fixedOf}
 use Rattle.schemes.specs.declared.Named.the-variants.{Is}
 use Rattle.schemes.specs.declared.Scheme.{Scheme}
-use Rattle.running.specs.State.{long}
+use Rattle.running.specs.State.{long, stepped}
 use Rattle.running.specs.Part.{Taken}
 use Rattle.rows.specs.Offer.{OfferBegin, OfferBegun, OfferEnded}
 use Rattle.rows.specs.Reply.{ReplyBegin, ReplyBegun, ReplyEnded}
@@ -47,6 +48,10 @@ pub data Took (k : Call) : List ℕ → List (List ℕ) → List ℕ → Type 0 
 
 abbrev pub Good : Call → List ℕ → List ℕ → List ℕ → Type 0
 Good k st xs st' = (ps : List (List ℕ)) × ((joined ps ≡ xs) × Took k st ps st')
+
+unfoldable pub steps : Call → ℕ → List ℕ → List (List ℕ) → List ℕ
+steps k n st [] = st
+steps k n st (p ∷ ps) = steps k n (stepped k n st p) ps
 
 abbrev pub WithinRows : ℕ → ℕ → List (List ℕ) → Type 0
 WithinRows n at [] = Unit

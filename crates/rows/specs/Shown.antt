@@ -1,4 +1,8 @@
--- What is shown of Frodo by rows: 02, request e; once over n and q.
+-- What is shown of Frodo by rows: 02, request e. `Once` holds for any n and q that fit, and names no scheme. What is said of a scheme of Frodo's follows from it and
+-- from the scheme's numbers, with no case for each scheme.
+--   secretWords k n s   the secret as the state of the call k keeps it
+--   mixed k q n a s e   what the call k sends: AS + E of Offer, S'A + E' of Reply
+--   Once              after all parts of A, cut anywhere but across the end of a row, the remainders by q of the sums are these
 --   OnePart, OneOfferBegin, OneOfferEnd, OneReplyBegin, OneReplyEnd   no two results satisfy one promise
 --   Frodos            a number names a scheme here exactly if it does in the whole-matrix calls and the scheme is one of Frodo's
 --   Allowed           a state has at most 32 n + 256 numbers
@@ -19,6 +23,7 @@ use mathlib.Core.Logic.{_↔_, _≢_}
 use mathlib.Core.Bool.{true}
 use mathlib.Core.List.{List, [], _++_}
 use Prim.Native.Nat.{ℕ, _+_, _*_, _/_, _%_, _≤_, _<_}
+use lib.IntN.{ℤ}
 use lib.ListN.{length, take, drop}
 use Rattle.schemes.specs.Schemes.{familyOf, fixedOf, schemeOf}
 use Rattle.schemes.specs.declared.Family.{Family}
@@ -26,7 +31,9 @@ use Rattle.schemes.specs.declared.Named.{Named}
 use Rattle.schemes.specs.declared.Named.the-variants.{Is}
 use Rattle.schemes.specs.declared.Scheme.{Scheme}
 use Rattle.lists.specs.Entries.{Below}
-use Rattle.matrix.specs.Steps.{gained}
+use Rattle.matrix.specs.Fit.{Fit}
+use Rattle.matrix.specs.Mixing.{rightMixed, leftMixed}
+use Rattle.matrix.specs.Steps.{wordsOf, columnsOf, gained, reduced}
 use Rattle.parts.specs.Parts.{wrap}
 use Rattle.front.specs.Front.{numberIn, placeIn}
 use Rattle.front.specs.Promise.{Told, Wrote}
@@ -39,11 +46,11 @@ use Rattle.offer.specs.Offer.{offerOf, offerTests, Offered}
 use Rattle.reply.specs.Reply.{replyOf, replyTests, Replied}
 use Rattle.reply.specs.Reply as reply
 use Rattle.reply.specs.declared.ReplyAnswer.{ReplyAnswer}
-use Rattle.running.specs.State.{frodoOf, long, named, taken, secretOf, sumsOf, heldOf, begun, terms}
+use Rattle.running.specs.State.{frodoOf, long, named, taken, secretOf, sumsOf, heldOf, laid, begun, terms}
 use Rattle.running.specs.Part.{Taken}
 use Rattle.rows.specs.Offer.{OfferBegin, OfferBegun, OfferEnded}
 use Rattle.rows.specs.Reply.{ReplyBegin, ReplyBegun, ReplyEnded}
-use Rattle.rows.specs.Runs.{Parts, Good, joined, WithinRows, OfferRun, ReplyRun, OfferAccepted, ReplyAccepted}
+use Rattle.rows.specs.Runs.{Parts, Good, joined, steps, WithinRows, OfferRun, ReplyRun, OfferAccepted, ReplyAccepted}
 use Rattle.running.specs.declared.Call.{Call}
 
 -- ---- one result
@@ -120,6 +127,23 @@ Running =
     × (sumsOf (fixedOf c .n) last
     ≡ gained wrap (fixedOf c .n) (terms k (fixedOf c .n) (secretOf (fixedOf c .n) st) (take (blocks (fixedOf c .n) xs) xs)) (sumsOf (fixedOf c .n) st))
     × (take (length xs % (16 * fixedOf c .n)) (heldOf (fixedOf c .n) last) ≡ drop (blocks (fixedOf c .n) xs) xs)
+
+-- ---- once over n and q
+
+abbrev pub secretWords : Call → ℕ → List ℤ → List ℕ
+secretWords Call.Offer n s = columnsOf wrap n s
+secretWords Call.Reply n s = wordsOf wrap s
+
+abbrev pub mixed : Call → ℕ → ℕ → List ℕ → List ℤ → List ℤ → List ℕ
+mixed Call.Offer q n a s e = rightMixed q n n 8 a s e
+mixed Call.Reply q n a s e = leftMixed q n n 8 s a e
+
+-- whatever is kept for the end, and whatever words stand where rows are held back
+abbrev pub Once : Type 0
+Once =
+    (k : Call) (n q call scheme : ℕ) (kept held : List ℕ) (s e : List ℤ) (ps : List (List ℕ)) → n % 16 ≡ 0 → Fit q n n (joined ps) s → length e ≡ 8 * n →
+    length kept ≡ 64 → length held ≡ 16 * n → Below wrap held → WithinRows n 0 ps →
+    reduced q (sumsOf n (steps k n (laid call scheme 0 kept (secretWords k n s) (wordsOf wrap e) held) ps)) ≡ mixed k q n (joined ps) s e
 
 -- ---- the same as whole
 

@@ -9,7 +9,7 @@
 use mathlib.Core.Path.{_≡_, refl, sym, ap}
 use mathlib.Core.Bool.{Bool, true, false}
 use mathlib.Core.List.{List}
-use Prim.Native.Nat.{ℕ, _+_, _*_, _%_, _<_, _≤_}
+use Prim.Native.Nat.{ℕ, _+_, _*_, _%_, _^_, _<_, _≤_}
 use native.Mathlib.Omega.{arith}
 use native.Mathlib.Nat.{le-of-eq, mul-le-mul}
 use borrow.Author.Tests.{leb-true, eqb-true, eq-eqb, le-leb, lt-leb}
@@ -108,14 +108,16 @@ pub record Frodos (f : Fixed) : Type 0 where
   pub coins : f .coins ≡ 0
   pub words : 65536 % f .q ≡ 0
   pub sixteens : f .n % 16 ≡ 0
+  pub power : f .q ≡ 2 ^ f .width
+  pub coinbits : f .coinbits ≡ 0
 
 pub frodos : (c : Scheme) → familyOf c ≡ Family.Frodo → Frodos (fixedOf c)
 frodos Bcns e = not-bcns e
 frodos NewHope e = not-newhope e
-frodos Challenge e = record { seed = refl; coins = refl; words = refl; sixteens = refl }
-frodos Classical e = record { seed = refl; coins = refl; words = refl; sixteens = refl }
-frodos Recommended e = record { seed = refl; coins = refl; words = refl; sixteens = refl }
-frodos Paranoid e = record { seed = refl; coins = refl; words = refl; sixteens = refl }
+frodos Challenge e = record { seed = refl; coins = refl; words = refl; sixteens = refl; power = refl; coinbits = refl }
+frodos Classical e = record { seed = refl; coins = refl; words = refl; sixteens = refl; power = refl; coinbits = refl }
+frodos Recommended e = record { seed = refl; coins = refl; words = refl; sixteens = refl; power = refl; coinbits = refl }
+frodos Paranoid e = record { seed = refl; coins = refl; words = refl; sixteens = refl; power = refl; coinbits = refl }
 
 unknown-is : {X : Type 0} {c : Scheme} → Unknown ≡ Is c → X
 unknown-is e = let z : _≡_ {A = ℕ} 0 1 = cc in absurd (omega arith)
