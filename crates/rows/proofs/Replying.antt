@@ -2,7 +2,6 @@
 --   opened-tests         5 cannot arise in the unpack step: q is a power of 2, as wide as a packed number
 --   no-coins-hints, no-coins-keys   hints and key entries whatever the coins are
 --   no-flips             zeros serve as coins
---   three-more           three tests more
 --   middle-long          the part of the state for V
 --   Sized, begin-sized   what passed sizes of begin say
 --   begin-failed, begin-decides, begun-by   its verdict by the test that decides, and its promise by its verdict
@@ -74,10 +73,6 @@ module _ (c : Scheme) (frodo : familyOf c ≡ Family.Frodo) where
         long = length-replicate {A = ℕ} 64 0 ∙ sym (numbers-in c frodo .groups);
         below = subst (λ (b : ℕ). Below (2 ^ b) (replicate 64 0)) (sym (frodos c frodo .coinbits)) (record { below = equal-all (λ (y : ℕ). y < 1) 0 64 (omega arith) });
       }
-
--- three tests more, one after the other
-pub three-more : (v a b d : Verdict) → v then a then b then d ≡ v then (a then b then d)
-three-more v a b d = then-assoc (v then a) b d ∙ then-assoc v a (b then d) ∙ ap (λ (w : Verdict). v then w) (sym (then-assoc a b d))
 
 -- ---- begin
 

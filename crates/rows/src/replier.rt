@@ -59,12 +59,11 @@ fn begin_sizes(
     front::length_is(v, room, 16 * f.n + 67)
 }
 
-// One test more.
-fn secrets(v: Verdict, scheme: Scheme, s1: &[i32], e1: &[i32], e2: &[i32]) -> Verdict
-    ensures { λ r. ⌜ r ≡ v then replySecrets scheme (was s1) (was e1) (was e2) ⌝ }
+fn secrets(scheme: Scheme, s1: &[i32], e1: &[i32], e2: &[i32]) -> Verdict
+    ensures { λ r. ⌜ r ≡ replySecrets scheme (was s1) (was e1) (was e2) ⌝ }
 {
     let f = scheme.fixed();
-    let v = front::secrets_in(v, f.largest, s1);
+    let v = front::secrets_in(Verdict::Pass, f.largest, s1);
     let v = front::secrets_in(v, f.largest, e1);
     front::secrets_in(v, f.largest, e2)
 }
@@ -119,7 +118,7 @@ fn lay_state(
     lay_words(n, s1, e1, &mut state[67..]);
 }
 
-// Where the sizes have passed: the opening's numbers into b, the rest of the tests, and the state.
+// Where the sizes have passed: the opening's numbers into b, the rest of the tests, and the state. A refused opening ends the call here.
 fn begin_sized(
     scheme: Scheme,
     n: usize,
@@ -137,7 +136,11 @@ fn begin_sized(
     ensures { λ r. ⌜ left state ≡ put r (replyState (Is scheme) (replyBeginOf (was opening) (was s1) (was e1) (was e2))) (was state) ⌝ }
 {
     let v = wire::take_opening(scheme, opening, b);
-    let v = secrets(v, scheme, s1, e1, e2);
+    let Verdict::Pass = v else {
+        lists::zero_numbers(state);
+        return v;
+    };
+    let v = secrets(scheme, s1, e1, e2);
     match v {
         Verdict::Fail(r) => Verdict::Fail(r),
         Verdict::Pass => {
