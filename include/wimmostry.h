@@ -165,6 +165,9 @@
  *   or that was begun for the other of the two calls, counts as none: 11. The other numbers (the
  *   secret, the sums and the rows held back, as words of 16 bits, two in a number) may be anything,
  *   so that changing them is not found out, but makes another message.
+ * - A state belongs to one build of the library and to one byte order. Its first number changes
+ *   with the layout, so that a state of a build with another layout, or of a machine with the other
+ *   byte order, counts as none: 11.
  * - A part is laid into the state as words, and held back there until sixteen rows have come, which
  *   then enter the sums together: the part that ends them takes the time of all sixteen, the others
  *   that of a copy.

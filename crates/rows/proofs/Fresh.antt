@@ -28,8 +28,7 @@ use Rattle.front.specs.declared.Verdict.the-variants.{Pass, Fail}
 use Rattle.front.specs.declared.Refusal.the-variants.{OutOfTurn}
 use Rattle.front.proofs.Laws.{turn-passes}
 use Rattle.ends.proofs.Numbers.{numbers-in}
-use Rattle.running.specs.State.{long, named, taken, keptOf, secretOf, sumsOf, heldOf, laid, keptIn, begun, complete, terms}
-use Rattle.running.specs.State as state
+use Rattle.running.specs.State.{tagOf, frodoOf, long, named, taken, keptOf, secretOf, sumsOf, heldOf, laid, keptIn, begun, complete, terms}
 use Rattle.rows.specs.Runs.{Parts, joined, steps, WithinRows}
 use Rattle.rows.specs.Shown.{secretWords, mixed, Once}
 use Rattle.running.specs.declared.Call.{Call}
@@ -135,7 +134,7 @@ pub record Left (k : Call) (c : Scheme) (kept : List ℕ) (s e : List ℤ) (xs l
 
 -- as begin lays it
 abbrev pub begins : Call → Scheme → List ℕ → List ℤ → List ℤ → List ℕ
-begins k c kept s e = laid (state.numberOf k) (numberOf c) 0 kept (secretWords k (fixedOf c .n) s) (wordsOf wrap e) (replicate (16 * fixedOf c .n) 0)
+begins k c kept s e = laid (tagOf k) (numberOf c) 0 kept (secretWords k (fixedOf c .n) s) (wordsOf wrap e) (replicate (16 * fixedOf c .n) 0)
 
 module _ (k : Call) (c : Scheme) (kept : List ℕ) (s e : List ℤ) (frodo : familyOf c ≡ Family.Frodo) (kl : length kept ≡ 64)
     (kb : keptIn k (fixedOf c .q) kept ≡ true) (sl : length s ≡ fixedOf c .secret) (sw : Within 6 s) (el : length e ≡ fixedOf c .noise) where
@@ -175,24 +174,24 @@ module _ (k : Call) (c : Scheme) (kept : List ℕ) (s e : List ℤ) (frodo : fam
         let z = length-replicate {A = ℕ} (16 * n) 0 in
         let w = zeros-below (16 * n) in
         let b = cut-words frodo cut in
-        let kept-same = last-kept k n (state.numberOf k) (numberOf c) kept zeros s e kl z w sl' el' (f .some) ps (cut .rows) b in
-        let count = last-taken k n (state.numberOf k) (numberOf c) kept zeros s e kl z w sl' el' (f .some) ps (cut .rows) b in
+        let kept-same = last-kept k n (tagOf k) (numberOf c) kept zeros s e kl z w sl' el' (f .some) ps (cut .rows) b in
+        let count = last-taken k n (tagOf k) (numberOf c) kept zeros s e kl z w sl' el' (f .some) ps (cut .rows) b in
         record {
           is-named =
-              ap state.frodoOf (last-scheme k n (state.numberOf k) (numberOf c) kept zeros s e kl z w sl' el' (f .some) ps (cut .rows) b)
+              ap frodoOf (last-scheme k n (tagOf k) (numberOf c) kept zeros s e kl z w sl' el' (f .some) ps (cut .rows) b)
               ∙ number-names c frodo;
           counted = count;
           kept-is = kept-same;
           has-begun =
               starts k (fixedOf c) (steps k n (begins k c kept s e) ps)
               (record {
-                is-long = last-long k n (state.numberOf k) (numberOf c) kept zeros s e kl z w sl' el' (f .some) ps (cut .rows) b;
-                is-call = last-call k n (state.numberOf k) (numberOf c) kept zeros s e kl z w sl' el' (f .some) ps (cut .rows) b;
+                is-long = last-long k n (tagOf k) (numberOf c) kept zeros s e kl z w sl' el' (f .some) ps (cut .rows) b;
+                is-call = last-call k n (tagOf k) (numberOf c) kept zeros s e kl z w sl' el' (f .some) ps (cut .rows) b;
                 at-most = omega (arith, count, cut .few);
                 kept-in = ap (keptIn k (fixedOf c .q)) kept-same ∙ kb;
               });
           below = cut .below;
-          sums = λ all. once k n (fixedOf c .q) (state.numberOf k) (numberOf c) kept zeros s e ps (frodos c frodo .sixteens) (fit all) el' kl z w (cut .rows);
+          sums = λ all. once k n (fixedOf c .q) (tagOf k) (numberOf c) kept zeros s e ps (frodos c frodo .sixteens) (fit all) el' kl z w (cut .rows);
         }
 
     of-cut : Left k c kept s e (joined ps) last

@@ -29,7 +29,7 @@ use Rattle.front.specs.declared.Verdict.{Verdict}
 use Rattle.front.specs.declared.Verdict.the-variants.{Fail}
 use Rattle.front.specs.declared.Refusal.the-variants.{NoScheme, OutOfTurn}
 use Rattle.wire.specs.Wire.{opening}
-use Rattle.running.specs.State.{long, named, keptOf, sumsOf, laid, complete}
+use Rattle.running.specs.State.{tagOf, long, named, keptOf, sumsOf, laid, complete}
 use Rattle.running.specs.declared.Call.{Call}
 
 -- ---- begin
@@ -51,7 +51,7 @@ offerBeginTests (Is c) x m = offerBeginSizes c x m then secretsIn (fixedOf c .la
 unfoldable pub offerState : Named → OfferBegin → List ℕ
 offerState Unknown x = []
 offerState (Is c) x =
-    laid 1 (numberOf c) 0 (x .seed ++ replicate 48 0) (columnsOf wrap (fixedOf c .n) (x .s)) (wordsOf wrap (x .e)) (replicate (16 * fixedOf c .n) 0)
+    laid (tagOf Call.Offer) (numberOf c) 0 (x .seed ++ replicate 48 0) (columnsOf wrap (fixedOf c .n) (x .s)) (wordsOf wrap (x .e)) (replicate (16 * fixedOf c .n) 0)
 
 pub record OfferBegun (c : Named) (x : OfferBegin) (number place stateRoom : ℕ) (after : List ℕ) : Type 0 where
   pub told : Told (offerBeginTests c x stateRoom) number place

@@ -31,7 +31,7 @@ use Rattle.ends.specs.Keys.{hints, keys}
 use Rattle.wire.specs.Wire.{openedIn, numbersIn}
 use Rattle.reply.specs.Reply.{replySecrets, number, place, counts}
 use Rattle.reply.specs.declared.ReplyAnswer.{ReplyAnswer}
-use Rattle.running.specs.State.{long, named, keptOf, laid, complete}
+use Rattle.running.specs.State.{tagOf, long, named, keptOf, laid, complete}
 use Rattle.rows.specs.Offer.{sentPart}
 use Rattle.running.specs.declared.Call.{Call}
 
@@ -58,7 +58,7 @@ valueOf c x = mixedValue c (numbersIn c (openedIn c (x .opening))) (x .s') (x .e
 unfoldable pub replyState : Named → ReplyBegin → List ℕ
 replyState Unknown x = []
 replyState (Is c) x =
-    laid 2 (numberOf c) 0 (valueOf c x) (wordsOf wrap (x .s')) (wordsOf wrap (x .e')) (replicate (16 * fixedOf c .n) 0)
+    laid (tagOf Call.Reply) (numberOf c) 0 (valueOf c x) (wordsOf wrap (x .s')) (wordsOf wrap (x .e')) (replicate (16 * fixedOf c .n) 0)
 
 pub record ReplyBegun (c : Named) (x : ReplyBegin) (number place stateRoom : ℕ) (after : List ℕ) : Type 0 where
   pub told : Told (replyBeginTests c x stateRoom) number place

@@ -2,7 +2,7 @@
 // `requires`: each ends with an answer or a numbered refusal. A refused begin zeroes the state; a refused part or end leaves it as it was, and every output
 // zero, and may be tried again; a good end zeroes it.
 ghost use mathlib.Core.Path.{_≡_};
-ghost use Rattle.running.specs.State.{frodoOf, numberOf};
+ghost use Rattle.running.specs.State.{frodoOf};
 ghost use Rattle.running.specs.Part.{Takes};
 ghost use Rattle.rows.specs.Offer.{OfferBegins, OfferEnds};
 ghost use Rattle.rows.specs.Reply.{ReplyBegins, ReplyEnds};

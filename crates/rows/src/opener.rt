@@ -17,7 +17,7 @@ ghost use Rattle.front.specs.Steps.{Laid};
 ghost use Rattle.front.specs.declared.Verdict.the-variants.{Pass};
 ghost use Rattle.ends.specs.Fit.{Counted};
 ghost use Rattle.wire.specs.Wire.{opening};
-ghost use Rattle.running.specs.State.{laid, named, begun};
+ghost use Rattle.running.specs.State.{tagOf, laid, named, begun};
 ghost use Rattle.rows.specs.Offer.{offerBeginOf, offerBeginSizes, offerBeginTests, sentPart, offerEndSizes, offerEndMessage, OfferBegins, OfferEnds};
 ghost use Rattle.running.specs.Inside.{Sized};
 use front::Answer;
@@ -91,9 +91,9 @@ fn lay_words(n: usize, s: &[i32], e: &[i32], out: &mut [u32])
 fn lay_state(number: u32, n: usize, s: &[i32], e: &[i32], seed: &[u8], state: &mut [u32])
     requires { ⌜ Sized n (now state) × (now state ≡ replicate (length (now state)) 0) ⌝ }
     requires { ⌜ (length (now s) ≡ 8 * n) × (length (now e) ≡ 8 * n) × (length (now seed) ≡ 16) ⌝ }
-    ensures { λ _. ⌜ left state ≡ laid 1 number 0 (was seed ++ replicate 48 0) (columnsOf wrap n (was s)) (wordsOf wrap (was e)) (replicate (16 * n) 0) ⌝ }
+    ensures { λ _. ⌜ left state ≡ laid (tagOf Call.Offer) number 0 (was seed ++ replicate 48 0) (columnsOf wrap n (was s)) (wordsOf wrap (was e)) (replicate (16 * n) 0) ⌝ }
 {
-    state[0] = 1;
+    state[0] = Call::OFFER_TAG;
     state[1] = number;
     lay_seed(seed, &mut state[3..67]);
     lay_words(n, s, e, &mut state[67..]);

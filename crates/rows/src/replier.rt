@@ -22,7 +22,7 @@ ghost use Rattle.ends.specs.Values.{mixedValue};
 ghost use Rattle.ends.specs.Keys as settled;
 ghost use Rattle.wire.specs.Wire.{openedIn};
 ghost use Rattle.reply.specs.Reply.{replySecrets};
-ghost use Rattle.running.specs.State.{long, laid, named, begun};
+ghost use Rattle.running.specs.State.{tagOf, long, laid, named, begun};
 ghost use Rattle.rows.specs.Offer.{sentPart};
 ghost use Rattle.rows.specs.Reply.{
   replyBeginOf,
@@ -110,9 +110,9 @@ fn lay_state(
     requires { ⌜ (length (now state) ≡ long n) × (now state ≡ replicate (length (now state)) 0) ⌝ }
     requires { ⌜ Counted (fixedOf scheme .secret) (fixedOf scheme .q) (now b) × (length (now e1) ≡ fixedOf scheme .noise) ⌝ }
     requires { ⌜ Small (fixedOf scheme .secret) (fixedOf scheme .largest) (now s1) × Small (fixedOf scheme .mixed) (fixedOf scheme .largest) (now e2) ⌝ }
-    ensures { λ _. ⌜ left state ≡ laid 2 (numberOf scheme) 0 (mixedValue scheme (was b) (was s1) (was e2)) (wordsOf wrap (was s1)) (wordsOf wrap (was e1)) (replicate (16 * n) 0) ⌝ }
+    ensures { λ _. ⌜ left state ≡ laid (tagOf Call.Reply) (numberOf scheme) 0 (mixedValue scheme (was b) (was s1) (was e2)) (wordsOf wrap (was s1)) (wordsOf wrap (was e1)) (replicate (16 * n) 0) ⌝ }
 {
-    state[0] = 2;
+    state[0] = Call::REPLY_TAG;
     state[1] = scheme.number();
     ends::values::mix(scheme, b, s1, e2, &mut state[3..67]);
     lay_words(n, s1, e1, &mut state[67..]);

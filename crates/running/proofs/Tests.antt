@@ -28,7 +28,7 @@ use Rattle.lists.proofs.First.{none-found}
 use Rattle.lists.proofs.First as first
 use Rattle.lists.proofs.Table.{both-true}
 use Rattle.ends.proofs.Numbers.{Frodo}
-use Rattle.running.specs.State.{frodoIn, frodoOf, numberOf, long, taken, keptOf, _and_, allBelow, keptIn, begun, fitsIn, complete}
+use Rattle.running.specs.State.{frodoIn, frodoOf, tagOf, long, taken, keptOf, _and_, allBelow, keptIn, begun, fitsIn, complete}
 use Rattle.running.specs.declared.Call.{Call}
 
 pub stops : {t : Bool} (b : Bool) → t ≡ false → false ≡ t and b
@@ -55,7 +55,7 @@ below-all b xs h = eq-eqb _ _ (none-found (λ x. leb b x) 0 xs (λ k. lt-leb _ _
 
 pub record Started (k : Call) (f : Fixed) (st : List ℕ) : Type 0 where
   pub is-long : length st ≡ long (f .n)
-  pub is-call : getD st 0 0 ≡ numberOf k
+  pub is-call : getD st 0 0 ≡ tagOf k
   pub at-most : taken st ≤ f .n * f .n
   pub kept-in : keptIn k (f .q) (keptOf st) ≡ true
 

@@ -1,5 +1,5 @@
 -- The lent running state: 02, request e. One layout for both calls, of 16 n + 67 numbers:
---   0          the call that has begun: 1 Offer, 2 Reply
+--   0          the call that has begun: 3 Offer, 4 Reply
 --   1          the scheme's number, 2 to 5
 --   2          how many numbers of A have come, 0 to n n: the next stands at row taken / n and column taken % n
 --   3 .. 66    what is kept for the end: Offer the seed's 16 bytes, then zeros; Reply the 64 values of V, below q
@@ -8,7 +8,10 @@
 --   67 + 8n .. the numbers of the rows that are held back until sixteen have come, as 16 n words, two in each number; what lies behind them is of no account
 -- Words wrap at 2^16, so every number of 32 bits is a pair of them: only the first 67 have a range.
 -- Any other list is no state: nothing has begun.
+-- Number 0 tells the layout as well as the call. 1 and 2 told the calls in earlier layouts, which were as long. Every change of the layout takes two numbers that no
+-- layout has had: then a state of another build is out of range, and counts as none, where it would else give a wrong message.
 --   frodoOf k            the scheme that a number names, where it is one of Frodo's
+--   tagOf k              number 0 of a state in which the call k has begun
 --   long n               how many numbers a state has
 --   named, taken, keptOf, secretOf, sumsOf, heldOf   its parts
 --   laid                 a state of its parts
@@ -43,9 +46,9 @@ frodoIn (Is c) = by (familyOf c) Unknown Unknown (Is c)
 abbrev pub frodoOf : ℕ → Named
 frodoOf k = frodoIn (schemeOf k)
 
-abbrev pub numberOf : Call → ℕ
-numberOf Call.Offer = 1
-numberOf Call.Reply = 2
+abbrev pub tagOf : Call → ℕ
+tagOf Call.Offer = 3
+tagOf Call.Reply = 4
 
 -- ---- the layout
 
@@ -89,7 +92,7 @@ keptIn Call.Reply q kept = allBelow q kept
 
 unfoldable pub begun : Call → Fixed → List ℕ → Bool
 begun k f st =
-    eqb (length st) (long (f .n)) and eqb (getD st 0 0) (numberOf k) and leb (taken st) (f .n * f .n) and keptIn k (f .q) (keptOf st)
+    eqb (length st) (long (f .n)) and eqb (getD st 0 0) (tagOf k) and leb (taken st) (f .n * f .n) and keptIn k (f .q) (keptOf st)
 
 -- 11: a part that runs past the row or past the last row
 unfoldable pub fitsIn : ℕ → ℕ → ℕ → Bool

@@ -1,7 +1,7 @@
 // Frodo by rows: 02, request e: the lent running state (`specs/State.antt`), and what a part of A does to it (`specs/Part.antt`), in Offer and in Reply. How a call
 // begins and ends is crate `rows`.
 ghost use mathlib.Core.Path.{_≡_};
-ghost use Rattle.running.specs.State.{numberOf};
+ghost use Rattle.running.specs.State.{tagOf};
 
 pub mod part;
 pub mod state;
@@ -13,12 +13,17 @@ pub enum Call {
 }
 
 impl Call {
-    fn number(self) -> u32
-        ensures { λ r. ⌜ r ≡ numberOf self ⌝ }
+    // Number 0 of a state in which Offer, or Reply, has begun. Both numbers change with the layout: see `specs/State.antt`.
+    pub const OFFER_TAG: u32 = 3;
+
+    pub const REPLY_TAG: u32 = 4;
+
+    fn tag(self) -> u32
+        ensures { λ r. ⌜ r ≡ tagOf self ⌝ }
     {
         match self {
-            Call::Offer => 1,
-            Call::Reply => 2,
+            Call::Offer => Call::OFFER_TAG,
+            Call::Reply => Call::REPLY_TAG,
         }
     }
 }

@@ -71,7 +71,7 @@ fn has_begun(call: Call, f: Fixed, state: &[u32]) -> bool
     if state.len() != 16 * f.n + 67 {
         return false;
     }
-    if state[0] != call.number() {
+    if state[0] != call.tag() {
         return false;
     }
     if f.n * f.n < state[2] as usize {

@@ -2,7 +2,7 @@
 //!
 //! | from | numbers |
 //! |---|---|
-//! | 0 | the call: 1 Offer, 2 Reply |
+//! | 0 | the call: 3 Offer, 4 Reply (in earlier layouts 1 and 2) |
 //! | 1 | the scheme, 2 to 5 |
 //! | 2 | how many numbers of A have come, up to n n |
 //! | 3 | Offer: the seed's 16 bytes, then 48 zeros; Reply: the 64 values of V, below q |
@@ -16,6 +16,8 @@
 use super::{Carried, State};
 use crate::schemes::{scheme, Family, Scheme};
 
+const OFFER: u32 = 3;
+const REPLY: u32 = 4;
 const CARRIED: usize = 3;
 const SECRET: usize = CARRIED + 64;
 
@@ -43,8 +45,8 @@ pub fn parse(lent: &[u32]) -> Option<State> {
     let [secret, sums, held] = [secret, sums, held].map(words);
     let carried = &lent[CARRIED..SECRET];
     let (carried, secret) = match call {
-        1 => (seed(scheme, carried)?, turned(&secret, 8)),
-        2 => (values(scheme, carried)?, secret),
+        OFFER => (seed(scheme, carried)?, turned(&secret, 8)),
+        REPLY => (values(scheme, carried)?, secret),
         _ => return None,
     };
     Some(State {
@@ -81,9 +83,9 @@ pub fn lay(state: &State) -> Vec<u32> {
         Carried::Seed(seed) => {
             let mut carried: Vec<u32> = seed.iter().map(|&byte| byte.into()).collect();
             carried.resize(64, 0);
-            (1, carried, turned(&state.secret, state.scheme.n))
+            (OFFER, carried, turned(&state.secret, state.scheme.n))
         }
-        Carried::V(v) => (2, v.clone(), state.secret.clone()),
+        Carried::V(v) => (REPLY, v.clone(), state.secret.clone()),
     };
     let head = [call, state.scheme.number as u32, state.come as u32];
     let [secret, sums, held] = [&secret, &state.sums, &state.held].map(|words| pairs(words));

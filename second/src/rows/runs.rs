@@ -261,7 +261,7 @@ pub fn damaged(scheme: &'static Scheme, which: Which, come: usize, seed: u64) ->
             states.push(state);
         }
     };
-    with(0, &[0, 1, 2, 3, 257, 258, u32::MAX]);
+    with(0, &[0, 1, 2, 3, 4, 5, 259, 260, u32::MAX]);
     with(1, &[0, 1, 2, 3, 4, 5, 6, 258, u32::MAX]);
     with(
         2,

@@ -98,7 +98,7 @@ fn offers_state_by_hand() {
     (inputs.e[7 * 8 + 2], inputs.e[3]) = (-1, 1);
     assert_eq!(offer_begin(&inputs, &mut state), Ok(()));
     let mut expected = vec![0; 5699];
-    (expected[0], expected[1], expected[2]) = (1, 2, 0);
+    (expected[0], expected[1], expected[2]) = (3, 2, 0);
     for at in 0..16 {
         expected[3 + at] = 240 + at as u32;
     }
@@ -183,7 +183,7 @@ fn replys_state_by_hand() {
     opening[16..].copy_from_slice(&second::packing::pack(&packed, 11));
     assert_eq!(reply_begin(&inputs, &opening, &mut state), Ok(()));
     let mut expected = vec![0; 5699];
-    (expected[0], expected[1], expected[2]) = (2, 2, 0);
+    (expected[0], expected[1], expected[2]) = (4, 2, 0);
     (expected[3], expected[3 + 63], expected[3 + 2 * 8 + 1]) = (2046, 3, 2043);
     // Words 708 and 2485 of the secret, 2121 of the sums.
     let (sums, held) = (67 + 4 * n, 67 + 8 * n);
@@ -562,7 +562,7 @@ fn a_state_out_of_range_counts_as_none() {
             state[at] = number;
             parse(&state).is_some()
         };
-        for call in [0, 3, 4, 257, u32::MAX] {
+        for call in [0, 1, 2, 5, 259, u32::MAX] {
             assert!(!fine(0, call));
         }
         for number in [0, 1, 3, 4, 5, 6, 258, u32::MAX] {

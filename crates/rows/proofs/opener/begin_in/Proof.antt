@@ -10,7 +10,8 @@ use Rattle.schemes.specs.declared.Named.the-variants.{Is}
 use Rattle.ends.proofs.Numbers.{numbers-in}
 use Rattle.front.specs.declared.Verdict.the-variants.{Pass}
 use Rattle.matrix.specs.Steps.{wordsOf, columnsOf}
-use Rattle.running.specs.State.{laid}
+use Rattle.running.specs.State.{tagOf, laid}
+use Rattle.running.specs.declared.Call.{Call}
 use Rattle.rows.specs.Offer.{offerBeginOf, offerBeginTests, offerState}
 use Rattle.running.proofs.Tests.{frodos}
 use Rattle.rows.proofs.Opening.{begin-sized, begin-failed, begin-done}
@@ -55,8 +56,8 @@ returns-2 c =
     let a = s .args in
     begin-done (passes o)
     (l .lay-state .ensures
-    ∙ ap (λ (k : ℕ). laid 1 k 0 (a .seed .now ++ replicate 48 0) (columnsOf 65536 (f .fixed .result .n) (a .s .now)) (wordsOf 65536 (a .e .now)) (replicate (16 * f .fixed .result .n) 0)) (m .number .ensures)
-    ∙ ap (λ (g : Fixed). laid 1 (numberOf (a .scheme)) 0 (a .seed .now ++ replicate 48 0) (columnsOf 65536 (g .n) (a .s .now)) (wordsOf 65536 (a .e .now)) (replicate (16 * g .n) 0)) (f .fixed .ensures))
+    ∙ ap (λ (k : ℕ). laid (tagOf Call.Offer) k 0 (a .seed .now ++ replicate 48 0) (columnsOf 65536 (f .fixed .result .n) (a .s .now)) (wordsOf 65536 (a .e .now)) (replicate (16 * f .fixed .result .n) 0)) (m .number .ensures)
+    ∙ ap (λ (g : Fixed). laid (tagOf Call.Offer) (numberOf (a .scheme)) 0 (a .seed .now ++ replicate 48 0) (columnsOf 65536 (g .n) (a .s .now)) (wordsOf 65536 (a .e .now)) (replicate (16 * g .n) 0)) (f .fixed .ensures))
 
 pub begin-in-spec : {M : Type 1} → statement M
 begin-in-spec =

@@ -16,7 +16,8 @@ use Rattle.wire.specs.Wire.{openedIn, numbersIn}
 use Rattle.wire.proofs.Travel.{message-counted}
 use Rattle.reply.specs.Reply.{replySecrets}
 use Rattle.reply.proofs.Replying.{secrets-small}
-use Rattle.running.specs.State.{long, laid}
+use Rattle.running.specs.State.{tagOf, long, laid}
+use Rattle.running.specs.declared.Call.{Call}
 use Rattle.rows.specs.Reply.{ReplyBegin, replyBeginOf, valueOf, replyState}
 use Rattle.rows.proofs.Replying.{Sized, begin-sized, opened-tests}
 use borrow.Author.Needs.{needs}
@@ -112,9 +113,9 @@ returns-3 c =
     let a = start t .args in (
       sym (g .enum-told3 .given .1) ∙ tested s,
       l .lay-state .ensures
-          ∙ ap (λ (xs : List ℕ). laid 2 (numberOf (a .scheme)) 0 (mixedValue (a .scheme) xs (a .s1 .now) (a .e2 .now)) (wordsOf wrap (a .s1 .now)) (wordsOf wrap (a .e1 .now)) (replicate (16 * a .n) 0))
+          ∙ ap (λ (xs : List ℕ). laid (tagOf Call.Reply) (numberOf (a .scheme)) 0 (mixedValue (a .scheme) xs (a .s1 .now) (a .e2 .now)) (wordsOf wrap (a .s1 .now)) (wordsOf wrap (a .e1 .now)) (replicate (16 * a .n) 0))
           (t .take-opening .ensures .1)
-          ∙ ap (λ (k : ℕ). laid 2 (numberOf (a .scheme)) 0 (mixedValue (a .scheme) (numbersIn (a .scheme) (openedIn (a .scheme) (a .opening .now))) (a .s1 .now) (a .e2 .now)) (wordsOf wrap (a .s1 .now)) (wordsOf wrap (a .e1 .now)) (replicate (16 * k) 0))
+          ∙ ap (λ (k : ℕ). laid (tagOf Call.Reply) (numberOf (a .scheme)) 0 (mixedValue (a .scheme) (numbersIn (a .scheme) (openedIn (a .scheme) (a .opening .now))) (a .s1 .now) (a .e2 .now)) (wordsOf wrap (a .s1 .now)) (wordsOf wrap (a .e1 .now)) (replicate (16 * k) 0))
           (start t .pre .0 .1),
     )
 

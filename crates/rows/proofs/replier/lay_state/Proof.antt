@@ -12,7 +12,8 @@ use Rattle.parts.specs.Parts.{wrap}
 use Rattle.ends.specs.Values.{mixedValue}
 use Rattle.ends.proofs.Numbers.{Frodo, numbers-in}
 use Rattle.ends.proofs.Ranges.{mixed-counted}
-use Rattle.running.specs.State.{long, laid}
+use Rattle.running.specs.State.{tagOf, long, laid}
+use Rattle.running.specs.declared.Call.{Call}
 use Rattle.running.proofs.Laying.{laid-long, headed-long, behind-zeros, lay-is}
 use Rattle.rows.proofs.Replying.{middle-long}
 use Rattle.rows.proofs.replier.lay_state.Statement.{statement}
@@ -50,7 +51,7 @@ mix-requires : tie.Need-mix-requires
 mix-requires c κs =
     let n : tie.After-number = search needs in
     let b = start n in (
-      (b .pre .1 .1 .0 .0, middle-long (b .args .state .now) 2 (n .number .result) (omega (arith, b .pre .1 .0 .0)) ∙ sym (frodo b .mixed)),
+      (b .pre .1 .1 .0 .0, middle-long (b .args .state .now) (tagOf Call.Reply) (n .number .result) (omega (arith, b .pre .1 .0 .0)) ∙ sym (frodo b .mixed)),
       b .pre .1 .1 .1,
     )
 
@@ -59,14 +60,14 @@ sub-lay-words c =
     let m : tie.After-mix = search needs in
     let n = numbered m in
     let b = start n in
-    omega (arith, headed-long (b .args .n) 2 (n .number .result) (b .args .state .now) (b .pre .1 .0 .0) (b .pre .1 .0 .1) (m .mix .ensures) (kept-long b))
+    omega (arith, headed-long (b .args .n) (tagOf Call.Reply) (n .number .result) (b .args .state .now) (b .pre .1 .0 .0) (b .pre .1 .0 .1) (m .mix .ensures) (kept-long b))
 
 part-lay-words-start : tie.Need-part-lay-words-start
 part-lay-words-start c =
     let m : tie.After-mix = search needs in
     let n = numbered m in
     let b = start n in
-    omega (arith, headed-long (b .args .n) 2 (n .number .result) (b .args .state .now) (b .pre .1 .0 .0) (b .pre .1 .0 .1) (m .mix .ensures) (kept-long b))
+    omega (arith, headed-long (b .args .n) (tagOf Call.Reply) (n .number .result) (b .args .state .now) (b .pre .1 .0 .0) (b .pre .1 .0 .1) (m .mix .ensures) (kept-long b))
 
 lay-words-requires : tie.Need-lay-words-requires
 lay-words-requires c κs =
@@ -76,7 +77,7 @@ lay-words-requires c κs =
       omega (arith, b .pre .0 .1, frodo b .few),
       s-long b,
       e-long b,
-      behind-zeros (b .args .n) 2 (n .number .result) (b .args .state .now) (b .pre .1 .0 .0) (b .pre .1 .0 .1) (m .mix .ensures) (kept-long b),
+      behind-zeros (b .args .n) (tagOf Call.Reply) (n .number .result) (b .args .state .now) (b .pre .1 .0 .0) (b .pre .1 .0 .1) (m .mix .ensures) (kept-long b),
     )
 
 same-length : tie.Need-same-length
@@ -88,8 +89,8 @@ same-length c =
     let a = b .args in
     let secret = wordsOf wrap (a .s1 .now) in
     let noise = wordsOf wrap (a .e1 .now) in
-    ap length (lay-is (a .n) 2 (n .number .result) (a .state .now) (b .pre .1 .0 .0) (b .pre .1 .0 .1) (kept b) secret noise (kept-long b) (m .mix .ensures) (w .lay-words .ensures))
-    ∙ laid-long (a .n) 2 (n .number .result) 0 (kept b) secret noise (replicate (16 * a .n) 0) (kept-long b) (words-length wrap (a .s1 .now) ∙ s-long b) (words-length wrap (a .e1 .now) ∙ e-long b) (length-replicate {A = ℕ} (16 * a .n) 0)
+    ap length (lay-is (a .n) (tagOf Call.Reply) (n .number .result) (a .state .now) (b .pre .1 .0 .0) (b .pre .1 .0 .1) (kept b) secret noise (kept-long b) (m .mix .ensures) (w .lay-words .ensures))
+    ∙ laid-long (a .n) (tagOf Call.Reply) (n .number .result) 0 (kept b) secret noise (replicate (16 * a .n) 0) (kept-long b) (words-length wrap (a .s1 .now) ∙ s-long b) (words-length wrap (a .e1 .now) ∙ e-long b) (length-replicate {A = ℕ} (16 * a .n) 0)
     ∙ sym (b .pre .1 .0 .0)
 
 returns : tie.Need-returns
@@ -101,8 +102,8 @@ returns c =
     let a = b .args in
     let secret = wordsOf wrap (a .s1 .now) in
     let noise = wordsOf wrap (a .e1 .now) in
-    lay-is (a .n) 2 (n .number .result) (a .state .now) (b .pre .1 .0 .0) (b .pre .1 .0 .1) (kept b) secret noise (kept-long b) (m .mix .ensures) (w .lay-words .ensures)
-    ∙ ap (λ (k : ℕ). laid 2 k 0 (kept b) secret noise (replicate (16 * a .n) 0)) (n .number .ensures)
+    lay-is (a .n) (tagOf Call.Reply) (n .number .result) (a .state .now) (b .pre .1 .0 .0) (b .pre .1 .0 .1) (kept b) secret noise (kept-long b) (m .mix .ensures) (w .lay-words .ensures)
+    ∙ ap (λ (k : ℕ). laid (tagOf Call.Reply) k 0 (kept b) secret noise (replicate (16 * a .n) 0)) (n .number .ensures)
 
 pub lay-state-spec : {M : Type 1} → statement M
 lay-state-spec =

@@ -17,8 +17,8 @@ returns-2 : tie.Need-returns-2
 unfolding begun
 returns-2 c =
     let i : tie.Else1 = search needs in
-    let m : tie.After-number = search needs in
-    goes (eq-eqb _ _ (i .if1 .left)) (stops _ (ne-eqb _ _ (λ e. c .if2 .taken (e ∙ sym (m .number .ensures)))))
+    let m : tie.After-tag = search needs in
+    goes (eq-eqb _ _ (i .if1 .left)) (stops _ (ne-eqb _ _ (λ e. c .if2 .taken (e ∙ sym (m .tag .ensures)))))
 
 mul-if3 : tie.Need-mul-if3
 mul-if3 c = let s : tie.Start = search needs in record { fits = omega (arith, square (s .args .f .n) (s .pre)) }
@@ -31,8 +31,8 @@ unfolding begun
 returns-3 c =
     let i : tie.Else1 = search needs in
     let j : tie.Else2 = search needs in
-    let m : tie.After-number = search needs in
-    goes (eq-eqb _ _ (i .if1 .left)) (goes (eq-eqb _ _ (j .if2 .left ∙ m .number .ensures)) (stops _ (lt-leb _ _ (c .if3 .taken))))
+    let m : tie.After-tag = search needs in
+    goes (eq-eqb _ _ (i .if1 .left)) (goes (eq-eqb _ _ (j .if2 .left ∙ m .tag .ensures)) (stops _ (lt-leb _ _ (c .if3 .taken))))
 
 kept-in-requires : tie.Need-kept-in-requires
 kept-in-requires c κs =
@@ -46,8 +46,8 @@ returns-4 c =
     let i : tie.Else1 = search needs in
     let j : tie.Else2 = search needs in
     let l : tie.Else3 = search needs in
-    let m : tie.After-number = search needs in
-    goes (eq-eqb _ _ (i .if1 .left)) (goes (eq-eqb _ _ (j .if2 .left ∙ m .number .ensures)) (goes (le-leb _ _ (l .if3 .left)) (c .kept-in .ensures)))
+    let m : tie.After-tag = search needs in
+    goes (eq-eqb _ _ (i .if1 .left)) (goes (eq-eqb _ _ (j .if2 .left ∙ m .tag .ensures)) (goes (le-leb _ _ (l .if3 .left)) (c .kept-in .ensures)))
 
 pub has-begun-spec : {M : Type 1} → statement M
 has-begun-spec =
