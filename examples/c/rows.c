@@ -5,7 +5,8 @@
  *
  * Both boxes run here one after the other, each on a stack of its own that was filled with a
  * pattern, so that it can be told how much memory each took: its own buffers, which are a struct,
- * and its stack. Fails where the keys differ or a box took more than MOST bytes.
+ * and its stack. Then each begins again, and its state is made that of another build. Fails where
+ * the keys differ, a box took more than MOST bytes or a call takes that state.
  */
 #define _POSIX_C_SOURCE 200809L
 
@@ -183,6 +184,53 @@ static int zero(const uint32_t *state)
     return 1;
 }
 
+static int zero_bytes(const uint8_t *bytes, size_t count)
+{
+    for (size_t i = 0; i < count; i++)
+        if (bytes[i] != 0)
+            return 0;
+    return 1;
+}
+
+/* A state of another build counts as none, since its first number is another: in earlier layouts 1
+ * for Offer and 2 for Reply. An empty part and an end are refused with 11, though all of A has come
+ * by the state's count. They leave the state as it was, and the outputs zero. */
+static uint32_t was[STATE];
+static uint8_t message[sizeof opening + sizeof reply], key[sizeof other.key], digest[WIM_DIGEST];
+
+static void another_build(uint32_t *state, uint32_t first)
+{
+    state[0] = first;
+    state[2] = ROW * ROW;
+    memcpy(was, state, sizeof was);
+    memset(message, PATTERN, sizeof message);
+    memset(key, PATTERN, sizeof key);
+    memset(digest, PATTERN, sizeof digest);
+}
+
+static int counts_as_none(void)
+{
+    uint64_t place, written, key_written, digest_written;
+    int fine = wim_rows_offer_begin(scheme->number, one.s, S, one.e, S, one.seed, SEED, one.state,
+                                    STATE, &place) == WIM_DONE;
+
+    another_build(one.state, 1);
+    fine = fine && wim_rows_offer_part(NULL, 0, one.state, STATE, &place) == WIM_OUT_OF_TURN &&
+           wim_rows_offer_end(one.state, STATE, message, sizeof message, &place, &written) ==
+               WIM_OUT_OF_TURN &&
+           memcmp(was, one.state, sizeof was) == 0 && zero_bytes(message, sizeof message) &&
+           wim_rows_reply_begin(scheme->number, opening, sizeof opening, other.s1, S, other.e1, S,
+                                other.e2, E2, other.state, STATE, &place) == WIM_DONE;
+    another_build(other.state, 2);
+    return fine &&
+           wim_rows_reply_part(NULL, 0, other.state, STATE, &place) == WIM_OUT_OF_TURN &&
+           wim_rows_reply_end(other.state, STATE, message, sizeof message, key, sizeof key, digest,
+                              sizeof digest, &place, &written, &key_written, &digest_written) ==
+               WIM_OUT_OF_TURN &&
+           memcmp(was, other.state, sizeof was) == 0 && zero_bytes(message, sizeof message) &&
+           zero_bytes(key, sizeof key) && zero_bytes(digest, sizeof digest);
+}
+
 int main(void)
 {
     void *stack = NULL;
@@ -193,7 +241,7 @@ int main(void)
     fine = fine && show("the initiator's finish", sizeof one, taken(stack, finish));
     fine = fine && zero(one.state) && zero(other.state) &&
            memcmp(one.key, other.key, sizeof one.key) == 0 &&
-           memcmp(one.digest, other.digest, WIM_DIGEST) == 0;
+           memcmp(one.digest, other.digest, WIM_DIGEST) == 0 && counts_as_none();
     printf("%s by rows: %s; A would have taken %zu bytes\n", scheme->name,
            fine ? "both boxes have one key" : "it failed",
            (size_t)WIM_FRODO_RECOMMENDED_A * sizeof(uint32_t));

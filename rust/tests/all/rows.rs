@@ -6,6 +6,7 @@
 use crate::generator::Generator;
 use crate::inputs::Inputs;
 use crate::lent::Lent;
+use second::refusal::refusal;
 use second::rows::{any_state, begin, damaged, run, state_count, Call, Cut, Seen, Which};
 use second::schemes::{Scheme, SIX};
 use std::collections::BTreeMap;
@@ -235,6 +236,73 @@ fn damaged_states() {
     }
     assert!(numbers.keys().eq(&[0, 4, 11]), "{numbers:?}");
     assert!(numbers.values().all(|&count| count > 300), "{numbers:?}");
+}
+
+/// The state that the archive's begin leaves, and that state with its count at the end
+/// of A, where an end has its turn.
+fn begun(scheme: &'static Scheme, which: Which) -> [Vec<u32>; 2] {
+    let (call, mut state) = (begin(scheme, which, 31), vec![7; state_count(scheme)]);
+    let told = make(&call, &Given::of(&call), &mut state, &mut []);
+    assert_eq!(told, Ok(vec![]));
+    let mut full = state.clone();
+    full[2] = (scheme.n * scheme.n) as u32;
+    [state, full]
+}
+
+/// Every part and end of both calls is refused with 11, place 0, leaves the state as it
+/// was and its outputs zero.
+fn counts_as_none(scheme: &Scheme, state: &[u32]) {
+    for call in calls(scheme) {
+        let seen = Seen {
+            refusal: Some(refusal(11, 0)),
+            written: vec![],
+            outputs: rooms(&call).into_iter().map(|room| vec![0; room]).collect(),
+        };
+        held(&call, &mut Lent::new(state, 9), &seen, state);
+    }
+}
+
+/// In earlier layouts the first number of a state was 1 in Offer and 2 in Reply: what a
+/// build of that time has begun counts as none.
+#[test]
+fn a_state_of_an_earlier_layout() {
+    for scheme in frodo() {
+        for (which, earlier) in BOTH.into_iter().zip([1, 2]) {
+            for mut state in begun(scheme, which) {
+                assert_ne!(state[0], earlier);
+                state[0] = earlier;
+                counts_as_none(scheme, &state);
+            }
+        }
+    }
+}
+
+/// Each of the first 67 numbers out of range, one at a time: call, scheme, count and the
+/// 64 that are kept.
+#[test]
+fn each_number_out_of_range() {
+    for scheme in frodo() {
+        let (n, q) = (scheme.n as u32, scheme.q as u32);
+        for which in BOTH {
+            for good in begun(scheme, which) {
+                for at in 0..67 {
+                    let beyond = match (at, which) {
+                        (0, _) => vec![0, 1, 2, 5],
+                        (1, _) => (0..8).filter(|&k| k != good[1]).collect(),
+                        (2, _) => vec![n * n + 1],
+                        (3..19, Which::Offer) => vec![256],
+                        (_, Which::Offer) => vec![1],
+                        (_, Which::Reply) => vec![q],
+                    };
+                    for number in [beyond, vec![1 << 31, u32::MAX]].concat() {
+                        let mut state = good.clone();
+                        state[at] = number;
+                        counts_as_none(scheme, &state);
+                    }
+                }
+            }
+        }
+    }
 }
 
 /// States in range with any numbers in them, of which the sums may wrap and the words
