@@ -11,6 +11,7 @@ import sys
 import time
 
 LF = b"\n"
+LEAST = 1000  # inputs in a run
 # what stands where a number should
 ODD_NUMBERS = [b"", b"00", b"01", b"0000000000", b"00000000000", b"0123456789", b"1234567890", b"12345678901", b"99999999999", b"10000000000",
                b"18446744073709551616", b"4294967296", b"+1", b"-1", b"-0", b" 1", b"1 ", b"1\t", b"\t1", b"1.0", b"1e1", b"0x1", b"a", b"1a", b"a1", b"1\r", b"1\0",
@@ -92,7 +93,8 @@ def inputs(groups):
 
 
 def held(name, doc, groups, slow):
-    """The script's words, all inputs of the groups, and those of slow in pieces; it ends the script."""
+    """The script's words, all inputs of the groups, and those of slow in pieces; it ends the script. A group
+    without an input fails, and so do fewer inputs than LEAST."""
     if len(sys.argv) not in (3, 4):
         sys.exit(doc)
     first = command(sys.argv[1])
@@ -119,5 +121,11 @@ def held(name, doc, groups, slow):
 
     print("inputs:", sum(counts.values()), ", ".join(f"{g} {n}" for g, n in counts.items()))
     print("answers:", ", ".join(f"{k.decode().strip()} {n}" for k, n in sorted(answers.items())))
+    empty = [group for group in [*(group.__name__ for group in groups), "slow"] if group not in counts]
+    few = sum(counts.values()) < LEAST
+    if empty:
+        print("no input in:", ", ".join(empty))
+    if few:
+        print(f"fewer than {LEAST} inputs")
     print("all the same" if wrong == 0 else f"{wrong} differ")
-    sys.exit(wrong != 0)
+    sys.exit(wrong != 0 or few or empty != [])
