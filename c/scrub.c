@@ -28,6 +28,9 @@ typedef uint64_t wide;
 #define ZERO_REGISTERS
 #endif
 
+/* The loop writes 64 bytes at a time; with another WIM_STACK this does not compile. */
+typedef char stack_is_a_multiple_of_64[WIM_STACK % 64 == 0 ? 1 : -1];
+
 /*
  * No compiler drops a write to what is volatile. There is no call to memset: where the linker
  * looks that up at its first call, it saves registers below all that is overwritten here.
