@@ -117,8 +117,9 @@
  *   alone: it can be the key that is used, as the print of NewHope has it, or be shown, not both.
  *   Whoever sees one can try keys against it, and Frodo Challenge's have 8 bytes.
  * - Wiping. A refused call leaves nothing in its outputs. But parts of secrets and keys stay
- *   behind on the stack below the caller's frame, as after any function, until wim_scrub
- *   overwrites them; and the caller's own buffers are the caller's to wipe.
+ *   behind on the stack below the caller's frame and in registers, as after any function, until
+ *   wim_scrub overwrites them; and the caller's own buffers are the caller's to wipe, and what the
+ *   caller's own copies of a key leave in registers.
  * - Time. Nothing is promised about how long a call takes, nor that its time does not depend on
  *   secrets; SECRETS AND TIME below has what was measured.
  *
@@ -297,7 +298,9 @@
  * and the call take no more than WIM_STACK together. Several calls in a row need it once.
  * examples/c/residue.c looks on the stack for secrets, keys and intermediate values after each
  * call, in all schemes: it finds many before the scrub and none after it, and what the
- * call used is then zero but for less than 64 bytes next to the caller's frame.
+ * call used is then zero but for less than 64 bytes next to the caller's frame. After the scrub
+ * every vector register that the processor has is as it was before the call, or zero, and a
+ * signal's frame, which holds all registers, has no part of a key.
  *
  *
  * SECRETS AND TIME
@@ -833,10 +836,10 @@ WIM_MUST_USE uint32_t wim_settings_write(uint32_t scheme, uint32_t rule,
                                          uint64_t *place, uint64_t *written);
 
 /*
- * Overwrites what a call may have left on the stack below the caller's frame; see STACK above. The
- * registers of the processor's base set that a function may change are zeroed too, where the
- * compiler that built the archive can do that (GCC 11, clang 15); what memcpy leaves in wider ones
- * stays.
+ * Overwrites what a call may have left on the stack below the caller's frame; see STACK above. It
+ * zeroes the general registers and the vector registers that a function may change besides: on
+ * x86-64 xmm0 to xmm15, on Arm v0 to v7 and v16 to v31. The calls leave nothing in others or in
+ * wider ones: they call no function from outside the archive, not even memcpy.
  */
 void wim_scrub(void);
 

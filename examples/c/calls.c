@@ -88,6 +88,17 @@ static uint32_t bench(struct lent *l)
                      &l->slack, &l->slack_index);
 }
 
+/* Byte by byte: memcpy leaves some of what it copies in vector registers, where residue.c would
+ * take it for what a call has left. */
+static void lay(void *to, const void *from, size_t count)
+{
+    volatile uint8_t *d = to;
+    const uint8_t *s = from;
+
+    for (size_t i = 0; i < count; i++)
+        d[i] = s[i];
+}
+
 void stand(struct lent *l, uint8_t stage)
 {
     memset(l->session, 0, sizeof l->session);
@@ -96,7 +107,7 @@ void stand(struct lent *l, uint8_t stage)
     l->session[WIM_SESSION_STAGE] = stage;
     l->session[WIM_SESSION_SCHEME] = (uint8_t)l->scheme->number;
     if (stage == WIM_STAGE_KEYED)
-        memcpy(l->session + WIM_SESSION_KEY, l->key, l->scheme->key);
+        lay(l->session + WIM_SESSION_KEY, l->key, l->scheme->key);
 }
 
 static uint32_t session_offer(struct lent *l)
@@ -144,7 +155,7 @@ void stand_all(struct lent *l, uint8_t stage)
     for (size_t i = 0; i < WIM_STUDIOS; i++) {
         uint8_t *record = l->rack + WIM_RECORD * i;
         record[WIM_RECORD_STUDIO] = (uint8_t)i;
-        memcpy(record + WIM_RECORD_SESSION, l->session, WIM_SESSION);
+        lay(record + WIM_RECORD_SESSION, l->session, WIM_SESSION);
     }
 }
 
@@ -211,7 +222,7 @@ static uint32_t settings_read(struct lent *l)
 /* The state that a call by rows starts from; whether there are rows at all. */
 static int ready(struct lent *l, const uint32_t *state)
 {
-    memcpy(l->state, state, sizeof l->state);
+    lay(l->state, state, sizeof l->state);
     return l->scheme->state != 0;
 }
 

@@ -1,5 +1,5 @@
 /*
- * What a call leaves on the stack below its caller, before and after wim_scrub.
+ * What a call leaves on the stack below its caller and in registers, before and after wim_scrub.
  *
  * A thread makes one accepted call on a stack filled with a pattern, calls wim_scrub or does not,
  * and waits; the stack is then searched for every secret input, key and inner value: for any 16
@@ -10,12 +10,19 @@
  * Not every inner value has a name that can be searched for. So after the scrub the touched stack
  * must besides be zero as a whole, but for NEAREST bytes next to the caller's frame, where the
  * caller's own registers and the scrub's return address stand.
+ *
+ * The vector registers are filled with a pattern before the call and looked at right after the
+ * scrub: each byte of them must be zero or still the pattern, and no 8 bytes of a key or a digest
+ * may stand there. Then a signal comes, for which the system lays all registers on the thread's
+ * stack; 8 bytes of a key or a digest may not stand in that frame either.
  */
 #define _POSIX_C_SOURCE 200809L
 
 #include "inner.h"
+#include "registers.h"
 
 #include <pthread.h>
+#include <signal.h>
 #include <stdatomic.h>
 #include <stdio.h>
 #include <stdlib.h>
@@ -31,8 +38,20 @@ static const struct call *call;
 static int scrubs;
 static uint32_t refusal;
 static uint8_t *frame;
-static uint8_t left[SIZE + 1]; /* the stack as the call left it */
-static atomic_int waits, goes;
+static uint8_t left[SIZE + 1];  /* the stack as the call left it */
+static uint8_t laid[SIZE];      /* the stack with a signal's frame on it */
+static uint8_t kept[REGISTERS]; /* the vector registers as the call left them */
+static size_t registers;        /* how many bytes they are */
+static atomic_int waits, goes, stopped;
+
+/* Stays on the stack while that is being copied. */
+static void stop(int unused)
+{
+    (void)unused;
+    atomic_store(&stopped, 1);
+    while (!atomic_load(&goes))
+        ;
+}
 
 static void *caller(void *unused)
 {
@@ -40,9 +59,11 @@ static void *caller(void *unused)
 
     (void)unused;
     frame = &here;
+    registers_fill(PATTERN);
     refusal = call->make(&lent);
     if (scrubs)
         wim_scrub();
+    registers = registers_keep(kept);
     /* No function is called while the stack is being copied, so that nothing of it changes. */
     atomic_store(&waits, 1);
     while (!atomic_load(&goes))
@@ -50,7 +71,8 @@ static void *caller(void *unused)
     return NULL;
 }
 
-/* Makes the call and keeps the bytes below its caller's frame; how many, or 0 where it failed. */
+/* Makes the call and keeps the bytes below its caller's frame, as they are and as they are after a
+ * signal; how many, or 0 where it failed. */
 static size_t run(uint8_t *stack)
 {
     pthread_attr_t attributes;
@@ -60,6 +82,7 @@ static size_t run(uint8_t *stack)
     memset(stack, PATTERN, SIZE);
     atomic_store(&waits, 0);
     atomic_store(&goes, 0);
+    atomic_store(&stopped, 0);
     if (pthread_attr_init(&attributes) != 0 ||
         pthread_attr_setstack(&attributes, stack, SIZE) != 0 ||
         pthread_create(&thread, &attributes, caller, NULL) != 0)
@@ -68,10 +91,14 @@ static size_t run(uint8_t *stack)
         ;
     depth = (size_t)(frame - stack);
     memcpy(left, stack, depth);
+    if (pthread_kill(thread, SIGUSR1) == 0)
+        while (!atomic_load(&stopped))
+            ;
+    memcpy(laid, stack, depth);
     atomic_store(&goes, 1);
     pthread_join(thread, NULL);
     pthread_attr_destroy(&attributes);
-    return refusal == WIM_DONE ? depth : 0;
+    return refusal == WIM_DONE && atomic_load(&stopped) ? depth : 0;
 }
 
 /*
@@ -131,8 +158,10 @@ static int stands(size_t count, size_t width, size_t run, size_t from, size_t de
 }
 
 static int found, tells;
-static size_t from; /* below it nothing was touched */
-static size_t far;  /* the farthest after any call */
+static int in_registers; /* calls that left something of theirs in registers or a signal's frame */
+static size_t from;      /* below it nothing was touched */
+static size_t far;       /* the farthest after any call */
+static size_t shortest;  /* the shortest frame of a signal */
 
 /* One list in each form and width. */
 static void look(const char *name, const int64_t *values, size_t count, size_t run, size_t depth)
@@ -256,6 +285,65 @@ static size_t farthest(size_t depth)
     return depth - at;
 }
 
+/* Whether 8 bytes in a row of a key or a digest stand in some bytes. */
+static int has_key(const uint8_t *bytes, size_t count)
+{
+    const struct {
+        const uint8_t *bytes;
+        size_t count;
+    } keys[] = {{lent.key, lent.scheme->key},
+                {lent.peer_key, lent.scheme->key},
+                {lent.digest, WIM_DIGEST},
+                {lent.peer_digest, WIM_DIGEST}};
+
+    for (size_t k = 0; k < sizeof keys / sizeof *keys; k++)
+        for (size_t i = 0; i + 8 <= keys[k].count; i++) {
+            const uint8_t *run = keys[k].bytes + i;
+            if (memcmp(run, run + 1, 7) == 0)
+                continue; /* a run of one and the same byte says nothing */
+            for (size_t at = 0; at + 8 <= count; at++)
+                if (memcmp(bytes + at, run, 8) == 0)
+                    return 1;
+        }
+    return 0;
+}
+
+/* What the registers hold besides zeros and the pattern. On Arm the caller's part of v8 to v15 is
+ * not the call's. */
+static size_t changed(void)
+{
+    size_t count = 0;
+
+    for (size_t i = 0; i < registers; i++) {
+#if defined(__aarch64__)
+        if (i / 16 >= 8 && i / 16 < 16)
+            continue;
+#endif
+        count += kept[i] != 0 && kept[i] != PATTERN;
+    }
+    return count;
+}
+
+/* Looks at the registers, and at what a signal made of the scrubbed stack: it is zero but for the
+ * signal's frame. */
+static void look_at_registers(size_t depth)
+{
+    const int key = has_key(kept, registers);
+    const size_t others = changed();
+    int framed;
+
+    for (from = 0; from < depth && (laid[from] == PATTERN || laid[from] == 0);)
+        from++;
+    framed = has_key(laid + from, depth - from);
+    if (shortest == 0 || depth - from < shortest)
+        shortest = depth - from;
+    if (key || others > 0 || framed) {
+        in_registers++;
+        printf("%s, %s: in registers %zu bytes%s%s\n", lent.scheme->name, call->name, others,
+               key ? ", a key's among them" : "", framed ? ", and a key's in a signal's frame" : "");
+    }
+}
+
 /* Finds what there is after each call in each scheme; -1 where a call could not be made. */
 static int count_all(uint8_t *stack)
 {
@@ -279,6 +367,8 @@ static int count_all(uint8_t *stack)
             look_for_all(depth);
             if (scrubs && farthest(depth) > far)
                 far = farthest(depth);
+            if (scrubs)
+                look_at_registers(depth);
         }
     }
     return found;
@@ -286,11 +376,14 @@ static int count_all(uint8_t *stack)
 
 int main(int argc, char **argv)
 {
+    struct sigaction action = {.sa_handler = stop};
+    const char *names = registers_found();
     void *stack = NULL;
     int before, after;
 
     tells = argc > 1 && strcmp(argv[1], "all") == 0;
-    if (!read_table() || posix_memalign(&stack, 65536, SIZE) != 0)
+    if (!read_table() || posix_memalign(&stack, 65536, SIZE) != 0 ||
+        sigaction(SIGUSR1, &action, NULL) != 0)
         return EXIT_FAILURE;
     before = count_all(stack);
     scrubs = 1;
@@ -298,6 +391,11 @@ int main(int argc, char **argv)
     printf("secret lists on the stack: %d before wim_scrub, %d after it, and zeros but for the "
            "nearest %zu bytes\n",
            before, after, far);
+    printf("calls that left something in %s, or in a signal's frame of %zu bytes or more: %d\n",
+           names, shortest, in_registers);
     free(stack);
-    return before > 0 && after == 0 && far <= NEAREST ? EXIT_SUCCESS : EXIT_FAILURE;
+    return before > 0 && after == 0 && far <= NEAREST && in_registers == 0 &&
+                   shortest > registers
+               ? EXIT_SUCCESS
+               : EXIT_FAILURE;
 }
