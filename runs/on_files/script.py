@@ -131,8 +131,15 @@ def script(both):
     os.makedirs(os.path.join(tree, "crates/matrix/must-fail"))
     write(os.path.join(tree, "crates/matrix/must-fail/x.edit"), b"")
     hold("script", start() == (7, b"some words\n", b""), "an edit that must fail is no source")
+    bare = lambda: run([shutil.which("bash"), os.path.join(tree, "box"), "x"], env={"PATH": tools})
+    hold("script", bare() == (7, b"x\n", b""), "a fresh program without the kit")
+    write(os.path.join(tree, "crates/matrix/src/lib.rt"), b"newer")
+    done = bare()
+    fine = done[:2] == (7, b"x\n") and done[2].count(b"\n") == 1
+    hold("script", fine and done[2].startswith(b"box: the program is older than the sources"),
+         f"an old program without the kit: {done}")
     shutil.rmtree(os.path.join(tree, "target"))
-    done = run([shutil.which("bash"), os.path.join(tree, "box"), "x"], env={"PATH": tools})
+    done = bare()
     fine = done[0] == 4 and done[1] == b"" and done[2].startswith(b"box: nothing is built yet")
     hold("script", fine, f"neither the kit nor a program: {done}")
     shutil.rmtree(tree)
