@@ -1,5 +1,5 @@
--- What is shown of Frodo by rows: 02, request e. `Once` holds for any n and q that fit, and names no scheme. What is said of a scheme of Frodo's follows from it and
--- from the scheme's numbers, with no case for each scheme.
+-- What is shown of Frodo by rows: 02, request e. `Once` holds for any n and q that fit, and names no scheme. `SameOffer`, `SameReply`, `OfferTaken` and `ReplyTaken`
+-- hold for every scheme of Frodo's; they follow from `Once` and the scheme's numbers, with no case for each scheme.
 --   secretWords k n s   the secret as the state of the call k keeps it
 --   mixed k q n a s e   what the call k sends: AS + E of Offer, S'A + E' of Reply
 --   Once              after all parts of A, cut anywhere but across the end of a row, the remainders by q of the sums are these
