@@ -3,8 +3,8 @@
 
 mod raw {
     extern "C" {
-        pub fn polynomial_mix(q: u32, a: *const u32, an: usize, s: *const i32, sn: usize, e: *const i32, en: usize, out: *mut u32, on: usize);
-        pub fn polynomial_multiply(q: u32, u: *const u32, un: usize, s: *const i32, sn: usize, out: *mut u32, on: usize);
+        pub fn polynomial_mix(a: *const u32, an: usize, s: *const i32, sn: usize, e: *const i32, en: usize, out: *mut u32, on: usize);
+        pub fn polynomial_multiply(u: *const u32, un: usize, s: *const i32, sn: usize, out: *mut u32, on: usize);
         pub fn transform_forward(g: *mut [u32; 1024]);
         pub fn transform_inverse(g: *mut [u32; 1024]);
         pub fn transform_product(a: *mut [u32; 1024], b: *mut [u32; 1024]);
@@ -30,20 +30,20 @@ pub fn fold(x: u64) -> u64 {
     unsafe { raw::numbers_fold(x) }
 }
 
-/// a s + e modulo X^n + 1 and q, where n is how many entries `out` has.
-pub fn polynomial_mix(q: u32, a: &[u32], s: &[i32], e: &[i32], out: &mut [u32]) {
+/// a s + e modulo X^n + 1 and BCNS's q, where n is how many entries `out` has.
+pub fn polynomial_mix(a: &[u32], s: &[i32], e: &[i32], out: &mut [u32]) {
     let n = out.len();
     debug_assert!(1 <= n && n <= 1024 && a.len() == n && s.len() == n && e.len() == n);
-    debug_assert!(below(q, a) && within(51, s));
-    unsafe { raw::polynomial_mix(q, a.as_ptr(), n, s.as_ptr(), n, e.as_ptr(), n, out.as_mut_ptr(), n) }
+    debug_assert!(below(u32::MAX, a) && within(51, s));
+    unsafe { raw::polynomial_mix(a.as_ptr(), n, s.as_ptr(), n, e.as_ptr(), n, out.as_mut_ptr(), n) }
 }
 
-/// u s modulo X^n + 1 and q.
-pub fn polynomial_multiply(q: u32, u: &[u32], s: &[i32], out: &mut [u32]) {
+/// u s modulo X^n + 1 and BCNS's q.
+pub fn polynomial_multiply(u: &[u32], s: &[i32], out: &mut [u32]) {
     let n = out.len();
     debug_assert!(1 <= n && n <= 1024 && u.len() == n && s.len() == n);
-    debug_assert!(below(q, u) && within(51, s));
-    unsafe { raw::polynomial_multiply(q, u.as_ptr(), n, s.as_ptr(), n, out.as_mut_ptr(), n) }
+    debug_assert!(below(u32::MAX, u) && within(51, s));
+    unsafe { raw::polynomial_multiply(u.as_ptr(), n, s.as_ptr(), n, out.as_mut_ptr(), n) }
 }
 
 pub fn transform_forward(g: &mut [u32; 1024]) {

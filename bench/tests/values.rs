@@ -51,7 +51,7 @@ fn x_to_the_1023_times_x_is_minus_1() {
 
     let x: [i32; 1024] = std::array::from_fn(|i| i32::from(i == 1));
     let mut out = [9; 1024];
-    kernels::polynomial_multiply(u32::MAX, &monomial(1023), &x, &mut out);
+    kernels::polynomial_multiply(&monomial(1023), &x, &mut out);
     assert_eq!(out, minus_1(u32::MAX));
 }
 
@@ -88,34 +88,37 @@ fn remainders_by_folding() {
     ends.chain(drawn).for_each(|x| assert_eq!(kernels::fold(x), x % q, "{x}"));
 }
 
-fn ring(q: u32, a: &[u32], s: &[i32], e: &[i32]) {
-    let product = polynomial::product(&wide(a), &signed(s), q.into());
+fn ring(a: &[u32], s: &[i32], e: &[i32]) {
+    let q = u32::MAX.into();
+    let product = polynomial::product(&wide(a), &signed(s), q);
     let mut out = vec![9; a.len()];
-    kernels::polynomial_multiply(q, a, s, &mut out);
+    kernels::polynomial_multiply(a, s, &mut out);
     assert_eq!(wide(&out), product);
-    kernels::polynomial_mix(q, a, s, e, &mut out);
-    assert_eq!(wide(&out), plus(product, e, q.into()));
+    kernels::polynomial_mix(a, s, e, &mut out);
+    assert_eq!(wide(&out), plus(product, e, q));
 }
 
 #[test]
 fn bcns_products() {
     let q = u32::MAX;
     for side in [-51, 51] {
-        ring(q, &[q - 1; 1024], &[side; 1024], &[side; 1024]);
-        ring(q, &[q / 2; 1024], &[side; 1024], &[-side; 1024]);
+        ring(&[q - 1; 1024], &[side; 1024], &[side; 1024]);
+        ring(&[q / 2; 1024], &[side; 1024], &[-side; 1024]);
     }
     for seed in 0..10 {
         let mut draw = Draw::new(seed);
-        ring(q, &draw.numbers(1024, q), &draw.secrets(1024, 51), &draw.secrets(1024, 51));
+        ring(&draw.numbers(1024, q), &draw.secrets(1024, 51), &draw.secrets(1024, 51));
     }
 }
 
 #[test]
-fn products_over_other_rings() {
-    for q in [1, 2, 3, 52, 12289, 2147483648, u32::MAX - 4] {
-        for n in [1, 2, 3, 7, 64, 255] {
-            let mut draw = Draw::new(q % 1000);
-            ring(q, &draw.numbers(n, q), &draw.secrets(n, 51), &draw.secrets(n, 51));
+fn products_of_other_lengths() {
+    let q = u32::MAX;
+    for n in [1, 2, 3, 7, 64, 65, 66, 128, 130, 255, 1000] {
+        ring(&vec![q - 1; n], &vec![51; n], &vec![-51; n]);
+        for seed in 0..7 {
+            let mut draw = Draw::new(seed);
+            ring(&draw.numbers(n, q), &draw.secrets(n, 51), &draw.secrets(n, 51));
         }
     }
 }

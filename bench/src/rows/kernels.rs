@@ -43,13 +43,13 @@ fn bcns(rows: &mut dyn Rows) {
     let mut draw = Draw::new(2);
     let (a, s, e) = (draw.numbers(1024, q), draw.secrets(1024, 51), draw.secrets(1024, 51));
     let (mut x, mut y, mut z, mut h) = ([0; 1024], [0; 1024], [0; 1024], [0; 1024]);
-    kernels::polynomial_mix(q, &a, &s, &e, &mut x);
+    kernels::polynomial_mix(&a, &s, &e, &mut x);
     polynomial::mix(q, &a, &s, &e, &mut y);
     polynomial::mix_by_windows(q, &a, &s, &e, &mut z);
     polynomial::mix_by_halves(q, &a, &s, &e, &mut h);
     assert!(x == y && x == z && x == h, "all four give one product");
 
-    let mut mix = || kernels::polynomial_mix(q, black_box(&a), &s, &e, &mut x);
+    let mut mix = || kernels::polynomial_mix(black_box(&a), &s, &e, &mut x);
     rows.row("BCNS, as + e", "plain rule", &mut mix, &mut || polynomial::mix(q, black_box(&a), &s, &e, &mut y));
     rows.row("BCNS, as + e", "whole windows, a division an entry", &mut mix, &mut || polynomial::mix_by_windows(q, black_box(&a), &s, &e, &mut z));
     rows.row("BCNS, as + e", "the same halves", &mut mix, &mut || polynomial::mix_by_halves(q, black_box(&a), &s, &e, &mut h));

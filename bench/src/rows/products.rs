@@ -42,7 +42,7 @@ fn in_the_exchange(rows: &mut dyn Rows) {
     let (mut x, mut y, mut scratch) = ([0; 1024], [0; 1024], [0; 6144]);
     let (lent, mut message) = (Lent::drawn(&BCNS, 11), vec![0; BCNS.opening_bytes()]);
     let mut ours = || halves(black_box(&a), black_box(&b), &mut x, &mut scratch);
-    let mut window = || kernels::polynomial_multiply(u32::MAX, black_box(&a), black_box(&s), &mut y);
+    let mut window = || kernels::polynomial_multiply(black_box(&a), black_box(&s), &mut y);
     rows.row("Product, L = 1024", "our kernel for small secrets", &mut ours, &mut window);
     rows.row("Product, L = 1024", "our Offer in BCNS, whole", &mut ours, &mut || Ours(&lent).offer(&mut message));
 }

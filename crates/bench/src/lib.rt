@@ -19,6 +19,8 @@ use front::Outcome;
 use front::Refusal;
 use lists::Peak;
 use reply::ReplyAnswer;
+use schemes::Bcns;
+use schemes::FrodoParanoid;
 use schemes::Named;
 use schemes::Scheme;
 
@@ -177,7 +179,8 @@ fn run(
     }
 }
 
-// The same with room for messages and keys, each with just the bytes that it has in the scheme, and for one digest, which both ends write.
+// `run` with room for messages and keys, each with just the bytes that it has in the scheme, and for one digest, which both ends write. Frodo Paranoid has the
+// longest messages, and BCNS the longest key.
 fn bench_in(
     scheme: Scheme,
     a: &[u32],
@@ -195,10 +198,10 @@ fn bench_in(
     let m = f.opening;
     let n = f.reply;
     let k = f.key;
-    let mut opening = [0u8; 12976];
-    let mut reply = [0u8; 12968];
-    let mut own = [0u8; 128];
-    let mut peer = [0u8; 128];
+    let mut opening = [0u8; FrodoParanoid::OPENING];
+    let mut reply = [0u8; FrodoParanoid::REPLY];
+    let mut own = [0u8; Bcns::KEY];
+    let mut peer = [0u8; Bcns::KEY];
     let mut digest = [0u8; 32];
     run(
         scheme,
@@ -241,10 +244,10 @@ pub fn bcns(
 ) -> BcnsAnswer
     ensures { λ r. ⌜ BcnsBenches a s e seed s1 e1 e2 coins r ⌝ }
 {
-    let mut opening = [0u8; 4096];
-    let mut reply = [0u8; 4224];
-    let mut own = [0u8; 128];
-    let mut peer = [0u8; 128];
+    let mut opening = [0u8; Bcns::OPENING];
+    let mut reply = [0u8; Bcns::REPLY];
+    let mut own = [0u8; Bcns::KEY];
+    let mut peer = [0u8; Bcns::KEY];
     let mut digest = [0u8; 32];
     let v = from_offer(
         Scheme::Bcns,

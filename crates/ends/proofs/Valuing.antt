@@ -15,7 +15,7 @@ use lib.Dec.{leb, lit≤}
 use lib.ListN.{length}
 use lib.IntN.{ℤ}
 use borrow.Author.Tests.{lt-leb}
-use Rattle.schemes.specs.Schemes.{by, familyOf, fixedOf}
+use Rattle.schemes.specs.Schemes.{bcns, by, familyOf, fixedOf}
 use Rattle.schemes.specs.declared.Family.{Family}
 use Rattle.schemes.specs.declared.Fixed.{Fixed}
 use Rattle.schemes.specs.declared.Scheme.{Scheme}
@@ -94,11 +94,11 @@ noise : {c l b B : ℕ} {e : List ℤ} → c ≡ l → b ≤ B → Small c b e �
 noise t r o = let y = small t r o in (y .long, y .within)
 
 module _ {f : Fixed} {a : List ℕ} {s : List ℤ} {l m n : ℕ} (h : Bare f m n a s l) where
-  bcns-fit : Bcns f → m ≡ 1024 → n ≡ 1024 → polynomial-fit.Fit (f .q) l a s
+  bcns-fit : Bcns f → m ≡ 1024 → n ≡ 1024 → polynomial-fit.Fit (bcns .q) l a s
   bcns-fit k p r =
       let x = counted p (k .q) (h .0 .0) in
       let y : Small 1024 51 s = small (k .secret) (omega arith) (h .1) in
-      rw (k .q, h .0 .1, r)
+      rw (h .0 .1, r)
       (record {
         some = lit≤ tt;
         room = lit≤ tt;
@@ -152,7 +152,7 @@ frodo-fit {a = a} {s = s} h k p t =
     )
 
 bcns-noise-fit : {f : Fixed} {a : List ℕ} {s e : List ℤ} {l m n k : ℕ} → Noised f m n k a s e l → Bcns f → m ≡ 1024 → n ≡ 1024 → k ≡ 1024
-    → polynomial-fit.Fit (f .q) l a s × (length e ≡ l)
+    → polynomial-fit.Fit (bcns .q) l a s × (length e ≡ l)
 bcns-noise-fit h b p r t = (bcns-fit (h .0, h .1 .0) b p r, h .1 .1 .long ∙ t ∙ sym (h .0 .1 ∙ r))
 
 -- ---- in the arms
@@ -172,32 +172,32 @@ newhope-noise-asks h b p r t =
 
 -- as + e with the numbers of the code, and of the definitions
 module _ {X : Fixed → List ℕ → List ℤ → List ℤ → ℕ → Type 0} (t : Told X) where
-  bcns-words : t .room ≡ fixedOf (t .c) .n
-      → polynomial.mixed (t .f .q) (t .room) (t .a) (t .s) (t .e) ≡ polynomial.mixed (fixedOf (t .c) .q) (fixedOf (t .c) .n) (t .a) (t .s) (t .e)
-  bcns-words p = rw (t .fixed, p) refl
+  bcns-words : Bcns (fixedOf (t .c)) → t .room ≡ fixedOf (t .c) .n
+      → polynomial.mixed (bcns .q) (t .room) (t .a) (t .s) (t .e) ≡ polynomial.mixed (fixedOf (t .c) .q) (fixedOf (t .c) .n) (t .a) (t .s) (t .e)
+  bcns-words k p = rw (k .q, p) refl
 
   newhope-words : NewHope (fixedOf (t .c))
       → polynomial.mixed 12289 1024 (inverted (t .a)) (t .s) (t .e) ≡ polynomial.mixed (fixedOf (t .c) .q) (fixedOf (t .c) .n) (inverted (t .a)) (t .s) (t .e)
   newhope-words k = rw (k .q, k .n) refl
 
 module _ (F : Family) (t : Told Multiplying) (i : t .kind ≡ F) where
-  pub multiply-asks : Each F (polynomial-fit.Fit (t .f .q) (t .room) (t .a) (t .s)) (NewHopeAsks (t .a) (t .s) (t .room) × Within 16 (t .s))
+  pub multiply-asks : Each F (polynomial-fit.Fit (bcns .q) (t .room) (t .a) (t .s)) (NewHopeAsks (t .a) (t .s) (t .room) × Within 16 (t .s))
       (matrix-fit.Fit (t .f .q) (t .f .n) 8 (t .a) (t .s) × (t .room ≡ 64))
   multiply-asks =
       arm-asks F (t .c) (sym (t .family) ∙ i)
-      (λ k. rw (t .fixed) (bcns-fit (t .given) k (k .secret) (k .mixed)))
+      (λ k. bcns-fit (t .given) k (k .secret) (k .mixed))
       (λ k. newhope-asks (t .given) k (k .secret) (k .mixed))
       (λ k. rw (t .fixed) (frodo-fit (t .given) k (k .secret) (k .mixed)))
 
   pub multiply-made : {out : List ℕ}
       → out
-      ≡ by F (polynomial.bare (t .f .q) (t .room) (t .a) (t .s)) (polynomial.bare 12289 1024 (inverted (t .a)) (t .s))
+      ≡ by F (polynomial.bare (bcns .q) (t .room) (t .a) (t .s)) (polynomial.bare 12289 1024 (inverted (t .a)) (t .s))
       (matrix.bare (t .f .q) (t .f .n) 8 (t .a) (t .s))
       → out ≡ bareValue (t .c) (t .a) (t .s)
   unfolding bareValue
   multiply-made p =
       in-arm F (t .c) (sym (t .family) ∙ i) p
-      (λ k. rw (t .fixed, t .given .0 .1, k .mixed, k .n) refl)
+      (λ k. rw (k .q, t .given .0 .1, k .mixed, k .n) refl)
       (λ k. rw (k .q, k .n) refl)
       (λ k. rw (t .fixed) refl)
 
@@ -206,20 +206,20 @@ module _ (F : Family) (t : Told Travelling) (i : t .kind ≡ F) where
   some = rw (t .fixed) (omega (arith, sound (t .c) .some))
 
   pub travel-asks : Each F
-      ((0 < t .f .q) × (Below (t .f .q) (t .a) → polynomial-fit.Fit (t .f .q) (t .room) (t .a) (t .s) × (length (t .e) ≡ t .room)))
+      ((0 < t .f .q) × (Below (t .f .q) (t .a) → polynomial-fit.Fit (bcns .q) (t .room) (t .a) (t .s) × (length (t .e) ≡ t .room)))
       ((0 < t .f .q) × (Below (t .f .q) (t .a) → NewHopeAsks (t .a) (t .s) (t .room) × ((length (t .e) ≡ 1024) × (Within 16 (t .s) × Within 16 (t .e)))))
       ((matrix-fit.Shape (t .f .q) (t .f .n) (t .f .n) (t .a) (t .s) × (t .room ≡ 8 * t .f .n)) × (length (t .e) ≡ 8 * t .f .n))
   travel-asks =
       let h = t .given in
       arm-asks F (t .c) (sym (t .family) ∙ i)
-      (λ k. (some, λ b. rw (t .fixed) (bcns-noise-fit (known (fixedOf (t .c)) h (rw (t .fixed) at b)) k (k .public) (k .secret) (k .noise))))
+      (λ k. (some, λ b. bcns-noise-fit (known (fixedOf (t .c)) h (rw (t .fixed) at b)) k (k .public) (k .secret) (k .noise)))
       (λ k. (some, λ b. newhope-noise-asks (known (fixedOf (t .c)) h (rw (t .fixed) at b)) k (k .public) (k .secret) (k .noise)))
       (λ k. rw (t .fixed) (frodo-shape (h .0 .0) (h .0 .1) (h .1 .0) _ k (k .some) (k .few) (k .public) (k .secret), h .1 .1 .long ∙ k .noise))
 
   -- as the code has it in BCNS and NewHope, and as the definitions have it; z and z' in Frodo
   abbrev Run : List ℕ → List ℕ
   Run z =
-      by F (polynomial.mixed (t .f .q) (t .room) (t .a) (t .s) (t .e)) (transformed (polynomial.mixed 12289 1024 (inverted (t .a)) (t .s) (t .e))) z
+      by F (polynomial.mixed (bcns .q) (t .room) (t .a) (t .s) (t .e)) (transformed (polynomial.mixed 12289 1024 (inverted (t .a)) (t .s) (t .e))) z
 
   travel-made : {out z z' : List ℕ} → out ≡ Run z → z ≡ z'
       → out
@@ -227,7 +227,7 @@ module _ (F : Family) (t : Told Travelling) (i : t .kind ≡ F) where
       (transformed (polynomial.mixed (fixedOf (t .c) .q) (fixedOf (t .c) .n) (inverted (t .a)) (t .s) (t .e))) z'
   travel-made p o =
       in-arm F (t .c) (sym (t .family) ∙ i) p
-      (λ k. bcns-words t (t .given .0 .1 ∙ k .secret ∙ sym (k .n)))
+      (λ k. bcns-words t k (t .given .0 .1 ∙ k .secret ∙ sym (k .n)))
       (λ k. ap transformed (newhope-words t k))
       (λ k. o)
 
@@ -251,24 +251,24 @@ module _ (F : Family) (t : Told Travelling) (i : t .kind ≡ F) where
 
 module _ (F : Family) (t : Told Mixing) (i : t .kind ≡ F) where
   pub mix-asks : Each F
-      (polynomial-fit.Fit (t .f .q) (t .room) (t .a) (t .s) × (length (t .e) ≡ t .room))
+      (polynomial-fit.Fit (bcns .q) (t .room) (t .a) (t .s) × (length (t .e) ≡ t .room))
       (NewHopeAsks (t .a) (t .s) (t .room) × ((length (t .e) ≡ 1024) × (Within 16 (t .s) × Within 16 (t .e))))
       ((matrix-fit.Fit (t .f .q) (t .f .n) 8 (t .a) (t .s) × (t .room ≡ 64)) × (length (t .e) ≡ 64))
   mix-asks =
       let h = t .given in
       arm-asks F (t .c) (sym (t .family) ∙ i)
-      (λ k. rw (t .fixed) (bcns-noise-fit h k (k .secret) (k .mixed) (k .mixed)))
+      (λ k. bcns-noise-fit h k (k .secret) (k .mixed) (k .mixed))
       (λ k. newhope-noise-asks h k (k .secret) (k .mixed) (k .mixed))
       (λ k. (rw (t .fixed) (frodo-fit (h .0, h .1 .0) k (k .secret) (k .mixed)), h .1 .1 .long ∙ k .mixed))
 
   pub mix-made : {out : List ℕ}
       → out
-      ≡ by F (polynomial.mixed (t .f .q) (t .room) (t .a) (t .s) (t .e)) (polynomial.mixed 12289 1024 (inverted (t .a)) (t .s) (t .e))
+      ≡ by F (polynomial.mixed (bcns .q) (t .room) (t .a) (t .s) (t .e)) (polynomial.mixed 12289 1024 (inverted (t .a)) (t .s) (t .e))
       (matrix.leftMixed (t .f .q) (t .f .n) 8 8 (t .s) (t .a) (t .e))
       → out ≡ mixedValue (t .c) (t .a) (t .s) (t .e)
   unfolding mixedValue
   mix-made p =
       in-arm F (t .c) (sym (t .family) ∙ i) p
-      (λ k. bcns-words t (t .given .0 .1 ∙ k .mixed ∙ sym (k .n)))
+      (λ k. bcns-words t k (t .given .0 .1 ∙ k .mixed ∙ sym (k .n)))
       (λ k. newhope-words t k)
       (λ k. rw (t .fixed) refl)

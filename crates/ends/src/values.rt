@@ -2,7 +2,7 @@
 ghost use mathlib.Core.Path.{_≡_};
 ghost use Prim.Native.Nat.{_<_};
 ghost use lib.ListN.{length};
-ghost use Rattle.schemes.specs.Schemes.{fixedOf};
+ghost use Rattle.schemes.specs.Schemes.{bcns, fixedOf};
 ghost use Rattle.lists.specs.Lent.{was, left, room};
 ghost use Rattle.lists.specs.Entries.{Below, Within};
 ghost use Rattle.lists.specs.First.{firstOver};
@@ -17,15 +17,15 @@ use schemes::Scheme;
 // as + e in BCNS, where no number of a is q or more. The answer is the place of the first that is, or how many there are.
 fn mix_bcns(q: u32, a: &[u32], s: &[i32], e: &[i32], out: &mut [u32]) -> usize
     requires { ⌜ 0 < q ⌝ }
-    requires { ⌜ (Below q (now a) → Fit q (length (now out)) (now a) (now s) × (length (now e) ≡ length (now out))) ⌝ }
+    requires { ⌜ (Below q (now a) → Fit (bcns .q) (length (now out)) (now a) (now s) × (length (now e) ≡ length (now out))) ⌝ }
     ensures { λ r. ⌜ r ≡ firstOver q (was a) ⌝ }
-    ensures { λ _. ⌜ (Below q (was a) → left out ≡ mixed q (room out) (was a) (was s) (was e)) ⌝ }
+    ensures { λ _. ⌜ (Below q (was a) → left out ≡ mixed (bcns .q) (room out) (was a) (was s) (was e)) ⌝ }
 {
     let at = lists::first_over(q, a);
     if at < a.len() {
         return at;
     }
-    polynomial::mix(q, a, s, e, out);
+    polynomial::mix(a, s, e, out);
     at
 }
 
@@ -106,7 +106,7 @@ pub fn reply(
     let family = scheme.family();
     match family {
         Family::Bcns => {
-            polynomial::mix(f.q, b, s1, e2, v);
+            polynomial::mix(b, s1, e2, v);
             mix_bcns(f.q, a, s1, e1, b)
         }
         Family::NewHope => reply_newhope(f.q, a, s1, e1, e2, b, v),
@@ -126,7 +126,7 @@ pub fn mix(scheme: Scheme, b: &[u32], s1: &[i32], e2: &[i32], out: &mut [u32])
     let f = scheme.fixed();
     let family = scheme.family();
     match family {
-        Family::Bcns => polynomial::mix(f.q, b, s1, e2, out),
+        Family::Bcns => polynomial::mix(b, s1, e2, out),
         Family::NewHope => transform::through::value(b, s1, e2, out),
         Family::Frodo => matrix::mix_eight(f.q, f.n, s1, b, e2, out),
     }
@@ -141,7 +141,7 @@ pub fn multiply(scheme: Scheme, u: &[u32], s: &[i32], out: &mut [u32])
     let f = scheme.fixed();
     let family = scheme.family();
     match family {
-        Family::Bcns => polynomial::multiply(f.q, u, s, out),
+        Family::Bcns => polynomial::multiply(u, s, out),
         Family::NewHope => transform::through::multiply(u, s, out),
         Family::Frodo => matrix::multiply(f.q, f.n, u, s, out),
     }

@@ -1,5 +1,5 @@
 -- What a product by halves promises as a call: 02, request j, and 01, "Refusal numbers and their order".
---   q                        BCNS's modulus
+--   q                        BCNS's modulus, that of `schemes`
 --   sizeUpTo k n             n is 32 times a power of two up to 2^k
 --   sizeIn n                 2: a factor's length is none of those, up to 1024
 --   Factors                  what the call is lent to read: a and b
@@ -15,6 +15,8 @@ use mathlib.Core.List.{List}
 use Prim.Native.Nat.{ℕ, zero, suc, _*_, _^_}
 use lib.Dec.{eqb}
 use lib.ListN.{length, replicate}
+use Rattle.schemes.specs.Schemes.{fixedOf}
+use Rattle.schemes.specs.declared.Scheme.the-variants.{Bcns}
 use Rattle.numbers.specs.Residue.{residue}
 use Rattle.lists.specs.Entries.{tab, nums}
 use Rattle.lists.specs.Lent.{Lent, was, left, room}
@@ -28,7 +30,7 @@ use Rattle.front.specs.declared.Verdict.{Verdict}
 use Rattle.front.specs.declared.Verdict.the-variants.{Pass, Fail}
 
 abbrev pub q : ℕ
-q = 4294967295
+q = fixedOf Bcns .q
 
 unfoldable pub sizeUpTo : ℕ → ℕ → Bool
 sizeUpTo zero n = eqb n 32

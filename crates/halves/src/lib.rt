@@ -1,4 +1,4 @@
-// Products by halves: 02, request j. The product of two polynomials with numbers below BCNS's q, modulo X^L + 1 and q, by 01's plain rule in fewer steps: each
+// Products by halves: 02, request j. The product of two polynomials with numbers below BCNS's q, that of `schemes`, modulo X^L + 1 and q, by 01's plain rule in fewer steps: each
 // product of two factors of n numbers is made of three of half the length, down to 32. `product` is a call and has no `requires`.
 // All work is done in the one slice of 6 L numbers that is lent as scratch: it holds the factors, their product in their place, and the room for it. Every
 // number in it is reduced, by 02b's remainder, so that no step takes a branch on a number.
@@ -15,6 +15,9 @@ ghost use Rattle.halves.specs.Steps.{Size, from, column, Stored, Ahead, 
 use front::Answer;
 use front::Refusal;
 use front::Verdict;
+use schemes::Bcns;
+
+const Q: u64 = Bcns::Q as u64;
 
 fn plus(x: u32, y: u32) -> u32
     ensures { λ r. ⌜ r ≡ (x + y) % q ⌝ }
@@ -25,14 +28,14 @@ fn plus(x: u32, y: u32) -> u32
 fn minus(x: u32, y: u32) -> u32
     ensures { λ r. ⌜ r ≡ (x + (q - y)) % q ⌝ }
 {
-    numbers::fold((x as u64) + (4294967295 - (y as u64))) as u32
+    numbers::fold((x as u64) + (Q - (y as u64))) as u32
 }
 
 // m - x - y
 fn less_both(m: u32, x: u32, y: u32) -> u32
     ensures { λ r. ⌜ r ≡ (m + (q - x) + (q - y)) % q ⌝ }
 {
-    numbers::fold((m as u64) + (4294967295 - (x as u64)) + (4294967295 - (y as u64))) as u32
+    numbers::fold((m as u64) + (Q - (x as u64)) + (Q - (y as u64))) as u32
 }
 
 // The n numbers at x, copied to `to`.
@@ -307,7 +310,7 @@ fn product_tests(a: &[u32], b: &[u32], room: usize, scratch: usize) -> Verdict
     };
     let long = front::length_is(size, b.len(), n);
     let fits = front::room_for(front::room_for(long, room, n), scratch, 6 * n);
-    front::publics_in(front::publics_in(fits, 4294967295, a), 4294967295, b)
+    front::publics_in(front::publics_in(fits, Bcns::Q, a), Bcns::Q, b)
 }
 
 // The product into zeros, where nothing is refused; the scratch is left as it is then.

@@ -2,6 +2,7 @@
 ghost use mathlib.Core.Path.{_≡_};
 ghost use Prim.Native.Nat.{_*_};
 ghost use lib.ListN.{length};
+ghost use Rattle.schemes.specs.Schemes.{bcns};
 ghost use Rattle.lists.specs.Lent.{was, left, room};
 ghost use Rattle.lists.specs.Entries.{Below};
 ghost use Rattle.polynomial.specs.Fit as polynomial;
@@ -11,20 +12,20 @@ ghost use Rattle.matrix.specs.Fit as matrix;
 ghost use Rattle.matrix.specs.Mixing as matrices;
 
 #[no_mangle]
-pub extern "C" fn polynomial_mix(q: u32, a: &[u32], s: &[i32], e: &[i32], out: &mut [u32])
-    requires { ⌜ polynomial.Fit q (length (now out)) (now a) (now s) ⌝ }
+pub extern "C" fn polynomial_mix(a: &[u32], s: &[i32], e: &[i32], out: &mut [u32])
+    requires { ⌜ polynomial.Fit (bcns .q) (length (now out)) (now a) (now s) ⌝ }
     requires { ⌜ length (now e) ≡ length (now out) ⌝ }
-    ensures { λ _. ⌜ left out ≡ polynomials.mixed q (room out) (was a) (was s) (was e) ⌝ }
+    ensures { λ _. ⌜ left out ≡ polynomials.mixed (bcns .q) (room out) (was a) (was s) (was e) ⌝ }
 {
-    polynomial::mix(q, a, s, e, out);
+    polynomial::mix(a, s, e, out);
 }
 
 #[no_mangle]
-pub extern "C" fn polynomial_multiply(q: u32, u: &[u32], s: &[i32], out: &mut [u32])
-    requires { ⌜ polynomial.Fit q (length (now out)) (now u) (now s) ⌝ }
-    ensures { λ _. ⌜ left out ≡ polynomials.bare q (room out) (was u) (was s) ⌝ }
+pub extern "C" fn polynomial_multiply(u: &[u32], s: &[i32], out: &mut [u32])
+    requires { ⌜ polynomial.Fit (bcns .q) (length (now out)) (now u) (now s) ⌝ }
+    ensures { λ _. ⌜ left out ≡ polynomials.bare (bcns .q) (room out) (was u) (was s) ⌝ }
 {
-    polynomial::multiply(q, u, s, out);
+    polynomial::multiply(u, s, out);
 }
 
 #[no_mangle]

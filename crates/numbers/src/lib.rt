@@ -124,10 +124,10 @@ pub fn way_out(y: u32, n: u32) -> u32
     (y + 1) * less + ahead * (1 - less)
 }
 
-// BCNS's q, 2^32 - 1, and 2^30 times that, which is added to signed numbers before they are folded.
+// 2^32 - 1, which is BCNS's q, and 2^30 times that, which is added to signed numbers before they are folded.
 const FULL: u64 = 4294967295;
 
-const ABOVE: i64 = 1073741824 * 4294967295;
+const ABOVE: i64 = 1073741824 * (FULL as i64);
 
 // The high and the low half of x, added.
 fn halves_sum(x: u64) -> u64

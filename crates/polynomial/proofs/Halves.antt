@@ -2,17 +2,20 @@
 --   upper-small, lower-small   each half is at most 32768 in size
 --   lift-low, lift-high, lift-lt   the number and 2147516416 more, with or without q less: by its size, and below 2^32
 --   halves-≅                   65536 upper + lower is the number modulo q
---   negative-zero, negative-rest, minus-under, minus-over   -x and x - y modulo q
+--   negative-zero, negative-rest   -x modulo q
+--   minus-is                   x - y modulo q, with q added once where y is above x
 --   less-fits, narrow-fits, narrow   a half in the machine: from 16 unsigned bits by way of an i32 to an i16
-use mathlib.Core.Path.{_≡_, _∙_, sym, ap, ap₂, subst}
+use mathlib.Core.Bool.{Bool, true, false}
+use mathlib.Core.Path.{_≡_, refl, _∙_, sym, ap, ap₂, subst}
 use Prim.Native.Nat.{ℕ, zero, suc, _+_, _*_, _-_, _/_, _%_, _^_, _≤_, _<_}
 use native.Mathlib.Omega.{arith}
+use lib.Dec.{ltb}
 use native.Mathlib.Decide.{decLt}
 use native.Mathlib.Nat.{div-add-mod, mod-eq-of-lt}
-use borrow.Author.Tests.{lt-ltb, le-ltb}
+use borrow.Author.Tests.{ltb-true, ltb-false, lt-ltb, le-ltb}
 use lib.IntN.{ℤ, pos, negℤ, natAbs, _+ℤ_, _-ℤ_, _*ℤ_}
 use mir.Syntax.{w16, w32}
-use mir.Val.{SFits, toZ, ofZ}
+use mir.Val.{SFits, toZ, ofZ, boolByte}
 use mir.Facts.{toZ-ofZ, sfits-widen}
 use Rattle.numbers.specs.Residue.{residue, _≅⟨_⟩_}
 use Rattle.numbers.proofs.Difference.{diff, pos-diff, pos-sub, diff-≡, diff-ge, diff-lt, diffs, diff-add}
@@ -83,13 +86,27 @@ unfolding residue
 negative-rest q zero h p = absurd (omega arith)
 negative-rest q (suc n) h p = ap (λ (k : ℕ). q - suc k) (sym (mod-eq-of-lt (omega arith)))
 
--- x - y, from y above x and from y at most x
-pub minus-under : (q x y : ℕ) → x < q → y < q → x < y → x + (q - y) ≡ residue q (pos x -ℤ pos y)
+-- x - y, with q added once where y is above x
+minus-under : (q x y : ℕ) → x < q → y < q → x < y → x + (q - y) ≡ residue q (pos x -ℤ pos y)
 minus-under q x y h k l =
     residue-is (omega arith) (record { times = pos 1; equal = pos-diff (x + (q - y)) ∙ diff-≡ _ _ (x + 1 * q) (y + 0) (omega arith) ∙ sym (ap₂ (λ (a b : ℤ). a +ℤ b) (pos-sub x y) (pos-diff (1 * q)) ∙ diff-add x y (1 * q) 0) })
 
-pub minus-over : (q x y : ℕ) → x < q → y ≤ x → x - y ≡ residue q (pos x -ℤ pos y)
+minus-over : (q x y : ℕ) → x < q → y ≤ x → x - y ≡ residue q (pos x -ℤ pos y)
 minus-over q x y h l = residue-is (omega arith) (eq-≅ (sym (pos-sub x y ∙ diff-ge x y l)))
+
+module _ (q x y : ℕ) (hx : x < q) (hy : y < q) where
+  by-test : (b : Bool) → ltb x y ≡ b → (q * boolByte b ≤ q) × (y ≤ x + q * boolByte b) × (x + q * boolByte b - y ≡ residue q (pos x -ℤ pos y))
+  by-test true e =
+      let l = ltb-true x y e in
+      let k : x + q * 1 - y ≡ x + (q - y) = omega arith in
+      (omega arith, omega arith, k ∙ minus-under q x y hx hy l)
+  by-test false e =
+      let l = ltb-false x y e in
+      let k : x + q * 0 - y ≡ x - y = omega arith in
+      (omega arith, omega arith, k ∙ minus-over q x y hx l)
+
+  pub minus-is : (q * boolByte (ltb x y) ≤ q) × (y ≤ x + q * boolByte (ltb x y)) × (x + q * boolByte (ltb x y) - y ≡ residue q (pos x -ℤ pos y))
+  minus-is = by-test (ltb x y) refl
 
 -- ---- a half in the machine
 

@@ -1,16 +1,16 @@
-// Products modulo X^n + 1 and q of public numbers with secrets, which are small and signed: 01, "The calls" (BCNS). The laws of the ring, and that
-// the two ends differ by s'e + e'' - e's, stand in `proofs/`, once over n and q.
+// Products modulo X^n + 1 and q of public numbers with secrets, which are small and signed: 01, "The calls" (BCNS); q is that of `schemes`. The laws of the ring,
+// and that the two ends differ by s'e + e'' - e's, stand in `proofs/`, once over n and q.
 // Entry k of as is the dot product of the secret, its last entry first, with n neighbouring entries of [-a | a], those behind entry k: what passes
 // X^(n - 1) meets -a. The n dot products of a window of 2 n numbers are made of three times n / 2, W1 (s0 + s1), (W0 - W1) s0 and (W2 - W1) s1, where W0, W1
 // and W2 are the three windows of n numbers in it (`proofs/Three.antt`): the secrets double where their number halves, so that the sums keep their bound.
 // Where n is 64 at most, or odd, each number of the window is split into two signed halves of 16 bits, 65536 h + l, so that the sums of the products
-// of a half with the secrets fit an i32; the two sums are put together in an i64, and each entry is reduced once, where q is 4294967295 without a division
-// (02b). Sixty-four products are one expression, which the compiler makes instructions of that multiply and add eight each (pmaddwd); in a plain loop it does
-// not.
+// of a half with the secrets fit an i32; the two sums are put together in an i64, and each entry is reduced once, without a division (02b). Sixty-four
+// products are one expression, which the compiler makes instructions of that multiply and add eight each (pmaddwd); in a plain loop it does not.
 ghost use mathlib.Core.Path.{_≡_};
 ghost use Prim.Native.Nat.{ℕ, _+_, _*_, _%_, _^_, _<_, _≤_, _-_};
 ghost use lib.ListN.{length, getD};
 ghost use lib.IntN.{pos, negℤ, natAbs, _+ℤ_, _-ℤ_, _*ℤ_};
+ghost use Rattle.schemes.specs.Schemes.{bcns};
 ghost use Rattle.numbers.specs.Residue.{residue};
 ghost use Rattle.lists.specs.Entries.{tab, nums, ints, Below, Within};
 ghost use Rattle.lists.specs.Lent.{was, left, room};
@@ -18,6 +18,7 @@ ghost use Rattle.polynomial.specs.Mixing.{mixed, bare};
 ghost use Rattle.polynomial.specs.Fit.{Fit};
 ghost use Rattle.polynomial.specs.Window.{lift, upper, lower, span, slide, Pair};
 ghost use Rattle.polynomial.specs.Steps.{Stored, Ready, Laid, Halved, Made, Joined, Windowed};
+use schemes::Bcns;
 
 // One product. The functions below it are a tree of sums.
 fn product(w: &[i16], s: &[i16], i: usize) -> i32
@@ -196,12 +197,12 @@ fn leaf(q: u32, d: &[u32], t: &mut [i16], o: &mut [i64], n: usize)
     put_together(o, n);
 }
 
-// x - y, reduced.
+// x - y, reduced. The test is a factor 0 or 1, of which the compiler makes fewer instructions than of a branch: 21 for eight numbers in place of 31.
 fn minus(q: u32, x: u32, y: u32) -> u32
     requires { ⌜ (x < q) × (y < q) ⌝ }
     ensures { λ r. ⌜ r ≡ residue q (pos x -ℤ pos y) ⌝ }
 {
-    if x < y { x + (q - y) } else { x - y }
+    ((x as u64) + (q as u64) * ((x < y) as u64) - (y as u64)) as u32
 }
 
 // The n numbers at x less those at y, behind them all.
@@ -361,33 +362,27 @@ fn reverse(s: &[i32], t: &mut [i16])
 }
 
 // A sum with the noise, reduced to 0 .. q - 1.
-fn reduce(q: u32, x: i64, e: i32) -> u32
-    requires { ⌜ (0 < q) × (natAbs x ≤ 2 ^ 60) ⌝ }
-    ensures { λ r. ⌜ r ≡ residue q (x +ℤ e) ⌝ }
+fn reduce(x: i64, e: i32) -> u32
+    requires { ⌜ natAbs x ≤ 2 ^ 60 ⌝ }
+    ensures { λ r. ⌜ r ≡ residue (bcns .q) (x +ℤ e) ⌝ }
 {
-    let sum = x + (e as i64);
-    if q == 4294967295 {
-        numbers::residue_folded(sum)
-    } else {
-        numbers::residue64(sum, q as u64) as u32
-    }
+    numbers::residue_folded(x + (e as i64))
 }
 
-fn entries(q: u32, o: &[i64], e: &[i32], out: &mut [u32])
-    requires { ⌜ (0 < q) × (length (now out) ≤ length (now o)) × (length (now e) ≡ length (now out)) ⌝ }
+fn entries(o: &[i64], e: &[i32], out: &mut [u32])
+    requires { ⌜ (length (now out) ≤ length (now o)) × (length (now e) ≡ length (now out)) ⌝ }
     requires { ⌜ ((k : ℕ) → k < length (now out) → natAbs (ints (now o) k) ≤ 2 ^ 60) ⌝ }
-    ensures { λ _. ⌜ left out ≡ tab (room out) (λ (k : ℕ). residue q (ints (was o) k +ℤ ints (was e) k)) ⌝ }
+    ensures { λ _. ⌜ left out ≡ tab (room out) (λ (k : ℕ). residue (bcns .q) (ints (was o) k +ℤ ints (was e) k)) ⌝ }
 {
     let mut k: usize = 0;
     while k < out.len() {
-        out[k] = reduce(q, o[k], e[k]);
+        out[k] = reduce(o[k], e[k]);
         k += 1;
     }
 }
 
 // as + e, with room lent for the window, the secrets and the sums: as literals these arrays would stand in every goal.
 fn mix_lent(
-    q: u32,
     a: &[u32],
     s: &[i32],
     e: &[i32],
@@ -396,34 +391,34 @@ fn mix_lent(
     o: &mut [i64],
     out: &mut [u32],
 )
-    requires { ⌜ Fit q (length (now out)) (now a) (now s) × (length (now e) ≡ length (now out)) × Below q (now d) ⌝ }
+    requires { ⌜ Fit (bcns .q) (length (now out)) (now a) (now s) × (length (now e) ≡ length (now out)) × Below (bcns .q) (now d) ⌝ }
     requires { ⌜ (length (now d) ≡ 4096) × (length (now t) ≡ 5120) × (length (now o) ≡ 2048) ⌝ }
-    ensures { λ _. ⌜ now (out .exit) ≡ mixed q (length (now (out .entry))) (now (a .entry)) (now (s .entry)) (now (e .entry)) ⌝ }
+    ensures { λ _. ⌜ now (out .exit) ≡ mixed (bcns .q) (length (now (out .entry))) (now (a .entry)) (now (s .entry)) (now (e .entry)) ⌝ }
 {
-    lay_window(q, a, d);
+    lay_window(Bcns::Q, a, d);
     reverse(s, t);
-    windows(q, d, t, o, out.len());
-    entries(q, o, e, out);
+    windows(Bcns::Q, d, t, o, out.len());
+    entries(o, e, out);
 }
 
 // as + e. Its arrays take 42 KiB.
-pub fn mix(q: u32, a: &[u32], s: &[i32], e: &[i32], out: &mut [u32])
-    requires { ⌜ Fit q (length (now out)) (now a) (now s) ⌝ }
+pub fn mix(a: &[u32], s: &[i32], e: &[i32], out: &mut [u32])
+    requires { ⌜ Fit (bcns .q) (length (now out)) (now a) (now s) ⌝ }
     requires { ⌜ length (now e) ≡ length (now out) ⌝ }
-    ensures { λ _. ⌜ now (out .exit) ≡ mixed q (length (now (out .entry))) (now (a .entry)) (now (s .entry)) (now (e .entry)) ⌝ }
+    ensures { λ _. ⌜ now (out .exit) ≡ mixed (bcns .q) (length (now (out .entry))) (now (a .entry)) (now (s .entry)) (now (e .entry)) ⌝ }
 {
     let mut d = [0u32; 4096];
     let mut t = [0i16; 5120];
     let mut o = [0i64; 2048];
-    mix_lent(q, a, s, e, &mut d, &mut t, &mut o, out);
+    mix_lent(a, s, e, &mut d, &mut t, &mut o, out);
 }
 
-// us: the same without noise.
-pub fn multiply(q: u32, u: &[u32], s: &[i32], out: &mut [u32])
-    requires { ⌜ Fit q (length (now out)) (now u) (now s) ⌝ }
-    ensures { λ _. ⌜ now (out .exit) ≡ bare q (length (now (out .entry))) (now (u .entry)) (now (s .entry)) ⌝ }
+// us: no noise is added.
+pub fn multiply(u: &[u32], s: &[i32], out: &mut [u32])
+    requires { ⌜ Fit (bcns .q) (length (now out)) (now u) (now s) ⌝ }
+    ensures { λ _. ⌜ now (out .exit) ≡ bare (bcns .q) (length (now (out .entry))) (now (u .entry)) (now (s .entry)) ⌝ }
 {
     let n = out.len();
     let e = [0i32; 1024];
-    mix(q, u, s, &e[..n], out);
+    mix(u, s, &e[..n], out);
 }

@@ -9,20 +9,21 @@ use mir.Syntax.{w32, w64}
 use mir.Val.{toZ, ofZ}
 use mir.Facts.{toZ-ofZ}
 use borrow.Author.Needs.{needs}
+use Rattle.schemes.specs.Schemes.{bcns}
 use Rattle.numbers.specs.Residue.{residue}
 use Rattle.lists.specs.Entries.{ints}
 use Rattle.lists.proofs.Fill.{Filled, fill-start, fill-next, fill-end}
 use Rattle.polynomial.proofs.entries.Statement.{statement}
 use Rattle.polynomial.proofs.entries.Tie as tie
 
-abbrev by : ℕ → List ℤ → List ℤ → ℕ → ℕ
-by q o e k = residue q (ints o k +ℤ ints e k)
+abbrev by : List ℤ → List ℤ → ℕ → ℕ
+by o e k = residue (bcns .q) (ints o k +ℤ ints e k)
 
 abbrev Inv-loop : tie.InvT-loop
-Inv-loop q o e out₀ k₀ out k = Filled (by q o e) out₀ out k
+Inv-loop o e out₀ k₀ out k = Filled (by o e) out₀ out k
 
 abbrev μ-loop : tie.MeasureT-loop
-μ-loop q o e out₀ k₀ out k = length out - k
+μ-loop o e out₀ k₀ out k = length out - k
 
 loop-holds : tie.Need-loop-holds Inv-loop μ-loop
 loop-holds c = fill-start _ _
@@ -46,7 +47,7 @@ noise-is c = toZ-ofZ {z = getD (start c .args .e .now) (at c .loop .k) (pos 0)} 
 reduce-requires : tie.Need-reduce-requires Inv-loop μ-loop
 reduce-requires c κs = let s : tie.Start Inv-loop μ-loop = search needs in
     let l : tie.At-loop Inv-loop μ-loop = search needs in
-    (s .pre .0 .0, subst (λ (z : ℤ). natAbs z ≤ 2 ^ 60) (sym (sum-is c)) (s .pre .1 (l .loop .k) (omega arith)))
+    subst (λ (z : ℤ). natAbs z ≤ 2 ^ 60) (sym (sum-is c)) (s .pre .1 (l .loop .k) (omega arith))
 
 loop-less : tie.Need-loop-less Inv-loop μ-loop
 loop-less c = simp length-set (omega arith)
@@ -54,7 +55,7 @@ loop-less c = simp length-set (omega arith)
 loop-again : tie.Need-loop-again Inv-loop μ-loop
 loop-again c = let s : tie.Start Inv-loop μ-loop = search needs in
     let l : tie.At-loop Inv-loop μ-loop = search needs in
-    fill-next _ (l .loop .inv) (omega arith) (c .reduce .ensures ∙ ap₂ (λ (x y : ℤ). residue (s .args .q) (x +ℤ y)) (sum-is (c .before)) (noise-is (c .before)))
+    fill-next _ (l .loop .inv) (omega arith) (c .reduce .ensures ∙ ap₂ (λ (x y : ℤ). residue (bcns .q) (x +ℤ y)) (sum-is (c .before)) (noise-is (c .before)))
 
 same-length : tie.Need-same-length Inv-loop μ-loop
 same-length c = c .before .loop .inv .long

@@ -31,7 +31,7 @@ entries-requires : tie.Need-entries-requires
 entries-requires c κs = let u : tie.After-windows = search needs in
     let s : tie.Start = started u in
     let f = s .pre .0 .0 in
-    ((f .some, omega (arith, f .few, u .windows .kept .1 .1 .1 .0, s .pre .1 .2), s .pre .0 .1), λ k p. omega (arith, f .few, u .windows .ensures .size k p))
+    ((omega (arith, f .few, u .windows .kept .1 .1 .1 .0, s .pre .1 .2), s .pre .0 .1), λ k p. omega (arith, f .few, u .windows .ensures .size k p))
 
 returns : tie.Need-returns
 returns c = let e : tie.After-entries = search needs in
