@@ -1,7 +1,7 @@
 // Remainders of signed numbers, in i32 and in i64: 01, "Reconciliation", and its form "the signed remainder nearest to zero". The definitions
 // are `specs/Residue.antt`; the laws on sums, congruence and circular distance, which the crates above cite, stand in `proofs/`.
-// A modulus q is at least 1 and fits the signed type; nothing else is asked. By BCNS's q, 2^32 - 1, there is a remainder without a division (02b): `fold`,
-// and `residue_folded` of signed numbers. Frodo's and BCNS's slack used (02f) come down to `way_out`.
+// A modulus q is at least 1 and fits the signed type. In i32 nothing else is asked. In i64 nothing is divided: either x is smaller than q in size (`residue64`,
+// `negate64`), or q is 2^32 - 1 (02b; `fold`, and `residue_folded` of signed numbers). Frodo's and BCNS's slack used (02f) come down to `way_out`.
 ghost use mathlib.Core.Path.{_≡_};
 ghost use Prim.Native.Nat.{_+_, _-_, _/_, _%_, _^_, _≤_, _<_, min};
 ghost use lib.IntN.{negℤ, natAbs};
@@ -33,14 +33,6 @@ pub fn nearest32(x: i32, q: u32) -> i32
     }
 }
 
-// The remainder of -x nearest to zero. The remainder of x is negated, and not x, whose negative may not fit.
-pub fn negate32(x: i32, q: u32) -> i32
-    requires { ⌜ (0 < q) × (q < 2 ^ 31) ⌝ }
-    ensures { λ r. ⌜ r ≡ nearest q (negℤ x) ⌝ }
-{
-    nearest32(0 - nearest32(x, q), q)
-}
-
 // How far x lies from 0. One is added on the way: the least number's negative does not fit.
 pub fn size32(x: i32) -> u32
     ensures { λ r. ⌜ r ≡ natAbs x ⌝ }
@@ -60,57 +52,21 @@ pub fn distance32(x: i32, q: u32) -> u32
     size32(nearest32(x, q))
 }
 
-// The remainder in 0 .. q - 1. The machine's own has the sign of x: where it is below 0, q is added once.
+// The remainder in 0 .. q - 1 of a number that is smaller than q in size: where it is below 0, q is added once. The test is a factor 0 or 1, so that loops over
+// it become instructions on several numbers at a time.
 pub fn residue64(x: i64, q: u64) -> u64
-    requires { ⌜ (0 < q) × (q < 2 ^ 63) ⌝ }
+    requires { ⌜ (natAbs x < q) × (q < 2 ^ 63) ⌝ }
     ensures { λ r. ⌜ r ≡ residue q x ⌝ }
 {
-    let r = x % (q as i64);
-    if r < 0 {
-        (r + (q as i64)) as u64
-    } else {
-        r as u64
-    }
+    (x + (q as i64) * ((x < 0) as i64)) as u64
 }
 
-// The remainder nearest to zero: -q <= 2r < q.
-pub fn nearest64(x: i64, q: u64) -> i64
-    requires { ⌜ (0 < q) × (q < 2 ^ 63) ⌝ }
-    ensures { λ r. ⌜ r ≡ nearest q x ⌝ }
+// The remainder of -x in 0 .. q - 1.
+pub fn negate64(x: i64, q: u64) -> u64
+    requires { ⌜ (natAbs x < q) × (q < 2 ^ 63) ⌝ }
+    ensures { λ r. ⌜ r ≡ residue q (negℤ x) ⌝ }
 {
-    let m = residue64(x, q);
-    if 2 * m < q {
-        m as i64
-    } else {
-        (m as i64) - (q as i64)
-    }
-}
-
-// The remainder of -x nearest to zero. The remainder of x is negated, and not x, whose negative may not fit.
-pub fn negate64(x: i64, q: u64) -> i64
-    requires { ⌜ (0 < q) × (q < 2 ^ 63) ⌝ }
-    ensures { λ r. ⌜ r ≡ nearest q (negℤ x) ⌝ }
-{
-    nearest64(0 - nearest64(x, q), q)
-}
-
-// How far x lies from 0. One is added on the way: the least number's negative does not fit.
-pub fn size64(x: i64) -> u64
-    ensures { λ r. ⌜ r ≡ natAbs x ⌝ }
-{
-    if x < 0 {
-        (0 - (x + 1)) as u64 + 1
-    } else {
-        x as u64
-    }
-}
-
-// How far x lies from the nearest multiple of q.
-pub fn distance64(x: i64, q: u64) -> u64
-    requires { ⌜ (0 < q) × (q < 2 ^ 63) ⌝ }
-    ensures { λ r. ⌜ r ≡ distance q x ⌝ }
-{
-    size64(nearest64(x, q))
+    residue64(0 - x, q)
 }
 
 // The way out of a stretch of n numbers from place y, to its nearer end; 0 where y is past it. Without a branch, for y is a secret: a test is a factor 0 or 1.
@@ -146,7 +102,7 @@ pub fn fold(x: u64) -> u64
     twice - FULL * ((twice >= FULL) as u64)
 }
 
-// The same of a signed number: a multiple of 2^32 - 1 brings it above zero first.
+// The remainder of a signed number by 2^32 - 1: a multiple of 2^32 - 1 brings it above zero first.
 pub fn residue_folded(x: i64) -> u32
     requires { ⌜ natAbs x ≤ 2 ^ 61 ⌝ }
     ensures { λ r. ⌜ r ≡ residue 4294967295 x ⌝ }

@@ -2,18 +2,17 @@
 --   upper-small, lower-small   each half is at most 32768 in size
 --   lift-low, lift-high, lift-lt   the number and 2147516416 more, with or without q less: by its size, and below 2^32
 --   halves-≅                   65536 upper + lower is the number modulo q
---   negative-zero, negative-rest   -x modulo q
 --   minus-is                   x - y modulo q, with q added once where y is above x
 --   less-fits, narrow-fits, narrow   a half in the machine: from 16 unsigned bits by way of an i32 to an i16
 use mathlib.Core.Bool.{Bool, true, false}
 use mathlib.Core.Path.{_≡_, refl, _∙_, sym, ap, ap₂, subst}
-use Prim.Native.Nat.{ℕ, zero, suc, _+_, _*_, _-_, _/_, _%_, _^_, _≤_, _<_}
+use Prim.Native.Nat.{ℕ, _+_, _*_, _-_, _/_, _%_, _^_, _≤_, _<_}
 use native.Mathlib.Omega.{arith}
 use lib.Dec.{ltb}
 use native.Mathlib.Decide.{decLt}
-use native.Mathlib.Nat.{div-add-mod, mod-eq-of-lt}
+use native.Mathlib.Nat.{div-add-mod}
 use borrow.Author.Tests.{ltb-true, ltb-false, lt-ltb, le-ltb}
-use lib.IntN.{ℤ, pos, negℤ, natAbs, _+ℤ_, _-ℤ_, _*ℤ_}
+use lib.IntN.{ℤ, pos, natAbs, _+ℤ_, _-ℤ_, _*ℤ_}
 use mir.Syntax.{w16, w32}
 use mir.Val.{SFits, toZ, ofZ, boolByte}
 use mir.Facts.{toZ-ofZ, sfits-widen}
@@ -76,15 +75,6 @@ halves-≅ q x h r = eq-≅ (whole (lift q x)) ⨾ go (decLt x 2147450880)
     go (no p) = sym-≅ (record { times = pos 1; equal = high-is q (lift q x) x (omega (arith, lift-high q x (omega arith))) })
 
 -- ---- numbers below q
-
-pub negative-zero : (q x : ℕ) → x < q → x ≡ 0 → 0 ≡ residue q (negℤ (pos x))
-unfolding residue
-negative-zero q x h e = rw e (sym (mod-eq-of-lt (omega arith)))
-
-pub negative-rest : (q x : ℕ) → x < q → 0 < x → q - x ≡ residue q (negℤ (pos x))
-unfolding residue
-negative-rest q zero h p = absurd (omega arith)
-negative-rest q (suc n) h p = ap (λ (k : ℕ). q - suc k) (sym (mod-eq-of-lt (omega arith)))
 
 -- x - y, with q added once where y is above x
 minus-under : (q x y : ℕ) → x < q → y < q → x < y → x + (q - y) ≡ residue q (pos x -ℤ pos y)

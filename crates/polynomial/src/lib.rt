@@ -313,7 +313,7 @@ fn negative(q: u32, x: u32) -> u32
     requires { ⌜ x < q ⌝ }
     ensures { λ r. ⌜ r ≡ residue q (negℤ (pos x)) ⌝ }
 {
-    if x == 0 { 0 } else { q - x }
+    numbers::negate64(x as i64, q as u64) as u32
 }
 
 fn lay_negatives(q: u32, a: &[u32], d: &mut [u32])

@@ -1,15 +1,28 @@
 -- `polynomial::negative` meets its contract.
+use mathlib.Core.Path.{_≡_, _∙_, ap}
 use native.Mathlib.Omega.{arith}
 use borrow.Author.Needs.{needs}
-use Rattle.polynomial.proofs.Halves.{negative-zero, negative-rest}
+use lib.IntN.{ℤ, pos, negℤ}
+use mir.Syntax.{w64}
+use Rattle.numbers.specs.Residue.{residue}
+use Rattle.numbers.proofs.Congruence.{residue-lt}
+use Rattle.numbers.proofs.Machine.{toZ-pos}
 use Rattle.polynomial.proofs.negative.Statement.{statement}
 use Rattle.polynomial.proofs.negative.Tie as tie
 
-returns : tie.Need-returns
-returns c = negative-zero _ _ (c .before .pre) (c .if1 .taken)
+negate64-requires : tie.Need-negate64-requires
+negate64-requires c κs = (rw (toZ-pos w64 (c .args .x) (omega arith)) (omega (arith, c .pre)), omega arith)
 
-returns-2 : tie.Need-returns-2
-returns-2 c = negative-rest _ _ (c .before .pre) (omega arith)
+rest : (c : tie.After-negate64) → let a = c .before .args in c .negate64 .result ≡ residue (a .q) (negℤ (pos (a .x)))
+rest c = let a = c .before .args in c .negate64 .ensures ∙ ap (λ (z : ℤ). residue (a .q) (negℤ z)) (toZ-pos w64 (a .x) (omega arith))
+
+cast-result : tie.Need-cast-result
+cast-result c =
+    let a = c .before .args in
+    record { fits = omega (arith, rest c, residue-lt (a .q) (negℤ (pos (a .x))) (omega (arith, c .before .pre))) }
+
+returns : tie.Need-returns
+returns c = rest c
 
 pub negative-spec : {M : Type 1} → statement M
-negative-spec = tie.close (tie.spec (search needs) returns returns-2)
+negative-spec = tie.close (tie.spec (search needs) negate64-requires cast-result returns)
