@@ -1,6 +1,6 @@
 // Frodo's reconciliation, over the rounding interval i and the number b of key bits of an entry: 01, "Reconciliation".
-// i is a multiple of 4 and i * 2^b, which is q, at most 65536, so every sum below fits 32 bits: 4w + 3i is the largest. i need not be a power of two here; in
-// each scheme it is one that the compiler knows, so that the archive shifts and divides by no interval (`runs/secrets` looks for divisions).
+// i is a multiple of 4 and i * 2^b, which is q, at most 65536, so every sum below fits 32 bits: 4w + 3i is the largest. i need not be a power of two here. In
+// each scheme it is one, and the compiler knows it: where the code divides by i the archive shifts (`runs/secrets` looks for divisions).
 ghost use mathlib.Core.Path.{_≡_};
 ghost use Prim.Native.Nat.{_*_, _^_, _<_};
 ghost use lib.ListN.{length};
