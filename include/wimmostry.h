@@ -314,8 +314,8 @@
  * compares. The calls on a session or a rack branch as those without one, and close and clear on
  * nothing. By rows begin has those of its secrets, 2 and 3, and end those of what is sent; each
  * part and end of Reply has one more, the verdict on the values in its state, and a part of Offer
- * none. A refused secret is searched value by value for its place. Nothing is divided but 2^32 - 1
- * by q, and by rows how many numbers have come by n and 8 n. So it is in the archive for x86-64, by
+ * none. A refused secret is searched value by value for its place. Nothing is divided but 65,536 by
+ * q, and by rows how many numbers have come by n and 16 n. So it is in the archive for x86-64, by
  * valgrind with the secrets marked as undefined, in all schemes (runs/secrets); another compiler
  * may do otherwise, and what the processor makes of it is not measured.
  */
