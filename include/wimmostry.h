@@ -331,9 +331,9 @@ extern "C" {
 
 /* The version of header and archive; wim_version tells the archive's. */
 #define WIM_VERSION_MAJOR 0
-#define WIM_VERSION_MINOR 1
+#define WIM_VERSION_MINOR 2
 #define WIM_VERSION_PATCH 0
-#define WIM_VERSION "0.1.0"
+#define WIM_VERSION "0.2.0"
 
 /* A refusal that nobody looks at is a mistake: the compiler warns where it can. */
 #if defined(__GNUC__)
