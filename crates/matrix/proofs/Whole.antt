@@ -1,7 +1,8 @@
 -- What the code makes of whole matrices is what the definitions say.
 --   column-at, columns-length   an entry of the columns of S, and how many there are
 --   shape, fit             what fits has the shape; what has it fits where its numbers are below q
---   right-is, left-is, bare-is   words of any modulus m that is a multiple of q: XS + E by rows of X and columns of S; SY + E by rows of Y; US as XS + E without noise
+--   right-any, left-any    words of any modulus m that is a multiple of q: XS + E by rows of X and columns of S; SY + E by rows of Y
+--   right-is, left-is, bare-is   so of what the code has made; US as XS + E without noise
 use mathlib.Core.Path.{_≡_, refl, _∙_, ap, ap₂}
 use mathlib.Core.List.{List}
 use Prim.Native.Nat.{ℕ, _+_, _*_, _/_, _%_, _<_}
@@ -66,28 +67,32 @@ module _ {q n r : ℕ} {x : List ℕ} {s : List ℤ} where
 product-≅ : (m : ℕ) → 0 < m → (x w : ℕ) (z : ℤ) → w ≡ residue m z → pos (x * w) ≅⟨ m ⟩ pos x *ℤ z
 product-≅ m some x w z e = mul-≅ (refl-≅ (pos x)) (eq-≅ (ap pos e) ⨾ residue-≅ m z some)
 
+pub right-any : (m q n r : ℕ) (x : List ℕ) (s e : List ℤ) → 0 < m → m % q ≡ 0 → 0 < q → length e ≡ 8 * r
+    → reduced q (gained m n (rightTerm n x (columnsOf m n s)) (wordsOf m e)) ≡ rightMixed q r n 8 x s e
+unfolding rightMixed numsAt intsAt rightTerm nums
+right-any m q n r x s e some w some-q h =
+    mixed m q n some-q some w r 8 _ _ _ e (omega arith)
+    (λ k t p b. product-≅ m some (getD x (k / 8 * n + t) 0) _ _ (column-at m n s (k % 8) t (mod-lt k (omega arith)) b))
+
 pub right-is :
     (m : ℕ) {q n r : ℕ} {x : List ℕ} {s : List ℤ} → 0 < m → m % q ≡ 0 → (e : List ℤ) {l out : List ℕ} → Fit q n r x s → l ≡ columnsOf m n s → length e ≡ 8 * r →
     out ≡ reduced q (gained m n (rightTerm n x l) (wordsOf m e)) → out ≡ rightMixed q r n 8 x s e
-unfolding rightMixed numsAt intsAt rightTerm nums
-right-is m {q} {n} {r} {x} {s} some w e f d h o =
-    o
-    ∙ rw d
-    (mixed m q n (f .some) some w r 8 _ _ _ e (omega arith)
-    (λ k t p b. product-≅ m some (getD x (k / 8 * n + t) 0) _ _ (column-at m n s (k % 8) t (mod-lt k (omega arith)) b)))
+right-is m {q} {n} {r} {x} {s} some w e f d h o = o ∙ rw d (right-any m q n r x s e some w (f .some) h)
+
+pub left-any : (m q n c : ℕ) (s : List ℤ) (y : List ℕ) (e : List ℤ) → 0 < m → m % q ≡ 0 → 0 < q → 0 < c → length s ≡ 8 * n → length e ≡ 8 * c
+    → reduced q (gained m n (leftTerm n c (wordsOf m s) y) (wordsOf m e)) ≡ leftMixed q n c 8 s y e
+unfolding leftMixed numsAt intsAt leftTerm nums
+left-any m q n c s y e some w some-q some-c long h =
+    mixed m q n some-q some w 8 c _ _ _ e h
+    (λ k t p b.
+    let i : k / c < 8 = div-lt-iff-lt-mul some-c .1 p in
+    product-≅ m some (getD y (t * c + k % c) 0) _ _ (words-at m s (k / c * n + t) (rw long (digits-lt i b)))
+    ⨾ eq-≅ (*ℤ-comm (pos (getD y (t * c + k % c) 0)) (ints s (k / c * n + t))))
 
 pub left-is :
     (m : ℕ) {q n c : ℕ} {s : List ℤ} {y : List ℕ} → 0 < m → m % q ≡ 0 → (e : List ℤ) {l out : List ℕ} → Fit q n c y s → l ≡ wordsOf m s → length e ≡ 8 * c →
     out ≡ reduced q (gained m n (leftTerm n c l y) (wordsOf m e)) → out ≡ leftMixed q n c 8 s y e
-unfolding leftMixed numsAt intsAt leftTerm nums
-left-is m {q} {n} {c} {s} {y} some w e f d h o =
-    o
-    ∙ rw d
-    (mixed m q n (f .some) some w 8 c _ _ _ e h
-    (λ k t p b.
-    let i : k / c < 8 = div-lt-iff-lt-mul (f .rows-many) .1 p in
-    product-≅ m some (getD y (t * c + k % c) 0) _ _ (words-at m s (k / c * n + t) (rw (f .s-long) (digits-lt i b)))
-    ⨾ eq-≅ (*ℤ-comm (pos (getD y (t * c + k % c) 0)) (ints s (k / c * n + t)))))
+left-is m {q} {n} {c} {s} {y} some w e f d h o = o ∙ rw d (left-any m q n c s y e some w (f .some) (f .rows-many) (f .s-long) h)
 
 pub bare-is : (q n : ℕ) (u : List ℕ) (s : List ℤ) {out : List ℕ} → out ≡ rightMixed q 8 n 8 u s (replicate 64 (pos 0)) → out ≡ bare q n 8 u s
 unfolding rightMixed bare rows intsAt ints

@@ -18,7 +18,7 @@ use Rattle.lists.proofs.Entries.{tab-ext, tab-getD}
 use Rattle.lists.proofs.Same.{equal-all}
 use Rattle.matrix.specs.Steps.{gained, rightTerm, leftTerm}
 use Rattle.matrix.proofs.Steps.{gained-length, gained-at, wrapped}
-use Rattle.matrix.proofs.Whole.{right-is, left-is}
+use Rattle.matrix.proofs.Whole.{right-any, left-any}
 use Rattle.parts.specs.Parts.{placed}
 use Rattle.parts.specs.Joining.{Linear, Joined, SoFar, Nothing, WholeRight, WholeLeft}
 
@@ -107,7 +107,7 @@ nothing m n T lin at ws b =
     ∙ tab-getD ws 0
 
 pub whole-right : WholeRight
-whole-right m q n a s e some w f h = right-is m some w e f refl h refl
+whole-right m q n a s e some w some-q h = right-any m q n n a s e some w some-q h
 
 pub whole-left : WholeLeft
-whole-left m q n a s e some w f h = left-is m some w e f refl h refl
+whole-left m q n a s e some w some-q some-n long h = left-any m q n n s a e some w some-q some-n long h

@@ -11,7 +11,6 @@ use lib.ListN.{length, getD}
 use lib.IntN.{ℤ}
 use Rattle.lists.specs.Entries.{Below}
 use Rattle.matrix.specs.Mixing.{rightMixed, leftMixed}
-use Rattle.matrix.specs.Fit.{Fit}
 use Rattle.matrix.specs.Steps.{wordsOf, columnsOf, gained, reduced, rightTerm, leftTerm}
 use Rattle.parts.specs.Parts.{placed}
 
@@ -33,10 +32,10 @@ Nothing = (m n : ℕ) (T : List ℕ → ℕ → ℕ → ℕ) → Linear T → (a
 
 abbrev pub WholeRight : Type 0
 WholeRight =
-    (m q n : ℕ) (a : List ℕ) (s e : List ℤ) → 0 < m → m % q ≡ 0 → Fit q n n a s → length e ≡ 8 * n →
+    (m q n : ℕ) (a : List ℕ) (s e : List ℤ) → 0 < m → m % q ≡ 0 → 0 < q → length e ≡ 8 * n →
     reduced q (gained m n (rightTerm n a (columnsOf m n s)) (wordsOf m e)) ≡ rightMixed q n n 8 a s e
 
 abbrev pub WholeLeft : Type 0
 WholeLeft =
-    (m q n : ℕ) (a : List ℕ) (s e : List ℤ) → 0 < m → m % q ≡ 0 → Fit q n n a s → length e ≡ 8 * n →
+    (m q n : ℕ) (a : List ℕ) (s e : List ℤ) → 0 < m → m % q ≡ 0 → 0 < q → 0 < n → length s ≡ 8 * n → length e ≡ 8 * n →
     reduced q (gained m n (leftTerm n n (wordsOf m s) a) (wordsOf m e)) ≡ leftMixed q n n 8 s a e

@@ -16,8 +16,7 @@ use Rattle.schemes.specs.Schemes.{familyOf, fixedOf, numberOf}
 use Rattle.schemes.specs.declared.Family.{Family}
 use Rattle.schemes.specs.declared.Named.the-variants.{Is}
 use Rattle.schemes.specs.declared.Scheme.{Scheme}
-use Rattle.lists.specs.Entries.{Below, Within}
-use Rattle.matrix.specs.Fit.{Fit}
+use Rattle.lists.specs.Entries.{Below}
 use Rattle.matrix.specs.Steps.{wordsOf, gained, reduced}
 use Rattle.matrix.proofs.Steps.{words-length}
 use Rattle.parts.specs.Parts.{wrap}
@@ -111,16 +110,15 @@ module _ (k : Call) (n call scheme : ℕ) (kept held : List ℕ) (s e : List ℤ
         ∙ ap (λ (l : List ℕ). gained wrap n (terms k n (secretOf n fresh) l) (sumsOf n fresh)) (whole-front n (joined ps) some sixteens all)
         ∙ ap₂ (λ (u v : List ℕ). gained wrap n (terms k n u (joined ps)) v) fresh-secret fresh-sums
 
-whole : (k : Call) (n q : ℕ) (a : List ℕ) (s e : List ℤ) → Fit q n n a s → length e ≡ 8 * n
+whole : (k : Call) (n q : ℕ) (a : List ℕ) (s e : List ℤ) → 0 < n → 0 < q → wrap % q ≡ 0 → length s ≡ 8 * n → length e ≡ 8 * n
     → reduced q (gained wrap n (terms k n (secretWords k n s) a) (wordsOf wrap e)) ≡ mixed k q n a s e
-whole Call.Offer n q a s e f h = whole-right wrap q n a s e (omega arith) (f .whole) f h
-whole Call.Reply n q a s e f h = whole-left wrap q n a s e (omega arith) (f .whole) f h
+whole Call.Offer n q a s e some-n some w sl h = whole-right wrap q n a s e (omega arith) w some h
+whole Call.Reply n q a s e some-n some w sl h = whole-left wrap q n a s e (omega arith) w some some-n sl h
 
 pub once : Once
-once k n q call scheme kept held s e ps sixteens f el kl hl hb r =
-    let b : Below wrap (joined ps) = record { below = λ i. omega (arith, f .xs-below .below i, f .room) } in
-    ap (reduced q) (last-sums k n call scheme kept held s e kl hl hb (f .s-long) el (f .many) ps r b sixteens (f .xs-long))
-    ∙ whole k n q (joined ps) s e f el
+once k n q call scheme kept held s e ps some-n sixteens some w all b sl el kl hl hb r =
+    ap (reduced q) (last-sums k n call scheme kept held s e kl hl hb sl el some-n ps r b sixteens all)
+    ∙ whole k n q (joined ps) s e some-n some w sl el
 
 -- ---- of Frodo's schemes
 
@@ -137,7 +135,7 @@ abbrev pub begins : Call → Scheme → List ℕ → List ℤ → List ℤ → L
 begins k c kept s e = laid (tagOf k) (numberOf c) 0 kept (secretWords k (fixedOf c .n) s) (wordsOf wrap e) (replicate (16 * fixedOf c .n) 0)
 
 module _ (k : Call) (c : Scheme) (kept : List ℕ) (s e : List ℤ) (frodo : familyOf c ≡ Family.Frodo) (kl : length kept ≡ 64)
-    (kb : keptIn k (fixedOf c .q) kept ≡ true) (sl : length s ≡ fixedOf c .secret) (sw : Within 6 s) (el : length e ≡ fixedOf c .noise) where
+    (kb : keptIn k (fixedOf c .q) kept ≡ true) (sl : length s ≡ fixedOf c .secret) (el : length e ≡ fixedOf c .noise) where
   abbrev n : ℕ
   n = fixedOf c .n
 
@@ -150,23 +148,6 @@ module _ (k : Call) (c : Scheme) (kept : List ℕ) (s e : List ℤ) (frodo : fam
 
     el' : length e ≡ 8 * n
     el' = el ∙ numbers-in c frodo .noise
-
-    fit : length (joined ps) ≡ fixedOf c .public → Fit (fixedOf c .q) n n (joined ps) s
-    fit all =
-        let f = numbers-in c frodo in
-        record {
-          some = f .q-some;
-          room = f .q-room;
-          whole = f .words;
-          many = f .some;
-          few = f .few;
-          rows-many = f .some;
-          rows-few = f .few;
-          xs-long = all ∙ f .public;
-          s-long = sl';
-          xs-below = cut .below;
-          s-within = sw;
-        }
 
     of-steps : Left k c kept s e (joined ps) (steps k n (begins k c kept s e) ps)
     of-steps =
@@ -191,7 +172,9 @@ module _ (k : Call) (c : Scheme) (kept : List ℕ) (s e : List ℤ) (frodo : fam
                 kept-in = ap (keptIn k (fixedOf c .q)) kept-same ∙ kb;
               });
           below = cut .below;
-          sums = λ all. once k n (fixedOf c .q) (tagOf k) (numberOf c) kept zeros s e ps (frodos c frodo .sixteens) (fit all) el' kl z w (cut .rows);
+          sums =
+              λ all. once k n (fixedOf c .q) (tagOf k) (numberOf c) kept zeros s e ps (f .some) (frodos c frodo .sixteens) (f .q-some) (f .words)
+              (all ∙ f .public) b sl' el' kl z w (cut .rows);
         }
 
     of-cut : Left k c kept s e (joined ps) last

@@ -6,14 +6,13 @@ use mathlib.Core.Bool.{true}
 use mathlib.Core.List.{List, [], _++_}
 use Prim.Native.Nat.{ℕ}
 use native.Mathlib.Omega.{arith}
-use native.Mathlib.Nat.{le-trans}
 use lib.ListN.{length, take, replicate}
 use lib.Seq.{take-at, drop-at}
 use Rattle.schemes.specs.Schemes.{familyOf, fixedOf}
 use Rattle.schemes.specs.declared.Family.{Family}
 use Rattle.schemes.specs.declared.Named.the-variants.{Is}
 use Rattle.schemes.specs.declared.Scheme.{Scheme}
-use Rattle.lists.specs.Entries.{Below, Within}
+use Rattle.lists.specs.Entries.{Below}
 use Rattle.lists.proofs.Entries.{below-zeros}
 use Rattle.packing.specs.Packing.{packed}
 use Rattle.front.specs.Front.{countIn, _then_, notBlank, secretsIn, held}
@@ -21,7 +20,7 @@ use Rattle.front.specs.Promise.{Told, put}
 use Rattle.front.specs.declared.Verdict.{Verdict}
 use Rattle.front.specs.declared.Verdict.the-variants.{Pass, Fail}
 use Rattle.front.specs.declared.Refusal.the-variants.{OutOfTurn}
-use Rattle.front.proofs.Laws.{number-zero, both, failed, length-passes, turn-passed, below-passes, within-passes, secrets-passed, all-pass}
+use Rattle.front.proofs.Laws.{number-zero, both, failed, length-passes, turn-passed, below-passes, within-passes, all-pass}
 use Rattle.front.proofs.Promise.{told-passed}
 use Rattle.ends.specs.Values.{offered}
 use Rattle.ends.proofs.Numbers.{numbers-in}
@@ -85,9 +84,6 @@ module _ (c : Scheme) (x : OfferBegin) (m : ℕ) (first : List ℕ) (frodo : fam
       (goes (ap (allBelow 256) (take-at (x .seed) (replicate 48 0) 16 seed-is) ∙ below-all 256 (x .seed) bytes)
       (sym (ap (allBelow 1) (drop-at (x .seed) (replicate 48 0) 16 seed-is) ∙ below-all 1 (replicate 48 0) (below-zeros 48 (omega arith)))))
 
-  secret-within : Within 6 (x .s)
-  secret-within = record { within = λ i. le-trans (secrets-passed _ (x .s) secret-in .within i) (numbers-in c frodo .small) }
-
   first-is : first ≡ begins Call.Offer c kept (x .s) (x .e)
   unfolding offerState
   first-is = good .state ∙ ap (λ (v : Verdict). put v (offerState (Is c) x) (replicate m 0)) passes
@@ -97,7 +93,7 @@ module _ (c : Scheme) (x : OfferBegin) (m : ℕ) (first : List ℕ) (frodo : fam
   module _ (a last : List ℕ) (parts : Parts Call.Offer first a last) where
     walk : Left Call.Offer c kept (x .s) (x .e) a last
     walk =
-        left Call.Offer c kept (x .s) (x .e) frodo kept-is kept-in (sized .secret) secret-within (sized .noise)
+        left Call.Offer c kept (x .s) (x .e) frodo kept-is kept-in (sized .secret) (sized .noise)
         (subst (λ (st : List ℕ). Parts Call.Offer st a last) first-is parts)
 
     last-seed : take 16 (keptOf last) ≡ x .seed

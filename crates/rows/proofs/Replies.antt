@@ -6,13 +6,11 @@ use mathlib.Core.Bool.{true}
 use mathlib.Core.List.{List, [], _++_}
 use Prim.Native.Nat.{ℕ}
 use native.Mathlib.Omega.{arith}
-use native.Mathlib.Nat.{le-trans}
 use lib.ListN.{length, replicate}
 use Rattle.schemes.specs.Schemes.{familyOf, fixedOf}
 use Rattle.schemes.specs.declared.Family.{Family}
 use Rattle.schemes.specs.declared.Named.the-variants.{Is}
 use Rattle.schemes.specs.declared.Scheme.{Scheme}
-use Rattle.lists.specs.Entries.{Within}
 use Rattle.packing.specs.Packing.{packed}
 use Rattle.sponge.specs.Sponge.{sha3}
 use Rattle.front.specs.Front.{countIn, _then_, notBlank, held}
@@ -29,7 +27,7 @@ use Rattle.ends.proofs.Numbers.{numbers-in}
 use Rattle.ends.proofs.Ranges.{mixed-counted}
 use Rattle.wire.specs.Wire.{openedIn, coinsIn}
 use Rattle.reply.specs.Reply.{Reply, replyOf, replyLengths, replySizes, replyLast, replyRest, replyTests, openedOf, repliedPart, messageFrom, keyFrom, messageOf, keyOf, replyMessage, replyKey, replySecrets}
-use Rattle.reply.proofs.Replying.{reply-sized, secrets-small}
+use Rattle.reply.proofs.Replying.{reply-sized}
 use Rattle.running.specs.State.{long, named, keptIn}
 use Rattle.rows.specs.Offer.{sentPart}
 use Rattle.rows.specs.Reply.{ReplyBegin, replyBeginSizes, replyBeginTests, valueOf, replyState, ReplyBegun, replyEndSizes, replyEndTests, replyEndMessage, replyEndKey}
@@ -82,10 +80,6 @@ module _ (c : Scheme) (x : ReplyBegin) (m : ℕ) (first : List ℕ) (frodo : fam
   value-in : keptIn Call.Reply (fixedOf c .q) (valueOf c x) ≡ true
   value-in = below-all (fixedOf c .q) (valueOf c x) (value .below)
 
-  secret-within : Within 6 (x .s')
-  secret-within =
-      record { within = λ i. le-trans (secrets-small c (x .s') (x .e') (x .e'') secrets .0 .within i) (numbers-in c frodo .small) }
-
   first-is : first ≡ begins Call.Reply c (valueOf c x) (x .s') (x .e')
   unfolding replyState
   first-is = good .state ∙ ap (λ (v : Verdict). put v (replyState (Is c) x) (replicate m 0)) passes
@@ -95,7 +89,7 @@ module _ (c : Scheme) (x : ReplyBegin) (m : ℕ) (first : List ℕ) (frodo : fam
   module _ (a last : List ℕ) (parts : Parts Call.Reply first a last) where
     walk : Left Call.Reply c (valueOf c x) (x .s') (x .e') a last
     walk =
-        left Call.Reply c (valueOf c x) (x .s') (x .e') frodo value-long value-in (sized .secret-long) secret-within (sized .noise-long)
+        left Call.Reply c (valueOf c x) (x .s') (x .e') frodo value-long value-in (sized .secret-long) (sized .noise-long)
         (subst (λ (st : List ℕ). Parts Call.Reply st a last) first-is parts)
 
     early : (n k d : ℕ) → length a ≢ fixedOf c .public → replyEndTests (named last) last n k d ≡ Fail OutOfTurn

@@ -1,4 +1,4 @@
--- What is shown of Frodo by rows: 02, request e. `Once` holds for any n and q that fit, and names no scheme. `SameOffer`, `SameReply`, `OfferTaken` and `ReplyTaken`
+-- What is shown of Frodo by rows: 02, request e. `Once` holds for any n that 16 divides and any q that divides 2^16, and names no scheme. `SameOffer`, `SameReply`, `OfferTaken` and `ReplyTaken`
 -- hold for every scheme of Frodo's; they follow from `Once` and the scheme's numbers, with no case for each scheme.
 --   secretWords k n s   the secret as the state of the call k keeps it
 --   mixed k q n a s e   what the call k sends: AS + E of Offer, S'A + E' of Reply
@@ -31,7 +31,6 @@ use Rattle.schemes.specs.declared.Named.{Named}
 use Rattle.schemes.specs.declared.Named.the-variants.{Is}
 use Rattle.schemes.specs.declared.Scheme.{Scheme}
 use Rattle.lists.specs.Entries.{Below}
-use Rattle.matrix.specs.Fit.{Fit}
 use Rattle.matrix.specs.Mixing.{rightMixed, leftMixed}
 use Rattle.matrix.specs.Steps.{wordsOf, columnsOf, gained, reduced}
 use Rattle.parts.specs.Parts.{wrap}
@@ -141,8 +140,9 @@ mixed Call.Reply q n a s e = leftMixed q n n 8 s a e
 -- whatever is kept for the end, and whatever words stand where rows are held back
 abbrev pub Once : Type 0
 Once =
-    (k : Call) (n q call scheme : ℕ) (kept held : List ℕ) (s e : List ℤ) (ps : List (List ℕ)) → n % 16 ≡ 0 → Fit q n n (joined ps) s → length e ≡ 8 * n →
-    length kept ≡ 64 → length held ≡ 16 * n → Below wrap held → WithinRows n 0 ps →
+    (k : Call) (n q call scheme : ℕ) (kept held : List ℕ) (s e : List ℤ) (ps : List (List ℕ)) → 0 < n → n % 16 ≡ 0 → 0 < q → wrap % q ≡ 0 →
+    length (joined ps) ≡ n * n → Below wrap (joined ps) → length s ≡ 8 * n → length e ≡ 8 * n → length kept ≡ 64 → length held ≡ 16 * n → Below wrap held →
+    WithinRows n 0 ps →
     reduced q (sumsOf n (steps k n (laid call scheme 0 kept (secretWords k n s) (wordsOf wrap e) held) ps)) ≡ mixed k q n (joined ps) s e
 
 -- ---- the same as whole
