@@ -1,2 +1,3 @@
-pub mod Laws
-pub mod Frame
+pub mod Parts
+pub mod Calls
+pub mod Shown

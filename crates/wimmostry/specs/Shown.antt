@@ -26,7 +26,7 @@ use Rattle.bench.specs.Bench.{Bench, Benched}
 use Rattle.session.specs.Table.{offering, replying, finishing, closing}
 use Rattle.session.specs.Seen.{output, noOutput, offerSeen, replySeen, finishSeen, closeSeen}
 use Rattle.session_bytes.specs.Bytes.{MovesBytes}
-use Rattle.rack_bytes.specs.Slots.{RackMovesBytes, Cleared}
+use Rattle.rack.specs.Slots.{RackMoves, Cleared}
 use Rattle.settings.specs.Settings.{Kept}
 use Rattle.settings.specs.Calls.{Read, SettingsRead, SettingsWritten}
 
@@ -109,27 +109,27 @@ OneSessionClose =
 abbrev pub OneRackOffer : Type 0
 OneRackOffer =
     (bs bs′ bs″ : List ℕ) (u k : ℕ) (x : Offer) (room r r′ p p′ w w′ : ℕ) (message message′ : List ℕ)
-    → RackMovesBytes bs u (offering k x room) bs′ (offerSeen r p (output w message)) → RackMovesBytes bs u (offering k x room) bs″ (offerSeen r′ p′ (output w′ message′))
+    → RackMoves bs u (offering k x room) bs′ (offerSeen r p (output w message)) → RackMoves bs u (offering k x room) bs″ (offerSeen r′ p′ (output w′ message′))
     → (bs′ ≡ bs″) × (r ≡ r′) × (p ≡ p′) × (w ≡ w′) × (message ≡ message′)
 
 abbrev pub OneRackReply : Type 0
 OneRackReply =
     (bs bs′ bs″ : List ℕ) (u y : ℕ) (x : Reply) (room keyRoom digestRoom r r′ p p′ w w′ k k′ d d′ : ℕ) (message message′ key key′ digest digest′ : List ℕ)
-    → RackMovesBytes bs u (replying y x room keyRoom digestRoom) bs′ (replySeen r p (output w message) (output k key) (output d digest))
-    → RackMovesBytes bs u (replying y x room keyRoom digestRoom) bs″ (replySeen r′ p′ (output w′ message′) (output k′ key′) (output d′ digest′))
+    → RackMoves bs u (replying y x room keyRoom digestRoom) bs′ (replySeen r p (output w message) (output k key) (output d digest))
+    → RackMoves bs u (replying y x room keyRoom digestRoom) bs″ (replySeen r′ p′ (output w′ message′) (output k′ key′) (output d′ digest′))
     → (bs′ ≡ bs″) × (r ≡ r′) × (p ≡ p′) × (w ≡ w′) × (k ≡ k′) × (d ≡ d′) × (message ≡ message′) × (key ≡ key′) × (digest ≡ digest′)
 
 abbrev pub OneRackFinish : Type 0
 OneRackFinish =
     (bs bs′ bs″ : List ℕ) (u y : ℕ) (x : Finish) (room digestRoom r r′ p p′ k k′ d d′ s s′ i i′ : ℕ) (key key′ digest digest′ : List ℕ)
-    → RackMovesBytes bs u (finishing y x room digestRoom) bs′ (finishSeen r p (output k key) (output d digest) (record { most = s; at = i }))
-    → RackMovesBytes bs u (finishing y x room digestRoom) bs″ (finishSeen r′ p′ (output k′ key′) (output d′ digest′) (record { most = s′; at = i′ }))
+    → RackMoves bs u (finishing y x room digestRoom) bs′ (finishSeen r p (output k key) (output d digest) (record { most = s; at = i }))
+    → RackMoves bs u (finishing y x room digestRoom) bs″ (finishSeen r′ p′ (output k′ key′) (output d′ digest′) (record { most = s′; at = i′ }))
     → (bs′ ≡ bs″) × (r ≡ r′) × (p ≡ p′) × (k ≡ k′) × (d ≡ d′) × (s ≡ s′) × (i ≡ i′) × (key ≡ key′) × (digest ≡ digest′)
 
 abbrev pub OneRackClose : Type 0
 OneRackClose =
-    (bs bs′ bs″ : List ℕ) (u r r′ p p′ : ℕ) → RackMovesBytes bs u closing bs′ (offerSeen r p noOutput)
-    → RackMovesBytes bs u closing bs″ (offerSeen r′ p′ noOutput) → (bs′ ≡ bs″) × (r ≡ r′) × (p ≡ p′)
+    (bs bs′ bs″ : List ℕ) (u r r′ p p′ : ℕ) → RackMoves bs u closing bs′ (offerSeen r p noOutput)
+    → RackMoves bs u closing bs″ (offerSeen r′ p′ noOutput) → (bs′ ≡ bs″) × (r ≡ r′) × (p ≡ p′)
 
 abbrev pub OneRackClear : Type 0
 OneRackClear =

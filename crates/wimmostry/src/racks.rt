@@ -6,7 +6,7 @@ ghost use Rattle.reply.specs.Reply.{reply};
 ghost use Rattle.finish.specs.Finish.{finish};
 ghost use Rattle.session.specs.Table.{offering, replying, finishing, closing};
 ghost use Rattle.session.specs.Seen.{output, noOutput, offerSeen, replySeen, finishSeen};
-ghost use Rattle.rack_bytes.specs.Slots.{RackMovesBytes, Cleared};
+ghost use Rattle.rack.specs.Slots.{RackMoves, Cleared};
 
 // Offer for a studio, in its own slot.
 #[no_mangle]
@@ -23,11 +23,11 @@ pub extern "C" fn wim_rack_offer(
     written: &mut u64,
 ) -> u32
     ensures { λ r. ⌜
-        RackMovesBytes (was rack) studio (offering scheme (offer a s e seed) (room message))
+        RackMoves (was rack) studio (offering scheme (offer a s e seed) (room message))
         (left rack) (offerSeen r (left place) (output (left written) (left message)))
         ⌝ }
 {
-    let answer = rack_bytes::offer(rack, studio, scheme, a, s, e, seed, message);
+    let answer = rack::offer(rack, studio, scheme, a, s, e, seed, message);
     told::tell(answer, place, written)
 }
 
@@ -52,12 +52,12 @@ pub extern "C" fn wim_rack_reply(
     digested: &mut u64,
 ) -> u32
     ensures { λ r. ⌜
-        RackMovesBytes (was rack) studio (replying scheme (reply opening a s1 e1 e2 coins) (room message) (room key) (room digest))
+        RackMoves (was rack) studio (replying scheme (reply opening a s1 e1 e2 coins) (room message) (room key) (room digest))
         (left rack)
         (replySeen r (left place) (output (left written) (left message)) (output (left keyed) (left key)) (output (left digested) (left digest)))
         ⌝ }
 {
-    let answer = rack_bytes::reply(
+    let answer = rack::reply(
         rack,
         studio,
         scheme,
@@ -91,21 +91,21 @@ pub extern "C" fn wim_rack_finish(
     index: &mut u64,
 ) -> u32
     ensures { λ r. ⌜
-        RackMovesBytes (was rack) studio (finishing scheme (finish reply s) (room key) (room digest))
+        RackMoves (was rack) studio (finishing scheme (finish reply s) (room key) (room digest))
         (left rack)
         (finishSeen r (left place) (output (left keyed) (left key)) (output (left digested) (left digest)) (record { most = left slack; at = left index }))
         ⌝ }
 {
-    let answer = rack_bytes::finish(rack, studio, scheme, reply, s, key, digest);
+    let answer = rack::finish(rack, studio, scheme, reply, s, key, digest);
     told::tell_finish(answer, place, keyed, digested, slack, index)
 }
 
 // Close for one: its slot's number and zeros, whatever the slot held.
 #[no_mangle]
 pub extern "C" fn wim_rack_close(rack: &mut [u8], studio: u32, place: &mut u64) -> u32
-    ensures { λ r. ⌜ RackMovesBytes (was rack) studio closing (left rack) (offerSeen r (left place) noOutput) ⌝ }
+    ensures { λ r. ⌜ RackMoves (was rack) studio closing (left rack) (offerSeen r (left place) noOutput) ⌝ }
 {
-    let verdict = rack_bytes::close(rack, studio);
+    let verdict = rack::close(rack, studio);
     told::tell_verdict(verdict, place)
 }
 
@@ -114,6 +114,6 @@ pub extern "C" fn wim_rack_close(rack: &mut [u8], studio: u32, place: &mut u64) 
 pub extern "C" fn wim_rack_clear(rack: &mut [u8], place: &mut u64) -> u32
     ensures { λ r. ⌜ Cleared (was rack) (left rack) r (left place) ⌝ }
 {
-    let verdict = rack_bytes::clear(rack);
+    let verdict = rack::clear(rack);
     told::tell_verdict(verdict, place)
 }

@@ -8,12 +8,12 @@
 --   clear-not, clear-done   Clear; laid-empty   the numbers into zeros
 use mathlib.Core.Path.{_≡_, refl, _∙_, sym, ap, ap₂, subst}
 use mathlib.Core.Bool.{Bool, true, false, cond}
-use mathlib.Core.List.{List, [], _∷_, _++_}
+use mathlib.Core.List.{List, _∷_, _++_}
 use Prim.Native.Nat.{ℕ, suc, _+_, _*_, _≤_, _<_}
 use native.Mathlib.Omega.{arith}
 use native.Mathlib.Numerals.{add-one}
-use lib.Dec.{eqb, ltb}
-use lib.ListN.{length, getD, set, take, drop, replicate}
+use lib.Dec.{eqb}
+use lib.ListN.{length, set, take, drop, replicate}
 use borrow.Author.Tests.{eq-eqb, ne-eqb, lt-ltb, le-ltb}
 use Rattle.front.specs.declared.Refusal.the-variants.{OutOfStage, NoStudio}
 use Rattle.front.specs.declared.Verdict.the-variants.{Pass, Fail}
@@ -22,21 +22,21 @@ use Rattle.session.specs.Seen.{Seen, Gives}
 use Rattle.session.proofs.Laws.{close-gives}
 use Rattle.session_bytes.specs.Bytes.{closes, outcomeBytes, stepBytes, MovesBytes}
 use Rattle.session_bytes.proofs.Bytes as sessions
-use Rattle.rack_bytes.specs.Slots.{part, inside, placed, owned, serves, outcomeIn, stepIn, RackMovesBytes, toldClose, emptyFrom, emptyRack, clearTests, Cleared}
-use Rattle.rack_bytes.specs.Shown.{Threads}
-use Rattle.rack_bytes.proofs.Parts.{number-at, behind, around, wiped-slot, owned-is, part-long, inside-long}
+use Rattle.rack.specs.Slots.{inside, placed, owned, serves, outcomeIn, stepIn, RackMoves, toldClose, emptyFrom, emptyRack, clearTests, Cleared}
+use Rattle.rack.specs.Shown.{Threads}
+use Rattle.rack.proofs.Parts.{number-at, behind, around, wiped-slot, owned-is, part-long, inside-long}
 
 module _ (bs : List ℕ) (i : ℕ) (x : Call) {t : Seen} where
-  pub away : 8 ≤ i → Gives (Fail NoStudio) x t → RackMovesBytes bs i x bs t
+  pub away : 8 ≤ i → Gives (Fail NoStudio) x t → RackMoves bs i x bs t
   unfolding outcomeIn stepIn
   away h g = record { moved = rw (le-ltb i 8 h); gives = rw (le-ltb i 8 h) g }
 
-  pub stopped : i < 8 → serves bs i x ≡ false → Gives (Fail OutOfStage) x t → RackMovesBytes bs i x bs t
+  pub stopped : i < 8 → serves bs i x ≡ false → Gives (Fail OutOfStage) x t → RackMoves bs i x bs t
   unfolding outcomeIn stepIn
   stopped h s g = record { moved = rw (lt-ltb i 8 h, s); gives = rw (lt-ltb i 8 h, s) g }
 
   pub served : {cs : List ℕ} → i < 8 → serves bs i x ≡ true → cs ≡ placed bs i (i ∷ stepBytes (inside bs i) x) → Gives (outcomeBytes (inside bs i) x) x t
-      → RackMovesBytes bs i x cs t
+      → RackMoves bs i x cs t
   unfolding outcomeIn stepIn
   served h s e g = record { moved = rw (lt-ltb i 8 h, s) e; gives = rw (lt-ltb i 8 h, s) g }
 
@@ -67,13 +67,13 @@ module _ (bs : List ℕ) (i n d : ℕ) (e : n ≡ 131 * i + 1) (f : d ≡ 130) (
       ap₂ (λ (m k : ℕ). take m bs ++ (ps ++ drop k (drop m bs))) starts f ∙ around (131 * i) bs ps within
       ∙ ap (λ (k : ℕ). placed bs i (k ∷ ps)) (number-at (131 * i) bs within ∙ owned-is bs i o .1)
 
-  pub called : {x : Call} {t : Seen} {ps : List ℕ} → MovesBytes (take d (drop n bs)) x ps t → RackMovesBytes bs i x (take n bs ++ (ps ++ drop d (drop n bs))) t
+  pub called : {x : Call} {t : Seen} {ps : List ℕ} → MovesBytes (take d (drop n bs)) x ps t → RackMoves bs i x (take n bs ++ (ps ++ drop d (drop n bs))) t
   called {x} {t} {ps} p =
-      subst (λ (cs : List ℕ). RackMovesBytes bs i x cs t) (sym (back-is ps))
+      subst (λ (cs : List ℕ). RackMoves bs i x cs t) (sym (back-is ps))
       (threads bs ps i x t h o (subst (λ (cs : List ℕ). MovesBytes cs x ps t) lent-is p))
 
 pub closed : (bs : List ℕ) (i : ℕ) {d : ℕ} {ps : List ℕ} → i < 8 → length bs ≡ 1048 → d ≡ 131 → ps ≡ replicate (length (take d (drop (131 * i) bs))) 0
-    → RackMovesBytes bs i closing (set (take (131 * i) bs ++ (ps ++ drop d (drop (131 * i) bs))) (131 * i) i) (toldClose Pass)
+    → RackMoves bs i closing (set (take (131 * i) bs ++ (ps ++ drop d (drop (131 * i) bs))) (131 * i) i) (toldClose Pass)
 closed bs i {d} {ps} h l f e =
     let c = sessions.closed (inside bs i) in
     let z : ps ≡ replicate 131 0 =

@@ -1,4 +1,4 @@
--- A rack as eight records of 131 lent bytes, each its studio's number and then a session's 130 bytes: 02, request k.
+-- Eight studios, one rack: eight records of 131 lent bytes, each its studio's number and then a session's 130 bytes: 02, request k.
 --   part bs i         the bytes of slot i
 --   inside bs i       those behind its number, which are a session
 --   placed bs i s     the rack with the bytes s in slot i: what lies before and behind them stays
@@ -6,7 +6,7 @@
 --   serves bs i x     such take a call; for close the length is enough, whatever the slot holds
 --   outcomeIn bs i x  the verdict of studio i's call x: 16 for a number over 7, then 10, then what the call on the session's bytes gives
 --   stepIn bs i x     the bytes after it
---   RackMovesBytes    the promise of every call of a studio
+--   RackMoves         the promise of every call of a studio
 --   emptyRack         eight idle records with their numbers
 --   clearTests, Cleared   the verdict and the promise of clear
 use mathlib.Core.Path.{_≡_}
@@ -45,7 +45,7 @@ outcomeIn bs i x = cond (ltb i 8) (cond (serves bs i x) (outcomeBytes (inside bs
 unfoldable pub stepIn : List ℕ → ℕ → Call → List ℕ
 stepIn bs i x = cond (ltb i 8) (cond (serves bs i x) (placed bs i (i ∷ stepBytes (inside bs i) x)) bs) bs
 
-pub record RackMovesBytes (bs : List ℕ) (i : ℕ) (x : Call) (cs : List ℕ) (t : Seen) : Type 0 where
+pub record RackMoves (bs : List ℕ) (i : ℕ) (x : Call) (cs : List ℕ) (t : Seen) : Type 0 where
   pub moved : cs ≡ stepIn bs i x
   pub gives : Gives (outcomeIn bs i x) x t
 

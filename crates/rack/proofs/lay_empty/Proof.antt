@@ -1,11 +1,11 @@
--- `rack_bytes::lay_empty` meets its contract.
+-- `rack::lay_empty` meets its contract.
 use mathlib.Core.Path.{_≡_, refl, _∙_, sym, ap}
 use Prim.Native.Nat.{ℕ}
 use lib.ListN.{replicate, length-set}
-use Rattle.rack_bytes.proofs.Calls.{laid-empty}
+use Rattle.rack.proofs.Calls.{laid-empty}
 use borrow.Author.Needs.{needs}
-use Rattle.rack_bytes.proofs.lay_empty.Statement.{statement}
-use Rattle.rack_bytes.proofs.lay_empty.Tie as tie
+use Rattle.rack.proofs.lay_empty.Statement.{statement}
+use Rattle.rack.proofs.lay_empty.Tie as tie
 
 returns : tie.Need-returns
 returns c =

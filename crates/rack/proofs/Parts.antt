@@ -22,7 +22,7 @@ use Rattle.session_bytes.specs.declared.Found.the-variants.{At, Nowhere}
 use Rattle.session_bytes.specs.Bytes.{bytesOf, staged, sessionIn, closes, stepAt, stepBytes}
 use Rattle.session_bytes.proofs.Stages as stages
 use Rattle.session_bytes.proofs.Bytes.{taken-back, laid-back}
-use Rattle.rack_bytes.specs.Slots.{part, inside, placed, owned}
+use Rattle.rack.specs.Slots.{part, inside, placed, owned}
 
 -- ---- one slot, at its place
 

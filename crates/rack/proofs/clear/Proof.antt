@@ -1,9 +1,9 @@
--- `rack_bytes::clear` meets its contract.
+-- `rack::clear` meets its contract.
 use mathlib.Core.Path.{_≡_, refl, _∙_, sym, ap}
-use Rattle.rack_bytes.proofs.Calls.{clear-not, clear-done}
+use Rattle.rack.proofs.Calls.{clear-not, clear-done}
 use borrow.Author.Needs.{needs}
-use Rattle.rack_bytes.proofs.clear.Statement.{statement}
-use Rattle.rack_bytes.proofs.clear.Tie as tie
+use Rattle.rack.proofs.clear.Statement.{statement}
+use Rattle.rack.proofs.clear.Tie as tie
 
 returns : tie.Need-returns
 returns c = clear-not _ (c .if1 .taken)

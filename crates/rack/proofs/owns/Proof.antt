@@ -1,11 +1,11 @@
--- `rack_bytes::owns` meets its contract.
+-- `rack::owns` meets its contract.
 use mathlib.Core.Path.{_≡_, refl, _∙_, sym, ap}
 use Prim.Native.Nat.{_*_}
 use native.Mathlib.Omega.{arith}
-use Rattle.rack_bytes.proofs.Parts.{owned-not, owned-by}
+use Rattle.rack.proofs.Parts.{owned-not, owned-by}
 use borrow.Author.Needs.{needs}
-use Rattle.rack_bytes.proofs.owns.Statement.{statement}
-use Rattle.rack_bytes.proofs.owns.Tie as tie
+use Rattle.rack.proofs.owns.Statement.{statement}
+use Rattle.rack.proofs.owns.Tie as tie
 
 returns : tie.Need-returns
 returns c = owned-not _ _ (c .if1 .taken)

@@ -1,0 +1,109 @@
+-- A call for one studio gives the same answers and leaves the same record, whatever calls others make: 02, request k.
+--   Asked           a call with its studio's number
+--   RanRack         calls of any studios in any order, each as its function promises, with what each caller sees
+--   own j xs        the calls of studio j alone
+--   views j xs ts   what studio j sees, of what is seen of the calls xs
+-- What is shown:
+--   Turned          a number over 7 is 16, place 0, and changes nothing, whatever the bytes are: so 16 comes before 10
+--   Numbered        an empty rack has each studio's number in its own slot, and a slot that has its number keeps it, whoever calls
+--   Slotwise        the table of request a holds in each slot separately: a call moves the 130 bytes behind the slot's number as the session's call does
+--   Threads         a session's call on the 130 bytes behind a slot's number is the rack's call for that studio
+--   Untouched       a call changes no byte of another slot, and not the length
+--   Blind           no byte of another slot decides what a call answers, or what it leaves in its own
+--   Wiped           close in a rack leaves the slot's number and 130 zeros, whatever the slot held, and refuses nothing
+--   Alone           over any sequence: the bytes of studio j's slot and all that it sees are those of its own 130 bytes under its own calls, the only ones
+--   RunRack         over any sequence: a record that held a session holds the run of request a's table under the studio's own calls
+--   Emptied         clear leaves eight idle sessions behind their numbers
+--   Only            no two results satisfy one promise; OnlyCleared of clear
+use mathlib.Core.Path.{_≡_}
+use mathlib.Core.Bool.{true, cond}
+use mathlib.Core.List.{List, [], _∷_}
+use Prim.Native.Nat.{ℕ, _≤_, _<_}
+use lib.Dec.{eqb}
+use lib.ListN.{length, replicate}
+use Rattle.front.specs.declared.Verdict.the-variants.{Pass}
+use Rattle.session.specs.declared.Session.{Session}
+use Rattle.session.specs.Table.{Call, closing, run}
+use Rattle.session.specs.Table as table
+use Rattle.session.specs.Seen.{Seen}
+use Rattle.session.specs.Sequences.{Ran, Sound}
+use Rattle.session_bytes.specs.Bytes.{bytesOf, MovesBytes}
+use Rattle.session_bytes.specs.Shown.{RanBytes}
+use Rattle.rack.specs.Slots.{part, inside, placed, owned, outcomeIn, stepIn, RackMoves, emptyRack, Cleared}
+
+pub record Asked : Type 0 where
+  pub by : ℕ
+  pub call : Call
+
+pub data RanRack : List ℕ → List Asked → List ℕ → List Seen → Type 0 where
+  none : {bs : List ℕ} → RanRack bs [] bs []
+  more : {bs cs ds : List ℕ} {x : Asked} {xs : List Asked} {t : Seen} {ts : List Seen} → RackMoves bs (x .by) (x .call) cs t
+      → RanRack cs xs ds ts → RanRack bs (x ∷ xs) ds (t ∷ ts)
+
+unfoldable pub own : ℕ → List Asked → List Call
+own j [] = []
+own j (x ∷ xs) = cond (eqb (x .by) j) (x .call ∷ own j xs) (own j xs)
+
+unfoldable pub views : ℕ → List Asked → List Seen → List Seen
+views j [] ts = []
+views j (x ∷ xs) [] = []
+views j (x ∷ xs) (t ∷ ts) = cond (eqb (x .by) j) (t ∷ views j xs ts) (views j xs ts)
+
+-- ---- what is shown: one call
+
+abbrev pub Turned : Type 0
+Turned = (bs cs : List ℕ) (i : ℕ) (x : Call) (t : Seen) → 8 ≤ i → RackMoves bs i x cs t → (t .number ≡ 16) × (t .place ≡ 0) × (cs ≡ bs)
+
+abbrev pub Numbered : Type 0
+Numbered =
+    ((j : ℕ) → j < 8 → owned emptyRack j ≡ true)
+    × ((bs cs : List ℕ) (i j : ℕ) (x : Call) (t : Seen) → j < 8 → owned bs j ≡ true → RackMoves bs i x cs t → owned cs j ≡ true)
+
+abbrev pub Slotwise : Type 0
+Slotwise =
+    (bs cs : List ℕ) (i : ℕ) (x : Call) (t : Seen) → i < 8 → owned bs i ≡ true → RackMoves bs i x cs t → MovesBytes (inside bs i) x (inside cs i) t
+
+abbrev pub Threads : Type 0
+Threads =
+    (bs ps : List ℕ) (i : ℕ) (x : Call) (t : Seen) → i < 8 → owned bs i ≡ true → MovesBytes (inside bs i) x ps t
+    → RackMoves bs i x (placed bs i (i ∷ ps)) t
+
+abbrev pub Untouched : Type 0
+Untouched = (bs : List ℕ) (i j : ℕ) (x : Call) → (i ≡ j → ⊥) → (part (stepIn bs i x) j ≡ part bs j) × (length (stepIn bs i x) ≡ length bs)
+
+abbrev pub Blind : Type 0
+Blind =
+    (bs cs : List ℕ) (i : ℕ) (x : Call) → i < 8 → length bs ≡ length cs → part bs i ≡ part cs i
+    → (outcomeIn bs i x ≡ outcomeIn cs i x) × (part (stepIn bs i x) i ≡ part (stepIn cs i x) i)
+
+abbrev pub Wiped : Type 0
+Wiped =
+    (bs : List ℕ) (i : ℕ) → i < 8 → length bs ≡ 1048
+    → (outcomeIn bs i closing ≡ Pass) × (part (stepIn bs i closing) i ≡ i ∷ replicate 130 0)
+
+-- ---- over any sequence
+
+abbrev pub Alone : Type 0
+Alone =
+    (j : ℕ) → j < 8 → (bs cs : List ℕ) (xs : List Asked) (ts : List Seen) → owned bs j ≡ true → RanRack bs xs cs ts
+    → RanBytes (inside bs j) (own j xs) (inside cs j) (views j xs ts) × (owned cs j ≡ true)
+
+abbrev pub RunRack : Type 0
+RunRack =
+    (j : ℕ) → j < 8 → (bs cs : List ℕ) (xs : List Asked) (ts : List Seen) (y : Session) → Sound y → length bs ≡ 1048 → part bs j ≡ j ∷ bytesOf y
+    → RanRack bs xs cs ts → (part cs j ≡ j ∷ bytesOf (run y (own j xs))) × Ran y (own j xs) (run y (own j xs)) (views j xs ts)
+
+-- ---- clear
+
+abbrev pub Emptied : Type 0
+Emptied = (length emptyRack ≡ 1048) × ((i : ℕ) → i < 8 → part emptyRack i ≡ i ∷ bytesOf table.idle)
+
+-- ---- one result
+
+abbrev pub Only : Type 0
+Only =
+    (bs cs cs′ : List ℕ) (i : ℕ) (x : Call) (t t′ : Seen) → RackMoves bs i x cs t → RackMoves bs i x cs′ t′ → (cs ≡ cs′) × (t ≡ t′)
+
+abbrev pub OnlyCleared : Type 0
+OnlyCleared =
+    (bs cs cs′ : List ℕ) (r r′ p p′ : ℕ) → Cleared bs cs r p → Cleared bs cs′ r′ p′ → (cs ≡ cs′) × (r ≡ r′) × (p ≡ p′)

@@ -1,3 +1,0 @@
-pub mod Parts
-pub mod Calls
-pub mod Shown
