@@ -1,4 +1,5 @@
 -- What an output holds, by the verdict.
+--   drop-zeros     what stands behind the first m of n zeros
 --   held-refused   zeros after a refusal, whatever was to be written
 --   held-written   the answer written into zeros
 --   held-whole     where the answer fills the buffer, it is the answer
@@ -17,7 +18,7 @@ use Rattle.front.specs.declared.Verdict.{Verdict}
 use Rattle.front.specs.declared.Verdict.the-variants.{Pass, Fail}
 
 module _ {A : Type 0} (z : A) where
-  drop-zeros : (m n : ℕ) → drop m (replicate n z) ≡ replicate (n - m) z
+  pub drop-zeros : (m n : ℕ) → drop m (replicate n z) ≡ replicate (n - m) z
   drop-zeros zero n = simp sub-zero
   drop-zeros (suc m) zero = simp zero-sub
   drop-zeros (suc m) (suc n) = drop-zeros m n ∙ simp suc-sub-suc

@@ -11,6 +11,7 @@
 --   blank-fails, not-blank-passes, not-blank-passed, not-blank-packed   a part that is blank, and one that is not; numbers tested for their bytes
 --   first, also     a sequence as the code goes through it
 --   held-all        what holds of each entry of the answer, where there is one, and of zero, holds of the whole output
+--   last-passes     a test that passes, behind others, changes nothing
 --   then-assoc, failed, went-on   a sequence in two parts: the first fails, or the second decides
 --   before-pass, before-fail      a test that is made only where the later one fails
 --   before-failed, before-passed  a sequence in which the middle is left for last: where it fails, and where it passes
@@ -181,7 +182,7 @@ pub before-fail : {w : Verdict} {r : Refusal} (v : Verdict) → w ≡ Fail r →
 unfolding _before_
 before-fail v e = rw e
 
-last-passes : (v : Verdict) → v then Pass ≡ v
+pub last-passes : (v : Verdict) → v then Pass ≡ v
 unfolding _then_
 last-passes Pass = refl
 last-passes (Fail r) = refl

@@ -11,8 +11,8 @@ use Prim.Native.Nat.{ℕ}
 use lib.ListN.{length}
 use Rattle.lists.specs.declared.Peak.{Peak}
 use Rattle.front.specs.Front.{numberIn, placeIn, countIn, held}
+use Rattle.front.specs.Seen.{ifPassed}
 use Rattle.front.specs.declared.Verdict.{Verdict}
-use Rattle.front.specs.declared.Verdict.the-variants.{Pass, Fail}
 
 pub record Told (v : Verdict) (number place : ℕ) : Type 0 where
   pub refusal : number ≡ numberIn v
@@ -24,8 +24,7 @@ pub record Wrote {A : Type 0} (v : Verdict) (xs : List A) (z : A) (room count : 
 
 -- what a step leaves of the part that it is lent: xs, and after a refusal what was there
 abbrev pub put : {A : Type 0} → Verdict → List A → List A → List A
-put Pass xs old = xs
-put (Fail r) xs old = old
+put v xs old = ifPassed v xs old
 
 pub record Gave (v : Verdict) (d n : ℕ) : Type 0 where
   pub gives : n ≡ countIn v d
