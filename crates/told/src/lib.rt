@@ -4,6 +4,7 @@ ghost use mathlib.Core.Path.{_≡_};
 ghost use Prim.Native.Nat.{_≤_};
 ghost use Rattle.lists.specs.Lent.{left};
 ghost use Rattle.front.specs.Front.{numberIn, placeIn};
+ghost use Rattle.front.specs.Seen.{told};
 ghost use Rattle.front.specs.Answers as answers;
 ghost use Rattle.reply.specs.Reply as replies;
 ghost use Rattle.finish.specs.Finish as finishes;
@@ -18,7 +19,7 @@ use settings::LentAnswer;
 
 // An answer in numbers.
 pub fn tell(answer: Answer, place: &mut u64, written: &mut u64) -> u32
-    ensures { λ r. ⌜ (r ≡ answers.number answer) × (left place ≡ answers.place answer) × (left written ≡ answers.written answer) ⌝ }
+    ensures { λ r. ⌜ record { number = r; place = left place; counts = left written } ≡ told answer ⌝ }
 {
     match answer {
         Answer::Done(n) => {

@@ -1,5 +1,5 @@
 -- What is stated in specs/Shown.
-use Rattle.wimmostry.specs.Shown.{OneOffer, OneReply, OneFinish, OneNoise, OneExpand, OneGrow, OneShake, OneDigest, OneProduct, OneBench, OneSessionOffer, OneSessionReply, OneSessionFinish, OneSessionClose, OneRackOffer, OneRackReply, OneRackFinish, OneRackClose, OneRackClear, OneSettingsRead, OneSettingsWrite, OneRowsPart, OneRowsOfferBegin, OneRowsOfferEnd, OneRowsReplyBegin, OneRowsReplyEnd}
+use Rattle.wimmostry.specs.Shown.{OneOffer, OneReply, OneFinish, OneNoise, OneExpand, OneGrow, OneProduct, OneBench, OneSessionOffer, OneSessionReply, OneSessionFinish, OneSessionClose, OneRackOffer, OneRackReply, OneRackFinish, OneRackClose, OneRackClear, OneSettingsRead, OneSettingsWrite, OneRowsPart, OneRowsOfferBegin, OneRowsOfferEnd, OneRowsReplyBegin, OneRowsReplyEnd}
 
 pub one-offer : OneOffer
 one-offer c x room r r′ p p′ w w′ message message′ a b = (cc, cc, cc, cc)
@@ -18,12 +18,6 @@ one-expand k x room r r′ p p′ w w′ out out′ a b = (cc, cc, cc, cc)
 
 pub one-grow : OneGrow
 one-grow k x room r r′ p p′ w w′ out out′ a b = (cc, cc, cc, cc)
-
-pub one-shake : OneShake
-one-shake x room r r′ p p′ w w′ out out′ a b = (cc, cc, cc, cc)
-
-pub one-digest : OneDigest
-one-digest x room r r′ p p′ w w′ out out′ a b = (cc, cc, cc, cc)
 
 pub one-product : OneProduct
 one-product x room scratchRoom r r′ p p′ w w′ out out′ scratch scratch′ a b = (cc, cc, cc, cc, cc)

@@ -13,7 +13,6 @@ use Rattle.sampling.specs.Noise.{Noise, Noised}
 use Rattle.noise.specs.declared.Ruled.{Ruled}
 use Rattle.sampling.specs.Expand.{Expand, Expanded}
 use Rattle.sampling.specs.Grow.{Grow, Grown}
-use Rattle.hashing.specs.Hashing.{Hash, Shaken, Digested}
 use Rattle.halves.specs.Halves.{Factors, Multiplied}
 use Rattle.offer.specs.Offer.{Offer, Offered}
 use Rattle.reply.specs.Reply.{Reply, Replied}
@@ -60,16 +59,6 @@ OneExpand =
 abbrev pub OneGrow : Type 0
 OneGrow =
     (k : Ruled) (x : Grow) (room r r′ p p′ w w′ : ℕ) (out out′ : List ℕ) → Grown k x r p room w out → Grown k x r′ p′ room w′ out′
-    → (r ≡ r′) × (p ≡ p′) × (w ≡ w′) × (out ≡ out′)
-
-abbrev pub OneShake : Type 0
-OneShake =
-    (x : Hash) (room r r′ p p′ w w′ : ℕ) (out out′ : List ℕ) → Shaken x r p room w out → Shaken x r′ p′ room w′ out′
-    → (r ≡ r′) × (p ≡ p′) × (w ≡ w′) × (out ≡ out′)
-
-abbrev pub OneDigest : Type 0
-OneDigest =
-    (x : Hash) (room r r′ p p′ w w′ : ℕ) (out out′ : List ℕ) → Digested x r p room w out → Digested x r′ p′ room w′ out′
     → (r ≡ r′) × (p ≡ p′) × (w ≡ w′) × (out ≡ out′)
 
 abbrev pub OneProduct : Type 0

@@ -1,12 +1,14 @@
 // The library for programs in C and Rust: each exported function hands on to one call and tells its answer in numbers. It returns 0 or the refusal's number,
 // has no `requires`, and promises what the call promises. `include/wimmostry.h` says what a caller has to know.
+ghost use mathlib.Core.Path.{_≡_};
 ghost use Rattle.schemes.specs.Schemes.{schemeOf};
 ghost use Rattle.lists.specs.Lent.{was, left, room};
+ghost use Rattle.front.specs.Seen.{seen};
 ghost use Rattle.sampling.specs.Noise.{noise, Noised};
 ghost use Rattle.noise.specs.Expand.{ruleOf};
 ghost use Rattle.sampling.specs.Expand.{expand, Expanded};
 ghost use Rattle.sampling.specs.Grow.{grow, Grown};
-ghost use Rattle.hashing.specs.Hashing.{hash, Shaken, Digested};
+ghost use Rattle.hashing.specs.Hashing.{hash, shakeResult, digestResult};
 ghost use Rattle.halves.specs.Halves.{factors, Multiplied};
 ghost use Rattle.offer.specs.Offer.{offer, Offered};
 ghost use Rattle.reply.specs.Reply.{reply, Replied};
@@ -144,7 +146,7 @@ pub extern "C" fn wim_shake128(
     place: &mut u64,
     written: &mut u64,
 ) -> u32
-    ensures { λ r. ⌜ Shaken (hash input) r (left place) (room out) (left written) (left out) ⌝ }
+    ensures { λ r. ⌜ seen (record { number = r; place = left place; counts = left written }) (left out) ≡ shakeResult (hash input) (room out) ⌝ }
 {
     let answer = hashing::shake128(input, out);
     told::tell(answer, place, written)
@@ -158,7 +160,7 @@ pub extern "C" fn wim_sha3_256(
     place: &mut u64,
     written: &mut u64,
 ) -> u32
-    ensures { λ r. ⌜ Digested (hash input) r (left place) (room out) (left written) (left out) ⌝ }
+    ensures { λ r. ⌜ seen (record { number = r; place = left place; counts = left written }) (left out) ≡ digestResult (hash input) (room out) ⌝ }
 {
     let answer = hashing::sha3_256(input, out);
     told::tell(answer, place, written)

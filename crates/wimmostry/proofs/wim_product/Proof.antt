@@ -1,11 +1,12 @@
 -- `wimmostry::wim_product` meets its contract: its numbers are the answer's.
+use Rattle.front.proofs.Seen.{tells}
 use borrow.Author.Needs.{needs}
 use Rattle.wimmostry.proofs.wim_product.Statement.{statement}
 use Rattle.wimmostry.proofs.wim_product.Tie as tie
 
 returns : tie.Need-returns
 returns c =
-    let t = c .tell .ensures in
+    let t = tells _ (c .tell .ensures) in
     let p : tie.After-product = search needs in
     rw (t .0, t .1, t .2) (p .product .ensures)
 

@@ -1,11 +1,12 @@
 -- `wimmostry::by_rows::wim_rows_offer_end` meets its contract: its numbers are the answer's.
+use Rattle.front.proofs.Seen.{tells}
 use borrow.Author.Needs.{needs}
 use Rattle.wimmostry.proofs.by_rows.wim_rows_offer_end.Statement.{statement}
 use Rattle.wimmostry.proofs.by_rows.wim_rows_offer_end.Tie as tie
 
 returns : tie.Need-returns
 returns c =
-    let t = c .tell .ensures in
+    let t = tells _ (c .tell .ensures) in
     let o : tie.After-offer-end = search needs in
     rw (t .0, t .1, t .2) (o .offer-end .ensures)
 
