@@ -2,18 +2,22 @@
 --   sizes-failed         its verdict where a test of lengths fails
 --   first-numbers        where the first bytes give 1,024 numbers, these are those of all 24 blocks
 --   bytes-sized          where Grow's tests of lengths pass, so do Expand's of up to 24 blocks
---   grown-all, grown-first   its promise is then Expand's of all blocks, and Expand's of the first bytes where they are not refused
---   grow-unknown, grow-named   its promise where no rule is named, and under another name and room
-use mathlib.Core.Path.{_≡_, refl, _∙_, sym, ap}
+--   grown-all, grown-first   what is seen of it is then what is seen of Expand on all blocks, and on the first bytes where they are not refused
+--   grow-unknown, grow-named   what is seen where no rule is named, and under another name and room
+use mathlib.Core.Path.{_≡_, refl, _∙_, sym, ap, ap₂}
 use mathlib.Core.List.{List, _++_}
 use Prim.Native.Nat.{ℕ, _+_, _-_, _*_, _%_, _≤_}
 use native.Mathlib.Omega.{arith}
 use lib.ListN.{length, take, drop, replicate, take-append-drop}
+use Rattle.front.specs.Seen.{refused, Seen, shown, told, seen}
+use Rattle.front.specs.declared.Answer.{Answer}
+use Rattle.front.specs.declared.Answer.the-variants.{Done}
 use Rattle.front.specs.declared.Refusal.{Refusal}
+use Rattle.front.specs.declared.Refusal.the-variants.{NoRule}
 use Rattle.front.specs.declared.Verdict.{Verdict}
 use Rattle.front.specs.declared.Verdict.the-variants.{Pass, Fail}
-use Rattle.front.proofs.Laws.{number-zero, both, all-pass, room-passed, up-to-passes, room-passes, failed, went-on}
-use Rattle.front.proofs.Promise.{told-failed, wrote-failed}
+use Rattle.front.proofs.Laws.{both, all-pass, room-passed, up-to-passes, room-passes, failed, went-on}
+use Rattle.front.proofs.Seen.{shown-failed, seen-done}
 use Rattle.noise.specs.Expand.{expanded, rule}
 use Rattle.noise.specs.declared.RuleName.{RuleName}
 use Rattle.noise.specs.declared.Ruled.{Ruled}
@@ -21,8 +25,9 @@ use Rattle.noise.specs.declared.Ruled.the-variants.{By, Unknown}
 use Rattle.noise.proofs.Stream.{expanded-counted, unread}
 use Rattle.sponge.specs.Sponge.{shake128}
 use Rattle.sponge.proofs.Output.{shake-length, longer}
-use Rattle.sampling.specs.Expand.{expandOf, expandNumbers, enough, expandSizes, expandTests, Expanded}
-use Rattle.sampling.specs.Grow.{Grow, growOf, blocks, growNumbers, growSizes, growTests, Grown}
+use Rattle.sampling.specs.Expand.{expandOf, expandNumbers, enough, expandTests, expandResult}
+use Rattle.sampling.specs.Grow.{Grow, blocks, growNumbers, growTests, growResult}
+use Rattle.sampling.specs.Steps.{expandSizes, growSizes}
 use Rattle.sampling.proofs.Expanding.{sizes-passed, enough-passed}
 
 -- the words of the first bytes stand in front of the others, and Expand reads no further than it has to
@@ -39,7 +44,7 @@ first-numbers k seed n few even many =
 
 module _ (k : RuleName) (x : Grow) (room : ℕ) where
   pub sizes-failed : {v : Verdict} {r : Refusal} → v ≡ growSizes x room → v ≡ Fail r → growTests (By k) x room ≡ Fail r
-  unfolding growTests
+  unfolding growTests growSizes
   sizes-failed e f = failed _ e f
 
   module _ (e : growSizes x room ≡ Pass) where
@@ -54,31 +59,29 @@ module _ (k : RuleName) (x : Grow) (room : ℕ) where
       tests : expandTests (By k) (expandOf firsts) room ≡ enough (length (expandNumbers (By k) firsts))
       tests = sizes-passed k (expandOf firsts) room (bytes-sized firsts (omega (arith, shake-length (x .seed) n)))
 
-      grown-by : {number place count : ℕ} {out : List ℕ} → growNumbers (By k) (x .seed) ≡ expandNumbers (By k) firsts
-          → Expanded (By k) (expandOf firsts) number place room count out → Grown (By k) x number place room count out
-      unfolding growTests
+      grown-by : {u : Seen ℕ} → growNumbers (By k) (x .seed) ≡ expandNumbers (By k) firsts → u ≡ expandResult (By k) (expandOf firsts) room
+          → u ≡ growResult (By k) x room
+      unfolding growTests growSizes
       grown-by s p =
           let t : growTests (By k) x room ≡ expandTests (By k) (expandOf firsts) room =
           went-on _ refl e ∙ ap (λ (xs : List ℕ). enough (length xs)) s ∙ sym tests in
-          record { told = rw t (p .told); numbers = rw (t, s) (p .numbers) }
+          p ∙ ap₂ (λ (v : Verdict) (xs : List ℕ). shown v xs 0 room) (sym t) (sym s)
 
-      pub grown-all : {number place count : ℕ} {out : List ℕ} → n ≡ 24 * 168 → Expanded (By k) (expandOf firsts) number place room count out
-          → Grown (By k) x number place room count out
+      pub grown-all : {u : Seen ℕ} → n ≡ 24 * 168 → u ≡ expandResult (By k) (expandOf firsts) room → u ≡ growResult (By k) x room
       grown-all f p = grown-by (ap (λ (m : ℕ). expandNumbers (By k) (shake128 (x .seed) m)) (sym f)) p
 
-      pub grown-first : {number place count : ℕ} {out : List ℕ} → n % 2 ≡ 0 → number ≡ 0 → Expanded (By k) (expandOf firsts) number place room count out
-          → Grown (By k) x number place room count out
-      grown-first f z p =
-          let v = number-zero (expandTests (By k) (expandOf firsts) room) (sym z ∙ p .told .refusal) in
+      pub grown-first : {a : Answer} {m : ℕ} (out : List ℕ) → n % 2 ≡ 0 → a ≡ Done m → seen (told a) out ≡ expandResult (By k) (expandOf firsts) room
+          → seen (told a) out ≡ growResult (By k) x room
+      grown-first {m = m} out f d p =
+          let v = seen-done (expandNumbers (By k) firsts) 0 room (expandTests (By k) (expandOf firsts) room) m out (rw d at p) in
           grown-by (first-numbers k (x .seed) n few f (enough-passed _ _ refl (sym tests ∙ v))) p
 
 -- ---- the promise
 
-module _ {k : Ruled} {seed : List ℕ} {n : ℕ} {out : List ℕ} where
-  pub grow-unknown : k ≡ Unknown → out ≡ replicate n 0 → Grown k (growOf seed) 12 0 n 0 out
+module _ {k : Ruled} (x : Grow) where
+  pub grow-unknown : (n : ℕ) {out : List ℕ} → k ≡ Unknown → out ≡ replicate n 0 → seen (refused NoRule 0) out ≡ growResult k x n
   unfolding growTests
-  grow-unknown e o = rw e (record { told = told-failed refl; numbers = wrote-failed refl o })
+  grow-unknown n e o = rw e (shown-failed _ _ _ refl o)
 
-  pub grow-named : {l : Ruled} {m number place count : ℕ} → k ≡ l → m ≡ n → Grown l (growOf seed) number place m count out
-      → Grown k (growOf seed) number place n count out
+  pub grow-named : {l : Ruled} {m n : ℕ} {s : Seen ℕ} → k ≡ l → m ≡ n → s ≡ growResult l x m → s ≡ growResult k x n
   grow-named e f p = rw (e, ← f) p

@@ -4,7 +4,7 @@
 --   Fits, sizes-passed, tests-passed   what passed tests say of the lengths
 --   few                  no table that passes has more than 153 words
 --   takes, filled        the bytes and the values of a scheme that is known by its name
---   noise-unknown, noise-named   its promise where no scheme is named, and under another name and room
+--   noise-unknown, noise-named   what is seen where no scheme is named, and under another name and room
 use mathlib.Core.Path.{_≡_, refl, _∙_, sym, ap}
 use mathlib.Core.Bool.{Bool, true, false}
 use mathlib.Core.List.{List}
@@ -23,25 +23,38 @@ use Rattle.schemes.specs.declared.Named.the-variants.{Is, Unknown}
 use Rattle.front.specs.Front.{_then_, tableIn}
 use Rattle.front.specs.declared.Verdict.{Verdict}
 use Rattle.front.specs.declared.Verdict.the-variants.{Pass}
-use Rattle.front.proofs.Laws.{both, length-passed, room-passed}
-use Rattle.front.proofs.Promise.{told-failed, wrote-failed}
+use Rattle.front.specs.Seen.{refused, Seen, seen}
+use Rattle.front.specs.declared.Refusal.the-variants.{NoScheme}
+use Rattle.front.proofs.Laws.{both, last-passes, length-passed, room-passed}
+use Rattle.front.proofs.Seen.{shown-failed}
 use Rattle.noise.specs.Noise.{d1, d2, d3, d4}
 use Rattle.noise.proofs.Noise.{newhope-length, frodo-length}
 use Rattle.bcns_noise.specs.Noise.{firstNotAbove}
 use Rattle.bcns_noise.proofs.Table.{noise-long}
-use Rattle.sampling.specs.Noise.{Noise, noiseOf, lengthEither, noiseSizes, noiseTests, noiseValues, Noised}
+use Rattle.sampling.specs.Noise.{Noise, lengthEither, bytesEach, tableWords, noiseTests, noiseValues, noiseResult}
+use Rattle.sampling.specs.Steps.{noiseSizes}
 
 -- ---- by the family
 
+-- as the code makes them
 abbrev testsIn : Family → Scheme → Noise → ℕ → Verdict
 testsIn F c x n = by F (noiseSizes c 25 153 x n then tableIn (firstNotAbove (x .table)) 51) (noiseSizes c 4 0 x n) (noiseSizes c 2 0 x n)
 
 abbrev eachIn : Family → ℕ
 eachIn F = by F 25 4 2
 
+abbrev wordsIn : Family → ℕ
+wordsIn F = by F 153 0 0
+
+in-order : (F : Family) (c : Scheme) (x : Noise) (n : ℕ)
+    → testsIn F c x n ≡ noiseSizes c (eachIn F) (wordsIn F) x n then by F (tableIn (firstNotAbove (x .table)) 51) Pass Pass
+in-order Family.Bcns c x n = refl
+in-order Family.NewHope c x n = sym (last-passes _)
+in-order Family.Frodo c x n = sym (last-passes _)
+
 pub tests-by : (c : Scheme) (x : Noise) (n : ℕ) {F : Family} → familyOf c ≡ F → testsIn F c x n ≡ noiseTests (Is c) x n
-unfolding noiseTests
-tests-by c x n e = ap (λ (F : Family). testsIn F c x n) (sym e)
+unfolding noiseTests noiseSizes
+tests-by c x n e = ap (λ (F : Family). testsIn F c x n) (sym e) ∙ in-order (familyOf c) c x n
 
 pub count-by : (c : Scheme) (m : ℕ) {F : Family} → familyOf c ≡ F → m / eachIn F ≡ m / eachIn (familyOf c)
 count-by c m e = ap (λ (F : Family). m / eachIn F) (sym e)
@@ -80,14 +93,14 @@ module _ (c : Scheme) (x : Noise) (n : ℕ) where
         room = room-passed n (length (x .bytes) / each) (t .1);
       }
 
-  passed-in : (F : Family) → testsIn F c x n ≡ Pass → Fits (eachIn F) (by F 153 0 0)
-  passed-in Family.Bcns e = sizes-passed 25 153 (λ k. omega arith) (both _ _ e .0)
-  passed-in Family.NewHope e = sizes-passed 4 0 (λ k. omega arith) e
-  passed-in Family.Frodo e = sizes-passed 2 0 (λ k. omega arith) e
+  whole-in : (F : Family) (k : ℕ) → eachIn F * k ≡ eachIn F * (eachIn F * k / eachIn F)
+  whole-in Family.Bcns k = omega arith
+  whole-in Family.NewHope k = omega arith
+  whole-in Family.Frodo k = omega arith
 
-  pub tests-passed : noiseTests (Is c) x n ≡ Pass → Fits (eachIn (familyOf c)) (by (familyOf c) 153 0 0)
-  unfolding noiseTests
-  tests-passed e = passed-in (familyOf c) e
+  pub tests-passed : noiseTests (Is c) x n ≡ Pass → Fits (bytesEach c) (tableWords c)
+  unfolding noiseTests noiseSizes
+  tests-passed e = sizes-passed (bytesEach c) (tableWords c) (whole-in (familyOf c)) (both _ _ e .0)
 
 pub few : (F : Family) {m : ℕ} → m ≡ by F 153 0 0 → m ≤ 153
 few Family.Bcns e = omega arith
@@ -105,11 +118,10 @@ module _ {c t : Scheme} (x : Noise) (e : c ≡ t) where
 
 -- ---- the promise
 
-module _ {c : Named} {bytes table : List ℕ} {n : ℕ} {out : List ℤ} where
-  pub noise-unknown : c ≡ Unknown → out ≡ replicate n (pos 0) → Noised c (noiseOf bytes table) 1 0 n 0 out
+module _ {c : Named} (x : Noise) where
+  pub noise-unknown : (n : ℕ) {out : List ℤ} → c ≡ Unknown → out ≡ replicate n (pos 0) → seen (refused NoScheme 0) out ≡ noiseResult c x n
   unfolding noiseTests
-  noise-unknown e o = rw e (record { told = told-failed refl; values = wrote-failed refl o })
+  noise-unknown n e o = rw e (shown-failed _ _ _ refl o)
 
-  pub noise-named : {d : Named} {m number place count : ℕ} → c ≡ d → m ≡ n → Noised d (noiseOf bytes table) number place m count out
-      → Noised c (noiseOf bytes table) number place n count out
+  pub noise-named : {d : Named} {m n : ℕ} {s : Seen ℤ} → c ≡ d → m ≡ n → s ≡ noiseResult d x m → s ≡ noiseResult c x n
   noise-named e f p = rw (e, ← f) p

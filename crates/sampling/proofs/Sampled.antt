@@ -1,5 +1,4 @@
 -- What follows from the promises of Noise, Expand and Grow, and of whom it is stated in `specs/`.
---   one-noise, one-expand, one-grow   no two results satisfy one promise
 --   values-within, noise-within     the values of a scheme lie within its largest noise, and so does the whole output of Noise
 --   noise-passes                    so no part of it is refused
 --   expand-below, expand-passes     the whole output of Expand is below 12289, and no part of it is refused
@@ -22,12 +21,13 @@ use Rattle.schemes.specs.declared.Named.the-variants.{Is}
 use Rattle.lists.specs.Entries.{Below, Within}
 use Rattle.lists.proofs.Parts.{below-take, below-drop, part-within}
 use borrow.Author.Tests.{ltb-true}
-use Rattle.front.specs.Front.{numberIn, placeIn, _then_, lengthIs, tableIn, held}
+use Rattle.front.specs.Front.{numberIn, placeIn, _then_, lengthIs, tableIn}
+use Rattle.front.specs.Seen.{written, shown}
 use Rattle.front.specs.declared.Verdict.{Verdict}
 use Rattle.front.specs.declared.Verdict.the-variants.{Pass, Fail}
 use Rattle.front.proofs.Number.{and, lengths, rooms}
-use Rattle.front.proofs.Laws.{differ, both, number-zero, held-all, within-passes, below-passes}
-use Rattle.front.proofs.Promise.{same-answer}
+use Rattle.front.proofs.Laws.{differ, both, number-zero, within-passes, below-passes}
+use Rattle.front.proofs.Seen.{written-all}
 use Rattle.noise.specs.Noise.{d1, d2, d3, d4}
 use Rattle.noise.proofs.Noise.{newhope-within, frodo-within}
 use Rattle.bcns_noise.proofs.Table.{largest-51, each-place}
@@ -35,20 +35,12 @@ use Rattle.bcns_noise.specs.Noise.{firstNotAbove}
 use Rattle.noise.specs.declared.Ruled.{Ruled}
 use Rattle.noise.specs.declared.Ruled.the-variants.{By, Unknown}
 use Rattle.noise.proofs.Stream.{by-name-below}
-use Rattle.sampling.specs.Noise.{Noise, lengthEither, noiseSizes, noiseTests, noiseValues, Noised, OneNoise, NoisePasses, NeverEighteen, EighteenSays}
-use Rattle.sampling.specs.Expand.{Expand, expandNumbers, Expanded, OneExpand, ExpandPasses}
-use Rattle.sampling.specs.Grow.{Grow, blocks, growNumbers, growTests, Grown, OneGrow, SameGrown, GrowPasses}
+use Rattle.sampling.specs.Noise.{Noise, lengthEither, noiseTests, noiseValues, noiseResult, NoisePasses, NeverEighteen, EighteenSays}
+use Rattle.sampling.specs.Expand.{Expand, expandNumbers, expandResult, ExpandPasses}
+use Rattle.sampling.specs.Grow.{Grow, blocks, growNumbers, growTests, growResult, SameGrown, GrowPasses}
+use Rattle.sampling.specs.Steps.{noiseSizes}
 use Rattle.sampling.proofs.Noising.{sizes-passed, tests-passed}
 use Rattle.sampling.proofs.Expanding.{enough-passed, numbers-few}
-
-pub one-noise : OneNoise
-one-noise c x n r r′ out out′ p q = (same-answer r r′ (cc) (cc) (cc), cc)
-
-pub one-expand : OneExpand
-one-expand k x n r r′ out out′ p q = (same-answer r r′ (cc) (cc) (cc), cc)
-
-pub one-grow : OneGrow
-one-grow k x n r r′ out out′ p q = (same-answer r r′ (cc) (cc) (cc), cc)
 
 -- ---- what is written is not refused later
 
@@ -62,38 +54,36 @@ values-within Classical x b w = frodo-within d2 11 (x .bytes)
 values-within Recommended x b w = frodo-within d3 11 (x .bytes)
 values-within Paranoid x b w = frodo-within d4 15 (x .bytes)
 
-pub noise-within : {c : Scheme} {x : Noise} {number place n count : ℕ} {out : List ℤ} → Noised (Is c) x number place n count out → Below 256 (x .bytes)
-    → Within (fixedOf c .largest) out
-noise-within {c} {x} {n = n} p b =
+pub noise-within : (c : Scheme) (x : Noise) (n : ℕ) → Below 256 (x .bytes) → Within (fixedOf c .largest) (noiseResult (Is c) x n .out .holds)
+unfolding shown
+noise-within c x n b =
     record {
-      within = rw (p .values .holds)
-          (held-all (λ i. natAbs i ≤ fixedOf c .largest) (pos 0) _ _ _ (omega arith)
-          (λ e. values-within c x b (tests-passed c x n e .table) .within));
+      within =
+          written-all (pos 0) (λ i. natAbs i ≤ fixedOf c .largest) _ _ n (omega arith)
+          (λ e. values-within c x b (tests-passed c x n e .table) .within);
     }
 
 pub noise-passes : NoisePasses
-noise-passes c x number place n count out p b from many = within-passes (part-within (fixedOf c .largest) from many out (noise-within p b))
+noise-passes c x n b from many = within-passes (part-within (fixedOf c .largest) from many _ (noise-within c x n b))
 
 numbers-below : (k : Ruled) (stream : List ℕ) → Below (newHope .q) (expandNumbers k stream)
 unfolding expandNumbers
 numbers-below Unknown stream = record { below = λ i. omega arith }
 numbers-below (By r) stream = by-name-below r stream
 
-pub expand-below : {k : Ruled} {x : Expand} {number place n count : ℕ} {out : List ℕ} → Expanded k x number place n count out
-    → Below (newHope .q) out
-expand-below {k} {x} p =
-    record { below = rw (p .numbers .holds) (held-all (λ i. i < newHope .q) 0 _ _ _ (omega arith) (λ e. numbers-below k (x .stream) .below)) }
+pub expand-below : (k : Ruled) (x : Expand) (n : ℕ) → Below (newHope .q) (expandResult k x n .out .holds)
+unfolding shown
+expand-below k x n = record { below = written-all 0 (λ i. i < newHope .q) _ _ n (omega arith) (λ e. numbers-below k (x .stream) .below) }
 
 pub expand-passes : ExpandPasses
-expand-passes k x number place n count out p from many = below-passes (below-take (below-drop (expand-below p) from) many)
+expand-passes k x n from many = below-passes (below-take (below-drop (expand-below k x n) from) many)
 
-pub grow-below : {k : Ruled} {x : Grow} {number place n count : ℕ} {out : List ℕ} → Grown k x number place n count out
-    → Below (newHope .q) out
-grow-below {k} {x} p =
-    record { below = rw (p .numbers .holds) (held-all (λ i. i < newHope .q) 0 _ _ _ (omega arith) (λ e. numbers-below k (blocks (x .seed)) .below)) }
+pub grow-below : (k : Ruled) (x : Grow) (n : ℕ) → Below (newHope .q) (growResult k x n .out .holds)
+unfolding shown
+grow-below k x n = record { below = written-all 0 (λ i. i < newHope .q) _ _ n (omega arith) (λ e. numbers-below k (blocks (x .seed)) .below) }
 
 pub grow-passes : GrowPasses
-grow-passes k x number place n count out p from many = below-passes (below-take (below-drop (grow-below p) from) many)
+grow-passes k x n from many = below-passes (below-take (below-drop (grow-below k x n) from) many)
 
 -- ---- the table
 
@@ -117,14 +107,17 @@ module _ (c : Scheme) (x : Noise) (n : ℕ) where
       (and Other _ _ (either-other (length (x .bytes)) (each * fixedOf c .noise) (each * fixedOf c .mixed) _ refl) (λ e. lengths-other _ _))
       (λ e. rooms Other (λ f. omega arith) (λ f. omega arith) _ _)
 
+  tests-other : (each words : ℕ) → Other (numberIn (noiseSizes c each words x n then Pass))
+  tests-other each words = and Other _ _ (sizes-other each words) (λ e f. omega arith)
+
 pub never-eighteen : NeverEighteen
-unfolding noiseTests
+unfolding noiseTests noiseSizes
 never-eighteen Bcns x n e = refl
-never-eighteen NewHope x n e = absurd (sizes-other NewHope x n 4 0 e)
-never-eighteen Challenge x n e = absurd (sizes-other Challenge x n 2 0 e)
-never-eighteen Classical x n e = absurd (sizes-other Classical x n 2 0 e)
-never-eighteen Recommended x n e = absurd (sizes-other Recommended x n 2 0 e)
-never-eighteen Paranoid x n e = absurd (sizes-other Paranoid x n 2 0 e)
+never-eighteen NewHope x n e = absurd (tests-other NewHope x n 4 0 e)
+never-eighteen Challenge x n e = absurd (tests-other Challenge x n 2 0 e)
+never-eighteen Classical x n e = absurd (tests-other Classical x n 2 0 e)
+never-eighteen Recommended x n e = absurd (tests-other Recommended x n 2 0 e)
+never-eighteen Paranoid x n e = absurd (tests-other Paranoid x n 2 0 e)
 
 -- where it is 18, the tests before it have passed, and it was the table's
 at-table : (v : Verdict) (p m : ℕ) (t : Bool) → ltb p m ≡ t → Other (numberIn v) → numberIn (v then tableIn p m) ≡ 18
@@ -135,7 +128,7 @@ at-table Pass p m true e o f = (refl, ltb-true p m e, rw e)
 at-table Pass p m false e o f = let z : _≡_ {A = ℕ} 0 18 = rw e at f in absurd (omega arith)
 
 pub eighteen-says : EighteenSays
-unfolding noiseTests
+unfolding noiseTests noiseSizes
 eighteen-says x n e =
     let p = firstNotAbove (x .table) in
     let a = at-table (noiseSizes Bcns 25 153 x n) p 51 _ refl (sizes-other Bcns x n 25 153) e in
@@ -150,12 +143,11 @@ grown-long Unknown x n e = differ e
 grown-long (By r) x n e = omega (arith, enough-passed _ _ refl (both _ _ e .1), numbers-few r (blocks (x .seed)))
 
 -- the answer stands at the front, whatever the room
-grown-front : (k : Ruled) (x : Grow) (place n count : ℕ) (out : List ℕ) → Grown k x 0 place n count out → take 1024 out ≡ growNumbers k (x .seed)
-unfolding held
-grown-front k x place n count out p =
-    let e = number-zero (growTests k x n) (p .told .refusal) in
-    ap (take 1024) (rw e at (p .numbers .holds)) ∙ take-at (growNumbers k (x .seed)) _ 1024 (grown-long k x n e)
+grown-front : (k : Ruled) (x : Grow) (n : ℕ) → growResult k x n .number ≡ 0 → take 1024 (growResult k x n .out .holds) ≡ growNumbers k (x .seed)
+unfolding shown written
+grown-front k x n z =
+    let e = number-zero (growTests k x n) (sym z) in
+    rw e (take-at (growNumbers k (x .seed)) _ 1024 (grown-long k x n e))
 
 pub same-grown : SameGrown
-same-grown k x place place′ n n′ count count′ out out′ p q =
-    grown-front k x place n count out p ∙ sym (grown-front k x place′ n′ count′ out′ q)
+same-grown k x n n′ z z′ = grown-front k x n z ∙ sym (grown-front k x n′ z′)

@@ -2,12 +2,10 @@
 --   Noise                        what it is lent: the bytes and the table
 --   noiseOf, noise               the same from lists, and from what is lent in a contract
 --   lengthEither m x y           2: a length is one of two
---   noiseSizes c each words x n  its tests of lengths, where a value takes so many bytes and the table has so many words, with room for n values
---   noiseTests c x n             its tests in 01's order, 18 "after 3 and before 4"
+--   bytesEach c, tableWords c    how many bytes a value takes, and how many words the table has
+--   noiseTests c x n             its tests in 01's order, 18 "after 3 and before 4", with room for n values
 --   noiseValues c x              the values
---   Noised c x ..                its promise: the refusal's number and place, the count, and what the output holds
---   Noises c bytes table out r   the same of what is lent and of an answer
---   OneNoise                     no two results satisfy one promise
+--   noiseResult c x n            what it shows
 --   NoisePasses                  no part of what Noise writes is refused as a secret or as noise
 --   NeverEighteen                18 cannot arise in the other schemes
 --   EighteenSays                 in BCNS its place is "the first entry not above its forerunner", 1 to 50
@@ -24,11 +22,9 @@ use Rattle.schemes.specs.declared.Scheme.the-variants.{Bcns, NewHope, Challenge
 use Rattle.schemes.specs.declared.Named.{Named}
 use Rattle.schemes.specs.declared.Named.the-variants.{Is, Unknown}
 use Rattle.lists.specs.Entries.{Below}
-use Rattle.lists.specs.Lent.{Lent, was, left, room}
+use Rattle.lists.specs.Lent.{Lent, was}
 use Rattle.front.specs.Front.{numberIn, placeIn, _then_, lengthIs, roomFor, tableIn, secretsIn}
-use Rattle.front.specs.Answers.{number, place, written}
-use Rattle.front.specs.Promise.{Told, Wrote}
-use Rattle.front.specs.declared.Answer.{Answer}
+use Rattle.front.specs.Seen.{Seen, shown}
 use Rattle.front.specs.declared.Verdict.{Verdict}
 use Rattle.front.specs.declared.Verdict.the-variants.{Pass, Fail}
 use Rattle.front.specs.declared.Refusal.the-variants.{NoScheme}
@@ -48,19 +44,22 @@ noise bytes table = noiseOf (was bytes) (was table)
 unfoldable pub lengthEither : ℕ → ℕ → ℕ → Verdict
 lengthEither m x y = cond (eqb m x) Pass (lengthIs m y)
 
--- both lengths are fixed ones, and no other: of the values of S, E, S' or E', and of those of E''
-unfoldable pub noiseSizes : Scheme → ℕ → ℕ → Noise → ℕ → Verdict
-noiseSizes c each words x n =
-    lengthEither (length (x .bytes)) (each * fixedOf c .noise) (each * fixedOf c .mixed)
-    then lengthIs (length (x .table)) words
-    then roomFor n (length (x .bytes) / each)
+-- 02: "One value takes 25 bytes", "51 .. entries .. in three 64-bit words"; "Other schemes lend an empty table". A value takes two words of 16 bits in NewHope,
+-- one in Frodo.
+abbrev pub bytesEach : Scheme → ℕ
+bytesEach c = by (familyOf c) 25 4 2
 
--- 02: "One value takes 25 bytes", "51 .. entries .. in three 64-bit words", and a table "not strictly ascending" is refused; "Other schemes lend an empty table".
--- A value takes two words of 16 bits in NewHope, one in Frodo.
+abbrev pub tableWords : Scheme → ℕ
+tableWords c = by (familyOf c) 153 0 0
+
+-- both lengths of the bytes are fixed ones, and no other: of the values of S, E, S' or E', and of those of E''. 02: a table "not strictly ascending" is refused
 unfoldable pub noiseTests : Named → Noise → ℕ → Verdict
 noiseTests Unknown x n = Fail NoScheme
 noiseTests (Is c) x n =
-    by (familyOf c) (noiseSizes c 25 153 x n then tableIn (firstNotAbove (x .table)) 51) (noiseSizes c 4 0 x n) (noiseSizes c 2 0 x n)
+    lengthEither (length (x .bytes)) (bytesEach c * fixedOf c .noise) (bytesEach c * fixedOf c .mixed)
+    then lengthIs (length (x .table)) (tableWords c)
+    then roomFor n (length (x .bytes) / bytesEach c)
+    then by (familyOf c) (tableIn (firstNotAbove (x .table)) 51) Pass Pass
 
 unfoldable pub noiseValues : Named → Noise → List ℤ
 noiseValues Unknown x = []
@@ -71,24 +70,15 @@ noiseValues (Is Classical) x = frodoNoise d2 11 (x .bytes)
 noiseValues (Is Recommended) x = frodoNoise d3 11 (x .bytes)
 noiseValues (Is Paranoid) x = frodoNoise d4 15 (x .bytes)
 
-pub record Noised (c : Named) (x : Noise) (number place outRoom outWritten : ℕ) (out : List ℤ) : Type 0 where
-  pub told : Told (noiseTests c x outRoom) number place
-  pub values : Wrote (noiseTests c x outRoom) (noiseValues c x) (pos 0) outRoom outWritten out
-
-abbrev pub Noises : Named → Lent (List ℕ) → Lent (List ℕ) → Lent (List ℤ) → Answer → Type 0
-Noises c bytes table out r = Noised c (noise bytes table) (number r) (place r) (room out) (written r) (left out)
+abbrev pub noiseResult : Named → Noise → ℕ → Seen ℤ
+noiseResult c x n = shown (noiseTests c x n) (noiseValues c x) (pos 0) n
 
 -- ---- what follows
 
-abbrev pub OneNoise : Type 0
-OneNoise =
-    (c : Named) (x : Noise) (n : ℕ) (r r′ : Answer) (out out′ : List ℤ) → Noised c x (number r) (place r) n (written r) out
-    → Noised c x (number r′) (place r′) n (written r′) out′ → (r ≡ r′) × (out ≡ out′)
-
 abbrev pub NoisePasses : Type 0
 NoisePasses =
-    (c : Scheme) (x : Noise) (number place n count : ℕ) (out : List ℤ) → Noised (Is c) x number place n count out → Below 256 (x .bytes)
-    → (from many : ℕ) → secretsIn (fixedOf c .largest) (take many (drop from out)) ≡ Pass
+    (c : Scheme) (x : Noise) (n : ℕ) → Below 256 (x .bytes)
+    → (from many : ℕ) → secretsIn (fixedOf c .largest) (take many (drop from (noiseResult (Is c) x n .out .holds))) ≡ Pass
 
 abbrev pub NeverEighteen : Type 0
 NeverEighteen = (c : Scheme) (x : Noise) (n : ℕ) → numberIn (noiseTests (Is c) x n) ≡ 18 → c ≡ Bcns

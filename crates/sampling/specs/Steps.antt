@@ -1,13 +1,25 @@
--- A step of Grow's code.
---   GrowsFrom k n seed out r   it gives what Expand promises of the first n bytes of SHAKE-128 of the seed
-use mathlib.Core.List.{List}
-use Prim.Native.Nat.{ℕ}
-use Rattle.lists.specs.Lent.{Lent, was, left, room}
-use Rattle.front.specs.Answers.{number, place, written}
-use Rattle.front.specs.declared.Answer.{Answer}
-use Rattle.noise.specs.declared.Ruled.{Ruled}
-use Rattle.sponge.specs.Sponge.{shake128}
-use Rattle.sampling.specs.Expand.{expandOf, Expanded}
+-- The steps of the code: the tests of lengths, which come first.
+--   noiseSizes c each words x n   Noise's, where a value takes so many bytes and the table has so many words, with room for n values
+--   expandSizes x n               Expand's, with room for n numbers
+--   growSizes x n                 Grow's
+use Prim.Native.Nat.{ℕ, _*_, _/_}
+use lib.ListN.{length}
+use Rattle.schemes.specs.Schemes.{fixedOf, newHope}
+use Rattle.schemes.specs.declared.Scheme.{Scheme}
+use Rattle.front.specs.Front.{_then_, lengthIs, lengthUpTo, roomFor}
+use Rattle.front.specs.declared.Verdict.{Verdict}
+use Rattle.sampling.specs.Noise.{Noise, lengthEither}
+use Rattle.sampling.specs.Expand.{Expand}
+use Rattle.sampling.specs.Grow.{Grow}
 
-abbrev pub GrowsFrom : Ruled → ℕ → Lent (List ℕ) → Lent (List ℕ) → Answer → Type 0
-GrowsFrom k n seed out r = Expanded k (expandOf (shake128 (was seed) n)) (number r) (place r) (room out) (written r) (left out)
+unfoldable pub noiseSizes : Scheme → ℕ → ℕ → Noise → ℕ → Verdict
+noiseSizes c each words x n =
+    lengthEither (length (x .bytes)) (each * fixedOf c .noise) (each * fixedOf c .mixed)
+    then lengthIs (length (x .table)) words
+    then roomFor n (length (x .bytes) / each)
+
+unfoldable pub expandSizes : Expand → ℕ → Verdict
+expandSizes x n = lengthUpTo (length (x .stream)) 65536 then roomFor n (newHope .public)
+
+unfoldable pub growSizes : Grow → ℕ → Verdict
+growSizes x n = lengthIs (length (x .seed)) (newHope .seed) then roomFor n (newHope .public)

@@ -4,10 +4,11 @@ ghost use mathlib.Core.Path.{_≡_};
 ghost use lib.ListN.{length, replicate};
 ghost use Rattle.schemes.specs.Schemes.{schemeOf};
 ghost use Rattle.lists.specs.Lent.{left, room};
+ghost use Rattle.front.specs.Seen.{told, seen};
 ghost use Rattle.noise.specs.Expand.{ruleOf};
-ghost use Rattle.sampling.specs.Noise.{Noises};
-ghost use Rattle.sampling.specs.Expand.{Expands};
-ghost use Rattle.sampling.specs.Grow.{Grows};
+ghost use Rattle.sampling.specs.Noise.{noise, noiseResult};
+ghost use Rattle.sampling.specs.Expand.{expand, expandResult};
+ghost use Rattle.sampling.specs.Grow.{grow, growResult};
 
 mod sampler;
 
@@ -19,7 +20,7 @@ use schemes::Named;
 // Noise: scheme, bytes, table. The values that the bytes give: 25 bytes a value in BCNS, by the table; four in NewHope and two in Frodo, which lend an empty
 // one.
 pub fn noise(scheme: u32, bytes: &[u8], table: &[u64], out: &mut [i32]) -> Answer
-    ensures { λ r. ⌜ Noises (schemeOf scheme) bytes table out r ⌝ }
+    ensures { λ r. ⌜ seen (told r) (left out) ≡ noiseResult (schemeOf scheme) (noise bytes table) (room out) ⌝ }
 {
     lists::zero_values(out);
     let Named::Is(s) = schemes::scheme_of(scheme) else {
@@ -39,7 +40,7 @@ fn named(rule: u32, out: &mut [u32]) -> Ruled
 
 // Expand: rule, stream. The first 1,024 numbers that the rule takes from it.
 pub fn expand(rule: u32, stream: &[u8], out: &mut [u32]) -> Answer
-    ensures { λ r. ⌜ Expands (ruleOf rule) stream out r ⌝ }
+    ensures { λ r. ⌜ seen (told r) (left out) ≡ expandResult (ruleOf rule) (expand stream) (room out) ⌝ }
 {
     let Ruled::By(name) = named(rule, out) else {
         return Answer::Refused(Refusal::NoRule);
@@ -49,7 +50,7 @@ pub fn expand(rule: u32, stream: &[u8], out: &mut [u32]) -> Answer
 
 // Grow: rule, seed. The first 1,024 numbers that the rule takes from the blocks of SHAKE-128 of the seed.
 pub fn grow(rule: u32, seed: &[u8], out: &mut [u32]) -> Answer
-    ensures { λ r. ⌜ Grows (ruleOf rule) seed out r ⌝ }
+    ensures { λ r. ⌜ seen (told r) (left out) ≡ growResult (ruleOf rule) (grow seed) (room out) ⌝ }
 {
     let Ruled::By(name) = named(rule, out) else {
         return Answer::Refused(Refusal::NoRule);

@@ -7,15 +7,17 @@ ghost use lib.ListN.{length, drop, replicate};
 ghost use lib.IntN.{pos};
 ghost use Rattle.schemes.specs.Schemes.{familyOf, by};
 ghost use Rattle.schemes.specs.declared.Named.the-variants.{Is};
-ghost use Rattle.lists.specs.Lent.{was, left};
+ghost use Rattle.lists.specs.Lent.{was, left, room};
 ghost use Rattle.front.specs.Front.{_then_, tableIn};
+ghost use Rattle.front.specs.Seen.{told, seen};
 ghost use Rattle.front.specs.declared.Verdict.the-variants.{Pass};
 ghost use Rattle.bcns_noise.specs.Noise.{firstNotAbove};
 ghost use Rattle.noise.specs.declared.Ruled.the-variants.{By};
-ghost use Rattle.sampling.specs.Noise.{noiseOf, noise, lengthEither, noiseSizes, noiseTests, noiseValues, Noises};
-ghost use Rattle.sampling.specs.Expand.{expandOf, expand, expandSizes, Expands};
-ghost use Rattle.sampling.specs.Grow.{growOf, grow, growSizes, Grows};
-ghost use Rattle.sampling.specs.Steps.{GrowsFrom};
+ghost use Rattle.sponge.specs.Sponge.{shake128};
+ghost use Rattle.sampling.specs.Noise.{noiseOf, noise, lengthEither, noiseTests, noiseValues, noiseResult};
+ghost use Rattle.sampling.specs.Expand.{expandOf, expand, expandResult};
+ghost use Rattle.sampling.specs.Grow.{growOf, grow, growResult};
+ghost use Rattle.sampling.specs.Steps.{noiseSizes, expandSizes, growSizes};
 use front::Answer;
 use front::Refusal;
 use front::Verdict;
@@ -113,7 +115,7 @@ fn noise_values(s: Scheme, bytes: &[u8], table: &[u64], out: &mut [i32]) -> usiz
 // Noise in a known scheme.
 pub(crate) fn noise_in(s: Scheme, bytes: &[u8], table: &[u64], out: &mut [i32]) -> Answer
     requires { ⌜ now out ≡ replicate (length (now out)) (pos 0) ⌝ }
-    ensures { λ r. ⌜ Noises (Is s) bytes table out r ⌝ }
+    ensures { λ r. ⌜ seen (told r) (left out) ≡ noiseResult (Is s) (noise bytes table) (room out) ⌝ }
 {
     let v = noise_tests(s, bytes, table, out.len());
     match v {
@@ -134,7 +136,7 @@ fn expand_sizes(stream: &[u8], room: usize) -> Verdict
 fn expand_in(name: RuleName, stream: &[u8], out: &mut [u32]) -> Answer
     requires { ⌜ expandSizes (expandOf (now stream)) (length (now out)) ≡ Pass ⌝ }
     requires { ⌜ now out ≡ replicate (length (now out)) 0 ⌝ }
-    ensures { λ r. ⌜ Expands (By name) stream out r ⌝ }
+    ensures { λ r. ⌜ seen (told r) (left out) ≡ expandResult (By name) (expand stream) (room out) ⌝ }
 {
     let n = noise::expand(name, stream, &mut out[..NewHope::PUBLIC]);
     if n < NewHope::PUBLIC {
@@ -147,7 +149,7 @@ fn expand_in(name: RuleName, stream: &[u8], out: &mut [u32]) -> Answer
 // Expand by a known rule.
 pub(crate) fn expand_by(name: RuleName, stream: &[u8], out: &mut [u32]) -> Answer
     requires { ⌜ now out ≡ replicate (length (now out)) 0 ⌝ }
-    ensures { λ r. ⌜ Expands (By name) stream out r ⌝ }
+    ensures { λ r. ⌜ seen (told r) (left out) ≡ expandResult (By name) (expand stream) (room out) ⌝ }
 {
     let v = expand_sizes(stream, out.len());
     match v {
@@ -179,7 +181,7 @@ fn first_bytes(name: RuleName) -> usize
 fn grow_from(name: RuleName, seed: &[u8], bytes: &mut [u8], out: &mut [u32]) -> Answer
     requires { ⌜ (growSizes (growOf (now seed)) (length (now out)) ≡ Pass) × (length (now bytes) ≤ 24 * 168) ⌝ }
     requires { ⌜ now out ≡ replicate (length (now out)) 0 ⌝ }
-    ensures { λ r. ⌜ GrowsFrom (By name) (length (was bytes)) seed out r ⌝ }
+    ensures { λ r. ⌜ seen (told r) (left out) ≡ expandResult (By name) (expandOf (shake128 (was seed) (length (was bytes)))) (room out) ⌝ }
 {
     sponge::shake128(seed, bytes);
     expand_in(name, bytes, out)
@@ -189,7 +191,7 @@ fn grow_from(name: RuleName, seed: &[u8], bytes: &mut [u8], out: &mut [u32]) -> 
 fn grow_first(name: RuleName, seed: &[u8], bytes: &mut [u8], out: &mut [u32]) -> Answer
     requires { ⌜ (growSizes (growOf (now seed)) (length (now out)) ≡ Pass) × (length (now bytes) ≡ 24 * 168) ⌝ }
     requires { ⌜ now out ≡ replicate (length (now out)) 0 ⌝ }
-    ensures { λ r. ⌜ Grows (By name) seed out r ⌝ }
+    ensures { λ r. ⌜ seen (told r) (left out) ≡ growResult (By name) (grow seed) (room out) ⌝ }
 {
     let n = first_bytes(name);
     let a = grow_from(name, seed, &mut bytes[..n], out);
@@ -203,7 +205,7 @@ fn grow_first(name: RuleName, seed: &[u8], bytes: &mut [u8], out: &mut [u32]) ->
 fn grow_in(name: RuleName, seed: &[u8], out: &mut [u32]) -> Answer
     requires { ⌜ growSizes (growOf (now seed)) (length (now out)) ≡ Pass ⌝ }
     requires { ⌜ now out ≡ replicate (length (now out)) 0 ⌝ }
-    ensures { λ r. ⌜ Grows (By name) seed out r ⌝ }
+    ensures { λ r. ⌜ seen (told r) (left out) ≡ growResult (By name) (grow seed) (room out) ⌝ }
 {
     let mut blocks = [0u8; 4032];
     grow_first(name, seed, &mut blocks, out)
@@ -212,7 +214,7 @@ fn grow_in(name: RuleName, seed: &[u8], out: &mut [u32]) -> Answer
 // Grow by a known rule.
 pub(crate) fn grow_by(name: RuleName, seed: &[u8], out: &mut [u32]) -> Answer
     requires { ⌜ now out ≡ replicate (length (now out)) 0 ⌝ }
-    ensures { λ r. ⌜ Grows (By name) seed out r ⌝ }
+    ensures { λ r. ⌜ seen (told r) (left out) ≡ growResult (By name) (grow seed) (room out) ⌝ }
 {
     let v = grow_sizes(seed, out.len());
     match v {

@@ -1,5 +1,5 @@
 -- What is stated in specs/Shown.
-use Rattle.wimmostry.specs.Shown.{OneOffer, OneReply, OneFinish, OneNoise, OneExpand, OneGrow, OneProduct, OneBench, OneSessionOffer, OneSessionReply, OneSessionFinish, OneSessionClose, OneRackOffer, OneRackReply, OneRackFinish, OneRackClose, OneRackClear, OneSettingsRead, OneSettingsWrite, OneRowsPart, OneRowsOfferBegin, OneRowsOfferEnd, OneRowsReplyBegin, OneRowsReplyEnd}
+use Rattle.wimmostry.specs.Shown.{OneOffer, OneReply, OneFinish, OneProduct, OneBench, OneSessionOffer, OneSessionReply, OneSessionFinish, OneSessionClose, OneRackOffer, OneRackReply, OneRackFinish, OneRackClose, OneRackClear, OneSettingsRead, OneSettingsWrite, OneRowsPart, OneRowsOfferBegin, OneRowsOfferEnd, OneRowsReplyBegin, OneRowsReplyEnd}
 
 pub one-offer : OneOffer
 one-offer c x room r r′ p p′ w w′ message message′ a b = (cc, cc, cc, cc)
@@ -9,15 +9,6 @@ one-reply c x room keyRoom digestRoom r r′ p p′ w w′ k k′ d d′ message
 
 pub one-finish : OneFinish
 one-finish c x room digestRoom r r′ p p′ k k′ d d′ s s′ i i′ key key′ digest digest′ a b = (cc, cc, cc, cc, cc, cc, cc, cc)
-
-pub one-noise : OneNoise
-one-noise c x room r r′ p p′ w w′ out out′ a b = (cc, cc, cc, cc)
-
-pub one-expand : OneExpand
-one-expand k x room r r′ p p′ w w′ out out′ a b = (cc, cc, cc, cc)
-
-pub one-grow : OneGrow
-one-grow k x room r r′ p p′ w w′ out out′ a b = (cc, cc, cc, cc)
 
 pub one-product : OneProduct
 one-product x room scratchRoom r r′ p p′ w w′ out out′ scratch scratch′ a b = (cc, cc, cc, cc, cc)

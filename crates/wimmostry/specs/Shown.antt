@@ -7,12 +7,7 @@
 use mathlib.Core.Path.{_≡_}
 use mathlib.Core.List.{List}
 use Prim.Native.Nat.{ℕ}
-use lib.IntN.{ℤ}
 use Rattle.schemes.specs.declared.Named.{Named}
-use Rattle.sampling.specs.Noise.{Noise, Noised}
-use Rattle.noise.specs.declared.Ruled.{Ruled}
-use Rattle.sampling.specs.Expand.{Expand, Expanded}
-use Rattle.sampling.specs.Grow.{Grow, Grown}
 use Rattle.halves.specs.Halves.{Factors, Multiplied}
 use Rattle.offer.specs.Offer.{Offer, Offered}
 use Rattle.reply.specs.Reply.{Reply, Replied}
@@ -45,21 +40,6 @@ OneFinish =
     (c : Named) (x : Finish) (room digestRoom r r′ p p′ k k′ d d′ s s′ i i′ : ℕ) (key key′ digest digest′ : List ℕ)
     → Finished c x r p room k key digestRoom d digest s i → Finished c x r′ p′ room k′ key′ digestRoom d′ digest′ s′ i′
     → (r ≡ r′) × (p ≡ p′) × (k ≡ k′) × (d ≡ d′) × (s ≡ s′) × (i ≡ i′) × (key ≡ key′) × (digest ≡ digest′)
-
-abbrev pub OneNoise : Type 0
-OneNoise =
-    (c : Named) (x : Noise) (room r r′ p p′ w w′ : ℕ) (out out′ : List ℤ) → Noised c x r p room w out → Noised c x r′ p′ room w′ out′
-    → (r ≡ r′) × (p ≡ p′) × (w ≡ w′) × (out ≡ out′)
-
-abbrev pub OneExpand : Type 0
-OneExpand =
-    (k : Ruled) (x : Expand) (room r r′ p p′ w w′ : ℕ) (out out′ : List ℕ) → Expanded k x r p room w out → Expanded k x r′ p′ room w′ out′
-    → (r ≡ r′) × (p ≡ p′) × (w ≡ w′) × (out ≡ out′)
-
-abbrev pub OneGrow : Type 0
-OneGrow =
-    (k : Ruled) (x : Grow) (room r r′ p p′ w w′ : ℕ) (out out′ : List ℕ) → Grown k x r p room w out → Grown k x r′ p′ room w′ out′
-    → (r ≡ r′) × (p ≡ p′) × (w ≡ w′) × (out ≡ out′)
 
 abbrev pub OneProduct : Type 0
 OneProduct =

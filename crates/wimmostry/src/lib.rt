@@ -4,10 +4,10 @@ ghost use mathlib.Core.Path.{_≡_};
 ghost use Rattle.schemes.specs.Schemes.{schemeOf};
 ghost use Rattle.lists.specs.Lent.{was, left, room};
 ghost use Rattle.front.specs.Seen.{seen};
-ghost use Rattle.sampling.specs.Noise.{noise, Noised};
+ghost use Rattle.sampling.specs.Noise.{noise, noiseResult};
 ghost use Rattle.noise.specs.Expand.{ruleOf};
-ghost use Rattle.sampling.specs.Expand.{expand, Expanded};
-ghost use Rattle.sampling.specs.Grow.{grow, Grown};
+ghost use Rattle.sampling.specs.Expand.{expand, expandResult};
+ghost use Rattle.sampling.specs.Grow.{grow, growResult};
 ghost use Rattle.hashing.specs.Hashing.{hash, shakeResult, digestResult};
 ghost use Rattle.halves.specs.Halves.{factors, Multiplied};
 ghost use Rattle.offer.specs.Offer.{offer, Offered};
@@ -102,7 +102,7 @@ pub extern "C" fn wim_noise(
     place: &mut u64,
     written: &mut u64,
 ) -> u32
-    ensures { λ r. ⌜ Noised (schemeOf scheme) (noise bytes table) r (left place) (room out) (left written) (left out) ⌝ }
+    ensures { λ r. ⌜ seen (record { number = r; place = left place; counts = left written }) (left out) ≡ noiseResult (schemeOf scheme) (noise bytes table) (room out) ⌝ }
 {
     let answer = sampling::noise(scheme, bytes, table, out);
     told::tell(answer, place, written)
@@ -117,7 +117,7 @@ pub extern "C" fn wim_expand(
     place: &mut u64,
     written: &mut u64,
 ) -> u32
-    ensures { λ r. ⌜ Expanded (ruleOf rule) (expand stream) r (left place) (room out) (left written) (left out) ⌝ }
+    ensures { λ r. ⌜ seen (record { number = r; place = left place; counts = left written }) (left out) ≡ expandResult (ruleOf rule) (expand stream) (room out) ⌝ }
 {
     let answer = sampling::expand(rule, stream, out);
     told::tell(answer, place, written)
@@ -132,7 +132,7 @@ pub extern "C" fn wim_grow(
     place: &mut u64,
     written: &mut u64,
 ) -> u32
-    ensures { λ r. ⌜ Grown (ruleOf rule) (grow seed) r (left place) (room out) (left written) (left out) ⌝ }
+    ensures { λ r. ⌜ seen (record { number = r; place = left place; counts = left written }) (left out) ≡ growResult (ruleOf rule) (grow seed) (room out) ⌝ }
 {
     let answer = sampling::grow(rule, seed, out);
     told::tell(answer, place, written)

@@ -12,7 +12,7 @@ returns : tie.Need-returns
 returns c =
     let z : tie.After-zero-values = search needs in
     let n : tie.After-scheme-of = search needs in
-    noise-unknown (sym (n .scheme-of .ensures) ∙ c .enum-told .given .1) (z .zero-values .ensures)
+    noise-unknown _ _ (sym (n .scheme-of .ensures) ∙ c .enum-told .given .1) (z .zero-values .ensures)
 
 noise-in-requires : tie.Need-noise-in-requires
 noise-in-requires c κs =
@@ -26,7 +26,7 @@ returns-2 c =
     let n : tie.After-scheme-of = search needs in
     let s : tie.After-s = search needs in
     let p : tie.After-noise-in = search needs in
-    noise-named (sym (n .scheme-of .ensures) ∙ s .s .given .1) (zeros-long _ (pos 0) (z .zero-values .ensures)) (p .noise-in .ensures)
+    noise-named _ (sym (n .scheme-of .ensures) ∙ s .s .given .1) (zeros-long _ (pos 0) (z .zero-values .ensures)) (p .noise-in .ensures)
 
 pub noise-spec : {M : Type 1} → statement M
 noise-spec =

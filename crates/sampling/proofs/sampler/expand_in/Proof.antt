@@ -5,7 +5,7 @@ use Prim.Native.Nat.{ℕ, _≤_}
 use native.Mathlib.Omega.{arith}
 use lib.ListN.{length, drop, length-take}
 use lib.Seq.{length-take-le}
-use Rattle.front.proofs.Promise.{told-passed, wrote-passed, told-failed, wrote-restored}
+use Rattle.front.proofs.Seen.{shown-passed, shown-restored}
 use Rattle.noise.specs.declared.Ruled.the-variants.{By}
 use Rattle.sampling.specs.Expand.{Expand, expandOf, expandNumbers}
 use Rattle.sampling.proofs.Expanding.{room-enough, ran-out, full, numbers-few, whole-part}
@@ -49,7 +49,7 @@ returns c =
     let i : tie.Then1 = search needs in
     let e = ran-out (b .args .name) (lent b) _ (b .pre .0) (n .expand .ensures .0) (i .if1 .taken) in
     let l = o .out .given .0 ∙ length-take-le 1024 (b .args .out .now) (enough b) in
-    record { told = told-failed e; numbers = wrote-restored e (b .args .out .now) (n .expand .last .1 .1 .0) (b .pre .1) (enough b) l (c .before .before .zero-numbers .ensures) }
+    shown-restored _ _ _ e (b .args .out .now) (n .expand .last .1 .1 .0) (b .pre .1) (enough b) l (c .before .before .zero-numbers .ensures)
 
 returns-2 : tie.Need-returns-2
 unfolding expandNumbers
@@ -62,10 +62,7 @@ returns-2 c =
     let long : length xs ≡ 1024 = omega (arith, n .expand .ensures .0, numbers-few (b .args .name) (b .args .stream .now)) in
     let w = whole-part xs (b .args .out .now) _ _ (n .expand .ensures .1) l in
     let many = n .expand .ensures .0 ∙ long in
-    record {
-      told = told-passed e;
-      numbers = rw many (wrote-passed e (b .args .out .now) long (b .pre .1) (ap (λ (ys : List ℕ). ys ++ drop 1024 (b .args .out .now)) w));
-    }
+    rw many (shown-passed _ _ _ e (b .args .out .now) long (b .pre .1) (ap (λ (ys : List ℕ). ys ++ drop 1024 (b .args .out .now)) w))
 
 pub expand-in-spec : {M : Type 1} → statement M
 expand-in-spec =

@@ -1,6 +1,6 @@
 -- `sampling::sampler::grow_by` meets its contract: zeros stay where a test fails.
 use mathlib.Core.Path.{_∙_, sym}
-use Rattle.front.proofs.Promise.{told-failed, wrote-failed}
+use Rattle.front.proofs.Seen.{shown-failed}
 use Rattle.sampling.proofs.Growing.{sizes-failed}
 use borrow.Author.Needs.{needs}
 use Rattle.sampling.proofs.sampler.grow_by.Statement.{statement}
@@ -17,7 +17,7 @@ returns c =
     let b : tie.Start = search needs in
     let t : tie.After-grow-sizes = search needs in
     let e = sizes-failed (b .args .name) _ _ (t .grow-sizes .ensures) (c .before .v .given .1) in
-    record { told = told-failed e; numbers = wrote-failed e (b .pre) }
+    shown-failed _ _ _ e (b .pre)
 
 pub grow-by-spec : {M : Type 1} → statement M
 grow-by-spec =

@@ -5,8 +5,8 @@ use native.Mathlib.Omega.{arith}
 use lib.ListN.{length, take}
 use lib.Seq.{length-take-le}
 use Rattle.lists.proofs.Same.{zeros, zeros-long}
-use Rattle.front.specs.Answers.{number}
-use Rattle.sampling.specs.Grow.{growOf, growSizes}
+use Rattle.sampling.specs.Grow.{growOf}
+use Rattle.sampling.specs.Steps.{growSizes}
 use Rattle.sampling.proofs.Expanding.{refused-zeros}
 use Rattle.sampling.proofs.Growing.{grown-all, grown-first, grow-named}
 use borrow.Author.Needs.{needs}
@@ -35,8 +35,8 @@ returns c =
     let f : tie.After-first-bytes = search needs in
     let p : tie.After-grow-from = search needs in
     let l = lent b _ (f .first-bytes .ensures .0) in
-    grown-first (b .args .name) (growOf (b .args .seed .now)) _ (b .pre .0 .0) _ (omega (arith, l)) (omega (arith, l, f .first-bytes .ensures .1))
-    (ap number (c .enum-told2 .given .1)) (p .grow-from .ensures)
+    grown-first (b .args .name) (growOf (b .args .seed .now)) _ (b .pre .0 .0) _ (omega (arith, l)) _ (omega (arith, l, f .first-bytes .ensures .1))
+    (c .enum-told2 .given .1) (p .grow-from .ensures)
 
 grow-from-requires-2 : tie.Need-grow-from-requires-2
 grow-from-requires-2 c κs =
@@ -44,7 +44,7 @@ grow-from-requires-2 c κs =
     let p : tie.After-grow-from = search needs in
     let y : tie.After-bytes = search needs in
     let t : tie.After-enum-told = search needs in
-    let z = refused-zeros (t .enum-told .given .1) (p .grow-from .ensures) in
+    let z = refused-zeros _ _ _ (t .enum-told .given .1) (p .grow-from .ensures) in
     let n = length (b .args .out .now) in
     ((ap (growSizes (growOf (b .args .seed .now))) (zeros-long n 0 z) ∙ b .pre .0 .0, omega (arith, y .bytes .given .1, b .pre .0 .1)), zeros n 0 z)
 
@@ -55,10 +55,10 @@ returns-2 c =
     let y : tie.After-bytes = search needs in
     let t : tie.After-enum-told = search needs in
     let q : tie.After-grow-from2 = search needs in
-    let z = refused-zeros (t .enum-told .given .1) (p .grow-from .ensures) in
+    let z = refused-zeros _ _ _ (t .enum-told .given .1) (p .grow-from .ensures) in
     let n = length (b .args .out .now) in
     let e = ap (growSizes (growOf (b .args .seed .now))) (zeros-long n 0 z) ∙ b .pre .0 .0 in
-    grow-named refl (zeros-long n 0 z)
+    grow-named _ refl (zeros-long n 0 z)
     (grown-all (b .args .name) (growOf (b .args .seed .now)) _ e _ (omega (arith, y .bytes .given .1, b .pre .0 .1)) (y .bytes .given .1 ∙ b .pre .0 .1) (q .grow-from2 .ensures))
 
 pub grow-first-spec : {M : Type 1} → statement M

@@ -1,6 +1,6 @@
 -- `sampling::sampler::noise_in` meets its contract: zeros stay where a test fails, and are written over where none does.
 use mathlib.Core.Path.{_∙_, sym}
-use Rattle.front.proofs.Promise.{told-passed, wrote-passed, told-failed, wrote-failed}
+use Rattle.front.proofs.Seen.{shown-passed, shown-failed}
 use borrow.Author.Needs.{needs}
 use Rattle.sampling.proofs.sampler.noise_in.Statement.{statement}
 use Rattle.sampling.proofs.sampler.noise_in.Tie as tie
@@ -15,7 +15,7 @@ returns c =
     let b : tie.Start = search needs in
     let t : tie.After-noise-tests = search needs in
     let e = sym (t .noise-tests .ensures) ∙ c .before .v .given .1 in
-    record { told = told-failed e; values = wrote-failed e (b .pre) }
+    shown-failed _ _ _ e (b .pre)
 
 returns-2 : tie.Need-returns-2
 returns-2 c =
@@ -24,7 +24,7 @@ returns-2 c =
     let p : tie.After-enum-told = search needs in
     let e = sym (t .noise-tests .ensures) ∙ p .enum-told .given .1 in
     let w = c .before .noise-values .ensures in
-    record { told = told-passed e; values = wrote-passed e (b .args .out .now) (sym (w .0)) (b .pre) (w .1) }
+    shown-passed _ _ _ e (b .args .out .now) (sym (w .0)) (b .pre) (w .1)
 
 pub noise-in-spec : {M : Type 1} → statement M
 noise-in-spec = tie.close (tie.spec (search needs) (search needs) (search needs) noise-values-requires returns (search needs) returns-2)
