@@ -3,10 +3,10 @@
 --   tests-stop         the other tests do not count where it fails
 --   plain-law          what the steps leave in the output is the product of 01's rule
 --   fitting            lengths and rooms where the tests pass
---   product-refused, product-done   the promise on the output, where a test fails and where the front of the zeros is written over
---   product-cleared    the whole promise, once the scratch is zeroed
---   one-product        no two results satisfy it
-use mathlib.Core.Path.{_≡_, refl, _∙_, sym, ap, subst}
+--   product-refused, product-done   what is seen of the output, where a test fails and where the front of the zeros is written over
+--   product-cleared    what is seen of the call, once the scratch is zeroed
+--   product-seen-all   `productSeen` forgets nothing
+use mathlib.Core.Path.{_≡_, refl, _∙_, sym, ap, ap₂}
 use mathlib.Core.Bool.{Bool, true, false, cond}
 use mathlib.Core.List.{List, _++_}
 use Prim.Native.Nat.{ℕ, _+_, _*_, _-_, _%_, _<_, _≤_}
@@ -18,15 +18,14 @@ use Rattle.numbers.proofs.Congruence.{eq-≅, _⨾_, sub-≅, mod-≅, residue-
 use Rattle.lists.specs.Entries.{tab, nums}
 use Rattle.lists.proofs.Entries.{tab-length, tab-ext}
 use Rattle.polynomial.specs.Product.{product}
-use Rattle.front.specs.Front.{numberOf, placeOf}
-use Rattle.front.specs.Promise.{Told, Wrote}
+use Rattle.front.specs.Seen.{done, refused, Seen, shown, seen}
 use Rattle.front.specs.declared.Refusal.{Refusal}
 use Rattle.front.specs.declared.Refusal.the-variants.{BadLength}
 use Rattle.front.specs.declared.Verdict.{Verdict}
 use Rattle.front.specs.declared.Verdict.the-variants.{Pass, Fail}
 use Rattle.front.proofs.Laws.{differ, both, failed, length-passed, room-passed}
-use Rattle.front.proofs.Promise.{told-passed, wrote-passed, told-failed, wrote-failed, same-answer}
-use Rattle.halves.specs.Halves.{q, sizeUpTo, sizeIn, Factors, factorsOf, productTests, plain, Multiplied, OneProduct}
+use Rattle.front.proofs.Seen.{shown-passed, shown-failed}
+use Rattle.halves.specs.Halves.{q, sizeUpTo, sizeIn, Factors, factorsOf, productTests, plain, ProductSeen, withScratch, productSeen, productResult, ProductSeenAll}
 use Rattle.halves.specs.Steps.{full, cut, from, times, Stored, Product, Fit}
 use Rattle.halves.proofs.Full.{cut-ext, full-ext}
 use Rattle.halves.proofs.Folded.{product-folded}
@@ -122,29 +121,30 @@ module _ (x : Factors) (n m : ℕ) {v : Verdict} (e : v ≡ productTests x n m) 
         },
       )
 
-  pub product-refused :
-      {r : Refusal} {out : List ℕ} → v ≡ Fail r → out ≡ replicate n 0 →
-      Told (productTests x n m) (numberOf r) (placeOf r) × Wrote (productTests x n m) (plain x) 0 n 0 out
-  product-refused f z = let g = sym e ∙ f in (told-failed g, wrote-failed g z)
+  pub product-refused : {r : Refusal} {out : List ℕ} → v ≡ Fail r → out ≡ replicate n 0 → seen (refused r 0) out ≡ shown (productTests x n m) (plain x) 0 n
+  product-refused f z = shown-failed _ _ _ (sym e ∙ f) z
 
   pub product-done :
       (old : List ℕ) {part : List ℕ} → v ≡ Pass → old ≡ replicate n 0 → part ≡ plain x →
-      Told (productTests x n m) 0 0 × Wrote (productTests x n m) (plain x) 0 n (length (x .a)) (part ++ drop (length (x .a)) old)
-  product-done old f z w =
-      let g = sym e ∙ f in
-      (told-passed g, wrote-passed g old (plain-long x) z (ap (λ (t : List ℕ). t ++ drop (length (x .a)) old) w))
+      seen (done (length (x .a))) (part ++ drop (length (x .a)) old) ≡ shown (productTests x n m) (plain x) 0 n
+  product-done old f z w = shown-passed _ _ _ (sym e ∙ f) old (plain-long x) z (ap (λ (t : List ℕ). t ++ drop (length (x .a)) old) w)
 
 -- the output has n numbers still once it is zeroed, and the scratch m once the product is made
 pub product-cleared :
-    (x : Factors) {k n l m number place written : ℕ} {out scratch : List ℕ} → k ≡ n →
-    Told (productTests x k m) number place → Wrote (productTests x k m) (plain x) 0 k written out → scratch ≡ replicate l 0 → l ≡ m →
-    Multiplied x number place n written out m scratch
-product-cleared x {m = m} {number} {place} {written} {out} e t w z f =
-    record {
-      told = subst (λ (i : ℕ). Told (productTests x i m) number place) e t;
-      numbers = subst (λ (i : ℕ). Wrote (productTests x i m) (plain x) 0 i written out) e w;
-      cleared = z ∙ ap (λ (i : ℕ). replicate i 0) f;
-    }
+    (x : Factors) {k n l m : ℕ} {s : Seen ℕ} {scratch : List ℕ} → k ≡ n →
+    s ≡ shown (productTests x k m) (plain x) 0 k → scratch ≡ replicate l 0 → l ≡ m →
+    withScratch s scratch ≡ productResult x n m
+product-cleared x {m = m} e p z f =
+    ap₂ withScratch
+    (p ∙ ap (λ (i : ℕ). shown (productTests x i m) (plain x) 0 i) e)
+    (z ∙ ap (λ (i : ℕ). replicate {A = ℕ} i 0) f)
 
-pub one-product : OneProduct
-one-product x n m r r′ out out′ s s′ p p′ = (same-answer r r′ (cc) (cc) (cc), cc, cc)
+pub product-seen-all : ProductSeenAll
+unfolding withScratch seen
+product-seen-all t t′ out out′ scratch scratch′ e = (
+  ap (λ (s : ProductSeen). s .number) e,
+  ap (λ (s : ProductSeen). s .place) e,
+  ap (λ (s : ProductSeen). s .out .count) e,
+  ap (λ (s : ProductSeen). s .out .holds) e,
+  ap (λ (s : ProductSeen). s .scratch) e,
+)

@@ -6,9 +6,11 @@
 --   factorsOf, factors       the same from lists, and from what is lent in a contract
 --   productTests x n m       the tests in their order, with room for n numbers and a scratch of m
 --   plain x                  what the call gives: the product of 01's rule, modulo X^L + 1 and q
---   Multiplied x ..          the promise: the refusal's number and place, the count, what the output holds, and a scratch of zeros, refused or not
---   Multiplies a b out scratch r   the same of what is lent and of an answer
---   OneProduct               no two results satisfy the promise
+--   ProductSeen              what is seen of the call: the refusal's number and place, the output, and what the scratch holds
+--   withScratch s scratch    what is seen of a call with one output, with a scratch beside it
+--   productSeen t out scratch   what is seen where the call tells t and leaves out and scratch
+--   productResult x n m      what the call shows: a scratch of zeros, refused or not
+--   ProductSeenAll           `productSeen` forgets nothing
 use mathlib.Core.Path.{_≡_}
 use mathlib.Core.Bool.{Bool, true, cond}
 use mathlib.Core.List.{List}
@@ -19,12 +21,10 @@ use Rattle.schemes.specs.Schemes.{fixedOf}
 use Rattle.schemes.specs.declared.Scheme.the-variants.{Bcns}
 use Rattle.numbers.specs.Residue.{residue}
 use Rattle.lists.specs.Entries.{tab, nums}
-use Rattle.lists.specs.Lent.{Lent, was, left, room}
+use Rattle.lists.specs.Lent.{Lent, was}
 use Rattle.polynomial.specs.Product.{product}
 use Rattle.front.specs.Front.{_then_, lengthIs, roomFor, publicsIn}
-use Rattle.front.specs.Answers.{number, place, written}
-use Rattle.front.specs.Promise.{Told, Wrote}
-use Rattle.front.specs.declared.Answer.{Answer}
+use Rattle.front.specs.Seen.{Output, Told, Seen, shown, seen}
 use Rattle.front.specs.declared.Refusal.the-variants.{BadLength}
 use Rattle.front.specs.declared.Verdict.{Verdict}
 use Rattle.front.specs.declared.Verdict.the-variants.{Pass, Fail}
@@ -61,17 +61,24 @@ productTests x n m =
 unfoldable pub plain : Factors → List ℕ
 plain x = tab (length (x .a)) (λ k. residue q (product (length (x .a)) (nums (x .a)) (nums (x .b)) k))
 
-pub record Multiplied (x : Factors) (number place outRoom outWritten : ℕ) (out : List ℕ) (scratchRoom : ℕ) (scratch : List ℕ) : Type 0 where
-  pub told : Told (productTests x outRoom scratchRoom) number place
-  pub numbers : Wrote (productTests x outRoom scratchRoom) (plain x) 0 outRoom outWritten out
-  pub cleared : scratch ≡ replicate scratchRoom 0
+pub record ProductSeen : Type 0 where
+  pub number : ℕ
+  pub place : ℕ
+  pub out : Output ℕ
+  pub scratch : List ℕ
 
-abbrev pub Multiplies : Lent (List ℕ) → Lent (List ℕ) → Lent (List ℕ) → Lent (List ℕ) → Answer → Type 0
-Multiplies a b out scratch r = Multiplied (factors a b) (number r) (place r) (room out) (written r) (left out) (room scratch) (left scratch)
+unfoldable pub withScratch : Seen ℕ → List ℕ → ProductSeen
+withScratch s scratch = record { number = s .number; place = s .place; out = s .out; scratch = scratch }
+
+abbrev pub productSeen : Told ℕ → List ℕ → List ℕ → ProductSeen
+productSeen t out scratch = withScratch (seen t out) scratch
+
+abbrev pub productResult : Factors → ℕ → ℕ → ProductSeen
+productResult x n m = withScratch (shown (productTests x n m) (plain x) 0 n) (replicate m 0)
 
 -- ---- what follows
 
-abbrev pub OneProduct : Type 0
-OneProduct =
-    (x : Factors) (n m : ℕ) (r r′ : Answer) (out out′ scratch scratch′ : List ℕ) → Multiplied x (number r) (place r) n (written r) out m scratch
-    → Multiplied x (number r′) (place r′) n (written r′) out′ m scratch′ → (r ≡ r′) × (out ≡ out′) × (scratch ≡ scratch′)
+abbrev pub ProductSeenAll : Type 0
+ProductSeenAll =
+    (t t′ : Told ℕ) (out out′ scratch scratch′ : List ℕ) → productSeen t out scratch ≡ productSeen t′ out′ scratch′
+    → (t .number ≡ t′ .number) × (t .place ≡ t′ .place) × (t .counts ≡ t′ .counts) × (out ≡ out′) × (scratch ≡ scratch′)

@@ -8,9 +8,8 @@ ghost use lib.ListN.{length, getD, replicate};
 ghost use Rattle.numbers.specs.Sum.{sumℕ};
 ghost use Rattle.lists.specs.Entries.{tab};
 ghost use Rattle.lists.specs.Lent.{was, left, room};
-ghost use Rattle.front.specs.Answers.{number, place, written};
-ghost use Rattle.front.specs.Promise.{Told, Wrote};
-ghost use Rattle.halves.specs.Halves.{q, sizeUpTo, sizeIn, factors, productTests, plain, Multiplies};
+ghost use Rattle.front.specs.Seen.{told, shown, seen};
+ghost use Rattle.halves.specs.Halves.{q, sizeUpTo, sizeIn, factors, productTests, plain, productSeen, productResult};
 ghost use Rattle.halves.specs.Steps.{Size, from, column, Stored, Ahead, Product, Spread, Joined, Fit};
 use front::Answer;
 use front::Refusal;
@@ -316,8 +315,7 @@ fn product_tests(a: &[u32], b: &[u32], room: usize, scratch: usize) -> Verdict
 // The product into zeros, where nothing is refused; the scratch is left as it is then.
 fn product_in(a: &[u32], b: &[u32], out: &mut [u32], scratch: &mut [u32]) -> Answer
     requires { ⌜ now out ≡ replicate (length (now out)) 0 ⌝ }
-    ensures { λ r. ⌜ Told (productTests (factors a b) (room out) (room scratch)) (number r) (place r) ⌝ }
-    ensures { λ r. ⌜ Wrote (productTests (factors a b) (room out) (room scratch)) (plain (factors a b)) 0 (room out) (written r) (left out) ⌝ }
+    ensures { λ r. ⌜ seen (told r) (left out) ≡ shown (productTests (factors a b) (room out) (room scratch)) (plain (factors a b)) 0 (room out) ⌝ }
 {
     let v = product_tests(a, b, out.len(), scratch.len());
     match v {
@@ -332,7 +330,7 @@ fn product_in(a: &[u32], b: &[u32], out: &mut [u32], scratch: &mut [u32]) -> Ans
 
 // Product: a, b. The scratch is zeroed last, refused or not.
 pub fn product(a: &[u32], b: &[u32], out: &mut [u32], scratch: &mut [u32]) -> Answer
-    ensures { λ r. ⌜ Multiplies a b out scratch r ⌝ }
+    ensures { λ r. ⌜ productSeen (told r) (left out) (left scratch) ≡ productResult (factors a b) (room out) (room scratch) ⌝ }
 {
     lists::zero_numbers(out);
     let r = product_in(a, b, out, scratch);

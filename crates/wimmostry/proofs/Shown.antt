@@ -1,5 +1,5 @@
 -- What is stated in specs/Shown.
-use Rattle.wimmostry.specs.Shown.{OneOffer, OneReply, OneFinish, OneProduct, OneBench, OneSessionOffer, OneSessionReply, OneSessionFinish, OneSessionClose, OneRackOffer, OneRackReply, OneRackFinish, OneRackClose, OneRackClear, OneSettingsRead, OneSettingsWrite, OneRowsPart, OneRowsOfferBegin, OneRowsOfferEnd, OneRowsReplyBegin, OneRowsReplyEnd}
+use Rattle.wimmostry.specs.Shown.{OneOffer, OneReply, OneFinish, OneBench, OneSessionOffer, OneSessionReply, OneSessionFinish, OneSessionClose, OneRackOffer, OneRackReply, OneRackFinish, OneRackClose, OneRackClear, OneSettingsRead, OneSettingsWrite, OneRowsPart, OneRowsOfferBegin, OneRowsOfferEnd, OneRowsReplyBegin, OneRowsReplyEnd}
 
 pub one-offer : OneOffer
 one-offer c x room r r′ p p′ w w′ message message′ a b = (cc, cc, cc, cc)
@@ -9,9 +9,6 @@ one-reply c x room keyRoom digestRoom r r′ p p′ w w′ k k′ d d′ message
 
 pub one-finish : OneFinish
 one-finish c x room digestRoom r r′ p p′ k k′ d d′ s s′ i i′ key key′ digest digest′ a b = (cc, cc, cc, cc, cc, cc, cc, cc)
-
-pub one-product : OneProduct
-one-product x room scratchRoom r r′ p p′ w w′ out out′ scratch scratch′ a b = (cc, cc, cc, cc, cc)
 
 pub one-bench : OneBench
 one-bench c x r r′ p p′ d d′ s s′ i i′ a b = (cc, cc, cc, cc, cc)

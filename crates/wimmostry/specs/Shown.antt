@@ -8,7 +8,6 @@ use mathlib.Core.Path.{_≡_}
 use mathlib.Core.List.{List}
 use Prim.Native.Nat.{ℕ}
 use Rattle.schemes.specs.declared.Named.{Named}
-use Rattle.halves.specs.Halves.{Factors, Multiplied}
 use Rattle.offer.specs.Offer.{Offer, Offered}
 use Rattle.reply.specs.Reply.{Reply, Replied}
 use Rattle.finish.specs.Finish.{Finish, Finished}
@@ -40,11 +39,6 @@ OneFinish =
     (c : Named) (x : Finish) (room digestRoom r r′ p p′ k k′ d d′ s s′ i i′ : ℕ) (key key′ digest digest′ : List ℕ)
     → Finished c x r p room k key digestRoom d digest s i → Finished c x r′ p′ room k′ key′ digestRoom d′ digest′ s′ i′
     → (r ≡ r′) × (p ≡ p′) × (k ≡ k′) × (d ≡ d′) × (s ≡ s′) × (i ≡ i′) × (key ≡ key′) × (digest ≡ digest′)
-
-abbrev pub OneProduct : Type 0
-OneProduct =
-    (x : Factors) (room scratchRoom r r′ p p′ w w′ : ℕ) (out out′ scratch scratch′ : List ℕ) → Multiplied x r p room w out scratchRoom scratch
-    → Multiplied x r′ p′ room w′ out′ scratchRoom scratch′ → (r ≡ r′) × (p ≡ p′) × (w ≡ w′) × (out ≡ out′) × (scratch ≡ scratch′)
 
 abbrev pub OneBench : Type 0
 OneBench =

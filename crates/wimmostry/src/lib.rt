@@ -9,7 +9,7 @@ ghost use Rattle.noise.specs.Expand.{ruleOf};
 ghost use Rattle.sampling.specs.Expand.{expand, expandResult};
 ghost use Rattle.sampling.specs.Grow.{grow, growResult};
 ghost use Rattle.hashing.specs.Hashing.{hash, shakeResult, digestResult};
-ghost use Rattle.halves.specs.Halves.{factors, Multiplied};
+ghost use Rattle.halves.specs.Halves.{factors, productSeen, productResult};
 ghost use Rattle.offer.specs.Offer.{offer, Offered};
 ghost use Rattle.reply.specs.Reply.{reply, Replied};
 ghost use Rattle.finish.specs.Finish.{finish, Finished};
@@ -176,7 +176,7 @@ pub extern "C" fn wim_product(
     place: &mut u64,
     written: &mut u64,
 ) -> u32
-    ensures { λ r. ⌜ Multiplied (factors a b) r (left place) (room out) (left written) (left out) (room scratch) (left scratch) ⌝ }
+    ensures { λ r. ⌜ productSeen (record { number = r; place = left place; counts = left written }) (left out) (left scratch) ≡ productResult (factors a b) (room out) (room scratch) ⌝ }
 {
     let answer = halves::product(a, b, out, scratch);
     told::tell(answer, place, written)

@@ -18,7 +18,7 @@ returns c =
     let z : tie.After-zero-numbers = search needs in
     let p : tie.After-product-in = search needs in
     let w : tie.After-zero-numbers2 = search needs in
-    product-cleared _ {l = length (p .product-in .last .1 .1 .1 .0)} (zeros-long (length (s .args .out .now)) 0 (z .zero-numbers .ensures)) (p .product-in .ensures .0) (p .product-in .ensures .1) (w .zero-numbers2 .ensures) (search needs)
+    product-cleared _ {l = length (p .product-in .last .1 .1 .1 .0)} (zeros-long (length (s .args .out .now)) 0 (z .zero-numbers .ensures)) (p .product-in .ensures) (w .zero-numbers2 .ensures) (search needs)
 
 pub product-spec : {M : Type 1} → statement M
 product-spec =
