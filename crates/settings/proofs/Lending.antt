@@ -1,9 +1,9 @@
 -- Reading into a lent label of n bytes, which held zeros (old) when the text was read.
 --   label-fits   the label that was read, or none, stands in the bytes in which the answer holds it
---   read-short   the promise where the room is shorter than that label
+--   read-short   what is seen where the room is shorter than that label
 --   read-laid    and where it was laid at the front of the zeros
---   one-read     no two results satisfy the promise
-use mathlib.Core.Path.{_≡_, refl, _∙_, sym, ap, ap₂}
+--   read-seen-all, read-told-all   `readSeen` and `readTold` forget nothing
+use mathlib.Core.Path.{_≡_, refl, _∙_, ap}
 use mathlib.Core.List.{List, _++_}
 use Prim.Native.Nat.{ℕ, _≤_, _<_}
 use native.Mathlib.Omega.{arith}
@@ -11,16 +11,16 @@ use lib.ListN.{length, take, drop, replicate, length-append}
 use lib.Seq.{take-append-seam}
 use borrow.Author.Tests.{lt-leb}
 use Rattle.lists.proofs.Same.{zeros-long}
-use Rattle.front.specs.Front.{numberOf, placeOf, roomFor}
-use Rattle.front.specs.Answers.{number, place, written}
+use Rattle.front.specs.Front.{roomFor}
+use Rattle.front.specs.Seen.{written, Told, done, refused}
 use Rattle.front.specs.declared.Refusal.{Refusal}
 use Rattle.front.specs.declared.Refusal.the-variants.{Short, Misfit, NewerFormat}
-use Rattle.front.specs.declared.Verdict.the-variants.{Fail}
+use Rattle.front.specs.declared.Verdict.the-variants.{Pass, Fail}
 use Rattle.front.proofs.Laws.{room-passes, failed, went-on}
-use Rattle.front.proofs.Promise.{told-passed, wrote-passed, gave-passed, told-failed, wrote-failed, gave-failed}
-use Rattle.settings.specs.Settings.{Kept, Reading, kept, newer, misfit, reads}
+use Rattle.front.proofs.Seen.{written-passed, told-all}
+use Rattle.settings.specs.Settings.{Kept, formatOf, Reading, kept, newer, misfit, reads}
 use Rattle.settings.specs.Answers.{answerOf, lentOf, shortOf}
-use Rattle.settings.specs.Calls.{Read, readingOf, readTests, keptIn, formatTold, SettingsRead, OneRead}
+use Rattle.settings.specs.Calls.{Read, readingOf, readTests, formatTold, ReadSeen, ReadCounts, readShown, readResult, readTold, readSeen, ReadSeenAll, ReadToldAll}
 use Rattle.settings.specs.declared.ReadAnswer.{ReadAnswer}
 use Rattle.settings.specs.declared.LentAnswer.{LentAnswer}
 
@@ -35,28 +35,25 @@ label-fits reader xs e = rw e (go (reads reader xs))
 -- ---- the promise
 
 abbrev Promised : Read → ℕ → List ℕ → LentAnswer → Type 0
-Promised x n label r = SettingsRead x (number (r .answer)) (place (r .answer)) n (written (r .answer)) label (r .format) (r .scheme) (r .rule)
+Promised x n label r = readSeen (readTold r) label ≡ readResult x n
 
 short-fails : {n m : ℕ} → n < m → roomFor n m ≡ Fail Short
 unfolding roomFor
 short-fails {n} {m} h = rw (lt-leb m n h)
 
 module _ (x : Read) (n : ℕ) {q : Reading} (f : readingOf x ≡ q) where
-  tests : readTests (readingOf x) n ≡ readTests q n
-  tests = ap (λ (q : Reading). readTests q n) f
-
   -- whichever test failed
-  refused : {r : Refusal} {label : List ℕ} → readTests q n ≡ Fail r → label ≡ replicate n 0
-      → SettingsRead x (numberOf r) (placeOf r) n 0 label (formatTold q (Fail r)) 0 0
-  refused t o =
-      let g = tests ∙ t in
-      record {
-        told = told-failed g;
-        bytes = wrote-failed g o;
-        format-is = ap₂ formatTold (sym f) (sym g);
-        scheme-is = gave-failed g;
-        rule-is = gave-failed g;
-      }
+  stopped : {r : Refusal} {label : List ℕ} → readTests q n ≡ Fail r → label ≡ replicate n 0
+      → readSeen (refused r (record { label = 0; format = formatTold q (Fail r); scheme = 0; rule = 0 })) label ≡ readResult x n
+  unfolding readSeen readShown written
+  stopped t o = rw (f, t, o)
+
+module _ (x : Read) (n : ℕ) {y : Kept} (f : readingOf x ≡ kept y) where
+  read-on : {old label : List ℕ} → readTests (kept y) n ≡ Pass → old ≡ replicate n 0 → label ≡ y .label ++ drop (length (y .label)) old
+      → readSeen (done (record { label = length (y .label); format = formatOf (length (y .label)); scheme = y .scheme; rule = y .rule })) label
+      ≡ readResult x n
+  unfolding readSeen readShown
+  read-on {old} t o w = rw (f, t, ← written-passed (y .label) 0 n refl old refl o w)
 
 newer-fails : (m n : ℕ) → readTests (newer m) n ≡ Fail NewerFormat
 unfolding readTests
@@ -70,12 +67,12 @@ kept-tests : (y : Kept) (n : ℕ) → readTests (kept y) n ≡ roomFor n (length
 unfolding readTests
 kept-tests y n = went-on _ refl refl
 
-module _ (x : Read) {n : ℕ} {old : List ℕ} {a : ReadAnswer} (o : old ≡ replicate n 0) (e : a ≡ answerOf (readingOf x)) where
+module _ (x : Read) (n : ℕ) {old : List ℕ} {a : ReadAnswer} (o : old ≡ replicate n 0) (e : a ≡ answerOf (readingOf x)) where
   pub read-short : {r : LentAnswer} → length old < a .settings .count → r ≡ shortOf → Promised x n old r
   read-short h s = rw s (go (readingOf x) refl (rw e at h))
     where
       go : (q : Reading) → readingOf x ≡ q → length old < answerOf q .settings .count → Promised x n old shortOf
-      go (kept y) f l = refused x n f (kept-tests y n ∙ short-fails (omega (arith, l, zeros-long n 0 o))) o
+      go (kept y) f l = stopped x n f (kept-tests y n ∙ short-fails (omega (arith, l, zeros-long n 0 o))) o
       go (newer m) f l = absurd (omega arith)
       go misfit f l = absurd (omega arith)
 
@@ -87,18 +84,36 @@ module _ (x : Read) {n : ℕ} {old : List ℕ} {a : ReadAnswer} (o : old ≡ rep
           → Promised x n (take (answerOf q .settings .count) (answerOf q .settings .label) ++ drop (answerOf q .settings .count) old)
           (lentOf (answerOf q .ending) (answerOf q .settings))
       go (kept y) f l =
-          let g = tests x n f ∙ kept-tests y n ∙ room-passes (omega (arith, l, zeros-long n 0 o)) in
-          record {
-            told = told-passed g;
-            bytes =
-                wrote-passed g old (ap (λ (q : Reading). length (keptIn q .label)) f) o
-                (rw take-append-seam (ap (λ (q : Reading). keptIn q .label ++ drop (length (y .label)) old) (sym f)));
-            format-is = ap₂ formatTold (sym f) (sym g);
-            scheme-is = gave-passed g (ap (λ (q : Reading). keptIn q .scheme) (sym f));
-            rule-is = gave-passed g (ap (λ (q : Reading). keptIn q .rule) (sym f));
-          }
-      go (newer m) f l = refused x n f (newer-fails m n) o
-      go misfit f l = refused x n f (misfit-fails n) o
+          read-on x n f (kept-tests y n ∙ room-passes (omega (arith, l, zeros-long n 0 o))) o
+          (ap (λ (t : List ℕ). t ++ drop (length (y .label)) old) (take-append-seam (y .label) _))
+      go (newer m) f l = stopped x n f (newer-fails m n) o
+      go misfit f l = stopped x n f (misfit-fails n) o
 
-pub one-read : OneRead
-one-read x n number number′ place place′ count count′ label label′ format format′ scheme scheme′ rule rule′ p q = (cc, cc, cc, cc, cc, cc, cc)
+-- ---- what follows
+
+pub read-seen-all : ReadSeenAll
+unfolding readSeen
+read-seen-all t t′ label label′ e = (
+  ap (λ (s : ReadSeen). s .number) e,
+  ap (λ (s : ReadSeen). s .place) e,
+  ap (λ (s : ReadSeen). s .label .count) e,
+  ap (λ (s : ReadSeen). s .format) e,
+  ap (λ (s : ReadSeen). s .scheme) e,
+  ap (λ (s : ReadSeen). s .rule) e,
+  ap (λ (s : ReadSeen). s .label .holds) e,
+)
+
+pub read-told-all : ReadToldAll
+read-told-all a a′ e =
+    let t = told-all (a .answer) (a′ .answer)
+    (ap (λ (s : Told ReadCounts). record { number = s .number; place = s .place; counts = s .counts .label }) e) in
+    let f = ap (λ (s : Told ReadCounts). s .counts .format) e in
+    let c = ap (λ (s : Told ReadCounts). s .counts .scheme) e in
+    let r = ap (λ (s : Told ReadCounts). s .counts .rule) e in
+    same-lent a a′ t f c r
+  where
+    eta : (a : LentAnswer) → record { answer = a .answer; format = a .format; scheme = a .scheme; rule = a .rule } ≡ a
+    eta a = refl
+
+    same-lent : (a a′ : LentAnswer) → a .answer ≡ a′ .answer → a .format ≡ a′ .format → a .scheme ≡ a′ .scheme → a .rule ≡ a′ .rule → a ≡ a′
+    same-lent a a′ t f c r = cc (eta a, eta a′)

@@ -5,8 +5,8 @@
 --   passed, tests-failed, tests-go-on   the tests in two parts
 --   Accepted, accepted             what it says of settings that all tests pass
 --   label-none, label-left, lines-left   a label's line, and all lines, in parts
---   write-refused, write-done      the promise where a test fails, and where the lines were written over zeros
---   one-written, stored-back       what follows of it
+--   write-refused, write-done      what is seen where a test fails, and where the lines were written over zeros
+--   stored-back                    what the output holds is read as what was written
 use mathlib.Core.Path.{_≡_, refl, _∙_, sym, ap}
 use mathlib.Core.Logic.{_⊎_, inl, inr}
 use mathlib.Core.Bool.{Bool, true, false, cond}
@@ -16,13 +16,14 @@ use native.Mathlib.Omega.{arith}
 use lib.ListN.{length, take, replicate, length-append}
 use lib.Seq.{take-append-seam}
 use borrow.Author.Tests.{leb-true, le-leb, lt-leb, ne-eqb}
-use Rattle.front.specs.Front.{numberOf, placeOf, _then_, lengthUpTo, roomFor, held}
+use Rattle.front.specs.Front.{_then_, lengthUpTo, roomFor}
+use Rattle.front.specs.Seen.{written, done, refused, shown, seen}
 use Rattle.front.specs.declared.Refusal.{Refusal}
 use Rattle.front.specs.declared.Refusal.the-variants.{NoScheme, NoRule, Misfit}
 use Rattle.front.specs.declared.Verdict.{Verdict}
 use Rattle.front.specs.declared.Verdict.the-variants.{Pass, Fail}
 use Rattle.front.proofs.Laws.{both, number-zero, differ, stays, goes-on, also, up-to-passed, room-passed}
-use Rattle.front.proofs.Promise.{told-passed, told-failed, wrote-failed, same-answer}
+use Rattle.front.proofs.Seen.{shown-failed, written-answer}
 use Rattle.text.specs.Text.{LF, digitsUpTo, decimal, schemeName, line}
 use Rattle.text.specs.Steps.{labelled, Written}
 use Rattle.text.proofs.Writing.{joined, Left, left-all, written-none, one-digit, line-length}
@@ -30,7 +31,7 @@ use Rattle.text.proofs.Answer.{answers}
 use Rattle.text.proofs.Runs.{run-within}
 use Rattle.settings.specs.Settings.{Kept, formatName, ruleName, labelName, formatOf, labelLine, textOf, isScheme, isRule, notAllowed, letters, Valid, kept, reads}
 use Rattle.settings.specs.Answers.{sizeOf}
-use Rattle.settings.specs.Calls.{schemeKnown, ruleKnown, allowed, writeTests, SettingsWritten, OneWritten}
+use Rattle.settings.specs.Calls.{schemeKnown, ruleKnown, allowed, writeTests, writeResult}
 use Rattle.settings.specs.Shown.{StoredBack}
 use Rattle.settings.proofs.Known.{scheme-small, rule-is}
 use Rattle.settings.proofs.Inverse.{back}
@@ -195,23 +196,18 @@ module _ (x : Kept) {n k : ℕ} {v : Verdict} (h : k ≡ n) (e : v ≡ writeTest
   tests : v ≡ writeTests x n
   tests = e ∙ ap (writeTests x) h
 
-  pub write-refused : {r : Refusal} {out : List ℕ} → v ≡ Fail r → out ≡ replicate n 0 → SettingsWritten x (numberOf r) (placeOf r) n 0 out
-  write-refused f z = let g = sym tests ∙ f in record { told = told-failed g; bytes = wrote-failed g z }
+  pub write-refused : {r : Refusal} {out : List ℕ} → v ≡ Fail r → out ≡ replicate n 0 → seen (refused r 0) out ≡ writeResult x n
+  write-refused f z = shown-failed _ _ _ (sym tests ∙ f) z
 
-  pub write-done : {old out : List ℕ} {r : ℕ} → v ≡ Pass → old ≡ replicate n 0 → Written 0 (textOf x) old out r → SettingsWritten x 0 0 n r out
-  unfolding held
-  write-done {old} {out} {r} f z w =
+  pub write-done : {old out : List ℕ} {r : ℕ} → v ≡ Pass → old ≡ replicate n 0 → Written 0 (textOf x) old out r → seen (done r) out ≡ writeResult x n
+  unfolding shown seen written
+  write-done f z w =
       let g = sym tests ∙ f in
       let o = answers n refl (rw z at w) in
-      record { told = told-passed g; bytes = record { counts = rw (g, o .count); holds = rw g (o .holds ∙ rw (o .count)) } }
-
-pub one-written : OneWritten
-one-written x n r r′ out out′ p q = (same-answer r r′ (cc) (cc) (cc), cc)
+      rw (g, o .holds, o .count)
 
 pub stored-back : StoredBack
-unfolding held
-stored-back x place n count out p =
-    let g = number-zero (writeTests x n) (p .told .refusal) in
-    let c : count ≡ length (textOf x) = p .bytes .counts ∙ rw g in
-    let o : out ≡ textOf x ++ replicate (n - length (textOf x)) 0 = p .bytes .holds ∙ rw g in
-    rw (c, o, take-append-seam) (back x (accepted g .valid))
+unfolding shown
+stored-back x n z =
+    let g = number-zero (writeTests x n) (sym z) in
+    rw (written-answer (textOf x) 0 n g) (back x (accepted g .valid))

@@ -2,8 +2,7 @@
 --   schemeKnown a, ruleKnown b   1: the number names no scheme; 12: it names no rule
 --   allowed l                    8: a byte of the label is no capital letter and no digit
 --   writeTests x n               the writer's tests in their order, with room for n bytes
---   SettingsWritten x ..         its promise: the refusal's number and place, the count, and what the output holds
---   WritesSettings ..            the same of what is lent and of an answer
+--   writeResult x n              what the writer shows
 --   Read                         what the reader is lent: its own number and the text
 --   readOf, read                 the same from its parts, and from what is lent in a contract
 --   readingOf x                  what the reader makes of it
@@ -11,20 +10,22 @@
 --   keptIn r                     the settings that were read; after 15 and 8 the scheme and the rule are 0 and the label is empty
 --   readTests r n                the reader's tests in their order, with room for n bytes: 15 or 8, then 3 for the label that was read
 --   formatTold r v               the format that was read or is newer, where v is the tests' verdict; 0 after 8 and 3
---   SettingsRead x ..            its promise: the refusal's number and place, the label with its count, the format, the scheme and the rule
---   ReadsSettings ..             the same of what is lent and of an answer
---   OneWritten, OneRead          no two results satisfy one promise
+--   ReadSeen                     what is seen of the reader: the refusal's number and place, the label, the format, the scheme and the rule
+--   ReadCounts                   the numbers that its answer carries: how long the label is, the format, the scheme and the rule
+--   readShown v r n              what the reader shows of r by the verdict v
+--   readResult x n               what it shows of what it is lent
+--   readTold a                   the numbers of its answer
+--   readSeen t label             what is seen of it where it tells t and leaves label
+--   ReadSeenAll, ReadToldAll     `readSeen` and `readTold` forget nothing
 use mathlib.Core.Path.{_≡_}
 use mathlib.Core.Bool.{cond}
 use mathlib.Core.List.{List, []}
 use Prim.Native.Nat.{ℕ}
 use lib.Dec.{leb}
 use lib.ListN.{length}
-use Rattle.lists.specs.Lent.{Lent, was, left, room}
-use Rattle.front.specs.Front.{countIn, _then_, lengthUpTo, roomFor}
-use Rattle.front.specs.Answers.{number, place, written}
-use Rattle.front.specs.Promise.{Told, Wrote, Gave}
-use Rattle.front.specs.declared.Answer.{Answer}
+use Rattle.lists.specs.Lent.{Lent, was}
+use Rattle.front.specs.Front.{numberIn, placeIn, _then_, lengthUpTo, roomFor}
+use Rattle.front.specs.Seen.{ifPassed, Output, output, written, Told, Seen, shown, told}
 use Rattle.front.specs.declared.Refusal.the-variants.{NoScheme, NoRule, Misfit, NewerFormat}
 use Rattle.front.specs.declared.Verdict.{Verdict}
 use Rattle.front.specs.declared.Verdict.the-variants.{Pass, Fail}
@@ -46,13 +47,8 @@ unfoldable pub writeTests : Kept → ℕ → Verdict
 writeTests x n =
     schemeKnown (x .scheme) then ruleKnown (x .rule) then lengthUpTo (length (x .label)) 16 then roomFor n (length (textOf x)) then allowed (x .label)
 
-pub record SettingsWritten (x : Kept) (number place textRoom textWritten : ℕ) (text : List ℕ) : Type 0 where
-  pub told : Told (writeTests x textRoom) number place
-  pub bytes : Wrote (writeTests x textRoom) (textOf x) 0 textRoom textWritten text
-
-abbrev pub WritesSettings : ℕ → ℕ → Lent (List ℕ) → Lent (List ℕ) → Answer → Type 0
-WritesSettings scheme rule label text r =
-    SettingsWritten (keptOf scheme rule (was label)) (number r) (place r) (room text) (written r) (left text)
+abbrev pub writeResult : Kept → ℕ → Seen ℕ
+writeResult x n = shown (writeTests x n) (textOf x) 0 n
 
 -- ---- reading into a lent label
 
@@ -83,31 +79,64 @@ unfoldable pub readTests : Reading → ℕ → Verdict
 readTests r n = verdictOf r then roomFor n (length (keptIn r .label))
 
 abbrev pub formatTold : Reading → Verdict → ℕ
-formatTold (kept x) v = countIn v (formatOf (length (x .label)))
+formatTold (kept x) v = ifPassed v (formatOf (length (x .label))) 0
 formatTold (newer n) v = n
 formatTold misfit v = 0
 
-pub record SettingsRead (x : Read) (number place labelRoom labelWritten : ℕ) (label : List ℕ) (format scheme rule : ℕ) : Type 0 where
-  pub told : Told (readTests (readingOf x) labelRoom) number place
-  pub bytes : Wrote (readTests (readingOf x) labelRoom) (keptIn (readingOf x) .label) 0 labelRoom labelWritten label
-  pub format-is : format ≡ formatTold (readingOf x) (readTests (readingOf x) labelRoom)
-  pub scheme-is : Gave (readTests (readingOf x) labelRoom) (keptIn (readingOf x) .scheme) scheme
-  pub rule-is : Gave (readTests (readingOf x) labelRoom) (keptIn (readingOf x) .rule) rule
+pub record ReadSeen : Type 0 where
+  pub number : ℕ
+  pub place : ℕ
+  pub label : Output ℕ
+  pub format : ℕ
+  pub scheme : ℕ
+  pub rule : ℕ
 
-abbrev pub ReadsSettings : ℕ → Lent (List ℕ) → Lent (List ℕ) → LentAnswer → Type 0
-ReadsSettings reader text label r =
-    SettingsRead (read reader text)
-    (number (r .answer)) (place (r .answer)) (room label) (written (r .answer)) (left label) (r .format) (r .scheme) (r .rule)
+pub record ReadCounts : Type 0 where
+  pub label : ℕ
+  pub format : ℕ
+  pub scheme : ℕ
+  pub rule : ℕ
+
+unfoldable pub readShown : Verdict → Reading → ℕ → ReadSeen
+readShown v r n =
+    record {
+      number = numberIn v;
+      place = placeIn v;
+      label = written v (keptIn r .label) 0 n;
+      format = formatTold r v;
+      scheme = ifPassed v (keptIn r .scheme) 0;
+      rule = ifPassed v (keptIn r .rule) 0;
+    }
+
+abbrev pub readResult : Read → ℕ → ReadSeen
+readResult x n = readShown (readTests (readingOf x) n) (readingOf x) n
+
+abbrev pub readTold : LentAnswer → Told ReadCounts
+readTold a =
+    record {
+      number = told (a .answer) .number;
+      place = told (a .answer) .place;
+      counts = record { label = told (a .answer) .counts; format = a .format; scheme = a .scheme; rule = a .rule };
+    }
+
+unfoldable pub readSeen : Told ReadCounts → List ℕ → ReadSeen
+readSeen t label =
+    record {
+      number = t .number;
+      place = t .place;
+      label = output (t .counts .label) label;
+      format = t .counts .format;
+      scheme = t .counts .scheme;
+      rule = t .counts .rule;
+    }
 
 -- ---- what follows
 
-abbrev pub OneWritten : Type 0
-OneWritten =
-    (x : Kept) (n : ℕ) (r r′ : Answer) (out out′ : List ℕ) → SettingsWritten x (number r) (place r) n (written r) out
-    → SettingsWritten x (number r′) (place r′) n (written r′) out′ → (r ≡ r′) × (out ≡ out′)
+abbrev pub ReadSeenAll : Type 0
+ReadSeenAll =
+    (t t′ : Told ReadCounts) (label label′ : List ℕ) → readSeen t label ≡ readSeen t′ label′
+    → (t .number ≡ t′ .number) × (t .place ≡ t′ .place) × (t .counts .label ≡ t′ .counts .label) × (t .counts .format ≡ t′ .counts .format)
+    × (t .counts .scheme ≡ t′ .counts .scheme) × (t .counts .rule ≡ t′ .counts .rule) × (label ≡ label′)
 
-abbrev pub OneRead : Type 0
-OneRead =
-    (x : Read) (n number number′ place place′ count count′ : ℕ) (label label′ : List ℕ) (format format′ scheme scheme′ rule rule′ : ℕ)
-    → SettingsRead x number place n count label format scheme rule → SettingsRead x number′ place′ n count′ label′ format′ scheme′ rule′
-    → (number ≡ number′) × (place ≡ place′) × (count ≡ count′) × (label ≡ label′) × (format ≡ format′) × (scheme ≡ scheme′) × (rule ≡ rule′)
+abbrev pub ReadToldAll : Type 0
+ReadToldAll = (a a′ : LentAnswer) → readTold a ≡ readTold a′ → a ≡ a′

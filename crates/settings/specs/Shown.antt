@@ -16,9 +16,10 @@ use mathlib.Core.Path.{_≡_}
 use mathlib.Core.List.{List}
 use Prim.Native.Nat.{ℕ, _≤_, _<_}
 use lib.ListN.{length, take}
+use Rattle.front.specs.Seen.{answer}
 use Rattle.text.specs.Text.{number, fieldIn}
 use Rattle.settings.specs.Settings.{Kept, formatName, formatOf, textOf, Valid, kept, newer, reads}
-use Rattle.settings.specs.Calls.{SettingsWritten}
+use Rattle.settings.specs.Calls.{writeResult}
 
 pub record Is (reader : ℕ) (xs : List ℕ) (x : Kept) : Type 0 where
   pub text : xs ≡ textOf x
@@ -46,7 +47,7 @@ abbrev pub Back : Type 0
 Back = (x : Kept) → Valid x → reads 2 (textOf x) ≡ kept x
 
 abbrev pub StoredBack : Type 0
-StoredBack = (x : Kept) (place n count : ℕ) (out : List ℕ) → SettingsWritten x 0 place n count out → reads 2 (take count out) ≡ kept x
+StoredBack = (x : Kept) (n : ℕ) → writeResult x n .number ≡ 0 → reads 2 (answer (writeResult x n .out)) ≡ kept x
 
 abbrev pub SameBytes : Type 0
 SameBytes = (x y : Kept) → Valid x → Valid y → (textOf x ≡ textOf y → x ≡ y) × (x ≡ y → textOf x ≡ textOf y)

@@ -1,10 +1,11 @@
 // The settings of a box in a text store, for every input: 02, request h. Both readers are one function over the reader's own number, the highest format that it
 // knows; the writer takes the oldest format that holds the settings. No public call has a `requires`.
 ghost use mathlib.Core.Path.{_≡_};
-ghost use Rattle.lists.specs.Lent.{was};
-ghost use Rattle.settings.specs.Settings.{formatOf, isScheme, isRule, notAllowed, letters, reads};
+ghost use Rattle.lists.specs.Lent.{was, left, room};
+ghost use Rattle.front.specs.Seen.{told, seen};
+ghost use Rattle.settings.specs.Settings.{keptOf, formatOf, isScheme, isRule, notAllowed, letters, reads};
 ghost use Rattle.settings.specs.Answers.{answerOf};
-ghost use Rattle.settings.specs.Calls.{ReadsSettings, WritesSettings};
+ghost use Rattle.settings.specs.Calls.{writeResult, readOf, readResult, readTold, readSeen};
 
 mod reader;
 mod writer;
@@ -104,7 +105,7 @@ pub fn read(reader: u32, text: &[u8]) -> ReadAnswer
 // What a reader of that number makes of a text, into a lent label: 15 or 8, then 3 for the label that was read. After 15 and 8 that label is empty, so that
 // every room is enough for it.
 pub fn read_lent(reader: u32, text: &[u8], label: &mut [u8]) -> LentAnswer
-    ensures { λ r. ⌜ ReadsSettings reader text label r ⌝ }
+    ensures { λ r. ⌜ readSeen (readTold r) (left label) ≡ readResult (readOf reader (was text)) (room label) ⌝ }
 {
     lists::zero_bytes(label);
     let a = read(reader, text);
@@ -122,7 +123,7 @@ pub fn read_lent(reader: u32, text: &[u8], label: &mut [u8]) -> LentAnswer
 // Write: scheme, rule, label. The text with zeros behind it, or zeros after a refusal: 1 scheme, 12 rule, 2 a label over 16 bytes, 3 an output too short, 8 a
 // byte of the label that is not allowed.
 pub fn write(scheme: u32, rule: u32, label: &[u8], out: &mut [u8]) -> Answer
-    ensures { λ r. ⌜ WritesSettings scheme rule label out r ⌝ }
+    ensures { λ r. ⌜ seen (told r) (left out) ≡ writeResult (keptOf scheme rule (was label)) (room out) ⌝ }
 {
     lists::zero_bytes(out);
     let v = writer::write_tests(scheme, rule, label, out.len());

@@ -6,6 +6,7 @@ ghost use Rattle.lists.specs.Lent.{left};
 ghost use Rattle.front.specs.Front.{numberIn, placeIn};
 ghost use Rattle.front.specs.Seen.{told};
 ghost use Rattle.front.specs.Answers as answers;
+ghost use Rattle.settings.specs.Calls.{readTold};
 ghost use Rattle.reply.specs.Reply as replies;
 ghost use Rattle.finish.specs.Finish as finishes;
 ghost use Rattle.bench.specs.Bench as benches;
@@ -155,8 +156,13 @@ pub fn tell_settings(
     scheme: &mut u64,
     rule: &mut u64,
 ) -> u32
-    ensures { λ r. ⌜ (r ≡ answers.number (found .answer)) × (left place ≡ answers.place (found .answer)) × (left labelled ≡ answers.written (found .answer)) ⌝ }
-    ensures { λ _. ⌜ (left format ≡ found .format) × (left scheme ≡ found .scheme) × (left rule ≡ found .rule) ⌝ }
+    ensures { λ r. ⌜
+        record {
+          number = r;
+          place = left place;
+          counts = record { label = left labelled; format = left format; scheme = left scheme; rule = left rule };
+        } ≡ readTold found
+        ⌝ }
 {
     let answer = found.answer;
     *format = found.format;

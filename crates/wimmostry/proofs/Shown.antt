@@ -1,5 +1,5 @@
 -- What is stated in specs/Shown.
-use Rattle.wimmostry.specs.Shown.{OneOffer, OneReply, OneFinish, OneBench, OneSessionOffer, OneSessionReply, OneSessionFinish, OneSessionClose, OneRackOffer, OneRackReply, OneRackFinish, OneRackClose, OneRackClear, OneSettingsRead, OneSettingsWrite, OneRowsPart, OneRowsOfferBegin, OneRowsOfferEnd, OneRowsReplyBegin, OneRowsReplyEnd}
+use Rattle.wimmostry.specs.Shown.{OneOffer, OneReply, OneFinish, OneBench, OneSessionOffer, OneSessionReply, OneSessionFinish, OneSessionClose, OneRackOffer, OneRackReply, OneRackFinish, OneRackClose, OneRackClear, OneRowsPart, OneRowsOfferBegin, OneRowsOfferEnd, OneRowsReplyBegin, OneRowsReplyEnd}
 
 pub one-offer : OneOffer
 one-offer c x room r r′ p p′ w w′ message message′ a b = (cc, cc, cc, cc)
@@ -41,12 +41,6 @@ one-rack-close bs bs′ bs″ u r r′ p p′ a b = (cc, cc, cc)
 
 pub one-rack-clear : OneRackClear
 one-rack-clear bs bs′ bs″ r r′ p p′ a b = (cc, cc, cc)
-
-pub one-settings-read : OneSettingsRead
-one-settings-read x room r r′ p p′ w w′ f f′ a a′ b b′ label label′ m n = (cc, cc, cc, cc, cc, cc, cc)
-
-pub one-settings-write : OneSettingsWrite
-one-settings-write x room r r′ p p′ w w′ text text′ a b = (cc, cc, cc, cc)
 
 pub one-rows-part : OneRowsPart
 one-rows-part k state part r r′ p p′ after after′ a b = (cc, cc, cc)

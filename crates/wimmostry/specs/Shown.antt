@@ -2,7 +2,6 @@
 --   OneOffer .. OneBench   of each call
 --   OneSessionOffer .. OneSessionClose   of each call on a session, with the session's bytes after it
 --   OneRackOffer .. OneRackClear   of each call on a rack, with the rack's bytes after it
---   OneSettingsRead, OneSettingsWrite   of the settings
 --   OneRowsPart .. OneRowsReplyEnd   of Frodo by rows, with the state after it
 use mathlib.Core.Path.{_≡_}
 use mathlib.Core.List.{List}
@@ -20,8 +19,6 @@ use Rattle.session.specs.Table.{offering, replying, finishing, closing}
 use Rattle.session.specs.Seen.{output, noOutput, offerSeen, replySeen, finishSeen, closeSeen}
 use Rattle.session_bytes.specs.Bytes.{MovesBytes}
 use Rattle.rack.specs.Slots.{RackMoves, Cleared}
-use Rattle.settings.specs.Settings.{Kept}
-use Rattle.settings.specs.Calls.{Read, SettingsRead, SettingsWritten}
 
 abbrev pub OneOffer : Type 0
 OneOffer =
@@ -97,17 +94,6 @@ OneRackClose =
 abbrev pub OneRackClear : Type 0
 OneRackClear =
     (bs bs′ bs″ : List ℕ) (r r′ p p′ : ℕ) → Cleared bs bs′ r p → Cleared bs bs″ r′ p′ → (bs′ ≡ bs″) × (r ≡ r′) × (p ≡ p′)
-
-abbrev pub OneSettingsRead : Type 0
-OneSettingsRead =
-    (x : Read) (room r r′ p p′ w w′ f f′ a a′ b b′ : ℕ) (label label′ : List ℕ)
-    → SettingsRead x r p room w label f a b → SettingsRead x r′ p′ room w′ label′ f′ a′ b′
-    → (r ≡ r′) × (p ≡ p′) × (w ≡ w′) × (f ≡ f′) × (a ≡ a′) × (b ≡ b′) × (label ≡ label′)
-
-abbrev pub OneSettingsWrite : Type 0
-OneSettingsWrite =
-    (x : Kept) (room r r′ p p′ w w′ : ℕ) (text text′ : List ℕ) → SettingsWritten x r p room w text → SettingsWritten x r′ p′ room w′ text′
-    → (r ≡ r′) × (p ≡ p′) × (w ≡ w′) × (text ≡ text′)
 
 abbrev pub OneRowsPart : Type 0
 OneRowsPart =

@@ -19,8 +19,7 @@ mod racks;
 mod sessions;
 
 ghost use Rattle.settings.specs.Settings.{keptOf};
-ghost use Rattle.settings.specs.Calls.{SettingsWritten, SettingsRead};
-ghost use Rattle.settings.specs.Calls as settings;
+ghost use Rattle.settings.specs.Calls.{writeResult, readOf, readResult, readSeen};
 
 mod by_rows;
 
@@ -218,7 +217,13 @@ pub extern "C" fn wim_settings_read(
     rule: &mut u64,
 ) -> u32
     ensures { λ r. ⌜
-        SettingsRead (settings.read reader text) r (left place) (room label) (left labelled) (left label) (left format) (left scheme) (left rule)
+        readSeen
+        (record {
+          number = r;
+          place = left place;
+          counts = record { label = left labelled; format = left format; scheme = left scheme; rule = left rule };
+        })
+        (left label) ≡ readResult (readOf reader (was text)) (room label)
         ⌝ }
 {
     let found = settings::read_lent(reader, text, label);
@@ -235,7 +240,7 @@ pub extern "C" fn wim_settings_write(
     place: &mut u64,
     written: &mut u64,
 ) -> u32
-    ensures { λ r. ⌜ SettingsWritten (keptOf scheme rule (was label)) r (left place) (room text) (left written) (left text) ⌝ }
+    ensures { λ r. ⌜ seen (record { number = r; place = left place; counts = left written }) (left text) ≡ writeResult (keptOf scheme rule (was label)) (room text) ⌝ }
 {
     let answer = settings::write(scheme, rule, label, text);
     told::tell(answer, place, written)

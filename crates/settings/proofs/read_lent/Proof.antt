@@ -25,7 +25,7 @@ returns c =
     let s : tie.Start = search needs in
     let z : tie.After-zero-bytes = search needs in
     let r : tie.After-read = search needs in
-    read-short (readOf (s .args .reader) (s .args .text .now)) (z .zero-bytes .ensures) (r .read .ensures) (omega arith) (c .short .ensures)
+    read-short (readOf (s .args .reader) (s .args .text .now)) _ (z .zero-bytes .ensures) (r .read .ensures) (omega arith) (c .short .ensures)
 
 array-share-prefix-bytes : tie.Need-array-share-prefix-bytes
 array-share-prefix-bytes c =
@@ -64,7 +64,7 @@ returns-2 c =
     let r : tie.After-read = search needs in
     let b : tie.After-copy-bytes = search needs in
     let l : tie.After-lent = search needs in
-    read-laid (readOf (s .args .reader) (s .args .text .now)) (z .zero-bytes .ensures) (r .read .ensures) (omega arith) (b .copy-bytes .ensures)
+    read-laid (readOf (s .args .reader) (s .args .text .now)) _ (z .zero-bytes .ensures) (r .read .ensures) (omega arith) (b .copy-bytes .ensures)
     (l .lent .ensures)
 
 pub read-lent-spec : {M : Type 1} → statement M

@@ -4,10 +4,7 @@ use Rattle.wimmostry.proofs.wim_settings_read.Statement.{statement}
 use Rattle.wimmostry.proofs.wim_settings_read.Tie as tie
 
 returns : tie.Need-returns
-returns c =
-    let t = c .tell-settings .ensures in
-    let o : tie.After-read-lent = search needs in
-    rw (t .0 .0, t .0 .1, t .0 .2, t .1 .0, t .1 .1, t .1 .2) (o .read-lent .ensures)
+returns c = let o : tie.After-read-lent = search needs in rw (c .tell-settings .ensures) (o .read-lent .ensures)
 
 pub wim-settings-read-spec : {M : Type 1} → statement M
 wim-settings-read-spec = tie.close (tie.spec (λ c κs. search needs) (λ c κs. search needs) (search needs) returns)
