@@ -107,8 +107,8 @@ fn noise() {
         }
     }
     // at the entries of a table that share words, one less and one more
-    let table = second::vectors::noise::table();
-    let bytes = second::vectors::noise::edges(&[0; 25600]);
+    let table = second::long::noise::table();
+    let bytes = second::long::noise::edges(&[0; 25600]);
     let expected = second::noise::values(&SIX[0], &bytes, &table);
     let (mut all, mut early) = ([0; 1024], [0; 1024]);
     sampling::bcns(&bytes, &table, &mut all);

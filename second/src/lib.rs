@@ -16,6 +16,7 @@ pub mod grow;
 pub mod hash;
 pub mod keccak;
 pub mod line;
+pub mod long;
 pub mod margins;
 pub mod matrix;
 pub mod message;

@@ -1,148 +1,116 @@
-// The runs of docs/VECTORS.md: every call in every scheme on good and on damaged inputs, a line for each case. `stdout` is what the second program prints.
-// What a program prints is run and not proved; each function here is proved safe: a part of a list is cut to what is there, and a store tests its index.
-mod blanks;
-mod calls;
-mod cases;
-mod hashes;
-mod inputs;
+// The runs of docs/VECTORS.md: every call in every scheme on a good input and with one fault after the other, a line for each case. `stdout` is what the
+// second program prints. What a program prints is run and not proved; each function here is proved safe.
+mod draw;
+mod exchange;
+mod faults;
+mod lent;
 mod lines;
-mod samples;
-mod shape;
-mod slacks;
-mod streams;
-mod tables;
-mod walks;
+mod others;
 
-use calls::Call;
-use calls::make_opening;
-use calls::make_reply;
-use cases::Setting;
-use inputs::draw_bytes;
-use inputs::draw_public;
-use inputs::draw_secrets;
-use schemes::Fixed;
-use schemes::Named;
+pub enum Call {
+    Offer,
+    Reply,
+    Finish,
+    Bench,
+    Noise,
+    Expand,
+    Grow,
+    Shake128,
+    Sha3,
+}
 
-fn setting(call: Call, k: u32, f: Fixed) -> Setting {
+// Case c of a call, in the lines of scheme or rule k.
+pub struct Setting {
+    pub call: Call,
+    pub k: u32,
+    pub c: u32,
+}
+
+fn case(call: Call, k: u32, c: u32) -> Setting {
     Setting {
         call: call,
         k: k,
-        f: f,
+        c: c,
     }
 }
 
-// Offer's cases, and the opening that Reply takes.
-fn offers(k: u32, f: Fixed, a: &mut [u32], values: &mut [i32], bytes: &mut [u8]) {
-    cases::all(setting(Call::Offer, k, f), a, values, bytes);
-    make_opening(k, f, a, values, bytes);
+fn call_of(j: u32) -> Call {
+    match j {
+        0 => Call::Offer,
+        1 => Call::Reply,
+        2 => Call::Finish,
+        3 => Call::Bench,
+        _ => Call::Noise,
+    }
 }
 
-// Reply's cases, and the reply that Finish takes.
-fn replies(k: u32, f: Fixed, a: &mut [u32], values: &mut [i32], bytes: &mut [u8]) {
-    cases::all(setting(Call::Reply, k, f), a, values, bytes);
-    make_reply(k, f, a, values, bytes);
+// The 55 lines of a scheme: the cases 0 to 9 of each call, then case 10 of each.
+fn of_scheme(k: u32, j: u32) -> Setting {
+    if j < 50 {
+        case(call_of(j / 10), k, j % 10)
+    } else {
+        case(call_of(j - 50), k, 10)
+    }
 }
 
-fn keys(k: u32, f: Fixed, a: &mut [u32], values: &mut [i32], bytes: &mut [u8]) {
-    cases::all(setting(Call::Finish, k, f), a, values, bytes);
-    cases::all(setting(Call::Bench, k, f), a, values, bytes);
-    samples::noise_cases(k, f);
+fn of_no_scheme(j: u32, c: u32) -> Setting {
+    match j {
+        0 => case(Call::Expand, 14, c),
+        1 => case(Call::Expand, 16, c),
+        2 => case(Call::Grow, 14, c),
+        3 => case(Call::Grow, 16, c),
+        4 => case(Call::Shake128, 0, c),
+        _ => case(Call::Sha3, 0, c),
+    }
 }
 
-// The wide case of each call.
-fn wide_offer(k: u32, f: Fixed, a: &[u32], values: &[i32], bytes: &mut [u8]) {
-    cases::wide(setting(Call::Offer, k, f), a, values, bytes);
-    make_opening(k, f, a, values, bytes);
+// What line i tells.
+fn line(i: u32) -> Setting {
+    if i < 330 {
+        of_scheme(i / 55, i % 55)
+    } else {
+        of_no_scheme((i - 330) / 10, i % 10)
+    }
 }
 
-fn wide_reply(k: u32, f: Fixed, a: &[u32], values: &[i32], bytes: &mut [u8]) {
-    cases::wide(setting(Call::Reply, k, f), a, values, bytes);
-    make_reply(k, f, a, values, bytes);
+fn run(g: Setting, a: &[u32], values: &[i32], bytes: &mut [u8]) {
+    let call = g.call;
+    match call {
+        Call::Offer => exchange::offer_case(g, a, values, bytes),
+        Call::Reply => exchange::reply_case(g, a, values, bytes),
+        Call::Finish => exchange::finish_case(g, values, bytes),
+        Call::Bench => exchange::bench_case(g, a, values, bytes),
+        Call::Noise => others::noise_case(g, bytes),
+        Call::Expand | Call::Grow => others::numbers_case(g, bytes),
+        Call::Shake128 | Call::Sha3 => others::hash_case(g, bytes),
+    }
 }
 
-fn wide(k: u32, f: Fixed, a: &[u32], values: &[i32], bytes: &mut [u8]) {
-    wide_offer(k, f, a, values, bytes);
-    wide_reply(k, f, a, values, bytes);
-    cases::wide(setting(Call::Finish, k, f), a, values, bytes);
-    cases::wide(setting(Call::Bench, k, f), a, values, bytes);
+fn step(g: Setting, a: &mut [u32], values: &mut [i32], bytes: &mut [u8]) {
+    faults::prepare(g, a, values, bytes);
+    run(g, a, values, bytes);
 }
 
-// The blank cases of each call.
-fn blank_keys(k: u32, f: Fixed, a: &mut [u32], values: &mut [i32], bytes: &mut [u8]) {
-    blanks::finishes(setting(Call::Finish, k, f), a, values, bytes);
-    blanks::benches(setting(Call::Bench, k, f), a, values, bytes);
+fn all(a: &mut [u32], values: &mut [i32], bytes: &mut [u8]) {
+    let mut i: u32 = 0;
+    while i < 390 {
+        step(line(i), a, values, bytes);
+        i += 1;
+    }
 }
 
-fn blank(k: u32, f: Fixed, a: &mut [u32], values: &mut [i32], bytes: &mut [u8]) {
-    blanks::offers(setting(Call::Offer, k, f), a, values, bytes);
-    blanks::replies(setting(Call::Reply, k, f), a, values, bytes);
-    blank_keys(k, f, a, values, bytes);
+// The lists, as long as the longest of any call; a function each, so that no proof holds two of them at length.
+fn with_bytes(a: &mut [u32], values: &mut [i32]) {
+    let mut bytes = [0u8; 65537];
+    all(a, values, &mut bytes);
 }
 
-// Finish's cases of the slack, on the lists and the messages of case 0.
-fn slack(k: u32, f: Fixed, a: &[u32], values: &mut [i32], bytes: &mut [u8]) {
-    let g = setting(Call::Finish, k, f);
-    blanks::redraw(g, a, values, bytes);
-    slacks::finishes(g, a, values, bytes);
-}
-
-fn damaged(k: u32, f: Fixed, a: &mut [u32], values: &mut [i32], bytes: &mut [u8]) {
-    blank(k, f, a, values, bytes);
-    slack(k, f, a, values, bytes);
-}
-
-fn draw_lists(k: u32, f: Fixed, a: &mut [u32], values: &mut [i32], bytes: &mut [u8]) {
-    draw_public(k, f, a);
-    draw_secrets(k, 0, 1, values);
-    draw_bytes(k, bytes);
-}
-
-// All of a scheme's lines but the wide cases and those behind them. A case leaves each list as it found it.
-fn narrow(k: u32, f: Fixed, a: &mut [u32], values: &mut [i32], bytes: &mut [u8]) {
-    offers(k, f, a, values, bytes);
-    replies(k, f, a, values, bytes);
-    keys(k, f, a, values, bytes);
-}
-
-fn all(k: u32, f: Fixed, a: &mut [u32], values: &mut [i32], bytes: &mut [u8]) {
-    draw_lists(k, f, a, values, bytes);
-    narrow(k, f, a, values, bytes);
-    draw_secrets(k, 10, f.largest, values);
-    wide(k, f, a, values, bytes);
-    damaged(k, f, a, values, bytes);
-}
-
-// The lists, each with 32 entries more than the longest of any scheme; a function each, so that no proof holds two of them at length.
-fn with_bytes(k: u32, f: Fixed, a: &mut [u32], values: &mut [i32]) {
-    let mut bytes = [0u8; 26592];
-    all(k, f, a, values, &mut bytes);
-}
-
-fn with_secrets(k: u32, f: Fixed, a: &mut [u32]) {
+fn with_values(a: &mut [u32]) {
     let mut values = [0i32; 34720];
-    with_bytes(k, f, a, &mut values);
-}
-
-fn with_public(k: u32, f: Fixed) {
-    let mut a = [0u32; 746528];
-    with_secrets(k, f, &mut a);
-}
-
-fn scheme(k: u32) {
-    let Named::Is(s) = schemes::scheme_of(k) else {
-        return;
-    };
-    with_public(k, s.fixed());
+    with_bytes(a, &mut values);
 }
 
 fn main() {
-    scheme(0);
-    scheme(1);
-    scheme(2);
-    scheme(3);
-    scheme(4);
-    scheme(5);
-    streams::expand_cases();
-    streams::grow_cases();
-    hashes::cases();
+    let mut a = [0u32; 746497];
+    with_values(&mut a);
 }

@@ -1,8 +1,9 @@
 //! The archive from Rust, held to the second program. The published vectors are
 //! those of the second program's own tests, here through the archive.
 //!
-//! `cargo test` makes 750 calls, and some 80,000 on sessions; `cargo test --
-//! --ignored` makes 100,000, which takes some fifteen minutes.
+//! `cargo test` makes 750 random calls, the 2,930 of the second program's long
+//! list, and some 80,000 on sessions; `cargo test -- --ignored` makes 100,000
+//! random ones, which takes some fifteen minutes.
 
 use wimmostry::raw as calls;
 
@@ -20,6 +21,7 @@ mod damage;
 mod held;
 mod lent;
 mod links;
+mod long;
 mod products;
 mod racks;
 mod residue;

@@ -16,6 +16,7 @@ mod failure;
 mod grow;
 mod hash;
 mod line;
+mod long;
 mod margins;
 mod matrix;
 mod message;
