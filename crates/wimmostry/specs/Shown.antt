@@ -1,5 +1,6 @@
--- No two results satisfy the promise of an exported call: its number, place and counts, and every output.
---   OneOffer .. OneBench   of each call
+-- No two results satisfy the promise of an exported call, where it is a record of parts: its number, place and counts, and every output. Of an equation that is
+-- `One` in `front`.
+--   OneOffer, OneReply, OneFinish, OneBench   of these calls
 --   OneSessionOffer .. OneSessionClose   of each call on a session, with the session's bytes after it
 --   OneRackOffer .. OneRackClear   of each call on a rack, with the rack's bytes after it
 --   OneRowsPart .. OneRowsReplyEnd   of Frodo by rows, with the state after it

@@ -6,8 +6,8 @@ use Rattle.wimmostry.proofs.by_rows.wim_rows_offer_end.Tie as tie
 
 returns : tie.Need-returns
 returns c =
-    let t = tells _ (c .tell .ensures) in
     let o : tie.After-offer-end = search needs in
+    let t = tells (o .offer-end .result) (c .tell .ensures) in
     rw (t .0, t .1, t .2) (o .offer-end .ensures)
 
 pub wim-rows-offer-end-spec : {M : Type 1} → statement M
