@@ -41,7 +41,7 @@ use Rattle.session.specs.Seen.{Output, output, Part, Seen, due, Fills, Moves}
 use Rattle.session.specs.Sequences.{Beneath, byOffer, byReply, byFinish}
 use Rattle.session.proofs.Laws.{accepts}
 use Rattle.session.proofs.Sequences.{accepted}
-use Rattle.linked.specs.Linked.{Rooms, Enough, Link, linkedBy, Linking, SameKey}
+use Rattle.meetings.specs.Linked.{Rooms, Enough, Link, linkedBy, Linking, SameKey}
 
 -- where nothing is refused there is no place
 nowhere : {v : Verdict} {n p : ℕ} → Told v n p → n ≡ 0 → p ≡ 0

@@ -31,7 +31,7 @@ use Rattle.rows.specs.Reply.{ReplyBegin, replyBeginOf}
 use Rattle.rows.specs.Runs.{OfferRun, ReplyRun}
 use Rattle.rows.proofs.Offers.{same-offer, early-offer, offer-taken}
 use Rattle.rows.proofs.Replies.{same-reply, early-reply, reply-taken}
-use Rattle.rows_agreement.specs.Meeting.{Meeting, ByRows, Reached, EveryCut}
+use Rattle.meetings.specs.Meeting.{Meeting, ByRows, Reached, EveryCut}
 
 module _ (c : Scheme) (frodo : familyOf c ≡ Family.Frodo) where
   whole-offer : (x : OfferBegin) (a message : List ℕ) (number place room count : ℕ) → Below 256 (x .seed) → number ≡ 0

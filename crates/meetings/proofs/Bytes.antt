@@ -16,8 +16,8 @@ use Rattle.session_bytes.specs.Bytes.{bytesOf, staged, sessionIn}
 use Rattle.session_bytes.specs.declared.Found.the-variants.{At}
 use Rattle.session_bytes.proofs.Stages.{parts}
 use Rattle.session_bytes.proofs.Bytes.{taken-back, laid-back, by-value, in-bytes, held-by}
-use Rattle.linked.specs.Linked.{Rooms, Link, LinkBytes, linkedBy, LinkingBytes, SameKeyBytes}
-use Rattle.linked.proofs.Linked.{linking, same-key}
+use Rattle.meetings.specs.Linked.{Rooms, Link, LinkBytes, linkedBy, LinkingBytes, SameKeyBytes}
+use Rattle.meetings.proofs.Linked.{linking, same-key}
 
 record ByValue {c : Scheme} {x : Run} {bs cs : List ℕ} {r : Rooms} (t : LinkBytes c x bs cs r) : Type 0 where
   pub y : Session

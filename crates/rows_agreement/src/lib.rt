@@ -1,1 +1,0 @@
-// A box by rows agrees with a box by whole: no code.
