@@ -18,7 +18,6 @@ use lib.ListN.{length, getD, replicate}
 use borrow.Author.Tests.{eqb-true, eqb-false, eq-eqb, ne-eqb, le-leb, lt-leb}
 use Rattle.lists.specs.First.{firstWhere, firstOver, largestBy}
 use Rattle.lists.specs.Top.{largest, peakOf}
-use Rattle.lists.specs.declared.Peak.{Peak}
 use Rattle.lists.proofs.First.{none-before, none-passes, first-passes}
 
 alike : (m x : ℕ) → x ≤ m → leb m x ≡ eqb x m

@@ -7,7 +7,7 @@
 --   take-in, emit         it holds after k digits are taken in, and after k are written; where it starts, `resume` of Groups says
 --   fits, room            what is held fits the accumulator; what is held and written has room
 --   all-in, all-out       once all is taken in, the digits of what is held complete `out`; once all is written, it is complete
-use mathlib.Core.Path.{_≡_, refl, sym, ap, _∙_}
+use mathlib.Core.Path.{_≡_, sym, ap, _∙_}
 use mathlib.Core.List.{List, _++_, append-assoc, append-nil}
 use Prim.Native.Nat.{ℕ, _+_, _*_, _-_, _/_, _%_, _^_, _≤_, _<_}
 use native.Mathlib.Nat.{add-mul-div-left, lt-of-lt-of-le, mul-le-mul-left, one-le-pow}

@@ -15,7 +15,7 @@
 --   words-on      a number of 32 bits more is packed
 --   fewer         of the first n digits, the first m
 --   resume        `Flow` with nothing held, where the first j digits are there
-use mathlib.Core.Path.{_≡_, refl, sym, ap, _∙_}
+use mathlib.Core.Path.{_≡_, sym, ap, _∙_}
 use mathlib.Core.List.{List, _++_, append-assoc, append-nil}
 use Prim.Native.Nat.{ℕ, suc, _+_, _*_, _-_, _/_, _%_, _^_, _≤_, _<_}
 use native.Mathlib.Nat.{add-assoc, add-mul-mod-self-left, lt-of-lt-of-le, mod-lt, mul-assoc, mul-comm, mul-le-mul, mul-mod-left, mul-zero, add-zero, one-mul, zero-add}

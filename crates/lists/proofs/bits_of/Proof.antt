@@ -1,7 +1,8 @@
 -- `lists::bits_of` meets its contract.
-use Prim.Native.Nat.{ℕ, _+_, _-_, _≤_}
+use borrow.Author.Needs.{needs}
+use Prim.Native.Nat.{ℕ, _-_, _≤_}
 use native.Mathlib.Omega.{arith}
-use lib.Bits.{bitAnd, bitOr, and-le-l, and-le-r, or-add-and}
+use lib.Bits.{bitOr, and-le-l, and-le-r, or-add-and}
 use lib.ListN.{length, getD}
 use Rattle.lists.proofs.First.{Reached, reached-none, reached-more, reached-all}
 use Rattle.lists.proofs.bits_of.Statement.{statement}
@@ -25,7 +26,7 @@ loop-holds c = reached-none (λ x. x) 0 _
 
 loop-again : tie.Need-loop-again Inv-loop μ-loop
 loop-again c =
-    let a = c .before .before in
+    let a : tie.At-loop Inv-loop μ-loop = search needs in
     let x = getD (a .before .args .xs .now) (a .loop .i) 0 in
     reached-more (λ x. x) 0 _ (a .loop .i) _ _ (a .loop .inv) (omega arith) (under-l (a .loop .bits) x) (under-r (a .loop .bits) x)
 
@@ -33,5 +34,5 @@ returns : tie.Need-returns Inv-loop μ-loop
 returns c = reached-all (λ x. x) 0 _ _ _ (c .before .loop .inv) (omega arith)
 
 pub bits-of-spec : {M : Type 1} → statement M
-bits-of-spec =
-    tie.close (tie.spec Inv-loop μ-loop loop-holds (λ c. omega arith) (λ c. omega arith) (λ c. omega arith) (λ c. omega arith) loop-again returns)
+bits-of-spec = tie.close (tie.spec Inv-loop μ-loop loop-holds (omega arith) (omega arith) (omega arith) (omega arith)
+    loop-again returns)

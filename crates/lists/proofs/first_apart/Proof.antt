@@ -13,9 +13,6 @@ Inv-loop xs ys at₀ at = Tried (length xs) (differ xs ys) at
 abbrev μ-loop : tie.MeasureT-loop
 μ-loop xs ys at₀ at = length xs - at
 
-loop-holds : tie.Need-loop-holds Inv-loop μ-loop
-loop-holds c = tried-none _ _
-
 returns : tie.Need-returns Inv-loop μ-loop
 returns c =
     let b : tie.Start Inv-loop μ-loop = search needs in
@@ -35,6 +32,5 @@ returns-2 c =
     met (b .args .xs .now) (b .args .ys .now) (b .pre) (l .loop .at) (l .loop .inv) (c .loop-test .left)
 
 pub first-apart-spec : {M : Type 1} → statement M
-first-apart-spec =
-    tie.close
-    (tie.spec Inv-loop μ-loop loop-holds (λ c. omega arith) (λ c. omega arith) (λ c. omega arith) (λ c. omega arith) returns (λ c. omega arith) (λ c. omega arith) loop-again returns-2)
+first-apart-spec = tie.close (tie.spec Inv-loop μ-loop (λ c. tried-none _ _) (omega arith) (omega arith) (omega arith)
+    (omega arith) returns (omega arith) (omega arith) loop-again returns-2)

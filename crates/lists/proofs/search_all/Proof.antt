@@ -1,8 +1,9 @@
 -- `lists::search_all` meets its contract: each test is a factor 0 or 1.
+use borrow.Author.Needs.{needs}
 use mathlib.Core.Path.{_≡_, refl}
 use mathlib.Core.Bool.{Bool, true, false}
 use mathlib.Core.Logic.{_⊎_, inl, inr}
-use Prim.Native.Nat.{ℕ, _*_, _-_, _≤_, _<_}
+use Prim.Native.Nat.{ℕ, _*_, _-_, _≤_}
 use native.Mathlib.Omega.{arith}
 use lib.Dec.{leb, ltb}
 use lib.ListN.{length, getD}
@@ -55,8 +56,9 @@ add-passed c = record { fits = omega (arith, kept c, c .before .before .loop .in
 
 loop-again : tie.Need-loop-again Inv-loop μ-loop
 loop-again c =
+    let start : tie.Start Inv-loop μ-loop = search needs in
     let l = c .before .before .loop in
-    let a = c .before .before .before .args in
+    let a = start .args in
     let x = getD (a .xs .now) (l .i) 0 in (
       looking-more (over (a .q)) _ 0 (l .i) (l .passed) (l .still) (boolByte (ltb x (a .q))) (l .inv .0) (omega arith) (test (a .q) x (ltb x (a .q)) refl),
       omega (arith, kept c, l .inv .1),
@@ -69,12 +71,12 @@ search-all-spec =
     Inv-loop
     μ-loop
     loop-holds
-    (λ c. omega arith)
-    (λ c. omega arith)
+    (omega arith)
+    (omega arith)
     (λ c. tt)
     mul-still-2
     add-passed
-    (λ c. omega arith)
-    (λ c. omega arith)
+    (omega arith)
+    (omega arith)
     loop-again
     returns)

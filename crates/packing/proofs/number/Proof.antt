@@ -1,6 +1,6 @@
 -- `packing::number` meets its contract: the number's bits lie within the eight bytes.
-use mathlib.Core.Path.{_≡_, _∙_}
-use Prim.Native.Nat.{_+_, _*_, _/_, _%_, _^_}
+use mathlib.Core.Path.{_≡_}
+use Prim.Native.Nat.{_+_, _*_, _/_}
 use native.Mathlib.Nat.{mod-lt, lt-of-lt-of-le}
 use native.Mathlib.Omega.{arith}
 use borrow.Author.Needs.{needs}
@@ -16,12 +16,14 @@ use Rattle.packing.proofs.number.Tie as tie
 
 rem-result : tie.Need-rem-result
 rem-result c =
-    let w = c .before .before .before .args .w in
+    let start : tie.Start = search needs in
+    let w = start .args .w in
     rw (based w (omega arith)) (pow-pos w)
 
 cast-result-2 : tie.Need-cast-result-2
 cast-result-2 c =
-    let w = c .before .before .before .args .w in
+    let start : tie.Start = search needs in
+    let w = start .args .w in
     rw (based w (omega arith)) (record { fits = lt-of-lt-of-le (mod-lt _ (pow-pos w)) (pow-mono {j = 32} (omega arith)) })
 
 -- what the eight bytes make
@@ -34,7 +36,7 @@ eight c =
 
 returns : tie.Need-returns
 returns c =
-    let k = c .before .before in
+    let k : tie.After-shared-slice-known = search needs in
     let a = k .before .args in
     let bytes : Below 256 (a .bytes .now) = record { below = λ n. omega (arith, k .shared-slice-known .given n) } in
     rw (based (a .w) (omega arith), eight c) (bits-at bytes (a .i) (a .t) (a .w) (omega arith))

@@ -1,6 +1,6 @@
 -- `packing::pack_groups` meets its contract: after g groups the first w g bytes are there.
-use mathlib.Core.Path.{_≡_, refl, sym, _∙_}
-use Prim.Native.Nat.{_+_, _*_, _-_, _^_, _≤_, _<_}
+use mathlib.Core.Path.{_≡_, refl, _∙_}
+use Prim.Native.Nat.{_+_, _*_, _-_, _^_, _≤_}
 use native.Mathlib.Nat.{le-of-mul-le-mul-left, mul-zero}
 use native.Mathlib.Omega.{arith}
 use borrow.Author.Needs.{needs}
@@ -28,48 +28,37 @@ there c =
     let l = c .before .loop in
     le-of-mul-le-mul-left {k = s .args .w} (omega (arith, s .pre .1, l .inv .0, l .inv .1)) (s .pre .0 .0)
 
-mul-quad : tie.Need-mul-quad Inv-loop μ-loop
-mul-quad c = omega (arith, there c)
-
 quad-requires : tie.Need-quad-requires Inv-loop μ-loop
-quad-requires c κs = (omega arith, c .before .before .before .before .pre .0 .2, omega (arith, there c))
-
-mul-quad-2 : tie.Need-mul-quad-2 Inv-loop μ-loop
-mul-quad-2 c = omega (arith, there (c .before))
-
-add-quad : tie.Need-add-quad Inv-loop μ-loop
-add-quad c = omega (arith, there (c .before))
+quad-requires c κs = let start : tie.Start Inv-loop μ-loop = search needs in (omega arith, start .pre .0 .2, omega (arith, there c))
 
 quad-requires-2 : tie.Need-quad-requires-2 Inv-loop μ-loop
-quad-requires-2 c κs = (omega arith, c .before .before .before .before .before .pre .0 .2, omega (arith, there (c .before)))
+quad-requires-2 c κs = let start : tie.Start Inv-loop μ-loop = search needs in (omega arith, start .pre .0 .2, omega (arith, there (c .before)))
 
 put-group-requires : tie.Need-put-group-requires Inv-loop μ-loop
 put-group-requires c κs =
-    let s = c .before .before .before .before .before .before .before in
-    let low = rw (← c .before .before .quad .ensures) at (quad-below (s .args .w) (s .pre .0 .2) (8 * c .before .before .before .before .loop .g)) in
-    (omega arith, omega arith, low, omega (arith, c .before .before .before .before .loop .inv .0))
+    let at-loop : tie.At-loop Inv-loop μ-loop = search needs in
+    let s : tie.Start Inv-loop μ-loop = search needs in
+    let low = rw (← c .before .before .quad .ensures) at (quad-below (s .args .w) (s .pre .0 .2) (8 * at-loop .loop .g)) in
+    (omega arith, omega arith, low, omega (arith, at-loop .loop .inv .0))
 
 add-g : tie.Need-add-g Inv-loop μ-loop
-add-g c = omega (arith, there (c .before .before .before .before .before .before))
+add-g c = let in-loop : tie.In-loop Inv-loop μ-loop = search needs in omega (arith, there in-loop)
 
 loop-again : tie.Need-loop-again Inv-loop μ-loop
 loop-again c =
-    let s = c .before .before .before .before .before .before .before .before .before .before in
-    let l = c .before .before .before .before .before .before .before .loop in
+    let s : tie.Start Inv-loop μ-loop = search needs in
+    let l : tie.At-loop Inv-loop μ-loop = search needs in
     let w = s .args .w in
-    let q = c .before .before .before .before in
+    let q : tie.After-quad2 Inv-loop μ-loop = search needs in
     let put = c .before .before .put-group in
-    let group = two-quads w (8 * l .g) (s .args .xs .now) (q .before .quad .result) (q .quad2 .result) (q .before .quad .ensures) (q .quad2 .ensures) in
-    let more = packed-on w (l .g) (l .out) (s .pre .0 .1) (s .pre .0 .2) (l .inv .3) (omega (arith, l .inv .1)) _ group in
-    (put .kept .1 .1 .1 .0 ∙ l .inv .0, omega (arith, l .inv .1), omega arith, rw (put .ensures, l .inv .1) more)
-
-same-length : tie.Need-same-length Inv-loop μ-loop
-same-length c = c .before .loop .inv .0
+    let group = two-quads w (8 * l .loop .g) (s .args .xs .now) (q .before .quad .result) (q .quad2 .result) (q .before .quad .ensures) (q .quad2 .ensures) in
+    let more = packed-on w (l .loop .g) (l .loop .out) (s .pre .0 .1) (s .pre .0 .2) (l .loop .inv .3) (omega (arith, l .loop .inv .1)) _ group in
+    (put .kept .1 .1 .1 .0 ∙ l .loop .inv .0, omega (arith, l .loop .inv .1), omega arith, rw (put .ensures, l .loop .inv .1) more)
 
 returns : tie.Need-returns Inv-loop μ-loop
 returns c = (omega (arith, c .before .loop .inv .1), c .before .loop .inv .3)
 
 pub pack-groups-spec : {M : Type 1} → statement M
-pack-groups-spec =
-    tie.close
-    (tie.spec Inv-loop μ-loop loop-holds (λ c. omega arith) mul-quad quad-requires mul-quad-2 add-quad quad-requires-2 put-group-requires (λ c. omega arith) add-g (λ c. omega arith) loop-again same-length returns)
+pack-groups-spec = tie.close (tie.spec Inv-loop μ-loop loop-holds (omega arith) (λ c. omega (arith, there c))
+    quad-requires (λ c. omega (arith, there (c .before))) (λ c. omega (arith, there (c .before))) quad-requires-2
+    put-group-requires (omega arith) add-g (omega arith) loop-again (λ c. c .before .loop .inv .0) returns)

@@ -24,12 +24,9 @@ done-fits c =
     let s = c .before .before in
     le-of-mul-le-mul-left {k = s .args .w} (omega (arith, s .pre .1 .0, s .pre .1 .1 .0)) (s .pre .0 .0)
 
-mul-i : tie.Need-mul-i Inv-loop μ-loop
-mul-i c = omega (arith, done-fits c)
-
 loop-holds : tie.Need-loop-holds Inv-loop μ-loop
 loop-holds c =
-    let s = c .before .before in
+    let s : tie.Start Inv-loop μ-loop = search needs in
     let a = s .args in
     (omega arith, done-fits c, resume (a .w) 8 (s .pre .0 .2) (8 * a .done) (a .w * a .done) refl (omega arith) (s .pre .1 .1 .0) (s .pre .1 .1 .1))
 
@@ -56,14 +53,14 @@ word-fits : (c : tie.Then1 Inv-loop μ-loop)
 word-fits c = omega (arith, room (taken (c .before)) (omega arith) (c .before .before .before .before .before .before .pre .1 .0))
 
 put-word-requires : tie.Need-put-word-requires Inv-loop μ-loop
-put-word-requires c κs = omega (arith, word-fits (c .before), c .before .before .before .before .loop .inv .2 .len)
+put-word-requires c κs = let at-loop : tie.At-loop Inv-loop μ-loop = search needs in omega (arith, word-fits (c .before), at-loop .loop .inv .2 .len)
 
 add-j : tie.Need-add-j Inv-loop μ-loop
-add-j c = omega (arith, word-fits (c .before .before .before .before))
+add-j c = let then1 : tie.Then1 Inv-loop μ-loop = search needs in omega (arith, word-fits then1)
 
 loop-again : tie.Need-loop-again Inv-loop μ-loop
 loop-again c =
-    let t = c .before .before .before .before in
+    let t : tie.Then1 Inv-loop μ-loop = search needs in
     let f = emit (taken (t .before)) 4 32 refl (t .if1 .taken) (word-fits t) in
     (omega arith, omega arith, rw (c .before .before .put-word .ensures) f)
 
@@ -72,20 +69,22 @@ loop-again-2 c = (omega arith, omega arith, taken (c .before))
 
 put-rest-requires : tie.Need-put-rest-requires Inv-loop μ-loop
 put-rest-requires c κs =
+    let start : tie.Start Inv-loop μ-loop = search needs in
     let f = c .before .before .loop .inv .2 in
-    omega (arith, room f (c .before .before .loop .inv .1) (c .before .before .before .before .before .pre .1 .0), f .len)
+    omega (arith, room f (c .before .before .loop .inv .1) (start .pre .1 .0), f .len)
 
 same-length : tie.Need-same-length Inv-loop μ-loop
-same-length c = c .before .before .put-rest .kept .0 ∙ c .before .before .before .before .before .loop .inv .2 .len
+same-length c = let at-loop : tie.At-loop Inv-loop μ-loop = search needs in c .before .before .put-rest .kept .0 ∙ at-loop .loop .inv .2 .len
 
 returns : tie.Need-returns Inv-loop μ-loop
 unfolding packed
 returns c =
-    let s = c .before .before .before .before .before .before .before .before in
+    let at-loop : tie.At-loop Inv-loop μ-loop = search needs in
+    let s : tie.Start Inv-loop μ-loop = search needs in
     let n : s .args .w * length (s .args .xs .now) / 8 ≡ length (s .args .out .now) = omega (arith, s .pre .1 .0) in
-    rw n (c .before .before .put-rest .ensures ∙ all-in (c .before .before .before .before .before .loop .inv .2) (omega arith))
+    rw n (c .before .before .put-rest .ensures ∙ all-in (at-loop .loop .inv .2) (omega arith))
 
 pub pack-rest-spec : {M : Type 1} → statement M
-pack-rest-spec =
-    tie.close
-    (tie.spec Inv-loop μ-loop mul-i (λ c. omega arith) loop-holds (λ c. omega arith) (λ c. omega arith) cast-acc (λ c. omega arith) (λ c. omega arith) add-acc (λ c. omega arith) (λ c. omega arith) put-word-requires add-j (λ c. omega arith) loop-again (λ c. omega arith) loop-again-2 put-rest-requires same-length returns)
+pack-rest-spec = tie.close (tie.spec Inv-loop μ-loop (λ c. omega (arith, done-fits c)) (omega arith) loop-holds
+    (omega arith) (omega arith) cast-acc (omega arith) (omega arith) add-acc (omega arith) (omega arith)
+    put-word-requires add-j (omega arith) loop-again (omega arith) loop-again-2 put-rest-requires same-length returns)

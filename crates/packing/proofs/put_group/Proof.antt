@@ -1,5 +1,5 @@
 -- `packing::put_group` meets its contract: sixteen bytes of one number, of which a word holds each half.
-use mathlib.Core.Path.{_≡_, refl, sym, _∙_}
+use mathlib.Core.Path.{_≡_, _∙_}
 use Prim.Native.Nat.{_+_, _*_, _-_, _^_}
 use native.Mathlib.Omega.{arith}
 use borrow.Author.Needs.{needs}
@@ -18,7 +18,10 @@ add-lower c =
 
 returns : tie.Need-returns
 returns c =
-    let s = c .before .before .before .before .before .before .before .before .before .before .before .before .before .before .before .before .before in
+    let after-put-word : tie.After-put-word = search needs in
+    let after-put-word2 : tie.After-put-word2 = search needs in
+    let after-put-word3 : tie.After-put-word3 = search needs in
+    let s : tie.Start = search needs in
     let k = 4 * s .args .w in
     let n = 64 - k in
     let low = s .args .low in
@@ -26,13 +29,17 @@ returns c =
     sixteen (low + 2 ^ k * high) _ _ (s .args .i) (s .args .out .now) (s .pre .3)
     (shifted-low k n low high (word s) (s .pre .2))
     (shifted-high k n low high (word s) (s .pre .2))
-    (c .before .before .before .before .before .before .before .before .before .before .before .before .before .before .put-word .ensures)
-    (c .before .before .before .before .before .before .before .before .before .before .put-word2 .ensures)
-    (c .before .before .before .before .before .before .put-word3 .ensures)
+    (after-put-word .put-word .ensures)
+    (after-put-word2 .put-word2 .ensures)
+    (after-put-word3 .put-word3 .ensures)
     (c .before .before .put-word4 .ensures)
 
 same-length : tie.Need-same-length
-same-length c = c .before .before .put-word4 .kept .0 ∙ c .before .before .before .before .before .before .put-word3 .kept .0 ∙ c .before .before .before .before .before .before .before .before .before .before .put-word2 .kept .0 ∙ c .before .before .before .before .before .before .before .before .before .before .before .before .before .before .put-word .kept .0
+same-length c =
+    let after-put-word3 : tie.After-put-word3 = search needs in
+    let after-put-word2 : tie.After-put-word2 = search needs in
+    let after-put-word : tie.After-put-word = search needs in
+    c .before .before .put-word4 .kept .0 ∙ after-put-word3 .put-word3 .kept .0 ∙ after-put-word2 .put-word2 .kept .0 ∙ after-put-word .put-word .kept .0
 
 pub put-group-spec : {M : Type 1} → statement M
 put-group-spec =

@@ -3,7 +3,6 @@ use mathlib.Core.Path.{_≡_, refl, sym, _∙_}
 use Prim.Native.Nat.{_-_, _≤_}
 use native.Mathlib.Nat.{add-zero, mul-zero}
 use native.Mathlib.Omega.{arith}
-use borrow.Author.Needs.{needs}
 use lib.ListN.{length, length-set}
 use Rattle.packing.proofs.Flow.{filled, fill, one, full}
 use Rattle.packing.proofs.put_rest.Statement.{statement}
@@ -24,14 +23,11 @@ loop-again c =
     let less = simp (mul-zero, add-zero) at (fill 256 1 (l .v) (l .j) (l .out) (omega arith) 0 (omega arith)) in
     (simp length-set (l .inv .0), omega arith, rw (one 256 (l .v) (l .j) (l .out) (omega arith)) (less ∙ l .inv .2))
 
-same-length : tie.Need-same-length Inv-loop μ-loop
-same-length c = c .before .loop .inv .0
-
 returns : tie.Need-returns Inv-loop μ-loop
 returns c =
     let l = c .before .loop in
     sym (full 256 (l .v) (l .j) (l .out) (omega arith)) ∙ l .inv .2
 
 pub put-rest-spec : {M : Type 1} → statement M
-put-rest-spec = tie.close
-    (tie.spec Inv-loop μ-loop loop-holds (λ c. omega arith) (λ c. omega arith) (λ c. omega arith) (λ c. omega arith) loop-again same-length returns)
+put-rest-spec = tie.close (tie.spec Inv-loop μ-loop loop-holds (omega arith) (omega arith) (omega arith) (omega arith)
+    loop-again (λ c. c .before .loop .inv .0) returns)

@@ -11,18 +11,6 @@ use Rattle.packing.specs.Packing.{digits}
 use Rattle.packing.proofs.put_word.Statement.{statement}
 use Rattle.packing.proofs.put_word.Tie as tie
 
-slice-write-out-2 : tie.Need-slice-write-out-2
-slice-write-out-2 c = simp length-set (omega arith)
-
-slice-write-out-3 : tie.Need-slice-write-out-3
-slice-write-out-3 c = simp length-set (omega arith)
-
-slice-write-out-4 : tie.Need-slice-write-out-4
-slice-write-out-4 c = simp length-set (omega arith)
-
-same-length : tie.Need-same-length
-same-length c = simp length-set
-
 returns : tie.Need-returns
 unfolding digits
 returns c =
@@ -31,6 +19,6 @@ returns c =
     (sets-eq (v % 256 ∷ v / 256 % 256 ∷ v / 65536 % 256 ∷ v / 16777216 % 256 ∷ []) (c .args .out .now) (c .args .j) (c .pre))
 
 pub put-word-spec : {M : Type 1} → statement M
-put-word-spec =
-    tie.close
-    (tie.spec (search needs) (search needs) (search needs) (search needs) slice-write-out-2 (search needs) (search needs) slice-write-out-3 (search needs) (search needs) slice-write-out-4 same-length returns)
+put-word-spec = tie.close (tie.spec (search needs) (search needs) (search needs) (search needs)
+    (λ c. simp length-set (omega arith)) (search needs) (search needs) (λ c. simp length-set (omega arith))
+    (search needs) (search needs) (λ c. simp length-set (omega arith)) (λ c. simp length-set) returns)

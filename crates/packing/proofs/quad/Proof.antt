@@ -1,9 +1,10 @@
 -- `packing::quad` meets its contract: a number more at each turn, from the last to the first.
+use borrow.Author.Needs.{needs}
 use mathlib.Core.Path.{_≡_, refl, _∙_}
-use Prim.Native.Nat.{suc, _+_, _*_, _-_, _^_, _≤_, _<_}
+use Prim.Native.Nat.{suc, _+_, _*_, _-_, _^_, _≤_}
 use native.Mathlib.Nat.{add-zero, sub-zero}
 use native.Mathlib.Omega.{arith}
-use lib.ListN.{length, getD, take, drop}
+use lib.ListN.{getD, take, drop}
 use Rattle.packing.specs.Packing.{value}
 use Rattle.packing.proofs.Groups.{few, one-more}
 use Rattle.packing.proofs.quad.Statement.{statement}
@@ -14,10 +15,6 @@ Inv-loop w xs j v₀ k₀ v k = (k ≤ 4) × (v ≡ value (2 ^ w) (take (4 - k) 
 
 abbrev μ-loop : tie.MeasureT-loop
 μ-loop w xs j v₀ k₀ v k = k
-
-loop-holds : tie.Need-loop-holds Inv-loop μ-loop
-unfolding value
-loop-holds c = (omega arith, refl)
 
 -- with the number before them
 more : (c : tie.In-loop Inv-loop μ-loop)
@@ -31,7 +28,7 @@ more c =
 
 onto-requires : tie.Need-onto-requires Inv-loop μ-loop
 onto-requires c κs =
-    let s = c .before .before .before .before in
+    let s : tie.Start Inv-loop μ-loop = search needs in
     let l = c .before .before .loop in
     (omega arith, rw (more (c .before)) (few (s .pre .0) (s .pre .1) (4 - (l .k - 1)) (s .args .j + (l .k - 1)) (omega arith)))
 
@@ -44,6 +41,5 @@ returns c =
     simp (e, add-zero, sub-zero) at (c .before .loop .inv .1)
 
 pub quad-spec : {M : Type 1} → statement M
-quad-spec =
-    tie.close
-    (tie.spec Inv-loop μ-loop loop-holds (λ c. omega arith) (λ c. omega arith) (λ c. omega arith) (λ c. omega arith) onto-requires (λ c. omega arith) loop-again returns)
+quad-spec = tie.close (tie.spec Inv-loop μ-loop (λ c. unfold value in (omega arith, refl)) (omega arith) (omega arith)
+    (omega arith) (omega arith) onto-requires (omega arith) loop-again returns)

@@ -1,6 +1,7 @@
 -- `packing::unpack_group` meets its contract: after k turns k numbers are written.
+use borrow.Author.Needs.{needs}
 use mathlib.Core.Path.{_≡_, refl}
-use Prim.Native.Nat.{_+_, _*_, _-_, _^_, _≤_, _<_}
+use Prim.Native.Nat.{_*_, _-_, _^_, _≤_}
 use native.Mathlib.Nat.{mul-le-mul-right}
 use native.Mathlib.Omega.{arith}
 use lib.ListN.{length, drop, length-set}
@@ -25,21 +26,15 @@ loop-holds c =
 starts : (c : tie.In-loop Inv-loop μ-loop) → c .before .loop .k * c .before .before .before .before .args .w ≤ 7 * c .before .before .before .before .args .w
 starts c = mul-le-mul-right (c .before .before .before .before .args .w) (omega arith)
 
-mul-number : tie.Need-mul-number Inv-loop μ-loop
-mul-number c = omega (arith, starts c)
-
 number-requires : tie.Need-number-requires Inv-loop μ-loop
 number-requires c κs = (omega arith, omega (arith, starts c))
 
 loop-again : tie.Need-loop-again Inv-loop μ-loop
 loop-again c =
-    let s = c .before .before .before .before .before in
+    let s : tie.Start Inv-loop μ-loop = search needs in
     let l = c .before .before .loop in
     let all = stored (s .args .w) (l .k) (value 256 (drop (s .args .i) (s .args .bytes .now))) (s .args .j) (c .number .result) (s .args .out .now) (omega arith) (c .number .ensures) (l .inv .2) in
     (omega arith, simp length-set (l .inv .1), all)
-
-same-length : tie.Need-same-length Inv-loop μ-loop
-same-length c = c .before .loop .inv .1
 
 returns : tie.Need-returns Inv-loop μ-loop
 returns c =
@@ -47,6 +42,6 @@ returns c =
     rw e at (c .before .loop .inv .2)
 
 pub unpack-group-spec : {M : Type 1} → statement M
-unpack-group-spec =
-    tie.close
-    (tie.spec Inv-loop μ-loop loop-holds mul-number number-requires (λ c. omega arith) (λ c. omega arith) (λ c. omega arith) (λ c. omega arith) (λ c. omega arith) (λ c. omega arith) loop-again same-length returns)
+unpack-group-spec = tie.close (tie.spec Inv-loop μ-loop loop-holds (λ c. omega (arith, starts c)) number-requires
+    (omega arith) (omega arith) (omega arith) (omega arith) (omega arith) (omega arith) loop-again
+    (λ c. c .before .loop .inv .1) returns)

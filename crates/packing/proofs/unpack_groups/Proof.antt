@@ -1,6 +1,6 @@
 -- `packing::unpack_groups` meets its contract: after g groups the first 8 g numbers are there.
-use mathlib.Core.Path.{_≡_, refl, sym, _∙_}
-use Prim.Native.Nat.{_+_, _*_, _-_, _^_, _≤_, _<_}
+use mathlib.Core.Path.{_≡_, refl, _∙_}
+use Prim.Native.Nat.{_+_, _*_, _-_, _^_, _≤_}
 use native.Mathlib.Nat.{le-of-mul-le-mul-left}
 use native.Mathlib.Omega.{arith}
 use borrow.Author.Needs.{needs}
@@ -30,32 +30,27 @@ room c =
     let l = c .before .loop in
     le-of-mul-le-mul-left {k = s .args .w} (omega (arith, s .pre .1, l .inv .1)) (s .pre .0 .0)
 
-mul-unpack-group : tie.Need-mul-unpack-group Inv-loop μ-loop
-mul-unpack-group c = omega (arith, room (c .before))
-
 unpack-group-requires : tie.Need-unpack-group-requires Inv-loop μ-loop
 unpack-group-requires c κs =
     (omega arith, omega arith, omega arith, omega (arith, room (c .before), c .before .before .loop .inv .0))
 
 add-g : tie.Need-add-g Inv-loop μ-loop
-add-g c = omega (arith, room (c .before .before .before .before))
+add-g c = let in-loop : tie.In-loop Inv-loop μ-loop = search needs in omega (arith, room in-loop)
 
 loop-again : tie.Need-loop-again Inv-loop μ-loop
 loop-again c =
-    let k = c .before .before .before .before .before .before .before in
-    let l = c .before .before .before .before .before .loop in
+    let in-loop : tie.In-loop Inv-loop μ-loop = search needs in
+    let k : tie.After-shared-slice-known Inv-loop μ-loop = search needs in
+    let l : tie.At-loop Inv-loop μ-loop = search needs in
     let w = k .before .args .w in
     let bytes : Below 256 (k .before .args .bytes .now) = record { below = λ n. omega (arith, k .shared-slice-known .given n) } in
-    let more = unpacked-on w (l .g) (l .out) bytes (l .inv .3) (omega (arith, room (c .before .before .before .before), l .inv .0)) in
-    (c .before .before .unpack-group .kept .1 .1 .1 .0 ∙ l .inv .0, omega (arith, l .inv .1), omega arith, rw (c .before .before .unpack-group .ensures, l .inv .1) more)
-
-same-length : tie.Need-same-length Inv-loop μ-loop
-same-length c = c .before .loop .inv .0
+    let more = unpacked-on w (l .loop .g) (l .loop .out) bytes (l .loop .inv .3) (omega (arith, room in-loop, l .loop .inv .0)) in
+    (c .before .before .unpack-group .kept .1 .1 .1 .0 ∙ l .loop .inv .0, omega (arith, l .loop .inv .1), omega arith, rw (c .before .before .unpack-group .ensures, l .loop .inv .1) more)
 
 returns : tie.Need-returns Inv-loop μ-loop
 returns c = (omega (arith, c .before .loop .inv .1), c .before .loop .inv .3)
 
 pub unpack-groups-spec : {M : Type 1} → statement M
-unpack-groups-spec =
-    tie.close
-    (tie.spec Inv-loop μ-loop loop-holds (λ c. omega arith) (λ c. omega arith) mul-unpack-group unpack-group-requires (λ c. omega arith) add-g (λ c. omega arith) loop-again same-length returns)
+unpack-groups-spec = tie.close (tie.spec Inv-loop μ-loop loop-holds (omega arith) (omega arith)
+    (λ c. omega (arith, room (c .before))) unpack-group-requires (omega arith) add-g (omega arith) loop-again
+    (λ c. c .before .loop .inv .0) returns)

@@ -1,7 +1,7 @@
 -- `packing::unpack_rest` meets its contract: the invariant is `Flow` at 8 bits in, with fewer than 32 bits held.
-use mathlib.Core.Path.{_≡_, refl, _∙_}
+use mathlib.Core.Path.{refl}
 use mathlib.Core.Logic.{⊎-elim}
-use Prim.Native.Nat.{ℕ, _+_, _*_, _-_, _%_, _^_, _≤_, _<_}
+use Prim.Native.Nat.{_+_, _*_, _-_, _%_, _^_, _≤_, _<_}
 use native.Mathlib.Nat.{mod-lt, mul-one, mul-le-mul-left, le-of-mul-le-mul-left, lt-of-lt-of-le}
 use native.Mathlib.Omega.{arith}
 use borrow.Author.Needs.{needs}
@@ -28,9 +28,6 @@ done-fits c =
     let s = c .before .before in
     le-of-mul-le-mul-left {k = s .args .w} (omega (arith, s .pre .1 .0, s .pre .1 .1 .0)) (s .pre .0 .0)
 
-mul-j : tie.Need-mul-j Inv-loop μ-loop
-mul-j c = omega (arith, done-fits c)
-
 loop-holds : tie.Need-loop-holds Inv-loop μ-loop
 loop-holds c =
     let a = c .before .before .args in
@@ -44,9 +41,6 @@ byte-comes c =
     let l = c .before .before .loop in
     let more : l .j + 1 ≤ length (s .args .out .now) = omega (arith, l .inv .2 .len) in
     omega (arith, s .pre .1 .0, l .inv .2 .bits, mul-le-mul-left (s .args .w) more)
-
-word-requires : tie.Need-word-requires Inv-loop μ-loop
-word-requires c κs = omega (arith, byte-comes c)
 
 -- what holds once a word is taken in
 taken : (c : tie.After-word Inv-loop μ-loop)
@@ -64,7 +58,7 @@ add-acc : tie.Need-add-acc Inv-loop μ-loop
 add-acc c = fits (taken c) (omega arith)
 
 add-i : tie.Need-add-i Inv-loop μ-loop
-add-i c = omega (arith, byte-comes (c .before), c .before .before .before .before .before .before .good)
+add-i c = let start : tie.Start Inv-loop μ-loop = search needs in omega (arith, byte-comes (c .before), start .good)
 
 -- before a number is written, its bits are held
 ready : (c : tie.Joined1 Inv-loop μ-loop)
@@ -79,12 +73,14 @@ ready c =
 
 rem-out : tie.Need-rem-out Inv-loop μ-loop
 rem-out c =
-    let w = c .before .before .before .before .before .before .args .w in
+    let start : tie.Start Inv-loop μ-loop = search needs in
+    let w = start .args .w in
     rw (based w (omega arith)) (pow-pos w)
 
 cast-out : tie.Need-cast-out Inv-loop μ-loop
 cast-out c =
-    let w = c .before .before .before .before .before .before .args .w in
+    let start : tie.Start Inv-loop μ-loop = search needs in
+    let w = start .args .w in
     let below = lt-of-lt-of-le (mod-lt (c .before .if1 .acc) (pow-pos w)) (pow-mono {j = 32} (omega arith)) in
     rw (based w (omega arith)) (record { fits = below })
 
@@ -93,20 +89,19 @@ sub-held c = ready (c .before .before) .0
 
 loop-again : tie.Need-loop-again Inv-loop μ-loop
 loop-again c =
+    let start : tie.Start Inv-loop μ-loop = search needs in
     let r = ready (c .before .before) in
-    let l = c .before .before .before .before .loop in
-    let w = c .before .before .before .before .before .before .before .args .w in
-    let stored = one (2 ^ w) (c .before .before .if1 .acc) (l .j) (l .out) (omega arith) in
+    let l : tie.At-loop Inv-loop μ-loop = search needs in
+    let w = start .args .w in
+    let stored = one (2 ^ w) (c .before .before .if1 .acc) (l .loop .j) (l .loop .out) (omega arith) in
     (omega arith, omega arith, rw (based w (omega arith), stored) (emit (r .2) 1 w (mul-one w) (r .0) (omega arith)))
-
-same-length : tie.Need-same-length Inv-loop μ-loop
-same-length c = c .before .loop .inv .2 .len
 
 returns : tie.Need-returns Inv-loop μ-loop
 unfolding unpacked
 returns c = all-out (c .before .loop .inv .2) (omega arith)
 
 pub unpack-rest-spec : {M : Type 1} → statement M
-unpack-rest-spec =
-    tie.close
-    (tie.spec Inv-loop μ-loop (λ c. omega arith) (λ c. omega arith) mul-j loop-holds word-requires (λ c. omega arith) (λ c. omega arith) add-acc (λ c. omega arith) add-i rem-out cast-out (λ c. omega arith) (λ c. omega arith) (λ c. omega arith) sub-held (λ c. omega arith) (λ c. omega arith) loop-again same-length returns)
+unpack-rest-spec = tie.close (tie.spec Inv-loop μ-loop (omega arith) (omega arith) (λ c. omega (arith, done-fits c))
+    loop-holds (λ c κs. omega (arith, byte-comes c)) (omega arith) (omega arith) add-acc (omega arith) add-i rem-out
+    cast-out (omega arith) (omega arith) (omega arith) sub-held (omega arith) (omega arith) loop-again
+    (λ c. c .before .loop .inv .2 .len) returns)

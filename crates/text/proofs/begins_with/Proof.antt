@@ -1,4 +1,5 @@
 -- `text::begins_with` meets its contract.
+use borrow.Author.Needs.{needs}
 use Prim.Native.Nat.{_-_}
 use native.Mathlib.Omega.{arith}
 use lib.ListN.{length}
@@ -12,34 +13,22 @@ Inv-loop label s i₀ i = Begun label s i
 abbrev μ-loop : tie.MeasureT-loop
 μ-loop label s i₀ i = length label - i
 
-loop-holds : tie.Need-loop-holds Inv-loop μ-loop
-loop-holds c = begun-none _ _
-
 returns : tie.Need-returns Inv-loop μ-loop
 returns c = begun-short (c .before .before .loop .inv) (omega arith) (c .if1 .taken)
 
-shared-slice-read-if2 : tie.Need-shared-slice-read-if2 Inv-loop μ-loop
-shared-slice-read-if2 c = omega arith
-
-shared-slice-read-if2-2 : tie.Need-shared-slice-read-if2-2 Inv-loop μ-loop
-shared-slice-read-if2-2 c = omega arith
-
 returns-2 : tie.Need-returns-2 Inv-loop μ-loop
-returns-2 c = begun-differs (c .before .before .before .before .before .loop .inv) (omega arith) (omega arith) (c .if2 .taken)
-
-add-i : tie.Need-add-i Inv-loop μ-loop
-add-i c = omega arith
-
-loop-less : tie.Need-loop-less Inv-loop μ-loop
-loop-less c = omega arith
+returns-2 c =
+    let at-loop : tie.At-loop Inv-loop μ-loop = search needs in
+    begun-differs (at-loop .loop .inv) (omega arith) (omega arith) (c .if2 .taken)
 
 loop-again : tie.Need-loop-again Inv-loop μ-loop
-loop-again c = begun-more (c .before .before .before .before .before .loop .inv) (omega arith) (omega arith) (c .if2 .left)
+loop-again c =
+    let at-loop : tie.At-loop Inv-loop μ-loop = search needs in
+    begun-more (at-loop .loop .inv) (omega arith) (omega arith) (c .if2 .left)
 
 returns-3 : tie.Need-returns-3 Inv-loop μ-loop
 returns-3 c = begun-all (c .before .loop .inv) (c .loop-test .left)
 
 pub begins-with-spec : {M : Type 1} → statement M
-begins-with-spec =
-    tie.close
-    (tie.spec Inv-loop μ-loop loop-holds returns shared-slice-read-if2 shared-slice-read-if2-2 returns-2 add-i loop-less loop-again returns-3)
+begins-with-spec = tie.close (tie.spec Inv-loop μ-loop (λ c. begun-none _ _) returns (omega arith) (omega arith)
+    returns-2 (omega arith) (omega arith) loop-again returns-3)

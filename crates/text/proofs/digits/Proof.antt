@@ -18,27 +18,15 @@ abbrev μ-loop : tie.MeasureT-loop
 loop-holds : tie.Need-loop-holds Inv-loop μ-loop
 loop-holds c = passed-none notDigit _ 0
 
-shared-slice-read-not-digit : tie.Need-shared-slice-read-not-digit Inv-loop μ-loop
-shared-slice-read-not-digit c = omega arith
-
-not-digit-requires : tie.Need-not-digit-requires Inv-loop μ-loop
-not-digit-requires c κs = search needs
-
 returns : tie.Need-returns Inv-loop μ-loop
 unfolding run
 returns c =
-    let a = c .before .before .before .before in
+    let a : tie.At-loop Inv-loop μ-loop = search needs in
     found notDigit _ 0 (a .loop .i) (a .loop .inv) (omega arith) (sym (c .before .not-digit .ensures) ∙ c .if1 .taken)
-
-add-i : tie.Need-add-i Inv-loop μ-loop
-add-i c = omega arith
-
-loop-less : tie.Need-loop-less Inv-loop μ-loop
-loop-less c = omega arith
 
 loop-again : tie.Need-loop-again Inv-loop μ-loop
 loop-again c =
-    let a = c .before .before .before .before in
+    let a : tie.At-loop Inv-loop μ-loop = search needs in
     passed-more notDigit _ 0 (a .loop .i) (a .loop .inv) (omega arith) (sym (c .before .not-digit .ensures) ∙ c .if1 .left)
 
 returns-2 : tie.Need-returns-2 Inv-loop μ-loop
@@ -46,4 +34,5 @@ unfolding run
 returns-2 c = missing notDigit _ 0 (c .before .loop .i) (c .before .loop .inv) (c .loop-test .left)
 
 pub digits-spec : {M : Type 1} → statement M
-digits-spec = tie.close (tie.spec Inv-loop μ-loop loop-holds shared-slice-read-not-digit not-digit-requires returns add-i loop-less loop-again returns-2)
+digits-spec = tie.close (tie.spec Inv-loop μ-loop loop-holds (omega arith) (search needs) returns (omega arith)
+    (omega arith) loop-again returns-2)

@@ -10,21 +10,6 @@ use Rattle.text.proofs.Reading.{number-size, number-found, number-other
 use Rattle.text.proofs.number.Statement.{statement}
 use Rattle.text.proofs.number.Tie as tie
 
-sub-t : tie.Need-sub-t
-sub-t c = search needs
-
-part-t-start : tie.Need-part-t-start
-part-t-start c = search needs
-
-part-t-end : tie.Need-part-t-end
-part-t-end c = search needs
-
-digits-requires : tie.Need-digits-requires
-digits-requires c κs = search needs
-
-well-formed-requires : tie.Need-well-formed-requires
-well-formed-requires c κs = search needs
-
 -- the digits and the LF behind them lie within the input
 size : (c : tie.Then1)
     → let a = c .before .before .before .before .before in
@@ -48,17 +33,16 @@ add-t14 c = omega (arith, size (c .before .before) .2)
 
 returns : tie.Need-returns
 returns c =
-    let w = c .before .before .before in
-    let a = w .before .before .before .before in
+    let w : tie.After-well-formed = search needs in
+    let a : tie.Start = search needs in
     number-found (a .args .s .now) (a .args .at) (a .pre) (w .before .digits .ensures)
     (sym (c .before .before .if1 .taken) ∙ w .well-formed .ensures) (c .value .ensures)
 
 returns-2 : tie.Need-returns-2
 returns-2 c =
-    let a = c .before .before .before .before .before in
+    let a : tie.Start = search needs in
     number-other (a .args .s .now) (a .args .at) (a .pre) (sym (c .if1 .left) ∙ c .before .well-formed .ensures)
 
 pub number-spec : {M : Type 1} → statement M
-number-spec =
-    tie.close
-    (tie.spec sub-t part-t-start part-t-end digits-requires well-formed-requires slice-aggregate-value value-requires add-t13 add-t14 returns returns-2)
+number-spec = tie.close (tie.spec (search needs) (search needs) (search needs) (search needs) (search needs)
+    slice-aggregate-value value-requires add-t13 add-t14 returns returns-2)

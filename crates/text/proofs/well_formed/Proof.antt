@@ -14,14 +14,8 @@ returns-2 c = many _ (omega arith) (omega arith)
 returns-3 : tie.Need-returns-3
 returns-3 c = ended _ (omega arith) (omega arith) (omega arith)
 
-shared-slice-read-result : tie.Need-shared-slice-read-result
-shared-slice-read-result c = search needs
-
-shared-slice-read-result-2 : tie.Need-shared-slice-read-result-2
-shared-slice-read-result-2 c = search needs
-
 returns-4 : tie.Need-returns-4
-returns-4 c = let a = c .before .before .before .before .before in rw (a .pre) (formed (a .args .s .now) (omega arith) (omega arith))
+returns-4 c = let a : tie.Start = search needs in rw (a .pre) (formed (a .args .s .now) (omega arith) (omega arith))
 
 pub well-formed-spec : {M : Type 1} → statement M
-well-formed-spec = tie.close (tie.spec returns returns-2 returns-3 shared-slice-read-result shared-slice-read-result-2 returns-4)
+well-formed-spec = tie.close (tie.spec returns returns-2 returns-3 (search needs) (search needs) returns-4)
