@@ -25,7 +25,7 @@ use Rattle.front.specs.declared.Verdict.{Verdict}
 use Rattle.front.specs.declared.Verdict.the-variants.{Pass, Fail}
 use Rattle.front.proofs.Laws.{differ, both, failed, length-passed, room-passed}
 use Rattle.front.proofs.Seen.{shown-passed, shown-failed}
-use Rattle.halves.specs.Halves.{q, sizeUpTo, sizeIn, Factors, factorsOf, productTests, plain, ProductSeen, withScratch, productSeen, productResult, ProductSeenAll}
+use Rattle.halves.specs.Halves.{q, sizeUpTo, sizeIn, Factors, factorsOf, productTests, plain, ProductSeen, withScratch, productResult, ProductSeenAll}
 use Rattle.halves.specs.Steps.{full, cut, from, times, Stored, Product, Fit}
 use Rattle.halves.proofs.Full.{cut-ext, full-ext}
 use Rattle.halves.proofs.Folded.{product-folded}

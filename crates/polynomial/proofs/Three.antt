@@ -3,7 +3,7 @@
 --   three-low, three-high   the middle window times both halves of the secrets added, and a difference of two windows times one half
 --   few-low, few-high, few-middle, few-ext   the sizes keep their bound: half as many products of secrets twice as large
 use mathlib.Core.Path.{_≡_, _∙_, sym, ap, ap₂}
-use Prim.Native.Nat.{ℕ, _+_, _*_, _<_}
+use Prim.Native.Nat.{ℕ, _+_, _<_}
 use native.Mathlib.Omega.{arith}
 use lib.IntN.{ℤ, _+ℤ_, _-ℤ_, _*ℤ_, +ℤ-comm}
 use Rattle.numbers.specs.Residue.{_≅⟨_⟩_}

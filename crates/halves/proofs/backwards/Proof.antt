@@ -15,17 +15,11 @@ Inv-loop w₀ j₀ w j = (j ≤ 32) × Stored w₀ 64 j (λ i. getD w₀ (63 - i
 abbrev μ-loop : tie.MeasureT-loop
 μ-loop w₀ j₀ w j = 32 - j
 
-loop-holds : tie.Need-loop-holds Inv-loop μ-loop
-loop-holds c = (omega arith, store-none _ _ _)
-
 loop-again : tie.Need-loop-again Inv-loop μ-loop
 loop-again c =
     let l : tie.At-loop Inv-loop μ-loop = search needs in
     let o = l .loop .inv .1 in
     (omega arith, store-next o (omega arith) (o .below (63 - l .loop .j) (omega arith)))
-
-same-length : tie.Need-same-length Inv-loop μ-loop
-same-length c = c .before .loop .inv .1 .long
 
 returns : tie.Need-returns Inv-loop μ-loop
 returns c =
@@ -33,6 +27,6 @@ returns c =
     rw e at (c .before .loop .inv .1)
 
 pub backwards-spec : {M : Type 1} → statement M
-backwards-spec =
-    tie.close
-    (tie.spec Inv-loop μ-loop loop-holds (λ c. omega arith) (λ c. omega arith) (λ c. omega arith) (λ c. omega arith) (λ c. omega arith) (λ c. omega arith) (λ c. omega arith) (λ c. omega arith) loop-again same-length returns)
+backwards-spec = tie.close (tie.spec Inv-loop μ-loop (λ c. (omega arith, store-none _ _ _)) (omega arith) (omega arith)
+    (omega arith) (omega arith) (omega arith) (omega arith) (omega arith) (omega arith) loop-again
+    (λ c. c .before .loop .inv .1 .long) returns)

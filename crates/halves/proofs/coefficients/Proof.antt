@@ -15,9 +15,6 @@ Inv-loop w₀ k₀ w k = (k ≤ 64) × Stored w₀ 96 k (column w₀) w
 abbrev μ-loop : tie.MeasureT-loop
 μ-loop w₀ k₀ w k = 64 - k
 
-loop-holds : tie.Need-loop-holds Inv-loop μ-loop
-loop-holds c = (omega arith, store-none _ _ _)
-
 loop-again : tie.Need-loop-again Inv-loop μ-loop
 loop-again c =
     let s : tie.Start Inv-loop μ-loop = search needs in
@@ -25,15 +22,12 @@ loop-again c =
     let o = l .loop .inv .1 in
     (omega arith, store-next o (omega arith) (c .coefficient .ensures ∙ column-ext _ _ (λ i p. o .below i p) (l .loop .k)))
 
-same-length : tie.Need-same-length Inv-loop μ-loop
-same-length c = c .before .loop .inv .1 .long
-
 returns : tie.Need-returns Inv-loop μ-loop
 returns c =
     let e : c .before .loop .k ≡ 64 = omega arith in
     rw e at (c .before .loop .inv .1)
 
 pub coefficients-spec : {M : Type 1} → statement M
-coefficients-spec =
-    tie.close
-    (tie.spec Inv-loop μ-loop loop-holds (search needs) (λ c. omega arith) (λ c. omega arith) (λ c. omega arith) (λ c. omega arith) (λ c. omega arith) loop-again same-length returns)
+coefficients-spec = tie.close (tie.spec Inv-loop μ-loop (λ c. (omega arith, store-none _ _ _)) (search needs)
+    (omega arith) (omega arith) (omega arith) (omega arith) (omega arith) loop-again
+    (λ c. c .before .loop .inv .1 .long) returns)

@@ -16,9 +16,6 @@ Inv-loop x y lows₀ highs₀ j₀ lows highs j = (j ≤ length x) × Sums x y j
 abbrev μ-loop : tie.MeasureT-loop
 μ-loop x y lows₀ highs₀ j₀ lows highs j = length x - j
 
-loop-holds : tie.Need-loop-holds Inv-loop μ-loop
-loop-holds c = (omega arith, sums-none _ _)
-
 loop-again : tie.Need-loop-again Inv-loop μ-loop
 loop-again c =
     let l : tie.At-loop Inv-loop μ-loop = search needs in
@@ -41,6 +38,6 @@ returns c =
     ∙ ap (λ (n : ℕ). sumℕ n (λ i. getD (s .args .x .now) i 0 * getD (s .args .y .now) i 0) % q) e
 
 pub dot-spec : {M : Type 1} → statement M
-dot-spec =
-    tie.close
-    (tie.spec Inv-loop μ-loop loop-holds (λ c. omega arith) (λ c. omega arith) (λ c. omega arith) (λ c. omega arith) (search needs) (search needs) (λ c. omega arith) (search needs) add-highs (λ c. omega arith) (λ c. omega arith) loop-again (λ c. omega arith) (λ c. omega arith) (search needs) (λ c. omega arith) returns)
+dot-spec = tie.close (tie.spec Inv-loop μ-loop (λ c. (omega arith, sums-none _ _)) (omega arith) (omega arith)
+    (omega arith) (omega arith) (search needs) (search needs) (omega arith) (search needs) add-highs (omega arith)
+    (omega arith) loop-again (omega arith) (omega arith) (search needs) (omega arith) returns)

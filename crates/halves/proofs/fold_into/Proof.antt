@@ -14,24 +14,15 @@ Inv-loop w out₀ n i₀ out i = Filled (λ k. (getD w k 0 + (q - getD w (n + k)
 abbrev μ-loop : tie.MeasureT-loop
 μ-loop w out₀ n i₀ out i = length out - i
 
-loop-holds : tie.Need-loop-holds Inv-loop μ-loop
-loop-holds c = fill-start _ _
-
-loop-less : tie.Need-loop-less Inv-loop μ-loop
-loop-less c = simp length-set (omega arith)
-
 loop-again : tie.Need-loop-again Inv-loop μ-loop
 loop-again c =
     let l : tie.At-loop Inv-loop μ-loop = search needs in
     fill-next _ (l .loop .inv) (omega arith) (c .minus .ensures)
 
-same-length : tie.Need-same-length Inv-loop μ-loop
-same-length c = c .before .loop .inv .long
-
 returns : tie.Need-returns Inv-loop μ-loop
 returns c = fill-end (c .before .loop .inv) (omega arith)
 
 pub fold-into-spec : {M : Type 1} → statement M
-fold-into-spec =
-    tie.close
-    (tie.spec Inv-loop μ-loop loop-holds (λ c. omega arith) (λ c. omega arith) (λ c. omega arith) (λ c. omega arith) (λ c. omega arith) (search needs) (λ c. omega arith) (λ c. omega arith) (λ c. omega arith) loop-less loop-again same-length returns)
+fold-into-spec = tie.close (tie.spec Inv-loop μ-loop (λ c. fill-start _ _) (omega arith) (omega arith) (omega arith)
+    (omega arith) (omega arith) (search needs) (omega arith) (omega arith) (omega arith)
+    (λ c. simp length-set (omega arith)) loop-again (λ c. c .before .loop .inv .long) returns)

@@ -17,9 +17,6 @@ Inv-loop t₀ to x n k₀ t k = (k ≤ n) × Stored (pos 0) t₀ to k (λ j. int
 abbrev μ-loop : tie.MeasureT-loop
 μ-loop t₀ to x n k₀ t k = n - k
 
-loop-holds : tie.Need-loop-holds Inv-loop μ-loop
-loop-holds c = (omega arith, store-none _ _ _)
-
 few : (c : tie.After-t2 Inv-loop μ-loop)
     → let l = c .before .before .before in
     let a = l .before .args in
@@ -31,21 +28,20 @@ few c =
 
 add-t : tie.Need-add-t Inv-loop μ-loop
 add-t c =
-    let l = c .before .before .before in
+    let l : tie.At-loop Inv-loop μ-loop = search needs in
     raise-fits w16 (l .loop .inv .1) (omega arith) (record { sfits = c .before .t .given }) (record { sfits = c .t2 .given }) (few c)
 
 loop-again : tie.Need-loop-again Inv-loop μ-loop
 loop-again c =
-    let l = c .before .before .before in (
+    let l : tie.At-loop Inv-loop μ-loop = search needs in (
       omega arith,
       raise-next w16 (l .loop .inv .1) (omega arith) (record { sfits = c .before .t .given }) (record { sfits = c .t2 .given }) (few c) (omega arith),
     )
-
-same-length : tie.Need-same-length Inv-loop μ-loop
-same-length c = c .before .loop .inv .1 .long
 
 returns : tie.Need-returns Inv-loop μ-loop
 returns c = let s : tie.Start Inv-loop μ-loop = search needs in stored-all (c .before .loop .inv .1) (omega arith)
 
 pub add-spec : {M : Type 1} → statement M
-add-spec = tie.close (tie.spec Inv-loop μ-loop loop-holds (λ c. omega arith) (λ c. omega arith) (λ c. omega arith) (λ c. omega arith) (λ c. omega arith) (λ c. omega arith) add-t (λ c. omega arith) (λ c. omega arith) (λ c. omega arith) (λ c. omega arith) loop-again same-length returns)
+add-spec = tie.close (tie.spec Inv-loop μ-loop (λ c. (omega arith, store-none _ _ _)) (omega arith) (omega arith)
+    (omega arith) (omega arith) (omega arith) (omega arith) add-t (omega arith) (omega arith) (omega arith)
+    (omega arith) loop-again (λ c. c .before .loop .inv .1 .long) returns)

@@ -18,9 +18,6 @@ Inv-loop t₀ to n i₀ t i = (i ≤ n) × Stored (pos 0) t₀ to i (ints t₀) 
 abbrev μ-loop : tie.MeasureT-loop
 μ-loop t₀ to n i₀ t i = n - i
 
-loop-holds : tie.Need-loop-holds Inv-loop μ-loop
-loop-holds c = (omega arith, store-none _ _ _)
-
 loop-again : tie.Need-loop-again Inv-loop μ-loop
 unfolding ints
 loop-again c = let s : tie.Start Inv-loop μ-loop = search needs in
@@ -28,11 +25,10 @@ loop-again c = let s : tie.Start Inv-loop μ-loop = search needs in
     let o = l .loop .inv .1 in
     (omega arith, store-next o (omega arith) (toZ-ofZ {z = getD (l .loop .t) (l .loop .i) (pos 0)} (record { sfits = c .t .given }) ∙ o .below (l .loop .i) (omega arith)))
 
-same-length : tie.Need-same-length Inv-loop μ-loop
-same-length c = c .before .loop .inv .1 .long
-
 returns : tie.Need-returns Inv-loop μ-loop
 returns c = let s : tie.Start Inv-loop μ-loop = search needs in stored-all (c .before .loop .inv .1) (omega arith)
 
 pub copy-spec : {M : Type 1} → statement M
-copy-spec = tie.close (tie.spec Inv-loop μ-loop loop-holds (λ c. omega arith) (λ c. omega arith) (λ c. omega arith) (λ c. omega arith) (λ c. omega arith) (λ c. omega arith) (λ c. omega arith) loop-again same-length returns)
+copy-spec = tie.close (tie.spec Inv-loop μ-loop (λ c. (omega arith, store-none _ _ _)) (omega arith) (omega arith)
+    (omega arith) (omega arith) (omega arith) (omega arith) (omega arith) loop-again
+    (λ c. c .before .loop .inv .1 .long) returns)

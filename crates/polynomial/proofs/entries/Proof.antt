@@ -25,9 +25,6 @@ Inv-loop o e out₀ k₀ out k = Filled (by o e) out₀ out k
 abbrev μ-loop : tie.MeasureT-loop
 μ-loop o e out₀ k₀ out k = length out - k
 
-loop-holds : tie.Need-loop-holds Inv-loop μ-loop
-loop-holds c = fill-start _ _
-
 abbrev at : tie.After-reduce-arg2 Inv-loop μ-loop → tie.At-loop Inv-loop μ-loop
 at c = search needs
 
@@ -49,19 +46,15 @@ reduce-requires c κs = let s : tie.Start Inv-loop μ-loop = search needs in
     let l : tie.At-loop Inv-loop μ-loop = search needs in
     subst (λ (z : ℤ). natAbs z ≤ 2 ^ 60) (sym (sum-is c)) (s .pre .1 (l .loop .k) (omega arith))
 
-loop-less : tie.Need-loop-less Inv-loop μ-loop
-loop-less c = simp length-set (omega arith)
-
 loop-again : tie.Need-loop-again Inv-loop μ-loop
 loop-again c = let s : tie.Start Inv-loop μ-loop = search needs in
     let l : tie.At-loop Inv-loop μ-loop = search needs in
     fill-next _ (l .loop .inv) (omega arith) (c .reduce .ensures ∙ ap₂ (λ (x y : ℤ). residue (bcns .q) (x +ℤ y)) (sum-is (c .before)) (noise-is (c .before)))
 
-same-length : tie.Need-same-length Inv-loop μ-loop
-same-length c = c .before .loop .inv .long
-
 returns : tie.Need-returns Inv-loop μ-loop
 returns c = fill-end (c .before .loop .inv) (omega arith)
 
 pub entries-spec : {M : Type 1} → statement M
-entries-spec = tie.close (tie.spec Inv-loop μ-loop loop-holds (λ c. omega arith) (λ c. omega arith) (λ c. omega arith) (λ c. omega arith) reduce-requires (λ c. omega arith) (λ c. omega arith) (λ c. omega arith) loop-less loop-again same-length returns)
+entries-spec = tie.close (tie.spec Inv-loop μ-loop (λ c. fill-start _ _) (omega arith) (omega arith) (omega arith)
+    (omega arith) reduce-requires (omega arith) (omega arith) (omega arith) (λ c. simp length-set (omega arith))
+    loop-again (λ c. c .before .loop .inv .long) returns)

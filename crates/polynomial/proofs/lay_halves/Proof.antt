@@ -16,9 +16,6 @@ Inv-loop q d t₀ n i₀ t i = (i ≤ n + n) × Halving q n d t₀ t i
 abbrev μ-loop : tie.MeasureT-loop
 μ-loop q d t₀ n i₀ t i = 2 * n - i
 
-loop-holds : tie.Need-loop-holds Inv-loop μ-loop
-loop-holds c = (omega arith, halving-none)
-
 lifted-requires : tie.Need-lifted-requires Inv-loop μ-loop
 lifted-requires c κs = let s : tie.Start Inv-loop μ-loop = search needs in
     let l : tie.At-loop Inv-loop μ-loop = search needs in
@@ -34,11 +31,11 @@ loop-again c = let s : tie.Start Inv-loop μ-loop = search needs in
           (toZ-ofZ (record { sfits = c .low-half .ok }) ∙ c .low-half .ensures ∙ ap lower y),
     )
 
-same-length : tie.Need-same-length Inv-loop μ-loop
-same-length c = c .before .loop .inv .1 .long
-
 returns : tie.Need-returns Inv-loop μ-loop
 returns c = halving-all (c .before .loop .inv .1) (omega arith)
 
 pub lay-halves-spec : {M : Type 1} → statement M
-lay-halves-spec = tie.close (tie.spec Inv-loop μ-loop loop-holds (λ c. omega arith) (λ c. omega arith) (λ c. omega arith) lifted-requires (λ c. omega arith) (λ c. omega arith) (λ c. omega arith) (λ c κs. search needs) (λ c. omega arith) (λ c. omega arith) (λ c κs. search needs) (λ c. omega arith) (λ c. simp length-set (omega arith)) (λ c. omega arith) (λ c. omega arith) loop-again same-length returns)
+lay-halves-spec = tie.close (tie.spec Inv-loop μ-loop (λ c. (omega arith, halving-none)) (omega arith) (omega arith)
+    (omega arith) lifted-requires (omega arith) (omega arith) (omega arith) (search needs) (omega arith) (omega arith)
+    (search needs) (omega arith) (λ c. simp length-set (omega arith)) (omega arith) (omega arith) loop-again
+    (λ c. c .before .loop .inv .1 .long) returns)

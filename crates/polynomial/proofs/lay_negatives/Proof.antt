@@ -17,9 +17,6 @@ Inv-loop q a d₀ i₀ d i = (i ≤ length a - 1) × Stored 0 d₀ 0 i (λ j. re
 abbrev μ-loop : tie.MeasureT-loop
 μ-loop q a d₀ i₀ d i = length a - i
 
-loop-holds : tie.Need-loop-holds Inv-loop μ-loop
-loop-holds c = (omega arith, store-none _ _ _)
-
 negative-requires : tie.Need-negative-requires Inv-loop μ-loop
 negative-requires c κs = let s : tie.Start Inv-loop μ-loop = search needs in
     let l : tie.At-loop Inv-loop μ-loop = search needs in
@@ -32,11 +29,10 @@ loop-again c = let s : tie.Start Inv-loop μ-loop = search needs in
     let o = l .loop .inv .1 in
     (omega arith, store-front o (omega arith) (c .negative .ensures))
 
-same-length : tie.Need-same-length Inv-loop μ-loop
-same-length c = c .before .loop .inv .1 .long
-
 returns : tie.Need-returns Inv-loop μ-loop
 returns c = let s : tie.Start Inv-loop μ-loop = search needs in stored-all (c .before .loop .inv .1) (omega arith)
 
 pub lay-negatives-spec : {M : Type 1} → statement M
-lay-negatives-spec = tie.close (tie.spec Inv-loop μ-loop loop-holds (λ c. omega arith) (λ c. omega arith) (λ c. omega arith) (λ c. omega arith) negative-requires (λ c. omega arith) (λ c. omega arith) (λ c. omega arith) (λ c. omega arith) loop-again same-length returns)
+lay-negatives-spec = tie.close (tie.spec Inv-loop μ-loop (λ c. (omega arith, store-none _ _ _)) (omega arith)
+    (omega arith) (omega arith) (omega arith) negative-requires (omega arith) (omega arith) (omega arith) (omega arith)
+    loop-again (λ c. c .before .loop .inv .1 .long) returns)

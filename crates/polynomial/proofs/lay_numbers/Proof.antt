@@ -15,20 +15,16 @@ Inv-loop a d₀ to i₀ d i = (i ≤ length a) × Stored 0 d₀ to i (λ j. getD
 abbrev μ-loop : tie.MeasureT-loop
 μ-loop a d₀ to i₀ d i = length a - i
 
-loop-holds : tie.Need-loop-holds Inv-loop μ-loop
-loop-holds c = (omega arith, store-none _ _ _)
-
 loop-again : tie.Need-loop-again Inv-loop μ-loop
 loop-again c = let s : tie.Start Inv-loop μ-loop = search needs in
     let l : tie.At-loop Inv-loop μ-loop = search needs in
     let o = l .loop .inv .1 in
     (omega arith, store-next o (omega arith) refl)
 
-same-length : tie.Need-same-length Inv-loop μ-loop
-same-length c = c .before .loop .inv .1 .long
-
 returns : tie.Need-returns Inv-loop μ-loop
 returns c = let s : tie.Start Inv-loop μ-loop = search needs in stored-all (c .before .loop .inv .1) (omega arith)
 
 pub lay-numbers-spec : {M : Type 1} → statement M
-lay-numbers-spec = tie.close (tie.spec Inv-loop μ-loop loop-holds (λ c. omega arith) (λ c. omega arith) (λ c. omega arith) (λ c. omega arith) (λ c. omega arith) (λ c. omega arith) (λ c. omega arith) loop-again same-length returns)
+lay-numbers-spec = tie.close (tie.spec Inv-loop μ-loop (λ c. (omega arith, store-none _ _ _)) (omega arith)
+    (omega arith) (omega arith) (omega arith) (omega arith) (omega arith) (omega arith) loop-again
+    (λ c. c .before .loop .inv .1 .long) returns)

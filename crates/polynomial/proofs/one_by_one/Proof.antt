@@ -1,4 +1,5 @@
 -- `polynomial::one_by_one` meets its contract. The invariant: the sum is that of the first i products.
+use borrow.Author.Needs.{needs}
 use mathlib.Core.Path.{_≡_, _∙_, ap}
 use Prim.Native.Nat.{ℕ, _-_, _≤_}
 use native.Mathlib.Omega.{arith}
@@ -23,12 +24,12 @@ product-requires : tie.Need-product-requires Inv-loop μ-loop
 product-requires c κs = (c .before .before .pre, omega arith)
 
 add-sum : tie.Need-add-sum Inv-loop μ-loop
-add-sum c = let l = c .before .before in
+add-sum c = let l : tie.At-loop Inv-loop μ-loop = search needs in
     let b = l .before in
     first-fits 1 (b .args .w .now) (b .args .s .now) (l .loop .i) _ _ (b .pre) (omega arith) (l .loop .inv .1) (c .product .ensures)
 
 loop-again : tie.Need-loop-again Inv-loop μ-loop
-loop-again c = let l = c .before .before in
+loop-again c = let l : tie.At-loop Inv-loop μ-loop = search needs in
     let b = l .before in
     (omega arith, first-more 1 (b .args .w .now) (b .args .s .now) (l .loop .i) _ _ (b .pre) (omega arith) (l .loop .inv .1) (c .product .ensures))
 
@@ -39,4 +40,5 @@ returns c = let l = c .before in
     first-read (b .args .w .now) (b .args .s .now) (l .loop .i) _ (b .pre) (omega arith) (l .loop .inv .1) ∙ ap (λ (k : ℕ). span k (b .args .w .now) (b .args .s .now) 0) e
 
 pub one-by-one-spec : {M : Type 1} → statement M
-one-by-one-spec = tie.close (tie.spec Inv-loop μ-loop loop-holds product-requires add-sum (λ c. omega arith) (λ c. omega arith) loop-again returns)
+one-by-one-spec = tie.close (tie.spec Inv-loop μ-loop loop-holds product-requires add-sum (omega arith) (omega arith)
+    loop-again returns)

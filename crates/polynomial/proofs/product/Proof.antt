@@ -22,14 +22,14 @@ cast-result-2 c = widen-fits (small (c .before .before)) (record { sfits = c .re
 
 mul-result-3 : tie.Need-mul-result-3
 mul-result-3 c =
-    let s = c .before .before in
+    let s : tie.Start = search needs in
     let p = s .pre .0 in
     one-fits (half s) (small s) (record { sfits = c .before .result .given }) (record { sfits = c .result2 .given })
     (p .w-within .within (s .args .i)) (secret-small _ _ (s .args .i) p (s .pre .1))
 
 returns : tie.Need-returns
 returns c =
-    let s = c .before .before in
+    let s : tie.Start = search needs in
     let p = s .pre .0 in
     one (half s) (small s) (record { sfits = c .before .result .given }) (record { sfits = c .result2 .given })
     (p .w-within .within (s .args .i)) (secret-small _ _ (s .args .i) p (s .pre .1))

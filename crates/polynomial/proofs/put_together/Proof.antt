@@ -20,9 +20,6 @@ Inv-loop o₀ n k₀ o k = (k ≤ n) × Stored (pos 0) o₀ 0 k (λ j. ints o₀
 abbrev μ-loop : tie.MeasureT-loop
 μ-loop o₀ n k₀ o k = n - k
 
-loop-holds : tie.Need-loop-holds Inv-loop μ-loop
-loop-holds c = (omega arith, store-none _ _ _)
-
 -- the two sums are as they were
 old : (c : tie.After-together-arg2 Inv-loop μ-loop)
     → let l = c .before .before .before in
@@ -38,7 +35,7 @@ old c =
     )
 
 together-requires : tie.Need-together-requires Inv-loop μ-loop
-together-requires c κs = let l = c .before .before .before in
+together-requires c κs = let l : tie.At-loop Inv-loop μ-loop = search needs in
     let s = l .before in (
       subst (λ (z : ℤ). natAbs z ≤ 2 ^ 31) (sym (old c .0)) (s .pre .1 (l .loop .k) (omega arith)),
       subst (λ (z : ℤ). natAbs z ≤ 2 ^ 31) (sym (old c .1)) (s .pre .1 (s .args .n + l .loop .k) (omega arith)),
@@ -54,11 +51,10 @@ loop-again c = let s : tie.Start Inv-loop μ-loop = search needs in
           ∙ ap₂ (λ (x y : ℤ). x *ℤ pos 65536 +ℤ y) (old (c .before) .0) (old (c .before) .1)),
     )
 
-same-length : tie.Need-same-length Inv-loop μ-loop
-same-length c = c .before .loop .inv .1 .long
-
 returns : tie.Need-returns Inv-loop μ-loop
 returns c = let s : tie.Start Inv-loop μ-loop = search needs in stored-all (c .before .loop .inv .1) (omega arith)
 
 pub put-together-spec : {M : Type 1} → statement M
-put-together-spec = tie.close (tie.spec Inv-loop μ-loop loop-holds (λ c. omega arith) (λ c. omega arith) (λ c. omega arith) (λ c. omega arith) (λ c. omega arith) together-requires (λ c. omega arith) (λ c. omega arith) (λ c. omega arith) (λ c. omega arith) loop-again same-length returns)
+put-together-spec = tie.close (tie.spec Inv-loop μ-loop (λ c. (omega arith, store-none _ _ _)) (omega arith)
+    (omega arith) (omega arith) (omega arith) (omega arith) together-requires (omega arith) (omega arith) (omega arith)
+    (omega arith) loop-again (λ c. c .before .loop .inv .1 .long) returns)

@@ -17,9 +17,6 @@ Inv-loop o₀ to x n k₀ o k = (k ≤ n) × Stored (pos 0) o₀ to k (λ j. int
 abbrev μ-loop : tie.MeasureT-loop
 μ-loop o₀ to x n k₀ o k = n - k
 
-loop-holds : tie.Need-loop-holds Inv-loop μ-loop
-loop-holds c = (omega arith, store-none _ _ _)
-
 few : (c : tie.After-o2 Inv-loop μ-loop)
     → let l = c .before .before .before in
     let a = l .before .args in
@@ -31,21 +28,20 @@ few c =
 
 add-o : tie.Need-add-o Inv-loop μ-loop
 add-o c =
-    let l = c .before .before .before in
+    let l : tie.At-loop Inv-loop μ-loop = search needs in
     raise-fits w64 (l .loop .inv .1) (omega arith) (record { sfits = c .before .o .given }) (record { sfits = c .o2 .given }) (few c)
 
 loop-again : tie.Need-loop-again Inv-loop μ-loop
 loop-again c =
-    let l = c .before .before .before in (
+    let l : tie.At-loop Inv-loop μ-loop = search needs in (
       omega arith,
       raise-next w64 (l .loop .inv .1) (omega arith) (record { sfits = c .before .o .given }) (record { sfits = c .o2 .given }) (few c) (omega arith),
     )
-
-same-length : tie.Need-same-length Inv-loop μ-loop
-same-length c = c .before .loop .inv .1 .long
 
 returns : tie.Need-returns Inv-loop μ-loop
 returns c = let s : tie.Start Inv-loop μ-loop = search needs in stored-all (c .before .loop .inv .1) (omega arith)
 
 pub raise-spec : {M : Type 1} → statement M
-raise-spec = tie.close (tie.spec Inv-loop μ-loop loop-holds (λ c. omega arith) (λ c. omega arith) (λ c. omega arith) (λ c. omega arith) (λ c. omega arith) (λ c. omega arith) add-o (λ c. omega arith) (λ c. omega arith) (λ c. omega arith) (λ c. omega arith) loop-again same-length returns)
+raise-spec = tie.close (tie.spec Inv-loop μ-loop (λ c. (omega arith, store-none _ _ _)) (omega arith) (omega arith)
+    (omega arith) (omega arith) (omega arith) (omega arith) add-o (omega arith) (omega arith) (omega arith)
+    (omega arith) loop-again (λ c. c .before .loop .inv .1 .long) returns)

@@ -1,6 +1,5 @@
 -- `polynomial::reduce` meets its contract.
 use mathlib.Core.Path.{_∙_, ap}
-use borrow.Author.Needs.{needs}
 use Rattle.schemes.specs.Schemes.{bcns}
 use Rattle.numbers.specs.Residue.{residue}
 use Rattle.numbers.proofs.Machine.{wide-fits}

@@ -23,18 +23,15 @@ Inv-loop s t₀ j₀ t j = (j ≤ length s) × Stored (pos 0) t₀ 0 j (λ i. in
 abbrev μ-loop : tie.MeasureT-loop
 μ-loop s t₀ j₀ t j = length s - j
 
-loop-holds : tie.Need-loop-holds Inv-loop μ-loop
-loop-holds c = (omega arith, store-none _ _ _)
-
 cast-t : tie.Need-cast-t Inv-loop μ-loop
-cast-t c = let s = c .before .before .before in
+cast-t c = let s : tie.Start Inv-loop μ-loop = search needs in
     let j = c .before .before .loop .j in
     secret-fits (at (s .args .s .now) j) (record { sfits = c .t .given }) (s .pre .1 .within (length (s .args .s .now) - 1 - j))
 
 loop-again : tie.Need-loop-again Inv-loop μ-loop
 unfolding ints
-loop-again c = let s = c .before .before .before in
-    let l = c .before .before in
+loop-again c = let s : tie.Start Inv-loop μ-loop = search needs in
+    let l : tie.At-loop Inv-loop μ-loop = search needs in
     let j = l .loop .j in (
       omega arith,
       store-front (l .loop .inv .1) (omega arith)
@@ -42,11 +39,10 @@ loop-again c = let s = c .before .before .before in
           ∙ ap (λ (k : ℕ). getD (s .args .s .now) k (pos 0)) (omega arith)),
     )
 
-same-length : tie.Need-same-length Inv-loop μ-loop
-same-length c = c .before .loop .inv .1 .long
-
 returns : tie.Need-returns Inv-loop μ-loop
 returns c = let s : tie.Start Inv-loop μ-loop = search needs in stored-all (c .before .loop .inv .1) (omega arith)
 
 pub reverse-spec : {M : Type 1} → statement M
-reverse-spec = tie.close (tie.spec Inv-loop μ-loop loop-holds (λ c. omega arith) (λ c. omega arith) (λ c. omega arith) (λ c. omega arith) cast-t (λ c. omega arith) (λ c. omega arith) (λ c. omega arith) (λ c. omega arith) loop-again same-length returns)
+reverse-spec = tie.close (tie.spec Inv-loop μ-loop (λ c. (omega arith, store-none _ _ _)) (omega arith) (omega arith)
+    (omega arith) (omega arith) cast-t (omega arith) (omega arith) (omega arith) (omega arith) loop-again
+    (λ c. c .before .loop .inv .1 .long) returns)

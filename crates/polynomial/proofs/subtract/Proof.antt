@@ -17,9 +17,6 @@ Inv-loop q d₀ x y to n i₀ d i = (i ≤ n) × Stored 0 d₀ to i (λ k. resid
 abbrev μ-loop : tie.MeasureT-loop
 μ-loop q d₀ x y to n i₀ d i = n - i
 
-loop-holds : tie.Need-loop-holds Inv-loop μ-loop
-loop-holds c = (omega arith, store-none _ _ _)
-
 minus-requires : tie.Need-minus-requires Inv-loop μ-loop
 minus-requires c κs = let s : tie.Start Inv-loop μ-loop = search needs in
     let l : tie.At-loop Inv-loop μ-loop = search needs in
@@ -39,11 +36,10 @@ loop-again c = let s : tie.Start Inv-loop μ-loop = search needs in
           ∙ ap₂ (λ (u v : ℕ). residue (s .args .q) (pos u -ℤ pos v)) (o .below (s .args .x + l .loop .i) (omega arith)) (o .below (s .args .y + l .loop .i) (omega arith))),
     )
 
-same-length : tie.Need-same-length Inv-loop μ-loop
-same-length c = c .before .loop .inv .1 .long
-
 returns : tie.Need-returns Inv-loop μ-loop
 returns c = let s : tie.Start Inv-loop μ-loop = search needs in stored-all (c .before .loop .inv .1) (omega arith)
 
 pub subtract-spec : {M : Type 1} → statement M
-subtract-spec = tie.close (tie.spec Inv-loop μ-loop loop-holds (λ c. omega arith) (λ c. omega arith) (λ c. omega arith) (λ c. omega arith) (λ c. omega arith) (λ c. omega arith) (λ c. omega arith) minus-requires (λ c. omega arith) (λ c. omega arith) (λ c. omega arith) (λ c. omega arith) loop-again same-length returns)
+subtract-spec = tie.close (tie.spec Inv-loop μ-loop (λ c. (omega arith, store-none _ _ _)) (omega arith) (omega arith)
+    (omega arith) (omega arith) (omega arith) (omega arith) (omega arith) minus-requires (omega arith) (omega arith)
+    (omega arith) (omega arith) loop-again (λ c. c .before .loop .inv .1 .long) returns)
