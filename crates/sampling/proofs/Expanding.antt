@@ -16,6 +16,7 @@ use lib.Dec.{leb}
 use lib.ListN.{length, take, drop, replicate, length-take, drop-of-length-le}
 use borrow.Author.Tests.{leb-true, le-leb, lt-leb}
 use Rattle.front.specs.Seen.{refused, Seen, told, seen}
+use Rattle.lists.proofs.Same.{zeros-long}
 use Rattle.front.specs.declared.Answer.{Answer}
 use Rattle.front.specs.declared.Answer.the-variants.{Refused}
 use Rattle.front.specs.declared.Refusal.{Refusal}
@@ -73,10 +74,11 @@ whole-part xs old part n e l =
 
 -- ---- the promise
 
-module _ {k : Ruled} (x : Expand) where
-  pub expand-unknown : (n : ℕ) {out : List ℕ} → k ≡ Unknown → out ≡ replicate n 0 → seen (refused NoRule 0) out ≡ expandResult k x n
+module _ {k l : Ruled} (e : l ≡ k) (x : Expand) (n : ℕ) where
+  pub expand-unknown : {out : List ℕ} → l ≡ Unknown → out ≡ replicate n 0 → seen (refused NoRule 0) out ≡ expandResult k x n
   unfolding expandTests
-  expand-unknown n e o = rw e (shown-failed _ _ _ refl o)
+  expand-unknown u o = rw (← e, u) (shown-failed _ _ _ refl o)
 
-  pub expand-named : {l : Ruled} {m n : ℕ} {s : Seen ℕ} → k ≡ l → m ≡ n → s ≡ expandResult l x m → s ≡ expandResult k x n
-  expand-named e f p = rw (e, ← f) p
+  pub expand-named : {r : RuleName} {out : List ℕ} {s : Seen ℕ} → l ≡ By r → out ≡ replicate n 0 → s ≡ expandResult (By r) x (length out)
+      → s ≡ expandResult k x n
+  expand-named u o p = rw (← e, u, ← zeros-long n 0 o) p

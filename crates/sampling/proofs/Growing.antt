@@ -10,6 +10,7 @@ use Prim.Native.Nat.{ℕ, _+_, _-_, _*_, _%_, _≤_}
 use native.Mathlib.Omega.{arith}
 use lib.ListN.{length, take, drop, replicate, take-append-drop}
 use Rattle.front.specs.Seen.{refused, Seen, shown, told, seen}
+use Rattle.lists.proofs.Same.{zeros-long}
 use Rattle.front.specs.declared.Answer.{Answer}
 use Rattle.front.specs.declared.Answer.the-variants.{Done}
 use Rattle.front.specs.declared.Refusal.{Refusal}
@@ -78,10 +79,11 @@ module _ (k : RuleName) (x : Grow) (room : ℕ) where
 
 -- ---- the promise
 
-module _ {k : Ruled} (x : Grow) where
-  pub grow-unknown : (n : ℕ) {out : List ℕ} → k ≡ Unknown → out ≡ replicate n 0 → seen (refused NoRule 0) out ≡ growResult k x n
+module _ {k l : Ruled} (e : l ≡ k) (x : Grow) (n : ℕ) where
+  pub grow-unknown : {out : List ℕ} → l ≡ Unknown → out ≡ replicate n 0 → seen (refused NoRule 0) out ≡ growResult k x n
   unfolding growTests
-  grow-unknown n e o = rw e (shown-failed _ _ _ refl o)
+  grow-unknown u o = rw (← e, u) (shown-failed _ _ _ refl o)
 
-  pub grow-named : {l : Ruled} {m n : ℕ} {s : Seen ℕ} → k ≡ l → m ≡ n → s ≡ growResult l x m → s ≡ growResult k x n
-  grow-named e f p = rw (e, ← f) p
+  pub grow-named : {r : RuleName} {out : List ℕ} {s : Seen ℕ} → l ≡ By r → out ≡ replicate n 0 → s ≡ growResult (By r) x (length out)
+      → s ≡ growResult k x n
+  grow-named u o p = rw (← e, u, ← zeros-long n 0 o) p

@@ -58,7 +58,7 @@ returns-2 c =
     let z = refused-zeros _ _ _ (t .enum-told .given .1) (p .grow-from .ensures) in
     let n = length (b .args .out .now) in
     let e = ap (growSizes (growOf (b .args .seed .now))) (zeros-long n 0 z) ∙ b .pre .0 .0 in
-    grow-named _ refl (zeros-long n 0 z)
+    grow-named refl _ n refl z
     (grown-all (b .args .name) (growOf (b .args .seed .now)) _ e _ (omega (arith, y .bytes .given .1, b .pre .0 .1)) (y .bytes .given .1 ∙ b .pre .0 .1) (q .grow-from2 .ensures))
 
 pub grow-first-spec : {M : Type 1} → statement M
