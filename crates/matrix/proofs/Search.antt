@@ -5,7 +5,7 @@
 --   clear-part, part-below    after a part that has none, whose numbers are below q
 --   part-place, part-full     the place in the list of the one that a part has; there is none where all are below q
 use mathlib.Core.Path.{_≡_, refl, _∙_, sym, ap, subst}
-use mathlib.Core.Bool.{true, false}
+use mathlib.Core.Bool.{false}
 use mathlib.Core.List.{List}
 use Prim.Native.Nat.{ℕ, _+_, _*_, _-_, _≤_, _<_}
 use native.Mathlib.Decide.{decLt}

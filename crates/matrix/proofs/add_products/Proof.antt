@@ -20,39 +20,22 @@ Inv-loop x n t cols sums₀ j₀ sums j = Filled (from x n t cols sums₀) sums�
 abbrev μ-loop : tie.MeasureT-loop
 μ-loop x n t cols sums₀ j₀ sums j = 8 - j
 
-loop-holds : tie.Need-loop-holds Inv-loop μ-loop
-loop-holds c = fill-start _ _
-
 -- the place in column j
 place : (c : tie.In-loop Inv-loop μ-loop) → let a = c .before .before .before .before .args in c .before .loop .j * a .n + a .t < 8 * a .n
 place c = digits-lt (c .loop-test .taken) (c .before .before .before .before .pre .0)
 
-mul-add-product-2 : tie.Need-mul-add-product-2 Inv-loop μ-loop
-mul-add-product-2 c = omega (arith, place (c .before))
-
-add-add-product : tie.Need-add-add-product Inv-loop μ-loop
-add-add-product c = omega (arith, place (c .before))
-
-mul-add-product-3 : tie.Need-mul-add-product-3 Inv-loop μ-loop
-mul-add-product-3 c = omega (arith, place (c .before))
-
-shared-slice-read-add-product : tie.Need-shared-slice-read-add-product Inv-loop μ-loop
-shared-slice-read-add-product c = omega (arith, place (c .before .before))
-
 loop-again : tie.Need-loop-again Inv-loop μ-loop
 loop-again c =
-    let l = c .before .before .before .before .loop in
-    fill-next _ (l .inv) (omega arith) (rw (fill-old 0 (l .inv)) at (c .add-product .ensures))
-
-same-length : tie.Need-same-length Inv-loop μ-loop
-same-length c = c .before .loop .inv .long
+    let l : tie.At-loop Inv-loop μ-loop = search needs in
+    fill-next _ (l .loop .inv) (omega arith) (rw (fill-old 0 (l .loop .inv)) at (c .add-product .ensures))
 
 returns : tie.Need-returns Inv-loop μ-loop
 returns c =
-    let a = c .before .before .before .before in
+    let a : tie.Start Inv-loop μ-loop = search needs in
     fill-end (c .before .loop .inv) (omega arith) ∙ ap (λ (k : ℕ). tab k (from (a .args .x) (a .args .n) (a .args .t) (a .args .cols .now) (a .args .sums .now))) (a .pre .2)
 
 pub add-products-spec : {M : Type 1} → statement M
-add-products-spec =
-    tie.close
-    (tie.spec Inv-loop μ-loop loop-holds (λ c. omega arith) (λ c. omega arith) mul-add-product-2 add-add-product mul-add-product-3 shared-slice-read-add-product (search needs) (λ c. omega arith) (λ c. omega arith) (λ c. omega arith) (λ c. omega arith) loop-again same-length returns)
+add-products-spec = tie.close (tie.spec Inv-loop μ-loop (λ c. fill-start _ _) (omega arith) (omega arith)
+    (λ c. omega (arith, place (c .before))) (λ c. omega (arith, place (c .before)))
+    (λ c. omega (arith, place (c .before))) (λ c. omega (arith, place (c .before .before))) (search needs) (omega arith)
+    (omega arith) (omega arith) (omega arith) loop-again (λ c. c .before .loop .inv .long) returns)

@@ -1,4 +1,5 @@
 -- `matrix::add_rows` meets its contract: it fills with each sum and its products.
+use borrow.Author.Needs.{needs}
 use mathlib.Core.List.{List}
 use Prim.Native.Nat.{ℕ, _+_, _-_, _%_}
 use native.Mathlib.Omega.{arith}
@@ -18,25 +19,18 @@ Inv-loop w y sums₀ c j₀ sums j = Filled (from w y sums₀) sums₀ sums j
 abbrev μ-loop : tie.MeasureT-loop
 μ-loop w y sums₀ c j₀ sums j = c - j
 
-loop-holds : tie.Need-loop-holds Inv-loop μ-loop
-loop-holds c = fill-start _ _
-
 weigh-requires : tie.Need-weigh-requires Inv-loop μ-loop
-weigh-requires c κs = (c .before .before .before .before .before .before .pre, omega arith)
+weigh-requires c κs = let start : tie.Start Inv-loop μ-loop = search needs in (start .pre, omega arith)
 
 loop-again : tie.Need-loop-again Inv-loop μ-loop
 loop-again c =
-    let l = c .before .before .before .loop in
-    fill-next _ (l .inv) (omega arith) (rw (fill-old 0 (l .inv)) at (c .weigh .ensures))
-
-same-length : tie.Need-same-length Inv-loop μ-loop
-same-length c = c .before .loop .inv .long
+    let l : tie.At-loop Inv-loop μ-loop = search needs in
+    fill-next _ (l .loop .inv) (omega arith) (rw (fill-old 0 (l .loop .inv)) at (c .weigh .ensures))
 
 returns : tie.Need-returns Inv-loop μ-loop
 unfolding gained blockGained
 returns c = fill-end (c .before .loop .inv) (omega arith)
 
 pub add-rows-spec : {M : Type 1} → statement M
-add-rows-spec =
-    tie.close
-    (tie.spec Inv-loop μ-loop loop-holds (λ c. omega arith) (λ c. omega arith) weigh-requires (λ c. omega arith) (λ c. omega arith) (λ c. omega arith) (λ c. omega arith) loop-again same-length returns)
+add-rows-spec = tie.close (tie.spec Inv-loop μ-loop (λ c. fill-start _ _) (omega arith) (omega arith) weigh-requires
+    (omega arith) (omega arith) (omega arith) (omega arith) loop-again (λ c. c .before .loop .inv .long) returns)

@@ -1,7 +1,7 @@
 -- `matrix::add_words` meets its contract: it fills with each sum and its word.
 use mathlib.Core.Path.{_∙_, ap}
 use mathlib.Core.List.{List}
-use Prim.Native.Nat.{ℕ, _+_, _*_, _-_, _%_}
+use Prim.Native.Nat.{ℕ, _+_, _-_, _%_}
 use native.Mathlib.Omega.{arith}
 use native.Mathlib.Nat.{mul-one}
 use borrow.Author.Needs.{needs}
@@ -19,12 +19,6 @@ Inv-loop ws sums₀ k₀ sums k = Filled (from ws sums₀) sums₀ sums k
 abbrev μ-loop : tie.MeasureT-loop
 μ-loop ws sums₀ k₀ sums k = length sums - k
 
-loop-holds : tie.Need-loop-holds Inv-loop μ-loop
-loop-holds c = fill-start _ _
-
-loop-less : tie.Need-loop-less Inv-loop μ-loop
-loop-less c = simp length-set (omega arith)
-
 loop-again : tie.Need-loop-again Inv-loop μ-loop
 loop-again c =
     let b : tie.In-loop Inv-loop μ-loop = search needs in
@@ -34,13 +28,10 @@ loop-again c =
     let e = ap (λ (x : ℕ). (getD (s .args .sums .now) (l .k) 0 + x) % 65536) (mul-one (getD (s .args .ws .now) (l .k) 0)) in
     fill-next _ (l .inv) (omega arith) (rw (fill-old 0 (l .inv)) at (p .add-product .ensures) ∙ e)
 
-same-length : tie.Need-same-length Inv-loop μ-loop
-same-length c = c .before .loop .inv .long
-
 returns : tie.Need-returns Inv-loop μ-loop
 returns c = fill-end (c .before .loop .inv) (omega arith)
 
 pub add-words-spec : {M : Type 1} → statement M
-add-words-spec =
-    tie.close
-    (tie.spec Inv-loop μ-loop loop-holds (λ c. omega arith) (λ c. omega arith) (λ c. omega arith) (λ c. omega arith) (λ c. omega arith) (λ c. omega arith) (λ c. omega arith) (λ c. omega arith) loop-less loop-again same-length returns)
+add-words-spec = tie.close (tie.spec Inv-loop μ-loop (λ c. fill-start _ _) (omega arith) (omega arith) (omega arith)
+    (omega arith) (omega arith) (omega arith) (omega arith) (omega arith) (λ c. simp length-set (omega arith))
+    loop-again (λ c. c .before .loop .inv .long) returns)

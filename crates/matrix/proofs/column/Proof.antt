@@ -21,25 +21,16 @@ Inv-loop s j out₀ t₀ out t = Filled (from s j) out₀ out t
 abbrev μ-loop : tie.MeasureT-loop
 μ-loop s j out₀ t₀ out t = length out - t
 
-loop-holds : tie.Need-loop-holds Inv-loop μ-loop
-loop-holds c = fill-start _ _
-
-loop-less : tie.Need-loop-less Inv-loop μ-loop
-loop-less c = simp length-set (omega arith)
-
 loop-again : tie.Need-loop-again Inv-loop μ-loop
 unfolding ints
 loop-again c =
-    let l = c .before .before .before .loop in
-    fill-next _ (l .inv) (omega arith) (rw (toZ-ofZ (record { sfits = c .before .word-arg .given })) at (c .word .ensures))
-
-same-length : tie.Need-same-length Inv-loop μ-loop
-same-length c = c .before .loop .inv .long
+    let l : tie.At-loop Inv-loop μ-loop = search needs in
+    fill-next _ (l .loop .inv) (omega arith) (rw (toZ-ofZ (record { sfits = c .before .word-arg .given })) at (c .word .ensures))
 
 returns : tie.Need-returns Inv-loop μ-loop
 returns c = fill-end (c .before .loop .inv) (omega arith)
 
 pub column-spec : {M : Type 1} → statement M
-column-spec =
-    tie.close
-    (tie.spec Inv-loop μ-loop loop-holds (λ c. omega arith) (λ c. omega arith) (λ c. omega arith) (λ c. omega arith) (search needs) (λ c. omega arith) (λ c. omega arith) (λ c. omega arith) loop-less loop-again same-length returns)
+column-spec = tie.close (tie.spec Inv-loop μ-loop (λ c. fill-start _ _) (omega arith) (omega arith) (omega arith)
+    (omega arith) (search needs) (omega arith) (omega arith) (omega arith) (λ c. simp length-set (omega arith))
+    loop-again (λ c. c .before .loop .inv .long) returns)

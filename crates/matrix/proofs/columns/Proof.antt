@@ -31,27 +31,18 @@ loop-holds c = (omega arith, rows-start _ _ (c .before .args .n))
 inside : (c : tie.In-loop Inv-loop μ-loop) → let n = c .before .before .before .args .n in c .before .loop .j * n + n ≤ length (c .before .loop .cols)
 inside c = omega (arith, row-in 8 (c .before .before .before .args .n) (c .before .loop .j) (c .loop-test .taken), c .before .loop .inv .1 .long)
 
-mul-a : tie.Need-mul-a Inv-loop μ-loop
-mul-a c = omega (arith, inside c)
-
-add-column : tie.Need-add-column Inv-loop μ-loop
-add-column c = omega (arith, inside c)
-
-mul-column : tie.Need-mul-column Inv-loop μ-loop
-mul-column c = omega (arith, inside c)
-
 part-column-end : tie.Need-part-column-end Inv-loop μ-loop
 part-column-end c = inside c
 
 column-requires : tie.Need-column-requires Inv-loop μ-loop
 column-requires c κs =
-    let l = c .before .before in
+    let l : tie.At-loop Inv-loop μ-loop = search needs in
     let n = l .before .before .args .n in
     (c .before .loop-test .taken, omega (arith, slice-long (l .loop .j * n) n (l .loop .cols) (inside (c .before))))
 
 loop-again : tie.Need-loop-again Inv-loop μ-loop
 loop-again c =
-    let i = c .before .before .before .before in
+    let i : tie.In-loop Inv-loop μ-loop = search needs in
     let l = i .before in
     let n = l .before .before .args .n in
     let s = l .before .before .args .s .now in (
@@ -60,18 +51,15 @@ loop-again c =
           (c .before .before .column .ensures ∙ column-row (λ k. residue 65536 (ints s k)) n _ (l .loop .j) (slice-long (l .loop .j * n) n (l .loop .cols) (inside i))),
     )
 
-same-length : tie.Need-same-length Inv-loop μ-loop
-same-length c = c .before .loop .inv .1 .long
-
 returns : tie.Need-returns Inv-loop μ-loop
 unfolding columnsOf
 returns c =
     let l = c .before in
-    let a = l .before .before in
+    let a : tie.Start Inv-loop μ-loop = search needs in
     let j : l .loop .j ≡ 8 = omega arith in
     fill-end (l .loop .inv .1) (rw j (omega arith)) ∙ ap (λ (k : ℕ). tab k (from (a .args .n) (a .args .s .now))) (a .pre .2)
 
 pub columns-spec : {M : Type 1} → statement M
-columns-spec =
-    tie.close
-    (tie.spec Inv-loop μ-loop loop-holds mul-a add-column mul-column (λ c. omega arith) (search needs) part-column-end column-requires (λ c. omega arith) (λ c. omega arith) loop-again same-length returns)
+columns-spec = tie.close (tie.spec Inv-loop μ-loop loop-holds (λ c. omega (arith, inside c))
+    (λ c. omega (arith, inside c)) (λ c. omega (arith, inside c)) (omega arith) (search needs) part-column-end
+    column-requires (omega arith) (omega arith) loop-again (λ c. c .before .loop .inv .1 .long) returns)

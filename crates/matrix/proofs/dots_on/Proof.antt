@@ -44,6 +44,5 @@ returns c =
     c .before .loop .inv .1 ∙ ap (λ (t : ℕ). gained 65536 t (dotTerm (a .args .n) (a .args .row .now) (a .args .cols .now)) (a .args .sums .now)) (omega arith)
 
 pub dots-on-spec : {M : Type 1} → statement M
-dots-on-spec =
-    tie.close
-    (tie.spec Inv-loop μ-loop loop-holds (λ c. omega arith) (λ c. omega arith) add-products-requires (λ c. omega arith) (λ c. omega arith) loop-again same-length returns)
+dots-on-spec = tie.close (tie.spec Inv-loop μ-loop loop-holds (omega arith) (omega arith) add-products-requires
+    (omega arith) (omega arith) loop-again same-length returns)

@@ -1,6 +1,5 @@
 -- `matrix::narrow_bits` meets its contract: it fills with the numbers where they fit, and none that was passed is over the bits.
 use mathlib.Core.Path.{_≡_, refl, _∙_, ap}
-use mathlib.Core.List.{List}
 use Prim.Native.Nat.{ℕ, _-_, _≤_, _<_}
 use native.Mathlib.Omega.{arith}
 use native.Mathlib.Nat.{not-suc-le-zero}
@@ -24,9 +23,6 @@ abbrev μ-loop : tie.MeasureT-loop
 loop-holds : tie.Need-loop-holds Inv-loop μ-loop
 loop-holds c = (refl, λ i l. absurd (not-suc-le-zero l), λ b. fill-start _ _)
 
-loop-less : tie.Need-loop-less Inv-loop μ-loop
-loop-less c = simp length-set (omega arith)
-
 -- neither of two numbers is over their bits
 under-l : (a b : ℕ) → a ≤ bitOr a b
 under-l a b = omega (arith, or-add-and a b, and-le-r a b)
@@ -44,9 +40,6 @@ loop-again c =
       λ b. fill-next _ (l .loop .inv .2 b) (omega arith) (c .packed .ensures (b .below (l .loop .k))),
     )
 
-same-length : tie.Need-same-length Inv-loop μ-loop
-same-length c = c .before .loop .inv .0
-
 returns : tie.Need-returns Inv-loop μ-loop
 returns c =
     let l = c .before .loop in
@@ -59,6 +52,6 @@ returns c =
     )
 
 pub narrow-bits-spec : {M : Type 1} → statement M
-narrow-bits-spec =
-    tie.close
-    (tie.spec Inv-loop μ-loop loop-holds (λ c. omega arith) (λ c. omega arith) (λ c κs. search needs) (λ c. omega arith) (λ c. omega arith) (λ c. omega arith) loop-less loop-again same-length returns)
+narrow-bits-spec = tie.close (tie.spec Inv-loop μ-loop loop-holds (omega arith) (omega arith) (search needs)
+    (omega arith) (omega arith) (omega arith) (λ c. simp length-set (omega arith)) loop-again
+    (λ c. c .before .loop .inv .0) returns)

@@ -5,7 +5,7 @@ use Rattle.matrix.proofs.number_at.Statement.{statement}
 use Rattle.matrix.proofs.number_at.Tie as tie
 
 returns : tie.Need-returns
-returns c = let a = c .before .before in slice-at (a .args .a) (a .args .c) (a .args .y .now) 0 (a .args .j) (a .pre .1)
+returns c = let a : tie.Start = search needs in slice-at (a .args .a) (a .args .c) (a .args .y .now) 0 (a .args .j) (a .pre .1)
 
 pub number-at-spec : {M : Type 1} → statement M
 number-at-spec =

@@ -47,4 +47,4 @@ unfolding residue
 returns c = λ h. c .word .ensures ∙ ap (residue 65536) (second (c .before) h) ∙ mod-eq-of-lt (omega arith)
 
 pub packed-spec : {M : Type 1} → statement M
-packed-spec = tie.close (tie.spec (λ c κs. search needs) (λ c κs. search needs) returns)
+packed-spec = tie.close (tie.spec (search needs) (search needs) returns)

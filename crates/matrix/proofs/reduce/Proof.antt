@@ -21,23 +21,16 @@ Inv-loop q sums out₀ c w k₀ out k = Filled (from q sums) out₀ out k
 abbrev μ-loop : tie.MeasureT-loop
 μ-loop q sums out₀ c w k₀ out k = length out - k
 
-loop-holds : tie.Need-loop-holds Inv-loop μ-loop
-loop-holds c = fill-start _ _
-
 remainder-requires : tie.Need-remainder-requires Inv-loop μ-loop
 remainder-requires c κs = let s : tie.Start Inv-loop μ-loop = search needs in (s .pre .0, s .pre .2, refl)
 
 cast-c : tie.Need-cast-c Inv-loop μ-loop
 cast-c c = let s : tie.Start Inv-loop μ-loop = search needs in record { fits = mod-lt (65536 / s .args .q) (omega arith) }
 
-loop-less : tie.Need-loop-less Inv-loop μ-loop
-loop-less c = simp length-set (omega arith)
-
 loop-again : tie.Need-loop-again Inv-loop μ-loop
-loop-again c = fill-next _ (c .before .before .before .loop .inv) (omega arith) (c .remainder .ensures)
-
-same-length : tie.Need-same-length Inv-loop μ-loop
-same-length c = c .before .loop .inv .long
+loop-again c =
+    let at-loop : tie.At-loop Inv-loop μ-loop = search needs in
+    fill-next _ (at-loop .loop .inv) (omega arith) (c .remainder .ensures)
 
 returns : tie.Need-returns Inv-loop μ-loop
 unfolding reduced
@@ -46,6 +39,6 @@ returns c =
     fill-end (c .before .loop .inv) (omega arith) ∙ ap (λ (k : ℕ). tab k (from (s .args .q) (s .args .sums .now))) (s .pre .3)
 
 pub reduce-spec : {M : Type 1} → statement M
-reduce-spec =
-    tie.close
-    (tie.spec Inv-loop μ-loop (search needs) cast-c (search needs) loop-holds (λ c. omega arith) (λ c. omega arith) remainder-requires (search needs) (λ c. omega arith) (λ c. omega arith) (λ c. omega arith) loop-less loop-again same-length returns)
+reduce-spec = tie.close (tie.spec Inv-loop μ-loop (search needs) cast-c (search needs) (λ c. fill-start _ _)
+    (omega arith) (omega arith) remainder-requires (search needs) (omega arith) (omega arith) (omega arith)
+    (λ c. simp length-set (omega arith)) loop-again (λ c. c .before .loop .inv .long) returns)

@@ -39,15 +39,6 @@ module _ (c : tie.In-loop Inv-loop μ-loop) where
   inside : j * a .args .n + a .args .n ≤ length (c .before .loop .cols)
   inside = rw (c .before .loop .inv .1 .long) first
 
-mul-a : tie.Need-mul-a Inv-loop μ-loop
-mul-a c = omega (arith, inside c)
-
-add-turn-column : tie.Need-add-turn-column Inv-loop μ-loop
-add-turn-column c = omega (arith, inside c)
-
-mul-turn-column : tie.Need-mul-turn-column Inv-loop μ-loop
-mul-turn-column c = omega (arith, inside c)
-
 part-turn-column-end : tie.Need-part-turn-column-end Inv-loop μ-loop
 part-turn-column-end c = inside c
 
@@ -67,9 +58,6 @@ loop-again c =
           (d .turn-column .ensures ∙ column-row (λ k. getD (g .y .now) k 0) (g .n) _ (j b) (slice-long (j b * g .n) (g .n) (b .before .loop .cols) (inside b))),
     )
 
-same-length : tie.Need-same-length Inv-loop μ-loop
-same-length c = c .before .loop .inv .1 .long
-
 returns : tie.Need-returns Inv-loop μ-loop
 unfolding turned
 returns c =
@@ -79,6 +67,6 @@ returns c =
     fill-end (l .inv .1) (rw (k, s .pre .2) (omega arith)) ∙ ap (λ (m : ℕ). tab m (from (s .args .n) (s .args .y .now))) (s .pre .2)
 
 pub turn-spec : {M : Type 1} → statement M
-turn-spec =
-    tie.close
-    (tie.spec Inv-loop μ-loop loop-holds mul-a add-turn-column mul-turn-column (λ c. omega arith) (search needs) part-turn-column-end turn-column-requires (λ c. omega arith) (λ c. omega arith) loop-again same-length returns)
+turn-spec = tie.close (tie.spec Inv-loop μ-loop loop-holds (λ c. omega (arith, inside c)) (λ c. omega (arith, inside c))
+    (λ c. omega (arith, inside c)) (omega arith) (search needs) part-turn-column-end turn-column-requires (omega arith)
+    (omega arith) loop-again (λ c. c .before .loop .inv .1 .long) returns)

@@ -19,9 +19,6 @@ Inv-loop y j out₀ t₀ out t = Filled (from y j) out₀ out t
 abbrev μ-loop : tie.MeasureT-loop
 μ-loop y j out₀ t₀ out t = length out - t
 
-loop-holds : tie.Need-loop-holds Inv-loop μ-loop
-loop-holds c = fill-start _ _
-
 -- a number below 32768 has 16 bits
 cast-out : tie.Need-cast-out Inv-loop μ-loop
 cast-out c =
@@ -29,19 +26,13 @@ cast-out c =
     let a : tie.Start Inv-loop μ-loop = search needs in
     record { fits = lt-of-lt-of-le (a .pre .2 .below (b .before .loop .t * 8 + a .args .j)) (omega arith) }
 
-loop-less : tie.Need-loop-less Inv-loop μ-loop
-loop-less c = simp length-set (omega arith)
-
 loop-again : tie.Need-loop-again Inv-loop μ-loop
 loop-again c = let l : tie.In-loop Inv-loop μ-loop = search needs in fill-next _ (l .before .loop .inv) (omega arith) refl
-
-same-length : tie.Need-same-length Inv-loop μ-loop
-same-length c = c .before .loop .inv .long
 
 returns : tie.Need-returns Inv-loop μ-loop
 returns c = fill-end (c .before .loop .inv) (omega arith)
 
 pub turn-column-spec : {M : Type 1} → statement M
-turn-column-spec =
-    tie.close
-    (tie.spec Inv-loop μ-loop loop-holds (λ c. omega arith) (λ c. omega arith) (λ c. omega arith) (λ c. omega arith) cast-out (λ c. omega arith) (λ c. omega arith) (λ c. omega arith) loop-less loop-again same-length returns)
+turn-column-spec = tie.close (tie.spec Inv-loop μ-loop (λ c. fill-start _ _) (omega arith) (omega arith) (omega arith)
+    (omega arith) cast-out (omega arith) (omega arith) (omega arith) (λ c. simp length-set (omega arith)) loop-again
+    (λ c. c .before .loop .inv .long) returns)

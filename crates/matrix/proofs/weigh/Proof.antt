@@ -22,18 +22,19 @@ unfolding sum
 loop-holds c = (omega arith, omega arith)
 
 mul-number-at : tie.Need-mul-number-at Inv-loop μ-loop
-mul-number-at c = omega (arith, mul-le-mul-right (c .before .before .before .before .args .c) (c .loop-test .taken))
+mul-number-at c = let start₀ : tie.Start Inv-loop μ-loop = search needs in omega (arith, mul-le-mul-right (start₀ .args .c) (c .loop-test .taken))
 
 number-at-requires : tie.Need-number-at-requires Inv-loop μ-loop
 number-at-requires c κs =
-    let a = c .before .before .before .before in
+    let a : tie.Start Inv-loop μ-loop = search needs in
     (omega (arith, mul-le-mul-right (a .args .c) (c .loop-test .taken)), a .pre .1)
 
 loop-again : tie.Need-loop-again Inv-loop μ-loop
 unfolding blockTerm
 loop-again c =
-    let l = c .before .before .before .before in
-    let a = l .before .before .before .args in (
+    let start₀ : tie.Start Inv-loop μ-loop = search needs in
+    let l : tie.At-loop Inv-loop μ-loop = search needs in
+    let a = start₀ .args in (
       omega arith,
       c .add-product .ensures
           ∙ ap₂ (λ (s x : ℕ). (s + x * getD (a .w .now) (l .loop .u) 0) % 65536) (l .loop .inv .1) (c .before .before .number-at .ensures)
@@ -42,10 +43,10 @@ loop-again c =
 
 returns : tie.Need-returns Inv-loop μ-loop
 returns c =
-    let a = c .before .before .before .before .args in
+    let start₀ : tie.Start Inv-loop μ-loop = search needs in
+    let a = start₀ .args in
     c .before .loop .inv .1 ∙ ap (λ (u : ℕ). (a .start + sumℕ u (blockTerm (a .c) (a .w .now) (a .y .now) (a .j))) % 65536) (omega arith)
 
 pub weigh-spec : {M : Type 1} → statement M
-weigh-spec =
-    tie.close
-    (tie.spec Inv-loop μ-loop loop-holds mul-number-at number-at-requires (λ c. omega arith) (λ c. omega arith) (search needs) (λ c. omega arith) (λ c. omega arith) loop-again returns)
+weigh-spec = tie.close (tie.spec Inv-loop μ-loop loop-holds mul-number-at number-at-requires (omega arith) (omega arith)
+    (search needs) (omega arith) (omega arith) loop-again returns)

@@ -23,28 +23,19 @@ Inv-loop zs out₀ k₀ out k = Filled (from zs) out₀ out k
 abbrev μ-loop : tie.MeasureT-loop
 μ-loop zs out₀ k₀ out k = length out - k
 
-loop-holds : tie.Need-loop-holds Inv-loop μ-loop
-loop-holds c = fill-start _ _
-
-loop-less : tie.Need-loop-less Inv-loop μ-loop
-loop-less c = simp length-set (omega arith)
-
 loop-again : tie.Need-loop-again Inv-loop μ-loop
 unfolding ints
 loop-again c =
-    let l = c .before .before .before .loop in
-    fill-next _ (l .inv) (omega arith) (rw (toZ-ofZ (record { sfits = c .before .word-arg .given })) at (c .word .ensures))
-
-same-length : tie.Need-same-length Inv-loop μ-loop
-same-length c = c .before .loop .inv .long
+    let l : tie.At-loop Inv-loop μ-loop = search needs in
+    fill-next _ (l .loop .inv) (omega arith) (rw (toZ-ofZ (record { sfits = c .before .word-arg .given })) at (c .word .ensures))
 
 returns : tie.Need-returns Inv-loop μ-loop
 unfolding wordsOf
 returns c =
-    let a = c .before .before .before in
+    let a : tie.Start Inv-loop μ-loop = search needs in
     fill-end (c .before .loop .inv) (omega arith) ∙ ap (λ (k : ℕ). tab k (from (a .args .zs .now))) (omega arith)
 
 pub words-spec : {M : Type 1} → statement M
-words-spec =
-    tie.close
-    (tie.spec Inv-loop μ-loop loop-holds (λ c. omega arith) (λ c. omega arith) (search needs) (λ c. omega arith) (λ c. omega arith) (λ c. omega arith) loop-less loop-again same-length returns)
+words-spec = tie.close (tie.spec Inv-loop μ-loop (λ c. fill-start _ _) (omega arith) (omega arith) (search needs)
+    (omega arith) (omega arith) (omega arith) (λ c. simp length-set (omega arith)) loop-again
+    (λ c. c .before .loop .inv .long) returns)
