@@ -22,9 +22,9 @@ unfolding digits
 loop-holds c = (refl, omega arith, omega arith, simp mul-zero)
 
 -- where a group has room, its numbers are there
-there : (c : tie.In-loop Inv-loop μ-loop) → 8 * c .before .loop .g + 8 ≤ length (c .before .before .before .before .args .xs .now)
+there : (c : tie.In-loop Inv-loop μ-loop) → let s : tie.Start Inv-loop μ-loop = search needs in 8 * c .before .loop .g + 8 ≤ length (s .args .xs .now)
 there c =
-    let s = c .before .before .before .before in
+    let s : tie.Start Inv-loop μ-loop = search needs in
     let l = c .before .loop in
     le-of-mul-le-mul-left {k = s .args .w} (omega (arith, s .pre .1, l .inv .0, l .inv .1)) (s .pre .0 .0)
 

@@ -35,12 +35,14 @@ cast-acc c = omega (arith, c .shared-slice-known2 .given (c .before .before .loo
 
 -- what holds once the number is taken in
 taken : (c : tie.After-shared-slice-known2 Inv-loop μ-loop)
-    → let l = c .before .before .loop in let a = c .before .before .before .before .before .args in
+    → let s : tie.Start Inv-loop μ-loop = search needs in
+    let l = c .before .before .loop in
+    let a = s .args in
     let acc = l .acc + getD (a .xs .now) (l .i) 0 * 2 ^ l .held % 2 ^ 64 in
     Flow (a .w) 8 (a .xs .now) (length (a .out .now)) (l .out) acc (l .held + a .w) (l .i + 1) (l .j)
 taken c =
     let l = c .before .before .loop in
-    let s = c .before .before .before .before .before in
+    let s : tie.Start Inv-loop μ-loop = search needs in
     let w = s .args .w in
     take-in (l .inv .2) 1 w _ (mul-one w) (omega arith) (s .pre .0 .2 .below (l .i)) (sym (value-one (2 ^ w) (s .args .xs .now) (l .i)))
 
@@ -49,8 +51,8 @@ add-acc c = fits (taken c) (omega arith)
 
 -- where a word is held, there is room for it
 word-fits : (c : tie.Then1 Inv-loop μ-loop)
-    → c .before .before .before .loop .j + 4 ≤ length (c .before .before .before .before .before .before .args .out .now)
-word-fits c = omega (arith, room (taken (c .before)) (omega arith) (c .before .before .before .before .before .before .pre .1 .0))
+    → let s : tie.Start Inv-loop μ-loop = search needs in c .before .before .before .loop .j + 4 ≤ length (s .args .out .now)
+word-fits c = let s : tie.Start Inv-loop μ-loop = search needs in omega (arith, room (taken (c .before)) (omega arith) (s .pre .1 .0))
 
 put-word-requires : tie.Need-put-word-requires Inv-loop μ-loop
 put-word-requires c κs = let at-loop : tie.At-loop Inv-loop μ-loop = search needs in omega (arith, word-fits (c .before), at-loop .loop .inv .2 .len)

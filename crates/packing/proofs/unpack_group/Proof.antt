@@ -23,8 +23,8 @@ loop-holds c =
     (omega arith, refl, written-none (2 ^ a .w) (value 256 (drop (a .i) (a .bytes .now))) (a .j) (a .out .now))
 
 -- the last of the eight starts within the group's bytes
-starts : (c : tie.In-loop Inv-loop μ-loop) → c .before .loop .k * c .before .before .before .before .args .w ≤ 7 * c .before .before .before .before .args .w
-starts c = mul-le-mul-right (c .before .before .before .before .args .w) (omega arith)
+starts : (c : tie.In-loop Inv-loop μ-loop) → let s : tie.Start Inv-loop μ-loop = search needs in c .before .loop .k * s .args .w ≤ 7 * s .args .w
+starts c = let s : tie.Start Inv-loop μ-loop = search needs in mul-le-mul-right (s .args .w) (omega arith)
 
 number-requires : tie.Need-number-requires Inv-loop μ-loop
 number-requires c κs = (omega arith, omega (arith, starts c))

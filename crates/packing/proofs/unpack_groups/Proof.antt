@@ -24,9 +24,9 @@ loop-holds c = (refl, omega arith, omega arith, refl)
 
 -- where a group is still to come, it has room
 room : (c : tie.In-loop Inv-loop μ-loop)
-    → 8 * c .before .loop .g + 8 ≤ length (c .before .before .before .before .args .out .now)
+    → let s : tie.Start Inv-loop μ-loop = search needs in 8 * c .before .loop .g + 8 ≤ length (s .args .out .now)
 room c =
-    let s = c .before .before .before .before in
+    let s : tie.Start Inv-loop μ-loop = search needs in
     let l = c .before .loop in
     le-of-mul-le-mul-left {k = s .args .w} (omega (arith, s .pre .1, l .inv .1)) (s .pre .0 .0)
 

@@ -35,21 +35,23 @@ loop-holds c =
     (omega arith, done-fits c, resume 8 (a .w) bytes (a .w * a .done) (8 * a .done) refl (omega arith) (done-fits c) (c .before .before .pre .1 .1 .1))
 
 -- where a number is still to come, so is a byte
-byte-comes : (c : tie.Then1 Inv-loop μ-loop) → c .before .before .loop .i < length (c .before .before .before .before .before .args .bytes .now)
+byte-comes : (c : tie.Then1 Inv-loop μ-loop) → let s : tie.Start Inv-loop μ-loop = search needs in c .before .before .loop .i < length (s .args .bytes .now)
 byte-comes c =
-    let s = c .before .before .before .before .before in
+    let s : tie.Start Inv-loop μ-loop = search needs in
     let l = c .before .before .loop in
     let more : l .j + 1 ≤ length (s .args .out .now) = omega (arith, l .inv .2 .len) in
     omega (arith, s .pre .1 .0, l .inv .2 .bits, mul-le-mul-left (s .args .w) more)
 
 -- what holds once a word is taken in
 taken : (c : tie.After-word Inv-loop μ-loop)
-    → let l = c .before .before .before .loop in let a = c .before .before .before .before .before .before .args in
+    → let s : tie.Start Inv-loop μ-loop = search needs in
+    let l = c .before .before .before .loop in
+    let a = s .args in
     let acc = l .acc + c .word .result * 2 ^ l .held % 2 ^ 64 in
     Flow 8 (a .w) (a .bytes .now) (length (a .out .now)) (l .out) acc (l .held + 32) (l .i + 4) (l .j)
 taken c =
     let l = c .before .before .before .loop in
-    let k = c .before .before .before .before .before in
+    let k : tie.After-shared-slice-known Inv-loop μ-loop = search needs in
     let bytes : Below 256 (k .before .args .bytes .now) = record { below = λ n. omega (arith, k .shared-slice-known .given n) } in
     let small = rw (← c .word .ensures) at (value-take-below (below-drop bytes (l .i)) 4) in
     take-in (l .inv .2) 4 32 (c .word .result) refl (omega arith) small (c .word .ensures)
@@ -62,7 +64,9 @@ add-i c = let start : tie.Start Inv-loop μ-loop = search needs in omega (arith,
 
 -- before a number is written, its bits are held
 ready : (c : tie.Joined1 Inv-loop μ-loop)
-    → let l = c .before .before .loop in let a = c .before .before .before .before .before .args in
+    → let s : tie.Start Inv-loop μ-loop = search needs in
+    let l = c .before .before .loop in
+    let a = s .args in
     (a .w ≤ c .if1 .held) × (c .if1 .held < a .w + 32)
     × Flow 8 (a .w) (a .bytes .now) (length (a .out .now)) (l .out) (c .if1 .acc) (c .if1 .held) (c .if1 .i) (l .j)
 ready c =
