@@ -12,11 +12,11 @@ use Rattle.text.proofs.number.Tie as tie
 
 -- the digits and the LF behind them lie within the input
 size : (c : tie.Then1)
-    → let a = c .before .before .before .before .before in
+    → let a : tie.Start = search needs in
     let n = c .before .before .digits .result in
     (n ≤ 10) × (n < length (part (a .args .s .now) (a .args .at))) × (a .args .at + n + 1 ≤ length (a .args .s .now))
 size c =
-    let a = c .before .before .before .before .before in
+    let a : tie.Start = search needs in
     number-size (a .args .s .now) (a .args .at) (a .pre) (c .before .before .digits .ensures) (sym (c .if1 .taken) ∙ c .before .well-formed .ensures)
 
 slice-aggregate-value : tie.Need-slice-aggregate-value

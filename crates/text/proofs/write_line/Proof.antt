@@ -18,8 +18,8 @@ write-number-requires c κs =
     number-room (s .args .label .now) (s .args .n) (s .args .out .now) (s .args .at) (s .pre) (t .write-text .ensures)
 
 made : (c : tie.After-write-number)
-    → let a = c .before .before .before .before .before .before .before .before .args in
-    Lined (a .label .now) (a .n) (a .out .now) (a .at) (c .write-number .last .1 .0) (c .write-number .result)
+    → let s : tie.Start = search needs in
+    Lined (s .args .label .now) (s .args .n) (s .args .out .now) (s .args .at) (c .write-number .last .1 .0) (c .write-number .result)
 made c =
     let s : tie.Start = search needs in
     let t : tie.After-write-text = search needs in
