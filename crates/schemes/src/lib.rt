@@ -2,7 +2,8 @@
 // and "Bytes on the wire". The definitions (`specs/Schemes.antt`) have the same numbers as a record for each scheme, and the proofs tie
 // the two: a number that is changed on one side alone fails the check.
 ghost use mathlib.Core.Path.{_≡_};
-ghost use Rattle.schemes.specs.Schemes.{bcns, newHope, challenge, classical, recommended, paranoid, fixedOf, familyOf, numberOf, schemeOf};
+ghost use Prim.Native.Nat.{_≤_};
+ghost use Rattle.schemes.specs.Schemes.{bcns, newHope, frodo, challenge, classical, recommended, paranoid, fixedOf, familyOf, numberOf, schemeOf};
 
 // What is fixed in a scheme. Lengths of bytes and counts of numbers are usize, widths in bits and bounds u32.
 pub struct Fixed {
@@ -167,6 +168,35 @@ impl NewHope {
     }
 }
 
+// What is fixed in Frodo, over what its four sets differ in: n, q, the largest noise, the bits of a packed number and of an entry's key, and the key bytes.
+fn frodo(n: usize, q: u32, largest: u32, width: u32, keybits: u32, key: usize) -> Fixed
+    requires { ⌜ (n ≤ 864) × (width ≤ 15) ⌝ }
+    ensures { λ r. ⌜ r ≡ frodo n q largest width keybits key ⌝ }
+{
+    let packed = n * (width as usize);
+    Fixed {
+        n: n,
+        q: q,
+        largest: largest,
+        public: n * n,
+        secret: 8 * n,
+        noise: 8 * n,
+        mixed: 64,
+        groups: 64,
+        width: width,
+        hintbits: 1,
+        keybits: keybits,
+        coinbits: 0,
+        packed: packed,
+        seed: 16,
+        hint: 8,
+        opening: 16 + packed,
+        reply: packed + 8,
+        coins: 0,
+        key: key,
+    }
+}
+
 pub struct FrodoChallenge;
 
 impl FrodoChallenge {
@@ -176,62 +206,23 @@ impl FrodoChallenge {
 
     pub const LARGEST: u32 = 3;
 
-    pub const PUBLIC: usize = FrodoChallenge::N * FrodoChallenge::N;
-
-    pub const SECRET: usize = 8 * FrodoChallenge::N;
-
-    pub const NOISE: usize = 8 * FrodoChallenge::N;
-
-    pub const MIXED: usize = 64;
-
-    pub const GROUPS: usize = 64;
-
     pub const WIDTH: u32 = 11;
 
-    pub const HINTBITS: u32 = 1;
-
     pub const KEYBITS: u32 = 1;
-
-    pub const COINBITS: u32 = 0;
-
-    pub const PACKED: usize = 11 * FrodoChallenge::N;
-
-    pub const SEED: usize = 16;
-
-    pub const HINT: usize = 8;
-
-    pub const OPENING: usize = FrodoChallenge::SEED + FrodoChallenge::PACKED;
-
-    pub const REPLY: usize = FrodoChallenge::PACKED + FrodoChallenge::HINT;
-
-    pub const COINS: usize = 0;
 
     pub const KEY: usize = 8;
 
     pub fn fixed() -> Fixed
         ensures { λ r. ⌜ r ≡ challenge ⌝ }
     {
-        Fixed {
-            n: FrodoChallenge::N,
-            q: FrodoChallenge::Q,
-            largest: FrodoChallenge::LARGEST,
-            public: FrodoChallenge::PUBLIC,
-            secret: FrodoChallenge::SECRET,
-            noise: FrodoChallenge::NOISE,
-            mixed: FrodoChallenge::MIXED,
-            groups: FrodoChallenge::GROUPS,
-            width: FrodoChallenge::WIDTH,
-            hintbits: FrodoChallenge::HINTBITS,
-            keybits: FrodoChallenge::KEYBITS,
-            coinbits: FrodoChallenge::COINBITS,
-            packed: FrodoChallenge::PACKED,
-            seed: FrodoChallenge::SEED,
-            hint: FrodoChallenge::HINT,
-            opening: FrodoChallenge::OPENING,
-            reply: FrodoChallenge::REPLY,
-            coins: FrodoChallenge::COINS,
-            key: FrodoChallenge::KEY,
-        }
+        frodo(
+            FrodoChallenge::N,
+            FrodoChallenge::Q,
+            FrodoChallenge::LARGEST,
+            FrodoChallenge::WIDTH,
+            FrodoChallenge::KEYBITS,
+            FrodoChallenge::KEY,
+        )
     }
 }
 
@@ -244,62 +235,23 @@ impl FrodoClassical {
 
     pub const LARGEST: u32 = 4;
 
-    pub const PUBLIC: usize = FrodoClassical::N * FrodoClassical::N;
-
-    pub const SECRET: usize = 8 * FrodoClassical::N;
-
-    pub const NOISE: usize = 8 * FrodoClassical::N;
-
-    pub const MIXED: usize = 64;
-
-    pub const GROUPS: usize = 64;
-
     pub const WIDTH: u32 = 12;
 
-    pub const HINTBITS: u32 = 1;
-
     pub const KEYBITS: u32 = 2;
-
-    pub const COINBITS: u32 = 0;
-
-    pub const PACKED: usize = 12 * FrodoClassical::N;
-
-    pub const SEED: usize = 16;
-
-    pub const HINT: usize = 8;
-
-    pub const OPENING: usize = FrodoClassical::SEED + FrodoClassical::PACKED;
-
-    pub const REPLY: usize = FrodoClassical::PACKED + FrodoClassical::HINT;
-
-    pub const COINS: usize = 0;
 
     pub const KEY: usize = 16;
 
     pub fn fixed() -> Fixed
         ensures { λ r. ⌜ r ≡ classical ⌝ }
     {
-        Fixed {
-            n: FrodoClassical::N,
-            q: FrodoClassical::Q,
-            largest: FrodoClassical::LARGEST,
-            public: FrodoClassical::PUBLIC,
-            secret: FrodoClassical::SECRET,
-            noise: FrodoClassical::NOISE,
-            mixed: FrodoClassical::MIXED,
-            groups: FrodoClassical::GROUPS,
-            width: FrodoClassical::WIDTH,
-            hintbits: FrodoClassical::HINTBITS,
-            keybits: FrodoClassical::KEYBITS,
-            coinbits: FrodoClassical::COINBITS,
-            packed: FrodoClassical::PACKED,
-            seed: FrodoClassical::SEED,
-            hint: FrodoClassical::HINT,
-            opening: FrodoClassical::OPENING,
-            reply: FrodoClassical::REPLY,
-            coins: FrodoClassical::COINS,
-            key: FrodoClassical::KEY,
-        }
+        frodo(
+            FrodoClassical::N,
+            FrodoClassical::Q,
+            FrodoClassical::LARGEST,
+            FrodoClassical::WIDTH,
+            FrodoClassical::KEYBITS,
+            FrodoClassical::KEY,
+        )
     }
 }
 
@@ -312,62 +264,23 @@ impl FrodoRecommended {
 
     pub const LARGEST: u32 = 5;
 
-    pub const PUBLIC: usize = FrodoRecommended::N * FrodoRecommended::N;
-
-    pub const SECRET: usize = 8 * FrodoRecommended::N;
-
-    pub const NOISE: usize = 8 * FrodoRecommended::N;
-
-    pub const MIXED: usize = 64;
-
-    pub const GROUPS: usize = 64;
-
     pub const WIDTH: u32 = 15;
 
-    pub const HINTBITS: u32 = 1;
-
     pub const KEYBITS: u32 = 4;
-
-    pub const COINBITS: u32 = 0;
-
-    pub const PACKED: usize = 15 * FrodoRecommended::N;
-
-    pub const SEED: usize = 16;
-
-    pub const HINT: usize = 8;
-
-    pub const OPENING: usize = FrodoRecommended::SEED + FrodoRecommended::PACKED;
-
-    pub const REPLY: usize = FrodoRecommended::PACKED + FrodoRecommended::HINT;
-
-    pub const COINS: usize = 0;
 
     pub const KEY: usize = 32;
 
     pub fn fixed() -> Fixed
         ensures { λ r. ⌜ r ≡ recommended ⌝ }
     {
-        Fixed {
-            n: FrodoRecommended::N,
-            q: FrodoRecommended::Q,
-            largest: FrodoRecommended::LARGEST,
-            public: FrodoRecommended::PUBLIC,
-            secret: FrodoRecommended::SECRET,
-            noise: FrodoRecommended::NOISE,
-            mixed: FrodoRecommended::MIXED,
-            groups: FrodoRecommended::GROUPS,
-            width: FrodoRecommended::WIDTH,
-            hintbits: FrodoRecommended::HINTBITS,
-            keybits: FrodoRecommended::KEYBITS,
-            coinbits: FrodoRecommended::COINBITS,
-            packed: FrodoRecommended::PACKED,
-            seed: FrodoRecommended::SEED,
-            hint: FrodoRecommended::HINT,
-            opening: FrodoRecommended::OPENING,
-            reply: FrodoRecommended::REPLY,
-            coins: FrodoRecommended::COINS,
-            key: FrodoRecommended::KEY,
-        }
+        frodo(
+            FrodoRecommended::N,
+            FrodoRecommended::Q,
+            FrodoRecommended::LARGEST,
+            FrodoRecommended::WIDTH,
+            FrodoRecommended::KEYBITS,
+            FrodoRecommended::KEY,
+        )
     }
 }
 
@@ -380,62 +293,28 @@ impl FrodoParanoid {
 
     pub const LARGEST: u32 = 6;
 
-    pub const PUBLIC: usize = FrodoParanoid::N * FrodoParanoid::N;
-
-    pub const SECRET: usize = 8 * FrodoParanoid::N;
-
-    pub const NOISE: usize = 8 * FrodoParanoid::N;
-
-    pub const MIXED: usize = 64;
-
-    pub const GROUPS: usize = 64;
-
     pub const WIDTH: u32 = 15;
-
-    pub const HINTBITS: u32 = 1;
 
     pub const KEYBITS: u32 = 4;
 
-    pub const COINBITS: u32 = 0;
-
-    pub const PACKED: usize = 15 * FrodoParanoid::N;
-
-    pub const SEED: usize = 16;
-
-    pub const HINT: usize = 8;
-
-    pub const OPENING: usize = FrodoParanoid::SEED + FrodoParanoid::PACKED;
-
-    pub const REPLY: usize = FrodoParanoid::PACKED + FrodoParanoid::HINT;
-
-    pub const COINS: usize = 0;
-
     pub const KEY: usize = 32;
+
+    // The longest messages of all schemes.
+    pub const OPENING: usize = 16 + 15 * FrodoParanoid::N;
+
+    pub const REPLY: usize = 15 * FrodoParanoid::N + 8;
 
     pub fn fixed() -> Fixed
         ensures { λ r. ⌜ r ≡ paranoid ⌝ }
     {
-        Fixed {
-            n: FrodoParanoid::N,
-            q: FrodoParanoid::Q,
-            largest: FrodoParanoid::LARGEST,
-            public: FrodoParanoid::PUBLIC,
-            secret: FrodoParanoid::SECRET,
-            noise: FrodoParanoid::NOISE,
-            mixed: FrodoParanoid::MIXED,
-            groups: FrodoParanoid::GROUPS,
-            width: FrodoParanoid::WIDTH,
-            hintbits: FrodoParanoid::HINTBITS,
-            keybits: FrodoParanoid::KEYBITS,
-            coinbits: FrodoParanoid::COINBITS,
-            packed: FrodoParanoid::PACKED,
-            seed: FrodoParanoid::SEED,
-            hint: FrodoParanoid::HINT,
-            opening: FrodoParanoid::OPENING,
-            reply: FrodoParanoid::REPLY,
-            coins: FrodoParanoid::COINS,
-            key: FrodoParanoid::KEY,
-        }
+        frodo(
+            FrodoParanoid::N,
+            FrodoParanoid::Q,
+            FrodoParanoid::LARGEST,
+            FrodoParanoid::WIDTH,
+            FrodoParanoid::KEYBITS,
+            FrodoParanoid::KEY,
+        )
     }
 }
 
