@@ -5,3 +5,4 @@ pub mod Fill
 pub mod First
 pub mod Top
 pub mod Table
+pub mod Stored

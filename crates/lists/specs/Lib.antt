@@ -3,3 +3,4 @@ pub mod Entries
 pub mod First
 pub mod Top
 pub mod Table
+pub mod Stored

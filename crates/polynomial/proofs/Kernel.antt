@@ -3,7 +3,7 @@
 --   one-fits, one            one product
 --   span-one, span-join, span-small   the products of some neighbouring entries: of one, of some and those behind them, and their size
 --   secret-small             the size of one secret
---   pair-fits, pair          two such sums, one behind the other, added
+--   twice-fits, twice        two such sums of m products, one behind the other, added
 --   first-none, first-fits, first-read, first-more   the sum of the first i products
 --   times-*, both-*          65536 times one sum, and another
 --   noise-*                  a sum and the noise
@@ -87,18 +87,18 @@ secret-small w s i p h =
     omega (arith, p .s-within .within i, p .room, k)
 
 -- two sums, one behind the other
-module _ (m n : ℕ) (w s : List ℤ) (i : ℕ) (p : Pair w s) (few : m + n ≤ length w) (x y : ℤ) (ex : x ≡ span m w s i) (ey : y ≡ span n w s (i + m)) where
-  pair-is : toZ w32 (ofZ w32 x) +ℤ toZ w32 (ofZ w32 y) ≡ span (m + n) w s i
-  pair-is =
+module _ (m : ℕ) {w s : List ℤ} (i : ℕ) (h : Pair w s × (i + (m + m) ≤ length w)) {x y : ℤ} (ex : x ≡ span m w s i) (ey : y ≡ span m w s (i + m)) where
+  twice-is : toZ w32 (ofZ w32 x) +ℤ toZ w32 (ofZ w32 y) ≡ span (m + m) w s i
+  twice-is =
       ap₂ (λ (a b : ℤ). toZ w32 (ofZ w32 a) +ℤ toZ w32 (ofZ w32 b)) ex ey
-      ∙ ap₂ (λ (a b : ℤ). a +ℤ b) (toZ-ofZ (span-fits m w s i p (omega arith))) (toZ-ofZ (span-fits n w s (i + m) p (omega arith)))
-      ∙ span-join m n w s i
+      ∙ ap₂ (λ (a b : ℤ). a +ℤ b) (toZ-ofZ (span-fits m w s i (h .0) (omega (arith, h .1)))) (toZ-ofZ (span-fits m w s (i + m) (h .0) (omega (arith, h .1))))
+      ∙ span-join m m w s i
 
-  pub pair-fits : SFits w32 (toZ w32 (ofZ w32 x) +ℤ toZ w32 (ofZ w32 y))
-  pair-fits = subst (SFits w32) (sym pair-is) (span-fits (m + n) w s i p few)
+  pub twice-fits : SFits w32 (toZ w32 (ofZ w32 x) +ℤ toZ w32 (ofZ w32 y))
+  twice-fits = subst (SFits w32) (sym twice-is) (span-fits (m + m) w s i (h .0) (omega (arith, h .1)))
 
-  pub pair : toZ w32 (ofZ w32 (toZ w32 (ofZ w32 x) +ℤ toZ w32 (ofZ w32 y))) ≡ span (m + n) w s i
-  pair = toZ-ofZ pair-fits ∙ pair-is
+  pub twice : toZ w32 (ofZ w32 (toZ w32 (ofZ w32 x) +ℤ toZ w32 (ofZ w32 y))) ≡ span (m + m) w s i
+  twice = toZ-ofZ twice-fits ∙ twice-is
 
 -- ---- the first i products
 

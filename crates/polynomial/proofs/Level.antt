@@ -31,11 +31,13 @@ use Rattle.numbers.proofs.Sums.{whole, sum-ext, sum-add, sum-mul-right}
 use Rattle.lists.specs.Entries.{nums, ints}
 use Rattle.lists.proofs.Parts.{slice-long, slice-at, front-long, part}
 use Rattle.polynomial.specs.Window.{lift, upper, lower, dot, span, slide, Pair}
-use Rattle.polynomial.specs.Steps.{Stored, Few, Ready, Laid, Halved, Made, Joined}
+use Rattle.lists.specs.Stored.{Stored}
+use Rattle.polynomial.specs.Steps.{Few, Ready, Laid, Halved, Made, Joined}
 use Rattle.polynomial.proofs.Halves.{upper-small, lower-small, lift-lt, halves-≅}
 use Rattle.polynomial.proofs.Three.{slide-≅, three-low, three-high, few-low, few-high, few-middle, few-ext}
 use Rattle.polynomial.proofs.Kernel.{plus-fits, plus-read}
-use Rattle.polynomial.proofs.Stores.{store-next, not-yet, front-at, ints-is, part-entry, take-within}
+use Rattle.lists.proofs.Stored.{store-next, not-yet, front-at}
+use Rattle.polynomial.proofs.Stores.{ints-is, part-entry, take-within}
 
 -- (x s) c + y s = (x c + y) s
 regroup : (x y s c : ℤ) → (x *ℤ s) *ℤ c +ℤ y *ℤ s ≡ (x *ℤ c +ℤ y) *ℤ s
@@ -197,25 +199,25 @@ module _ {q n : ℕ} {d : List ℕ} {t t′ : List ℤ} (r : Ready q n d t) (h :
 
 -- ---- numbers added to others in front of them
 
-module _ (W : Width) {o o′ : List ℤ} {to x k : ℕ} (old : Stored (pos 0) o to k (λ j. ints o (to + j) +ℤ ints o (x + j)) o′) (ahead : to + k ≤ x)
-    (fx : SFits W (getD o′ (to + k) (pos 0))) (fy : SFits W (getD o′ (x + k) (pos 0))) (few : natAbs (ints o (to + k)) + natAbs (ints o (x + k)) < 2 ^ hbits W) where
+module _ (W : Width) (B n : ℕ) {o o′ : List ℤ} {to x k : ℕ} (old : Stored (pos 0) o to k (λ j. ints o (to + j) +ℤ ints o (x + j)) o′)
+    (fx : SFits W (getD o′ (to + k) (pos 0))) (fy : SFits W (getD o′ (x + k) (pos 0))) (fits : B + B + 1 ≤ 2 ^ hbits W)
+    (h : (to + n ≤ x) × (x + n ≤ length o) × ((j : ℕ) → j < x + n → natAbs (ints o j) ≤ B)) (l : k < n) where
   to-is : getD o′ (to + k) (pos 0) ≡ ints o (to + k)
   to-is = not-yet old ∙ sym (ints-is o (to + k))
 
   from-is : getD o′ (x + k) (pos 0) ≡ ints o (x + k)
-  from-is = old .above (x + k) (omega arith) ∙ sym (ints-is o (x + k))
+  from-is = old .above (x + k) (omega (arith, h .0)) ∙ sym (ints-is o (x + k))
 
-  few′ : natAbs (getD o′ (to + k) (pos 0)) + natAbs (getD o′ (x + k) (pos 0)) < 2 ^ hbits W
-  few′ = rw (to-is, from-is) few
+  few : natAbs (getD o′ (to + k) (pos 0)) + natAbs (getD o′ (x + k) (pos 0)) < 2 ^ hbits W
+  few = rw (to-is, from-is) (omega (arith, fits, h .2 (to + k) (omega (arith, h .0)), h .2 (x + k) (omega arith)))
 
   pub raise-fits : SFits W (toZ W (ofZ W (getD o′ (to + k) (pos 0))) +ℤ toZ W (ofZ W (getD o′ (x + k) (pos 0))))
-  raise-fits = plus-fits W _ _ fx fy few′
+  raise-fits = plus-fits W _ _ fx fy few
 
   pub raise-next :
-      to + k < length o →
       Stored (pos 0) o to (k + 1) (λ j. ints o (to + j) +ℤ ints o (x + j))
       (set o′ (to + k) (toZ W (ofZ W (toZ W (ofZ W (getD o′ (to + k) (pos 0))) +ℤ toZ W (ofZ W (getD o′ (x + k) (pos 0)))))))
-  raise-next l = store-next old l (plus-read W _ _ fx fy few′ ∙ ap₂ (λ (y z : ℤ). y +ℤ z) to-is from-is)
+  raise-next = store-next old (omega (arith, h .0, h .1)) (plus-read W _ _ fx fy few ∙ ap₂ (λ (y z : ℤ). y +ℤ z) to-is from-is)
 
 -- ---- three products
 

@@ -22,10 +22,12 @@ use Rattle.polynomial.specs.Product.{turn, product}
 use Rattle.polynomial.specs.Mixing.{mixed, bare}
 use Rattle.polynomial.specs.Fit.{Fit}
 use Rattle.polynomial.specs.Window.{both, dot, slide}
-use Rattle.polynomial.specs.Steps.{Stored, Ready, Made, Windowed}
+use Rattle.lists.specs.Stored.{Stored}
+use Rattle.polynomial.specs.Steps.{Ready, Made, Windowed}
 use Rattle.polynomial.proofs.Turn.{turn-in, turn-over}
 use Rattle.polynomial.proofs.Laws.{product-comm}
-use Rattle.polynomial.proofs.Stores.{front-at, ints-is}
+use Rattle.lists.proofs.Stored.{front-at}
+use Rattle.polynomial.proofs.Stores.{ints-is}
 use Rattle.polynomial.proofs.Three.{slide-≅}
 
 -- [-a | a]

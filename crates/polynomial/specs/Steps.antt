@@ -1,6 +1,5 @@
 -- What the steps of a product do to the three lent slices that they work in: d holds numbers below q, t secrets and halves, o sums. What a step is given stands in
 -- front, and the room for its work behind it.
---   Stored z w to n f w′   the n entries at `to` are now f 0, .., f (n - 1), and the others as they were
 --   Few n s                n numbers at most B in size, where n B is at most 51 * 1024
 --   Ready q n d t          a window of 2 n numbers below q in d, and n secrets in t, small enough
 --   Laid x n t             halves of a window of 2 n numbers at x of t, and n secrets in front
@@ -16,12 +15,6 @@ use lib.IntN.{ℤ, natAbs, _+ℤ_}
 use Rattle.numbers.specs.Residue.{_≅⟨_⟩_}
 use Rattle.lists.specs.Entries.{nums, ints}
 use Rattle.polynomial.specs.Window.{both, lift, upper, lower, slide}
-
-pub record Stored {A : Type 0} (z : A) (w : List A) (to n : ℕ) (f : ℕ → A) (w′ : List A) : Type 0 where
-  pub long : length w′ ≡ length w
-  pub inside : (k : ℕ) → k < n → getD w′ (to + k) z ≡ f k
-  pub below : (i : ℕ) → i < to → getD w′ i z ≡ getD w i z
-  pub above : (i : ℕ) → to + n ≤ i → getD w′ i z ≡ getD w i z
 
 pub record Few (n : ℕ) (s : ℕ → ℤ) : Type 0 where
   pub size : ℕ

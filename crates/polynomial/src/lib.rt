@@ -14,10 +14,11 @@ ghost use Rattle.schemes.specs.Schemes.{bcns};
 ghost use Rattle.numbers.specs.Residue.{residue};
 ghost use Rattle.lists.specs.Entries.{tab, nums, ints, Below, Within};
 ghost use Rattle.lists.specs.Lent.{was, left, room};
+ghost use Rattle.lists.specs.Stored.{Stored};
 ghost use Rattle.polynomial.specs.Mixing.{mixed, bare};
 ghost use Rattle.polynomial.specs.Fit.{Fit};
 ghost use Rattle.polynomial.specs.Window.{lift, upper, lower, span, slide, Pair};
-ghost use Rattle.polynomial.specs.Steps.{Stored, Ready, Laid, Halved, Made, Joined, Windowed};
+ghost use Rattle.polynomial.specs.Steps.{Ready, Laid, Halved, Made, Joined, Windowed};
 use schemes::Bcns;
 
 // One product. The functions below it are a tree of sums.

@@ -7,7 +7,7 @@ use lib.ListN.{length, getD}
 use lib.IntN.{ℤ, pos, natAbs, _+ℤ_, _-ℤ_}
 use borrow.Author.Needs.{needs}
 use borrow.Rule.Slice.PartMut.{putMid}
-use borrow.Fn.Kinds.{In}
+use borrow.Fn.Kinds.{In, Out}
 use borrow.Fn.PlainCycle.{Measures, is, falls, and}
 use Rattle.lists.specs.Entries.{nums, ints}
 use Rattle.polynomial.specs.Steps.{Ready, Made}
@@ -54,35 +54,15 @@ known t = (
 )
 
 module _ (t : ℕ) where
+  -- what is known at a place of the code
+  abbrev Place : (lts.Claims → In 3 windows-kinds.ps → Out 3 windows-kinds.ps windows-kinds.r → Type 0) → Type 0
+  Place P = P (known t) (windows-at t) windows.Post
+
   abbrev Start : Type 0
-  Start = lts.Start (known t) (windows-at t) windows.Post
+  Start = Place lts.Start
 
   abbrev Even : Type 0
-  Even = lts.Else1 (known t) (windows-at t) windows.Post
-
-  abbrev After₁ : Type 0
-  After₁ = lts.After-subtract (known t) (windows-at t) windows.Post
-
-  abbrev After₂ : Type 0
-  After₂ = lts.After-copy (known t) (windows-at t) windows.Post
-
-  abbrev After₃ : Type 0
-  After₃ = lts.After-windows (known t) (windows-at t) windows.Post
-
-  abbrev After₄ : Type 0
-  After₄ = lts.After-subtract2 (known t) (windows-at t) windows.Post
-
-  abbrev After₅ : Type 0
-  After₅ = lts.After-add (known t) (windows-at t) windows.Post
-
-  abbrev After₆ : Type 0
-  After₆ = lts.After-windows2 (known t) (windows-at t) windows.Post
-
-  abbrev After₇ : Type 0
-  After₇ = lts.After-windows3 (known t) (windows-at t) windows.Post
-
-  abbrev After₈ : Type 0
-  After₈ = lts.After-join (known t) (windows-at t) windows.Post
+  Even = Place lts.Else1
 
   -- ---- where n is even
 
@@ -129,235 +109,235 @@ module _ (t : ℕ) where
 
   -- ---- the lower half
 
-  abbrev even₁ : After₁ → Even
+  abbrev even₁ : Place lts.After-subtract → Even
   even₁ c = c .before .before
 
-  abbrev m₁ : After₁ → ℕ
+  abbrev m₁ : Place lts.After-subtract → ℕ
   m₁ c = m₀ (even₁ c)
 
-  abbrev d₁ : After₁ → List ℕ
+  abbrev d₁ : Place lts.After-subtract → List ℕ
   d₁ c = c .subtract .last .1 .0
 
-  abbrev at₂ : After₂ → After₁
-  at₂ c = c .before .before .before .before
+  abbrev at₂ : Place lts.After-copy → Place lts.After-subtract
+  at₂ c = search needs
 
-  abbrev m₂ : After₂ → ℕ
+  abbrev m₂ : Place lts.After-copy → ℕ
   m₂ c = m₁ (at₂ c)
 
-  abbrev t₁ : After₂ → List ℤ
+  abbrev t₁ : Place lts.After-copy → List ℤ
   t₁ c = c .copy .last .0
 
-  d-long₁ : (c : After₁) → 8 * m₁ c ≤ length (d₁ c)
+  d-long₁ : (c : Place lts.After-subtract) → 8 * m₁ c ≤ length (d₁ c)
   d-long₁ c = omega (arith, d-long₀ (even₁ c), c .subtract .ensures .long)
 
-  t-long₁ : (c : After₂) → 10 * m₂ c ≤ length (t₁ c)
+  t-long₁ : (c : Place lts.After-copy) → 10 * m₂ c ≤ length (t₁ c)
   t-long₁ c = omega (arith, t-long₀ (even₁ (at₂ c)), c .copy .ensures .long)
 
   -- ---- the upper half
 
-  abbrev at₃ : After₃ → After₂
-  at₃ c = c .before .before .before .before .before
+  abbrev at₃ : Place lts.After-windows → Place lts.After-copy
+  at₃ c = search needs
 
-  abbrev even₃ : After₃ → Even
+  abbrev even₃ : Place lts.After-windows → Even
   even₃ c = even₁ (at₂ (at₃ c))
 
-  abbrev m₃ : After₃ → ℕ
+  abbrev m₃ : Place lts.After-windows → ℕ
   m₃ c = m₀ (even₃ c)
 
-  abbrev d₂ : After₃ → List ℕ
+  abbrev d₂ : Place lts.After-windows → List ℕ
   d₂ c = let d = d₁ (at₂ (at₃ c)) in putMid (m₃ c + m₃ c + (m₃ c + m₃ c)) (length d - (m₃ c + m₃ c + (m₃ c + m₃ c))) d (c .windows .last .1 .0)
 
-  abbrev t₂ : After₃ → List ℤ
+  abbrev t₂ : Place lts.After-windows → List ℤ
   t₂ c = putMid (m₃ c + m₃ c) (length (t₁ (at₃ c)) - (m₃ c + m₃ c)) (t₁ (at₃ c)) (c .windows .last .1 .1 .0)
 
-  abbrev o₁ : After₃ → List ℤ
+  abbrev o₁ : Place lts.After-windows → List ℤ
   o₁ c = c .windows .last .1 .1 .1 .0
 
-  d-back₂ : (c : After₃) → let d = d₁ (at₂ (at₃ c)) in length (c .windows .last .1 .0) ≡ length d - (m₃ c + m₃ c + (m₃ c + m₃ c))
+  d-back₂ : (c : Place lts.After-windows) → let d = d₁ (at₂ (at₃ c)) in length (c .windows .last .1 .0) ≡ length d - (m₃ c + m₃ c + (m₃ c + m₃ c))
   d-back₂ c = c .windows .kept .1 .0 ∙ rest-long (m₃ c + m₃ c + (m₃ c + m₃ c)) (d₁ (at₂ (at₃ c)))
 
-  t-back₂ : (c : After₃) → length (c .windows .last .1 .1 .0) ≡ length (t₁ (at₃ c)) - (m₃ c + m₃ c)
+  t-back₂ : (c : Place lts.After-windows) → length (c .windows .last .1 .1 .0) ≡ length (t₁ (at₃ c)) - (m₃ c + m₃ c)
   t-back₂ c = c .windows .kept .1 .1 .0 ∙ rest-long (m₃ c + m₃ c) (t₁ (at₃ c))
 
-  d-is₂ : (c : After₃) → length (d₂ c) ≡ length (d₁ (at₂ (at₃ c)))
+  d-is₂ : (c : Place lts.After-windows) → length (d₂ c) ≡ length (d₁ (at₂ (at₃ c)))
   d-is₂ c =
       put-long 0 (m₃ c + m₃ c + (m₃ c + m₃ c)) (d₁ (at₂ (at₃ c))) (c .windows .last .1 .0) (omega (arith, d-long₁ (at₂ (at₃ c)))) (d-back₂ c)
 
-  t-is₂ : (c : After₃) → length (t₂ c) ≡ length (t₁ (at₃ c))
+  t-is₂ : (c : Place lts.After-windows) → length (t₂ c) ≡ length (t₁ (at₃ c))
   t-is₂ c = put-long (pos 0) (m₃ c + m₃ c) (t₁ (at₃ c)) (c .windows .last .1 .1 .0) (omega (arith, t-long₁ (at₃ c))) (t-back₂ c)
 
-  d-long₂ : (c : After₃) → 8 * m₃ c ≤ length (d₂ c)
+  d-long₂ : (c : Place lts.After-windows) → 8 * m₃ c ≤ length (d₂ c)
   d-long₂ c = omega (arith, d-long₁ (at₂ (at₃ c)), d-is₂ c)
 
-  t-long₂ : (c : After₃) → 10 * m₃ c ≤ length (t₂ c)
+  t-long₂ : (c : Place lts.After-windows) → 10 * m₃ c ≤ length (t₂ c)
   t-long₂ c = omega (arith, t-long₁ (at₃ c), t-is₂ c)
 
-  o-long₁ : (c : After₃) → 4 * m₃ c ≤ length (o₁ c)
+  o-long₁ : (c : Place lts.After-windows) → 4 * m₃ c ≤ length (o₁ c)
   o-long₁ c = omega (arith, o-long₀ (even₃ c), c .windows .kept .1 .1 .1 .0)
 
-  d-same₂ : (c : After₃) (i : ℕ) → i < m₃ c + m₃ c + (m₃ c + m₃ c) → getD (d₂ c) i 0 ≡ getD (d₀ (even₃ c)) i 0
+  d-same₂ : (c : Place lts.After-windows) (i : ℕ) → i < m₃ c + m₃ c + (m₃ c + m₃ c) → getD (d₂ c) i 0 ≡ getD (d₀ (even₃ c)) i 0
   d-same₂ c i p =
       let c₁ = at₂ (at₃ c) in
       put-below 0 (m₃ c + m₃ c + (m₃ c + m₃ c)) (d₁ c₁) (c .windows .last .1 .0) (omega (arith, d-long₁ c₁)) (d-back₂ c) i p ∙ c₁ .subtract .ensures .below i p
 
-  t-same₂ : (c : After₃) (j : ℕ) → j < m₃ c + m₃ c → getD (t₂ c) j (pos 0) ≡ getD (t₀ (even₃ c)) j (pos 0)
+  t-same₂ : (c : Place lts.After-windows) (j : ℕ) → j < m₃ c + m₃ c → getD (t₂ c) j (pos 0) ≡ getD (t₀ (even₃ c)) j (pos 0)
   t-same₂ c j p =
       let c₂ = at₃ c in
       put-below (pos 0) (m₃ c + m₃ c) (t₁ c₂) (c .windows .last .1 .1 .0) (omega (arith, t-long₁ c₂)) (t-back₂ c) j p ∙ c₂ .copy .ensures .below j p
 
-  abbrev at₄ : After₄ → After₃
-  at₄ c = c .before .before .before .before .before .before
+  abbrev at₄ : Place lts.After-subtract2 → Place lts.After-windows
+  at₄ c = search needs
 
-  abbrev d₃ : After₄ → List ℕ
+  abbrev d₃ : Place lts.After-subtract2 → List ℕ
   d₃ c = c .subtract2 .last .1 .0
 
-  abbrev at₅ : After₅ → After₄
-  at₅ c = c .before .before .before .before
+  abbrev at₅ : Place lts.After-add → Place lts.After-subtract2
+  at₅ c = search needs
 
-  abbrev even₅ : After₅ → Even
+  abbrev even₅ : Place lts.After-add → Even
   even₅ c = even₃ (at₄ (at₅ c))
 
-  abbrev m₅ : After₅ → ℕ
+  abbrev m₅ : Place lts.After-add → ℕ
   m₅ c = m₀ (even₅ c)
 
-  abbrev t₃ : After₅ → List ℤ
+  abbrev t₃ : Place lts.After-add → List ℤ
   t₃ c = c .add .last .0
 
-  d-long₃ : (c : After₄) → 8 * m₃ (at₄ c) ≤ length (d₃ c)
+  d-long₃ : (c : Place lts.After-subtract2) → 8 * m₃ (at₄ c) ≤ length (d₃ c)
   d-long₃ c = omega (arith, d-long₂ (at₄ c), c .subtract2 .ensures .long)
 
-  t-long₃ : (c : After₅) → 10 * m₅ c ≤ length (t₃ c)
+  t-long₃ : (c : Place lts.After-add) → 10 * m₅ c ≤ length (t₃ c)
   t-long₃ c = omega (arith, t-long₂ (at₄ (at₅ c)), c .add .ensures .long)
 
   -- ---- the middle
 
-  abbrev at₆ : After₆ → After₅
-  at₆ c = c .before .before .before .before .before
+  abbrev at₆ : Place lts.After-windows2 → Place lts.After-add
+  at₆ c = search needs
 
-  abbrev even₆ : After₆ → Even
+  abbrev even₆ : Place lts.After-windows2 → Even
   even₆ c = even₅ (at₆ c)
 
-  abbrev m₆ : After₆ → ℕ
+  abbrev m₆ : Place lts.After-windows2 → ℕ
   m₆ c = m₀ (even₆ c)
 
-  abbrev d₃′ : After₆ → List ℕ
+  abbrev d₃′ : Place lts.After-windows2 → List ℕ
   d₃′ c = d₃ (at₅ (at₆ c))
 
-  abbrev o₁′ : After₆ → List ℤ
+  abbrev o₁′ : Place lts.After-windows2 → List ℤ
   o₁′ c = o₁ (at₄ (at₅ (at₆ c)))
 
-  abbrev d₄ : After₆ → List ℕ
+  abbrev d₄ : Place lts.After-windows2 → List ℕ
   d₄ c = putMid (m₆ c + m₆ c + (m₆ c + m₆ c)) (length (d₃′ c) - (m₆ c + m₆ c + (m₆ c + m₆ c))) (d₃′ c) (c .windows2 .last .1 .0)
 
-  abbrev t₄ : After₆ → List ℤ
+  abbrev t₄ : Place lts.After-windows2 → List ℤ
   t₄ c = putMid (m₆ c) (length (t₃ (at₆ c)) - m₆ c) (t₃ (at₆ c)) (c .windows2 .last .1 .1 .0)
 
-  abbrev o₂ : After₆ → List ℤ
+  abbrev o₂ : Place lts.After-windows2 → List ℤ
   o₂ c = putMid (m₆ c) (length (o₁′ c) - m₆ c) (o₁′ c) (c .windows2 .last .1 .1 .1 .0)
 
-  d-fits₄ : (c : After₆) → m₆ c + m₆ c + (m₆ c + m₆ c) ≤ length (d₃′ c)
+  d-fits₄ : (c : Place lts.After-windows2) → m₆ c + m₆ c + (m₆ c + m₆ c) ≤ length (d₃′ c)
   d-fits₄ c = omega (arith, d-long₃ (at₅ (at₆ c)))
 
-  t-fits₄ : (c : After₆) → m₆ c ≤ length (t₃ (at₆ c))
+  t-fits₄ : (c : Place lts.After-windows2) → m₆ c ≤ length (t₃ (at₆ c))
   t-fits₄ c = omega (arith, t-long₃ (at₆ c))
 
-  o-fits₂ : (c : After₆) → m₆ c ≤ length (o₁′ c)
+  o-fits₂ : (c : Place lts.After-windows2) → m₆ c ≤ length (o₁′ c)
   o-fits₂ c = omega (arith, o-long₁ (at₄ (at₅ (at₆ c))))
 
-  d-back₄ : (c : After₆) → length (c .windows2 .last .1 .0) ≡ length (d₃′ c) - (m₆ c + m₆ c + (m₆ c + m₆ c))
+  d-back₄ : (c : Place lts.After-windows2) → length (c .windows2 .last .1 .0) ≡ length (d₃′ c) - (m₆ c + m₆ c + (m₆ c + m₆ c))
   d-back₄ c = c .windows2 .kept .1 .0 ∙ rest-long (m₆ c + m₆ c + (m₆ c + m₆ c)) (d₃′ c)
 
-  t-back₄ : (c : After₆) → length (c .windows2 .last .1 .1 .0) ≡ length (t₃ (at₆ c)) - m₆ c
+  t-back₄ : (c : Place lts.After-windows2) → length (c .windows2 .last .1 .1 .0) ≡ length (t₃ (at₆ c)) - m₆ c
   t-back₄ c = c .windows2 .kept .1 .1 .0 ∙ rest-long (m₆ c) (t₃ (at₆ c))
 
-  o-back₂ : (c : After₆) → length (c .windows2 .last .1 .1 .1 .0) ≡ length (o₁′ c) - m₆ c
+  o-back₂ : (c : Place lts.After-windows2) → length (c .windows2 .last .1 .1 .1 .0) ≡ length (o₁′ c) - m₆ c
   o-back₂ c = c .windows2 .kept .1 .1 .1 .0 ∙ rest-long (m₆ c) (o₁′ c)
 
-  d-is₄ : (c : After₆) → length (d₄ c) ≡ length (d₃′ c)
+  d-is₄ : (c : Place lts.After-windows2) → length (d₄ c) ≡ length (d₃′ c)
   d-is₄ c = put-long 0 (m₆ c + m₆ c + (m₆ c + m₆ c)) (d₃′ c) (c .windows2 .last .1 .0) (d-fits₄ c) (d-back₄ c)
 
-  t-is₄ : (c : After₆) → length (t₄ c) ≡ length (t₃ (at₆ c))
+  t-is₄ : (c : Place lts.After-windows2) → length (t₄ c) ≡ length (t₃ (at₆ c))
   t-is₄ c = put-long (pos 0) (m₆ c) (t₃ (at₆ c)) (c .windows2 .last .1 .1 .0) (t-fits₄ c) (t-back₄ c)
 
-  o-is₂ : (c : After₆) → length (o₂ c) ≡ length (o₁′ c)
+  o-is₂ : (c : Place lts.After-windows2) → length (o₂ c) ≡ length (o₁′ c)
   o-is₂ c = put-long (pos 0) (m₆ c) (o₁′ c) (c .windows2 .last .1 .1 .1 .0) (o-fits₂ c) (o-back₂ c)
 
-  d-long₄ : (c : After₆) → 8 * m₆ c ≤ length (d₄ c)
+  d-long₄ : (c : Place lts.After-windows2) → 8 * m₆ c ≤ length (d₄ c)
   d-long₄ c = omega (arith, d-long₃ (at₅ (at₆ c)), d-is₄ c)
 
-  t-long₄ : (c : After₆) → 10 * m₆ c ≤ length (t₄ c)
+  t-long₄ : (c : Place lts.After-windows2) → 10 * m₆ c ≤ length (t₄ c)
   t-long₄ c = omega (arith, t-long₃ (at₆ c), t-is₄ c)
 
-  o-long₂ : (c : After₆) → 4 * m₆ c ≤ length (o₂ c)
+  o-long₂ : (c : Place lts.After-windows2) → 4 * m₆ c ≤ length (o₂ c)
   o-long₂ c = omega (arith, o-long₁ (at₄ (at₅ (at₆ c))), o-is₂ c)
 
-  d-same₄ : (c : After₆) (i : ℕ) → i < m₆ c + m₆ c + (m₆ c + m₆ c) → getD (d₄ c) i 0 ≡ getD (d₃′ c) i 0
+  d-same₄ : (c : Place lts.After-windows2) (i : ℕ) → i < m₆ c + m₆ c + (m₆ c + m₆ c) → getD (d₄ c) i 0 ≡ getD (d₃′ c) i 0
   d-same₄ c i p = put-below 0 (m₆ c + m₆ c + (m₆ c + m₆ c)) (d₃′ c) (c .windows2 .last .1 .0) (d-fits₄ c) (d-back₄ c) i p
 
-  t-same₄ : (c : After₆) (j : ℕ) → j < m₆ c → getD (t₄ c) j (pos 0) ≡ getD (t₃ (at₆ c)) j (pos 0)
+  t-same₄ : (c : Place lts.After-windows2) (j : ℕ) → j < m₆ c → getD (t₄ c) j (pos 0) ≡ getD (t₃ (at₆ c)) j (pos 0)
   t-same₄ c j p = put-below (pos 0) (m₆ c) (t₃ (at₆ c)) (c .windows2 .last .1 .1 .0) (t-fits₄ c) (t-back₄ c) j p
 
   -- ---- all three
 
-  abbrev at₇ : After₇ → After₆
-  at₇ c = c .before .before .before .before .before .before .before .before
+  abbrev at₇ : Place lts.After-windows3 → Place lts.After-windows2
+  at₇ c = search needs
 
-  abbrev even₇ : After₇ → Even
+  abbrev even₇ : Place lts.After-windows3 → Even
   even₇ c = even₆ (at₇ c)
 
-  abbrev m₇ : After₇ → ℕ
+  abbrev m₇ : Place lts.After-windows3 → ℕ
   m₇ c = m₀ (even₇ c)
 
-  abbrev o₃ : After₇ → List ℤ
+  abbrev o₃ : Place lts.After-windows3 → List ℤ
   o₃ c = putMid (m₇ c + m₇ c) (length (o₂ (at₇ c)) - (m₇ c + m₇ c)) (o₂ (at₇ c)) (c .windows3 .last .1 .1 .1 .0)
 
-  o-fits₃ : (c : After₇) → m₇ c + m₇ c ≤ length (o₂ (at₇ c))
+  o-fits₃ : (c : Place lts.After-windows3) → m₇ c + m₇ c ≤ length (o₂ (at₇ c))
   o-fits₃ c = omega (arith, o-long₂ (at₇ c))
 
-  o-back₃ : (c : After₇) → length (c .windows3 .last .1 .1 .1 .0) ≡ length (o₂ (at₇ c)) - (m₇ c + m₇ c)
+  o-back₃ : (c : Place lts.After-windows3) → length (c .windows3 .last .1 .1 .1 .0) ≡ length (o₂ (at₇ c)) - (m₇ c + m₇ c)
   o-back₃ c = c .windows3 .kept .1 .1 .1 .0 ∙ rest-long (m₇ c + m₇ c) (o₂ (at₇ c))
 
-  o-same₃ : (c : After₇) → length (o₃ c) ≡ length (o₂ (at₇ c))
+  o-same₃ : (c : Place lts.After-windows3) → length (o₃ c) ≡ length (o₂ (at₇ c))
   o-same₃ c = put-long (pos 0) (m₇ c + m₇ c) (o₂ (at₇ c)) (c .windows3 .last .1 .1 .1 .0) (o-fits₃ c) (o-back₃ c)
 
-  low-at : (c : After₇) (k : ℕ) → k < m₇ c → ints (o₃ c) k ≡ ints (o₁′ (at₇ c)) k
+  low-at : (c : Place lts.After-windows3) (k : ℕ) → k < m₇ c → ints (o₃ c) k ≡ ints (o₁′ (at₇ c)) k
   unfolding ints
   low-at c k p =
       put-below (pos 0) (m₇ c + m₇ c) (o₂ (at₇ c)) (c .windows3 .last .1 .1 .1 .0) (o-fits₃ c) (o-back₃ c) k (omega arith)
       ∙ put-below (pos 0) (m₇ c) (o₁′ (at₇ c)) (at₇ c .windows2 .last .1 .1 .1 .0) (o-fits₂ (at₇ c)) (o-back₂ (at₇ c)) k p
 
-  high-at : (c : After₇) (k : ℕ) → k < m₇ c → ints (o₃ c) (m₇ c + k) ≡ ints (at₇ c .windows2 .last .1 .1 .1 .0) k
+  high-at : (c : Place lts.After-windows3) (k : ℕ) → k < m₇ c → ints (o₃ c) (m₇ c + k) ≡ ints (at₇ c .windows2 .last .1 .1 .1 .0) k
   unfolding ints
   high-at c k p =
       put-below (pos 0) (m₇ c + m₇ c) (o₂ (at₇ c)) (c .windows3 .last .1 .1 .1 .0) (o-fits₃ c) (o-back₃ c) (m₇ c + k) (omega arith)
       ∙ put-inside (pos 0) (m₇ c) (o₁′ (at₇ c)) (at₇ c .windows2 .last .1 .1 .1 .0) (o-fits₂ (at₇ c)) (o-back₂ (at₇ c)) k (omega (arith, o-long₁ (at₄ (at₅ (at₆ (at₇ c))))))
 
-  middle-at : (c : After₇) (k : ℕ) → k < m₇ c → ints (o₃ c) (m₇ c + m₇ c + k) ≡ ints (c .windows3 .last .1 .1 .1 .0) k
+  middle-at : (c : Place lts.After-windows3) (k : ℕ) → k < m₇ c → ints (o₃ c) (m₇ c + m₇ c + k) ≡ ints (c .windows3 .last .1 .1 .1 .0) k
   unfolding ints
   middle-at c k p =
       put-inside (pos 0) (m₇ c + m₇ c) (o₂ (at₇ c)) (c .windows3 .last .1 .1 .1 .0) (o-fits₃ c) (o-back₃ c) k (omega (arith, o-long₂ (at₇ c)))
 
-  low : (c : After₇) → let u = even₇ c in Made (start u .args .q) (m₇ c) (λ i. nums (d₀ u) i -ℤ nums (d₀ u) (m₇ c + i)) (ints (t₀ u)) (o₁′ (at₇ c))
+  low : (c : Place lts.After-windows3) → let u = even₇ c in Made (start u .args .q) (m₇ c) (λ i. nums (d₀ u) i -ℤ nums (d₀ u) (m₇ c + i)) (ints (t₀ u)) (o₁′ (at₇ c))
   low c =
       let c₃ = at₄ (at₅ (at₆ (at₇ c))) in
       low-made (m₇ c) (whole (even₇ c)) (at₂ (at₃ c₃) .subtract .ensures) (at₃ c₃ .copy .ensures) (c₃ .windows .ensures)
 
-  high : (c : After₇) → let u = even₇ c in Made (start u .args .q) (m₇ c) (λ i. nums (d₀ u) (m₇ c + m₇ c + i) -ℤ nums (d₀ u) (m₇ c + i)) (λ j. ints (t₀ u) (m₇ c + j)) (at₇ c .windows2 .last .1 .1 .1 .0)
+  high : (c : Place lts.After-windows3) → let u = even₇ c in Made (start u .args .q) (m₇ c) (λ i. nums (d₀ u) (m₇ c + m₇ c + i) -ℤ nums (d₀ u) (m₇ c + i)) (λ j. ints (t₀ u) (m₇ c + j)) (at₇ c .windows2 .last .1 .1 .1 .0)
   high c =
       let c₆ = at₇ c in
       let c₃ = at₄ (at₅ (at₆ c₆)) in
       high-made (m₇ c) (whole (even₇ c)) (d-same₂ c₃) (t-same₂ c₃) (at₅ (at₆ c₆) .subtract2 .ensures) (at₆ c₆ .add .ensures) (c₆ .windows2 .ensures)
 
-  middle : (c : After₇) → let u = even₇ c in Made (start u .args .q) (m₇ c) (λ i. nums (d₀ u) (m₇ c + i)) (λ j. ints (t₀ u) j +ℤ ints (t₀ u) (m₇ c + j)) (c .windows3 .last .1 .1 .1 .0)
+  middle : (c : Place lts.After-windows3) → let u = even₇ c in Made (start u .args .q) (m₇ c) (λ i. nums (d₀ u) (m₇ c + i)) (λ j. ints (t₀ u) j +ℤ ints (t₀ u) (m₇ c + j)) (c .windows3 .last .1 .1 .1 .0)
   middle c =
       let c₆ = at₇ c in
       let c₃ = at₄ (at₅ (at₆ c₆)) in
       middle-made (m₇ c) (whole (even₇ c)) (d-same₂ c₃) (t-same₂ c₃) (at₅ (at₆ c₆) .subtract2 .ensures) (at₆ c₆ .add .ensures) (d₄ c₆) (t₄ c₆) (d-same₄ c₆) (t-same₄ c₆) (c .windows3 .ensures)
 
-  abbrev at₈ : After₈ → After₇
-  at₈ c = c .before .before .before .before .before .before
+  abbrev at₈ : Place lts.After-join → Place lts.After-windows3
+  at₈ c = search needs
 
-  made : (c : After₈) → let u = even₇ (at₈ c) in Made (start u .args .q) (m₀ u + m₀ u) (nums (d₀ u)) (ints (t₀ u)) (c .join .last .0)
+  made : (c : Place lts.After-join) → let u = even₇ (at₈ c) in Made (start u .args .q) (m₀ u + m₀ u) (nums (d₀ u)) (ints (t₀ u)) (c .join .last .0)
   made c =
       let c₇ = at₈ c in
       let u = even₇ c₇ in
@@ -370,63 +350,12 @@ module _ (t : ℕ) where
 
   -- ---- the needs
 
-  half-requires : lts.Need-half-requires (known t) (windows-at t) windows.Post
-  half-requires c κs = search needs
-
-  leaf-requires : lts.Need-leaf-requires (known t) (windows-at t) windows.Post
-  leaf-requires c κs = search needs
-
-  same-length : lts.Need-same-length (known t) (windows-at t) windows.Post
-  same-length c = search needs
-
-  same-length-2 : lts.Need-same-length-2 (known t) (windows-at t) windows.Post
-  same-length-2 c = search needs
-
-  same-length-3 : lts.Need-same-length-3 (known t) (windows-at t) windows.Post
-  same-length-3 c = search needs
-
-  returns : lts.Need-returns (known t) (windows-at t) windows.Post
-  returns c = c .before .before .leaf .ensures
-
-  add-two : lts.Need-add-two (known t) (windows-at t) windows.Post
-  add-two c = omega (arith, few c)
-
-  add-four : lts.Need-add-four (known t) (windows-at t) windows.Post
-  add-four c = omega (arith, few c)
-
   subtract-requires : lts.Need-subtract-requires (known t) (windows-at t) windows.Post
   subtract-requires c κs = let u = c .before in
       ((omega arith, omega arith, omega (arith, d-long₀ u)), λ i p. whole u .below i (omega arith))
 
-  copy-requires : lts.Need-copy-requires (known t) (windows-at t) windows.Post
-  copy-requires c κs = let u = c .before .before .before .before .before in (omega arith, omega (arith, t-long₀ u))
-
-  mul-windows : lts.Need-mul-windows (known t) (windows-at t) windows.Post
-  mul-windows c = let c₀ = c .before in omega (arith, d-long₁ (at₂ c₀), few (even₁ (at₂ c₀)))
-
-  sub-windows : lts.Need-sub-windows (known t) (windows-at t) windows.Post
-  sub-windows c = let c₀ = c .before in omega (arith, d-long₁ (at₂ c₀), few (even₁ (at₂ c₀)))
-
-  part-windows-start : lts.Need-part-windows-start (known t) (windows-at t) windows.Post
-  part-windows-start c = let c₀ = c .before in omega (arith, d-long₁ (at₂ c₀), few (even₁ (at₂ c₀)))
-
-  part-windows-end : lts.Need-part-windows-end (known t) (windows-at t) windows.Post
-  part-windows-end c = let c₀ = c .before in omega (arith, d-long₁ (at₂ c₀), few (even₁ (at₂ c₀)))
-
-  mul-windows-2 : lts.Need-mul-windows-2 (known t) (windows-at t) windows.Post
-  mul-windows-2 c = let c₀ = c .before .before in omega (arith, t-long₁ c₀, few (even₁ (at₂ c₀)))
-
-  sub-windows-2 : lts.Need-sub-windows-2 (known t) (windows-at t) windows.Post
-  sub-windows-2 c = let c₀ = c .before .before in omega (arith, t-long₁ c₀, few (even₁ (at₂ c₀)))
-
-  part-windows-start-2 : lts.Need-part-windows-start-2 (known t) (windows-at t) windows.Post
-  part-windows-start-2 c = let c₀ = c .before .before in omega (arith, t-long₁ c₀, few (even₁ (at₂ c₀)))
-
-  part-windows-end-2 : lts.Need-part-windows-end-2 (known t) (windows-at t) windows.Post
-  part-windows-end-2 c = let c₀ = c .before .before in omega (arith, t-long₁ c₀, few (even₁ (at₂ c₀)))
-
   windows-requires : lts.Need-windows-requires (known t) (windows-at t) windows.Post
-  windows-requires c κs = let c₂ = c .before .before .before .before in
+  windows-requires c κs = let c₂ : Place lts.After-copy = search needs in
       let c₁ = at₂ c₂ in
       let u = even₁ c₁ in (
         falling u,
@@ -437,7 +366,7 @@ module _ (t : ℕ) where
       )
 
   subtract-requires-2 : lts.Need-subtract-requires-2 (known t) (windows-at t) windows.Post
-  subtract-requires-2 c κs = let c₃ = c .before .before .before .before .before in
+  subtract-requires-2 c κs = let c₃ : Place lts.After-windows = search needs in
       let u = even₃ c₃ in
       ((omega arith, omega arith, omega (arith, d-long₂ c₃)), λ i p. rw (d-same₂ c₃ i (omega arith)) (whole u .below i (omega arith)))
 
@@ -447,44 +376,8 @@ module _ (t : ℕ) where
       let u = even₃ c₃ in
       (omega arith, omega (arith, t-long₂ c₃), λ j p. secrets-small u (t₂ c₃) (t-same₂ c₃) j p)
 
-  mul-windows-3 : lts.Need-mul-windows-3 (known t) (windows-at t) windows.Post
-  mul-windows-3 c = let c₀ = c .before in omega (arith, d-long₃ (at₅ c₀), few (even₅ c₀))
-
-  sub-windows-3 : lts.Need-sub-windows-3 (known t) (windows-at t) windows.Post
-  sub-windows-3 c = let c₀ = c .before in omega (arith, d-long₃ (at₅ c₀), few (even₅ c₀))
-
-  part-windows-start-3 : lts.Need-part-windows-start-3 (known t) (windows-at t) windows.Post
-  part-windows-start-3 c = let c₀ = c .before in omega (arith, d-long₃ (at₅ c₀), few (even₅ c₀))
-
-  part-windows-end-3 : lts.Need-part-windows-end-3 (known t) (windows-at t) windows.Post
-  part-windows-end-3 c = let c₀ = c .before in omega (arith, d-long₃ (at₅ c₀), few (even₅ c₀))
-
-  mul-windows-4 : lts.Need-mul-windows-4 (known t) (windows-at t) windows.Post
-  mul-windows-4 c = let c₀ = c .before .before in omega (arith, t-long₃ c₀, few (even₅ c₀))
-
-  sub-windows-4 : lts.Need-sub-windows-4 (known t) (windows-at t) windows.Post
-  sub-windows-4 c = let c₀ = c .before .before in omega (arith, t-long₃ c₀, few (even₅ c₀))
-
-  part-windows-start-4 : lts.Need-part-windows-start-4 (known t) (windows-at t) windows.Post
-  part-windows-start-4 c = let c₀ = c .before .before in omega (arith, t-long₃ c₀, few (even₅ c₀))
-
-  part-windows-end-4 : lts.Need-part-windows-end-4 (known t) (windows-at t) windows.Post
-  part-windows-end-4 c = let c₀ = c .before .before in omega (arith, t-long₃ c₀, few (even₅ c₀))
-
-  mul-windows-5 : lts.Need-mul-windows-5 (known t) (windows-at t) windows.Post
-  mul-windows-5 c = let c₀ = c .before .before .before in omega (arith, o-long₁ (at₄ (at₅ c₀)), few (even₅ c₀))
-
-  sub-windows-5 : lts.Need-sub-windows-5 (known t) (windows-at t) windows.Post
-  sub-windows-5 c = let c₀ = c .before .before .before in omega (arith, o-long₁ (at₄ (at₅ c₀)), few (even₅ c₀))
-
-  part-windows-start-5 : lts.Need-part-windows-start-5 (known t) (windows-at t) windows.Post
-  part-windows-start-5 c = let c₀ = c .before .before .before in omega (arith, o-long₁ (at₄ (at₅ c₀)), few (even₅ c₀))
-
-  part-windows-end-5 : lts.Need-part-windows-end-5 (known t) (windows-at t) windows.Post
-  part-windows-end-5 c = let c₀ = c .before .before .before in omega (arith, o-long₁ (at₄ (at₅ c₀)), few (even₅ c₀))
-
   windows-requires-2 : lts.Need-windows-requires-2 (known t) (windows-at t) windows.Post
-  windows-requires-2 c κs = let c₅ = c .before .before .before .before in
+  windows-requires-2 c κs = let c₅ : Place lts.After-add = search needs in
       let c₄ = at₅ c₅ in
       let c₃ = at₄ c₄ in
       let u = even₅ c₅ in (
@@ -495,32 +388,8 @@ module _ (t : ℕ) where
         ),
       )
 
-  mul-windows-6 : lts.Need-mul-windows-6 (known t) (windows-at t) windows.Post
-  mul-windows-6 c = let c₀ = c .before .before .before .before in omega (arith, d-long₄ c₀, few (even₆ c₀))
-
-  sub-windows-6 : lts.Need-sub-windows-6 (known t) (windows-at t) windows.Post
-  sub-windows-6 c = let c₀ = c .before .before .before .before in omega (arith, d-long₄ c₀, few (even₆ c₀))
-
-  part-windows-start-6 : lts.Need-part-windows-start-6 (known t) (windows-at t) windows.Post
-  part-windows-start-6 c = let c₀ = c .before .before .before .before in omega (arith, d-long₄ c₀, few (even₆ c₀))
-
-  part-windows-end-6 : lts.Need-part-windows-end-6 (known t) (windows-at t) windows.Post
-  part-windows-end-6 c = let c₀ = c .before .before .before .before in omega (arith, d-long₄ c₀, few (even₆ c₀))
-
-  mul-windows-7 : lts.Need-mul-windows-7 (known t) (windows-at t) windows.Post
-  mul-windows-7 c = let c₀ = c .before .before .before .before .before .before in omega (arith, o-long₂ c₀, few (even₆ c₀))
-
-  sub-windows-7 : lts.Need-sub-windows-7 (known t) (windows-at t) windows.Post
-  sub-windows-7 c = let c₀ = c .before .before .before .before .before .before in omega (arith, o-long₂ c₀, few (even₆ c₀))
-
-  part-windows-start-7 : lts.Need-part-windows-start-7 (known t) (windows-at t) windows.Post
-  part-windows-start-7 c = let c₀ = c .before .before .before .before .before .before in omega (arith, o-long₂ c₀, few (even₆ c₀))
-
-  part-windows-end-7 : lts.Need-part-windows-end-7 (known t) (windows-at t) windows.Post
-  part-windows-end-7 c = let c₀ = c .before .before .before .before .before .before in omega (arith, o-long₂ c₀, few (even₆ c₀))
-
   windows-requires-3 : lts.Need-windows-requires-3 (known t) (windows-at t) windows.Post
-  windows-requires-3 c κs = let c₆ = c .before .before .before .before .before .before .before in
+  windows-requires-3 c κs = let c₆ : Place lts.After-windows2 = search needs in
       let c₅ = at₆ c₆ in
       let c₄ = at₅ c₅ in
       let c₃ = at₄ c₄ in
@@ -533,7 +402,7 @@ module _ (t : ℕ) where
       )
 
   join-requires : lts.Need-join-requires (known t) (windows-at t) windows.Post
-  join-requires c κs = let c₇ = c .before .before .before .before .before in
+  join-requires c κs = let c₇ : Place lts.After-windows3 = search needs in
       let u = even₇ c₇ in (
         omega (arith, o-same₃ c₇, o-long₂ (at₇ c₇)),
         three-small (nums (d₀ u)) (ints (t₀ u)) (o₃ c₇) (low c₇) (high c₇) (middle c₇) (low-at c₇) (high-at c₇) (middle-at c₇) (omega (arith, few u)),
@@ -559,58 +428,55 @@ module _ (t : ℕ) where
       let c₃ = at₄ (at₅ (at₆ c₆)) in
       c .before .join .kept .0 ∙ o-same₃ c₇ ∙ o-is₂ c₆ ∙ c₃ .windows .kept .1 .1 .1 .0
 
-  returns-2 : lts.Need-returns-2 (known t) (windows-at t) windows.Post
-  returns-2 c = let c₈ = c .before in made-at (sym (even (even₇ (at₈ c₈)))) (made c₈)
-
 pub +windows-spec : {M : Type 1} → statement M
 +windows-spec =
     close μ-windows λ t.
     lts.spec (known t) (windows-at t) windows.Post
-    (half-requires t)
-    (leaf-requires t)
-    (same-length t)
-    (same-length-2 t)
-    (same-length-3 t)
-    (returns t)
-    (add-two t)
-    (add-four t)
+    (λ c κs. search needs)
+    (λ c κs. search needs)
+    (λ c. search needs)
+    (λ c. search needs)
+    (λ c. search needs)
+    (λ c. c .before .before .leaf .ensures)
+    (λ c. omega (arith, few t c))
+    (λ c. omega (arith, few t c))
     (subtract-requires t)
-    (copy-requires t)
-    (mul-windows t)
-    (sub-windows t)
-    (part-windows-start t)
-    (part-windows-end t)
-    (mul-windows-2 t)
-    (sub-windows-2 t)
-    (part-windows-start-2 t)
-    (part-windows-end-2 t)
+    (λ c κs. let u : Even t = search needs in (omega arith, omega (arith, t-long₀ t u)))
+    (λ c. let c₀ = c .before in omega (arith, d-long₁ t (at₂ t c₀), few t (even₁ t (at₂ t c₀))))
+    (λ c. let c₀ = c .before in omega (arith, d-long₁ t (at₂ t c₀), few t (even₁ t (at₂ t c₀))))
+    (λ c. let c₀ = c .before in omega (arith, d-long₁ t (at₂ t c₀), few t (even₁ t (at₂ t c₀))))
+    (λ c. let c₀ = c .before in omega (arith, d-long₁ t (at₂ t c₀), few t (even₁ t (at₂ t c₀))))
+    (λ c. let c₀ = c .before .before in omega (arith, t-long₁ t c₀, few t (even₁ t (at₂ t c₀))))
+    (λ c. let c₀ = c .before .before in omega (arith, t-long₁ t c₀, few t (even₁ t (at₂ t c₀))))
+    (λ c. let c₀ = c .before .before in omega (arith, t-long₁ t c₀, few t (even₁ t (at₂ t c₀))))
+    (λ c. let c₀ = c .before .before in omega (arith, t-long₁ t c₀, few t (even₁ t (at₂ t c₀))))
     (windows-requires t)
     (subtract-requires-2 t)
     (add-requires t)
-    (mul-windows-3 t)
-    (sub-windows-3 t)
-    (part-windows-start-3 t)
-    (part-windows-end-3 t)
-    (mul-windows-4 t)
-    (sub-windows-4 t)
-    (part-windows-start-4 t)
-    (part-windows-end-4 t)
-    (mul-windows-5 t)
-    (sub-windows-5 t)
-    (part-windows-start-5 t)
-    (part-windows-end-5 t)
+    (λ c. let c₀ = c .before in omega (arith, d-long₃ t (at₅ t c₀), few t (even₅ t c₀)))
+    (λ c. let c₀ = c .before in omega (arith, d-long₃ t (at₅ t c₀), few t (even₅ t c₀)))
+    (λ c. let c₀ = c .before in omega (arith, d-long₃ t (at₅ t c₀), few t (even₅ t c₀)))
+    (λ c. let c₀ = c .before in omega (arith, d-long₃ t (at₅ t c₀), few t (even₅ t c₀)))
+    (λ c. let c₀ = c .before .before in omega (arith, t-long₃ t c₀, few t (even₅ t c₀)))
+    (λ c. let c₀ = c .before .before in omega (arith, t-long₃ t c₀, few t (even₅ t c₀)))
+    (λ c. let c₀ = c .before .before in omega (arith, t-long₃ t c₀, few t (even₅ t c₀)))
+    (λ c. let c₀ = c .before .before in omega (arith, t-long₃ t c₀, few t (even₅ t c₀)))
+    (λ c. let c₀ = c .before .before .before in omega (arith, o-long₁ t (at₄ t (at₅ t c₀)), few t (even₅ t c₀)))
+    (λ c. let c₀ = c .before .before .before in omega (arith, o-long₁ t (at₄ t (at₅ t c₀)), few t (even₅ t c₀)))
+    (λ c. let c₀ = c .before .before .before in omega (arith, o-long₁ t (at₄ t (at₅ t c₀)), few t (even₅ t c₀)))
+    (λ c. let c₀ = c .before .before .before in omega (arith, o-long₁ t (at₄ t (at₅ t c₀)), few t (even₅ t c₀)))
     (windows-requires-2 t)
-    (mul-windows-6 t)
-    (sub-windows-6 t)
-    (part-windows-start-6 t)
-    (part-windows-end-6 t)
-    (mul-windows-7 t)
-    (sub-windows-7 t)
-    (part-windows-start-7 t)
-    (part-windows-end-7 t)
+    (λ c. let c₀ : Place t lts.After-windows2 = search needs in omega (arith, d-long₄ t c₀, few t (even₆ t c₀)))
+    (λ c. let c₀ : Place t lts.After-windows2 = search needs in omega (arith, d-long₄ t c₀, few t (even₆ t c₀)))
+    (λ c. let c₀ : Place t lts.After-windows2 = search needs in omega (arith, d-long₄ t c₀, few t (even₆ t c₀)))
+    (λ c. let c₀ : Place t lts.After-windows2 = search needs in omega (arith, d-long₄ t c₀, few t (even₆ t c₀)))
+    (λ c. let c₀ : Place t lts.After-windows2 = search needs in omega (arith, o-long₂ t c₀, few t (even₆ t c₀)))
+    (λ c. let c₀ : Place t lts.After-windows2 = search needs in omega (arith, o-long₂ t c₀, few t (even₆ t c₀)))
+    (λ c. let c₀ : Place t lts.After-windows2 = search needs in omega (arith, o-long₂ t c₀, few t (even₆ t c₀)))
+    (λ c. let c₀ : Place t lts.After-windows2 = search needs in omega (arith, o-long₂ t c₀, few t (even₆ t c₀)))
     (windows-requires-3 t)
     (join-requires t)
     (same-length-4 t)
     (same-length-5 t)
     (same-length-6 t)
-    (returns-2 t)
+    (λ c. let c₈ = c .before in made-at (sym (even t (even₇ t (at₈ t c₈)))) (made t c₈))

@@ -1,12 +1,13 @@
 -- `polynomial::add` meets its contract.
-use Prim.Native.Nat.{_+_, _-_, _^_, _≤_, _<_}
+use Prim.Native.Nat.{_+_, _-_, _≤_}
 use native.Mathlib.Omega.{arith}
-use lib.IntN.{pos, natAbs, _+ℤ_}
+use lib.Dec.{lit≤}
+use lib.IntN.{pos, _+ℤ_}
 use mir.Syntax.{w16}
 use borrow.Author.Needs.{needs}
 use Rattle.lists.specs.Entries.{ints}
-use Rattle.polynomial.specs.Steps.{Stored}
-use Rattle.polynomial.proofs.Stores.{store-none, stored-all}
+use Rattle.lists.specs.Stored.{Stored}
+use Rattle.lists.proofs.Stored.{store-none, stored-all}
 use Rattle.polynomial.proofs.Level.{raise-fits, raise-next}
 use Rattle.polynomial.proofs.add.Statement.{statement}
 use Rattle.polynomial.proofs.add.Tie as tie
@@ -17,26 +18,17 @@ Inv-loop t₀ to x n k₀ t k = (k ≤ n) × Stored (pos 0) t₀ to k (λ j. int
 abbrev μ-loop : tie.MeasureT-loop
 μ-loop t₀ to x n k₀ t k = n - k
 
-few : (c : tie.After-t2 Inv-loop μ-loop)
-    → let l = c .before .before .before in
-    let a = l .before .args in
-    natAbs (ints (a .t .now) (a .to + l .loop .k)) + natAbs (ints (a .t .now) (a .x + l .loop .k)) < 2 ^ 15
-few c =
-    let l = c .before .before .before in
-    let s = l .before in
-    omega (arith, s .pre .2 (s .args .to + l .loop .k) (omega arith), s .pre .2 (s .args .x + l .loop .k) (omega arith))
-
 add-t : tie.Need-add-t Inv-loop μ-loop
 add-t c =
+    let s : tie.Start Inv-loop μ-loop = search needs in
     let l : tie.At-loop Inv-loop μ-loop = search needs in
-    raise-fits w16 (l .loop .inv .1) (omega arith) (record { sfits = c .before .t .given }) (record { sfits = c .t2 .given }) (few c)
+    raise-fits w16 16383 (s .args .n) (l .loop .inv .1) (record { sfits = c .before .t .given }) (record { sfits = c .t2 .given }) (lit≤ tt) (s .pre) (omega arith)
 
 loop-again : tie.Need-loop-again Inv-loop μ-loop
 loop-again c =
-    let l : tie.At-loop Inv-loop μ-loop = search needs in (
-      omega arith,
-      raise-next w16 (l .loop .inv .1) (omega arith) (record { sfits = c .before .t .given }) (record { sfits = c .t2 .given }) (few c) (omega arith),
-    )
+    let s : tie.Start Inv-loop μ-loop = search needs in
+    let l : tie.At-loop Inv-loop μ-loop = search needs in
+    (omega arith, raise-next w16 16383 (s .args .n) (l .loop .inv .1) (record { sfits = c .before .t .given }) (record { sfits = c .t2 .given }) (lit≤ tt) (s .pre) (omega arith))
 
 returns : tie.Need-returns Inv-loop μ-loop
 returns c = let s : tie.Start Inv-loop μ-loop = search needs in stored-all (c .before .loop .inv .1) (omega arith)

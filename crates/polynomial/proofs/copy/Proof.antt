@@ -7,8 +7,8 @@ use lib.IntN.{pos}
 use mir.Facts.{toZ-ofZ}
 use borrow.Author.Needs.{needs}
 use Rattle.lists.specs.Entries.{ints}
-use Rattle.polynomial.specs.Steps.{Stored}
-use Rattle.polynomial.proofs.Stores.{store-none, store-next, stored-all}
+use Rattle.lists.specs.Stored.{Stored}
+use Rattle.lists.proofs.Stored.{store-none, store-next, stored-all}
 use Rattle.polynomial.proofs.copy.Statement.{statement}
 use Rattle.polynomial.proofs.copy.Tie as tie
 

@@ -8,9 +8,9 @@ use Rattle.numbers.proofs.Machine.{wide, wide-fits}
 use Rattle.lists.specs.Entries.{ints}
 use Rattle.lists.proofs.Parts.{front-long}
 use Rattle.polynomial.specs.Window.{slide}
-use Rattle.polynomial.specs.Steps.{Stored}
+use Rattle.lists.specs.Stored.{Stored}
 use Rattle.polynomial.proofs.Level.{dot-pair, dot-part}
-use Rattle.polynomial.proofs.Stores.{store-none, store-next, stored-all}
+use Rattle.lists.proofs.Stored.{store-none, store-next, stored-all}
 use Rattle.polynomial.proofs.dots.Statement.{statement}
 use Rattle.polynomial.proofs.dots.Tie as tie
 

@@ -4,8 +4,8 @@ use Prim.Native.Nat.{_-_, _≤_}
 use native.Mathlib.Omega.{arith}
 use lib.ListN.{length, getD}
 use borrow.Author.Needs.{needs}
-use Rattle.polynomial.specs.Steps.{Stored}
-use Rattle.polynomial.proofs.Stores.{store-none, store-next, stored-all}
+use Rattle.lists.specs.Stored.{Stored}
+use Rattle.lists.proofs.Stored.{store-none, store-next, stored-all}
 use Rattle.polynomial.proofs.lay_numbers.Statement.{statement}
 use Rattle.polynomial.proofs.lay_numbers.Tie as tie
 

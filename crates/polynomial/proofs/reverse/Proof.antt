@@ -7,9 +7,9 @@ use lib.IntN.{ℤ, pos}
 use mathlib.Core.List.{List}
 use borrow.Author.Needs.{needs}
 use Rattle.lists.specs.Entries.{ints}
-use Rattle.polynomial.specs.Steps.{Stored}
+use Rattle.lists.specs.Stored.{Stored}
 use Rattle.polynomial.proofs.Kernel.{secret-fits, secret}
-use Rattle.polynomial.proofs.Stores.{store-none, store-front, stored-all}
+use Rattle.lists.proofs.Stored.{store-none, store-front, stored-all}
 use Rattle.polynomial.proofs.reverse.Statement.{statement}
 use Rattle.polynomial.proofs.reverse.Tie as tie
 
