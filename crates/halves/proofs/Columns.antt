@@ -19,7 +19,8 @@ use Rattle.numbers.proofs.Sums.{natural, sum-ext, sum-split, sum-none}
 use Rattle.numbers.proofs.Congruence.{multiples-≅, same-mod}
 use Rattle.lists.proofs.Parts.{slice-long, slice-at}
 use Rattle.halves.specs.Halves.{q}
-use Rattle.halves.specs.Steps.{full, cut, from, times, column, Stored, Product}
+use Rattle.lists.specs.Stored.{Stored}
+use Rattle.halves.specs.Steps.{full, cut, from, times, column, Product}
 use Rattle.halves.proofs.Full.{cut-in, cut-out}
 use Rattle.halves.proofs.Moves.{same, times-ext}
 
@@ -121,7 +122,7 @@ module _ (w : List ℕ) (k : ℕ) (l : k < 64) (back : (j : ℕ) → j < 32 → 
       ap (λ (n : ℕ). n % q) (sym (ap (λ (n : ℕ). sumℕ n term) e ∙ whole))
 
 pub leaf-law :
-    {w w₁ w₂ w₃ : List ℕ} → Stored w 64 32 (λ j. getD w (63 - j) 0) w₁ → Stored w₁ 96 64 (column w₁) w₂ → Stored w₂ 0 64 (from w₂ 96) w₃ → Product w 32 w₃
+    {w w₁ w₂ w₃ : List ℕ} → Stored 0 w 64 32 (λ j. getD w (63 - j) 0) w₁ → Stored 0 w₁ 96 64 (column w₁) w₂ → Stored 0 w₂ 0 64 (from w₂ 96) w₃ → Product w 32 w₃
 leaf-law {w} {w₁} {w₂} {w₃} b s c =
     let back : (j : ℕ) → j < 32 → getD w₁ (64 + j) 0 ≡ getD w₁ (63 - j) 0 = λ j p. b .inside j p ∙ sym (b .below (63 - j) (omega arith)) in
     record {

@@ -11,7 +11,8 @@ use native.Mathlib.Nat.{zero-add}
 use native.Mathlib.Decide.{decLt}
 use lib.ListN.{getD}
 use Rattle.halves.specs.Halves.{q}
-use Rattle.halves.specs.Steps.{full, cut, from, times, Stored, Product, InPart, Spread, middle, Joined}
+use Rattle.lists.specs.Stored.{Stored}
+use Rattle.halves.specs.Steps.{full, cut, from, times, Product, InPart, Spread, middle, Joined}
 use Rattle.halves.proofs.Full.{cut-ext, full-ext}
 use Rattle.halves.proofs.Step.{step-low, step-mid-low, step-mid-high, step-high}
 
@@ -30,11 +31,11 @@ unfolding times
 times-ext w w′ n x y x′ y′ k p r = factors-ext n _ _ _ _ k p r
 
 module _ {h : ℕ} {w₀ w₁ w₂ w₃ w₄ w₅ : List ℕ}
-    (a₁ : Stored w₀ (4 * h) h (λ k. (from w₀ 0 k + from w₀ h k) % q) w₁)
-    (a₂ : Stored w₁ (5 * h) h (λ k. (from w₁ (2 * h) k + from w₁ (3 * h) k) % q) w₂)
-    (c₁ : Stored w₂ (6 * h) h (from w₂ h) w₃)
-    (c₂ : Stored w₃ h h (from w₃ (2 * h)) w₄)
-    (c₃ : Stored w₄ (2 * h) h (from w₄ (6 * h)) w₅) where
+    (a₁ : Stored 0 w₀ (4 * h) h (λ k. (from w₀ 0 k + from w₀ h k) % q) w₁)
+    (a₂ : Stored 0 w₁ (5 * h) h (λ k. (from w₁ (2 * h) k + from w₁ (3 * h) k) % q) w₂)
+    (c₁ : Stored 0 w₂ (6 * h) h (from w₂ h) w₃)
+    (c₂ : Stored 0 w₃ h h (from w₃ (2 * h)) w₄)
+    (c₃ : Stored 0 w₄ (2 * h) h (from w₄ (6 * h)) w₅) where
   kept : (i : ℕ) → i < 4 * h → getD w₃ i 0 ≡ getD w₀ i 0
   kept i p = c₁ .below i (omega arith) ∙ a₂ .below i (omega arith) ∙ a₁ .below i p
 
@@ -68,8 +69,8 @@ module _ {h : ℕ} {w₀ w₁ w₂ w₃ w₄ w₅ : List ℕ}
 
 pub join-law :
     {h : ℕ} {w₀ w₁ w₂ : List ℕ} →
-    Stored w₀ (10 * h) (2 * h) (λ k. (from w₀ (10 * h) k + (q - from w₀ 0 k) + (q - from w₀ (2 * h) k)) % q) w₁ →
-    Stored w₁ h (2 * h) (λ k. (from w₁ h k + from w₁ (10 * h) k) % q) w₂ → Joined w₀ h w₂
+    Stored 0 w₀ (10 * h) (2 * h) (λ k. (from w₀ (10 * h) k + (q - from w₀ 0 k) + (q - from w₀ (2 * h) k)) % q) w₁ →
+    Stored 0 w₁ h (2 * h) (λ k. (from w₁ h k + from w₁ (10 * h) k) % q) w₂ → Joined w₀ h w₂
 join-law {h} {w₀} s a =
     record {
       long = a .long ∙ s .long;
@@ -85,9 +86,9 @@ join-law {h} {w₀} s a =
 
 -- the three products are made from the last to the first, and each is moved out of the way of the next
 module _ {h : ℕ} {w₀ w₁ w₂ w₃ w₄ w₅ w₆ w₇ w₈ : List ℕ} (s : Spread w₀ h w₁)
-    (m : InPart w₁ (4 * h) h w₂) (cm : Stored w₂ (10 * h) (2 * h) (from w₂ (4 * h)) w₃)
-    (u : InPart w₃ (2 * h) h w₄) (cu : Stored w₄ (8 * h) (2 * h) (from w₄ (2 * h)) w₅)
-    (l : InPart w₅ 0 h w₆) (cb : Stored w₆ (2 * h) (2 * h) (from w₆ (8 * h)) w₇) (j : Joined w₇ h w₈) where
+    (m : InPart w₁ (4 * h) h w₂) (cm : Stored 0 w₂ (10 * h) (2 * h) (from w₂ (4 * h)) w₃)
+    (u : InPart w₃ (2 * h) h w₄) (cu : Stored 0 w₄ (8 * h) (2 * h) (from w₄ (2 * h)) w₅)
+    (l : InPart w₅ 0 h w₆) (cb : Stored 0 w₆ (2 * h) (2 * h) (from w₆ (8 * h)) w₇) (j : Joined w₇ h w₈) where
   -- the factors stay until they are used
   kept₃ : (i : ℕ) → i < 4 * h → getD w₃ i 0 ≡ getD w₁ i 0
   kept₃ i p = cm .below i (omega arith) ∙ m .below i p

@@ -26,7 +26,8 @@ use Rattle.front.specs.declared.Verdict.the-variants.{Pass, Fail}
 use Rattle.front.proofs.Laws.{differ, both, failed, length-passed, room-passed}
 use Rattle.front.proofs.Seen.{shown-passed, shown-failed}
 use Rattle.halves.specs.Halves.{q, sizeUpTo, sizeIn, Factors, factorsOf, productTests, plain, ProductSeen, withScratch, productResult, ProductSeenAll}
-use Rattle.halves.specs.Steps.{full, cut, from, times, Stored, Product, Fit}
+use Rattle.lists.specs.Stored.{Stored}
+use Rattle.halves.specs.Steps.{full, cut, from, times, Product, Fit}
 use Rattle.halves.proofs.Full.{cut-ext, full-ext}
 use Rattle.halves.proofs.Folded.{product-folded}
 use Rattle.halves.proofs.Step.{rest-≅, less-≅}
@@ -59,8 +60,8 @@ tests-stop x n m e f =
 -- ---- the product
 
 module _ (n : ℕ) (a b w₁ w₂ w₃ : List ℕ) (w₀ : List ℕ) (la : length a ≡ n) (lb : length b ≡ n)
-    (pa : Stored w₀ 0 (length a) (λ k. getD a k 0) w₁)
-    (pb : Stored w₁ n (length b) (λ k. getD b k 0) w₂)
+    (pa : Stored 0 w₀ 0 (length a) (λ k. getD a k 0) w₁)
+    (pb : Stored 0 w₁ n (length b) (λ k. getD b k 0) w₂)
     (p : Product w₂ n w₃) where
   abbrev A : ℕ → ℕ
   A = cut n (λ j. getD a j 0)

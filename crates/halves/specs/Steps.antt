@@ -5,7 +5,6 @@
 --   from w o              the numbers of w from entry o on
 --   times w n x y         the full product, modulo q, of the n numbers at x with the n numbers at y
 --   column w k            coefficient k of the full product of the 32 numbers at 0 with those at 32, which stand backwards at 64: a dot product of neighbours
---   Stored w to n f w′    the n numbers at `to` are now f 0, .., f (n - 1), and the others as they were
 --   Ahead x to n          the n numbers at x are read, in order, before those at `to` are written over
 --   Product w n w′        two factors of n numbers at the front of w have become their full product
 --   InPart w at h w′      the same of the 6 h numbers at `at`, with all others as they were
@@ -40,12 +39,6 @@ times w n x y k = full (cut n (from w x)) (cut n (from w y)) k % q
 
 unfoldable pub column : List ℕ → ℕ → ℕ
 column w k = sumℕ (32 - ((k - 31) + (31 - k))) (λ j. from w (k - 31) j * from w (64 + (31 - k)) j) % q
-
-pub record Stored (w : List ℕ) (to n : ℕ) (f : ℕ → ℕ) (w′ : List ℕ) : Type 0 where
-  pub long : length w′ ≡ length w
-  pub inside : (k : ℕ) → k < n → getD w′ (to + k) 0 ≡ f k
-  pub below : (i : ℕ) → i < to → getD w′ i 0 ≡ getD w i 0
-  pub above : (i : ℕ) → to + n ≤ i → getD w′ i 0 ≡ getD w i 0
 
 pub record Ahead (x to n : ℕ) : Type 0 where
   pub ahead : (i j : ℕ) → j < i → i < n → (x + i ≡ to + j) → ⊥

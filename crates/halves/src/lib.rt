@@ -8,9 +8,10 @@ ghost use lib.ListN.{length, getD, replicate};
 ghost use Rattle.numbers.specs.Sum.{sumℕ};
 ghost use Rattle.lists.specs.Entries.{tab};
 ghost use Rattle.lists.specs.Lent.{was, left, room};
+ghost use Rattle.lists.specs.Stored.{Stored};
 ghost use Rattle.front.specs.Seen.{told, shown, seen};
 ghost use Rattle.halves.specs.Halves.{q, sizeUpTo, sizeIn, factors, productTests, plain, productSeen, productResult};
-ghost use Rattle.halves.specs.Steps.{Size, from, column, Stored, Ahead, Product, Spread, Joined, Fit};
+ghost use Rattle.halves.specs.Steps.{Size, from, column, Ahead, Product, Spread, Joined, Fit};
 use front::Answer;
 use front::Refusal;
 use front::Verdict;
@@ -41,7 +42,7 @@ fn less_both(m: u32, x: u32, y: u32) -> u32
 fn copy(w: &mut [u32], x: usize, to: usize, n: usize)
     requires { ⌜ (x + n ≤ length (now w)) × (to + n ≤ length (now w)) ⌝ }
     requires { ⌜ Ahead x to n ⌝ }
-    ensures { λ _. ⌜ Stored (was w) to n (from (was w) x) (left w) ⌝ }
+    ensures { λ _. ⌜ Stored 0 (was w) to n (from (was w) x) (left w) ⌝ }
 {
     let mut i: usize = 0;
     while i < n {
@@ -56,7 +57,7 @@ fn copy(w: &mut [u32], x: usize, to: usize, n: usize)
 fn add(w: &mut [u32], x: usize, y: usize, to: usize, n: usize)
     requires { ⌜ (x + n ≤ length (now w)) × (y + n ≤ length (now w)) × (to + n ≤ length (now w)) ⌝ }
     requires { ⌜ Ahead x to n × Ahead y to n ⌝ }
-    ensures { λ _. ⌜ Stored (was w) to n (λ (k : ℕ). (from (was w) x k + from (was w) y k) % q) (left w) ⌝ }
+    ensures { λ _. ⌜ Stored 0 (was w) to n (λ (k : ℕ). (from (was w) x k + from (was w) y k) % q) (left w) ⌝ }
 {
     let mut i: usize = 0;
     while i < n {
@@ -72,7 +73,7 @@ fn add(w: &mut [u32], x: usize, y: usize, to: usize, n: usize)
 fn subtract(w: &mut [u32], x: usize, y: usize, to: usize, n: usize)
     requires { ⌜ (x + n ≤ length (now w)) × (y + n ≤ length (now w)) × (to + n ≤ length (now w)) ⌝ }
     requires { ⌜ Ahead x to n × Ahead y to n ⌝ }
-    ensures { λ _. ⌜ Stored (was w) to n (λ (k : ℕ). (from (was w) to k + (q - from (was w) x k) + (q - from (was w) y k)) % q) (left w) ⌝ }
+    ensures { λ _. ⌜ Stored 0 (was w) to n (λ (k : ℕ). (from (was w) to k + (q - from (was w) x k) + (q - from (was w) y k)) % q) (left w) ⌝ }
 {
     let mut i: usize = 0;
     while i < n {
@@ -144,7 +145,7 @@ fn coefficient(w: &[u32], k: usize) -> u32
 // All 64 of them.
 fn coefficients(w: &mut [u32])
     requires { ⌜ 160 ≤ length (now w) ⌝ }
-    ensures { λ _. ⌜ Stored (was w) 96 64 (column (was w)) (left w) ⌝ }
+    ensures { λ _. ⌜ Stored 0 (was w) 96 64 (column (was w)) (left w) ⌝ }
 {
     let mut k: usize = 0;
     while k < 64 {
@@ -158,7 +159,7 @@ fn coefficients(w: &mut [u32])
 // The second factor of 32 numbers, laid backwards behind both.
 fn backwards(w: &mut [u32])
     requires { ⌜ 96 ≤ length (now w) ⌝ }
-    ensures { λ _. ⌜ Stored (was w) 64 32 (λ (j : ℕ). getD (was w) (63 - j) 0) (left w) ⌝ }
+    ensures { λ _. ⌜ Stored 0 (was w) 64 32 (λ (j : ℕ). getD (was w) (63 - j) 0) (left w) ⌝ }
 {
     let mut j: usize = 0;
     while j < 32 {
@@ -230,7 +231,7 @@ fn halves(w: &mut [u32], n: usize)
 // The numbers of x, written at `to`.
 fn load(w: &mut [u32], x: &[u32], to: usize)
     requires { ⌜ to + length (now x) ≤ length (now w) ⌝ }
-    ensures { λ _. ⌜ Stored (was w) to (room x) (λ (k : ℕ). getD (was x) k 0) (left w) ⌝ }
+    ensures { λ _. ⌜ Stored 0 (was w) to (room x) (λ (k : ℕ). getD (was x) k 0) (left w) ⌝ }
 {
     let mut i: usize = 0;
     while i < x.len() {

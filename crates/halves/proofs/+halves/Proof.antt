@@ -4,8 +4,9 @@ use mathlib.Core.List.{List}
 use Prim.Native.Nat.{ℕ, _+_, _*_, _-_, _/_, _<_, _≤_}
 use native.Mathlib.Omega.{arith}
 use lib.ListN.{length}
+use borrow.Author.Needs.{needs}
 use borrow.Rule.Slice.PartMut.{putMid}
-use borrow.Fn.Kinds.{In}
+use borrow.Fn.Kinds.{In, Out}
 use borrow.Fn.PlainCycle.{Measures, is, falls, and}
 use Rattle.halves.specs.Steps.{Size, Product, InPart}
 use Rattle.halves.proofs.Moves.{level-law}
@@ -45,32 +46,47 @@ known t = (
 )
 
 module _ (t : ℕ) where
+  -- what is known at a place of the code
+  abbrev Place : (lts.Claims → In 1 halves-kinds.ps → Out 1 halves-kinds.ps halves-kinds.r → Type 0) → Type 0
+  Place P = P (known t) (halves-at t) halves.Post
+
   abbrev Above : Type 0
-  Above = lts.Else1 (known t) (halves-at t) halves.Post
+  Above = Place lts.Else1
 
-  abbrev After₁ : Type 0
-  After₁ = lts.After-spread (known t) (halves-at t) halves.Post
+  -- ---- from each step to the one before it
 
-  abbrev After₂ : Type 0
-  After₂ = lts.After-halves (known t) (halves-at t) halves.Post
+  abbrev above₁ : Place lts.After-spread → Above
+  above₁ c = search needs
 
-  abbrev After₃ : Type 0
-  After₃ = lts.After-copy (known t) (halves-at t) halves.Post
+  abbrev at₂ : Place lts.After-halves → Place lts.After-spread
+  at₂ c = search needs
 
-  abbrev After₄ : Type 0
-  After₄ = lts.After-halves2 (known t) (halves-at t) halves.Post
+  abbrev at₃ : Place lts.After-copy → Place lts.After-halves
+  at₃ c = search needs
 
-  abbrev After₅ : Type 0
-  After₅ = lts.After-copy2 (known t) (halves-at t) halves.Post
+  abbrev at₄ : Place lts.After-halves2 → Place lts.After-copy
+  at₄ c = search needs
 
-  abbrev After₆ : Type 0
-  After₆ = lts.After-halves3 (known t) (halves-at t) halves.Post
+  abbrev at₅ : Place lts.After-copy2 → Place lts.After-halves2
+  at₅ c = search needs
 
-  abbrev After₇ : Type 0
-  After₇ = lts.After-copy3 (known t) (halves-at t) halves.Post
+  abbrev at₆ : Place lts.After-halves3 → Place lts.After-copy2
+  at₆ c = search needs
 
-  abbrev After₈ : Type 0
-  After₈ = lts.After-join (known t) (halves-at t) halves.Post
+  abbrev at₇ : Place lts.After-copy3 → Place lts.After-halves3
+  at₇ c = search needs
+
+  abbrev at₈ : Place lts.After-join → Place lts.After-copy3
+  at₈ c = search needs
+
+  abbrev above₃ : Place lts.After-copy → Above
+  above₃ c = above₁ (at₂ (at₃ c))
+
+  abbrev above₅ : Place lts.After-copy2 → Above
+  above₅ c = above₃ (at₄ (at₅ c))
+
+  abbrev above₇ : Place lts.After-copy3 → Above
+  above₇ c = above₅ (at₆ (at₇ c))
 
   -- ---- where n is above 32
 
@@ -100,117 +116,84 @@ module _ (t : ℕ) where
 
   -- ---- after each step
 
-  abbrev h₁ : After₁ → ℕ
-  h₁ c = h₀ (c .before .before)
+  abbrev h₁ : Place lts.After-spread → ℕ
+  h₁ c = h₀ (above₁ c)
 
-  abbrev w₁ : After₁ → List ℕ
+  abbrev w₁ : Place lts.After-spread → List ℕ
   w₁ c = c .spread .last .0
 
-  room₁ : (c : After₁) → 12 * h₁ c ≤ length (w₁ c)
-  room₁ c = omega (arith, c .spread .ensures .long, room₀ (c .before .before))
+  room₁ : (c : Place lts.After-spread) → 12 * h₁ c ≤ length (w₁ c)
+  room₁ c = omega (arith, c .spread .ensures .long, room₀ (above₁ c))
 
-  abbrev h₂ : After₂ → ℕ
-  h₂ c = h₁ (c .before .before .before .before)
+  abbrev h₂ : Place lts.After-halves → ℕ
+  h₂ c = h₁ (at₂ c)
 
-  abbrev w₂ : After₂ → List ℕ
-  w₂ c = putMid (4 * h₂ c) (10 * h₂ c - 4 * h₂ c) (w₁ (c .before .before .before .before)) (c .halves .last .0)
+  abbrev w₂ : Place lts.After-halves → List ℕ
+  w₂ c = putMid (4 * h₂ c) (10 * h₂ c - 4 * h₂ c) (w₁ (at₂ c)) (c .halves .last .0)
 
-  made₂ : (c : After₂) → InPart (w₁ (c .before .before .before .before)) (4 * h₂ c) (h₂ c) (w₂ c)
-  made₂ c = part-product (omega arith) (omega (arith, room₁ (c .before .before .before .before))) (c .halves .ensures)
+  made₂ : (c : Place lts.After-halves) → InPart (w₁ (at₂ c)) (4 * h₂ c) (h₂ c) (w₂ c)
+  made₂ c = part-product (omega arith) (omega (arith, room₁ (at₂ c))) (c .halves .ensures)
 
-  room₂ : (c : After₂) → 12 * h₂ c ≤ length (w₂ c)
-  room₂ c = omega (arith, made₂ c .long, room₁ (c .before .before .before .before))
+  room₂ : (c : Place lts.After-halves) → 12 * h₂ c ≤ length (w₂ c)
+  room₂ c = omega (arith, made₂ c .long, room₁ (at₂ c))
 
-  abbrev h₃ : After₃ → ℕ
-  h₃ c = h₂ (c .before .before .before .before)
+  abbrev h₃ : Place lts.After-copy → ℕ
+  h₃ c = h₂ (at₃ c)
 
-  abbrev w₃ : After₃ → List ℕ
+  abbrev w₃ : Place lts.After-copy → List ℕ
   w₃ c = c .copy .last .0
 
-  room₃ : (c : After₃) → 12 * h₃ c ≤ length (w₃ c)
-  room₃ c = omega (arith, c .copy .ensures .long, room₂ (c .before .before .before .before))
+  room₃ : (c : Place lts.After-copy) → 12 * h₃ c ≤ length (w₃ c)
+  room₃ c = omega (arith, c .copy .ensures .long, room₂ (at₃ c))
 
-  abbrev h₄ : After₄ → ℕ
-  h₄ c = h₃ (c .before .before .before .before)
+  abbrev h₄ : Place lts.After-halves2 → ℕ
+  h₄ c = h₃ (at₄ c)
 
-  abbrev w₄ : After₄ → List ℕ
-  w₄ c = putMid (2 * h₄ c) (8 * h₄ c - 2 * h₄ c) (w₃ (c .before .before .before .before)) (c .halves2 .last .0)
+  abbrev w₄ : Place lts.After-halves2 → List ℕ
+  w₄ c = putMid (2 * h₄ c) (8 * h₄ c - 2 * h₄ c) (w₃ (at₄ c)) (c .halves2 .last .0)
 
-  made₄ : (c : After₄) → InPart (w₃ (c .before .before .before .before)) (2 * h₄ c) (h₄ c) (w₄ c)
-  made₄ c = part-product (omega arith) (omega (arith, room₃ (c .before .before .before .before))) (c .halves2 .ensures)
+  made₄ : (c : Place lts.After-halves2) → InPart (w₃ (at₄ c)) (2 * h₄ c) (h₄ c) (w₄ c)
+  made₄ c = part-product (omega arith) (omega (arith, room₃ (at₄ c))) (c .halves2 .ensures)
 
-  room₄ : (c : After₄) → 12 * h₄ c ≤ length (w₄ c)
-  room₄ c = omega (arith, made₄ c .long, room₃ (c .before .before .before .before))
+  room₄ : (c : Place lts.After-halves2) → 12 * h₄ c ≤ length (w₄ c)
+  room₄ c = omega (arith, made₄ c .long, room₃ (at₄ c))
 
-  abbrev h₅ : After₅ → ℕ
-  h₅ c = h₄ (c .before .before .before .before)
+  abbrev h₅ : Place lts.After-copy2 → ℕ
+  h₅ c = h₄ (at₅ c)
 
-  abbrev w₅ : After₅ → List ℕ
+  abbrev w₅ : Place lts.After-copy2 → List ℕ
   w₅ c = c .copy2 .last .0
 
-  room₅ : (c : After₅) → 12 * h₅ c ≤ length (w₅ c)
-  room₅ c = omega (arith, c .copy2 .ensures .long, room₄ (c .before .before .before .before))
+  room₅ : (c : Place lts.After-copy2) → 12 * h₅ c ≤ length (w₅ c)
+  room₅ c = omega (arith, c .copy2 .ensures .long, room₄ (at₅ c))
 
-  abbrev h₆ : After₆ → ℕ
-  h₆ c = h₅ (c .before .before .before .before)
+  abbrev h₆ : Place lts.After-halves3 → ℕ
+  h₆ c = h₅ (at₆ c)
 
-  abbrev w₆ : After₆ → List ℕ
-  w₆ c = putMid 0 (6 * h₆ c - 0) (w₅ (c .before .before .before .before)) (c .halves3 .last .0)
+  abbrev w₆ : Place lts.After-halves3 → List ℕ
+  w₆ c = putMid 0 (6 * h₆ c - 0) (w₅ (at₆ c)) (c .halves3 .last .0)
 
-  made₆ : (c : After₆) → InPart (w₅ (c .before .before .before .before)) 0 (h₆ c) (w₆ c)
-  made₆ c = part-product {e = 6 * h₆ c} (omega arith) (omega (arith, room₅ (c .before .before .before .before))) (c .halves3 .ensures)
+  made₆ : (c : Place lts.After-halves3) → InPart (w₅ (at₆ c)) 0 (h₆ c) (w₆ c)
+  made₆ c = part-product {e = 6 * h₆ c} (omega arith) (omega (arith, room₅ (at₆ c))) (c .halves3 .ensures)
 
-  room₆ : (c : After₆) → 12 * h₆ c ≤ length (w₆ c)
-  room₆ c = omega (arith, made₆ c .long, room₅ (c .before .before .before .before))
+  room₆ : (c : Place lts.After-halves3) → 12 * h₆ c ≤ length (w₆ c)
+  room₆ c = omega (arith, made₆ c .long, room₅ (at₆ c))
 
-  abbrev h₇ : After₇ → ℕ
-  h₇ c = h₆ (c .before .before .before .before)
+  abbrev h₇ : Place lts.After-copy3 → ℕ
+  h₇ c = h₆ (at₇ c)
 
-  abbrev w₇ : After₇ → List ℕ
+  abbrev w₇ : Place lts.After-copy3 → List ℕ
   w₇ c = c .copy3 .last .0
 
-  room₇ : (c : After₇) → 12 * h₇ c ≤ length (w₇ c)
-  room₇ c = omega (arith, c .copy3 .ensures .long, room₆ (c .before .before .before .before))
+  room₇ : (c : Place lts.After-copy3) → 12 * h₇ c ≤ length (w₇ c)
+  room₇ c = omega (arith, c .copy3 .ensures .long, room₆ (at₇ c))
 
   -- ---- the needs
-
-  leaf-requires : lts.Need-leaf-requires (known t) (halves-at t) halves.Post
-  leaf-requires c κs = omega (arith, size-least (c .before .before .before .pre .1 .1))
-
-  mul-two : lts.Need-mul-two (known t) (halves-at t) halves.Post
-  mul-two c = omega (arith, few c)
-
-  mul-four : lts.Need-mul-four (known t) (halves-at t) halves.Post
-  mul-four c = omega (arith, few c)
-
-  mul-six : lts.Need-mul-six (known t) (halves-at t) halves.Post
-  mul-six c = omega (arith, few c)
-
-  mul-eight : lts.Need-mul-eight (known t) (halves-at t) halves.Post
-  mul-eight c = omega (arith, few c)
-
-  mul-ten : lts.Need-mul-ten (known t) (halves-at t) halves.Post
-  mul-ten c = omega (arith, few c)
-
-  spread-requires : lts.Need-spread-requires (known t) (halves-at t) halves.Post
-  spread-requires c κs = room₀ (c .before)
-
-  mul-halves : lts.Need-mul-halves (known t) (halves-at t) halves.Post
-  mul-halves c = omega (arith, room₁ (c .before .before), few (c .before .before .before .before))
-
-  sub-halves : lts.Need-sub-halves (known t) (halves-at t) halves.Post
-  sub-halves c = omega (arith, room₁ (c .before .before), few (c .before .before .before .before))
-
-  part-halves-start : lts.Need-part-halves-start (known t) (halves-at t) halves.Post
-  part-halves-start c = omega (arith, room₁ (c .before .before), few (c .before .before .before .before))
-
-  part-halves-end : lts.Need-part-halves-end (known t) (halves-at t) halves.Post
-  part-halves-end c = omega (arith, room₁ (c .before .before), few (c .before .before .before .before))
 
   halves-requires : lts.Need-halves-requires (known t) (halves-at t) halves.Post
   halves-requires c κs =
       let p = c .before .before .before in
-      let u = p .before .before in
+      let u = above₁ p in
       (falling u, (lent-long (h₁ p) (4 * h₁ p) (10 * h₁ p) (w₁ p) (omega arith) (omega (arith, room₁ p)), half u))
 
   copy-requires : lts.Need-copy-requires (known t) (halves-at t) halves.Post
@@ -218,22 +201,10 @@ module _ (t : ℕ) where
       let r = room₂ (c .before .before .before) in
       ((omega (arith, r), omega (arith, r)), record { ahead = λ i j p r e. omega arith })
 
-  mul-halves-2 : lts.Need-mul-halves-2 (known t) (halves-at t) halves.Post
-  mul-halves-2 c = omega (arith, room₃ (c .before .before), few (c .before .before .before .before .before .before .before .before .before .before .before .before))
-
-  sub-halves-2 : lts.Need-sub-halves-2 (known t) (halves-at t) halves.Post
-  sub-halves-2 c = omega (arith, room₃ (c .before .before), few (c .before .before .before .before .before .before .before .before .before .before .before .before))
-
-  part-halves-start-2 : lts.Need-part-halves-start-2 (known t) (halves-at t) halves.Post
-  part-halves-start-2 c = omega (arith, room₃ (c .before .before), few (c .before .before .before .before .before .before .before .before .before .before .before .before))
-
-  part-halves-end-2 : lts.Need-part-halves-end-2 (known t) (halves-at t) halves.Post
-  part-halves-end-2 c = omega (arith, room₃ (c .before .before), few (c .before .before .before .before .before .before .before .before .before .before .before .before))
-
   halves-requires-2 : lts.Need-halves-requires-2 (known t) (halves-at t) halves.Post
   halves-requires-2 c κs =
       let p = c .before .before .before in
-      let u = p .before .before .before .before .before .before .before .before .before .before in
+      let u = above₃ p in
       (falling u, (lent-long (h₃ p) (2 * h₃ p) (8 * h₃ p) (w₃ p) (omega arith) (omega (arith, room₃ p)), half u))
 
   copy-requires-2 : lts.Need-copy-requires-2 (known t) (halves-at t) halves.Post
@@ -241,19 +212,10 @@ module _ (t : ℕ) where
       let r = room₄ (c .before .before .before) in
       ((omega (arith, r), omega (arith, r)), record { ahead = λ i j p r e. omega arith })
 
-  sub-halves-3 : lts.Need-sub-halves-3 (known t) (halves-at t) halves.Post
-  sub-halves-3 c = omega (arith, room₅ (c .before .before), few (c .before .before .before .before .before .before .before .before .before .before .before .before .before .before .before .before .before .before .before .before))
-
-  part-halves-start-3 : lts.Need-part-halves-start-3 (known t) (halves-at t) halves.Post
-  part-halves-start-3 c = omega (arith, room₅ (c .before .before), few (c .before .before .before .before .before .before .before .before .before .before .before .before .before .before .before .before .before .before .before .before))
-
-  part-halves-end-3 : lts.Need-part-halves-end-3 (known t) (halves-at t) halves.Post
-  part-halves-end-3 c = omega (arith, room₅ (c .before .before), few (c .before .before .before .before .before .before .before .before .before .before .before .before .before .before .before .before .before .before .before .before))
-
   halves-requires-3 : lts.Need-halves-requires-3 (known t) (halves-at t) halves.Post
   halves-requires-3 c κs =
       let p = c .before .before .before in
-      let u = p .before .before .before .before .before .before .before .before .before .before .before .before .before .before .before .before .before .before in
+      let u = above₅ p in
       (falling u, (lent-long (h₅ p) 0 (6 * h₅ p) (w₅ p) (omega arith) (omega (arith, room₅ p)), half u))
 
   copy-requires-3 : lts.Need-copy-requires-3 (known t) (halves-at t) halves.Post
@@ -261,68 +223,57 @@ module _ (t : ℕ) where
       let r = room₆ (c .before .before .before) in
       ((omega (arith, r), omega (arith, r)), record { ahead = λ i j p r e. omega arith })
 
-  join-requires : lts.Need-join-requires (known t) (halves-at t) halves.Post
-  join-requires c κs = room₇ (c .before .before .before)
-
-  same-length : lts.Need-same-length (known t) (halves-at t) halves.Post
-  same-length c = c .before .before .leaf .ensures .long
-
   returns : lts.Need-returns (known t) (halves-at t) halves.Post
   returns c =
-      let s = c .before .before .before .before .before .before in
-      let e : s .args .n ≡ 32 = omega (arith, size-least (s .pre .1 .1), c .before .before .before .before .if1 .taken) in
+      let u : Place lts.Then1 = search needs in
+      let s = u .before .before in
+      let e : s .args .n ≡ 32 = omega (arith, size-least (s .pre .1 .1), u .if1 .taken) in
       product-at e (c .before .before .leaf .ensures)
 
-  abbrev above₈ : After₈ → Above
-  above₈ c = c .before .before .before .before .before .before .before .before .before .before .before .before .before .before .before .before .before .before .before .before .before .before .before .before .before .before .before .before .before .before
+  abbrev above₈ : Place lts.After-join → Above
+  above₈ c = above₇ (at₈ c)
 
-  all : (c : After₈) → Product (w₀ (above₈ c)) (h₀ (above₈ c) + h₀ (above₈ c)) (c .join .last .0)
+  all : (c : Place lts.After-join) → Product (w₀ (above₈ c)) (h₀ (above₈ c) + h₀ (above₈ c)) (c .join .last .0)
   all c =
-      let c₇ = c .before .before .before .before in
-      let c₆ = c₇ .before .before .before .before in
-      let c₅ = c₆ .before .before .before .before in
-      let c₄ = c₅ .before .before .before .before in
-      let c₃ = c₄ .before .before .before .before in
-      let c₂ = c₃ .before .before .before .before in
-      let c₁ = c₂ .before .before .before .before in
+      let c₇ = at₈ c in
+      let c₆ = at₇ c₇ in
+      let c₅ = at₆ c₆ in
+      let c₄ = at₅ c₅ in
+      let c₃ = at₄ c₄ in
+      let c₂ = at₃ c₃ in
+      let c₁ = at₂ c₂ in
       level-law {h = h₁ c₁} (c₁ .spread .ensures) (made₂ c₂) (c₃ .copy .ensures) (made₄ c₄) (c₅ .copy2 .ensures) (made₆ c₆) (c₇ .copy3 .ensures) (c .join .ensures)
-
-  same-length-2 : lts.Need-same-length-2 (known t) (halves-at t) halves.Post
-  same-length-2 c = all (c .before .before) .long
-
-  returns-2 : lts.Need-returns-2 (known t) (halves-at t) halves.Post
-  returns-2 c = product-at (even (above₈ (c .before .before))) (all (c .before .before))
 
 pub +halves-spec : {M : Type 1} → statement M
 +halves-spec =
     close μ-halves λ t.
     lts.spec (known t) (halves-at t) halves.Post
-    (leaf-requires t)
-    (mul-two t)
-    (mul-four t)
-    (mul-six t)
-    (mul-eight t)
-    (mul-ten t)
-    (spread-requires t)
-    (mul-halves t)
-    (sub-halves t)
-    (part-halves-start t)
-    (part-halves-end t)
+    (λ c κs. omega (arith, size-least (c .before .before .before .pre .1 .1)))
+    (λ c. omega (arith, few t c))
+    (λ c. omega (arith, few t c))
+    (λ c. omega (arith, few t c))
+    (λ c. omega (arith, few t c))
+    (λ c. omega (arith, few t c))
+    (λ c κs. room₀ t (c .before))
+    (λ c. omega (arith, room₁ t (c .before .before), few t (above₁ t (c .before .before))))
+    (λ c. omega (arith, room₁ t (c .before .before), few t (above₁ t (c .before .before))))
+    (λ c. omega (arith, room₁ t (c .before .before), few t (above₁ t (c .before .before))))
+    (λ c. omega (arith, room₁ t (c .before .before), few t (above₁ t (c .before .before))))
     (halves-requires t)
     (copy-requires t)
-    (mul-halves-2 t)
-    (sub-halves-2 t)
-    (part-halves-start-2 t)
-    (part-halves-end-2 t)
+    (λ c. omega (arith, room₃ t (c .before .before), few t (above₃ t (c .before .before))))
+    (λ c. omega (arith, room₃ t (c .before .before), few t (above₃ t (c .before .before))))
+    (λ c. omega (arith, room₃ t (c .before .before), few t (above₃ t (c .before .before))))
+    (λ c. omega (arith, room₃ t (c .before .before), few t (above₃ t (c .before .before))))
     (halves-requires-2 t)
     (copy-requires-2 t)
-    (sub-halves-3 t)
-    (part-halves-start-3 t)
-    (part-halves-end-3 t)
+    (λ c. omega (arith, room₅ t (c .before .before), few t (above₅ t (c .before .before))))
+    (λ c. omega (arith, room₅ t (c .before .before), few t (above₅ t (c .before .before))))
+    (λ c. omega (arith, room₅ t (c .before .before), few t (above₅ t (c .before .before))))
     (halves-requires-3 t)
     (copy-requires-3 t)
-    (join-requires t)
-    (same-length t)
+    (λ c κs. room₇ t (c .before .before .before))
+    (λ c. c .before .before .leaf .ensures .long)
     (returns t)
-    (same-length-2 t)
-    (returns-2 t)
+    (λ c. all t (c .before .before) .long)
+    (λ c. product-at (even t (above₈ t (c .before .before))) (all t (c .before .before)))

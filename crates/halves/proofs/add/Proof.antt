@@ -4,13 +4,15 @@ use Prim.Native.Nat.{ℕ, _+_, _-_, _%_, _≤_}
 use native.Mathlib.Omega.{arith}
 use borrow.Author.Needs.{needs}
 use Rattle.halves.specs.Halves.{q}
-use Rattle.halves.specs.Steps.{from, Stored}
-use Rattle.halves.proofs.Stores.{store-none, store-next, not-yet}
+use Rattle.lists.specs.Stored.{Stored}
+use Rattle.halves.specs.Steps.{from}
+use Rattle.lists.proofs.Stored.{store-none, store-next}
+use Rattle.halves.proofs.Stores.{read-ahead}
 use Rattle.halves.proofs.add.Statement.{statement}
 use Rattle.halves.proofs.add.Tie as tie
 
 abbrev Inv-loop : tie.InvT-loop
-Inv-loop w₀ x y to n i₀ w i = (i ≤ n) × Stored w₀ to i (λ k. (from w₀ x k + from w₀ y k) % q) w
+Inv-loop w₀ x y to n i₀ w i = (i ≤ n) × Stored 0 w₀ to i (λ k. (from w₀ x k + from w₀ y k) % q) w
 
 abbrev μ-loop : tie.MeasureT-loop
 μ-loop w₀ x y to n i₀ w i = n - i
@@ -22,7 +24,7 @@ loop-again c =
     let o = l .loop .inv .1 in (
       omega arith,
       store-next o (omega arith)
-          (c .plus .ensures ∙ ap₂ (λ (x y : ℕ). (x + y) % q) (not-yet o (s .pre .1 .0) (omega arith)) (not-yet o (s .pre .1 .1) (omega arith))),
+          (c .plus .ensures ∙ ap₂ (λ (x y : ℕ). (x + y) % q) (read-ahead o (s .pre .1 .0) (omega arith)) (read-ahead o (s .pre .1 .1) (omega arith))),
     )
 
 returns : tie.Need-returns Inv-loop μ-loop

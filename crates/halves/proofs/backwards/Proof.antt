@@ -4,13 +4,13 @@ use Prim.Native.Nat.{_-_, _≤_}
 use native.Mathlib.Omega.{arith}
 use borrow.Author.Needs.{needs}
 use lib.ListN.{getD}
-use Rattle.halves.specs.Steps.{Stored}
-use Rattle.halves.proofs.Stores.{store-none, store-next}
+use Rattle.lists.specs.Stored.{Stored}
+use Rattle.lists.proofs.Stored.{store-none, store-next}
 use Rattle.halves.proofs.backwards.Statement.{statement}
 use Rattle.halves.proofs.backwards.Tie as tie
 
 abbrev Inv-loop : tie.InvT-loop
-Inv-loop w₀ j₀ w j = (j ≤ 32) × Stored w₀ 64 j (λ i. getD w₀ (63 - i) 0) w
+Inv-loop w₀ j₀ w j = (j ≤ 32) × Stored 0 w₀ 64 j (λ i. getD w₀ (63 - i) 0) w
 
 abbrev μ-loop : tie.MeasureT-loop
 μ-loop w₀ j₀ w j = 32 - j

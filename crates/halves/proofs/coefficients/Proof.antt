@@ -3,14 +3,15 @@ use mathlib.Core.Path.{_≡_, _∙_}
 use Prim.Native.Nat.{_-_, _≤_}
 use native.Mathlib.Omega.{arith}
 use borrow.Author.Needs.{needs}
-use Rattle.halves.specs.Steps.{column, Stored}
-use Rattle.halves.proofs.Stores.{store-none, store-next}
+use Rattle.lists.specs.Stored.{Stored}
+use Rattle.halves.specs.Steps.{column}
+use Rattle.lists.proofs.Stored.{store-none, store-next}
 use Rattle.halves.proofs.Columns.{column-ext}
 use Rattle.halves.proofs.coefficients.Statement.{statement}
 use Rattle.halves.proofs.coefficients.Tie as tie
 
 abbrev Inv-loop : tie.InvT-loop
-Inv-loop w₀ k₀ w k = (k ≤ 64) × Stored w₀ 96 k (column w₀) w
+Inv-loop w₀ k₀ w k = (k ≤ 64) × Stored 0 w₀ 96 k (column w₀) w
 
 abbrev μ-loop : tie.MeasureT-loop
 μ-loop w₀ k₀ w k = 64 - k

@@ -3,13 +3,15 @@ use mathlib.Core.Path.{_≡_}
 use Prim.Native.Nat.{_-_, _≤_}
 use native.Mathlib.Omega.{arith}
 use borrow.Author.Needs.{needs}
-use Rattle.halves.specs.Steps.{from, Stored}
-use Rattle.halves.proofs.Stores.{store-none, store-next, not-yet}
+use Rattle.lists.specs.Stored.{Stored}
+use Rattle.halves.specs.Steps.{from}
+use Rattle.lists.proofs.Stored.{store-none, store-next}
+use Rattle.halves.proofs.Stores.{read-ahead}
 use Rattle.halves.proofs.copy.Statement.{statement}
 use Rattle.halves.proofs.copy.Tie as tie
 
 abbrev Inv-loop : tie.InvT-loop
-Inv-loop w₀ x to n i₀ w i = (i ≤ n) × Stored w₀ to i (from w₀ x) w
+Inv-loop w₀ x to n i₀ w i = (i ≤ n) × Stored 0 w₀ to i (from w₀ x) w
 
 abbrev μ-loop : tie.MeasureT-loop
 μ-loop w₀ x to n i₀ w i = n - i
@@ -19,7 +21,7 @@ loop-again c =
     let s : tie.Start Inv-loop μ-loop = search needs in
     let l : tie.At-loop Inv-loop μ-loop = search needs in
     let o = l .loop .inv .1 in
-    (omega arith, store-next o (omega arith) (not-yet o (s .pre .1) (omega arith)))
+    (omega arith, store-next o (omega arith) (read-ahead o (s .pre .1) (omega arith)))
 
 returns : tie.Need-returns Inv-loop μ-loop
 returns c =

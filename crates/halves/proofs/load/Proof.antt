@@ -4,13 +4,13 @@ use Prim.Native.Nat.{_-_, _≤_}
 use native.Mathlib.Omega.{arith}
 use borrow.Author.Needs.{needs}
 use lib.ListN.{length, getD}
-use Rattle.halves.specs.Steps.{Stored}
-use Rattle.halves.proofs.Stores.{store-none, store-next}
+use Rattle.lists.specs.Stored.{Stored}
+use Rattle.lists.proofs.Stored.{store-none, store-next}
 use Rattle.halves.proofs.load.Statement.{statement}
 use Rattle.halves.proofs.load.Tie as tie
 
 abbrev Inv-loop : tie.InvT-loop
-Inv-loop w₀ x to i₀ w i = (i ≤ length x) × Stored w₀ to i (λ k. getD x k 0) w
+Inv-loop w₀ x to i₀ w i = (i ≤ length x) × Stored 0 w₀ to i (λ k. getD x k 0) w
 
 abbrev μ-loop : tie.MeasureT-loop
 μ-loop w₀ x to i₀ w i = length x - i

@@ -5,13 +5,15 @@ use native.Mathlib.Omega.{arith}
 use borrow.Author.Needs.{needs}
 use lib.ListN.{getD}
 use Rattle.halves.specs.Halves.{q}
-use Rattle.halves.specs.Steps.{from, Stored}
-use Rattle.halves.proofs.Stores.{store-none, store-next, not-yet, not-yet-self}
+use Rattle.lists.specs.Stored.{Stored}
+use Rattle.halves.specs.Steps.{from}
+use Rattle.lists.proofs.Stored.{store-none, store-next, not-yet}
+use Rattle.halves.proofs.Stores.{read-ahead}
 use Rattle.halves.proofs.subtract.Statement.{statement}
 use Rattle.halves.proofs.subtract.Tie as tie
 
 abbrev Inv-loop : tie.InvT-loop
-Inv-loop w₀ x y to n i₀ w i = (i ≤ n) × Stored w₀ to i (λ k. (from w₀ to k + (q - from w₀ x k) + (q - from w₀ y k)) % q) w
+Inv-loop w₀ x y to n i₀ w i = (i ≤ n) × Stored 0 w₀ to i (λ k. (from w₀ to k + (q - from w₀ x k) + (q - from w₀ y k)) % q) w
 
 abbrev μ-loop : tie.MeasureT-loop
 μ-loop w₀ x y to n i₀ w i = n - i
@@ -26,10 +28,10 @@ loop-again c =
       omega arith,
       store-next o (omega arith)
           (c .less-both .ensures
-          ∙ ap (λ (m : ℕ). (m + (q - getD w (s .args .x + i) 0) + (q - getD w (s .args .y + i) 0)) % q) (not-yet-self o)
+          ∙ ap (λ (m : ℕ). (m + (q - getD w (s .args .x + i) 0) + (q - getD w (s .args .y + i) 0)) % q) (not-yet o)
           ∙ ap₂ (λ (x y : ℕ). (from (s .args .w .now) (s .args .to) i + (q - x) + (q - y)) % q)
-          (not-yet o (s .pre .1 .0) (omega arith))
-          (not-yet o (s .pre .1 .1) (omega arith))),
+          (read-ahead o (s .pre .1 .0) (omega arith))
+          (read-ahead o (s .pre .1 .1) (omega arith))),
     )
 
 returns : tie.Need-returns Inv-loop μ-loop
