@@ -6,18 +6,9 @@ use Rattle.newhope.proofs.Entry.{down-five}
 use Rattle.newhope.proofs.down.Statement.{statement}
 use Rattle.newhope.proofs.down.Tie as tie
 
-mul-result : tie.Need-mul-result
-mul-result c = search needs
-
-add-result : tie.Need-add-result
-add-result c = search needs
-
-mul-result-2 : tie.Need-mul-result-2
-mul-result-2 c = search needs
-
 returns : tie.Need-returns
 unfolding downOf
 returns c = (refl, down-five (c .args .b) (c .args .x) (c .pre .0) (c .pre .1))
 
 pub down-spec : {M : Type 1} → statement M
-down-spec = tie.close (tie.spec mul-result add-result mul-result-2 returns)
+down-spec = tie.close (tie.spec (search needs) (search needs) (search needs) returns)

@@ -35,11 +35,28 @@ loop-again c =
 pub hints-spec : {M : Type 1} → statement M
 hints-spec =
     tie.close
-    (tie.spec Inv-loop μ-loop
+    (tie.spec
+    Inv-loop
+    μ-loop
     (λ c. spread-start _ _ (omega arith))
-    (λ c. omega arith) (λ c. omega arith) (λ c κs. search needs) hint-requires
-    (λ c κs. omega arith) (λ c. omega arith) (λ c. omega arith)
-    (λ c κs. omega arith) (λ c. omega arith) (λ c. simp length-set (omega arith))
-    (λ c κs. omega arith) (λ c. omega arith) (λ c. simp length-set (omega arith))
-    (λ c κs. omega arith) (λ c. omega arith) (λ c. simp length-set (omega arith))
-    (λ c. omega arith) (λ c. omega arith) loop-again (λ c. omega arith) (λ c. hints-end _ _ (c .before .loop .inv) (omega arith)))
+    (omega arith)
+    (omega arith)
+    (λ c κs. search needs)
+    hint-requires
+    (λ c κs. omega arith)
+    (omega arith)
+    (omega arith)
+    (λ c κs. omega arith)
+    (omega arith)
+    (λ c. simp length-set (omega arith))
+    (λ c κs. omega arith)
+    (omega arith)
+    (λ c. simp length-set (omega arith))
+    (λ c κs. omega arith)
+    (omega arith)
+    (λ c. simp length-set (omega arith))
+    (omega arith)
+    (omega arith)
+    loop-again
+    (omega arith)
+    (λ c. hints-end _ _ (c .before .loop .inv) (omega arith)))

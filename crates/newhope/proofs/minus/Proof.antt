@@ -20,12 +20,6 @@ y-is c = toZ-pos w32 _ (omega (arith, c .pre .1))
 room : (c : tie.Start) → SFits w32 (pos (c .args .x) -ℤ pos (c .args .y))
 room c = fits-abs w32 (pos (c .args .x) -ℤ pos (c .args .y)) (omega (arith, abs-difference (c .args .x) (c .args .y), c .pre .0, c .pre .1))
 
-cast-result : tie.Need-cast-result
-cast-result c = search needs
-
-cast-result-2 : tie.Need-cast-result-2
-cast-result-2 c = search needs
-
 sub-result : tie.Need-sub-result
 sub-result c = rw (x-is c, y-is c) (room c)
 
@@ -33,4 +27,4 @@ returns : tie.Need-returns
 returns c = rw (x-is c, y-is c) (toZ-ofZ (room c))
 
 pub minus-spec : {M : Type 1} → statement M
-minus-spec = tie.close (tie.spec cast-result cast-result-2 sub-result returns)
+minus-spec = tie.close (tie.spec (search needs) (search needs) sub-result returns)

@@ -11,31 +11,11 @@ use Rattle.newhope.proofs.Entry.{off-half}
 use Rattle.newhope.proofs.off.Statement.{statement}
 use Rattle.newhope.proofs.off.Tie as tie
 
-up-requires : tie.Need-up-requires
-up-requires c κs = search needs
-
-mul-minus : tie.Need-mul-minus
-mul-minus c = search needs
-
-add-minus : tie.Need-add-minus
-add-minus c = search needs
-
-mul-minus-2 : tie.Need-mul-minus-2
-mul-minus-2 c = search needs
-
-mul-minus-3 : tie.Need-mul-minus-3
-mul-minus-3 c = search needs
-
-minus-requires : tie.Need-minus-requires
-minus-requires c κs = search needs
-
-size32-requires : tie.Need-size32-requires
-size32-requires c κs = search needs
-
 returns : tie.Need-returns
 unfolding offOf
 returns c =
-    let a = c .before .before .before .args in
+    let start : tie.Start = search needs in
+    let a = start .args in
     let u = c .before .before .up in
     let e = c .size32 .ensures
     ∙ ap natAbs (difference-handed w32 (2 * (2 * a .x + a .b)) (12289 * u .result) (c .before .minus .ensures) (omega arith) (omega arith))
@@ -46,11 +26,11 @@ pub off-spec : {M : Type 1} → statement M
 off-spec =
     tie.close
     (tie.spec
-    up-requires
-    mul-minus
-    add-minus
-    mul-minus-2
-    mul-minus-3
-    minus-requires
-    size32-requires
+    (λ c κs. search needs)
+    (search needs)
+    (search needs)
+    (search needs)
+    (search needs)
+    (λ c κs. search needs)
+    (λ c κs. search needs)
     returns)

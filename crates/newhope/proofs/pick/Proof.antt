@@ -4,12 +4,6 @@ use borrow.Author.Tests.{lt-ltb, le-ltb}
 use Rattle.newhope.proofs.pick.Statement.{statement}
 use Rattle.newhope.proofs.pick.Tie as tie
 
-up-requires : tie.Need-up-requires
-up-requires c κs = search needs
-
-down-requires : tie.Need-down-requires
-down-requires c κs = search needs
-
 returns : tie.Need-returns
 returns c = rw (lt-ltb (c .before .before .args .s) 12289 (c .before .if1 .taken)) (c .up .ensures)
 
@@ -17,4 +11,4 @@ returns-2 : tie.Need-returns-2
 returns-2 c = rw (le-ltb (c .before .before .args .s) 12289 (c .before .if1 .left)) (c .down .ensures)
 
 pub pick-spec : {M : Type 1} → statement M
-pick-spec = tie.close (tie.spec up-requires down-requires returns returns-2)
+pick-spec = tie.close (tie.spec (λ c κs. search needs) (λ c κs. search needs) returns returns-2)

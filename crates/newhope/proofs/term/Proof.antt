@@ -12,18 +12,6 @@ use Rattle.numbers.proofs.Machine.{difference-handed}
 use Rattle.newhope.proofs.term.Statement.{statement}
 use Rattle.newhope.proofs.term.Tie as tie
 
-mul-minus : tie.Need-mul-minus
-mul-minus c = search needs
-
-mul-minus-2 : tie.Need-mul-minus-2
-mul-minus-2 c = search needs
-
-minus-requires : tie.Need-minus-requires
-minus-requires c κs = search needs
-
-distance32-requires : tie.Need-distance32-requires
-distance32-requires c κs = search needs
-
 returns : tie.Need-returns
 unfolding termOf apart
 returns c =
@@ -33,4 +21,4 @@ returns c =
     (e, omega (arith, e, distance-half 98312 (omega arith) (pos (8 * a .x) -ℤ pos (12289 * a .c))))
 
 pub term-spec : {M : Type 1} → statement M
-term-spec = tie.close (tie.spec mul-minus mul-minus-2 minus-requires distance32-requires returns)
+term-spec = tie.close (tie.spec (search needs) (search needs) (λ c κs. search needs) (λ c κs. search needs) returns)

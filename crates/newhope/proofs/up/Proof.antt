@@ -6,21 +6,9 @@ use Rattle.newhope.proofs.Entry.{up-five}
 use Rattle.newhope.proofs.up.Statement.{statement}
 use Rattle.newhope.proofs.up.Tie as tie
 
-mul-result : tie.Need-mul-result
-mul-result c = search needs
-
-add-result : tie.Need-add-result
-add-result c = search needs
-
-mul-result-2 : tie.Need-mul-result-2
-mul-result-2 c = search needs
-
-add-result-2 : tie.Need-add-result-2
-add-result-2 c = search needs
-
 returns : tie.Need-returns
 unfolding upOf
 returns c = (refl, up-five (c .args .b) (c .args .x) (c .pre .0) (c .pre .1))
 
 pub up-spec : {M : Type 1} → statement M
-up-spec = tie.close (tie.spec mul-result add-result mul-result-2 add-result-2 returns)
+up-spec = tie.close (tie.spec (search needs) (search needs) (search needs) (search needs) returns)
