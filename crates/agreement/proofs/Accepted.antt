@@ -1,144 +1,125 @@
 -- Calls that refuse nothing, by their promises.
---   offer-gave, reply-gave, finish-gave   the tests have passed, and the bytes that the call says it wrote are those of its definition
---   Gave t, gave     an exchange: its inputs are in range, and its keys and its slack are those of the run
+--   offer-gave, reply-gave, finish-gave   what a call shows whose tests have passed
+--   Gave t, gave     an exchange: its rooms are enough, its inputs in range, and its messages, keys and slack are those of the run
+--   none-refused     and back: in any such rooms and on any such inputs no call refuses
 --   accepted, numbered, one-number   the theorems of specs/Exchange
-use mathlib.Core.Path.{_≡_, refl, _∙_, sym}
-use mathlib.Core.List.{List, _++_}
+use mathlib.Core.Path.{_≡_, refl, sym, ap, _∙_}
 use Prim.Native.Nat.{ℕ}
 use native.Mathlib.Nat.{le-refl}
 use native.Mathlib.Omega.{arith}
-use lib.ListN.{take, drop, replicate}
-use lib.Seq.{take-at}
-use Rattle.schemes.specs.Schemes.{fixedOf, numberOf, schemeOf}
-use Rattle.schemes.specs.declared.Named.{Named}
+use Rattle.schemes.specs.Schemes.{fixedOf}
 use Rattle.schemes.specs.declared.Named.the-variants.{Is, Unknown}
 use Rattle.schemes.specs.declared.Scheme.{Scheme}
 use Rattle.schemes.proofs.Laws.{by-number, by-scheme}
-use Rattle.front.specs.Answers as answers
-use Rattle.lists.specs.declared.Peak.{Peak}
-use Rattle.front.specs.Promise.{Told, Used}
-use Rattle.front.specs.declared.Answer.the-variants.{Done}
-use Rattle.front.specs.declared.Verdict.{Verdict}
+use Rattle.front.specs.Front.{numberIn}
+use Rattle.front.specs.Seen.{answer, shown}
 use Rattle.front.specs.declared.Verdict.the-variants.{Pass}
 use Rattle.front.proofs.Laws.{number-zero}
-use Rattle.front.proofs.Promise.{told-passed, wrote-passed, wrote-front, used-passed, same-peak}
-use Rattle.sponge.specs.Sponge.{sha3}
-use Rattle.sponge.proofs.Output.{sha3-length}
-use Rattle.offer.specs.Offer.{Offer, offerTests, openingOf, offerMessage, Offered}
-use Rattle.reply.specs.Reply.{Reply, replyTests, messageOf, keyOf, replyMessage, replyKey, Replied}
-use Rattle.finish.specs.Finish.{Finish, peerKeyOf, finishKey, slackOf, finishSlack, number, counts, Answered}
-use Rattle.reply.specs.declared.ReplyAnswer.{ReplyAnswer}
-use Rattle.finish.specs.declared.FinishAnswer.{FinishAnswer}
-use Rattle.offer.proofs.Offering.{opening-long, offer-unknown}
-use Rattle.reply.proofs.Replying.{key-length, message-length}
-use Rattle.finish.proofs.Finishing.{peer-key-length}
-use Rattle.agreement.specs.Run.{Run, offering, replying, finishing}
-use Rattle.agreement.specs.Exchange.{Sendable, Exchange, ownKey, peerKey, ownDigest, peerDigest, toldSlack, Accepted, Numbered, OneNumber}
-use Rattle.agreement.proofs.Tests.{sendable-by, offer-passes, reply-passes, finish-passes}
+use Rattle.front.proofs.Seen.{written-answer}
+use Rattle.offer.specs.Offer.{Offer, offerTests, offerMessage, offerResult}
+use Rattle.reply.specs.Reply.{Reply, ReplyRooms, replyRoomsOf, replyTests, replyMessage, replyKey, replyDigest, outputs, replyResult}
+use Rattle.finish.specs.Finish.{Finish, FinishRooms, FinishSeen, finishRoomsOf, finishTests, finishKey, finishDigest, finishSlack, finishShown, finishResult}
+use Rattle.offer.proofs.Offering.{offer-unknown}
+use Rattle.agreement.specs.Run.{Run, offering, replyTo, replying, finishWith, finishing}
+use Rattle.agreement.specs.Exchange.{Sendable, Rooms, Enough, offers, replies, finishes, Exchange, ownKey, peerKey, ownDigest, peerDigest, toldSlack, Accepted, Numbered, OneNumber}
+use Rattle.agreement.proofs.Tests.{sendable-by, offer-passes, reply-passes, finish-passes, offer-room, reply-rooms, finish-rooms}
 
 -- ---- what a call gave
 
--- its tests have passed, and the bytes that it says it wrote are the answer
-passed : {v : Verdict} {n p : ℕ} → Told v n p → n ≡ 0 → v ≡ Pass
-passed t z = number-zero _ (sym z ∙ t .refusal)
+offer-gave : (c : Scheme) (x : Offer) (n : ℕ) → offerTests (Is c) x n ≡ Pass → answer (offerResult (Is c) x n .out) ≡ offerMessage (Is c) x
+unfolding shown
+offer-gave c x n e = written-answer _ _ _ e
 
-used : {v : Verdict} {p s : Peak} → v ≡ Pass → Used v p (s .most) (s .at) → s ≡ p
-used e u = same-peak _ _ (rw e at (u .most)) (rw e at (u .first))
+reply-gave : (c : Scheme) (x : Reply) (m : ReplyRooms) → replyTests (Is c) x m ≡ Pass → let t = replyResult (Is c) x m in
+    (answer (t .message) ≡ replyMessage (Is c) x) × (answer (t .key) ≡ replyKey (Is c) x) × (answer (t .digest) ≡ replyDigest (Is c) x)
+unfolding outputs
+reply-gave c x m e = (written-answer _ _ _ e, written-answer _ _ _ e, written-answer _ _ _ e)
 
-module _ (c : Scheme) where
-  offer-gave : {x : Offer} {n p room m : ℕ} {out : List ℕ} → Offered (Is c) x n p room m out → n ≡ 0
-      → (offerTests (Is c) x room ≡ Pass) × (take m out ≡ openingOf c x)
-  unfolding offerMessage
-  offer-gave g z = let v = passed (g .told) z in (v, wrote-front v (g .messages) .1)
-
-  reply-gave : {x : Reply} {n p room m keyRoom k digestRoom d : ℕ} {out key digest : List ℕ} → Replied (Is c) x n p room m out keyRoom k key digestRoom d digest
-      → n ≡ 0
-      → (replyTests (Is c) x room keyRoom digestRoom ≡ Pass) × (take m out ≡ messageOf c x) × (take k key ≡ keyOf c x) × (take d digest ≡ sha3 (keyOf c x))
-  unfolding replyMessage replyKey
-  reply-gave g z = let v = passed (g .told) z in (v, wrote-front v (g .messages) .1, wrote-front v (g .keys) .1, wrote-front v (g .digests) .1)
-
-  finish-gave : {x : Finish} (r : FinishAnswer) {room digestRoom : ℕ} {key digest : List ℕ} → Answered (Is c) x r room key digestRoom digest → number r ≡ 0
-      → (take (counts r .key) key ≡ peerKeyOf c x) × (take (counts r .digest) digest ≡ sha3 (peerKeyOf c x)) × (counts r .slack ≡ slackOf c x)
-  unfolding finishKey finishSlack
-  finish-gave r g z = let v = passed (g .told) z in (wrote-front v (g .keys) .1, wrote-front v (g .digests) .1, used v (g .slacks))
+finish-gave : (c : Scheme) (x : Finish) (m : FinishRooms) → finishTests (Is c) x m ≡ Pass → let t = finishResult (Is c) x m in
+    (answer (t .key) ≡ finishKey (Is c) x) × (answer (t .digest) ≡ finishDigest (Is c) x) × (t .slack ≡ finishSlack (Is c) x)
+unfolding finishShown
+finish-gave c x m e = (written-answer _ _ _ e, written-answer _ _ _ e, rw e)
 
 pub record Gave {c : Scheme} {x : Run} (t : Exchange c x) : Type 0 where
+  pub enough : Enough c (t .rooms)
   pub sendable : Sendable c x
-  pub own : ownKey t ≡ keyOf c (replying c x)
-  pub peer : peerKey t ≡ peerKeyOf c (finishing c x)
-  pub own-digest : ownDigest t ≡ sha3 (keyOf c (replying c x))
-  pub peer-digest : peerDigest t ≡ sha3 (peerKeyOf c (finishing c x))
-  pub slack : toldSlack t ≡ slackOf c (finishing c x)
+  pub opening : answer (offers c x (t .rooms) .out) ≡ offerMessage (Is c) (offering x)
+  pub message : answer (replies c x (t .rooms) .message) ≡ replyMessage (Is c) (replying c x)
+  pub own : ownKey t ≡ replyKey (Is c) (replying c x)
+  pub peer : peerKey t ≡ finishKey (Is c) (finishing c x)
+  pub own-digest : ownDigest t ≡ replyDigest (Is c) (replying c x)
+  pub peer-digest : peerDigest t ≡ finishDigest (Is c) (finishing c x)
+  pub slack : toldSlack t ≡ finishSlack (Is c) (finishing c x)
 
 pub gave : {c : Scheme} {x : Run} (t : Exchange c x) → Gave t
+unfolding shown outputs finishShown
 gave {c} {x} t =
-    let o = offer-gave c (t .offers) (t .offer-accepted) in
-    let r = reply-gave c (rw (o .1) at (t .replies)) (t .reply-accepted) in
-    let f = finish-gave c (t .finish) (rw (r .1) at (t .finishes)) (t .finish-accepted) in
-    record { sendable = sendable-by c x _ _ _ _ _ (o .0) (r .0); own = r .2; peer = f .0; own-digest = r .3; peer-digest = f .1; slack = f .2 }
+    let m = t .rooms in
+    let o = number-zero (offerTests (Is c) (offering x) (m .offer)) (sym (t .offer-accepted)) in
+    let opening = offer-gave c (offering x) (m .offer) o in
+    let r = rw opening at (number-zero (replyTests (Is c) (replyTo x (answer (offers c x m .out))) (m .reply)) (sym (t .reply-accepted))) in
+    let replied = reply-gave c (replying c x) (m .reply) r in
+    let f = rw (opening, replied .0) at (number-zero (finishTests (Is c) (finishWith x (answer (replies c x m .message))) (m .finish)) (sym (t .finish-accepted))) in
+    let finished = finish-gave c (finishing c x) (m .finish) f in
+    let last : finishes c x m ≡ finishResult (Is c) (finishing c x) (m .finish) = rw (opening, replied .0) in
+    let rooms = reply-rooms c _ _ r in
+    let last-rooms = finish-rooms c _ _ f in
+    record {
+      enough =
+          record {
+            opening = offer-room c _ _ o;
+            reply = rooms .0;
+            key = rooms .1;
+            digest = rooms .2;
+            peerKey = last-rooms .0;
+            peerDigest = last-rooms .1;
+          };
+      sendable = sendable-by c x _ _ _ o r;
+      opening = opening;
+      message = rw opening (replied .0);
+      own = rw opening (replied .1);
+      peer = rw (opening, replied .0) (finished .0);
+      own-digest = rw opening (replied .2);
+      peer-digest = rw (opening, replied .0) (finished .1);
+      slack = ap (λ (t : FinishSeen). t .slack) last ∙ finished .2;
+    }
 
 -- ---- inputs in range
 
--- an output of just the room that the answer takes
-abbrev into : ℕ → List ℕ → List ℕ
-into n xs = xs ++ drop n (replicate n 0)
+pub none-refused : (c : Scheme) (x : Run) (m : Rooms) → Enough c m → Sendable c x
+    → (offers c x m .number ≡ 0) × (replies c x m .number ≡ 0) × (finishes c x m .number ≡ 0)
+unfolding shown outputs finishShown
+none-refused c x m h s =
+    let o = offer-passes c x s (m .offer) (h .opening) in
+    let r = reply-passes c x s (m .reply) (h .reply) (h .key) (h .digest) in
+    let f = finish-passes c x s (m .finish) (h .peerKey) (h .peerDigest) in
+    let opening = offer-gave c (offering x) (m .offer) o in
+    let replied = reply-gave c (replying c x) (m .reply) r .0 in
+    (ap numberIn o, rw opening (ap numberIn r), rw (opening, replied) (ap numberIn f))
 
-module _ (c : Scheme) (x : Run) (h : Sendable c x) where
-  runs : Exchange c x
-  unfolding offerMessage replyMessage replyKey finishKey finishSlack
-  runs =
-      let f = fixedOf c in
-      let o = offer-passes c x h (f .opening) (le-refl _) in
-      let r = reply-passes c x h (f .reply) (f .key) 32 (le-refl _) (le-refl _) (le-refl _) in
-      let k = finish-passes c x h (f .key) 32 (le-refl _) (le-refl _) in
-      let opened = opening-long c (offering x) (h .ranged .seed) in
-      let replied = message-length c (replying c x) in
-      record {
-        offerRoom = f .opening;
-        offer = Done (f .opening);
-        offerOut = into (f .opening) (openingOf c (offering x));
-        offers = record { told = told-passed o; messages = wrote-passed o (replicate (f .opening) 0) opened refl refl };
-        offer-accepted = refl;
-        replyRoom = f .reply;
-        keyRoom = f .key;
-        digestRoom = 32;
-        reply = ReplyAnswer.Done (record { message = f .reply; key = f .key; digest = 32 });
-        replyOut = into (f .reply) (messageOf c (replying c x));
-        keyOut = into (f .key) (keyOf c (replying c x));
-        digestOut = into 32 (sha3 (keyOf c (replying c x)));
-        replies =
-            rw (take-at (openingOf c (offering x)) (drop (f .opening) (replicate (f .opening) 0)) (f .opening) opened)
-            (record {
-              told = told-passed r;
-              messages = wrote-passed r (replicate (f .reply) 0) replied refl refl;
-              keys = wrote-passed r (replicate (f .key) 0) (key-length c (replying c x)) refl refl;
-              digests = wrote-passed r (replicate 32 0) (sha3-length _) refl refl;
-            });
-        reply-accepted = refl;
-        peerKeyRoom = f .key;
-        peerDigestRoom = 32;
-        finish = FinishAnswer.Done (record { key = f .key; digest = 32; slack = slackOf c (finishing c x) });
-        peerKeyOut = into (f .key) (peerKeyOf c (finishing c x));
-        peerDigestOut = into 32 (sha3 (peerKeyOf c (finishing c x)));
-        finishes =
-            rw (take-at (messageOf c (replying c x)) (drop (f .reply) (replicate (f .reply) 0)) (f .reply) replied)
-            (record {
-              told = told-passed k;
-              keys = wrote-passed k (replicate (f .key) 0) (peer-key-length c (finishing c x)) refl refl;
-              digests = wrote-passed k (replicate 32 0) (sha3-length _) refl refl;
-              slacks = used-passed k refl;
-            });
-        finish-accepted = refl;
-      }
+-- rooms of just what the answers take
+fitting : Scheme → Rooms
+fitting c =
+    let f = fixedOf c in
+    record { offer = f .opening; reply = replyRoomsOf (f .reply) (f .key) 32; finish = finishRoomsOf (f .key) 32 }
+
+fit : (c : Scheme) → Enough c (fitting c)
+unfolding fitting
+fit c = record { opening = le-refl _; reply = le-refl _; key = le-refl _; digest = le-refl _; peerKey = le-refl _; peerDigest = le-refl _ }
 
 pub accepted : Accepted
-accepted c x = (λ t. gave t .sendable, runs c x)
+accepted c x = (
+  λ t. gave t .sendable,
+  λ s. let z = none-refused c x (fitting c) (fit c) s in
+      record { rooms = fitting c; offer-accepted = z .0; reply-accepted = z .1; finish-accepted = z .2 },
+)
 
 -- ---- the scheme and its number
 
 pub numbered : Numbered
-numbered (Is c) x room r out p z = (c, refl)
-numbered Unknown x room r out p z = let i : answers.number r ≡ 1 = rw (offer-unknown x room refl) at (p .told .refusal) in absurd (omega arith)
+unfolding shown
+numbered (Is c) x room z = (c, refl)
+numbered Unknown x room z = let i : _≡_ {A = ℕ} 1 0 = rw (offer-unknown x room refl) at z in absurd (omega arith)
 
 pub one-number : OneNumber
 one-number k c = (by-scheme k c, λ e. rw e (by-number c))

@@ -4,7 +4,7 @@
 --   opening-received an opening that Offer has made passes the tests of a part that has come
 --   offer-passes, reply-passes, finish-passes   such inputs pass the tests of each call, in any rooms that are enough
 --   offer-room, reply-rooms, finish-rooms       a call that passes its tests was lent such rooms
-use mathlib.Core.Path.{_≡_}
+use mathlib.Core.Path.{_≡_, sym, _∙_}
 use mathlib.Core.Bool.{false}
 use mathlib.Core.List.{List}
 use Prim.Native.Nat.{ℕ, _≤_}
@@ -13,35 +13,37 @@ use Rattle.schemes.specs.Schemes.{fixedOf}
 use Rattle.schemes.specs.declared.Named.the-variants.{Is}
 use Rattle.schemes.specs.declared.Scheme.{Scheme}
 use Rattle.blank.specs.Blank.{blank}
-use Rattle.front.specs.Front.{receivedIn}
+use Rattle.front.specs.Front.{_then_, receivedIn}
 use Rattle.front.specs.declared.Verdict.the-variants.{Pass}
 use Rattle.front.proofs.Laws.{both, all-pass, length-passes, room-passes, below-passes, message-passes, within-passes, not-blank-passes, not-blank-passed}
 use Rattle.ends.specs.Keys.{hints}
-use Rattle.ends.specs.Values.{offered, replied, mixedValue}
+use Rattle.ends.specs.Values.{offered, replied}
 use Rattle.ends.proofs.Ranges.{offered-counted, replied-counted, mixed-counted}
 use Rattle.ends.proofs.Settling.{hints-counted}
 use Rattle.wire.specs.Wire.{openedIn, repliedIn, hintsIn, coinsIn}
 use Rattle.wire.proofs.Travel.{opened-part, opened-back, replied-part, replied-back, hints-back}
-use Rattle.offer.specs.Offer.{Offer, offerLengths, offerIn, offeredPart, offerTests, openingOf}
-use Rattle.reply.specs.Reply.{Reply, replyOf, replyLengths, replySizes, openedOf, replySecrets, repliedPart, replyLast, replyRest, replyTests, messageFrom, messageOf}
-use Rattle.finish.specs.Finish.{Finish, finishSizes, repliedOf, finishRest, finishTests}
+use Rattle.offer.specs.Offer.{Offer, offeredPart, offerTests, offerMessage}
+use Rattle.offer.specs.Inside.{offerLengths, offerIn}
+use Rattle.reply.specs.Reply.{Reply, ReplyRooms, openedOf, replyValue, repliedPart, replyTests, replyMessage}
+use Rattle.reply.specs.Inside.{replyLast, replyRest}
+use Rattle.finish.specs.Finish.{Finish, FinishRooms, repliedOf, finishTests}
 use Rattle.offer.proofs.Offering.{opening-long, offer-opens}
-use Rattle.reply.proofs.Replying.{message-length, reply-sized, secrets-small}
-use Rattle.finish.proofs.Finishing.{finish-sized}
-use Rattle.agreement.specs.Run.{Run, offering, replying, finishing}
+use Rattle.reply.proofs.Replying.{message-length, reply-sized, reply-apart, secrets-small}
+use Rattle.finish.proofs.Finishing.{finish-sized, finish-apart}
+use Rattle.agreement.specs.Run.{Run, offering, replyTo, replying, finishing}
 use Rattle.agreement.specs.Exchange.{Ranged, Sendable}
 
 module _ (c : Scheme) (x : Run) where
-  -- of any opening m
-  pub sendable-by : (n i k d : ℕ) (m : List ℕ) → offerTests (Is c) (offering x) n ≡ Pass
-      → replyTests (Is c) (replyOf m (x .a) (x .s') (x .e') (x .e'') (x .coins)) i k d ≡ Pass → Sendable c x
-  unfolding offerTests replyTests replyRest replyLast
-  sendable-by n i k d m o r =
+  -- of any opening
+  pub sendable-by : (n : ℕ) (m : ReplyRooms) (opening : List ℕ) → offerTests (Is c) (offering x) n ≡ Pass
+      → replyTests (Is c) (replyTo x opening) m ≡ Pass → Sendable c x
+  unfolding offerTests offerIn offerLengths replyRest replyLast
+  sendable-by n m opening o r =
       let lent = both _ _ o in
       let opens = offer-opens c (offering x) n (lent .0) .0 in
-      let t = both _ _ r in
+      let t = both _ _ (sym (reply-apart c _ m) ∙ r) in
       let last = both _ _ (both _ _ (t .1) .1) in
-      let sizes = reply-sized c _ i k d (t .0) in
+      let sizes = reply-sized c _ m (both _ _ (t .0) .0) in
       let small = secrets-small c (x .s') (x .e') (x .e'') (last .0) in
       let ranged : Ranged c x = record {
         public = opens .public;
@@ -58,33 +60,33 @@ module _ (c : Scheme) (x : Run) where
   -- ---- what comes back
 
   pub opened-is : length (x .seed) ≡ fixedOf c .seed → openedOf c (replying c x) ≡ offered c (x .a) (x .s) (x .e)
-  unfolding openedOf openingOf
+  unfolding openedOf offerMessage
   opened-is l = opened-back c (x .seed) l (offered-counted c (x .a) (x .s) (x .e))
 
   -- the packed parts, as they came
-  opened-part-is : length (x .seed) ≡ fixedOf c .seed → openedIn c (openingOf c (offering x)) ≡ offeredPart c (offering x)
-  unfolding openingOf
+  opened-part-is : length (x .seed) ≡ fixedOf c .seed → openedIn c (offerMessage (Is c) (offering x)) ≡ offeredPart c (offering x)
+  unfolding offerMessage
   opened-part-is l = opened-part c (x .seed) l (offered-counted c (x .a) (x .s) (x .e))
 
-  replied-part-is : repliedIn c (messageOf c (replying c x)) ≡ repliedPart c (x .a) (x .s') (x .e')
-  unfolding messageOf messageFrom
+  replied-part-is : repliedIn c (replyMessage (Is c) (replying c x)) ≡ repliedPart c (x .a) (x .s') (x .e')
+  unfolding replyMessage replyValue
   replied-part-is =
       replied-part c (replied-counted c (x .a) (x .s') (x .e')) (hints-counted c (coinsIn c (x .coins)) _ (mixed-counted c _ (x .s') (x .e'') .long))
 
   pub replied-is : repliedOf c (finishing c x) ≡ replied c (x .a) (x .s') (x .e')
-  unfolding repliedOf messageOf messageFrom
+  unfolding repliedOf replyMessage replyValue
   replied-is =
       replied-back c (replied-counted c (x .a) (x .s') (x .e')) (hints-counted c (coinsIn c (x .coins)) _ (mixed-counted c _ (x .s') (x .e'') .long))
 
-  pub hints-are : hintsIn c (messageOf c (replying c x)) ≡ hints c (coinsIn c (x .coins)) (mixedValue c (openedOf c (replying c x)) (x .s') (x .e''))
-  unfolding messageOf messageFrom
+  pub hints-are : hintsIn c (replyMessage (Is c) (replying c x)) ≡ hints c (coinsIn c (x .coins)) (replyValue c (replying c x))
+  unfolding replyMessage replyValue
   hints-are =
       hints-back c (replied-counted c (x .a) (x .s') (x .e')) (hints-counted c (coinsIn c (x .coins)) _ (mixed-counted c _ (x .s') (x .e'') .long))
 
   -- ---- what passes
 
   pub opening-received : length (x .seed) ≡ fixedOf c .seed → blank (offeredPart c (offering x)) ≡ false
-      → receivedIn (fixedOf c .q) (openedIn c (openingOf c (offering x))) (openedOf c (replying c x)) ≡ Pass
+      → receivedIn (fixedOf c .q) (openedIn c (offerMessage (Is c) (offering x))) (openedOf c (replying c x)) ≡ Pass
   unfolding receivedIn
   opening-received l b =
       all-pass (rw (opened-is l) (message-passes (offered-counted c (x .a) (x .s) (x .e) .below))) (rw (opened-part-is l) (not-blank-passes _ b))
@@ -94,71 +96,71 @@ module _ (c : Scheme) (x : Run) where
     h = s .ranged
 
     pub offer-passes : (n : ℕ) → fixedOf c .opening ≤ n → offerTests (Is c) (offering x) n ≡ Pass
-    unfolding offerTests offerIn offerLengths
+    unfolding offerTests _then_
     offer-passes n l =
-        all-pass
-        (all-pass
-        (all-pass
-        (all-pass
-        (all-pass
-        (all-pass (all-pass (all-pass (length-passes (h .public .long)) (length-passes (h .secret .long))) (length-passes (h .noise .long)))
-        (length-passes (h .seed)))
-        (room-passes l))
-        (below-passes (h .public .below)))
-        (within-passes (h .secret .within)))
-        (within-passes (h .noise .within)))
-        (not-blank-passes _ (s .opening))
+        rw (
+          length-passes (h .public .long),
+          length-passes (h .secret .long),
+          length-passes (h .noise .long),
+          length-passes (h .seed),
+          room-passes l,
+          below-passes (h .public .below),
+          within-passes (h .secret .within),
+          within-passes (h .noise .within),
+          not-blank-passes _ (s .opening),
+        )
 
-    sizes-pass : (n k d : ℕ) → fixedOf c .reply ≤ n → fixedOf c .key ≤ k → 32 ≤ d → replySizes c (replying c x) n k d ≡ Pass
-    unfolding replySizes replyLengths
-    sizes-pass n k d l m o =
-        all-pass
-        (all-pass
-        (all-pass
-        (all-pass
-        (all-pass
-        (all-pass
-        (all-pass
-        (all-pass (all-pass (length-passes (opening-long c (offering x) (h .seed))) (length-passes (h .public .long))) (length-passes (h .secret' .long)))
-        (length-passes (h .noise' .long)))
-        (length-passes (h .noise'' .long)))
-        (length-passes (h .coins)))
-        (room-passes l))
-        (room-passes m))
-        (room-passes o))
-        (below-passes (h .public .below))
+    pub reply-passes : (m : ReplyRooms) → fixedOf c .reply ≤ m .message → fixedOf c .key ≤ m .key → 32 ≤ m .digest → replyTests (Is c) (replying c x) m ≡ Pass
+    unfolding replyTests _then_
+    reply-passes m l k d =
+        rw (
+          length-passes (opening-long c (offering x) (h .seed)),
+          length-passes (h .public .long),
+          length-passes (h .secret' .long),
+          length-passes (h .noise' .long),
+          length-passes (h .noise'' .long),
+          length-passes (h .coins),
+          room-passes l,
+          room-passes k,
+          room-passes d,
+          below-passes (h .public .below),
+          opened-is (h .seed),
+          message-passes (offered-counted c (x .a) (x .s) (x .e) .below),
+          opened-part-is (h .seed),
+          not-blank-passes _ (s .opening),
+          within-passes (h .secret' .within),
+          within-passes (h .noise' .within),
+          within-passes (h .noise'' .within),
+          not-blank-passes _ (s .reply),
+        )
 
-    reply-received : receivedIn (fixedOf c .q) (repliedIn c (messageOf c (replying c x))) (repliedOf c (finishing c x)) ≡ Pass
-    unfolding receivedIn
-    reply-received =
-        all-pass (rw replied-is (message-passes (replied-counted c (x .a) (x .s') (x .e') .below))) (rw replied-part-is (not-blank-passes _ (s .reply)))
-
-    pub reply-passes : (n k d : ℕ) → fixedOf c .reply ≤ n → fixedOf c .key ≤ k → 32 ≤ d → replyTests (Is c) (replying c x) n k d ≡ Pass
-    unfolding replyTests replyRest replySecrets replyLast
-    reply-passes n k d l m o =
-        all-pass (sizes-pass n k d l m o)
-        (all-pass (opening-received (h .seed) (s .opening))
-        (all-pass (all-pass (all-pass (within-passes (h .secret' .within)) (within-passes (h .noise' .within))) (within-passes (h .noise'' .within)))
-        (not-blank-passes _ (s .reply))))
-
-    pub finish-passes : (k d : ℕ) → fixedOf c .key ≤ k → 32 ≤ d → finishTests (Is c) (finishing c x) k d ≡ Pass
-    unfolding finishTests finishSizes finishRest
-    finish-passes k d l m =
-        all-pass
-        (all-pass (all-pass (all-pass (length-passes (message-length c (replying c x))) (length-passes (h .secret .long))) (room-passes l)) (room-passes m))
-        (all-pass reply-received (within-passes (h .secret .within)))
+    pub finish-passes : (m : FinishRooms) → fixedOf c .key ≤ m .key → 32 ≤ m .digest → finishTests (Is c) (finishing c x) m ≡ Pass
+    unfolding finishTests _then_
+    finish-passes m k d =
+        rw (
+          length-passes (message-length c (replying c x)),
+          length-passes (h .secret .long),
+          room-passes k,
+          room-passes d,
+          replied-is,
+          message-passes (replied-counted c (x .a) (x .s') (x .e') .below),
+          replied-part-is,
+          not-blank-passes _ (s .reply),
+          within-passes (h .secret .within),
+        )
 
 -- ---- the rooms
 
 module _ (c : Scheme) where
   pub offer-room : (x : Offer) (n : ℕ) → offerTests (Is c) x n ≡ Pass → fixedOf c .opening ≤ n
-  unfolding offerTests
+  unfolding offerTests offerIn offerLengths
   offer-room x n t = offer-opens c x n (both _ _ t .0) .1
 
-  pub reply-rooms : (x : Reply) (n k d : ℕ) → replyTests (Is c) x n k d ≡ Pass → (fixedOf c .reply ≤ n) × (fixedOf c .key ≤ k) × (32 ≤ d)
-  unfolding replyTests
-  reply-rooms x n k d t = let s = reply-sized c x n k d (both _ _ t .0) in (s .roomy, s .key-roomy, s .digest-roomy)
+  pub reply-rooms : (x : Reply) (m : ReplyRooms) → replyTests (Is c) x m ≡ Pass
+      → (fixedOf c .reply ≤ m .message) × (fixedOf c .key ≤ m .key) × (32 ≤ m .digest)
+  reply-rooms x m t =
+      let s = reply-sized c x m (both _ _ (both _ _ (sym (reply-apart c x m) ∙ t) .0) .0) in
+      (s .roomy, s .key-roomy, s .digest-roomy)
 
-  pub finish-rooms : (x : Finish) (k d : ℕ) → finishTests (Is c) x k d ≡ Pass → (fixedOf c .key ≤ k) × (32 ≤ d)
-  unfolding finishTests
-  finish-rooms x k d t = let s = finish-sized c x k d (both _ _ t .0) in (s .2, s .3)
+  pub finish-rooms : (x : Finish) (m : FinishRooms) → finishTests (Is c) x m ≡ Pass → (fixedOf c .key ≤ m .key) × (32 ≤ m .digest)
+  finish-rooms x m t = let s = finish-sized c x m (both _ _ (sym (finish-apart c x m) ∙ t) .0) in (s .2, s .3)

@@ -1,7 +1,10 @@
 -- One exchange between two boxes, by what the calls promise and nothing else: 01, "The calls", and demand 3.
 --   Ranged c x     the inputs x have the lengths and the ranges of the scheme
 --   Sendable c x   they are, and neither packed part is blank (02, request l)
---   Exchange c x   Offer and Finish in the one box and Reply in the other, in the scheme c and on the inputs x, and none of them refused
+--   Rooms          the rooms that the three calls are lent
+--   Enough c m     no room is shorter than its answer
+--   offers, replies, finishes c x m   what is seen of Offer and Finish in the one box and of Reply in the other, in the scheme c, on the inputs x, in the rooms m
+--   Exchange c x   these calls, and none of them refused
 --   ownKey t       the replier's key: the bytes that Reply says it wrote
 --   peerKey t      the initiator's key: those that Finish says it wrote
 --   ownDigest, peerDigest t   the digests, likewise
@@ -13,25 +16,20 @@ use mathlib.Core.Path.{_≡_}
 use mathlib.Core.Bool.{false}
 use mathlib.Core.List.{List}
 use mathlib.Core.Logic.{_↔_}
-use Prim.Native.Nat.{ℕ}
-use lib.ListN.{length, take}
+use Prim.Native.Nat.{ℕ, _≤_}
+use lib.ListN.{length}
 use Rattle.schemes.specs.Schemes.{fixedOf, numberOf, schemeOf}
 use Rattle.schemes.specs.declared.Named.{Named}
 use Rattle.schemes.specs.declared.Named.the-variants.{Is}
 use Rattle.schemes.specs.declared.Scheme.{Scheme}
 use Rattle.lists.specs.declared.Peak.{Peak}
-use Rattle.front.specs.Answers.{number, place, written}
-use Rattle.front.specs.declared.Answer.{Answer}
+use Rattle.front.specs.Seen.{Seen, answer}
 use Rattle.ends.specs.Fit.{Counted, Small}
 use Rattle.blank.specs.Blank.{blank}
-use Rattle.offer.specs.Offer.{Offer, offeredPart, Offered}
-use Rattle.reply.specs.Reply.{replyOf, repliedPart, Replied}
-use Rattle.reply.specs.Reply as ofReply
-use Rattle.finish.specs.Finish.{finishOf}
-use Rattle.finish.specs.Finish as ofFinish
-use Rattle.reply.specs.declared.ReplyAnswer.{ReplyAnswer}
-use Rattle.finish.specs.declared.FinishAnswer.{FinishAnswer}
-use Rattle.agreement.specs.Run.{Run, offering}
+use Rattle.offer.specs.Offer.{Offer, offeredPart, offerResult}
+use Rattle.reply.specs.Reply.{ReplyRooms, ReplySeen, repliedPart, replyResult}
+use Rattle.finish.specs.Finish.{FinishRooms, FinishSeen, finishResult}
+use Rattle.agreement.specs.Run.{Run, offering, replyTo, finishWith}
 
 pub record Ranged (c : Scheme) (x : Run) : Type 0 where
   pub public : Counted (fixedOf c .public) (fixedOf c .q) (x .a)
@@ -48,51 +46,51 @@ pub record Sendable (c : Scheme) (x : Run) : Type 0 where
   pub opening : blank (offeredPart c (offering x)) ≡ false
   pub reply : blank (repliedPart c (x .a) (x .s') (x .e')) ≡ false
 
--- x has one list of public numbers, which both boxes take, and one secret s, which Offer and Finish take
+pub record Rooms : Type 0 where
+  pub offer : ℕ
+  pub reply : ReplyRooms
+  pub finish : FinishRooms
+
+pub record Enough (c : Scheme) (m : Rooms) : Type 0 where
+  pub opening : fixedOf c .opening ≤ m .offer
+  pub reply : fixedOf c .reply ≤ m .reply .message
+  pub key : fixedOf c .key ≤ m .reply .key
+  pub digest : 32 ≤ m .reply .digest
+  pub peerKey : fixedOf c .key ≤ m .finish .key
+  pub peerDigest : 32 ≤ m .finish .digest
+
+-- x has one list of public numbers, which both boxes take, and one secret s, which Offer and Finish take; each call takes the message as the one before wrote it
+module _ (c : Scheme) (x : Run) (m : Rooms) where
+  abbrev pub offers : Seen ℕ
+  offers = offerResult (Is c) (offering x) (m .offer)
+
+  abbrev pub replies : ReplySeen
+  replies = replyResult (Is c) (replyTo x (answer (offers .out))) (m .reply)
+
+  abbrev pub finishes : FinishSeen
+  finishes = finishResult (Is c) (finishWith x (answer (replies .message))) (m .finish)
+
 pub record Exchange (c : Scheme) (x : Run) : Type 0 where
-  -- Offer: the room that it was lent, its answer, what its output held after it, and what it promises of these
-  pub offerRoom : ℕ
-  pub offer : Answer
-  pub offerOut : List ℕ
-  pub offers : Offered (Is c) (offering x) (number offer) (place offer) offerRoom (written offer) offerOut
-  pub offer-accepted : number offer ≡ 0
-  -- Reply, to the opening as Offer wrote it
-  pub replyRoom : ℕ
-  pub keyRoom : ℕ
-  pub digestRoom : ℕ
-  pub reply : ReplyAnswer
-  pub replyOut : List ℕ
-  pub keyOut : List ℕ
-  pub digestOut : List ℕ
-  pub replies :
-      Replied (Is c) (replyOf (take (written offer) offerOut) (x .a) (x .s') (x .e') (x .e'') (x .coins)) (ofReply.number reply) (ofReply.place reply)
-      replyRoom (ofReply.counts reply .message) replyOut keyRoom (ofReply.counts reply .key) keyOut digestRoom (ofReply.counts reply .digest) digestOut
-  pub reply-accepted : ofReply.number reply ≡ 0
-  -- Finish, of the reply as Reply wrote it
-  pub peerKeyRoom : ℕ
-  pub peerDigestRoom : ℕ
-  pub finish : FinishAnswer
-  pub peerKeyOut : List ℕ
-  pub peerDigestOut : List ℕ
-  pub finishes :
-      ofFinish.Answered (Is c) (finishOf (take (ofReply.counts reply .message) replyOut) (x .s)) finish peerKeyRoom peerKeyOut peerDigestRoom peerDigestOut
-  pub finish-accepted : ofFinish.number finish ≡ 0
+  pub rooms : Rooms
+  pub offer-accepted : offers c x rooms .number ≡ 0
+  pub reply-accepted : replies c x rooms .number ≡ 0
+  pub finish-accepted : finishes c x rooms .number ≡ 0
 
 module _ {c : Scheme} {x : Run} (t : Exchange c x) where
   abbrev pub ownKey : List ℕ
-  ownKey = take (ofReply.counts (t .reply) .key) (t .keyOut)
+  ownKey = answer (replies c x (t .rooms) .key)
 
   abbrev pub peerKey : List ℕ
-  peerKey = take (ofFinish.counts (t .finish) .key) (t .peerKeyOut)
+  peerKey = answer (finishes c x (t .rooms) .key)
 
   abbrev pub ownDigest : List ℕ
-  ownDigest = take (ofReply.counts (t .reply) .digest) (t .digestOut)
+  ownDigest = answer (replies c x (t .rooms) .digest)
 
   abbrev pub peerDigest : List ℕ
-  peerDigest = take (ofFinish.counts (t .finish) .digest) (t .peerDigestOut)
+  peerDigest = answer (finishes c x (t .rooms) .digest)
 
   abbrev pub toldSlack : Peak
-  toldSlack = ofFinish.counts (t .finish) .slack
+  toldSlack = finishes c x (t .rooms) .slack
 
 -- ---- what is shown
 
@@ -100,9 +98,7 @@ abbrev pub Accepted : Type 0
 Accepted = (c : Scheme) (x : Run) → Exchange c x ↔ Sendable c x
 
 abbrev pub Numbered : Type 0
-Numbered =
-    (n : Named) (x : Offer) (room : ℕ) (r : Answer) (out : List ℕ) → Offered n x (number r) (place r) room (written r) out → number r ≡ 0 →
-    (c : Scheme) × (n ≡ Is c)
+Numbered = (n : Named) (x : Offer) (room : ℕ) → offerResult n x room .number ≡ 0 → (c : Scheme) × (n ≡ Is c)
 
 abbrev pub OneNumber : Type 0
 OneNumber = (k : ℕ) (c : Scheme) → (schemeOf k ≡ Is c) ↔ (k ≡ numberOf c)

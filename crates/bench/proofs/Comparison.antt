@@ -1,6 +1,6 @@
 -- What is stated in specs/Comparison.
 --   compared                  an answer without a refusal; told-agree, told-differ: by how two keys differ
---   bench-sendable, bench-gave  where Bench refuses nothing, its inputs are sendable; and what it answers of such inputs
+--   bench-sendable, bench-shows, bench-gave  where Bench refuses nothing, its inputs are sendable; and what it shows and answers of such inputs
 --   differ-few                the number that tells how the keys differ, whatever the scheme
 use mathlib.Core.Path.{_≡_, refl, _∙_, sym, ap}
 use mathlib.Core.Bool.{Bool, true, false, cond}
@@ -21,43 +21,46 @@ use Rattle.schemes.proofs.Sound.{sound}
 use Rattle.lists.specs.Entries.{Below}
 use Rattle.lists.specs.First.{firstApart}
 use Rattle.lists.specs.declared.Peak.{Peak}
-use Rattle.front.specs.Front.{countIn}
+use Rattle.front.specs.Seen.{ifPassed}
 use Rattle.front.specs.declared.Verdict.{Verdict}
 use Rattle.front.specs.declared.Verdict.the-variants.{Pass, Fail}
 use Rattle.front.proofs.Laws.{both, number-zero, all-pass}
-use Rattle.front.proofs.Promise.{same-peak}
-use Rattle.reply.specs.Reply.{keyOf}
-use Rattle.finish.specs.Finish.{peerKeyOf, slackOf}
+use Rattle.reply.specs.Reply.{replyKey}
+use Rattle.finish.specs.Finish.{finishKey, finishSlack}
 use Rattle.reply.proofs.Replying.{key-length}
 use Rattle.agreement.specs.Run.{replying, finishing}
 use Rattle.agreement.specs.Exchange.{Sendable}
 use Rattle.agreement.proofs.Tests.{sendable-by, offer-passes, reply-passes}
 use Rattle.agreement.proofs.Accepted.{gave, accepted}
 use Rattle.agreement.proofs.Agreement.{agreement}
-use Rattle.bench.specs.Bench.{Bench, bits, differing, benchIn, benchTests, keysDiffer, benchDiffers, benchSlack, Benched, Answered, number, place, differ, slack}
+use Rattle.bench.specs.Bench.{Bench, BenchSeen, bits, differing, benchTests, keysDiffer, benchDiffers, benchSlack, benchShown, benchResult, benchTold}
 use Rattle.bench.specs.Inside.{comparison}
 use Rattle.bench.specs.Comparison.{FirstBit, BenchAccepts, BenchTells, BenchAgrees}
 use Rattle.bench.specs.declared.BenchAnswer.{BenchAnswer}
 use Rattle.bench.specs.declared.BenchAnswer.the-variants.{Agree, Differ}
 use Rattle.bench.proofs.Differing.{differing-none, differing-at}
 use Rattle.bench.proofs.Lamp.{same-long, own-bytes, peer-bytes, differs-is}
-use Rattle.bench.proofs.Shown.{same}
+use Rattle.bench.proofs.Shown.{bench-told-all}
 
 -- ---- without a refusal
 
-differ-of : (d : ℕ) (p : Peak) → differ (comparison d p) ≡ d
+-- what is seen without a refusal
+abbrev shows : ℕ → Peak → BenchSeen
+shows d p = record { number = 0; place = 0; differ = d; slack = p }
+
+differ-of : (d : ℕ) (p : Peak) → benchTold (comparison d p) .differ ≡ d
 differ-of zero p = refl
 differ-of (suc i) p = refl
 
-compared : (r : BenchAnswer) (d : ℕ) {p : Peak} → number r ≡ 0 → place r ≡ 0 → differ r ≡ d → slack r ≡ p → r ≡ comparison d p
-compared r zero {p} e f g h = same r (Agree p) e f g h
-compared r (suc i) {p} e f g h = same r (Differ i p) e f g h
+compared : (r : BenchAnswer) (d : ℕ) {p : Peak} → benchTold r ≡ shows d p → r ≡ comparison d p
+compared r zero {p} e = bench-told-all r (Agree p) e
+compared r (suc i) {p} e = bench-told-all r (Differ i p) e
 
 -- of two keys that are bytes and of one length
 module _ (r : BenchAnswer) {own peer : List ℕ} (p : Peak) (e : r ≡ comparison (differing own peer) p)
     (l : length own ≡ length peer) (ho : Below 256 own) (hp : Below 256 peer) where
-  told : {a : BenchAnswer} → r ≡ a → differing own peer ≡ differ a
-  told f = sym (differ-of (differing own peer) p) ∙ ap differ (sym e ∙ f)
+  told : {a : BenchAnswer} → r ≡ a → differing own peer ≡ benchTold a .differ
+  told f = sym (differ-of (differing own peer) p) ∙ ap (λ (r : BenchAnswer). benchTold r .differ) (sym e ∙ f)
 
   told-agree : (r ≡ Agree p) ↔ (own ≡ peer)
   told-agree =
@@ -69,39 +72,41 @@ module _ (r : BenchAnswer) {own peer : List ℕ} (p : Peak) (e : r ≡ compariso
       let n = differing-at own peer l ho hp i in
       (λ f. n .0 (told f), λ f. e ∙ ap (λ (d : ℕ). comparison d p) (n .1 f))
 
-module _ (c : Scheme) (x : Bench) (r : BenchAnswer) (b : Answered (Is c) x r) where
-  bench-sendable : number r ≡ 0 → Sendable c x
-  unfolding benchTests benchIn
-  bench-sendable z = let t = both _ _ (number-zero _ (sym z ∙ b .told .refusal)) in sendable-by c x _ _ _ _ _ (t .0) (t .1)
+module _ (c : Scheme) (x : Bench) where
+  bench-sendable : benchResult (Is c) x .number ≡ 0 → Sendable c x
+  unfolding benchTests benchShown
+  bench-sendable z = let t = both _ _ (number-zero _ (sym z)) in sendable-by c x _ _ _ (t .0) (t .1)
 
   bench-passes : Sendable c x → benchTests (Is c) x ≡ Pass
-  unfolding benchTests benchIn
-  bench-passes h = all-pass (offer-passes c x h _ (le-refl _)) (reply-passes c x h _ _ _ (le-refl _) (le-refl _) (le-refl _))
+  unfolding benchTests
+  bench-passes h = all-pass (offer-passes c x h _ (le-refl _)) (reply-passes c x h _ (le-refl _) (le-refl _) (le-refl _))
 
-  bench-gave : Sendable c x → r ≡ comparison (differing (keyOf c (replying c x)) (peerKeyOf c (finishing c x))) (slackOf c (finishing c x))
-  unfolding keysDiffer benchSlack
-  bench-gave h =
-      let e = bench-passes h in
-      let u = rw e at (b .slacks) in
-      compared r _ (rw e at (b .told .refusal)) (rw e at (b .told .at)) (rw e at (b .differs .gives) ∙ sym (differs-is c x e)) (same-peak _ _ (u .most) (u .first))
+  bench-shows : Sendable c x → benchResult (Is c) x ≡ shows (keysDiffer c x) (finishSlack (Is c) (finishing c x))
+  unfolding benchShown benchSlack
+  bench-shows h = let e = bench-passes h in rw (e, ← differs-is c x e)
+
+  bench-gave : (r : BenchAnswer) → benchTold r ≡ benchResult (Is c) x → Sendable c x
+      → r ≡ comparison (differing (replyKey (Is c) (replying c x)) (finishKey (Is c) (finishing c x))) (finishSlack (Is c) (finishing c x))
+  unfolding keysDiffer
+  bench-gave r b h = compared r _ (b ∙ bench-shows h)
 
 pub bench-accepts : BenchAccepts
-bench-accepts c x r b =
-    (λ z. accepted c x .1 (bench-sendable c x r b z), λ t. rw (bench-passes c x r b (gave t .sendable)) at (b .told .refusal))
+bench-accepts c x =
+    (λ z. accepted c x .1 (bench-sendable c x z), λ t. ap (λ (s : BenchSeen). s .number) (bench-shows c x (gave t .sendable)))
 
 pub bench-tells : BenchTells
 bench-tells c x r b t =
     let g = gave t in
     let p = bench-gave c x r b (g .sendable) in
     record {
-      agree = rw (g .own, g .peer, g .slack) (told-agree r (slackOf c (finishing c x)) p (same-long c x) (own-bytes c x) (peer-bytes c x));
-      differ = λ i. rw (g .own, g .peer, g .slack) (told-differ r (slackOf c (finishing c x)) p (same-long c x) (own-bytes c x) (peer-bytes c x) i);
+      agree = rw (g .own, g .peer, g .slack) (told-agree r (finishSlack (Is c) (finishing c x)) p (same-long c x) (own-bytes c x) (peer-bytes c x));
+      differ = λ i. rw (g .own, g .peer, g .slack) (told-differ r (finishSlack (Is c) (finishing c x)) p (same-long c x) (own-bytes c x) (peer-bytes c x) i);
     }
 
 pub bench-agrees : BenchAgrees
 bench-agrees c x r b z near =
-    let t = bench-accepts c x r b .0 z in
-    rw (gave t .slack) at (bench-tells c x r b t .agree .1 (agreement c x t near .same))
+    let t = bench-accepts c x .0 (sym (ap (λ (s : BenchSeen). s .number) b) ∙ z) in
+    bench-tells c x r b t .agree .1 (agreement c x t near .same) ∙ ap Agree (gave t .slack)
 
 -- ---- how large the number is that tells a differing bit
 
@@ -113,7 +118,7 @@ within : (xs ys : List ℕ) → differing xs ys ≤ 8 * length xs
 unfolding differing
 within xs ys = up-to (firstApart (bits xs) (bits ys)) (8 * length xs) (ltb (firstApart (bits xs) (bits ys)) (8 * length xs)) refl
 
-few : (v : Verdict) {d : ℕ} → d ≤ 1024 → countIn v d ≤ 1024
+few : (v : Verdict) {d : ℕ} → d ≤ 1024 → ifPassed v d 0 ≤ 1024
 few Pass h = h
 few (Fail r) h = omega arith
 
@@ -126,7 +131,8 @@ differs-few : (n : Named) (x : Bench) → benchDiffers n x ≤ 1024
 unfolding benchDiffers keysDiffer
 differs-few Unknown x = omega arith
 differs-few (Is c) x =
-    in-family (familyOf c) (omega (arith, within (keyOf c (replying c x)) (peerKeyOf c (finishing c x)), key-length c (replying c x), sound c .keys))
+    in-family (familyOf c) (omega (arith, within (replyKey (Is c) (replying c x)) (finishKey (Is c) (finishing c x)), key-length c (replying c x), sound c .keys))
 
-pub differ-few : {n : Named} {x : Bench} {k p d s i : ℕ} → Benched n x k p d s i → d ≤ 1024
-differ-few {n} {x} b = rw (b .differs .gives) (few (benchTests n x) (differs-few n x))
+pub differ-few : (n : Named) (x : Bench) (r : BenchAnswer) → benchTold r ≡ benchResult n x → benchTold r .differ ≤ 1024
+unfolding benchShown
+differ-few n x r b = omega (arith, ap (λ (s : BenchSeen). s .differ) b, few (benchTests n x) (differs-few n x))

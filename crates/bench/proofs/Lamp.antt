@@ -3,7 +3,6 @@
 --   never-differ                       those of BCNS are the same
 --   differs-is                         so comparing them says what Bench's definition says; same-numbers: and so do the two promises
 use mathlib.Core.Path.{_≡_, refl, _∙_, sym}
-use mathlib.Core.List.{List}
 use Prim.Native.Nat.{ℕ}
 use lib.ListN.{length}
 use Rattle.schemes.specs.declared.Named.{Named}
@@ -11,38 +10,38 @@ use Rattle.schemes.specs.declared.Named.the-variants.{Is, Unknown}
 use Rattle.schemes.specs.declared.Scheme.{Scheme}
 use Rattle.schemes.specs.declared.Scheme.the-variants.{Bcns, NewHope, Challenge, Classical, Recommended, Paranoid}
 use Rattle.lists.specs.Entries.{Below}
+use Rattle.lists.specs.declared.Peak.{Peak}
 use Rattle.packing.proofs.Laws.{packed-below}
-use Rattle.front.specs.Promise.{Gave}
 use Rattle.front.specs.declared.Verdict.{Verdict}
 use Rattle.front.specs.declared.Verdict.the-variants.{Pass, Fail}
 use Rattle.front.proofs.Laws.{both}
-use Rattle.reply.specs.Reply.{keyOf, keyFrom}
-use Rattle.finish.specs.Finish.{peerKeyOf, peerKeyFrom}
-use Rattle.reply.proofs.Replying.{key-length}
-use Rattle.finish.proofs.Finishing.{peer-key-length}
+use Rattle.reply.specs.Reply.{replyKey}
+use Rattle.finish.specs.Finish.{finishKey}
+use Rattle.reply.proofs.Replying as reply
+use Rattle.finish.proofs.Finishing as finish
 use Rattle.agreement.specs.Run.{replying, finishing}
 use Rattle.agreement.specs.Agreement.{Near}
 use Rattle.agreement.proofs.Tests.{sendable-by}
 use Rattle.agreement.proofs.Meeting.{keys-meet}
-use Rattle.bench.specs.Bench.{Bench, benchIn, benchTests, keysDiffer, benchDiffers}
+use Rattle.bench.specs.Bench.{Bench, benchTests, keysDiffer, benchDiffers, benchSlack, benchShown}
 use Rattle.bench.specs.Lamp.{NeverDiffer, differedBefore, SameNumbers}
 use Rattle.bench.proofs.Differing.{differing-none}
 
 module _ (c : Scheme) (x : Bench) where
-  pub same-long : length (keyOf c (replying c x)) ≡ length (peerKeyOf c (finishing c x))
-  same-long = key-length c (replying c x) ∙ sym (peer-key-length c (finishing c x))
+  pub same-long : length (replyKey (Is c) (replying c x)) ≡ length (finishKey (Is c) (finishing c x))
+  same-long = reply.key-length c (replying c x) ∙ sym (finish.key-length c (finishing c x))
 
-  pub own-bytes : Below 256 (keyOf c (replying c x))
-  unfolding keyOf keyFrom
+  pub own-bytes : Below 256 (replyKey (Is c) (replying c x))
+  unfolding replyKey
   own-bytes = packed-below _ _
 
-  pub peer-bytes : Below 256 (peerKeyOf c (finishing c x))
-  unfolding peerKeyOf peerKeyFrom
+  pub peer-bytes : Below 256 (finishKey (Is c) (finishing c x))
+  unfolding finishKey
   peer-bytes = packed-below _ _
 
 pub never-differ : NeverDiffer
-unfolding benchTests benchIn Near
-never-differ x e = let t = both _ _ e in keys-meet Bcns x (sendable-by Bcns x _ _ _ _ _ (t .0) (t .1) .ranged) tt
+unfolding benchTests Near
+never-differ x e = let t = both _ _ e in keys-meet Bcns x (sendable-by Bcns x _ _ _ (t .0) (t .1) .ranged) tt
 
 pub differs-is : (c : Scheme) (x : Bench) → benchTests (Is c) x ≡ Pass → keysDiffer c x ≡ benchDiffers (Is c) x
 unfolding keysDiffer benchDiffers
@@ -54,18 +53,15 @@ differs-is Recommended x e = refl
 differs-is Paranoid x e = refl
 
 -- another number for the same verdict, if it is the same wherever nothing is refused
-gave-as : (v : Verdict) {a b d : ℕ} → (v ≡ Pass → a ≡ b) → Gave v a d → Gave v b d
-gave-as Pass h g = record { gives = g .gives ∙ h refl }
-gave-as (Fail r) h g = record { gives = g .gives }
+shown-as : (v : Verdict) {a b : ℕ} (p : Peak) → (v ≡ Pass → a ≡ b) → benchShown v a p ≡ benchShown v b p
+unfolding benchShown
+shown-as Pass p h = rw (h refl)
+shown-as (Fail r) p h = refl
 
-either-way : (c : Named) (x : Bench) → benchTests c x ≡ Pass → differedBefore c x ≡ benchDiffers c x
+either-way : (c : Named) (x : Bench) → benchTests c x ≡ Pass → benchDiffers c x ≡ differedBefore c x
 unfolding differedBefore benchDiffers
 either-way Unknown x e = refl
-either-way (Is c) x e = differs-is c x e
+either-way (Is c) x e = sym (differs-is c x e)
 
 pub same-numbers : SameNumbers
-same-numbers c x n p d s i =
-    let h = either-way c x in (
-      λ b. record { told = b .told; differs = gave-as (benchTests c x) (λ e. sym (h e)) (b .differs); slacks = b .slacks },
-      λ b. record { told = b .told; differs = gave-as (benchTests c x) h (b .differs); slacks = b .slacks },
-    )
+same-numbers c x = shown-as (benchTests c x) (benchSlack c x) (either-way c x)

@@ -11,11 +11,11 @@ use Prim.Native.Nat.{ℕ, _<_}
 use lib.ListN.{getD}
 use Rattle.schemes.specs.declared.Scheme.{Scheme}
 use Rattle.schemes.specs.declared.Named.the-variants.{Is}
-use Rattle.finish.specs.Finish.{slackOf}
+use Rattle.finish.specs.Finish.{finishSlack}
 use Rattle.agreement.specs.Run.{finishing}
 use Rattle.agreement.specs.Exchange.{Exchange, ownKey, peerKey, toldSlack}
 use Rattle.agreement.specs.Agreement.{Near}
-use Rattle.bench.specs.Bench.{Bench, Answered, number, bits}
+use Rattle.bench.specs.Bench.{Bench, bits, benchResult, benchTold}
 use Rattle.bench.specs.declared.BenchAnswer.{BenchAnswer}
 use Rattle.bench.specs.declared.BenchAnswer.the-variants.{Agree, Differ}
 
@@ -30,13 +30,12 @@ pub record Tells {c : Scheme} {x : Bench} (t : Exchange c x) (r : BenchAnswer) :
 -- ---- what is shown
 
 abbrev pub BenchAccepts : Type 0
-BenchAccepts =
-    (c : Scheme) (x : Bench) (r : BenchAnswer) → Answered (Is c) x r → (number r ≡ 0) ↔ Exchange c x
+BenchAccepts = (c : Scheme) (x : Bench) → (benchResult (Is c) x .number ≡ 0) ↔ Exchange c x
 
 abbrev pub BenchTells : Type 0
-BenchTells =
-    (c : Scheme) (x : Bench) (r : BenchAnswer) → Answered (Is c) x r → (t : Exchange c x) → Tells t r
+BenchTells = (c : Scheme) (x : Bench) (r : BenchAnswer) → benchTold r ≡ benchResult (Is c) x → (t : Exchange c x) → Tells t r
 
 abbrev pub BenchAgrees : Type 0
 BenchAgrees =
-    (c : Scheme) (x : Bench) (r : BenchAnswer) → Answered (Is c) x r → number r ≡ 0 → Near c x → r ≡ Agree (slackOf c (finishing c x))
+    (c : Scheme) (x : Bench) (r : BenchAnswer) → benchTold r ≡ benchResult (Is c) x → benchTold r .number ≡ 0 → Near c x
+    → r ≡ Agree (finishSlack (Is c) (finishing c x))

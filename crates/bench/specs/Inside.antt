@@ -20,8 +20,8 @@ use Rattle.front.specs.declared.Outcome.{Outcome}
 use Rattle.front.specs.declared.Verdict.{Verdict}
 use Rattle.front.specs.declared.Verdict.the-variants.{Pass}
 use Rattle.offer.specs.Offer.{offerTests}
-use Rattle.reply.specs.Reply.{Reply, replyTests, messageOf, keyOf}
-use Rattle.finish.specs.Finish.{Finish, finishOf, finishTests, peerKeyOf, slackOf}
+use Rattle.reply.specs.Reply.{Reply, replyRoomsOf, replyTests, replyMessage, replyKey}
+use Rattle.finish.specs.Finish.{Finish, finishOf, finishRoomsOf, finishTests, finishKey, finishSlack}
 use Rattle.agreement.specs.Run.{offering, replying, finishing}
 use Rattle.bench.specs.Bench.{Bench}
 use Rattle.bench.specs.declared.BcnsAnswer.{BcnsAnswer}
@@ -29,10 +29,11 @@ use Rattle.bench.specs.declared.BenchAnswer.{BenchAnswer}
 use Rattle.bench.specs.declared.BenchAnswer.the-variants.{Agree, Differ}
 
 abbrev pub testsFromFinish : Scheme → Finish → Verdict
-testsFromFinish c x = finishTests (Is c) x (fixedOf c .key) 32
+testsFromFinish c x = finishTests (Is c) x (finishRoomsOf (fixedOf c .key) 32)
 
 abbrev pub testsFromReply : Scheme → Reply → List ℤ → Verdict
-testsFromReply c x s = replyTests (Is c) x (fixedOf c .reply) (fixedOf c .key) 32 then testsFromFinish c (finishOf (messageOf c x) s)
+testsFromReply c x s =
+    replyTests (Is c) x (replyRoomsOf (fixedOf c .reply) (fixedOf c .key) 32) then testsFromFinish c (finishOf (replyMessage (Is c) x) s)
 
 abbrev pub testsFromOffer : Scheme → Bench → Verdict
 testsFromOffer c x = offerTests (Is c) (offering x) (fixedOf c .opening) then testsFromReply c (replying c x) (x .s)
@@ -41,18 +42,18 @@ abbrev pub Keyed : Verdict → List ℕ → List ℕ → Type 0
 Keyed v key out = v ≡ Pass → out ≡ key
 
 pub record FromFinish (c : Scheme) (x : Finish) (r : Outcome) (peer : List ℕ) : Type 0 where
-  pub ended : r ≡ outcome (testsFromFinish c x) (slackOf c x)
-  pub peered : Keyed (testsFromFinish c x) (peerKeyOf c x) peer
+  pub ended : r ≡ outcome (testsFromFinish c x) (finishSlack (Is c) x)
+  pub peered : Keyed (testsFromFinish c x) (finishKey (Is c) x) peer
 
 pub record FromReply (c : Scheme) (x : Reply) (s : List ℤ) (r : Outcome) (own peer : List ℕ) : Type 0 where
-  pub ended : r ≡ outcome (testsFromReply c x s) (slackOf c (finishOf (messageOf c x) s))
-  pub owned : Keyed (testsFromReply c x s) (keyOf c x) own
-  pub peered : Keyed (testsFromReply c x s) (peerKeyOf c (finishOf (messageOf c x) s)) peer
+  pub ended : r ≡ outcome (testsFromReply c x s) (finishSlack (Is c) (finishOf (replyMessage (Is c) x) s))
+  pub owned : Keyed (testsFromReply c x s) (replyKey (Is c) x) own
+  pub peered : Keyed (testsFromReply c x s) (finishKey (Is c) (finishOf (replyMessage (Is c) x) s)) peer
 
 pub record FromOffer (c : Scheme) (x : Bench) (r : Outcome) (own peer : List ℕ) : Type 0 where
-  pub ended : r ≡ outcome (testsFromOffer c x) (slackOf c (finishing c x))
-  pub owned : Keyed (testsFromOffer c x) (keyOf c (replying c x)) own
-  pub peered : Keyed (testsFromOffer c x) (peerKeyOf c (finishing c x)) peer
+  pub ended : r ≡ outcome (testsFromOffer c x) (finishSlack (Is c) (finishing c x))
+  pub owned : Keyed (testsFromOffer c x) (replyKey (Is c) (replying c x)) own
+  pub peered : Keyed (testsFromOffer c x) (finishKey (Is c) (finishing c x)) peer
 
 abbrev pub comparison : ℕ → Peak → BenchAnswer
 comparison zero p = Agree p

@@ -5,10 +5,11 @@ ghost use mathlib.Core.Path.{_≡_};
 ghost use lib.ListN.{length};
 ghost use Rattle.schemes.specs.Schemes.{fixedOf, schemeOf};
 ghost use Rattle.schemes.specs.declared.Named.the-variants.{Is};
+ghost use Rattle.schemes.specs.declared.Scheme.the-variants as variants;
 ghost use Rattle.lists.specs.Lent.{was, left};
 ghost use Rattle.reply.specs.Reply as lent;
 ghost use Rattle.finish.specs.Finish.{finish};
-ghost use Rattle.bench.specs.Bench.{bench, told, Benches, BcnsBenches};
+ghost use Rattle.bench.specs.Bench.{bench, benchResult, benchTold, bcnsTold};
 ghost use Rattle.bench.specs.Inside.{FromFinish, FromReply, FromOffer, agreed};
 
 mod compare;
@@ -155,7 +156,7 @@ fn run(
 ) -> BenchAnswer
     requires { ⌜ (length (now opening) ≡ fixedOf scheme .opening) × (length (now reply) ≡ fixedOf scheme .reply) ⌝ }
     requires { ⌜ (length (now own) ≡ fixedOf scheme .key) × (length (now peer) ≡ fixedOf scheme .key) × (length (now digest) ≡ 32) ⌝ }
-    ensures { λ r. ⌜ Benches (Is scheme) a s e seed s1 e1 e2 coins r ⌝ }
+    ensures { λ r. ⌜ benchTold r ≡ benchResult (Is scheme) (bench a s e seed s1 e1 e2 coins) ⌝ }
 {
     let v = from_offer(
         scheme,
@@ -192,7 +193,7 @@ fn bench_in(
     e2: &[i32],
     coins: &[u8],
 ) -> BenchAnswer
-    ensures { λ r. ⌜ Benches (Is scheme) a s e seed s1 e1 e2 coins r ⌝ }
+    ensures { λ r. ⌜ benchTold r ≡ benchResult (Is scheme) (bench a s e seed s1 e1 e2 coins) ⌝ }
 {
     let f = scheme.fixed();
     let m = f.opening;
@@ -242,7 +243,7 @@ pub fn bcns(
     e2: &[i32],
     coins: &[u8],
 ) -> BcnsAnswer
-    ensures { λ r. ⌜ BcnsBenches a s e seed s1 e1 e2 coins r ⌝ }
+    ensures { λ r. ⌜ bcnsTold r ≡ benchResult (Is variants.Bcns) (bench a s e seed s1 e1 e2 coins) ⌝ }
 {
     let mut opening = [0u8; Bcns::OPENING];
     let mut reply = [0u8; Bcns::REPLY];
@@ -270,7 +271,7 @@ pub fn bcns(
 
 // Its answer as one of Bench.
 fn told(r: BcnsAnswer) -> BenchAnswer
-    ensures { λ v. ⌜ v ≡ told r ⌝ }
+    ensures { λ v. ⌜ benchTold v ≡ bcnsTold r ⌝ }
 {
     match r {
         BcnsAnswer::Agree(used) => BenchAnswer::Agree(used),
@@ -290,7 +291,7 @@ fn by_scheme(
     e2: &[i32],
     coins: &[u8],
 ) -> BenchAnswer
-    ensures { λ r. ⌜ Benches (Is scheme) a s e seed s1 e1 e2 coins r ⌝ }
+    ensures { λ r. ⌜ benchTold r ≡ benchResult (Is scheme) (bench a s e seed s1 e1 e2 coins) ⌝ }
 {
     match scheme {
         Scheme::Bcns => told(bcns(a, s, e, seed, s1, e1, e2, coins)),
@@ -310,7 +311,7 @@ pub fn bench(
     e2: &[i32],
     coins: &[u8],
 ) -> BenchAnswer
-    ensures { λ r. ⌜ Benches (schemeOf scheme) a s e seed s1 e1 e2 coins r ⌝ }
+    ensures { λ r. ⌜ benchTold r ≡ benchResult (schemeOf scheme) (bench a s e seed s1 e1 e2 coins) ⌝ }
 {
     let Named::Is(known) = schemes::scheme_of(scheme) else {
         return BenchAnswer::Refused(Refusal::NoScheme);

@@ -1,4 +1,4 @@
--- The bench cards that 01 marks, as one table: 01, "Bench cards", as amended by request d (docs/AMENDMENTS.md).
+-- The bench cards that 01 marks, as one table: 01, "Bench cards", as amended by request d (docs/RULES.md).
 --   Card    one card: the inputs, then what they give
 --   Says    what a card says of the definitions
 --   table   the cards, in 01's order

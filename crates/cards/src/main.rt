@@ -1,4 +1,4 @@
-// The bench cards, run: 01, "Bench cards", as amended by request d (docs/AMENDMENTS.md). A line has a card's inputs and what the library's functions give for them.
+// The bench cards, run: 01, "Bench cards", as amended by request d (docs/RULES.md). A line has a card's inputs and what the library's functions give for them.
 // It begins with `*` where 01 marks the card, which is then a theorem on the definitions too (`specs/Table.antt`). `stdout` is what the second program prints.
 use finish::FinishAnswer;
 use front::Answer;

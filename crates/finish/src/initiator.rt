@@ -13,8 +13,8 @@ ghost use Rattle.front.specs.Steps.{Laid, outcome};
 ghost use Rattle.front.specs.declared.Verdict.the-variants.{Pass};
 ghost use Rattle.ends.specs.Fit.{Counted};
 ghost use Rattle.ends.specs.Keys as settled;
-ghost use Rattle.finish.specs.Finish.{finishOf, finish, finishSizes, finishRest, peerKeyFrom, peerKeyOf, slackFrom, slackOf, Finishes};
-ghost use Rattle.finish.specs.Inside.{Derives, Finishing};
+ghost use Rattle.finish.specs.Finish.{finishOf, finishRoomsOf, finish, finishRooms, finishKey, finishSlack, finishTold, finishSeen, finishResult};
+ghost use Rattle.finish.specs.Inside.{finishSizes, finishRest, keyFrom, slackFrom, Derives, Finishing};
 use crate::FinishAnswer;
 use crate::FinishCounts;
 use front::Outcome;
@@ -35,29 +35,8 @@ fn settle(scheme: Scheme, hints: &[u32], w: &mut [u32], entries: &mut [u32], key
     lists::peak_of(w)
 }
 
-// The same of the reply and its numbers u; w, hints and entries are room for what lies between.
+// The key and the slack used, of the reply and its numbers u, with room for n values and g groups, of which no scheme has more than 1024.
 fn derive(
-    scheme: Scheme,
-    reply: &[u8],
-    u: &[u32],
-    s: &[i32],
-    w: &mut [u32],
-    hints: &mut [u32],
-    entries: &mut [u32],
-    key: &mut [u8],
-) -> Peak
-    requires { ⌜ Derives scheme (finishOf (now reply) (now s)) (now u) × (length (now key) ≡ fixedOf scheme .key) ⌝ }
-    requires { ⌜ (length (now w) ≡ fixedOf scheme .mixed) × (length (now hints) ≡ fixedOf scheme .mixed) × (length (now entries) ≡ fixedOf scheme .groups) ⌝ }
-    ensures { λ _. ⌜ left key ≡ peerKeyFrom scheme (was u) (finish reply s) ⌝ }
-    ensures { λ r. ⌜ r ≡ slackFrom scheme (was u) (finish reply s) ⌝ }
-{
-    ends::values::multiply(scheme, u, s, w);
-    wire::take_hints(scheme, reply, hints);
-    settle(scheme, hints, w, entries, key)
-}
-
-// The same with room for n values and g groups, of which no scheme has more than 1024.
-fn write(
     scheme: Scheme,
     n: usize,
     g: usize,
@@ -68,60 +47,44 @@ fn write(
 ) -> Peak
     requires { ⌜ Derives scheme (finishOf (now reply) (now s)) (now u) × (length (now key) ≡ fixedOf scheme .key) ⌝ }
     requires { ⌜ (n ≡ fixedOf scheme .mixed) × (g ≡ fixedOf scheme .groups) ⌝ }
-    ensures { λ _. ⌜ left key ≡ peerKeyFrom scheme (was u) (finish reply s) ⌝ }
+    ensures { λ _. ⌜ left key ≡ keyFrom scheme (was u) (finish reply s) ⌝ }
     ensures { λ r. ⌜ r ≡ slackFrom scheme (was u) (finish reply s) ⌝ }
 {
     let mut w = [0u32; 1024];
     let mut hints = [0u32; 1024];
     let mut entries = [0u32; 1024];
-    derive(
-        scheme,
-        reply,
-        u,
-        s,
-        &mut w[..n],
-        &mut hints[..n],
-        &mut entries[..g],
-        key,
-    )
+    ends::values::multiply(scheme, u, s, &mut w[..n]);
+    wire::take_hints(scheme, reply, &mut hints[..n]);
+    settle(scheme, &hints[..n], &mut w[..n], &mut entries[..g], key)
 }
 
 // The secret's test, then the key. What is refused leaves zeros.
 fn with_secret(scheme: Scheme, reply: &[u8], u: &[u32], s: &[i32], key: &mut [u8]) -> Outcome
     requires { ⌜ Finishing scheme (finishOf (now reply) (now s)) (now key) × Counted (fixedOf scheme .secret) (fixedOf scheme .q) (now u) ⌝ }
     ensures { λ r. ⌜ r ≡ outcome (secretsIn (fixedOf scheme .largest) (was s)) (slackFrom scheme (was u) (finish reply s)) ⌝ }
-    ensures { λ _. ⌜ Laid (secretsIn (fixedOf scheme .largest) (was s)) (peerKeyFrom scheme (was u) (finish reply s)) key ⌝ }
+    ensures { λ _. ⌜ Laid (secretsIn (fixedOf scheme .largest) (was s)) (keyFrom scheme (was u) (finish reply s)) key ⌝ }
 {
     let f = scheme.fixed();
     let v = front::secrets_in(Verdict::Pass, f.largest, s);
     match v {
         Verdict::Fail(r) => Outcome::Refused(r),
-        Verdict::Pass => Outcome::Slack(write(scheme, f.mixed, f.groups, reply, u, s, key)),
+        Verdict::Pass => Outcome::Slack(derive(scheme, f.mixed, f.groups, reply, u, s, key)),
     }
 }
 
-// The reply's numbers into u. A refused message ends the call here, with its place.
-fn with_reply(scheme: Scheme, reply: &[u8], s: &[i32], u: &mut [u32], key: &mut [u8]) -> Outcome
-    requires { ⌜ Finishing scheme (finishOf (now reply) (now s)) (now key) × (length (now u) ≡ fixedOf scheme .secret) ⌝ }
-    ensures { λ r. ⌜ r ≡ outcome (finishRest scheme (finish reply s)) (slackOf scheme (finish reply s)) ⌝ }
-    ensures { λ _. ⌜ Laid (finishRest scheme (finish reply s)) (peerKeyOf scheme (finish reply s)) key ⌝ }
+// The reply's n numbers, of which no scheme has more than 6912, then the secret's test and the key. A refused message ends the call here, with its place.
+fn with_reply(scheme: Scheme, n: usize, reply: &[u8], s: &[i32], key: &mut [u8]) -> Outcome
+    requires { ⌜ Finishing scheme (finishOf (now reply) (now s)) (now key) × (n ≡ fixedOf scheme .secret) ⌝ }
+    ensures { λ r. ⌜ r ≡ outcome (finishRest scheme (finish reply s)) (finishSlack (Is scheme) (finish reply s)) ⌝ }
+    ensures { λ _. ⌜ Laid (finishRest scheme (finish reply s)) (finishKey (Is scheme) (finish reply s)) key ⌝ }
 {
-    let v = wire::take_reply(scheme, reply, u);
+    let mut u = [0u32; 6912];
+    let v = wire::take_reply(scheme, reply, &mut u[..n]);
     let Verdict::Pass = v else {
         lists::zero_bytes(key);
         return front::ended(v, Peak { most: 0, at: 0 });
     };
-    with_secret(scheme, reply, u, s, key)
-}
-
-// The same with room for n numbers, of which no scheme has more than 6912.
-fn key_in(scheme: Scheme, n: usize, reply: &[u8], s: &[i32], key: &mut [u8]) -> Outcome
-    requires { ⌜ Finishing scheme (finishOf (now reply) (now s)) (now key) × (n ≡ fixedOf scheme .secret) ⌝ }
-    ensures { λ r. ⌜ r ≡ outcome (finishRest scheme (finish reply s)) (slackOf scheme (finish reply s)) ⌝ }
-    ensures { λ _. ⌜ Laid (finishRest scheme (finish reply s)) (peerKeyOf scheme (finish reply s)) key ⌝ }
-{
-    let mut u = [0u32; 6912];
-    with_reply(scheme, reply, s, &mut u[..n], key)
+    with_secret(scheme, reply, &u[..n], s, key)
 }
 
 // Where the sizes have passed.
@@ -132,13 +95,13 @@ fn finish_sized(
     key: &mut [u8],
     digest: &mut [u8],
 ) -> FinishAnswer
-    requires { ⌜ finishSizes scheme (finishOf (now reply) (now s)) (length (now key)) (length (now digest)) ≡ Pass ⌝ }
+    requires { ⌜ finishSizes scheme (finishOf (now reply) (now s)) (finishRoomsOf (length (now key)) (length (now digest))) ≡ Pass ⌝ }
     requires { ⌜ (now key ≡ replicate (length (now key)) 0) × (now digest ≡ replicate (length (now digest)) 0) ⌝ }
-    ensures { λ r. ⌜ Finishes (Is scheme) reply s key digest r ⌝ }
+    ensures { λ r. ⌜ finishSeen (finishTold r) (left key) (left digest) ≡ finishResult (Is scheme) (finish reply s) (finishRooms key digest) ⌝ }
 {
     let f = scheme.fixed();
     let k = f.key;
-    let v = key_in(scheme, f.secret, reply, s, &mut key[..k]);
+    let v = with_reply(scheme, f.secret, reply, s, &mut key[..k]);
     match v {
         Outcome::Refused(r) => FinishAnswer::Refused(r),
         Outcome::Slack(used) => {
@@ -160,7 +123,7 @@ pub(crate) fn finish_in(
     digest: &mut [u8],
 ) -> FinishAnswer
     requires { ⌜ (now key ≡ replicate (length (now key)) 0) × (now digest ≡ replicate (length (now digest)) 0) ⌝ }
-    ensures { λ r. ⌜ Finishes (Is scheme) reply s key digest r ⌝ }
+    ensures { λ r. ⌜ finishSeen (finishTold r) (left key) (left digest) ≡ finishResult (Is scheme) (finish reply s) (finishRooms key digest) ⌝ }
 {
     let v = crate::tests::finish_sizes(scheme, reply, s, key.len(), digest.len());
     match v {

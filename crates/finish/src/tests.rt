@@ -1,6 +1,7 @@
 // The tests of Finish that come first, in 01's order.
 ghost use mathlib.Core.Path.{_≡_};
-ghost use Rattle.finish.specs.Finish.{finish, finishSizes};
+ghost use Rattle.finish.specs.Finish.{finish, finishRoomsOf};
+ghost use Rattle.finish.specs.Inside.{finishSizes};
 use front::Verdict;
 use schemes::Scheme;
 
@@ -11,7 +12,7 @@ pub(crate) fn finish_sizes(
     room: usize,
     digestroom: usize,
 ) -> Verdict
-    ensures { λ r. ⌜ r ≡ finishSizes scheme (finish reply s) room digestroom ⌝ }
+    ensures { λ r. ⌜ r ≡ finishSizes scheme (finish reply s) (finishRoomsOf room digestroom) ⌝ }
 {
     let f = scheme.fixed();
     let v = front::length_is(Verdict::Pass, reply.len(), f.reply);

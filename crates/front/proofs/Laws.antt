@@ -10,7 +10,6 @@
 --   over, under     the unpack step's verdict, by the first number that is too large
 --   blank-fails, not-blank-passes, not-blank-passed, not-blank-packed   a part that is blank, and one that is not; numbers tested for their bytes
 --   first, also     a sequence as the code goes through it
---   held-all        what holds of each entry of the answer, where there is one, and of zero, holds of the whole output
 --   last-passes     a test that passes, behind others, changes nothing
 --   then-assoc, failed, went-on   a sequence in two parts: the first fails, or the second decides
 --   before-pass, before-fail      a test that is made only where the later one fails
@@ -31,7 +30,7 @@ use Rattle.lists.proofs.Same.{append-all, equal-all}
 use Rattle.packing.specs.Packing.{packed}
 use Rattle.blank.specs.Blank.{blank}
 use Rattle.blank.proofs.Laws.{blank-packed}
-use Rattle.front.specs.Front.{numberOf, numberIn, _then_, lengthIs, lengthUpTo, roomFor, inTurn, tableIn, publicsIn, messageIn, notBlank, secretsIn, held}
+use Rattle.front.specs.Front.{numberOf, numberIn, _then_, lengthIs, lengthUpTo, roomFor, inTurn, tableIn, publicsIn, messageIn, notBlank, secretsIn}
 use Rattle.front.specs.Steps.{_before_}
 use Rattle.front.specs.declared.Refusal.{Refusal}
 use Rattle.front.specs.declared.Refusal.the-variants.{NoScheme, BadLength, Short, PublicOver, MessageOver, SecretBeyond, RanOut, Misfit, OutOfStage, OutOfTurn, NoRule, NewerFormat, NoStudio, Blank, NotAscending}
@@ -234,9 +233,3 @@ room-passes h = rw (le-leb _ _ h)
 pub turn-passes : {b : Bool} → b ≡ true → inTurn b ≡ Pass
 unfolding inTurn
 turn-passes e = rw e
-
-pub held-all : {A : Type 0} (P : A → Type 0) (z : A) (v : Verdict) (xs : List A) (room : ℕ) → P z → (v ≡ Pass → (k : ℕ) → P (getD xs k z)) → (k : ℕ)
-    → P (getD (held v xs room z) k z)
-unfolding held
-held-all P z Pass xs room o h = append-all P z xs (replicate (room - length xs) z) (h refl) (equal-all P z (room - length xs) o)
-held-all P z (Fail r) xs room o h = equal-all P z room o

@@ -7,27 +7,28 @@
 --   shown-restored                    after a refusal, where a part of that output was written before and zeroed again
 --   seen-done, seen-refused           what is seen without a refusal says that the tests have passed; what is seen of a refusal, that the output is zero
 --   one, seen-all, told-all           what follows
---   tells                             the numbers of an answer, one by one
---   shown-by, told-by, wrote-by       the equation of a call with one output from its record of parts, and the parts from it
 use mathlib.Core.Path.{_≡_, refl, sym, _∙_, ap}
 use mathlib.Core.List.{List, _++_, append-nil}
-use Prim.Native.Nat.{ℕ, _-_, _≤_}
+use Prim.Native.Nat.{ℕ, zero, suc, _-_, _≤_}
+use native.Mathlib.Nat.{sub-zero, zero-sub, suc-sub-suc}
 use native.Mathlib.Omega.{arith}
 use lib.ListN.{length, take, drop, replicate, getD, length-replicate, length-append}
 use lib.Seq.{take-append-seam}
 use Rattle.lists.proofs.Same.{restored, append-all, equal-all}
-use Rattle.front.specs.Front.{numberOf, held}
+use Rattle.front.specs.Front.{numberOf}
 use Rattle.front.specs.Seen.{output, written, answer, Told, done, refused, told, Seen, shown, seen, One, SeenAll, ToldAll}
-use Rattle.front.specs.Answers as answers
-use Rattle.front.specs.Promise as parts
 use Rattle.front.specs.declared.Answer.{Answer}
 use Rattle.front.specs.declared.Answer.the-variants.{Done, Refused}
 use Rattle.front.specs.declared.Refusal.{Refusal}
 use Rattle.front.specs.declared.Verdict.{Verdict}
 use Rattle.front.specs.declared.Verdict.the-variants.{Pass, Fail}
 use Rattle.front.proofs.Laws.{some, number-zero}
-use Rattle.front.proofs.Promise.{same-answer}
-use Rattle.front.proofs.Held.{drop-zeros}
+use Rattle.front.proofs.Same.{same-refusal}
+
+drop-zeros : {A : Type 0} (z : A) (m n : ℕ) → drop m (replicate n z) ≡ replicate (n - m) z
+drop-zeros z zero n = simp sub-zero
+drop-zeros z (suc m) zero = simp zero-sub
+drop-zeros z (suc m) (suc n) = drop-zeros z m n ∙ simp suc-sub-suc
 
 module _ {A : Type 0} (xs : List A) (z : A) (room : ℕ) {v : Verdict} (e : v ≡ Pass) where
   pub written-passed : {n : ℕ} {out : List A} (old : List A) → length xs ≡ n → old ≡ replicate room z → out ≡ xs ++ drop n old
@@ -100,31 +101,8 @@ seen-all A t t′ out out′ e = (
   ap (λ (s : Seen A). s .out .holds) e,
 )
 
-pub tells : (a : Answer) {n p w : ℕ} → record { number = n; place = p; counts = w } ≡ told a
-    → (n ≡ answers.number a) × (p ≡ answers.place a) × (w ≡ answers.written a)
-tells (Done k) e = (ap (λ (t : Told ℕ). t .number) e, ap (λ (t : Told ℕ). t .place) e, ap (λ (t : Told ℕ). t .counts) e)
-tells (Refused r) e = (ap (λ (t : Told ℕ). t .number) e, ap (λ (t : Told ℕ). t .place) e, ap (λ (t : Told ℕ). t .counts) e)
-
 pub told-all : ToldAll
-told-all r r′ e =
-    let a = tells r {n = told r .number} {p = told r .place} {w = told r .counts} refl in
-    let b = tells r′ {n = told r .number} {p = told r .place} {w = told r .counts} e in
-    same-answer r r′ (sym (a .0) ∙ b .0) (sym (a .1) ∙ b .1) (sym (a .2) ∙ b .2)
-
--- ---- from and to the parts of a promise
-
-module _ {A : Type 0} (xs : List A) (z : A) (room n p count : ℕ) (out : List A) where
-  pub shown-by : (v : Verdict) → parts.Told v n p → parts.Wrote v xs z room count out
-      → seen (record { number = n; place = p; counts = count }) out ≡ shown v xs z room
-  unfolding seen shown written held
-  shown-by Pass t w = rw (t .refusal, t .at, w .counts, w .holds)
-  shown-by (Fail r) t w = rw (t .refusal, t .at, w .counts, w .holds)
-
-  pub told-by : (v : Verdict) → seen (record { number = n; place = p; counts = count }) out ≡ shown v xs z room → parts.Told v n p
-  unfolding seen shown
-  told-by v e = record { refusal = ap (λ (s : Seen A). s .number) e; at = ap (λ (s : Seen A). s .place) e }
-
-  pub wrote-by : (v : Verdict) → seen (record { number = n; place = p; counts = count }) out ≡ shown v xs z room → parts.Wrote v xs z room count out
-  unfolding seen shown written held
-  wrote-by Pass e = record { counts = ap (λ (s : Seen A). s .out .count) e; holds = ap (λ (s : Seen A). s .out .holds) e }
-  wrote-by (Fail r) e = record { counts = ap (λ (s : Seen A). s .out .count) e; holds = ap (λ (s : Seen A). s .out .holds) e }
+told-all (Done m) (Done n) e = ap Done (ap (λ (t : Told ℕ). t .counts) e)
+told-all (Done m) (Refused s) e = let n : 0 ≡ numberOf s = ap (λ (t : Told ℕ). t .number) e in absurd (omega (arith, some s))
+told-all (Refused r) (Done n) e = let n : numberOf r ≡ 0 = ap (λ (t : Told ℕ). t .number) e in absurd (omega (arith, some r))
+told-all (Refused r) (Refused s) e = ap Refused (same-refusal r s (ap (λ (t : Told ℕ). t .number) e) (ap (λ (t : Told ℕ). t .place) e))

@@ -1,7 +1,6 @@
--- The refusals, the tests that give them, and what an output holds: 01, "Refusal numbers and their order", and 02.
+-- The refusals and the tests that give them: 01, "Refusal numbers and their order", and 02.
 --   numberOf r, placeOf r   the number and the place of a refusal
 --   numberIn v, placeIn v   those of a verdict: 0 where all tests passed
---   countIn v n             what a call writes: n, and 0 after a refusal
 --   v then w                the first test that fails
 --   lengthIs m n            2: an input's length is not the fixed one
 --   lengthUpTo m n          2: it is over what is allowed
@@ -13,13 +12,12 @@
 --   notBlank part           17: a packed part is blank
 --   receivedIn q part xs    the tests of a part that has come, with the numbers xs: 5, then 17
 --   secretsIn B xs          6: a secret or noise value lies beyond the largest noise
---   held v xs room z        an output at exit: the answer xs and zeros (z) behind it; zeros from end to end after a refusal
 use mathlib.Core.Bool.{Bool, cond}
-use mathlib.Core.List.{List, _++_}
-use Prim.Native.Nat.{ℕ, _-_}
+use mathlib.Core.List.{List}
+use Prim.Native.Nat.{ℕ}
 use lib.Dec.{eqb, leb, ltb}
 use lib.IntN.{ℤ}
-use lib.ListN.{length, replicate}
+use lib.ListN.{length}
 use Rattle.lists.specs.First.{firstOver, firstBeyond}
 use Rattle.blank.specs.Blank.{blank}
 use Rattle.front.specs.declared.Refusal.{Refusal}
@@ -69,10 +67,6 @@ abbrev pub placeIn : Verdict → ℕ
 placeIn Pass = 0
 placeIn (Fail r) = placeOf r
 
-abbrev pub countIn : Verdict → ℕ → ℕ
-countIn Pass n = n
-countIn (Fail r) n = 0
-
 infixl 20 _then_
 unfoldable pub _then_ : Verdict → Verdict → Verdict
 Pass then w = w
@@ -107,7 +101,3 @@ receivedIn q part xs = messageIn q xs then notBlank part
 
 unfoldable pub secretsIn : ℕ → List ℤ → Verdict
 secretsIn B xs = cond (ltb (firstBeyond B xs) (length xs)) (Fail (SecretBeyond (firstBeyond B xs))) Pass
-
-unfoldable pub held : {A : Type 0} → Verdict → List A → ℕ → A → List A
-held Pass xs room z = xs ++ replicate (room - length xs) z
-held (Fail r) xs room z = replicate room z

@@ -1,6 +1,6 @@
 -- What the steps of a call hand on to each other: about the code's own steps, and no promise to a caller.
 --   v before w      v then w, where v is not looked at unless w fails: of tests that all passed it says only that w has
---   Laid v xs out   a step that is lent a part of an output leaves there what `put` says
+--   Laid v xs out   a step that is lent a part of an output leaves xs there, and after a refusal what was there
 --   outcome v p     what a step hands on: p, or the refusal
 use mathlib.Core.Path.{_≡_}
 use mathlib.Core.List.{List}
@@ -8,7 +8,7 @@ use Prim.Native.Nat.{ℕ}
 use Rattle.lists.specs.Lent.{Lent, was, left}
 use Rattle.lists.specs.declared.Peak.{Peak}
 use Rattle.front.specs.Front.{_then_}
-use Rattle.front.specs.Promise.{put}
+use Rattle.front.specs.Seen.{ifPassed}
 use Rattle.front.specs.declared.Outcome.{Outcome}
 use Rattle.front.specs.declared.Outcome.the-variants.{Slack, Refused}
 use Rattle.front.specs.declared.Verdict.{Verdict}
@@ -20,7 +20,7 @@ v before Pass = Pass
 v before (Fail r) = v then Fail r
 
 abbrev pub Laid : Verdict → List ℕ → Lent (List ℕ) → Type 0
-Laid v xs out = left out ≡ put v xs (was out)
+Laid v xs out = left out ≡ ifPassed v xs (was out)
 
 abbrev pub outcome : Verdict → Peak → Outcome
 outcome Pass p = Slack p

@@ -302,7 +302,8 @@ fn right_on(
 }
 
 // XS + E, where X has r rows and n columns: AS + E. The answer is the place of the first number of X that is q or more, or X's length where none is. Here as
-// below arrays have some words that nobody needs: with them those that matter start where 16 bytes do, and no vector lies in two lines of the cache.
+// below arrays have some words that nobody needs: with them those that matter start where 16 bytes do, and no vector lies in two lines of the cache, which is 7 to
+// 10 % of Frodo's products on an AMD EPYC. Which arrays these are was found by looking; no proof rests on it, and another compiler may lay them otherwise.
 pub fn mix_right(
     q: u32,
     n: usize,
@@ -518,7 +519,8 @@ pub fn mix_left(
     )
 }
 
-// Column j of Y, which has 8, as words.
+// Column j of Y, which has 8, as words. Numbers of 32 bits go from memory into a vector one by one; words of 16 bits would go through other registers: Finish in
+// Challenge, with the columns of S made so, took 4.6 microseconds in place of 3.6.
 fn turn_column(y: &[u32], j: usize, out: &mut [u16])
     requires { ⌜ (j < 8) × (length (now y) ≡ 8 * length (now out)) × Below 32768 (now y) ⌝ }
     ensures { λ _. ⌜ left out ≡ tab (length (was out)) (λ t. getD (was y) (t * 8 + j) 0) ⌝ }
@@ -567,7 +569,7 @@ fn eight_on(
 }
 
 // SY + E, where Y has n rows and 8 columns: S'B + E''. A row of 8 numbers is one vector, so by rows each sum would be loaded and stored for few products: it
-// goes by the columns of Y, as XS goes by those of S.
+// goes by the columns of Y, as XS goes by those of S. Its arrays are 17 KiB of Reply's stack.
 pub fn mix_eight(q: u32, n: usize, s: &[i32], y: &[u32], e: &[i32], out: &mut [u32])
     requires { ⌜ Fit q n 8 (now y) (now s) × (length (now out) ≡ 64) ⌝ }
     requires { ⌜ length (now e) ≡ 64 ⌝ }

@@ -1,28 +1,25 @@
 -- A meeting is an exchange of the whole-matrix calls.
---   whole-offer, whole-reply   where an end is not refused, the parts have filled the rows, and it promises what the whole call promises
---   exchange      the exchange
---   meeting       and the other way round
---   offer-passes, reply-passes   sendable inputs pass the tests with any rooms that are large enough
+--   whole-offer, whole-reply   where an end is not refused, the parts have filled the rows, and it shows what the whole call shows
 --   by-rows, reached, every-cut   what is shown
-use mathlib.Core.Path.{_≡_, sym, subst}
+use mathlib.Core.Path.{_≡_, refl, sym, ap, subst}
 use mathlib.Core.Logic.{_⊎_, inl, inr}
 use mathlib.Core.List.{List, []}
-use Prim.Native.Nat.{ℕ, _≤_}
+use Prim.Native.Nat.{ℕ}
 use native.Mathlib.Omega.{arith}
 use native.Mathlib.Decide.{ℕ-discrete}
-use lib.ListN.{length, take}
+use lib.ListN.{length}
 use Rattle.schemes.specs.Schemes.{familyOf, fixedOf}
 use Rattle.schemes.specs.declared.Family.{Family}
 use Rattle.schemes.specs.declared.Named.the-variants.{Is}
 use Rattle.schemes.specs.declared.Scheme.{Scheme}
 use Rattle.lists.specs.Entries.{Below}
-use Rattle.front.specs.Answers.{number, place, written}
-use Rattle.front.specs.declared.Verdict.the-variants.{Pass}
-use Rattle.offer.specs.Offer.{offerOf, offerTests, openingOf, Offered}
-use Rattle.reply.specs.Reply.{replyOf, replyTests, Replied}
-use Rattle.reply.specs.Reply as ofReply
-use Rattle.agreement.specs.Run.{Run, offering, replying}
-use Rattle.agreement.specs.Exchange.{Sendable, Exchange}
+use Rattle.front.specs.Seen.{Seen, answer, shown}
+use Rattle.front.specs.declared.Refusal.the-variants.{OutOfTurn}
+use Rattle.front.specs.declared.Verdict.the-variants.{Pass, Fail}
+use Rattle.offer.specs.Offer.{offerOf, offerTests, offerMessage, offerResult}
+use Rattle.reply.specs.Reply.{ReplyRooms, ReplySeen, replyOf, replyTests, outputs, replyResult}
+use Rattle.agreement.specs.Run.{Run, offering, replyTo}
+use Rattle.agreement.specs.Exchange.{Exchange, offers, replies, finishes}
 use Rattle.agreement.proofs.Accepted.{accepted}
 use Rattle.agreement.proofs.Agreement.{agreement}
 use Rattle.agreement.proofs.Tests.{offer-passes, reply-passes}
@@ -32,106 +29,78 @@ use Rattle.rows.specs.Runs.{OfferRun, ReplyRun}
 use Rattle.rows.proofs.Offers.{same-offer, early-offer, offer-taken}
 use Rattle.rows.proofs.Replies.{same-reply, early-reply, reply-taken}
 use Rattle.meetings.specs.Meeting.{Meeting, ByRows, Reached, EveryCut}
+use Rattle.meetings.proofs.Linked.{replied, finished, exchanged}
+
+offer-early : (n : ℕ) {t : Seen ℕ} → t ≡ shown (Fail OutOfTurn) [] 0 n → t .number ≡ 11
+unfolding shown
+offer-early n e = ap (λ (s : Seen ℕ). s .number) e
+
+reply-early : (m : ReplyRooms) {t : ReplySeen} → t ≡ outputs (Fail OutOfTurn) [] [] [] m → t .number ≡ 11
+unfolding outputs
+reply-early m e = ap (λ (s : ReplySeen). s .number) e
 
 module _ (c : Scheme) (frodo : familyOf c ≡ Family.Frodo) where
-  whole-offer : (x : OfferBegin) (a message : List ℕ) (number place room count : ℕ) → Below 256 (x .seed) → number ≡ 0
-      → OfferRun c x a number place room count message → Offered (Is c) (offerOf a (x .s) (x .e) (x .seed)) number place room count message
-  whole-offer x a message number place room count b z r = go (ℕ-discrete (length a) (fixedOf c .public))
+  whole-offer : (x : OfferBegin) (a : List ℕ) (n : ℕ) (t : Seen ℕ) → Below 256 (x .seed) → t .number ≡ 0 → OfferRun c x a n t
+      → t ≡ offerResult (Is c) (offerOf a (x .s) (x .e) (x .seed)) n
+  whole-offer x a n t b z r = go (ℕ-discrete (length a) (fixedOf c .public))
     where
-      go : Dec (length a ≡ fixedOf c .public) → Offered (Is c) (offerOf a (x .s) (x .e) (x .seed)) number place room count message
-      go (yes e) = same-offer c x a message number place room count frodo b r e
-      go (no e) = absurd (omega (arith, early-offer c x a message number place room count frodo b r e .0 .refusal))
+      go : Dec (length a ≡ fixedOf c .public) → t ≡ offerResult (Is c) (offerOf a (x .s) (x .e) (x .seed)) n
+      go (yes e) = same-offer c x a n t frodo b r e
+      go (no e) = absurd (omega (arith, offer-early n (early-offer c x a n t frodo b r e)))
 
-  whole-reply : (x : ReplyBegin) (a message key digest : List ℕ) (number place n m k l d e : ℕ) → number ≡ 0
-      → ReplyRun c x a number place n m message k l key d e digest
-      → Replied (Is c) (replyOf (x .opening) a (x .s') (x .e') (x .e'') []) number place n m message k l key d e digest
-  whole-reply x a message key digest number place n m k l d e z r = go (ℕ-discrete (length a) (fixedOf c .public))
+  whole-reply : (x : ReplyBegin) (a : List ℕ) (m : ReplyRooms) (t : ReplySeen) → t .number ≡ 0 → ReplyRun c x a m t
+      → t ≡ replyResult (Is c) (replyOf (x .opening) a (x .s') (x .e') (x .e'') []) m
+  whole-reply x a m t z r = go (ℕ-discrete (length a) (fixedOf c .public))
     where
-      go : Dec (length a ≡ fixedOf c .public) → Replied (Is c) (replyOf (x .opening) a (x .s') (x .e') (x .e'') []) number place n m message k l key d e digest
-      go (yes h) = same-reply c x a message key digest number place n m k l d e frodo r h
-      go (no h) = absurd (omega (arith, early-reply c x a message key digest number place n m k l d e frodo r h .0 .refusal))
+      go : Dec (length a ≡ fixedOf c .public) → t ≡ replyResult (Is c) (replyOf (x .opening) a (x .s') (x .e') (x .e'') []) m
+      go (yes e) = same-reply c x a m t frodo r e
+      go (no e) = absurd (omega (arith, reply-early m (early-reply c x a m t frodo r e)))
 
-  module _ (x : Run) (b : Below 256 (x .seed)) (none : x .coins ≡ []) where
-    exchange : Meeting c x → Exchange c x
-    exchange t =
-        record {
-          offerRoom = t .offerRoom;
-          offer = t .offer;
-          offerOut = t .offerOut;
-          offers = offered t (t .offers);
-          offer-accepted = t .offer-accepted;
-          replyRoom = t .replyRoom;
-          keyRoom = t .keyRoom;
-          digestRoom = t .digestRoom;
-          reply = t .reply;
-          replyOut = t .replyOut;
-          keyOut = t .keyOut;
-          digestOut = t .digestOut;
-          replies = replied t (t .replies);
-          reply-accepted = t .reply-accepted;
-          peerKeyRoom = t .peerKeyRoom;
-          peerDigestRoom = t .peerDigestRoom;
-          finish = t .finish;
-          peerKeyOut = t .peerKeyOut;
-          peerDigestOut = t .peerDigestOut;
-          finishes = t .finishes;
-          finish-accepted = t .finish-accepted;
-        }
-      where
-        offered :
-            (t : Meeting c x) →
-            Offered (Is c) (offering x) (number (t .offer)) (place (t .offer)) (t .offerRoom) (written (t .offer)) (t .offerOut)
-            ⊎ OfferRun c (offerBeginOf (x .s) (x .e) (x .seed)) (x .a) (number (t .offer)) (place (t .offer)) (t .offerRoom) (written (t .offer)) (t .offerOut) →
-            Offered (Is c) (offering x) (number (t .offer)) (place (t .offer)) (t .offerRoom) (written (t .offer)) (t .offerOut)
-        offered t (inl o) = o
-        offered t (inr r) = whole-offer (offerBeginOf (x .s) (x .e) (x .seed)) (x .a) (t .offerOut) _ _ _ _ b (t .offer-accepted) r
+  module _ (x : Run) (b : Below 256 (x .seed)) (none : x .coins ≡ []) (t : Meeting c x) where
+    offer-by : (t .offer ≡ offers c x (t .rooms)) ⊎ OfferRun c (offerBeginOf (x .s) (x .e) (x .seed)) (x .a) (t .rooms .offer) (t .offer)
+        → t .offer ≡ offers c x (t .rooms)
+    offer-by (inl e) = e
+    offer-by (inr r) = whole-offer (offerBeginOf (x .s) (x .e) (x .seed)) (x .a) _ _ b (t .offer-accepted) r
 
-        replied :
-            (t : Meeting c x) →
-            Replied (Is c) (replyOf (take (written (t .offer)) (t .offerOut)) (x .a) (x .s') (x .e') (x .e'') (x .coins)) (ofReply.number (t .reply))
-            (ofReply.place (t .reply)) (t .replyRoom) (ofReply.counts (t .reply) .message) (t .replyOut) (t .keyRoom) (ofReply.counts (t .reply) .key)
-            (t .keyOut) (t .digestRoom) (ofReply.counts (t .reply) .digest) (t .digestOut)
-            ⊎ ReplyRun c (replyBeginOf (take (written (t .offer)) (t .offerOut)) (x .s') (x .e') (x .e'')) (x .a) (ofReply.number (t .reply))
-            (ofReply.place (t .reply)) (t .replyRoom) (ofReply.counts (t .reply) .message) (t .replyOut) (t .keyRoom) (ofReply.counts (t .reply) .key)
-            (t .keyOut) (t .digestRoom) (ofReply.counts (t .reply) .digest) (t .digestOut) →
-            Replied (Is c) (replyOf (take (written (t .offer)) (t .offerOut)) (x .a) (x .s') (x .e') (x .e'') (x .coins)) (ofReply.number (t .reply))
-            (ofReply.place (t .reply)) (t .replyRoom) (ofReply.counts (t .reply) .message) (t .replyOut) (t .keyRoom) (ofReply.counts (t .reply) .key)
-            (t .keyOut) (t .digestRoom) (ofReply.counts (t .reply) .digest) (t .digestOut)
-        replied t (inl o) = o
-        replied t (inr r) =
-            rw none
-            (whole-reply (replyBeginOf (take (written (t .offer)) (t .offerOut)) (x .s') (x .e') (x .e'')) (x .a) (t .replyOut) (t .keyOut) (t .digestOut)
-            _ _ _ _ _ _ _ _ (t .reply-accepted) r)
+    abbrev Whole : Type 0
+    Whole = t .reply ≡ replyResult (Is c) (replyTo x (answer (t .offer .out))) (t .rooms .reply)
+
+    reply-by : Whole ⊎ ReplyRun c (replyBeginOf (answer (t .offer .out)) (x .s') (x .e') (x .e'')) (x .a) (t .rooms .reply) (t .reply) → Whole
+    reply-by (inl e) = e
+    reply-by (inr r) = rw none (whole-reply (replyBeginOf (answer (t .offer .out)) (x .s') (x .e') (x .e'')) (x .a) _ _ (t .reply-accepted) r)
+
+    offer-is : t .offer ≡ offers c x (t .rooms)
+    offer-is = offer-by (t .offers)
+
+    reply-is : t .reply ≡ replies c x (t .rooms)
+    reply-is = replied c x (t .rooms) offer-is (reply-by (t .replies)) (t .finishes)
+
+    finish-is : t .finish ≡ finishes c x (t .rooms)
+    finish-is = finished c x (t .rooms) offer-is (reply-by (t .replies)) (t .finishes)
+
+    exchange : Exchange c x
+    exchange = exchanged c x (t .rooms) offer-is (reply-by (t .replies)) (t .finishes) (t .offer-accepted) (t .reply-accepted) (t .finish-accepted)
 
 pub by-rows : ByRows
-unfolding exchange
+unfolding exchange exchanged
 by-rows c x frodo b none t near =
     let k = agreement c x (exchange c frodo x b none t) near in
-    record { same = k .same; published = k .published; digests = k .digests }
+    let r = reply-is c frodo x b none t in
+    let f = finish-is c frodo x b none t in
+    record { same = rw (r, f) (k .same); published = rw r (k .published); digests = rw (r, f) (k .digests) }
 
 meeting : {c : Scheme} {x : Run} → Exchange c x → Meeting c x
-meeting t =
+meeting {c} {x} t =
     record {
-      offerRoom = t .offerRoom;
-      offer = t .offer;
-      offerOut = t .offerOut;
-      offers = inl (t .offers);
+      rooms = t .rooms;
+      offer = offers c x (t .rooms);
+      offers = inl refl;
       offer-accepted = t .offer-accepted;
-      replyRoom = t .replyRoom;
-      keyRoom = t .keyRoom;
-      digestRoom = t .digestRoom;
-      reply = t .reply;
-      replyOut = t .replyOut;
-      keyOut = t .keyOut;
-      digestOut = t .digestOut;
-      replies = inl (t .replies);
+      reply = replies c x (t .rooms);
+      replies = inl refl;
       reply-accepted = t .reply-accepted;
-      peerKeyRoom = t .peerKeyRoom;
-      peerDigestRoom = t .peerDigestRoom;
-      finish = t .finish;
-      peerKeyOut = t .peerKeyOut;
-      peerDigestOut = t .peerDigestOut;
-      finishes = t .finishes;
+      finish = finishes c x (t .rooms);
+      finishes = refl;
       finish-accepted = t .finish-accepted;
     }
 
@@ -141,11 +110,11 @@ reached c x frodo b none = (λ t. accepted c x .0 (exchange c frodo x b none t),
 -- ---- every cut
 
 pub every-cut : EveryCut
-every-cut c x ps ps' o n k d frodo b none s e e' w w' ho hn hk hd = (
-  offer-taken c (offerBeginOf (x .s) (x .e) (x .seed)) ps o frodo b w .0
-      (subst (λ (a : List ℕ). offerTests (Is c) (offerOf a (x .s) (x .e) (x .seed)) o ≡ Pass) (sym e) (offer-passes c x s o ho)),
-  reply-taken c (replyBeginOf (openingOf c (offering x)) (x .s') (x .e') (x .e'')) ps' n k d frodo w' .0
-      (subst (λ (a : List ℕ). replyTests (Is c) (replyOf (openingOf c (offering x)) a (x .s') (x .e') (x .e'') []) n k d ≡ Pass) (sym e')
-      (subst (λ (cs : List ℕ). replyTests (Is c) (replyOf (openingOf c (offering x)) (x .a) (x .s') (x .e') (x .e'') cs) n k d ≡ Pass) none
-      (reply-passes c x s n k d hn hk hd))),
-)
+every-cut c x ps ps' n m frodo b none s e e' w w' ho hn hk hd =
+    let opening = offerMessage (Is c) (offering x) in (
+      offer-taken c (offerBeginOf (x .s) (x .e) (x .seed)) ps n frodo b w .0
+          (subst (λ (a : List ℕ). offerTests (Is c) (offerOf a (x .s) (x .e) (x .seed)) n ≡ Pass) (sym e) (offer-passes c x s n ho)),
+      reply-taken c (replyBeginOf opening (x .s') (x .e') (x .e'')) ps' m frodo w' .0
+          (subst (λ (a : List ℕ). replyTests (Is c) (replyOf opening a (x .s') (x .e') (x .e'') []) m ≡ Pass) (sym e')
+          (subst (λ (cs : List ℕ). replyTests (Is c) (replyOf opening (x .a) (x .s') (x .e') (x .e'') cs) m ≡ Pass) none (reply-passes c x s m hn hk hd))),
+    )

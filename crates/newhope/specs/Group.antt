@@ -1,4 +1,4 @@
--- NewHope's reconciliation: 01, "Reconciliation", as amended by request d (docs/AMENDMENTS.md); q, the size 1024 and the 256 groups are those of `schemes`.
+-- NewHope's reconciliation: 01, "Reconciliation", as amended by request d (docs/RULES.md); q, the size 1024 and the 256 groups are those of `schemes`.
 -- A group is the entries i, i + 256, i + 512 and i + 768, with a coin bit b.
 --   upOf b x, downOf b x   P = floor((4X + q)/(2q)) and Q = floor(2X/q), where X = 2x + b
 --   offOf b x, offsOf b v  |2X - qP|, and the sum of the four

@@ -1,4 +1,4 @@
-// NewHope's reconciliation of groups of four entries: 01, "Reconciliation", as amended by request d (docs/AMENDMENTS.md); q, the size 1024 and the 256
+// NewHope's reconciliation of groups of four entries: 01, "Reconciliation", as amended by request d (docs/RULES.md); q, the size 1024 and the 256
 // groups are those of `schemes`.
 ghost use mathlib.Core.Path.{_≡_};
 ghost use mathlib.Core.Bool.{cond};

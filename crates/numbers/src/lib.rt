@@ -102,7 +102,8 @@ pub fn fold(x: u64) -> u64
     twice - FULL * ((twice >= FULL) as u64)
 }
 
-// The remainder of a signed number by 2^32 - 1: a multiple of 2^32 - 1 brings it above zero first.
+// The remainder of a signed number by 2^32 - 1: a multiple of 2^32 - 1 brings it above zero first. 2^30 times is the largest such power that leaves room for numbers
+// of up to 2^61 in size, far more than a product's sum needs, so that any caller may fold.
 pub fn residue_folded(x: i64) -> u32
     requires { ⌜ natAbs x ≤ 2 ^ 61 ⌝ }
     ensures { λ r. ⌜ r ≡ residue 4294967295 x ⌝ }

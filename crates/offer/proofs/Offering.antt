@@ -4,29 +4,26 @@
 --   offer-failed, offer-last-decides   its verdict by the test that decides
 --   opening-long     an opening is as long as the scheme says
 --   offer-unknown    its tests where the number names no scheme
---   offer-refused    its promise after a refusal; offer-named: under another name and room
 use mathlib.Core.Path.{_≡_, sym, ap, _∙_}
-use mathlib.Core.List.{List}
 use Prim.Native.Nat.{ℕ, _≤_}
 use native.Mathlib.Omega.{arith}
-use lib.ListN.{length, replicate}
+use lib.ListN.{length}
 use Rattle.schemes.specs.Schemes.{fixedOf}
 use Rattle.schemes.specs.declared.Named.{Named}
 use Rattle.schemes.specs.declared.Named.the-variants.{Is, Unknown}
 use Rattle.schemes.specs.declared.Scheme.{Scheme}
 use Rattle.schemes.proofs.Sound.{sound}
-use Rattle.front.specs.Front.{numberOf, placeOf, _then_, publicsIn, notBlank, secretsIn}
+use Rattle.front.specs.Front.{_then_, publicsIn, notBlank, secretsIn}
 use Rattle.front.specs.declared.Verdict.{Verdict}
 use Rattle.front.specs.declared.Verdict.the-variants.{Pass, Fail}
 use Rattle.front.specs.declared.Refusal.{Refusal}
 use Rattle.front.specs.declared.Refusal.the-variants.{NoScheme}
 use Rattle.front.proofs.Laws.{both, all-pass, length-passed, room-passed, publics-passed, secrets-passed, then-assoc, failed, before-failed, before-passed}
-use Rattle.front.proofs.Promise.{told-failed, wrote-failed}
 use Rattle.ends.specs.Fit.{Counted, Small}
 use Rattle.ends.proofs.Ranges.{offered-counted}
 use Rattle.wire.proofs.Travel.{opening-length, numbers-long}
-use Rattle.offer.specs.Offer.{Offer, offerLengths, offerRooms, offerIn, offeredPart, offerTests, openingOf, Offered}
-use Rattle.offer.specs.Inside.{offerAhead, Opens}
+use Rattle.offer.specs.Offer.{Offer, offeredPart, offerTests, offerMessage}
+use Rattle.offer.specs.Inside.{offerLengths, offerSizes, offerIn, offerAhead, Opens}
 
 -- the inputs of which all tests have passed
 pub record Ranges (c : Scheme) (x : Offer) : Type 0 where
@@ -36,12 +33,12 @@ pub record Ranges (c : Scheme) (x : Offer) : Type 0 where
   pub seed-long : length (x .seed) ≡ fixedOf c .seed
 
 module _ (c : Scheme) (x : Offer) where
-  pub opening-long : length (x .seed) ≡ fixedOf c .seed → length (openingOf c x) ≡ fixedOf c .opening
-  unfolding openingOf
+  pub opening-long : length (x .seed) ≡ fixedOf c .seed → length (offerMessage (Is c) x) ≡ fixedOf c .opening
+  unfolding offerMessage
   opening-long l = opening-length c (x .seed) _ l (numbers-long c (offered-counted c (x .a) (x .s) (x .e)))
 
   -- of lengths, room and secrets
-  lengths-open : (n : ℕ) → offerRooms c x n ≡ Pass → secretsIn (fixedOf c .largest) (x .s) then secretsIn (fixedOf c .largest) (x .e) ≡ Pass
+  lengths-open : (n : ℕ) → offerSizes c x n ≡ Pass → secretsIn (fixedOf c .largest) (x .s) then secretsIn (fixedOf c .largest) (x .e) ≡ Pass
       → Opens c x × (fixedOf c .opening ≤ n)
   unfolding offerLengths
   lengths-open n t u =
@@ -80,7 +77,7 @@ module _ (c : Scheme) (x : Offer) where
   -- its tests as far as the product
   in-two : (n : ℕ)
       → offerIn c x n
-      ≡ offerRooms c x n then publicsIn (fixedOf c .q) (x .a) then (secretsIn (fixedOf c .largest) (x .s) then secretsIn (fixedOf c .largest) (x .e))
+      ≡ offerSizes c x n then publicsIn (fixedOf c .q) (x .a) then (secretsIn (fixedOf c .largest) (x .s) then secretsIn (fixedOf c .largest) (x .e))
   unfolding offerIn
   in-two n = then-assoc _ _ _
 
@@ -89,23 +86,15 @@ module _ (c : Scheme) (x : Offer) where
   ahead-opens n t = let p = before-passed _ _ _ t in lengths-open n (p .0) (p .1)
 
   pub offer-failed : (n : ℕ) {v : Verdict} {r : Refusal} → v ≡ offerAhead c x n → v ≡ Fail r → offerTests (Is c) x n ≡ Fail r
-  unfolding offerTests offerAhead
+  unfolding offerTests offerIn offerLengths offerAhead
   offer-failed n e f = failed _ (sym (in-two n)) (before-failed _ _ _ (sym e ∙ f))
 
   pub offer-last-decides : (n : ℕ) {v : Verdict} → offerAhead c x n ≡ Pass → v ≡ publicsIn (fixedOf c .q) (x .a) then notBlank (offeredPart c x)
       → offerTests (Is c) x n ≡ v
-  unfolding offerTests offerAhead
+  unfolding offerTests offerIn offerLengths offerAhead
   offer-last-decides n t e =
       ap (λ (u : Verdict). u then notBlank (offeredPart c x)) (in-two n ∙ before-passed _ _ _ t .2) ∙ sym e
 
 pub offer-unknown : {c : Named} (x : Offer) (n : ℕ) → c ≡ Unknown → offerTests c x n ≡ Fail NoScheme
 unfolding offerTests
 offer-unknown x n e = rw e
-
-pub offer-refused : {c : Named} {x : Offer} {n : ℕ} {r : Refusal} {message : List ℕ} → offerTests c x n ≡ Fail r → message ≡ replicate n 0
-    → Offered c x (numberOf r) (placeOf r) n 0 message
-offer-refused e o = record { told = told-failed e; messages = wrote-failed e o }
-
-pub offer-named : {c d : Named} {x : Offer} {number place m n count : ℕ} {message : List ℕ} → c ≡ d → m ≡ n → Offered d x number place m count message
-    → Offered c x number place n count message
-offer-named e f p = rw (e, ← f) p

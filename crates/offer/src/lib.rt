@@ -1,9 +1,12 @@
 // Offer, the first call of 01, on lent slices. It has no `requires`: it ends with an answer or a numbered refusal, given exactly when its condition holds;
 // after a refusal its output is zero from end to end, and after a success what lies behind the answer is zero.
+ghost use mathlib.Core.Path.{_≡_};
 ghost use Rattle.schemes.specs.Schemes.{schemeOf};
-ghost use Rattle.offer.specs.Offer.{Offers};
+ghost use Rattle.lists.specs.Lent.{left, room};
+ghost use Rattle.front.specs.Seen.{told, seen};
+ghost use Rattle.offer.specs.Offer.{offer, offerResult};
 
-mod opener;
+pub mod opener;
 mod tests;
 
 use front::Answer;
@@ -19,7 +22,7 @@ pub fn offer(
     seed: &[u8],
     message: &mut [u8],
 ) -> Answer
-    ensures { λ r. ⌜ Offers (schemeOf scheme) a s e seed message r ⌝ }
+    ensures { λ r. ⌜ seen (told r) (left message) ≡ offerResult (schemeOf scheme) (offer a s e seed) (room message) ⌝ }
 {
     let Named::Is(known) = front::named(scheme, message) else {
         return Answer::Refused(Refusal::NoScheme);

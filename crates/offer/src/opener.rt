@@ -4,21 +4,22 @@ ghost use mathlib.Core.Path.{_≡_};
 ghost use lib.ListN.{length, replicate};
 ghost use Rattle.schemes.specs.Schemes.{fixedOf};
 ghost use Rattle.schemes.specs.declared.Named.the-variants.{Is};
-ghost use Rattle.lists.specs.Lent.{was};
+ghost use Rattle.lists.specs.Lent.{was, left, room};
 ghost use Rattle.packing.specs.Packing.{packed};
 ghost use Rattle.front.specs.Front.{_then_, publicsIn, notBlank};
+ghost use Rattle.front.specs.Seen.{told, seen};
 ghost use Rattle.front.specs.Steps.{Laid};
 ghost use Rattle.front.specs.declared.Verdict.the-variants.{Pass};
 ghost use Rattle.ends.specs.Fit.{Counted};
 ghost use Rattle.wire.specs.Wire.{opening};
-ghost use Rattle.offer.specs.Offer.{offerOf, offer, offeredPart, openingOf, Offers};
+ghost use Rattle.offer.specs.Offer.{offerOf, offer, offeredPart, offerMessage, offerResult};
 ghost use Rattle.offer.specs.Inside.{offerAhead, Opens};
 use front::Answer;
 use front::Verdict;
 use schemes::Scheme;
 
-// The opening's bytes, of its numbers b. A blank part is refused before anything is written.
-fn lay_numbers(scheme: Scheme, b: &[u32], seed: &[u8], out: &mut [u8]) -> Verdict
+// The opening's bytes, of its numbers b. A blank part is refused before anything is written. Crate `rows` ends so too.
+pub fn lay_numbers(scheme: Scheme, b: &[u32], seed: &[u8], out: &mut [u8]) -> Verdict
     requires { ⌜ Counted (fixedOf scheme .secret) (fixedOf scheme .q) (now b) ⌝ }
     requires { ⌜ (length (now seed) ≡ fixedOf scheme .seed) × (length (now out) ≡ fixedOf scheme .opening) ⌝ }
     ensures { λ r. ⌜ r ≡ notBlank (packed (fixedOf scheme .width) (was b)) ⌝ }
@@ -34,31 +35,8 @@ fn lay_numbers(scheme: Scheme, b: &[u32], seed: &[u8], out: &mut [u8]) -> Verdic
     }
 }
 
-// The same of what is lent, with the test of the public numbers; the opening's numbers go into b.
+// The opening of what is lent, with the test of the public numbers and room for n numbers, of which no scheme has more than 6912.
 fn lay(
-    scheme: Scheme,
-    a: &[u32],
-    s: &[i32],
-    e: &[i32],
-    seed: &[u8],
-    b: &mut [u32],
-    out: &mut [u8],
-) -> Verdict
-    requires { ⌜ Opens scheme (offerOf (now a) (now s) (now e) (now seed)) ⌝ }
-    requires { ⌜ (length (now b) ≡ fixedOf scheme .secret) × (length (now out) ≡ fixedOf scheme .opening) ⌝ }
-    ensures { λ r. ⌜ r ≡ publicsIn (fixedOf scheme .q) (was a) then notBlank (offeredPart scheme (offer a s e seed)) ⌝ }
-    ensures { λ r. ⌜ Laid r (openingOf scheme (offer a s e seed)) out ⌝ }
-{
-    let at = ends::values::offer(scheme, a, s, e, b);
-    let v = front::publics_at(at, a);
-    match v {
-        Verdict::Fail(r) => Verdict::Fail(r),
-        Verdict::Pass => lay_numbers(scheme, b, seed, out),
-    }
-}
-
-// The same with room for n numbers, of which no scheme has more than 6912.
-fn write(
     scheme: Scheme,
     n: usize,
     a: &[u32],
@@ -70,21 +48,26 @@ fn write(
     requires { ⌜ Opens scheme (offerOf (now a) (now s) (now e) (now seed)) ⌝ }
     requires { ⌜ (n ≡ fixedOf scheme .secret) × (length (now out) ≡ fixedOf scheme .opening) ⌝ }
     ensures { λ r. ⌜ r ≡ publicsIn (fixedOf scheme .q) (was a) then notBlank (offeredPart scheme (offer a s e seed)) ⌝ }
-    ensures { λ r. ⌜ Laid r (openingOf scheme (offer a s e seed)) out ⌝ }
+    ensures { λ r. ⌜ Laid r (offerMessage (Is scheme) (offer a s e seed)) out ⌝ }
 {
     let mut b = [0u32; 6912];
-    lay(scheme, a, s, e, seed, &mut b[..n], out)
+    let at = ends::values::offer(scheme, a, s, e, &mut b[..n]);
+    let v = front::publics_at(at, a);
+    match v {
+        Verdict::Fail(r) => Verdict::Fail(r),
+        Verdict::Pass => lay_numbers(scheme, &b[..n], seed, out),
+    }
 }
 
 // Where all tests but that of the public numbers have passed.
 fn send(scheme: Scheme, a: &[u32], s: &[i32], e: &[i32], seed: &[u8], message: &mut [u8]) -> Answer
     requires { ⌜ offerAhead scheme (offerOf (now a) (now s) (now e) (now seed)) (length (now message)) ≡ Pass ⌝ }
     requires { ⌜ now message ≡ replicate (length (now message)) 0 ⌝ }
-    ensures { λ r. ⌜ Offers (Is scheme) a s e seed message r ⌝ }
+    ensures { λ r. ⌜ seen (told r) (left message) ≡ offerResult (Is scheme) (offer a s e seed) (room message) ⌝ }
 {
     let f = scheme.fixed();
     let n = f.opening;
-    let v = write(scheme, f.secret, a, s, e, seed, &mut message[..n]);
+    let v = lay(scheme, f.secret, a, s, e, seed, &mut message[..n]);
     match v {
         Verdict::Fail(r) => Answer::Refused(r),
         Verdict::Pass => Answer::Done(n),
@@ -100,7 +83,7 @@ pub(crate) fn offer_in(
     message: &mut [u8],
 ) -> Answer
     requires { ⌜ now message ≡ replicate (length (now message)) 0 ⌝ }
-    ensures { λ r. ⌜ Offers (Is scheme) a s e seed message r ⌝ }
+    ensures { λ r. ⌜ seen (told r) (left message) ≡ offerResult (Is scheme) (offer a s e seed) (room message) ⌝ }
 {
     let v = crate::tests::offer(scheme, a, s, e, seed, message.len());
     match v {

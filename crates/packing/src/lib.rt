@@ -215,7 +215,8 @@ fn unpack_group(w: u32, bytes: &[u8], i: usize, out: &mut [u32], j: usize)
     }
 }
 
-// The number of w bits that starts t bits behind byte i. It lies within eight bytes, which are one load.
+// The number of w bits that starts t bits behind byte i. It lies within eight bytes, which are one load: five would do, but
+// they are several loads, and the loop is then no longer compiled into the arm of each width.
 fn number(w: u32, bytes: &[u8], i: usize, t: u32) -> u32
     requires { ⌜ (w ≤ 32) × (i + t / 8 + 8 ≤ length (now bytes)) ⌝ }
     ensures { λ r. ⌜ r ≡ value 256 (drop i (now (bytes .entry))) / 2 ^ t % 2 ^ w ⌝ }

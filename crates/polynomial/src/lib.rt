@@ -5,7 +5,8 @@
 // and W2 are the three windows of n numbers in it (`proofs/Three.antt`): the secrets double where their number halves, so that the sums keep their bound.
 // Where n is 64 at most, or odd, each number of the window is split into two signed halves of 16 bits, 65536 h + l, so that the sums of the products
 // of a half with the secrets fit an i32; the two sums are put together in an i64, and each entry is reduced once, without a division (02b). Sixty-four
-// products are one expression, which the compiler makes instructions of that multiply and add eight each (pmaddwd); in a plain loop it does not.
+// products are one expression, which the compiler makes instructions of that multiply and add eight each (pmaddwd); in a plain loop it does not, and a tree of 128
+// is no longer compiled into its caller. An Arm processor takes two products of 32 bits or four of 16, of which there are twice as many, and gains nothing.
 ghost use mathlib.Core.Path.{_≡_};
 ghost use Prim.Native.Nat.{ℕ, _+_, _*_, _%_, _^_, _<_, _≤_, _-_};
 ghost use lib.ListN.{length, getD};
@@ -123,7 +124,7 @@ fn dots(t: &[i16], x: usize, o: &mut [i64], to: usize, n: usize)
     }
 }
 
-// x, or q less, so that two halves hold it; 2147516416 more.
+// x, or q less, so that two halves hold it; 2147516416 more. The remainder nearest to zero would reach 2147483647, which is 65536 * 32768 - 1 and has no such halves.
 fn lifted(q: u32, x: u32) -> u32
     requires { ⌜ x < q ⌝ }
     ensures { λ r. ⌜ r ≡ lift q x ⌝ }
@@ -272,7 +273,8 @@ fn join(o: &mut [i64], m: usize)
     raise(o, m, two, m);
 }
 
-// Half of a length that is even and above 64, else 0.
+// Half of a length that is even and above 64, else 0. A block of 64 products is what the compiler makes full instructions of: down to 128 the product takes 1.04
+// times the instructions, down to 256 1.20 times and down to 32 2.2 times.
 fn half(n: usize) -> usize
     ensures { λ r. ⌜ (0 < r → (n ≡ r + r) × (32 < r)) ⌝ }
 {

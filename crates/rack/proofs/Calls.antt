@@ -1,63 +1,49 @@
 -- A call on a rack's bytes, from the session's call on the 130 bytes behind the slot's number.
---   away, stopped   16, and 10
+--   stopped         16, and 10
 --   served          any other
---   owned-serves    the caller's own slot takes every call
 --   threads         the session's call on the bytes behind the number
---   called          the same as the code lends them
---   closed          Close
+--   called          so as the code lends them
+--   close-stopped, closed   Close
 --   clear-not, clear-done   Clear; laid-empty   the numbers into zeros
-use mathlib.Core.Path.{_≡_, refl, _∙_, sym, ap, ap₂, subst}
-use mathlib.Core.Bool.{Bool, true, false, cond}
+use mathlib.Core.Path.{_≡_, _∙_, sym, ap, ap₂}
+use mathlib.Core.Bool.{true, false}
 use mathlib.Core.List.{List, _∷_, _++_}
-use Prim.Native.Nat.{ℕ, suc, _+_, _*_, _≤_, _<_}
+use Prim.Native.Nat.{ℕ, suc, _+_, _*_, _<_}
 use native.Mathlib.Omega.{arith}
 use native.Mathlib.Numerals.{add-one}
-use lib.Dec.{eqb}
 use lib.ListN.{length, set, take, drop, replicate}
-use borrow.Author.Tests.{eq-eqb, ne-eqb, lt-ltb, le-ltb}
-use Rattle.front.specs.declared.Refusal.the-variants.{OutOfStage, NoStudio}
+use borrow.Author.Tests.{eq-eqb, ne-eqb}
+use Rattle.front.specs.Seen.{done}
+use Rattle.front.specs.declared.Refusal.{Refusal}
+use Rattle.front.specs.declared.Verdict.{Verdict}
 use Rattle.front.specs.declared.Verdict.the-variants.{Pass, Fail}
 use Rattle.session.specs.Table.{Call, closing}
-use Rattle.session.specs.Seen.{Seen, Gives}
-use Rattle.session.proofs.Laws.{close-gives}
-use Rattle.session_bytes.specs.Bytes.{closes, outcomeBytes, stepBytes, MovesBytes}
+use Rattle.session.specs.Seen.{CallSeen, ofClose, toldBy, shownBy, turn}
+use Rattle.session_bytes.specs.Bytes.{closes, movedBytes}
 use Rattle.session_bytes.proofs.Bytes as sessions
-use Rattle.rack.specs.Slots.{inside, placed, owned, serves, outcomeIn, stepIn, RackMoves, toldClose, emptyFrom, emptyRack, clearTests, Cleared}
+use Rattle.rack.specs.Slots.{inside, placed, rackIs, slotTests, Owned, inRack, movedIn, emptyFrom, emptyRack, cleared}
 use Rattle.rack.specs.Shown.{Threads}
-use Rattle.rack.proofs.Parts.{number-at, behind, around, wiped-slot, owned-is, part-long, inside-long}
+use Rattle.rack.proofs.Parts.{number-at, behind, around, wiped-slot, slot-rack, slot-number, slot-takes, part-long, inside-long}
 
-module _ (bs : List ℕ) (i : ℕ) (x : Call) {t : Seen} where
-  pub away : 8 ≤ i → Gives (Fail NoStudio) x t → RackMoves bs i x bs t
-  unfolding outcomeIn stepIn
-  away h g = record { moved = rw (le-ltb i 8 h); gives = rw (le-ltb i 8 h) g }
+module _ (bs : List ℕ) (i : ℕ) (x : Call) where
+  pub stopped : {q : Refusal} {t : CallSeen} → slotTests bs i (closes x) ≡ Fail q → t ≡ shownBy (Fail q) x → turn bs t ≡ movedIn bs i x
+  unfolding movedIn
+  stopped e g = rw e (ap (turn bs) g)
 
-  pub stopped : i < 8 → serves bs i x ≡ false → Gives (Fail OutOfStage) x t → RackMoves bs i x bs t
-  unfolding outcomeIn stepIn
-  stopped h s g = record { moved = rw (lt-ltb i 8 h, s); gives = rw (lt-ltb i 8 h, s) g }
-
-  pub served : {cs : List ℕ} → i < 8 → serves bs i x ≡ true → cs ≡ placed bs i (i ∷ stepBytes (inside bs i) x) → Gives (outcomeBytes (inside bs i) x) x t
-      → RackMoves bs i x cs t
-  unfolding outcomeIn stepIn
-  served h s e g = record { moved = rw (lt-ltb i 8 h, s) e; gives = rw (lt-ltb i 8 h, s) g }
-
-pub owned-serves : (bs : List ℕ) (i : ℕ) (x : Call) → owned bs i ≡ true → serves bs i x ≡ true
-owned-serves bs i x o = go (closes x)
-  where
-    go : (b : Bool) → cond b (eqb (length bs) 1048) (owned bs i) ≡ true
-    go true = eq-eqb (length bs) 1048 (owned-is bs i o .0)
-    go false = o
+  pub served : slotTests bs i (closes x) ≡ Pass → movedIn bs i x ≡ inRack bs i (movedBytes (inside bs i) x)
+  unfolding movedIn
+  served e = rw e
 
 pub threads : Threads
-threads bs ps i x t h o p =
-    served bs i x h (owned-serves bs i x o) (ap (λ (qs : List ℕ). placed bs i (i ∷ qs)) (p .moved)) (p .gives)
+threads bs i x o = served bs i x (slot-takes bs i (closes x) o)
 
 -- n and d are where the code's part begins and how long it is
-module _ (bs : List ℕ) (i n d : ℕ) (e : n ≡ 131 * i + 1) (f : d ≡ 130) (h : i < 8) (o : owned bs i ≡ true) where
+module _ (bs : List ℕ) (i n d : ℕ) (e : n ≡ 131 * i + 1) (f : d ≡ 130) (o : Owned bs i) where
   starts : n ≡ suc (131 * i)
   starts = e ∙ add-one (131 * i)
 
   within : 131 * i < length bs
-  within = omega (arith, owned-is bs i o .0)
+  within = let r = slot-rack bs i false o in omega (arith, r .0, r .1)
 
   lent-is : take d (drop n bs) ≡ inside bs i
   lent-is = ap₂ (λ (k m : ℕ). take k (drop m bs)) f starts ∙ behind (131 * i) bs within
@@ -65,24 +51,31 @@ module _ (bs : List ℕ) (i n d : ℕ) (e : n ≡ 131 * i + 1) (f : d ≡ 130) (
   back-is : (ps : List ℕ) → take n bs ++ (ps ++ drop d (drop n bs)) ≡ placed bs i (i ∷ ps)
   back-is ps =
       ap₂ (λ (m k : ℕ). take m bs ++ (ps ++ drop k (drop m bs))) starts f ∙ around (131 * i) bs ps within
-      ∙ ap (λ (k : ℕ). placed bs i (k ∷ ps)) (number-at (131 * i) bs within ∙ owned-is bs i o .1)
+      ∙ ap (λ (k : ℕ). placed bs i (k ∷ ps)) (number-at (131 * i) bs within ∙ slot-number bs i o)
 
-  pub called : {x : Call} {t : Seen} {ps : List ℕ} → MovesBytes (take d (drop n bs)) x ps t → RackMoves bs i x (take n bs ++ (ps ++ drop d (drop n bs))) t
-  called {x} {t} {ps} p =
-      subst (λ (cs : List ℕ). RackMoves bs i x cs t) (sym (back-is ps))
-      (threads bs ps i x t h o (subst (λ (cs : List ℕ). MovesBytes cs x ps t) lent-is p))
+  pub called : (x : Call) {t : CallSeen} {ps : List ℕ} → turn ps t ≡ movedBytes (take d (drop n bs)) x
+      → turn (take n bs ++ (ps ++ drop d (drop n bs))) t ≡ movedIn bs i x
+  called x {t} {ps} m =
+      ap (λ (cs : List ℕ). turn cs t) (back-is ps) ∙ ap (inRack bs i) (m ∙ ap (λ (us : List ℕ). movedBytes us x) lent-is)
+      ∙ sym (threads bs i x o)
 
-pub closed : (bs : List ℕ) (i : ℕ) {d : ℕ} {ps : List ℕ} → i < 8 → length bs ≡ 1048 → d ≡ 131 → ps ≡ replicate (length (take d (drop (131 * i) bs))) 0
-    → RackMoves bs i closing (set (take (131 * i) bs ++ (ps ++ drop d (drop (131 * i) bs))) (131 * i) i) (toldClose Pass)
-closed bs i {d} {ps} h l f e =
-    let c = sessions.closed (inside bs i) in
+pub close-stopped : (bs : List ℕ) (i : ℕ) {v : Verdict} {q : Refusal} → v ≡ slotTests bs i true → v ≡ Fail q
+    → turn bs (ofClose (toldBy v)) ≡ movedIn bs i closing
+unfolding shownBy
+close-stopped bs i e f = stopped bs i closing (sym e ∙ f) (ap (λ (u : Verdict). ofClose (toldBy u)) f)
+
+pub closed : (bs : List ℕ) (i : ℕ) {d : ℕ} {ps : List ℕ} → slotTests bs i true ≡ Pass → d ≡ 131
+    → ps ≡ replicate (length (take d (drop (131 * i) bs))) 0
+    → turn (set (take (131 * i) bs ++ (ps ++ drop d (drop (131 * i) bs))) (131 * i) i) (ofClose (done 0)) ≡ movedIn bs i closing
+closed bs i {d} {ps} s f e =
+    let o = slot-rack bs i true s in
+    let l = o .1 in
     let z : ps ≡ replicate 131 0 =
-    e ∙ ap (λ (k : ℕ). replicate (length (take k (drop (131 * i) bs))) 0) f ∙ ap (λ (k : ℕ). replicate k 0) (part-long bs i h l) in
-    let w : replicate 130 0 ≡ stepBytes (inside bs i) closing = sym (c .1 ∙ ap (λ (k : ℕ). replicate k 0) (inside-long bs i h l)) in
-    served bs i closing h (eq-eqb (length bs) 1048 l)
+    e ∙ ap (λ (k : ℕ). replicate (length (take k (drop (131 * i) bs))) 0) f ∙ ap (λ (k : ℕ). replicate k 0) (part-long bs i (o .0) l) in
+    ap (λ (cs : List ℕ). turn cs (ofClose (done 0)))
     (ap₂ (λ (qs : List ℕ) (k : ℕ). set (take (131 * i) bs ++ (qs ++ drop k (drop (131 * i) bs))) (131 * i) i) z f
-    ∙ wiped-slot (131 * i) i bs (omega (arith, l)) ∙ ap (λ (qs : List ℕ). placed bs i (i ∷ qs)) w)
-    (rw (c .0) close-gives)
+    ∙ wiped-slot (131 * i) i bs (omega (arith, o .0, l)))
+    ∙ sym (served bs i closing s ∙ ap (inRack bs i) (sessions.closed (inside bs i) ∙ ap (λ (k : ℕ). turn (replicate k 0) (ofClose (done 0))) (inside-long bs i (o .0) l)))
 
 -- ---- clear
 
@@ -91,12 +84,10 @@ unfolding emptyRack emptyFrom
 laid-empty e = ap (λ (bs : List ℕ). set (set (set (set (set (set (set bs 131 1) 262 2) 393 3) 524 4) 655 5) 786 6) 917 7) e
 
 module _ (bs : List ℕ) where
-  pub clear-not : (length bs ≡ 1048 → ⊥) → Cleared bs bs 10 0
-  unfolding clearTests
-  clear-not h =
-      record { told = rw (ne-eqb (length bs) 1048 h) (record { refusal = refl; at = refl }); leaves = rw (ne-eqb (length bs) 1048 h) }
+  pub clear-not : (length bs ≡ 1048 → ⊥) → record { number = 10; place = 0; rack = bs } ≡ cleared bs
+  unfolding rackIs
+  clear-not h = rw (ne-eqb (length bs) 1048 h)
 
-  pub clear-done : {cs : List ℕ} → length bs ≡ 1048 → cs ≡ emptyRack → Cleared bs cs 0 0
-  unfolding clearTests
-  clear-done l e =
-      record { told = rw (eq-eqb (length bs) 1048 l) (record { refusal = refl; at = refl }); leaves = rw (eq-eqb (length bs) 1048 l) e }
+  pub clear-done : {cs : List ℕ} → length bs ≡ 1048 → cs ≡ emptyRack → record { number = 0; place = 0; rack = cs } ≡ cleared bs
+  unfolding rackIs
+  clear-done l e = rw (eq-eqb (length bs) 1048 l, e)

@@ -1,7 +1,8 @@
 -- A slot in the bytes of a rack.
 --   number-at, behind, around, wiped-slot   the first byte, those behind it, what lies around them, and a slot that is zeroed and numbered again; a is its place
---   owned-not, owned-by, owned-made, owned-is   the test of the code, and both ways between it and what it tests
---   step-long                               a call keeps the length of a session's bytes
+--   slot-none, slot-short, slot-closes, slot-own, slot-other   the tests of a slot, by what they find
+--   slot-rack, slot-number, slot-takes      what it says that they pass
+--   moved-long                              a call keeps the length of a session's bytes
 --   part-long, inside-long, front-long, slot-long   how long the parts are
 --   part-placed, part-other                 a slot that was written, and another
 use mathlib.Core.Path.{_≡_, refl, _∙_, sym, ap}
@@ -10,19 +11,24 @@ use mathlib.Core.List.{List, [], _∷_, _++_}
 use Prim.Native.Nat.{ℕ, zero, suc, _+_, _-_, _*_, _≤_, _<_}
 use native.Mathlib.Omega.{arith}
 use native.Mathlib.Decide.{decLt}
-use lib.Dec.{eqb}
 use lib.ListN.{length, getD, set, take, drop, replicate, length-replicate, length-drop, length-append, take-append-drop}
 use lib.Seq.{take-append-le, drop-append-le, drop-drop, length-take-le, drop-at, take-at}
-use borrow.Author.Tests.{eqb-true, eq-eqb, ne-eqb}
+use borrow.Author.Tests.{eqb-true, ltb-true, eq-eqb, ne-eqb, lt-ltb, le-ltb}
 use Rattle.lists.proofs.Parts as parts
+use Rattle.front.specs.Front.{_then_}
+use Rattle.front.specs.declared.Refusal.{Refusal}
+use Rattle.front.specs.declared.Refusal.the-variants.{OutOfStage, NoStudio}
+use Rattle.front.specs.declared.Verdict.the-variants.{Pass, Fail}
+use Rattle.front.proofs.Laws.{differ, both}
 use Rattle.session.specs.Table.{Call, step}
+use Rattle.session.specs.Seen.{CallSeen, turn, moved}
 use Rattle.session.proofs.Sequences.{step-sound}
 use Rattle.session_bytes.specs.declared.Found.{Found}
 use Rattle.session_bytes.specs.declared.Found.the-variants.{At, Nowhere}
-use Rattle.session_bytes.specs.Bytes.{bytesOf, staged, sessionIn, closes, stepAt, stepBytes}
+use Rattle.session_bytes.specs.Bytes.{bytesOf, staged, sessionIn, closes, movedAt, movedBytes}
 use Rattle.session_bytes.proofs.Stages as stages
 use Rattle.session_bytes.proofs.Bytes.{taken-back, laid-back}
-use Rattle.rack.specs.Slots.{part, inside, placed, owned}
+use Rattle.rack.specs.Slots.{part, inside, placed, rackIs, slotTests, Owned}
 
 -- ---- one slot, at its place
 
@@ -48,45 +54,65 @@ wiped-slot a i [] h = absurd (omega (arith, h))
 wiped-slot zero i (x ∷ r) h = refl
 wiped-slot (suc a) i (x ∷ r) h = ap (λ (t : List ℕ). x ∷ t) (wiped-slot a i r (omega (arith, h)))
 
--- ---- the caller's own slot
+-- ---- the tests of a slot
+
+asked : (b : Bool) (r : Refusal) → cond b Pass (Fail r) ≡ Pass → b ≡ true
+asked true r e = refl
+asked false r e = differ e
 
 module _ (bs : List ℕ) (i : ℕ) where
-  pub owned-not : (length bs ≡ 1048 → ⊥) → false ≡ owned bs i
-  unfolding owned
-  owned-not h = rw (ne-eqb (length bs) 1048 h)
+  pub slot-rack : (b : Bool) → slotTests bs i b ≡ Pass → (i < 8) × (length bs ≡ 1048)
+  unfolding slotTests rackIs
+  slot-rack b e = let t = both _ _ (both _ _ e .0) in (ltb-true i 8 (asked _ _ (t .0)), eqb-true (length bs) 1048 (asked _ _ (t .1)))
 
-  pub owned-by : length bs ≡ 1048 → i < 8 → eqb (getD bs (131 * i) 0) i ≡ owned bs i
-  unfolding owned
-  owned-by l h = rw (eq-eqb (length bs) 1048 l) (ap (λ (k : ℕ). eqb k i) (number-at (131 * i) bs (omega (arith, l))))
+  pub slot-number : Owned bs i → getD (part bs i) 0 0 ≡ i
+  unfolding slotTests
+  slot-number e = eqb-true _ _ (asked _ _ (both _ _ e .1))
 
-  pub owned-made : length bs ≡ 1048 → getD (part bs i) 0 0 ≡ i → owned bs i ≡ true
-  unfolding owned
-  owned-made l e = rw (eq-eqb (length bs) 1048 l) (eq-eqb (getD (part bs i) 0 0) i e)
+  module _ (h : i < 8) (l : length bs ≡ 1048) where
+    pub slot-closes : slotTests bs i true ≡ Pass
+    unfolding slotTests rackIs _then_
+    slot-closes = rw (lt-ltb i 8 h, eq-eqb (length bs) 1048 l)
 
-  pub owned-is : owned bs i ≡ true → (length bs ≡ 1048) × (getD (part bs i) 0 0 ≡ i)
-  unfolding owned
-  owned-is = go (eqb (length bs) 1048) refl
-    where
-      go : (b : Bool) → eqb (length bs) 1048 ≡ b → cond b (eqb (getD (part bs i) 0 0) i) false ≡ true → (length bs ≡ 1048) × (getD (part bs i) 0 0 ≡ i)
-      go true e h = (eqb-true (length bs) 1048 e, eqb-true (getD (part bs i) 0 0) i h)
-      go false e h = let z : _≡_ {A = ℕ} 0 1 = cc in absurd (omega arith)
+    pub slot-own : getD (part bs i) 0 0 ≡ i → Owned bs i
+    unfolding slotTests rackIs _then_
+    slot-own e = rw (lt-ltb i 8 h, eq-eqb (length bs) 1048 l, eq-eqb (getD (part bs i) 0 0) i e)
+
+    pub slot-other : (getD bs (131 * i) 0 ≡ i → ⊥) → slotTests bs i false ≡ Fail OutOfStage
+    unfolding slotTests rackIs _then_
+    slot-other e =
+        rw (lt-ltb i 8 h, eq-eqb (length bs) 1048 l, ne-eqb (getD (part bs i) 0 0) i (λ f. e (number-at (131 * i) bs (omega (arith, h, l)) ∙ f)))
+
+  pub slot-none : (b : Bool) → 8 ≤ i → slotTests bs i b ≡ Fail NoStudio
+  unfolding slotTests _then_
+  slot-none b h = rw (le-ltb i 8 h)
+
+  pub slot-short : (b : Bool) → i < 8 → (length bs ≡ 1048 → ⊥) → slotTests bs i b ≡ Fail OutOfStage
+  unfolding slotTests rackIs _then_
+  slot-short b h l = rw (lt-ltb i 8 h, ne-eqb (length bs) 1048 l)
+
+  -- a studio's own slot takes every call
+  pub slot-takes : (b : Bool) → Owned bs i → slotTests bs i b ≡ Pass
+  slot-takes true o = let r = slot-rack false o in slot-closes (r .0) (r .1)
+  slot-takes false o = o
 
 -- ---- lengths
 
-spared-long : (b : Bool) (bs : List ℕ) → length (cond b (replicate (length bs) 0) bs) ≡ length bs
-spared-long true bs = length-replicate {A = ℕ} (length bs) 0
-spared-long false bs = refl
+spared-long : (b : Bool) (bs : List ℕ) (t u : CallSeen) → length (cond b (turn (replicate (length bs) 0) t) (turn bs u) .session) ≡ length bs
+spared-long true bs t u = length-replicate {A = ℕ} (length bs) 0
+spared-long false bs t u = refl
 
-at-long : (f : Found) (bs : List ℕ) (x : Call) → staged bs ≡ f → length (stepAt f bs x) ≡ length bs
-at-long Nowhere bs x e = spared-long (closes x) bs
+at-long : (f : Found) (bs : List ℕ) (x : Call) → staged bs ≡ f → length (movedAt f bs x .session) ≡ length bs
+unfolding moved
+at-long Nowhere bs x e = spared-long (closes x) bs _ _
 at-long (At st) bs x e =
     let y = sessionIn st bs in
     let h = step-sound y x (laid-back bs st e .1) in
     stages.parts (bytesOf (step y x)) (step y x .stage) (taken-back (step y x) h .0) .long ∙ sym (stages.parts bs st e .long)
 
-pub step-long : (bs : List ℕ) (x : Call) → length (stepBytes bs x) ≡ length bs
-unfolding stepBytes
-step-long bs x = at-long (staged bs) bs x refl
+pub moved-long : (bs : List ℕ) (x : Call) → length (movedBytes bs x .session) ≡ length bs
+unfolding movedBytes
+moved-long bs x = at-long (staged bs) bs x refl
 
 module _ (bs : List ℕ) (i : ℕ) (h : i < 8) (l : length bs ≡ 1048) where
   pub front-long : length (take (131 * i) bs) ≡ 131 * i
@@ -98,8 +124,8 @@ module _ (bs : List ℕ) (i : ℕ) (h : i < 8) (l : length bs ≡ 1048) where
   pub inside-long : length (inside bs i) ≡ 130
   inside-long = length-drop 1 (part bs i) ∙ omega (arith, part-long)
 
-  pub slot-long : (x : Call) → length (i ∷ stepBytes (inside bs i) x) ≡ 131
-  slot-long x = omega (arith, step-long (inside bs i) x, inside-long)
+  pub slot-long : (x : Call) → length (i ∷ movedBytes (inside bs i) x .session) ≡ 131
+  slot-long x = omega (arith, moved-long (inside bs i) x, inside-long)
 
 -- ---- a slot that was written, and another
 

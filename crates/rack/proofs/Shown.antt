@@ -1,144 +1,143 @@
 -- The theorems of specs/Shown.
---   turned, numbered, slotwise, untouched, blind, wiped, alone, run-rack, emptied, only, only-cleared; threads is in Calls
-use mathlib.Core.Path.{_≡_, refl, _∙_, sym, ap, ap₂, subst}
+--   turned, numbered, slotwise, untouched, blind, wiped, alone, run-rack, emptied; threads is in Calls
+use mathlib.Core.Path.{_≡_, refl, _∙_, sym, ap, subst}
 use mathlib.Core.Bool.{Bool, true, false, cond}
 use mathlib.Core.List.{List, [], _∷_}
-use Prim.Native.Nat.{ℕ, zero, suc, _≤_, _<_}
+use Prim.Native.Nat.{ℕ, zero, suc, _<_}
 use native.Mathlib.Omega.{arith}
-use native.Mathlib.Decide.{decLt}
-use lib.Dec.{eqb, ltb}
+use lib.Dec.{eqb}
 use lib.ListN.{length, getD, drop, replicate}
-use borrow.Author.Tests.{eqb-true, eqb-false, eq-eqb, lt-ltb, le-ltb}
-use Rattle.front.specs.declared.Refusal.the-variants.{OutOfStage, NoStudio}
-use Rattle.front.specs.declared.Verdict.the-variants.{Fail}
+use borrow.Author.Tests.{eqb-true, eqb-false}
+use Rattle.front.specs.Seen.{ifPassed, done}
+use Rattle.front.specs.declared.Verdict.{Verdict}
+use Rattle.front.specs.declared.Verdict.the-variants.{Pass, Fail}
 use Rattle.session.specs.Table.{Call, closing, noKey}
 use Rattle.session.specs.Table as table
-use Rattle.session.specs.Seen.{Seen, Gives}
-use Rattle.session.proofs.Sequences.{gives-only}
-use Rattle.session_bytes.specs.Bytes.{bytesOf, closes, outcomeBytes, stepBytes}
+use Rattle.session.specs.Seen.{CallSeen, ofClose, shownBy, Turn, turn}
+use Rattle.session.specs.Sequences.{RanBy}
+use Rattle.session_bytes.specs.Bytes.{bytesOf, closes, movedBytes}
 use Rattle.session_bytes.specs.Shown.{RanBytes}
 use Rattle.session_bytes.proofs.Bytes as sessions
-use Rattle.rack.specs.Slots.{part, inside, placed, owned, serves, outcomeIn, stepIn, emptyFrom, emptyRack, RackMoves}
-use Rattle.rack.specs.Shown.{RanRack, own, views, Turned, Numbered, Slotwise, Untouched, Blind, Wiped, Alone, RunRack, Emptied, Only, OnlyCleared}
-use Rattle.rack.proofs.Calls.{owned-serves}
-use Rattle.rack.proofs.Parts.{owned-is, owned-made, part-long, inside-long, slot-long, part-placed, part-other, placed-long}
-
--- a rack that takes a call has the right length
-serves-long : (bs : List ℕ) (i : ℕ) (x : Call) → serves bs i x ≡ true → length bs ≡ 1048
-serves-long bs i x = go (closes x)
-  where
-    go : (b : Bool) → cond b (eqb (length bs) 1048) (owned bs i) ≡ true → length bs ≡ 1048
-    go true e = eqb-true (length bs) 1048 e
-    go false e = owned-is bs i e .0
-
-step-none : (bs : List ℕ) (i : ℕ) (x : Call) → 8 ≤ i → stepIn bs i x ≡ bs
-unfolding stepIn
-step-none bs i x h = rw (le-ltb i 8 h)
+use Rattle.rack.specs.Slots.{part, inside, rackIs, slotTests, Owned, movedBy, movedIn, emptyFrom, emptyRack}
+use Rattle.rack.specs.Shown.{own, views, Turned, Numbered, Slotwise, Untouched, Blind, Wiped, Alone, RunRack, Emptied}
+use Rattle.rack.proofs.Parts.{slot-none, slot-closes, slot-own, slot-rack, slot-number, slot-takes, part-long, inside-long, slot-long, part-placed, part-other, placed-long}
 
 pub turned : Turned
-unfolding outcomeIn
-turned bs cs i x t h m =
-    let g : Gives (Fail NoStudio) x t = rw (le-ltb i 8 h) at (m .gives) in (g .told .refusal, g .told .at, m .moved ∙ step-none bs i x h)
+unfolding movedIn
+turned bs i x h = rw (slot-none bs i (closes x) h)
 
-module _ (bs : List ℕ) (i : ℕ) (x : Call) (h : i < 8) where
-  step-is : stepIn bs i x ≡ cond (serves bs i x) (placed bs i (i ∷ stepBytes (inside bs i) x)) bs
-  unfolding stepIn
-  step-is = rw (lt-ltb i 8 h)
+-- a slot's bytes after a call, with what is shown; a session's bytes with its slot's number
+abbrev ofSlot : ℕ → Turn (List ℕ) → Turn (List ℕ)
+ofSlot i m = turn (part (m .session) i) (m .seen)
 
-  other : (j : ℕ) → (i ≡ j → ⊥) → (b : Bool) → serves bs i x ≡ b → part (cond b (placed bs i (i ∷ stepBytes (inside bs i) x)) bs) j ≡ part bs j
-  other j o true e = let l = serves-long bs i x e in part-other bs (i ∷ stepBytes (inside bs i) x) i h l (slot-long bs i h l x) j o
-  other j o false e = refl
+abbrev numbers : ℕ → Turn (List ℕ) → Turn (List ℕ)
+numbers i m = turn (i ∷ m .session) (m .seen)
 
-  same : (b : Bool) → serves bs i x ≡ b → length (cond b (placed bs i (i ∷ stepBytes (inside bs i) x)) bs) ≡ length bs
-  same true e = let l = serves-long bs i x e in placed-long bs (i ∷ stepBytes (inside bs i) x) i h l (slot-long bs i h l x)
-  same false e = refl
+-- a call by the verdict v of its slot's tests
+module _ (bs : List ℕ) (i : ℕ) (x : Call) where
+  other : (j : ℕ) → (i ≡ j → ⊥) → (v : Verdict) → slotTests bs i (closes x) ≡ v → part (movedBy v bs i x .session) j ≡ part bs j
+  other j o Pass e =
+      let r = slot-rack bs i (closes x) e in part-other bs (i ∷ movedBytes (inside bs i) x .session) i (r .0) (r .1) (slot-long bs i (r .0) (r .1) x) j o
+  other j o (Fail q) e = refl
 
-  mine : (b : Bool) → serves bs i x ≡ b
-      → part (cond b (placed bs i (i ∷ stepBytes (inside bs i) x)) bs) i ≡ cond b (i ∷ stepBytes (inside bs i) x) (part bs i)
-  mine true e = let l = serves-long bs i x e in part-placed bs (i ∷ stepBytes (inside bs i) x) i h l (slot-long bs i h l x)
-  mine false e = refl
+  same : (v : Verdict) → slotTests bs i (closes x) ≡ v → length (movedBy v bs i x .session) ≡ length bs
+  same Pass e =
+      let r = slot-rack bs i (closes x) e in placed-long bs (i ∷ movedBytes (inside bs i) x .session) i (r .0) (r .1) (slot-long bs i (r .0) (r .1) x)
+  same (Fail q) e = refl
 
-  step-part : part (stepIn bs i x) i ≡ cond (serves bs i x) (i ∷ stepBytes (inside bs i) x) (part bs i)
-  step-part = ap (λ (cs : List ℕ). part cs i) step-is ∙ mine (serves bs i x) refl
+  mine : (v : Verdict) → slotTests bs i (closes x) ≡ v
+      → ofSlot i (movedBy v bs i x) ≡ ifPassed v (numbers i (movedBytes (inside bs i) x)) (turn (part bs i) (shownBy v x))
+  mine Pass e =
+      let r = slot-rack bs i (closes x) e in
+      ap (λ (s : List ℕ). turn s (movedBytes (inside bs i) x .seen))
+      (part-placed bs (i ∷ movedBytes (inside bs i) x .session) i (r .0) (r .1) (slot-long bs i (r .0) (r .1) x))
+  mine (Fail q) e = refl
+
+  moved-long : length (movedIn bs i x .session) ≡ length bs
+  unfolding movedIn
+  moved-long = same (slotTests bs i (closes x)) refl
+
+  -- its own slot, and what is shown
+  own-slot : {v : Verdict} → slotTests bs i (closes x) ≡ v
+      → ofSlot i (movedIn bs i x) ≡ ifPassed v (numbers i (movedBytes (inside bs i) x)) (turn (part bs i) (shownBy v x))
+  unfolding movedIn
+  own-slot {v} e = rw e (mine v e)
 
 pub untouched : Untouched
-untouched bs i j x o = go (decLt i 8)
-  where
-    go : Dec (i < 8) → (part (stepIn bs i x) j ≡ part bs j) × (length (stepIn bs i x) ≡ length bs)
-    go (yes h) = (
-      ap (λ (cs : List ℕ). part cs j) (step-is bs i x h) ∙ other bs i x h j o (serves bs i x) refl,
-      ap length (step-is bs i x h) ∙ same bs i x h (serves bs i x) refl,
-    )
-    go (no h) = let e = step-none bs i x (omega (arith, h)) in (ap (λ (cs : List ℕ). part cs j) e, ap length e)
+unfolding movedIn
+untouched bs i j x o = (other bs i x j o (slotTests bs i (closes x)) refl, moved-long bs i x)
+
+-- a slot's bytes and what is shown, as two
+both : {s u : List ℕ} {t v : CallSeen} → turn s t ≡ turn u v → (t ≡ v) × (s ≡ u)
+both e = (ap (λ (m : Turn (List ℕ)). m .seen) e, ap (λ (m : Turn (List ℕ)). m .session) e)
+
+-- the tests of a slot look at the length and at the slot
+slot-same : (bs cs : List ℕ) (i : ℕ) (b : Bool) → length bs ≡ length cs → part bs i ≡ part cs i → slotTests bs i b ≡ slotTests cs i b
+unfolding slotTests rackIs
+slot-same bs cs i b l p = rw (l, p)
 
 pub blind : Blind
-unfolding outcomeIn owned
-blind bs cs i x h l p = (
-  ap₂ (λ (n : ℕ) (s : List ℕ). cond (ltb i 8) (cond (cond (closes x) (eqb n 1048) (cond (eqb n 1048) (eqb (getD s 0 0) i) false)) (outcomeBytes (drop 1 s) x) (Fail OutOfStage)) (Fail NoStudio)) l p,
-  step-part bs i x h
-      ∙ ap₂ (λ (n : ℕ) (s : List ℕ). cond (cond (closes x) (eqb n 1048) (cond (eqb n 1048) (eqb (getD s 0 0) i) false)) (i ∷ stepBytes (drop 1 s) x) s) l p
-      ∙ sym (step-part cs i x h),
-)
+blind bs cs i x l p =
+    both
+    (own-slot bs i x (slot-same bs cs i (closes x) l p)
+    ∙ ap (λ (s : List ℕ). ifPassed (slotTests cs i (closes x)) (numbers i (movedBytes (drop 1 s) x)) (turn s (shownBy (slotTests cs i (closes x)) x))) p
+    ∙ sym (own-slot cs i x refl))
 
 pub wiped : Wiped
-unfolding outcomeIn
 wiped bs i h l =
-    let c = sessions.closed (inside bs i) in (
-      rw (lt-ltb i 8 h, eq-eqb (length bs) 1048 l) (c .0),
-      step-part bs i closing h
-          ∙ rw (eq-eqb (length bs) 1048 l) (ap (λ (qs : List ℕ). i ∷ qs) (c .1 ∙ ap (λ (k : ℕ). replicate k 0) (inside-long bs i h l))),
-    )
+    both
+    (own-slot bs i closing (slot-closes bs i h l)
+    ∙ ap (numbers i) (sessions.closed (inside bs i) ∙ ap (λ (k : ℕ). turn (replicate k 0) (ofClose (done 0))) (inside-long bs i h l)))
 
 -- ---- a slot that has its number
 
 -- a call of the studio itself
-module _ (bs : List ℕ) (j : ℕ) (x : Call) (h : j < 8) (o : owned bs j ≡ true) where
-  own-part : part (stepIn bs j x) j ≡ j ∷ stepBytes (inside bs j) x
-  own-part = step-part bs j x h ∙ rw (owned-serves bs j x o)
+module _ (bs : List ℕ) (j : ℕ) (x : Call) (o : Owned bs j) where
+  own-is : ofSlot j (movedIn bs j x) ≡ numbers j (movedBytes (inside bs j) x)
+  own-is = own-slot bs j x (slot-takes bs j (closes x) o)
 
-  own-stays : {cs : List ℕ} {t : Seen} → RackMoves bs j x cs t → owned cs j ≡ true
-  own-stays {cs} m =
-      owned-made cs j (ap length (m .moved) ∙ ap length (step-is bs j x h) ∙ same bs j x h (serves bs j x) refl ∙ owned-is bs j o .0)
-      (ap (λ (ds : List ℕ). getD (part ds j) 0 0) (m .moved) ∙ ap (λ (s : List ℕ). getD s 0 0) own-part)
+  own-stays : Owned (movedIn bs j x .session) j
+  own-stays =
+      let r = slot-rack bs j false o in
+      slot-own (movedIn bs j x .session) j (r .0) (moved-long bs j x ∙ r .1) (ap (λ (m : Turn (List ℕ)). getD (m .session) 0 0) own-is)
 
 pub slotwise : Slotwise
-unfolding outcomeIn
-slotwise bs cs i x t h o m =
-    record {
-      moved = ap (λ (ds : List ℕ). inside ds i) (m .moved) ∙ ap (drop 1) (own-part bs i x h o);
-      gives = rw (lt-ltb i 8 h, owned-serves bs i x o) at (m .gives);
-    }
+slotwise bs i x o = ap (λ (m : Turn (List ℕ)). turn (drop 1 (m .session)) (m .seen)) (own-is bs i x o)
 
 -- and of another
-module _ (bs : List ℕ) (i j : ℕ) (x : Call) (o : i ≡ j → ⊥) where
-  other-part : {cs : List ℕ} {t : Seen} → RackMoves bs i x cs t → part cs j ≡ part bs j
-  other-part m = ap (λ (ds : List ℕ). part ds j) (m .moved) ∙ untouched bs i j x o .0
+other-stays : (bs : List ℕ) (i j : ℕ) (x : Call) → (i ≡ j → ⊥) → Owned bs j → Owned (movedIn bs i x .session) j
+other-stays bs i j x o p =
+    let r = slot-rack bs j false p in
+    let u = untouched bs i j x o in
+    slot-own (movedIn bs i x .session) j (r .0) (u .1 ∙ r .1) (ap (λ (s : List ℕ). getD s 0 0) (u .0) ∙ slot-number bs j p)
 
-  other-stays : {cs : List ℕ} {t : Seen} → RackMoves bs i x cs t → owned bs j ≡ true → owned cs j ≡ true
-  other-stays {cs} m p =
-      let q = owned-is bs j p in
-      owned-made cs j (ap length (m .moved) ∙ untouched bs i j x o .1 ∙ q .0) (ap (λ (s : List ℕ). getD s 0 0) (other-part m) ∙ q .1)
-
-stays : (bs cs : List ℕ) (i j : ℕ) (x : Call) (t : Seen) → j < 8 → owned bs j ≡ true → RackMoves bs i x cs t → owned cs j ≡ true
-stays bs cs i j x t h o m = go (eqb i j) refl
+stays : (bs : List ℕ) (i j : ℕ) (x : Call) → Owned bs j → Owned (movedIn bs i x .session) j
+stays bs i j x o = go (eqb i j) refl
   where
-    go : (b : Bool) → eqb i j ≡ b → owned cs j ≡ true
-    go true e = own-stays bs j x h o (subst (λ (k : ℕ). RackMoves bs k x cs t) (eqb-true i j e) m)
-    go false e = other-stays bs i j x (eqb-false i j e) m o
+    go : (b : Bool) → eqb i j ≡ b → Owned (movedIn bs i x .session) j
+    go true e = ap (λ (k : ℕ). slotTests (movedIn bs k x .session) j false) (eqb-true i j e) ∙ own-stays bs j x o
+    go false e = other-stays bs i j x (eqb-false i j e) o
 
 -- ---- over any sequence
 
 pub alone : Alone
 unfolding own views
-alone j h bs _ _ _ o RanRack.none = (RanBytes.none, o)
-alone j h bs ds _ _ o (RanRack.more {cs = cs} {x = x} {xs = xs} {t = t} {ts = ts} m r) =
-    let q = alone j h cs ds xs ts (stays bs cs (x .by) j (x .call) t h o m) r in (go (eqb (x .by) j) refl (q .0), q .1)
+alone j bs _ _ _ o RanBy.none = (RanBy.none, o)
+alone j bs ds _ _ o (RanBy.more {z = cs} {x = x} {xs = xs} {t = t} {ts = ts} m r) =
+    let k : Owned cs j = ap (λ (u : Turn (List ℕ)). slotTests (u .session) j false) m ∙ stays bs (x .by) j (x .call) o in
+    let q = alone j cs ds xs ts k r in (go (eqb (x .by) j) refl (q .0), q .1)
   where
     go : (b : Bool) → eqb (x .by) j ≡ b → RanBytes (inside cs j) (own j xs) (inside ds j) (views j xs ts)
         → RanBytes (inside bs j) (cond b (x .call ∷ own j xs) (own j xs)) (inside ds j) (cond b (t ∷ views j xs ts) (views j xs ts))
-    go true e p = RanBytes.more (slotwise bs cs j (x .call) t h o (subst (λ (i : ℕ). RackMoves bs i (x .call) cs t) (eqb-true (x .by) j e) m)) p
+    go true e p =
+        RanBy.more
+        (ap (λ (u : Turn (List ℕ)). turn (inside (u .session) j) (u .seen)) (m ∙ ap (λ (i : ℕ). movedIn bs i (x .call)) (eqb-true (x .by) j e))
+        ∙ slotwise bs j (x .call) o)
+        p
     go false e p =
-        subst (λ (s : List ℕ). RanBytes (drop 1 s) (own j xs) (inside ds j) (views j xs ts)) (other-part bs (x .by) j (x .call) (eqb-false (x .by) j e) m) p
+        subst (λ (s : List ℕ). RanBytes (drop 1 s) (own j xs) (inside ds j) (views j xs ts))
+        (ap (λ (u : Turn (List ℕ)). part (u .session) j) m ∙ untouched bs (x .by) j (x .call) (eqb-false (x .by) j e) .0)
+        p
 
 numbered-is : (s : List ℕ) (j : ℕ) → length s ≡ 131 → getD s 0 0 ≡ j → s ≡ j ∷ drop 1 s
 numbered-is [] j l e = absurd (omega (arith, l))
@@ -146,12 +145,12 @@ numbered-is (k ∷ r) j l e = ap (λ (n : ℕ). n ∷ r) e
 
 pub run-rack : RunRack
 run-rack j h bs cs xs ts y v l e r =
-    let o = owned-made bs j l (ap (λ (s : List ℕ). getD s 0 0) e) in
-    let a = alone j h bs cs xs ts o r in
-    let w = owned-is cs j (a .1) in
+    let o = slot-own bs j h l (ap (λ (s : List ℕ). getD s 0 0) e) in
+    let a = alone j bs cs xs ts o r in
+    let w = slot-rack cs j false (a .1) in
     let z = sessions.run-bytes y (own j xs) (inside cs j) (views j xs ts) v
     (subst (λ (ps : List ℕ). RanBytes ps (own j xs) (inside cs j) (views j xs ts)) (ap (drop 1) e) (a .0)) in
-    (numbered-is (part cs j) j (part-long cs j h (w .0)) (w .1) ∙ ap (λ (ps : List ℕ). j ∷ ps) (z .0), z .1)
+    (numbered-is (part cs j) j (part-long cs j h (w .1)) (slot-number cs j (a .1)) ∙ ap (λ (ps : List ℕ). j ∷ ps) (z .0), z .1)
 
 -- ---- clear
 
@@ -175,12 +174,4 @@ pub emptied : Emptied
 emptied = (empty-long, emptied-at)
 
 pub numbered : Numbered
-numbered = (λ (j : ℕ) (h : j < 8). owned-made emptyRack j (emptied .0) (ap (λ (s : List ℕ). getD s 0 0) (emptied .1 j h)), stays)
-
--- ---- one result
-
-pub only : Only
-only bs cs cs′ i x t t′ a b = (a .moved ∙ sym (b .moved), gives-only t t′ (a .gives) (b .gives))
-
-pub only-cleared : OnlyCleared
-only-cleared bs cs cs′ r r′ p p′ a b = (a .leaves ∙ sym (b .leaves), a .told .refusal ∙ sym (b .told .refusal), a .told .at ∙ sym (b .told .at))
+numbered = (λ (j : ℕ) (h : j < 8). slot-own emptyRack j h (emptied .0) (ap (λ (s : List ℕ). getD s 0 0) (emptied .1 j h)), stays)

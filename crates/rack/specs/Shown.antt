@@ -4,7 +4,7 @@
 --   own j xs        the calls of studio j alone
 --   views j xs ts   what studio j sees, of what is seen of the calls xs
 -- What is shown:
---   Turned          a number over 7 is 16, place 0, and changes nothing, whatever the bytes are: so 16 comes before 10
+--   Turned          a number over 7 is 16, place 0, with every output zero, and changes nothing, whatever the bytes are: so 16 comes before 10
 --   Numbered        an empty rack has each studio's number in its own slot, and a slot that has its number keeps it, whoever calls
 --   Slotwise        the table of request a holds in each slot separately: a call moves the 130 bytes behind the slot's number as the session's call does
 --   Threads         a session's call on the 130 bytes behind a slot's number is the rack's call for that studio
@@ -14,37 +14,36 @@
 --   Alone           over any sequence: the bytes of studio j's slot and all that it sees are those of its own 130 bytes under its own calls, the only ones
 --   RunRack         over any sequence: a record that held a session holds the run of request a's table under the studio's own calls
 --   Emptied         clear leaves eight idle sessions behind their numbers
---   Only            no two results satisfy one promise; OnlyCleared of clear
 use mathlib.Core.Path.{_≡_}
-use mathlib.Core.Bool.{true, cond}
+use mathlib.Core.Bool.{cond}
 use mathlib.Core.List.{List, [], _∷_}
 use Prim.Native.Nat.{ℕ, _≤_, _<_}
 use lib.Dec.{eqb}
 use lib.ListN.{length, replicate}
-use Rattle.front.specs.declared.Verdict.the-variants.{Pass}
+use Rattle.front.specs.Seen.{done}
+use Rattle.front.specs.declared.Refusal.the-variants.{NoStudio}
+use Rattle.front.specs.declared.Verdict.the-variants.{Fail}
 use Rattle.session.specs.declared.Session.{Session}
 use Rattle.session.specs.Table.{Call, closing, run}
 use Rattle.session.specs.Table as table
-use Rattle.session.specs.Seen.{Seen}
-use Rattle.session.specs.Sequences.{Ran, Sound}
-use Rattle.session_bytes.specs.Bytes.{bytesOf, MovesBytes}
+use Rattle.session.specs.Seen.{CallSeen, ofClose, shownBy, turn}
+use Rattle.session.specs.Sequences.{RanBy, Ran, Sound}
+use Rattle.session_bytes.specs.Bytes.{bytesOf, movedBytes}
 use Rattle.session_bytes.specs.Shown.{RanBytes}
-use Rattle.rack.specs.Slots.{part, inside, placed, owned, outcomeIn, stepIn, RackMoves, emptyRack, Cleared}
+use Rattle.rack.specs.Slots.{part, inside, Owned, inRack, movedIn, emptyRack}
 
 pub record Asked : Type 0 where
   pub by : ℕ
   pub call : Call
 
-pub data RanRack : List ℕ → List Asked → List ℕ → List Seen → Type 0 where
-  none : {bs : List ℕ} → RanRack bs [] bs []
-  more : {bs cs ds : List ℕ} {x : Asked} {xs : List Asked} {t : Seen} {ts : List Seen} → RackMoves bs (x .by) (x .call) cs t
-      → RanRack cs xs ds ts → RanRack bs (x ∷ xs) ds (t ∷ ts)
+abbrev pub RanRack : List ℕ → List Asked → List ℕ → List CallSeen → Type 0
+RanRack bs xs cs ts = RanBy (λ (bs : List ℕ) (x : Asked). movedIn bs (x .by) (x .call)) bs xs cs ts
 
 unfoldable pub own : ℕ → List Asked → List Call
 own j [] = []
 own j (x ∷ xs) = cond (eqb (x .by) j) (x .call ∷ own j xs) (own j xs)
 
-unfoldable pub views : ℕ → List Asked → List Seen → List Seen
+unfoldable pub views : ℕ → List Asked → List CallSeen → List CallSeen
 views j [] ts = []
 views j (x ∷ xs) [] = []
 views j (x ∷ xs) (t ∷ ts) = cond (eqb (x .by) j) (t ∷ views j xs ts) (views j xs ts)
@@ -52,58 +51,47 @@ views j (x ∷ xs) (t ∷ ts) = cond (eqb (x .by) j) (t ∷ views j xs ts) (view
 -- ---- what is shown: one call
 
 abbrev pub Turned : Type 0
-Turned = (bs cs : List ℕ) (i : ℕ) (x : Call) (t : Seen) → 8 ≤ i → RackMoves bs i x cs t → (t .number ≡ 16) × (t .place ≡ 0) × (cs ≡ bs)
+Turned = (bs : List ℕ) (i : ℕ) (x : Call) → 8 ≤ i → movedIn bs i x ≡ turn bs (shownBy (Fail NoStudio) x)
 
 abbrev pub Numbered : Type 0
 Numbered =
-    ((j : ℕ) → j < 8 → owned emptyRack j ≡ true)
-    × ((bs cs : List ℕ) (i j : ℕ) (x : Call) (t : Seen) → j < 8 → owned bs j ≡ true → RackMoves bs i x cs t → owned cs j ≡ true)
+    ((j : ℕ) → j < 8 → Owned emptyRack j) × ((bs : List ℕ) (i j : ℕ) (x : Call) → Owned bs j → Owned (movedIn bs i x .session) j)
 
 abbrev pub Slotwise : Type 0
 Slotwise =
-    (bs cs : List ℕ) (i : ℕ) (x : Call) (t : Seen) → i < 8 → owned bs i ≡ true → RackMoves bs i x cs t → MovesBytes (inside bs i) x (inside cs i) t
+    (bs : List ℕ) (i : ℕ) (x : Call) → Owned bs i
+    → turn (inside (movedIn bs i x .session) i) (movedIn bs i x .seen) ≡ movedBytes (inside bs i) x
 
 abbrev pub Threads : Type 0
-Threads =
-    (bs ps : List ℕ) (i : ℕ) (x : Call) (t : Seen) → i < 8 → owned bs i ≡ true → MovesBytes (inside bs i) x ps t
-    → RackMoves bs i x (placed bs i (i ∷ ps)) t
+Threads = (bs : List ℕ) (i : ℕ) (x : Call) → Owned bs i → movedIn bs i x ≡ inRack bs i (movedBytes (inside bs i) x)
 
 abbrev pub Untouched : Type 0
-Untouched = (bs : List ℕ) (i j : ℕ) (x : Call) → (i ≡ j → ⊥) → (part (stepIn bs i x) j ≡ part bs j) × (length (stepIn bs i x) ≡ length bs)
+Untouched =
+    (bs : List ℕ) (i j : ℕ) (x : Call) → (i ≡ j → ⊥) → (part (movedIn bs i x .session) j ≡ part bs j) × (length (movedIn bs i x .session) ≡ length bs)
 
 abbrev pub Blind : Type 0
 Blind =
-    (bs cs : List ℕ) (i : ℕ) (x : Call) → i < 8 → length bs ≡ length cs → part bs i ≡ part cs i
-    → (outcomeIn bs i x ≡ outcomeIn cs i x) × (part (stepIn bs i x) i ≡ part (stepIn cs i x) i)
+    (bs cs : List ℕ) (i : ℕ) (x : Call) → length bs ≡ length cs → part bs i ≡ part cs i
+    → (movedIn bs i x .seen ≡ movedIn cs i x .seen) × (part (movedIn bs i x .session) i ≡ part (movedIn cs i x .session) i)
 
 abbrev pub Wiped : Type 0
 Wiped =
     (bs : List ℕ) (i : ℕ) → i < 8 → length bs ≡ 1048
-    → (outcomeIn bs i closing ≡ Pass) × (part (stepIn bs i closing) i ≡ i ∷ replicate 130 0)
+    → (movedIn bs i closing .seen ≡ ofClose (done 0)) × (part (movedIn bs i closing .session) i ≡ i ∷ replicate 130 0)
 
 -- ---- over any sequence
 
 abbrev pub Alone : Type 0
 Alone =
-    (j : ℕ) → j < 8 → (bs cs : List ℕ) (xs : List Asked) (ts : List Seen) → owned bs j ≡ true → RanRack bs xs cs ts
-    → RanBytes (inside bs j) (own j xs) (inside cs j) (views j xs ts) × (owned cs j ≡ true)
+    (j : ℕ) (bs cs : List ℕ) (xs : List Asked) (ts : List CallSeen) → Owned bs j → RanRack bs xs cs ts
+    → RanBytes (inside bs j) (own j xs) (inside cs j) (views j xs ts) × Owned cs j
 
 abbrev pub RunRack : Type 0
 RunRack =
-    (j : ℕ) → j < 8 → (bs cs : List ℕ) (xs : List Asked) (ts : List Seen) (y : Session) → Sound y → length bs ≡ 1048 → part bs j ≡ j ∷ bytesOf y
+    (j : ℕ) → j < 8 → (bs cs : List ℕ) (xs : List Asked) (ts : List CallSeen) (y : Session) → Sound y → length bs ≡ 1048 → part bs j ≡ j ∷ bytesOf y
     → RanRack bs xs cs ts → (part cs j ≡ j ∷ bytesOf (run y (own j xs))) × Ran y (own j xs) (run y (own j xs)) (views j xs ts)
 
 -- ---- clear
 
 abbrev pub Emptied : Type 0
 Emptied = (length emptyRack ≡ 1048) × ((i : ℕ) → i < 8 → part emptyRack i ≡ i ∷ bytesOf table.idle)
-
--- ---- one result
-
-abbrev pub Only : Type 0
-Only =
-    (bs cs cs′ : List ℕ) (i : ℕ) (x : Call) (t t′ : Seen) → RackMoves bs i x cs t → RackMoves bs i x cs′ t′ → (cs ≡ cs′) × (t ≡ t′)
-
-abbrev pub OnlyCleared : Type 0
-OnlyCleared =
-    (bs cs cs′ : List ℕ) (r r′ p p′ : ℕ) → Cleared bs cs r p → Cleared bs cs′ r′ p′ → (cs ≡ cs′) × (r ≡ r′) × (p ≡ p′)

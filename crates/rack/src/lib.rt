@@ -1,32 +1,40 @@
 // Eight studios, one rack: 02, request k. A rack is eight records of 131 lent bytes, each its studio's number and then a session's 130 bytes. A call lends the
 // 130 bytes behind its own slot's number to the session's call; the bytes of other studios stay as they are and decide nothing.
 ghost use mathlib.Core.Path.{_≡_};
-ghost use Prim.Native.Nat.{_<_};
 ghost use lib.ListN.{length};
 ghost use Rattle.lists.specs.Lent.{was, left, room};
 ghost use Rattle.front.specs.Front.{numberIn, placeIn};
+ghost use Rattle.front.specs.Seen.{told, seen};
 ghost use Rattle.offer.specs.Offer as offers;
 ghost use Rattle.reply.specs.Reply as replies;
 ghost use Rattle.finish.specs.Finish as finishes;
 ghost use Rattle.session.specs.Table.{offering, replying, finishing, closing};
-ghost use Rattle.session.specs.Seen.{toldOffer, toldReply, toldFinish};
-ghost use Rattle.rack.specs.Slots.{owned, emptyRack, RackMoves, Cleared, toldClose};
+ghost use Rattle.session.specs.Seen.{ofOffer, ofReply, ofFinish, ofClose, toldBy, turn};
+ghost use Rattle.rack.specs.Slots.{slotTests, movedIn, emptyRack, cleared};
 use finish::FinishAnswer;
 use front::Answer;
 use front::Refusal;
 use front::Verdict;
 use reply::ReplyAnswer;
 
-// Whether the bytes are a rack whose slot has the studio's number.
-fn owns(bytes: &[u8], studio: u32) -> bool
-    requires { ⌜ studio < 8 ⌝ }
-    ensures { λ r. ⌜ r ≡ owned (was bytes) studio ⌝ }
+// The tests of a studio's slot: 16, then 10. Close does not look at the slot's number.
+fn slot(bytes: &[u8], studio: u32, closes: bool) -> Verdict
+    ensures { λ r. ⌜ r ≡ slotTests (was bytes) studio closes ⌝ }
 {
+    if 8 <= studio {
+        return Verdict::Fail(Refusal::NoStudio);
+    }
     if bytes.len() != 1048 {
-        return false;
+        return Verdict::Fail(Refusal::OutOfStage);
+    }
+    if closes {
+        return Verdict::Pass;
     }
     let at = 131 * (studio as usize);
-    bytes[at] as u32 == studio
+    if bytes[at] as u32 != studio {
+        return Verdict::Fail(Refusal::OutOfStage);
+    }
+    Verdict::Pass
 }
 
 // Offer for a studio.
@@ -41,16 +49,11 @@ pub fn offer(
     message: &mut [u8],
 ) -> Answer
     ensures { λ r. ⌜
-        RackMoves (was bytes) studio (offering scheme (offers.offer a s e seed) (room message)) (left bytes) (toldOffer r (left message))
+        turn (left bytes) (ofOffer (seen (told r) (left message))) ≡ movedIn (was bytes) studio (offering scheme (offers.offer a s e seed) (room message))
         ⌝ }
 {
-    if 8 <= studio {
-        lists::zero_bytes(message);
-        return Answer::Refused(Refusal::NoStudio);
-    }
-    if !owns(bytes, studio) {
-        lists::zero_bytes(message);
-        return Answer::Refused(Refusal::OutOfStage);
+    if let Verdict::Fail(refusal) = slot(bytes, studio, false) {
+        return session::stop(refusal, message);
     }
     let from = 131 * (studio as usize) + 1;
     let end = from + 130;
@@ -73,21 +76,12 @@ pub fn reply(
     digest: &mut [u8],
 ) -> ReplyAnswer
     ensures { λ r. ⌜
-        RackMoves (was bytes) studio (replying scheme (replies.reply opening a s1 e1 e2 coins) (room message) (room key) (room digest))
-        (left bytes) (toldReply r (left message) (left key) (left digest))
+        turn (left bytes) (ofReply (replies.replySeen (replies.replyTold r) (left message) (left key) (left digest)))
+        ≡ movedIn (was bytes) studio (replying scheme (replies.reply opening a s1 e1 e2 coins) (replies.replyRooms message key digest))
         ⌝ }
 {
-    if 8 <= studio {
-        lists::zero_bytes(message);
-        lists::zero_bytes(key);
-        lists::zero_bytes(digest);
-        return ReplyAnswer::Refused(Refusal::NoStudio);
-    }
-    if !owns(bytes, studio) {
-        lists::zero_bytes(message);
-        lists::zero_bytes(key);
-        lists::zero_bytes(digest);
-        return ReplyAnswer::Refused(Refusal::OutOfStage);
+    if let Verdict::Fail(refusal) = slot(bytes, studio, false) {
+        return session::stop_reply(refusal, message, key, digest);
     }
     let from = 131 * (studio as usize) + 1;
     let end = from + 130;
@@ -117,19 +111,12 @@ pub fn finish(
     digest: &mut [u8],
 ) -> FinishAnswer
     ensures { λ r. ⌜
-        RackMoves (was bytes) studio (finishing scheme (finishes.finish reply s) (room key) (room digest))
-        (left bytes) (toldFinish r (left key) (left digest))
+        turn (left bytes) (ofFinish (finishes.finishSeen (finishes.finishTold r) (left key) (left digest)))
+        ≡ movedIn (was bytes) studio (finishing scheme (finishes.finish reply s) (finishes.finishRooms key digest))
         ⌝ }
 {
-    if 8 <= studio {
-        lists::zero_bytes(key);
-        lists::zero_bytes(digest);
-        return FinishAnswer::Refused(Refusal::NoStudio);
-    }
-    if !owns(bytes, studio) {
-        lists::zero_bytes(key);
-        lists::zero_bytes(digest);
-        return FinishAnswer::Refused(Refusal::OutOfStage);
+    if let Verdict::Fail(refusal) = slot(bytes, studio, false) {
+        return session::stop_finish(refusal, key, digest);
     }
     let from = 131 * (studio as usize) + 1;
     let end = from + 130;
@@ -138,14 +125,12 @@ pub fn finish(
 
 // Close for one, whatever its slot holds: the number and 130 zeros.
 pub fn close(bytes: &mut [u8], studio: u32) -> Verdict
-    ensures { λ r. ⌜ RackMoves (was bytes) studio closing (left bytes) (toldClose r) ⌝ }
+    ensures { λ r. ⌜ turn (left bytes) (ofClose (toldBy r)) ≡ movedIn (was bytes) studio closing ⌝ }
 {
-    if 8 <= studio {
-        return Verdict::Fail(Refusal::NoStudio);
-    }
-    if bytes.len() != 1048 {
-        return Verdict::Fail(Refusal::OutOfStage);
-    }
+    let v = slot(bytes, studio, true);
+    let Verdict::Pass = v else {
+        return v;
+    };
     let at = 131 * (studio as usize);
     let end = at + 131;
     lists::zero_bytes(&mut bytes[at..end]);
@@ -170,7 +155,7 @@ fn lay_empty(bytes: &mut [u8])
 
 // Clear: eight idle records with their numbers, whatever the bytes held.
 pub fn clear(bytes: &mut [u8]) -> Verdict
-    ensures { λ r. ⌜ Cleared (was bytes) (left bytes) (numberIn r) (placeIn r) ⌝ }
+    ensures { λ r. ⌜ record { number = numberIn r; place = placeIn r; rack = left bytes } ≡ cleared (was bytes) ⌝ }
 {
     if bytes.len() != 1048 {
         return Verdict::Fail(Refusal::OutOfStage);

@@ -1,11 +1,11 @@
 -- Reply.
 --   message-length, key-length   message and key are as long as the scheme says
 --   message-taken, key-taken     those of the opening's own numbers are Reply's
---   Sized, rooms-sized, reply-sized   what passed sizes say: the lengths, and room for message, key and digest
+--   Sized, reply-sized, reply-sized   what passed sizes say: the lengths, and room for message, key and digest
 --   secrets-small                what the secrets' tests say
 --   reply-rooms-failed, reply-rest-decides   its verdict by the test that decides
 --   reply-unknown                its tests where the number names no scheme
---   reply-refused                its promise after a refusal
+--   reply-refused, reply-done    what is seen after a refusal, and where nothing is refused
 use mathlib.Core.Path.{_≡_, refl, _∙_, sym}
 use mathlib.Core.List.{List}
 use Prim.Native.Nat.{ℕ, _≤_}
@@ -16,19 +16,23 @@ use Rattle.schemes.specs.Schemes.{fixedOf}
 use Rattle.schemes.specs.declared.Named.{Named}
 use Rattle.schemes.specs.declared.Named.the-variants.{Is, Unknown}
 use Rattle.schemes.specs.declared.Scheme.{Scheme}
-use Rattle.front.specs.Front.{numberOf, placeOf, _then_, publicsIn}
+use Rattle.front.specs.Front.{_then_, publicsIn, receivedIn}
+use Rattle.front.specs.Seen.{output, written}
 use Rattle.front.specs.declared.Verdict.{Verdict}
 use Rattle.front.specs.declared.Verdict.the-variants.{Pass, Fail}
 use Rattle.front.specs.declared.Refusal.{Refusal}
 use Rattle.front.specs.declared.Refusal.the-variants.{NoScheme}
 use Rattle.front.proofs.Laws.{both, length-passed, room-passed, secrets-passed, then-assoc, failed, went-on}
-use Rattle.front.proofs.Promise.{told-failed, wrote-failed}
+use Rattle.front.proofs.Seen.{written-failed}
 use Rattle.ends.specs.Values.{replied, mixedValue}
 use Rattle.ends.proofs.Ranges.{replied-counted, mixed-counted}
 use Rattle.ends.proofs.Settling.{hints-counted, keys-counted}
 use Rattle.wire.specs.Wire.{coinsIn}
 use Rattle.wire.proofs.Travel.{key-long, reply-length}
-use Rattle.reply.specs.Reply.{Reply, replyLengths, replyRooms, replySizes, openedOf, replySecrets, replyRest, replyTests, messageFrom, keyFrom, messageOf, keyOf, Replied}
+use Rattle.reply.specs.Reply.{Reply, ReplyRooms, openedOf, replyValue, replyTests, replyMessage, replyKey, outputs, replyTold, replySeen}
+use Rattle.reply.specs.Inside.{replyLengths, replySizes, replySecrets, replyLast, replyRest, messageFrom, keyFrom}
+use Rattle.reply.specs.declared.ReplyCounts.{ReplyCounts}
+use Rattle.reply.specs.declared.ReplyAnswer.the-variants.{Done, Refused}
 
 module _ (c : Scheme) (b : List ℕ) (s' e'' : List ℤ) (coins : List ℕ) where
   pub key-from-length : length (keyFrom c b s' e'' coins) ≡ fixedOf c .key
@@ -41,40 +45,47 @@ module _ (c : Scheme) (b : List ℕ) (s' e'' : List ℤ) (coins : List ℕ) wher
       reply-length c (replied-counted c a s' e') (hints-counted c (coinsIn c coins) (mixedValue c b s' e'') (mixed-counted c b s' e'' .long))
 
 module _ (c : Scheme) (x : Reply) where
-  pub key-length : length (keyOf c x) ≡ fixedOf c .key
-  unfolding keyOf
+  pub key-length : length (replyKey (Is c) x) ≡ fixedOf c .key
+  unfolding replyKey replyValue keyFrom
   key-length = key-from-length c (openedOf c x) (x .s') (x .e'') (x .coins)
 
-  pub message-length : length (messageOf c x) ≡ fixedOf c .reply
-  unfolding messageOf
+  pub message-length : length (replyMessage (Is c) x) ≡ fixedOf c .reply
+  unfolding replyMessage replyValue messageFrom
   message-length = message-from-length c (openedOf c x) (x .s') (x .e'') (x .coins) (x .a) (x .e')
 
   module _ {b : List ℕ} (t : b ≡ openedOf c x) where
-    pub key-taken : keyFrom c b (x .s') (x .e'') (x .coins) ≡ keyOf c x
-    unfolding keyOf
+    pub key-taken : keyFrom c b (x .s') (x .e'') (x .coins) ≡ replyKey (Is c) x
+    unfolding replyKey replyValue keyFrom
     key-taken = rw t
 
-    pub message-taken : messageFrom c b (x .a) (x .s') (x .e') (x .e'') (x .coins) ≡ messageOf c x
-    unfolding messageOf
+    pub message-taken : messageFrom c b (x .a) (x .s') (x .e') (x .e'') (x .coins) ≡ replyMessage (Is c) x
+    unfolding replyMessage replyValue messageFrom
     message-taken = rw t
 
 -- ---- its tests
 
-pub record Sized (c : Scheme) (x : Reply) (n k d : ℕ) : Type 0 where
+grouped : (p m b s e f n : Verdict) → p then m then b then s then e then f then n ≡ p then (m then b then (s then e then f then n))
+unfolding _then_
+grouped (Fail r) m b s e f n = refl
+grouped Pass (Fail r) b s e f n = refl
+grouped Pass Pass (Fail r) s e f n = refl
+grouped Pass Pass Pass s e f n = refl
+
+pub record Sized (c : Scheme) (x : Reply) (m : ReplyRooms) : Type 0 where
   pub opening-long : length (x .opening) ≡ fixedOf c .opening
   pub public-long : length (x .a) ≡ fixedOf c .public
   pub secret-long : length (x .s') ≡ fixedOf c .secret
   pub noise-long : length (x .e') ≡ fixedOf c .noise
   pub last-long : length (x .e'') ≡ fixedOf c .mixed
   pub coins-long : length (x .coins) ≡ fixedOf c .coins
-  pub roomy : fixedOf c .reply ≤ n
-  pub key-roomy : fixedOf c .key ≤ k
-  pub digest-roomy : 32 ≤ d
+  pub roomy : fixedOf c .reply ≤ m .message
+  pub key-roomy : fixedOf c .key ≤ m .key
+  pub digest-roomy : 32 ≤ m .digest
 
 module _ (c : Scheme) (x : Reply) where
-  pub rooms-sized : (n k d : ℕ) → replyRooms c x n k d ≡ Pass → Sized c x n k d
+  pub reply-sized : (m : ReplyRooms) → replySizes c x m ≡ Pass → Sized c x m
   unfolding replyLengths
-  rooms-sized n k d t =
+  reply-sized m t =
       let digest = both _ _ t in
       let key = both _ _ (digest .0) in
       let roomy = both _ _ (key .0) in
@@ -95,19 +106,18 @@ module _ (c : Scheme) (x : Reply) where
         digest-roomy = room-passed _ _ (digest .1);
       }
 
-  pub reply-sized : (n k d : ℕ) → replySizes c x n k d ≡ Pass → Sized c x n k d
-  unfolding replySizes
-  reply-sized n k d t = rooms-sized n k d (both _ _ t .0)
+  -- its tests in three parts: lengths and rooms, the public numbers, and what follows
+  pub reply-apart : (m : ReplyRooms) → replyTests (Is c) x m ≡ replySizes c x m then publicsIn (fixedOf c .q) (x .a) then replyRest c x
+  unfolding replyTests replyLengths replyRest replyLast replySecrets receivedIn
+  reply-apart m = grouped (replySizes c x m then publicsIn (fixedOf c .q) (x .a)) _ _ _ _ _ _
 
-  pub reply-rooms-failed : (n k d : ℕ) {v : Verdict} {r : Refusal} → v ≡ replyRooms c x n k d → v ≡ Fail r → replyTests (Is c) x n k d ≡ Fail r
-  unfolding replyTests replySizes
-  reply-rooms-failed n k d e f = failed _ refl (failed _ e f)
+  pub reply-sizes-failed : (m : ReplyRooms) {v : Verdict} {r : Refusal} → v ≡ replySizes c x m → v ≡ Fail r → replyTests (Is c) x m ≡ Fail r
+  reply-sizes-failed m e f = reply-apart m ∙ failed _ refl (failed _ e f)
 
   -- the public numbers and what follows
-  pub reply-rest-decides : (n k d : ℕ) {v : Verdict} → replyRooms c x n k d ≡ Pass → v ≡ publicsIn (fixedOf c .q) (x .a) then replyRest c x
-      → replyTests (Is c) x n k d ≡ v
-  unfolding replyTests replySizes
-  reply-rest-decides n k d t e = then-assoc (replyRooms c x n k d) _ _ ∙ went-on _ refl t ∙ sym e
+  pub reply-rest-decides : (m : ReplyRooms) {v : Verdict} → replySizes c x m ≡ Pass → v ≡ publicsIn (fixedOf c .q) (x .a) then replyRest c x
+      → replyTests (Is c) x m ≡ v
+  reply-rest-decides m t e = reply-apart m ∙ then-assoc (replySizes c x m) _ _ ∙ went-on _ refl t ∙ sym e
 
 pub secrets-small : (c : Scheme) (s' e' e'' : List ℤ) → replySecrets c s' e' e'' ≡ Pass
     → Within (fixedOf c .largest) s' × Within (fixedOf c .largest) e' × Within (fixedOf c .largest) e''
@@ -117,10 +127,19 @@ secrets-small c s' e' e'' t =
     let first = both _ _ (last .0) in
     (secrets-passed _ s' (first .0), secrets-passed _ e' (first .1), secrets-passed _ e'' (last .1))
 
-pub reply-unknown : {c : Named} (x : Reply) (n k d : ℕ) → c ≡ Unknown → replyTests c x n k d ≡ Fail NoScheme
+pub reply-unknown : {c : Named} (x : Reply) (m : ReplyRooms) → c ≡ Unknown → replyTests c x m ≡ Fail NoScheme
 unfolding replyTests
-reply-unknown x n k d e = rw e
+reply-unknown x m e = rw e
 
-pub reply-refused : {c : Named} {x : Reply} {n k d : ℕ} {r : Refusal} {message key digest : List ℕ} → replyTests c x n k d ≡ Fail r
-    → message ≡ replicate n 0 → key ≡ replicate k 0 → digest ≡ replicate d 0 → Replied c x (numberOf r) (placeOf r) n 0 message k 0 key d 0 digest
-reply-refused e o p q = record { told = told-failed e; messages = wrote-failed e o; keys = wrote-failed e p; digests = wrote-failed e q }
+-- ---- what is seen, of any three outputs
+
+module _ (xs ys zs : List ℕ) (m : ReplyRooms) {v : Verdict} {message key digest : List ℕ} where
+  pub reply-refused : {r : Refusal} → v ≡ Fail r → message ≡ replicate (m .message) 0 → key ≡ replicate (m .key) 0 → digest ≡ replicate (m .digest) 0
+      → replySeen (replyTold (Refused r)) message key digest ≡ outputs v xs ys zs m
+  unfolding outputs replySeen
+  reply-refused e o p q = rw (← written-failed xs 0 (m .message) e o, ← written-failed ys 0 (m .key) e p, ← written-failed zs 0 (m .digest) e q, e)
+
+  pub reply-done : {n : ReplyCounts} → v ≡ Pass → output (n .message) message ≡ written v xs 0 (m .message) → output (n .key) key ≡ written v ys 0 (m .key)
+      → output (n .digest) digest ≡ written v zs 0 (m .digest) → replySeen (replyTold (Done n)) message key digest ≡ outputs v xs ys zs m
+  unfolding outputs replySeen
+  reply-done e o p q = rw (← o, ← p, ← q, e)

@@ -1,10 +1,12 @@
 // Reply, the second call of 01, on lent slices. It has no `requires`: it ends with an answer or a numbered refusal, given exactly when its condition holds;
 // after a refusal every output is zero from end to end, and after a success what lies behind the answer is zero.
+ghost use mathlib.Core.Path.{_≡_};
 ghost use Rattle.schemes.specs.Schemes.{schemeOf};
-ghost use Rattle.reply.specs.Reply.{Replies};
+ghost use Rattle.lists.specs.Lent.{left};
+ghost use Rattle.reply.specs.Reply.{reply, replyRooms, replyTold, replySeen, replyResult};
 
-mod replier;
-mod tests;
+pub mod replier;
+pub mod tests;
 
 use front::Refusal;
 use schemes::Named;
@@ -34,7 +36,7 @@ pub fn reply(
     key: &mut [u8],
     digest: &mut [u8],
 ) -> ReplyAnswer
-    ensures { λ r. ⌜ Replies (schemeOf scheme) opening a s1 e1 e2 coins message key digest r ⌝ }
+    ensures { λ r. ⌜ replySeen (replyTold r) (left message) (left key) (left digest) ≡ replyResult (schemeOf scheme) (reply opening a s1 e1 e2 coins) (replyRooms message key digest) ⌝ }
 {
     replier::zero_outputs(message, key);
     let Named::Is(known) = front::named(scheme, digest) else {

@@ -15,8 +15,8 @@ ghost use Rattle.front.specs.declared.Verdict.the-variants.{Pass};
 ghost use Rattle.ends.specs.Fit.{Counted};
 ghost use Rattle.ends.specs.Keys as settled;
 ghost use Rattle.wire.specs.Wire.{coinsIn};
-ghost use Rattle.reply.specs.Reply.{replyOf, reply, replyRooms, repliedPart, replyLast, replyRest, messageFrom, keyFrom, messageOf, keyOf, Replies};
-ghost use Rattle.reply.specs.Inside.{Rooms, messageBy, keyBy, Settles, Mixes, Replying};
+ghost use Rattle.reply.specs.Reply.{replyOf, replyRoomsOf, reply, replyRooms, repliedPart, replyMessage, replyKey, replyTold, replySeen, replyResult};
+ghost use Rattle.reply.specs.Inside.{replySizes, replyLast, replyRest, Rooms, messageBy, keyBy, messageFrom, keyFrom, Settles, Mixes, Replying};
 use crate::ReplyAnswer;
 use crate::ReplyCounts;
 use front::Verdict;
@@ -31,23 +31,23 @@ pub(crate) fn zero_outputs(message: &mut [u8], key: &mut [u8])
     lists::zero_bytes(key);
 }
 
-// The hints and the entries of the key, of v; flips, as numbers of the coins, is room for what lies between.
+// The hints and the entries of the key, of v; tosses, the coins as numbers, is room for what lies between.
 fn settle(
     scheme: Scheme,
     coins: &[u8],
     v: &[u32],
-    flips: &mut [u32],
+    tosses: &mut [u32],
     hints: &mut [u32],
     entries: &mut [u32],
 )
     requires { ⌜ Counted (fixedOf scheme .mixed) (fixedOf scheme .q) (now v) × (length (now coins) ≡ fixedOf scheme .coins) ⌝ }
-    requires { ⌜ Rooms scheme (now flips) (now hints) (now entries) ⌝ }
+    requires { ⌜ Rooms scheme (now tosses) (now hints) (now entries) ⌝ }
     ensures { λ _. ⌜ left hints ≡ settled.hints scheme (coinsIn scheme (was coins)) (was v) ⌝ }
     ensures { λ _. ⌜ left entries ≡ settled.keys scheme (coinsIn scheme (was coins)) (was v) ⌝ }
 {
-    wire::take_coins(scheme, coins, flips);
-    ends::settle::hints(scheme, flips, v, hints);
-    ends::settle::keys(scheme, flips, hints, v, entries);
+    wire::take_coins(scheme, coins, tosses);
+    ends::settle::hints(scheme, tosses, v, hints);
+    ends::settle::keys(scheme, tosses, hints, v, entries);
 }
 
 // The message's bytes, of its numbers u and the hints. A blank part is refused before anything is written.
@@ -67,26 +67,26 @@ fn lay_message(scheme: Scheme, u: &[u32], hints: &[u32], message: &mut [u8]) -> 
     }
 }
 
-// Message and key, of u and v; flips, hints and entries are room for what lies between.
-fn lay_values(
+// Message and key, of u and v; tosses, hints and entries are room for what lies between. Crate `rows` ends so too.
+pub fn lay_values(
     scheme: Scheme,
     u: &[u32],
     v: &[u32],
     coins: &[u8],
-    flips: &mut [u32],
+    tosses: &mut [u32],
     hints: &mut [u32],
     entries: &mut [u32],
     message: &mut [u8],
     key: &mut [u8],
 ) -> Verdict
     requires { ⌜ Counted (fixedOf scheme .secret) (fixedOf scheme .q) (now u) × Counted (fixedOf scheme .mixed) (fixedOf scheme .q) (now v) ⌝ }
-    requires { ⌜ (length (now coins) ≡ fixedOf scheme .coins) × Rooms scheme (now flips) (now hints) (now entries) ⌝ }
+    requires { ⌜ (length (now coins) ≡ fixedOf scheme .coins) × Rooms scheme (now tosses) (now hints) (now entries) ⌝ }
     requires { ⌜ (length (now message) ≡ fixedOf scheme .reply) × (length (now key) ≡ fixedOf scheme .key) ⌝ }
     ensures { λ r. ⌜ r ≡ notBlank (packed (fixedOf scheme .width) (was u)) ⌝ }
     ensures { λ r. ⌜ Laid r (messageBy scheme (was u) (was v) (was coins)) message ⌝ }
     ensures { λ r. ⌜ Laid r (keyBy scheme (was v) (was coins)) key ⌝ }
 {
-    settle(scheme, coins, v, flips, hints, entries);
+    settle(scheme, coins, v, tosses, hints, entries);
     let sent = lay_message(scheme, u, hints, message);
     match sent {
         Verdict::Fail(r) => Verdict::Fail(r),
@@ -97,7 +97,8 @@ fn lay_values(
     }
 }
 
-// The same of what is lent, with the test of the public numbers. The opening's numbers b become the message's; v is room too.
+// Message and key of what is lent, with the test of the public numbers. The opening's numbers b become the message's. No scheme has more than 1024 values or
+// groups.
 fn lay(
     scheme: Scheme,
     b: &mut [u32],
@@ -106,68 +107,40 @@ fn lay(
     e1: &[i32],
     e2: &[i32],
     coins: &[u8],
-    flips: &mut [u32],
-    v: &mut [u32],
-    hints: &mut [u32],
-    entries: &mut [u32],
     message: &mut [u8],
     key: &mut [u8],
 ) -> Verdict
     requires { ⌜ Settles scheme (now b) (now s1) (now e2) (now coins) × Mixes scheme (now a) (now s1) (now e1) ⌝ }
-    requires { ⌜ (length (now v) ≡ fixedOf scheme .mixed) × Rooms scheme (now flips) (now hints) (now entries) ⌝ }
     requires { ⌜ (length (now message) ≡ fixedOf scheme .reply) × (length (now key) ≡ fixedOf scheme .key) ⌝ }
     ensures { λ r. ⌜ r ≡ publicsIn (fixedOf scheme .q) (was a) then notBlank (repliedPart scheme (was a) (was s1) (was e1)) ⌝ }
     ensures { λ r. ⌜ Laid r (messageFrom scheme (was b) (was a) (was s1) (was e1) (was e2) (was coins)) message ⌝ }
     ensures { λ r. ⌜ Laid r (keyFrom scheme (was b) (was s1) (was e2) (was coins)) key ⌝ }
 {
-    let at = ends::values::reply(scheme, a, s1, e1, e2, b, v);
+    let f = scheme.fixed();
+    let n = f.mixed;
+    let g = f.groups;
+    let mut v = [0u32; 1024];
+    let mut tosses = [0u32; 1024];
+    let mut hints = [0u32; 1024];
+    let mut entries = [0u32; 1024];
+    let at = ends::values::reply(scheme, a, s1, e1, e2, b, &mut v[..n]);
     let w = front::publics_at(at, a);
     match w {
         Verdict::Fail(r) => Verdict::Fail(r),
-        Verdict::Pass => { lay_values(scheme, b, v, coins, flips, hints, entries, message, key) }
+        Verdict::Pass => {
+            lay_values(
+                scheme,
+                b,
+                &v[..n],
+                coins,
+                &mut tosses[..g],
+                &mut hints[..n],
+                &mut entries[..g],
+                message,
+                key,
+            )
+        }
     }
-}
-
-// The same with room for n values and g groups, of which no scheme has more than 1024.
-fn write(
-    scheme: Scheme,
-    n: usize,
-    g: usize,
-    b: &mut [u32],
-    a: &[u32],
-    s1: &[i32],
-    e1: &[i32],
-    e2: &[i32],
-    coins: &[u8],
-    message: &mut [u8],
-    key: &mut [u8],
-) -> Verdict
-    requires { ⌜ Settles scheme (now b) (now s1) (now e2) (now coins) × Mixes scheme (now a) (now s1) (now e1) ⌝ }
-    requires { ⌜ (n ≡ fixedOf scheme .mixed) × (g ≡ fixedOf scheme .groups) ⌝ }
-    requires { ⌜ (length (now message) ≡ fixedOf scheme .reply) × (length (now key) ≡ fixedOf scheme .key) ⌝ }
-    ensures { λ r. ⌜ r ≡ publicsIn (fixedOf scheme .q) (was a) then notBlank (repliedPart scheme (was a) (was s1) (was e1)) ⌝ }
-    ensures { λ r. ⌜ Laid r (messageFrom scheme (was b) (was a) (was s1) (was e1) (was e2) (was coins)) message ⌝ }
-    ensures { λ r. ⌜ Laid r (keyFrom scheme (was b) (was s1) (was e2) (was coins)) key ⌝ }
-{
-    let mut flips = [0u32; 1024];
-    let mut v = [0u32; 1024];
-    let mut hints = [0u32; 1024];
-    let mut entries = [0u32; 1024];
-    lay(
-        scheme,
-        b,
-        a,
-        s1,
-        e1,
-        e2,
-        coins,
-        &mut flips[..g],
-        &mut v[..n],
-        &mut hints[..n],
-        &mut entries[..g],
-        message,
-        key,
-    )
 }
 
 // The secrets' tests, then message and key. What is refused leaves zeros; a secret is refused behind the public numbers.
@@ -192,29 +165,15 @@ fn with_secrets(
     let v = crate::tests::reply_secrets(scheme, s1, e1, e2);
     match v {
         Verdict::Fail(_) => front::publics_before(v, f.q, a),
-        Verdict::Pass => {
-            write(
-                scheme,
-                f.mixed,
-                f.groups,
-                b,
-                a,
-                s1,
-                e1,
-                e2,
-                coins,
-                message,
-                key,
-            )
-        }
+        Verdict::Pass => lay(scheme, b, a, s1, e1, e2, coins, message, key),
     }
 }
 
-// The opening's numbers into b. A refused message ends the call here, with its place, behind the public numbers.
+// The opening's numbers, of which no scheme has more than 6912, then the secrets' tests. A refused message ends the call here, with its place, behind the public
+// numbers.
 fn with_opening(
     scheme: Scheme,
     opening: &[u8],
-    b: &mut [u32],
     a: &[u32],
     s1: &[i32],
     e1: &[i32],
@@ -224,52 +183,20 @@ fn with_opening(
     key: &mut [u8],
 ) -> Verdict
     requires { ⌜ Replying scheme (now a) (now s1) (now e1) (now e2) (now coins) (now message) (now key) ⌝ }
-    requires { ⌜ (length (now opening) ≡ fixedOf scheme .opening) × (length (now b) ≡ fixedOf scheme .secret) ⌝ }
+    requires { ⌜ length (now opening) ≡ fixedOf scheme .opening ⌝ }
     ensures { λ r. ⌜ r ≡ publicsIn (fixedOf scheme .q) (was a) then replyRest scheme (reply opening a s1 e1 e2 coins) ⌝ }
-    ensures { λ r. ⌜ Laid r (messageOf scheme (reply opening a s1 e1 e2 coins)) message ⌝ }
-    ensures { λ r. ⌜ Laid r (keyOf scheme (reply opening a s1 e1 e2 coins)) key ⌝ }
+    ensures { λ r. ⌜ Laid r (replyMessage (Is scheme) (reply opening a s1 e1 e2 coins)) message ⌝ }
+    ensures { λ r. ⌜ Laid r (replyKey (Is scheme) (reply opening a s1 e1 e2 coins)) key ⌝ }
 {
     let f = scheme.fixed();
-    let v = wire::take_opening(scheme, opening, b);
+    let n = f.secret;
+    let mut b = [0u32; 6912];
+    let v = wire::take_opening(scheme, opening, &mut b[..n]);
     let Verdict::Pass = v else {
         zero_outputs(message, key);
         return front::publics_before(v, f.q, a);
     };
-    with_secrets(scheme, b, a, s1, e1, e2, coins, message, key)
-}
-
-// The same with room for n numbers, of which no scheme has more than 6912.
-fn answer_in(
-    scheme: Scheme,
-    n: usize,
-    opening: &[u8],
-    a: &[u32],
-    s1: &[i32],
-    e1: &[i32],
-    e2: &[i32],
-    coins: &[u8],
-    message: &mut [u8],
-    key: &mut [u8],
-) -> Verdict
-    requires { ⌜ Replying scheme (now a) (now s1) (now e1) (now e2) (now coins) (now message) (now key) ⌝ }
-    requires { ⌜ (length (now opening) ≡ fixedOf scheme .opening) × (n ≡ fixedOf scheme .secret) ⌝ }
-    ensures { λ r. ⌜ r ≡ publicsIn (fixedOf scheme .q) (was a) then replyRest scheme (reply opening a s1 e1 e2 coins) ⌝ }
-    ensures { λ r. ⌜ Laid r (messageOf scheme (reply opening a s1 e1 e2 coins)) message ⌝ }
-    ensures { λ r. ⌜ Laid r (keyOf scheme (reply opening a s1 e1 e2 coins)) key ⌝ }
-{
-    let mut b = [0u32; 6912];
-    with_opening(
-        scheme,
-        opening,
-        &mut b[..n],
-        a,
-        s1,
-        e1,
-        e2,
-        coins,
-        message,
-        key,
-    )
+    with_secrets(scheme, &mut b[..n], a, s1, e1, e2, coins, message, key)
 }
 
 // Where lengths and rooms have passed.
@@ -286,19 +213,18 @@ fn reply_sized(
     digest: &mut [u8],
 ) -> ReplyAnswer
     requires { ⌜
-        replyRooms scheme (replyOf (now opening) (now a) (now s1) (now e1) (now e2) (now coins)) (length (now message)) (length (now key)) (length (now digest))
+        replySizes scheme (replyOf (now opening) (now a) (now s1) (now e1) (now e2) (now coins)) (replyRoomsOf (length (now message)) (length (now key)) (length (now digest)))
         ≡ Pass
         ⌝ }
     requires { ⌜ (now message ≡ replicate (length (now message)) 0) × (now key ≡ replicate (length (now key)) 0) ⌝ }
     requires { ⌜ now digest ≡ replicate (length (now digest)) 0 ⌝ }
-    ensures { λ r. ⌜ Replies (Is scheme) opening a s1 e1 e2 coins message key digest r ⌝ }
+    ensures { λ r. ⌜ replySeen (replyTold r) (left message) (left key) (left digest) ≡ replyResult (Is scheme) (reply opening a s1 e1 e2 coins) (replyRooms message key digest) ⌝ }
 {
     let f = scheme.fixed();
     let n = f.reply;
     let k = f.key;
-    let v = answer_in(
+    let v = with_opening(
         scheme,
-        f.secret,
         opening,
         a,
         s1,
@@ -335,7 +261,7 @@ pub(crate) fn reply_in(
 ) -> ReplyAnswer
     requires { ⌜ (now message ≡ replicate (length (now message)) 0) × (now key ≡ replicate (length (now key)) 0) ⌝ }
     requires { ⌜ now digest ≡ replicate (length (now digest)) 0 ⌝ }
-    ensures { λ r. ⌜ Replies (Is scheme) opening a s1 e1 e2 coins message key digest r ⌝ }
+    ensures { λ r. ⌜ replySeen (replyTold r) (left message) (left key) (left digest) ≡ replyResult (Is scheme) (reply opening a s1 e1 e2 coins) (replyRooms message key digest) ⌝ }
 {
     let v = crate::tests::reply_sizes(
         scheme,

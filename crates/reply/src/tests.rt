@@ -1,7 +1,8 @@
 // The tests of Reply, in 01's order. That of the public numbers is the product's own, which reads them once.
 ghost use mathlib.Core.Path.{_≡_};
 ghost use Rattle.lists.specs.Lent.{was};
-ghost use Rattle.reply.specs.Reply.{reply, replyLengths, replyRooms, replySecrets};
+ghost use Rattle.reply.specs.Reply.{reply, replyRoomsOf};
+ghost use Rattle.reply.specs.Inside.{replyLengths, replySizes, replySecrets};
 use front::Verdict;
 use schemes::Scheme;
 
@@ -37,7 +38,7 @@ pub(crate) fn reply_sizes(
     keyroom: usize,
     digestroom: usize,
 ) -> Verdict
-    ensures { λ r. ⌜ r ≡ replyRooms scheme (reply opening a s1 e1 e2 coins) room keyroom digestroom ⌝ }
+    ensures { λ r. ⌜ r ≡ replySizes scheme (reply opening a s1 e1 e2 coins) (replyRoomsOf room keyroom digestroom) ⌝ }
 {
     let f = scheme.fixed();
     let v = reply_lengths(scheme, opening, a, s1, e1, e2, coins);
@@ -46,7 +47,8 @@ pub(crate) fn reply_sizes(
     front::room_for(v, digestroom, 32)
 }
 
-pub(crate) fn reply_secrets(scheme: Scheme, s1: &[i32], e1: &[i32], e2: &[i32]) -> Verdict
+// Crate `rows` tests so too.
+pub fn reply_secrets(scheme: Scheme, s1: &[i32], e1: &[i32], e2: &[i32]) -> Verdict
     ensures { λ r. ⌜ r ≡ replySecrets scheme (was s1) (was e1) (was e2) ⌝ }
 {
     let f = scheme.fixed();

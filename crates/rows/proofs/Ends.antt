@@ -1,10 +1,11 @@
 -- What the ends of Offer and Reply by rows have in common with the whole calls.
---   wrote-same, wrote-none   an output under an equal verdict; after a refusal, whatever the answer would be
+--   not-refused              what is not refused has passed its tests, and left the state
+--   end-by                   what is seen of an end, by its verdict
 --   by-frodo                 what is meant in Frodo
 --   number-names             the number of a scheme of Frodo's names it
 --   words-below, columns-below, zeros-below   secrets, noise and zeros are words
-use mathlib.Core.Path.{_≡_, refl, _∙_, ap, subst}
-use mathlib.Core.List.{List, []}
+use mathlib.Core.Path.{_≡_, sym, _∙_, ap}
+use mathlib.Core.List.{List}
 use Prim.Native.Nat.{ℕ, _*_, _<_}
 use native.Mathlib.Omega.{arith}
 use lib.IntN.{ℤ}
@@ -20,22 +21,23 @@ use Rattle.lists.proofs.Entries.{below-tab}
 use Rattle.lists.proofs.Same.{equal-all}
 use Rattle.matrix.specs.Steps.{wordsOf, columnsOf}
 use Rattle.parts.specs.Parts.{wrap}
-use Rattle.front.specs.Front.{held}
-use Rattle.front.specs.Promise.{Wrote}
+use Rattle.front.specs.Seen.{ifPassed}
 use Rattle.front.specs.declared.Verdict.{Verdict}
-use Rattle.front.specs.declared.Verdict.the-variants.{Fail}
-use Rattle.front.specs.declared.Refusal.{Refusal}
+use Rattle.front.specs.declared.Verdict.the-variants.{Pass}
+use Rattle.front.proofs.Laws.{number-zero}
 use Rattle.running.specs.State.{frodoIn, frodoOf}
+use Rattle.running.specs.Part.{stateShown}
+use Rattle.rows.specs.Offer.{EndSeen}
 
-pub wrote-same : {v v' : Verdict} {xs xs' : List ℕ} {room count : ℕ} {out : List ℕ} → v ≡ v' → xs ≡ xs' → Wrote v xs 0 room count out
-    → Wrote v' xs' 0 room count out
-wrote-same {v} {v'} {xs} {xs'} {room} {count} {out} e d w =
-    subst (λ (u : Verdict). Wrote u xs' 0 room count out) e (subst (λ (l : List ℕ). Wrote v l 0 room count out) d w)
+-- a begin or a part that is not refused
+pub not-refused : {v : Verdict} (xs old : List ℕ) → stateShown v xs old .number ≡ 0 → (v ≡ Pass) × (stateShown v xs old .state ≡ xs)
+unfolding stateShown
+not-refused {v} xs old t = let e = number-zero v (sym t) in (e, rw e)
 
-pub wrote-none : {v : Verdict} {r : Refusal} {xs : List ℕ} {room count : ℕ} {out : List ℕ} → v ≡ Fail r → Wrote v xs 0 room count out
-    → Wrote (Fail r) [] 0 room count out
-unfolding held
-wrote-none e w = let u = wrote-same e refl w in record { counts = u .counts; holds = u .holds }
+-- a verdict, the answer and the state by it
+pub end-by : {A : Type 0} {v r : Verdict} {a b : A} (st : List ℕ) {after : List ℕ} → v ≡ r → a ≡ b → after ≡ ifPassed r (replicate (length st) 0) st
+    → _≡_ {A = EndSeen A} (record { answer = a; state = after }) (record { answer = b; state = ifPassed v (replicate (length st) 0) st })
+end-by st e d o = rw (d, o, e)
 
 pub by-frodo : {A : Type 0} {F : Family} (x y z : A) → F ≡ Family.Frodo → by F x y z ≡ z
 by-frodo x y z e = rw e

@@ -1,13 +1,14 @@
 -- A state as begin lays it, and what any parts leave of it.
---   secret-long, secret-small   the secret as a state keeps it: words, as many as the sums
+--   secret-small        the secret as a state keeps it: words
 --   once                what is shown once over n and q
---   begins              a state of a scheme of Frodo's as begin lays it
+--   Starts              a state of a scheme of Frodo's as begin leaves it
 --   Left, left          such a state after any parts: what it names, counts and keeps, that its call has begun, and what its sums are
+--   fill                parts that join into A are accepted
 --   in-turn, too-early, has-all   whether all of A has come
 use mathlib.Core.Path.{_≡_, refl, _∙_, sym, ap, ap₂, subst}
 use mathlib.Core.Logic.{_≢_}
 use mathlib.Core.Bool.{Bool, true, false}
-use mathlib.Core.List.{List}
+use mathlib.Core.List.{List, []}
 use Prim.Native.Nat.{ℕ, _*_, _%_, _<_}
 use native.Mathlib.Omega.{arith}
 use lib.IntN.{ℤ}
@@ -27,88 +28,89 @@ use Rattle.front.specs.declared.Verdict.the-variants.{Pass, Fail}
 use Rattle.front.specs.declared.Refusal.the-variants.{OutOfTurn}
 use Rattle.front.proofs.Laws.{turn-passes}
 use Rattle.ends.proofs.Numbers.{numbers-in}
-use Rattle.running.specs.State.{tagOf, frodoOf, long, named, taken, keptOf, secretOf, sumsOf, heldOf, laid, keptIn, begun, complete, terms}
-use Rattle.rows.specs.Runs.{Parts, joined, steps, WithinRows}
-use Rattle.rows.specs.Shown.{secretWords, mixed, Once}
+use Rattle.running.specs.State.{tagOf, frodoOf, long, named, taken, keptOf, secretOf, sumsOf, heldOf, Layout, laid, secretWords, fresh, keptIn, begun, complete, terms}
+use Rattle.rows.specs.Runs.{Parts, joined, Took, steps, WithinRows}
+use Rattle.rows.specs.Shown.{mixed, Once}
 use Rattle.running.specs.declared.Call.{Call}
 use Rattle.running.proofs.Tests.{starts, completes, complete-so, frodos}
-use Rattle.running.proofs.Laying.{held-words, laid-long, laid-kept, laid-secret, laid-sums, laid-held}
+use Rattle.running.proofs.Laying.{secret-words-long, held-words, laid-long, laid-kept, laid-secret, laid-sums, laid-held}
 use Rattle.rows.proofs.Ends.{number-names, words-below, columns-below, zeros-below}
-use Rattle.rows.proofs.Opening.{columns-long}
 use Rattle.rows.proofs.Running.{whole-front, after-kept, after-sums, after-long, Walked, walked}
-use Rattle.rows.proofs.Shown.{without, Cut, took-cut, cut-words}
+use Rattle.rows.proofs.Shown.{without, takes, Cut, took-cut, cut-words}
 
 -- ---- over any n
-
-secret-long : (k : Call) (n : ℕ) (s : List ℤ) → length s ≡ 8 * n → length (secretWords k n s) ≡ 8 * n
-secret-long Call.Offer n s l = columns-long wrap n s
-secret-long Call.Reply n s l = words-length wrap s ∙ l
 
 secret-small : (k : Call) (n : ℕ) (s : List ℤ) → Below wrap (secretWords k n s)
 secret-small Call.Offer n s = columns-below n s
 secret-small Call.Reply n s = words-below s
 
+-- what the numbers xs leave as it was, and their count
+record Gone (n call scheme : ℕ) (kept xs last : List ℕ) : Type 0 where
+  is-call : getD last 0 0 ≡ call
+  is-scheme : getD last 1 0 ≡ scheme
+  counted : taken last ≡ length xs
+  is-long : length last ≡ long n
+  kept-is : keptOf last ≡ kept
+
 module _ (k : Call) (n call scheme : ℕ) (kept held : List ℕ) (s e : List ℤ) (kl : length kept ≡ 64) (hl : length held ≡ 16 * n) (hb : Below wrap held)
     (sl : length s ≡ 8 * n) (el : length e ≡ 8 * n) where
-  abbrev fresh : List ℕ
-  fresh = laid call scheme 0 kept (secretWords k n s) (wordsOf wrap e) held
+  abbrev parts : Layout
+  parts = record { call = call; scheme = scheme; taken = 0; kept = kept; secret = secretWords k n s; sums = wordsOf wrap e; held = held }
+
+  abbrev first : List ℕ
+  first = laid parts
 
   secret-is : length (secretWords k n s) ≡ 8 * n
-  secret-is = secret-long k n s sl
+  secret-is = secret-words-long k n s sl
 
   sums-is : length (wordsOf wrap e) ≡ 8 * n
   sums-is = words-length wrap e ∙ el
 
-  fresh-long : length fresh ≡ long n
-  fresh-long = laid-long n call scheme 0 kept (secretWords k n s) (wordsOf wrap e) held kl secret-is sums-is hl
+  first-long : length first ≡ long n
+  first-long = laid-long n parts kl secret-is sums-is hl
 
-  fresh-kept : keptOf fresh ≡ kept
-  fresh-kept = laid-kept n call scheme 0 kept (secretWords k n s) (wordsOf wrap e) held kl secret-is sums-is
+  first-kept : keptOf first ≡ kept
+  first-kept = laid-kept n parts kl secret-is sums-is
 
-  fresh-secret : secretOf n fresh ≡ secretWords k n s
-  fresh-secret =
-      laid-secret n call scheme 0 kept (secretWords k n s) (wordsOf wrap e) held kl secret-is sums-is
+  first-secret : secretOf n first ≡ secretWords k n s
+  first-secret =
+      laid-secret n parts kl secret-is sums-is
       (words-pairs (secretWords k n s) (4 * n) (secret-is ∙ omega arith) (secret-small k n s))
 
-  fresh-sums : sumsOf n fresh ≡ wordsOf wrap e
-  fresh-sums =
-      laid-sums n call scheme 0 kept (secretWords k n s) (wordsOf wrap e) held kl secret-is sums-is
+  first-sums : sumsOf n first ≡ wordsOf wrap e
+  first-sums =
+      laid-sums n parts kl secret-is sums-is
       (words-pairs (wordsOf wrap e) (4 * n) (sums-is ∙ omega arith) (words-below e))
 
-  fresh-held : heldOf n fresh ≡ held
-  fresh-held = laid-held n call scheme 0 kept (secretWords k n s) (wordsOf wrap e) held kl secret-is sums-is (held-words n held hl hb)
+  first-held : heldOf n first ≡ held
+  first-held = laid-held n parts kl secret-is sums-is (held-words n held hl hb)
 
   module _ (some : 0 < n) (ps : List (List ℕ)) (r : WithinRows n 0 ps) (b : Below wrap (joined ps)) where
     abbrev last : List ℕ
-    last = steps k n fresh ps
+    last = steps k n first ps
 
-    walk : Walked k n fresh (joined ps) last
+    walk : Walked k n first (joined ps) last
     walk =
-        walked k n fresh some fresh-long ps refl (subst (λ (l : List ℕ). Below wrap l) (sym fresh-sums) (words-below e))
-        (subst (λ (l : List ℕ). Below wrap l) (sym fresh-held) hb) r b
+        walked k n first some first-long ps refl (subst (λ (l : List ℕ). Below wrap l) (sym first-sums) (words-below e))
+        (subst (λ (l : List ℕ). Below wrap l) (sym first-held) hb) r b
 
-    last-call : getD last 0 0 ≡ call
-    last-call = ap (λ (l : List ℕ). getD l 0 0) (walk .is)
-
-    last-scheme : getD last 1 0 ≡ scheme
-    last-scheme = ap (λ (l : List ℕ). getD l 1 0) (walk .is)
-
-    last-taken : taken last ≡ length (joined ps)
-    last-taken = ap taken (walk .is)
-
-    last-long : length last ≡ long n
-    last-long = ap length (walk .is) ∙ after-long k n fresh fresh-long (joined ps) (walk .held) (walk .behind .is-long)
-
-    last-kept : keptOf last ≡ kept
-    last-kept = ap keptOf (walk .is) ∙ after-kept k n fresh fresh-long (joined ps) (walk .held) ∙ fresh-kept
+    gone : Gone n call scheme kept (joined ps) last
+    gone =
+        record {
+          is-call = ap (λ (l : List ℕ). getD l 0 0) (walk .is);
+          is-scheme = ap (λ (l : List ℕ). getD l 1 0) (walk .is);
+          counted = ap taken (walk .is);
+          is-long = ap length (walk .is) ∙ after-long k n first first-long (joined ps) (walk .held) (walk .behind .is-long);
+          kept-is = ap keptOf (walk .is) ∙ after-kept k n first first-long (joined ps) (walk .held) ∙ first-kept;
+        }
 
     -- all of A has come in whole blocks
     last-sums : n % 16 ≡ 0 → length (joined ps) ≡ n * n → sumsOf n last ≡ gained wrap n (terms k n (secretWords k n s) (joined ps)) (wordsOf wrap e)
     last-sums sixteens all =
         ap (sumsOf n) (walk .is)
-        ∙ after-sums k n fresh fresh-long (joined ps) (walk .held)
-        ∙ ap (λ (l : List ℕ). gained wrap n (terms k n (secretOf n fresh) l) (sumsOf n fresh)) (whole-front n (joined ps) some sixteens all)
-        ∙ ap₂ (λ (u v : List ℕ). gained wrap n (terms k n u (joined ps)) v) fresh-secret fresh-sums
+        ∙ after-sums k n first first-long (joined ps) (walk .held)
+        ∙ ap (λ (l : List ℕ). gained wrap n (terms k n (secretOf n first) l) (sumsOf n first)) (whole-front n (joined ps) some sixteens all)
+        ∙ ap₂ (λ (u v : List ℕ). gained wrap n (terms k n u (joined ps)) v) first-secret first-sums
 
 whole : (k : Call) (n q : ℕ) (a : List ℕ) (s e : List ℤ) → 0 < n → 0 < q → wrap % q ≡ 0 → length s ≡ 8 * n → length e ≡ 8 * n
     → reduced q (gained wrap n (terms k n (secretWords k n s) a) (wordsOf wrap e)) ≡ mixed k q n a s e
@@ -130,60 +132,63 @@ pub record Left (k : Call) (c : Scheme) (kept : List ℕ) (s e : List ℤ) (xs l
   pub below : Below (fixedOf c .q) xs
   pub sums : length xs ≡ fixedOf c .public → reduced (fixedOf c .q) (sumsOf (fixedOf c .n) last) ≡ mixed k (fixedOf c .q) (fixedOf c .n) xs s e
 
--- as begin lays it
-abbrev pub begins : Call → Scheme → List ℕ → List ℤ → List ℤ → List ℕ
-begins k c kept s e = laid (tagOf k) (numberOf c) 0 kept (secretWords k (fixedOf c .n) s) (wordsOf wrap e) (replicate (16 * fixedOf c .n) 0)
+-- the state `first` is one that begin leaves
+pub record Starts (k : Call) (c : Scheme) (kept : List ℕ) (s e : List ℤ) (first : List ℕ) : Type 0 where
+  pub frodo : familyOf c ≡ Family.Frodo
+  pub kept-long : length kept ≡ 64
+  pub kept-in : keptIn k (fixedOf c .q) kept ≡ true
+  pub secret-long : length s ≡ fixedOf c .secret
+  pub noise-long : length e ≡ fixedOf c .noise
+  pub is : first ≡ laid (fresh k c kept s e)
 
-module _ (k : Call) (c : Scheme) (kept : List ℕ) (s e : List ℤ) (frodo : familyOf c ≡ Family.Frodo) (kl : length kept ≡ 64)
-    (kb : keptIn k (fixedOf c .q) kept ≡ true) (sl : length s ≡ fixedOf c .secret) (el : length e ≡ fixedOf c .noise) where
+module _ {k : Call} {c : Scheme} {kept : List ℕ} {s e : List ℤ} {first : List ℕ} (b : Starts k c kept s e first) where
   abbrev n : ℕ
   n = fixedOf c .n
 
-  abbrev zeros : List ℕ
-  zeros = replicate (16 * n) 0
+  abbrev begins : List ℕ
+  begins = laid (fresh k c kept s e)
 
-  module _ (ps : List (List ℕ)) {last : List ℕ} (cut : Cut k c (begins k c kept s e) ps last) where
-    sl' : length s ≡ 8 * n
-    sl' = sl ∙ numbers-in c frodo .secret
+  of-cut : (ps : List (List ℕ)) {last : List ℕ} → Cut k c begins ps last → Left k c kept s e (joined ps) last
+  of-cut ps cut =
+      let f = numbers-in c (b .frodo) in
+      let sl = b .secret-long ∙ f .secret in
+      let el = b .noise-long ∙ f .noise in
+      let z = length-replicate {A = ℕ} (16 * n) 0 in
+      let w = zeros-below (16 * n) in
+      let small = cut-words (b .frodo) cut in
+      let g = gone k n (tagOf k) (numberOf c) kept (replicate (16 * n) 0) s e (b .kept-long) z w sl el (f .some) ps (cut .rows) small in
+      subst (λ (l : List ℕ). Left k c kept s e (joined ps) l) (sym (cut .is))
+      (record {
+        is-named = ap frodoOf (g .is-scheme) ∙ number-names c (b .frodo);
+        counted = g .counted;
+        kept-is = g .kept-is;
+        has-begun =
+            starts k (fixedOf c) (steps k n begins ps)
+            (record {
+              is-long = g .is-long;
+              is-call = g .is-call;
+              at-most = omega (arith, g .counted, cut .few);
+              kept-in = ap (keptIn k (fixedOf c .q)) (g .kept-is) ∙ b .kept-in;
+            });
+        below = cut .below;
+        sums =
+            λ all. once k n (fixedOf c .q) (tagOf k) (numberOf c) kept (replicate (16 * n) 0) s e ps (f .some) (frodos c (b .frodo) .sixteens) (f .q-some) (f .words)
+            (all ∙ f .public) small sl el (b .kept-long) z w (cut .rows);
+      })
 
-    el' : length e ≡ 8 * n
-    el' = el ∙ numbers-in c frodo .noise
-
-    of-steps : Left k c kept s e (joined ps) (steps k n (begins k c kept s e) ps)
-    of-steps =
-        let f = numbers-in c frodo in
-        let z = length-replicate {A = ℕ} (16 * n) 0 in
-        let w = zeros-below (16 * n) in
-        let b = cut-words frodo cut in
-        let kept-same = last-kept k n (tagOf k) (numberOf c) kept zeros s e kl z w sl' el' (f .some) ps (cut .rows) b in
-        let count = last-taken k n (tagOf k) (numberOf c) kept zeros s e kl z w sl' el' (f .some) ps (cut .rows) b in
-        record {
-          is-named =
-              ap frodoOf (last-scheme k n (tagOf k) (numberOf c) kept zeros s e kl z w sl' el' (f .some) ps (cut .rows) b)
-              ∙ number-names c frodo;
-          counted = count;
-          kept-is = kept-same;
-          has-begun =
-              starts k (fixedOf c) (steps k n (begins k c kept s e) ps)
-              (record {
-                is-long = last-long k n (tagOf k) (numberOf c) kept zeros s e kl z w sl' el' (f .some) ps (cut .rows) b;
-                is-call = last-call k n (tagOf k) (numberOf c) kept zeros s e kl z w sl' el' (f .some) ps (cut .rows) b;
-                at-most = omega (arith, count, cut .few);
-                kept-in = ap (keptIn k (fixedOf c .q)) kept-same ∙ kb;
-              });
-          below = cut .below;
-          sums =
-              λ all. once k n (fixedOf c .q) (tagOf k) (numberOf c) kept zeros s e ps (f .some) (frodos c frodo .sixteens) (f .q-some) (f .words)
-              (all ∙ f .public) b sl' el' kl z w (cut .rows);
-        }
-
-    of-cut : Left k c kept s e (joined ps) last
-    of-cut = subst (λ (l : List ℕ). Left k c kept s e (joined ps) l) (sym (cut .is)) of-steps
-
-  pub left : {xs last : List ℕ} → Parts k (begins k c kept s e) xs last → Left k c kept s e xs last
+  pub left : {xs last : List ℕ} → Parts k first xs last → Left k c kept s e xs last
   left {xs} {last} parts =
-      let g = without k (begins k c kept s e) xs last parts in
-      subst (λ (l : List ℕ). Left k c kept s e l last) (g .1 .0) (of-cut (g .0) (took-cut k c (number-names c frodo) (omega arith) (g .1 .1)))
+      let g = without k begins xs last (subst (λ (l : List ℕ). Parts k l xs last) (b .is) parts) in
+      subst (λ (l : List ℕ). Left k c kept s e l last) (g .1 .0) (of-cut (g .0) (took-cut k c (number-names c (b .frodo)) (omega arith) (g .1 .1)))
+
+  -- parts that do not run past the end of their row and join into A
+  pub fill : (ps : List (List ℕ)) → WithinRows n 0 ps → Below (fixedOf c .q) (joined ps) → length (joined ps) ≡ fixedOf c .public
+      → (last : List ℕ) × Took k first ps last
+  fill ps w small all =
+      let f = numbers-in c (b .frodo) in
+      let l = left {xs = []} {last = first} Parts.none in
+      let at : WithinRows n (taken first) ps = subst (λ (i : ℕ). WithinRows n i ps) (sym (l .counted)) w in
+      takes k c first ps (l .is-named) (l .has-begun) (f .some) at small (omega (arith, all, f .public, l .counted))
 
 module _ {k : Call} {c : Scheme} {kept : List ℕ} {s e : List ℤ} {xs last : List ℕ} (frodo : familyOf c ≡ Family.Frodo) (l : Left k c kept s e xs last) where
   pub in-turn : length xs ≡ fixedOf c .public → inTurn (complete k (fixedOf c) last) ≡ Pass

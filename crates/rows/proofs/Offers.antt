@@ -1,9 +1,9 @@
 -- Offer by rows is Offer on the joined matrix: what is stated of it in specs/Shown.
 --   offer-try, same-offer, early-offer, offer-taken   what is shown
-use mathlib.Core.Path.{_≡_, refl, _∙_, sym, ap, ap₂, subst}
+use mathlib.Core.Path.{_≡_, refl, _∙_, sym, ap, ap₂}
 use mathlib.Core.Logic.{_≢_}
 use mathlib.Core.Bool.{true}
-use mathlib.Core.List.{List, [], _++_}
+use mathlib.Core.List.{List, _++_}
 use Prim.Native.Nat.{ℕ}
 use native.Mathlib.Omega.{arith}
 use lib.ListN.{length, take, replicate}
@@ -15,30 +15,30 @@ use Rattle.schemes.specs.declared.Scheme.{Scheme}
 use Rattle.lists.specs.Entries.{Below}
 use Rattle.lists.proofs.Entries.{below-zeros}
 use Rattle.packing.specs.Packing.{packed}
-use Rattle.front.specs.Front.{countIn, _then_, notBlank, secretsIn, held}
-use Rattle.front.specs.Promise.{Told, put}
+use Rattle.front.specs.Front.{numberIn, _then_, notBlank, secretsIn}
+use Rattle.front.specs.Seen.{shown, written}
 use Rattle.front.specs.declared.Verdict.{Verdict}
 use Rattle.front.specs.declared.Verdict.the-variants.{Pass, Fail}
 use Rattle.front.specs.declared.Refusal.the-variants.{OutOfTurn}
 use Rattle.front.proofs.Laws.{number-zero, both, failed, length-passes, turn-passed, below-passes, within-passes, all-pass}
-use Rattle.front.proofs.Promise.{told-passed}
 use Rattle.ends.specs.Values.{offered}
-use Rattle.ends.proofs.Numbers.{numbers-in}
 use Rattle.wire.specs.Wire.{opening}
-use Rattle.offer.specs.Offer.{Offer, offerOf, offerLengths, offerIn, offerTests, offeredPart, openingOf, offerMessage}
+use Rattle.offer.specs.Offer.{Offer, offerOf, offerTests, offeredPart, offerMessage}
+use Rattle.offer.specs.Inside.{offerLengths, offerIn}
 use Rattle.offer.proofs.Offering.{Ranges, offer-opens}
 use Rattle.running.specs.State.{long, named, keptOf, allBelow, keptIn}
-use Rattle.rows.specs.Offer.{OfferBegin, offerBeginSizes, offerBeginTests, offerState, OfferBegun, sentPart, offerEndSizes, offerEndTests, offerEndMessage}
-use Rattle.rows.specs.Runs.{Refused, Parts, joined, WithinRows, OfferAccepted}
-use Rattle.rows.specs.Shown.{OfferTry, SameOffer, EarlyOffer, OfferTaken}
+use Rattle.running.specs.Part.{stateShown}
 use Rattle.running.specs.declared.Call.{Call}
 use Rattle.running.proofs.Tests.{goes, below-all, frodos}
 use Rattle.running.proofs.Laying.{seed-kept-long}
+use Rattle.rows.specs.Offer.{OfferBegin, offerBeginTests, offerState, offerBeginResult, sentPart, offerEndTests, offerEndMessage}
+use Rattle.rows.specs.Runs.{Refused, Parts, joined, WithinRows, OfferAccepted}
+use Rattle.rows.specs.Shown.{OfferTry, SameOffer, EarlyOffer, OfferTaken}
 use Rattle.rows.proofs.Running.{unchanged}
-use Rattle.rows.proofs.Opening.{OfferSized, begin-sized, begin-done}
-use Rattle.rows.proofs.Ends.{wrote-same, wrote-none, by-frodo}
-use Rattle.rows.proofs.Shown.{took-parts, takes}
-use Rattle.rows.proofs.Fresh.{Left, begins, left, in-turn, has-all, too-early}
+use Rattle.rows.proofs.Opening.{OfferSized, begin-sized}
+use Rattle.rows.proofs.Ends.{not-refused, by-frodo}
+use Rattle.rows.proofs.Shown.{took-parts}
+use Rattle.rows.proofs.Fresh.{Starts, Left, left, fill, in-turn, has-all, too-early}
 
 -- turn, room and blank part; and of the whole call lengths, room, numbers, secrets and blank part
 chain : (i r b l p s e b' : Verdict) → i ≡ Pass → l ≡ Pass → p ≡ Pass → s ≡ Pass → e ≡ Pass → b ≡ b'
@@ -48,18 +48,20 @@ chain i Pass b l p s e b' h1 h2 h3 h4 h5 d = rw (h1, h2, h3, h4, h5) d
 chain i (Fail r) b l p s e b' h1 h2 h3 h4 h5 d = rw (h1, h2)
 
 pub offer-try : OfferTry
-offer-try st message after number place room count t h =
-    unchanged (Refused.offerEnd number place room count t h)
+offer-try st n h = unchanged (Refused.offerEnd n h)
 
 -- ---- after a good begin
 
-module _ (c : Scheme) (x : OfferBegin) (m : ℕ) (first : List ℕ) (frodo : familyOf c ≡ Family.Frodo) (bytes : Below 256 (x .seed))
-    (good : OfferBegun (Is c) x 0 0 m first) where
+module _ (c : Scheme) (x : OfferBegin) (m : ℕ) (frodo : familyOf c ≡ Family.Frodo) (bytes : Below 256 (x .seed))
+    (good : offerBeginResult (Is c) x m .number ≡ 0) where
+  abbrev first : List ℕ
+  first = offerBeginResult (Is c) x m .state
+
   abbrev kept : List ℕ
   kept = x .seed ++ replicate 48 0
 
   passes : offerBeginTests (Is c) x m ≡ Pass
-  passes = number-zero _ (good .told .refusal)
+  passes = not-refused _ _ good .0
 
   sized : OfferSized c x m
   sized = begin-sized c x m passes
@@ -75,32 +77,35 @@ module _ (c : Scheme) (x : OfferBegin) (m : ℕ) (first : List ℕ) (frodo : fam
   seed-is : length (x .seed) ≡ 16
   seed-is = sized .seed ∙ frodos c frodo .seed
 
-  kept-is : length kept ≡ 64
-  kept-is = seed-kept-long (x .seed) seed-is
-
   kept-in : keptIn Call.Offer (fixedOf c .q) kept ≡ true
   kept-in =
       sym
       (goes (ap (allBelow 256) (take-at (x .seed) (replicate 48 0) 16 seed-is) ∙ below-all 256 (x .seed) bytes)
       (sym (ap (allBelow 1) (drop-at (x .seed) (replicate 48 0) 16 seed-is) ∙ below-all 1 (replicate 48 0) (below-zeros 48 (omega arith)))))
 
-  first-is : first ≡ begins Call.Offer c kept (x .s) (x .e)
+  begins : Starts Call.Offer c kept (x .s) (x .e) first
   unfolding offerState
-  first-is = good .state ∙ ap (λ (v : Verdict). put v (offerState (Is c) x) (replicate m 0)) passes
+  begins =
+      record {
+        frodo = frodo;
+        kept-long = seed-kept-long (x .seed) seed-is;
+        kept-in = kept-in;
+        secret-long = sized .secret;
+        noise-long = sized .noise;
+        is = not-refused (offerState (Is c) x) (replicate m 0) good .1;
+      }
 
   -- ---- and any parts
 
   module _ (a last : List ℕ) (parts : Parts Call.Offer first a last) where
     walk : Left Call.Offer c kept (x .s) (x .e) a last
-    walk =
-        left Call.Offer c kept (x .s) (x .e) frodo kept-is kept-in (sized .secret) (sized .noise)
-        (subst (λ (st : List ℕ). Parts Call.Offer st a last) first-is parts)
+    walk = left begins parts
 
     last-seed : take 16 (keptOf last) ≡ x .seed
     last-seed = ap (take 16) (walk .kept-is) ∙ take-at (x .seed) (replicate 48 0) 16 seed-is
 
     early : (n : ℕ) → length a ≢ fixedOf c .public → offerEndTests (named last) last n ≡ Fail OutOfTurn
-    unfolding offerEndTests offerEndSizes
+    unfolding offerEndTests
     early n h = ap (λ d. offerEndTests d last n) (walk .is-named) ∙ failed _ refl (failed _ refl (too-early frodo walk h))
 
     -- ---- all of A has come
@@ -119,38 +124,41 @@ module _ (c : Scheme) (x : OfferBegin) (m : ℕ) (first : List ℕ) (frodo : fam
           all-pass (all-pass (all-pass (length-passes all) (length-passes (sized .secret))) (length-passes (sized .noise))) (length-passes (sized .seed))
 
       same-tests : (n : ℕ) → offerEndTests (named last) last n ≡ offerTests (Is c) whole n
-      unfolding offerEndTests offerEndSizes offerTests offerIn
+      unfolding offerEndTests offerTests offerLengths
       same-tests n =
           ap (λ d. offerEndTests d last n) (walk .is-named)
-          ∙ chain _ _ _ _ _ _ _ _ (in-turn frodo walk all) lengths (below-passes (walk .below)) secret-in noise-in (ap notBlank sent)
+          ∙ chain _ _ _ (offerLengths c whole) _ _ _ _ (in-turn frodo walk all) lengths (below-passes (walk .below)) secret-in noise-in (ap notBlank sent)
 
       same-message : offerEndMessage (named last) last ≡ offerMessage (Is c) whole
-      unfolding offerEndMessage offerMessage openingOf
+      unfolding offerEndMessage offerMessage
       same-message = ap (λ d. offerEndMessage d last) (walk .is-named) ∙ ap₂ (opening c) last-seed sent
 
 -- ---- what is shown
 
 pub same-offer : SameOffer
-same-offer c x a message number place room count frodo bytes r all =
-    let s = same-tests c x (r .stateRoom) (r .first) frodo bytes (r .begins) a (r .last) (r .parts) all room in
-    record {
-      told = subst (λ (v : Verdict). Told v number place) s (r .ends .told);
-      messages = wrote-same s (same-message c x (r .stateRoom) (r .first) frodo bytes (r .begins) a (r .last) (r .parts) all) (r .ends .messages);
-    }
+same-offer c x a n t frodo bytes r all =
+    r .ends
+    ∙ ap₂ (λ (v : Verdict) (xs : List ℕ). shown v xs 0 n) (same-tests c x (r .stateRoom) frodo bytes (r .begins) a (r .last) (r .parts) all n)
+    (same-message c x (r .stateRoom) frodo bytes (r .begins) a (r .last) (r .parts) all)
 
 pub early-offer : EarlyOffer
-early-offer c x a message number place room count frodo bytes r some =
-    let t = early c x (r .stateRoom) (r .first) frodo bytes (r .begins) a (r .last) (r .parts) room some in
-    (subst (λ (v : Verdict). Told v number place) t (r .ends .told), wrote-none t (r .ends .messages))
+unfolding shown written
+early-offer c x a n t frodo bytes r some =
+    r .ends
+    ∙ ap (λ (v : Verdict). shown v (offerEndMessage (named (r .last)) (r .last)) 0 n)
+    (early c x (r .stateRoom) frodo bytes (r .begins) a (r .last) (r .parts) n some)
 
 -- ---- nothing is refused
 
-module _ (c : Scheme) (x : OfferBegin) (ps : List (List ℕ)) (room : ℕ) (frodo : familyOf c ≡ Family.Frodo) (bytes : Below 256 (x .seed)) where
+module _ (c : Scheme) (x : OfferBegin) (ps : List (List ℕ)) (n : ℕ) (frodo : familyOf c ≡ Family.Frodo) (bytes : Below 256 (x .seed)) where
   abbrev joint : Offer
   joint = offerOf (joined ps) (x .s) (x .e) (x .seed)
 
-  begin-passes : Ranges c joint → offerBeginTests (Is c) x (long (fixedOf c .n)) ≡ Pass
-  unfolding offerBeginTests offerBeginSizes
+  abbrev size : ℕ
+  size = long (fixedOf c .n)
+
+  begin-passes : Ranges c joint → offerBeginTests (Is c) x size ≡ Pass
+  unfolding offerBeginTests
   begin-passes r =
       all-pass
       (all-pass
@@ -158,43 +166,32 @@ module _ (c : Scheme) (x : OfferBegin) (ps : List (List ℕ)) (room : ℕ) (frod
       (within-passes (r .secret .within)))
       (within-passes (r .noise .within))
 
-  by-parts : offerTests (Is c) joint room ≡ Pass → WithinRows (fixedOf c .n) 0 ps → OfferAccepted c x ps room
-  unfolding offerTests offerState
+  ranges : offerTests (Is c) joint n ≡ Pass → Ranges c joint
+  unfolding offerTests offerIn offerLengths
+  ranges t = offer-opens c joint n (both _ _ t .0) .0
+
+  by-parts : offerTests (Is c) joint n ≡ Pass → WithinRows (fixedOf c .n) 0 ps → OfferAccepted c x ps n
+  unfolding stateShown shown
   by-parts t w =
-      let num = numbers-in c frodo in
-      let ranges = offer-opens c joint room (both _ _ t .0) .0 in
-      let m = long (fixedOf c .n) in
-      let first = offerState (Is c) x in
-      let good : OfferBegun (Is c) x 0 0 m first = begin-done (begin-passes ranges) refl in
-      let w0 = walk c x m first frodo bytes good [] first Parts.none in
-      let all = ranges .public .long in
-      let o =
-      takes Call.Offer c first ps (w0 .is-named) (w0 .has-begun) (num .some) w (ranges .public .below) (omega (arith, all, num .public))
-      in
-      let last = o .0 in
-      let v = offerEndTests (named last) last room in
-      let e : v ≡ Pass = same-tests c x m first frodo bytes good (joined ps) last (took-parts (o .1)) all room ∙ t in
+      let g : offerBeginResult (Is c) x size .number ≡ 0 = ap numberIn (begin-passes (ranges t)) in
+      let all = ranges t .public .long in
+      let o = fill (begins c x size frodo bytes g) ps w (ranges t .public .below) all in
       record {
-        first = first;
-        begins = good;
-        last = last;
+        begins = g;
+        last = o .0;
         parts = o .1;
-        messageWritten = countIn v (length (offerEndMessage (named last) last));
-        message = held v (offerEndMessage (named last) last) room 0;
-        after = put v (replicate (length last) 0) last;
-        ends = record { told = told-passed e; messages = record { counts = refl; holds = refl }; state = refl };
+        ends = ap numberIn (same-tests c x size frodo bytes g (joined ps) (o .0) (took-parts (o .1)) all n ∙ t);
       }
 
-  as-whole : OfferAccepted c x ps room → offerTests (Is c) joint room ≡ Pass
-  unfolding offerEndTests offerEndSizes
+  as-whole : OfferAccepted c x ps n → offerTests (Is c) joint n ≡ Pass
+  unfolding offerEndTests shown
   as-whole a =
-      let m = long (fixedOf c .n) in
       let p = took-parts (a .parts) in
-      let z : offerEndTests (named (a .last)) (a .last) room ≡ Pass = number-zero _ (a .ends .told .refusal) in
-      let l = walk c x m (a .first) frodo bytes (a .begins) (joined ps) (a .last) p in
-      let o = both _ _ (sym (ap (λ d. offerEndTests d (a .last) room) (l .is-named)) ∙ z) in
+      let z : offerEndTests (named (a .last)) (a .last) n ≡ Pass = number-zero _ (sym (a .ends)) in
+      let l = walk c x size frodo bytes (a .begins) (joined ps) (a .last) p in
+      let o = both _ _ (sym (ap (λ d. offerEndTests d (a .last) n) (l .is-named)) ∙ z) in
       let all = has-all frodo l (turn-passed _ (both _ _ (o .0) .0)) in
-      sym (same-tests c x m (a .first) frodo bytes (a .begins) (joined ps) (a .last) p all room) ∙ z
+      sym (same-tests c x size frodo bytes (a .begins) (joined ps) (a .last) p all n) ∙ z
 
 pub offer-taken : OfferTaken
-offer-taken c x ps room frodo bytes w = (λ t. by-parts c x ps room frodo bytes t w, as-whole c x ps room frodo bytes)
+offer-taken c x ps n frodo bytes w = (λ t. by-parts c x ps n frodo bytes t w, as-whole c x ps n frodo bytes)

@@ -14,7 +14,7 @@ use mathlib.Core.List.{List, [], _∷_, _++_, append-assoc, append-nil}
 use Prim.Native.Nat.{ℕ, _+_, _*_, _-_, _/_, _%_, _≤_, _<_}
 use native.Mathlib.Omega.{arith}
 use native.Mathlib.Nat.{zero-mod, div-mul-le-self}
-use lib.ListN.{length, getD, take, drop, length-append, length-take, length-drop, take-append-drop, drop-of-length-le}
+use lib.ListN.{length, take, drop, length-append, length-take, length-drop, take-append-drop, drop-of-length-le}
 use lib.Seq.{take-at, take-all, take-nil, drop-nil, take-append-le, drop-append-le, length-take-le}
 use Rattle.lists.specs.Entries.{Below}
 use Rattle.lists.proofs.Parts.{below-drop, below-take}
@@ -24,35 +24,37 @@ use Rattle.parts.specs.Parts.{wrap, words, pairs, placed}
 use Rattle.parts.proofs.Joining.{append-at, placed-in, so-far, nothing}
 use Rattle.parts.proofs.Words.{append-below}
 use Rattle.front.specs.Front.{numberIn}
-use Rattle.front.specs.Promise.{put}
+use Rattle.front.specs.Seen.{ifPassed, shown}
 use Rattle.front.specs.declared.Verdict.{Verdict}
 use Rattle.front.specs.declared.Verdict.the-variants.{Pass, Fail}
-use Rattle.running.specs.State.{long, named, taken, keptOf, secretOf, sumsOf, heldOf, laid, terms, fills, heldWith, sumsWith, stepped}
-use Rattle.running.specs.Part.{partTests}
+use Rattle.reply.specs.Reply.{outputs}
+use Rattle.running.specs.State.{long, named, taken, keptOf, secretOf, sumsOf, heldOf, laid, onward, terms, fills, heldWith, sumsWith, stepped}
+use Rattle.running.specs.Part.{stateShown, partTests}
 use Rattle.rows.specs.Offer.{offerEndTests}
 use Rattle.rows.specs.Reply.{replyEndTests}
 use Rattle.rows.specs.Runs.{Refused, joined, steps, WithinRows}
 use Rattle.rows.specs.Shown.{blocks}
 use Rattle.running.specs.declared.Call.{Call}
 use Rattle.running.proofs.Filling.{fills-up, holds-back, held-div, held-mod, filled-div, filled-mod, start-is, whole-blocks}
-use Rattle.running.proofs.Laying.{apart, kept-long, secret-long, sums-long, held-long, again-words, made-words, held-words, laid-long, laid-kept, laid-secret, laid-sums, laid-held}
+use Rattle.running.proofs.Laying.{apart, kept-long, secret-long, sums-long, held-long, again-words, made-words, held-words, laid-long, laid-kept, laid-secret, laid-sums, laid-held, laid-ext}
 use Rattle.running.proofs.Taking.{linear}
 
-pub kept-still : {A : Type 0} (v : Verdict) (x old : List A) {number : ℕ} → number ≡ numberIn v → 0 < number → put v x old ≡ old
-kept-still Pass x old e h = absurd (omega arith)
-kept-still (Fail r) x old e h = refl
+pub kept-still : {A : Type 0} (v : Verdict) (x old : A) → 0 < numberIn v → ifPassed v x old ≡ old
+kept-still Pass x old h = absurd (omega arith)
+kept-still (Fail r) x old h = refl
 
 pub unchanged : {st after : List ℕ} → Refused st after → after ≡ st
-unchanged {st} (Refused.part k p number place t h) = t .state ∙ kept-still (partTests k (named st) st p) _ st (t .told .refusal) h
-unchanged {st} (Refused.offerEnd number place room count t h) = t .state ∙ kept-still (offerEndTests (named st) st room) _ st (t .told .refusal) h
-unchanged {st} (Refused.replyEnd number place n m k l d e t h) = t .state ∙ kept-still (replyEndTests (named st) st n k d) _ st (t .told .refusal) h
+unfolding stateShown shown outputs
+unchanged {st} (Refused.part k p h) = kept-still (partTests k (named st) st p) _ st h
+unchanged {st} (Refused.offerEnd n h) = kept-still (offerEndTests (named st) st n) _ st h
+unchanged {st} (Refused.replyEnd m h) = kept-still (replyEndTests (named st) st m) _ st h
 
 module _ (k : Call) (n : ℕ) (st : List ℕ) where
   abbrev pub sums : List ℕ → List ℕ
   sums xs = gained wrap n (terms k n (secretOf n st) (take (blocks n xs) xs)) (sumsOf n st)
 
   abbrev pub after : List ℕ → List ℕ → List ℕ
-  after xs held = laid (getD st 0 0) (getD st 1 0) (length xs) (keptOf st) (secretOf n st) (sums xs) held
+  after xs held = laid (onward n st (length xs) (sums xs) held)
 
   module _ (l : length st ≡ long n) where
     sums-wide : (xs : List ℕ) → length (sums xs) ≡ 8 * n
@@ -61,30 +63,30 @@ module _ (k : Call) (n : ℕ) (st : List ℕ) where
     module _ (xs held : List ℕ) where
       pub after-kept : keptOf (after xs held) ≡ keptOf st
       after-kept =
-          laid-kept n (getD st 0 0) (getD st 1 0) (length xs) (keptOf st) (secretOf n st) (sums xs) held (kept-long n st l) (secret-long n st l) (sums-wide xs)
+          laid-kept n (onward n st (length xs) (sums xs) held) (kept-long n st l) (secret-long n st l) (sums-wide xs)
 
       after-secret : secretOf n (after xs held) ≡ secretOf n st
       after-secret =
-          laid-secret n (getD st 0 0) (getD st 1 0) (length xs) (keptOf st) (secretOf n st) (sums xs) held (kept-long n st l) (secret-long n st l) (sums-wide xs)
+          laid-secret n (onward n st (length xs) (sums xs) held) (kept-long n st l) (secret-long n st l) (sums-wide xs)
           (again-words _)
 
       pub after-sums : sumsOf n (after xs held) ≡ sums xs
       after-sums =
-          laid-sums n (getD st 0 0) (getD st 1 0) (length xs) (keptOf st) (secretOf n st) (sums xs) held (kept-long n st l) (secret-long n st l) (sums-wide xs)
+          laid-sums n (onward n st (length xs) (sums xs) held) (kept-long n st l) (secret-long n st l) (sums-wide xs)
           (made-words n n _ (sumsOf n st) (sums-long n st l))
 
       pub after-held : words (pairs held) ≡ held → heldOf n (after xs held) ≡ held
       after-held =
-          laid-held n (getD st 0 0) (getD st 1 0) (length xs) (keptOf st) (secretOf n st) (sums xs) held (kept-long n st l) (secret-long n st l) (sums-wide xs)
+          laid-held n (onward n st (length xs) (sums xs) held) (kept-long n st l) (secret-long n st l) (sums-wide xs)
 
       pub after-long : length held ≡ 16 * n → length (after xs held) ≡ long n
       after-long =
-          laid-long n (getD st 0 0) (getD st 1 0) (length xs) (keptOf st) (secretOf n st) (sums xs) held (kept-long n st l) (secret-long n st l) (sums-wide xs)
+          laid-long n (onward n st (length xs) (sums xs) held) (kept-long n st l) (secret-long n st l) (sums-wide xs)
 
     pub after-none : taken st ≡ 0 → Below wrap (sumsOf n st) → after [] (heldOf n st) ≡ st
     unfolding placed
     after-none t b =
-        ap₂ (λ (c : ℕ) (s : List ℕ). laid (getD st 0 0) (getD st 1 0) c (keptOf st) (secretOf n st) s (heldOf n st)) (sym t)
+        ap₂ (λ (c : ℕ) (s : List ℕ). laid (onward n st c s (heldOf n st))) (sym t)
         (ap (λ (x : List ℕ). gained wrap n (terms k n (secretOf n st) x) (sumsOf n st)) (take-nil (blocks n []))
         ∙ nothing wrap n _ (linear k n (secretOf n st)) 0 (sumsOf n st) b)
         ∙ sym (apart n st l)
@@ -184,14 +186,9 @@ module _ (k : Call) (n : ℕ) (st : List ℕ) (l : length st ≡ long n) (xs p h
   abbrev T : List ℕ → ℕ → ℕ → ℕ
   T = terms k n (secretOf n st)
 
-  step-of : (s h : List ℕ) → sumsWith k n now p ≡ s → heldWith n now p ≡ h
-      → stepped k n now p ≡ laid (getD st 0 0) (getD st 1 0) (length (xs ++ p)) (keptOf st) (secretOf n st) s h
+  step-of : (s h : List ℕ) → sumsWith k n now p ≡ s → heldWith n now p ≡ h → stepped k n now p ≡ laid (onward n st (length (xs ++ p)) s h)
   unfolding stepped
-  step-of s h d e =
-      ap (λ (x : List ℕ). laid (getD st 0 0) (getD st 1 0) (length xs + length p) x (secretOf n now) (sumsWith k n now p) (heldWith n now p)) (after-kept k n st l xs held)
-      ∙ ap (λ (x : List ℕ). laid (getD st 0 0) (getD st 1 0) (length xs + length p) (keptOf st) x (sumsWith k n now p) (heldWith n now p)) (after-secret k n st l xs held)
-      ∙ ap₂ (λ (x y : List ℕ). laid (getD st 0 0) (getD st 1 0) (length xs + length p) (keptOf st) (secretOf n st) x y) d e
-      ∙ ap (λ (t : ℕ). laid (getD st 0 0) (getD st 1 0) t (keptOf st) (secretOf n st) s h) (sym (length-append xs p))
+  step-of s h d e = laid-ext (sym (length-append xs p)) (after-kept k n st l xs held) (after-secret k n st l xs held) d e
 
   with-is : Behind n xs held → heldWith n now p ≡ take (length xs % (16 * n)) held ++ (p ++ drop (length xs % (16 * n) + length p) held)
   unfolding heldWith

@@ -1,10 +1,9 @@
--- What is shown of parts and states: one result each, joining, empty and refused parts, and what any parts leave.
+-- What is shown of parts and states: joining, empty and refused parts, and what any parts leave.
 --   took-parts       accepted parts are parts
 --   takes            parts that do not run past the end of their row, nor past the last row, are accepted where their numbers are in range
 --   without          the run without what was refused
 --   Cut, took-cut    accepted parts: what they leave, and that none runs past the end of its row or past the last row
---   one-part, one-offer-begin, one-offer-end, one-reply-begin, one-reply-end, frodos-are, allowed, joining, empty-part, again, running   what is
---                    shown
+--   frodos-are, allowed, joining, empty-part, again, running   what is shown
 use mathlib.Core.Path.{_≡_, refl, _∙_, sym, ap, ap₂, subst}
 use mathlib.Core.Bool.{Bool, true, false, cond}
 use mathlib.Core.List.{List, [], _∷_, _++_, append-assoc, append-nil}
@@ -28,53 +27,22 @@ use Rattle.matrix.proofs.Steps.{gained-length}
 use Rattle.parts.specs.Parts.{wrap, words, pairs, placed}
 use Rattle.parts.proofs.Words.{words-below, append-below}
 use Rattle.ends.proofs.Numbers.{numbers-in}
-use Rattle.front.specs.Front.{numberIn, placeIn}
-use Rattle.front.specs.Promise.{put}
+use Rattle.front.specs.Front.{numberIn}
+use Rattle.front.specs.Seen.{ifPassed}
 use Rattle.front.specs.declared.Verdict.{Verdict}
 use Rattle.front.specs.declared.Verdict.the-variants.{Pass, Fail}
-use Rattle.front.proofs.Laws.{some, differ, number-zero, both, turn-passed, publics-passed, turn-passes, below-passes, all-pass}
-use Rattle.front.proofs.Promise.{told-only, wrote-only, same-refusal, same-answer}
-use Rattle.exchange.proofs.Shown.{same-reply}
-use Rattle.running.specs.State.{frodoIn, named, taken, keptOf, secretOf, sumsOf, heldOf, laid, _and_, keptIn, begun, terms, fills, heldWith, sumsWith, stepped}
-use Rattle.running.specs.Part.{partIn, partTests, partState, Taken}
-use Rattle.rows.specs.Runs.{Refused, Parts, joined, Took, Good, steps, WithinRows}
-use Rattle.rows.specs.Shown.{OnePart, OneOfferBegin, OneOfferEnd, OneReplyBegin, OneReplyEnd, Frodos, Allowed, Joining, Empty, Again, Running}
+use Rattle.front.proofs.Laws.{differ, both, turn-passed, publics-passed, turn-passes, below-passes, all-pass}
+use Rattle.running.specs.State.{frodoIn, named, taken, keptOf, secretOf, sumsOf, heldOf, Layout, laid, onward, _and_, keptIn, begun, terms, fills, heldWith, sumsWith, stepped}
+use Rattle.running.specs.Part.{StateSeen, stateShown, stateSeen, partTests, partState, partResult}
+use Rattle.rows.specs.Runs.{Accepts, next, Refused, Parts, joined, Took, Good, steps, WithinRows}
+use Rattle.rows.specs.Shown.{Frodos, Allowed, Joining, Empty, Again, Running}
 use Rattle.running.specs.declared.Call.{Call}
 use Rattle.running.proofs.Tests.{stops, goes, passed, started, starts, Fits, fits, fits-so, frodo-in, frodo-named}
 use Rattle.running.proofs.Filling.{block-fits, fills-up, held-mod}
-use Rattle.running.proofs.Laying.{apart, kept-long, secret-long, sums-long, held-long, again-words, made-words, held-words, with-below, laid-long, laid-kept, laid-secret, laid-sums, laid-held}
+use Rattle.running.proofs.Laying.{apart, kept-long, secret-long, sums-long, held-long, again-words, made-words, held-words, with-below, laid-long, laid-kept, laid-secret, laid-sums, laid-held, laid-ext}
 use Rattle.running.proofs.Turns.{part-known}
-use Rattle.rows.proofs.Ends.{by-frodo}
+use Rattle.rows.proofs.Ends.{not-refused, by-frodo}
 use Rattle.rows.proofs.Running.{unchanged, below-front, below-behind, after-sums, after-held, Walked, walked}
-
-same-verdict : (v w : Verdict) → numberIn v ≡ numberIn w → placeIn v ≡ placeIn w → v ≡ w
-same-verdict Pass Pass e f = refl
-same-verdict Pass (Fail s) e f = absurd (omega (arith, some s))
-same-verdict (Fail r) Pass e f = absurd (omega (arith, some r))
-same-verdict (Fail r) (Fail s) e f = ap Fail (same-refusal r s e f)
-
-pub one-part : OnePart
-one-part k st p r r′ after after′ a b = let t = told-only (a .told) (b .told) in (same-verdict r r′ (t .0) (t .1), a .state ∙ sym (b .state))
-
-pub one-offer-begin : OneOfferBegin
-one-offer-begin c x m r r′ after after′ a b = let t = told-only (a .told) (b .told) in (same-verdict r r′ (t .0) (t .1), a .state ∙ sym (b .state))
-
-pub one-reply-begin : OneReplyBegin
-one-reply-begin c x m r r′ after after′ a b = let t = told-only (a .told) (b .told) in (same-verdict r r′ (t .0) (t .1), a .state ∙ sym (b .state))
-
-pub one-offer-end : OneOfferEnd
-one-offer-end st n r r′ message message′ after after′ a b =
-    let t = told-only (a .told) (b .told) in
-    let w = wrote-only (a .messages) (b .messages) in
-    (same-answer r r′ (t .0) (t .1) (w .0), w .1, a .state ∙ sym (b .state))
-
-pub one-reply-end : OneReplyEnd
-one-reply-end st n k d r r′ message message′ key key′ digest digest′ after after′ a b =
-    let t = told-only (a .told) (b .told) in
-    let w = wrote-only (a .messages) (b .messages) in
-    let u = wrote-only (a .keys) (b .keys) in
-    let v = wrote-only (a .digests) (b .digests) in
-    (same-reply r r′ (t .0) (t .1) (w .0) (u .0) (v .0), w .1, u .1, v .1, a .state ∙ sym (b .state))
 
 -- ---- the state
 
@@ -86,41 +54,48 @@ allowed n = omega arith
 
 -- ---- accepted parts
 
+accepted : (k : Call) (st p : List ℕ) → Accepts k st p → partTests k (named st) st p ≡ Pass
+accepted k st p t = not-refused _ _ t .0
+
 -- what a part that is not refused says of the state before it and after it
-record Good-part (k : Call) (c : Scheme) (st p after : List ℕ) : Type 0 where
+record Good-part (k : Call) (c : Scheme) (st p : List ℕ) : Type 0 where
   has-begun : begun k (fixedOf c) st ≡ true
   fit : Fits (fixedOf c .n) (taken st) (length p)
   below : Below (fixedOf c .q) p
-  is : after ≡ stepped k (fixedOf c .n) st p
+  is : next k st p ≡ stepped k (fixedOf c .n) st p
 
 -- it names a scheme
-scheme-named : (k : Call) (st p after : List ℕ) {place : ℕ} → Taken k st p 0 place after → (c : Scheme) × (named st ≡ Is c)
+scheme-named : (k : Call) (st p : List ℕ) → Accepts k st p → (c : Scheme) × (named st ≡ Is c)
 unfolding partTests
-scheme-named k st p after t = go (named st) refl
+scheme-named k st p t = go (named st) refl
   where
     go : (x : Named) → named st ≡ x → (c : Scheme) × (named st ≡ Is c)
-    go Unknown e = differ (sym (ap (λ y. partTests k y st p) e) ∙ number-zero _ (t .told .refusal))
+    go Unknown e = differ (sym (ap (λ y. partTests k y st p) e) ∙ accepted k st p t)
     go (Is c) e = (c, e)
 
-good-part : (k : Call) (c : Scheme) (st p after : List ℕ) {place : ℕ} → named st ≡ Is c → Taken k st p 0 place after → Good-part k c st p after
-unfolding partTests partIn partState
-good-part k c st p after e t =
-    let z : partTests k (named st) st p ≡ Pass = number-zero _ (t .told .refusal) in
+good-part : (k : Call) (c : Scheme) (st p : List ℕ) → named st ≡ Is c → Accepts k st p → Good-part k c st p
+unfolding partTests partState stateShown
+good-part k c st p e t =
+    let z = accepted k st p t in
     let o = both _ _ (sym (ap (λ y. partTests k y st p) e) ∙ z) in
     let b = passed _ _ (turn-passed _ (o .0)) in
     record {
       has-begun = b .0;
       fit = fits (fixedOf c .n) (taken st) (length p) (b .1);
       below = publics-passed _ p (omega (arith, sound c .some)) (o .1);
-      is = t .state ∙ ap (λ v. put v (partState k (named st) st p) st) z ∙ ap (λ y. partState k y st p) e;
+      is = ap (λ v. ifPassed v (partState k (named st) st p) st) z ∙ ap (λ y. partState k y st p) e;
     }
 
 -- and back
 part-good : (k : Call) (c : Scheme) (st p : List ℕ) → named st ≡ Is c → begun k (fixedOf c) st ≡ true → Fits (fixedOf c .n) (taken st) (length p)
-    → Below (fixedOf c .q) p → Taken k st p 0 0 (stepped k (fixedOf c .n) st p)
-unfolding partIn
+    → Below (fixedOf c .q) p → stateSeen Pass (stepped k (fixedOf c .n) st p) ≡ partResult k st p
+unfolding partTests
 part-good k c st p e b f l =
-    part-known k st p c {r = Pass} e (sym (all-pass (turn-passes (sym (goes b (sym (fits-so (fixedOf c .n) (taken st) (length p) f))))) (below-passes l))) refl
+    part-known k st p c e (sym (all-pass (turn-passes (sym (goes b (sym (fits-so (fixedOf c .n) (taken st) (length p) f))))) (below-passes l))) refl
+
+part-goes : (k : Call) (st p : List ℕ) {after : List ℕ} → stateSeen Pass after ≡ partResult k st p → Accepts k st p × (next k st p ≡ after)
+unfolding stateSeen
+part-goes k st p e = (sym (ap (λ (s : StateSeen). s .number) e), sym (ap (λ (s : StateSeen). s .state) e))
 
 either : {A : Type 0} (P : A → Type 0) (t : Bool) (x y : A) → P x → P y → P (cond t x y)
 either P true x y a b = a
@@ -158,28 +133,31 @@ module _ (k : Call) (c : Scheme) (st : List ℕ) (b : begun k (fixedOf c) st ≡
     unfolding heldWith
     held-wide = simp (length-append, length-take, length-drop) (omega (arith, in-block, held-long n st long-is))
 
+    abbrev ahead : Layout
+    ahead = onward n st (taken st + length p) (sumsWith k n st p) (heldWith n st p)
+
     step-kept : keptOf (stepped k n st p) ≡ keptOf st
     unfolding stepped
     step-kept =
-        laid-kept n (getD st 0 0) (getD st 1 0) (taken st + length p) (keptOf st) (secretOf n st) (sumsWith k n st p) (heldWith n st p) (kept-long n st long-is)
+        laid-kept n ahead (kept-long n st long-is)
         (secret-long n st long-is) sums-wide
 
     step-secret : secretOf n (stepped k n st p) ≡ secretOf n st
     unfolding stepped
     step-secret =
-        laid-secret n (getD st 0 0) (getD st 1 0) (taken st + length p) (keptOf st) (secretOf n st) (sumsWith k n st p) (heldWith n st p) (kept-long n st long-is)
+        laid-secret n ahead (kept-long n st long-is)
         (secret-long n st long-is) sums-wide (again-words _)
 
     step-sums : sumsOf n (stepped k n st p) ≡ sumsWith k n st p
     unfolding stepped
     step-sums =
-        laid-sums n (getD st 0 0) (getD st 1 0) (taken st + length p) (keptOf st) (secretOf n st) (sumsWith k n st p) (heldWith n st p) (kept-long n st long-is)
+        laid-sums n ahead (kept-long n st long-is)
         (secret-long n st long-is) sums-wide sums-words
 
     step-held : Below (wrap * wrap) st → Below wrap p → heldOf n (stepped k n st p) ≡ heldWith n st p
     unfolding stepped
     step-held w l =
-        laid-held n (getD st 0 0) (getD st 1 0) (taken st + length p) (keptOf st) (secretOf n st) (sumsWith k n st p) (heldWith n st p) (kept-long n st long-is)
+        laid-held n ahead (kept-long n st long-is)
         (secret-long n st long-is) sums-wide (held-words n (heldWith n st p) held-wide (with-below n st p w l))
 
     step-begun : begun k (fixedOf c) (stepped k n st p) ≡ true
@@ -188,7 +166,7 @@ module _ (k : Call) (c : Scheme) (st : List ℕ) (b : begun k (fixedOf c) st ≡
         starts k (fixedOf c) (stepped k n st p)
         (record {
           is-long =
-              laid-long n (getD st 0 0) (getD st 1 0) (taken st + length p) (keptOf st) (secretOf n st) (sumsWith k n st p) (heldWith n st p) (kept-long n st long-is)
+              laid-long n ahead (kept-long n st long-is)
               (secret-long n st long-is) sums-wide held-wide;
           is-call = started k (fixedOf c) st b .is-call;
           at-most = f .in-all;
@@ -207,7 +185,7 @@ none k c st b =
     ap (λ (j : ℕ). take (taken st % (16 * n)) (heldOf n st) ++ drop j (heldOf n st)) d ∙ take-append-drop (taken st % (16 * n)) (heldOf n st)
     in
     rw (sym z, o)
-    (ap (λ (l : List ℕ). laid (getD st 0 0) (getD st 1 0) (taken st) (keptOf st) (secretOf n st) (sumsOf n st) l) h
+    (ap (λ (l : List ℕ). laid (onward n st (taken st) (sumsOf n st) l)) h
     ∙ sym (apart n st (started k (fixedOf c) st b .is-long)))
 
 -- ---- part after part
@@ -251,20 +229,20 @@ module _ (k : Call) (c : Scheme) (st : List ℕ) (b : begun k (fixedOf c) st ≡
           let v = block-fits (fixedOf c .n) (taken st) (length p + length p') some (f .in-row) in
           absurd (omega (arith, u, v))
 
-  abbrev next : List ℕ
-  next = stepped k (fixedOf c .n) st p
+  abbrev ahead-one : List ℕ
+  ahead-one = stepped k (fixedOf c .n) st p
 
   same-fills : fills (fixedOf c .n) (taken st + length p) (length p') ≡ fills (fixedOf c .n) (taken st) (length (p ++ p'))
   same-fills = fills-same (fixedOf c .n) (taken st) (length p) (length p') more ∙ ap (fills (fixedOf c .n) (taken st)) (sym (length-append p p'))
 
-  next-sums : sumsOf (fixedOf c .n) next ≡ sumsOf (fixedOf c .n) st
+  next-sums : sumsOf (fixedOf c .n) ahead-one ≡ sumsOf (fixedOf c .n) st
   unfolding sumsWith
   next-sums = step-sums k c st b some p first-fits ∙ rw not-yet refl
 
-  next-held : heldOf (fixedOf c .n) next ≡ heldWith (fixedOf c .n) st p
+  next-held : heldOf (fixedOf c .n) ahead-one ≡ heldWith (fixedOf c .n) st p
   next-held = step-held k c st b some p first-fits w l
 
-  with-join : heldWith (fixedOf c .n) next p' ≡ heldWith (fixedOf c .n) st (p ++ p')
+  with-join : heldWith (fixedOf c .n) ahead-one p' ≡ heldWith (fixedOf c .n) st (p ++ p')
   unfolding heldWith stepped
   with-join =
       let n = fixedOf c .n in
@@ -276,12 +254,12 @@ module _ (k : Call) (c : Scheme) (st : List ℕ) (b : begun k (fixedOf c) st ≡
   last-at : taken st + length p + length p' ≡ taken st + length (p ++ p')
   last-at = omega (arith, length-append p p')
 
-  sums-join : sumsWith k (fixedOf c .n) next p' ≡ sumsWith k (fixedOf c .n) st (p ++ p')
+  sums-join : sumsWith k (fixedOf c .n) ahead-one p' ≡ sumsWith k (fixedOf c .n) st (p ++ p')
   unfolding sumsWith stepped
   sums-join =
       let n = fixedOf c .n in
       ap₂ (λ (x y : List ℕ). cond (fills n (taken st + length p) (length p'))
-      (gained wrap n (terms k n x (placed (taken st + length p + length p' - 16 * n) y)) (sumsOf n next)) (sumsOf n next))
+      (gained wrap n (terms k n x (placed (taken st + length p + length p' - 16 * n) y)) (sumsOf n ahead-one)) (sumsOf n ahead-one))
       (step-secret k c st b some p first-fits) with-join
       ∙ ap₂ (λ (t : Bool) (x : List ℕ). cond t
       (gained wrap n (terms k n (secretOf n st) (placed (taken st + length p + length p' - 16 * n) (heldWith n st (p ++ p')))) x) x)
@@ -290,14 +268,9 @@ module _ (k : Call) (c : Scheme) (st : List ℕ) (b : begun k (fixedOf c) st ≡
       (gained wrap n (terms k n (secretOf n st) (placed (i - 16 * n) (heldWith n st (p ++ p')))) (sumsOf n st)) (sumsOf n st))
       last-at
 
-  two-steps : stepped k (fixedOf c .n) next p' ≡ stepped k (fixedOf c .n) st (p ++ p')
+  two-steps : stepped k (fixedOf c .n) ahead-one p' ≡ stepped k (fixedOf c .n) st (p ++ p')
   unfolding stepped
-  two-steps =
-      let n = fixedOf c .n in
-      ap₂ (λ (x y : List ℕ). laid (getD st 0 0) (getD st 1 0) (taken st + length p + length p') x y (sumsWith k n next p') (heldWith n next p'))
-      (step-kept k c st b some p first-fits) (step-secret k c st b some p first-fits)
-      ∙ ap₂ (λ (x y : List ℕ). laid (getD st 0 0) (getD st 1 0) (taken st + length p + length p') (keptOf st) (secretOf n st) x y) sums-join with-join
-      ∙ ap (λ (t : ℕ). laid (getD st 0 0) (getD st 1 0) t (keptOf st) (secretOf n st) (sumsWith k n st (p ++ p')) (heldWith n st (p ++ p'))) last-at
+  two-steps = laid-ext last-at (step-kept k c st b some p first-fits) (step-secret k c st b some p first-fits) sums-join with-join
 
 -- part after part is the part of both joined
 steps-join : (k : Call) (c : Scheme) (st p p' : List ℕ) → begun k (fixedOf c) st ≡ true → 0 < fixedOf c .n
@@ -316,59 +289,56 @@ fits-behind n at a (suc b) o f =
     let e : (at + a) % n ≡ at % n + a = sym (mod-add-mod at n a) ∙ mod-eq-of-lt (omega (arith, f .in-row)) in
     record { in-row = omega (arith, e, f .in-row); in-all = omega (arith, f .in-all) }
 
-join : (k : Call) (c : Scheme) (st p p' after : List ℕ) → named st ≡ Is c → begun k (fixedOf c) st ≡ true
-    → Fits (fixedOf c .n) (taken st) (length p + length p') → Below (wrap * wrap) st → Below (fixedOf c .q) p → Below (fixedOf c .q) p' → after ≡ stepped k (fixedOf c .n) st (p ++ p')
-    → Taken k (stepped k (fixedOf c .n) st p) p' 0 0 after
+join : (k : Call) (c : Scheme) (st p p' : List ℕ) → named st ≡ Is c → begun k (fixedOf c) st ≡ true
+    → Fits (fixedOf c .n) (taken st) (length p + length p') → Below (wrap * wrap) st → Below (fixedOf c .q) p → Below (fixedOf c .q) p'
+    → Accepts k st p × (partResult k (next k st p) p' ≡ partResult k st (p ++ p'))
 unfolding stepped
-join k c st p p' after called b f w h l e =
+join k c st p p' called b f w h l =
     let n = fixedOf c .n in
     let num = numbers-in c (frodo-named (getD st 1 0) c called) in
-    let some = num .some in
     let word : Below wrap p = record { below = λ i. omega (arith, h .below i, num .q-room) } in
     let first : Fits n (taken st) (length p) = record { in-row = omega (arith, f .in-row); in-all = omega (arith, f .in-all) } in
-    rw (e ∙ sym (steps-join k c st p p' b some f w word))
-    (part-good k c (stepped k n st p) p' called (step-begun k c st b some p first)
-    (fits-behind n (taken st) (length p) (length p') some f) l)
+    let g = part-goes k st p (part-good k c st p called b first h) in
+    let second = part-good k c (stepped k n st p) p' called (step-begun k c st b (num .some) p first)
+    (fits-behind n (taken st) (length p) (length p') (num .some) f) l
+    in (
+      g .0,
+      ap (λ (s : List ℕ). partResult k s p') (g .1)
+          ∙ sym second
+          ∙ ap (stateSeen Pass) (steps-join k c st p p' b (num .some) f w word)
+          ∙ part-good k c st (p ++ p') called b (rw (length-append p p') f) (append-below p p' h l),
+    )
 
-splits : (k : Call) (st p p' after : List ℕ) → Below (wrap * wrap) st → Taken k st (p ++ p') 0 0 after
-    → (between : List ℕ) × (Taken k st p 0 0 between × Taken k between p' 0 0 after)
-splits k st p p' after w t =
-    let i = scheme-named k st (p ++ p') after t in
-    let c = i .0 in
-    let g = good-part k c st (p ++ p') after (i .1) t in
-    let n = fixedOf c .n in
-    let l = length-append p p' in
-    let whole : Fits n (taken st) (length p + length p') = rw l at (g .fit) in
-    let front : Fits n (taken st) (length p) = record { in-row = omega (arith, whole .in-row); in-all = omega (arith, whole .in-all) } in
-    let next = stepped k n st p in
-    let first = part-good k c st p (i .1) (g .has-begun) front (below-front p p' (g .below)) in
-    (next, (first, join k c st p p' after (i .1) (g .has-begun) whole w (below-front p p' (g .below)) (below-behind p p' (g .below)) (g .is)))
+splits : (k : Call) (st p p' : List ℕ) → Below (wrap * wrap) st → Accepts k st (p ++ p')
+    → Accepts k st p × (partResult k (next k st p) p' ≡ partResult k st (p ++ p'))
+splits k st p p' w t =
+    let i = scheme-named k st (p ++ p') t in
+    let g = good-part k (i .0) st (p ++ p') (i .1) t in
+    join k (i .0) st p p' (i .1) (g .has-begun) (rw (length-append p p') at (g .fit)) w (below-front p p' (g .below)) (below-behind p p' (g .below))
 
-joins : (k : Call) (c : Scheme) (st p p' between after : List ℕ) → named st ≡ Is c → Below (wrap * wrap) st
-    → taken st % fixedOf c .n + length (p ++ p') ≤ fixedOf c .n → Taken k st p 0 0 between → Taken k between p' 0 0 after → Taken k st (p ++ p') 0 0 after
+joins : (k : Call) (c : Scheme) (st p p' : List ℕ) → named st ≡ Is c → Below (wrap * wrap) st → taken st % fixedOf c .n + length (p ++ p') ≤ fixedOf c .n
+    → Accepts k st p → Accepts k (next k st p) p' → partResult k (next k st p) p' ≡ partResult k st (p ++ p')
 unfolding stepped
-joins k c st p p' between after called w row t u =
-    let n = fixedOf c .n in
-    let g = good-part k c st p between called t in
-    let h = good-part k c between p' after (ap named (g .is) ∙ called) u in
-    let at : taken between ≡ taken st + length p = ap taken (g .is) in
-    let num = numbers-in c (frodo-named (getD st 1 0) c called) in
-    let word : Below wrap p = record { below = λ i. omega (arith, g .below .below i, num .q-room) } in
-    let whole : Fits n (taken st) (length p + length p') = record { in-row = omega (arith, row, length-append p p'); in-all = omega (arith, h .fit .in-all) } in
-    let e : after ≡ stepped k n st (p ++ p') =
-    h .is ∙ ap (λ (s : List ℕ). stepped k n s p') (g .is) ∙ steps-join k c st p p' (g .has-begun) (num .some) whole w word
-    in
-    rw e (part-good k c st (p ++ p') called (g .has-begun) (rw (length-append p p') whole) (append-below p p' (g .below) (h .below)))
+joins k c st p p' called w row t u =
+    let g = good-part k c st p called t in
+    let h = good-part k c (next k st p) p' (ap named (g .is) ∙ called) u in
+    let at : taken (next k st p) ≡ taken st + length p = ap taken (g .is) in
+    join k c st p p' called (g .has-begun) (record { in-row = omega (arith, row, length-append p p'); in-all = omega (arith, h .fit .in-all) }) w (g .below) (h .below) .1
 
 pub joining : Joining
 joining = (splits, joins)
 
 pub empty-part : Empty
-empty-part k st after zero place t =
-    let i = scheme-named k st [] after t in
-    let g = good-part k (i .0) st [] after (i .1) t in
-    g .is ∙ none k (i .0) st (g .has-begun)
-empty-part k st after (suc number) place t = unchanged (Refused.part k [] (suc number) place t (omega arith))
+unfolding stateShown
+empty-part k st = go (partTests k (named st) st []) refl
+  where
+    go : (v : Verdict) → partTests k (named st) st [] ≡ v → next k st [] ≡ st
+    go Pass e =
+        let t : Accepts k st [] = ap numberIn e in
+        let i = scheme-named k st [] t in
+        let g = good-part k (i .0) st [] (i .1) t in
+        g .is ∙ none k (i .0) st (g .has-begun)
+    go (Fail r) e = ap (λ v. ifPassed v (partState k (named st) st []) st) e
 
 -- ---- accepted parts, one after the other
 
@@ -386,22 +356,22 @@ takes k c st (p ∷ ps) called b some w l m =
     let n = fixedOf c .n in
     let e = length-append p (joined ps) in
     let f : Fits n (taken st) (length p) = record { in-row = w .0; in-all = omega arith } in
-    let t = part-good k c st p called b f (below-front p (joined ps) l) in
+    let g = part-goes k st p (part-good k c st p called b f (below-front p (joined ps) l)) in
     let r = takes k c (stepped k n st p) ps called (step-begun k c st b some p f) some (w .1) (below-behind p (joined ps) l) (omega arith) in
-    (r .0, Took.more p t (r .1))
+    (r .0, Took.more p (g .0) (subst (λ (s : List ℕ). Took k s ps (r .0)) (sym (g .1)) (r .1)))
 
 -- ---- refused parts and ends
 
-refused : (k : Call) (st p after : List ℕ) (number place : ℕ) → Taken k st p number place after → 0 < number → after ≡ st
-refused k st p after number place t h = unchanged (Refused.part k p number place t h)
+refused : (k : Call) (st p : List ℕ) → 0 < partResult k st p .number → next k st p ≡ st
+refused k st p h = unchanged (Refused.part k p h)
 
 pub without : (k : Call) (st xs last : List ℕ) → Parts k st xs last → Good k st xs last
 unfolding joined
 without k st xs last Parts.none = ([], (refl, Took.none))
-without k st xs last (Parts.more {st' = next} {xs = ys} p t ps) =
-    let g = without k next ys last ps in
+without k st xs last (Parts.more {xs = ys} p t ps) =
+    let g = without k (next k st p) ys last ps in
     (p ∷ g .0, (ap (λ (l : List ℕ). p ++ l) (g .1 .0), Took.more p t (g .1 .1)))
-without k st xs last (Parts.again {st' = next} r ps) = subst (λ (s : List ℕ). Good k s xs last) (unchanged r) (without k next xs last ps)
+without k st xs last (Parts.again {st' = same} r ps) = subst (λ (s : List ℕ). Good k s xs last) (unchanged r) (without k same xs last ps)
 
 pub again : Again
 again = (refused, without)
@@ -419,10 +389,10 @@ pub took-cut : (k : Call) (c : Scheme) {st last : List ℕ} {ps : List (List ℕ
 unfolding joined steps stepped
 took-cut k c called m Took.none =
     record { is = refl; rows = tt; below = record { below = λ i. omega (arith, sound c .some) }; few = omega arith }
-took-cut k c {st} called m (Took.more {st' = next} {ps = ps} p t ts) =
+took-cut k c {st} called m (Took.more {ps = ps} p t ts) =
     let n = fixedOf c .n in
-    let g = good-part k c st p next called t in
-    let at : taken next ≡ taken st + length p = ap taken (g .is) in
+    let g = good-part k c st p called t in
+    let at : taken (next k st p) ≡ taken st + length p = ap taken (g .is) in
     let h = took-cut k c (ap named (g .is) ∙ called) (omega (arith, g .fit .in-all)) ts in
     record {
       is = h .is ∙ ap (λ (s : List ℕ). steps k n s ps) (g .is);

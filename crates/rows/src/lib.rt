@@ -2,10 +2,13 @@
 // `requires`: each ends with an answer or a numbered refusal. A refused begin zeroes the state; a refused part or end leaves it as it was, and every output
 // zero, and may be tried again; a good end zeroes it.
 ghost use mathlib.Core.Path.{_≡_};
+ghost use Rattle.lists.specs.Lent.{was, left, room};
+ghost use Rattle.front.specs.Seen.{told, seen};
+ghost use Rattle.reply.specs.Reply.{replyRooms, replyTold, replySeen};
 ghost use Rattle.running.specs.State.{frodoOf};
-ghost use Rattle.running.specs.Part.{Takes};
-ghost use Rattle.rows.specs.Offer.{OfferBegins, OfferEnds};
-ghost use Rattle.rows.specs.Reply.{ReplyBegins, ReplyEnds};
+ghost use Rattle.running.specs.Part.{stateSeen, partResult};
+ghost use Rattle.rows.specs.Offer.{offerBegin, offerBeginResult, offerEndResult};
+ghost use Rattle.rows.specs.Reply.{replyBegin, replyBeginResult, replyEndResult};
 
 mod opener;
 mod replier;
@@ -19,7 +22,7 @@ use schemes::Named;
 
 // Offer, begin: the secret s, the noise e and the seed into the state, afresh.
 pub fn offer_begin(scheme: u32, s: &[i32], e: &[i32], seed: &[u8], state: &mut [u32]) -> Verdict
-    ensures { λ r. ⌜ OfferBegins (frodoOf scheme) s e seed state r ⌝ }
+    ensures { λ r. ⌜ stateSeen r (left state) ≡ offerBeginResult (frodoOf scheme) (offerBegin s e seed) (room state) ⌝ }
 {
     lists::zero_numbers(state);
     let Named::Is(known) = running::state::frodo_of(scheme) else {
@@ -30,14 +33,14 @@ pub fn offer_begin(scheme: u32, s: &[i32], e: &[i32], seed: &[u8], state: &mut [
 
 // Offer, a part: some numbers of the current row of A.
 pub fn offer_part(p: &[u32], state: &mut [u32]) -> Verdict
-    ensures { λ r. ⌜ Takes Call.Offer p state r ⌝ }
+    ensures { λ r. ⌜ stateSeen r (left state) ≡ partResult Call.Offer (was state) (was p) ⌝ }
 {
     running::part::part(Call::Offer, p, state)
 }
 
 // Offer, end: the opening message.
 pub fn offer_end(state: &mut [u32], message: &mut [u8]) -> Answer
-    ensures { λ r. ⌜ OfferEnds state message r ⌝ }
+    ensures { λ r. ⌜ record { answer = seen (told r) (left message); state = left state } ≡ offerEndResult (was state) (room message) ⌝ }
 {
     lists::zero_bytes(message);
     let Named::Is(known) = running::state::named(state) else {
@@ -55,7 +58,7 @@ pub fn reply_begin(
     e2: &[i32],
     state: &mut [u32],
 ) -> Verdict
-    ensures { λ r. ⌜ ReplyBegins (frodoOf scheme) opening s1 e1 e2 state r ⌝ }
+    ensures { λ r. ⌜ stateSeen r (left state) ≡ replyBeginResult (frodoOf scheme) (replyBegin opening s1 e1 e2) (room state) ⌝ }
 {
     lists::zero_numbers(state);
     let Named::Is(known) = running::state::frodo_of(scheme) else {
@@ -66,7 +69,7 @@ pub fn reply_begin(
 
 // Reply, a part: some numbers of the current row of A.
 pub fn reply_part(p: &[u32], state: &mut [u32]) -> Verdict
-    ensures { λ r. ⌜ Takes Call.Reply p state r ⌝ }
+    ensures { λ r. ⌜ stateSeen r (left state) ≡ partResult Call.Reply (was state) (was p) ⌝ }
 {
     running::part::part(Call::Reply, p, state)
 }
@@ -78,7 +81,7 @@ pub fn reply_end(
     key: &mut [u8],
     digest: &mut [u8],
 ) -> ReplyAnswer
-    ensures { λ r. ⌜ ReplyEnds state message key digest r ⌝ }
+    ensures { λ r. ⌜ record { answer = replySeen (replyTold r) (left message) (left key) (left digest); state = left state } ≡ replyEndResult (was state) (replyRooms message key digest) ⌝ }
 {
     replier::zero_outputs(message, key, digest);
     let Named::Is(known) = running::state::named(state) else {

@@ -5,7 +5,7 @@
 --   row-is, row-fits, row-sixteenth   the first of the sixteen rows that it ends: its place, and that it is a multiple of 16
 --   halves            which can be halved
 --   whole-blocks      n is a multiple of 16, so that at the end nothing is held back
-use mathlib.Core.Path.{_≡_, refl, _∙_, sym, ap}
+use mathlib.Core.Path.{_≡_, _∙_, sym, ap}
 use mathlib.Core.Bool.{Bool, true, false, cond}
 use Prim.Native.Nat.{ℕ, _+_, _*_, _-_, _/_, _%_, _<_, _≤_}
 use native.Mathlib.Omega.{arith}

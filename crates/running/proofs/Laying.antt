@@ -2,29 +2,37 @@
 --   three            a list of three numbers or more
 --   apart            a state of the right length is laid of its own parts
 --   kept-long, secret-long, sums-long, held-long   how long they are
---   laid-long, laid-kept, laid-secret, laid-sums, laid-behind, laid-held   the parts of a state that is laid
+--   laid-long, laid-kept, laid-secret, laid-sums, laid-behind, laid-held, laid-ext   the parts of a state that is laid; states of equal parts
 --   again-words, made-words, held-words   words that come back from their numbers: those of a state; sums; rows held back
 --   with-below       with a part, these are words
 --   pairs-laid       words into zeros, two in each number
 --   seed-kept-long, take-less   what is kept: its length; the front of a front
---   kept-zeros, headed, headed-long, behind-zeros, lay-is   the parts, written one after the other into zeros
+--   kept-zeros, keeping-long, keeping-kept, keeping-is   what is kept, written into zeros
+--   headed, headed-long, behind-zeros, lay-is   two numbers ahead of it, and then all words behind it
+--   secret-words-long, fresh-long   how many words a secret has; how long a state is as begin leaves it
 use mathlib.Core.Path.{_≡_, refl, _∙_, sym, ap, ap₂}
-use mathlib.Core.List.{List, [], _∷_, _++_, append-nil, append-assoc}
+use mathlib.Core.List.{List, [], _∷_, _++_, append-nil}
 use Prim.Native.Nat.{ℕ, zero, suc, _+_, _*_, _-_, _%_, _≤_}
 use native.Mathlib.Omega.{arith}
-use lib.ListN.{length, getD, take, drop, set, replicate, length-append, length-take, length-drop, length-replicate, take-append-drop, drop-of-length-le}
+use lib.IntN.{ℤ}
+use lib.ListN.{length, getD, take, drop, set, replicate, length-append, length-take, length-drop, length-replicate, length-set, take-append-drop, drop-of-length-le}
 use lib.Seq.{take-at, drop-at, drop-drop, take-add}
 use native.Mathlib.Nat.{suc-add}
 use borrow.Rule.Slice.PartMut.{putMid}
 use Rattle.lists.specs.Entries.{Below}
 use Rattle.lists.proofs.Parts.{drop-same, below-drop, below-take}
 use Rattle.lists.proofs.Same.{take-same}
-use Rattle.matrix.specs.Steps.{gained}
-use Rattle.matrix.proofs.Steps.{gained-length}
+use Rattle.lists.proofs.Entries.{tab-length}
+use Rattle.matrix.specs.Steps.{columnsOf, gained}
+use Rattle.matrix.proofs.Steps.{gained-length, words-length}
 use Rattle.parts.specs.Parts.{wrap, words, pairs}
 use Rattle.parts.proofs.Words.{words-long, words-below, append-below, pairs-long, pairs-words, words-pairs}
 use Rattle.parts.proofs.Blocks.{gained-below}
-use Rattle.running.specs.State.{long, taken, keptOf, secretOf, sumsOf, heldOf, laid, heldWith}
+use Rattle.schemes.specs.Schemes.{fixedOf}
+use Rattle.schemes.specs.declared.Scheme.{Scheme}
+use Rattle.running.specs.State.{long, taken, keptOf, secretOf, sumsOf, heldOf, Layout, laid, onward, secretWords, fresh, heldWith}
+use Rattle.running.specs.Inside.{keeping}
+use Rattle.running.specs.declared.Call.{Call}
 
 pub three : (st : List ℕ) → 3 ≤ length st → st ≡ getD st 0 0 ∷ getD st 1 0 ∷ getD st 2 0 ∷ drop 3 st
 three [] h = absurd (omega arith)
@@ -49,7 +57,7 @@ rest n st =
     ∙ ap₂ (λ (u v : List ℕ). u ++ v) (sym (pairs-words _)) (held-at n st ∙ sym (pairs-words _))))
 
 pub apart : (n : ℕ) (st : List ℕ) → length st ≡ long n
-    → st ≡ laid (getD st 0 0) (getD st 1 0) (taken st) (keptOf st) (secretOf n st) (sumsOf n st) (heldOf n st)
+    → st ≡ laid (onward n st (taken st) (sumsOf n st) (heldOf n st))
 apart n st e = three st (omega arith) ∙ ap (λ (l : List ℕ). getD st 0 0 ∷ getD st 1 0 ∷ getD st 2 0 ∷ l) (rest n st)
 
 -- the front of a state, up to the secret
@@ -103,39 +111,45 @@ pairs-zeros n =
     let e : 2 * (8 * n) ≡ 16 * n = omega arith in
     sym (pairs-words (replicate (8 * n) 0)) ∙ ap pairs (words-zeros (8 * n) ∙ ap (λ (m : ℕ). replicate {A = ℕ} m 0) e)
 
-module _ (n call scheme t : ℕ) (kept secret sums held : List ℕ) (k : length kept ≡ 64) (s : length secret ≡ 8 * n) (u : length sums ≡ 8 * n) where
-  secret-half : length (pairs secret) ≡ 4 * n
-  secret-half = pairs-long secret (4 * n) (omega arith)
+module _ (n : ℕ) (x : Layout) (k : length (x .kept) ≡ 64) (s : length (x .secret) ≡ 8 * n) (u : length (x .sums) ≡ 8 * n) where
+  secret-half : length (pairs (x .secret)) ≡ 4 * n
+  secret-half = pairs-long (x .secret) (4 * n) (omega arith)
 
-  sums-half : length (pairs sums) ≡ 4 * n
-  sums-half = pairs-long sums (4 * n) (omega arith)
+  sums-half : length (pairs (x .sums)) ≡ 4 * n
+  sums-half = pairs-long (x .sums) (4 * n) (omega arith)
 
-  pub laid-long : length held ≡ 16 * n → length (laid call scheme t kept secret sums held) ≡ long n
-  laid-long e = simp length-append (omega (arith, secret-half, sums-half, pairs-long held (8 * n) (omega arith)))
+  pub laid-long : length (x .held) ≡ 16 * n → length (laid x) ≡ long n
+  laid-long e = simp length-append (omega (arith, secret-half, sums-half, pairs-long (x .held) (8 * n) (omega arith)))
 
-  pub laid-kept : keptOf (laid call scheme t kept secret sums held) ≡ kept
-  laid-kept = take-at kept (pairs secret ++ (pairs sums ++ pairs held)) 64 k
+  pub laid-kept : keptOf (laid x) ≡ x .kept
+  laid-kept = take-at (x .kept) (pairs (x .secret) ++ (pairs (x .sums) ++ pairs (x .held))) 64 k
 
-  behind-kept : drop 67 (laid call scheme t kept secret sums held) ≡ pairs secret ++ (pairs sums ++ pairs held)
-  behind-kept = drop-at kept (pairs secret ++ (pairs sums ++ pairs held)) 64 k
+  behind-kept : drop 67 (laid x) ≡ pairs (x .secret) ++ (pairs (x .sums) ++ pairs (x .held))
+  behind-kept = drop-at (x .kept) (pairs (x .secret) ++ (pairs (x .sums) ++ pairs (x .held))) 64 k
 
-  behind-secret : drop (67 + 4 * n) (laid call scheme t kept secret sums held) ≡ pairs sums ++ pairs held
+  behind-secret : drop (67 + 4 * n) (laid x) ≡ pairs (x .sums) ++ pairs (x .held)
   behind-secret =
-      sym (drop-drop (4 * n) 67 (laid call scheme t kept secret sums held))
+      sym (drop-drop (4 * n) 67 (laid x))
       ∙ ap (drop (4 * n)) behind-kept
-      ∙ drop-at (pairs secret) (pairs sums ++ pairs held) (4 * n) secret-half
+      ∙ drop-at (pairs (x .secret)) (pairs (x .sums) ++ pairs (x .held)) (4 * n) secret-half
 
-  pub laid-secret : words (pairs secret) ≡ secret → secretOf n (laid call scheme t kept secret sums held) ≡ secret
-  laid-secret w = ap words (ap (take (4 * n)) behind-kept ∙ take-at (pairs secret) (pairs sums ++ pairs held) (4 * n) secret-half) ∙ w
+  pub laid-secret : words (pairs (x .secret)) ≡ x .secret → secretOf n (laid x) ≡ x .secret
+  laid-secret w = ap words (ap (take (4 * n)) behind-kept ∙ take-at (pairs (x .secret)) (pairs (x .sums) ++ pairs (x .held)) (4 * n) secret-half) ∙ w
 
-  pub laid-sums : words (pairs sums) ≡ sums → sumsOf n (laid call scheme t kept secret sums held) ≡ sums
-  laid-sums w = ap words (ap (take (4 * n)) behind-secret ∙ take-at (pairs sums) (pairs held) (4 * n) sums-half) ∙ w
+  pub laid-sums : words (pairs (x .sums)) ≡ x .sums → sumsOf n (laid x) ≡ x .sums
+  laid-sums w = ap words (ap (take (4 * n)) behind-secret ∙ take-at (pairs (x .sums)) (pairs (x .held)) (4 * n) sums-half) ∙ w
 
-  pub laid-behind : drop (67 + 8 * n) (laid call scheme t kept secret sums held) ≡ pairs held
-  laid-behind = sym (held-at n (laid call scheme t kept secret sums held)) ∙ ap (drop (4 * n)) behind-secret ∙ drop-at (pairs sums) (pairs held) (4 * n) sums-half
+  pub laid-behind : drop (67 + 8 * n) (laid x) ≡ pairs (x .held)
+  laid-behind = sym (held-at n (laid x)) ∙ ap (drop (4 * n)) behind-secret ∙ drop-at (pairs (x .sums)) (pairs (x .held)) (4 * n) sums-half
 
-  pub laid-held : words (pairs held) ≡ held → heldOf n (laid call scheme t kept secret sums held) ≡ held
+  pub laid-held : words (pairs (x .held)) ≡ x .held → heldOf n (laid x) ≡ x .held
   laid-held w = ap words laid-behind ∙ w
+
+-- of equal parts
+pub laid-ext : {call scheme t t' : ℕ} {kept kept' secret secret' sums sums' held held' : List ℕ} → t ≡ t' → kept ≡ kept' → secret ≡ secret' → sums ≡ sums'
+    → held ≡ held' → laid (record { call = call; scheme = scheme; taken = t; kept = kept; secret = secret; sums = sums; held = held })
+    ≡ laid (record { call = call; scheme = scheme; taken = t'; kept = kept'; secret = secret'; sums = sums'; held = held' })
+laid-ext a b c d e = rw (a, b, c, d, e)
 
 -- ---- words into zeros, two in each number
 
@@ -166,56 +180,79 @@ take-less zero b l = refl
 take-less (suc a) b [] = simp suc-add refl
 take-less (suc a) b (x ∷ l) = simp suc-add (ap (λ (m : List ℕ). x ∷ m) (take-less a b l))
 
--- ---- two numbers, what is kept, and then all words, written into zeros
+-- ---- what is kept, into zeros
 
-module _ (n call scheme : ℕ) (st : List ℕ) (l : length st ≡ long n) (z : st ≡ replicate (length st) 0) where
-  abbrev pub headed : List ℕ → List ℕ
-  headed k = putMid 3 64 (set (set st 0 call) 1 scheme) k
+module _ (n : ℕ) (st : List ℕ) (l : length st ≡ long n) (z : st ≡ replicate (length st) 0) where
+  all-zeros : st ≡ 0 ∷ 0 ∷ 0 ∷ replicate (16 * n + 64) 0
+  all-zeros = let a : length st ≡ suc (suc (suc (16 * n + 64))) = omega arith in z ∙ ap (λ (m : ℕ). replicate {A = ℕ} m 0) a
 
-  -- what stands behind the first three numbers
-  zeros : List ℕ
-  zeros = replicate (16 * n + 64) 0
+  pub kept-zeros : take 64 (drop 3 st) ≡ replicate 64 0
+  kept-zeros = ap (λ (v : List ℕ). take 64 (drop 3 v)) all-zeros ∙ take-same 64 (16 * n + 64) 0 (omega arith)
 
-  headed-is : (k : List ℕ) → headed k ≡ call ∷ scheme ∷ 0 ∷ (k ++ drop 64 zeros)
-  unfolding zeros
-  headed-is k =
-      let a : length st ≡ suc (suc (suc (16 * n + 64))) = omega arith in
-      let o : st ≡ 0 ∷ 0 ∷ 0 ∷ replicate (16 * n + 64) 0 = z ∙ ap (λ (m : ℕ). replicate {A = ℕ} m 0) a in
-      rw o
+  kept-laid : (k : List ℕ) → putMid 3 64 st k ≡ keeping n k
+  kept-laid k =
+      let e : 16 * n + 64 - 64 ≡ 16 * n = omega arith in
+      ap (λ (v : List ℕ). putMid 3 64 v k) all-zeros
+      ∙ ap (λ (v : List ℕ). 0 ∷ 0 ∷ 0 ∷ (k ++ v)) (drop-same 64 (16 * n + 64) 0 ∙ ap (λ (m : ℕ). replicate {A = ℕ} m 0) e)
 
-  left-zeros : drop 64 zeros ≡ replicate (16 * n) 0
-  unfolding zeros
-  left-zeros = let e : 16 * n + 64 - 64 ≡ 16 * n = omega arith in drop-same 64 (16 * n + 64) 0 ∙ ap (λ (m : ℕ). replicate {A = ℕ} m 0) e
+  module _ {k kept : List ℕ} (d : k ≡ kept) (e : length kept ≡ 64) where
+    pub keeping-long : length (putMid 3 64 st k) ≡ long n
+    keeping-long = ap length (kept-laid k) ∙ simp length-append (omega (arith, ap length d, length-replicate {A = ℕ} (16 * n) 0))
 
-  left-long : length (drop 64 zeros) ≡ 16 * n
-  left-long = ap length left-zeros ∙ length-replicate (16 * n) 0
+    pub keeping-kept : keptOf (putMid 3 64 st k) ≡ kept
+    keeping-kept = ap keptOf (kept-laid k) ∙ take-at k (replicate (16 * n) 0) 64 (ap length d ∙ e) ∙ d
 
-  pub kept-zeros : take 64 (drop 3 (set (set st 0 call) 1 scheme)) ≡ replicate 64 0
-  kept-zeros =
-      let a : length st ≡ suc (suc (suc (16 * n + 64))) = omega arith in
-      let o : st ≡ 0 ∷ 0 ∷ 0 ∷ replicate (16 * n + 64) 0 = z ∙ ap (λ (m : ℕ). replicate {A = ℕ} m 0) a in
-      ap (λ (l : List ℕ). take 64 (drop 3 (set (set l 0 call) 1 scheme))) o ∙ take-same 64 (16 * n + 64) 0 (omega arith)
+    pub keeping-is : putMid 3 64 st k ≡ keeping n (keptOf (putMid 3 64 st k))
+    keeping-is = kept-laid k ∙ ap (keeping n) (d ∙ sym keeping-kept)
 
-  pub headed-long : {k kept : List ℕ} → k ≡ kept → length kept ≡ 64 → length (headed k) ≡ long n
-  headed-long {k} d e = ap length (headed-is k) ∙ simp length-append (omega (arith, left-long, ap length d))
+-- ---- two numbers and all words, ahead of it and behind it
 
-  -- the room behind them
-  pub behind-zeros : {k kept : List ℕ} → k ≡ kept → length kept ≡ 64 → take (length (headed k) - 67) (drop 67 (headed k)) ≡ replicate (16 * n) 0
-  behind-zeros {k} d e =
-      let b : length (headed k) - 67 ≡ 16 * n = omega (arith, headed-long d e) in
-      ap₂ (λ (m : ℕ) (v : List ℕ). take m (drop 67 v)) b (headed-is k)
-      ∙ ap (take (16 * n)) (drop-at k (drop 64 zeros) 64 (ap length d ∙ e) ∙ left-zeros)
+module _ (n : ℕ) (st : List ℕ) (l : length st ≡ long n) (z : st ≡ keeping n (keptOf st)) (call scheme : ℕ) where
+  abbrev pub headed : List ℕ
+  headed = set (set st 0 call) 1 scheme
+
+  headed-is : headed ≡ call ∷ scheme ∷ 0 ∷ (keptOf st ++ replicate (16 * n) 0)
+  headed-is = ap (λ (v : List ℕ). set (set v 0 call) 1 scheme) z
+
+  pub headed-long : length headed ≡ long n
+  headed-long = simp length-set l
+
+  behind : length headed - 67 ≡ 16 * n
+  behind = omega (arith, headed-long)
+
+  kept-behind : drop 64 (keptOf st ++ replicate (16 * n) 0) ≡ replicate (16 * n) 0
+  kept-behind = drop-at (keptOf st) (replicate (16 * n) 0) 64 (kept-long n st l)
+
+  -- the room behind it
+  pub behind-zeros : take (length headed - 67) (drop 67 headed) ≡ replicate (16 * n) 0
+  behind-zeros =
+      ap₂ (λ (m : ℕ) (v : List ℕ). take m (drop 67 v)) behind headed-is
+      ∙ ap (take (16 * n)) kept-behind
       ∙ take-same (16 * n) (16 * n) 0 (omega arith)
 
-  pub lay-is : (kept secret sums : List ℕ) {k w : List ℕ} → length kept ≡ 64 → k ≡ kept → w ≡ pairs secret ++ (pairs sums ++ replicate (8 * n) 0)
-      → putMid 67 (length (headed k) - 67) (headed k) w ≡ laid call scheme 0 kept secret sums (replicate (16 * n) 0)
-  lay-is kept secret sums {k} {w} h e d =
-      let lk : length k ≡ 64 = ap length e ∙ h in
-      let b : length (headed k) - 67 ≡ 16 * n = omega (arith, headed-long e h) in
-      let short : length (drop 64 zeros) ≤ 16 * n = omega (arith, left-long) in
-      let gone : drop (16 * n) (drop 64 zeros) ≡ [] = drop-of-length-le (drop 64 zeros) short in
-      ap (λ (m : ℕ). putMid 67 m (headed k) w) b
-      ∙ ap (λ (v : List ℕ). putMid 67 (16 * n) v w) (headed-is k)
-      ∙ ap₂ (λ (u v : List ℕ). call ∷ scheme ∷ 0 ∷ (u ++ (w ++ drop (16 * n) v))) (take-at k (drop 64 zeros) 64 lk ∙ e) (drop-at k (drop 64 zeros) 64 lk)
-      ∙ ap (λ (v : List ℕ). call ∷ scheme ∷ 0 ∷ (kept ++ (w ++ v))) gone
-      ∙ ap (λ (v : List ℕ). call ∷ scheme ∷ 0 ∷ (kept ++ v)) (append-nil w ∙ d ∙ ap (λ (l : List ℕ). pairs secret ++ (pairs sums ++ l)) (pairs-zeros n))
+  pub lay-is : (secret sums : List ℕ) {w : List ℕ} → w ≡ pairs secret ++ (pairs sums ++ replicate (8 * n) 0)
+      → putMid 67 (length headed - 67) headed w
+      ≡ laid (record { call = call; scheme = scheme; taken = 0; kept = keptOf st; secret = secret; sums = sums; held = replicate (16 * n) 0 })
+  lay-is secret sums {w} d =
+      let short : length (replicate {A = ℕ} (16 * n) 0) ≤ 16 * n = omega (arith, length-replicate {A = ℕ} (16 * n) 0) in
+      let gone : drop (16 * n) (replicate {A = ℕ} (16 * n) 0) ≡ [] = drop-of-length-le (replicate {A = ℕ} (16 * n) 0) short in
+      ap₂ (λ (m : ℕ) (v : List ℕ). putMid 67 m v w) behind headed-is
+      ∙ ap₂ (λ (u v : List ℕ). call ∷ scheme ∷ 0 ∷ (u ++ (w ++ drop (16 * n) v))) (take-at (keptOf st) (replicate (16 * n) 0) 64 (kept-long n st l)) kept-behind
+      ∙ ap (λ (v : List ℕ). call ∷ scheme ∷ 0 ∷ (keptOf st ++ (w ++ v))) gone
+      ∙ ap (λ (v : List ℕ). call ∷ scheme ∷ 0 ∷ (keptOf st ++ v)) (append-nil w ∙ d ∙ ap (λ (v : List ℕ). pairs secret ++ (pairs sums ++ v)) (pairs-zeros n))
+
+-- ---- words of secret and noise
+
+pub columns-long : (m n : ℕ) (s : List ℤ) → length (columnsOf m n s) ≡ 8 * n
+unfolding columnsOf
+columns-long m n s = tab-length (8 * n) _
+
+pub secret-words-long : (k : Call) (n : ℕ) (s : List ℤ) → length s ≡ 8 * n → length (secretWords k n s) ≡ 8 * n
+secret-words-long Call.Offer n s l = columns-long wrap n s
+secret-words-long Call.Reply n s l = words-length wrap s ∙ l
+
+-- the length of a state as begin leaves it
+pub fresh-long : (k : Call) (c : Scheme) (kept : List ℕ) (s e : List ℤ) → length kept ≡ 64 → length s ≡ 8 * fixedOf c .n → length e ≡ 8 * fixedOf c .n
+    → length (laid (fresh k c kept s e)) ≡ long (fixedOf c .n)
+fresh-long k c kept s e a b d =
+    laid-long (fixedOf c .n) (fresh k c kept s e) a (secret-words-long k (fixedOf c .n) s b) (words-length wrap e ∙ d) (length-replicate {A = ℕ} (16 * fixedOf c .n) 0)

@@ -8,13 +8,13 @@
 --   entered-wide              the state stays as long
 --   step-holds, step-enters   so the part is in the state, whether it ends a block or not
 use mathlib.Core.Path.{_≡_, refl, _∙_, sym, ap, ap₂}
-use mathlib.Core.Bool.{Bool, true, false, cond}
+use mathlib.Core.Bool.{true, false}
 use mathlib.Core.List.{List, [], _∷_, _++_, append-assoc, append-nil}
-use Prim.Native.Nat.{ℕ, _+_, _*_, _-_, _/_, _%_, _<_, _≤_}
+use Prim.Native.Nat.{ℕ, _+_, _*_, _-_, _/_, _%_, _≤_}
 use native.Mathlib.Omega.{arith}
 use lib.ListN.{length, getD, take, drop, set, length-append, length-take, length-drop, take-append-drop, drop-of-length-le}
 use borrow.Rule.Slice.PartMut.{putMid}
-use lib.Seq.{take-add, take-take, drop-at, take-append-le, drop-append-le, drop-drop, length-take-le}
+use lib.Seq.{take-add, take-take, take-append-le, drop-append-le, drop-drop}
 use Rattle.lists.specs.Entries.{Below}
 use Rattle.lists.proofs.Parts.{below-drop, below-take, to-end}
 use Rattle.matrix.specs.Steps.{gained, rightTerm, partTerm}
@@ -24,11 +24,11 @@ use Rattle.parts.specs.Joining.{Linear}
 use Rattle.parts.proofs.Joining.{right-linear, left-linear}
 use Rattle.parts.proofs.Words.{pairs-long, pairs-words}
 use Rattle.parts.proofs.Blocks.{right-back, columns-met, left-is}
-use Rattle.running.specs.State.{long, taken, keptOf, secretOf, sumsOf, heldOf, laid, terms, fills, heldWith, sumsWith, stepped}
+use Rattle.running.specs.State.{long, taken, keptOf, secretOf, sumsOf, heldOf, Layout, laid, onward, terms, fills, heldWith, sumsWith, stepped}
 use Rattle.running.specs.Inside.{holding, sumsEntered, entered, Sized}
 use Rattle.running.specs.declared.Call.{Call}
 use Rattle.running.proofs.Filling.{halves}
-use Rattle.running.proofs.Laying.{three, held-at, front, kept-long, secret-long, sums-long, held-long, again-words, laid-long, laid-kept, laid-secret, laid-sums, laid-behind, laid-held}
+use Rattle.running.proofs.Laying.{held-at, front, kept-long, secret-long, sums-long, held-long, again-words, laid-long, laid-kept, laid-secret, laid-sums, laid-behind, laid-held}
 
 pub linear : (k : Call) (n : ℕ) (s : List ℕ) → Linear (terms k n s)
 linear Call.Offer n s = right-linear n s
@@ -81,8 +81,8 @@ module _ (n : ℕ) (st : List ℕ) (z : Sized n st) where
           few = z .few;
           sixteens = z .sixteens;
           long =
-              laid-long n (getD st 0 0) (getD st 1 0) (taken st + length p) (keptOf st) (secretOf n st) (sumsOf n st) (heldWith n st p) (kept-long n st (z .long))
-              (secret-long n st (z .long)) (sums-long n st (z .long)) with-long;
+              laid-long n (onward n st (taken st + length p) (sumsOf n st) (heldWith n st p)) (kept-long n st (z .long)) (secret-long n st (z .long))
+              (sums-long n st (z .long)) with-long;
         }
 
     pub sized-held : {x : List ℕ} → x ≡ holding n st p → Sized n x
@@ -200,8 +200,8 @@ module _ (n : ℕ) (st : List ℕ) (z : Sized n st) where
     unfolding holding stepped sumsWith
     step-holds h = rw h refl
 
-    abbrev held-laid : List ℕ
-    held-laid = laid (getD st 0 0) (getD st 1 0) (taken st + length p) (keptOf st) (secretOf n st) (sumsOf n st) (heldWith n st p)
+    abbrev holds : Layout
+    holds = onward n st (taken st + length p) (sumsOf n st) (heldWith n st p)
 
     pub step-enters : (at : ℕ) → fills n (taken st) (length p) ≡ true → at ≡ taken st + length p - 16 * n → words (pairs (heldWith n st p)) ≡ heldWith n st p
         → entered k n at (holding n st p) ≡ stepped k n st p
@@ -211,19 +211,18 @@ module _ (n : ℕ) (st : List ℕ) (z : Sized n st) where
         let a = getD st 0 0 in
         let b = getD st 1 0 in
         let t = taken st + length p in
-        let s = laid-secret n a b t (keptOf st) (secretOf n st) (sumsOf n st) (heldWith n st p) (kept-long n st l) (secret-long n st l) (sums-long n st l) (again-words _) in
-        let u = laid-sums n a b t (keptOf st) (secretOf n st) (sumsOf n st) (heldWith n st p) (kept-long n st l) (secret-long n st l) (sums-long n st l) (again-words _) in
-        let v = laid-held n a b t (keptOf st) (secretOf n st) (sumsOf n st) (heldWith n st p) (kept-long n st l) (secret-long n st l) (sums-long n st l) w in
-        let f : take (67 + 4 * n) held-laid ≡ a ∷ b ∷ t ∷ (keptOf st ++ pairs (secretOf n st)) =
-        front n held-laid (omega arith)
-        ∙ ap₂ (λ (x y : List ℕ). a ∷ b ∷ t ∷ (x ++ pairs y))
-        (laid-kept n a b t (keptOf st) (secretOf n st) (sumsOf n st) (heldWith n st p) (kept-long n st l) (secret-long n st l) (sums-long n st l)) s
+        let s = laid-secret n holds (kept-long n st l) (secret-long n st l) (sums-long n st l) (again-words _) in
+        let u = laid-sums n holds (kept-long n st l) (secret-long n st l) (sums-long n st l) (again-words _) in
+        let v = laid-held n holds (kept-long n st l) (secret-long n st l) (sums-long n st l) w in
+        let f : take (67 + 4 * n) (laid holds) ≡ a ∷ b ∷ t ∷ (keptOf st ++ pairs (secretOf n st)) =
+        front n (laid holds) (omega arith)
+        ∙ ap₂ (λ (x y : List ℕ). a ∷ b ∷ t ∷ (x ++ pairs y)) (laid-kept n holds (kept-long n st l) (secret-long n st l) (sums-long n st l)) s
         in
-        let g : sumsEntered k n at held-laid ≡ gained wrap n (terms k n (secretOf n st) (placed (t - 16 * n) (heldWith n st p))) (sumsOf n st) =
+        let g : sumsEntered k n at (laid holds) ≡ gained wrap n (terms k n (secretOf n st) (placed (t - 16 * n) (heldWith n st p))) (sumsOf n st) =
         rw (s, u, v, e) refl
         in
-        ap₂ (λ (x y : List ℕ). x ++ (pairs y ++ drop (67 + 8 * n) held-laid)) f g
+        ap₂ (λ (x y : List ℕ). x ++ (pairs y ++ drop (67 + 8 * n) (laid holds))) f g
         ∙ ap (λ (x : List ℕ). (a ∷ b ∷ t ∷ (keptOf st ++ pairs (secretOf n st))) ++ (pairs (gained wrap n (terms k n (secretOf n st) (placed (t - 16 * n) (heldWith n st p))) (sumsOf n st)) ++ x))
-        (laid-behind n a b t (keptOf st) (secretOf n st) (sumsOf n st) (heldWith n st p) (kept-long n st l) (secret-long n st l) (sums-long n st l))
+        (laid-behind n holds (kept-long n st l) (secret-long n st l) (sums-long n st l))
         ∙ ap (λ (x : List ℕ). a ∷ b ∷ t ∷ x) (append-assoc (keptOf st) (pairs (secretOf n st)) _)
         ∙ rw h refl

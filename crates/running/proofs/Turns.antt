@@ -1,10 +1,12 @@
 -- A part by its turn and its numbers, of the fixed numbers f that the code has.
 --   turn-begins, turn-fails, turn-goes   its turn passed, and what that says; failed; and what follows decides
---   part-unknown, part-known   its promise, by the scheme that the state names
-use mathlib.Core.Path.{_≡_, _∙_, sym, ap}
+--   state-by, state-seen-all   what is seen of a call that leaves a state, by its verdict; and that this is all
+--   part-unknown, part-known   the promise of a part, by the scheme that the state names
+use mathlib.Core.Path.{_≡_, refl, _∙_, sym, ap}
 use mathlib.Core.Bool.{Bool, true}
 use mathlib.Core.List.{List}
 use Prim.Native.Nat.{ℕ}
+use native.Mathlib.Omega.{arith}
 use lib.ListN.{length}
 use Rattle.schemes.specs.Schemes.{fixedOf}
 use Rattle.schemes.specs.declared.Fixed.{Fixed}
@@ -12,15 +14,15 @@ use Rattle.schemes.specs.declared.Named.{Named}
 use Rattle.schemes.specs.declared.Named.the-variants.{Is, Unknown}
 use Rattle.schemes.specs.declared.Scheme.{Scheme}
 use Rattle.front.specs.Front.{numberIn, placeIn, inTurn, publicsIn}
-use Rattle.front.specs.Promise.{put}
+use Rattle.front.specs.Seen.{ifPassed}
 use Rattle.front.specs.declared.Verdict.{Verdict}
 use Rattle.front.specs.declared.Verdict.the-variants.{Pass, Fail}
 use Rattle.front.specs.declared.Refusal.{Refusal}
 use Rattle.front.specs.declared.Refusal.the-variants.{OutOfTurn}
-use Rattle.front.proofs.Laws.{turn-passed, failed, went-on}
-use Rattle.front.proofs.Promise.{told-failed}
+use Rattle.front.proofs.Laws.{some, turn-passed, failed, went-on}
+use Rattle.front.proofs.Same.{same-refusal}
 use Rattle.running.specs.State.{named, taken, _and_, begun, fitsIn, stepped}
-use Rattle.running.specs.Part.{partIn, partTests, partState, Taken}
+use Rattle.running.specs.Part.{StateSeen, stateShown, stateSeen, partTests, partState, partResult, StateSeenAll}
 use Rattle.running.specs.declared.Call.{Call}
 use Rattle.running.proofs.Tests.{passed}
 
@@ -32,29 +34,39 @@ module _ (k : Call) (c : Scheme) (st p : List ℕ) {f : Fixed} {b : Bool} {v : V
   pub turn-begins : v ≡ Pass → (begun k (fixedOf c) st ≡ true) × (fitsIn (fixedOf c .n) (taken st) (length p) ≡ true)
   turn-begins o = passed _ _ (turn-passed _ (sym turn ∙ o))
 
-  pub turn-fails : {r : Refusal} → v ≡ Fail r → Fail r ≡ partIn k c st p
-  unfolding partIn
+  pub turn-fails : {r : Refusal} → v ≡ Fail r → Fail r ≡ partTests k (Is c) st p
+  unfolding partTests
   turn-fails o = sym (failed _ turn o)
 
-  pub turn-goes : v ≡ Pass → {w : Verdict} → w ≡ publicsIn (f .q) p → w ≡ partIn k c st p
-  unfolding partIn
+  pub turn-goes : v ≡ Pass → {w : Verdict} → w ≡ publicsIn (f .q) p → w ≡ partTests k (Is c) st p
+  unfolding partTests
   turn-goes o h = h ∙ ap (λ (g : Fixed). publicsIn (g .q) p) e ∙ sym (went-on _ turn o)
 
-pub part-unknown : (k : Call) (st p : List ℕ) → named st ≡ Unknown → Taken k st p 11 0 st
-unfolding partTests
-part-unknown k st p e =
-    let t : partTests k (named st) st p ≡ Fail OutOfTurn = ap (λ (x : Named). partTests k x st p) e in
-    record { told = told-failed t; state = rw t }
+-- ---- what is seen
 
-pub part-known : (k : Call) (st p : List ℕ) (c : Scheme) {r : Verdict} {after : List ℕ} → named st ≡ Is c → r ≡ partIn k c st p
-    → after ≡ put r (stepped k (fixedOf c .n) st p) st → Taken k st p (numberIn r) (placeIn r) after
-unfolding partTests partState
-part-known k st p c {r} {after} e a d =
-    let t : partTests k (named st) st p ≡ r = ap (λ (x : Named). partTests k x st p) e ∙ sym a in
-    record {
-      told = record { refusal = ap numberIn (sym t); at = ap placeIn (sym t) };
-      state =
-          d
-          ∙ ap (λ (v : Verdict). put v (stepped k (fixedOf c .n) st p) st) (sym t)
-          ∙ ap (λ (x : Named). put (partTests k (named st) st p) (partState k x st p) st) (sym e);
-    }
+pub state-by : {v r : Verdict} (xs old : List ℕ) {after : List ℕ} → v ≡ r → after ≡ ifPassed r xs old → stateSeen r after ≡ stateShown v xs old
+unfolding stateSeen stateShown
+state-by xs old e d = rw (d, e)
+
+same-verdict : (v w : Verdict) → numberIn v ≡ numberIn w → placeIn v ≡ placeIn w → v ≡ w
+same-verdict Pass Pass e f = refl
+same-verdict Pass (Fail s) e f = absurd (omega (arith, some s))
+same-verdict (Fail r) Pass e f = absurd (omega (arith, some r))
+same-verdict (Fail r) (Fail s) e f = ap Fail (same-refusal r s e f)
+
+pub state-seen-all : StateSeenAll
+unfolding stateSeen
+state-seen-all r r′ after after′ e =
+    (same-verdict r r′ (ap (λ (s : StateSeen). s .number) e) (ap (λ (s : StateSeen). s .place) e), ap (λ (s : StateSeen). s .state) e)
+
+module _ (k : Call) (st p : List ℕ) where
+  pub part-unknown : named st ≡ Unknown → stateSeen (Fail OutOfTurn) st ≡ partResult k st p
+  unfolding partTests
+  part-unknown e = state-by (partState k (named st) st p) st (rw e) refl
+
+  pub part-known : (c : Scheme) {r : Verdict} {after : List ℕ} → named st ≡ Is c → r ≡ partTests k (Is c) st p
+      → after ≡ ifPassed r (stepped k (fixedOf c .n) st p) st → stateSeen r after ≡ partResult k st p
+  unfolding partState
+  part-known c {r} e a d =
+      state-by (partState k (named st) st p) st (ap (λ (x : Named). partTests k x st p) e ∙ sym a)
+      (d ∙ ap (λ (x : Named). ifPassed r (partState k x st p) st) (sym e))

@@ -14,7 +14,10 @@
 --   tagOf k              number 0 of a state in which the call k has begun
 --   long n               how many numbers a state has
 --   named, taken, keptOf, secretOf, sumsOf, heldOf   its parts
---   laid                 a state of its parts
+--   Layout, laid         its parts by name, and the state that they make
+--   onward n st t sums held   the parts of the state st, but for the count, the sums and the rows that are held back, which are these
+--   secretWords k n s    the secret s as the state of the call k keeps it
+--   fresh k c kept s e   the state that a begin of the call k leaves, with the secret s and the noise e: no number of A has come
 --   keptIn, begun        what is kept is in range; the call has begun
 --   fitsIn n at m        m more numbers end inside the row, and inside A
 --   complete             the call has begun, and all of A has come
@@ -27,14 +30,16 @@ use mathlib.Core.Bool.{Bool, cond}
 use mathlib.Core.List.{List, _∷_, _++_}
 use Prim.Native.Nat.{ℕ, _+_, _*_, _-_, _%_}
 use lib.Dec.{eqb, leb}
-use lib.ListN.{length, getD, take, drop}
+use lib.IntN.{ℤ}
+use lib.ListN.{length, getD, take, drop, replicate}
 use Rattle.lists.specs.First.{firstOver}
 use Rattle.lists.specs.Table.{both}
-use Rattle.schemes.specs.Schemes.{by, familyOf, schemeOf}
+use Rattle.schemes.specs.Schemes.{by, familyOf, fixedOf, numberOf, schemeOf}
 use Rattle.schemes.specs.declared.Fixed.{Fixed}
 use Rattle.schemes.specs.declared.Named.{Named}
 use Rattle.schemes.specs.declared.Named.the-variants.{Is, Unknown}
-use Rattle.matrix.specs.Steps.{gained, rightTerm, leftTerm}
+use Rattle.schemes.specs.declared.Scheme.{Scheme}
+use Rattle.matrix.specs.Steps.{wordsOf, columnsOf, gained, rightTerm, leftTerm}
 use Rattle.parts.specs.Parts.{wrap, words, pairs, placed}
 use Rattle.running.specs.declared.Call.{Call}
 
@@ -73,8 +78,37 @@ sumsOf n st = words (take (4 * n) (drop (67 + 4 * n) st))
 abbrev pub heldOf : ℕ → List ℕ → List ℕ
 heldOf n st = words (drop (67 + 8 * n) st)
 
-abbrev pub laid : ℕ → ℕ → ℕ → List ℕ → List ℕ → List ℕ → List ℕ → List ℕ
-laid call scheme taken kept secret sums held = call ∷ scheme ∷ taken ∷ (kept ++ (pairs secret ++ (pairs sums ++ pairs held)))
+pub record Layout : Type 0 where
+  pub call : ℕ
+  pub scheme : ℕ
+  pub taken : ℕ
+  pub kept : List ℕ
+  pub secret : List ℕ
+  pub sums : List ℕ
+  pub held : List ℕ
+
+abbrev pub laid : Layout → List ℕ
+laid x = x .call ∷ x .scheme ∷ x .taken ∷ (x .kept ++ (pairs (x .secret) ++ (pairs (x .sums) ++ pairs (x .held))))
+
+abbrev pub onward : ℕ → List ℕ → ℕ → List ℕ → List ℕ → Layout
+onward n st t sums held =
+    record { call = getD st 0 0; scheme = getD st 1 0; taken = t; kept = keptOf st; secret = secretOf n st; sums = sums; held = held }
+
+abbrev pub secretWords : Call → ℕ → List ℤ → List ℕ
+secretWords Call.Offer n s = columnsOf wrap n s
+secretWords Call.Reply n s = wordsOf wrap s
+
+abbrev pub fresh : Call → Scheme → List ℕ → List ℤ → List ℤ → Layout
+fresh k c kept s e =
+    record {
+      call = tagOf k;
+      scheme = numberOf c;
+      taken = 0;
+      kept = kept;
+      secret = secretWords k (fixedOf c .n) s;
+      sums = wordsOf wrap e;
+      held = replicate (16 * fixedOf c .n) 0;
+    }
 
 -- ---- its ranges
 
@@ -122,5 +156,4 @@ sumsWith k n st p =
     (sumsOf n st)
 
 unfoldable pub stepped : Call → ℕ → List ℕ → List ℕ → List ℕ
-stepped k n st p =
-    laid (getD st 0 0) (getD st 1 0) (taken st + length p) (keptOf st) (secretOf n st) (sumsWith k n st p) (heldWith n st p)
+stepped k n st p = laid (onward n st (taken st + length p) (sumsWith k n st p) (heldWith n st p))

@@ -14,9 +14,9 @@ pub enum Call {
 
 impl Call {
     // Number 0 of a state in which Offer, or Reply, has begun. Both numbers change with the layout: see `specs/State.antt`.
-    pub const OFFER_TAG: u32 = 3;
+    const OFFER_TAG: u32 = 3;
 
-    pub const REPLY_TAG: u32 = 4;
+    const REPLY_TAG: u32 = 4;
 
     fn tag(self) -> u32
         ensures { λ r. ⌜ r ≡ tagOf self ⌝ }

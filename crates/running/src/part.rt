@@ -1,19 +1,23 @@
 // A part of either call: its turn, then its numbers, then the state. A refused part changes nothing. Its numbers are held back as words until sixteen rows
-// have come; then these enter the sums by the products of crate `matrix`.
+// have come; then these enter the sums by the products of crate `matrix`. So a part costs a pass, and only the part that ends sixteen rows multiplies. Sums of words
+// of 32 bits, to which each part is added as it comes, would hold no rows back; but a vector has half as many such words, plain x86-64 multiplies no four of them,
+// and a part has one row where the products take several into a sum: tried in C, such sums took 1.8 to 2.1 times as long. Sixteen divides n in every set, so that no
+// row is left at the end. As words sixteen rows take the room that eight would take as numbers.
 ghost use mathlib.Core.Path.{_≡_};
 ghost use mathlib.Core.Bool.{true};
 ghost use Prim.Native.Nat.{_+_, _*_, _%_, _<_, _≤_};
 ghost use lib.ListN.{length, take, drop};
 ghost use Rattle.schemes.specs.Schemes.{familyOf, fixedOf};
 ghost use Rattle.schemes.specs.declared.Family.{Family};
+ghost use Rattle.schemes.specs.declared.Named.the-variants.{Is};
 ghost use Rattle.lists.specs.Lent.{was, left};
 ghost use Rattle.lists.specs.Entries.{Below};
 ghost use Rattle.matrix.specs.Steps.{gained, rightTerm, partTerm};
 ghost use Rattle.parts.specs.Parts.{wrap, words};
 ghost use Rattle.front.specs.Front.{publicsIn};
-ghost use Rattle.front.specs.Promise.{put};
+ghost use Rattle.front.specs.Seen.{ifPassed};
 ghost use Rattle.running.specs.State.{taken, secretOf, sumsOf, heldOf, fitsIn, stepped};
-ghost use Rattle.running.specs.Part.{partIn, Takes};
+ghost use Rattle.running.specs.Part.{partTests, stateSeen, partResult};
 ghost use Rattle.running.specs.Inside.{holding, entered, Sized};
 use crate::Call;
 use front::Refusal;
@@ -68,8 +72,8 @@ fn put_right(
     parts::pair(sums, &mut state[d..d + 64]);
 }
 
-// In the smallest set, with as much room as that needs. The columns have four words of room that nobody needs: with them all three arrays start where 16
-// bytes do.
+// In the smallest set, with as much room as that needs: each block of sixteen rows zeroes these arrays first, and those of the largest set are two and a half times
+// as long. The columns have four words of room that nobody needs: with them all three arrays start where 16 bytes do.
 fn add_right_small(n: usize, row: usize, state: &mut [u32])
     requires { ⌜ Sized n (now state) × (row + 16 ≤ n) × (n ≤ 352) ⌝ }
     ensures { λ _. ⌜ left state ≡ entered Call.Offer n (row * n) (was state) ⌝ }
@@ -172,7 +176,7 @@ fn put_part(call: Call, n: usize, p: &[u32], state: &mut [u32])
 fn take_part(call: Call, q: u32, n: usize, p: &[u32], state: &mut [u32]) -> Verdict
     requires { ⌜ (0 < q) × (q ≤ 32768) × Sized n (now state) × (fitsIn n (taken (now state)) (length (now p)) ≡ true) ⌝ }
     ensures { λ r. ⌜ r ≡ publicsIn q (was p) ⌝ }
-    ensures { λ r. ⌜ left state ≡ put r (stepped call n (was state) (was p)) (was state) ⌝ }
+    ensures { λ r. ⌜ left state ≡ ifPassed r (stepped call n (was state) (was p)) (was state) ⌝ }
 {
     let v = front::publics_in(Verdict::Pass, q, p);
     match v {
@@ -186,8 +190,8 @@ fn take_part(call: Call, q: u32, n: usize, p: &[u32], state: &mut [u32]) -> Verd
 
 fn part_in(call: Call, scheme: Scheme, p: &[u32], state: &mut [u32]) -> Verdict
     requires { ⌜ familyOf scheme ≡ Family.Frodo ⌝ }
-    ensures { λ r. ⌜ r ≡ partIn call scheme (was state) (was p) ⌝ }
-    ensures { λ r. ⌜ left state ≡ put r (stepped call (fixedOf scheme .n) (was state) (was p)) (was state) ⌝ }
+    ensures { λ r. ⌜ r ≡ partTests call (Is scheme) (was state) (was p) ⌝ }
+    ensures { λ r. ⌜ left state ≡ ifPassed r (stepped call (fixedOf scheme .n) (was state) (was p)) (was state) ⌝ }
 {
     let f = scheme.fixed();
     let v = front::in_turn(crate::state::may_take(call, f, state, p.len()));
@@ -198,7 +202,7 @@ fn part_in(call: Call, scheme: Scheme, p: &[u32], state: &mut [u32]) -> Verdict
 }
 
 pub fn part(call: Call, p: &[u32], state: &mut [u32]) -> Verdict
-    ensures { λ r. ⌜ Takes call p state r ⌝ }
+    ensures { λ r. ⌜ stateSeen r (left state) ≡ partResult call (was state) (was p) ⌝ }
 {
     let Named::Is(known) = crate::state::named(state) else {
         return Verdict::Fail(Refusal::OutOfTurn);

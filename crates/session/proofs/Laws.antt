@@ -1,266 +1,197 @@
 -- The promise of each call on a session, from what the call beneath promises.
---   turned, refuses, accepts   any call: 10, another refusal, accepted
+--   shown-number                    the number that a call shows is its verdict's
+--   turned, refuses, accepts        any call: 10, another refusal, accepted
 --   reply-key-few, finish-key-few   a key has a place of 128 bytes
---   key-few, key-room              so have the bytes that a call says it wrote, which are the key
 --   kept-law                        so many bytes of an output, copied into zeros
---   offer-stops                     what any refusal before the call beneath shows of Offer; so of the others
---   close-gives                     what Close shows, and close-stops where a layer above refuses it
---   offer-out, offer-refused, offer-done   Offer: 10, a refusal of the call beneath, its answer; so of the others, and of Close
---   reply-few, reply-room, finish-few, finish-room   what the key's place asks of their answers
-use mathlib.Core.Path.{_≡_, refl, _∙_, sym, ap, subst}
+--   Given x c t n key               the call x refuses nothing, shows t, and says that it wrote n bytes of a key into a buffer, which then holds `key`
+--   fits, keeps                     these bytes have a place of 128, and are the key of the session that x leads to
+--   offer-stops                     what a refusal ahead of Offer shows; so of the others
+--   offer-refused, offer-done       Offer: a refusal of the call beneath, and its answer; reply-given, finish-given: so of the others
+--   close-moves                     Close
+use mathlib.Core.Path.{_≡_, refl, _∙_, sym, ap}
 use mathlib.Core.Bool.{true, false}
 use mathlib.Core.List.{List, [], _++_}
 use Prim.Native.Nat.{ℕ, _-_, _≤_}
 use native.Mathlib.Omega.{arith}
 use native.Mathlib.Nat.{sub-zero}
-use lib.ListN.{length, take, drop, replicate, length-take}
+use lib.ListN.{length, take, drop, length-take}
 use lib.Seq.{length-take-le}
 use Rattle.schemes.specs.Schemes.{schemeOf}
 use Rattle.schemes.specs.declared.Named.{Named}
 use Rattle.schemes.specs.declared.Named.the-variants.{Is, Unknown}
+use Rattle.schemes.proofs.Sound.{sound}
 use Rattle.lists.proofs.Parts.{drop-same}
-use Rattle.front.specs.Answers as answers
-use Rattle.front.specs.Front.{numberOf, numberIn, held}
-use Rattle.front.specs.Promise.{Wrote, Used}
+use Rattle.front.specs.Front.{numberOf, numberIn}
+use Rattle.front.specs.Seen.{ifPassed, Output, output, written, answer, Seen, shown, told, seen}
 use Rattle.front.specs.declared.Answer.{Answer}
 use Rattle.front.specs.declared.Refusal.{Refusal}
 use Rattle.front.specs.declared.Refusal.the-variants.{OutOfStage}
 use Rattle.front.specs.declared.Verdict.{Verdict}
 use Rattle.front.specs.declared.Verdict.the-variants.{Pass, Fail}
 use Rattle.front.proofs.Laws.{some, number-zero}
-use Rattle.front.proofs.Promise.{wrote-front, told-failed, wrote-failed, used-failed}
-use Rattle.offer.specs.Offer.{Offer, Offered, offerTests}
-use Rattle.reply.specs.Reply.{Reply, Replied, replyTests, replyKey}
-use Rattle.reply.specs.Reply as replies
-use Rattle.finish.specs.Finish.{Finish, Finished, finishTests, finishKey}
-use Rattle.finish.specs.Finish as finishes
+use Rattle.front.proofs.Seen.{written-answer}
+use Rattle.offer.specs.Offer.{Offer, offerResult}
+use Rattle.reply.specs.Reply.{Reply, ReplyRooms, ReplySeen, replyKey, replyTold, replySeen, outputs, replyResult}
+use Rattle.finish.specs.Finish.{Finish, FinishRooms, FinishSeen, finishKey, finishOf, finishTold, finishSeen, finishShown, finishResult}
 use Rattle.reply.specs.declared.ReplyAnswer.{ReplyAnswer}
 use Rattle.reply.specs.declared.ReplyCounts.{ReplyCounts}
 use Rattle.finish.specs.declared.FinishCounts.{FinishCounts}
 use Rattle.finish.specs.declared.FinishAnswer.{FinishAnswer}
-use Rattle.exchange.proofs.Shown.{keys-fit}
+use Rattle.reply.proofs.Replying.{key-length}
+use Rattle.finish.proofs.Finishing as finishes
 use Rattle.session.specs.declared.Session.{Session}
-use Rattle.session.specs.Table.{Call, offering, replying, finishing, closing, whenIdle, whenOffered, padded, noKey, idle, offered, keyed, row, outcome, after, step}
-use Rattle.session.specs.Seen.{Seen, noSlack, due, Gives, Moves, toldOffer, toldReply, toldFinish, closeSeen}
+use Rattle.session.specs.Table.{Call, offering, replying, finishing, closing, whenIdle, whenOffered, padded, noKey, idle, offered, keyed, row, outcome, step}
+use Rattle.session.specs.Seen.{CallSeen, ofOffer, ofReply, ofFinish, ofClose, number, shownBy, turn, moved}
 
 -- ---- over any call
 
-stays : (v : Verdict) (r : Refusal) (y z : Session) → numberOf r ≡ numberIn v → y ≡ after v y z
+pub shown-number : (v : Verdict) (x : Call) → number (shownBy v x) ≡ numberIn v
+unfolding number shownBy shown outputs finishShown
+shown-number v (offering k x n) = refl
+shown-number v (replying k x m) = refl
+shown-number v (finishing k x m) = refl
+shown-number v closing = refl
+
+stays : (v : Verdict) (r : Refusal) (y z : Session) → numberOf r ≡ numberIn v → y ≡ ifPassed v z y
 stays Pass r y z e = absurd (omega (arith, some r))
 stays (Fail q) r y z e = refl
 
-module _ (y : Session) (x : Call) {t : Seen} where
-  pub turned : row x .allowed (y .stage) ≡ false → Gives (Fail OutOfStage) x t → Moves y x y t
-  unfolding step outcome
-  turned a g = record { moved = rw a; gives = rw a g }
+module _ (y : Session) (x : Call) {t : CallSeen} where
+  pub turned : row x .allowed (y .stage) ≡ false → t ≡ shownBy (Fail OutOfStage) x → turn y t ≡ moved y x
+  unfolding moved step outcome
+  turned a g = rw (a, g)
 
-  module _ (a : row x .allowed (y .stage) ≡ true) (g : Gives (row x .tests) x t) where
-    goes : {z : Session} → z ≡ after (row x .tests) y (row x .leads) → Moves y x z t
-    unfolding step outcome
-    goes e = record { moved = rw a e; gives = rw a g }
+  module _ (a : row x .allowed (y .stage) ≡ true) (g : t ≡ shownBy (row x .tests) x) where
+    goes : {z : Session} → z ≡ ifPassed (row x .tests) (row x .leads) y → turn z t ≡ moved y x
+    unfolding moved step outcome
+    goes e = rw (a, g, e)
 
-    pub refuses : (r : Refusal) → t .number ≡ numberOf r → Moves y x y t
-    refuses r e = goes (stays (row x .tests) r y (row x .leads) (sym e ∙ g .told .refusal))
+    verdict : number t ≡ numberIn (row x .tests)
+    verdict = ap number g ∙ shown-number (row x .tests) x
 
-    pub passes : t .number ≡ 0 → row x .tests ≡ Pass
-    passes e = number-zero (row x .tests) (sym e ∙ g .told .refusal)
+    pub refuses : (r : Refusal) → number t ≡ numberOf r → turn y t ≡ moved y x
+    refuses r e = goes (stays (row x .tests) r y (row x .leads) (sym e ∙ verdict))
 
-    pub accepts : {z : Session} → t .number ≡ 0 → z ≡ row x .leads → Moves y x z t
-    accepts e f = goes (rw (passes e) f)
-
--- an output that a call does not have
-wrote-none : (v : Verdict) → Wrote {A = ℕ} v [] 0 0 0 []
-unfolding held
-wrote-none Pass = record { counts = refl; holds = refl }
-wrote-none (Fail r) = record { counts = refl; holds = refl }
-
-used-none : (v : Verdict) → Used v noSlack 0 0
-used-none Pass = record { most = refl; first = refl }
-used-none (Fail r) = record { most = refl; first = refl }
+    pub accepts : {z : Session} → number t ≡ 0 → z ≡ row x .leads → turn z t ≡ moved y x
+    accepts e f = goes (rw (number-zero (row x .tests) (sym e ∙ verdict)) f)
 
 -- ---- the key in its place
 
 pub reply-key-few : (c : Named) (x : Reply) → length (replyKey c x) ≤ 128
 unfolding replyKey
 reply-key-few Unknown x = omega arith
-reply-key-few (Is c) x = omega (arith, keys-fit c .0 x, keys-fit c .2)
+reply-key-few (Is c) x = omega (arith, key-length c x, sound c .keys)
 
 pub finish-key-few : (c : Named) (x : Finish) → length (finishKey c x) ≤ 128
 unfolding finishKey
 finish-key-few Unknown x = omega arith
-finish-key-few (Is c) x = omega (arith, keys-fit c .1 x, keys-fit c .2)
-
-module _ {v : Verdict} {xs key : List ℕ} {room n : ℕ} (p : v ≡ Pass) (w : Wrote v xs 0 room n key) where
-  pub key-few : length xs ≤ 128 → n ≤ 128
-  key-few l = omega (arith, wrote-front p w .0)
-
-  pub key-room : n ≤ length key
-  key-room = let l = ap length (wrote-front p w .1) in omega (arith, wrote-front p w .0, length-take n key, l)
+finish-key-few (Is c) x = omega (arith, finishes.key-length c x, sound c .keys)
 
 pub kept-law : (key place copied : List ℕ) (n : ℕ) → n ≤ 128 → n ≤ length key → place ≡ noKey → copied ≡ take (n - 0) key
     → copied ++ drop (n - 0) place ≡ padded (take n key)
 unfolding padded noKey
 kept-law key place copied n l m e f = rw (e, f, sub-zero n, drop-same {A = ℕ} n 128 0, length-take-le n key m)
 
+pub record Given (x : Call) (c : Named) (t : CallSeen) (n : ℕ) (key : List ℕ) : Type 0 where
+  pub own : List ℕ
+  pub few : length own ≤ 128
+  pub leads : row x .leads ≡ keyed c own
+  pub shows : t ≡ shownBy (row x .tests) x
+  pub accepted : number t ≡ 0
+  pub room : ℕ
+  pub wrote : output n key ≡ written (row x .tests) own 0 room
+
+module _ {x : Call} {c : Named} {t : CallSeen} {n : ℕ} {key : List ℕ} (g : Given x c t n key) where
+  passed : row x .tests ≡ Pass
+  passed = number-zero (row x .tests) (sym (g .accepted) ∙ ap number (g .shows) ∙ shown-number (row x .tests) x)
+
+  whole : take n key ≡ g .own
+  whole = ap (λ (o : Output ℕ). answer o) (g .wrote) ∙ written-answer (g .own) 0 (g .room) passed
+
+  count : n ≡ length (g .own)
+  unfolding written
+  count = ap (λ (o : Output ℕ). o .count) (g .wrote) ∙ rw passed
+
+  pub fits : (n ≤ 128) × (n ≤ length key)
+  fits = let l = ap length whole in (omega (arith, count, g .few), omega (arith, count, length-take n key, l))
+
+  pub keeps : (y : Session) {z : Session} → row x .allowed (y .stage) ≡ true → z ≡ keyed c (take n key) → turn z t ≡ moved y x
+  keeps y a e = accepts y x a (g .shows) (g .accepted) (e ∙ ap (keyed c) whole ∙ sym (g .leads))
+
 -- ---- Offer
 
-module _ {k : ℕ} {x : Offer} {n : ℕ} {message : List ℕ} where
-  pub offer-stops : (q : Refusal) → message ≡ replicate n 0 → Gives (Fail q) (offering k x n) (toldOffer (Answer.Refused q) message)
-  unfolding due
-  offer-stops q h =
-      record { told = told-failed refl; messages = wrote-failed refl h; keys = wrote-none _; digests = wrote-none _; slacks = used-failed refl }
+module _ (k : ℕ) (x : Offer) (n : ℕ) where
+  pub offer-stops : (q : Refusal) {t : Seen ℕ} → t ≡ shown (Fail q) [] 0 n → ofOffer t ≡ shownBy (Fail q) (offering k x n)
+  unfolding shownBy shown written
+  offer-stops q e = ap ofOffer e
 
-  pub offer-out : (y : Session) → whenIdle (y .stage) ≡ false → message ≡ replicate n 0
-      → Moves y (offering k x n) y (toldOffer (Answer.Refused OutOfStage) message)
-  unfolding row
-  offer-out y a h = turned y (offering k x n) a (offer-stops OutOfStage h)
+  module _ (y : Session) (message : List ℕ) (r : Answer) (a : whenIdle (y .stage) ≡ true) (p : seen (told r) message ≡ offerResult (schemeOf k) x n) where
+    pub offer-refused : {q : Refusal} → r ≡ Answer.Refused q → turn y (ofOffer (seen (told r) message)) ≡ moved y (offering k x n)
+    unfolding row shownBy number seen
+    offer-refused {q} d = refuses y (offering k x n) a (ap ofOffer p) q (rw d)
 
-  module _ (y : Session) (r : Answer) (a : whenIdle (y .stage) ≡ true) (p : Offered (schemeOf k) x (answers.number r) (answers.place r) n (answers.written r) message) where
-    offer-gives : Gives (row (offering k x n) .tests) (offering k x n) (toldOffer r message)
-    unfolding row due
-    offer-gives =
-        let v = offerTests (schemeOf k) x n in
-        record { told = p .told; messages = p .messages; keys = wrote-none v; digests = wrote-none v; slacks = used-none v }
-
-    pub offer-refused : {q : Refusal} → r ≡ Answer.Refused q → Moves y (offering k x n) y (toldOffer r message)
-    unfolding row
-    offer-refused {q} d = refuses y (offering k x n) a offer-gives q (ap answers.number d)
-
-    pub offer-done : {w : ℕ} {z : Session} → r ≡ Answer.Done w → z ≡ offered (schemeOf k) → Moves y (offering k x n) z (toldOffer r message)
-    unfolding row
-    offer-done d e = accepts y (offering k x n) a offer-gives (ap answers.number d) e
+    pub offer-done : {w : ℕ} {z : Session} → r ≡ Answer.Done w → z ≡ offered (schemeOf k) → turn z (ofOffer (seen (told r) message)) ≡ moved y (offering k x n)
+    unfolding row shownBy number seen
+    offer-done d e = accepts y (offering k x n) a (ap ofOffer p) (rw d) e
 
 -- ---- Reply
 
-abbrev AnsweredReply : Named → Reply → ReplyAnswer → ℕ → List ℕ → ℕ → List ℕ → ℕ → List ℕ → Type 0
-AnsweredReply c x r n message m key d digest =
-    Replied c x (replies.number r) (replies.place r) n (replies.counts r .message) message m (replies.counts r .key) key d (replies.counts r .digest) digest
+module _ (k : ℕ) (x : Reply) (m : ReplyRooms) where
+  pub reply-stops : (q : Refusal) {t : ReplySeen} → t ≡ outputs (Fail q) [] [] [] m → ofReply t ≡ shownBy (Fail q) (replying k x m)
+  unfolding shownBy outputs written
+  reply-stops q e = ap ofReply e
 
--- the key that it says it wrote
-module _ {c : Named} {x : Reply} {n m d : ℕ} {message key digest : List ℕ} (r : ReplyAnswer) {w : ReplyCounts}
-    (p : AnsweredReply c x r n message m key d digest) (e : r ≡ ReplyAnswer.Done w) where
-  reply-passed : replyTests c x n m d ≡ Pass
-  reply-passed = number-zero _ (sym (ap replies.number e) ∙ p .told .refusal)
+  module _ (message key digest : List ℕ) (r : ReplyAnswer) (p : replySeen (replyTold r) message key digest ≡ replyResult (schemeOf k) x m) where
+    pub reply-refused : (y : Session) {q : Refusal} → whenIdle (y .stage) ≡ true → r ≡ ReplyAnswer.Refused q
+        → turn y (ofReply (replySeen (replyTold r) message key digest)) ≡ moved y (replying k x m)
+    unfolding row shownBy number replySeen
+    reply-refused y {q} a e = refuses y (replying k x m) a (ap ofReply p) q (rw e)
 
-  reply-wrote : Wrote (replyTests c x n m d) (replyKey c x) 0 m (w .key) key
-  reply-wrote = rw e at (p .keys)
-
-  pub reply-few : w .key ≤ 128
-  reply-few = key-few reply-passed reply-wrote (reply-key-few c x)
-
-  pub reply-room : w .key ≤ length key
-  reply-room = key-room reply-passed reply-wrote
-
-  reply-whole : take (w .key) key ≡ replyKey c x
-  reply-whole = wrote-front reply-passed reply-wrote .1
-
-module _ {k : ℕ} {x : Reply} {n m d : ℕ} {message key digest : List ℕ} where
-  pub reply-stops : (q : Refusal) → message ≡ replicate n 0 → key ≡ replicate m 0 → digest ≡ replicate d 0
-      → Gives (Fail q) (replying k x n m d) (toldReply (ReplyAnswer.Refused q) message key digest)
-  unfolding due
-  reply-stops q h i j =
-      record {
-        told = told-failed refl;
-        messages = wrote-failed refl h;
-        keys = wrote-failed refl i;
-        digests = wrote-failed refl j;
-        slacks = used-failed refl;
-      }
-
-  pub reply-out : (y : Session) → whenIdle (y .stage) ≡ false → message ≡ replicate n 0 → key ≡ replicate m 0 → digest ≡ replicate d 0
-      → Moves y (replying k x n m d) y (toldReply (ReplyAnswer.Refused OutOfStage) message key digest)
-  unfolding row
-  reply-out y a h i j = turned y (replying k x n m d) a (reply-stops OutOfStage h i j)
-
-  module _ (y : Session) (r : ReplyAnswer) (a : whenIdle (y .stage) ≡ true) (p : AnsweredReply (schemeOf k) x r n message m key d digest) where
-    reply-gives : Gives (row (replying k x n m d) .tests) (replying k x n m d) (toldReply r message key digest)
-    unfolding row due
-    reply-gives =
-        record { told = p .told; messages = p .messages; keys = p .keys; digests = p .digests; slacks = used-none (replyTests (schemeOf k) x n m d) }
-
-    pub reply-refused : {q : Refusal} → r ≡ ReplyAnswer.Refused q → Moves y (replying k x n m d) y (toldReply r message key digest)
-    unfolding row
-    reply-refused {q} e = refuses y (replying k x n m d) a reply-gives q (ap replies.number e)
-
-    pub reply-done : {w : ReplyCounts} {z : Session} → r ≡ ReplyAnswer.Done w → z ≡ keyed (schemeOf k) (take (w .key) key)
-        → Moves y (replying k x n m d) z (toldReply (ReplyAnswer.Done w) message key digest)
-    unfolding row
-    reply-done {w} {z} e f =
-        subst (λ (q : ReplyAnswer). Moves y (replying k x n m d) z (toldReply q message key digest)) e
-        (accepts y (replying k x n m d) a reply-gives (ap replies.number e) (f ∙ ap (keyed (schemeOf k)) (reply-whole r p e)))
+    pub reply-given : {w : ReplyCounts} → r ≡ ReplyAnswer.Done w
+        → Given (replying k x m) (schemeOf k) (ofReply (replySeen (replyTold (ReplyAnswer.Done w)) message key digest)) (w .key) key
+    unfolding row shownBy number replySeen outputs
+    reply-given e =
+        let d = rw e at p in
+        record {
+          own = replyKey (schemeOf k) x;
+          few = reply-key-few (schemeOf k) x;
+          leads = refl;
+          shows = ap ofReply d;
+          accepted = refl;
+          room = m .key;
+          wrote = ap (λ (t : ReplySeen). t .key) d;
+        }
 
 -- ---- Finish
 
-module _ {c : Named} {x : Finish} {m d : ℕ} {key digest : List ℕ} (r : FinishAnswer) {w : FinishCounts}
-    (p : finishes.Answered c x r m key d digest) (e : r ≡ FinishAnswer.Done w) where
-  finish-passed : finishTests c x m d ≡ Pass
-  finish-passed = number-zero _ (sym (ap finishes.number e) ∙ p .told .refusal)
+module _ (k : ℕ) (x : Finish) (m : FinishRooms) where
+  pub finish-stops : (q : Refusal) {t : FinishSeen} → t ≡ finishShown (Fail q) Unknown (finishOf [] []) m → ofFinish t ≡ shownBy (Fail q) (finishing k x m)
+  unfolding shownBy finishShown written
+  finish-stops q e = ap ofFinish e
 
-  finish-wrote : Wrote (finishTests c x m d) (finishKey c x) 0 m (w .key) key
-  finish-wrote = rw e at (p .keys)
+  module _ (key digest : List ℕ) (r : FinishAnswer) (p : finishSeen (finishTold r) key digest ≡ finishResult (schemeOf k) x m) where
+    pub finish-refused : (y : Session) {q : Refusal} → whenOffered k (y .stage) ≡ true → r ≡ FinishAnswer.Refused q
+        → turn y (ofFinish (finishSeen (finishTold r) key digest)) ≡ moved y (finishing k x m)
+    unfolding row shownBy number finishSeen
+    finish-refused y {q} a e = refuses y (finishing k x m) a (ap ofFinish p) q (rw e)
 
-  pub finish-few : w .key ≤ 128
-  finish-few = key-few finish-passed finish-wrote (finish-key-few c x)
-
-  pub finish-room : w .key ≤ length key
-  finish-room = key-room finish-passed finish-wrote
-
-  finish-whole : take (w .key) key ≡ finishKey c x
-  finish-whole = wrote-front finish-passed finish-wrote .1
-
-module _ {k : ℕ} {x : Finish} {m d : ℕ} {key digest : List ℕ} where
-  pub finish-stops : (q : Refusal) → key ≡ replicate m 0 → digest ≡ replicate d 0
-      → Gives (Fail q) (finishing k x m d) (toldFinish (FinishAnswer.Refused q) key digest)
-  unfolding due
-  finish-stops q i j =
-      record { told = told-failed refl; messages = wrote-none _; keys = wrote-failed refl i; digests = wrote-failed refl j; slacks = used-failed refl }
-
-  pub finish-out : (y : Session) → whenOffered k (y .stage) ≡ false → key ≡ replicate m 0 → digest ≡ replicate d 0
-      → Moves y (finishing k x m d) y (toldFinish (FinishAnswer.Refused OutOfStage) key digest)
-  unfolding row
-  finish-out y a i j = turned y (finishing k x m d) a (finish-stops OutOfStage i j)
-
-  module _ (y : Session) (r : FinishAnswer) (a : whenOffered k (y .stage) ≡ true) (p : finishes.Answered (schemeOf k) x r m key d digest) where
-    finish-gives : Gives (row (finishing k x m d) .tests) (finishing k x m d) (toldFinish r key digest)
-    unfolding row due
-    finish-gives =
-        record { told = p .told; messages = wrote-none (finishTests (schemeOf k) x m d); keys = p .keys; digests = p .digests; slacks = p .slacks }
-
-    pub finish-refused : {q : Refusal} → r ≡ FinishAnswer.Refused q → Moves y (finishing k x m d) y (toldFinish r key digest)
-    unfolding row
-    finish-refused {q} e = refuses y (finishing k x m d) a finish-gives q (ap finishes.number e)
-
-    pub finish-done : {w : FinishCounts} {z : Session} → r ≡ FinishAnswer.Done w → z ≡ keyed (schemeOf k) (take (w .key) key)
-        → Moves y (finishing k x m d) z (toldFinish (FinishAnswer.Done w) key digest)
-    unfolding row
-    finish-done {w} {z} e f =
-        subst (λ (q : FinishAnswer). Moves y (finishing k x m d) z (toldFinish q key digest)) e
-        (accepts y (finishing k x m d) a finish-gives (ap finishes.number e) (f ∙ ap (keyed (schemeOf k)) (finish-whole r p e)))
+    pub finish-given : {w : FinishCounts} → r ≡ FinishAnswer.Done w
+        → Given (finishing k x m) (schemeOf k) (ofFinish (finishSeen (finishTold (FinishAnswer.Done w)) key digest)) (w .key) key
+    unfolding row shownBy number finishSeen finishShown
+    finish-given e =
+        let d = rw e at p in
+        record {
+          own = finishKey (schemeOf k) x;
+          few = finish-key-few (schemeOf k) x;
+          leads = refl;
+          shows = ap ofFinish d;
+          accepted = refl;
+          room = m .key;
+          wrote = ap (λ (t : FinishSeen). t .key) d;
+        }
 
 -- ---- Close
 
-pub close-gives : Gives Pass closing (closeSeen 0)
-unfolding due
-close-gives =
-    record {
-      told = record { refusal = refl; at = refl };
-      messages = wrote-none Pass;
-      keys = wrote-none Pass;
-      digests = wrote-none Pass;
-      slacks = used-none Pass;
-    }
-
-pub close-stops : (q : Refusal) → Gives (Fail q) closing (toldOffer (Answer.Refused q) [])
-unfolding due
-close-stops q =
-    record {
-      told = told-failed refl;
-      messages = wrote-failed refl refl;
-      keys = wrote-failed refl refl;
-      digests = wrote-failed refl refl;
-      slacks = used-failed refl;
-    }
-
-pub close-moves : (y : Session) {z : Session} → z ≡ idle → Moves y closing z (toldOffer (Answer.Done 0) [])
-unfolding row
-close-moves y e = accepts y closing refl close-gives refl e
+pub close-moves : (y : Session) {z : Session} → z ≡ idle → turn z (ofClose (told (Answer.Done 0))) ≡ moved y closing
+unfolding row shownBy number
+close-moves y e = accepts y closing refl refl refl e

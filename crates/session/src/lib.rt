@@ -7,12 +7,15 @@ ghost use Prim.Native.Nat.{_≤_};
 ghost use lib.ListN.{length, take};
 ghost use Rattle.schemes.specs.Schemes.{schemeOf};
 ghost use Rattle.lists.specs.Lent.{was, left, room};
+ghost use Rattle.schemes.specs.declared.Named.the-variants.{Unknown};
+ghost use Rattle.front.specs.Seen.{told, seen, shown};
+ghost use Rattle.front.specs.declared.Verdict.the-variants.{Fail};
 ghost use Rattle.offer.specs.Offer as offers;
 ghost use Rattle.reply.specs.Reply as replies;
 ghost use Rattle.finish.specs.Finish as finishes;
 ghost use Rattle.session.specs.Table.{offering, replying, finishing, closing, whenIdle, whenOffered, padded, noKey};
 ghost use Rattle.session.specs.Table as table;
-ghost use Rattle.session.specs.Seen.{Moves, toldOffer, toldReply, toldFinish};
+ghost use Rattle.session.specs.Seen.{ofOffer, ofReply, ofFinish, ofClose, turn, moved};
 use finish::FinishAnswer;
 use front::Answer;
 use front::Refusal;
@@ -125,6 +128,44 @@ fn keyed(scheme: u32, key: &[u8], n: usize) -> Session
     }
 }
 
+// The refusal of a call ahead of the one beneath: each output is zeroed, whatever it held. Of Offer:
+pub fn stop(refusal: Refusal, message: &mut [u8]) -> Answer
+    ensures { λ r. ⌜ seen (told r) (left message) ≡ shown (Fail refusal) [] 0 (room message) ⌝ }
+{
+    lists::zero_bytes(message);
+    Answer::Refused(refusal)
+}
+
+// Of Reply.
+pub fn stop_reply(
+    refusal: Refusal,
+    message: &mut [u8],
+    key: &mut [u8],
+    digest: &mut [u8],
+) -> ReplyAnswer
+    ensures { λ r. ⌜
+        replies.replySeen (replies.replyTold r) (left message) (left key) (left digest)
+        ≡ replies.outputs (Fail refusal) [] [] [] (replies.replyRooms message key digest)
+        ⌝ }
+{
+    lists::zero_bytes(message);
+    lists::zero_bytes(key);
+    lists::zero_bytes(digest);
+    ReplyAnswer::Refused(refusal)
+}
+
+// Of Finish, in which a refusal shows the same whatever the scheme and the inputs are.
+pub fn stop_finish(refusal: Refusal, key: &mut [u8], digest: &mut [u8]) -> FinishAnswer
+    ensures { λ r. ⌜
+        finishes.finishSeen (finishes.finishTold r) (left key) (left digest)
+        ≡ finishes.finishShown (Fail refusal) Unknown (finishes.finishOf [] []) (finishes.finishRooms key digest)
+        ⌝ }
+{
+    lists::zero_bytes(key);
+    lists::zero_bytes(digest);
+    FinishAnswer::Refused(refusal)
+}
+
 // Offer: when idle; it leads to offered.
 pub fn offer(
     session: Session,
@@ -135,15 +176,14 @@ pub fn offer(
     seed: &[u8],
     message: &mut [u8],
 ) -> Moved
-    ensures { λ r. ⌜ Moves session (offering scheme (offers.offer a s e seed) (room message)) (r .session) (toldOffer (r .answer) (left message)) ⌝ }
+    ensures { λ r. ⌜
+        turn (r .session) (ofOffer (seen (told (r .answer)) (left message))) ≡ moved session (offering scheme (offers.offer a s e seed) (room message))
+        ⌝ }
 {
     let stage = session.stage;
     if !is_idle(stage) {
-        lists::zero_bytes(message);
-        return Moved {
-            session,
-            answer: Answer::Refused(Refusal::OutOfStage),
-        };
+        let answer = stop(Refusal::OutOfStage, message);
+        return Moved { session, answer };
     }
     let answer = offer::offer(scheme, a, s, e, seed, message);
     let Answer::Done(_) = answer else {
@@ -170,19 +210,14 @@ pub fn reply(
     digest: &mut [u8],
 ) -> ReplyMoved
     ensures { λ r. ⌜
-        Moves session (replying scheme (replies.reply opening a s1 e1 e2 coins) (room message) (room key) (room digest))
-        (r .session) (toldReply (r .answer) (left message) (left key) (left digest))
+        turn (r .session) (ofReply (replies.replySeen (replies.replyTold (r .answer)) (left message) (left key) (left digest)))
+        ≡ moved session (replying scheme (replies.reply opening a s1 e1 e2 coins) (replies.replyRooms message key digest))
         ⌝ }
 {
     let stage = session.stage;
     if !is_idle(stage) {
-        lists::zero_bytes(message);
-        lists::zero_bytes(key);
-        lists::zero_bytes(digest);
-        return ReplyMoved {
-            session,
-            answer: ReplyAnswer::Refused(Refusal::OutOfStage),
-        };
+        let answer = stop_reply(Refusal::OutOfStage, message, key, digest);
+        return ReplyMoved { session, answer };
     }
     let answer = reply::reply(scheme, opening, a, s1, e1, e2, coins, message, key, digest);
     let ReplyAnswer::Done(counts) = answer else {
@@ -204,18 +239,14 @@ pub fn finish(
     digest: &mut [u8],
 ) -> FinishMoved
     ensures { λ r. ⌜
-        Moves session (finishing scheme (finishes.finish reply s) (room key) (room digest))
-        (r .session) (toldFinish (r .answer) (left key) (left digest))
+        turn (r .session) (ofFinish (finishes.finishSeen (finishes.finishTold (r .answer)) (left key) (left digest)))
+        ≡ moved session (finishing scheme (finishes.finish reply s) (finishes.finishRooms key digest))
         ⌝ }
 {
     let stage = session.stage;
     if !awaits(stage, scheme) {
-        lists::zero_bytes(key);
-        lists::zero_bytes(digest);
-        return FinishMoved {
-            session,
-            answer: FinishAnswer::Refused(Refusal::OutOfStage),
-        };
+        let answer = stop_finish(Refusal::OutOfStage, key, digest);
+        return FinishMoved { session, answer };
     }
     let answer = finish::finish(scheme, reply, s, key, digest);
     let FinishAnswer::Done(counts) = answer else {
@@ -229,7 +260,7 @@ pub fn finish(
 
 // Close: always; it leads to idle.
 pub fn close(session: Session) -> Moved
-    ensures { λ r. ⌜ Moves session closing (r .session) (toldOffer (r .answer) []) ⌝ }
+    ensures { λ r. ⌜ turn (r .session) (ofClose (told (r .answer))) ≡ moved session closing ⌝ }
 {
     Moved {
         session: idle(),

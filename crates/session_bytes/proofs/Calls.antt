@@ -3,21 +3,21 @@
 --   stopped        a buffer that is in no stage
 --   found          one that is a session: it is taken apart, the call made, and the session after it laid out
 --   close-bytes    Close
-use mathlib.Core.Path.{_≡_, refl, _∙_, sym, ap}
+use mathlib.Core.Path.{_≡_, _∙_, sym, ap}
 use mathlib.Core.Bool.{false}
 use mathlib.Core.List.{List, [], _∷_, _++_, append-nil}
 use Prim.Native.Nat.{ℕ, _≤_}
 use native.Mathlib.Omega.{arith}
 use lib.ListN.{length, take, drop, replicate, set, length-drop, drop-of-length-le}
 use lib.Seq.{take-all, length-take-le}
+use Rattle.front.specs.Seen.{done}
 use Rattle.front.specs.declared.Refusal.the-variants.{OutOfStage}
 use Rattle.front.specs.declared.Verdict.the-variants.{Fail}
 use Rattle.session.specs.declared.Stage.{Stage}
 use Rattle.session.specs.declared.Session.{Session}
-use Rattle.session.specs.Table.{Call, closing, step}
-use Rattle.session.specs.Seen.{Seen, Gives, Moves, closeSeen}
-use Rattle.session.proofs.Laws.{close-gives}
-use Rattle.session_bytes.specs.Bytes.{bytesOf, staged, closes, outcomeBytes, stepBytes, MovesBytes}
+use Rattle.session.specs.Table.{Call, closing}
+use Rattle.session.specs.Seen.{CallSeen, ofClose, shownBy, turn, moved}
+use Rattle.session_bytes.specs.Bytes.{bytesOf, staged, closes, laidOut, movedBytes}
 use Rattle.session_bytes.specs.declared.Found.the-variants.{At, Nowhere}
 use Rattle.session_bytes.proofs.Bytes.{closed, untouched}
 
@@ -35,18 +35,15 @@ laid (x ∷ y ∷ r) key copied a b l m e =
     let o : length r ≤ 128 = omega (arith, l) in
     ap (λ (t : List ℕ). a ∷ b ∷ (copied ++ t)) (drop-of-length-le r o) ∙ ap (λ (t : List ℕ). a ∷ b ∷ t) (append-nil copied ∙ e)
 
-module _ (bs : List ℕ) (x : Call) {t : Seen} where
-  pub stopped : staged bs ≡ Nowhere → closes x ≡ false → Gives (Fail OutOfStage) x t → MovesBytes bs x bs t
-  stopped e f g = let u = untouched bs x e f in record { moved = sym (u .1); gives = rw (u .0) g }
+module _ (bs : List ℕ) (x : Call) {t : CallSeen} where
+  pub stopped : staged bs ≡ Nowhere → closes x ≡ false → t ≡ shownBy (Fail OutOfStage) x → turn bs t ≡ movedBytes bs x
+  stopped e f g = ap (turn bs) g ∙ sym (untouched bs x e f)
 
-  pub found : {st : Stage} {key cs : List ℕ} {z : Session} → staged bs ≡ At st → key ≡ drop 2 bs → Moves (record { stage = st; key = key }) x z t
-      → cs ≡ bytesOf z → MovesBytes bs x cs t
-  unfolding stepBytes outcomeBytes
+  pub found : {st : Stage} {key cs : List ℕ} {z : Session} → staged bs ≡ At st → key ≡ drop 2 bs → turn z t ≡ moved (record { stage = st; key = key }) x
+      → cs ≡ bytesOf z → turn cs t ≡ movedBytes bs x
+  unfolding movedBytes
   found {st} e h p l =
-      record {
-        moved = rw e (l ∙ ap bytesOf (p .moved ∙ ap (λ (key : List ℕ). step (record { stage = st; key = key }) x) h));
-        gives = rw e (p .gives);
-      }
+      rw e (ap (λ (us : List ℕ). turn us t) l ∙ ap laidOut (p ∙ ap (λ (key : List ℕ). moved (record { stage = st; key = key }) x) h))
 
-pub close-bytes : (bs : List ℕ) {cs : List ℕ} → cs ≡ replicate (length bs) 0 → MovesBytes bs closing cs (closeSeen 0)
-close-bytes bs e = let c = closed bs in record { moved = e ∙ sym (c .1); gives = rw (c .0) close-gives }
+pub close-bytes : (bs : List ℕ) {cs : List ℕ} → cs ≡ replicate (length bs) 0 → turn cs (ofClose (done 0)) ≡ movedBytes bs closing
+close-bytes bs e = ap (λ (us : List ℕ). turn us (ofClose (done 0))) e ∙ sym (closed bs)

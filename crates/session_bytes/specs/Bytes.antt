@@ -4,10 +4,8 @@
 --   staged bs        the stage of a buffer that is a session; any other is in no stage: one of another length, with another stage or scheme, or with key bytes
 --                    where the stage has none or behind the key
 --   sessionIn st bs  then the session
---   outcomeBytes bs x   the verdict of a call: a buffer that is in no stage takes no call but close
---   stepBytes bs x   the bytes after the call x: a buffer that is in no stage stays as it is, but close zeroes it, however long it is
---   MovesBytes       the promise of each call on bytes
-use mathlib.Core.Path.{_≡_}
+--   movedBytes bs x  the promise of each call on bytes: what the call x by value leads to and shows, laid out; a buffer that is in no stage gives 10 and stays as
+--                    it is, but close zeroes it, however long it is
 use mathlib.Core.Bool.{Bool, true, false, cond}
 use mathlib.Core.List.{List, _∷_}
 use Prim.Native.Nat.{ℕ}
@@ -18,13 +16,12 @@ use Rattle.schemes.specs.declared.Named.{Named}
 use Rattle.schemes.specs.declared.Named.the-variants.{Is, Unknown}
 use Rattle.blank.specs.Blank.{blank}
 use Rattle.front.specs.declared.Refusal.the-variants.{OutOfStage}
-use Rattle.front.specs.declared.Verdict.{Verdict}
 use Rattle.front.specs.declared.Verdict.the-variants.{Pass, Fail}
 use Rattle.session.specs.declared.Stage.{Stage}
 use Rattle.session.specs.declared.Stage.the-variants.{Idle, Offered, Keyed}
 use Rattle.session.specs.declared.Session.{Session}
-use Rattle.session.specs.Table.{Call, offering, replying, finishing, closing, outcome, step}
-use Rattle.session.specs.Seen.{Seen, Gives}
+use Rattle.session.specs.Table.{Call, offering, replying, finishing, closing}
+use Rattle.session.specs.Seen.{shownBy, Turn, turn, moved}
 use Rattle.session_bytes.specs.declared.Found.{Found}
 use Rattle.session_bytes.specs.declared.Found.the-variants.{At, Nowhere}
 
@@ -81,24 +78,16 @@ sessionIn st bs = record { stage = st; key = drop 2 bs }
 
 abbrev pub closes : Call → Bool
 closes (offering k x n) = false
-closes (replying k x n m d) = false
-closes (finishing k x m d) = false
+closes (replying k x m) = false
+closes (finishing k x m) = false
 closes closing = true
 
-abbrev pub outcomeAt : Found → Call → Verdict
-outcomeAt (At st) x = outcome st x
-outcomeAt Nowhere x = cond (closes x) Pass (Fail OutOfStage)
+abbrev pub laidOut : Turn Session → Turn (List ℕ)
+laidOut m = turn (bytesOf (m .session)) (m .seen)
 
-abbrev pub stepAt : Found → List ℕ → Call → List ℕ
-stepAt (At st) bs x = bytesOf (step (sessionIn st bs) x)
-stepAt Nowhere bs x = cond (closes x) (replicate (length bs) 0) bs
+abbrev pub movedAt : Found → List ℕ → Call → Turn (List ℕ)
+movedAt (At st) bs x = laidOut (moved (sessionIn st bs) x)
+movedAt Nowhere bs x = cond (closes x) (turn (replicate (length bs) 0) (shownBy Pass x)) (turn bs (shownBy (Fail OutOfStage) x))
 
-unfoldable pub outcomeBytes : List ℕ → Call → Verdict
-outcomeBytes bs x = outcomeAt (staged bs) x
-
-unfoldable pub stepBytes : List ℕ → Call → List ℕ
-stepBytes bs x = stepAt (staged bs) bs x
-
-pub record MovesBytes (bs : List ℕ) (x : Call) (cs : List ℕ) (t : Seen) : Type 0 where
-  pub moved : cs ≡ stepBytes bs x
-  pub gives : Gives (outcomeBytes bs x) x t
+unfoldable pub movedBytes : List ℕ → Call → Turn (List ℕ)
+movedBytes bs x = movedAt (staged bs) bs x

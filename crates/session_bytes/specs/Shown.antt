@@ -6,23 +6,23 @@
 --   Untouched     a buffer that is in no stage gives 10 to every other call, and stays as it is
 --   RanBytes      a sequence of calls on bytes, each as its function promises
 --   RunBytes      over any sequence the bytes are those of the table's run, and the caller sees what the calls by value show
---   OnlyBytes     no two results satisfy one promise
 use mathlib.Core.Path.{_≡_}
 use mathlib.Core.Bool.{false}
-use mathlib.Core.List.{List, [], _∷_}
+use mathlib.Core.List.{List}
 use Prim.Native.Nat.{ℕ}
 use lib.ListN.{length, replicate}
+use Rattle.front.specs.Seen.{done}
 use Rattle.front.specs.declared.Refusal.the-variants.{OutOfStage}
-use Rattle.front.specs.declared.Verdict.the-variants.{Pass, Fail}
+use Rattle.front.specs.declared.Verdict.the-variants.{Fail}
 use Rattle.session.specs.declared.Stage.{Stage}
 use Rattle.session.specs.declared.Stage.the-variants.{Idle}
 use Rattle.session.specs.declared.Session.{Session}
 use Rattle.session.specs.Table.{Call, closing, run}
 use Rattle.session.specs.Table as table
-use Rattle.session.specs.Seen.{Seen}
-use Rattle.session.specs.Sequences.{Ran, Sound}
+use Rattle.session.specs.Seen.{CallSeen, ofClose, shownBy, turn}
+use Rattle.session.specs.Sequences.{RanBy, Ran, Sound}
 use Rattle.session_bytes.specs.declared.Found.the-variants.{At, Nowhere}
-use Rattle.session_bytes.specs.Bytes.{bytesOf, staged, sessionIn, closes, outcomeBytes, stepBytes, MovesBytes}
+use Rattle.session_bytes.specs.Bytes.{bytesOf, staged, sessionIn, closes, movedBytes}
 
 abbrev pub TakenBack : Type 0
 TakenBack = (y : Session) → Sound y → (staged (bytesOf y) ≡ At (y .stage)) × (sessionIn (y .stage) (bytesOf y) ≡ y)
@@ -34,21 +34,15 @@ abbrev pub Fresh : Type 0
 Fresh = (staged (replicate 130 0) ≡ At Idle) × (bytesOf table.idle ≡ replicate 130 0)
 
 abbrev pub Closed : Type 0
-Closed = (bs : List ℕ) → (outcomeBytes bs closing ≡ Pass) × (stepBytes bs closing ≡ replicate (length bs) 0)
+Closed = (bs : List ℕ) → movedBytes bs closing ≡ turn (replicate (length bs) 0) (ofClose (done 0))
 
 abbrev pub Untouched : Type 0
-Untouched = (bs : List ℕ) (x : Call) → staged bs ≡ Nowhere → closes x ≡ false → (outcomeBytes bs x ≡ Fail OutOfStage) × (stepBytes bs x ≡ bs)
+Untouched = (bs : List ℕ) (x : Call) → staged bs ≡ Nowhere → closes x ≡ false → movedBytes bs x ≡ turn bs (shownBy (Fail OutOfStage) x)
 
-pub data RanBytes : List ℕ → List Call → List ℕ → List Seen → Type 0 where
-  none : {bs : List ℕ} → RanBytes bs [] bs []
-  more : {bs cs ds : List ℕ} {x : Call} {xs : List Call} {t : Seen} {ts : List Seen} → MovesBytes bs x cs t → RanBytes cs xs ds ts
-      → RanBytes bs (x ∷ xs) ds (t ∷ ts)
+abbrev pub RanBytes : List ℕ → List Call → List ℕ → List CallSeen → Type 0
+RanBytes bs xs cs ts = RanBy movedBytes bs xs cs ts
 
 abbrev pub RunBytes : Type 0
 RunBytes =
-    (y : Session) (xs : List Call) (cs : List ℕ) (ts : List Seen) → Sound y → RanBytes (bytesOf y) xs cs ts
+    (y : Session) (xs : List Call) (cs : List ℕ) (ts : List CallSeen) → Sound y → RanBytes (bytesOf y) xs cs ts
     → (cs ≡ bytesOf (run y xs)) × Ran y xs (run y xs) ts
-
-abbrev pub OnlyBytes : Type 0
-OnlyBytes =
-    (bs cs cs′ : List ℕ) (x : Call) (t t′ : Seen) → MovesBytes bs x cs t → MovesBytes bs x cs′ t′ → (cs ≡ cs′) × (t ≡ t′)

@@ -4,12 +4,13 @@ ghost use mathlib.Core.Path.{_≡_};
 ghost use Prim.Native.Nat.{_≤_};
 ghost use lib.ListN.{length, drop};
 ghost use Rattle.lists.specs.Lent.{was, left, room};
+ghost use Rattle.front.specs.Seen.{done, told, seen};
 ghost use Rattle.offer.specs.Offer as offers;
 ghost use Rattle.reply.specs.Reply as replies;
 ghost use Rattle.finish.specs.Finish as finishes;
 ghost use Rattle.session.specs.Table.{offering, replying, finishing, closing};
-ghost use Rattle.session.specs.Seen.{toldOffer, toldReply, toldFinish, closeSeen};
-ghost use Rattle.session_bytes.specs.Bytes.{stageByte, schemeByte, bytesOf, stageIn, keyLength, staged, MovesBytes};
+ghost use Rattle.session.specs.Seen.{ofOffer, ofReply, ofFinish, ofClose, turn};
+ghost use Rattle.session_bytes.specs.Bytes.{stageByte, schemeByte, bytesOf, stageIn, keyLength, staged, movedBytes};
 use finish::FinishAnswer;
 use front::Answer;
 use front::Refusal;
@@ -124,12 +125,11 @@ pub fn offer(
     message: &mut [u8],
 ) -> Answer
     ensures { λ r. ⌜
-        MovesBytes (was bytes) (offering scheme (offers.offer a s e seed) (room message)) (left bytes) (toldOffer r (left message))
+        turn (left bytes) (ofOffer (seen (told r) (left message))) ≡ movedBytes (was bytes) (offering scheme (offers.offer a s e seed) (room message))
         ⌝ }
 {
     let Found::At(stage) = stage_of(bytes) else {
-        lists::zero_bytes(message);
-        return Answer::Refused(Refusal::OutOfStage);
+        return session::stop(Refusal::OutOfStage, message);
     };
     let key = key_of(bytes);
     let moved = session::offer(Session { stage, key }, scheme, a, s, e, seed, message);
@@ -153,15 +153,12 @@ pub fn reply(
     digest: &mut [u8],
 ) -> ReplyAnswer
     ensures { λ r. ⌜
-        MovesBytes (was bytes) (replying scheme (replies.reply opening a s1 e1 e2 coins) (room message) (room key) (room digest))
-        (left bytes) (toldReply r (left message) (left key) (left digest))
+        turn (left bytes) (ofReply (replies.replySeen (replies.replyTold r) (left message) (left key) (left digest)))
+        ≡ movedBytes (was bytes) (replying scheme (replies.reply opening a s1 e1 e2 coins) (replies.replyRooms message key digest))
         ⌝ }
 {
     let Found::At(stage) = stage_of(bytes) else {
-        lists::zero_bytes(message);
-        lists::zero_bytes(key);
-        lists::zero_bytes(digest);
-        return ReplyAnswer::Refused(Refusal::OutOfStage);
+        return session::stop_reply(Refusal::OutOfStage, message, key, digest);
     };
     let held = key_of(bytes);
     let from = Session { stage, key: held };
@@ -193,14 +190,12 @@ pub fn finish(
     digest: &mut [u8],
 ) -> FinishAnswer
     ensures { λ r. ⌜
-        MovesBytes (was bytes) (finishing scheme (finishes.finish reply s) (room key) (room digest))
-        (left bytes) (toldFinish r (left key) (left digest))
+        turn (left bytes) (ofFinish (finishes.finishSeen (finishes.finishTold r) (left key) (left digest)))
+        ≡ movedBytes (was bytes) (finishing scheme (finishes.finish reply s) (finishes.finishRooms key digest))
         ⌝ }
 {
     let Found::At(stage) = stage_of(bytes) else {
-        lists::zero_bytes(key);
-        lists::zero_bytes(digest);
-        return FinishAnswer::Refused(Refusal::OutOfStage);
+        return session::stop_finish(Refusal::OutOfStage, key, digest);
     };
     let held = key_of(bytes);
     let moved = session::finish(Session { stage, key: held }, scheme, reply, s, key, digest);
@@ -211,7 +206,7 @@ pub fn finish(
 
 // Close on any buffer: it looks at nothing, and refuses nothing.
 pub fn close(bytes: &mut [u8])
-    ensures { λ _. ⌜ MovesBytes (was bytes) closing (left bytes) (closeSeen 0) ⌝ }
+    ensures { λ _. ⌜ turn (left bytes) (ofClose (done 0)) ≡ movedBytes (was bytes) closing ⌝ }
 {
     lists::zero_bytes(bytes);
 }

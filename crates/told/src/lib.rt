@@ -5,16 +5,14 @@ ghost use Prim.Native.Nat.{_≤_};
 ghost use Rattle.lists.specs.Lent.{left};
 ghost use Rattle.front.specs.Front.{numberIn, placeIn};
 ghost use Rattle.front.specs.Seen.{told};
-ghost use Rattle.front.specs.Answers as answers;
 ghost use Rattle.settings.specs.Calls.{readTold};
-ghost use Rattle.reply.specs.Reply as replies;
-ghost use Rattle.finish.specs.Finish as finishes;
-ghost use Rattle.bench.specs.Bench as benches;
+ghost use Rattle.reply.specs.Reply.{replyTold};
+ghost use Rattle.finish.specs.Finish.{finishTold};
+ghost use Rattle.bench.specs.Bench.{benchTold};
 use bench::BenchAnswer;
 use finish::FinishAnswer;
 use front::Answer;
 use front::Verdict;
-use lists::Peak;
 use reply::ReplyAnswer;
 use settings::LentAnswer;
 
@@ -60,45 +58,28 @@ pub fn tell_reply(
     keyed: &mut u64,
     digested: &mut u64,
 ) -> u32
-    ensures { λ r. ⌜ (r ≡ replies.number answer) × (left place ≡ replies.place answer) ⌝ }
-    ensures { λ r. ⌜ (left written ≡ replies.counts answer .message) × (left keyed ≡ replies.counts answer .key) ⌝ }
-    ensures { λ r. ⌜ left digested ≡ replies.counts answer .digest ⌝ }
+    ensures { λ r. ⌜
+        record { number = r; place = left place; counts = record { message = left written; key = left keyed; digest = left digested } }
+        ≡ replyTold answer
+        ⌝ }
 {
     match answer {
         ReplyAnswer::Done(n) => {
+            *written = n.message as u64;
             *keyed = n.key as u64;
             *digested = n.digest as u64;
-            tell(Answer::Done(n.message), place, written)
+            tell_verdict(Verdict::Pass, place)
         }
         ReplyAnswer::Refused(why) => {
+            *written = 0;
             *keyed = 0;
             *digested = 0;
-            tell(Answer::Refused(why), place, written)
+            tell_verdict(Verdict::Fail(why), place)
         }
     }
 }
 
-// The same with the slack used.
-fn tell_used(
-    answer: Answer,
-    used: Peak,
-    place: &mut u64,
-    written: &mut u64,
-    slack: &mut u64,
-    index: &mut u64,
-) -> u32
-    ensures { λ r. ⌜ (r ≡ answers.number answer) × (left place ≡ answers.place answer) × (left written ≡ answers.written answer) ⌝ }
-    ensures { λ _. ⌜ (left slack ≡ used .most) × (left index ≡ used .at) ⌝ }
-{
-    *slack = used.most as u64;
-    *index = used.at as u64;
-    tell(answer, place, written)
-}
-
-// What a refusal tells of it.
-const UNUSED: Peak = Peak { most: 0, at: 0 };
-
-// The same of Finish, with its two counts.
+// The same of Finish, with its two counts and the slack used.
 pub fn tell_finish(
     answer: FinishAnswer,
     place: &mut u64,
@@ -107,19 +88,29 @@ pub fn tell_finish(
     slack: &mut u64,
     index: &mut u64,
 ) -> u32
-    ensures { λ r. ⌜ (r ≡ finishes.number answer) × (left place ≡ finishes.place answer) ⌝ }
-    ensures { λ _. ⌜ (left keyed ≡ finishes.counts answer .key) × (left digested ≡ finishes.counts answer .digest) ⌝ }
-    ensures { λ _. ⌜ (left slack ≡ finishes.counts answer .slack .most) × (left index ≡ finishes.counts answer .slack .at) ⌝ }
+    ensures { λ r. ⌜
+        record {
+          number = r;
+          place = left place;
+          counts = record { key = left keyed; digest = left digested; slack = record { most = left slack; at = left index } };
+        } ≡ finishTold answer
+        ⌝ }
 {
     match answer {
         FinishAnswer::Done(n) => {
             let used = n.slack;
+            *keyed = n.key as u64;
             *digested = n.digest as u64;
-            tell_used(Answer::Done(n.key), used, place, keyed, slack, index)
+            *slack = used.most as u64;
+            *index = used.at as u64;
+            tell_verdict(Verdict::Pass, place)
         }
         FinishAnswer::Refused(why) => {
+            *keyed = 0;
             *digested = 0;
-            tell_used(Answer::Refused(why), UNUSED, place, keyed, slack, index)
+            *slack = 0;
+            *index = 0;
+            tell_verdict(Verdict::Fail(why), place)
         }
     }
 }
@@ -132,17 +123,29 @@ pub fn tell_bench(
     slack: &mut u64,
     index: &mut u64,
 ) -> u32
-    requires { ⌜ benches.differ answer ≤ 1024 ⌝ }
-    ensures { λ r. ⌜ (r ≡ benches.number answer) × (left place ≡ benches.place answer) × (left differ ≡ benches.differ answer) ⌝ }
-    ensures { λ _. ⌜ (left slack ≡ benches.slack answer .most) × (left index ≡ benches.slack answer .at) ⌝ }
+    requires { ⌜ benchTold answer .differ ≤ 1024 ⌝ }
+    ensures { λ r. ⌜
+        record { number = r; place = left place; differ = left differ; slack = record { most = left slack; at = left index } } ≡ benchTold answer
+        ⌝ }
 {
     match answer {
-        BenchAnswer::Agree(used) => tell_used(Answer::Done(0), used, place, differ, slack, index),
+        BenchAnswer::Agree(used) => {
+            *differ = 0;
+            *slack = used.most as u64;
+            *index = used.at as u64;
+            tell_verdict(Verdict::Pass, place)
+        }
         BenchAnswer::Differ(bit, used) => {
-            tell_used(Answer::Done(bit + 1), used, place, differ, slack, index)
+            *differ = (bit + 1) as u64;
+            *slack = used.most as u64;
+            *index = used.at as u64;
+            tell_verdict(Verdict::Pass, place)
         }
         BenchAnswer::Refused(why) => {
-            tell_used(Answer::Refused(why), UNUSED, place, differ, slack, index)
+            *differ = 0;
+            *slack = 0;
+            *index = 0;
+            tell_verdict(Verdict::Fail(why), place)
         }
     }
 }

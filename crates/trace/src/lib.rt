@@ -24,7 +24,7 @@ struct Tally {
     largest: [u64; 6],
 }
 
-// The counters of the exchanges so far, and whether the whole trace was read.
+// The counters of the exchanges so far, and whether the whole trace was read. The checker does not take an enum that holds an array, hence a flag.
 struct Counted {
     whole: bool,
     tally: Tally,

@@ -1,5 +1,5 @@
 // The trace program: 02, request f. A trace has at most 53,248 bytes, so the first 53,249 bytes of the input tell its answer: `Enough` of
-// `trace`'s `specs/Exactly.antt`.
+// `trace`'s `specs/Exactly.antt`. A read that fails counts as the end of the input: `read_full` does not tell it.
 use libc::STDIN_FILENO;
 use libc::STDOUT_FILENO;
 

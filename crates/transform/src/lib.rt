@@ -75,7 +75,8 @@ fn run(
 }
 
 // One level, in runs of c entries. It is small enough to be compiled anew into each of its ten calls, where h and c are constants and a run is laid out in
-// vectors: c is 32 where h allows it, which was the quickest.
+// vectors: c is 32 where h allows it, which was the quickest. Two halvings a level would be a little quicker, but such a level is too large to be compiled into each
+// call, and the whole then takes twice as long.
 fn level(t: &[u32; 2048], src: &[u16; 1024], dst: &mut [u16; 1024], a: usize, h: usize, c: usize)
     requires { ⌜ (a < 2) × (0 < h) × (512 % h ≡ 0) × (0 < c) × (h % c ≡ 0) ⌝ }
     requires { ⌜ TableRule (now t) × (length (now dst) ≡ 1024) ⌝ }

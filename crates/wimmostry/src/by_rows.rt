@@ -1,9 +1,12 @@
 // Frodo by rows: each exported function hands on to one call of crate `rows`. Begin and part have no output but the state.
+ghost use mathlib.Core.Path.{_≡_};
 ghost use Rattle.lists.specs.Lent.{was, left, room};
+ghost use Rattle.front.specs.Seen.{seen};
+ghost use Rattle.reply.specs.Reply.{replyRooms, replySeen};
 ghost use Rattle.running.specs.State.{frodoOf};
-ghost use Rattle.running.specs.Part.{Taken};
-ghost use Rattle.rows.specs.Offer.{offerBeginOf, OfferBegun, OfferEnded};
-ghost use Rattle.rows.specs.Reply.{replyBeginOf, ReplyBegun, ReplyEnded};
+ghost use Rattle.running.specs.Part.{partResult};
+ghost use Rattle.rows.specs.Offer.{offerBegin, offerBeginResult, offerEndResult};
+ghost use Rattle.rows.specs.Reply.{replyBegin, replyBeginResult, replyEndResult};
 ghost use Rattle.running.specs.declared.Call.{Call};
 
 // Offer, begin: the secret s, the noise e and the seed into the state.
@@ -16,7 +19,9 @@ pub extern "C" fn wim_rows_offer_begin(
     state: &mut [u32],
     place: &mut u64,
 ) -> u32
-    ensures { λ r. ⌜ OfferBegun (frodoOf scheme) (offerBeginOf (was s) (was e) (was seed)) r (left place) (room state) (left state) ⌝ }
+    ensures { λ r. ⌜
+        record { number = r; place = left place; state = left state } ≡ offerBeginResult (frodoOf scheme) (offerBegin s e seed) (room state)
+        ⌝ }
 {
     let verdict = rows::offer_begin(scheme, s, e, seed, state);
     told::tell_verdict(verdict, place)
@@ -25,7 +30,7 @@ pub extern "C" fn wim_rows_offer_begin(
 // Offer, a part: some numbers of the current row of A.
 #[no_mangle]
 pub extern "C" fn wim_rows_offer_part(part: &[u32], state: &mut [u32], place: &mut u64) -> u32
-    ensures { λ r. ⌜ Taken Call.Offer (was state) (was part) r (left place) (left state) ⌝ }
+    ensures { λ r. ⌜ record { number = r; place = left place; state = left state } ≡ partResult Call.Offer (was state) (was part) ⌝ }
 {
     let verdict = rows::offer_part(part, state);
     told::tell_verdict(verdict, place)
@@ -39,7 +44,9 @@ pub extern "C" fn wim_rows_offer_end(
     place: &mut u64,
     written: &mut u64,
 ) -> u32
-    ensures { λ r. ⌜ OfferEnded (was state) r (left place) (room message) (left written) (left message) (left state) ⌝ }
+    ensures { λ r. ⌜
+        record { answer = seen (record { number = r; place = left place; counts = left written }) (left message); state = left state } ≡ offerEndResult (was state) (room message)
+        ⌝ }
 {
     let answer = rows::offer_end(state, message);
     told::tell(answer, place, written)
@@ -57,7 +64,7 @@ pub extern "C" fn wim_rows_reply_begin(
     place: &mut u64,
 ) -> u32
     ensures { λ r. ⌜
-        ReplyBegun (frodoOf scheme) (replyBeginOf (was opening) (was s1) (was e1) (was e2)) r (left place) (room state) (left state)
+        record { number = r; place = left place; state = left state } ≡ replyBeginResult (frodoOf scheme) (replyBegin opening s1 e1 e2) (room state)
         ⌝ }
 {
     let verdict = rows::reply_begin(scheme, opening, s1, e1, e2, state);
@@ -67,7 +74,7 @@ pub extern "C" fn wim_rows_reply_begin(
 // Reply, a part: some numbers of the current row of A.
 #[no_mangle]
 pub extern "C" fn wim_rows_reply_part(part: &[u32], state: &mut [u32], place: &mut u64) -> u32
-    ensures { λ r. ⌜ Taken Call.Reply (was state) (was part) r (left place) (left state) ⌝ }
+    ensures { λ r. ⌜ record { number = r; place = left place; state = left state } ≡ partResult Call.Reply (was state) (was part) ⌝ }
 {
     let verdict = rows::reply_part(part, state);
     told::tell_verdict(verdict, place)
@@ -86,8 +93,13 @@ pub extern "C" fn wim_rows_reply_end(
     digested: &mut u64,
 ) -> u32
     ensures { λ r. ⌜
-        ReplyEnded (was state)
-        r (left place) (room message) (left written) (left message) (room key) (left keyed) (left key) (room digest) (left digested) (left digest) (left state)
+        record {
+          answer =
+              replySeen
+              (record { number = r; place = left place; counts = record { message = left written; key = left keyed; digest = left digested } })
+              (left message) (left key) (left digest);
+          state = left state;
+        } ≡ replyEndResult (was state) (replyRooms message key digest)
         ⌝ }
 {
     let answer = rows::reply_end(state, message, key, digest);

@@ -10,10 +10,10 @@ ghost use Rattle.sampling.specs.Expand.{expand, expandResult};
 ghost use Rattle.sampling.specs.Grow.{grow, growResult};
 ghost use Rattle.hashing.specs.Hashing.{hash, shakeResult, digestResult};
 ghost use Rattle.halves.specs.Halves.{factors, productSeen, productResult};
-ghost use Rattle.offer.specs.Offer.{offer, Offered};
-ghost use Rattle.reply.specs.Reply.{reply, Replied};
-ghost use Rattle.finish.specs.Finish.{finish, Finished};
-ghost use Rattle.bench.specs.Bench.{bench, Benched};
+ghost use Rattle.offer.specs.Offer.{offer, offerResult};
+ghost use Rattle.reply.specs.Reply.{reply, replyRooms, replySeen, replyResult};
+ghost use Rattle.finish.specs.Finish.{finish, finishRooms, finishSeen, finishResult};
+ghost use Rattle.bench.specs.Bench.{bench, benchResult};
 
 mod racks;
 mod sessions;
@@ -35,7 +35,9 @@ pub extern "C" fn wim_offer(
     place: &mut u64,
     written: &mut u64,
 ) -> u32
-    ensures { λ r. ⌜ Offered (schemeOf scheme) (offer a s e seed) r (left place) (room message) (left written) (left message) ⌝ }
+    ensures { λ r. ⌜
+        seen (record { number = r; place = left place; counts = left written }) (left message) ≡ offerResult (schemeOf scheme) (offer a s e seed) (room message)
+        ⌝ }
 {
     let answer = offer::offer(scheme, a, s, e, seed, message);
     told::tell(answer, place, written)
@@ -60,8 +62,9 @@ pub extern "C" fn wim_reply(
     digested: &mut u64,
 ) -> u32
     ensures { λ r. ⌜
-        Replied (schemeOf scheme) (reply opening a s1 e1 e2 coins)
-        r (left place) (room message) (left written) (left message) (room key) (left keyed) (left key) (room digest) (left digested) (left digest)
+        replySeen
+        (record { number = r; place = left place; counts = record { message = left written; key = left keyed; digest = left digested } })
+        (left message) (left key) (left digest) ≡ replyResult (schemeOf scheme) (reply opening a s1 e1 e2 coins) (replyRooms message key digest)
         ⌝ }
 {
     let answer = reply::reply(scheme, opening, a, s1, e1, e2, coins, message, key, digest);
@@ -83,8 +86,13 @@ pub extern "C" fn wim_finish(
     index: &mut u64,
 ) -> u32
     ensures { λ r. ⌜
-        Finished (schemeOf scheme) (finish reply s)
-        r (left place) (room key) (left keyed) (left key) (room digest) (left digested) (left digest) (left slack) (left index)
+        finishSeen
+        (record {
+          number = r;
+          place = left place;
+          counts = record { key = left keyed; digest = left digested; slack = record { most = left slack; at = left index } };
+        })
+        (left key) (left digest) ≡ finishResult (schemeOf scheme) (finish reply s) (finishRooms key digest)
         ⌝ }
 {
     let answer = finish::finish(scheme, reply, s, key, digest);
@@ -198,7 +206,10 @@ pub extern "C" fn wim_bench(
     slack: &mut u64,
     index: &mut u64,
 ) -> u32
-    ensures { λ r. ⌜ Benched (schemeOf scheme) (bench a s e seed s1 e1 e2 coins) r (left place) (left differ) (left slack) (left index) ⌝ }
+    ensures { λ r. ⌜
+        record { number = r; place = left place; differ = left differ; slack = record { most = left slack; at = left index } }
+        ≡ benchResult (schemeOf scheme) (bench a s e seed s1 e1 e2 coins)
+        ⌝ }
 {
     let answer = bench::bench(scheme, a, s, e, seed, s1, e1, e2, coins);
     told::tell_bench(answer, place, differ, slack, index)

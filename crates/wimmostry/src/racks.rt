@@ -1,12 +1,14 @@
 // The calls on a rack behind a pointer, eight records of 131 lent bytes: 02, request k. Each takes the rack and a studio's number first, and then what the
 // plain call takes.
+ghost use mathlib.Core.Path.{_≡_};
 ghost use Rattle.lists.specs.Lent.{was, left, room};
+ghost use Rattle.front.specs.Seen.{seen};
 ghost use Rattle.offer.specs.Offer.{offer};
-ghost use Rattle.reply.specs.Reply.{reply};
-ghost use Rattle.finish.specs.Finish.{finish};
+ghost use Rattle.reply.specs.Reply.{reply, replyRooms, replySeen};
+ghost use Rattle.finish.specs.Finish.{finish, finishRooms, finishSeen};
 ghost use Rattle.session.specs.Table.{offering, replying, finishing, closing};
-ghost use Rattle.session.specs.Seen.{output, noOutput, offerSeen, replySeen, finishSeen};
-ghost use Rattle.rack.specs.Slots.{RackMoves, Cleared};
+ghost use Rattle.session.specs.Seen.{ofOffer, ofReply, ofFinish, ofClose, turn};
+ghost use Rattle.rack.specs.Slots.{movedIn, cleared};
 
 // Offer for a studio, in its own slot.
 #[no_mangle]
@@ -23,8 +25,8 @@ pub extern "C" fn wim_rack_offer(
     written: &mut u64,
 ) -> u32
     ensures { λ r. ⌜
-        RackMoves (was rack) studio (offering scheme (offer a s e seed) (room message))
-        (left rack) (offerSeen r (left place) (output (left written) (left message)))
+        turn (left rack) (ofOffer (seen (record { number = r; place = left place; counts = left written }) (left message)))
+        ≡ movedIn (was rack) studio (offering scheme (offer a s e seed) (room message))
         ⌝ }
 {
     let answer = rack::offer(rack, studio, scheme, a, s, e, seed, message);
@@ -52,9 +54,11 @@ pub extern "C" fn wim_rack_reply(
     digested: &mut u64,
 ) -> u32
     ensures { λ r. ⌜
-        RackMoves (was rack) studio (replying scheme (reply opening a s1 e1 e2 coins) (room message) (room key) (room digest))
-        (left rack)
-        (replySeen r (left place) (output (left written) (left message)) (output (left keyed) (left key)) (output (left digested) (left digest)))
+        turn (left rack)
+        (ofReply
+        (replySeen
+        (record { number = r; place = left place; counts = record { message = left written; key = left keyed; digest = left digested } })
+        (left message) (left key) (left digest))) ≡ movedIn (was rack) studio (replying scheme (reply opening a s1 e1 e2 coins) (replyRooms message key digest))
         ⌝ }
 {
     let answer = rack::reply(
@@ -91,9 +95,15 @@ pub extern "C" fn wim_rack_finish(
     index: &mut u64,
 ) -> u32
     ensures { λ r. ⌜
-        RackMoves (was rack) studio (finishing scheme (finish reply s) (room key) (room digest))
-        (left rack)
-        (finishSeen r (left place) (output (left keyed) (left key)) (output (left digested) (left digest)) (record { most = left slack; at = left index }))
+        turn (left rack)
+        (ofFinish
+        (finishSeen
+        (record {
+          number = r;
+          place = left place;
+          counts = record { key = left keyed; digest = left digested; slack = record { most = left slack; at = left index } };
+        })
+        (left key) (left digest))) ≡ movedIn (was rack) studio (finishing scheme (finish reply s) (finishRooms key digest))
         ⌝ }
 {
     let answer = rack::finish(rack, studio, scheme, reply, s, key, digest);
@@ -103,7 +113,7 @@ pub extern "C" fn wim_rack_finish(
 // Close for one: its slot's number and zeros, whatever the slot held.
 #[no_mangle]
 pub extern "C" fn wim_rack_close(rack: &mut [u8], studio: u32, place: &mut u64) -> u32
-    ensures { λ r. ⌜ RackMoves (was rack) studio closing (left rack) (offerSeen r (left place) noOutput) ⌝ }
+    ensures { λ r. ⌜ turn (left rack) (ofClose (record { number = r; place = left place; counts = 0 })) ≡ movedIn (was rack) studio closing ⌝ }
 {
     let verdict = rack::close(rack, studio);
     told::tell_verdict(verdict, place)
@@ -112,7 +122,7 @@ pub extern "C" fn wim_rack_close(rack: &mut [u8], studio: u32, place: &mut u64) 
 // An empty rack: eight idle records with their numbers.
 #[no_mangle]
 pub extern "C" fn wim_rack_clear(rack: &mut [u8], place: &mut u64) -> u32
-    ensures { λ r. ⌜ Cleared (was rack) (left rack) r (left place) ⌝ }
+    ensures { λ r. ⌜ record { number = r; place = left place; rack = left rack } ≡ cleared (was rack) ⌝ }
 {
     let verdict = rack::clear(rack);
     told::tell_verdict(verdict, place)

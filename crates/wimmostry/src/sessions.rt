@@ -1,11 +1,13 @@
 // The calls on a session behind a pointer, 130 lent bytes: 02, request a. Each takes the session first, and then what the plain call takes.
+ghost use mathlib.Core.Path.{_≡_};
 ghost use Rattle.lists.specs.Lent.{was, left, room};
+ghost use Rattle.front.specs.Seen.{seen};
 ghost use Rattle.offer.specs.Offer.{offer};
-ghost use Rattle.reply.specs.Reply.{reply};
-ghost use Rattle.finish.specs.Finish.{finish};
+ghost use Rattle.reply.specs.Reply.{reply, replyRooms, replySeen};
+ghost use Rattle.finish.specs.Finish.{finish, finishRooms, finishSeen};
 ghost use Rattle.session.specs.Table.{offering, replying, finishing, closing};
-ghost use Rattle.session.specs.Seen.{output, offerSeen, replySeen, finishSeen, closeSeen};
-ghost use Rattle.session_bytes.specs.Bytes.{MovesBytes};
+ghost use Rattle.session.specs.Seen.{ofOffer, ofReply, ofFinish, ofClose, turn};
+ghost use Rattle.session_bytes.specs.Bytes.{movedBytes};
 
 // Offer on a session of 130 bytes: when idle.
 #[no_mangle]
@@ -21,8 +23,8 @@ pub extern "C" fn wim_session_offer(
     written: &mut u64,
 ) -> u32
     ensures { λ r. ⌜
-        MovesBytes (was session) (offering scheme (offer a s e seed) (room message))
-        (left session) (offerSeen r (left place) (output (left written) (left message)))
+        turn (left session) (ofOffer (seen (record { number = r; place = left place; counts = left written }) (left message)))
+        ≡ movedBytes (was session) (offering scheme (offer a s e seed) (room message))
         ⌝ }
 {
     let answer = session_bytes::offer(session, scheme, a, s, e, seed, message);
@@ -49,9 +51,11 @@ pub extern "C" fn wim_session_reply(
     digested: &mut u64,
 ) -> u32
     ensures { λ r. ⌜
-        MovesBytes (was session) (replying scheme (reply opening a s1 e1 e2 coins) (room message) (room key) (room digest))
-        (left session)
-        (replySeen r (left place) (output (left written) (left message)) (output (left keyed) (left key)) (output (left digested) (left digest)))
+        turn (left session)
+        (ofReply
+        (replySeen
+        (record { number = r; place = left place; counts = record { message = left written; key = left keyed; digest = left digested } })
+        (left message) (left key) (left digest))) ≡ movedBytes (was session) (replying scheme (reply opening a s1 e1 e2 coins) (replyRooms message key digest))
         ⌝ }
 {
     let answer = session_bytes::reply(
@@ -86,9 +90,15 @@ pub extern "C" fn wim_session_finish(
     index: &mut u64,
 ) -> u32
     ensures { λ r. ⌜
-        MovesBytes (was session) (finishing scheme (finish reply s) (room key) (room digest))
-        (left session)
-        (finishSeen r (left place) (output (left keyed) (left key)) (output (left digested) (left digest)) (record { most = left slack; at = left index }))
+        turn (left session)
+        (ofFinish
+        (finishSeen
+        (record {
+          number = r;
+          place = left place;
+          counts = record { key = left keyed; digest = left digested; slack = record { most = left slack; at = left index } };
+        })
+        (left key) (left digest))) ≡ movedBytes (was session) (finishing scheme (finish reply s) (finishRooms key digest))
         ⌝ }
 {
     let answer = session_bytes::finish(session, scheme, reply, s, key, digest);
@@ -98,7 +108,7 @@ pub extern "C" fn wim_session_finish(
 // Close on any buffer: it zeroes it, and returns 0 always.
 #[no_mangle]
 pub extern "C" fn wim_session_close(session: &mut [u8]) -> u32
-    ensures { λ r. ⌜ MovesBytes (was session) closing (left session) (closeSeen r) ⌝ }
+    ensures { λ r. ⌜ turn (left session) (ofClose (record { number = r; place = 0; counts = 0 })) ≡ movedBytes (was session) closing ⌝ }
 {
     session_bytes::close(session);
     0

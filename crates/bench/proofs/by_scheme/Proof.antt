@@ -1,5 +1,5 @@
 -- `bench::by_scheme` meets its contract: BCNS's answer, or that of the bench that compares.
-use Rattle.schemes.specs.declared.Scheme.{Scheme}
+use mathlib.Core.Path.{_∙_}
 use borrow.Author.Needs.{needs}
 use Rattle.bench.proofs.by_scheme.Statement.{statement}
 use Rattle.bench.proofs.by_scheme.Tie as tie
@@ -9,7 +9,7 @@ returns c =
     let o : tie.After-enum-told = search needs in
     let t : tie.After-told = search needs in
     let p : tie.After-bcns = search needs in
-    rw (o .enum-told .given .1, t .told .ensures) (p .bcns .ensures)
+    t .told .ensures ∙ rw (o .enum-told .given .1) (p .bcns .ensures)
 
 pub by-scheme-spec : {M : Type 1} → statement M
 by-scheme-spec =

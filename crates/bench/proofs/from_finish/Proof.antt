@@ -19,7 +19,7 @@ returns c =
     let n = asked f in
     let b = start n in
     let a = b .args in
-    finish-refused (a .scheme) (finishOf (a .reply .now) (a .s .now)) (named (a .scheme) (n .number .ensures)) (b .pre) _ (f .finish .ensures) (v .v .given .1)
+    finish-refused (a .scheme) (finishOf (a .reply .now) (a .s .now)) (named (a .scheme) (n .number .ensures)) (b .pre) (f .finish .result) _ _ (f .finish .ensures) (v .v .given .1)
 
 returns-2 : tie.Need-returns-2
 returns-2 c =
@@ -28,7 +28,7 @@ returns-2 c =
     let n = asked f in
     let b = start n in
     let a = b .args in
-    finish-done (a .scheme) (finishOf (a .reply .now) (a .s .now)) (named (a .scheme) (n .number .ensures)) (b .pre) _ (f .finish .ensures) (v .v2 .given .1)
+    finish-done (a .scheme) (finishOf (a .reply .now) (a .s .now)) (named (a .scheme) (n .number .ensures)) (b .pre) (f .finish .result) _ _ (f .finish .ensures) (v .v2 .given .1)
 
 pub from-finish-spec : {M : Type 1} → statement M
 from-finish-spec =

@@ -23,7 +23,7 @@ returns c =
     let b = start n in
     let a = b .args in
     let x = benchOf (a .a .now) (a .s .now) (a .e .now) (a .seed .now) (a .s1 .now) (a .e1 .now) (a .e2 .now) (a .coins .now) in
-    offer-refused (a .scheme) x (named (a .scheme) (n .number .ensures)) (b .pre .0 .0) _ (p .offer .ensures) _ _ (v .v .given .1)
+    offer-refused (a .scheme) x (named (a .scheme) (n .number .ensures)) (b .pre .0 .0) (p .offer .result) _ (p .offer .ensures) _ _ (v .v .given .1)
 
 returns-2 : tie.Need-returns-2
 returns-2 c =
@@ -34,7 +34,7 @@ returns-2 c =
     let b = start n in
     let a = b .args in
     let x = benchOf (a .a .now) (a .s .now) (a .e .now) (a .seed .now) (a .s1 .now) (a .e1 .now) (a .e2 .now) (a .coins .now) in
-    offer-told (a .scheme) x (named (a .scheme) (n .number .ensures)) (b .pre .0 .0) _ (p .offer .ensures) (o .enum-told .given .1) (f .from-reply .ensures)
+    offer-told (a .scheme) x (named (a .scheme) (n .number .ensures)) (b .pre .0 .0) (p .offer .result) _ (p .offer .ensures) (o .enum-told .given .1) (f .from-reply .ensures)
 
 pub from-offer-spec : {M : Type 1} → statement M
 from-offer-spec =

@@ -23,7 +23,7 @@ returns c =
     let b = start n in
     let a = b .args in
     let x = replyOf (a .opening .now) (a .a .now) (a .s1 .now) (a .e1 .now) (a .e2 .now) (a .coins .now) in
-    reply-refused (a .scheme) x (a .s .now) (named (a .scheme) (n .number .ensures)) (b .pre .0, b .pre .1 .0, b .pre .1 .2) _ (p .reply .ensures) _ (v .v .given .1)
+    reply-refused (a .scheme) x (a .s .now) (named (a .scheme) (n .number .ensures)) (b .pre .0, b .pre .1 .0, b .pre .1 .2) (p .reply .result) _ _ _ (p .reply .ensures) _ (v .v .given .1)
 
 returns-2 : tie.Need-returns-2
 returns-2 c =
@@ -34,7 +34,7 @@ returns-2 c =
     let b = start n in
     let a = b .args in
     let x = replyOf (a .opening .now) (a .a .now) (a .s1 .now) (a .e1 .now) (a .e2 .now) (a .coins .now) in
-    reply-told (a .scheme) x (a .s .now) (named (a .scheme) (n .number .ensures)) (b .pre .0, b .pre .1 .0, b .pre .1 .2) _ (p .reply .ensures) (o .enum-told .given .1)
+    reply-told (a .scheme) x (a .s .now) (named (a .scheme) (n .number .ensures)) (b .pre .0, b .pre .1 .0, b .pre .1 .2) (p .reply .result) _ _ _ (p .reply .ensures) (o .enum-told .given .1)
     (f .from-finish .ensures)
 
 pub from-reply-spec : {M : Type 1} → statement M

@@ -3,8 +3,8 @@ use mathlib.Core.Path.{sym, ap, _∙_}
 use native.Mathlib.Omega.{arith}
 use lib.ListN.{length}
 use Rattle.schemes.proofs.Sound.{sound}
-use Rattle.reply.proofs.Replying.{key-length}
-use Rattle.finish.proofs.Finishing.{peer-key-length}
+use Rattle.reply.proofs.Replying as reply
+use Rattle.finish.proofs.Finishing as finish
 use Rattle.agreement.specs.Run.{replying, finishing}
 use Rattle.bench.specs.Bench.{Bench, benchOf}
 use Rattle.bench.proofs.Answering.{bench-refused, bench-told, own-kept, peer-kept}
@@ -27,8 +27,8 @@ keys-requires c κs =
     let b = start p in
     let s = b .args .scheme in
     let x = lent b in
-    let own = ap length (own-kept s x (p .from-offer .ensures) (v .v2 .given .1)) ∙ key-length s (replying s x) in
-    let peer = ap length (peer-kept s x (p .from-offer .ensures) (v .v2 .given .1)) ∙ peer-key-length s (finishing s x) in
+    let own = ap length (own-kept s x (p .from-offer .ensures) (v .v2 .given .1)) ∙ reply.key-length s (replying s x) in
+    let peer = ap length (peer-kept s x (p .from-offer .ensures) (v .v2 .given .1)) ∙ finish.key-length s (finishing s x) in
     (omega (arith, own, sound s .keys), own ∙ sym peer)
 
 returns : tie.Need-returns

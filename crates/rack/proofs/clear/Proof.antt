@@ -1,5 +1,4 @@
 -- `rack::clear` meets its contract.
-use mathlib.Core.Path.{_≡_, refl, _∙_, sym, ap}
 use Rattle.rack.proofs.Calls.{clear-not, clear-done}
 use borrow.Author.Needs.{needs}
 use Rattle.rack.proofs.clear.Statement.{statement}

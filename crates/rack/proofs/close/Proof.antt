@@ -1,46 +1,74 @@
 -- `rack::close` meets its contract: 16, 10, or the slot's number and zeros.
-use mathlib.Core.Path.{_≡_, refl, _∙_, sym, ap}
+use mathlib.Core.Path.{_≡_, _∙_, sym}
+use mathlib.Core.Bool.{true}
 use Prim.Native.Nat.{_+_, _-_, _*_}
 use native.Mathlib.Omega.{arith}
-use borrow.Author.Tests.{ne-eqb}
-use Rattle.front.specs.declared.Refusal.the-variants.{OutOfStage, NoStudio}
-use Rattle.session.proofs.Laws.{close-stops}
-use Rattle.rack.proofs.Calls.{away, stopped, closed}
+use Rattle.front.specs.declared.Verdict.the-variants.{Pass}
+use Rattle.rack.specs.Slots.{slotTests}
+use Rattle.rack.proofs.Parts.{slot-rack}
+use Rattle.rack.proofs.Calls.{close-stopped, closed}
 use borrow.Author.Needs.{needs}
 use Rattle.rack.proofs.close.Statement.{statement}
 use Rattle.rack.proofs.close.Tie as tie
 
 returns : tie.Need-returns
-returns c = away _ _ _ (c .if1 .taken) (close-stops NoStudio)
+returns c =
+    let e : tie.After-enum-told2 = search needs in
+    let v : tie.After-slot = search needs in
+    let s : tie.Start = search needs in
+    close-stopped (s .args .bytes .now) _ (v .slot .ensures) (e .enum-told2 .given .1)
+
+-- where the slot's tests have passed
+abbrev tested : tie.After-enum-told → tie.After-slot
+tested c = search needs
+
+abbrev start : tie.After-enum-told → tie.Start
+start c = search needs
+
+abbrev own : (p : tie.After-enum-told) → slotTests (start p .args .bytes .now) (start p .args .studio) true ≡ Pass
+own p = sym (tested p .slot .ensures) ∙ p .enum-told .given .1
+
+part-zero-bytes-end : tie.Need-part-zero-bytes-end
+part-zero-bytes-end c =
+    let p : tie.After-enum-told = search needs in
+    let l = slot-rack _ _ _ (own p) in
+    omega (arith, l .0, l .1)
+
+cast-bytes : tie.Need-cast-bytes
+cast-bytes c =
+    let p : tie.After-enum-told = search needs in
+    let l = slot-rack _ _ _ (own p) in
+    omega (arith, l .0)
+
+slice-write-bytes : tie.Need-slice-write-bytes
+slice-write-bytes c =
+    let p : tie.After-enum-told = search needs in
+    let l = slot-rack _ _ _ (own p) in
+    search (needs, l .0, l .1)
 
 returns-2 : tie.Need-returns-2
 returns-2 c =
-    let u : tie.Else1 = search needs in
-    let s : tie.Start = search needs in
-    stopped (s .args .bytes .now) (s .args .studio) _ (u .if1 .left) (ne-eqb _ _ (c .if2 .taken)) (close-stops OutOfStage)
-
-returns-3 : tie.Need-returns-3
-returns-3 c =
     let z : tie.After-zero-bytes = search needs in
-    let e : tie.Else2 = search needs in
-    let u : tie.Else1 = search needs in
-    let s : tie.Start = search needs in
-    let i = s .args .studio in
-    closed (s .args .bytes .now) i {d = 131 * i + 131 - 131 * i} (u .if1 .left) (e .if2 .left) (omega arith) (z .zero-bytes .ensures)
+    let p : tie.After-enum-told = search needs in
+    let i = start p .args .studio in
+    closed (start p .args .bytes .now) i {d = 131 * i + 131 - 131 * i} (own p) (omega arith) (z .zero-bytes .ensures)
 
 pub close-spec : {M : Type 1} → statement M
 close-spec =
     tie.close
     (tie.spec
-    returns
-    returns-2
-    (search needs)
-    (search needs)
-    (search needs)
-    (search needs)
-    (search needs)
     (λ c κs. search needs)
     (search needs)
     (search needs)
+    (search needs)
+    returns
+    (search needs)
+    (search needs)
+    (search needs)
+    (search needs)
+    part-zero-bytes-end
+    (λ c κs. search needs)
+    cast-bytes
+    slice-write-bytes
     (λ c. search needs)
-    returns-3)
+    returns-2)

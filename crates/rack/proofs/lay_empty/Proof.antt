@@ -1,5 +1,5 @@
 -- `rack::lay_empty` meets its contract.
-use mathlib.Core.Path.{_≡_, refl, _∙_, sym, ap}
+use mathlib.Core.Path.{_∙_, ap}
 use Prim.Native.Nat.{ℕ}
 use lib.ListN.{replicate, length-set}
 use Rattle.rack.proofs.Calls.{laid-empty}

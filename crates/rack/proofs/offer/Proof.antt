@@ -1,63 +1,36 @@
 -- `rack::offer` meets its contract: 16, 10, or the session's call on the bytes behind the slot's number.
-use mathlib.Core.Path.{_≡_, refl, _∙_, sym, ap}
-use mathlib.Core.Bool.{true}
+use mathlib.Core.Path.{refl, _∙_, sym}
 use Prim.Native.Nat.{_+_, _-_, _*_}
 use native.Mathlib.Omega.{arith}
-use borrow.Author.Tests.{not-true, not-false}
-use Rattle.front.specs.declared.Refusal.the-variants.{OutOfStage, NoStudio}
 use Rattle.session.proofs.Laws.{offer-stops}
-use Rattle.rack.specs.Slots.{owned}
-use Rattle.rack.proofs.Parts.{owned-is}
-use Rattle.rack.proofs.Calls.{away, stopped, called}
+use Rattle.rack.proofs.Parts.{slot-rack}
+use Rattle.rack.proofs.Calls.{stopped, called}
 use borrow.Author.Needs.{needs}
 use Rattle.rack.proofs.offer.Statement.{statement}
 use Rattle.rack.proofs.offer.Tie as tie
 
--- the places, from the last to the first
-abbrev served : tie.After-offer → tie.Else2
-served c = search needs
-
-abbrev looked : tie.Else2 → tie.After-owns
-looked c = search needs
-
-abbrev under : tie.After-owns → tie.Else1
-under c = search needs
-
-abbrev start : tie.Else1 → tie.Start
-start c = search needs
-
-abbrev own : (e : tie.Else2) → owned (start (under (looked e)) .args .bytes .now) (start (under (looked e)) .args .studio) ≡ true
-own e = sym (looked e .owns .ensures) ∙ not-false _ (e .if2 .left)
-
 returns : tie.Need-returns
 returns c =
-    let z : tie.After-zero-bytes = search needs in
-    let b : tie.Then1 = search needs in
-    let s : tie.Start = search needs in
-    away (s .args .bytes .now) _ _ (b .if1 .taken) (offer-stops NoStudio (z .zero-bytes .ensures))
-
-returns-2 : tie.Need-returns-2
-returns-2 c =
-    let z : tie.After-zero-bytes2 = search needs in
-    let b : tie.Then2 = search needs in
-    let o : tie.After-owns = search needs in
-    let u = under o in
-    stopped (start u .args .bytes .now) _ _ (u .if1 .left) (sym (o .owns .ensures) ∙ not-true _ (b .if2 .taken)) (offer-stops OutOfStage (z .zero-bytes2 .ensures))
+    let z : tie.After-stop = search needs in
+    let r : tie.After-refusal = search needs in
+    let v : tie.After-slot = search needs in
+    stopped _ _ _ (sym (v .slot .ensures) ∙ r .refusal .given .1) (offer-stops _ _ _ _ (z .stop .ensures))
 
 part-offer-end : tie.Need-part-offer-end
 part-offer-end c =
-    let e : tie.Else2 = search needs in
-    let u = under (looked e) in
-    omega (arith, u .if1 .left, owned-is _ _ (own e) .0)
+    let p : tie.After-enum-told = search needs in
+    let v : tie.After-slot = search needs in
+    let l = slot-rack _ _ _ (sym (v .slot .ensures) ∙ p .enum-told .given .1) in
+    omega (arith, l .0, l .1)
 
-returns-3 : tie.Need-returns-3
-returns-3 c =
+returns-2 : tie.Need-returns-2
+returns-2 c =
     let w : tie.After-offer = search needs in
-    let e = served w in
-    let u = under (looked e) in
-    let s = start u in
+    let p : tie.After-enum-told = search needs in
+    let v : tie.After-slot = search needs in
+    let s : tie.Start = search needs in
     let i = s .args .studio in
-    called (s .args .bytes .now) i (131 * i + 1) (131 * i + 1 + 130 - (131 * i + 1)) refl (omega arith) (u .if1 .left) (own e) (w .offer .ensures)
+    called (s .args .bytes .now) i (131 * i + 1) (131 * i + 1 + 130 - (131 * i + 1)) refl (omega arith) (sym (v .slot .ensures) ∙ p .enum-told .given .1) _ (w .offer .ensures)
 
 pub offer-spec : {M : Type 1} → statement M
 offer-spec =
@@ -65,12 +38,11 @@ offer-spec =
     (tie.spec
     (λ c κs. search needs)
     (search needs)
+    (λ c κs. search needs)
+    (search needs)
+    (search needs)
     returns
-    (λ c κs. search needs)
-    (λ c κs. search needs)
     (search needs)
-    (search needs)
-    returns-2
     (search needs)
     (search needs)
     (search needs)
@@ -80,4 +52,4 @@ offer-spec =
     (λ c κs. search needs)
     (search needs)
     (search needs)
-    returns-3)
+    returns-2)

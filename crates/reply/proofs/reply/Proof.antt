@@ -25,7 +25,7 @@ returns c =
     let n : tie.After-named = search needs in
     let m = n .named .ensures .0 in
     let z = zeroed n .zero-outputs .ensures in
-    reply-refused (reply-unknown _ _ _ _ (sym (m .0) ∙ c .enum-told .given .1)) (z .0) (z .1) (m .1)
+    reply-refused _ _ _ _ (reply-unknown _ _ (sym (m .0) ∙ c .enum-told .given .1)) (z .0) (z .1) (m .1)
 
 reply-in-requires : tie.Need-reply-in-requires
 reply-in-requires c κs =

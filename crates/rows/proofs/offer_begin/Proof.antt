@@ -4,7 +4,8 @@ use borrow.Author.Needs.{needs}
 use lib.ListN.{length}
 use Rattle.lists.proofs.Same.{zeros, zeros-long}
 use Rattle.running.proofs.Tests.{frodo-named}
-use Rattle.rows.proofs.Opening.{begin-unknown, begin-failed, begin-named}
+use Rattle.running.proofs.Turns.{state-by}
+use Rattle.rows.proofs.Opening.{begin-unknown}
 use Rattle.rows.proofs.offer_begin.Statement.{statement}
 use Rattle.rows.proofs.offer_begin.Tie as tie
 
@@ -12,7 +13,7 @@ returns : tie.Need-returns
 returns c =
     let z : tie.After-zero-numbers = search needs in
     let n : tie.After-frodo-of = search needs in
-    begin-failed (begin-unknown _ _ (sym (n .frodo-of .ensures) ∙ c .enum-told .given .1)) (z .zero-numbers .ensures)
+    state-by _ _ (begin-unknown _ _ (sym (n .frodo-of .ensures) ∙ c .enum-told .given .1)) (z .zero-numbers .ensures)
 
 begin-in-requires : tie.Need-begin-in-requires
 begin-in-requires c κs =
@@ -29,7 +30,9 @@ returns-2 c =
     let n : tie.After-frodo-of = search needs in
     let k : tie.After-known = search needs in
     let b : tie.After-begin-in = search needs in
-    begin-named (sym (n .frodo-of .ensures) ∙ k .known .given .1) (zeros-long (length (s .args .state .now)) 0 (z .zero-numbers .ensures)) (b .begin-in .ensures)
+    let e = sym (n .frodo-of .ensures) ∙ k .known .given .1 in
+    let l = zeros-long (length (s .args .state .now)) 0 (z .zero-numbers .ensures) in
+    rw (e, ← l) (b .begin-in .ensures)
 
 pub offer-begin-spec : {M : Type 1} → statement M
 offer-begin-spec =

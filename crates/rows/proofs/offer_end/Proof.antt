@@ -2,7 +2,7 @@
 use mathlib.Core.Path.{_∙_, sym}
 use lib.ListN.{length}
 use Rattle.lists.proofs.Same.{zeros, zeros-long}
-use Rattle.rows.proofs.Opening.{end-unknown, end-refused, end-named}
+use Rattle.rows.proofs.Opening.{end-unknown, end-refused}
 use borrow.Author.Needs.{needs}
 use Rattle.rows.proofs.offer_end.Statement.{statement}
 use Rattle.rows.proofs.offer_end.Tie as tie
@@ -11,7 +11,7 @@ returns : tie.Need-returns
 returns c =
     let z : tie.After-zero-bytes = search needs in
     let n : tie.After-named = search needs in
-    end-refused (end-unknown _ _ (sym (n .named .ensures) ∙ c .enum-told .given .1)) (z .zero-bytes .ensures)
+    end-refused _ _ (end-unknown _ _ (sym (n .named .ensures) ∙ c .enum-told .given .1)) (z .zero-bytes .ensures)
 
 end-in-requires : tie.Need-end-in-requires
 end-in-requires c κs =
@@ -26,7 +26,8 @@ returns-2 c =
     let s : tie.Start = search needs in
     let z : tie.After-zero-bytes = search needs in
     let e : tie.After-end-in = search needs in
-    end-named (zeros-long (length (s .args .message .now)) 0 (z .zero-bytes .ensures)) (e .end-in .ensures)
+    let l = zeros-long (length (s .args .message .now)) 0 (z .zero-bytes .ensures) in
+    rw (← l) (e .end-in .ensures)
 
 pub offer-end-spec : {M : Type 1} → statement M
 offer-end-spec =

@@ -1,9 +1,10 @@
 -- `rows::reply_begin` meets its contract: the state is zeroed first, and then holds what the scheme by its name gives.
-use mathlib.Core.Path.{refl, sym, _∙_}
+use mathlib.Core.Path.{sym, _∙_}
 use lib.ListN.{length}
 use Rattle.lists.proofs.Same.{zeros, zeros-long}
 use Rattle.running.proofs.Tests.{frodo-named}
-use Rattle.rows.proofs.Replying.{begin-unknown, begun-by}
+use Rattle.running.proofs.Turns.{state-by}
+use Rattle.rows.proofs.Replying.{begin-unknown}
 use borrow.Author.Needs.{needs}
 use Rattle.rows.proofs.reply_begin.Statement.{statement}
 use Rattle.rows.proofs.reply_begin.Tie as tie
@@ -12,7 +13,7 @@ returns : tie.Need-returns
 returns c =
     let f : tie.After-frodo-of = search needs in
     let z : tie.After-zero-numbers = search needs in
-    begun-by _ (begin-unknown _ _ (sym (f .frodo-of .ensures) ∙ c .enum-told .given .1)) (z .zero-numbers .ensures) refl
+    state-by _ _ (begin-unknown _ _ (sym (f .frodo-of .ensures) ∙ c .enum-told .given .1)) (z .zero-numbers .ensures)
 
 begin-in-requires : tie.Need-begin-in-requires
 begin-in-requires c κs =

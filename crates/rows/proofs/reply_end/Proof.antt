@@ -25,7 +25,7 @@ returns : tie.Need-returns
 returns c =
     let n : tie.After-named = search needs in
     let z = zeroed n .zero-outputs .ensures in
-    end-refused (end-unknown _ _ _ _ (sym (n .named .ensures) ∙ c .enum-told .given .1)) (z .0) (z .1 .0) (z .1 .1)
+    end-refused _ _ (end-unknown _ _ (sym (n .named .ensures) ∙ c .enum-told .given .1)) (z .0) (z .1 .0) (z .1 .1)
 
 end-in-requires : tie.Need-end-in-requires
 end-in-requires c κs =

@@ -1,64 +1,54 @@
 -- `session::finish` meets its contract: 10, a refusal of the call beneath, or its answer.
-use mathlib.Core.Path.{_≡_, refl, _∙_, sym, ap}
+use mathlib.Core.Path.{_∙_, sym}
+use Rattle.front.specs.declared.Refusal.the-variants.{OutOfStage}
+use Rattle.session.specs.Table.{row}
 use borrow.Author.Tests.{not-true, not-false}
-use Rattle.session.proofs.Laws.{finish-out, finish-refused, finish-few, finish-room, finish-done}
+use Rattle.session.proofs.Laws.{turned, fits, keeps, finish-stops, finish-refused, finish-given}
 use borrow.Author.Needs.{needs}
 use Rattle.session.proofs.finish.Statement.{statement}
 use Rattle.session.proofs.finish.Tie as tie
 
--- the places, from the last to the first
-abbrev keyed-at : tie.After-keyed → tie.After-answer
-keyed-at c = search needs
-
-abbrev answered : tie.After-answer → tie.After-finish
-answered c = search needs
-
-abbrev went : tie.After-finish → tie.Else1
-went c = search needs
-
-abbrev asked : tie.Else1 → tie.After-awaits
-asked c = search needs
-
-abbrev start : tie.After-awaits → tie.Start
-start c = search needs
-
 returns : tie.Need-returns
+unfolding row
 returns c =
-    let w : tie.After-zero-bytes2 = search needs in
-    let z : tie.After-zero-bytes = search needs in
+    let z : tie.After-stop-finish = search needs in
     let b : tie.Then1 = search needs in
     let i : tie.After-awaits = search needs in
-    finish-out (start i .args .session) (sym (i .awaits .ensures) ∙ not-true _ (b .if1 .taken)) (z .zero-bytes .ensures) (w .zero-bytes2 .ensures)
+    let s : tie.Start = search needs in
+    turned (s .args .session) _ (sym (i .awaits .ensures) ∙ not-true _ (b .if1 .taken)) (finish-stops _ _ _ OutOfStage (z .stop-finish .ensures))
 
 returns-2 : tie.Need-returns-2
 returns-2 c =
     let e : tie.After-enum-told = search needs in
     let o : tie.After-finish = search needs in
-    let b = went o in
-    let i = asked b in
-    finish-refused (start i .args .session) (o .finish .result) (sym (i .awaits .ensures) ∙ not-false _ (b .if1 .left)) (o .finish .ensures) (e .enum-told .given .1)
+    let b : tie.Else1 = search needs in
+    let i : tie.After-awaits = search needs in
+    let s : tie.Start = search needs in
+    finish-refused _ _ _ _ _ (o .finish .result) (o .finish .ensures) (s .args .session) (sym (i .awaits .ensures) ∙ not-false _ (b .if1 .left)) (e .enum-told .given .1)
 
 keyed-requires : tie.Need-keyed-requires
 keyed-requires c κs =
     let a : tie.After-answer = search needs in
-    let o = answered a in
-    (finish-few (o .finish .result) (o .finish .ensures) (a .answer .given .1), finish-room (o .finish .result) (o .finish .ensures) (a .answer .given .1))
+    let o : tie.After-finish = search needs in
+    let s : tie.Start = search needs in
+    fits (finish-given (s .args .scheme) _ _ _ _ (o .finish .result) (o .finish .ensures) (a .answer .given .1))
 
 returns-3 : tie.Need-returns-3
+unfolding row
 returns-3 c =
     let k : tie.After-keyed = search needs in
-    let a = keyed-at k in
-    let o = answered a in
-    let b = went o in
-    let i = asked b in
-    finish-done (start i .args .session) (o .finish .result) (sym (i .awaits .ensures) ∙ not-false _ (b .if1 .left)) (o .finish .ensures) (a .answer .given .1)
+    let a : tie.After-answer = search needs in
+    let o : tie.After-finish = search needs in
+    let b : tie.Else1 = search needs in
+    let i : tie.After-awaits = search needs in
+    let s : tie.Start = search needs in
+    keeps (finish-given _ _ _ _ _ (o .finish .result) (o .finish .ensures) (a .answer .given .1)) (s .args .session) (sym (i .awaits .ensures) ∙ not-false _ (b .if1 .left))
     (k .keyed .ensures)
 
 pub finish-spec : {M : Type 1} → statement M
 finish-spec =
     tie.close
     (tie.spec
-    (λ c κs. search needs)
     (λ c κs. search needs)
     (λ c κs. search needs)
     (search needs)

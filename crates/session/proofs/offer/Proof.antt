@@ -1,18 +1,21 @@
 -- `session::offer` meets its contract: 10, a refusal of the call beneath, or its answer.
-use mathlib.Core.Path.{_≡_, refl, _∙_, sym, ap}
+use mathlib.Core.Path.{_∙_, sym}
 use borrow.Author.Tests.{not-true, not-false}
-use Rattle.session.proofs.Laws.{offer-out, offer-refused, offer-done}
+use Rattle.front.specs.declared.Refusal.the-variants.{OutOfStage}
+use Rattle.session.specs.Table.{row}
+use Rattle.session.proofs.Laws.{turned, offer-stops, offer-refused, offer-done}
 use borrow.Author.Needs.{needs}
 use Rattle.session.proofs.offer.Statement.{statement}
 use Rattle.session.proofs.offer.Tie as tie
 
 returns : tie.Need-returns
+unfolding row
 returns c =
-    let z : tie.After-zero-bytes = search needs in
+    let z : tie.After-stop = search needs in
     let b : tie.Then1 = search needs in
     let i : tie.After-is-idle = search needs in
     let s : tie.Start = search needs in
-    offer-out (s .args .session) (sym (i .is-idle .ensures) ∙ not-true _ (b .if1 .taken)) (z .zero-bytes .ensures)
+    turned (s .args .session) _ (sym (i .is-idle .ensures) ∙ not-true _ (b .if1 .taken)) (offer-stops _ _ _ OutOfStage (z .stop .ensures))
 
 returns-2 : tie.Need-returns-2
 returns-2 c =
@@ -20,7 +23,7 @@ returns-2 c =
     let b : tie.Else1 = search needs in
     let i : tie.After-is-idle = search needs in
     let s : tie.Start = search needs in
-    offer-refused (s .args .session) (o .offer .result) (sym (i .is-idle .ensures) ∙ not-false _ (b .if1 .left)) (o .offer .ensures) (c .enum-told2 .given .1)
+    offer-refused _ _ _ (s .args .session) _ (o .offer .result) (sym (i .is-idle .ensures) ∙ not-false _ (b .if1 .left)) (o .offer .ensures) (c .enum-told2 .given .1)
 
 returns-3 : tie.Need-returns-3
 returns-3 c =
@@ -29,7 +32,7 @@ returns-3 c =
     let b : tie.Else1 = search needs in
     let i : tie.After-is-idle = search needs in
     let s : tie.Start = search needs in
-    offer-done (s .args .session) (o .offer .result) (sym (i .is-idle .ensures) ∙ not-false _ (b .if1 .left)) (o .offer .ensures) (e .enum-told .given .1)
+    offer-done _ _ _ (s .args .session) _ (o .offer .result) (sym (i .is-idle .ensures) ∙ not-false _ (b .if1 .left)) (o .offer .ensures) (e .enum-told .given .1)
     (c .offered .ensures)
 
 pub offer-spec : {M : Type 1} → statement M

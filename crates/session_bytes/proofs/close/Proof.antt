@@ -1,5 +1,4 @@
 -- `session_bytes::close` meets its contract.
-use mathlib.Core.Path.{_≡_, refl, _∙_, sym, ap}
 use Rattle.session_bytes.proofs.Calls.{close-bytes}
 use borrow.Author.Needs.{needs}
 use Rattle.session_bytes.proofs.close.Statement.{statement}

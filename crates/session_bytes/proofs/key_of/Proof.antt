@@ -1,5 +1,5 @@
 -- `session_bytes::key_of` meets its contract.
-use mathlib.Core.Path.{_≡_, refl, _∙_, sym, ap}
+use mathlib.Core.Path.{_∙_}
 use Rattle.session_bytes.proofs.Calls.{part-key}
 use borrow.Author.Needs.{needs}
 use Rattle.session_bytes.proofs.key_of.Statement.{statement}

@@ -1,5 +1,5 @@
 -- `session_bytes::lay_out` meets its contract.
-use mathlib.Core.Path.{_≡_, refl, _∙_, sym, ap}
+use mathlib.Core.Path.{_≡_, _∙_, sym}
 use lib.ListN.{length, length-set}
 use Rattle.session_bytes.specs.Bytes.{bytesOf}
 use Rattle.session_bytes.proofs.Calls.{part-128, laid}

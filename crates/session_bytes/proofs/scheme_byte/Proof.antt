@@ -1,5 +1,5 @@
 -- `session_bytes::scheme_byte` meets its contract.
-use mathlib.Core.Path.{_≡_, refl, _∙_, sym, ap}
+use mathlib.Core.Path.{refl}
 use Rattle.schemes.proofs.Laws.{few-schemes}
 use borrow.Author.Needs.{needs}
 use Rattle.session_bytes.proofs.scheme_byte.Statement.{statement}

@@ -1,5 +1,4 @@
 -- `session_bytes::stage_in` meets its contract.
-use mathlib.Core.Path.{_≡_, refl, _∙_, sym, ap}
 use Rattle.session_bytes.proofs.Stages.{stage-idle, stage-no-idle, stage-unknown, stage-offered, stage-keyed, stage-other}
 use borrow.Author.Needs.{needs}
 use Rattle.session_bytes.proofs.stage_in.Statement.{statement}

@@ -1,5 +1,5 @@
 -- `session_bytes::stage_of` meets its contract.
-use mathlib.Core.Path.{_≡_, refl, _∙_, sym, ap}
+use mathlib.Core.Path.{refl, _∙_, sym}
 use Rattle.session_bytes.proofs.Stages.{staged-short, staged-none, staged-at, staged-behind}
 use borrow.Author.Needs.{needs}
 use Rattle.session_bytes.proofs.stage_of.Statement.{statement}

@@ -9,10 +9,12 @@ use Rattle.schemes.specs.declared.Fixed.{Fixed}
 use Rattle.lists.proofs.Parts.{front-long}
 use Rattle.sponge.proofs.Output.{sha3-length}
 use Rattle.sponge.proofs.Digest.{digest-laid}
-use Rattle.front.proofs.Held.{blank-front}
-use Rattle.front.proofs.Promise.{told-passed, wrote-passed, used-passed, told-failed, wrote-failed, wrote-kept, used-failed, passed-by, failed-by}
-use Rattle.finish.specs.Finish.{Finish, finishOf, finishRest, finishKey, slackOf, finishSlack}
-use Rattle.finish.proofs.Finishing.{peer-key-length, finish-sized, finish-rest-decides}
+use Rattle.front.proofs.Seen.{written-passed}
+use Rattle.front.proofs.Steps.{blank-front, kept, passed-by, failed-by}
+use Rattle.schemes.specs.declared.Named.the-variants.{Is}
+use Rattle.finish.specs.Finish.{Finish, finishOf, finishRoomsOf, finishKey, finishSlack}
+use Rattle.finish.specs.Inside.{finishRest}
+use Rattle.finish.proofs.Finishing.{key-length, finish-sized, finish-rest-decides, finish-refused, finish-done}
 use borrow.Author.Needs.{needs}
 use Rattle.finish.proofs.initiator.finish_sized.Statement.{statement}
 use Rattle.finish.proofs.initiator.finish_sized.Tie as tie
@@ -31,19 +33,19 @@ module _ (c : tie.After-fixed) where
   sized : let a = start c .args in
       (length (a .reply .now) ≡ fixedOf (a .scheme) .reply) × (length (a .s .now) ≡ fixedOf (a .scheme) .secret) × (fixedOf (a .scheme) .key ≤ length (a .key .now))
       × (32 ≤ length (a .digest .now))
-  sized = let a = start c .args in finish-sized (a .scheme) (finishOf (a .reply .now) (a .s .now)) (length (a .key .now)) (length (a .digest .now)) (start c .pre .0)
+  sized = let a = start c .args in finish-sized (a .scheme) (finishOf (a .reply .now) (a .s .now)) (finishRoomsOf (length (a .key .now)) (length (a .digest .now))) (start c .pre .0)
 
   roomy : c .fixed .result .key ≤ length (start c .args .key .now)
   roomy = omega (arith, long, sized .2)
 
-slice-relend-prefix-key-in : tie.Need-slice-relend-prefix-key-in
-slice-relend-prefix-key-in c = roomy c
+slice-relend-prefix-with-reply : tie.Need-slice-relend-prefix-with-reply
+slice-relend-prefix-with-reply c = roomy c
 
-slice-aggregate-key-in : tie.Need-slice-aggregate-key-in
-slice-aggregate-key-in c = let f : tie.After-fixed = search needs in sym (front-long _ (start f .args .key .now) (roomy f))
+slice-aggregate-with-reply : tie.Need-slice-aggregate-with-reply
+slice-aggregate-with-reply c = let f : tie.After-fixed = search needs in sym (front-long _ (start f .args .key .now) (roomy f))
 
-key-in-requires : tie.Need-key-in-requires
-key-in-requires c κs =
+with-reply-requires : tie.Need-with-reply-requires
+with-reply-requires c κs =
     let f : tie.After-fixed = search needs in
     let b = start f in (
       record {
@@ -58,17 +60,12 @@ returns : tie.Need-returns
 unfolding finishKey finishSlack
 returns c =
     let b : tie.Start = search needs in
-    let k : tie.After-key-in = search needs in
+    let k : tie.After-with-reply = search needs in
     let v : tie.After-v = search needs in
     let f : tie.After-fixed = search needs in
-    let rest = failed-by (finishRest (b .args .scheme) (x b)) (slackOf (b .args .scheme) (x b)) (k .key-in .ensures .0) (v .v .given .1) in
-    let e = finish-rest-decides _ _ _ _ (b .pre .0) (sym rest) in
-    record {
-      told = told-failed e;
-      keys = wrote-kept e (f .fixed .result .key) (b .args .key .now) rest (k .key-in .ensures .1) (b .pre .1 .0);
-      digests = wrote-failed e (b .pre .1 .1);
-      slacks = used-failed e;
-    }
+    let rest = failed-by (finishRest (b .args .scheme) (x b)) (finishSlack (Is (b .args .scheme)) (x b)) (k .with-reply .ensures .0) (v .v .given .1) in
+    let e = finish-rest-decides _ _ _ (b .pre .0) (sym rest) in
+    finish-refused _ _ _ e (kept _ (f .fixed .result .key) (b .args .key .now) rest (k .with-reply .ensures .1) ∙ b .pre .1 .0) (b .pre .1 .1)
 
 slice-reshare-prefix-lay-digest : tie.Need-slice-reshare-prefix-lay-digest
 slice-reshare-prefix-lay-digest c =
@@ -89,29 +86,31 @@ returns-2 : tie.Need-returns-2
 unfolding finishKey finishSlack
 returns-2 c =
     let d : tie.After-lay-digest = search needs in
-    let k : tie.After-key-in = search needs in
+    let k : tie.After-with-reply = search needs in
     let f : tie.After-fixed = search needs in
     let o : tie.After-v2 = search needs in
     let b = start f in
-    let rest = passed-by (finishRest (b .args .scheme) (x b)) (slackOf (b .args .scheme) (x b)) (k .key-in .ensures .0) (o .v2 .given .1) in
-    let e = finish-rest-decides _ _ _ _ (b .pre .0) (sym (rest .0)) in
-    let keyed = rw (rest .0) at (k .key-in .ensures .1) in
-    let n = peer-key-length (b .args .scheme) (finishOf (b .args .reply .now) (b .args .s .now)) ∙ sym (long f) in
-    record {
-      told = told-passed e;
-      keys = wrote-passed e (b .args .key .now) n (b .pre .1 .0) (ap (λ (xs : List ℕ). xs ++ drop (f .fixed .result .key) (b .args .key .now)) keyed);
-      digests = wrote-passed e (b .args .digest .now) (sha3-length _) (b .pre .1 .1) (digest-laid _ _ (b .args .digest .now) _ keyed n (d .lay-digest .ensures));
-      slacks = used-passed e (rest .1);
-    }
+    let rest = passed-by (finishRest (b .args .scheme) (x b)) (finishSlack (Is (b .args .scheme)) (x b)) (k .with-reply .ensures .0) (o .v2 .given .1) in
+    let e = finish-rest-decides _ _ _ (b .pre .0) (sym (rest .0)) in
+    let keyed = rw (rest .0) at (k .with-reply .ensures .1) in
+    let n = key-length (b .args .scheme) (finishOf (b .args .reply .now) (b .args .s .now)) ∙ sym (long f) in
+    finish-done
+    _
+    _
+    _
+    e
+    (written-passed _ _ _ e (b .args .key .now) n (b .pre .1 .0) (ap (λ (xs : List ℕ). xs ++ drop (f .fixed .result .key) (b .args .key .now)) keyed))
+    (written-passed _ _ _ e (b .args .digest .now) (sha3-length _) (b .pre .1 .1) (digest-laid _ _ (b .args .digest .now) _ keyed n (d .lay-digest .ensures)))
+    (rest .1)
 
 pub finish-sized-spec : {M : Type 1} → statement M
 finish-sized-spec =
     tie.close
     (tie.spec
     (λ c κs. search needs)
-    slice-relend-prefix-key-in
-    slice-aggregate-key-in
-    key-in-requires
+    slice-relend-prefix-with-reply
+    slice-aggregate-with-reply
+    with-reply-requires
     (search needs)
     (search needs)
     slice-reshare-prefix-lay-digest

@@ -3,16 +3,17 @@ use mathlib.Core.Path.{_≡_, refl, sym, ap, _∙_}
 use Rattle.schemes.specs.Schemes.{fixedOf}
 use Rattle.schemes.specs.declared.Fixed.{Fixed}
 use Rattle.lists.proofs.Same.{zeros-long}
-use Rattle.finish.specs.Finish.{finishOf, slackFrom}
+use Rattle.finish.specs.Finish.{finishOf}
+use Rattle.finish.specs.Inside.{slackFrom}
 use Rattle.front.specs.declared.Outcome.the-variants.{Slack}
 use Rattle.front.proofs.Laws.{first, secrets-passed}
-use Rattle.front.proofs.Promise.{outcome-slack, outcome-refused}
+use Rattle.front.proofs.Steps.{outcome-slack, outcome-refused}
 use borrow.Author.Needs.{needs}
 use Rattle.finish.proofs.initiator.with_secret.Statement.{statement}
 use Rattle.finish.proofs.initiator.with_secret.Tie as tie
 
-write-requires : tie.Need-write-requires
-write-requires c κs =
+derive-requires : tie.Need-derive-requires
+derive-requires c κs =
     let b : tie.Start = search needs in
     let f : tie.After-fixed = search needs in
     let t : tie.After-secrets-in = search needs in
@@ -44,9 +45,9 @@ returns-2 c =
     let f : tie.After-fixed = search needs in
     let t : tie.After-secrets-in = search needs in
     let o : tie.After-enum-told = search needs in
-    let w : tie.After-write = search needs in
+    let w : tie.After-derive = search needs in
     let e = sym (first (rw (f .fixed .ensures) at (t .secrets-in .ensures)) refl) ∙ o .enum-told .given .1 in
-    (ap Slack (w .write .ensures .1) ∙ sym (outcome-slack e _), rw e (w .write .ensures .0))
+    (ap Slack (w .derive .ensures .1) ∙ sym (outcome-slack e _), rw e (w .derive .ensures .0))
 
 pub with-secret-spec : {M : Type 1} → statement M
-with-secret-spec = tie.close (tie.spec (λ c κs. search needs) (λ c κs. search needs) (search needs) (search needs) write-requires returns (search needs) returns-2)
+with-secret-spec = tie.close (tie.spec (λ c κs. search needs) (λ c κs. search needs) (search needs) (search needs) derive-requires returns (search needs) returns-2)

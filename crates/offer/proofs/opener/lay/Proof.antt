@@ -1,18 +1,22 @@
 -- `offer::opener::lay` meets its contract: the product with the test of the public numbers, then, where that has passed, its bytes.
 use mathlib.Core.Path.{_≡_, refl, sym, ap, _∙_}
 use mathlib.Core.List.{List}
-use Prim.Native.Nat.{ℕ}
+use Prim.Native.Nat.{ℕ, _≤_}
 use native.Mathlib.Omega.{arith}
 use Rattle.schemes.specs.Schemes.{fixedOf}
 use Rattle.schemes.proofs.Sound.{sound}
+use lib.ListN.{length}
 use Rattle.lists.specs.Entries.{Below}
+use Rattle.lists.proofs.Parts.{buffer-long, front-long}
 use Rattle.packing.specs.Packing.{packed}
 use Rattle.front.specs.Front.{publicsIn, notBlank}
-use Rattle.front.specs.Promise.{put}
+use Rattle.front.specs.Seen.{ifPassed}
+use Rattle.front.proofs.Steps.{front-is, front-fits}
 use Rattle.front.proofs.Laws.{publics-passed, failed, went-on}
+use Rattle.ends.specs.Values.{offered}
 use Rattle.ends.proofs.Ranges.{offered-counted}
 use Rattle.wire.specs.Wire.{opening}
-use Rattle.offer.specs.Offer.{openingOf}
+use Rattle.offer.specs.Offer.{offerMessage}
 use borrow.Author.Needs.{needs}
 use Rattle.offer.proofs.opener.lay.Statement.{statement}
 use Rattle.offer.proofs.opener.lay.Tie as tie
@@ -30,6 +34,13 @@ made c = search needs
 abbrev start : tie.After-offer → tie.Start
 start c = search needs
 
+module _ (b : tie.Start) where
+  few : b .args .n ≤ 6912
+  few = omega (arith, b .pre .1 .0, sound (b .args .scheme) .secrets)
+
+  numbers-long : length (offered (b .args .scheme) (b .args .a .now) (b .args .s .now) (b .args .e .now)) ≡ b .args .n
+  numbers-long = offered-counted (b .args .scheme) (b .args .a .now) (b .args .s .now) (b .args .e .now) .long ∙ sym (b .pre .1 .0)
+
 -- the verdict on the public numbers
 verdict : (p : tie.After-publics-at) → let a = start (made p) .args in p .publics-at .result ≡ publicsIn (fixedOf (a .scheme) .q) (a .a .now)
 verdict p = p .publics-at .ensures _ (made p .offer .ensures .0)
@@ -41,11 +52,29 @@ below t =
     let a = start (made p) .args in
     publics-passed _ (a .a .now) (omega (arith, sound (a .scheme) .some)) (sym (verdict p) ∙ t .enum-told .given .1)
 
+array-borrow-prefix-b : tie.Need-array-borrow-prefix-b
+array-borrow-prefix-b c = let b : tie.Start = search needs in few b
+
+slice-aggregate-offer : tie.Need-slice-aggregate-offer
+slice-aggregate-offer c = let b : tie.Start = search needs in sym (buffer-long (b .args .n) 6912 (few b))
+
 offer-requires : tie.Need-offer-requires
 offer-requires c κs =
     let b : tie.Start = search needs in
     let p = b .pre .0 in
-    ((p .public-long, b .pre .1 .0), (p .secret, p .noise))
+    ((p .public-long, buffer-long (b .args .n) 6912 (few b) ∙ b .pre .1 .0), (p .secret, p .noise))
+
+array-share-prefix-b : tie.Need-array-share-prefix-b
+array-share-prefix-b c =
+    let t : tie.After-enum-told = search needs in
+    let o = made (tested t) in
+    front-fits _ (o .offer .ensures .1 (below t)) (numbers-long (start o)) _
+
+slice-aggregate-lay-numbers : tie.Need-slice-aggregate-lay-numbers
+slice-aggregate-lay-numbers c =
+    let t : tie.After-enum-told = search needs in
+    let o = made (tested t) in
+    sym (front-long _ _ (front-fits _ (o .offer .ensures .1 (below t)) (numbers-long (start o)) _))
 
 lay-numbers-requires : tie.Need-lay-numbers-requires
 lay-numbers-requires c κs =
@@ -53,7 +82,7 @@ lay-numbers-requires c κs =
     let o = made (tested t) in
     let b = start o in
     let a = b .args in
-    (rw (o .offer .ensures .1 (below t)) (offered-counted (a .scheme) (a .a .now) (a .s .now) (a .e .now)), (b .pre .0 .seed-long, b .pre .1 .1))
+    (rw (front-is _ (o .offer .ensures .1 (below t)) (numbers-long b) _) (offered-counted (a .scheme) (a .a .now) (a .s .now) (a .e .now)), (b .pre .0 .seed-long, b .pre .1 .1))
 
 returns : tie.Need-returns
 returns c =
@@ -62,7 +91,7 @@ returns c =
     (sym (failed _ (verdict p) (v .v .given .1)), refl)
 
 returns-2 : tie.Need-returns-2
-unfolding openingOf
+unfolding offerMessage
 returns-2 c =
     let l : tie.After-lay-numbers = search needs in
     let t = told l in
@@ -72,22 +101,24 @@ returns-2 c =
     let f = fixedOf (a .scheme) in
     let q = l .lay-numbers .ensures in
     let r = l .lay-numbers .result in
-    let u = o .offer .ensures .1 (below t) in (
+    let u = front-is _ (o .offer .ensures .1 (below t)) (numbers-long (start o)) _ in (
       q .0 ∙ ap (λ (x : List ℕ). notBlank (packed (f .width) x)) u ∙ sym (went-on _ (verdict p) (t .enum-told .given .1)),
-      q .1 ∙ ap (λ (x : List ℕ). put r (opening (a .scheme) (a .seed .now) (packed (f .width) x)) (a .out .now)) u,
+      q .1 ∙ ap (λ (x : List ℕ). ifPassed r (opening (a .scheme) (a .seed .now) (packed (f .width) x)) (a .out .now)) u,
     )
 
 pub lay-spec : {M : Type 1} → statement M
 lay-spec =
     tie.close
     (tie.spec
+    array-borrow-prefix-b
+    slice-aggregate-offer
     offer-requires
     (λ c κs. search needs)
     (search needs)
     (search needs)
+    array-share-prefix-b
+    slice-aggregate-lay-numbers
     lay-numbers-requires
-    (search needs)
     returns
-    (search needs)
     (search needs)
     returns-2)

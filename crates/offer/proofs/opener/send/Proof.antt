@@ -7,7 +7,8 @@ use lib.ListN.{length, take, drop}
 use Rattle.schemes.specs.Schemes.{fixedOf}
 use Rattle.schemes.specs.declared.Fixed.{Fixed}
 use Rattle.lists.proofs.Parts.{front-long}
-use Rattle.front.proofs.Promise.{told-passed, wrote-passed, told-failed, wrote-kept}
+use Rattle.front.proofs.Seen.{shown-passed, shown-failed}
+use Rattle.front.proofs.Steps.{kept}
 use Rattle.offer.specs.Offer.{Offer, offerOf, offerMessage}
 use Rattle.offer.specs.Inside.{Opens}
 use Rattle.offer.proofs.Offering.{ahead-opens, opening-long, offer-last-decides}
@@ -35,14 +36,14 @@ module _ (c : tie.After-fixed) where
   part-long : length (take (c .fixed .result .opening) (start c .args .message .now)) ≡ c .fixed .result .opening
   part-long = front-long _ (start c .args .message .now) roomy
 
-slice-relend-prefix-write : tie.Need-slice-relend-prefix-write
-slice-relend-prefix-write c = roomy c
+slice-relend-prefix-lay : tie.Need-slice-relend-prefix-lay
+slice-relend-prefix-lay c = roomy c
 
-slice-aggregate-write : tie.Need-slice-aggregate-write
-slice-aggregate-write c = let f : tie.After-fixed = search needs in sym (part-long f)
+slice-aggregate-lay : tie.Need-slice-aggregate-lay
+slice-aggregate-lay c = let f : tie.After-fixed = search needs in sym (part-long f)
 
-write-requires : tie.Need-write-requires
-write-requires c κs =
+lay-requires : tie.Need-lay-requires
+lay-requires c κs =
     let f : tie.After-fixed = search needs in
     (opens f .0, (ap (λ (g : Fixed). g .secret) (f .fixed .ensures), part-long f ∙ long f))
 
@@ -50,39 +51,34 @@ returns : tie.Need-returns
 unfolding offerMessage
 returns c =
     let v : tie.After-v = search needs in
-    let p : tie.After-write = search needs in
+    let p : tie.After-lay = search needs in
     let f : tie.After-fixed = search needs in
     let b = start f in
     let w = v .v .given .1 in
-    let e = offer-last-decides (b .args .scheme) (lent b) _ (b .pre .0) (p .write .ensures .0) ∙ w in
-    record { told = told-failed e; messages = wrote-kept e (f .fixed .result .opening) (b .args .message .now) w (p .write .ensures .1) (b .pre .1) }
+    let e = offer-last-decides (b .args .scheme) (lent b) _ (b .pre .0) (p .lay .ensures .0) ∙ w in
+    shown-failed _ _ _ e (kept _ (f .fixed .result .opening) (b .args .message .now) w (p .lay .ensures .1) ∙ b .pre .1)
 
 returns-2 : tie.Need-returns-2
 unfolding offerMessage
 returns-2 c =
     let o : tie.After-enum-told = search needs in
-    let p : tie.After-write = search needs in
+    let p : tie.After-lay = search needs in
     let f : tie.After-fixed = search needs in
     let b = start f in
     let w = o .enum-told .given .1 in
-    let e = offer-last-decides (b .args .scheme) (lent b) _ (b .pre .0) (p .write .ensures .0) ∙ w in
-    let m = rw w at (p .write .ensures .1) in
+    let e = offer-last-decides (b .args .scheme) (lent b) _ (b .pre .0) (p .lay .ensures .0) ∙ w in
+    let m = rw w at (p .lay .ensures .1) in
     let n = opening-long _ _ (opens f .0 .seed-long) ∙ sym (long f) in
-    record {
-      told = told-passed e;
-      messages =
-          wrote-passed e (b .args .message .now) n (b .pre .1)
-          (ap (λ (xs : List ℕ). xs ++ drop (f .fixed .result .opening) (b .args .message .now)) m);
-    }
+    shown-passed _ _ _ e (b .args .message .now) n (b .pre .1) (ap (λ (xs : List ℕ). xs ++ drop (f .fixed .result .opening) (b .args .message .now)) m)
 
 pub send-spec : {M : Type 1} → statement M
 send-spec =
     tie.close
     (tie.spec
     (λ c κs. search needs)
-    slice-relend-prefix-write
-    slice-aggregate-write
-    write-requires
+    slice-relend-prefix-lay
+    slice-aggregate-lay
+    lay-requires
     (search needs)
     (search needs)
     (search needs)

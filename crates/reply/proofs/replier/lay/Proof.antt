@@ -1,18 +1,23 @@
--- `reply::replier::lay` meets its contract: the products with the test of the public numbers, then, where that has passed, message and key.
+-- `reply::replier::lay` meets its contract: the products with the test of the public numbers, then, where that has passed, message and key; with room for what lies
+-- between.
 use mathlib.Core.Path.{_≡_, refl, sym, ap, ap₂, _∙_}
 use mathlib.Core.List.{List}
-use Prim.Native.Nat.{ℕ}
+use Prim.Native.Nat.{ℕ, _≤_}
 use native.Mathlib.Omega.{arith}
+use lib.ListN.{length}
 use Rattle.schemes.specs.Schemes.{fixedOf}
+use Rattle.schemes.specs.declared.Fixed.{Fixed}
 use Rattle.schemes.proofs.Sound.{sound}
 use Rattle.lists.specs.Entries.{Below}
+use Rattle.lists.proofs.Parts.{buffer-long, front-long}
 use Rattle.packing.specs.Packing.{packed}
 use Rattle.front.specs.Front.{publicsIn, notBlank}
-use Rattle.front.specs.Promise.{put}
+use Rattle.front.specs.Seen.{ifPassed}
 use Rattle.front.proofs.Laws.{publics-passed, failed, went-on}
+use Rattle.front.proofs.Steps.{front-is, front-fits}
+use Rattle.ends.specs.Values.{mixedValue}
 use Rattle.ends.proofs.Ranges.{replied-counted, mixed-counted}
-use Rattle.reply.specs.Reply.{messageFrom, keyFrom}
-use Rattle.reply.specs.Inside.{messageBy, keyBy}
+use Rattle.reply.specs.Inside.{messageBy, keyBy, messageFrom, keyFrom}
 use borrow.Author.Needs.{needs}
 use Rattle.reply.proofs.replier.lay.Statement.{statement}
 use Rattle.reply.proofs.replier.lay.Tie as tie
@@ -27,38 +32,96 @@ tested c = search needs
 abbrev made : tie.After-publics-at → tie.After-reply
 made c = search needs
 
-abbrev start : tie.After-reply → tie.Start
+abbrev fixing : tie.After-reply → tie.After-fixed
+fixing c = search needs
+
+abbrev start : tie.After-fixed → tie.Start
 start c = search needs
 
+-- how many values and groups there are
+module _ (x : tie.After-fixed) where
+  long : x .fixed .result .mixed ≡ fixedOf (start x .args .scheme) .mixed
+  long = ap (λ (f : Fixed). f .mixed) (x .fixed .ensures)
+
+  grouped : x .fixed .result .groups ≡ fixedOf (start x .args .scheme) .groups
+  grouped = ap (λ (f : Fixed). f .groups) (x .fixed .ensures)
+
+  values : x .fixed .result .mixed ≤ 1024
+  values = omega (arith, long, sound (start x .args .scheme) .values)
+
+  groups : x .fixed .result .groups ≤ 1024
+  groups = omega (arith, grouped, sound (start x .args .scheme) .groups)
+
 -- the verdict on the public numbers
-verdict : (p : tie.After-publics-at) → let a = start (made p) .args in p .publics-at .result ≡ publicsIn (fixedOf (a .scheme) .q) (a .a .now)
+verdict : (p : tie.After-publics-at) → let a = start (fixing (made p)) .args in p .publics-at .result ≡ publicsIn (fixedOf (a .scheme) .q) (a .a .now)
 verdict p = p .publics-at .ensures _ (made p .reply .ensures .0)
 
 -- where it passes
-below : (t : tie.After-enum-told) → let a = start (made (tested t)) .args in Below (fixedOf (a .scheme) .q) (a .a .now)
+below : (t : tie.After-enum-told) → let a = start (fixing (made (tested t))) .args in Below (fixedOf (a .scheme) .q) (a .a .now)
 below t =
     let p = tested t in
-    let a = start (made p) .args in
+    let a = start (fixing (made p)) .args in
     publics-passed _ (a .a .now) (omega (arith, sound (a .scheme) .some)) (sym (verdict p) ∙ t .enum-told .given .1)
+
+value-long : (x : tie.After-fixed) → let a = start x .args in length (mixedValue (a .scheme) (a .b .now) (a .s1 .now) (a .e2 .now)) ≡ x .fixed .result .mixed
+value-long x = let a = start x .args in mixed-counted (a .scheme) (a .b .now) (a .s1 .now) (a .e2 .now) .long ∙ sym (long x)
+
+array-borrow-prefix-v : tie.Need-array-borrow-prefix-v
+array-borrow-prefix-v c = let x : tie.After-fixed = search needs in values x
+
+slice-aggregate-reply : tie.Need-slice-aggregate-reply
+slice-aggregate-reply c = let x : tie.After-fixed = search needs in sym (buffer-long _ 1024 (values x))
 
 reply-requires : tie.Need-reply-requires
 reply-requires c κs =
-    let b : tie.Start = search needs in
-    let p = b .pre in
-    ((p .0 .1 .public-long, p .1 .0 .0), (p .0 .0 .numbers, ((p .0 .1 .secret, p .0 .1 .noise), p .0 .0 .last)))
+    let x : tie.After-fixed = search needs in
+    let p = start x .pre in
+    ((p .0 .1 .public-long, buffer-long _ 1024 (values x) ∙ long x), (p .0 .0 .numbers, ((p .0 .1 .secret, p .0 .1 .noise), p .0 .0 .last)))
+
+array-share-prefix-v : tie.Need-array-share-prefix-v
+array-share-prefix-v c =
+    let t : tie.After-enum-told = search needs in
+    let r = made (tested t) in
+    front-fits _ (r .reply .ensures .1 .1 (below t)) (value-long (fixing r)) _
+
+slice-aggregate-lay-values : tie.Need-slice-aggregate-lay-values
+slice-aggregate-lay-values c =
+    let t : tie.After-enum-told = search needs in
+    let r = made (tested t) in
+    sym (front-long _ _ (front-fits _ (r .reply .ensures .1 .1 (below t)) (value-long (fixing r)) _))
+
+array-borrow-prefix-tosses : tie.Need-array-borrow-prefix-tosses
+array-borrow-prefix-tosses c = let t : tie.After-enum-told = search needs in groups (fixing (made (tested t)))
+
+slice-aggregate-lay-values-2 : tie.Need-slice-aggregate-lay-values-2
+slice-aggregate-lay-values-2 c = let t : tie.After-enum-told = search needs in sym (buffer-long _ 1024 (groups (fixing (made (tested t)))))
+
+array-borrow-prefix-hints : tie.Need-array-borrow-prefix-hints
+array-borrow-prefix-hints c = let t : tie.After-enum-told = search needs in values (fixing (made (tested t)))
+
+slice-aggregate-lay-values-3 : tie.Need-slice-aggregate-lay-values-3
+slice-aggregate-lay-values-3 c = let t : tie.After-enum-told = search needs in sym (buffer-long _ 1024 (values (fixing (made (tested t)))))
+
+array-borrow-prefix-entries : tie.Need-array-borrow-prefix-entries
+array-borrow-prefix-entries c = let t : tie.After-enum-told = search needs in groups (fixing (made (tested t)))
+
+slice-aggregate-lay-values-4 : tie.Need-slice-aggregate-lay-values-4
+slice-aggregate-lay-values-4 c = let t : tie.After-enum-told = search needs in sym (buffer-long _ 1024 (groups (fixing (made (tested t)))))
 
 lay-values-requires : tie.Need-lay-values-requires
 lay-values-requires c κs =
     let t : tie.After-enum-told = search needs in
     let r = made (tested t) in
-    let b = start r in
-    let a = b .args in
-    let p = b .pre in (
+    let x = fixing r in
+    let a = start x .args in
+    let p = start x .pre in
+    let n = buffer-long _ 1024 (values x) ∙ long x in
+    let g = buffer-long _ 1024 (groups x) ∙ grouped x in (
       (
         rw (r .reply .ensures .1 .0 (below t)) (replied-counted (a .scheme) (a .a .now) (a .s1 .now) (a .e1 .now)),
-        rw (r .reply .ensures .1 .1 (below t)) (mixed-counted (a .scheme) (a .b .now) (a .s1 .now) (a .e2 .now)),
+        rw (front-is _ (r .reply .ensures .1 .1 (below t)) (value-long x) _) (mixed-counted (a .scheme) (a .b .now) (a .s1 .now) (a .e2 .now)),
       ),
-      ((p .0 .0 .coins-long, p .1 .0 .1), p .1 .1),
+      ((p .0 .0 .coins-long, record { tosses-long = g; hints-long = n; entries-long = g }), p .1),
     )
 
 returns : tie.Need-returns
@@ -74,15 +137,15 @@ returns-2 c =
     let t = told l in
     let p = tested t in
     let r = made p in
-    let a = start r .args in
+    let a = start (fixing r) .args in
     let q = l .lay-values .ensures in
     let o = l .lay-values .result in
     let u = r .reply .ensures .1 .0 (below t) in
-    let v = r .reply .ensures .1 .1 (below t) in (
+    let v = front-is _ (r .reply .ensures .1 .1 (below t)) (value-long (fixing r)) _ in (
       q .0 ∙ ap (λ (x : List ℕ). notBlank (packed (fixedOf (a .scheme) .width) x)) u ∙ sym (went-on _ (verdict p) (t .enum-told .given .1)),
       (
-        q .1 .0 ∙ ap₂ (λ (x y : List ℕ). put o (messageBy (a .scheme) x y (a .coins .now)) (a .message .now)) u v,
-        q .1 .1 ∙ ap (λ (y : List ℕ). put o (keyBy (a .scheme) y (a .coins .now)) (a .key .now)) v,
+        q .1 .0 ∙ ap₂ (λ (x y : List ℕ). ifPassed o (messageBy (a .scheme) x y (a .coins .now)) (a .message .now)) u v,
+        q .1 .1 ∙ ap (λ (y : List ℕ). ifPassed o (keyBy (a .scheme) y (a .coins .now)) (a .key .now)) v,
       ),
     )
 
@@ -90,18 +153,24 @@ pub lay-spec : {M : Type 1} → statement M
 lay-spec =
     tie.close
     (tie.spec
+    (λ c κs. search needs)
+    array-borrow-prefix-v
+    slice-aggregate-reply
     reply-requires
     (λ c κs. search needs)
     (search needs)
     (search needs)
+    array-share-prefix-v
+    slice-aggregate-lay-values
+    array-borrow-prefix-tosses
+    slice-aggregate-lay-values-2
+    array-borrow-prefix-hints
+    slice-aggregate-lay-values-3
+    array-borrow-prefix-entries
+    slice-aggregate-lay-values-4
     lay-values-requires
     (search needs)
-    (search needs)
     returns
-    (search needs)
-    (search needs)
-    (search needs)
-    (search needs)
     (search needs)
     (search needs)
     (search needs)

@@ -1,6 +1,6 @@
 -- `reply::replier::reply_in` meets its contract: lengths and rooms, then the rest of the tests.
 use mathlib.Core.Path.{sym, _∙_}
-use Rattle.reply.proofs.Replying.{reply-rooms-failed, reply-refused}
+use Rattle.reply.proofs.Replying.{reply-sizes-failed, reply-refused}
 use borrow.Author.Needs.{needs}
 use Rattle.reply.proofs.replier.reply_in.Statement.{statement}
 use Rattle.reply.proofs.replier.reply_in.Tie as tie
@@ -17,7 +17,7 @@ returns c =
     let v : tie.After-v = search needs in
     let t : tie.After-reply-sizes = search needs in
     let b : tie.Start = search needs in
-    reply-refused (reply-rooms-failed _ _ _ _ _ (t .reply-sizes .ensures) (v .v .given .1)) (b .pre .0 .0) (b .pre .0 .1) (b .pre .1)
+    reply-refused _ _ _ _ (reply-sizes-failed _ _ _ (t .reply-sizes .ensures) (v .v .given .1)) (b .pre .0 .0) (b .pre .0 .1) (b .pre .1)
 
 pub reply-in-spec : {M : Type 1} → statement M
 reply-in-spec =

@@ -9,10 +9,10 @@ use Rattle.schemes.specs.declared.Fixed.{Fixed}
 use Rattle.lists.proofs.Parts.{front-long}
 use Rattle.sponge.proofs.Output.{sha3-length}
 use Rattle.sponge.proofs.Digest.{digest-laid}
-use Rattle.front.proofs.Held.{blank-front}
-use Rattle.front.proofs.Promise.{told-passed, wrote-passed, told-failed, wrote-failed, wrote-kept}
-use Rattle.reply.specs.Reply.{Reply, replyOf, replyMessage, replyKey}
-use Rattle.reply.proofs.Replying.{message-length, key-length, Sized, rooms-sized, reply-rest-decides}
+use Rattle.front.proofs.Seen.{written-passed}
+use Rattle.front.proofs.Steps.{blank-front, kept}
+use Rattle.reply.specs.Reply.{Reply, replyOf, replyRoomsOf, replyMessage, replyKey}
+use Rattle.reply.proofs.Replying.{message-length, key-length, Sized, reply-sized, reply-rest-decides, reply-refused, reply-done}
 use borrow.Author.Needs.{needs}
 use Rattle.reply.proofs.replier.reply_sized.Statement.{statement}
 use Rattle.reply.proofs.replier.reply_sized.Tie as tie
@@ -31,8 +31,8 @@ module _ (c : tie.After-fixed) where
   key-long : c .fixed .result .key ≡ fixedOf (start c .args .scheme) .key
   key-long = ap (λ (g : Fixed). g .key) (c .fixed .ensures)
 
-  sized : let a = start c .args in Sized (a .scheme) (lent (start c)) (length (a .message .now)) (length (a .key .now)) (length (a .digest .now))
-  sized = rooms-sized _ _ _ _ _ (start c .pre .0)
+  sized : let a = start c .args in Sized (a .scheme) (lent (start c)) (replyRoomsOf (length (a .message .now)) (length (a .key .now)) (length (a .digest .now)))
+  sized = reply-sized _ _ _ (start c .pre .0)
 
   roomy : c .fixed .result .reply ≤ length (start c .args .message .now)
   roomy = omega (arith, long, sized .roomy)
@@ -40,20 +40,20 @@ module _ (c : tie.After-fixed) where
   key-roomy : c .fixed .result .key ≤ length (start c .args .key .now)
   key-roomy = omega (arith, key-long, sized .key-roomy)
 
-slice-relend-prefix-answer-in : tie.Need-slice-relend-prefix-answer-in
-slice-relend-prefix-answer-in c = let f : tie.After-fixed = search needs in roomy f
+slice-relend-prefix-with-opening : tie.Need-slice-relend-prefix-with-opening
+slice-relend-prefix-with-opening c = let f : tie.After-fixed = search needs in roomy f
 
-slice-aggregate-answer-in : tie.Need-slice-aggregate-answer-in
-slice-aggregate-answer-in c = let f : tie.After-fixed = search needs in sym (front-long _ (start f .args .message .now) (roomy f))
+slice-aggregate-with-opening : tie.Need-slice-aggregate-with-opening
+slice-aggregate-with-opening c = let f : tie.After-fixed = search needs in sym (front-long _ (start f .args .message .now) (roomy f))
 
-slice-relend-prefix-answer-in-2 : tie.Need-slice-relend-prefix-answer-in-2
-slice-relend-prefix-answer-in-2 c = let f : tie.After-fixed = search needs in key-roomy f
+slice-relend-prefix-with-opening-2 : tie.Need-slice-relend-prefix-with-opening-2
+slice-relend-prefix-with-opening-2 c = let f : tie.After-fixed = search needs in key-roomy f
 
-slice-aggregate-answer-in-2 : tie.Need-slice-aggregate-answer-in-2
-slice-aggregate-answer-in-2 c = let f : tie.After-fixed = search needs in sym (front-long _ (start f .args .key .now) (key-roomy f))
+slice-aggregate-with-opening-2 : tie.Need-slice-aggregate-with-opening-2
+slice-aggregate-with-opening-2 c = let f : tie.After-fixed = search needs in sym (front-long _ (start f .args .key .now) (key-roomy f))
 
-answer-in-requires : tie.Need-answer-in-requires
-answer-in-requires c κs =
+with-opening-requires : tie.Need-with-opening-requires
+with-opening-requires c κs =
     let f : tie.After-fixed = search needs in
     let b = start f in
     let z = sized f in (
@@ -66,25 +66,21 @@ answer-in-requires c κs =
         message-blank = blank-front _ 0 _ (roomy f) (b .pre .1 .0 .0) ∙ ap (λ (n : ℕ). replicate n 0) (long f);
         key-blank = blank-front _ 0 _ (key-roomy f) (b .pre .1 .0 .1) ∙ ap (λ (n : ℕ). replicate n 0) (key-long f);
       },
-      (z .opening-long, ap (λ (g : Fixed). g .secret) (f .fixed .ensures)),
+      z .opening-long,
     )
 
 returns : tie.Need-returns
 unfolding replyMessage replyKey
 returns c =
     let v : tie.After-v = search needs in
-    let p : tie.After-answer-in = search needs in
+    let p : tie.After-with-opening = search needs in
     let f : tie.After-fixed = search needs in
     let b = start f in
-    let q = p .answer-in .ensures in
+    let q = p .with-opening .ensures in
     let w = v .v .given .1 in
-    let e = reply-rest-decides (b .args .scheme) (lent b) _ _ _ (b .pre .0) (q .0) ∙ w in
-    record {
-      told = told-failed e;
-      messages = wrote-kept e (f .fixed .result .reply) (b .args .message .now) w (q .1 .0) (b .pre .1 .0 .0);
-      keys = wrote-kept e (f .fixed .result .key) (b .args .key .now) w (q .1 .1) (b .pre .1 .0 .1);
-      digests = wrote-failed e (b .pre .1 .1);
-    }
+    let e = reply-rest-decides (b .args .scheme) (lent b) _ (b .pre .0) (q .0) ∙ w in
+    reply-refused _ _ _ _ e (kept _ (f .fixed .result .reply) (b .args .message .now) w (q .1 .0) ∙ b .pre .1 .0 .0)
+    (kept _ (f .fixed .result .key) (b .args .key .now) w (q .1 .1) ∙ b .pre .1 .0 .1) (b .pre .1 .1)
 
 slice-reshare-prefix-lay-digest : tie.Need-slice-reshare-prefix-lay-digest
 slice-reshare-prefix-lay-digest c =
@@ -106,34 +102,36 @@ unfolding replyMessage replyKey
 returns-2 c =
     let d : tie.After-lay-digest = search needs in
     let o : tie.After-enum-told = search needs in
-    let p : tie.After-answer-in = search needs in
+    let p : tie.After-with-opening = search needs in
     let f : tie.After-fixed = search needs in
     let b = start f in
-    let q = p .answer-in .ensures in
+    let q = p .with-opening .ensures in
     let w = o .enum-told .given .1 in
-    let e = reply-rest-decides (b .args .scheme) (lent b) _ _ _ (b .pre .0) (q .0) ∙ w in
+    let e = reply-rest-decides (b .args .scheme) (lent b) _ (b .pre .0) (q .0) ∙ w in
     let m = rw w at (q .1 .0) in
     let k = rw w at (q .1 .1) in
     let l = key-length (b .args .scheme) (lent b) ∙ sym (key-long f) in
-    record {
-      told = told-passed e;
-      messages =
-          wrote-passed e (b .args .message .now) (message-length (b .args .scheme) (lent b) ∙ sym (long f)) (b .pre .1 .0 .0)
-          (ap (λ (xs : List ℕ). xs ++ drop (f .fixed .result .reply) (b .args .message .now)) m);
-      keys = wrote-passed e (b .args .key .now) l (b .pre .1 .0 .1) (ap (λ (xs : List ℕ). xs ++ drop (f .fixed .result .key) (b .args .key .now)) k);
-      digests = wrote-passed e (b .args .digest .now) (sha3-length _) (b .pre .1 .1) (digest-laid _ _ (b .args .digest .now) _ k l (d .lay-digest .ensures));
-    }
+    reply-done
+    _
+    _
+    _
+    _
+    e
+    (written-passed _ _ _ e (b .args .message .now) (message-length (b .args .scheme) (lent b) ∙ sym (long f)) (b .pre .1 .0 .0)
+    (ap (λ (xs : List ℕ). xs ++ drop (f .fixed .result .reply) (b .args .message .now)) m))
+    (written-passed _ _ _ e (b .args .key .now) l (b .pre .1 .0 .1) (ap (λ (xs : List ℕ). xs ++ drop (f .fixed .result .key) (b .args .key .now)) k))
+    (written-passed _ _ _ e (b .args .digest .now) (sha3-length _) (b .pre .1 .1) (digest-laid _ _ (b .args .digest .now) _ k l (d .lay-digest .ensures)))
 
 pub reply-sized-spec : {M : Type 1} → statement M
 reply-sized-spec =
     tie.close
     (tie.spec
     (λ c κs. search needs)
-    slice-relend-prefix-answer-in
-    slice-aggregate-answer-in
-    slice-relend-prefix-answer-in-2
-    slice-aggregate-answer-in-2
-    answer-in-requires
+    slice-relend-prefix-with-opening
+    slice-aggregate-with-opening
+    slice-relend-prefix-with-opening-2
+    slice-aggregate-with-opening-2
+    with-opening-requires
     (search needs)
     (search needs)
     slice-reshare-prefix-lay-digest

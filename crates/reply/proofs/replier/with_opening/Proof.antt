@@ -1,17 +1,24 @@
--- `reply::replier::with_opening` meets its contract: a refused message ends the call, and otherwise the secrets' tests decide.
+-- `reply::replier::with_opening` meets its contract: it lends room for the opening's numbers; a refused message ends the call, and otherwise the secrets' tests decide.
 use mathlib.Core.Path.{_≡_, refl, sym, ap, _∙_}
 use mathlib.Core.List.{List}
-use Prim.Native.Nat.{ℕ}
+use Prim.Native.Nat.{ℕ, _≤_}
+use native.Mathlib.Omega.{arith}
+use lib.ListN.{length}
 use Rattle.schemes.specs.Schemes.{fixedOf}
+use Rattle.schemes.specs.declared.Fixed.{Fixed}
+use Rattle.schemes.proofs.Sound.{sound}
 use Rattle.lists.proofs.Same.{zeros}
+use Rattle.lists.proofs.Parts.{buffer-long, front-long}
+use Rattle.packing.proofs.Laws.{unpacked-length}
 use Rattle.front.specs.Front.{_then_, publicsIn}
-use Rattle.front.specs.Promise.{put}
+use Rattle.front.specs.Seen.{ifPassed}
 use Rattle.front.specs.declared.Verdict.{Verdict}
 use Rattle.front.proofs.Laws.{failed, went-on, before-fail}
-use Rattle.front.proofs.Promise.{put-kept}
-use Rattle.wire.specs.Wire.{openedIn}
+use Rattle.front.proofs.Steps.{front-is, front-fits, put-kept}
+use Rattle.wire.specs.Wire.{openedIn, numbersIn}
 use Rattle.wire.proofs.Travel.{message-counted}
-use Rattle.reply.specs.Reply.{replyOf, replyRest, openedOf}
+use Rattle.reply.specs.Reply.{replyOf, openedOf}
+use Rattle.reply.specs.Inside.{replyRest}
 use Rattle.reply.proofs.Replying.{message-taken, key-taken}
 use borrow.Author.Needs.{needs}
 use Rattle.reply.proofs.replier.with_opening.Statement.{statement}
@@ -39,13 +46,48 @@ fixing c = search needs
 abbrev start : tie.After-fixed → tie.Start
 start c = search needs
 
+module _ (x : tie.After-fixed) where
+  long : x .fixed .result .secret ≡ fixedOf (start x .args .scheme) .secret
+  long = ap (λ (f : Fixed). f .secret) (x .fixed .ensures)
+
+  few : x .fixed .result .secret ≤ 6912
+  few = omega (arith, long, sound (start x .args .scheme) .secrets)
+
+  numbers-long : length (numbersIn (start x .args .scheme) (openedIn (start x .args .scheme) (start x .args .opening .now))) ≡ x .fixed .result .secret
+  unfolding numbersIn
+  numbers-long = unpacked-length _ _ _ ∙ sym long
+
+array-borrow-prefix-b : tie.Need-array-borrow-prefix-b
+array-borrow-prefix-b c = let x : tie.After-fixed = search needs in few x
+
+slice-aggregate-take-opening : tie.Need-slice-aggregate-take-opening
+slice-aggregate-take-opening c = let x : tie.After-fixed = search needs in sym (buffer-long _ 6912 (few x))
+
+take-opening-requires : tie.Need-take-opening-requires
+take-opening-requires c κs = let x : tie.After-fixed = search needs in (start x .pre .1, buffer-long _ 6912 (few x) ∙ long x)
+
+array-borrow-prefix-b-2 : tie.Need-array-borrow-prefix-b-2
+array-borrow-prefix-b-2 c =
+    let o : tie.After-enum-told = search needs in
+    let t = taken o in
+    front-fits _ (t .take-opening .ensures .1) (numbers-long (fixing t)) _
+
+slice-aggregate-with-secrets : tie.Need-slice-aggregate-with-secrets
+slice-aggregate-with-secrets c =
+    let o : tie.After-enum-told = search needs in
+    let t = taken o in
+    sym (front-long _ _ (front-fits _ (t .take-opening .ensures .1) (numbers-long (fixing t)) _))
+
 with-secrets-requires : tie.Need-with-secrets-requires
 with-secrets-requires c κs =
     let o : tie.After-enum-told = search needs in
     let t = taken o in
-    let b = start (fixing t) in
-    let v = t .take-opening .ensures in
-    (b .pre .0, message-counted (b .args .scheme) (openedIn (b .args .scheme) (b .args .opening .now)) (v .1) (v .0) (o .enum-told .given .1))
+    let x = fixing t in
+    let b = start x in
+    let v = t .take-opening .ensures in (
+      b .pre .0,
+      message-counted (b .args .scheme) (openedIn (b .args .scheme) (b .args .opening .now)) (front-is _ (v .1) (numbers-long x) _) (v .0) (o .enum-told .given .1),
+    )
 
 returns : tie.Need-returns
 unfolding replyRest openedOf
@@ -73,16 +115,18 @@ returns-2 c =
     let p : tie.After-with-secrets = search needs in
     let o = told p in
     let t = taken o in
-    let a = start (fixing t) .args in
+    let f = fixing t in
+    let a = start f .args in
     let x = replyOf (a .opening .now) (a .a .now) (a .s1 .now) (a .e1 .now) (a .e2 .now) (a .coins .now) in
+    let b = front-is _ (t .take-opening .ensures .1) (numbers-long f) _ in
     let q = p .with-secrets .ensures in
     let v = p .with-secrets .result in (
       q .0
           ∙ ap (λ (w : Verdict). publicsIn (fixedOf (a .scheme) .q) (a .a .now) then w)
           (sym (went-on _ (t .take-opening .ensures .0) (o .enum-told .given .1))),
       (
-        q .1 .0 ∙ ap (λ (xs : List ℕ). put v xs (a .message .now)) (message-taken (a .scheme) x (t .take-opening .ensures .1)),
-        q .1 .1 ∙ ap (λ (xs : List ℕ). put v xs (a .key .now)) (key-taken (a .scheme) x (t .take-opening .ensures .1)),
+        q .1 .0 ∙ ap (λ (xs : List ℕ). ifPassed v xs (a .message .now)) (message-taken (a .scheme) x b),
+        q .1 .1 ∙ ap (λ (xs : List ℕ). ifPassed v xs (a .key .now)) (key-taken (a .scheme) x b),
       ),
     )
 
@@ -91,17 +135,19 @@ with-opening-spec =
     tie.close
     (tie.spec
     (λ c κs. search needs)
-    (λ c κs. search needs)
+    array-borrow-prefix-b
+    slice-aggregate-take-opening
+    take-opening-requires
     (search needs)
     (search needs)
     (λ c κs. search needs)
     (λ c κs. search needs)
-    (search needs)
     (search needs)
     (search needs)
     returns
+    array-borrow-prefix-b-2
+    slice-aggregate-with-secrets
     with-secrets-requires
-    (search needs)
     (search needs)
     (search needs)
     returns-2)

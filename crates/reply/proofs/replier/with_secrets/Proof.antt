@@ -1,22 +1,20 @@
 -- `reply::replier::with_secrets` meets its contract: the secrets' tests, behind that of the public numbers where one fails, then that of the part about to be sent.
 use mathlib.Core.Path.{_≡_, refl, sym, ap, _∙_}
 use Rattle.schemes.specs.Schemes.{fixedOf}
-use Rattle.schemes.specs.declared.Fixed.{Fixed}
 use Rattle.lists.proofs.Same.{zeros-long}
 use Rattle.front.specs.Front.{_then_, publicsIn}
 use Rattle.front.specs.declared.Verdict.{Verdict}
 use Rattle.front.proofs.Laws.{failed, went-on, before-fail}
-use Rattle.front.proofs.Promise.{put-kept}
+use Rattle.front.proofs.Steps.{put-kept}
 use Rattle.ends.specs.Fit.{Small}
-use Rattle.reply.specs.Reply.{replyLast}
+use Rattle.reply.specs.Inside.{replyLast}
 use Rattle.reply.proofs.Replying.{secrets-small}
 use borrow.Author.Needs.{needs}
 use Rattle.reply.proofs.replier.with_secrets.Statement.{statement}
 use Rattle.reply.proofs.replier.with_secrets.Tie as tie
 
-write-requires : tie.Need-write-requires
-write-requires c κs =
-    let f : tie.After-fixed = search needs in
+lay-requires : tie.Need-lay-requires
+lay-requires c κs =
     let o : tie.After-enum-told2 = search needs in
     let t : tie.After-reply-secrets = search needs in
     let b : tie.Start = search needs in
@@ -28,10 +26,7 @@ write-requires c κs =
         record { numbers = b .pre .1; secret = secret; last = record { long = p .last-long; within = w .2 }; coins-long = p .coins-long },
         record { public-long = p .public-long; secret = secret; noise = record { long = p .noise-long; within = w .1 } },
       ),
-      (
-        (ap (λ (g : Fixed). g .mixed) (f .fixed .ensures), ap (λ (g : Fixed). g .groups) (f .fixed .ensures)),
-        (zeros-long (fixedOf (a .scheme) .reply) 0 (p .message-blank), zeros-long (fixedOf (a .scheme) .key) 0 (p .key-blank)),
-      ),
+      (zeros-long (fixedOf (a .scheme) .reply) 0 (p .message-blank), zeros-long (fixedOf (a .scheme) .key) 0 (p .key-blank)),
     )
 
 -- the places, from the last to the first
@@ -63,11 +58,11 @@ returns c =
 returns-2 : tie.Need-returns-2
 unfolding replyLast
 returns-2 c =
-    let w : tie.After-write = search needs in
+    let w : tie.After-lay = search needs in
     let o : tie.After-enum-told2 = search needs in
     let t : tie.After-reply-secrets = search needs in
     let a = start (fixing t) .args in
-    let q = w .write .ensures in (
+    let q = w .lay .ensures in (
       q .0 ∙ ap (λ (u : Verdict). publicsIn (fixedOf (a .scheme) .q) (a .a .now) then u) (sym (went-on _ (t .reply-secrets .ensures) (o .enum-told2 .given .1))),
       q .1,
     )
@@ -81,7 +76,7 @@ with-secrets-spec =
     (search needs)
     (λ c κs. search needs)
     (search needs)
-    write-requires
+    lay-requires
     returns
     (search needs)
     (search needs)

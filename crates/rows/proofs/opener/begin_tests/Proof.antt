@@ -3,11 +3,12 @@ use mathlib.Core.Path.{refl}
 use borrow.Author.Needs.{needs}
 use Rattle.front.proofs.Laws.{also}
 use Rattle.rows.specs.Offer.{offerBeginTests}
+use Rattle.rows.specs.Inside.{offerBeginSizes}
 use Rattle.rows.proofs.opener.begin_tests.Statement.{statement}
 use Rattle.rows.proofs.opener.begin_tests.Tie as tie
 
 returns : tie.Need-returns
-unfolding offerBeginTests
+unfolding offerBeginTests offerBeginSizes
 returns c =
     let s : tie.After-secrets-in = search needs in
     let z : tie.After-begin-sizes = search needs in

@@ -28,7 +28,7 @@ returns c =
     let s : tie.Start = search needs in
     let t : tie.After-end-tests = search needs in
     let v : tie.After-v = search needs in
-    end-refused (end-failed (s .args .scheme) (s .args .state .now) _ (s .pre .0) (t .end-tests .ensures) (v .v .given .1)) (s .pre .1)
+    end-refused _ _ (end-failed (s .args .scheme) (s .args .state .now) _ (s .pre .0) (t .end-tests .ensures) (v .v .given .1)) (s .pre .1)
 
 pub end-in-spec : {M : Type 1} → statement M
 end-in-spec =

@@ -3,7 +3,7 @@ use mathlib.Core.Path.{refl, _∙_, ap}
 use borrow.Author.Needs.{needs}
 use Rattle.front.specs.Front.{inTurn}
 use Rattle.front.proofs.Laws.{also}
-use Rattle.rows.specs.Offer.{offerEndSizes}
+use Rattle.rows.specs.Inside.{offerEndSizes}
 use Rattle.rows.proofs.opener.end_tests.Statement.{statement}
 use Rattle.rows.proofs.opener.end_tests.Tie as tie
 

@@ -1,102 +1,143 @@
--- `rows::opener::lay` meets its contract: numbers, then, where they are not blank, bytes.
-use mathlib.Core.Path.{_≡_, refl, _∙_, sym, ap, ap₂}
+-- `rows::opener::lay` meets its contract: the seed and the numbers, then, where these are not blank, the bytes; with room for what lies between.
+use mathlib.Core.Path.{_≡_, sym, ap, ap₂, _∙_}
 use mathlib.Core.List.{List}
-use Prim.Native.Nat.{ℕ, _+_, _*_, _≤_}
+use Prim.Native.Nat.{ℕ, _≤_}
 use native.Mathlib.Omega.{arith}
 use borrow.Author.Needs.{needs}
 use lib.ListN.{length, drop}
 use Rattle.schemes.specs.Schemes.{fixedOf}
+use Rattle.schemes.specs.declared.Fixed.{Fixed}
+use Rattle.schemes.proofs.Sound.{sound}
+use Rattle.lists.proofs.Parts.{buffer-long, front-long}
 use Rattle.packing.specs.Packing.{packed}
-use Rattle.ends.proofs.Numbers.{numbers-in}
 use Rattle.front.specs.Front.{notBlank}
+use Rattle.front.specs.Seen.{ifPassed}
+use Rattle.front.proofs.Steps.{front-is, front-fits}
+use Rattle.ends.specs.Fit.{Counted}
+use Rattle.ends.proofs.Numbers.{numbers-in}
 use Rattle.wire.specs.Wire.{opening}
-use Rattle.rows.specs.Offer.{sentPart, offerEndMessage}
+use Rattle.running.specs.State.{long}
 use Rattle.running.proofs.Tests.{frodos}
 use Rattle.running.proofs.Laying.{take-less}
-use Rattle.rows.proofs.Sending.{sent-counted, sent-is, sent-blank}
+use Rattle.rows.specs.Offer.{sentNumbers, offerEndMessage}
+use Rattle.rows.proofs.Sending.{sent-counted, sent-is}
 use Rattle.rows.proofs.Opening.{state-long, seed-bytes, seed-long}
 use Rattle.rows.proofs.opener.lay.Statement.{statement}
 use Rattle.rows.proofs.opener.lay.Tie as tie
 
--- the places before, step by step
-abbrev not-blank : tie.After-enum-told → tie.After-not-blank
-not-blank t = search needs
+-- the places, from the last to the first
+abbrev made : tie.After-lay-numbers → tie.After-reduce
+made c = search needs
 
-abbrev reduced : tie.After-not-blank → tie.After-reduce
-reduced n = search needs
+abbrev gathered : tie.After-reduce → tie.After-gather
+gathered c = search needs
 
-abbrev fixed : tie.After-reduce → tie.After-fixed
-fixed r = search needs
+abbrev fixing : tie.After-gather → tie.After-fixed
+fixing c = search needs
 
 abbrev start : tie.After-fixed → tie.Start
-start f = search needs
+start c = search needs
 
-module _ (s : tie.Start) where
+module _ (x : tie.After-fixed) where
   abbrev lent : List ℕ
-  lent = s .args .state .now
+  lent = start x .args .state .now
 
-  long : length lent ≡ 16 * fixedOf (s .args .scheme) .n + 67
-  long = state-long (s .args .scheme) lent (s .pre .0 .1)
+  lent-long : length lent ≡ long (fixedOf (start x .args .scheme) .n)
+  lent-long = state-long (start x .args .scheme) lent (start x .pre .1)
 
-  few : fixedOf (s .args .scheme) .n ≤ 864
-  few = numbers-in (s .args .scheme) (s .pre .0 .0) .few
+  counted : Counted (fixedOf (start x .args .scheme) .secret) (fixedOf (start x .args .scheme) .q) (sentNumbers (start x .args .scheme) lent)
+  counted = sent-counted (start x .args .scheme) lent (start x .pre .0) lent-long
+
+  many : x .fixed .result .secret ≡ fixedOf (start x .args .scheme) .secret
+  many = ap (λ (f : Fixed). f .secret) (x .fixed .ensures)
+
+  few : x .fixed .result .secret ≤ 6912
+  few = omega (arith, many, sound (start x .args .scheme) .secrets)
+
+part-gather-end : tie.Need-part-gather-end
+part-gather-end c = let x : tie.After-fixed = search needs in omega (arith, lent-long x)
+
+gather-requires : tie.Need-gather-requires
+gather-requires c κs =
+    let x : tie.After-fixed = search needs in
+    let e = take-less 16 48 (drop 3 (lent x)) in
+    let b = start x in
+    (rw e at (seed-long (b .args .scheme) (lent x) (b .pre .1)), rw e at (seed-bytes (b .args .scheme) (lent x) (b .pre .1)))
+
+array-borrow-prefix-b : tie.Need-array-borrow-prefix-b
+array-borrow-prefix-b c = let x : tie.After-fixed = search needs in few x
+
+slice-aggregate-reduce : tie.Need-slice-aggregate-reduce
+slice-aggregate-reduce c = let x : tie.After-fixed = search needs in sym (buffer-long _ 6912 (few x))
 
 reduce-requires : tie.Need-reduce-requires
 reduce-requires c κs =
-    let s : tie.Start = search needs in
-    let f : tie.After-fixed = search needs in
-    let h = numbers-in (s .args .scheme) (s .pre .0 .0) in
-    rw (f .fixed .ensures) (h .q-some, h .q-room, h .words, few s, long s, s .pre .1 .0 ∙ h .secret)
+    let x : tie.After-fixed = search needs in
+    let h = numbers-in (start x .args .scheme) (start x .pre .0) in
+    let l = buffer-long _ 6912 (sound (start x .args .scheme) .secrets) ∙ h .secret in
+    rw (x .fixed .ensures) (h .q-some, h .q-room, h .words, h .few, lent-long x, l)
 
--- the numbers are tested for their bytes
-tested : (n : tie.After-not-blank) → let s : tie.Start = search needs in n .not-blank .result ≡ notBlank (sentPart (s .args .scheme) (lent s))
-tested n =
-    let s : tie.Start = search needs in
-    let f : tie.After-fixed = search needs in
+array-share-prefix-b : tie.Need-array-share-prefix-b
+array-share-prefix-b c =
     let r : tie.After-reduce = search needs in
-    let d = s .args .scheme in
-    n .not-blank .ensures
-    ∙ ap notBlank (sent-is d (lent s) (s .pre .0 .0) (long s) (f .fixed .ensures) (r .reduce .ensures))
-    ∙ sent-blank d (lent s) (s .pre .0 .0) (long s)
+    let x = fixing (gathered r) in
+    let b = start x in
+    front-fits _ (sent-is (b .args .scheme) (lent x) (b .pre .0) (lent-long x) (x .fixed .ensures) (r .reduce .ensures)) (counted x .long ∙ sym (many x)) _
 
-part-lay-opening-end : tie.Need-part-lay-opening-end
-part-lay-opening-end c = let s : tie.Start = search needs in omega (arith, long s)
-
-lay-opening-requires : tie.Need-lay-opening-requires
-lay-opening-requires c κs =
-    let s : tie.Start = search needs in
-    let f : tie.After-fixed = search needs in
+slice-aggregate-lay-numbers : tie.Need-slice-aggregate-lay-numbers
+slice-aggregate-lay-numbers c =
     let r : tie.After-reduce = search needs in
-    let d = s .args .scheme in
-    let e = take-less 16 48 (drop 3 (lent s)) in
-    let n = sent-is d (lent s) (s .pre .0 .0) (long s) (f .fixed .ensures) (r .reduce .ensures) in (
-      (rw n (sent-counted d (lent s) (s .pre .0 .0) (long s)), frodos d (s .pre .0 .0) .seed),
-      (rw e at (seed-long d (lent s) (s .pre .0 .1)), rw e at (seed-bytes d (lent s) (s .pre .0 .1)), s .pre .1 .1),
-    )
+    let x = fixing (gathered r) in
+    let b = start x in
+    sym
+    (front-long _ _
+    (front-fits _ (sent-is (b .args .scheme) (lent x) (b .pre .0) (lent-long x) (x .fixed .ensures) (r .reduce .ensures)) (counted x .long ∙ sym (many x)) _))
+
+lay-numbers-requires : tie.Need-lay-numbers-requires
+lay-numbers-requires c κs =
+    let r : tie.After-reduce = search needs in
+    let g = gathered r in
+    let x = fixing g in
+    let b = start x in
+    let d = b .args .scheme in
+    let e = take-less 16 48 (drop 3 (lent x)) in
+    (rw (front-is _ (sent-is d (lent x) (b .pre .0) (lent-long x) (x .fixed .ensures) (r .reduce .ensures)) (counted x .long ∙ sym (many x)) _) (counted x), (ap length (g .gather .ensures ∙ sym e) ∙ seed-long d (lent x) (b .pre .1) ∙ sym (frodos d (b .pre .0) .seed), b .pre .2))
 
 returns : tie.Need-returns
-returns c =
-    let v : tie.After-v = search needs in
-    let n : tie.After-not-blank = search needs in
-    (sym (v .v .given .1) ∙ tested n, refl)
-
-returns-2 : tie.Need-returns-2
 unfolding offerEndMessage
-returns-2 c =
-    let o : tie.After-lay-opening = search needs in
-    let t : tie.After-enum-told = search needs in
-    let n = not-blank t in
-    let r = reduced n in
-    let f : tie.After-fixed = fixed r in
-    let s = start f in
-    let d = s .args .scheme in (
-      sym (t .enum-told .given .1) ∙ tested n,
-      o .lay-opening .ensures
-          ∙ ap₂ (λ (u v : List ℕ). opening d u (packed (fixedOf d .width) v)) (sym (take-less 16 48 (drop 3 (lent s))))
-          (sent-is d (lent s) (s .pre .0 .0) (long s) (f .fixed .ensures) (r .reduce .ensures)),
+returns c =
+    let l : tie.After-lay-numbers = search needs in
+    let r = made l in
+    let g = gathered r in
+    let x = fixing g in
+    let b = start x in
+    let d = b .args .scheme in
+    let f = fixedOf d in
+    let u = front-is _ (sent-is d (lent x) (b .pre .0) (lent-long x) (x .fixed .ensures) (r .reduce .ensures)) (counted x .long ∙ sym (many x)) _ in
+    let q = l .lay-numbers .ensures in
+    let v = l .lay-numbers .result in (
+      q .0 ∙ ap (λ (y : List ℕ). notBlank (packed (f .width) y)) u,
+      q .1
+          ∙ ap₂ (λ (y z : List ℕ). ifPassed v (opening d y (packed (f .width) z)) (b .args .out .now))
+          (g .gather .ensures ∙ sym (take-less 16 48 (drop 3 (lent x)))) u,
     )
 
 pub lay-spec : {M : Type 1} → statement M
 lay-spec =
     tie.close
-    (tie.spec (λ c κs. search needs) reduce-requires (λ c κs. search needs) (search needs) (search needs) (search needs) (search needs) part-lay-opening-end lay-opening-requires (search needs) returns (search needs) (search needs) returns-2)
+    (tie.spec
+    (λ c κs. search needs)
+    (search needs)
+    (search needs)
+    part-gather-end
+    (search needs)
+    gather-requires
+    array-borrow-prefix-b
+    slice-aggregate-reduce
+    reduce-requires
+    array-share-prefix-b
+    slice-aggregate-lay-numbers
+    (search needs)
+    lay-numbers-requires
+    (search needs)
+    returns)

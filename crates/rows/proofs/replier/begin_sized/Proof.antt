@@ -1,31 +1,35 @@
--- `rows::replier::begin_sized` meets its contract: a refused opening ends the call; then the secrets, and then the state.
+-- `rows::replier::begin_sized` meets its contract: it lends room for the opening's numbers; a refused opening ends the call; then the secrets, and then the state.
 use mathlib.Core.Path.{_≡_, refl, _∙_, sym, ap}
 use mathlib.Core.List.{List}
-use Prim.Native.Nat.{ℕ, _*_}
-use lib.ListN.{length, replicate}
-use Rattle.schemes.specs.Schemes.{numberOf}
+use Prim.Native.Nat.{ℕ, _≤_}
+use native.Mathlib.Omega.{arith}
+use lib.ListN.{length}
+use Rattle.schemes.specs.Schemes.{fixedOf}
+use Rattle.schemes.specs.declared.Fixed.{Fixed}
 use Rattle.schemes.specs.declared.Named.the-variants.{Is}
-use Rattle.matrix.specs.Steps.{wordsOf}
-use Rattle.parts.specs.Parts.{wrap}
-use Rattle.front.specs.Front.{_then_, notBlank}
-use Rattle.front.specs.Promise.{put}
+use Rattle.schemes.proofs.Sound.{sound}
+use Rattle.lists.proofs.Parts.{buffer-long, front-long}
+use Rattle.packing.proofs.Laws.{unpacked-length}
+use Rattle.front.specs.Front.{notBlank}
+use Rattle.front.specs.Seen.{ifPassed}
 use Rattle.front.specs.declared.Verdict.{Verdict}
 use Rattle.front.proofs.Laws.{failed, went-on}
+use Rattle.front.proofs.Steps.{front-is, front-fits}
 use Rattle.ends.specs.Values.{mixedValue}
 use Rattle.wire.specs.Wire.{openedIn, numbersIn}
 use Rattle.wire.proofs.Travel.{message-counted}
-use Rattle.reply.specs.Reply.{replySecrets}
 use Rattle.reply.proofs.Replying.{secrets-small}
-use Rattle.running.specs.State.{tagOf, long, laid}
+use Rattle.running.specs.State.{long, laid, fresh}
 use Rattle.running.specs.declared.Call.{Call}
 use Rattle.rows.specs.Reply.{ReplyBegin, replyBeginOf, valueOf, replyState}
+use Rattle.rows.specs.Inside.{replyBeginRest}
 use Rattle.rows.proofs.Replying.{Sized, begin-sized, opened-tests}
 use borrow.Author.Needs.{needs}
 use Rattle.rows.proofs.replier.begin_sized.Statement.{statement}
 use Rattle.rows.proofs.replier.begin_sized.Tie as tie
 
 -- the places, from the last to the first
-abbrev passing : tie.After-secrets → tie.After-enum-told
+abbrev passing : tie.After-reply-secrets → tie.After-enum-told
 passing c = search needs
 
 abbrev opened : tie.After-enum-told → tie.After-take-opening
@@ -37,47 +41,81 @@ failing c = search needs
 abbrev refused : tie.After-enum-told2 → tie.After-take-opening
 refused c = search needs
 
-abbrev start : tie.After-take-opening → tie.Start
+abbrev fixing : tie.After-take-opening → tie.After-fixed
+fixing c = search needs
+
+abbrev start : tie.After-fixed → tie.Start
 start c = search needs
 
-abbrev lent : tie.Start → ReplyBegin
-lent b = replyBeginOf (b .args .opening .now) (b .args .s1 .now) (b .args .e1 .now) (b .args .e2 .now)
+module _ (x : tie.After-fixed) where
+  abbrev lent : ReplyBegin
+  lent = let a = start x .args in replyBeginOf (a .opening .now) (a .s1 .now) (a .e1 .now) (a .e2 .now)
 
-sized : (b : tie.Start) → Sized (b .args .scheme) (lent b) (length (b .args .state .now))
-sized b = begin-sized _ _ _ (b .pre .1 .0)
+  sized : Sized (start x .args .scheme) lent (length (start x .args .state .now))
+  sized = begin-sized _ _ _ (start x .pre .1)
+
+  many : x .fixed .result .secret ≡ fixedOf (start x .args .scheme) .secret
+  many = ap (λ (f : Fixed). f .secret) (x .fixed .ensures)
+
+  few : x .fixed .result .secret ≤ 6912
+  few = omega (arith, many, sound (start x .args .scheme) .secrets)
+
+  numbers-long : length (numbersIn (start x .args .scheme) (openedIn (start x .args .scheme) (start x .args .opening .now))) ≡ x .fixed .result .secret
+  unfolding numbersIn
+  numbers-long = unpacked-length _ _ _ ∙ sym many
 
 -- the unpack step's verdict, without the test that cannot fail
-unpacked : (t : tie.After-take-opening) → t .take-opening .result ≡ notBlank (openedIn (start t .args .scheme) (start t .args .opening .now))
+unpacked : (t : tie.After-take-opening) → let a = start (fixing t) .args in t .take-opening .result ≡ notBlank (openedIn (a .scheme) (a .opening .now))
 unpacked t =
-    let b = start t in
+    let b = start (fixing t) in
     t .take-opening .ensures .0 ∙ opened-tests (b .args .scheme) (b .pre .0 .0) (openedIn (b .args .scheme) (b .args .opening .now))
 
 -- where it has passed, the secrets decide
-tested : (s : tie.After-secrets) → let a = start (opened (passing s)) .args in
-    s .secrets .result ≡ notBlank (openedIn (a .scheme) (a .opening .now)) then replySecrets (a .scheme) (a .s1 .now) (a .e1 .now) (a .e2 .now)
+tested : (s : tie.After-reply-secrets) → let x = fixing (opened (passing s)) in s .reply-secrets .result ≡ replyBeginRest (start x .args .scheme) (lent x)
+unfolding replyBeginRest
 tested s =
     let o = passing s in
-    s .secrets .ensures ∙ sym (went-on _ (unpacked (opened o)) (o .enum-told .given .1))
+    s .reply-secrets .ensures ∙ sym (went-on _ (unpacked (opened o)) (o .enum-told .given .1))
+
+array-borrow-prefix-b : tie.Need-array-borrow-prefix-b
+array-borrow-prefix-b c = let x : tie.After-fixed = search needs in few x
+
+slice-aggregate-take-opening : tie.Need-slice-aggregate-take-opening
+slice-aggregate-take-opening c = let x : tie.After-fixed = search needs in sym (buffer-long _ 6912 (few x))
 
 take-opening-requires : tie.Need-take-opening-requires
-take-opening-requires c κs = let b : tie.Start = search needs in (sized b .opening-long, b .pre .0 .2)
+take-opening-requires c κs = let x : tie.After-fixed = search needs in (sized x .opening-long, buffer-long _ 6912 (few x) ∙ many x)
+
+array-share-prefix-b : tie.Need-array-share-prefix-b
+array-share-prefix-b c =
+    let s : tie.After-reply-secrets = search needs in
+    let t = opened (passing s) in
+    front-fits _ (t .take-opening .ensures .1) (numbers-long (fixing t)) _
+
+slice-aggregate-lay-state : tie.Need-slice-aggregate-lay-state
+slice-aggregate-lay-state c =
+    let s : tie.After-reply-secrets = search needs in
+    let t = opened (passing s) in
+    sym (front-long _ _ (front-fits _ (t .take-opening .ensures .1) (numbers-long (fixing t)) _))
 
 lay-state-requires : tie.Need-lay-state-requires
 lay-state-requires c κs =
     let g : tie.After-enum-told3 = search needs in
-    let s : tie.After-secrets = search needs in
+    let s : tie.After-reply-secrets = search needs in
     let o = passing s in
     let t = opened o in
-    let b = start t in
+    let x = fixing t in
+    let b = start x in
     let a = b .args in
-    let z = sized b in
+    let z = sized x in
     let v = t .take-opening .ensures in
-    let w = secrets-small (a .scheme) (a .s1 .now) (a .e1 .now) (a .e2 .now) (sym (s .secrets .ensures) ∙ g .enum-told3 .given .1) in (
-      (b .pre .0 .0, b .pre .0 .1),
+    let n = ap (λ (f : Fixed). f .n) (x .fixed .ensures) in
+    let w = secrets-small (a .scheme) (a .s1 .now) (a .e1 .now) (a .e2 .now) (sym (s .reply-secrets .ensures) ∙ g .enum-told3 .given .1) in (
+      (b .pre .0 .0, n),
       (
-        (z .state-long ∙ ap long (sym (b .pre .0 .1)), b .pre .1 .1),
+        (z .state-long ∙ ap long (sym n), b .pre .0 .1),
         (
-          (message-counted (a .scheme) (openedIn (a .scheme) (a .opening .now)) (v .1) (v .0) (o .enum-told .given .1), z .noise-long),
+          (message-counted (a .scheme) (openedIn (a .scheme) (a .opening .now)) (front-is _ (v .1) (numbers-long x) _) (v .0) (o .enum-told .given .1), z .noise-long),
           (record { long = z .secret-long; within = w .0 }, record { long = z .last-long; within = w .2 }),
         ),
       ),
@@ -85,22 +123,24 @@ lay-state-requires c κs =
 
 -- a refused opening
 returns : tie.Need-returns
+unfolding replyBeginRest
 returns c =
     let z : tie.After-zero-numbers = search needs in
     let o = failing z in
     let t = refused o in
-    let b = start t in
+    let x = fixing t in
+    let b = start x in
     let e = o .enum-told2 .given .1 in (
       e ∙ sym (failed _ (unpacked t) e),
       z .zero-numbers .ensures
-          ∙ sym (b .pre .1 .1)
-          ∙ ap (λ (v : Verdict). put v (replyState (Is (b .args .scheme)) (lent b)) (b .args .state .now)) (sym e),
+          ∙ sym (b .pre .0 .1)
+          ∙ ap (λ (v : Verdict). ifPassed v (replyState (Is (b .args .scheme)) (lent x)) (b .args .state .now)) (sym e),
     )
 
 returns-2 : tie.Need-returns-2
 returns-2 c =
     let v : tie.After-v = search needs in
-    let s : tie.After-secrets = search needs in
+    let s : tie.After-reply-secrets = search needs in
     (sym (v .v .given .1) ∙ tested s, refl)
 
 returns-3 : tie.Need-returns-3
@@ -108,34 +148,35 @@ unfolding replyState valueOf
 returns-3 c =
     let l : tie.After-lay-state = search needs in
     let g : tie.After-enum-told3 = search needs in
-    let s : tie.After-secrets = search needs in
+    let s : tie.After-reply-secrets = search needs in
     let t = opened (passing s) in
-    let a = start t .args in (
+    let x = fixing t in
+    let a = start x .args in (
       sym (g .enum-told3 .given .1) ∙ tested s,
       l .lay-state .ensures
-          ∙ ap (λ (xs : List ℕ). laid (tagOf Call.Reply) (numberOf (a .scheme)) 0 (mixedValue (a .scheme) xs (a .s1 .now) (a .e2 .now)) (wordsOf wrap (a .s1 .now)) (wordsOf wrap (a .e1 .now)) (replicate (16 * a .n) 0))
-          (t .take-opening .ensures .1)
-          ∙ ap (λ (k : ℕ). laid (tagOf Call.Reply) (numberOf (a .scheme)) 0 (mixedValue (a .scheme) (numbersIn (a .scheme) (openedIn (a .scheme) (a .opening .now))) (a .s1 .now) (a .e2 .now)) (wordsOf wrap (a .s1 .now)) (wordsOf wrap (a .e1 .now)) (replicate (16 * k) 0))
-          (start t .pre .0 .1),
+          ∙ ap (λ (xs : List ℕ). laid (fresh Call.Reply (a .scheme) (mixedValue (a .scheme) xs (a .s1 .now) (a .e2 .now)) (a .s1 .now) (a .e1 .now)))
+          (front-is _ (t .take-opening .ensures .1) (numbers-long x) _),
     )
 
 pub begin-sized-spec : {M : Type 1} → statement M
 begin-sized-spec =
     tie.close
     (tie.spec
+    (λ c κs. search needs)
+    array-borrow-prefix-b
+    slice-aggregate-take-opening
     take-opening-requires
     (search needs)
     (search needs)
     (λ c κs. search needs)
     (search needs)
-    (search needs)
     returns
     (λ c κs. search needs)
     (search needs)
     (search needs)
+    array-share-prefix-b
+    slice-aggregate-lay-state
     lay-state-requires
-    (search needs)
     returns-2
-    (search needs)
     (search needs)
     returns-3)

@@ -4,7 +4,7 @@ use Prim.Native.Nat.{_≤_}
 use native.Mathlib.Omega.{arith}
 use Rattle.schemes.specs.declared.Fixed.{Fixed}
 use Rattle.front.proofs.Laws.{first, also}
-use Rattle.rows.specs.Reply.{replyBeginSizes}
+use Rattle.rows.specs.Inside.{replyBeginSizes}
 use borrow.Author.Needs.{needs}
 use Rattle.rows.proofs.replier.begin_sizes.Statement.{statement}
 use Rattle.rows.proofs.replier.begin_sizes.Tie as tie

@@ -1,9 +1,6 @@
 -- `rows::replier::end_in` meets its contract: turn and rooms, then the part about to be sent.
-use mathlib.Core.Path.{sym, ap, _∙_}
-use lib.ListN.{length}
-use Rattle.schemes.specs.declared.Named.{Named}
+use mathlib.Core.Path.{sym, _∙_}
 use Rattle.ends.proofs.Numbers.{numbers-in}
-use Rattle.rows.specs.Reply.{replyEndTests}
 use Rattle.rows.proofs.Replying.{end-failed, end-refused}
 use borrow.Author.Needs.{needs}
 use Rattle.rows.proofs.replier.end_in.Statement.{statement}
@@ -24,11 +21,7 @@ returns c =
     let v : tie.After-v = search needs in
     let t : tie.After-end-sizes = search needs in
     let b : tie.Start = search needs in
-    let a = b .args in
-    end-refused
-    (ap (λ (m : Named). replyEndTests m (a .state .now) (length (a .message .now)) (length (a .key .now)) (length (a .digest .now))) (b .pre .0 .1)
-    ∙ end-failed _ _ _ _ _ (t .end-sizes .ensures) (v .v .given .1))
-    (b .pre .1 .0 .0) (b .pre .1 .0 .1) (b .pre .1 .1)
+    end-refused _ _ (end-failed _ _ _ (b .pre .0 .1) (t .end-sizes .ensures) (v .v .given .1)) (b .pre .1 .0 .0) (b .pre .1 .0 .1) (b .pre .1 .1)
 
 pub end-in-spec : {M : Type 1} → statement M
 end-in-spec =

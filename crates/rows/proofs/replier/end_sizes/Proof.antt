@@ -4,7 +4,7 @@ use native.Mathlib.Omega.{arith}
 use Rattle.schemes.specs.declared.Fixed.{Fixed}
 use Rattle.front.specs.Front.{inTurn}
 use Rattle.front.proofs.Laws.{also}
-use Rattle.rows.specs.Reply.{replyEndSizes}
+use Rattle.rows.specs.Inside.{replyEndSizes}
 use borrow.Author.Needs.{needs}
 use Rattle.rows.proofs.replier.end_sizes.Statement.{statement}
 use Rattle.rows.proofs.replier.end_sizes.Tie as tie

@@ -1,82 +1,135 @@
--- `rows::replier::lay` meets its contract: the numbers, then, where they are not blank, message and key.
-use mathlib.Core.Path.{_≡_, refl, _∙_, sym, ap}
-use mathlib.Core.List.{List, _++_}
-use Prim.Native.Nat.{ℕ}
+-- `rows::replier::lay` meets its contract: the numbers, then, where they are not blank, message and key; with room for what lies between.
+use mathlib.Core.Path.{_≡_, sym, ap, _∙_}
+use mathlib.Core.List.{List, []}
+use Prim.Native.Nat.{ℕ, _≤_}
+use native.Mathlib.Omega.{arith}
+use borrow.Author.Needs.{needs}
+use lib.ListN.{length}
 use Rattle.schemes.specs.Schemes.{fixedOf}
+use Rattle.schemes.specs.declared.Fixed.{Fixed}
+use Rattle.schemes.proofs.Sound.{sound}
+use Rattle.lists.proofs.Parts.{buffer-long, front-long}
 use Rattle.packing.specs.Packing.{packed}
 use Rattle.front.specs.Front.{notBlank}
+use Rattle.front.specs.Seen.{ifPassed}
+use Rattle.front.proofs.Steps.{front-is, front-fits}
 use Rattle.ends.specs.Fit.{Counted}
-use Rattle.ends.proofs.Numbers.{Frodo, numbers-in}
-use Rattle.wire.proofs.Travel.{numbers-blank}
-use Rattle.rows.specs.Offer.{sentNumbers, sentPart}
-use Rattle.rows.proofs.Sending.{sent-is, sent-counted}
-use borrow.Author.Needs.{needs}
+use Rattle.ends.proofs.Numbers.{numbers-in}
+use Rattle.reply.specs.Inside.{messageBy}
+use Rattle.running.specs.State.{long, keptOf}
+use Rattle.running.proofs.Tests.{frodos}
+use Rattle.rows.specs.Offer.{sentNumbers}
+use Rattle.rows.specs.Reply.{replyEndMessage, replyEndKey}
+use Rattle.rows.proofs.Sending.{sent-counted, sent-is}
+use Rattle.rows.proofs.Replying.{state-long, kept-counted}
 use Rattle.rows.proofs.replier.lay.Statement.{statement}
 use Rattle.rows.proofs.replier.lay.Tie as tie
+
+-- the places, from the last to the first
+abbrev made : tie.After-lay-values → tie.After-reduce
+made c = search needs
+
+abbrev fixing : tie.After-reduce → tie.After-fixed
+fixing c = search needs
 
 abbrev start : tie.After-fixed → tie.Start
 start c = search needs
 
-abbrev fixed : tie.After-reduce → tie.After-fixed
-fixed c = search needs
+module _ (x : tie.After-fixed) where
+  abbrev lent : List ℕ
+  lent = start x .args .state .now
 
-abbrev reduced : tie.After-not-blank → tie.After-reduce
-reduced c = search needs
+  lent-long : length lent ≡ long (fixedOf (start x .args .scheme) .n)
+  lent-long = state-long (start x .args .scheme) lent (start x .pre .0 .0) (start x .pre .0 .1)
 
-module _ (c : tie.After-fixed) where
-  frodo : Frodo (fixedOf (start c .args .scheme))
-  frodo = numbers-in (start c .args .scheme) (start c .pre .0 .0)
+  counted : Counted (fixedOf (start x .args .scheme) .secret) (fixedOf (start x .args .scheme) .q) (sentNumbers (start x .args .scheme) lent)
+  counted = sent-counted (start x .args .scheme) lent (start x .pre .0 .0) lent-long
 
-  counted : Counted (fixedOf (start c .args .scheme) .secret) (fixedOf (start c .args .scheme) .q) (sentNumbers (start c .args .scheme) (start c .args .state .now))
-  counted = sent-counted (start c .args .scheme) (start c .args .state .now) (start c .pre .0 .0) (start c .pre .0 .1)
+  many : x .fixed .result .secret ≡ fixedOf (start x .args .scheme) .secret
+  many = ap (λ (f : Fixed). f .secret) (x .fixed .ensures)
+
+  few : x .fixed .result .secret ≤ 6912
+  few = omega (arith, many, sound (start x .args .scheme) .secrets)
+
+array-borrow-prefix-u : tie.Need-array-borrow-prefix-u
+array-borrow-prefix-u c = let x : tie.After-fixed = search needs in few x
+
+slice-aggregate-reduce : tie.Need-slice-aggregate-reduce
+slice-aggregate-reduce c = let x : tie.After-fixed = search needs in sym (buffer-long _ 6912 (few x))
 
 reduce-requires : tie.Need-reduce-requires
 reduce-requires c κs =
-    let f : tie.After-fixed = search needs in
-    rw (f .fixed .ensures) (frodo f .q-some, frodo f .q-room, frodo f .words, frodo f .few, start f .pre .0 .1, start f .pre .0 .2 ∙ frodo f .secret)
+    let x : tie.After-fixed = search needs in
+    let h = numbers-in (start x .args .scheme) (start x .pre .0 .0) in
+    let l = buffer-long _ 6912 (sound (start x .args .scheme) .secrets) ∙ h .secret in
+    rw (x .fixed .ensures) (h .q-some, h .q-room, h .words, h .few, lent-long x, l)
 
-lay-reply-requires : tie.Need-lay-reply-requires
-lay-reply-requires c κs =
+array-share-prefix-u : tie.Need-array-share-prefix-u
+array-share-prefix-u c =
     let r : tie.After-reduce = search needs in
-    let f = fixed r in
-    let b = start f in
-    (rw (sent-is (b .args .scheme) (b .args .state .now) (b .pre .0 .0) (b .pre .0 .1) (f .fixed .ensures) (r .reduce .ensures)) (counted f), b .pre .1 .0)
+    let x = fixing r in
+    let b = start x in
+    front-fits _ (sent-is (b .args .scheme) (lent x) (b .pre .0 .0) (lent-long x) (x .fixed .ensures) (r .reduce .ensures)) (counted x .long ∙ sym (many x)) _
 
--- the numbers are tested for their bytes
-tested : (n : tie.After-not-blank) → let a = start (fixed (reduced n)) .args in n .not-blank .result ≡ notBlank (sentPart (a .scheme) (a .state .now))
-tested n =
-    let r = reduced n in
-    let f = fixed r in
-    let a = start f .args in
-    n .not-blank .ensures
-    ∙ ap notBlank (sent-is (a .scheme) (a .state .now) (start f .pre .0 .0) (start f .pre .0 .1) (f .fixed .ensures) (r .reduce .ensures))
-    ∙ sym (numbers-blank (a .scheme) (counted f))
+slice-aggregate-lay-values : tie.Need-slice-aggregate-lay-values
+slice-aggregate-lay-values c =
+    let r : tie.After-reduce = search needs in
+    let x = fixing r in
+    let b = start x in
+    sym
+    (front-long _ _
+    (front-fits _ (sent-is (b .args .scheme) (lent x) (b .pre .0 .0) (lent-long x) (x .fixed .ensures) (r .reduce .ensures)) (counted x .long ∙ sym (many x)) _))
+
+part-lay-values-end : tie.Need-part-lay-values-end
+part-lay-values-end c = let r : tie.After-reduce = search needs in omega (arith, lent-long (fixing r))
+
+lay-values-requires : tie.Need-lay-values-requires
+lay-values-requires c κs =
+    let r : tie.After-reduce = search needs in
+    let x = fixing r in
+    let b = start x in
+    let d = b .args .scheme in
+    let h = numbers-in d (b .pre .0 .0) in (
+      (rw (front-is _ (sent-is d (lent x) (b .pre .0 .0) (lent-long x) (x .fixed .ensures) (r .reduce .ensures)) (counted x .long ∙ sym (many x)) _) (counted x), kept-counted d (lent x) (b .pre .0 .0) (b .pre .0 .1)),
+      (
+        (sym (frodos d (b .pre .0 .0) .coins), record { tosses-long = sym (h .groups); hints-long = sym (h .mixed); entries-long = sym (h .groups) }),
+        b .pre .1,
+      ),
+    )
 
 returns : tie.Need-returns
+unfolding replyEndMessage replyEndKey
 returns c =
-    let v : tie.After-v = search needs in
-    let n : tie.After-not-blank = search needs in
-    (sym (v .v .given .1) ∙ tested n, (refl, refl))
-
-returns-2 : tie.Need-returns-2
-returns-2 c =
-    let k : tie.After-lay-key = search needs in
-    let l : tie.After-lay-reply = search needs in
-    let o : tie.After-enum-told = search needs in
-    let n : tie.After-not-blank = search needs in
-    let r = reduced n in
-    let f = fixed r in
-    let a = start f .args in (
-      sym (o .enum-told .given .1) ∙ tested n,
-      (
-        l .lay-reply .ensures
-            ∙ ap (λ (xs : List ℕ). packed (fixedOf (a .scheme) .width) xs ++ packed (fixedOf (a .scheme) .hintbits) (a .hints .now))
-            (sent-is (a .scheme) (a .state .now) (start f .pre .0 .0) (start f .pre .0 .1) (f .fixed .ensures) (r .reduce .ensures)),
-        k .lay-key .ensures,
-      ),
+    let l : tie.After-lay-values = search needs in
+    let r = made l in
+    let x = fixing r in
+    let b = start x in
+    let d = b .args .scheme in
+    let u = front-is _ (sent-is d (lent x) (b .pre .0 .0) (lent-long x) (x .fixed .ensures) (r .reduce .ensures)) (counted x .long ∙ sym (many x)) _ in
+    let q = l .lay-values .ensures in
+    let v = l .lay-values .result in (
+      q .0 ∙ ap (λ (y : List ℕ). notBlank (packed (fixedOf d .width) y)) u,
+      (q .1 .0 ∙ ap (λ (y : List ℕ). ifPassed v (messageBy d y (keptOf (lent x)) []) (b .args .message .now)) u, q .1 .1),
     )
 
 pub lay-spec : {M : Type 1} → statement M
 lay-spec =
     tie.close
-    (tie.spec (λ c κs. search needs) reduce-requires (λ c κs. search needs) (search needs) (search needs) lay-reply-requires (λ c κs. search needs) (search needs) returns (search needs) (search needs) (search needs) returns-2)
+    (tie.spec
+    (λ c κs. search needs)
+    array-borrow-prefix-u
+    slice-aggregate-reduce
+    reduce-requires
+    array-share-prefix-u
+    slice-aggregate-lay-values
+    (search needs)
+    (search needs)
+    part-lay-values-end
+    (search needs)
+    (search needs)
+    (search needs)
+    (search needs)
+    lay-values-requires
+    (search needs)
+    (search needs)
+    returns)

@@ -4,7 +4,7 @@ use borrow.Author.Needs.{needs}
 use Rattle.schemes.specs.Schemes.{fixedOf}
 use Rattle.schemes.specs.declared.Fixed.{Fixed}
 use Rattle.ends.proofs.Numbers.{numbers-in, Frodo}
-use Rattle.front.specs.Promise.{put}
+use Rattle.front.specs.Seen.{ifPassed}
 use Rattle.running.specs.State.{stepped}
 use Rattle.running.proofs.Tests.{started, frodos}
 use Rattle.running.proofs.Turns.{turn-fails, turn-goes, turn-begins}
@@ -49,7 +49,7 @@ returns-2 c =
     let p : tie.After-take-part = search needs in
     let a = s .args in (
       turn-goes (a .call) (a .scheme) (a .state .now) (a .p .now) (f .fixed .ensures) (m .may-take .ensures) (i .in-turn .ensures) (t .enum-told .given .1) (p .take-part .ensures .0),
-      p .take-part .ensures .1 ∙ ap (λ (g : Fixed). put (p .take-part .result) (stepped (a .call) (g .n) (a .state .now) (a .p .now)) (a .state .now)) (f .fixed .ensures),
+      p .take-part .ensures .1 ∙ ap (λ (g : Fixed). ifPassed (p .take-part .result) (stepped (a .call) (g .n) (a .state .now) (a .p .now)) (a .state .now)) (f .fixed .ensures),
     )
 
 pub part-in-spec : {M : Type 1} → statement M

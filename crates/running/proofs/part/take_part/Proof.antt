@@ -1,5 +1,5 @@
 -- `running::part::take_part` meets its contract: its numbers, then the state. Where none is too large they are words.
-use mathlib.Core.Path.{_≡_, refl, _∙_, sym}
+use mathlib.Core.Path.{refl, _∙_, sym}
 use native.Mathlib.Omega.{arith}
 use borrow.Author.Needs.{needs}
 use Rattle.front.specs.Front.{_then_}

@@ -1,10 +1,9 @@
 -- `running::state::reduce_on` meets its contract: the words of the sums, then their remainders.
 use mathlib.Core.Path.{_≡_, _∙_, sym, ap}
-use mathlib.Core.List.{List}
 use Prim.Native.Nat.{ℕ, _+_, _*_, _-_}
 use native.Mathlib.Omega.{arith}
 use borrow.Author.Needs.{needs}
-use lib.ListN.{length, take, drop, length-take, length-drop}
+use lib.ListN.{length, take, drop}
 use Rattle.matrix.specs.Steps.{reduced}
 use Rattle.parts.specs.Parts.{words}
 use Rattle.parts.proofs.Words.{words-long}

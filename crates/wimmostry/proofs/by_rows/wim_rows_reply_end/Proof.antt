@@ -4,10 +4,7 @@ use Rattle.wimmostry.proofs.by_rows.wim_rows_reply_end.Statement.{state
 use Rattle.wimmostry.proofs.by_rows.wim_rows_reply_end.Tie as tie
 
 returns : tie.Need-returns
-returns c =
-    let t = c .tell-reply .ensures in
-    let o : tie.After-reply-end = search needs in
-    rw (t .0 .0, t .0 .1, t .1 .0 .0, t .1 .0 .1, t .1 .1) (o .reply-end .ensures)
+returns c = let o : tie.After-reply-end = search needs in rw (c .tell-reply .ensures) (o .reply-end .ensures)
 
 pub wim-rows-reply-end-spec : {M : Type 1} → statement M
 wim-rows-reply-end-spec = tie.close (tie.spec (λ c κs. search needs) (λ c κs. search needs) (search needs) (search needs) (search needs) (search needs) returns)

@@ -4,10 +4,7 @@ use Rattle.wimmostry.proofs.racks.wim_rack_clear.Statement.{statement}
 use Rattle.wimmostry.proofs.racks.wim_rack_clear.Tie as tie
 
 returns : tie.Need-returns
-returns c =
-    let t = c .tell-verdict .ensures in
-    let o : tie.After-clear = search needs in
-    rw (t .0, t .1) (o .clear .ensures)
+returns c = let o : tie.After-clear = search needs in rw (c .tell-verdict .ensures .0, c .tell-verdict .ensures .1) (o .clear .ensures)
 
 pub wim-rack-clear-spec : {M : Type 1} → statement M
 wim-rack-clear-spec = tie.close (tie.spec (λ c κs. search needs) (λ c κs. search needs) (search needs) returns)

@@ -1,14 +1,10 @@
 -- `wimmostry::sessions::wim_session_offer` meets its contract: its numbers are the answer's.
-use Rattle.front.proofs.Seen.{tells}
 use borrow.Author.Needs.{needs}
 use Rattle.wimmostry.proofs.sessions.wim_session_offer.Statement.{statement}
 use Rattle.wimmostry.proofs.sessions.wim_session_offer.Tie as tie
 
 returns : tie.Need-returns
-returns c =
-    let o : tie.After-offer = search needs in
-    let t = tells (o .offer .result) (c .tell .ensures) in
-    rw (t .0, t .1, t .2) (o .offer .ensures)
+returns c = let o : tie.After-offer = search needs in rw (c .tell .ensures) (o .offer .ensures)
 
 pub wim-session-offer-spec : {M : Type 1} → statement M
 wim-session-offer-spec = tie.close (tie.spec (λ c κs. search needs) (λ c κs. search needs) (search needs) (search needs) returns)

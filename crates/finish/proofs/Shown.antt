@@ -1,0 +1,53 @@
+-- What is stated in specs/Shown.
+use mathlib.Core.Path.{_≡_, sym, ap, _∙_}
+use Prim.Native.Nat.{ℕ}
+use native.Mathlib.Omega.{arith}
+use lib.ListN.{length}
+use Rattle.schemes.proofs.Sound.{sound}
+use Rattle.lists.proofs.Top.{peak-zeros}
+use Rattle.front.specs.Seen.{Told}
+use Rattle.front.proofs.Laws.{some, both}
+use Rattle.front.proofs.Same.{same-refusal}
+use Rattle.ends.specs.Keys.{slacks}
+use Rattle.wire.proofs.Travel.{reply-again}
+use Rattle.finish.specs.Finish.{FinishSeen, repliedOf, finishValue, finishSlack, finishTold, finishSeen}
+use Rattle.finish.specs.Shown.{FinishSeenAll, FinishToldAll, ReplyComesBack, NoSlack, KeysFit}
+use Rattle.finish.specs.declared.FinishAnswer.the-variants.{Done, Refused}
+use Rattle.finish.specs.declared.FinishCounts.{FinishCounts}
+use Rattle.finish.proofs.Finishing.{key-length, finish-sized, finish-apart}
+
+-- the numbers of the answer, from what is seen
+toldIn : FinishSeen → Told FinishCounts
+toldIn s =
+    record {
+      number = s .number;
+      place = s .place;
+      counts = record { key = s .key .count; digest = s .digest .count; slack = s .slack };
+    }
+
+pub finish-seen-all : FinishSeenAll
+unfolding finishSeen toldIn
+finish-seen-all t t′ key key′ digest digest′ e = (
+  ap toldIn e,
+  ap (λ (s : FinishSeen). s .key .holds) e,
+  ap (λ (s : FinishSeen). s .digest .holds) e,
+)
+
+pub finish-told-all : FinishToldAll
+finish-told-all (Done n) (Done n′) e = ap Done (ap (λ (t : Told FinishCounts). t .counts) e)
+finish-told-all (Done n) (Refused r) e = let z = ap (λ (t : Told FinishCounts). t .number) e in absurd (omega (arith, some r))
+finish-told-all (Refused r) (Done n) e = let z = ap (λ (t : Told FinishCounts). t .number) e in absurd (omega (arith, some r))
+finish-told-all (Refused r) (Refused s) e =
+    ap Refused (same-refusal r s (ap (λ (t : Told FinishCounts). t .number) e) (ap (λ (t : Told FinishCounts). t .place) e))
+
+pub reply-comes-back : ReplyComesBack
+unfolding repliedOf
+reply-comes-back c x m b t =
+    reply-again c (x .reply) (finish-sized c x m (both _ _ (sym (finish-apart c x m) ∙ t) .0) .0) b
+
+pub no-slack : NoSlack
+unfolding finishSlack slacks
+no-slack c x d = rw d (peak-zeros (length (finishValue c x)))
+
+pub keys-fit : KeysFit
+keys-fit c x = (key-length c x, sound c .keys)

@@ -1,0 +1,48 @@
+-- What is stated in specs/Shown.
+use mathlib.Core.Path.{_≡_, sym, ap, _∙_}
+use Prim.Native.Nat.{ℕ}
+use native.Mathlib.Omega.{arith}
+use Rattle.schemes.proofs.Sound.{sound}
+use Rattle.front.specs.Seen.{Told}
+use Rattle.front.proofs.Laws.{some, both}
+use Rattle.front.proofs.Same.{same-refusal}
+use Rattle.wire.proofs.Travel.{opening-again}
+use Rattle.reply.specs.Reply.{ReplySeen, openedOf, replyTold, replySeen}
+use Rattle.reply.specs.Shown.{ReplySeenAll, ReplyToldAll, OpeningComesBack, KeysFit}
+use Rattle.reply.specs.declared.ReplyAnswer.the-variants.{Done, Refused}
+use Rattle.reply.specs.declared.ReplyCounts.{ReplyCounts}
+use Rattle.reply.proofs.Replying.{key-length, reply-sized, reply-apart}
+
+-- the numbers of the answer, from what is seen
+toldIn : ReplySeen → Told ReplyCounts
+toldIn s =
+    record {
+      number = s .number;
+      place = s .place;
+      counts = record { message = s .message .count; key = s .key .count; digest = s .digest .count };
+    }
+
+pub reply-seen-all : ReplySeenAll
+unfolding replySeen toldIn
+reply-seen-all t t′ message message′ key key′ digest digest′ e = (
+  ap toldIn e,
+  ap (λ (s : ReplySeen). s .message .holds) e,
+  ap (λ (s : ReplySeen). s .key .holds) e,
+  ap (λ (s : ReplySeen). s .digest .holds) e,
+)
+
+pub reply-told-all : ReplyToldAll
+reply-told-all (Done n) (Done n′) e = ap Done (ap (λ (t : Told ReplyCounts). t .counts) e)
+reply-told-all (Done n) (Refused r) e = let z = ap (λ (t : Told ReplyCounts). t .number) e in absurd (omega (arith, some r))
+reply-told-all (Refused r) (Done n) e = let z = ap (λ (t : Told ReplyCounts). t .number) e in absurd (omega (arith, some r))
+reply-told-all (Refused r) (Refused s) e =
+    ap Refused (same-refusal r s (ap (λ (t : Told ReplyCounts). t .number) e) (ap (λ (t : Told ReplyCounts). t .place) e))
+
+pub opening-comes-back : OpeningComesBack
+unfolding openedOf
+opening-comes-back c x m b t =
+    let sizes = both _ _ (both _ _ (sym (reply-apart c x m) ∙ t) .0) .0 in
+    opening-again c (x .opening) (reply-sized c x m sizes .opening-long) b
+
+pub keys-fit : KeysFit
+keys-fit c x = (key-length c x, sound c .keys)

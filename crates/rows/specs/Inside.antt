@@ -1,0 +1,39 @@
+-- What the steps of begin and end ask of each other.
+--   offerBeginSizes c x m, replyBeginSizes c x m   the first tests of begin: of lengths
+--   replyBeginRest c x        those of Reply's begin behind them: of the opening, and of the secrets
+--   offerEndSizes c st n, replyEndSizes c st m     the first tests of end: of its turn, and of rooms
+use mathlib.Core.List.{List}
+use Prim.Native.Nat.{ℕ}
+use lib.ListN.{length}
+use Rattle.schemes.specs.Schemes.{fixedOf}
+use Rattle.schemes.specs.declared.Scheme.{Scheme}
+use Rattle.front.specs.Front.{_then_, lengthIs, roomFor, inTurn, notBlank}
+use Rattle.front.specs.declared.Verdict.{Verdict}
+use Rattle.wire.specs.Wire.{openedIn}
+use Rattle.reply.specs.Reply.{ReplyRooms}
+use Rattle.reply.specs.Inside.{replySecrets}
+use Rattle.running.specs.State.{long, complete}
+use Rattle.running.specs.declared.Call.{Call}
+use Rattle.rows.specs.Offer.{OfferBegin}
+use Rattle.rows.specs.Reply.{ReplyBegin}
+
+unfoldable pub offerBeginSizes : Scheme → OfferBegin → ℕ → Verdict
+offerBeginSizes c x m =
+    lengthIs (length (x .s)) (fixedOf c .secret) then lengthIs (length (x .e)) (fixedOf c .noise)
+    then lengthIs (length (x .seed)) (fixedOf c .seed) then lengthIs m (long (fixedOf c .n))
+
+unfoldable pub replyBeginSizes : Scheme → ReplyBegin → ℕ → Verdict
+replyBeginSizes c x m =
+    lengthIs (length (x .opening)) (fixedOf c .opening) then lengthIs (length (x .s')) (fixedOf c .secret)
+    then lengthIs (length (x .e')) (fixedOf c .noise) then lengthIs (length (x .e'')) (fixedOf c .mixed) then lengthIs m (long (fixedOf c .n))
+
+unfoldable pub replyBeginRest : Scheme → ReplyBegin → Verdict
+replyBeginRest c x = notBlank (openedIn c (x .opening)) then replySecrets c (x .s') (x .e') (x .e'')
+
+unfoldable pub offerEndSizes : Scheme → List ℕ → ℕ → Verdict
+offerEndSizes c st n = inTurn (complete Call.Offer (fixedOf c) st) then roomFor n (fixedOf c .opening)
+
+unfoldable pub replyEndSizes : Scheme → List ℕ → ReplyRooms → Verdict
+replyEndSizes c st m =
+    inTurn (complete Call.Reply (fixedOf c) st) then roomFor (m .message) (fixedOf c .reply) then roomFor (m .key) (fixedOf c .key)
+    then roomFor (m .digest) 32
