@@ -8,14 +8,14 @@ use Prim.Native.Nat.{ℕ}
 use native.Mathlib.Nat.{le-refl}
 use native.Mathlib.Omega.{arith}
 use Rattle.schemes.specs.Schemes.{fixedOf}
-use Rattle.schemes.specs.declared.Named.the-variants.{Is, Unknown}
+use Rattle.schemes.specs.declared.Named.the-variants.{Known, Unknown}
 use Rattle.schemes.specs.declared.Scheme.{Scheme}
 use Rattle.schemes.proofs.Laws.{by-number, by-scheme}
-use Rattle.front.specs.Front.{numberIn}
-use Rattle.front.specs.Seen.{answer, shown}
-use Rattle.front.specs.declared.Verdict.the-variants.{Pass}
-use Rattle.front.proofs.Laws.{number-zero}
-use Rattle.front.proofs.Seen.{written-answer}
+use Rattle.refusals.specs.Refusals.{numberIn}
+use Rattle.refusals.specs.Seen.{answer, shown}
+use Rattle.refusals.specs.declared.Verdict.the-variants.{Pass}
+use Rattle.refusals.proofs.Laws.{number-zero}
+use Rattle.refusals.proofs.Seen.{written-answer}
 use Rattle.offer.specs.Offer.{Offer, offerTests, offerMessage, offerResult}
 use Rattle.reply.specs.Reply.{Reply, ReplyRooms, replyRoomsOf, replyTests, replyMessage, replyKey, replyDigest, outputs, replyResult}
 use Rattle.finish.specs.Finish.{Finish, FinishRooms, FinishSeen, finishRoomsOf, finishTests, finishKey, finishDigest, finishSlack, finishShown, finishResult}
@@ -26,42 +26,42 @@ use Rattle.agreement.proofs.Tests.{sendable-by, offer-passes, reply-pas
 
 -- ---- what a call gave
 
-offer-gave : (c : Scheme) (x : Offer) (n : ℕ) → offerTests (Is c) x n ≡ Pass → answer (offerResult (Is c) x n .out) ≡ offerMessage (Is c) x
+offer-gave : (c : Scheme) (x : Offer) (n : ℕ) → offerTests (Known c) x n ≡ Pass → answer (offerResult (Known c) x n .out) ≡ offerMessage (Known c) x
 unfolding shown
 offer-gave c x n e = written-answer _ _ _ e
 
-reply-gave : (c : Scheme) (x : Reply) (m : ReplyRooms) → replyTests (Is c) x m ≡ Pass → let t = replyResult (Is c) x m in
-    (answer (t .message) ≡ replyMessage (Is c) x) × (answer (t .key) ≡ replyKey (Is c) x) × (answer (t .digest) ≡ replyDigest (Is c) x)
+reply-gave : (c : Scheme) (x : Reply) (m : ReplyRooms) → replyTests (Known c) x m ≡ Pass → let t = replyResult (Known c) x m in
+    (answer (t .message) ≡ replyMessage (Known c) x) × (answer (t .key) ≡ replyKey (Known c) x) × (answer (t .digest) ≡ replyDigest (Known c) x)
 unfolding outputs
 reply-gave c x m e = (written-answer _ _ _ e, written-answer _ _ _ e, written-answer _ _ _ e)
 
-finish-gave : (c : Scheme) (x : Finish) (m : FinishRooms) → finishTests (Is c) x m ≡ Pass → let t = finishResult (Is c) x m in
-    (answer (t .key) ≡ finishKey (Is c) x) × (answer (t .digest) ≡ finishDigest (Is c) x) × (t .slack ≡ finishSlack (Is c) x)
+finish-gave : (c : Scheme) (x : Finish) (m : FinishRooms) → finishTests (Known c) x m ≡ Pass → let t = finishResult (Known c) x m in
+    (answer (t .key) ≡ finishKey (Known c) x) × (answer (t .digest) ≡ finishDigest (Known c) x) × (t .slack ≡ finishSlack (Known c) x)
 unfolding finishShown
 finish-gave c x m e = (written-answer _ _ _ e, written-answer _ _ _ e, rw e)
 
 pub record Gave {c : Scheme} {x : Run} (t : Exchange c x) : Type 0 where
   pub enough : Enough c (t .rooms)
   pub sendable : Sendable c x
-  pub opening : answer (offers c x (t .rooms) .out) ≡ offerMessage (Is c) (offering x)
-  pub message : answer (replies c x (t .rooms) .message) ≡ replyMessage (Is c) (replying c x)
-  pub own : ownKey t ≡ replyKey (Is c) (replying c x)
-  pub peer : peerKey t ≡ finishKey (Is c) (finishing c x)
-  pub own-digest : ownDigest t ≡ replyDigest (Is c) (replying c x)
-  pub peer-digest : peerDigest t ≡ finishDigest (Is c) (finishing c x)
-  pub slack : toldSlack t ≡ finishSlack (Is c) (finishing c x)
+  pub opening : answer (offers c x (t .rooms) .out) ≡ offerMessage (Known c) (offering x)
+  pub message : answer (replies c x (t .rooms) .message) ≡ replyMessage (Known c) (replying c x)
+  pub own : ownKey t ≡ replyKey (Known c) (replying c x)
+  pub peer : peerKey t ≡ finishKey (Known c) (finishing c x)
+  pub own-digest : ownDigest t ≡ replyDigest (Known c) (replying c x)
+  pub peer-digest : peerDigest t ≡ finishDigest (Known c) (finishing c x)
+  pub slack : toldSlack t ≡ finishSlack (Known c) (finishing c x)
 
 pub gave : {c : Scheme} {x : Run} (t : Exchange c x) → Gave t
 unfolding shown outputs finishShown
 gave {c} {x} t =
     let m = t .rooms in
-    let o = number-zero (offerTests (Is c) (offering x) (m .offer)) (sym (t .offer-accepted)) in
+    let o = number-zero (offerTests (Known c) (offering x) (m .offer)) (sym (t .offer-accepted)) in
     let opening = offer-gave c (offering x) (m .offer) o in
-    let r = rw opening at (number-zero (replyTests (Is c) (replyTo x (answer (offers c x m .out))) (m .reply)) (sym (t .reply-accepted))) in
+    let r = rw opening at (number-zero (replyTests (Known c) (replyTo x (answer (offers c x m .out))) (m .reply)) (sym (t .reply-accepted))) in
     let replied = reply-gave c (replying c x) (m .reply) r in
-    let f = rw (opening, replied .0) at (number-zero (finishTests (Is c) (finishWith x (answer (replies c x m .message))) (m .finish)) (sym (t .finish-accepted))) in
+    let f = rw (opening, replied .0) at (number-zero (finishTests (Known c) (finishWith x (answer (replies c x m .message))) (m .finish)) (sym (t .finish-accepted))) in
     let finished = finish-gave c (finishing c x) (m .finish) f in
-    let last : finishes c x m ≡ finishResult (Is c) (finishing c x) (m .finish) = rw (opening, replied .0) in
+    let last : finishes c x m ≡ finishResult (Known c) (finishing c x) (m .finish) = rw (opening, replied .0) in
     let rooms = reply-rooms c _ _ r in
     let last-rooms = finish-rooms c _ _ f in
     record {
@@ -118,7 +118,7 @@ accepted c x = (
 
 pub numbered : Numbered
 unfolding shown
-numbered (Is c) x room z = (c, refl)
+numbered (Known c) x room z = (c, refl)
 numbered Unknown x room z = let i : _≡_ {A = ℕ} 1 0 = rw (offer-unknown x room refl) at z in absurd (omega arith)
 
 pub one-number : OneNumber

@@ -10,11 +10,11 @@ use Rattle.schemes.specs.declared.Family.{Family}
 use Rattle.schemes.specs.declared.Scheme.{Scheme}
 use Rattle.schemes.specs.declared.Scheme.the-variants.{Bcns, NewHope, Challenge, Classical, Recommended, Paranoid}
 use Rattle.packing.proofs.Laws.{unpacked-below}
-use Rattle.front.specs.Front.{numberIn, _then_, messageIn}
-use Rattle.front.specs.declared.Verdict.{Verdict}
-use Rattle.front.specs.declared.Verdict.the-variants.{Pass}
-use Rattle.front.proofs.Laws.{message-passes}
-use Rattle.front.proofs.Number.{and, passes, lengths, rooms, publics, secrets, blanks}
+use Rattle.refusals.specs.Refusals.{numberIn, _then_, messageIn}
+use Rattle.refusals.specs.declared.Verdict.{Verdict}
+use Rattle.refusals.specs.declared.Verdict.the-variants.{Pass}
+use Rattle.refusals.proofs.Laws.{message-passes}
+use Rattle.refusals.proofs.Number.{and, passes, lengths, rooms, publics, secrets, blanks}
 use Rattle.wire.specs.Wire.{numbersIn}
 use Rattle.reply.specs.Reply.{replyTests, openedOf}
 use Rattle.finish.specs.Finish.{finishTests, repliedOf}

@@ -10,16 +10,16 @@ use mathlib.Core.List.{List}
 use Prim.Native.Nat.{ℕ, _≤_}
 use lib.ListN.{length}
 use Rattle.schemes.specs.Schemes.{fixedOf}
-use Rattle.schemes.specs.declared.Named.the-variants.{Is}
+use Rattle.schemes.specs.declared.Named.the-variants.{Known}
 use Rattle.schemes.specs.declared.Scheme.{Scheme}
 use Rattle.blank.specs.Blank.{blank}
-use Rattle.front.specs.Front.{_then_, receivedIn}
-use Rattle.front.specs.declared.Verdict.the-variants.{Pass}
-use Rattle.front.proofs.Laws.{both, all-pass, length-passes, room-passes, below-passes, message-passes, within-passes, not-blank-passes, not-blank-passed}
-use Rattle.ends.specs.Keys.{hints}
-use Rattle.ends.specs.Values.{offered, replied}
-use Rattle.ends.proofs.Ranges.{offered-counted, replied-counted, mixed-counted}
-use Rattle.ends.proofs.Settling.{hints-counted}
+use Rattle.refusals.specs.Refusals.{_then_, receivedIn}
+use Rattle.refusals.specs.declared.Verdict.the-variants.{Pass}
+use Rattle.refusals.proofs.Laws.{both, all-pass, length-passes, room-passes, below-passes, message-passes, within-passes, not-blank-passes, not-blank-passed}
+use Rattle.values.specs.Keys.{hints}
+use Rattle.values.specs.Values.{offered, replied}
+use Rattle.values.proofs.Ranges.{offered-counted, replied-counted, mixed-counted}
+use Rattle.values.proofs.Settling.{hints-counted}
 use Rattle.wire.specs.Wire.{openedIn, repliedIn, hintsIn, coinsIn}
 use Rattle.wire.proofs.Travel.{opened-part, opened-back, replied-part, replied-back, hints-back}
 use Rattle.offer.specs.Offer.{Offer, offeredPart, offerTests, offerMessage}
@@ -35,8 +35,8 @@ use Rattle.agreement.specs.Exchange.{Ranged, Sendable}
 
 module _ (c : Scheme) (x : Run) where
   -- of any opening
-  pub sendable-by : (n : ℕ) (m : ReplyRooms) (opening : List ℕ) → offerTests (Is c) (offering x) n ≡ Pass
-      → replyTests (Is c) (replyTo x opening) m ≡ Pass → Sendable c x
+  pub sendable-by : (n : ℕ) (m : ReplyRooms) (opening : List ℕ) → offerTests (Known c) (offering x) n ≡ Pass
+      → replyTests (Known c) (replyTo x opening) m ≡ Pass → Sendable c x
   unfolding offerTests offerIn offerLengths replyRest replyLast
   sendable-by n m opening o r =
       let lent = both _ _ o in
@@ -64,11 +64,11 @@ module _ (c : Scheme) (x : Run) where
   opened-is l = opened-back c (x .seed) l (offered-counted c (x .a) (x .s) (x .e))
 
   -- the packed parts, as they came
-  opened-part-is : length (x .seed) ≡ fixedOf c .seed → openedIn c (offerMessage (Is c) (offering x)) ≡ offeredPart c (offering x)
+  opened-part-is : length (x .seed) ≡ fixedOf c .seed → openedIn c (offerMessage (Known c) (offering x)) ≡ offeredPart c (offering x)
   unfolding offerMessage
   opened-part-is l = opened-part c (x .seed) l (offered-counted c (x .a) (x .s) (x .e))
 
-  replied-part-is : repliedIn c (replyMessage (Is c) (replying c x)) ≡ repliedPart c (x .a) (x .s') (x .e')
+  replied-part-is : repliedIn c (replyMessage (Known c) (replying c x)) ≡ repliedPart c (x .a) (x .s') (x .e')
   unfolding replyMessage replyValue
   replied-part-is =
       replied-part c (replied-counted c (x .a) (x .s') (x .e')) (hints-counted c (coinsIn c (x .coins)) _ (mixed-counted c _ (x .s') (x .e'') .long))
@@ -78,7 +78,7 @@ module _ (c : Scheme) (x : Run) where
   replied-is =
       replied-back c (replied-counted c (x .a) (x .s') (x .e')) (hints-counted c (coinsIn c (x .coins)) _ (mixed-counted c _ (x .s') (x .e'') .long))
 
-  pub hints-are : hintsIn c (replyMessage (Is c) (replying c x)) ≡ hints c (coinsIn c (x .coins)) (replyValue c (replying c x))
+  pub hints-are : hintsIn c (replyMessage (Known c) (replying c x)) ≡ hints c (coinsIn c (x .coins)) (replyValue c (replying c x))
   unfolding replyMessage replyValue
   hints-are =
       hints-back c (replied-counted c (x .a) (x .s') (x .e')) (hints-counted c (coinsIn c (x .coins)) _ (mixed-counted c _ (x .s') (x .e'') .long))
@@ -86,7 +86,7 @@ module _ (c : Scheme) (x : Run) where
   -- ---- what passes
 
   pub opening-received : length (x .seed) ≡ fixedOf c .seed → blank (offeredPart c (offering x)) ≡ false
-      → receivedIn (fixedOf c .q) (openedIn c (offerMessage (Is c) (offering x))) (openedOf c (replying c x)) ≡ Pass
+      → receivedIn (fixedOf c .q) (openedIn c (offerMessage (Known c) (offering x))) (openedOf c (replying c x)) ≡ Pass
   unfolding receivedIn
   opening-received l b =
       all-pass (rw (opened-is l) (message-passes (offered-counted c (x .a) (x .s) (x .e) .below))) (rw (opened-part-is l) (not-blank-passes _ b))
@@ -95,7 +95,7 @@ module _ (c : Scheme) (x : Run) where
     h : Ranged c x
     h = s .ranged
 
-    pub offer-passes : (n : ℕ) → fixedOf c .opening ≤ n → offerTests (Is c) (offering x) n ≡ Pass
+    pub offer-passes : (n : ℕ) → fixedOf c .opening ≤ n → offerTests (Known c) (offering x) n ≡ Pass
     unfolding offerTests _then_
     offer-passes n l =
         rw (
@@ -110,7 +110,7 @@ module _ (c : Scheme) (x : Run) where
           not-blank-passes _ (s .opening),
         )
 
-    pub reply-passes : (m : ReplyRooms) → fixedOf c .reply ≤ m .message → fixedOf c .key ≤ m .key → 32 ≤ m .digest → replyTests (Is c) (replying c x) m ≡ Pass
+    pub reply-passes : (m : ReplyRooms) → fixedOf c .reply ≤ m .message → fixedOf c .key ≤ m .key → 32 ≤ m .digest → replyTests (Known c) (replying c x) m ≡ Pass
     unfolding replyTests _then_
     reply-passes m l k d =
         rw (
@@ -134,7 +134,7 @@ module _ (c : Scheme) (x : Run) where
           not-blank-passes _ (s .reply),
         )
 
-    pub finish-passes : (m : FinishRooms) → fixedOf c .key ≤ m .key → 32 ≤ m .digest → finishTests (Is c) (finishing c x) m ≡ Pass
+    pub finish-passes : (m : FinishRooms) → fixedOf c .key ≤ m .key → 32 ≤ m .digest → finishTests (Known c) (finishing c x) m ≡ Pass
     unfolding finishTests _then_
     finish-passes m k d =
         rw (
@@ -152,15 +152,15 @@ module _ (c : Scheme) (x : Run) where
 -- ---- the rooms
 
 module _ (c : Scheme) where
-  pub offer-room : (x : Offer) (n : ℕ) → offerTests (Is c) x n ≡ Pass → fixedOf c .opening ≤ n
+  pub offer-room : (x : Offer) (n : ℕ) → offerTests (Known c) x n ≡ Pass → fixedOf c .opening ≤ n
   unfolding offerTests offerIn offerLengths
   offer-room x n t = offer-opens c x n (both _ _ t .0) .1
 
-  pub reply-rooms : (x : Reply) (m : ReplyRooms) → replyTests (Is c) x m ≡ Pass
+  pub reply-rooms : (x : Reply) (m : ReplyRooms) → replyTests (Known c) x m ≡ Pass
       → (fixedOf c .reply ≤ m .message) × (fixedOf c .key ≤ m .key) × (32 ≤ m .digest)
   reply-rooms x m t =
       let s = reply-sized c x m (both _ _ (both _ _ (sym (reply-apart c x m) ∙ t) .0) .0) in
       (s .roomy, s .key-roomy, s .digest-roomy)
 
-  pub finish-rooms : (x : Finish) (m : FinishRooms) → finishTests (Is c) x m ≡ Pass → (fixedOf c .key ≤ m .key) × (32 ≤ m .digest)
+  pub finish-rooms : (x : Finish) (m : FinishRooms) → finishTests (Known c) x m ≡ Pass → (fixedOf c .key ≤ m .key) × (32 ≤ m .digest)
   finish-rooms x m t = let s = finish-sized c x m (both _ _ (sym (finish-apart c x m) ∙ t) .0) in (s .2, s .3)

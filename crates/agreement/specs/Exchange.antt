@@ -18,13 +18,13 @@ use mathlib.Core.List.{List}
 use mathlib.Core.Logic.{_↔_}
 use Prim.Native.Nat.{ℕ, _≤_}
 use lib.ListN.{length}
-use Rattle.schemes.specs.Schemes.{fixedOf, numberOf, schemeOf}
+use Rattle.schemes.specs.Schemes.{fixedOf, schemeNumber, schemeOf}
 use Rattle.schemes.specs.declared.Named.{Named}
-use Rattle.schemes.specs.declared.Named.the-variants.{Is}
+use Rattle.schemes.specs.declared.Named.the-variants.{Known}
 use Rattle.schemes.specs.declared.Scheme.{Scheme}
 use Rattle.lists.specs.declared.Peak.{Peak}
-use Rattle.front.specs.Seen.{Seen, answer}
-use Rattle.ends.specs.Fit.{Counted, Small}
+use Rattle.refusals.specs.Seen.{Seen, answer}
+use Rattle.values.specs.Fit.{Counted, Small}
 use Rattle.blank.specs.Blank.{blank}
 use Rattle.offer.specs.Offer.{Offer, offeredPart, offerResult}
 use Rattle.reply.specs.Reply.{ReplyRooms, ReplySeen, repliedPart, replyResult}
@@ -62,13 +62,13 @@ pub record Enough (c : Scheme) (m : Rooms) : Type 0 where
 -- x has one list of public numbers, which both boxes take, and one secret s, which Offer and Finish take; each call takes the message as the one before wrote it
 module _ (c : Scheme) (x : Run) (m : Rooms) where
   abbrev pub offers : Seen ℕ
-  offers = offerResult (Is c) (offering x) (m .offer)
+  offers = offerResult (Known c) (offering x) (m .offer)
 
   abbrev pub replies : ReplySeen
-  replies = replyResult (Is c) (replyTo x (answer (offers .out))) (m .reply)
+  replies = replyResult (Known c) (replyTo x (answer (offers .out))) (m .reply)
 
   abbrev pub finishes : FinishSeen
-  finishes = finishResult (Is c) (finishWith x (answer (replies .message))) (m .finish)
+  finishes = finishResult (Known c) (finishWith x (answer (replies .message))) (m .finish)
 
 pub record Exchange (c : Scheme) (x : Run) : Type 0 where
   pub rooms : Rooms
@@ -98,7 +98,7 @@ abbrev pub Accepted : Type 0
 Accepted = (c : Scheme) (x : Run) → Exchange c x ↔ Sendable c x
 
 abbrev pub Numbered : Type 0
-Numbered = (n : Named) (x : Offer) (room : ℕ) → offerResult n x room .number ≡ 0 → (c : Scheme) × (n ≡ Is c)
+Numbered = (n : Named) (x : Offer) (room : ℕ) → offerResult n x room .number ≡ 0 → (c : Scheme) × (n ≡ Known c)
 
 abbrev pub OneNumber : Type 0
-OneNumber = (k : ℕ) (c : Scheme) → (schemeOf k ≡ Is c) ↔ (k ≡ numberOf c)
+OneNumber = (k : ℕ) (c : Scheme) → (schemeOf k ≡ Known c) ↔ (k ≡ schemeNumber c)

@@ -10,26 +10,26 @@ use native.Mathlib.Nat.{le-refl}
 use native.Mathlib.Omega.{arith}
 use lib.IntN.{ℤ}
 use lib.ListN.{length}
-use Rattle.schemes.specs.Schemes.{fixedOf, schemeOf, numberOf}
+use Rattle.schemes.specs.Schemes.{fixedOf, schemeOf, schemeNumber}
 use Rattle.schemes.specs.declared.Named.{Named}
-use Rattle.schemes.specs.declared.Named.the-variants.{Is, Unknown}
+use Rattle.schemes.specs.declared.Named.the-variants.{Known, Unknown}
 use Rattle.schemes.specs.declared.Scheme.{Scheme}
 use Rattle.schemes.specs.declared.Scheme.the-variants.{Bcns}
 use Rattle.schemes.proofs.Laws.{by-number}
 use Rattle.lists.specs.declared.Peak.{Peak}
-use Rattle.front.specs.Front.{numberIn, placeIn, _then_}
-use Rattle.front.specs.Front as front
-use Rattle.front.specs.Seen.{Output, output, written, Seen, told, seen, shown}
-use Rattle.front.specs.declared.Answer.{Answer}
-use Rattle.front.specs.declared.Outcome.{Outcome}
-use Rattle.front.specs.declared.Refusal.{Refusal}
-use Rattle.front.specs.declared.Refusal.the-variants.{NoScheme}
-use Rattle.front.specs.declared.Verdict.{Verdict}
-use Rattle.front.specs.declared.Verdict.the-variants.{Pass, Fail}
-use Rattle.front.proofs.Laws.{differ, some, number-zero, both, failed, went-on}
-use Rattle.front.proofs.Same.{same-refusal}
-use Rattle.front.proofs.Seen.{written-whole}
-use Rattle.front.proofs.Steps.{outcome-slack, outcome-refused, passed-by, failed-by}
+use Rattle.refusals.specs.Refusals.{numberIn, placeIn, _then_}
+use Rattle.refusals.specs.Refusals as refusals
+use Rattle.refusals.specs.Seen.{Output, output, written, Seen, told, seen, shown}
+use Rattle.refusals.specs.declared.Answer.{Answer}
+use Rattle.refusals.specs.declared.Outcome.{Outcome}
+use Rattle.refusals.specs.declared.Refusal.{Refusal}
+use Rattle.refusals.specs.declared.Refusal.the-variants.{NoScheme}
+use Rattle.refusals.specs.declared.Verdict.{Verdict}
+use Rattle.refusals.specs.declared.Verdict.the-variants.{Pass, Fail}
+use Rattle.refusals.proofs.Laws.{differ, some, number-zero, both, failed, went-on}
+use Rattle.refusals.proofs.Same.{same-refusal}
+use Rattle.refusals.proofs.Seen.{written-whole}
+use Rattle.refusals.proofs.Steps.{outcome-slack, outcome-refused, passed-by, failed-by}
 use Rattle.offer.specs.Offer.{offerTests, offerResult}
 use Rattle.offer.specs.Inside.{offerLengths, offerIn}
 use Rattle.reply.specs.Reply.{Reply, ReplySeen, replyOf, replyRoomsOf, replyMessage, replyKey, outputs, replyResult, replyTold, replySeen}
@@ -52,7 +52,7 @@ use Rattle.bench.proofs.Lamp.{differs-is}
 -- ---- by the verdict
 
 -- one that has been told as the refusal r
-refused-as : (v : Verdict) (r : Refusal) → front.numberOf r ≡ numberIn v → front.placeOf r ≡ placeIn v → v ≡ Fail r
+refused-as : (v : Verdict) (r : Refusal) → refusals.numberOf r ≡ numberIn v → refusals.placeOf r ≡ placeIn v → v ≡ Fail r
 refused-as Pass r e f = absurd (omega (arith, some r))
 refused-as (Fail s) r e f = ap Fail (same-refusal s r (sym e) (sym f))
 
@@ -71,14 +71,14 @@ without-last (Fail r) v w h = refl
 filled : (xs : List ℕ) (room : ℕ) {v : Verdict} {n : ℕ} {out : List ℕ} → v ≡ Pass → length xs ≡ room → output n out ≡ written v xs 0 room → out ≡ xs
 filled xs room e l f = ap (λ (o : Output ℕ). o .holds) (f ∙ written-whole xs 0 room e l)
 
-pub named : {n : ℕ} (c : Scheme) → n ≡ numberOf c → schemeOf n ≡ Is c
+pub named : {n : ℕ} (c : Scheme) → n ≡ schemeNumber c → schemeOf n ≡ Known c
 named c e = ap schemeOf e ∙ by-number c
 
 -- ---- from Finish on
 
-module _ (c : Scheme) (x : Finish) {n : Named} (e : n ≡ Is c) {k d : ℕ} (l : (k ≡ fixedOf c .key) × (d ≡ 32)) (v : FinishAnswer)
+module _ (c : Scheme) (x : Finish) {n : Named} (e : n ≡ Known c) {k d : ℕ} (l : (k ≡ fixedOf c .key) × (d ≡ 32)) (v : FinishAnswer)
     (key digest : List ℕ) (t : finishSeen (finishTold v) key digest ≡ finishResult n x (finishRoomsOf k d)) where
-  finish-given : finishSeen (finishTold v) key digest ≡ finishResult (Is c) x (finishRoomsOf (fixedOf c .key) 32)
+  finish-given : finishSeen (finishTold v) key digest ≡ finishResult (Known c) x (finishRoomsOf (fixedOf c .key) 32)
   finish-given = rw (← l .0, ← l .1, ← e) t
 
   pub finish-refused : {r : Refusal} → v ≡ FinishAnswer.Refused r → FromFinish c x (Outcome.Refused r) key
@@ -86,7 +86,7 @@ module _ (c : Scheme) (x : Finish) {n : Named} (e : n ≡ Is c) {k d : ℕ} (l :
   finish-refused {r} h =
       let g = rw h at finish-given in
       let o = refused-as (testsFromFinish c x) r (ap (λ (s : FinishSeen). s .number) g) (ap (λ (s : FinishSeen). s .place) g) in
-      record { ended = sym (outcome-refused o (finishSlack (Is c) x)); peered = unkeyed (finishKey (Is c) x) key o }
+      record { ended = sym (outcome-refused o (finishSlack (Known c) x)); peered = unkeyed (finishKey (Known c) x) key o }
 
   pub finish-done : {m : FinishCounts} → v ≡ FinishAnswer.Done m → FromFinish c x (Outcome.Slack (m .slack)) key
   unfolding finishSeen finishShown
@@ -96,23 +96,23 @@ module _ (c : Scheme) (x : Finish) {n : Named} (e : n ≡ Is c) {k d : ℕ} (l :
       let used = rw o at (ap (λ (s : FinishSeen). s .slack) g) in
       record {
         ended = ap Outcome.Slack used ∙ sym (outcome-slack o _);
-        peered = λ _. filled (finishKey (Is c) x) (fixedOf c .key) o (finish.key-length c x) (ap (λ (s : FinishSeen). s .key) g);
+        peered = λ _. filled (finishKey (Known c) x) (fixedOf c .key) o (finish.key-length c x) (ap (λ (s : FinishSeen). s .key) g);
       }
 
 -- ---- from Reply on
 
-module _ (c : Scheme) (x : Reply) (s : List ℤ) {n : Named} (e : n ≡ Is c) {j k d : ℕ} (l : (j ≡ fixedOf c .reply) × (k ≡ fixedOf c .key) × (d ≡ 32))
+module _ (c : Scheme) (x : Reply) (s : List ℤ) {n : Named} (e : n ≡ Known c) {j k d : ℕ} (l : (j ≡ fixedOf c .reply) × (k ≡ fixedOf c .key) × (d ≡ 32))
     (v : ReplyAnswer) (message key digest : List ℕ) (t : replySeen (replyTold v) message key digest ≡ replyResult n x (replyRoomsOf j k d)) where
-  reply-given : replySeen (replyTold v) message key digest ≡ replyResult (Is c) x (replyRoomsOf (fixedOf c .reply) (fixedOf c .key) 32)
+  reply-given : replySeen (replyTold v) message key digest ≡ replyResult (Known c) x (replyRoomsOf (fixedOf c .reply) (fixedOf c .key) 32)
   reply-given = rw (← l .0, ← l .1, ← l .2, ← e) t
 
   pub reply-refused : {r : Refusal} (peer : List ℕ) → v ≡ ReplyAnswer.Refused r → FromReply c x s (Outcome.Refused r) key peer
   unfolding replySeen outputs
   reply-refused {r} peer h =
       let g = rw h at reply-given in
-      let o = failed (testsFromFinish c (finishOf (replyMessage (Is c) x) s)) refl
+      let o = failed (testsFromFinish c (finishOf (replyMessage (Known c) x) s)) refl
       (refused-as _ r (ap (λ (s : ReplySeen). s .number) g) (ap (λ (s : ReplySeen). s .place) g)) in
-      record { ended = sym (outcome-refused o (finishSlack (Is c) (finishOf (replyMessage (Is c) x) s))); owned = unkeyed _ key o; peered = unkeyed _ peer o }
+      record { ended = sym (outcome-refused o (finishSlack (Known c) (finishOf (replyMessage (Known c) x) s))); owned = unkeyed _ key o; peered = unkeyed _ peer o }
 
   pub reply-told : {m : ReplyCounts} {r : Outcome} {peer : List ℕ} → v ≡ ReplyAnswer.Done m → FromFinish c (finishOf message s) r peer
       → FromReply c x s r key peer
@@ -120,17 +120,17 @@ module _ (c : Scheme) (x : Reply) (s : List ℤ) {n : Named} (e : n ≡ Is c) {j
   reply-told {peer = peer} h p =
       let g = rw h at reply-given in
       let o = number-zero _ (ap (λ (s : ReplySeen). s .number) g) in
-      let w = filled (replyMessage (Is c) x) (fixedOf c .reply) o (reply.message-length c x) (ap (λ (s : ReplySeen). s .message) g) in
-      let y = filled (replyKey (Is c) x) (fixedOf c .key) o (reply.key-length c x) (ap (λ (s : ReplySeen). s .key) g) in
+      let w = filled (replyMessage (Known c) x) (fixedOf c .reply) o (reply.message-length c x) (ap (λ (s : ReplySeen). s .message) g) in
+      let y = filled (replyKey (Known c) x) (fixedOf c .key) o (reply.key-length c x) (ap (λ (s : ReplySeen). s .key) g) in
       let q = rw w at p in
-      let z = went-on (testsFromFinish c (finishOf (replyMessage (Is c) x) s)) refl o in
+      let z = went-on (testsFromFinish c (finishOf (replyMessage (Known c) x) s)) refl o in
       record { ended = rw z (q .ended); owned = λ _. y; peered = λ f. q .peered (sym z ∙ f) }
 
 -- ---- from Offer on
 
-module _ (c : Scheme) (x : Bench) {n : Named} (e : n ≡ Is c) {j : ℕ} (l : j ≡ fixedOf c .opening) (v : Answer) (opening : List ℕ)
+module _ (c : Scheme) (x : Bench) {n : Named} (e : n ≡ Known c) {j : ℕ} (l : j ≡ fixedOf c .opening) (v : Answer) (opening : List ℕ)
     (t : seen (told v) opening ≡ offerResult n (offering x) j) where
-  offer-given : seen (told v) opening ≡ offerResult (Is c) (offering x) (fixedOf c .opening)
+  offer-given : seen (told v) opening ≡ offerResult (Known c) (offering x) (fixedOf c .opening)
   offer-given = rw (← l, ← e) t
 
   pub offer-refused : {r : Refusal} (own peer : List ℕ) → v ≡ Answer.Refused r → FromOffer c x (Outcome.Refused r) own peer
@@ -138,14 +138,14 @@ module _ (c : Scheme) (x : Bench) {n : Named} (e : n ≡ Is c) {j : ℕ} (l : j 
   offer-refused {r} own peer h =
       let g = rw h at offer-given in
       let o = failed (testsFromReply c (replying c x) (x .s)) refl (refused-as _ r (ap (λ (s : Seen ℕ). s .number) g) (ap (λ (s : Seen ℕ). s .place) g)) in
-      record { ended = sym (outcome-refused o (finishSlack (Is c) (finishing c x))); owned = unkeyed _ own o; peered = unkeyed _ peer o }
+      record { ended = sym (outcome-refused o (finishSlack (Known c) (finishing c x))); owned = unkeyed _ own o; peered = unkeyed _ peer o }
 
   pub offer-told : {m : ℕ} {r : Outcome} {own peer : List ℕ} → v ≡ Answer.Done m
       → FromReply c (replyOf opening (x .a) (x .s') (x .e') (x .e'') (x .coins)) (x .s) r own peer → FromOffer c x r own peer
   unfolding seen shown offerTests offerIn offerLengths
   offer-told h p =
       let g = rw h at offer-given in
-      let o = number-zero (offerTests (Is c) (offering x) (fixedOf c .opening)) (ap (λ (s : Seen ℕ). s .number) g) in
+      let o = number-zero (offerTests (Known c) (offering x) (fixedOf c .opening)) (ap (λ (s : Seen ℕ). s .number) g) in
       let seeds = offer-opens c (offering x) _ (both _ _ o .0) .0 .seed-long in
       let w = filled _ (fixedOf c .opening) o (opening-long c (offering x) seeds) (ap (λ (s : Seen ℕ). s .out) g) in
       let q = rw w at p in
@@ -155,7 +155,7 @@ module _ (c : Scheme) (x : Bench) {n : Named} (e : n ≡ Is c) {j : ℕ} (l : j 
 -- ---- the promise
 
 -- Finish refuses nothing there
-same-tests : (c : Scheme) (x : Bench) → testsFromOffer c x ≡ benchTests (Is c) x
+same-tests : (c : Scheme) (x : Bench) → testsFromOffer c x ≡ benchTests (Known c) x
 unfolding benchTests
 same-tests c x = without-last _ _ _ (λ o r. finish-passes c x (sendable-by c x _ _ _ o r) _ (le-refl _) (le-refl _))
 
@@ -166,37 +166,37 @@ answered c x zero e f g = rw (e, ← f, ← g)
 answered c x (suc i) e f g = rw (e, ← f, ← g)
 
 module _ (c : Scheme) (x : Bench) {o : Outcome} {own peer : List ℕ} (p : FromOffer c x o own peer) where
-  pub bench-refused : {r : Refusal} → o ≡ Outcome.Refused r → benchTold (BenchAnswer.Refused r) ≡ benchResult (Is c) x
+  pub bench-refused : {r : Refusal} → o ≡ Outcome.Refused r → benchTold (BenchAnswer.Refused r) ≡ benchResult (Known c) x
   unfolding benchShown
   bench-refused {r} h =
-      let e : benchTests (Is c) x ≡ Fail r = sym (same-tests c x) ∙ failed-by (testsFromOffer c x) (finishSlack (Is c) (finishing c x)) (p .ended) h in
+      let e : benchTests (Known c) x ≡ Fail r = sym (same-tests c x) ∙ failed-by (testsFromOffer c x) (finishSlack (Known c) (finishing c x)) (p .ended) h in
       rw e
 
   -- both keys stand in their buffers
   module _ {s : Peak} (h : o ≡ Outcome.Slack s) where
-    ran : (testsFromOffer c x ≡ Pass) × (s ≡ finishSlack (Is c) (finishing c x))
-    ran = passed-by (testsFromOffer c x) (finishSlack (Is c) (finishing c x)) (p .ended) h
+    ran : (testsFromOffer c x ≡ Pass) × (s ≡ finishSlack (Known c) (finishing c x))
+    ran = passed-by (testsFromOffer c x) (finishSlack (Known c) (finishing c x)) (p .ended) h
 
-    pub own-kept : own ≡ replyKey (Is c) (replying c x)
+    pub own-kept : own ≡ replyKey (Known c) (replying c x)
     own-kept = p .owned (ran .0)
 
-    pub peer-kept : peer ≡ finishKey (Is c) (finishing c x)
+    pub peer-kept : peer ≡ finishKey (Known c) (finishing c x)
     peer-kept = p .peered (ran .0)
 
-    pub bench-told : {r : BenchAnswer} → r ≡ comparison (differing own peer) s → benchTold r ≡ benchResult (Is c) x
+    pub bench-told : {r : BenchAnswer} → r ≡ comparison (differing own peer) s → benchTold r ≡ benchResult (Known c) x
     unfolding keysDiffer benchSlack
     bench-told g =
         let e = sym (same-tests c x) ∙ ran .0 in
-        ap benchTold g ∙ answered (Is c) x (differing own peer) e (ap₂ differing own-kept peer-kept ∙ differs-is c x e) (ran .1)
+        ap benchTold g ∙ answered (Known c) x (differing own peer) e (ap₂ differing own-kept peer-kept ∙ differs-is c x e) (ran .1)
 
 -- in BCNS, where nothing is compared
-bcns-told : (x : Bench) (o : Outcome) {own peer : List ℕ} → FromOffer Bcns x o own peer → bcnsTold (agreed o) ≡ benchResult (Is Bcns) x
+bcns-told : (x : Bench) (o : Outcome) {own peer : List ℕ} → FromOffer Bcns x o own peer → bcnsTold (agreed o) ≡ benchResult (Known Bcns) x
 unfolding benchDiffers benchSlack
 bcns-told x (Outcome.Refused r) p = bench-refused Bcns x p refl
-bcns-told x (Outcome.Slack s) p = answered (Is Bcns) x 0 (sym (same-tests Bcns x) ∙ ran Bcns x p refl .0) refl (ran Bcns x p refl .1)
+bcns-told x (Outcome.Slack s) p = answered (Known Bcns) x 0 (sym (same-tests Bcns x) ∙ ran Bcns x p refl .0) refl (ran Bcns x p refl .1)
 
 pub bcns-answered : (x : Bench) (o : Outcome) {own peer : List ℕ} {r : BcnsAnswer} → FromOffer Bcns x o own peer → r ≡ agreed o
-    → bcnsTold r ≡ benchResult (Is Bcns) x
+    → bcnsTold r ≡ benchResult (Known Bcns) x
 bcns-answered x o p e = ap bcnsTold e ∙ bcns-told x o p
 
 pub bench-unknown : {n : Named} (x : Bench) → n ≡ Unknown → benchTold (BenchAnswer.Refused NoScheme) ≡ benchResult n x

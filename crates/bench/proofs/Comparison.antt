@@ -12,19 +12,19 @@ use native.Mathlib.Omega.{arith}
 use lib.Dec.{ltb}
 use lib.ListN.{length}
 use borrow.Author.Tests.{ltb-true}
-use Rattle.schemes.specs.Schemes.{by, familyOf}
+use Rattle.schemes.specs.Schemes.{byFamily, familyOf}
 use Rattle.schemes.specs.declared.Family.{Family}
 use Rattle.schemes.specs.declared.Scheme.{Scheme}
 use Rattle.schemes.specs.declared.Named.{Named}
-use Rattle.schemes.specs.declared.Named.the-variants.{Is, Unknown}
+use Rattle.schemes.specs.declared.Named.the-variants.{Known, Unknown}
 use Rattle.schemes.proofs.Sound.{sound}
 use Rattle.lists.specs.Entries.{Below}
 use Rattle.lists.specs.First.{firstApart}
 use Rattle.lists.specs.declared.Peak.{Peak}
-use Rattle.front.specs.Seen.{ifPassed}
-use Rattle.front.specs.declared.Verdict.{Verdict}
-use Rattle.front.specs.declared.Verdict.the-variants.{Pass, Fail}
-use Rattle.front.proofs.Laws.{both, number-zero, all-pass}
+use Rattle.refusals.specs.Seen.{ifPassed}
+use Rattle.refusals.specs.declared.Verdict.{Verdict}
+use Rattle.refusals.specs.declared.Verdict.the-variants.{Pass, Fail}
+use Rattle.refusals.proofs.Laws.{both, number-zero, all-pass}
 use Rattle.reply.specs.Reply.{replyKey}
 use Rattle.finish.specs.Finish.{finishKey, finishSlack}
 use Rattle.reply.proofs.Replying.{key-length}
@@ -73,20 +73,20 @@ module _ (r : BenchAnswer) {own peer : List ℕ} (p : Peak) (e : r ≡ compariso
       (λ f. n .0 (told f), λ f. e ∙ ap (λ (d : ℕ). comparison d p) (n .1 f))
 
 module _ (c : Scheme) (x : Bench) where
-  bench-sendable : benchResult (Is c) x .number ≡ 0 → Sendable c x
+  bench-sendable : benchResult (Known c) x .number ≡ 0 → Sendable c x
   unfolding benchTests benchShown
   bench-sendable z = let t = both _ _ (number-zero _ (sym z)) in sendable-by c x _ _ _ (t .0) (t .1)
 
-  bench-passes : Sendable c x → benchTests (Is c) x ≡ Pass
+  bench-passes : Sendable c x → benchTests (Known c) x ≡ Pass
   unfolding benchTests
   bench-passes h = all-pass (offer-passes c x h _ (le-refl _)) (reply-passes c x h _ (le-refl _) (le-refl _) (le-refl _))
 
-  bench-shows : Sendable c x → benchResult (Is c) x ≡ shows (keysDiffer c x) (finishSlack (Is c) (finishing c x))
+  bench-shows : Sendable c x → benchResult (Known c) x ≡ shows (keysDiffer c x) (finishSlack (Known c) (finishing c x))
   unfolding benchShown benchSlack
   bench-shows h = let e = bench-passes h in rw (e, ← differs-is c x e)
 
-  bench-gave : (r : BenchAnswer) → benchTold r ≡ benchResult (Is c) x → Sendable c x
-      → r ≡ comparison (differing (replyKey (Is c) (replying c x)) (finishKey (Is c) (finishing c x))) (finishSlack (Is c) (finishing c x))
+  bench-gave : (r : BenchAnswer) → benchTold r ≡ benchResult (Known c) x → Sendable c x
+      → r ≡ comparison (differing (replyKey (Known c) (replying c x)) (finishKey (Known c) (finishing c x))) (finishSlack (Known c) (finishing c x))
   unfolding keysDiffer
   bench-gave r b h = compared r _ (b ∙ bench-shows h)
 
@@ -99,8 +99,8 @@ bench-tells c x r b t =
     let g = gave t in
     let p = bench-gave c x r b (g .sendable) in
     record {
-      agree = rw (g .own, g .peer, g .slack) (told-agree r (finishSlack (Is c) (finishing c x)) p (same-long c x) (own-bytes c x) (peer-bytes c x));
-      differ = λ i. rw (g .own, g .peer, g .slack) (told-differ r (finishSlack (Is c) (finishing c x)) p (same-long c x) (own-bytes c x) (peer-bytes c x) i);
+      agree = rw (g .own, g .peer, g .slack) (told-agree r (finishSlack (Known c) (finishing c x)) p (same-long c x) (own-bytes c x) (peer-bytes c x));
+      differ = λ i. rw (g .own, g .peer, g .slack) (told-differ r (finishSlack (Known c) (finishing c x)) p (same-long c x) (own-bytes c x) (peer-bytes c x) i);
     }
 
 pub bench-agrees : BenchAgrees
@@ -122,7 +122,7 @@ few : (v : Verdict) {d : ℕ} → d ≤ 1024 → ifPassed v d 0 ≤ 1024
 few Pass h = h
 few (Fail r) h = omega arith
 
-in-family : (F : Family) {d : ℕ} → d ≤ 1024 → by F 0 d d ≤ 1024
+in-family : (F : Family) {d : ℕ} → d ≤ 1024 → byFamily F 0 d d ≤ 1024
 in-family Family.Bcns h = omega arith
 in-family Family.NewHope h = h
 in-family Family.Frodo h = h
@@ -130,8 +130,8 @@ in-family Family.Frodo h = h
 differs-few : (n : Named) (x : Bench) → benchDiffers n x ≤ 1024
 unfolding benchDiffers keysDiffer
 differs-few Unknown x = omega arith
-differs-few (Is c) x =
-    in-family (familyOf c) (omega (arith, within (replyKey (Is c) (replying c x)) (finishKey (Is c) (finishing c x)), key-length c (replying c x), sound c .keys))
+differs-few (Known c) x =
+    in-family (familyOf c) (omega (arith, within (replyKey (Known c) (replying c x)) (finishKey (Known c) (finishing c x)), key-length c (replying c x), sound c .keys))
 
 pub differ-few : (n : Named) (x : Bench) (r : BenchAnswer) → benchTold r ≡ benchResult n x → benchTold r .differ ≤ 1024
 unfolding benchShown

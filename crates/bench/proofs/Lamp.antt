@@ -6,15 +6,15 @@ use mathlib.Core.Path.{_≡_, refl, _∙_, sym}
 use Prim.Native.Nat.{ℕ}
 use lib.ListN.{length}
 use Rattle.schemes.specs.declared.Named.{Named}
-use Rattle.schemes.specs.declared.Named.the-variants.{Is, Unknown}
+use Rattle.schemes.specs.declared.Named.the-variants.{Known, Unknown}
 use Rattle.schemes.specs.declared.Scheme.{Scheme}
 use Rattle.schemes.specs.declared.Scheme.the-variants.{Bcns, NewHope, Challenge, Classical, Recommended, Paranoid}
 use Rattle.lists.specs.Entries.{Below}
 use Rattle.lists.specs.declared.Peak.{Peak}
 use Rattle.packing.proofs.Laws.{packed-below}
-use Rattle.front.specs.declared.Verdict.{Verdict}
-use Rattle.front.specs.declared.Verdict.the-variants.{Pass, Fail}
-use Rattle.front.proofs.Laws.{both}
+use Rattle.refusals.specs.declared.Verdict.{Verdict}
+use Rattle.refusals.specs.declared.Verdict.the-variants.{Pass, Fail}
+use Rattle.refusals.proofs.Laws.{both}
 use Rattle.reply.specs.Reply.{replyKey}
 use Rattle.finish.specs.Finish.{finishKey}
 use Rattle.reply.proofs.Replying as reply
@@ -28,14 +28,14 @@ use Rattle.bench.specs.Lamp.{NeverDiffer, differedBefore, SameNumbers}
 use Rattle.bench.proofs.Differing.{differing-none}
 
 module _ (c : Scheme) (x : Bench) where
-  pub same-long : length (replyKey (Is c) (replying c x)) ≡ length (finishKey (Is c) (finishing c x))
+  pub same-long : length (replyKey (Known c) (replying c x)) ≡ length (finishKey (Known c) (finishing c x))
   same-long = reply.key-length c (replying c x) ∙ sym (finish.key-length c (finishing c x))
 
-  pub own-bytes : Below 256 (replyKey (Is c) (replying c x))
+  pub own-bytes : Below 256 (replyKey (Known c) (replying c x))
   unfolding replyKey
   own-bytes = packed-below _ _
 
-  pub peer-bytes : Below 256 (finishKey (Is c) (finishing c x))
+  pub peer-bytes : Below 256 (finishKey (Known c) (finishing c x))
   unfolding finishKey
   peer-bytes = packed-below _ _
 
@@ -43,7 +43,7 @@ pub never-differ : NeverDiffer
 unfolding benchTests Near
 never-differ x e = let t = both _ _ e in keys-meet Bcns x (sendable-by Bcns x _ _ _ (t .0) (t .1) .ranged) tt
 
-pub differs-is : (c : Scheme) (x : Bench) → benchTests (Is c) x ≡ Pass → keysDiffer c x ≡ benchDiffers (Is c) x
+pub differs-is : (c : Scheme) (x : Bench) → benchTests (Known c) x ≡ Pass → keysDiffer c x ≡ benchDiffers (Known c) x
 unfolding keysDiffer benchDiffers
 differs-is Bcns x e = differing-none _ _ (same-long Bcns x) (own-bytes Bcns x) (peer-bytes Bcns x) .1 (never-differ x e)
 differs-is NewHope x e = refl
@@ -61,7 +61,7 @@ shown-as (Fail r) p h = refl
 either-way : (c : Named) (x : Bench) → benchTests c x ≡ Pass → benchDiffers c x ≡ differedBefore c x
 unfolding differedBefore benchDiffers
 either-way Unknown x e = refl
-either-way (Is c) x e = sym (differs-is c x e)
+either-way (Known c) x e = sym (differs-is c x e)
 
 pub same-numbers : SameNumbers
 same-numbers c x = shown-as (benchTests c x) (benchSlack c x) (either-way c x)

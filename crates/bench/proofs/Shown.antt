@@ -12,12 +12,12 @@ use lib.IntN.{ℤ}
 use Rattle.schemes.specs.Schemes.{fixedOf}
 use Rattle.schemes.specs.declared.Scheme.{Scheme}
 use Rattle.schemes.specs.declared.Named.{Named}
-use Rattle.schemes.specs.declared.Named.the-variants.{Is, Unknown}
-use Rattle.front.specs.Front.{numberIn, lengthIs, roomFor, publicsIn, notBlank, receivedIn, secretsIn}
-use Rattle.front.specs.declared.Verdict.the-variants.{Pass}
-use Rattle.front.proofs.Laws.{some, both, room-passes, not-blank-passed}
-use Rattle.front.proofs.Same.{same-refusal}
-use Rattle.front.proofs.Number.{and, passes, lengths, publics, secrets, blanks}
+use Rattle.schemes.specs.declared.Named.the-variants.{Known, Unknown}
+use Rattle.refusals.specs.Refusals.{numberIn, lengthIs, roomFor, publicsIn, notBlank, receivedIn, secretsIn}
+use Rattle.refusals.specs.declared.Verdict.the-variants.{Pass}
+use Rattle.refusals.proofs.Laws.{some, both, room-passes, not-blank-passed}
+use Rattle.refusals.proofs.Same.{same-refusal}
+use Rattle.refusals.proofs.Number.{and, passes, lengths, publics, secrets, blanks}
 use Rattle.wire.specs.Wire.{openedIn}
 use Rattle.offer.specs.Offer.{Offer, offerTests}
 use Rattle.offer.specs.Inside.{offerLengths, offerIn}
@@ -87,7 +87,7 @@ secret-in B s = secrets Inside zero-in (λ e. omega arith, λ e. omega arith) B 
 blank-in : (part : List ℕ) → Inside (numberIn (notBlank part))
 blank-in part = blanks Inside zero-in (λ e. omega arith, λ e. omega arith) part
 
-offer-in : (c : Scheme) (x : Offer) → Inside (numberIn (offerTests (Is c) x (fixedOf c .opening)))
+offer-in : (c : Scheme) (x : Offer) → Inside (numberIn (offerTests (Known c) x (fixedOf c .opening)))
 unfolding offerTests
 offer-in c x =
     let l = length-in in
@@ -109,7 +109,7 @@ opening-passes c x e =
     opening-received c x (offer-opens c (offering x) _ (t .0) .0 .seed-long) (not-blank-passed _ (t .1))
 
 reply-in : (c : Scheme) (x : Reply) → receivedIn (fixedOf c .q) (openedIn c (x .opening)) (openedOf c x) ≡ Pass
-    → Inside (numberIn (replyTests (Is c) x (replyRoomsOf (fixedOf c .reply) (fixedOf c .key) 32)))
+    → Inside (numberIn (replyTests (Known c) x (replyRoomsOf (fixedOf c .reply) (fixedOf c .key) 32)))
 unfolding replyTests receivedIn
 reply-in c x o =
     let l = length-in in
@@ -143,7 +143,7 @@ reply-in c x o =
 by-name : (c : Named) (x : Bench) → Inside (numberIn (benchTests c x))
 unfolding benchTests
 by-name Unknown x = (λ e. omega arith, λ e. omega arith)
-by-name (Is c) x = and Inside _ _ (offer-in c (offering x)) (λ e. reply-in c (replying c x) (opening-passes c x e))
+by-name (Known c) x = and Inside _ _ (offer-in c (offering x)) (λ e. reply-in c (replying c x) (opening-passes c x e))
 
 pub never-three-or-five : NeverThreeOrFive
 unfolding benchShown

@@ -18,20 +18,20 @@ use Prim.Native.Nat.{ℕ, suc, _*_}
 use lib.Dec.{ltb}
 use lib.IntN.{ℤ}
 use lib.ListN.{length}
-use Rattle.schemes.specs.Schemes.{by, familyOf, fixedOf}
+use Rattle.schemes.specs.Schemes.{byFamily, familyOf, fixedOf}
 use Rattle.schemes.specs.declared.Scheme.{Scheme}
 use Rattle.schemes.specs.declared.Named.{Named}
-use Rattle.schemes.specs.declared.Named.the-variants.{Is, Unknown}
+use Rattle.schemes.specs.declared.Named.the-variants.{Known, Unknown}
 use Rattle.lists.specs.First.{firstApart}
 use Rattle.lists.specs.Lent.{Lent, was}
 use Rattle.lists.specs.Top.{peakOf}
 use Rattle.lists.specs.declared.Peak.{Peak}
 use Rattle.packing.specs.Packing.{unpacked}
-use Rattle.front.specs.Front.{numberOf, placeOf, numberIn, placeIn, _then_}
-use Rattle.front.specs.Seen.{ifPassed, unused}
-use Rattle.front.specs.declared.Verdict.{Verdict}
-use Rattle.front.specs.declared.Verdict.the-variants.{Fail}
-use Rattle.front.specs.declared.Refusal.the-variants.{NoScheme}
+use Rattle.refusals.specs.Refusals.{numberOf, placeOf, numberIn, placeIn, _then_}
+use Rattle.refusals.specs.Seen.{ifPassed, unused}
+use Rattle.refusals.specs.declared.Verdict.{Verdict}
+use Rattle.refusals.specs.declared.Verdict.the-variants.{Fail}
+use Rattle.refusals.specs.declared.Refusal.the-variants.{NoScheme}
 use Rattle.offer.specs.Offer.{offerTests}
 use Rattle.reply.specs.Reply.{replyRoomsOf, replyTests, replyKey}
 use Rattle.finish.specs.Finish.{finishKey, finishSlack}
@@ -62,20 +62,20 @@ differing xs ys = cond (ltb (firstApart (bits xs) (bits ys)) (8 * length xs)) (s
 -- messages, keys and digests stay inside, each with just the room that it takes
 unfoldable pub benchTests : Named → Bench → Verdict
 benchTests Unknown x = Fail NoScheme
-benchTests (Is c) x =
-    offerTests (Is c) (offering x) (fixedOf c .opening)
-    then replyTests (Is c) (replying c x) (replyRoomsOf (fixedOf c .reply) (fixedOf c .key) 32)
+benchTests (Known c) x =
+    offerTests (Known c) (offering x) (fixedOf c .opening)
+    then replyTests (Known c) (replying c x) (replyRoomsOf (fixedOf c .reply) (fixedOf c .key) 32)
 
 unfoldable pub keysDiffer : Scheme → Bench → ℕ
-keysDiffer c x = differing (replyKey (Is c) (replying c x)) (finishKey (Is c) (finishing c x))
+keysDiffer c x = differing (replyKey (Known c) (replying c x)) (finishKey (Known c) (finishing c x))
 
 unfoldable pub benchDiffers : Named → Bench → ℕ
 benchDiffers Unknown x = 0
-benchDiffers (Is c) x = by (familyOf c) 0 (keysDiffer c x) (keysDiffer c x)
+benchDiffers (Known c) x = byFamily (familyOf c) 0 (keysDiffer c x) (keysDiffer c x)
 
 unfoldable pub benchSlack : Named → Bench → Peak
 benchSlack Unknown x = peakOf []
-benchSlack (Is c) x = finishSlack (Is c) (finishing c x)
+benchSlack (Known c) x = finishSlack (Known c) (finishing c x)
 
 unfoldable pub benchShown : Verdict → ℕ → Peak → BenchSeen
 benchShown v d p = record { number = numberIn v; place = placeIn v; differ = ifPassed v d 0; slack = ifPassed v p unused }

@@ -10,7 +10,7 @@ use mathlib.Core.Logic.{_↔_}
 use Prim.Native.Nat.{ℕ, _<_}
 use lib.ListN.{getD}
 use Rattle.schemes.specs.declared.Scheme.{Scheme}
-use Rattle.schemes.specs.declared.Named.the-variants.{Is}
+use Rattle.schemes.specs.declared.Named.the-variants.{Known}
 use Rattle.finish.specs.Finish.{finishSlack}
 use Rattle.agreement.specs.Run.{finishing}
 use Rattle.agreement.specs.Exchange.{Exchange, ownKey, peerKey, toldSlack}
@@ -30,12 +30,12 @@ pub record Tells {c : Scheme} {x : Bench} (t : Exchange c x) (r : BenchAnswer) :
 -- ---- what is shown
 
 abbrev pub BenchAccepts : Type 0
-BenchAccepts = (c : Scheme) (x : Bench) → (benchResult (Is c) x .number ≡ 0) ↔ Exchange c x
+BenchAccepts = (c : Scheme) (x : Bench) → (benchResult (Known c) x .number ≡ 0) ↔ Exchange c x
 
 abbrev pub BenchTells : Type 0
-BenchTells = (c : Scheme) (x : Bench) (r : BenchAnswer) → benchTold r ≡ benchResult (Is c) x → (t : Exchange c x) → Tells t r
+BenchTells = (c : Scheme) (x : Bench) (r : BenchAnswer) → benchTold r ≡ benchResult (Known c) x → (t : Exchange c x) → Tells t r
 
 abbrev pub BenchAgrees : Type 0
 BenchAgrees =
-    (c : Scheme) (x : Bench) (r : BenchAnswer) → benchTold r ≡ benchResult (Is c) x → benchTold r .number ≡ 0 → Near c x
-    → r ≡ Agree (finishSlack (Is c) (finishing c x))
+    (c : Scheme) (x : Bench) (r : BenchAnswer) → benchTold r ≡ benchResult (Known c) x → benchTold r .number ≡ 0 → Near c x
+    → r ≡ Agree (finishSlack (Known c) (finishing c x))

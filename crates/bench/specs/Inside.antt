@@ -12,13 +12,13 @@ use Prim.Native.Nat.{ℕ, zero, suc}
 use lib.IntN.{ℤ}
 use Rattle.schemes.specs.Schemes.{fixedOf}
 use Rattle.schemes.specs.declared.Scheme.{Scheme}
-use Rattle.schemes.specs.declared.Named.the-variants.{Is}
+use Rattle.schemes.specs.declared.Named.the-variants.{Known}
 use Rattle.lists.specs.declared.Peak.{Peak}
-use Rattle.front.specs.Front.{_then_}
-use Rattle.front.specs.Steps.{outcome}
-use Rattle.front.specs.declared.Outcome.{Outcome}
-use Rattle.front.specs.declared.Verdict.{Verdict}
-use Rattle.front.specs.declared.Verdict.the-variants.{Pass}
+use Rattle.refusals.specs.Refusals.{_then_}
+use Rattle.refusals.specs.Steps.{outcome}
+use Rattle.refusals.specs.declared.Outcome.{Outcome}
+use Rattle.refusals.specs.declared.Verdict.{Verdict}
+use Rattle.refusals.specs.declared.Verdict.the-variants.{Pass}
 use Rattle.offer.specs.Offer.{offerTests}
 use Rattle.reply.specs.Reply.{Reply, replyRoomsOf, replyTests, replyMessage, replyKey}
 use Rattle.finish.specs.Finish.{Finish, finishOf, finishRoomsOf, finishTests, finishKey, finishSlack}
@@ -29,31 +29,31 @@ use Rattle.bench.specs.declared.BenchAnswer.{BenchAnswer}
 use Rattle.bench.specs.declared.BenchAnswer.the-variants.{Agree, Differ}
 
 abbrev pub testsFromFinish : Scheme → Finish → Verdict
-testsFromFinish c x = finishTests (Is c) x (finishRoomsOf (fixedOf c .key) 32)
+testsFromFinish c x = finishTests (Known c) x (finishRoomsOf (fixedOf c .key) 32)
 
 abbrev pub testsFromReply : Scheme → Reply → List ℤ → Verdict
 testsFromReply c x s =
-    replyTests (Is c) x (replyRoomsOf (fixedOf c .reply) (fixedOf c .key) 32) then testsFromFinish c (finishOf (replyMessage (Is c) x) s)
+    replyTests (Known c) x (replyRoomsOf (fixedOf c .reply) (fixedOf c .key) 32) then testsFromFinish c (finishOf (replyMessage (Known c) x) s)
 
 abbrev pub testsFromOffer : Scheme → Bench → Verdict
-testsFromOffer c x = offerTests (Is c) (offering x) (fixedOf c .opening) then testsFromReply c (replying c x) (x .s)
+testsFromOffer c x = offerTests (Known c) (offering x) (fixedOf c .opening) then testsFromReply c (replying c x) (x .s)
 
 abbrev pub Keyed : Verdict → List ℕ → List ℕ → Type 0
 Keyed v key out = v ≡ Pass → out ≡ key
 
 pub record FromFinish (c : Scheme) (x : Finish) (r : Outcome) (peer : List ℕ) : Type 0 where
-  pub ended : r ≡ outcome (testsFromFinish c x) (finishSlack (Is c) x)
-  pub peered : Keyed (testsFromFinish c x) (finishKey (Is c) x) peer
+  pub ended : r ≡ outcome (testsFromFinish c x) (finishSlack (Known c) x)
+  pub peered : Keyed (testsFromFinish c x) (finishKey (Known c) x) peer
 
 pub record FromReply (c : Scheme) (x : Reply) (s : List ℤ) (r : Outcome) (own peer : List ℕ) : Type 0 where
-  pub ended : r ≡ outcome (testsFromReply c x s) (finishSlack (Is c) (finishOf (replyMessage (Is c) x) s))
-  pub owned : Keyed (testsFromReply c x s) (replyKey (Is c) x) own
-  pub peered : Keyed (testsFromReply c x s) (finishKey (Is c) (finishOf (replyMessage (Is c) x) s)) peer
+  pub ended : r ≡ outcome (testsFromReply c x s) (finishSlack (Known c) (finishOf (replyMessage (Known c) x) s))
+  pub owned : Keyed (testsFromReply c x s) (replyKey (Known c) x) own
+  pub peered : Keyed (testsFromReply c x s) (finishKey (Known c) (finishOf (replyMessage (Known c) x) s)) peer
 
 pub record FromOffer (c : Scheme) (x : Bench) (r : Outcome) (own peer : List ℕ) : Type 0 where
-  pub ended : r ≡ outcome (testsFromOffer c x) (finishSlack (Is c) (finishing c x))
-  pub owned : Keyed (testsFromOffer c x) (replyKey (Is c) (replying c x)) own
-  pub peered : Keyed (testsFromOffer c x) (finishKey (Is c) (finishing c x)) peer
+  pub ended : r ≡ outcome (testsFromOffer c x) (finishSlack (Known c) (finishing c x))
+  pub owned : Keyed (testsFromOffer c x) (replyKey (Known c) (replying c x)) own
+  pub peered : Keyed (testsFromOffer c x) (finishKey (Known c) (finishing c x)) peer
 
 abbrev pub comparison : ℕ → Peak → BenchAnswer
 comparison zero p = Agree p

@@ -8,19 +8,19 @@ use mathlib.Core.Path.{_≡_}
 use Prim.Native.Nat.{ℕ}
 use Rattle.schemes.specs.declared.Scheme.the-variants.{Bcns}
 use Rattle.schemes.specs.declared.Named.{Named}
-use Rattle.schemes.specs.declared.Named.the-variants.{Is, Unknown}
-use Rattle.front.specs.declared.Verdict.the-variants.{Pass}
+use Rattle.schemes.specs.declared.Named.the-variants.{Known, Unknown}
+use Rattle.refusals.specs.declared.Verdict.the-variants.{Pass}
 use Rattle.reply.specs.Reply.{replyKey}
 use Rattle.finish.specs.Finish.{finishKey}
 use Rattle.agreement.specs.Run.{replying, finishing}
 use Rattle.bench.specs.Bench.{Bench, BenchSeen, benchTests, keysDiffer, benchSlack, benchShown, benchResult}
 
 abbrev pub NeverDiffer : Type 0
-NeverDiffer = (x : Bench) → benchTests (Is Bcns) x ≡ Pass → replyKey (Is Bcns) (replying Bcns x) ≡ finishKey (Is Bcns) (finishing Bcns x)
+NeverDiffer = (x : Bench) → benchTests (Known Bcns) x ≡ Pass → replyKey (Known Bcns) (replying Bcns x) ≡ finishKey (Known Bcns) (finishing Bcns x)
 
 unfoldable pub differedBefore : Named → Bench → ℕ
 differedBefore Unknown x = 0
-differedBefore (Is c) x = keysDiffer c x
+differedBefore (Known c) x = keysDiffer c x
 
 abbrev pub comparedResult : Named → Bench → BenchSeen
 comparedResult c x = benchShown (benchTests c x) (differedBefore c x) (benchSlack c x)

@@ -8,9 +8,9 @@ use Prim.Native.Nat.{_≤_}
 use Rattle.schemes.specs.Schemes.{fixedOf}
 use Rattle.schemes.specs.declared.Scheme.{Scheme}
 use Rattle.schemes.specs.declared.Named.{Named}
-use Rattle.schemes.specs.declared.Named.the-variants.{Is}
-use Rattle.front.specs.Front.{receivedIn}
-use Rattle.front.specs.declared.Verdict.the-variants.{Pass}
+use Rattle.schemes.specs.declared.Named.the-variants.{Known}
+use Rattle.refusals.specs.Refusals.{receivedIn}
+use Rattle.refusals.specs.declared.Verdict.the-variants.{Pass}
 use Rattle.wire.specs.Wire.{openedIn}
 use Rattle.offer.specs.Offer.{offerTests, offerMessage}
 use Rattle.reply.specs.Reply.{openedOf}
@@ -31,10 +31,10 @@ NeverThreeOrFive = (c : Named) (x : Bench) → let n = benchResult c x .number i
 
 abbrev pub OpeningPasses : Type 0
 OpeningPasses =
-    (c : Scheme) (x : Bench) → offerTests (Is c) (offering x) (fixedOf c .opening) ≡ Pass
-    → receivedIn (fixedOf c .q) (openedIn c (offerMessage (Is c) (offering x))) (openedOf c (replying c x)) ≡ Pass
+    (c : Scheme) (x : Bench) → offerTests (Known c) (offering x) (fixedOf c .opening) ≡ Pass
+    → receivedIn (fixedOf c .q) (openedIn c (offerMessage (Known c) (offering x))) (openedOf c (replying c x)) ≡ Pass
 
 abbrev pub FinishPasses : Type 0
 FinishPasses =
-    (c : Scheme) (x : Bench) (m : FinishRooms) → benchTests (Is c) x ≡ Pass → fixedOf c .key ≤ m .key → 32 ≤ m .digest
-    → finishTests (Is c) (finishing c x) m ≡ Pass
+    (c : Scheme) (x : Bench) (m : FinishRooms) → benchTests (Known c) x ≡ Pass → fixedOf c .key ≤ m .key → 32 ≤ m .digest
+    → finishTests (Known c) (finishing c x) m ≡ Pass

@@ -4,7 +4,7 @@
 ghost use mathlib.Core.Path.{_≡_};
 ghost use lib.ListN.{length};
 ghost use Rattle.schemes.specs.Schemes.{fixedOf, schemeOf};
-ghost use Rattle.schemes.specs.declared.Named.the-variants.{Is};
+ghost use Rattle.schemes.specs.declared.Named.the-variants.{Known};
 ghost use Rattle.schemes.specs.declared.Scheme.the-variants as variants;
 ghost use Rattle.lists.specs.Lent.{was, left};
 ghost use Rattle.reply.specs.Reply as lent;
@@ -15,10 +15,10 @@ ghost use Rattle.bench.specs.Inside.{FromFinish, FromReply, FromOffer, a
 mod compare;
 
 use finish::FinishAnswer;
-use front::Answer;
-use front::Outcome;
-use front::Refusal;
 use lists::Peak;
+use refusals::Answer;
+use refusals::Outcome;
+use refusals::Refusal;
 use reply::ReplyAnswer;
 use schemes::Bcns;
 use schemes::FrodoParanoid;
@@ -156,7 +156,7 @@ fn run(
 ) -> BenchAnswer
     requires { ⌜ (length (now opening) ≡ fixedOf scheme .opening) × (length (now reply) ≡ fixedOf scheme .reply) ⌝ }
     requires { ⌜ (length (now own) ≡ fixedOf scheme .key) × (length (now peer) ≡ fixedOf scheme .key) × (length (now digest) ≡ 32) ⌝ }
-    ensures { λ r. ⌜ benchTold r ≡ benchResult (Is scheme) (bench a s e seed s1 e1 e2 coins) ⌝ }
+    ensures { λ r. ⌜ benchTold r ≡ benchResult (Known scheme) (bench a s e seed s1 e1 e2 coins) ⌝ }
 {
     let v = from_offer(
         scheme,
@@ -193,7 +193,7 @@ fn bench_in(
     e2: &[i32],
     coins: &[u8],
 ) -> BenchAnswer
-    ensures { λ r. ⌜ benchTold r ≡ benchResult (Is scheme) (bench a s e seed s1 e1 e2 coins) ⌝ }
+    ensures { λ r. ⌜ benchTold r ≡ benchResult (Known scheme) (bench a s e seed s1 e1 e2 coins) ⌝ }
 {
     let f = scheme.fixed();
     let m = f.opening;
@@ -243,7 +243,7 @@ pub fn bcns(
     e2: &[i32],
     coins: &[u8],
 ) -> BcnsAnswer
-    ensures { λ r. ⌜ bcnsTold r ≡ benchResult (Is variants.Bcns) (bench a s e seed s1 e1 e2 coins) ⌝ }
+    ensures { λ r. ⌜ bcnsTold r ≡ benchResult (Known variants.Bcns) (bench a s e seed s1 e1 e2 coins) ⌝ }
 {
     let mut opening = [0u8; Bcns::OPENING];
     let mut reply = [0u8; Bcns::REPLY];
@@ -291,7 +291,7 @@ fn by_scheme(
     e2: &[i32],
     coins: &[u8],
 ) -> BenchAnswer
-    ensures { λ r. ⌜ benchTold r ≡ benchResult (Is scheme) (bench a s e seed s1 e1 e2 coins) ⌝ }
+    ensures { λ r. ⌜ benchTold r ≡ benchResult (Known scheme) (bench a s e seed s1 e1 e2 coins) ⌝ }
 {
     match scheme {
         Scheme::Bcns => told(bcns(a, s, e, seed, s1, e1, e2, coins)),
@@ -313,7 +313,7 @@ pub fn bench(
 ) -> BenchAnswer
     ensures { λ r. ⌜ benchTold r ≡ benchResult (schemeOf scheme) (bench a s e seed s1 e1 e2 coins) ⌝ }
 {
-    let Named::Is(known) = schemes::scheme_of(scheme) else {
+    let Named::Known(known) = schemes::scheme_of(scheme) else {
         return BenchAnswer::Refused(Refusal::NoScheme);
     };
     by_scheme(known, a, s, e, seed, s1, e1, e2, coins)

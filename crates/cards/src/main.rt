@@ -1,10 +1,10 @@
 // The bench cards, run: 01, "Bench cards", as amended by request d (docs/RULES.md). A line has a card's inputs and what the library's functions give for them.
 // It begins with `*` where 01 marks the card, which is then a theorem on the definitions too (`specs/Table.antt`). `stdout` is what the second program prints.
 use finish::FinishAnswer;
-use front::Answer;
-use front::Refusal;
 use libc::STDOUT_FILENO;
 use newhope::Four;
+use refusals::Answer;
+use refusals::Refusal;
 use reply::ReplyAnswer;
 use schemes::FrodoRecommended;
 ghost use Prim.Native.Nat.{_<_};

@@ -11,19 +11,19 @@ use Prim.Native.Nat.{ℕ, _≤_}
 use lib.ListN.{length, replicate}
 use Rattle.schemes.specs.Schemes.{fixedOf}
 use Rattle.schemes.specs.declared.Named.{Named}
-use Rattle.schemes.specs.declared.Named.the-variants.{Is, Unknown}
+use Rattle.schemes.specs.declared.Named.the-variants.{Known, Unknown}
 use Rattle.schemes.specs.declared.Scheme.{Scheme}
-use Rattle.front.specs.Front.{_then_, receivedIn}
-use Rattle.front.specs.Seen.{output, written}
-use Rattle.front.specs.declared.Verdict.{Verdict}
-use Rattle.front.specs.declared.Verdict.the-variants.{Pass, Fail}
-use Rattle.front.specs.declared.Refusal.{Refusal}
-use Rattle.front.specs.declared.Refusal.the-variants.{NoScheme}
-use Rattle.front.proofs.Laws.{both, length-passed, room-passed, failed, went-on}
-use Rattle.front.proofs.Seen.{written-failed}
-use Rattle.ends.specs.Values.{bareValue}
-use Rattle.ends.proofs.Ranges.{bare-counted}
-use Rattle.ends.proofs.Settling.{peers-counted}
+use Rattle.refusals.specs.Refusals.{_then_, receivedIn}
+use Rattle.refusals.specs.Seen.{output, written}
+use Rattle.refusals.specs.declared.Verdict.{Verdict}
+use Rattle.refusals.specs.declared.Verdict.the-variants.{Pass, Fail}
+use Rattle.refusals.specs.declared.Refusal.{Refusal}
+use Rattle.refusals.specs.declared.Refusal.the-variants.{NoScheme}
+use Rattle.refusals.proofs.Laws.{both, length-passed, room-passed, failed, went-on}
+use Rattle.refusals.proofs.Seen.{written-failed}
+use Rattle.values.specs.Values.{bareValue}
+use Rattle.values.proofs.Ranges.{bare-counted}
+use Rattle.values.proofs.Settling.{peers-counted}
 use Rattle.wire.specs.Wire.{hintsIn}
 use Rattle.wire.proofs.Travel.{key-long}
 use Rattle.finish.specs.Finish.{Finish, FinishRooms, repliedOf, finishValue, finishTests, finishKey, finishDigest, finishSlack, finishShown, finishTold, finishSeen, finishResult}
@@ -41,15 +41,15 @@ module _ (c : Scheme) (x : Finish) where
   unfolding keyFrom
   key-from-length u = key-long c (peers-counted c (hintsIn c (x .reply)) (bareValue c u (x .s)) (bare-counted c u (x .s) .long))
 
-  pub key-length : length (finishKey (Is c) x) ≡ fixedOf c .key
+  pub key-length : length (finishKey (Known c) x) ≡ fixedOf c .key
   unfolding finishKey finishValue keyFrom
   key-length = key-from-length (repliedOf c x)
 
-  pub key-taken : {u : List ℕ} → u ≡ repliedOf c x → keyFrom c u x ≡ finishKey (Is c) x
+  pub key-taken : {u : List ℕ} → u ≡ repliedOf c x → keyFrom c u x ≡ finishKey (Known c) x
   unfolding finishKey finishValue keyFrom
   key-taken e = rw e
 
-  pub slack-taken : {u : List ℕ} → u ≡ repliedOf c x → slackFrom c u x ≡ finishSlack (Is c) x
+  pub slack-taken : {u : List ℕ} → u ≡ repliedOf c x → slackFrom c u x ≡ finishSlack (Known c) x
   unfolding finishSlack finishValue slackFrom
   slack-taken e = rw e
 
@@ -65,14 +65,14 @@ module _ (c : Scheme) (x : Finish) where
       (length-passed _ _ (lengths .0), length-passed _ _ (lengths .1), room-passed _ _ (key .1), room-passed _ _ (digest .1))
 
   -- its tests in two parts: lengths and rooms, and what follows
-  pub finish-apart : (m : FinishRooms) → finishTests (Is c) x m ≡ finishSizes c x m then finishRest c x
+  pub finish-apart : (m : FinishRooms) → finishTests (Known c) x m ≡ finishSizes c x m then finishRest c x
   unfolding finishTests finishSizes finishRest receivedIn
   finish-apart m = grouped (finishSizes c x m) _ _ _
 
-  pub finish-sizes-failed : (m : FinishRooms) {v : Verdict} {r : Refusal} → v ≡ finishSizes c x m → v ≡ Fail r → finishTests (Is c) x m ≡ Fail r
+  pub finish-sizes-failed : (m : FinishRooms) {v : Verdict} {r : Refusal} → v ≡ finishSizes c x m → v ≡ Fail r → finishTests (Known c) x m ≡ Fail r
   finish-sizes-failed m e f = finish-apart m ∙ failed _ e f
 
-  pub finish-rest-decides : (m : FinishRooms) {v : Verdict} → finishSizes c x m ≡ Pass → v ≡ finishRest c x → finishTests (Is c) x m ≡ v
+  pub finish-rest-decides : (m : FinishRooms) {v : Verdict} → finishSizes c x m ≡ Pass → v ≡ finishRest c x → finishTests (Known c) x m ≡ v
   finish-rest-decides m t e = finish-apart m ∙ went-on _ refl t ∙ sym e
 
 pub finish-unknown : {c : Named} (x : Finish) (m : FinishRooms) → c ≡ Unknown → finishTests c x m ≡ Fail NoScheme

@@ -5,10 +5,10 @@ use native.Mathlib.Omega.{arith}
 use lib.ListN.{length}
 use Rattle.schemes.proofs.Sound.{sound}
 use Rattle.lists.proofs.Top.{peak-zeros}
-use Rattle.front.specs.Seen.{Told}
-use Rattle.front.proofs.Laws.{some, both}
-use Rattle.front.proofs.Same.{same-refusal}
-use Rattle.ends.specs.Keys.{slacks}
+use Rattle.refusals.specs.Seen.{Told}
+use Rattle.refusals.proofs.Laws.{some, both}
+use Rattle.refusals.proofs.Same.{same-refusal}
+use Rattle.values.specs.Keys.{slacks}
 use Rattle.wire.proofs.Travel.{reply-again}
 use Rattle.finish.specs.Finish.{FinishSeen, repliedOf, finishValue, finishSlack, finishTold, finishSeen}
 use Rattle.finish.specs.Shown.{FinishSeenAll, FinishToldAll, ReplyComesBack, NoSlack, KeysFit}

@@ -18,19 +18,19 @@ use lib.ListN.{length}
 use Rattle.schemes.specs.Schemes.{fixedOf}
 use Rattle.schemes.specs.declared.Scheme.{Scheme}
 use Rattle.schemes.specs.declared.Named.{Named}
-use Rattle.schemes.specs.declared.Named.the-variants.{Is, Unknown}
+use Rattle.schemes.specs.declared.Named.the-variants.{Known, Unknown}
 use Rattle.lists.specs.Lent.{Lent, was, room}
 use Rattle.lists.specs.Top.{peakOf}
 use Rattle.lists.specs.declared.Peak.{Peak}
 use Rattle.packing.specs.Packing.{packed}
-use Rattle.front.specs.Front.{numberIn, placeIn, _then_, lengthIs, roomFor, messageIn, notBlank, secretsIn}
-use Rattle.front.specs.Seen.{Output, output, written, ifPassed, unused, Told, done, refused}
-use Rattle.front.specs.declared.Verdict.{Verdict}
-use Rattle.front.specs.declared.Verdict.the-variants.{Fail}
-use Rattle.front.specs.declared.Refusal.the-variants.{NoScheme}
+use Rattle.refusals.specs.Refusals.{numberIn, placeIn, _then_, lengthIs, roomFor, messageIn, notBlank, secretsIn}
+use Rattle.refusals.specs.Seen.{Output, output, written, ifPassed, unused, Told, done, refused}
+use Rattle.refusals.specs.declared.Verdict.{Verdict}
+use Rattle.refusals.specs.declared.Verdict.the-variants.{Fail}
+use Rattle.refusals.specs.declared.Refusal.the-variants.{NoScheme}
 use Rattle.sponge.specs.Sponge.{sha3}
-use Rattle.ends.specs.Values.{bareValue}
-use Rattle.ends.specs.Keys.{peers, slacks}
+use Rattle.values.specs.Values.{bareValue}
+use Rattle.values.specs.Keys.{peers, slacks}
 use Rattle.wire.specs.Wire.{repliedIn, numbersIn, hintsIn}
 use Rattle.finish.specs.declared.FinishCounts.{FinishCounts}
 use Rattle.finish.specs.declared.FinishAnswer.{FinishAnswer}
@@ -59,7 +59,7 @@ finishValue c x = bareValue c (repliedOf c x) (x .s)
 
 unfoldable pub finishTests : Named → Finish → FinishRooms → Verdict
 finishTests Unknown x m = Fail NoScheme
-finishTests (Is c) x m =
+finishTests (Known c) x m =
     lengthIs (length (x .reply)) (fixedOf c .reply)
     then lengthIs (length (x .s)) (fixedOf c .secret)
     then roomFor (m .key) (fixedOf c .key)
@@ -70,14 +70,14 @@ finishTests (Is c) x m =
 
 unfoldable pub finishKey : Named → Finish → List ℕ
 finishKey Unknown x = []
-finishKey (Is c) x = packed (fixedOf c .keybits) (peers c (hintsIn c (x .reply)) (finishValue c x))
+finishKey (Known c) x = packed (fixedOf c .keybits) (peers c (hintsIn c (x .reply)) (finishValue c x))
 
 abbrev pub finishDigest : Named → Finish → List ℕ
 finishDigest c x = sha3 (finishKey c x)
 
 unfoldable pub finishSlack : Named → Finish → Peak
 finishSlack Unknown x = peakOf []
-finishSlack (Is c) x = peakOf (slacks c (hintsIn c (x .reply)) (finishValue c x))
+finishSlack (Known c) x = peakOf (slacks c (hintsIn c (x .reply)) (finishValue c x))
 
 -- ---- the promise
 

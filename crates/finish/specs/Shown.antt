@@ -10,12 +10,12 @@ use Prim.Native.Nat.{ℕ, _≤_}
 use lib.ListN.{length}
 use Rattle.schemes.specs.Schemes.{familyOf, fixedOf}
 use Rattle.schemes.specs.declared.Family.{Family}
-use Rattle.schemes.specs.declared.Named.the-variants.{Is}
+use Rattle.schemes.specs.declared.Named.the-variants.{Known}
 use Rattle.schemes.specs.declared.Scheme.{Scheme}
 use Rattle.lists.specs.Entries.{Below}
 use Rattle.packing.specs.Packing.{packed}
-use Rattle.front.specs.Seen.{Told}
-use Rattle.front.specs.declared.Verdict.the-variants.{Pass}
+use Rattle.refusals.specs.Seen.{Told}
+use Rattle.refusals.specs.declared.Verdict.the-variants.{Pass}
 use Rattle.wire.specs.Wire.{hintsIn}
 use Rattle.finish.specs.Finish.{Finish, FinishRooms, repliedOf, finishTests, finishKey, finishSlack, finishTold, finishSeen}
 use Rattle.finish.specs.declared.FinishAnswer.{FinishAnswer}
@@ -31,11 +31,11 @@ FinishToldAll = (r r′ : FinishAnswer) → finishTold r ≡ finishTold r′ →
 
 abbrev pub ReplyComesBack : Type 0
 ReplyComesBack =
-    (c : Scheme) (x : Finish) (m : FinishRooms) → Below 256 (x .reply) → finishTests (Is c) x m ≡ Pass
+    (c : Scheme) (x : Finish) (m : FinishRooms) → Below 256 (x .reply) → finishTests (Known c) x m ≡ Pass
     → packed (fixedOf c .width) (repliedOf c x) ++ packed (fixedOf c .hintbits) (hintsIn c (x .reply)) ≡ x .reply
 
 abbrev pub NoSlack : Type 0
-NoSlack = (c : Scheme) (x : Finish) → familyOf c ≡ Family.NewHope → finishSlack (Is c) x ≡ record { most = 0; at = 0 }
+NoSlack = (c : Scheme) (x : Finish) → familyOf c ≡ Family.NewHope → finishSlack (Known c) x ≡ record { most = 0; at = 0 }
 
 abbrev pub KeysFit : Type 0
-KeysFit = (c : Scheme) (x : Finish) → (length (finishKey (Is c) x) ≡ fixedOf c .key) × (fixedOf c .key ≤ 128)
+KeysFit = (c : Scheme) (x : Finish) → (length (finishKey (Known c) x) ≡ fixedOf c .key) × (fixedOf c .key ≤ 128)

@@ -4,22 +4,22 @@ ghost use mathlib.Core.Path.{_≡_};
 ghost use Prim.Native.Nat.{_^_};
 ghost use lib.ListN.{length, replicate};
 ghost use Rattle.schemes.specs.Schemes.{fixedOf};
-ghost use Rattle.schemes.specs.declared.Named.the-variants.{Is};
+ghost use Rattle.schemes.specs.declared.Named.the-variants.{Known};
 ghost use Rattle.lists.specs.Lent.{was, left};
 ghost use Rattle.lists.specs.Top.{peakOf};
 ghost use Rattle.packing.specs.Packing.{packed};
-ghost use Rattle.front.specs.Front.{secretsIn};
-ghost use Rattle.front.specs.Steps.{Laid, outcome};
-ghost use Rattle.front.specs.declared.Verdict.the-variants.{Pass};
-ghost use Rattle.ends.specs.Fit.{Counted};
-ghost use Rattle.ends.specs.Keys as settled;
+ghost use Rattle.refusals.specs.Refusals.{secretsIn};
+ghost use Rattle.refusals.specs.Steps.{Laid, outcome};
+ghost use Rattle.refusals.specs.declared.Verdict.the-variants.{Pass};
+ghost use Rattle.values.specs.Fit.{Counted};
+ghost use Rattle.values.specs.Keys as settled;
 ghost use Rattle.finish.specs.Finish.{finishOf, finishRoomsOf, finish, finishRooms, finishKey, finishSlack, finishTold, finishSeen, finishResult};
 ghost use Rattle.finish.specs.Inside.{finishSizes, finishRest, keyFrom, slackFrom, Derives, Finishing};
 use crate::FinishAnswer;
 use crate::FinishCounts;
-use front::Outcome;
-use front::Verdict;
 use lists::Peak;
+use refusals::Outcome;
+use refusals::Verdict;
 use schemes::Scheme;
 
 // The key of w under the hints, then the slack used; entries is room for what lies between, and w becomes the slacks.
@@ -29,9 +29,9 @@ fn settle(scheme: Scheme, hints: &[u32], w: &mut [u32], entries: &mut [u32], key
     ensures { λ _. ⌜ left key ≡ packed (fixedOf scheme .keybits) (settled.peers scheme (was hints) (was w)) ⌝ }
     ensures { λ r. ⌜ r ≡ peakOf (settled.slacks scheme (was hints) (was w)) ⌝ }
 {
-    ends::settle::peers(scheme, hints, w, entries);
+    values::settle::peers(scheme, hints, w, entries);
     wire::lay_key(scheme, entries, key);
-    ends::settle::slacks(scheme, hints, w);
+    values::settle::slacks(scheme, hints, w);
     lists::peak_of(w)
 }
 
@@ -53,7 +53,7 @@ fn derive(
     let mut w = [0u32; 1024];
     let mut hints = [0u32; 1024];
     let mut entries = [0u32; 1024];
-    ends::values::multiply(scheme, u, s, &mut w[..n]);
+    values::products::multiply(scheme, u, s, &mut w[..n]);
     wire::take_hints(scheme, reply, &mut hints[..n]);
     settle(scheme, &hints[..n], &mut w[..n], &mut entries[..g], key)
 }
@@ -65,7 +65,7 @@ fn with_secret(scheme: Scheme, reply: &[u8], u: &[u32], s: &[i32], key: &mut [u8
     ensures { λ _. ⌜ Laid (secretsIn (fixedOf scheme .largest) (was s)) (keyFrom scheme (was u) (finish reply s)) key ⌝ }
 {
     let f = scheme.fixed();
-    let v = front::secrets_in(Verdict::Pass, f.largest, s);
+    let v = refusals::secrets_in(Verdict::Pass, f.largest, s);
     match v {
         Verdict::Fail(r) => Outcome::Refused(r),
         Verdict::Pass => Outcome::Slack(derive(scheme, f.mixed, f.groups, reply, u, s, key)),
@@ -75,14 +75,14 @@ fn with_secret(scheme: Scheme, reply: &[u8], u: &[u32], s: &[i32], key: &mut [u8
 // The reply's n numbers, of which no scheme has more than 6912, then the secret's test and the key. A refused message ends the call here, with its place.
 fn with_reply(scheme: Scheme, n: usize, reply: &[u8], s: &[i32], key: &mut [u8]) -> Outcome
     requires { ⌜ Finishing scheme (finishOf (now reply) (now s)) (now key) × (n ≡ fixedOf scheme .secret) ⌝ }
-    ensures { λ r. ⌜ r ≡ outcome (finishRest scheme (finish reply s)) (finishSlack (Is scheme) (finish reply s)) ⌝ }
-    ensures { λ _. ⌜ Laid (finishRest scheme (finish reply s)) (finishKey (Is scheme) (finish reply s)) key ⌝ }
+    ensures { λ r. ⌜ r ≡ outcome (finishRest scheme (finish reply s)) (finishSlack (Known scheme) (finish reply s)) ⌝ }
+    ensures { λ _. ⌜ Laid (finishRest scheme (finish reply s)) (finishKey (Known scheme) (finish reply s)) key ⌝ }
 {
     let mut u = [0u32; 6912];
     let v = wire::take_reply(scheme, reply, &mut u[..n]);
     let Verdict::Pass = v else {
         lists::zero_bytes(key);
-        return front::ended(v, Peak { most: 0, at: 0 });
+        return refusals::ended(v, Peak { most: 0, at: 0 });
     };
     with_secret(scheme, reply, &u[..n], s, key)
 }
@@ -97,7 +97,7 @@ fn finish_sized(
 ) -> FinishAnswer
     requires { ⌜ finishSizes scheme (finishOf (now reply) (now s)) (finishRoomsOf (length (now key)) (length (now digest))) ≡ Pass ⌝ }
     requires { ⌜ (now key ≡ replicate (length (now key)) 0) × (now digest ≡ replicate (length (now digest)) 0) ⌝ }
-    ensures { λ r. ⌜ finishSeen (finishTold r) (left key) (left digest) ≡ finishResult (Is scheme) (finish reply s) (finishRooms key digest) ⌝ }
+    ensures { λ r. ⌜ finishSeen (finishTold r) (left key) (left digest) ≡ finishResult (Known scheme) (finish reply s) (finishRooms key digest) ⌝ }
 {
     let f = scheme.fixed();
     let k = f.key;
@@ -123,7 +123,7 @@ pub(crate) fn finish_in(
     digest: &mut [u8],
 ) -> FinishAnswer
     requires { ⌜ (now key ≡ replicate (length (now key)) 0) × (now digest ≡ replicate (length (now digest)) 0) ⌝ }
-    ensures { λ r. ⌜ finishSeen (finishTold r) (left key) (left digest) ≡ finishResult (Is scheme) (finish reply s) (finishRooms key digest) ⌝ }
+    ensures { λ r. ⌜ finishSeen (finishTold r) (left key) (left digest) ≡ finishResult (Known scheme) (finish reply s) (finishRooms key digest) ⌝ }
 {
     let v = crate::tests::finish_sizes(scheme, reply, s, key.len(), digest.len());
     match v {

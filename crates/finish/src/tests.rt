@@ -2,7 +2,7 @@
 ghost use mathlib.Core.Path.{_≡_};
 ghost use Rattle.finish.specs.Finish.{finish, finishRoomsOf};
 ghost use Rattle.finish.specs.Inside.{finishSizes};
-use front::Verdict;
+use refusals::Verdict;
 use schemes::Scheme;
 
 pub(crate) fn finish_sizes(
@@ -15,8 +15,8 @@ pub(crate) fn finish_sizes(
     ensures { λ r. ⌜ r ≡ finishSizes scheme (finish reply s) (finishRoomsOf room digestroom) ⌝ }
 {
     let f = scheme.fixed();
-    let v = front::length_is(Verdict::Pass, reply.len(), f.reply);
-    let v = front::length_is(v, s.len(), f.secret);
-    let v = front::room_for(v, room, f.key);
-    front::room_for(v, digestroom, 32)
+    let v = refusals::length_is(Verdict::Pass, reply.len(), f.reply);
+    let v = refusals::length_is(v, s.len(), f.secret);
+    let v = refusals::room_for(v, room, f.key);
+    refusals::room_for(v, digestroom, 32)
 }

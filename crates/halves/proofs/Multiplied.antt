@@ -18,13 +18,13 @@ use Rattle.numbers.proofs.Congruence.{eq-≅, _⨾_, sub-≅, mod-≅, residue-
 use Rattle.lists.specs.Entries.{tab, nums}
 use Rattle.lists.proofs.Entries.{tab-length, tab-ext}
 use Rattle.polynomial.specs.Product.{product}
-use Rattle.front.specs.Seen.{done, refused, Seen, shown, seen}
-use Rattle.front.specs.declared.Refusal.{Refusal}
-use Rattle.front.specs.declared.Refusal.the-variants.{BadLength}
-use Rattle.front.specs.declared.Verdict.{Verdict}
-use Rattle.front.specs.declared.Verdict.the-variants.{Pass, Fail}
-use Rattle.front.proofs.Laws.{differ, both, failed, length-passed, room-passed}
-use Rattle.front.proofs.Seen.{shown-passed, shown-failed}
+use Rattle.refusals.specs.Seen.{done, refused, Seen, shown, seen}
+use Rattle.refusals.specs.declared.Refusal.{Refusal}
+use Rattle.refusals.specs.declared.Refusal.the-variants.{BadLength}
+use Rattle.refusals.specs.declared.Verdict.{Verdict}
+use Rattle.refusals.specs.declared.Verdict.the-variants.{Pass, Fail}
+use Rattle.refusals.proofs.Laws.{differ, both, failed, length-passed, room-passed}
+use Rattle.refusals.proofs.Seen.{shown-passed, shown-failed}
 use Rattle.halves.specs.Halves.{q, sizeUpTo, sizeIn, Factors, factorsOf, productTests, plain, ProductSeen, withScratch, productResult, ProductSeenAll}
 use Rattle.lists.specs.Stored.{Stored}
 use Rattle.halves.specs.Steps.{full, cut, from, times, Product, Fit}

@@ -23,11 +23,11 @@ use Rattle.numbers.specs.Residue.{residue}
 use Rattle.lists.specs.Entries.{tab, nums}
 use Rattle.lists.specs.Lent.{Lent, was}
 use Rattle.polynomial.specs.Product.{product}
-use Rattle.front.specs.Front.{_then_, lengthIs, roomFor, publicsIn}
-use Rattle.front.specs.Seen.{Output, Told, Seen, shown, seen}
-use Rattle.front.specs.declared.Refusal.the-variants.{BadLength}
-use Rattle.front.specs.declared.Verdict.{Verdict}
-use Rattle.front.specs.declared.Verdict.the-variants.{Pass, Fail}
+use Rattle.refusals.specs.Refusals.{_then_, lengthIs, roomFor, publicsIn}
+use Rattle.refusals.specs.Seen.{Output, Told, Seen, shown, seen}
+use Rattle.refusals.specs.declared.Refusal.the-variants.{BadLength}
+use Rattle.refusals.specs.declared.Verdict.{Verdict}
+use Rattle.refusals.specs.declared.Verdict.the-variants.{Pass, Fail}
 
 abbrev pub q : ℕ
 q = fixedOf Bcns .q

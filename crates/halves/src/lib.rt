@@ -10,12 +10,12 @@ ghost use Rattle.numbers.specs.Sum.{sumℕ};
 ghost use Rattle.lists.specs.Entries.{tab};
 ghost use Rattle.lists.specs.Lent.{was, left, room};
 ghost use Rattle.lists.specs.Stored.{Stored};
-ghost use Rattle.front.specs.Seen.{told, shown, seen};
+ghost use Rattle.refusals.specs.Seen.{told, shown, seen};
 ghost use Rattle.halves.specs.Halves.{q, sizeUpTo, sizeIn, factors, productTests, plain, productSeen, productResult};
 ghost use Rattle.halves.specs.Steps.{Size, from, column, Ahead, Product, Spread, Joined, Fit};
-use front::Answer;
-use front::Refusal;
-use front::Verdict;
+use refusals::Answer;
+use refusals::Refusal;
+use refusals::Verdict;
 use schemes::Bcns;
 
 const Q: u64 = Bcns::Q as u64;
@@ -309,9 +309,9 @@ fn product_tests(a: &[u32], b: &[u32], room: usize, scratch: usize) -> Verdict
     let Verdict::Pass = size else {
         return size;
     };
-    let long = front::length_is(size, b.len(), n);
-    let fits = front::room_for(front::room_for(long, room, n), scratch, 6 * n);
-    front::publics_in(front::publics_in(fits, Bcns::Q, a), Bcns::Q, b)
+    let long = refusals::length_is(size, b.len(), n);
+    let fits = refusals::room_for(refusals::room_for(long, room, n), scratch, 6 * n);
+    refusals::publics_in(refusals::publics_in(fits, Bcns::Q, a), Bcns::Q, b)
 }
 
 // The product into zeros, where nothing is refused; the scratch is left as it is then.

@@ -9,9 +9,9 @@ use mathlib.Core.List.{List}
 use Prim.Native.Nat.{ℕ}
 use lib.ListN.{length}
 use Rattle.lists.specs.Lent.{Lent, was}
-use Rattle.front.specs.Front.{_then_, lengthUpTo, roomFor}
-use Rattle.front.specs.Seen.{Seen, shown}
-use Rattle.front.specs.declared.Verdict.{Verdict}
+use Rattle.refusals.specs.Refusals.{_then_, lengthUpTo, roomFor}
+use Rattle.refusals.specs.Seen.{Seen, shown}
+use Rattle.refusals.specs.declared.Verdict.{Verdict}
 use Rattle.sponge.specs.Sponge.{shake128, sha3}
 
 pub record Hash : Type 0 where

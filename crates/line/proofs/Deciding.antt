@@ -20,9 +20,9 @@ use borrow.Author.Tests.{ltb-true, ltb-false, leb-true, leb-false, lt-ltb, le-lt
 use Rattle.schemes.specs.declared.Family.{Family}
 use Rattle.schemes.specs.declared.Fixed.{Fixed}
 use Rattle.schemes.specs.declared.Named.{Named}
-use Rattle.schemes.specs.declared.Named.the-variants.{Is, Unknown}
+use Rattle.schemes.specs.declared.Named.the-variants.{Known, Unknown}
 use Rattle.schemes.specs.declared.Scheme.{Scheme}
-use Rattle.schemes.specs.Schemes.{by, familyOf, fixedOf, schemeOf}
+use Rattle.schemes.specs.Schemes.{byFamily, familyOf, fixedOf, schemeOf}
 use Rattle.lists.specs.Table.{both}
 use Rattle.bcns.specs.Rounding as bcns
 use Rattle.frodo.specs.Rounding as frodo
@@ -138,11 +138,11 @@ module _ (k coin v w : ℕ) {r : Named} (e : r ≡ schemeOf k) where
   unfolding settled settledIn
   unnamed u = ap (λ (m : Named). settledIn m coin v w) (sym u ∙ e)
 
-  pub in-family : {s : Scheme} {F : Family} → r ≡ Is s → F ≡ familyOf s
-      → by F (bcnsAnswer coin v w) (refusal 1) (frodoAnswer (fixedOf s) coin v w) ≡ settled k coin v w
+  pub in-family : {s : Scheme} {F : Family} → r ≡ Known s → F ≡ familyOf s
+      → byFamily F (bcnsAnswer coin v w) (refusal 1) (frodoAnswer (fixedOf s) coin v w) ≡ settled k coin v w
   unfolding settled settledIn
   in-family {s} g f =
-      ap (λ (F : Family). by F (bcnsAnswer coin v w) (refusal 1) (frodoAnswer (fixedOf s) coin v w)) f
+      ap (λ (F : Family). byFamily F (bcnsAnswer coin v w) (refusal 1) (frodoAnswer (fixedOf s) coin v w)) f
       ∙ ap (λ (m : Named). settledIn m coin v w) (sym g ∙ e)
 
 -- ---- the lines

@@ -9,8 +9,8 @@ use lib.ListN.{length, length-append}
 use Rattle.schemes.specs.declared.Family.{Family}
 use Rattle.schemes.specs.declared.Fixed.{Fixed}
 use Rattle.schemes.specs.declared.Named.{Named}
-use Rattle.schemes.specs.declared.Named.the-variants.{Is, Unknown}
-use Rattle.schemes.specs.Schemes.{by, familyOf, fixedOf, schemeOf}
+use Rattle.schemes.specs.declared.Named.the-variants.{Known, Unknown}
+use Rattle.schemes.specs.Schemes.{byFamily, familyOf, fixedOf, schemeOf}
 use Rattle.schemes.proofs.Sound.{sound}
 use Rattle.lists.specs.Table.{both}
 use Rattle.lists.proofs.Table.{cond-all}
@@ -60,14 +60,14 @@ frodo-fits f coin v w b =
     picked (ltb 0 coin) (both (ltb v (f .q)) (ltb w (f .q)))
     (shown-fits (rule.hint-below I v) (key-small I (f .keybits) b v) (peer-small I (f .keybits) b (frodo.hintOf I v) w))
 
-family-fits : (F : Family) (f : Fixed) (coin v w : ℕ) → f .keybits ≤ 4 → Fits (by F (bcnsAnswer coin v w) (refusal 1) (frodoAnswer f coin v w))
+family-fits : (F : Family) (f : Fixed) (coin v w : ℕ) → f .keybits ≤ 4 → Fits (byFamily F (bcnsAnswer coin v w) (refusal 1) (frodoAnswer f coin v w))
 family-fits Family.Bcns f coin v w b = bcns-fits coin v w
 family-fits Family.NewHope f coin v w b = refusal-fits (omega arith)
 family-fits Family.Frodo f coin v w b = frodo-fits f coin v w b
 
 settled-fits : (r : Named) (coin v w : ℕ) → Fits (settledIn r coin v w)
 unfolding settledIn
-settled-fits (Is s) coin v w = family-fits (familyOf s) (fixedOf s) coin v w (sound s .key-room)
+settled-fits (Known s) coin v w = family-fits (familyOf s) (fixedOf s) coin v w (sound s .key-room)
 settled-fits Unknown coin v w = refusal-fits (omega arith)
 
 answer-fits : (r : Asked) → Fits (answerTo r)

@@ -9,8 +9,8 @@ use Prim.Native.Nat.{ℕ}
 use lib.Dec.{ltb}
 use Rattle.schemes.specs.declared.Fixed.{Fixed}
 use Rattle.schemes.specs.declared.Named.{Named}
-use Rattle.schemes.specs.declared.Named.the-variants.{Is, Unknown}
-use Rattle.schemes.specs.Schemes.{by, familyOf, fixedOf, schemeOf}
+use Rattle.schemes.specs.declared.Named.the-variants.{Known, Unknown}
+use Rattle.schemes.specs.Schemes.{byFamily, familyOf, fixedOf, schemeOf}
 use Rattle.lists.specs.Table.{both}
 use Rattle.bcns.specs.Rounding as bcns
 use Rattle.frodo.specs.Rounding as frodo
@@ -91,7 +91,7 @@ frodoAnswer f coin v w =
 
 -- 1 for a scheme not 0 or 2..5
 unfoldable pub settledIn : Named → ℕ → ℕ → ℕ → List ℕ
-settledIn (Is s) coin v w = by (familyOf s) (bcnsAnswer coin v w) (refusal 1) (frodoAnswer (fixedOf s) coin v w)
+settledIn (Known s) coin v w = byFamily (familyOf s) (bcnsAnswer coin v w) (refusal 1) (frodoAnswer (fixedOf s) coin v w)
 settledIn Unknown coin v w = refusal 1
 
 unfoldable pub settled : ℕ → ℕ → ℕ → ℕ → List ℕ

@@ -135,7 +135,7 @@ fn named(no: u64) -> Named
 fn settle(no: u64, coin: u64, v: u64, w: u64) -> Verdict
     ensures { λ r. ⌜ textOf r ≡ settled no coin v w ⌝ }
 {
-    let Named::Is(scheme) = named(no) else {
+    let Named::Known(scheme) = named(no) else {
         return Verdict::Refused(1);
     };
     let family = scheme.family();

@@ -8,7 +8,7 @@ use mathlib.Core.Bool.{false}
 use mathlib.Core.List.{List}
 use Prim.Native.Nat.{ℕ}
 use Rattle.schemes.specs.declared.Scheme.{Scheme}
-use Rattle.front.specs.Seen.{answer}
+use Rattle.refusals.specs.Seen.{answer}
 use Rattle.agreement.specs.Run.{Run}
 use Rattle.agreement.specs.Exchange.{Rooms}
 use Rattle.session.specs.declared.Stage.{Stage}

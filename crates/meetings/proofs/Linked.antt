@@ -9,11 +9,11 @@ use mathlib.Core.Bool.{true}
 use mathlib.Core.List.{List}
 use Prim.Native.Nat.{ℕ}
 use borrow.Author.Tests.{eq-eqb}
-use Rattle.schemes.specs.Schemes.{schemeOf, numberOf}
-use Rattle.schemes.specs.declared.Named.the-variants.{Is}
+use Rattle.schemes.specs.Schemes.{schemeOf, schemeNumber}
+use Rattle.schemes.specs.declared.Named.the-variants.{Known}
 use Rattle.schemes.specs.declared.Scheme.{Scheme}
 use Rattle.schemes.proofs.Laws.{by-number}
-use Rattle.front.specs.Seen.{Seen, answer}
+use Rattle.refusals.specs.Seen.{Seen, answer}
 use Rattle.offer.specs.Offer.{offerResult}
 use Rattle.reply.specs.Reply.{ReplySeen, replyKey, replyResult}
 use Rattle.finish.specs.Finish.{FinishSeen, finishKey, finishResult}
@@ -34,8 +34,8 @@ use Rattle.meetings.specs.Linked.{Link, linkedBy, Linking, SameKey}
 -- ---- three calls
 
 module _ (c : Scheme) (x : Run) (m : Rooms) {o : Seen ℕ} {r : ReplySeen} {f : FinishSeen} (offers : o ≡ exchange.offers c x m)
-    (replies : r ≡ replyResult (Is c) (inputs.replyTo x (answer (o .out))) (m .reply))
-    (finishes : f ≡ finishResult (Is c) (inputs.finishWith x (answer (r .message))) (m .finish)) where
+    (replies : r ≡ replyResult (Known c) (inputs.replyTo x (answer (o .out))) (m .reply))
+    (finishes : f ≡ finishResult (Known c) (inputs.finishWith x (answer (r .message))) (m .finish)) where
   pub replied : r ≡ exchange.replies c x m
   replied = replies ∙ rw offers
 
@@ -82,13 +82,13 @@ finish-only e = cc
 
 module _ (c : Scheme) (x : Run) (m : Rooms) where
   abbrev pub first : Call
-  first = offering (numberOf c) (inputs.offering x) (m .offer)
+  first = offering (schemeNumber c) (inputs.offering x) (m .offer)
 
   abbrev pub second : List ℕ → Call
-  second opening = replying (numberOf c) (inputs.replyTo x opening) (m .reply)
+  second opening = replying (schemeNumber c) (inputs.replyTo x opening) (m .reply)
 
   abbrev pub third : List ℕ → Call
-  third reply = finishing (numberOf c) (inputs.finishWith x reply) (m .finish)
+  third reply = finishing (schemeNumber c) (inputs.finishWith x reply) (m .finish)
 
 module _ {c : Scheme} {x : Run} {y z : Session} {m : Rooms} (t : Link c x y z m) where
   offer-went : (row (first c x m) .allowed (y .stage) ≡ true) × (t .opened ≡ row (first c x m) .leads) × (ofOffer (t .offer) ≡ beneath (first c x m))
@@ -108,10 +108,10 @@ module _ {c : Scheme} {x : Run} {y z : Session} {m : Rooms} (t : Link c x y z m)
   offers : t .offer ≡ exchange.offers c x m
   offers = offer-only (offer-went .2 ∙ rw (by-number c))
 
-  replies : t .reply ≡ replyResult (Is c) (inputs.replyTo x (answer (t .offer .out))) (m .reply)
+  replies : t .reply ≡ replyResult (Known c) (inputs.replyTo x (answer (t .offer .out))) (m .reply)
   replies = reply-only (reply-went .2 ∙ rw (by-number c))
 
-  finishes : t .finish ≡ finishResult (Is c) (inputs.finishWith x (answer (t .reply .message))) (m .finish)
+  finishes : t .finish ≡ finishResult (Known c) (inputs.finishWith x (answer (t .reply .message))) (m .finish)
   finishes = finish-only (finish-went .2 ∙ rw (by-number c))
 
   run : Exchange c x
@@ -122,19 +122,19 @@ module _ {c : Scheme} {x : Run} {y z : Session} {m : Rooms} (t : Link c x y z m)
   asked = let g = gave run in (idle-when _ (offer-went .0), idle-when _ (reply-went .0), g .enough, g .sendable)
 
   -- both are keyed with the keys of the run
-  replier-is : t .replier ≡ keyed (Is c) (replyKey (Is c) (inputs.replying c x))
+  replier-is : t .replier ≡ keyed (Known c) (replyKey (Known c) (inputs.replying c x))
   unfolding row exchanged run
   replier-is = reply-went .1 ∙ rw (by-number c, offers, gave run .opening)
 
-  initiator-is : t .initiator ≡ keyed (Is c) (finishKey (Is c) (inputs.finishing c x))
+  initiator-is : t .initiator ≡ keyed (Known c) (finishKey (Known c) (inputs.finishing c x))
   unfolding row exchanged run
   initiator-is = finish-went .1 ∙ rw (by-number c, replied c x m offers replies finishes, gave run .message)
 
 pub same-key : SameKey
 same-key c x y z m t near =
     let ranged = asked t .3 .ranged in
-    let p : t .replier ≡ linkedBy c x = replier-is t ∙ ap (keyed (Is c)) (own-published c x ranged) in
-    let i : t .initiator ≡ linkedBy c x = initiator-is t ∙ ap (keyed (Is c)) (sym (keys-meet c x ranged near) ∙ own-published c x ranged) in
+    let p : t .replier ≡ linkedBy c x = replier-is t ∙ ap (keyed (Known c)) (own-published c x ranged) in
+    let i : t .initiator ≡ linkedBy c x = initiator-is t ∙ ap (keyed (Known c)) (sym (keys-meet c x ranged near) ∙ own-published c x ranged) in
     (ap (λ (u : Session). u .key) (i ∙ sym p), i, p)
 
 -- ---- a link of two idle sessions
@@ -143,7 +143,7 @@ module _ (c : Scheme) (x : Run) (m : Rooms) (h : Enough c m) (s : Sendable c x) 
   link : Link c x y z m
   unfolding row number
   link =
-      let n = schemeOf (numberOf c) in
+      let n = schemeOf (schemeNumber c) in
       let t = none-refused c x m h s in
       let o = offerResult n (inputs.offering x) (m .offer) in
       let r = replyResult n (inputs.replyTo x (answer (o .out))) (m .reply) in
@@ -158,7 +158,7 @@ module _ (c : Scheme) (x : Run) (m : Rooms) (h : Enough c m) (s : Sendable c x) 
         reply-accepted = rw (by-number c) (t .1);
         initiator = row (third c x m (answer (r .message))) .leads;
         finish = finishResult n (inputs.finishWith x (answer (r .message))) (m .finish);
-        finishes = goes _ (third c x m (answer (r .message))) (rw (by-number c, eq-eqb (numberOf c) (numberOf c) refl)) (rw (by-number c) (t .2));
+        finishes = goes _ (third c x m (answer (r .message))) (rw (by-number c, eq-eqb (schemeNumber c) (schemeNumber c) refl)) (rw (by-number c) (t .2));
         finish-accepted = rw (by-number c) (t .2);
       }
 

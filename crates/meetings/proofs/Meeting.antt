@@ -10,12 +10,12 @@ use native.Mathlib.Decide.{ℕ-discrete}
 use lib.ListN.{length}
 use Rattle.schemes.specs.Schemes.{familyOf, fixedOf}
 use Rattle.schemes.specs.declared.Family.{Family}
-use Rattle.schemes.specs.declared.Named.the-variants.{Is}
+use Rattle.schemes.specs.declared.Named.the-variants.{Known}
 use Rattle.schemes.specs.declared.Scheme.{Scheme}
 use Rattle.lists.specs.Entries.{Below}
-use Rattle.front.specs.Seen.{Seen, answer, shown}
-use Rattle.front.specs.declared.Refusal.the-variants.{OutOfTurn}
-use Rattle.front.specs.declared.Verdict.the-variants.{Pass, Fail}
+use Rattle.refusals.specs.Seen.{Seen, answer, shown}
+use Rattle.refusals.specs.declared.Refusal.the-variants.{OutOfTurn}
+use Rattle.refusals.specs.declared.Verdict.the-variants.{Pass, Fail}
 use Rattle.offer.specs.Offer.{offerOf, offerTests, offerMessage, offerResult}
 use Rattle.reply.specs.Reply.{ReplyRooms, ReplySeen, replyOf, replyTests, outputs, replyResult}
 use Rattle.agreement.specs.Run.{Run, offering, replyTo}
@@ -41,18 +41,18 @@ reply-early m e = ap (λ (s : ReplySeen). s .number) e
 
 module _ (c : Scheme) (frodo : familyOf c ≡ Family.Frodo) where
   whole-offer : (x : OfferBegin) (a : List ℕ) (n : ℕ) (t : Seen ℕ) → Below 256 (x .seed) → t .number ≡ 0 → OfferRun c x a n t
-      → t ≡ offerResult (Is c) (offerOf a (x .s) (x .e) (x .seed)) n
+      → t ≡ offerResult (Known c) (offerOf a (x .s) (x .e) (x .seed)) n
   whole-offer x a n t b z r = go (ℕ-discrete (length a) (fixedOf c .public))
     where
-      go : Dec (length a ≡ fixedOf c .public) → t ≡ offerResult (Is c) (offerOf a (x .s) (x .e) (x .seed)) n
+      go : Dec (length a ≡ fixedOf c .public) → t ≡ offerResult (Known c) (offerOf a (x .s) (x .e) (x .seed)) n
       go (yes e) = same-offer c x a n t frodo b r e
       go (no e) = absurd (omega (arith, offer-early n (early-offer c x a n t frodo b r e)))
 
   whole-reply : (x : ReplyBegin) (a : List ℕ) (m : ReplyRooms) (t : ReplySeen) → t .number ≡ 0 → ReplyRun c x a m t
-      → t ≡ replyResult (Is c) (replyOf (x .opening) a (x .s') (x .e') (x .e'') []) m
+      → t ≡ replyResult (Known c) (replyOf (x .opening) a (x .s') (x .e') (x .e'') []) m
   whole-reply x a m t z r = go (ℕ-discrete (length a) (fixedOf c .public))
     where
-      go : Dec (length a ≡ fixedOf c .public) → t ≡ replyResult (Is c) (replyOf (x .opening) a (x .s') (x .e') (x .e'') []) m
+      go : Dec (length a ≡ fixedOf c .public) → t ≡ replyResult (Known c) (replyOf (x .opening) a (x .s') (x .e') (x .e'') []) m
       go (yes e) = same-reply c x a m t frodo r e
       go (no e) = absurd (omega (arith, reply-early m (early-reply c x a m t frodo r e)))
 
@@ -63,7 +63,7 @@ module _ (c : Scheme) (frodo : familyOf c ≡ Family.Frodo) where
     offer-by (inr r) = whole-offer (offerBeginOf (x .s) (x .e) (x .seed)) (x .a) _ _ b (t .offer-accepted) r
 
     abbrev Whole : Type 0
-    Whole = t .reply ≡ replyResult (Is c) (replyTo x (answer (t .offer .out))) (t .rooms .reply)
+    Whole = t .reply ≡ replyResult (Known c) (replyTo x (answer (t .offer .out))) (t .rooms .reply)
 
     reply-by : Whole ⊎ ReplyRun c (replyBeginOf (answer (t .offer .out)) (x .s') (x .e') (x .e'')) (x .a) (t .rooms .reply) (t .reply) → Whole
     reply-by (inl e) = e
@@ -111,10 +111,10 @@ reached c x frodo b none = (λ t. accepted c x .0 (exchange c frodo x b none t),
 
 pub every-cut : EveryCut
 every-cut c x ps ps' n m frodo b none s e e' w w' ho hn hk hd =
-    let opening = offerMessage (Is c) (offering x) in (
+    let opening = offerMessage (Known c) (offering x) in (
       offer-taken c (offerBeginOf (x .s) (x .e) (x .seed)) ps n frodo b w .0
-          (subst (λ (a : List ℕ). offerTests (Is c) (offerOf a (x .s) (x .e) (x .seed)) n ≡ Pass) (sym e) (offer-passes c x s n ho)),
+          (subst (λ (a : List ℕ). offerTests (Known c) (offerOf a (x .s) (x .e) (x .seed)) n ≡ Pass) (sym e) (offer-passes c x s n ho)),
       reply-taken c (replyBeginOf opening (x .s') (x .e') (x .e'')) ps' m frodo w' .0
-          (subst (λ (a : List ℕ). replyTests (Is c) (replyOf opening a (x .s') (x .e') (x .e'') []) m ≡ Pass) (sym e')
-          (subst (λ (cs : List ℕ). replyTests (Is c) (replyOf opening (x .a) (x .s') (x .e') (x .e'') cs) m ≡ Pass) none (reply-passes c x s m hn hk hd))),
+          (subst (λ (a : List ℕ). replyTests (Known c) (replyOf opening a (x .s') (x .e') (x .e'') []) m ≡ Pass) (sym e')
+          (subst (λ (cs : List ℕ). replyTests (Known c) (replyOf opening (x .a) (x .s') (x .e') (x .e'') cs) m ≡ Pass) none (reply-passes c x s m hn hk hd))),
     )

@@ -14,9 +14,9 @@ use mathlib.Core.List.{List}
 use mathlib.Core.Logic.{_↔_}
 use Prim.Native.Nat.{ℕ}
 use lib.ListN.{length}
-use Rattle.schemes.specs.Schemes.{numberOf}
+use Rattle.schemes.specs.Schemes.{schemeNumber}
 use Rattle.schemes.specs.declared.Scheme.{Scheme}
-use Rattle.front.specs.Seen.{Seen, answer}
+use Rattle.refusals.specs.Seen.{Seen, answer}
 use Rattle.reply.specs.Reply.{ReplySeen}
 use Rattle.finish.specs.Finish.{FinishSeen}
 use Rattle.agreement.specs.Run.{Run}
@@ -35,17 +35,17 @@ pub record LinkBy {S : Type 0} (move : S → Call → Turn S) (c : Scheme) (x : 
   -- one session offers
   pub opened : S
   pub offer : Seen ℕ
-  pub offers : turn opened (ofOffer offer) ≡ move y (offering (numberOf c) (inputs.offering x) (m .offer))
+  pub offers : turn opened (ofOffer offer) ≡ move y (offering (schemeNumber c) (inputs.offering x) (m .offer))
   pub offer-accepted : offer .number ≡ 0
   -- another replies to the opening as Offer wrote it
   pub replier : S
   pub reply : ReplySeen
-  pub replies : turn replier (ofReply reply) ≡ move z (replying (numberOf c) (inputs.replyTo x (answer (offer .out))) (m .reply))
+  pub replies : turn replier (ofReply reply) ≡ move z (replying (schemeNumber c) (inputs.replyTo x (answer (offer .out))) (m .reply))
   pub reply-accepted : reply .number ≡ 0
   -- and the first finishes with the reply as Reply wrote it
   pub initiator : S
   pub finish : FinishSeen
-  pub finishes : turn initiator (ofFinish finish) ≡ move opened (finishing (numberOf c) (inputs.finishWith x (answer (reply .message))) (m .finish))
+  pub finishes : turn initiator (ofFinish finish) ≡ move opened (finishing (schemeNumber c) (inputs.finishWith x (answer (reply .message))) (m .finish))
   pub finish-accepted : finish .number ≡ 0
 
 abbrev pub Link : Scheme → Run → Session → Session → Rooms → Type 0

@@ -11,10 +11,10 @@ use mathlib.Core.List.{List, []}
 use Prim.Native.Nat.{ℕ, _≤_}
 use Rattle.schemes.specs.Schemes.{familyOf, fixedOf}
 use Rattle.schemes.specs.declared.Family.{Family}
-use Rattle.schemes.specs.declared.Named.the-variants.{Is}
+use Rattle.schemes.specs.declared.Named.the-variants.{Known}
 use Rattle.schemes.specs.declared.Scheme.{Scheme}
 use Rattle.lists.specs.Entries.{Below}
-use Rattle.front.specs.Seen.{Seen, answer}
+use Rattle.refusals.specs.Seen.{Seen, answer}
 use Rattle.offer.specs.Offer.{offerMessage, offerResult}
 use Rattle.reply.specs.Reply.{ReplyRooms, ReplySeen, replyResult}
 use Rattle.finish.specs.Finish.{FinishSeen, finishResult}
@@ -30,18 +30,18 @@ pub record Meeting (c : Scheme) (x : Run) : Type 0 where
   -- Offer
   pub offer : Seen ℕ
   pub offers :
-      (offer ≡ offerResult (Is c) (offering x) (rooms .offer))
+      (offer ≡ offerResult (Known c) (offering x) (rooms .offer))
       ⊎ OfferRun c (offerBeginOf (x .s) (x .e) (x .seed)) (x .a) (rooms .offer) offer
   pub offer-accepted : offer .number ≡ 0
   -- Reply, to the opening as Offer wrote it
   pub reply : ReplySeen
   pub replies :
-      (reply ≡ replyResult (Is c) (replyTo x (answer (offer .out))) (rooms .reply))
+      (reply ≡ replyResult (Known c) (replyTo x (answer (offer .out))) (rooms .reply))
       ⊎ ReplyRun c (replyBeginOf (answer (offer .out)) (x .s') (x .e') (x .e'')) (x .a) (rooms .reply) reply
   pub reply-accepted : reply .number ≡ 0
   -- Finish, of the reply as Reply wrote it
   pub finish : FinishSeen
-  pub finishes : finish ≡ finishResult (Is c) (finishWith x (answer (reply .message))) (rooms .finish)
+  pub finishes : finish ≡ finishResult (Known c) (finishWith x (answer (reply .message))) (rooms .finish)
   pub finish-accepted : finish .number ≡ 0
 
 pub record Agreed {c : Scheme} {x : Run} (t : Meeting c x) : Type 0 where
@@ -64,4 +64,4 @@ EveryCut =
     Sendable c x → joined ps ≡ x .a → joined ps' ≡ x .a → WithinRows (fixedOf c .n) 0 ps → WithinRows (fixedOf c .n) 0 ps' →
     fixedOf c .opening ≤ n → fixedOf c .reply ≤ m .message → fixedOf c .key ≤ m .key → 32 ≤ m .digest →
     OfferAccepted c (offerBeginOf (x .s) (x .e) (x .seed)) ps n
-    × ReplyAccepted c (replyBeginOf (offerMessage (Is c) (offering x)) (x .s') (x .e') (x .e'')) ps' m
+    × ReplyAccepted c (replyBeginOf (offerMessage (Known c) (offering x)) (x .s') (x .e') (x .e'')) ps' m

@@ -17,7 +17,7 @@ use lib.ListN.{length, getD, set}
 use Rattle.lists.specs.Entries.{Below}
 use Rattle.lists.proofs.Entries.{tab-length, tab-at, tab-ext, below-tab}
 use Rattle.newhope.specs.declared.Four.{Four}
-use Rattle.newhope.specs.Group.{q, groups, Small, Hint, hintOf, sumOf, bitOf, groupOf, entryOf, hintsOf, keysOf, peersOf}
+use Rattle.newhope.specs.Group.{q, groups, BelowQ, Hint, hintOf, sumOf, bitOf, groupOf, entryOf, hintsOf, keysOf, peersOf}
 use Rattle.newhope.specs.Agreement.{EveryGroup}
 use Rattle.newhope.proofs.Margin.{agreement}
 use Rattle.newhope.proofs.Parts.{hint-small}
@@ -40,10 +40,10 @@ entry-small g h (suc zero) = h .h1
 entry-small g h (suc (suc zero)) = h .h2
 entry-small g h (suc (suc (suc j))) = h .h3
 
-pub small-group : {xs : List ℕ} {g : Four} (i : ℕ) → Below q xs → g ≡ groupOf xs i → Small g
+pub small-group : {xs : List ℕ} {g : Four} (i : ℕ) → Below q xs → g ≡ groupOf xs i → BelowQ g
 unfolding groupOf
 small-group i h e =
-    subst Small (sym e) (record { s0 = h .below i; s1 = h .below (i + 256); s2 = h .below (i + 512); s3 = h .below (i + 768) })
+    subst BelowQ (sym e) (record { s0 = h .below i; s1 = h .below (i + 256); s2 = h .below (i + 512); s3 = h .below (i + 768) })
 
 pub hint-group : {xs : List ℕ} {g : Four} (i : ℕ) → Below 4 xs → g ≡ groupOf xs i → Hint g
 unfolding groupOf

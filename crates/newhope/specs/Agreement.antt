@@ -10,23 +10,23 @@ use mathlib.Core.Logic.{_↔_}
 use Prim.Native.Nat.{ℕ, _+_, _≤_, _<_}
 use Rattle.lists.specs.Entries.{Below}
 use Rattle.newhope.specs.declared.Four.{Four}
-use Rattle.newhope.specs.Group.{q, groups, Small, pOf, hintOf, bitOf, apartOf, groupOf, hintsOf, keysOf, peersOf}
+use Rattle.newhope.specs.Group.{q, groups, BelowQ, pOf, hintOf, bitOf, apartOf, groupOf, hintsOf, keysOf, peersOf}
 
 abbrev pub margin : ℕ
 margin = 9214
 
 abbrev pub Agreement : Type 0
-Agreement = (b : ℕ) (v w : Four) → b < 2 → Small v → Small w → apartOf v w ≤ margin → bitOf (hintOf b v) w ≡ bitOf (hintOf b v) v
+Agreement = (b : ℕ) (v w : Four) → b < 2 → BelowQ v → BelowQ w → apartOf v w ≤ margin → bitOf (hintOf b v) w ≡ bitOf (hintOf b v) v
 
 -- 0 (far) exactly if p3 is 2 or 3
 abbrev pub Published : Type 0
-Published = (b : ℕ) (v : Four) → b < 2 → Small v → (bitOf (hintOf b v) v ≡ 0) ↔ ((2 ≤ pOf b v (v .e3)) × (pOf b v (v .e3) ≤ 3))
+Published = (b : ℕ) (v : Four) → b < 2 → BelowQ v → (bitOf (hintOf b v) v ≡ 0) ↔ ((2 ≤ pOf b v (v .e3)) × (pOf b v (v .e3) ≤ 3))
 
 pub record Sharp : Type 0 where
   pub v : Four
   pub w : Four
-  pub v-small : Small v
-  pub w-small : Small w
+  pub v-small : BelowQ v
+  pub w-small : BelowQ w
   pub one-more : apartOf v w ≡ margin + 1
   pub differ : bitOf (hintOf 1 v) w ≡ bitOf (hintOf 1 v) v → ⊥
 

@@ -94,7 +94,7 @@ peersOf hs ws = tab groups (λ i. bitOf (groupOf hs i) (groupOf ws i))
 
 -- ---- ranges
 
-pub record Small (v : Four) : Type 0 where
+pub record BelowQ (v : Four) : Type 0 where
   pub s0 : v .e0 < q
   pub s1 : v .e1 < q
   pub s2 : v .e2 < q

@@ -8,7 +8,7 @@ ghost use lib.IntN.{pos, _-ℤ_};
 ghost use lib.ListN.{length};
 ghost use Rattle.numbers.specs.Residue.{residue};
 ghost use Rattle.lists.specs.Entries.{Below};
-ghost use Rattle.newhope.specs.Group.{q, size, groups, Small, Hint, upOf, downOf, offOf, offsOf, termOf, hintOf, bitOf, groupOf, hintsOf, peersOf};
+ghost use Rattle.newhope.specs.Group.{q, size, groups, BelowQ, Hint, upOf, downOf, offOf, offsOf, termOf, hintOf, bitOf, groupOf, hintsOf, peersOf};
 
 // q, 2q and 8q, and the number of groups.
 const Q: u32 = schemes::NewHope::Q;
@@ -62,7 +62,7 @@ fn off(b: u32, x: u32) -> u32
 
 // The sum of the four.
 fn offs(b: u32, v: Four) -> u32
-    requires { ⌜ (b < 2) × Small v ⌝ }
+    requires { ⌜ (b < 2) × BelowQ v ⌝ }
     ensures { λ r. ⌜ r ≡ offsOf b v ⌝ }
 {
     off(b, v.e0) + off(b, v.e1) + off(b, v.e2) + off(b, v.e3)
@@ -93,7 +93,7 @@ fn less(p: u32, r: u32) -> u32
 
 // The hint of the replier's group and its coin bit.
 pub fn hint(b: u32, v: Four) -> Four
-    requires { ⌜ (b < 2) × Small v ⌝ }
+    requires { ⌜ (b < 2) × BelowQ v ⌝ }
     ensures { λ r. ⌜ (r ≡ hintOf b v) × Hint r ⌝ }
 {
     let s = offs(b, v);
@@ -120,7 +120,7 @@ fn term(c: u32, x: u32) -> u32
 
 // The bit of either end: 1 near, 0 far.
 pub fn bit(h: Four, x: Four) -> u32
-    requires { ⌜ Hint h × Small x ⌝ }
+    requires { ⌜ Hint h × BelowQ x ⌝ }
     ensures { λ r. ⌜ r ≡ bitOf h x ⌝ }
 {
     let t0 = term(2 * h.e0 + h.e3, x.e0);

@@ -10,17 +10,17 @@ use native.Mathlib.Omega.{arith}
 use lib.ListN.{length}
 use Rattle.schemes.specs.Schemes.{fixedOf}
 use Rattle.schemes.specs.declared.Named.{Named}
-use Rattle.schemes.specs.declared.Named.the-variants.{Is, Unknown}
+use Rattle.schemes.specs.declared.Named.the-variants.{Known, Unknown}
 use Rattle.schemes.specs.declared.Scheme.{Scheme}
 use Rattle.schemes.proofs.Sound.{sound}
-use Rattle.front.specs.Front.{_then_, publicsIn, notBlank, secretsIn}
-use Rattle.front.specs.declared.Verdict.{Verdict}
-use Rattle.front.specs.declared.Verdict.the-variants.{Pass, Fail}
-use Rattle.front.specs.declared.Refusal.{Refusal}
-use Rattle.front.specs.declared.Refusal.the-variants.{NoScheme}
-use Rattle.front.proofs.Laws.{both, all-pass, length-passed, room-passed, publics-passed, secrets-passed, then-assoc, failed, before-failed, before-passed}
-use Rattle.ends.specs.Fit.{Counted, Small}
-use Rattle.ends.proofs.Ranges.{offered-counted}
+use Rattle.refusals.specs.Refusals.{_then_, publicsIn, notBlank, secretsIn}
+use Rattle.refusals.specs.declared.Verdict.{Verdict}
+use Rattle.refusals.specs.declared.Verdict.the-variants.{Pass, Fail}
+use Rattle.refusals.specs.declared.Refusal.{Refusal}
+use Rattle.refusals.specs.declared.Refusal.the-variants.{NoScheme}
+use Rattle.refusals.proofs.Laws.{both, all-pass, length-passed, room-passed, publics-passed, secrets-passed, then-assoc, failed, before-failed, before-passed}
+use Rattle.values.specs.Fit.{Counted, Small}
+use Rattle.values.proofs.Ranges.{offered-counted}
 use Rattle.wire.proofs.Travel.{opening-length, numbers-long}
 use Rattle.offer.specs.Offer.{Offer, offeredPart, offerTests, offerMessage}
 use Rattle.offer.specs.Inside.{offerLengths, offerSizes, offerIn, offerAhead, Opens}
@@ -33,7 +33,7 @@ pub record Ranges (c : Scheme) (x : Offer) : Type 0 where
   pub seed-long : length (x .seed) ≡ fixedOf c .seed
 
 module _ (c : Scheme) (x : Offer) where
-  pub opening-long : length (x .seed) ≡ fixedOf c .seed → length (offerMessage (Is c) x) ≡ fixedOf c .opening
+  pub opening-long : length (x .seed) ≡ fixedOf c .seed → length (offerMessage (Known c) x) ≡ fixedOf c .opening
   unfolding offerMessage
   opening-long l = opening-length c (x .seed) _ l (numbers-long c (offered-counted c (x .a) (x .s) (x .e)))
 
@@ -85,12 +85,12 @@ module _ (c : Scheme) (x : Offer) where
   unfolding offerAhead
   ahead-opens n t = let p = before-passed _ _ _ t in lengths-open n (p .0) (p .1)
 
-  pub offer-failed : (n : ℕ) {v : Verdict} {r : Refusal} → v ≡ offerAhead c x n → v ≡ Fail r → offerTests (Is c) x n ≡ Fail r
+  pub offer-failed : (n : ℕ) {v : Verdict} {r : Refusal} → v ≡ offerAhead c x n → v ≡ Fail r → offerTests (Known c) x n ≡ Fail r
   unfolding offerTests offerIn offerLengths offerAhead
   offer-failed n e f = failed _ (sym (in-two n)) (before-failed _ _ _ (sym e ∙ f))
 
   pub offer-last-decides : (n : ℕ) {v : Verdict} → offerAhead c x n ≡ Pass → v ≡ publicsIn (fixedOf c .q) (x .a) then notBlank (offeredPart c x)
-      → offerTests (Is c) x n ≡ v
+      → offerTests (Known c) x n ≡ v
   unfolding offerTests offerIn offerLengths offerAhead
   offer-last-decides n t e =
       ap (λ (u : Verdict). u then notBlank (offeredPart c x)) (in-two n ∙ before-passed _ _ _ t .2) ∙ sym e

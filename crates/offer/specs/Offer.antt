@@ -12,15 +12,15 @@ use lib.ListN.{length}
 use Rattle.schemes.specs.Schemes.{fixedOf}
 use Rattle.schemes.specs.declared.Scheme.{Scheme}
 use Rattle.schemes.specs.declared.Named.{Named}
-use Rattle.schemes.specs.declared.Named.the-variants.{Is, Unknown}
+use Rattle.schemes.specs.declared.Named.the-variants.{Known, Unknown}
 use Rattle.lists.specs.Lent.{Lent, was}
 use Rattle.packing.specs.Packing.{packed}
-use Rattle.front.specs.Front.{_then_, lengthIs, roomFor, publicsIn, notBlank, secretsIn}
-use Rattle.front.specs.Seen.{Seen, shown}
-use Rattle.front.specs.declared.Verdict.{Verdict}
-use Rattle.front.specs.declared.Verdict.the-variants.{Fail}
-use Rattle.front.specs.declared.Refusal.the-variants.{NoScheme}
-use Rattle.ends.specs.Values.{offered}
+use Rattle.refusals.specs.Refusals.{_then_, lengthIs, roomFor, publicsIn, notBlank, secretsIn}
+use Rattle.refusals.specs.Seen.{Seen, shown}
+use Rattle.refusals.specs.declared.Verdict.{Verdict}
+use Rattle.refusals.specs.declared.Verdict.the-variants.{Fail}
+use Rattle.refusals.specs.declared.Refusal.the-variants.{NoScheme}
+use Rattle.values.specs.Values.{offered}
 use Rattle.wire.specs.Wire.{opening}
 
 pub record Offer : Type 0 where
@@ -34,7 +34,7 @@ offeredPart c x = packed (fixedOf c .width) (offered c (x .a) (x .s) (x .e))
 
 unfoldable pub offerTests : Named → Offer → ℕ → Verdict
 offerTests Unknown x n = Fail NoScheme
-offerTests (Is c) x n =
+offerTests (Known c) x n =
     lengthIs (length (x .a)) (fixedOf c .public)
     then lengthIs (length (x .s)) (fixedOf c .secret)
     then lengthIs (length (x .e)) (fixedOf c .noise)
@@ -47,7 +47,7 @@ offerTests (Is c) x n =
 
 unfoldable pub offerMessage : Named → Offer → List ℕ
 offerMessage Unknown x = []
-offerMessage (Is c) x = opening c (x .seed) (offeredPart c x)
+offerMessage (Known c) x = opening c (x .seed) (offeredPart c x)
 
 abbrev pub offerResult : Named → Offer → ℕ → Seen ℕ
 offerResult c x n = shown (offerTests c x n) (offerMessage c x) 0 n

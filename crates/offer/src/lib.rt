@@ -3,14 +3,14 @@
 ghost use mathlib.Core.Path.{_≡_};
 ghost use Rattle.schemes.specs.Schemes.{schemeOf};
 ghost use Rattle.lists.specs.Lent.{left, room};
-ghost use Rattle.front.specs.Seen.{told, seen};
+ghost use Rattle.refusals.specs.Seen.{told, seen};
 ghost use Rattle.offer.specs.Offer.{offer, offerResult};
 
 pub mod opener;
 mod tests;
 
-use front::Answer;
-use front::Refusal;
+use refusals::Answer;
+use refusals::Refusal;
 use schemes::Named;
 
 // Offer: the opening message, from the public numbers a, the secret s, the noise e and the seed.
@@ -24,7 +24,7 @@ pub fn offer(
 ) -> Answer
     ensures { λ r. ⌜ seen (told r) (left message) ≡ offerResult (schemeOf scheme) (offer a s e seed) (room message) ⌝ }
 {
-    let Named::Is(known) = front::named(scheme, message) else {
+    let Named::Known(known) = refusals::named(scheme, message) else {
         return Answer::Refused(Refusal::NoScheme);
     };
     opener::offer_in(known, a, s, e, seed, message)

@@ -3,19 +3,19 @@
 ghost use mathlib.Core.Path.{_≡_};
 ghost use lib.ListN.{length, replicate};
 ghost use Rattle.schemes.specs.Schemes.{fixedOf};
-ghost use Rattle.schemes.specs.declared.Named.the-variants.{Is};
+ghost use Rattle.schemes.specs.declared.Named.the-variants.{Known};
 ghost use Rattle.lists.specs.Lent.{was, left, room};
 ghost use Rattle.packing.specs.Packing.{packed};
-ghost use Rattle.front.specs.Front.{_then_, publicsIn, notBlank};
-ghost use Rattle.front.specs.Seen.{told, seen};
-ghost use Rattle.front.specs.Steps.{Laid};
-ghost use Rattle.front.specs.declared.Verdict.the-variants.{Pass};
-ghost use Rattle.ends.specs.Fit.{Counted};
+ghost use Rattle.refusals.specs.Refusals.{_then_, publicsIn, notBlank};
+ghost use Rattle.refusals.specs.Seen.{told, seen};
+ghost use Rattle.refusals.specs.Steps.{Laid};
+ghost use Rattle.refusals.specs.declared.Verdict.the-variants.{Pass};
+ghost use Rattle.values.specs.Fit.{Counted};
 ghost use Rattle.wire.specs.Wire.{opening};
 ghost use Rattle.offer.specs.Offer.{offerOf, offer, offeredPart, offerMessage, offerResult};
 ghost use Rattle.offer.specs.Inside.{offerAhead, Opens};
-use front::Answer;
-use front::Verdict;
+use refusals::Answer;
+use refusals::Verdict;
 use schemes::Scheme;
 
 // The opening's bytes, of its numbers b. A blank part is refused before anything is written. Crate `rows` ends so too.
@@ -25,7 +25,7 @@ pub fn lay_numbers(scheme: Scheme, b: &[u32], seed: &[u8], out: &mut [u8]) -> Ve
     ensures { λ r. ⌜ r ≡ notBlank (packed (fixedOf scheme .width) (was b)) ⌝ }
     ensures { λ r. ⌜ Laid r (opening scheme (was seed) (packed (fixedOf scheme .width) (was b))) out ⌝ }
 {
-    let v = front::not_blank(b);
+    let v = refusals::not_blank(b);
     match v {
         Verdict::Fail(r) => Verdict::Fail(r),
         Verdict::Pass => {
@@ -48,11 +48,11 @@ fn lay(
     requires { ⌜ Opens scheme (offerOf (now a) (now s) (now e) (now seed)) ⌝ }
     requires { ⌜ (n ≡ fixedOf scheme .secret) × (length (now out) ≡ fixedOf scheme .opening) ⌝ }
     ensures { λ r. ⌜ r ≡ publicsIn (fixedOf scheme .q) (was a) then notBlank (offeredPart scheme (offer a s e seed)) ⌝ }
-    ensures { λ r. ⌜ Laid r (offerMessage (Is scheme) (offer a s e seed)) out ⌝ }
+    ensures { λ r. ⌜ Laid r (offerMessage (Known scheme) (offer a s e seed)) out ⌝ }
 {
     let mut b = [0u32; 6912];
-    let at = ends::values::offer(scheme, a, s, e, &mut b[..n]);
-    let v = front::publics_at(at, a);
+    let at = values::products::offer(scheme, a, s, e, &mut b[..n]);
+    let v = refusals::publics_at(at, a);
     match v {
         Verdict::Fail(r) => Verdict::Fail(r),
         Verdict::Pass => lay_numbers(scheme, &b[..n], seed, out),
@@ -63,7 +63,7 @@ fn lay(
 fn send(scheme: Scheme, a: &[u32], s: &[i32], e: &[i32], seed: &[u8], message: &mut [u8]) -> Answer
     requires { ⌜ offerAhead scheme (offerOf (now a) (now s) (now e) (now seed)) (length (now message)) ≡ Pass ⌝ }
     requires { ⌜ now message ≡ replicate (length (now message)) 0 ⌝ }
-    ensures { λ r. ⌜ seen (told r) (left message) ≡ offerResult (Is scheme) (offer a s e seed) (room message) ⌝ }
+    ensures { λ r. ⌜ seen (told r) (left message) ≡ offerResult (Known scheme) (offer a s e seed) (room message) ⌝ }
 {
     let f = scheme.fixed();
     let n = f.opening;
@@ -83,7 +83,7 @@ pub(crate) fn offer_in(
     message: &mut [u8],
 ) -> Answer
     requires { ⌜ now message ≡ replicate (length (now message)) 0 ⌝ }
-    ensures { λ r. ⌜ seen (told r) (left message) ≡ offerResult (Is scheme) (offer a s e seed) (room message) ⌝ }
+    ensures { λ r. ⌜ seen (told r) (left message) ≡ offerResult (Known scheme) (offer a s e seed) (room message) ⌝ }
 {
     let v = crate::tests::offer(scheme, a, s, e, seed, message.len());
     match v {

@@ -32,7 +32,7 @@ use Rattle.lists.specs.Entries.{nums, ints}
 use Rattle.lists.proofs.Parts.{slice-long, slice-at, front-long, part}
 use Rattle.polynomial.specs.Window.{lift, upper, lower, dot, span, slide, Pair}
 use Rattle.lists.specs.Stored.{Stored}
-use Rattle.polynomial.specs.Steps.{Few, Ready, Laid, Halved, Made, Joined}
+use Rattle.polynomial.specs.Steps.{Few, Ready, Prepared, Halved, Made, Joined}
 use Rattle.polynomial.proofs.Halves.{upper-small, lower-small, lift-lt, halves-≅}
 use Rattle.polynomial.proofs.Three.{slide-≅, three-low, three-high, few-low, few-high, few-middle, few-ext}
 use Rattle.polynomial.proofs.Kernel.{plus-fits, plus-read}
@@ -50,7 +50,7 @@ unfolding slide dot
 slide-size n w s k h hw f =
     omega (arith, abs-sum n (32768 * f .size) (λ j. w (k + j) *ℤ s j) (λ j l. abs-mul-≤ (w (k + j)) (s j) (hw (k + j) (omega arith)) (f .within j l)), f .room)
 
-module _ {x n : ℕ} {t : List ℤ} (h : Laid x n t) (k : ℕ) (l : k < n) where
+module _ {x n : ℕ} {t : List ℤ} (h : Prepared x n t) (k : ℕ) (l : k < n) where
   -- the part of the halves that is lent
   abbrev lent : List ℤ
   lent = take (x + k + n - (x + k)) (drop (x + k) t)
@@ -132,10 +132,10 @@ module _ {q n : ℕ} {d : List ℕ} {t t′ : List ℤ} (r : Ready q n d t) (h :
   low-small : (i : ℕ) → i < n + n → natAbs (ints t′ (3 * n + i)) ≤ 32768
   low-small i p = rw (h .low i p) (lower-small _)
 
-  pub laid-high : Laid n n t′
+  pub laid-high : Prepared n n t′
   laid-high = record { long = omega (arith, h .long); front = omega (arith, h .long); halves = high-small; secrets = secrets′ }
 
-  pub laid-low : Laid (3 * n) n t′
+  pub laid-low : Prepared (3 * n) n t′
   laid-low = record { long = omega (arith, h .long); front = omega (arith, h .long); halves = low-small; secrets = secrets′ }
 
   -- the sums of both halves with the secrets

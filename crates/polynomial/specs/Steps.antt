@@ -2,7 +2,7 @@
 -- front, and the room for its work behind it.
 --   Few n s                n numbers at most B in size, where n B is at most 51 * 1024
 --   Ready q n d t          a window of 2 n numbers below q in d, and n secrets in t, small enough
---   Laid x n t             halves of a window of 2 n numbers at x of t, and n secrets in front
+--   Prepared x n t             halves of a window of 2 n numbers at x of t, and n secrets in front
 --   Halved q n d t t′      the halves of the window of d laid behind the n secrets
 --   Made q n w s o         o has the n sums of the window w and the secrets s, modulo q, and they fit
 --   Joined m o o′          the sums of the whole from those of its three products: both halves, and what is added to either
@@ -28,7 +28,7 @@ pub record Ready (q n : ℕ) (d : List ℕ) (t : List ℤ) : Type 0 where
   pub below : (i : ℕ) → i < n + n → getD d i 0 < q
   pub secrets : Few n (ints t)
 
-pub record Laid (x n : ℕ) (t : List ℤ) : Type 0 where
+pub record Prepared (x n : ℕ) (t : List ℤ) : Type 0 where
   pub long : x + (n + n) ≤ length t
   pub front : n ≤ length t
   pub halves : (i : ℕ) → i < n + n → natAbs (ints t (x + i)) ≤ 32768

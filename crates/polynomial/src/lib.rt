@@ -19,7 +19,7 @@ ghost use Rattle.lists.specs.Stored.{Stored};
 ghost use Rattle.polynomial.specs.Mixing.{mixed, bare};
 ghost use Rattle.polynomial.specs.Fit.{Fit};
 ghost use Rattle.polynomial.specs.Window.{lift, upper, lower, span, slide, Pair};
-ghost use Rattle.polynomial.specs.Steps.{Ready, Laid, Halved, Made, Joined, Windowed};
+ghost use Rattle.polynomial.specs.Steps.{Ready, Prepared, Halved, Made, Joined, Windowed};
 use schemes::Bcns;
 
 // One product. The functions below it are a tree of sums.
@@ -112,7 +112,7 @@ fn dot_product(w: &[i16], s: &[i16]) -> i32
 
 // The n dot products of the secrets in front of t with its entries from x on, at `to` of o.
 fn dots(t: &[i16], x: usize, o: &mut [i64], to: usize, n: usize)
-    requires { ⌜ Laid x n (now t) × (to + n ≤ length (now o)) ⌝ }
+    requires { ⌜ Prepared x n (now t) × (to + n ≤ length (now o)) ⌝ }
     ensures { λ _. ⌜ Stored (pos 0) (was o) to n (slide n (λ (i : ℕ). ints (was t) (x + i)) (ints (was t))) (left o) ⌝ }
 {
     let mut k: usize = 0;

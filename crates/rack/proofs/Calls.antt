@@ -13,15 +13,15 @@ use native.Mathlib.Omega.{arith}
 use native.Mathlib.Numerals.{add-one}
 use lib.ListN.{length, set, take, drop, replicate}
 use borrow.Author.Tests.{eq-eqb, ne-eqb}
-use Rattle.front.specs.Seen.{done}
-use Rattle.front.specs.declared.Refusal.{Refusal}
-use Rattle.front.specs.declared.Verdict.{Verdict}
-use Rattle.front.specs.declared.Verdict.the-variants.{Pass, Fail}
+use Rattle.refusals.specs.Seen.{done}
+use Rattle.refusals.specs.declared.Refusal.{Refusal}
+use Rattle.refusals.specs.declared.Verdict.{Verdict}
+use Rattle.refusals.specs.declared.Verdict.the-variants.{Pass, Fail}
 use Rattle.session.specs.Table.{Call, closing}
 use Rattle.session.specs.Seen.{CallSeen, ofClose, toldBy, shownBy, turn}
 use Rattle.session_bytes.specs.Bytes.{closes, movedBytes}
 use Rattle.session_bytes.proofs.Bytes as sessions
-use Rattle.rack.specs.Slots.{inside, placed, rackIs, slotTests, Owned, inRack, movedIn, emptyFrom, emptyRack, cleared}
+use Rattle.rack.specs.Slots.{inside, withSlot, rackIs, slotTests, Owned, inRack, movedIn, emptyFrom, emptyRack, cleared}
 use Rattle.rack.specs.Shown.{Threads}
 use Rattle.rack.proofs.Parts.{number-at, behind, around, wiped-slot, slot-rack, slot-number, slot-takes, part-long, inside-long}
 
@@ -48,10 +48,10 @@ module _ (bs : List ℕ) (i n d : ℕ) (e : n ≡ 131 * i + 1) (f : d ≡ 130) (
   lent-is : take d (drop n bs) ≡ inside bs i
   lent-is = ap₂ (λ (k m : ℕ). take k (drop m bs)) f starts ∙ behind (131 * i) bs within
 
-  back-is : (ps : List ℕ) → take n bs ++ (ps ++ drop d (drop n bs)) ≡ placed bs i (i ∷ ps)
+  back-is : (ps : List ℕ) → take n bs ++ (ps ++ drop d (drop n bs)) ≡ withSlot bs i (i ∷ ps)
   back-is ps =
       ap₂ (λ (m k : ℕ). take m bs ++ (ps ++ drop k (drop m bs))) starts f ∙ around (131 * i) bs ps within
-      ∙ ap (λ (k : ℕ). placed bs i (k ∷ ps)) (number-at (131 * i) bs within ∙ slot-number bs i o)
+      ∙ ap (λ (k : ℕ). withSlot bs i (k ∷ ps)) (number-at (131 * i) bs within ∙ slot-number bs i o)
 
   pub called : (x : Call) {t : CallSeen} {ps : List ℕ} → turn ps t ≡ movedBytes (take d (drop n bs)) x
       → turn (take n bs ++ (ps ++ drop d (drop n bs))) t ≡ movedIn bs i x

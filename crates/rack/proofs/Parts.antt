@@ -15,11 +15,11 @@ use lib.ListN.{length, getD, set, take, drop, replicate, length-replicate, lengt
 use lib.Seq.{take-append-le, drop-append-le, drop-drop, length-take-le, drop-at, take-at}
 use borrow.Author.Tests.{eqb-true, ltb-true, eq-eqb, ne-eqb, lt-ltb, le-ltb}
 use Rattle.lists.proofs.Parts as parts
-use Rattle.front.specs.Front.{_then_}
-use Rattle.front.specs.declared.Refusal.{Refusal}
-use Rattle.front.specs.declared.Refusal.the-variants.{OutOfStage, NoStudio}
-use Rattle.front.specs.declared.Verdict.the-variants.{Pass, Fail}
-use Rattle.front.proofs.Laws.{differ, both}
+use Rattle.refusals.specs.Refusals.{_then_}
+use Rattle.refusals.specs.declared.Refusal.{Refusal}
+use Rattle.refusals.specs.declared.Refusal.the-variants.{OutOfStage, NoStudio}
+use Rattle.refusals.specs.declared.Verdict.the-variants.{Pass, Fail}
+use Rattle.refusals.proofs.Laws.{differ, both}
 use Rattle.session.specs.Table.{Call, step}
 use Rattle.session.specs.Seen.{CallSeen, turn, moved}
 use Rattle.session.proofs.Sequences.{step-sound}
@@ -28,7 +28,7 @@ use Rattle.session_bytes.specs.declared.Found.the-variants.{At, Nowhere}
 use Rattle.session_bytes.specs.Bytes.{bytesOf, staged, sessionIn, closes, movedAt, movedBytes}
 use Rattle.session_bytes.proofs.Stages as stages
 use Rattle.session_bytes.proofs.Bytes.{taken-back, laid-back}
-use Rattle.rack.specs.Slots.{part, inside, placed, rackIs, slotTests, Owned}
+use Rattle.rack.specs.Slots.{part, inside, withSlot, rackIs, slotTests, Owned}
 
 -- ---- one slot, at its place
 
@@ -152,12 +152,12 @@ rejoin : (bs : List ℕ) (a : ℕ) → take a bs ++ (take 131 (drop a bs) ++ dro
 rejoin bs a = ap (λ (t : List ℕ). take a bs ++ t) (take-append-drop 131 (drop a bs)) ∙ take-append-drop a bs
 
 module _ (bs s : List ℕ) (i : ℕ) (h : i < 8) (l : length bs ≡ 1048) (n : length s ≡ 131) where
-  pub part-placed : part (placed bs i s) i ≡ s
+  pub part-placed : part (withSlot bs i s) i ≡ s
   part-placed =
       let R = drop 131 (drop (131 * i) bs) in
       ap (take 131) (drop-at (take (131 * i) bs) (s ++ R) (131 * i) (front-long bs i h l)) ∙ take-at s R 131 n
 
-  pub part-other : (j : ℕ) → (i ≡ j → ⊥) → part (placed bs i s) j ≡ part bs j
+  pub part-other : (j : ℕ) → (i ≡ j → ⊥) → part (withSlot bs i s) j ≡ part bs j
   part-other j o = side (decLt i j) ∙ ap (λ (t : List ℕ). part t j) (rejoin bs (131 * i))
     where
       R : List ℕ
@@ -167,7 +167,7 @@ module _ (bs s : List ℕ) (i : ℕ) (h : i < 8) (l : length bs ≡ 1048) (n : l
       side (yes p) = above (take (131 * i) bs) s R (part bs i) (131 * i) (front-long bs i h l) n (part-long bs i h l) j (omega arith)
       side (no p) = below (take (131 * i) bs) s R (part bs i) (131 * i) (front-long bs i h l) n (part-long bs i h l) j (omega (arith, p))
 
-  pub placed-long : length (placed bs i s) ≡ length bs
+  pub placed-long : length (withSlot bs i s) ≡ length bs
   placed-long =
       let R = drop 131 (drop (131 * i) bs) in
       length-append (take (131 * i) bs) (s ++ R)

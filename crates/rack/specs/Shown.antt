@@ -20,9 +20,9 @@ use mathlib.Core.List.{List, [], _∷_}
 use Prim.Native.Nat.{ℕ, _≤_, _<_}
 use lib.Dec.{eqb}
 use lib.ListN.{length, replicate}
-use Rattle.front.specs.Seen.{done}
-use Rattle.front.specs.declared.Refusal.the-variants.{NoStudio}
-use Rattle.front.specs.declared.Verdict.the-variants.{Fail}
+use Rattle.refusals.specs.Seen.{done}
+use Rattle.refusals.specs.declared.Refusal.the-variants.{NoStudio}
+use Rattle.refusals.specs.declared.Verdict.the-variants.{Fail}
 use Rattle.session.specs.declared.Session.{Session}
 use Rattle.session.specs.Table.{Call, closing, run}
 use Rattle.session.specs.Table as table

@@ -1,7 +1,7 @@
 -- Eight studios, one rack: eight records of 131 lent bytes, each its studio's number and then a session's 130 bytes: 02, request k.
 --   part bs i          the bytes of slot i
 --   inside bs i        those behind its number, which are a session
---   placed bs i s      the rack with the bytes s in slot i: what lies before and behind them stays
+--   withSlot bs i s      the rack with the bytes s in slot i: what lies before and behind them stays
 --   rackIs bs          10: the bytes are not as long as a rack
 --   slotTests bs i b   the tests of a slot: 16 for a number over 7, then 10 for bytes that are no rack, then 10 for a slot without its studio's number; close (b) does
 --                      not look at that number
@@ -15,11 +15,11 @@ use mathlib.Core.List.{List, [], _∷_, _++_}
 use Prim.Native.Nat.{ℕ, zero, suc, _*_}
 use lib.Dec.{eqb, ltb}
 use lib.ListN.{length, getD, take, drop, replicate}
-use Rattle.front.specs.Front.{numberIn, placeIn, _then_}
-use Rattle.front.specs.Seen.{ifPassed}
-use Rattle.front.specs.declared.Refusal.the-variants.{OutOfStage, NoStudio}
-use Rattle.front.specs.declared.Verdict.{Verdict}
-use Rattle.front.specs.declared.Verdict.the-variants.{Pass, Fail}
+use Rattle.refusals.specs.Refusals.{numberIn, placeIn, _then_}
+use Rattle.refusals.specs.Seen.{ifPassed}
+use Rattle.refusals.specs.declared.Refusal.the-variants.{OutOfStage, NoStudio}
+use Rattle.refusals.specs.declared.Verdict.{Verdict}
+use Rattle.refusals.specs.declared.Verdict.the-variants.{Pass, Fail}
 use Rattle.session.specs.Table.{Call}
 use Rattle.session.specs.Seen.{shownBy, Turn, turn}
 use Rattle.session_bytes.specs.Bytes.{closes, movedBytes}
@@ -30,8 +30,8 @@ part bs i = take 131 (drop (131 * i) bs)
 abbrev pub inside : List ℕ → ℕ → List ℕ
 inside bs i = drop 1 (part bs i)
 
-abbrev pub placed : List ℕ → ℕ → List ℕ → List ℕ
-placed bs i s = take (131 * i) bs ++ (s ++ drop 131 (drop (131 * i) bs))
+abbrev pub withSlot : List ℕ → ℕ → List ℕ → List ℕ
+withSlot bs i s = take (131 * i) bs ++ (s ++ drop 131 (drop (131 * i) bs))
 
 unfoldable pub rackIs : List ℕ → Verdict
 rackIs bs = cond (eqb (length bs) 1048) Pass (Fail OutOfStage)
@@ -46,7 +46,7 @@ abbrev pub Owned : List ℕ → ℕ → Type 0
 Owned bs i = slotTests bs i false ≡ Pass
 
 abbrev pub inRack : List ℕ → ℕ → Turn (List ℕ) → Turn (List ℕ)
-inRack bs i m = turn (placed bs i (i ∷ m .session)) (m .seen)
+inRack bs i m = turn (withSlot bs i (i ∷ m .session)) (m .seen)
 
 abbrev pub movedBy : Verdict → List ℕ → ℕ → Call → Turn (List ℕ)
 movedBy v bs i x = ifPassed v (inRack bs i (movedBytes (inside bs i) x)) (turn bs (shownBy v x))

@@ -3,8 +3,8 @@
 ghost use mathlib.Core.Path.{_≡_};
 ghost use lib.ListN.{length};
 ghost use Rattle.lists.specs.Lent.{was, left, room};
-ghost use Rattle.front.specs.Front.{numberIn, placeIn};
-ghost use Rattle.front.specs.Seen.{told, seen};
+ghost use Rattle.refusals.specs.Refusals.{numberIn, placeIn};
+ghost use Rattle.refusals.specs.Seen.{told, seen};
 ghost use Rattle.offer.specs.Offer as offers;
 ghost use Rattle.reply.specs.Reply as replies;
 ghost use Rattle.finish.specs.Finish as finishes;
@@ -12,9 +12,9 @@ ghost use Rattle.session.specs.Table.{offering, replying, finishing, closing};
 ghost use Rattle.session.specs.Seen.{ofOffer, ofReply, ofFinish, ofClose, toldBy, turn};
 ghost use Rattle.rack.specs.Slots.{slotTests, movedIn, emptyRack, cleared};
 use finish::FinishAnswer;
-use front::Answer;
-use front::Refusal;
-use front::Verdict;
+use refusals::Answer;
+use refusals::Refusal;
+use refusals::Verdict;
 use reply::ReplyAnswer;
 
 // The tests of a studio's slot: 16, then 10. Close does not look at the slot's number.

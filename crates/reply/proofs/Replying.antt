@@ -14,19 +14,19 @@ use lib.ListN.{length, replicate}
 use Rattle.lists.specs.Entries.{Within}
 use Rattle.schemes.specs.Schemes.{fixedOf}
 use Rattle.schemes.specs.declared.Named.{Named}
-use Rattle.schemes.specs.declared.Named.the-variants.{Is, Unknown}
+use Rattle.schemes.specs.declared.Named.the-variants.{Known, Unknown}
 use Rattle.schemes.specs.declared.Scheme.{Scheme}
-use Rattle.front.specs.Front.{_then_, publicsIn, receivedIn}
-use Rattle.front.specs.Seen.{output, written}
-use Rattle.front.specs.declared.Verdict.{Verdict}
-use Rattle.front.specs.declared.Verdict.the-variants.{Pass, Fail}
-use Rattle.front.specs.declared.Refusal.{Refusal}
-use Rattle.front.specs.declared.Refusal.the-variants.{NoScheme}
-use Rattle.front.proofs.Laws.{both, length-passed, room-passed, secrets-passed, then-assoc, failed, went-on}
-use Rattle.front.proofs.Seen.{written-failed}
-use Rattle.ends.specs.Values.{replied, mixedValue}
-use Rattle.ends.proofs.Ranges.{replied-counted, mixed-counted}
-use Rattle.ends.proofs.Settling.{hints-counted, keys-counted}
+use Rattle.refusals.specs.Refusals.{_then_, publicsIn, receivedIn}
+use Rattle.refusals.specs.Seen.{output, written}
+use Rattle.refusals.specs.declared.Verdict.{Verdict}
+use Rattle.refusals.specs.declared.Verdict.the-variants.{Pass, Fail}
+use Rattle.refusals.specs.declared.Refusal.{Refusal}
+use Rattle.refusals.specs.declared.Refusal.the-variants.{NoScheme}
+use Rattle.refusals.proofs.Laws.{both, length-passed, room-passed, secrets-passed, then-assoc, failed, went-on}
+use Rattle.refusals.proofs.Seen.{written-failed}
+use Rattle.values.specs.Values.{replied, mixedValue}
+use Rattle.values.proofs.Ranges.{replied-counted, mixed-counted}
+use Rattle.values.proofs.Settling.{hints-counted, keys-counted}
 use Rattle.wire.specs.Wire.{coinsIn}
 use Rattle.wire.proofs.Travel.{key-long, reply-length}
 use Rattle.reply.specs.Reply.{Reply, ReplyRooms, openedOf, replyValue, replyTests, replyMessage, replyKey, outputs, replyTold, replySeen}
@@ -45,20 +45,20 @@ module _ (c : Scheme) (b : List ℕ) (s' e'' : List ℤ) (coins : List ℕ) wher
       reply-length c (replied-counted c a s' e') (hints-counted c (coinsIn c coins) (mixedValue c b s' e'') (mixed-counted c b s' e'' .long))
 
 module _ (c : Scheme) (x : Reply) where
-  pub key-length : length (replyKey (Is c) x) ≡ fixedOf c .key
+  pub key-length : length (replyKey (Known c) x) ≡ fixedOf c .key
   unfolding replyKey replyValue keyFrom
   key-length = key-from-length c (openedOf c x) (x .s') (x .e'') (x .coins)
 
-  pub message-length : length (replyMessage (Is c) x) ≡ fixedOf c .reply
+  pub message-length : length (replyMessage (Known c) x) ≡ fixedOf c .reply
   unfolding replyMessage replyValue messageFrom
   message-length = message-from-length c (openedOf c x) (x .s') (x .e'') (x .coins) (x .a) (x .e')
 
   module _ {b : List ℕ} (t : b ≡ openedOf c x) where
-    pub key-taken : keyFrom c b (x .s') (x .e'') (x .coins) ≡ replyKey (Is c) x
+    pub key-taken : keyFrom c b (x .s') (x .e'') (x .coins) ≡ replyKey (Known c) x
     unfolding replyKey replyValue keyFrom
     key-taken = rw t
 
-    pub message-taken : messageFrom c b (x .a) (x .s') (x .e') (x .e'') (x .coins) ≡ replyMessage (Is c) x
+    pub message-taken : messageFrom c b (x .a) (x .s') (x .e') (x .e'') (x .coins) ≡ replyMessage (Known c) x
     unfolding replyMessage replyValue messageFrom
     message-taken = rw t
 
@@ -107,16 +107,16 @@ module _ (c : Scheme) (x : Reply) where
       }
 
   -- its tests in three parts: lengths and rooms, the public numbers, and what follows
-  pub reply-apart : (m : ReplyRooms) → replyTests (Is c) x m ≡ replySizes c x m then publicsIn (fixedOf c .q) (x .a) then replyRest c x
+  pub reply-apart : (m : ReplyRooms) → replyTests (Known c) x m ≡ replySizes c x m then publicsIn (fixedOf c .q) (x .a) then replyRest c x
   unfolding replyTests replyLengths replyRest replyLast replySecrets receivedIn
   reply-apart m = grouped (replySizes c x m then publicsIn (fixedOf c .q) (x .a)) _ _ _ _ _ _
 
-  pub reply-sizes-failed : (m : ReplyRooms) {v : Verdict} {r : Refusal} → v ≡ replySizes c x m → v ≡ Fail r → replyTests (Is c) x m ≡ Fail r
+  pub reply-sizes-failed : (m : ReplyRooms) {v : Verdict} {r : Refusal} → v ≡ replySizes c x m → v ≡ Fail r → replyTests (Known c) x m ≡ Fail r
   reply-sizes-failed m e f = reply-apart m ∙ failed _ refl (failed _ e f)
 
   -- the public numbers and what follows
   pub reply-rest-decides : (m : ReplyRooms) {v : Verdict} → replySizes c x m ≡ Pass → v ≡ publicsIn (fixedOf c .q) (x .a) then replyRest c x
-      → replyTests (Is c) x m ≡ v
+      → replyTests (Known c) x m ≡ v
   reply-rest-decides m t e = reply-apart m ∙ then-assoc (replySizes c x m) _ _ ∙ went-on _ refl t ∙ sym e
 
 pub secrets-small : (c : Scheme) (s' e' e'' : List ℤ) → replySecrets c s' e' e'' ≡ Pass

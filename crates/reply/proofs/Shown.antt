@@ -3,9 +3,9 @@ use mathlib.Core.Path.{_≡_, sym, ap, _∙_}
 use Prim.Native.Nat.{ℕ}
 use native.Mathlib.Omega.{arith}
 use Rattle.schemes.proofs.Sound.{sound}
-use Rattle.front.specs.Seen.{Told}
-use Rattle.front.proofs.Laws.{some, both}
-use Rattle.front.proofs.Same.{same-refusal}
+use Rattle.refusals.specs.Seen.{Told}
+use Rattle.refusals.proofs.Laws.{some, both}
+use Rattle.refusals.proofs.Same.{same-refusal}
 use Rattle.wire.proofs.Travel.{opening-again}
 use Rattle.reply.specs.Reply.{ReplySeen, openedOf, replyTold, replySeen}
 use Rattle.reply.specs.Shown.{ReplySeenAll, ReplyToldAll, OpeningComesBack, KeysFit}

@@ -19,17 +19,17 @@ use lib.ListN.{length}
 use Rattle.schemes.specs.Schemes.{fixedOf}
 use Rattle.schemes.specs.declared.Scheme.{Scheme}
 use Rattle.schemes.specs.declared.Named.{Named}
-use Rattle.schemes.specs.declared.Named.the-variants.{Is, Unknown}
+use Rattle.schemes.specs.declared.Named.the-variants.{Known, Unknown}
 use Rattle.lists.specs.Lent.{Lent, was, room}
 use Rattle.packing.specs.Packing.{packed}
-use Rattle.front.specs.Front.{numberIn, placeIn, _then_, lengthIs, roomFor, publicsIn, messageIn, notBlank, secretsIn}
-use Rattle.front.specs.Seen.{Output, output, written, Told, done, refused}
-use Rattle.front.specs.declared.Verdict.{Verdict}
-use Rattle.front.specs.declared.Verdict.the-variants.{Fail}
-use Rattle.front.specs.declared.Refusal.the-variants.{NoScheme}
+use Rattle.refusals.specs.Refusals.{numberIn, placeIn, _then_, lengthIs, roomFor, publicsIn, messageIn, notBlank, secretsIn}
+use Rattle.refusals.specs.Seen.{Output, output, written, Told, done, refused}
+use Rattle.refusals.specs.declared.Verdict.{Verdict}
+use Rattle.refusals.specs.declared.Verdict.the-variants.{Fail}
+use Rattle.refusals.specs.declared.Refusal.the-variants.{NoScheme}
 use Rattle.sponge.specs.Sponge.{sha3}
-use Rattle.ends.specs.Values.{replied, mixedValue}
-use Rattle.ends.specs.Keys.{hints, keys}
+use Rattle.values.specs.Values.{replied, mixedValue}
+use Rattle.values.specs.Keys.{hints, keys}
 use Rattle.wire.specs.Wire.{openedIn, numbersIn, coinsIn}
 use Rattle.reply.specs.declared.ReplyCounts.{ReplyCounts}
 use Rattle.reply.specs.declared.ReplyAnswer.{ReplyAnswer}
@@ -66,7 +66,7 @@ repliedPart c a s' e' = packed (fixedOf c .width) (replied c a s' e')
 
 unfoldable pub replyTests : Named → Reply → ReplyRooms → Verdict
 replyTests Unknown x m = Fail NoScheme
-replyTests (Is c) x m =
+replyTests (Known c) x m =
     lengthIs (length (x .opening)) (fixedOf c .opening)
     then lengthIs (length (x .a)) (fixedOf c .public)
     then lengthIs (length (x .s')) (fixedOf c .secret)
@@ -86,11 +86,11 @@ replyTests (Is c) x m =
 
 unfoldable pub replyMessage : Named → Reply → List ℕ
 replyMessage Unknown x = []
-replyMessage (Is c) x = repliedPart c (x .a) (x .s') (x .e') ++ packed (fixedOf c .hintbits) (hints c (coinsIn c (x .coins)) (replyValue c x))
+replyMessage (Known c) x = repliedPart c (x .a) (x .s') (x .e') ++ packed (fixedOf c .hintbits) (hints c (coinsIn c (x .coins)) (replyValue c x))
 
 unfoldable pub replyKey : Named → Reply → List ℕ
 replyKey Unknown x = []
-replyKey (Is c) x = packed (fixedOf c .keybits) (keys c (coinsIn c (x .coins)) (replyValue c x))
+replyKey (Known c) x = packed (fixedOf c .keybits) (keys c (coinsIn c (x .coins)) (replyValue c x))
 
 abbrev pub replyDigest : Named → Reply → List ℕ
 replyDigest c x = sha3 (replyKey c x)

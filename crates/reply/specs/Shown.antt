@@ -8,12 +8,12 @@ use mathlib.Core.List.{List}
 use Prim.Native.Nat.{ℕ, _≤_}
 use lib.ListN.{length}
 use Rattle.schemes.specs.Schemes.{fixedOf}
-use Rattle.schemes.specs.declared.Named.the-variants.{Is}
+use Rattle.schemes.specs.declared.Named.the-variants.{Known}
 use Rattle.schemes.specs.declared.Scheme.{Scheme}
 use Rattle.lists.specs.Entries.{Below}
 use Rattle.packing.specs.Packing.{packed}
-use Rattle.front.specs.Seen.{Told}
-use Rattle.front.specs.declared.Verdict.the-variants.{Pass}
+use Rattle.refusals.specs.Seen.{Told}
+use Rattle.refusals.specs.declared.Verdict.the-variants.{Pass}
 use Rattle.wire.specs.Wire.{opening, seedIn}
 use Rattle.reply.specs.Reply.{Reply, ReplyRooms, openedOf, replyTests, replyKey, replyTold, replySeen}
 use Rattle.reply.specs.declared.ReplyAnswer.{ReplyAnswer}
@@ -29,8 +29,8 @@ ReplyToldAll = (r r′ : ReplyAnswer) → replyTold r ≡ replyTold r′ → r �
 
 abbrev pub OpeningComesBack : Type 0
 OpeningComesBack =
-    (c : Scheme) (x : Reply) (m : ReplyRooms) → Below 256 (x .opening) → replyTests (Is c) x m ≡ Pass
+    (c : Scheme) (x : Reply) (m : ReplyRooms) → Below 256 (x .opening) → replyTests (Known c) x m ≡ Pass
     → opening c (seedIn c (x .opening)) (packed (fixedOf c .width) (openedOf c x)) ≡ x .opening
 
 abbrev pub KeysFit : Type 0
-KeysFit = (c : Scheme) (x : Reply) → (length (replyKey (Is c) x) ≡ fixedOf c .key) × (fixedOf c .key ≤ 128)
+KeysFit = (c : Scheme) (x : Reply) → (length (replyKey (Known c) x) ≡ fixedOf c .key) × (fixedOf c .key ≤ 128)

@@ -8,7 +8,7 @@ ghost use Rattle.reply.specs.Reply.{reply, replyRooms, replyTold, replyS
 pub mod replier;
 pub mod tests;
 
-use front::Refusal;
+use refusals::Refusal;
 use schemes::Named;
 
 // What Reply gives: how much it wrote of each output, or the refusal.
@@ -39,7 +39,7 @@ pub fn reply(
     ensures { λ r. ⌜ replySeen (replyTold r) (left message) (left key) (left digest) ≡ replyResult (schemeOf scheme) (reply opening a s1 e1 e2 coins) (replyRooms message key digest) ⌝ }
 {
     replier::zero_outputs(message, key);
-    let Named::Is(known) = front::named(scheme, digest) else {
+    let Named::Known(known) = refusals::named(scheme, digest) else {
         return ReplyAnswer::Refused(Refusal::NoScheme);
     };
     replier::reply_in(known, opening, a, s1, e1, e2, coins, message, key, digest)

@@ -6,20 +6,20 @@ ghost use mathlib.Core.List.{_++_};
 ghost use Prim.Native.Nat.{_^_};
 ghost use lib.ListN.{length, replicate};
 ghost use Rattle.schemes.specs.Schemes.{fixedOf};
-ghost use Rattle.schemes.specs.declared.Named.the-variants.{Is};
+ghost use Rattle.schemes.specs.declared.Named.the-variants.{Known};
 ghost use Rattle.lists.specs.Lent.{was, left, room};
 ghost use Rattle.packing.specs.Packing.{packed};
-ghost use Rattle.front.specs.Front.{_then_, publicsIn, notBlank};
-ghost use Rattle.front.specs.Steps.{Laid};
-ghost use Rattle.front.specs.declared.Verdict.the-variants.{Pass};
-ghost use Rattle.ends.specs.Fit.{Counted};
-ghost use Rattle.ends.specs.Keys as settled;
+ghost use Rattle.refusals.specs.Refusals.{_then_, publicsIn, notBlank};
+ghost use Rattle.refusals.specs.Steps.{Laid};
+ghost use Rattle.refusals.specs.declared.Verdict.the-variants.{Pass};
+ghost use Rattle.values.specs.Fit.{Counted};
+ghost use Rattle.values.specs.Keys as settled;
 ghost use Rattle.wire.specs.Wire.{coinsIn};
 ghost use Rattle.reply.specs.Reply.{replyOf, replyRoomsOf, reply, replyRooms, repliedPart, replyMessage, replyKey, replyTold, replySeen, replyResult};
 ghost use Rattle.reply.specs.Inside.{replySizes, replyLast, replyRest, Rooms, messageBy, keyBy, messageFrom, keyFrom, Settles, Mixes, Replying};
 use crate::ReplyAnswer;
 use crate::ReplyCounts;
-use front::Verdict;
+use refusals::Verdict;
 use schemes::Scheme;
 
 // Whatever they held.
@@ -46,8 +46,8 @@ fn settle(
     ensures { λ _. ⌜ left entries ≡ settled.keys scheme (coinsIn scheme (was coins)) (was v) ⌝ }
 {
     wire::take_coins(scheme, coins, tosses);
-    ends::settle::hints(scheme, tosses, v, hints);
-    ends::settle::keys(scheme, tosses, hints, v, entries);
+    values::settle::hints(scheme, tosses, v, hints);
+    values::settle::keys(scheme, tosses, hints, v, entries);
 }
 
 // The message's bytes, of its numbers u and the hints. A blank part is refused before anything is written.
@@ -57,7 +57,7 @@ fn lay_message(scheme: Scheme, u: &[u32], hints: &[u32], message: &mut [u8]) -> 
     ensures { λ r. ⌜ r ≡ notBlank (packed (fixedOf scheme .width) (was u)) ⌝ }
     ensures { λ r. ⌜ Laid r (packed (fixedOf scheme .width) (was u) ++ packed (fixedOf scheme .hintbits) (was hints)) message ⌝ }
 {
-    let v = front::not_blank(u);
+    let v = refusals::not_blank(u);
     match v {
         Verdict::Fail(r) => Verdict::Fail(r),
         Verdict::Pass => {
@@ -123,8 +123,8 @@ fn lay(
     let mut tosses = [0u32; 1024];
     let mut hints = [0u32; 1024];
     let mut entries = [0u32; 1024];
-    let at = ends::values::reply(scheme, a, s1, e1, e2, b, &mut v[..n]);
-    let w = front::publics_at(at, a);
+    let at = values::products::reply(scheme, a, s1, e1, e2, b, &mut v[..n]);
+    let w = refusals::publics_at(at, a);
     match w {
         Verdict::Fail(r) => Verdict::Fail(r),
         Verdict::Pass => {
@@ -164,7 +164,7 @@ fn with_secrets(
     let f = scheme.fixed();
     let v = crate::tests::reply_secrets(scheme, s1, e1, e2);
     match v {
-        Verdict::Fail(_) => front::publics_before(v, f.q, a),
+        Verdict::Fail(_) => refusals::publics_before(v, f.q, a),
         Verdict::Pass => lay(scheme, b, a, s1, e1, e2, coins, message, key),
     }
 }
@@ -185,8 +185,8 @@ fn with_opening(
     requires { ⌜ Replying scheme (now a) (now s1) (now e1) (now e2) (now coins) (now message) (now key) ⌝ }
     requires { ⌜ length (now opening) ≡ fixedOf scheme .opening ⌝ }
     ensures { λ r. ⌜ r ≡ publicsIn (fixedOf scheme .q) (was a) then replyRest scheme (reply opening a s1 e1 e2 coins) ⌝ }
-    ensures { λ r. ⌜ Laid r (replyMessage (Is scheme) (reply opening a s1 e1 e2 coins)) message ⌝ }
-    ensures { λ r. ⌜ Laid r (replyKey (Is scheme) (reply opening a s1 e1 e2 coins)) key ⌝ }
+    ensures { λ r. ⌜ Laid r (replyMessage (Known scheme) (reply opening a s1 e1 e2 coins)) message ⌝ }
+    ensures { λ r. ⌜ Laid r (replyKey (Known scheme) (reply opening a s1 e1 e2 coins)) key ⌝ }
 {
     let f = scheme.fixed();
     let n = f.secret;
@@ -194,7 +194,7 @@ fn with_opening(
     let v = wire::take_opening(scheme, opening, &mut b[..n]);
     let Verdict::Pass = v else {
         zero_outputs(message, key);
-        return front::publics_before(v, f.q, a);
+        return refusals::publics_before(v, f.q, a);
     };
     with_secrets(scheme, &mut b[..n], a, s1, e1, e2, coins, message, key)
 }
@@ -218,7 +218,7 @@ fn reply_sized(
         ⌝ }
     requires { ⌜ (now message ≡ replicate (length (now message)) 0) × (now key ≡ replicate (length (now key)) 0) ⌝ }
     requires { ⌜ now digest ≡ replicate (length (now digest)) 0 ⌝ }
-    ensures { λ r. ⌜ replySeen (replyTold r) (left message) (left key) (left digest) ≡ replyResult (Is scheme) (reply opening a s1 e1 e2 coins) (replyRooms message key digest) ⌝ }
+    ensures { λ r. ⌜ replySeen (replyTold r) (left message) (left key) (left digest) ≡ replyResult (Known scheme) (reply opening a s1 e1 e2 coins) (replyRooms message key digest) ⌝ }
 {
     let f = scheme.fixed();
     let n = f.reply;
@@ -261,7 +261,7 @@ pub(crate) fn reply_in(
 ) -> ReplyAnswer
     requires { ⌜ (now message ≡ replicate (length (now message)) 0) × (now key ≡ replicate (length (now key)) 0) ⌝ }
     requires { ⌜ now digest ≡ replicate (length (now digest)) 0 ⌝ }
-    ensures { λ r. ⌜ replySeen (replyTold r) (left message) (left key) (left digest) ≡ replyResult (Is scheme) (reply opening a s1 e1 e2 coins) (replyRooms message key digest) ⌝ }
+    ensures { λ r. ⌜ replySeen (replyTold r) (left message) (left key) (left digest) ≡ replyResult (Known scheme) (reply opening a s1 e1 e2 coins) (replyRooms message key digest) ⌝ }
 {
     let v = crate::tests::reply_sizes(
         scheme,

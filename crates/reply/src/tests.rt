@@ -3,7 +3,7 @@ ghost use mathlib.Core.Path.{_≡_};
 ghost use Rattle.lists.specs.Lent.{was};
 ghost use Rattle.reply.specs.Reply.{reply, replyRoomsOf};
 ghost use Rattle.reply.specs.Inside.{replyLengths, replySizes, replySecrets};
-use front::Verdict;
+use refusals::Verdict;
 use schemes::Scheme;
 
 fn reply_lengths(
@@ -18,12 +18,12 @@ fn reply_lengths(
     ensures { λ r. ⌜ r ≡ replyLengths scheme (reply opening a s1 e1 e2 coins) ⌝ }
 {
     let f = scheme.fixed();
-    let v = front::length_is(Verdict::Pass, opening.len(), f.opening);
-    let v = front::length_is(v, a.len(), f.public);
-    let v = front::length_is(v, s1.len(), f.secret);
-    let v = front::length_is(v, e1.len(), f.noise);
-    let v = front::length_is(v, e2.len(), f.mixed);
-    front::length_is(v, coins.len(), f.coins)
+    let v = refusals::length_is(Verdict::Pass, opening.len(), f.opening);
+    let v = refusals::length_is(v, a.len(), f.public);
+    let v = refusals::length_is(v, s1.len(), f.secret);
+    let v = refusals::length_is(v, e1.len(), f.noise);
+    let v = refusals::length_is(v, e2.len(), f.mixed);
+    refusals::length_is(v, coins.len(), f.coins)
 }
 
 pub(crate) fn reply_sizes(
@@ -42,9 +42,9 @@ pub(crate) fn reply_sizes(
 {
     let f = scheme.fixed();
     let v = reply_lengths(scheme, opening, a, s1, e1, e2, coins);
-    let v = front::room_for(v, room, f.reply);
-    let v = front::room_for(v, keyroom, f.key);
-    front::room_for(v, digestroom, 32)
+    let v = refusals::room_for(v, room, f.reply);
+    let v = refusals::room_for(v, keyroom, f.key);
+    refusals::room_for(v, digestroom, 32)
 }
 
 // Crate `rows` tests so too.
@@ -52,7 +52,7 @@ pub fn reply_secrets(scheme: Scheme, s1: &[i32], e1: &[i32], e2: &[i32]) -> Verd
     ensures { λ r. ⌜ r ≡ replySecrets scheme (was s1) (was e1) (was e2) ⌝ }
 {
     let f = scheme.fixed();
-    let v = front::secrets_in(Verdict::Pass, f.largest, s1);
-    let v = front::secrets_in(v, f.largest, e1);
-    front::secrets_in(v, f.largest, e2)
+    let v = refusals::secrets_in(Verdict::Pass, f.largest, s1);
+    let v = refusals::secrets_in(v, f.largest, e1);
+    refusals::secrets_in(v, f.largest, e2)
 }

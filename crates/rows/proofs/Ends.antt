@@ -11,9 +11,9 @@ use native.Mathlib.Omega.{arith}
 use lib.IntN.{ℤ}
 use lib.ListN.{length, replicate}
 use Rattle.numbers.proofs.Congruence.{residue-lt}
-use Rattle.schemes.specs.Schemes.{by, familyOf, numberOf}
+use Rattle.schemes.specs.Schemes.{byFamily, familyOf, schemeNumber}
 use Rattle.schemes.specs.declared.Family.{Family}
-use Rattle.schemes.specs.declared.Named.the-variants.{Is}
+use Rattle.schemes.specs.declared.Named.the-variants.{Known}
 use Rattle.schemes.specs.declared.Scheme.{Scheme}
 use Rattle.schemes.proofs.Laws.{by-number}
 use Rattle.lists.specs.Entries.{Below}
@@ -21,12 +21,12 @@ use Rattle.lists.proofs.Entries.{below-tab}
 use Rattle.lists.proofs.Same.{equal-all}
 use Rattle.matrix.specs.Steps.{wordsOf, columnsOf}
 use Rattle.parts.specs.Parts.{wrap}
-use Rattle.front.specs.Seen.{ifPassed}
-use Rattle.front.specs.declared.Verdict.{Verdict}
-use Rattle.front.specs.declared.Verdict.the-variants.{Pass}
-use Rattle.front.proofs.Laws.{number-zero}
-use Rattle.running.specs.State.{frodoIn, frodoOf}
-use Rattle.running.specs.Part.{stateShown}
+use Rattle.refusals.specs.Seen.{ifPassed}
+use Rattle.refusals.specs.declared.Verdict.{Verdict}
+use Rattle.refusals.specs.declared.Verdict.the-variants.{Pass}
+use Rattle.refusals.proofs.Laws.{number-zero}
+use Rattle.rows_state.specs.State.{frodoIn, frodoOf}
+use Rattle.rows_state.specs.Part.{stateShown}
 use Rattle.rows.specs.Offer.{EndSeen}
 
 -- a begin or a part that is not refused
@@ -39,11 +39,11 @@ pub end-by : {A : Type 0} {v r : Verdict} {a b : A} (st : List ℕ) {after : Lis
     → _≡_ {A = EndSeen A} (record { answer = a; state = after }) (record { answer = b; state = ifPassed v (replicate (length st) 0) st })
 end-by st e d o = rw (d, o, e)
 
-pub by-frodo : {A : Type 0} {F : Family} (x y z : A) → F ≡ Family.Frodo → by F x y z ≡ z
+pub by-frodo : {A : Type 0} {F : Family} (x y z : A) → F ≡ Family.Frodo → byFamily F x y z ≡ z
 by-frodo x y z e = rw e
 
-pub number-names : (c : Scheme) → familyOf c ≡ Family.Frodo → frodoOf (numberOf c) ≡ Is c
-number-names c e = ap frodoIn (by-number c) ∙ by-frodo _ _ (Is c) e
+pub number-names : (c : Scheme) → familyOf c ≡ Family.Frodo → frodoOf (schemeNumber c) ≡ Known c
+number-names c e = ap frodoIn (by-number c) ∙ by-frodo _ _ (Known c) e
 
 pub words-below : (zs : List ℤ) → Below wrap (wordsOf wrap zs)
 unfolding wordsOf

@@ -13,9 +13,9 @@ use Prim.Native.Nat.{ℕ, _*_, _%_, _<_}
 use native.Mathlib.Omega.{arith}
 use lib.IntN.{ℤ}
 use lib.ListN.{length, getD, replicate, length-replicate}
-use Rattle.schemes.specs.Schemes.{familyOf, fixedOf, numberOf}
+use Rattle.schemes.specs.Schemes.{familyOf, fixedOf, schemeNumber}
 use Rattle.schemes.specs.declared.Family.{Family}
-use Rattle.schemes.specs.declared.Named.the-variants.{Is}
+use Rattle.schemes.specs.declared.Named.the-variants.{Known}
 use Rattle.schemes.specs.declared.Scheme.{Scheme}
 use Rattle.lists.specs.Entries.{Below}
 use Rattle.matrix.specs.Steps.{wordsOf, gained, reduced}
@@ -23,17 +23,17 @@ use Rattle.matrix.proofs.Steps.{words-length}
 use Rattle.parts.specs.Parts.{wrap}
 use Rattle.parts.proofs.Joining.{whole-right, whole-left}
 use Rattle.parts.proofs.Words.{words-pairs}
-use Rattle.front.specs.Front.{inTurn}
-use Rattle.front.specs.declared.Verdict.the-variants.{Pass, Fail}
-use Rattle.front.specs.declared.Refusal.the-variants.{OutOfTurn}
-use Rattle.front.proofs.Laws.{turn-passes}
-use Rattle.ends.proofs.Numbers.{numbers-in}
-use Rattle.running.specs.State.{tagOf, frodoOf, long, named, taken, keptOf, secretOf, sumsOf, heldOf, Layout, laid, secretWords, fresh, keptIn, begun, complete, terms}
+use Rattle.refusals.specs.Refusals.{inTurn}
+use Rattle.refusals.specs.declared.Verdict.the-variants.{Pass, Fail}
+use Rattle.refusals.specs.declared.Refusal.the-variants.{OutOfTurn}
+use Rattle.refusals.proofs.Laws.{turn-passes}
+use Rattle.values.proofs.Numbers.{numbers-in}
+use Rattle.rows_state.specs.State.{tagOf, frodoOf, long, named, taken, savedOf, secretOf, sumsOf, heldOf, Layout, laid, secretWords, fresh, savedIn, begun, complete, terms}
 use Rattle.rows.specs.Runs.{Parts, joined, Took, steps, WithinRows}
 use Rattle.rows.specs.Shown.{mixed, Once}
-use Rattle.running.specs.declared.Call.{Call}
-use Rattle.running.proofs.Tests.{starts, completes, complete-so, frodos}
-use Rattle.running.proofs.Laying.{secret-words-long, held-words, laid-long, laid-kept, laid-secret, laid-sums, laid-held}
+use Rattle.rows_state.specs.declared.Call.{Call}
+use Rattle.rows_state.proofs.Tests.{starts, completes, complete-so, frodos}
+use Rattle.rows_state.proofs.Laying.{secret-words-long, held-words, laid-long, laid-kept, laid-secret, laid-sums, laid-held}
 use Rattle.rows.proofs.Ends.{number-names, words-below, columns-below, zeros-below}
 use Rattle.rows.proofs.Running.{whole-front, after-kept, after-sums, after-long, Walked, walked}
 use Rattle.rows.proofs.Shown.{without, takes, Cut, took-cut, cut-words}
@@ -50,7 +50,7 @@ record Gone (n call scheme : ℕ) (kept xs last : List ℕ) : Type 0 where
   is-scheme : getD last 1 0 ≡ scheme
   counted : taken last ≡ length xs
   is-long : length last ≡ long n
-  kept-is : keptOf last ≡ kept
+  kept-is : savedOf last ≡ kept
 
 module _ (k : Call) (n call scheme : ℕ) (kept held : List ℕ) (s e : List ℤ) (kl : length kept ≡ 64) (hl : length held ≡ 16 * n) (hb : Below wrap held)
     (sl : length s ≡ 8 * n) (el : length e ≡ 8 * n) where
@@ -69,7 +69,7 @@ module _ (k : Call) (n call scheme : ℕ) (kept held : List ℕ) (s e : List ℤ
   first-long : length first ≡ long n
   first-long = laid-long n parts kl secret-is sums-is hl
 
-  first-kept : keptOf first ≡ kept
+  first-kept : savedOf first ≡ kept
   first-kept = laid-kept n parts kl secret-is sums-is
 
   first-secret : secretOf n first ≡ secretWords k n s
@@ -101,7 +101,7 @@ module _ (k : Call) (n call scheme : ℕ) (kept held : List ℕ) (s e : List ℤ
           is-scheme = ap (λ (l : List ℕ). getD l 1 0) (walk .is);
           counted = ap taken (walk .is);
           is-long = ap length (walk .is) ∙ after-long k n first first-long (joined ps) (walk .held) (walk .behind .is-long);
-          kept-is = ap keptOf (walk .is) ∙ after-kept k n first first-long (joined ps) (walk .held) ∙ first-kept;
+          kept-is = ap savedOf (walk .is) ∙ after-kept k n first first-long (joined ps) (walk .held) ∙ first-kept;
         }
 
     -- all of A has come in whole blocks
@@ -125,9 +125,9 @@ once k n q call scheme kept held s e ps some-n sixteens some w all b sl el kl hl
 -- ---- of Frodo's schemes
 
 pub record Left (k : Call) (c : Scheme) (kept : List ℕ) (s e : List ℤ) (xs last : List ℕ) : Type 0 where
-  pub is-named : named last ≡ Is c
+  pub is-named : named last ≡ Known c
   pub counted : taken last ≡ length xs
-  pub kept-is : keptOf last ≡ kept
+  pub kept-is : savedOf last ≡ kept
   pub has-begun : begun k (fixedOf c) last ≡ true
   pub below : Below (fixedOf c .q) xs
   pub sums : length xs ≡ fixedOf c .public → reduced (fixedOf c .q) (sumsOf (fixedOf c .n) last) ≡ mixed k (fixedOf c .q) (fixedOf c .n) xs s e
@@ -136,7 +136,7 @@ pub record Left (k : Call) (c : Scheme) (kept : List ℕ) (s e : List ℤ) (xs l
 pub record Starts (k : Call) (c : Scheme) (kept : List ℕ) (s e : List ℤ) (first : List ℕ) : Type 0 where
   pub frodo : familyOf c ≡ Family.Frodo
   pub kept-long : length kept ≡ 64
-  pub kept-in : keptIn k (fixedOf c .q) kept ≡ true
+  pub kept-in : savedIn k (fixedOf c .q) kept ≡ true
   pub secret-long : length s ≡ fixedOf c .secret
   pub noise-long : length e ≡ fixedOf c .noise
   pub is : first ≡ laid (fresh k c kept s e)
@@ -156,7 +156,7 @@ module _ {k : Call} {c : Scheme} {kept : List ℕ} {s e : List ℤ} {first : Lis
       let z = length-replicate {A = ℕ} (16 * n) 0 in
       let w = zeros-below (16 * n) in
       let small = cut-words (b .frodo) cut in
-      let g = gone k n (tagOf k) (numberOf c) kept (replicate (16 * n) 0) s e (b .kept-long) z w sl el (f .some) ps (cut .rows) small in
+      let g = gone k n (tagOf k) (schemeNumber c) kept (replicate (16 * n) 0) s e (b .kept-long) z w sl el (f .some) ps (cut .rows) small in
       subst (λ (l : List ℕ). Left k c kept s e (joined ps) l) (sym (cut .is))
       (record {
         is-named = ap frodoOf (g .is-scheme) ∙ number-names c (b .frodo);
@@ -168,11 +168,11 @@ module _ {k : Call} {c : Scheme} {kept : List ℕ} {s e : List ℤ} {first : Lis
               is-long = g .is-long;
               is-call = g .is-call;
               at-most = omega (arith, g .counted, cut .few);
-              kept-in = ap (keptIn k (fixedOf c .q)) (g .kept-is) ∙ b .kept-in;
+              kept-in = ap (savedIn k (fixedOf c .q)) (g .kept-is) ∙ b .kept-in;
             });
         below = cut .below;
         sums =
-            λ all. once k n (fixedOf c .q) (tagOf k) (numberOf c) kept (replicate (16 * n) 0) s e ps (f .some) (frodos c (b .frodo) .sixteens) (f .q-some) (f .words)
+            λ all. once k n (fixedOf c .q) (tagOf k) (schemeNumber c) kept (replicate (16 * n) 0) s e ps (f .some) (frodos c (b .frodo) .sixteens) (f .q-some) (f .words)
             (all ∙ f .public) small sl el (b .kept-long) z w (cut .rows);
       })
 

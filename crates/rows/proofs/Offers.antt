@@ -10,27 +10,27 @@ use lib.ListN.{length, take, replicate}
 use lib.Seq.{take-at, drop-at}
 use Rattle.schemes.specs.Schemes.{familyOf, fixedOf}
 use Rattle.schemes.specs.declared.Family.{Family}
-use Rattle.schemes.specs.declared.Named.the-variants.{Is}
+use Rattle.schemes.specs.declared.Named.the-variants.{Known}
 use Rattle.schemes.specs.declared.Scheme.{Scheme}
 use Rattle.lists.specs.Entries.{Below}
 use Rattle.lists.proofs.Entries.{below-zeros}
 use Rattle.packing.specs.Packing.{packed}
-use Rattle.front.specs.Front.{numberIn, _then_, notBlank, secretsIn}
-use Rattle.front.specs.Seen.{shown, written}
-use Rattle.front.specs.declared.Verdict.{Verdict}
-use Rattle.front.specs.declared.Verdict.the-variants.{Pass, Fail}
-use Rattle.front.specs.declared.Refusal.the-variants.{OutOfTurn}
-use Rattle.front.proofs.Laws.{number-zero, both, failed, length-passes, turn-passed, below-passes, within-passes, all-pass}
-use Rattle.ends.specs.Values.{offered}
+use Rattle.refusals.specs.Refusals.{numberIn, _then_, notBlank, secretsIn}
+use Rattle.refusals.specs.Seen.{shown, written}
+use Rattle.refusals.specs.declared.Verdict.{Verdict}
+use Rattle.refusals.specs.declared.Verdict.the-variants.{Pass, Fail}
+use Rattle.refusals.specs.declared.Refusal.the-variants.{OutOfTurn}
+use Rattle.refusals.proofs.Laws.{number-zero, both, failed, length-passes, turn-passed, below-passes, within-passes, all-pass}
+use Rattle.values.specs.Values.{offered}
 use Rattle.wire.specs.Wire.{opening}
 use Rattle.offer.specs.Offer.{Offer, offerOf, offerTests, offeredPart, offerMessage}
 use Rattle.offer.specs.Inside.{offerLengths, offerIn}
 use Rattle.offer.proofs.Offering.{Ranges, offer-opens}
-use Rattle.running.specs.State.{long, named, keptOf, allBelow, keptIn}
-use Rattle.running.specs.Part.{stateShown}
-use Rattle.running.specs.declared.Call.{Call}
-use Rattle.running.proofs.Tests.{goes, below-all, frodos}
-use Rattle.running.proofs.Laying.{seed-kept-long}
+use Rattle.rows_state.specs.State.{long, named, savedOf, allBelow, savedIn}
+use Rattle.rows_state.specs.Part.{stateShown}
+use Rattle.rows_state.specs.declared.Call.{Call}
+use Rattle.rows_state.proofs.Tests.{goes, below-all, frodos}
+use Rattle.rows_state.proofs.Laying.{seed-kept-long}
 use Rattle.rows.specs.Offer.{OfferBegin, offerBeginTests, offerState, offerBeginResult, sentPart, offerEndTests, offerEndMessage}
 use Rattle.rows.specs.Runs.{Refused, Parts, joined, WithinRows, OfferAccepted}
 use Rattle.rows.specs.Shown.{OfferTry, SameOffer, EarlyOffer, OfferTaken}
@@ -53,14 +53,14 @@ offer-try st n h = unchanged (Refused.offerEnd n h)
 -- ---- after a good begin
 
 module _ (c : Scheme) (x : OfferBegin) (m : ℕ) (frodo : familyOf c ≡ Family.Frodo) (bytes : Below 256 (x .seed))
-    (good : offerBeginResult (Is c) x m .number ≡ 0) where
+    (good : offerBeginResult (Known c) x m .number ≡ 0) where
   abbrev first : List ℕ
-  first = offerBeginResult (Is c) x m .state
+  first = offerBeginResult (Known c) x m .state
 
   abbrev kept : List ℕ
   kept = x .seed ++ replicate 48 0
 
-  passes : offerBeginTests (Is c) x m ≡ Pass
+  passes : offerBeginTests (Known c) x m ≡ Pass
   passes = not-refused _ _ good .0
 
   sized : OfferSized c x m
@@ -77,7 +77,7 @@ module _ (c : Scheme) (x : OfferBegin) (m : ℕ) (frodo : familyOf c ≡ Family.
   seed-is : length (x .seed) ≡ 16
   seed-is = sized .seed ∙ frodos c frodo .seed
 
-  kept-in : keptIn Call.Offer (fixedOf c .q) kept ≡ true
+  kept-in : savedIn Call.Offer (fixedOf c .q) kept ≡ true
   kept-in =
       sym
       (goes (ap (allBelow 256) (take-at (x .seed) (replicate 48 0) 16 seed-is) ∙ below-all 256 (x .seed) bytes)
@@ -92,7 +92,7 @@ module _ (c : Scheme) (x : OfferBegin) (m : ℕ) (frodo : familyOf c ≡ Family.
         kept-in = kept-in;
         secret-long = sized .secret;
         noise-long = sized .noise;
-        is = not-refused (offerState (Is c) x) (replicate m 0) good .1;
+        is = not-refused (offerState (Known c) x) (replicate m 0) good .1;
       }
 
   -- ---- and any parts
@@ -101,7 +101,7 @@ module _ (c : Scheme) (x : OfferBegin) (m : ℕ) (frodo : familyOf c ≡ Family.
     walk : Left Call.Offer c kept (x .s) (x .e) a last
     walk = left begins parts
 
-    last-seed : take 16 (keptOf last) ≡ x .seed
+    last-seed : take 16 (savedOf last) ≡ x .seed
     last-seed = ap (take 16) (walk .kept-is) ∙ take-at (x .seed) (replicate 48 0) 16 seed-is
 
     early : (n : ℕ) → length a ≢ fixedOf c .public → offerEndTests (named last) last n ≡ Fail OutOfTurn
@@ -123,13 +123,13 @@ module _ (c : Scheme) (x : OfferBegin) (m : ℕ) (frodo : familyOf c ≡ Family.
       lengths =
           all-pass (all-pass (all-pass (length-passes all) (length-passes (sized .secret))) (length-passes (sized .noise))) (length-passes (sized .seed))
 
-      same-tests : (n : ℕ) → offerEndTests (named last) last n ≡ offerTests (Is c) whole n
+      same-tests : (n : ℕ) → offerEndTests (named last) last n ≡ offerTests (Known c) whole n
       unfolding offerEndTests offerTests offerLengths
       same-tests n =
           ap (λ d. offerEndTests d last n) (walk .is-named)
           ∙ chain _ _ _ (offerLengths c whole) _ _ _ _ (in-turn frodo walk all) lengths (below-passes (walk .below)) secret-in noise-in (ap notBlank sent)
 
-      same-message : offerEndMessage (named last) last ≡ offerMessage (Is c) whole
+      same-message : offerEndMessage (named last) last ≡ offerMessage (Known c) whole
       unfolding offerEndMessage offerMessage
       same-message = ap (λ d. offerEndMessage d last) (walk .is-named) ∙ ap₂ (opening c) last-seed sent
 
@@ -157,7 +157,7 @@ module _ (c : Scheme) (x : OfferBegin) (ps : List (List ℕ)) (n : ℕ) (frodo :
   abbrev size : ℕ
   size = long (fixedOf c .n)
 
-  begin-passes : Ranges c joint → offerBeginTests (Is c) x size ≡ Pass
+  begin-passes : Ranges c joint → offerBeginTests (Known c) x size ≡ Pass
   unfolding offerBeginTests
   begin-passes r =
       all-pass
@@ -166,14 +166,14 @@ module _ (c : Scheme) (x : OfferBegin) (ps : List (List ℕ)) (n : ℕ) (frodo :
       (within-passes (r .secret .within)))
       (within-passes (r .noise .within))
 
-  ranges : offerTests (Is c) joint n ≡ Pass → Ranges c joint
+  ranges : offerTests (Known c) joint n ≡ Pass → Ranges c joint
   unfolding offerTests offerIn offerLengths
   ranges t = offer-opens c joint n (both _ _ t .0) .0
 
-  by-parts : offerTests (Is c) joint n ≡ Pass → WithinRows (fixedOf c .n) 0 ps → OfferAccepted c x ps n
+  by-parts : offerTests (Known c) joint n ≡ Pass → WithinRows (fixedOf c .n) 0 ps → OfferAccepted c x ps n
   unfolding stateShown shown
   by-parts t w =
-      let g : offerBeginResult (Is c) x size .number ≡ 0 = ap numberIn (begin-passes (ranges t)) in
+      let g : offerBeginResult (Known c) x size .number ≡ 0 = ap numberIn (begin-passes (ranges t)) in
       let all = ranges t .public .long in
       let o = fill (begins c x size frodo bytes g) ps w (ranges t .public .below) all in
       record {
@@ -183,7 +183,7 @@ module _ (c : Scheme) (x : OfferBegin) (ps : List (List ℕ)) (n : ℕ) (frodo :
         ends = ap numberIn (same-tests c x size frodo bytes g (joined ps) (o .0) (took-parts (o .1)) all n ∙ t);
       }
 
-  as-whole : OfferAccepted c x ps n → offerTests (Is c) joint n ≡ Pass
+  as-whole : OfferAccepted c x ps n → offerTests (Known c) joint n ≡ Pass
   unfolding offerEndTests shown
   as-whole a =
       let p = took-parts (a .parts) in

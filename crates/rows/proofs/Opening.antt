@@ -14,25 +14,25 @@ use lib.ListN.{length, take, replicate, length-take}
 use Rattle.schemes.specs.Schemes.{familyOf, fixedOf}
 use Rattle.schemes.specs.declared.Family.{Family}
 use Rattle.schemes.specs.declared.Named.{Named}
-use Rattle.schemes.specs.declared.Named.the-variants.{Is, Unknown}
+use Rattle.schemes.specs.declared.Named.the-variants.{Known, Unknown}
 use Rattle.schemes.specs.declared.Scheme.{Scheme}
 use Rattle.lists.specs.Entries.{Below}
-use Rattle.front.specs.Front.{notBlank}
-use Rattle.front.specs.Seen.{told, seen}
-use Rattle.front.specs.declared.Answer.the-variants.{Refused}
-use Rattle.front.specs.declared.Verdict.{Verdict}
-use Rattle.front.specs.declared.Verdict.the-variants.{Pass, Fail}
-use Rattle.front.specs.declared.Refusal.{Refusal}
-use Rattle.front.specs.declared.Refusal.the-variants.{NoScheme, OutOfTurn}
-use Rattle.front.proofs.Laws.{both, length-passed, room-passed, turn-passed, failed, went-on}
-use Rattle.front.proofs.Seen.{shown-failed}
+use Rattle.refusals.specs.Refusals.{notBlank}
+use Rattle.refusals.specs.Seen.{told, seen}
+use Rattle.refusals.specs.declared.Answer.the-variants.{Refused}
+use Rattle.refusals.specs.declared.Verdict.{Verdict}
+use Rattle.refusals.specs.declared.Verdict.the-variants.{Pass, Fail}
+use Rattle.refusals.specs.declared.Refusal.{Refusal}
+use Rattle.refusals.specs.declared.Refusal.the-variants.{NoScheme, OutOfTurn}
+use Rattle.refusals.proofs.Laws.{both, length-passed, room-passed, turn-passed, failed, went-on}
+use Rattle.refusals.proofs.Seen.{shown-failed}
 use Rattle.wire.proofs.Travel.{opening-length, numbers-long}
-use Rattle.running.specs.State.{long, named, keptOf, begun}
+use Rattle.rows_state.specs.State.{long, named, savedOf, begun}
 use Rattle.rows.specs.Offer.{OfferBegin, offerBeginTests, sentPart, offerEndTests, offerEndMessage, offerEndResult}
 use Rattle.rows.specs.Inside.{offerEndSizes}
-use Rattle.running.specs.declared.Call.{Call}
-use Rattle.running.proofs.Tests.{passed, all-below, started, completes, frodos}
-use Rattle.running.proofs.Laying.{kept-long}
+use Rattle.rows_state.specs.declared.Call.{Call}
+use Rattle.rows_state.proofs.Tests.{passed, all-below, started, completes, frodos}
+use Rattle.rows_state.proofs.Laying.{kept-long}
 use Rattle.rows.proofs.Ends.{end-by}
 use Rattle.rows.proofs.Sending.{sent-counted}
 
@@ -44,7 +44,7 @@ pub record OfferSized (c : Scheme) (x : OfferBegin) (m : ℕ) : Type 0 where
   pub seed : length (x .seed) ≡ fixedOf c .seed
   pub state : m ≡ long (fixedOf c .n)
 
-pub begin-sized : (c : Scheme) (x : OfferBegin) (m : ℕ) → offerBeginTests (Is c) x m ≡ Pass → OfferSized c x m
+pub begin-sized : (c : Scheme) (x : OfferBegin) (m : ℕ) → offerBeginTests (Known c) x m ≡ Pass → OfferSized c x m
 unfolding offerBeginTests
 begin-sized c x m t =
     let sizes = both _ _ (both _ _ t .0) .0 in
@@ -67,18 +67,18 @@ module _ (c : Scheme) (st : List ℕ) (b : begun Call.Offer (fixedOf c) st ≡ t
   pub state-long : length st ≡ long (fixedOf c .n)
   state-long = started Call.Offer (fixedOf c) st b .is-long
 
-  pub seed-bytes : Below 256 (take 16 (keptOf st))
+  pub seed-bytes : Below 256 (take 16 (savedOf st))
   seed-bytes = all-below 256 _ (omega arith) (passed _ _ (started Call.Offer (fixedOf c) st b .kept-in) .0)
 
-  pub seed-long : length (take 16 (keptOf st)) ≡ 16
-  seed-long = length-take 16 (keptOf st) ∙ omega (arith, kept-long (fixedOf c .n) st state-long)
+  pub seed-long : length (take 16 (savedOf st)) ≡ 16
+  seed-long = length-take 16 (savedOf st) ∙ omega (arith, kept-long (fixedOf c .n) st state-long)
 
-  pub message-long : familyOf c ≡ Family.Frodo → length (offerEndMessage (Is c) st) ≡ fixedOf c .opening
+  pub message-long : familyOf c ≡ Family.Frodo → length (offerEndMessage (Known c) st) ≡ fixedOf c .opening
   unfolding offerEndMessage
-  message-long e = opening-length c (take 16 (keptOf st)) _ (seed-long ∙ sym (frodos c e .seed)) (numbers-long c (sent-counted c st e state-long))
+  message-long e = opening-length c (take 16 (savedOf st)) _ (seed-long ∙ sym (frodos c e .seed)) (numbers-long c (sent-counted c st e state-long))
 
-module _ (c : Scheme) (st : List ℕ) (n : ℕ) (e : named st ≡ Is c) where
-  known : offerEndTests (named st) st n ≡ offerEndTests (Is c) st n
+module _ (c : Scheme) (st : List ℕ) (n : ℕ) (e : named st ≡ Known c) where
+  known : offerEndTests (named st) st n ≡ offerEndTests (Known c) st n
   known = ap (λ (x : Named). offerEndTests x st n) e
 
   pub end-failed : {v : Verdict} {r : Refusal} → v ≡ offerEndSizes c st n → v ≡ Fail r → offerEndTests (named st) st n ≡ Fail r

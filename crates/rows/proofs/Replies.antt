@@ -7,29 +7,29 @@ use Prim.Native.Nat.{ℕ}
 use lib.ListN.{length, replicate}
 use Rattle.schemes.specs.Schemes.{familyOf, fixedOf}
 use Rattle.schemes.specs.declared.Family.{Family}
-use Rattle.schemes.specs.declared.Named.the-variants.{Is}
+use Rattle.schemes.specs.declared.Named.the-variants.{Known}
 use Rattle.schemes.specs.declared.Scheme.{Scheme}
 use Rattle.packing.specs.Packing.{packed}
 use Rattle.sponge.specs.Sponge.{sha3}
-use Rattle.front.specs.Front.{numberIn, _then_, notBlank}
-use Rattle.front.specs.Seen.{written}
-use Rattle.front.specs.declared.Verdict.{Verdict}
-use Rattle.front.specs.declared.Verdict.the-variants.{Pass, Fail}
-use Rattle.front.specs.declared.Refusal.the-variants.{OutOfTurn}
-use Rattle.front.proofs.Laws.{number-zero, both, failed, then-assoc, length-passes, publics-passed, turn-passed, below-passes, all-pass}
-use Rattle.ends.specs.Fit.{Counted}
-use Rattle.ends.specs.Keys.{hints}
-use Rattle.ends.specs.Values.{replied}
-use Rattle.ends.proofs.Numbers.{numbers-in}
-use Rattle.ends.proofs.Ranges.{mixed-counted}
+use Rattle.refusals.specs.Refusals.{numberIn, _then_, notBlank}
+use Rattle.refusals.specs.Seen.{written}
+use Rattle.refusals.specs.declared.Verdict.{Verdict}
+use Rattle.refusals.specs.declared.Verdict.the-variants.{Pass, Fail}
+use Rattle.refusals.specs.declared.Refusal.the-variants.{OutOfTurn}
+use Rattle.refusals.proofs.Laws.{number-zero, both, failed, then-assoc, length-passes, publics-passed, turn-passed, below-passes, all-pass}
+use Rattle.values.specs.Fit.{Counted}
+use Rattle.values.specs.Keys.{hints}
+use Rattle.values.specs.Values.{replied}
+use Rattle.values.proofs.Numbers.{numbers-in}
+use Rattle.values.proofs.Ranges.{mixed-counted}
 use Rattle.wire.specs.Wire.{openedIn, coinsIn}
 use Rattle.reply.specs.Reply.{Reply, ReplyRooms, replyOf, replyTests, openedOf, repliedPart, replyValue, replyMessage, replyKey, outputs}
 use Rattle.reply.specs.Inside.{replyLengths, replySecrets, replyLast, replyRest, keyBy}
 use Rattle.reply.proofs.Replying.{Sized, reply-sized, reply-apart}
-use Rattle.running.specs.State.{long, named}
-use Rattle.running.specs.Part.{stateShown}
-use Rattle.running.specs.declared.Call.{Call}
-use Rattle.running.proofs.Tests.{below-all, frodos}
+use Rattle.rows_state.specs.State.{long, named}
+use Rattle.rows_state.specs.Part.{stateShown}
+use Rattle.rows_state.specs.declared.Call.{Call}
+use Rattle.rows_state.proofs.Tests.{below-all, frodos}
 use Rattle.rows.specs.Offer.{sentPart}
 use Rattle.rows.specs.Reply.{ReplyBegin, replyBeginTests, valueOf, replyState, replyBeginResult, replyEndTests, replyEndMessage, replyEndKey}
 use Rattle.rows.specs.Inside.{replyBeginSizes, replyBeginRest}
@@ -54,9 +54,9 @@ reply-try st m h = unchanged (Refused.replyEnd m h)
 
 -- ---- after a good begin
 
-module _ (c : Scheme) (x : ReplyBegin) (m : ℕ) (frodo : familyOf c ≡ Family.Frodo) (good : replyBeginResult (Is c) x m .number ≡ 0) where
+module _ (c : Scheme) (x : ReplyBegin) (m : ℕ) (frodo : familyOf c ≡ Family.Frodo) (good : replyBeginResult (Known c) x m .number ≡ 0) where
   abbrev first : List ℕ
-  first = replyBeginResult (Is c) x m .state
+  first = replyBeginResult (Known c) x m .state
 
   passes : (replyBeginSizes c x m ≡ Pass) × (replyBeginRest c x ≡ Pass)
   passes = both _ _ (sym (begin-apart c x m) ∙ not-refused _ _ good .0)
@@ -81,7 +81,7 @@ module _ (c : Scheme) (x : ReplyBegin) (m : ℕ) (frodo : familyOf c ≡ Family.
         kept-in = below-all (fixedOf c .q) (valueOf c x) (value .below);
         secret-long = sized .secret-long;
         noise-long = sized .noise-long;
-        is = not-refused (replyState (Is c) x) (replicate m 0) good .1;
+        is = not-refused (replyState (Known c) x) (replicate m 0) good .1;
       }
 
   -- ---- and any parts
@@ -115,7 +115,7 @@ module _ (c : Scheme) (x : ReplyBegin) (m : ℕ) (frodo : familyOf c ≡ Family.
           (length-passes (sized .last-long)))
           (length-passes (sym (frodos c frodo .coins)))
 
-      same-tests : (m : ReplyRooms) → replyEndTests (named last) last m ≡ replyTests (Is c) whole m
+      same-tests : (m : ReplyRooms) → replyEndTests (named last) last m ≡ replyTests (Known c) whole m
       unfolding replyEndTests replyRest replyLast openedOf
       same-tests m =
           ap (λ d. replyEndTests d last m) (walk .is-named)
@@ -123,13 +123,13 @@ module _ (c : Scheme) (x : ReplyBegin) (m : ℕ) (frodo : familyOf c ≡ Family.
           (opened-tests c frodo (openedIn c (x .opening)) ∙ rest .0) (rest .1) (ap notBlank sent)
           ∙ sym (reply-apart c whole m)
 
-      same-message : replyEndMessage (named last) last ≡ replyMessage (Is c) whole
+      same-message : replyEndMessage (named last) last ≡ replyMessage (Known c) whole
       unfolding replyEndMessage replyMessage replyValue openedOf valueOf
       same-message =
           ap (λ d. replyEndMessage d last) (walk .is-named)
           ∙ ap₂ (λ (u v : List ℕ). u ++ packed (fixedOf c .hintbits) (hints c (coinsIn c []) v)) sent (walk .kept-is)
 
-      same-key : replyEndKey (named last) last ≡ replyKey (Is c) whole
+      same-key : replyEndKey (named last) last ≡ replyKey (Known c) whole
       unfolding replyEndKey replyKey replyValue openedOf valueOf
       same-key =
           ap (λ d. replyEndKey d last) (walk .is-named) ∙ ap (λ (v : List ℕ). keyBy c v []) (walk .kept-is)
@@ -160,7 +160,7 @@ module _ (c : Scheme) (x : ReplyBegin) (ps : List (List ℕ)) (m : ReplyRooms) (
   abbrev size : ℕ
   size = long (fixedOf c .n)
 
-  begin-passes : Sized c joint m → replyRest c joint ≡ Pass → replyBeginTests (Is c) x size ≡ Pass
+  begin-passes : Sized c joint m → replyRest c joint ≡ Pass → replyBeginTests (Known c) x size ≡ Pass
   unfolding replyBeginSizes replyBeginRest replyRest replyLast openedOf
   begin-passes s t =
       let r = both _ _ t in
@@ -171,13 +171,13 @@ module _ (c : Scheme) (x : ReplyBegin) (ps : List (List ℕ)) (m : ReplyRooms) (
       (length-passes refl))
       (all-pass (sym (opened-tests c frodo (openedIn c (x .opening))) ∙ r .0) (both _ _ (r .1) .0))
 
-  by-parts : replyTests (Is c) joint m ≡ Pass → WithinRows (fixedOf c .n) 0 ps → ReplyAccepted c x ps m
+  by-parts : replyTests (Known c) joint m ≡ Pass → WithinRows (fixedOf c .n) 0 ps → ReplyAccepted c x ps m
   unfolding stateShown outputs
   by-parts t w =
       let o = both _ _ (sym (reply-apart c joint m) ∙ t) in
       let s = reply-sized c joint m (both _ _ (o .0) .0) in
       let below = publics-passed _ (joined ps) (numbers-in c frodo .q-some) (both _ _ (o .0) .1) in
-      let g : replyBeginResult (Is c) x size .number ≡ 0 = ap numberIn (begin-passes s (o .1)) in
+      let g : replyBeginResult (Known c) x size .number ≡ 0 = ap numberIn (begin-passes s (o .1)) in
       let k = fill (begins c x size frodo g) ps w below (s .public-long) in
       record {
         begins = g;
@@ -186,7 +186,7 @@ module _ (c : Scheme) (x : ReplyBegin) (ps : List (List ℕ)) (m : ReplyRooms) (
         ends = ap numberIn (same-tests c x size frodo g (joined ps) (k .0) (took-parts (k .1)) (s .public-long) m ∙ t);
       }
 
-  as-whole : ReplyAccepted c x ps m → replyTests (Is c) joint m ≡ Pass
+  as-whole : ReplyAccepted c x ps m → replyTests (Known c) joint m ≡ Pass
   unfolding replyEndTests outputs
   as-whole a =
       let p = took-parts (a .parts) in

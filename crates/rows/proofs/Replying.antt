@@ -14,28 +14,28 @@ use lib.ListN.{length, replicate}
 use Rattle.schemes.specs.Schemes.{familyOf, fixedOf}
 use Rattle.schemes.specs.declared.Family.{Family}
 use Rattle.schemes.specs.declared.Named.{Named}
-use Rattle.schemes.specs.declared.Named.the-variants.{Is, Unknown}
+use Rattle.schemes.specs.declared.Named.the-variants.{Known, Unknown}
 use Rattle.schemes.specs.declared.Scheme.{Scheme}
 use Rattle.packing.proofs.Laws.{unpacked-below}
-use Rattle.front.specs.Front.{_then_, notBlank, receivedIn}
-use Rattle.front.specs.declared.Verdict.{Verdict}
-use Rattle.front.specs.declared.Verdict.the-variants.{Pass, Fail}
-use Rattle.front.specs.declared.Refusal.{Refusal}
-use Rattle.front.specs.declared.Refusal.the-variants.{NoScheme, OutOfTurn}
-use Rattle.front.proofs.Laws.{both, length-passed, room-passed, turn-passed, message-passes, failed, went-on}
-use Rattle.ends.specs.Fit.{Counted}
-use Rattle.ends.proofs.Numbers.{numbers-in}
-use Rattle.ends.proofs.Settling.{hints-counted, keys-counted}
+use Rattle.refusals.specs.Refusals.{_then_, notBlank, receivedIn}
+use Rattle.refusals.specs.declared.Verdict.{Verdict}
+use Rattle.refusals.specs.declared.Verdict.the-variants.{Pass, Fail}
+use Rattle.refusals.specs.declared.Refusal.{Refusal}
+use Rattle.refusals.specs.declared.Refusal.the-variants.{NoScheme, OutOfTurn}
+use Rattle.refusals.proofs.Laws.{both, length-passed, room-passed, turn-passed, message-passes, failed, went-on}
+use Rattle.values.specs.Fit.{Counted}
+use Rattle.values.proofs.Numbers.{numbers-in}
+use Rattle.values.proofs.Settling.{hints-counted, keys-counted}
 use Rattle.wire.specs.Wire.{coinsIn, numbersIn}
 use Rattle.wire.proofs.Travel.{reply-length, key-long}
 use Rattle.reply.specs.Reply.{ReplyRooms, replyTold, replySeen}
 use Rattle.reply.specs.Inside.{replySecrets}
 use Rattle.reply.specs.declared.ReplyAnswer.the-variants.{Refused}
 use Rattle.reply.proofs.Replying.{reply-refused}
-use Rattle.running.specs.State.{long, named, keptOf, begun}
-use Rattle.running.specs.declared.Call.{Call}
-use Rattle.running.proofs.Tests.{all-below, started, completes, frodos}
-use Rattle.running.proofs.Laying.{kept-long}
+use Rattle.rows_state.specs.State.{long, named, savedOf, begun}
+use Rattle.rows_state.specs.declared.Call.{Call}
+use Rattle.rows_state.proofs.Tests.{all-below, started, completes, frodos}
+use Rattle.rows_state.proofs.Laying.{kept-long}
 use Rattle.rows.specs.Offer.{sentPart}
 use Rattle.rows.specs.Reply.{ReplyBegin, replyBeginTests, replyEndTests, replyEndMessage, replyEndKey, replyEndResult}
 use Rattle.rows.specs.Inside.{replyBeginSizes, replyBeginRest, replyEndSizes}
@@ -79,14 +79,14 @@ module _ (c : Scheme) (x : ReplyBegin) (m : ℕ) where
       }
 
   -- its tests in two parts: sizes, and what follows
-  pub begin-apart : replyBeginTests (Is c) x m ≡ replyBeginSizes c x m then replyBeginRest c x
+  pub begin-apart : replyBeginTests (Known c) x m ≡ replyBeginSizes c x m then replyBeginRest c x
   unfolding replyBeginTests replyBeginSizes replyBeginRest replySecrets
   begin-apart = grouped (replyBeginSizes c x m) _ _ _ _
 
-  pub begin-failed : {v : Verdict} {r : Refusal} → v ≡ replyBeginSizes c x m → v ≡ Fail r → replyBeginTests (Is c) x m ≡ Fail r
+  pub begin-failed : {v : Verdict} {r : Refusal} → v ≡ replyBeginSizes c x m → v ≡ Fail r → replyBeginTests (Known c) x m ≡ Fail r
   begin-failed e f = begin-apart ∙ failed _ e f
 
-  pub begin-decides : {v : Verdict} → replyBeginSizes c x m ≡ Pass → v ≡ replyBeginRest c x → replyBeginTests (Is c) x m ≡ v
+  pub begin-decides : {v : Verdict} → replyBeginSizes c x m ≡ Pass → v ≡ replyBeginRest c x → replyBeginTests (Known c) x m ≡ v
   begin-decides t e = begin-apart ∙ went-on _ refl t ∙ sym e
 
 pub begin-unknown : {c : Named} (x : ReplyBegin) (m : ℕ) → c ≡ Unknown → replyBeginTests c x m ≡ Fail NoScheme
@@ -115,8 +115,8 @@ module _ (c : Scheme) (st : List ℕ) (m : ReplyRooms) where
         digest-roomy = room-passed _ _ (digest .1);
       }
 
-  module _ (e : named st ≡ Is c) where
-    known : replyEndTests (named st) st m ≡ replyEndTests (Is c) st m
+  module _ (e : named st ≡ Known c) where
+    known : replyEndTests (named st) st m ≡ replyEndTests (Known c) st m
     known = ap (λ (x : Named). replyEndTests x st m) e
 
     pub end-failed : {v : Verdict} {r : Refusal} → v ≡ replyEndSizes c st m → v ≡ Fail r → replyEndTests (named st) st m ≡ Fail r
@@ -142,7 +142,7 @@ module _ (c : Scheme) (st : List ℕ) (frodo : familyOf c ≡ Family.Frodo) (b :
   pub state-long : length st ≡ long (fixedOf c .n)
   state-long = started Call.Reply (fixedOf c) st b .is-long
 
-  pub kept-counted : Counted (fixedOf c .mixed) (fixedOf c .q) (keptOf st)
+  pub kept-counted : Counted (fixedOf c .mixed) (fixedOf c .q) (savedOf st)
   kept-counted =
       let f = numbers-in c frodo in
       record {
@@ -150,10 +150,10 @@ module _ (c : Scheme) (st : List ℕ) (frodo : familyOf c ≡ Family.Frodo) (b :
         below = all-below _ _ (f .q-some) (started Call.Reply (fixedOf c) st b .kept-in);
       }
 
-  pub message-length : length (replyEndMessage (Is c) st) ≡ fixedOf c .reply
+  pub message-length : length (replyEndMessage (Known c) st) ≡ fixedOf c .reply
   unfolding replyEndMessage
-  message-length = reply-length c (sent-counted c st frodo state-long) (hints-counted c (coinsIn c []) (keptOf st) (kept-counted .long))
+  message-length = reply-length c (sent-counted c st frodo state-long) (hints-counted c (coinsIn c []) (savedOf st) (kept-counted .long))
 
-  pub key-length : length (replyEndKey (Is c) st) ≡ fixedOf c .key
+  pub key-length : length (replyEndKey (Known c) st) ≡ fixedOf c .key
   unfolding replyEndKey
-  key-length = key-long c (keys-counted c (coinsIn c []) (keptOf st) (kept-counted .long))
+  key-length = key-long c (keys-counted c (coinsIn c []) (savedOf st) (kept-counted .long))

@@ -23,21 +23,21 @@ use Rattle.matrix.proofs.Steps.{gained-length}
 use Rattle.parts.specs.Parts.{wrap, words, pairs, placed}
 use Rattle.parts.proofs.Joining.{append-at, placed-in, so-far, nothing}
 use Rattle.parts.proofs.Words.{append-below}
-use Rattle.front.specs.Front.{numberIn}
-use Rattle.front.specs.Seen.{ifPassed, shown}
-use Rattle.front.specs.declared.Verdict.{Verdict}
-use Rattle.front.specs.declared.Verdict.the-variants.{Pass, Fail}
+use Rattle.refusals.specs.Refusals.{numberIn}
+use Rattle.refusals.specs.Seen.{ifPassed, shown}
+use Rattle.refusals.specs.declared.Verdict.{Verdict}
+use Rattle.refusals.specs.declared.Verdict.the-variants.{Pass, Fail}
 use Rattle.reply.specs.Reply.{outputs}
-use Rattle.running.specs.State.{long, named, taken, keptOf, secretOf, sumsOf, heldOf, laid, onward, terms, fills, heldWith, sumsWith, stepped}
-use Rattle.running.specs.Part.{stateShown, partTests}
+use Rattle.rows_state.specs.State.{long, named, taken, savedOf, secretOf, sumsOf, heldOf, laid, onward, terms, fills, heldWith, sumsWith, stepped}
+use Rattle.rows_state.specs.Part.{stateShown, partTests}
 use Rattle.rows.specs.Offer.{offerEndTests}
 use Rattle.rows.specs.Reply.{replyEndTests}
 use Rattle.rows.specs.Runs.{Refused, joined, steps, WithinRows}
 use Rattle.rows.specs.Shown.{blocks}
-use Rattle.running.specs.declared.Call.{Call}
-use Rattle.running.proofs.Filling.{fills-up, holds-back, held-div, held-mod, filled-div, filled-mod, start-is, whole-blocks}
-use Rattle.running.proofs.Laying.{apart, kept-long, secret-long, sums-long, held-long, again-words, made-words, held-words, laid-long, laid-kept, laid-secret, laid-sums, laid-held, laid-ext}
-use Rattle.running.proofs.Taking.{linear}
+use Rattle.rows_state.specs.declared.Call.{Call}
+use Rattle.rows_state.proofs.Filling.{fills-up, holds-back, held-div, held-mod, filled-div, filled-mod, start-is, whole-blocks}
+use Rattle.rows_state.proofs.Laying.{apart, kept-long, secret-long, sums-long, held-long, again-words, made-words, held-words, laid-long, laid-kept, laid-secret, laid-sums, laid-held, laid-ext}
+use Rattle.rows_state.proofs.Taking.{linear}
 
 pub kept-still : {A : Type 0} (v : Verdict) (x old : A) → 0 < numberIn v → ifPassed v x old ≡ old
 kept-still Pass x old h = absurd (omega arith)
@@ -61,7 +61,7 @@ module _ (k : Call) (n : ℕ) (st : List ℕ) where
     sums-wide xs = gained-length wrap n (terms k n (secretOf n st) (take (blocks n xs) xs)) (sumsOf n st) ∙ sums-long n st l
 
     module _ (xs held : List ℕ) where
-      pub after-kept : keptOf (after xs held) ≡ keptOf st
+      pub after-kept : savedOf (after xs held) ≡ savedOf st
       after-kept =
           laid-kept n (onward n st (length xs) (sums xs) held) (kept-long n st l) (secret-long n st l) (sums-wide xs)
 

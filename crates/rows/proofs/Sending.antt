@@ -13,13 +13,13 @@ use Rattle.schemes.specs.declared.Fixed.{Fixed}
 use Rattle.schemes.specs.declared.Scheme.{Scheme}
 use Rattle.lists.proofs.Entries.{tab-length, below-tab}
 use Rattle.matrix.specs.Steps.{reduced}
-use Rattle.front.specs.Front.{notBlank}
-use Rattle.ends.specs.Fit.{Counted}
-use Rattle.ends.proofs.Numbers.{numbers-in}
+use Rattle.refusals.specs.Refusals.{notBlank}
+use Rattle.values.specs.Fit.{Counted}
+use Rattle.values.proofs.Numbers.{numbers-in}
 use Rattle.wire.proofs.Travel.{numbers-blank}
-use Rattle.running.specs.State.{long, sumsOf}
+use Rattle.rows_state.specs.State.{long, sumsOf}
 use Rattle.rows.specs.Offer.{sentNumbers, sentPart}
-use Rattle.running.proofs.Laying.{sums-long}
+use Rattle.rows_state.proofs.Laying.{sums-long}
 
 module _ (c : Scheme) (st : List ℕ) (frodo : familyOf c ≡ Family.Frodo) (l : length st ≡ long (fixedOf c .n)) where
   pub sent-counted : Counted (fixedOf c .secret) (fixedOf c .q) (sentNumbers c st)

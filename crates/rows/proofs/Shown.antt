@@ -17,7 +17,7 @@ use lib.Seq.{take-at, drop-at, drop-drop}
 use Rattle.schemes.specs.Schemes.{familyOf, fixedOf, schemeOf}
 use Rattle.schemes.specs.declared.Family.{Family}
 use Rattle.schemes.specs.declared.Named.{Named}
-use Rattle.schemes.specs.declared.Named.the-variants.{Is, Unknown}
+use Rattle.schemes.specs.declared.Named.the-variants.{Known, Unknown}
 use Rattle.schemes.specs.declared.Scheme.{Scheme}
 use Rattle.schemes.proofs.Sound.{sound}
 use Rattle.lists.specs.Entries.{Below}
@@ -26,28 +26,28 @@ use Rattle.matrix.specs.Steps.{gained}
 use Rattle.matrix.proofs.Steps.{gained-length}
 use Rattle.parts.specs.Parts.{wrap, words, pairs, placed}
 use Rattle.parts.proofs.Words.{words-below, append-below}
-use Rattle.ends.proofs.Numbers.{numbers-in}
-use Rattle.front.specs.Front.{numberIn}
-use Rattle.front.specs.Seen.{ifPassed}
-use Rattle.front.specs.declared.Verdict.{Verdict}
-use Rattle.front.specs.declared.Verdict.the-variants.{Pass, Fail}
-use Rattle.front.proofs.Laws.{differ, both, turn-passed, publics-passed, turn-passes, below-passes, all-pass}
-use Rattle.running.specs.State.{frodoIn, named, taken, keptOf, secretOf, sumsOf, heldOf, Layout, laid, onward, _and_, keptIn, begun, terms, fills, heldWith, sumsWith, stepped}
-use Rattle.running.specs.Part.{StateSeen, stateShown, stateSeen, partTests, partState, partResult}
+use Rattle.values.proofs.Numbers.{numbers-in}
+use Rattle.refusals.specs.Refusals.{numberIn}
+use Rattle.refusals.specs.Seen.{ifPassed}
+use Rattle.refusals.specs.declared.Verdict.{Verdict}
+use Rattle.refusals.specs.declared.Verdict.the-variants.{Pass, Fail}
+use Rattle.refusals.proofs.Laws.{differ, both, turn-passed, publics-passed, turn-passes, below-passes, all-pass}
+use Rattle.rows_state.specs.State.{frodoIn, named, taken, savedOf, secretOf, sumsOf, heldOf, Layout, laid, onward, _and_, savedIn, begun, terms, fills, heldWith, sumsWith, stepped}
+use Rattle.rows_state.specs.Part.{StateSeen, stateShown, stateSeen, partTests, partState, partResult}
 use Rattle.rows.specs.Runs.{Accepts, next, Refused, Parts, joined, Took, Good, steps, WithinRows}
 use Rattle.rows.specs.Shown.{Frodos, Allowed, Joining, Empty, Again, Running}
-use Rattle.running.specs.declared.Call.{Call}
-use Rattle.running.proofs.Tests.{stops, goes, passed, started, starts, Fits, fits, fits-so, frodo-in, frodo-named}
-use Rattle.running.proofs.Filling.{block-fits, fills-up, held-mod}
-use Rattle.running.proofs.Laying.{apart, kept-long, secret-long, sums-long, held-long, again-words, made-words, held-words, with-below, laid-long, laid-kept, laid-secret, laid-sums, laid-held, laid-ext}
-use Rattle.running.proofs.Turns.{part-known}
+use Rattle.rows_state.specs.declared.Call.{Call}
+use Rattle.rows_state.proofs.Tests.{stops, goes, passed, started, starts, Fits, fits, fits-so, frodo-in, frodo-named}
+use Rattle.rows_state.proofs.Filling.{block-fits, fills-up, held-mod}
+use Rattle.rows_state.proofs.Laying.{apart, kept-long, secret-long, sums-long, held-long, again-words, made-words, held-words, with-below, laid-long, laid-kept, laid-secret, laid-sums, laid-held, laid-ext}
+use Rattle.rows_state.proofs.Turns.{part-known}
 use Rattle.rows.proofs.Ends.{not-refused, by-frodo}
 use Rattle.rows.proofs.Running.{unchanged, below-front, below-behind, after-sums, after-held, Walked, walked}
 
 -- ---- the state
 
 pub frodos-are : Frodos
-frodos-are k c = (λ e. frodo-in (schemeOf k) c e, λ d. ap frodoIn (d .0) ∙ by-frodo _ _ (Is c) (d .1))
+frodos-are k c = (λ e. frodo-in (schemeOf k) c e, λ d. ap frodoIn (d .0) ∙ by-frodo _ _ (Known c) (d .1))
 
 pub allowed : Allowed
 allowed n = omega arith
@@ -65,15 +65,15 @@ record Good-part (k : Call) (c : Scheme) (st p : List ℕ) : Type 0 where
   is : next k st p ≡ stepped k (fixedOf c .n) st p
 
 -- it names a scheme
-scheme-named : (k : Call) (st p : List ℕ) → Accepts k st p → (c : Scheme) × (named st ≡ Is c)
+scheme-named : (k : Call) (st p : List ℕ) → Accepts k st p → (c : Scheme) × (named st ≡ Known c)
 unfolding partTests
 scheme-named k st p t = go (named st) refl
   where
-    go : (x : Named) → named st ≡ x → (c : Scheme) × (named st ≡ Is c)
+    go : (x : Named) → named st ≡ x → (c : Scheme) × (named st ≡ Known c)
     go Unknown e = differ (sym (ap (λ y. partTests k y st p) e) ∙ accepted k st p t)
-    go (Is c) e = (c, e)
+    go (Known c) e = (c, e)
 
-good-part : (k : Call) (c : Scheme) (st p : List ℕ) → named st ≡ Is c → Accepts k st p → Good-part k c st p
+good-part : (k : Call) (c : Scheme) (st p : List ℕ) → named st ≡ Known c → Accepts k st p → Good-part k c st p
 unfolding partTests partState stateShown
 good-part k c st p e t =
     let z = accepted k st p t in
@@ -87,7 +87,7 @@ good-part k c st p e t =
     }
 
 -- and back
-part-good : (k : Call) (c : Scheme) (st p : List ℕ) → named st ≡ Is c → begun k (fixedOf c) st ≡ true → Fits (fixedOf c .n) (taken st) (length p)
+part-good : (k : Call) (c : Scheme) (st p : List ℕ) → named st ≡ Known c → begun k (fixedOf c) st ≡ true → Fits (fixedOf c .n) (taken st) (length p)
     → Below (fixedOf c .q) p → stateSeen Pass (stepped k (fixedOf c .n) st p) ≡ partResult k st p
 unfolding partTests
 part-good k c st p e b f l =
@@ -136,7 +136,7 @@ module _ (k : Call) (c : Scheme) (st : List ℕ) (b : begun k (fixedOf c) st ≡
     abbrev ahead : Layout
     ahead = onward n st (taken st + length p) (sumsWith k n st p) (heldWith n st p)
 
-    step-kept : keptOf (stepped k n st p) ≡ keptOf st
+    step-kept : savedOf (stepped k n st p) ≡ savedOf st
     unfolding stepped
     step-kept =
         laid-kept n ahead (kept-long n st long-is)
@@ -170,7 +170,7 @@ module _ (k : Call) (c : Scheme) (st : List ℕ) (b : begun k (fixedOf c) st ≡
               (secret-long n st long-is) sums-wide held-wide;
           is-call = started k (fixedOf c) st b .is-call;
           at-most = f .in-all;
-          kept-in = ap (keptIn k (fixedOf c .q)) step-kept ∙ started k (fixedOf c) st b .kept-in;
+          kept-in = ap (savedIn k (fixedOf c .q)) step-kept ∙ started k (fixedOf c) st b .kept-in;
         })
 
 -- an empty part ends no block, and is no number
@@ -289,7 +289,7 @@ fits-behind n at a (suc b) o f =
     let e : (at + a) % n ≡ at % n + a = sym (mod-add-mod at n a) ∙ mod-eq-of-lt (omega (arith, f .in-row)) in
     record { in-row = omega (arith, e, f .in-row); in-all = omega (arith, f .in-all) }
 
-join : (k : Call) (c : Scheme) (st p p' : List ℕ) → named st ≡ Is c → begun k (fixedOf c) st ≡ true
+join : (k : Call) (c : Scheme) (st p p' : List ℕ) → named st ≡ Known c → begun k (fixedOf c) st ≡ true
     → Fits (fixedOf c .n) (taken st) (length p + length p') → Below (wrap * wrap) st → Below (fixedOf c .q) p → Below (fixedOf c .q) p'
     → Accepts k st p × (partResult k (next k st p) p' ≡ partResult k st (p ++ p'))
 unfolding stepped
@@ -316,7 +316,7 @@ splits k st p p' w t =
     let g = good-part k (i .0) st (p ++ p') (i .1) t in
     join k (i .0) st p p' (i .1) (g .has-begun) (rw (length-append p p') at (g .fit)) w (below-front p p' (g .below)) (below-behind p p' (g .below))
 
-joins : (k : Call) (c : Scheme) (st p p' : List ℕ) → named st ≡ Is c → Below (wrap * wrap) st → taken st % fixedOf c .n + length (p ++ p') ≤ fixedOf c .n
+joins : (k : Call) (c : Scheme) (st p p' : List ℕ) → named st ≡ Known c → Below (wrap * wrap) st → taken st % fixedOf c .n + length (p ++ p') ≤ fixedOf c .n
     → Accepts k st p → Accepts k (next k st p) p' → partResult k (next k st p) p' ≡ partResult k st (p ++ p')
 unfolding stepped
 joins k c st p p' called w row t u =
@@ -347,7 +347,7 @@ unfolding joined
 took-parts Took.none = Parts.none
 took-parts (Took.more p t ts) = Parts.more p t (took-parts ts)
 
-pub takes : (k : Call) (c : Scheme) (st : List ℕ) (ps : List (List ℕ)) → named st ≡ Is c → begun k (fixedOf c) st ≡ true → 0 < fixedOf c .n
+pub takes : (k : Call) (c : Scheme) (st : List ℕ) (ps : List (List ℕ)) → named st ≡ Known c → begun k (fixedOf c) st ≡ true → 0 < fixedOf c .n
     → WithinRows (fixedOf c .n) (taken st) ps → Below (fixedOf c .q) (joined ps) → taken st + length (joined ps) ≤ fixedOf c .n * fixedOf c .n
     → (last : List ℕ) × Took k st ps last
 unfolding joined stepped
@@ -384,7 +384,7 @@ pub record Cut (k : Call) (c : Scheme) (st : List ℕ) (ps : List (List ℕ)) (l
   pub below : Below (fixedOf c .q) (joined ps)
   pub few : taken st + length (joined ps) ≤ fixedOf c .n * fixedOf c .n
 
-pub took-cut : (k : Call) (c : Scheme) {st last : List ℕ} {ps : List (List ℕ)} → named st ≡ Is c → taken st ≤ fixedOf c .n * fixedOf c .n
+pub took-cut : (k : Call) (c : Scheme) {st last : List ℕ} {ps : List (List ℕ)} → named st ≡ Known c → taken st ≤ fixedOf c .n * fixedOf c .n
     → Took k st ps last → Cut k c st ps last
 unfolding joined steps stepped
 took-cut k c called m Took.none =

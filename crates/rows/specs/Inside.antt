@@ -7,13 +7,13 @@ use Prim.Native.Nat.{ℕ}
 use lib.ListN.{length}
 use Rattle.schemes.specs.Schemes.{fixedOf}
 use Rattle.schemes.specs.declared.Scheme.{Scheme}
-use Rattle.front.specs.Front.{_then_, lengthIs, roomFor, inTurn, notBlank}
-use Rattle.front.specs.declared.Verdict.{Verdict}
+use Rattle.refusals.specs.Refusals.{_then_, lengthIs, roomFor, inTurn, notBlank}
+use Rattle.refusals.specs.declared.Verdict.{Verdict}
 use Rattle.wire.specs.Wire.{openedIn}
 use Rattle.reply.specs.Reply.{ReplyRooms}
 use Rattle.reply.specs.Inside.{replySecrets}
-use Rattle.running.specs.State.{long, complete}
-use Rattle.running.specs.declared.Call.{Call}
+use Rattle.rows_state.specs.State.{long, complete}
+use Rattle.rows_state.specs.declared.Call.{Call}
 use Rattle.rows.specs.Offer.{OfferBegin}
 use Rattle.rows.specs.Reply.{ReplyBegin}
 

@@ -15,20 +15,20 @@ use lib.IntN.{ℤ}
 use lib.ListN.{length, take, replicate}
 use Rattle.schemes.specs.Schemes.{fixedOf}
 use Rattle.schemes.specs.declared.Named.{Named}
-use Rattle.schemes.specs.declared.Named.the-variants.{Is, Unknown}
+use Rattle.schemes.specs.declared.Named.the-variants.{Known, Unknown}
 use Rattle.schemes.specs.declared.Scheme.{Scheme}
 use Rattle.lists.specs.Lent.{Lent, was}
 use Rattle.packing.specs.Packing.{packed}
 use Rattle.matrix.specs.Steps.{reduced}
-use Rattle.front.specs.Front.{_then_, lengthIs, roomFor, inTurn, notBlank, secretsIn}
-use Rattle.front.specs.Seen.{ifPassed, Seen, shown}
-use Rattle.front.specs.declared.Verdict.{Verdict}
-use Rattle.front.specs.declared.Verdict.the-variants.{Fail}
-use Rattle.front.specs.declared.Refusal.the-variants.{NoScheme, OutOfTurn}
+use Rattle.refusals.specs.Refusals.{_then_, lengthIs, roomFor, inTurn, notBlank, secretsIn}
+use Rattle.refusals.specs.Seen.{ifPassed, Seen, shown}
+use Rattle.refusals.specs.declared.Verdict.{Verdict}
+use Rattle.refusals.specs.declared.Verdict.the-variants.{Fail}
+use Rattle.refusals.specs.declared.Refusal.the-variants.{NoScheme, OutOfTurn}
 use Rattle.wire.specs.Wire.{opening}
-use Rattle.running.specs.State.{long, named, keptOf, sumsOf, laid, fresh, complete}
-use Rattle.running.specs.Part.{StateSeen, stateShown}
-use Rattle.running.specs.declared.Call.{Call}
+use Rattle.rows_state.specs.State.{long, named, savedOf, sumsOf, laid, fresh, complete}
+use Rattle.rows_state.specs.Part.{StateSeen, stateShown}
+use Rattle.rows_state.specs.declared.Call.{Call}
 
 -- ---- begin
 
@@ -39,7 +39,7 @@ pub record OfferBegin : Type 0 where
 
 unfoldable pub offerBeginTests : Named → OfferBegin → ℕ → Verdict
 offerBeginTests Unknown x m = Fail NoScheme
-offerBeginTests (Is c) x m =
+offerBeginTests (Known c) x m =
     lengthIs (length (x .s)) (fixedOf c .secret)
     then lengthIs (length (x .e)) (fixedOf c .noise)
     then lengthIs (length (x .seed)) (fixedOf c .seed)
@@ -49,7 +49,7 @@ offerBeginTests (Is c) x m =
 
 unfoldable pub offerState : Named → OfferBegin → List ℕ
 offerState Unknown x = []
-offerState (Is c) x = laid (fresh Call.Offer c (x .seed ++ replicate 48 0) (x .s) (x .e))
+offerState (Known c) x = laid (fresh Call.Offer c (x .seed ++ replicate 48 0) (x .s) (x .e))
 
 abbrev pub offerBeginResult : Named → OfferBegin → ℕ → StateSeen
 offerBeginResult c x m = stateShown (offerBeginTests c x m) (offerState c x) (replicate m 0)
@@ -68,14 +68,14 @@ sentPart c st = packed (fixedOf c .width) (sentNumbers c st)
 
 unfoldable pub offerEndTests : Named → List ℕ → ℕ → Verdict
 offerEndTests Unknown st n = Fail OutOfTurn
-offerEndTests (Is c) st n =
+offerEndTests (Known c) st n =
     inTurn (complete Call.Offer (fixedOf c) st)
     then roomFor n (fixedOf c .opening)
     then notBlank (sentPart c st)
 
 unfoldable pub offerEndMessage : Named → List ℕ → List ℕ
 offerEndMessage Unknown st = []
-offerEndMessage (Is c) st = opening c (take 16 (keptOf st)) (sentPart c st)
+offerEndMessage (Known c) st = opening c (take 16 (savedOf st)) (sentPart c st)
 
 abbrev pub offerEndResult : List ℕ → ℕ → EndSeen (Seen ℕ)
 offerEndResult st n =

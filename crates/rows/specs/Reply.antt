@@ -14,24 +14,24 @@ use lib.IntN.{ℤ}
 use lib.ListN.{length, replicate}
 use Rattle.schemes.specs.Schemes.{fixedOf}
 use Rattle.schemes.specs.declared.Named.{Named}
-use Rattle.schemes.specs.declared.Named.the-variants.{Is, Unknown}
+use Rattle.schemes.specs.declared.Named.the-variants.{Known, Unknown}
 use Rattle.schemes.specs.declared.Scheme.{Scheme}
 use Rattle.lists.specs.Lent.{Lent, was}
 use Rattle.packing.specs.Packing.{packed}
 use Rattle.sponge.specs.Sponge.{sha3}
-use Rattle.front.specs.Front.{_then_, lengthIs, roomFor, inTurn, notBlank, secretsIn}
-use Rattle.front.specs.Seen.{ifPassed}
-use Rattle.front.specs.declared.Verdict.{Verdict}
-use Rattle.front.specs.declared.Verdict.the-variants.{Fail}
-use Rattle.front.specs.declared.Refusal.the-variants.{NoScheme, OutOfTurn}
-use Rattle.ends.specs.Values.{mixedValue}
-use Rattle.ends.specs.Keys.{hints, keys}
+use Rattle.refusals.specs.Refusals.{_then_, lengthIs, roomFor, inTurn, notBlank, secretsIn}
+use Rattle.refusals.specs.Seen.{ifPassed}
+use Rattle.refusals.specs.declared.Verdict.{Verdict}
+use Rattle.refusals.specs.declared.Verdict.the-variants.{Fail}
+use Rattle.refusals.specs.declared.Refusal.the-variants.{NoScheme, OutOfTurn}
+use Rattle.values.specs.Values.{mixedValue}
+use Rattle.values.specs.Keys.{hints, keys}
 use Rattle.wire.specs.Wire.{openedIn, numbersIn, coinsIn}
 use Rattle.reply.specs.Reply.{ReplyRooms, ReplySeen, outputs}
-use Rattle.running.specs.State.{long, named, keptOf, laid, fresh, complete}
-use Rattle.running.specs.Part.{StateSeen, stateShown}
+use Rattle.rows_state.specs.State.{long, named, savedOf, laid, fresh, complete}
+use Rattle.rows_state.specs.Part.{StateSeen, stateShown}
 use Rattle.rows.specs.Offer.{EndSeen, sentPart}
-use Rattle.running.specs.declared.Call.{Call}
+use Rattle.rows_state.specs.declared.Call.{Call}
 
 -- ---- begin
 
@@ -43,7 +43,7 @@ pub record ReplyBegin : Type 0 where
 
 unfoldable pub replyBeginTests : Named → ReplyBegin → ℕ → Verdict
 replyBeginTests Unknown x m = Fail NoScheme
-replyBeginTests (Is c) x m =
+replyBeginTests (Known c) x m =
     lengthIs (length (x .opening)) (fixedOf c .opening)
     then lengthIs (length (x .s')) (fixedOf c .secret)
     then lengthIs (length (x .e')) (fixedOf c .noise)
@@ -59,7 +59,7 @@ valueOf c x = mixedValue c (numbersIn c (openedIn c (x .opening))) (x .s') (x .e
 
 unfoldable pub replyState : Named → ReplyBegin → List ℕ
 replyState Unknown x = []
-replyState (Is c) x = laid (fresh Call.Reply c (valueOf c x) (x .s') (x .e'))
+replyState (Known c) x = laid (fresh Call.Reply c (valueOf c x) (x .s') (x .e'))
 
 abbrev pub replyBeginResult : Named → ReplyBegin → ℕ → StateSeen
 replyBeginResult c x m = stateShown (replyBeginTests c x m) (replyState c x) (replicate m 0)
@@ -68,7 +68,7 @@ replyBeginResult c x m = stateShown (replyBeginTests c x m) (replyState c x) (re
 
 unfoldable pub replyEndTests : Named → List ℕ → ReplyRooms → Verdict
 replyEndTests Unknown st m = Fail OutOfTurn
-replyEndTests (Is c) st m =
+replyEndTests (Known c) st m =
     inTurn (complete Call.Reply (fixedOf c) st)
     then roomFor (m .message) (fixedOf c .reply)
     then roomFor (m .key) (fixedOf c .key)
@@ -77,11 +77,11 @@ replyEndTests (Is c) st m =
 
 unfoldable pub replyEndMessage : Named → List ℕ → List ℕ
 replyEndMessage Unknown st = []
-replyEndMessage (Is c) st = sentPart c st ++ packed (fixedOf c .hintbits) (hints c (coinsIn c []) (keptOf st))
+replyEndMessage (Known c) st = sentPart c st ++ packed (fixedOf c .hintbits) (hints c (coinsIn c []) (savedOf st))
 
 unfoldable pub replyEndKey : Named → List ℕ → List ℕ
 replyEndKey Unknown st = []
-replyEndKey (Is c) st = packed (fixedOf c .keybits) (keys c (coinsIn c []) (keptOf st))
+replyEndKey (Known c) st = packed (fixedOf c .keybits) (keys c (coinsIn c []) (savedOf st))
 
 abbrev pub replyEndResult : List ℕ → ReplyRooms → EndSeen ReplySeen
 replyEndResult st m =

@@ -17,15 +17,15 @@ use mathlib.Core.List.{List, [], _∷_, _++_}
 use Prim.Native.Nat.{ℕ, _+_, _%_, _≤_, _<_}
 use lib.ListN.{length}
 use Rattle.schemes.specs.Schemes.{fixedOf}
-use Rattle.schemes.specs.declared.Named.the-variants.{Is}
+use Rattle.schemes.specs.declared.Named.the-variants.{Known}
 use Rattle.schemes.specs.declared.Scheme.{Scheme}
-use Rattle.front.specs.Seen.{Seen}
+use Rattle.refusals.specs.Seen.{Seen}
 use Rattle.reply.specs.Reply.{ReplyRooms, ReplySeen}
-use Rattle.running.specs.State.{long, stepped}
-use Rattle.running.specs.Part.{partResult}
+use Rattle.rows_state.specs.State.{long, stepped}
+use Rattle.rows_state.specs.Part.{partResult}
 use Rattle.rows.specs.Offer.{OfferBegin, offerBeginResult, offerEndResult}
 use Rattle.rows.specs.Reply.{ReplyBegin, replyBeginResult, replyEndResult}
-use Rattle.running.specs.declared.Call.{Call}
+use Rattle.rows_state.specs.declared.Call.{Call}
 
 abbrev pub Accepts : Call → List ℕ → List ℕ → Type 0
 Accepts k st p = partResult k st p .number ≡ 0
@@ -66,28 +66,28 @@ WithinRows n at (p ∷ ps) = (at % n + length p ≤ n) × WithinRows n (at + len
 
 pub record OfferRun (c : Scheme) (x : OfferBegin) (a : List ℕ) (n : ℕ) (t : Seen ℕ) : Type 0 where
   pub stateRoom : ℕ
-  pub begins : offerBeginResult (Is c) x stateRoom .number ≡ 0
+  pub begins : offerBeginResult (Known c) x stateRoom .number ≡ 0
   pub last : List ℕ
-  pub parts : Parts Call.Offer (offerBeginResult (Is c) x stateRoom .state) a last
+  pub parts : Parts Call.Offer (offerBeginResult (Known c) x stateRoom .state) a last
   pub ends : t ≡ offerEndResult last n .answer
 
 pub record ReplyRun (c : Scheme) (x : ReplyBegin) (a : List ℕ) (m : ReplyRooms) (t : ReplySeen) : Type 0 where
   pub stateRoom : ℕ
-  pub begins : replyBeginResult (Is c) x stateRoom .number ≡ 0
+  pub begins : replyBeginResult (Known c) x stateRoom .number ≡ 0
   pub last : List ℕ
-  pub parts : Parts Call.Reply (replyBeginResult (Is c) x stateRoom .state) a last
+  pub parts : Parts Call.Reply (replyBeginResult (Known c) x stateRoom .state) a last
   pub ends : t ≡ replyEndResult last m .answer
 
 -- ---- the same, where nothing is refused
 
 pub record OfferAccepted (c : Scheme) (x : OfferBegin) (ps : List (List ℕ)) (n : ℕ) : Type 0 where
-  pub begins : offerBeginResult (Is c) x (long (fixedOf c .n)) .number ≡ 0
+  pub begins : offerBeginResult (Known c) x (long (fixedOf c .n)) .number ≡ 0
   pub last : List ℕ
-  pub parts : Took Call.Offer (offerBeginResult (Is c) x (long (fixedOf c .n)) .state) ps last
+  pub parts : Took Call.Offer (offerBeginResult (Known c) x (long (fixedOf c .n)) .state) ps last
   pub ends : offerEndResult last n .answer .number ≡ 0
 
 pub record ReplyAccepted (c : Scheme) (x : ReplyBegin) (ps : List (List ℕ)) (m : ReplyRooms) : Type 0 where
-  pub begins : replyBeginResult (Is c) x (long (fixedOf c .n)) .number ≡ 0
+  pub begins : replyBeginResult (Known c) x (long (fixedOf c .n)) .number ≡ 0
   pub last : List ℕ
-  pub parts : Took Call.Reply (replyBeginResult (Is c) x (long (fixedOf c .n)) .state) ps last
+  pub parts : Took Call.Reply (replyBeginResult (Known c) x (long (fixedOf c .n)) .state) ps last
   pub ends : replyEndResult last m .answer .number ≡ 0

@@ -25,28 +25,28 @@ use lib.IntN.{ℤ}
 use lib.ListN.{length, take, drop}
 use Rattle.schemes.specs.Schemes.{familyOf, fixedOf, schemeOf}
 use Rattle.schemes.specs.declared.Family.{Family}
-use Rattle.schemes.specs.declared.Named.the-variants.{Is}
+use Rattle.schemes.specs.declared.Named.the-variants.{Known}
 use Rattle.schemes.specs.declared.Scheme.{Scheme}
 use Rattle.lists.specs.Entries.{Below}
 use Rattle.matrix.specs.Mixing.{rightMixed, leftMixed}
 use Rattle.matrix.specs.Steps.{wordsOf, gained, reduced}
 use Rattle.parts.specs.Parts.{wrap}
-use Rattle.front.specs.Seen.{Seen, shown}
-use Rattle.front.specs.declared.Verdict.the-variants.{Pass, Fail}
-use Rattle.front.specs.declared.Refusal.the-variants.{OutOfTurn}
+use Rattle.refusals.specs.Seen.{Seen, shown}
+use Rattle.refusals.specs.declared.Verdict.the-variants.{Pass, Fail}
+use Rattle.refusals.specs.declared.Refusal.the-variants.{OutOfTurn}
 use Rattle.offer.specs.Offer.{offerOf, offerTests, offerResult}
 use Rattle.reply.specs.Reply.{ReplyRooms, ReplySeen, replyOf, replyTests, outputs, replyResult}
-use Rattle.running.specs.State.{frodoOf, long, named, taken, secretOf, sumsOf, heldOf, laid, secretWords, begun, terms}
-use Rattle.running.specs.Part.{partResult}
+use Rattle.rows_state.specs.State.{frodoOf, long, named, taken, secretOf, sumsOf, heldOf, laid, secretWords, begun, terms}
+use Rattle.rows_state.specs.Part.{partResult}
 use Rattle.rows.specs.Offer.{OfferBegin, offerEndResult}
 use Rattle.rows.specs.Reply.{ReplyBegin, replyEndResult}
 use Rattle.rows.specs.Runs.{Accepts, next, Parts, Good, joined, steps, WithinRows, OfferRun, ReplyRun, OfferAccepted, ReplyAccepted}
-use Rattle.running.specs.declared.Call.{Call}
+use Rattle.rows_state.specs.declared.Call.{Call}
 
 -- ---- the state
 
 abbrev pub Frodos : Type 0
-Frodos = (k : ℕ) (c : Scheme) → (frodoOf k ≡ Is c) ↔ (schemeOf k ≡ Is c) × (familyOf c ≡ Family.Frodo)
+Frodos = (k : ℕ) (c : Scheme) → (frodoOf k ≡ Known c) ↔ (schemeOf k ≡ Known c) × (familyOf c ≡ Family.Frodo)
 
 abbrev pub Allowed : Type 0
 Allowed = (n : ℕ) → long n ≤ 32 * n + 256
@@ -57,7 +57,7 @@ abbrev pub Joining : Type 0
 Joining =
     ((k : Call) (st p p' : List ℕ) → Below (wrap * wrap) st → Accepts k st (p ++ p') →
     Accepts k st p × (partResult k (next k st p) p' ≡ partResult k st (p ++ p')))
-    × ((k : Call) (c : Scheme) (st p p' : List ℕ) → named st ≡ Is c → Below (wrap * wrap) st →
+    × ((k : Call) (c : Scheme) (st p p' : List ℕ) → named st ≡ Known c → Below (wrap * wrap) st →
     taken st % fixedOf c .n + length (p ++ p') ≤ fixedOf c .n → Accepts k st p → Accepts k (next k st p) p' →
     partResult k (next k st p) p' ≡ partResult k st (p ++ p'))
 
@@ -80,7 +80,7 @@ blocks n xs = length xs / (16 * n) * (16 * n)
 
 abbrev pub Running : Type 0
 Running =
-    (k : Call) (c : Scheme) (st xs last : List ℕ) → named st ≡ Is c → begun k (fixedOf c) st ≡ true → taken st ≡ 0 → Below (wrap * wrap) st →
+    (k : Call) (c : Scheme) (st xs last : List ℕ) → named st ≡ Known c → begun k (fixedOf c) st ≡ true → taken st ≡ 0 → Below (wrap * wrap) st →
     Parts k st xs last →
     (taken last ≡ length xs)
     × (sumsOf (fixedOf c .n) last
@@ -109,7 +109,7 @@ Once =
 abbrev pub SameOffer : Type 0
 SameOffer =
     (c : Scheme) (x : OfferBegin) (a : List ℕ) (n : ℕ) (t : Seen ℕ) → familyOf c ≡ Family.Frodo → Below 256 (x .seed) → OfferRun c x a n t →
-    length a ≡ fixedOf c .public → t ≡ offerResult (Is c) (offerOf a (x .s) (x .e) (x .seed)) n
+    length a ≡ fixedOf c .public → t ≡ offerResult (Known c) (offerOf a (x .s) (x .e) (x .seed)) n
 
 abbrev pub EarlyOffer : Type 0
 EarlyOffer =
@@ -119,7 +119,7 @@ EarlyOffer =
 abbrev pub SameReply : Type 0
 SameReply =
     (c : Scheme) (x : ReplyBegin) (a : List ℕ) (m : ReplyRooms) (t : ReplySeen) → familyOf c ≡ Family.Frodo → ReplyRun c x a m t →
-    length a ≡ fixedOf c .public → t ≡ replyResult (Is c) (replyOf (x .opening) a (x .s') (x .e') (x .e'') []) m
+    length a ≡ fixedOf c .public → t ≡ replyResult (Known c) (replyOf (x .opening) a (x .s') (x .e') (x .e'') []) m
 
 abbrev pub EarlyReply : Type 0
 EarlyReply =
@@ -131,9 +131,9 @@ EarlyReply =
 abbrev pub OfferTaken : Type 0
 OfferTaken =
     (c : Scheme) (x : OfferBegin) (ps : List (List ℕ)) (n : ℕ) → familyOf c ≡ Family.Frodo → Below 256 (x .seed) → WithinRows (fixedOf c .n) 0 ps →
-    (offerTests (Is c) (offerOf (joined ps) (x .s) (x .e) (x .seed)) n ≡ Pass) ↔ OfferAccepted c x ps n
+    (offerTests (Known c) (offerOf (joined ps) (x .s) (x .e) (x .seed)) n ≡ Pass) ↔ OfferAccepted c x ps n
 
 abbrev pub ReplyTaken : Type 0
 ReplyTaken =
     (c : Scheme) (x : ReplyBegin) (ps : List (List ℕ)) (m : ReplyRooms) → familyOf c ≡ Family.Frodo → WithinRows (fixedOf c .n) 0 ps →
-    (replyTests (Is c) (replyOf (x .opening) (joined ps) (x .s') (x .e') (x .e'') []) m ≡ Pass) ↔ ReplyAccepted c x ps m
+    (replyTests (Known c) (replyOf (x .opening) (joined ps) (x .s') (x .e') (x .e'') []) m ≡ Pass) ↔ ReplyAccepted c x ps m

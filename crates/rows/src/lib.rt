@@ -3,21 +3,21 @@
 // zero, and may be tried again; a good end zeroes it.
 ghost use mathlib.Core.Path.{_≡_};
 ghost use Rattle.lists.specs.Lent.{was, left, room};
-ghost use Rattle.front.specs.Seen.{told, seen};
+ghost use Rattle.refusals.specs.Seen.{told, seen};
 ghost use Rattle.reply.specs.Reply.{replyRooms, replyTold, replySeen};
-ghost use Rattle.running.specs.State.{frodoOf};
-ghost use Rattle.running.specs.Part.{stateSeen, partResult};
+ghost use Rattle.rows_state.specs.State.{frodoOf};
+ghost use Rattle.rows_state.specs.Part.{stateSeen, partResult};
 ghost use Rattle.rows.specs.Offer.{offerBegin, offerBeginResult, offerEndResult};
 ghost use Rattle.rows.specs.Reply.{replyBegin, replyBeginResult, replyEndResult};
 
 mod opener;
 mod replier;
 
-use front::Answer;
-use front::Refusal;
-use front::Verdict;
+use refusals::Answer;
+use refusals::Refusal;
+use refusals::Verdict;
 use reply::ReplyAnswer;
-use running::Call;
+use rows_state::Call;
 use schemes::Named;
 
 // Offer, begin: the secret s, the noise e and the seed into the state, afresh.
@@ -25,7 +25,7 @@ pub fn offer_begin(scheme: u32, s: &[i32], e: &[i32], seed: &[u8], state: &mut [
     ensures { λ r. ⌜ stateSeen r (left state) ≡ offerBeginResult (frodoOf scheme) (offerBegin s e seed) (room state) ⌝ }
 {
     lists::zero_numbers(state);
-    let Named::Is(known) = running::state::frodo_of(scheme) else {
+    let Named::Known(known) = rows_state::state::frodo_of(scheme) else {
         return Verdict::Fail(Refusal::NoScheme);
     };
     opener::begin_in(known, s, e, seed, state)
@@ -35,7 +35,7 @@ pub fn offer_begin(scheme: u32, s: &[i32], e: &[i32], seed: &[u8], state: &mut [
 pub fn offer_part(p: &[u32], state: &mut [u32]) -> Verdict
     ensures { λ r. ⌜ stateSeen r (left state) ≡ partResult Call.Offer (was state) (was p) ⌝ }
 {
-    running::part::part(Call::Offer, p, state)
+    rows_state::part::part(Call::Offer, p, state)
 }
 
 // Offer, end: the opening message.
@@ -43,7 +43,7 @@ pub fn offer_end(state: &mut [u32], message: &mut [u8]) -> Answer
     ensures { λ r. ⌜ record { answer = seen (told r) (left message); state = left state } ≡ offerEndResult (was state) (room message) ⌝ }
 {
     lists::zero_bytes(message);
-    let Named::Is(known) = running::state::named(state) else {
+    let Named::Known(known) = rows_state::state::named(state) else {
         return Answer::Refused(Refusal::OutOfTurn);
     };
     opener::end_in(known, state, message)
@@ -61,7 +61,7 @@ pub fn reply_begin(
     ensures { λ r. ⌜ stateSeen r (left state) ≡ replyBeginResult (frodoOf scheme) (replyBegin opening s1 e1 e2) (room state) ⌝ }
 {
     lists::zero_numbers(state);
-    let Named::Is(known) = running::state::frodo_of(scheme) else {
+    let Named::Known(known) = rows_state::state::frodo_of(scheme) else {
         return Verdict::Fail(Refusal::NoScheme);
     };
     replier::begin_in(known, opening, s1, e1, e2, state)
@@ -71,7 +71,7 @@ pub fn reply_begin(
 pub fn reply_part(p: &[u32], state: &mut [u32]) -> Verdict
     ensures { λ r. ⌜ stateSeen r (left state) ≡ partResult Call.Reply (was state) (was p) ⌝ }
 {
-    running::part::part(Call::Reply, p, state)
+    rows_state::part::part(Call::Reply, p, state)
 }
 
 // Reply, end: the reply message, the replier's key and its digest.
@@ -84,7 +84,7 @@ pub fn reply_end(
     ensures { λ r. ⌜ record { answer = replySeen (replyTold r) (left message) (left key) (left digest); state = left state } ≡ replyEndResult (was state) (replyRooms message key digest) ⌝ }
 {
     replier::zero_outputs(message, key, digest);
-    let Named::Is(known) = running::state::named(state) else {
+    let Named::Known(known) = rows_state::state::named(state) else {
         return ReplyAnswer::Refused(Refusal::OutOfTurn);
     };
     replier::end_in(known, state, message, key, digest)

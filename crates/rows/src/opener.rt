@@ -6,20 +6,20 @@ ghost use Prim.Native.Nat.{_≤_};
 ghost use lib.ListN.{length, replicate};
 ghost use Rattle.schemes.specs.Schemes.{familyOf, fixedOf};
 ghost use Rattle.schemes.specs.declared.Family.{Family};
-ghost use Rattle.schemes.specs.declared.Named.the-variants.{Is};
+ghost use Rattle.schemes.specs.declared.Named.the-variants.{Known};
 ghost use Rattle.lists.specs.Lent.{was, left, room};
 ghost use Rattle.lists.specs.Entries.{Below};
-ghost use Rattle.front.specs.Front.{notBlank};
-ghost use Rattle.front.specs.Seen.{told, seen};
-ghost use Rattle.front.specs.Steps.{Laid};
-ghost use Rattle.front.specs.declared.Verdict.the-variants.{Pass};
-ghost use Rattle.running.specs.State.{named, begun};
-ghost use Rattle.running.specs.Part.{stateSeen};
+ghost use Rattle.refusals.specs.Refusals.{notBlank};
+ghost use Rattle.refusals.specs.Seen.{told, seen};
+ghost use Rattle.refusals.specs.Steps.{Laid};
+ghost use Rattle.refusals.specs.declared.Verdict.the-variants.{Pass};
+ghost use Rattle.rows_state.specs.State.{named, begun};
+ghost use Rattle.rows_state.specs.Part.{stateSeen};
 ghost use Rattle.rows.specs.Offer.{offerBegin, offerBeginTests, offerBeginResult, sentPart, offerEndMessage, offerEndResult};
 ghost use Rattle.rows.specs.Inside.{offerBeginSizes, offerEndSizes};
-use front::Answer;
-use front::Verdict;
-use running::Call;
+use refusals::Answer;
+use refusals::Verdict;
+use rows_state::Call;
 use schemes::Scheme;
 
 fn begin_sizes(scheme: Scheme, s: &[i32], e: &[i32], seed: &[u8], room: usize) -> Verdict
@@ -27,20 +27,20 @@ fn begin_sizes(scheme: Scheme, s: &[i32], e: &[i32], seed: &[u8], room: usize) -
     ensures { λ r. ⌜ r ≡ offerBeginSizes scheme (offerBegin s e seed) room ⌝ }
 {
     let f = scheme.fixed();
-    let v = front::length_is(Verdict::Pass, s.len(), f.secret);
-    let v = front::length_is(v, e.len(), f.noise);
-    let v = front::length_is(v, seed.len(), f.seed);
-    front::length_is(v, room, 16 * f.n + 67)
+    let v = refusals::length_is(Verdict::Pass, s.len(), f.secret);
+    let v = refusals::length_is(v, e.len(), f.noise);
+    let v = refusals::length_is(v, seed.len(), f.seed);
+    refusals::length_is(v, room, 16 * f.n + 67)
 }
 
 fn begin_tests(scheme: Scheme, s: &[i32], e: &[i32], seed: &[u8], room: usize) -> Verdict
     requires { ⌜ fixedOf scheme .n ≤ 864 ⌝ }
-    ensures { λ r. ⌜ r ≡ offerBeginTests (Is scheme) (offerBegin s e seed) room ⌝ }
+    ensures { λ r. ⌜ r ≡ offerBeginTests (Known scheme) (offerBegin s e seed) room ⌝ }
 {
     let f = scheme.fixed();
     let v = begin_sizes(scheme, s, e, seed, room);
-    let v = front::secrets_in(v, f.largest, s);
-    front::secrets_in(v, f.largest, e)
+    let v = refusals::secrets_in(v, f.largest, s);
+    refusals::secrets_in(v, f.largest, e)
 }
 
 // Bytes as numbers.
@@ -71,7 +71,7 @@ pub(crate) fn begin_in(
     state: &mut [u32],
 ) -> Verdict
     requires { ⌜ (familyOf scheme ≡ Family.Frodo) × (now state ≡ replicate (length (now state)) 0) ⌝ }
-    ensures { λ r. ⌜ stateSeen r (left state) ≡ offerBeginResult (Is scheme) (offerBegin s e seed) (room state) ⌝ }
+    ensures { λ r. ⌜ stateSeen r (left state) ≡ offerBeginResult (Known scheme) (offerBegin s e seed) (room state) ⌝ }
 {
     let f = scheme.fixed();
     let v = begin_tests(scheme, s, e, seed, state.len());
@@ -79,7 +79,7 @@ pub(crate) fn begin_in(
         Verdict::Fail(r) => Verdict::Fail(r),
         Verdict::Pass => {
             lay_seed(seed, &mut state[3..67]);
-            running::state::lay_state(Call::Offer, scheme, f.n, s, e, state);
+            rows_state::state::lay_state(Call::Offer, scheme, f.n, s, e, state);
             Verdict::Pass
         }
     }
@@ -101,14 +101,14 @@ fn gather(xs: &[u32], out: &mut [u8])
 fn lay(scheme: Scheme, state: &[u32], out: &mut [u8]) -> Verdict
     requires { ⌜ (familyOf scheme ≡ Family.Frodo) × (begun Call.Offer (fixedOf scheme) (now state) ≡ true) × (length (now out) ≡ fixedOf scheme .opening) ⌝ }
     ensures { λ r. ⌜ r ≡ notBlank (sentPart scheme (was state)) ⌝ }
-    ensures { λ r. ⌜ Laid r (offerEndMessage (Is scheme) (was state)) out ⌝ }
+    ensures { λ r. ⌜ Laid r (offerEndMessage (Known scheme) (was state)) out ⌝ }
 {
     let f = scheme.fixed();
     let n = f.secret;
     let mut seed = [0u8; 16];
     let mut b = [0u32; 6912];
     gather(&state[3..19], &mut seed);
-    running::state::reduce(f.q, f.n, state, &mut b[..n]);
+    rows_state::state::reduce(f.q, f.n, state, &mut b[..n]);
     offer::opener::lay_numbers(scheme, &b[..n], &seed, out)
 }
 
@@ -117,14 +117,14 @@ fn end_tests(scheme: Scheme, state: &[u32], room: usize) -> Verdict
     ensures { λ r. ⌜ r ≡ offerEndSizes scheme (was state) room ⌝ }
 {
     let f = scheme.fixed();
-    let v = front::in_turn(running::state::is_complete(Call::Offer, f, state));
-    front::room_for(v, room, f.opening)
+    let v = refusals::in_turn(rows_state::state::is_complete(Call::Offer, f, state));
+    refusals::room_for(v, room, f.opening)
 }
 
 // Where turn and room have passed: the message, and then zeros into the state.
 fn send(scheme: Scheme, state: &mut [u32], message: &mut [u8]) -> Answer
     requires { ⌜ (familyOf scheme ≡ Family.Frodo) × (offerEndSizes scheme (now state) (length (now message)) ≡ Pass) ⌝ }
-    requires { ⌜ (named (now state) ≡ Is scheme) × (now message ≡ replicate (length (now message)) 0) ⌝ }
+    requires { ⌜ (named (now state) ≡ Known scheme) × (now message ≡ replicate (length (now message)) 0) ⌝ }
     ensures { λ r. ⌜ record { answer = seen (told r) (left message); state = left state } ≡ offerEndResult (was state) (room message) ⌝ }
 {
     let f = scheme.fixed();
@@ -140,7 +140,7 @@ fn send(scheme: Scheme, state: &mut [u32], message: &mut [u8]) -> Answer
 }
 
 pub(crate) fn end_in(scheme: Scheme, state: &mut [u32], message: &mut [u8]) -> Answer
-    requires { ⌜ (named (now state) ≡ Is scheme) × (now message ≡ replicate (length (now message)) 0) ⌝ }
+    requires { ⌜ (named (now state) ≡ Known scheme) × (now message ≡ replicate (length (now message)) 0) ⌝ }
     ensures { λ r. ⌜ record { answer = seen (told r) (left message); state = left state } ≡ offerEndResult (was state) (room message) ⌝ }
 {
     let v = end_tests(scheme, state, message.len());

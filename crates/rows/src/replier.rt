@@ -6,24 +6,24 @@ ghost use Prim.Native.Nat.{_≤_};
 ghost use lib.ListN.{length, replicate};
 ghost use Rattle.schemes.specs.Schemes.{familyOf, fixedOf};
 ghost use Rattle.schemes.specs.declared.Family.{Family};
-ghost use Rattle.schemes.specs.declared.Named.the-variants.{Is};
+ghost use Rattle.schemes.specs.declared.Named.the-variants.{Known};
 ghost use Rattle.lists.specs.Lent.{was, left, room};
-ghost use Rattle.front.specs.Front.{notBlank};
-ghost use Rattle.front.specs.Seen.{ifPassed};
-ghost use Rattle.front.specs.Steps.{Laid};
-ghost use Rattle.front.specs.declared.Verdict.the-variants.{Pass};
-ghost use Rattle.ends.specs.Fit.{Counted, Small};
-ghost use Rattle.ends.specs.Values.{mixedValue};
+ghost use Rattle.refusals.specs.Refusals.{notBlank};
+ghost use Rattle.refusals.specs.Seen.{ifPassed};
+ghost use Rattle.refusals.specs.Steps.{Laid};
+ghost use Rattle.refusals.specs.declared.Verdict.the-variants.{Pass};
+ghost use Rattle.values.specs.Fit.{Counted, Small};
+ghost use Rattle.values.specs.Values.{mixedValue};
 ghost use Rattle.reply.specs.Reply.{replyRoomsOf, replyRooms, replyTold, replySeen};
-ghost use Rattle.running.specs.State.{long, laid, fresh, named, begun};
-ghost use Rattle.running.specs.Part.{stateSeen};
+ghost use Rattle.rows_state.specs.State.{long, laid, fresh, named, begun};
+ghost use Rattle.rows_state.specs.Part.{stateSeen};
 ghost use Rattle.rows.specs.Offer.{sentPart};
 ghost use Rattle.rows.specs.Reply.{replyBeginOf, replyBegin, replyState, replyBeginResult, replyEndMessage, replyEndKey, replyEndResult};
 ghost use Rattle.rows.specs.Inside.{replyBeginSizes, replyBeginRest, replyEndSizes};
-use front::Verdict;
+use refusals::Verdict;
 use reply::ReplyAnswer;
 use reply::ReplyCounts;
-use running::Call;
+use rows_state::Call;
 use schemes::Scheme;
 
 fn begin_sizes(
@@ -38,11 +38,11 @@ fn begin_sizes(
     ensures { λ r. ⌜ r ≡ replyBeginSizes scheme (replyBegin opening s1 e1 e2) room ⌝ }
 {
     let f = scheme.fixed();
-    let v = front::length_is(Verdict::Pass, opening.len(), f.opening);
-    let v = front::length_is(v, s1.len(), f.secret);
-    let v = front::length_is(v, e1.len(), f.noise);
-    let v = front::length_is(v, e2.len(), f.mixed);
-    front::length_is(v, room, 16 * f.n + 67)
+    let v = refusals::length_is(Verdict::Pass, opening.len(), f.opening);
+    let v = refusals::length_is(v, s1.len(), f.secret);
+    let v = refusals::length_is(v, e1.len(), f.noise);
+    let v = refusals::length_is(v, e2.len(), f.mixed);
+    refusals::length_is(v, room, 16 * f.n + 67)
 }
 
 // The state, which is zeros. V needs only the opening, whose numbers are b, and is made here.
@@ -61,8 +61,8 @@ fn lay_state(
     requires { ⌜ Small (fixedOf scheme .secret) (fixedOf scheme .largest) (now s1) × Small (fixedOf scheme .mixed) (fixedOf scheme .largest) (now e2) ⌝ }
     ensures { λ _. ⌜ left state ≡ laid (fresh Call.Reply scheme (mixedValue scheme (was b) (was s1) (was e2)) (was s1) (was e1)) ⌝ }
 {
-    ends::values::mix(scheme, b, s1, e2, &mut state[3..67]);
-    running::state::lay_state(Call::Reply, scheme, n, s1, e1, state);
+    values::products::mix(scheme, b, s1, e2, &mut state[3..67]);
+    rows_state::state::lay_state(Call::Reply, scheme, n, s1, e1, state);
 }
 
 // Where the sizes have passed: the opening's numbers, of which no scheme has more than 6912, the rest of the tests, and the state. A refused opening ends the call
@@ -78,7 +78,7 @@ fn begin_sized(
     requires { ⌜ (familyOf scheme ≡ Family.Frodo) × (now state ≡ replicate (length (now state)) 0) ⌝ }
     requires { ⌜ replyBeginSizes scheme (replyBeginOf (now opening) (now s1) (now e1) (now e2)) (length (now state)) ≡ Pass ⌝ }
     ensures { λ r. ⌜ r ≡ replyBeginRest scheme (replyBegin opening s1 e1 e2) ⌝ }
-    ensures { λ r. ⌜ left state ≡ ifPassed r (replyState (Is scheme) (replyBegin opening s1 e1 e2)) (was state) ⌝ }
+    ensures { λ r. ⌜ left state ≡ ifPassed r (replyState (Known scheme) (replyBegin opening s1 e1 e2)) (was state) ⌝ }
 {
     let f = scheme.fixed();
     let m = f.secret;
@@ -107,7 +107,7 @@ pub(crate) fn begin_in(
     state: &mut [u32],
 ) -> Verdict
     requires { ⌜ (familyOf scheme ≡ Family.Frodo) × (now state ≡ replicate (length (now state)) 0) ⌝ }
-    ensures { λ r. ⌜ stateSeen r (left state) ≡ replyBeginResult (Is scheme) (replyBegin opening s1 e1 e2) (room state) ⌝ }
+    ensures { λ r. ⌜ stateSeen r (left state) ≡ replyBeginResult (Known scheme) (replyBegin opening s1 e1 e2) (room state) ⌝ }
 {
     let v = begin_sizes(scheme, opening, s1, e1, e2, state.len());
     match v {
@@ -121,8 +121,8 @@ fn lay(scheme: Scheme, state: &[u32], message: &mut [u8], key: &mut [u8]) -> Ver
     requires { ⌜ (familyOf scheme ≡ Family.Frodo) × (begun Call.Reply (fixedOf scheme) (now state) ≡ true) ⌝ }
     requires { ⌜ (length (now message) ≡ fixedOf scheme .reply) × (length (now key) ≡ fixedOf scheme .key) ⌝ }
     ensures { λ r. ⌜ r ≡ notBlank (sentPart scheme (was state)) ⌝ }
-    ensures { λ r. ⌜ Laid r (replyEndMessage (Is scheme) (was state)) message ⌝ }
-    ensures { λ r. ⌜ Laid r (replyEndKey (Is scheme) (was state)) key ⌝ }
+    ensures { λ r. ⌜ Laid r (replyEndMessage (Known scheme) (was state)) message ⌝ }
+    ensures { λ r. ⌜ Laid r (replyEndKey (Known scheme) (was state)) key ⌝ }
 {
     let f = scheme.fixed();
     let n = f.secret;
@@ -131,7 +131,7 @@ fn lay(scheme: Scheme, state: &[u32], message: &mut [u8], key: &mut [u8]) -> Ver
     let mut hints = [0u32; 64];
     let mut entries = [0u32; 64];
     let mut u = [0u32; 6912];
-    running::state::reduce(f.q, f.n, state, &mut u[..n]);
+    rows_state::state::reduce(f.q, f.n, state, &mut u[..n]);
     reply::replier::lay_values(
         scheme,
         &u[..n],
@@ -156,10 +156,10 @@ fn end_sizes(
     ensures { λ r. ⌜ r ≡ replyEndSizes scheme (was state) (replyRoomsOf room keyroom digestroom) ⌝ }
 {
     let f = scheme.fixed();
-    let v = front::in_turn(running::state::is_complete(Call::Reply, f, state));
-    let v = front::room_for(v, room, f.reply);
-    let v = front::room_for(v, keyroom, f.key);
-    front::room_for(v, digestroom, 32)
+    let v = refusals::in_turn(rows_state::state::is_complete(Call::Reply, f, state));
+    let v = refusals::room_for(v, room, f.reply);
+    let v = refusals::room_for(v, keyroom, f.key);
+    refusals::room_for(v, digestroom, 32)
 }
 
 // Where turn and rooms have passed: message, key and digest, and then zeros into the state.
@@ -171,7 +171,7 @@ fn send(
     digest: &mut [u8],
 ) -> ReplyAnswer
     requires { ⌜ replyEndSizes scheme (now state) (replyRoomsOf (length (now message)) (length (now key)) (length (now digest))) ≡ Pass ⌝ }
-    requires { ⌜ (familyOf scheme ≡ Family.Frodo) × (named (now state) ≡ Is scheme) ⌝ }
+    requires { ⌜ (familyOf scheme ≡ Family.Frodo) × (named (now state) ≡ Known scheme) ⌝ }
     requires { ⌜ (now message ≡ replicate (length (now message)) 0) × (now key ≡ replicate (length (now key)) 0) ⌝ }
     requires { ⌜ now digest ≡ replicate (length (now digest)) 0 ⌝ }
     ensures { λ r. ⌜ record { answer = replySeen (replyTold r) (left message) (left key) (left digest); state = left state } ≡ replyEndResult (was state) (replyRooms message key digest) ⌝ }
@@ -201,7 +201,7 @@ pub(crate) fn end_in(
     key: &mut [u8],
     digest: &mut [u8],
 ) -> ReplyAnswer
-    requires { ⌜ (familyOf scheme ≡ Family.Frodo) × (named (now state) ≡ Is scheme) ⌝ }
+    requires { ⌜ (familyOf scheme ≡ Family.Frodo) × (named (now state) ≡ Known scheme) ⌝ }
     requires { ⌜ (now message ≡ replicate (length (now message)) 0) × (now key ≡ replicate (length (now key)) 0) ⌝ }
     requires { ⌜ now digest ≡ replicate (length (now digest)) 0 ⌝ }
     ensures { λ r. ⌜ record { answer = replySeen (replyTold r) (left message) (left key) (left digest); state = left state } ≡ replyEndResult (was state) (replyRooms message key digest) ⌝ }

@@ -15,16 +15,16 @@ use native.Mathlib.Omega.{arith}
 use lib.Dec.{leb}
 use lib.ListN.{length, take, drop, replicate, length-take, drop-of-length-le}
 use borrow.Author.Tests.{leb-true, le-leb, lt-leb}
-use Rattle.front.specs.Seen.{refused, Seen, told, seen}
+use Rattle.refusals.specs.Seen.{refused, Seen, told, seen}
 use Rattle.lists.proofs.Same.{zeros-long}
-use Rattle.front.specs.declared.Answer.{Answer}
-use Rattle.front.specs.declared.Answer.the-variants.{Refused}
-use Rattle.front.specs.declared.Refusal.{Refusal}
-use Rattle.front.specs.declared.Refusal.the-variants.{RanOut, NoRule}
-use Rattle.front.specs.declared.Verdict.{Verdict}
-use Rattle.front.specs.declared.Verdict.the-variants.{Pass, Fail}
-use Rattle.front.proofs.Laws.{differ, both, room-passed, failed, went-on}
-use Rattle.front.proofs.Seen.{shown-failed, seen-refused}
+use Rattle.refusals.specs.declared.Answer.{Answer}
+use Rattle.refusals.specs.declared.Answer.the-variants.{Refused}
+use Rattle.refusals.specs.declared.Refusal.{Refusal}
+use Rattle.refusals.specs.declared.Refusal.the-variants.{RanOut, NoRule}
+use Rattle.refusals.specs.declared.Verdict.{Verdict}
+use Rattle.refusals.specs.declared.Verdict.the-variants.{Pass, Fail}
+use Rattle.refusals.proofs.Laws.{differ, both, room-passed, failed, went-on}
+use Rattle.refusals.proofs.Seen.{shown-failed, seen-refused}
 use Rattle.noise.specs.Expand.{rule}
 use Rattle.noise.specs.declared.RuleName.{RuleName}
 use Rattle.noise.specs.declared.Ruled.{Ruled}

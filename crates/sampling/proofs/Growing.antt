@@ -9,16 +9,16 @@ use mathlib.Core.List.{List, _++_}
 use Prim.Native.Nat.{ℕ, _+_, _-_, _*_, _%_, _≤_}
 use native.Mathlib.Omega.{arith}
 use lib.ListN.{length, take, drop, replicate, take-append-drop}
-use Rattle.front.specs.Seen.{refused, Seen, shown, told, seen}
+use Rattle.refusals.specs.Seen.{refused, Seen, shown, told, seen}
 use Rattle.lists.proofs.Same.{zeros-long}
-use Rattle.front.specs.declared.Answer.{Answer}
-use Rattle.front.specs.declared.Answer.the-variants.{Done}
-use Rattle.front.specs.declared.Refusal.{Refusal}
-use Rattle.front.specs.declared.Refusal.the-variants.{NoRule}
-use Rattle.front.specs.declared.Verdict.{Verdict}
-use Rattle.front.specs.declared.Verdict.the-variants.{Pass, Fail}
-use Rattle.front.proofs.Laws.{both, all-pass, room-passed, up-to-passes, room-passes, failed, went-on}
-use Rattle.front.proofs.Seen.{shown-failed, seen-done}
+use Rattle.refusals.specs.declared.Answer.{Answer}
+use Rattle.refusals.specs.declared.Answer.the-variants.{Done}
+use Rattle.refusals.specs.declared.Refusal.{Refusal}
+use Rattle.refusals.specs.declared.Refusal.the-variants.{NoRule}
+use Rattle.refusals.specs.declared.Verdict.{Verdict}
+use Rattle.refusals.specs.declared.Verdict.the-variants.{Pass, Fail}
+use Rattle.refusals.proofs.Laws.{both, all-pass, room-passed, up-to-passes, room-passes, failed, went-on}
+use Rattle.refusals.proofs.Seen.{shown-failed, seen-done}
 use Rattle.noise.specs.Expand.{expanded, rule}
 use Rattle.noise.specs.declared.RuleName.{RuleName}
 use Rattle.noise.specs.declared.Ruled.{Ruled}

@@ -14,19 +14,19 @@ use lib.Dec.{eqb}
 use lib.IntN.{ℤ, pos}
 use lib.ListN.{length, replicate}
 use borrow.Author.Tests.{eqb-true}
-use Rattle.schemes.specs.Schemes.{fixedOf, familyOf, by}
+use Rattle.schemes.specs.Schemes.{fixedOf, familyOf, byFamily}
 use Rattle.schemes.specs.declared.Family.{Family}
 use Rattle.schemes.specs.declared.Scheme.{Scheme}
 use Rattle.schemes.specs.declared.Scheme.the-variants.{Bcns, NewHope, Challenge, Classical, Recommended, Paranoid}
 use Rattle.schemes.specs.declared.Named.{Named}
-use Rattle.schemes.specs.declared.Named.the-variants.{Is, Unknown}
-use Rattle.front.specs.Front.{_then_, tableIn}
-use Rattle.front.specs.declared.Verdict.{Verdict}
-use Rattle.front.specs.declared.Verdict.the-variants.{Pass}
-use Rattle.front.specs.Seen.{refused, Seen, seen}
-use Rattle.front.specs.declared.Refusal.the-variants.{NoScheme}
-use Rattle.front.proofs.Laws.{both, last-passes, length-passed, room-passed}
-use Rattle.front.proofs.Seen.{shown-failed}
+use Rattle.schemes.specs.declared.Named.the-variants.{Known, Unknown}
+use Rattle.refusals.specs.Refusals.{_then_, tableIn}
+use Rattle.refusals.specs.declared.Verdict.{Verdict}
+use Rattle.refusals.specs.declared.Verdict.the-variants.{Pass}
+use Rattle.refusals.specs.Seen.{refused, Seen, seen}
+use Rattle.refusals.specs.declared.Refusal.the-variants.{NoScheme}
+use Rattle.refusals.proofs.Laws.{both, last-passes, length-passed, room-passed}
+use Rattle.refusals.proofs.Seen.{shown-failed}
 use Rattle.noise.specs.Noise.{d1, d2, d3, d4}
 use Rattle.noise.proofs.Noise.{newhope-length, frodo-length}
 use Rattle.bcns_noise.specs.Noise.{firstNotAbove}
@@ -38,28 +38,28 @@ use Rattle.sampling.specs.Steps.{noiseSizes}
 
 -- as the code makes them
 abbrev testsIn : Family → Scheme → Noise → ℕ → Verdict
-testsIn F c x n = by F (noiseSizes c 25 153 x n then tableIn (firstNotAbove (x .table)) 51) (noiseSizes c 4 0 x n) (noiseSizes c 2 0 x n)
+testsIn F c x n = byFamily F (noiseSizes c 25 153 x n then tableIn (firstNotAbove (x .table)) 51) (noiseSizes c 4 0 x n) (noiseSizes c 2 0 x n)
 
 abbrev eachIn : Family → ℕ
-eachIn F = by F 25 4 2
+eachIn F = byFamily F 25 4 2
 
 abbrev wordsIn : Family → ℕ
-wordsIn F = by F 153 0 0
+wordsIn F = byFamily F 153 0 0
 
 in-order : (F : Family) (c : Scheme) (x : Noise) (n : ℕ)
-    → testsIn F c x n ≡ noiseSizes c (eachIn F) (wordsIn F) x n then by F (tableIn (firstNotAbove (x .table)) 51) Pass Pass
+    → testsIn F c x n ≡ noiseSizes c (eachIn F) (wordsIn F) x n then byFamily F (tableIn (firstNotAbove (x .table)) 51) Pass Pass
 in-order Family.Bcns c x n = refl
 in-order Family.NewHope c x n = sym (last-passes _)
 in-order Family.Frodo c x n = sym (last-passes _)
 
-pub tests-by : (c : Scheme) (x : Noise) (n : ℕ) {F : Family} → familyOf c ≡ F → testsIn F c x n ≡ noiseTests (Is c) x n
+pub tests-by : (c : Scheme) (x : Noise) (n : ℕ) {F : Family} → familyOf c ≡ F → testsIn F c x n ≡ noiseTests (Known c) x n
 unfolding noiseTests noiseSizes
 tests-by c x n e = ap (λ (F : Family). testsIn F c x n) (sym e) ∙ in-order (familyOf c) c x n
 
 pub count-by : (c : Scheme) (m : ℕ) {F : Family} → familyOf c ≡ F → m / eachIn F ≡ m / eachIn (familyOf c)
 count-by c m e = ap (λ (F : Family). m / eachIn F) (sym e)
 
-pub count : (c : Scheme) (x : Noise) → length (noiseValues (Is c) x) ≡ length (x .bytes) / eachIn (familyOf c)
+pub count : (c : Scheme) (x : Noise) → length (noiseValues (Known c) x) ≡ length (x .bytes) / eachIn (familyOf c)
 unfolding noiseValues
 count Bcns x = noise-long (x .table) (x .bytes)
 count NewHope x = newhope-length (x .bytes)
@@ -98,11 +98,11 @@ module _ (c : Scheme) (x : Noise) (n : ℕ) where
   whole-in Family.NewHope k = omega arith
   whole-in Family.Frodo k = omega arith
 
-  pub tests-passed : noiseTests (Is c) x n ≡ Pass → Fits (bytesEach c) (tableWords c)
+  pub tests-passed : noiseTests (Known c) x n ≡ Pass → Fits (bytesEach c) (tableWords c)
   unfolding noiseTests noiseSizes
   tests-passed e = sizes-passed (bytesEach c) (tableWords c) (whole-in (familyOf c)) (both _ _ e .0)
 
-pub few : (F : Family) {m : ℕ} → m ≡ by F 153 0 0 → m ≤ 153
+pub few : (F : Family) {m : ℕ} → m ≡ byFamily F 153 0 0 → m ≤ 153
 few Family.Bcns e = omega arith
 few Family.NewHope e = omega arith
 few Family.Frodo e = omega arith
@@ -113,7 +113,7 @@ module _ {c t : Scheme} (x : Noise) (e : c ≡ t) where
   pub takes : (n : ℕ) → length (x .bytes) ≡ eachIn (familyOf c) * n → length (x .bytes) ≡ eachIn (familyOf t) * n
   takes n h = h ∙ ap (λ (s : Scheme). eachIn (familyOf s) * n) e
 
-  pub filled : {out : List ℤ} → out ≡ noiseValues (Is t) x → out ≡ noiseValues (Is c) x
+  pub filled : {out : List ℤ} → out ≡ noiseValues (Known t) x → out ≡ noiseValues (Known c) x
   filled o = rw e o
 
 -- ---- the promise

@@ -14,20 +14,20 @@ use lib.Dec.{eqb, ltb}
 use lib.IntN.{ℤ, pos, natAbs}
 use lib.ListN.{length, take}
 use lib.Seq.{take-at}
-use Rattle.schemes.specs.Schemes.{fixedOf, familyOf, by, newHope}
+use Rattle.schemes.specs.Schemes.{fixedOf, familyOf, byFamily, newHope}
 use Rattle.schemes.specs.declared.Scheme.{Scheme}
 use Rattle.schemes.specs.declared.Scheme.the-variants.{Bcns, NewHope, Challenge, Classical, Recommended, Paranoid}
-use Rattle.schemes.specs.declared.Named.the-variants.{Is}
+use Rattle.schemes.specs.declared.Named.the-variants.{Known}
 use Rattle.lists.specs.Entries.{Below, Within}
 use Rattle.lists.proofs.Parts.{below-take, below-drop, part-within}
 use borrow.Author.Tests.{ltb-true}
-use Rattle.front.specs.Front.{numberIn, placeIn, _then_, lengthIs, tableIn}
-use Rattle.front.specs.Seen.{written, shown}
-use Rattle.front.specs.declared.Verdict.{Verdict}
-use Rattle.front.specs.declared.Verdict.the-variants.{Pass, Fail}
-use Rattle.front.proofs.Number.{and, lengths, rooms}
-use Rattle.front.proofs.Laws.{differ, both, number-zero, within-passes, below-passes}
-use Rattle.front.proofs.Seen.{written-all}
+use Rattle.refusals.specs.Refusals.{numberIn, placeIn, _then_, lengthIs, tableIn}
+use Rattle.refusals.specs.Seen.{written, shown}
+use Rattle.refusals.specs.declared.Verdict.{Verdict}
+use Rattle.refusals.specs.declared.Verdict.the-variants.{Pass, Fail}
+use Rattle.refusals.proofs.Number.{and, lengths, rooms}
+use Rattle.refusals.proofs.Laws.{differ, both, number-zero, within-passes, below-passes}
+use Rattle.refusals.proofs.Seen.{written-all}
 use Rattle.noise.specs.Noise.{d1, d2, d3, d4}
 use Rattle.noise.proofs.Noise.{newhope-within, frodo-within}
 use Rattle.bcns_noise.proofs.Table.{largest-51, each-place}
@@ -44,8 +44,8 @@ use Rattle.sampling.proofs.Expanding.{enough-passed, numbers-few}
 
 -- ---- what is written is not refused later
 
-pub values-within : (c : Scheme) (x : Noise) → Below 256 (x .bytes) → length (x .table) ≡ by (familyOf c) 153 0 0
-    → Within (fixedOf c .largest) (noiseValues (Is c) x)
+pub values-within : (c : Scheme) (x : Noise) → Below 256 (x .bytes) → length (x .table) ≡ byFamily (familyOf c) 153 0 0
+    → Within (fixedOf c .largest) (noiseValues (Known c) x)
 unfolding noiseValues
 values-within Bcns x b w = largest-51 (x .table) (x .bytes) w
 values-within NewHope x b w = newhope-within (x .bytes) b
@@ -54,7 +54,7 @@ values-within Classical x b w = frodo-within d2 11 (x .bytes)
 values-within Recommended x b w = frodo-within d3 11 (x .bytes)
 values-within Paranoid x b w = frodo-within d4 15 (x .bytes)
 
-pub noise-within : (c : Scheme) (x : Noise) (n : ℕ) → Below 256 (x .bytes) → Within (fixedOf c .largest) (noiseResult (Is c) x n .out .holds)
+pub noise-within : (c : Scheme) (x : Noise) (n : ℕ) → Below 256 (x .bytes) → Within (fixedOf c .largest) (noiseResult (Known c) x n .out .holds)
 unfolding shown
 noise-within c x n b =
     record {

@@ -16,18 +16,18 @@ use Prim.Native.Nat.{ℕ, _*_, _/_, _<_}
 use lib.Dec.{eqb}
 use lib.IntN.{ℤ, pos}
 use lib.ListN.{length, take, drop}
-use Rattle.schemes.specs.Schemes.{fixedOf, familyOf, by}
+use Rattle.schemes.specs.Schemes.{fixedOf, familyOf, byFamily}
 use Rattle.schemes.specs.declared.Scheme.{Scheme}
 use Rattle.schemes.specs.declared.Scheme.the-variants.{Bcns, NewHope, Challenge, Classical, Recommended, Paranoid}
 use Rattle.schemes.specs.declared.Named.{Named}
-use Rattle.schemes.specs.declared.Named.the-variants.{Is, Unknown}
+use Rattle.schemes.specs.declared.Named.the-variants.{Known, Unknown}
 use Rattle.lists.specs.Entries.{Below}
 use Rattle.lists.specs.Lent.{Lent, was}
-use Rattle.front.specs.Front.{numberIn, placeIn, _then_, lengthIs, roomFor, tableIn, secretsIn}
-use Rattle.front.specs.Seen.{Seen, shown}
-use Rattle.front.specs.declared.Verdict.{Verdict}
-use Rattle.front.specs.declared.Verdict.the-variants.{Pass, Fail}
-use Rattle.front.specs.declared.Refusal.the-variants.{NoScheme}
+use Rattle.refusals.specs.Refusals.{numberIn, placeIn, _then_, lengthIs, roomFor, tableIn, secretsIn}
+use Rattle.refusals.specs.Seen.{Seen, shown}
+use Rattle.refusals.specs.declared.Verdict.{Verdict}
+use Rattle.refusals.specs.declared.Verdict.the-variants.{Pass, Fail}
+use Rattle.refusals.specs.declared.Refusal.the-variants.{NoScheme}
 use Rattle.noise.specs.Noise.{newHopeNoise, frodoNoise, d1, d2, d3, d4}
 use Rattle.bcns_noise.specs.Noise.{bcnsNoise, firstNotAbove, Place}
 
@@ -47,28 +47,28 @@ lengthEither m x y = cond (eqb m x) Pass (lengthIs m y)
 -- 02: "One value takes 25 bytes", "51 .. entries .. in three 64-bit words"; "Other schemes lend an empty table". A value takes two words of 16 bits in NewHope,
 -- one in Frodo.
 abbrev pub bytesEach : Scheme → ℕ
-bytesEach c = by (familyOf c) 25 4 2
+bytesEach c = byFamily (familyOf c) 25 4 2
 
 abbrev pub tableWords : Scheme → ℕ
-tableWords c = by (familyOf c) 153 0 0
+tableWords c = byFamily (familyOf c) 153 0 0
 
 -- both lengths of the bytes are fixed ones, and no other: of the values of S, E, S' or E', and of those of E''. 02: a table "not strictly ascending" is refused
 unfoldable pub noiseTests : Named → Noise → ℕ → Verdict
 noiseTests Unknown x n = Fail NoScheme
-noiseTests (Is c) x n =
+noiseTests (Known c) x n =
     lengthEither (length (x .bytes)) (bytesEach c * fixedOf c .noise) (bytesEach c * fixedOf c .mixed)
     then lengthIs (length (x .table)) (tableWords c)
     then roomFor n (length (x .bytes) / bytesEach c)
-    then by (familyOf c) (tableIn (firstNotAbove (x .table)) 51) Pass Pass
+    then byFamily (familyOf c) (tableIn (firstNotAbove (x .table)) 51) Pass Pass
 
 unfoldable pub noiseValues : Named → Noise → List ℤ
 noiseValues Unknown x = []
-noiseValues (Is Bcns) x = bcnsNoise (x .table) (x .bytes)
-noiseValues (Is NewHope) x = newHopeNoise (x .bytes)
-noiseValues (Is Challenge) x = frodoNoise d1 7 (x .bytes)
-noiseValues (Is Classical) x = frodoNoise d2 11 (x .bytes)
-noiseValues (Is Recommended) x = frodoNoise d3 11 (x .bytes)
-noiseValues (Is Paranoid) x = frodoNoise d4 15 (x .bytes)
+noiseValues (Known Bcns) x = bcnsNoise (x .table) (x .bytes)
+noiseValues (Known NewHope) x = newHopeNoise (x .bytes)
+noiseValues (Known Challenge) x = frodoNoise d1 7 (x .bytes)
+noiseValues (Known Classical) x = frodoNoise d2 11 (x .bytes)
+noiseValues (Known Recommended) x = frodoNoise d3 11 (x .bytes)
+noiseValues (Known Paranoid) x = frodoNoise d4 15 (x .bytes)
 
 abbrev pub noiseResult : Named → Noise → ℕ → Seen ℤ
 noiseResult c x n = shown (noiseTests c x n) (noiseValues c x) (pos 0) n
@@ -78,12 +78,12 @@ noiseResult c x n = shown (noiseTests c x n) (noiseValues c x) (pos 0) n
 abbrev pub NoisePasses : Type 0
 NoisePasses =
     (c : Scheme) (x : Noise) (n : ℕ) → Below 256 (x .bytes)
-    → (from many : ℕ) → secretsIn (fixedOf c .largest) (take many (drop from (noiseResult (Is c) x n .out .holds))) ≡ Pass
+    → (from many : ℕ) → secretsIn (fixedOf c .largest) (take many (drop from (noiseResult (Known c) x n .out .holds))) ≡ Pass
 
 abbrev pub NeverEighteen : Type 0
-NeverEighteen = (c : Scheme) (x : Noise) (n : ℕ) → numberIn (noiseTests (Is c) x n) ≡ 18 → c ≡ Bcns
+NeverEighteen = (c : Scheme) (x : Noise) (n : ℕ) → numberIn (noiseTests (Known c) x n) ≡ 18 → c ≡ Bcns
 
 abbrev pub EighteenSays : Type 0
 EighteenSays =
-    (x : Noise) (n : ℕ) → numberIn (noiseTests (Is Bcns) x n) ≡ 18
-    → (placeIn (noiseTests (Is Bcns) x n) < 51) × Place (x .table) (placeIn (noiseTests (Is Bcns) x n))
+    (x : Noise) (n : ℕ) → numberIn (noiseTests (Known Bcns) x n) ≡ 18
+    → (placeIn (noiseTests (Known Bcns) x n) < 51) × Place (x .table) (placeIn (noiseTests (Known Bcns) x n))

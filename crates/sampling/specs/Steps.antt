@@ -6,8 +6,8 @@ use Prim.Native.Nat.{ℕ, _*_, _/_}
 use lib.ListN.{length}
 use Rattle.schemes.specs.Schemes.{fixedOf, newHope}
 use Rattle.schemes.specs.declared.Scheme.{Scheme}
-use Rattle.front.specs.Front.{_then_, lengthIs, lengthUpTo, roomFor}
-use Rattle.front.specs.declared.Verdict.{Verdict}
+use Rattle.refusals.specs.Refusals.{_then_, lengthIs, lengthUpTo, roomFor}
+use Rattle.refusals.specs.declared.Verdict.{Verdict}
 use Rattle.sampling.specs.Noise.{Noise, lengthEither}
 use Rattle.sampling.specs.Expand.{Expand}
 use Rattle.sampling.specs.Grow.{Grow}

@@ -4,7 +4,7 @@ ghost use mathlib.Core.Path.{_≡_};
 ghost use lib.ListN.{length, replicate};
 ghost use Rattle.schemes.specs.Schemes.{schemeOf};
 ghost use Rattle.lists.specs.Lent.{left, room};
-ghost use Rattle.front.specs.Seen.{told, seen};
+ghost use Rattle.refusals.specs.Seen.{told, seen};
 ghost use Rattle.noise.specs.Expand.{ruleOf};
 ghost use Rattle.sampling.specs.Noise.{noise, noiseResult};
 ghost use Rattle.sampling.specs.Expand.{expand, expandResult};
@@ -12,9 +12,9 @@ ghost use Rattle.sampling.specs.Grow.{grow, growResult};
 
 mod sampler;
 
-use front::Answer;
-use front::Refusal;
 use noise::Ruled;
+use refusals::Answer;
+use refusals::Refusal;
 use schemes::Named;
 
 // Noise: scheme, bytes, table. The values that the bytes give: 25 bytes a value in BCNS, by the table; four in NewHope and two in Frodo, which lend an empty
@@ -23,7 +23,7 @@ pub fn noise(scheme: u32, bytes: &[u8], table: &[u64], out: &mut [i32]) -> Answe
     ensures { λ r. ⌜ seen (told r) (left out) ≡ noiseResult (schemeOf scheme) (noise bytes table) (room out) ⌝ }
 {
     lists::zero_values(out);
-    let Named::Is(s) = schemes::scheme_of(scheme) else {
+    let Named::Known(s) = schemes::scheme_of(scheme) else {
         return Answer::Refused(Refusal::NoScheme);
     };
     sampler::noise_in(s, bytes, table, out)

@@ -5,12 +5,12 @@ ghost use mathlib.Core.List.{_++_};
 ghost use Prim.Native.Nat.{_*_, _/_, _%_, _≤_, _<_};
 ghost use lib.ListN.{length, drop, replicate};
 ghost use lib.IntN.{pos};
-ghost use Rattle.schemes.specs.Schemes.{familyOf, by};
-ghost use Rattle.schemes.specs.declared.Named.the-variants.{Is};
+ghost use Rattle.schemes.specs.Schemes.{familyOf, byFamily};
+ghost use Rattle.schemes.specs.declared.Named.the-variants.{Known};
 ghost use Rattle.lists.specs.Lent.{was, left, room};
-ghost use Rattle.front.specs.Front.{_then_, tableIn};
-ghost use Rattle.front.specs.Seen.{told, seen};
-ghost use Rattle.front.specs.declared.Verdict.the-variants.{Pass};
+ghost use Rattle.refusals.specs.Refusals.{_then_, tableIn};
+ghost use Rattle.refusals.specs.Seen.{told, seen};
+ghost use Rattle.refusals.specs.declared.Verdict.the-variants.{Pass};
 ghost use Rattle.bcns_noise.specs.Noise.{firstNotAbove};
 ghost use Rattle.noise.specs.declared.Ruled.the-variants.{By};
 ghost use Rattle.sponge.specs.Sponge.{shake128};
@@ -18,10 +18,10 @@ ghost use Rattle.sampling.specs.Noise.{noiseOf, noise, lengthEither, noi
 ghost use Rattle.sampling.specs.Expand.{expandOf, expand, expandResult};
 ghost use Rattle.sampling.specs.Grow.{growOf, grow, growResult};
 ghost use Rattle.sampling.specs.Steps.{noiseSizes, expandSizes, growSizes};
-use front::Answer;
-use front::Refusal;
-use front::Verdict;
 use noise::RuleName;
+use refusals::Answer;
+use refusals::Refusal;
+use refusals::Verdict;
 use schemes::Family;
 use schemes::NewHope;
 use schemes::Scheme;
@@ -33,7 +33,7 @@ fn length_either(m: usize, x: usize, y: usize) -> Verdict
     if m == x {
         return Verdict::Pass;
     }
-    front::length_is(Verdict::Pass, m, y)
+    refusals::length_is(Verdict::Pass, m, y)
 }
 
 // The tests of lengths, where a value takes so many bytes and the table so many words.
@@ -50,8 +50,8 @@ fn noise_sizes(
 {
     let f = s.fixed();
     let v = length_either(bytes.len(), each * f.noise, each * f.mixed);
-    let w = front::length_is(v, table.len(), words);
-    front::room_for(w, room, bytes.len() / each)
+    let w = refusals::length_is(v, table.len(), words);
+    refusals::room_for(w, room, bytes.len() / each)
 }
 
 // Each entry of the table is above its forerunner. The table is gone through only where nothing was refused before.
@@ -61,12 +61,12 @@ fn table_ascends(v: Verdict, table: &[u64]) -> Verdict
     let Verdict::Pass = v else {
         return v;
     };
-    front::table_in(Verdict::Pass, bcns_noise::first_not_above(table), 51)
+    refusals::table_in(Verdict::Pass, bcns_noise::first_not_above(table), 51)
 }
 
 // BCNS alone has a table, 51 entries of three words.
 fn noise_tests(s: Scheme, bytes: &[u8], table: &[u64], room: usize) -> Verdict
-    ensures { λ r. ⌜ r ≡ noiseTests (Is s) (noise bytes table) room ⌝ }
+    ensures { λ r. ⌜ r ≡ noiseTests (Known s) (noise bytes table) room ⌝ }
 {
     match s.family() {
         Family::Bcns => table_ascends(noise_sizes(s, 25, 153, bytes, table, room), table),
@@ -77,7 +77,7 @@ fn noise_tests(s: Scheme, bytes: &[u8], table: &[u64], room: usize) -> Verdict
 
 // How many values the bytes give, whatever the table.
 fn noise_count(s: Scheme, bytes: &[u8]) -> usize
-    ensures { λ r. ⌜ r ≡ length (was bytes) / by (familyOf s) 25 4 2 ⌝ }
+    ensures { λ r. ⌜ r ≡ length (was bytes) / byFamily (familyOf s) 25 4 2 ⌝ }
 {
     match s.family() {
         Family::Bcns => bytes.len() / 25,
@@ -88,8 +88,8 @@ fn noise_count(s: Scheme, bytes: &[u8]) -> usize
 
 // The values, into the part that they fill.
 fn noise_fill(s: Scheme, bytes: &[u8], table: &[u64], out: &mut [i32])
-    requires { ⌜ (length (now bytes) ≡ by (familyOf s) 25 4 2 * length (now out)) × (length (now table) ≤ 153) ⌝ }
-    ensures { λ _. ⌜ left out ≡ noiseValues (Is s) (noise bytes table) ⌝ }
+    requires { ⌜ (length (now bytes) ≡ byFamily (familyOf s) 25 4 2 * length (now out)) × (length (now table) ≤ 153) ⌝ }
+    ensures { λ _. ⌜ left out ≡ noiseValues (Known s) (noise bytes table) ⌝ }
 {
     match s {
         Scheme::Bcns => bcns_noise::values(table, bytes, out),
@@ -103,9 +103,9 @@ fn noise_fill(s: Scheme, bytes: &[u8], table: &[u64], out: &mut [i32])
 
 // The values at the front of the output, and how many they are.
 fn noise_values(s: Scheme, bytes: &[u8], table: &[u64], out: &mut [i32]) -> usize
-    requires { ⌜ noiseTests (Is s) (noiseOf (now bytes) (now table)) (length (now out)) ≡ Pass ⌝ }
-    ensures { λ r. ⌜ r ≡ length (noiseValues (Is s) (noise bytes table)) ⌝ }
-    ensures { λ r. ⌜ left out ≡ noiseValues (Is s) (noise bytes table) ++ drop r (was out) ⌝ }
+    requires { ⌜ noiseTests (Known s) (noiseOf (now bytes) (now table)) (length (now out)) ≡ Pass ⌝ }
+    ensures { λ r. ⌜ r ≡ length (noiseValues (Known s) (noise bytes table)) ⌝ }
+    ensures { λ r. ⌜ left out ≡ noiseValues (Known s) (noise bytes table) ++ drop r (was out) ⌝ }
 {
     let n = noise_count(s, bytes);
     noise_fill(s, bytes, table, &mut out[..n]);
@@ -115,7 +115,7 @@ fn noise_values(s: Scheme, bytes: &[u8], table: &[u64], out: &mut [i32]) -> usiz
 // Noise in a known scheme.
 pub(crate) fn noise_in(s: Scheme, bytes: &[u8], table: &[u64], out: &mut [i32]) -> Answer
     requires { ⌜ now out ≡ replicate (length (now out)) (pos 0) ⌝ }
-    ensures { λ r. ⌜ seen (told r) (left out) ≡ noiseResult (Is s) (noise bytes table) (room out) ⌝ }
+    ensures { λ r. ⌜ seen (told r) (left out) ≡ noiseResult (Known s) (noise bytes table) (room out) ⌝ }
 {
     let v = noise_tests(s, bytes, table, out.len());
     match v {
@@ -128,8 +128,8 @@ pub(crate) fn noise_in(s: Scheme, bytes: &[u8], table: &[u64], out: &mut [i32]) 
 fn expand_sizes(stream: &[u8], room: usize) -> Verdict
     ensures { λ r. ⌜ r ≡ expandSizes (expand stream) room ⌝ }
 {
-    let v = front::length_up_to(Verdict::Pass, stream.len(), 65536);
-    front::room_for(v, room, NewHope::PUBLIC)
+    let v = refusals::length_up_to(Verdict::Pass, stream.len(), 65536);
+    refusals::room_for(v, room, NewHope::PUBLIC)
 }
 
 // Expand, where the lengths are allowed. Where the stream runs out, the numbers that were written are zeroed again.
@@ -162,8 +162,8 @@ pub(crate) fn expand_by(name: RuleName, stream: &[u8], out: &mut [u32]) -> Answe
 fn grow_sizes(seed: &[u8], room: usize) -> Verdict
     ensures { λ r. ⌜ r ≡ growSizes (grow seed) room ⌝ }
 {
-    let v = front::length_is(Verdict::Pass, seed.len(), NewHope::SEED);
-    front::room_for(v, room, NewHope::PUBLIC)
+    let v = refusals::length_is(Verdict::Pass, seed.len(), NewHope::SEED);
+    refusals::room_for(v, room, NewHope::PUBLIC)
 }
 
 // The bytes that are made first, of whole words: 17 blocks by the low bits, too few for one seed in about 500, and 14 by the whole word, too few for none that

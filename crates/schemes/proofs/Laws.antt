@@ -11,8 +11,8 @@ use borrow.Author.Tests.{eqb-true}
 use Rattle.schemes.specs.declared.Scheme.{Scheme}
 use Rattle.schemes.specs.declared.Scheme.the-variants.{Bcns, NewHope, Challenge, Classical, Recommended, Paranoid}
 use Rattle.schemes.specs.declared.Named.{Named}
-use Rattle.schemes.specs.declared.Named.the-variants.{Is, Unknown}
-use Rattle.schemes.specs.Schemes.{fixedOf, numberOf, schemeOf, Tied}
+use Rattle.schemes.specs.declared.Named.the-variants.{Known, Unknown}
+use Rattle.schemes.specs.Schemes.{fixedOf, schemeNumber, schemeOf, Tied}
 
 pub tied : (s : Scheme) → Tied (fixedOf s)
 tied Bcns = record { numbers = refl; hints = refl; keys = refl; coins = refl; noise = refl; opening = refl; reply = refl }
@@ -22,7 +22,7 @@ tied Classical = record { numbers = refl; hints = refl; keys = refl; coins = ref
 tied Recommended = record { numbers = refl; hints = refl; keys = refl; coins = refl; noise = refl; opening = refl; reply = refl }
 tied Paranoid = record { numbers = refl; hints = refl; keys = refl; coins = refl; noise = refl; opening = refl; reply = refl }
 
-pub by-number : (s : Scheme) → schemeOf (numberOf s) ≡ Is s
+pub by-number : (s : Scheme) → schemeOf (schemeNumber s) ≡ Known s
 by-number Bcns = refl
 by-number NewHope = refl
 by-number Challenge = refl
@@ -31,23 +31,23 @@ by-number Recommended = refl
 by-number Paranoid = refl
 
 -- one number of the list more
-one : (k i : ℕ) (b : Scheme) (rest : Named) → i ≡ numberOf b → ((c : Scheme) → rest ≡ Is c → k ≡ numberOf c)
-    → (c : Scheme) → cond (eqb k i) (Is b) rest ≡ Is c → k ≡ numberOf c
+one : (k i : ℕ) (b : Scheme) (rest : Named) → i ≡ schemeNumber b → ((c : Scheme) → rest ≡ Known c → k ≡ schemeNumber c)
+    → (c : Scheme) → cond (eqb k i) (Known b) rest ≡ Known c → k ≡ schemeNumber c
 one k i b rest e h c = go (eqb k i) refl
   where
-    go : (t : Bool) → eqb k i ≡ t → cond t (Is b) rest ≡ Is c → k ≡ numberOf c
+    go : (t : Bool) → eqb k i ≡ t → cond t (Known b) rest ≡ Known c → k ≡ schemeNumber c
     go true f d = let p : b ≡ c = cc in rw (← p) (eqb-true k i f ∙ e)
     go false f d = h c d
 
-pub by-scheme : (k : ℕ) (c : Scheme) → schemeOf k ≡ Is c → k ≡ numberOf c
+pub by-scheme : (k : ℕ) (c : Scheme) → schemeOf k ≡ Known c → k ≡ schemeNumber c
 by-scheme k =
     one k 0 Bcns _ refl (one k 1 NewHope _ refl (one k 2 Challenge _ refl
     (one k 3 Classical _ refl (one k 4 Recommended _ refl (one k 5 Paranoid Unknown refl none)))))
   where
-    none : (c : Scheme) → Unknown ≡ Is c → k ≡ numberOf c
+    none : (c : Scheme) → Unknown ≡ Known c → k ≡ schemeNumber c
     none c d = let z : _≡_ {A = ℕ} 0 1 = cc in absurd (omega arith)
 
-pub few-schemes : (s : Scheme) → numberOf s ≤ 5
+pub few-schemes : (s : Scheme) → schemeNumber s ≤ 5
 few-schemes Bcns = omega arith
 few-schemes NewHope = omega arith
 few-schemes Challenge = omega arith

@@ -3,7 +3,7 @@
 --   fixedOf s                 the same, by the scheme
 --   familyOf s                the family of a scheme
 --   by F bcns newHope frodo   what is meant in each family
---   numberOf s                the number of a scheme, 0 to 5
+--   schemeNumber s                the number of a scheme, 0 to 5
 --   schemeOf k                the scheme that a number names, or that it names none
 --   Tied f                    how the lengths of a scheme hang together
 use mathlib.Core.Path.{_≡_}
@@ -15,7 +15,7 @@ use Rattle.schemes.specs.declared.Family.{Family}
 use Rattle.schemes.specs.declared.Scheme.{Scheme}
 use Rattle.schemes.specs.declared.Scheme.the-variants.{Bcns, NewHope, Challenge, Classical, Recommended, Paranoid}
 use Rattle.schemes.specs.declared.Named.{Named}
-use Rattle.schemes.specs.declared.Named.the-variants.{Is, Unknown}
+use Rattle.schemes.specs.declared.Named.the-variants.{Known, Unknown}
 
 -- 01, "The three families and their numbers", "The calls" and "Bytes on the wire"
 abbrev pub bcns : Fixed
@@ -120,28 +120,28 @@ familyOf Recommended = Family.Frodo
 familyOf Paranoid = Family.Frodo
 
 -- what differs from family to family
-abbrev pub by : {A : Type 0} → Family → A → A → A → A
-by Family.Bcns bcns newHope frodo = bcns
-by Family.NewHope bcns newHope frodo = newHope
-by Family.Frodo bcns newHope frodo = frodo
+abbrev pub byFamily : {A : Type 0} → Family → A → A → A → A
+byFamily Family.Bcns bcns newHope frodo = bcns
+byFamily Family.NewHope bcns newHope frodo = newHope
+byFamily Family.Frodo bcns newHope frodo = frodo
 
-abbrev pub numberOf : Scheme → ℕ
-numberOf Bcns = 0
-numberOf NewHope = 1
-numberOf Challenge = 2
-numberOf Classical = 3
-numberOf Recommended = 4
-numberOf Paranoid = 5
+abbrev pub schemeNumber : Scheme → ℕ
+schemeNumber Bcns = 0
+schemeNumber NewHope = 1
+schemeNumber Challenge = 2
+schemeNumber Classical = 3
+schemeNumber Recommended = 4
+schemeNumber Paranoid = 5
 
 -- 01, "Refusal numbers and their order", 1: the scheme is not 0 to 5
 abbrev pub schemeOf : ℕ → Named
 schemeOf k =
-    cond (eqb k 0) (Is Bcns)
-    (cond (eqb k 1) (Is NewHope)
-    (cond (eqb k 2) (Is Challenge)
-    (cond (eqb k 3) (Is Classical)
-    (cond (eqb k 4) (Is Recommended)
-    (cond (eqb k 5) (Is Paranoid)
+    cond (eqb k 0) (Known Bcns)
+    (cond (eqb k 1) (Known NewHope)
+    (cond (eqb k 2) (Known Challenge)
+    (cond (eqb k 3) (Known Classical)
+    (cond (eqb k 4) (Known Recommended)
+    (cond (eqb k 5) (Known Paranoid)
     Unknown)))))
 
 -- 01, "Bytes on the wire": every total fills whole bytes, and a message is the sum of its parts

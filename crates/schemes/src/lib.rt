@@ -3,7 +3,7 @@
 // the two: a number that is changed on one side alone fails the check.
 ghost use mathlib.Core.Path.{_≡_};
 ghost use Prim.Native.Nat.{_≤_};
-ghost use Rattle.schemes.specs.Schemes.{bcns, newHope, frodo, challenge, classical, recommended, paranoid, fixedOf, familyOf, numberOf, schemeOf};
+ghost use Rattle.schemes.specs.Schemes.{bcns, newHope, frodo, challenge, classical, recommended, paranoid, fixedOf, familyOf, schemeNumber, schemeOf};
 
 // What is fixed in a scheme. Lengths of bytes and counts of numbers are usize, widths in bits and bounds u32.
 pub struct Fixed {
@@ -362,7 +362,7 @@ impl Scheme {
     }
 
     pub fn number(self) -> u32
-        ensures { λ r. ⌜ r ≡ numberOf self ⌝ }
+        ensures { λ r. ⌜ r ≡ schemeNumber self ⌝ }
     {
         match self {
             Scheme::Bcns => 0,
@@ -377,7 +377,7 @@ impl Scheme {
 
 // The scheme that a number names, if it names one.
 pub enum Named {
-    Is(Scheme),
+    Known(Scheme),
     Unknown,
 }
 
@@ -385,12 +385,12 @@ pub fn scheme_of(no: u32) -> Named
     ensures { λ r. ⌜ r ≡ schemeOf no ⌝ }
 {
     match no {
-        0 => Named::Is(Scheme::Bcns),
-        1 => Named::Is(Scheme::NewHope),
-        2 => Named::Is(Scheme::Challenge),
-        3 => Named::Is(Scheme::Classical),
-        4 => Named::Is(Scheme::Recommended),
-        5 => Named::Is(Scheme::Paranoid),
+        0 => Named::Known(Scheme::Bcns),
+        1 => Named::Known(Scheme::NewHope),
+        2 => Named::Known(Scheme::Challenge),
+        3 => Named::Known(Scheme::Classical),
+        4 => Named::Known(Scheme::Recommended),
+        5 => Named::Known(Scheme::Paranoid),
         _ => Named::Unknown,
     }
 }

@@ -18,18 +18,18 @@ use lib.ListN.{length, take, drop, length-take}
 use lib.Seq.{length-take-le}
 use Rattle.schemes.specs.Schemes.{schemeOf}
 use Rattle.schemes.specs.declared.Named.{Named}
-use Rattle.schemes.specs.declared.Named.the-variants.{Is, Unknown}
+use Rattle.schemes.specs.declared.Named.the-variants.{Known, Unknown}
 use Rattle.schemes.proofs.Sound.{sound}
 use Rattle.lists.proofs.Parts.{drop-same}
-use Rattle.front.specs.Front.{numberOf, numberIn}
-use Rattle.front.specs.Seen.{ifPassed, Output, output, written, answer, Seen, shown, told, seen}
-use Rattle.front.specs.declared.Answer.{Answer}
-use Rattle.front.specs.declared.Refusal.{Refusal}
-use Rattle.front.specs.declared.Refusal.the-variants.{OutOfStage}
-use Rattle.front.specs.declared.Verdict.{Verdict}
-use Rattle.front.specs.declared.Verdict.the-variants.{Pass, Fail}
-use Rattle.front.proofs.Laws.{some, number-zero}
-use Rattle.front.proofs.Seen.{written-answer}
+use Rattle.refusals.specs.Refusals.{numberOf, numberIn}
+use Rattle.refusals.specs.Seen.{ifPassed, Output, output, written, answer, Seen, shown, told, seen}
+use Rattle.refusals.specs.declared.Answer.{Answer}
+use Rattle.refusals.specs.declared.Refusal.{Refusal}
+use Rattle.refusals.specs.declared.Refusal.the-variants.{OutOfStage}
+use Rattle.refusals.specs.declared.Verdict.{Verdict}
+use Rattle.refusals.specs.declared.Verdict.the-variants.{Pass, Fail}
+use Rattle.refusals.proofs.Laws.{some, number-zero}
+use Rattle.refusals.proofs.Seen.{written-answer}
 use Rattle.offer.specs.Offer.{Offer, offerResult}
 use Rattle.reply.specs.Reply.{Reply, ReplyRooms, ReplySeen, replyKey, replyTold, replySeen, outputs, replyResult}
 use Rattle.finish.specs.Finish.{Finish, FinishRooms, FinishSeen, finishKey, finishOf, finishTold, finishSeen, finishShown, finishResult}
@@ -80,12 +80,12 @@ module _ (y : Session) (x : Call) {t : CallSeen} where
 pub reply-key-few : (c : Named) (x : Reply) → length (replyKey c x) ≤ 128
 unfolding replyKey
 reply-key-few Unknown x = omega arith
-reply-key-few (Is c) x = omega (arith, key-length c x, sound c .keys)
+reply-key-few (Known c) x = omega (arith, key-length c x, sound c .keys)
 
 pub finish-key-few : (c : Named) (x : Finish) → length (finishKey c x) ≤ 128
 unfolding finishKey
 finish-key-few Unknown x = omega arith
-finish-key-few (Is c) x = omega (arith, finishes.key-length c x, sound c .keys)
+finish-key-few (Known c) x = omega (arith, finishes.key-length c x, sound c .keys)
 
 pub kept-law : (key place copied : List ℕ) (n : ℕ) → n ≤ 128 → n ≤ length key → place ≡ noKey → copied ≡ take (n - 0) key
     → copied ++ drop (n - 0) place ≡ padded (take n key)

@@ -8,13 +8,13 @@ use Prim.Native.Nat.{ℕ}
 use native.Mathlib.Omega.{arith}
 use Rattle.schemes.specs.Schemes.{schemeOf}
 use Rattle.schemes.specs.declared.Named.{Named}
-use Rattle.schemes.specs.declared.Named.the-variants.{Is, Unknown}
-use Rattle.front.specs.Front.{numberIn}
-use Rattle.front.specs.Seen.{ifPassed}
-use Rattle.front.specs.declared.Refusal.the-variants.{OutOfStage}
-use Rattle.front.specs.declared.Verdict.{Verdict}
-use Rattle.front.specs.declared.Verdict.the-variants.{Pass, Fail}
-use Rattle.front.proofs.Laws.{number-zero}
+use Rattle.schemes.specs.declared.Named.the-variants.{Known, Unknown}
+use Rattle.refusals.specs.Refusals.{numberIn}
+use Rattle.refusals.specs.Seen.{ifPassed}
+use Rattle.refusals.specs.declared.Refusal.the-variants.{OutOfStage}
+use Rattle.refusals.specs.declared.Verdict.{Verdict}
+use Rattle.refusals.specs.declared.Verdict.the-variants.{Pass, Fail}
+use Rattle.refusals.proofs.Laws.{number-zero}
 use Rattle.reply.specs.Reply.{Reply, replyKey}
 use Rattle.reply.proofs.Replying.{key-length}
 use Rattle.finish.specs.Finish.{Finish, finishKey}
@@ -73,17 +73,17 @@ kept y x n = kept-by (outcome (y .stage) x) y (row x .leads) (λ e. n (verdict y
 
 offered-sound : (c : Named) → Sound (offered c)
 offered-sound Unknown = refl
-offered-sound (Is c) = refl
+offered-sound (Known c) = refl
 
 replied-sound : (c : Named) (x : Reply) → Sound (keyed c (replyKey c x))
 unfolding replyKey
 replied-sound Unknown x = refl
-replied-sound (Is c) x = fits (replyKey (Is c) x) (key-length c x) refl
+replied-sound (Known c) x = fits (replyKey (Known c) x) (key-length c x) refl
 
 finished-sound : (c : Named) (x : Finish) → Sound (keyed c (finishKey c x))
 unfolding finishKey
 finished-sound Unknown x = refl
-finished-sound (Is c) x = fits (finishKey (Is c) x) (finishes.key-length c x) refl
+finished-sound (Known c) x = fits (finishKey (Known c) x) (finishes.key-length c x) refl
 
 leads-sound : (x : Call) → Sound (row x .leads)
 unfolding row

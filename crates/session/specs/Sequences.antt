@@ -16,8 +16,8 @@ use mathlib.Core.List.{List, [], _∷_}
 use Prim.Native.Nat.{ℕ}
 use lib.ListN.{length}
 use Rattle.schemes.specs.Schemes.{schemeOf, fixedOf}
-use Rattle.front.specs.declared.Refusal.the-variants.{OutOfStage}
-use Rattle.front.specs.declared.Verdict.the-variants.{Pass, Fail}
+use Rattle.refusals.specs.declared.Refusal.the-variants.{OutOfStage}
+use Rattle.refusals.specs.declared.Verdict.the-variants.{Pass, Fail}
 use Rattle.offer.specs.Offer.{offerResult}
 use Rattle.reply.specs.Reply.{replyResult}
 use Rattle.finish.specs.Finish.{finishResult}

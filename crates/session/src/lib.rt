@@ -8,8 +8,8 @@ ghost use lib.ListN.{length, take};
 ghost use Rattle.schemes.specs.Schemes.{schemeOf};
 ghost use Rattle.lists.specs.Lent.{was, left, room};
 ghost use Rattle.schemes.specs.declared.Named.the-variants.{Unknown};
-ghost use Rattle.front.specs.Seen.{told, seen, shown};
-ghost use Rattle.front.specs.declared.Verdict.the-variants.{Fail};
+ghost use Rattle.refusals.specs.Seen.{told, seen, shown};
+ghost use Rattle.refusals.specs.declared.Verdict.the-variants.{Fail};
 ghost use Rattle.offer.specs.Offer as offers;
 ghost use Rattle.reply.specs.Reply as replies;
 ghost use Rattle.finish.specs.Finish as finishes;
@@ -17,8 +17,8 @@ ghost use Rattle.session.specs.Table.{offering, replying, finishing, clo
 ghost use Rattle.session.specs.Table as table;
 ghost use Rattle.session.specs.Seen.{ofOffer, ofReply, ofFinish, ofClose, turn, moved};
 use finish::FinishAnswer;
-use front::Answer;
-use front::Refusal;
+use refusals::Answer;
+use refusals::Refusal;
 use reply::ReplyAnswer;
 use schemes::Named;
 use schemes::Scheme;
@@ -95,7 +95,7 @@ pub fn idle() -> Session
 fn offered(scheme: u32) -> Session
     ensures { λ r. ⌜ r ≡ table.offered (schemeOf scheme) ⌝ }
 {
-    let Named::Is(known) = schemes::scheme_of(scheme) else {
+    let Named::Known(known) = schemes::scheme_of(scheme) else {
         return idle();
     };
     Session {
@@ -119,7 +119,7 @@ fn keyed(scheme: u32, key: &[u8], n: usize) -> Session
     requires { ⌜ (n ≤ 128) × (n ≤ length (now key)) ⌝ }
     ensures { λ r. ⌜ r ≡ table.keyed (schemeOf scheme) (take n (was key)) ⌝ }
 {
-    let Named::Is(known) = schemes::scheme_of(scheme) else {
+    let Named::Known(known) = schemes::scheme_of(scheme) else {
         return idle();
     };
     Session {

@@ -15,9 +15,9 @@ use Rattle.schemes.specs.declared.Scheme.the-variants.{Bcns, NewHope, Challenge
 use Rattle.schemes.proofs.Sound.{sound}
 use Rattle.blank.specs.Blank.{blank}
 use Rattle.blank.proofs.Laws.{blank-zeros, zeros-blank}
-use Rattle.front.specs.Seen.{done}
-use Rattle.front.specs.declared.Refusal.the-variants.{OutOfStage}
-use Rattle.front.specs.declared.Verdict.the-variants.{Fail}
+use Rattle.refusals.specs.Seen.{done}
+use Rattle.refusals.specs.declared.Refusal.the-variants.{OutOfStage}
+use Rattle.refusals.specs.declared.Verdict.the-variants.{Fail}
 use Rattle.session.specs.declared.Stage.{Stage}
 use Rattle.session.specs.declared.Stage.the-variants.{Idle, Offered, Keyed}
 use Rattle.session.specs.declared.Session.{Session}

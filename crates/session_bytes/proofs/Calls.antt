@@ -10,9 +10,9 @@ use Prim.Native.Nat.{ℕ, _≤_}
 use native.Mathlib.Omega.{arith}
 use lib.ListN.{length, take, drop, replicate, set, length-drop, drop-of-length-le}
 use lib.Seq.{take-all, length-take-le}
-use Rattle.front.specs.Seen.{done}
-use Rattle.front.specs.declared.Refusal.the-variants.{OutOfStage}
-use Rattle.front.specs.declared.Verdict.the-variants.{Fail}
+use Rattle.refusals.specs.Seen.{done}
+use Rattle.refusals.specs.declared.Refusal.the-variants.{OutOfStage}
+use Rattle.refusals.specs.declared.Verdict.the-variants.{Fail}
 use Rattle.session.specs.declared.Stage.{Stage}
 use Rattle.session.specs.declared.Session.{Session}
 use Rattle.session.specs.Table.{Call, closing}

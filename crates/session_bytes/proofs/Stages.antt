@@ -15,7 +15,7 @@ use borrow.Author.Tests.{eq-eqb, ne-eqb, eqb-true}
 use Rattle.schemes.specs.Schemes.{schemeOf}
 use Rattle.schemes.specs.declared.Scheme.{Scheme}
 use Rattle.schemes.specs.declared.Named.{Named}
-use Rattle.schemes.specs.declared.Named.the-variants.{Is, Unknown}
+use Rattle.schemes.specs.declared.Named.the-variants.{Known, Unknown}
 use Rattle.schemes.proofs.Laws.{by-scheme}
 use Rattle.blank.specs.Blank.{blank}
 use Rattle.session.specs.declared.Stage.{Stage}
@@ -45,7 +45,7 @@ module _ (t k : ℕ) where
         go false true = refl
         go false false = refl
 
-    module _ {c : Scheme} (e : n ≡ Is c) where
+    module _ {c : Scheme} (e : n ≡ Known c) where
       pub stage-offered : t ≡ 1 → At (Offered c) ≡ stageIn t k
       unfolding stageIn
       stage-offered f = rw (ne-eqb t 0 h, eq-eqb t 1 f, sym d ∙ e)
@@ -90,11 +90,11 @@ apart e = let z : _≡_ {A = ℕ} 0 1 = cc in absurd (omega arith)
 
 offered-numbers : (k : ℕ) (st : Stage) (n : Named) → schemeOf k ≡ n → offeredAt n ≡ At st → (1 ≡ stageByte st) × (k ≡ schemeByte st)
 offered-numbers k st Unknown d e = apart e
-offered-numbers k st (Is c) d e = let p : Offered c ≡ st = cc in rw (← p) (refl, by-scheme k c d)
+offered-numbers k st (Known c) d e = let p : Offered c ≡ st = cc in rw (← p) (refl, by-scheme k c d)
 
 keyed-numbers : (k : ℕ) (st : Stage) (n : Named) → schemeOf k ≡ n → keyedAt n ≡ At st → (2 ≡ stageByte st) × (k ≡ schemeByte st)
 keyed-numbers k st Unknown d e = apart e
-keyed-numbers k st (Is c) d e = let p : Keyed c ≡ st = cc in rw (← p) (refl, by-scheme k c d)
+keyed-numbers k st (Known c) d e = let p : Keyed c ≡ st = cc in rw (← p) (refl, by-scheme k c d)
 
 pub numbers-back : (t k : ℕ) (st : Stage) → stageIn t k ≡ At st → (t ≡ stageByte st) × (k ≡ schemeByte st)
 unfolding stageIn

@@ -11,12 +11,12 @@ use mathlib.Core.List.{List, _∷_}
 use Prim.Native.Nat.{ℕ}
 use lib.Dec.{eqb}
 use lib.ListN.{length, getD, drop, replicate}
-use Rattle.schemes.specs.Schemes.{schemeOf, numberOf, fixedOf}
+use Rattle.schemes.specs.Schemes.{schemeOf, schemeNumber, fixedOf}
 use Rattle.schemes.specs.declared.Named.{Named}
-use Rattle.schemes.specs.declared.Named.the-variants.{Is, Unknown}
+use Rattle.schemes.specs.declared.Named.the-variants.{Known, Unknown}
 use Rattle.blank.specs.Blank.{blank}
-use Rattle.front.specs.declared.Refusal.the-variants.{OutOfStage}
-use Rattle.front.specs.declared.Verdict.the-variants.{Pass, Fail}
+use Rattle.refusals.specs.declared.Refusal.the-variants.{OutOfStage}
+use Rattle.refusals.specs.declared.Verdict.the-variants.{Pass, Fail}
 use Rattle.session.specs.declared.Stage.{Stage}
 use Rattle.session.specs.declared.Stage.the-variants.{Idle, Offered, Keyed}
 use Rattle.session.specs.declared.Session.{Session}
@@ -34,8 +34,8 @@ stageByte (Keyed c) = 2
 
 abbrev pub schemeByte : Stage → ℕ
 schemeByte Idle = 0
-schemeByte (Offered c) = numberOf c
-schemeByte (Keyed c) = numberOf c
+schemeByte (Offered c) = schemeNumber c
+schemeByte (Keyed c) = schemeNumber c
 
 unfoldable pub bytesOf : Session → List ℕ
 bytesOf y = stageByte (y .stage) ∷ schemeByte (y .stage) ∷ y .key
@@ -43,11 +43,11 @@ bytesOf y = stageByte (y .stage) ∷ schemeByte (y .stage) ∷ y .key
 -- ---- taken apart
 
 abbrev pub offeredAt : Named → Found
-offeredAt (Is c) = At (Offered c)
+offeredAt (Known c) = At (Offered c)
 offeredAt Unknown = Nowhere
 
 abbrev pub keyedAt : Named → Found
-keyedAt (Is c) = At (Keyed c)
+keyedAt (Known c) = At (Keyed c)
 keyedAt Unknown = Nowhere
 
 unfoldable pub stageIn : ℕ → ℕ → Found

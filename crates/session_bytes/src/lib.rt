@@ -4,7 +4,7 @@ ghost use mathlib.Core.Path.{_≡_};
 ghost use Prim.Native.Nat.{_≤_};
 ghost use lib.ListN.{length, drop};
 ghost use Rattle.lists.specs.Lent.{was, left, room};
-ghost use Rattle.front.specs.Seen.{done, told, seen};
+ghost use Rattle.refusals.specs.Seen.{done, told, seen};
 ghost use Rattle.offer.specs.Offer as offers;
 ghost use Rattle.reply.specs.Reply as replies;
 ghost use Rattle.finish.specs.Finish as finishes;
@@ -12,8 +12,8 @@ ghost use Rattle.session.specs.Table.{offering, replying, finishing, closing};
 ghost use Rattle.session.specs.Seen.{ofOffer, ofReply, ofFinish, ofClose, turn};
 ghost use Rattle.session_bytes.specs.Bytes.{stageByte, schemeByte, bytesOf, stageIn, keyLength, staged, movedBytes};
 use finish::FinishAnswer;
-use front::Answer;
-use front::Refusal;
+use refusals::Answer;
+use refusals::Refusal;
 use reply::ReplyAnswer;
 use schemes::Named;
 use session::Session;
@@ -66,7 +66,7 @@ fn stage_in(stage: u8, scheme: u8) -> Found
         }
         return Found::Nowhere;
     }
-    let Named::Is(known) = schemes::scheme_of(scheme as u32) else {
+    let Named::Known(known) = schemes::scheme_of(scheme as u32) else {
         return Found::Nowhere;
     };
     if stage == 1 {

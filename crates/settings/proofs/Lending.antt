@@ -11,13 +11,13 @@ use lib.ListN.{length, take, drop, replicate, length-append}
 use lib.Seq.{take-append-seam}
 use borrow.Author.Tests.{lt-leb}
 use Rattle.lists.proofs.Same.{zeros-long}
-use Rattle.front.specs.Front.{roomFor}
-use Rattle.front.specs.Seen.{written, Told, done, refused}
-use Rattle.front.specs.declared.Refusal.{Refusal}
-use Rattle.front.specs.declared.Refusal.the-variants.{Short, Misfit, NewerFormat}
-use Rattle.front.specs.declared.Verdict.the-variants.{Pass, Fail}
-use Rattle.front.proofs.Laws.{room-passes, failed, went-on}
-use Rattle.front.proofs.Seen.{written-passed, told-all}
+use Rattle.refusals.specs.Refusals.{roomFor}
+use Rattle.refusals.specs.Seen.{written, Told, done, refused}
+use Rattle.refusals.specs.declared.Refusal.{Refusal}
+use Rattle.refusals.specs.declared.Refusal.the-variants.{Short, Misfit, NewerFormat}
+use Rattle.refusals.specs.declared.Verdict.the-variants.{Pass, Fail}
+use Rattle.refusals.proofs.Laws.{room-passes, failed, went-on}
+use Rattle.refusals.proofs.Seen.{written-passed, told-all}
 use Rattle.settings.specs.Settings.{Kept, formatOf, Reading, kept, newer, misfit, reads}
 use Rattle.settings.specs.Answers.{answerOf, lentOf, shortOf}
 use Rattle.settings.specs.Calls.{Read, readingOf, readTests, formatTold, ReadSeen, ReadCounts, readShown, readResult, readTold, readSeen, ReadSeenAll, ReadToldAll}

@@ -16,14 +16,14 @@ use native.Mathlib.Omega.{arith}
 use lib.ListN.{length, take, replicate, length-append}
 use lib.Seq.{take-append-seam}
 use borrow.Author.Tests.{leb-true, le-leb, lt-leb, ne-eqb}
-use Rattle.front.specs.Front.{_then_, lengthUpTo, roomFor}
-use Rattle.front.specs.Seen.{written, done, refused, shown, seen}
-use Rattle.front.specs.declared.Refusal.{Refusal}
-use Rattle.front.specs.declared.Refusal.the-variants.{NoScheme, NoRule, Misfit}
-use Rattle.front.specs.declared.Verdict.{Verdict}
-use Rattle.front.specs.declared.Verdict.the-variants.{Pass, Fail}
-use Rattle.front.proofs.Laws.{both, number-zero, differ, stays, goes-on, also, up-to-passed, room-passed}
-use Rattle.front.proofs.Seen.{shown-failed, written-answer}
+use Rattle.refusals.specs.Refusals.{_then_, lengthUpTo, roomFor}
+use Rattle.refusals.specs.Seen.{written, done, refused, shown, seen}
+use Rattle.refusals.specs.declared.Refusal.{Refusal}
+use Rattle.refusals.specs.declared.Refusal.the-variants.{NoScheme, NoRule, Misfit}
+use Rattle.refusals.specs.declared.Verdict.{Verdict}
+use Rattle.refusals.specs.declared.Verdict.the-variants.{Pass, Fail}
+use Rattle.refusals.proofs.Laws.{both, number-zero, differ, stays, goes-on, also, up-to-passed, room-passed}
+use Rattle.refusals.proofs.Seen.{shown-failed, written-answer}
 use Rattle.text.specs.Text.{LF, digitsUpTo, decimal, schemeName, line}
 use Rattle.text.specs.Steps.{labelled, Written}
 use Rattle.text.proofs.Writing.{joined, Left, left-all, written-none, one-digit, line-length}

@@ -11,8 +11,8 @@ use mathlib.Core.List.{_++_}
 use Prim.Native.Nat.{ℕ, _+_, _-_}
 use lib.Dec.{eqb}
 use lib.ListN.{length, replicate}
-use Rattle.front.specs.declared.Answer.the-variants.{Done, Refused}
-use Rattle.front.specs.declared.Refusal.the-variants.{Short, Misfit, NewerFormat}
+use Rattle.refusals.specs.declared.Answer.the-variants.{Done, Refused}
+use Rattle.refusals.specs.declared.Refusal.the-variants.{Short, Misfit, NewerFormat}
 use Rattle.settings.specs.Settings.{Kept, Reading, kept, newer, misfit, formatOf}
 use Rattle.settings.specs.declared.Ending.{Ending}
 use Rattle.settings.specs.declared.Ending.the-variants as ending

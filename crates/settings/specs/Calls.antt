@@ -24,11 +24,11 @@ use Prim.Native.Nat.{ℕ}
 use lib.Dec.{leb}
 use lib.ListN.{length}
 use Rattle.lists.specs.Lent.{Lent, was}
-use Rattle.front.specs.Front.{numberIn, placeIn, _then_, lengthUpTo, roomFor}
-use Rattle.front.specs.Seen.{ifPassed, Output, output, written, Told, Seen, shown, told}
-use Rattle.front.specs.declared.Refusal.the-variants.{NoScheme, NoRule, Misfit, NewerFormat}
-use Rattle.front.specs.declared.Verdict.{Verdict}
-use Rattle.front.specs.declared.Verdict.the-variants.{Pass, Fail}
+use Rattle.refusals.specs.Refusals.{numberIn, placeIn, _then_, lengthUpTo, roomFor}
+use Rattle.refusals.specs.Seen.{ifPassed, Output, output, written, Told, Seen, shown, told}
+use Rattle.refusals.specs.declared.Refusal.the-variants.{NoScheme, NoRule, Misfit, NewerFormat}
+use Rattle.refusals.specs.declared.Verdict.{Verdict}
+use Rattle.refusals.specs.declared.Verdict.the-variants.{Pass, Fail}
 use Rattle.settings.specs.Settings.{Kept, keptOf, formatOf, textOf, isScheme, isRule, letters, Reading, kept, newer, misfit, reads}
 use Rattle.settings.specs.declared.LentAnswer.{LentAnswer}
 

@@ -33,7 +33,7 @@ keptOf a b l = record { scheme = a; rule = b; label = l }
 
 -- ---- the text of settings
 
--- `format`, `rule`, `label` in bytes
+-- `format`, `rule`, `figures` in bytes
 abbrev pub formatName : List ℕ
 formatName = 102 ∷ 111 ∷ 114 ∷ 109 ∷ 97 ∷ 116 ∷ []
 
@@ -58,7 +58,7 @@ textOf x = line formatName (formatOf (length (x .label))) ++ (line schemeName (x
 -- ---- what settings are
 
 abbrev pub someScheme : Named → Bool
-someScheme (named.Is s) = true
+someScheme (named.Known s) = true
 someScheme named.Unknown = false
 
 abbrev pub someRule : Ruled → Bool

@@ -16,7 +16,7 @@ use mathlib.Core.Path.{_≡_}
 use mathlib.Core.List.{List}
 use Prim.Native.Nat.{ℕ, _≤_, _<_}
 use lib.ListN.{length, take}
-use Rattle.front.specs.Seen.{answer}
+use Rattle.refusals.specs.Seen.{answer}
 use Rattle.text.specs.Text.{number, fieldIn}
 use Rattle.settings.specs.Settings.{Kept, formatName, formatOf, textOf, Valid, kept, newer, reads}
 use Rattle.settings.specs.Calls.{writeResult}

@@ -2,7 +2,7 @@
 // knows; the writer takes the oldest format that holds the settings. No public call has a `requires`.
 ghost use mathlib.Core.Path.{_≡_};
 ghost use Rattle.lists.specs.Lent.{was, left, room};
-ghost use Rattle.front.specs.Seen.{told, seen};
+ghost use Rattle.refusals.specs.Seen.{told, seen};
 ghost use Rattle.settings.specs.Settings.{keptOf, formatOf, isScheme, isRule, notAllowed, letters, reads};
 ghost use Rattle.settings.specs.Answers.{answerOf};
 ghost use Rattle.settings.specs.Calls.{writeResult, readOf, readResult, readTold, readSeen};
@@ -10,8 +10,8 @@ ghost use Rattle.settings.specs.Calls.{writeResult, readOf, readResult, 
 mod reader;
 mod writer;
 
-use front::Answer;
-use front::Verdict;
+use refusals::Answer;
+use refusals::Verdict;
 use text::Found;
 
 // How reading ended: with settings; with a newer format, by its number (refusal 15); or with any other misfit (8).

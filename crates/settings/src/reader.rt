@@ -10,8 +10,8 @@ use crate::Ending;
 use crate::LentAnswer;
 use crate::ReadAnswer;
 use crate::Settings;
-use front::Answer;
-use front::Refusal;
+use refusals::Answer;
+use refusals::Refusal;
 use text::Found;
 
 // No settings.

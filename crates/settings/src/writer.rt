@@ -3,13 +3,13 @@ ghost use mathlib.Core.Path.{_≡_};
 ghost use Prim.Native.Nat.{_+_, _≤_};
 ghost use lib.ListN.{length};
 ghost use Rattle.lists.specs.Lent.{was, left};
-ghost use Rattle.front.specs.Front.{_then_};
+ghost use Rattle.refusals.specs.Refusals.{_then_};
 ghost use Rattle.text.specs.Steps.{Written};
 ghost use Rattle.settings.specs.Settings.{keptOf, labelLine, textOf};
 ghost use Rattle.settings.specs.Answers.{sizeOf};
 ghost use Rattle.settings.specs.Calls.{schemeKnown, ruleKnown, allowed, writeTests};
-use front::Refusal;
-use front::Verdict;
+use refusals::Refusal;
+use refusals::Verdict;
 
 // The scheme, then the rule.
 fn known(scheme: u32, rule: u32) -> Verdict
@@ -55,12 +55,12 @@ fn size(n: usize) -> usize
 pub(crate) fn write_tests(scheme: u32, rule: u32, label: &[u8], room: usize) -> Verdict
     ensures { λ r. ⌜ r ≡ writeTests (keptOf scheme rule (was label)) room ⌝ }
 {
-    let v = front::length_up_to(known(scheme, rule), label.len(), 16);
+    let v = refusals::length_up_to(known(scheme, rule), label.len(), 16);
     let Verdict::Pass = v else {
         return v;
     };
     label_in(
-        front::room_for(Verdict::Pass, room, size(label.len())),
+        refusals::room_for(Verdict::Pass, room, size(label.len())),
         label,
     )
 }

@@ -3,16 +3,16 @@
 ghost use mathlib.Core.Path.{_≡_};
 ghost use Prim.Native.Nat.{_≤_};
 ghost use Rattle.lists.specs.Lent.{left};
-ghost use Rattle.front.specs.Front.{numberIn, placeIn};
-ghost use Rattle.front.specs.Seen.{told};
+ghost use Rattle.refusals.specs.Refusals.{numberIn, placeIn};
+ghost use Rattle.refusals.specs.Seen.{told};
 ghost use Rattle.settings.specs.Calls.{readTold};
 ghost use Rattle.reply.specs.Reply.{replyTold};
 ghost use Rattle.finish.specs.Finish.{finishTold};
 ghost use Rattle.bench.specs.Bench.{benchTold};
 use bench::BenchAnswer;
 use finish::FinishAnswer;
-use front::Answer;
-use front::Verdict;
+use refusals::Answer;
+use refusals::Verdict;
 use reply::ReplyAnswer;
 use settings::LentAnswer;
 

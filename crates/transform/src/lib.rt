@@ -12,8 +12,8 @@ ghost use Rattle.transform.specs.Theorems.{TableRule};
 ghost use Rattle.transform.specs.Level.{tight, factor, powered, stored, Joined, Room, remainders, sums, scaled};
 use schemes::NewHope;
 
+pub mod on_transforms;
 mod powers;
-pub mod through;
 
 // x, less a multiple of 12289: far enough below 2^16 that twice 12289 can be added.
 fn tight(x: u16) -> u16

@@ -14,7 +14,7 @@ use crate::lent::values;
 use crate::lines;
 use bench::BenchAnswer;
 use finish::FinishAnswer;
-use front::Answer;
+use refusals::Answer;
 use reply::ReplyAnswer;
 
 fn head(call: &[u8], g: Setting) {

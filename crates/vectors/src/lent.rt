@@ -40,7 +40,7 @@ pub enum Count {
 }
 
 pub fn fixed(k: u32) -> Fixed {
-    let Named::Is(s) = schemes::scheme_of(k) else {
+    let Named::Known(s) = schemes::scheme_of(k) else {
         return Scheme::Bcns.fixed();
     };
     s.fixed()

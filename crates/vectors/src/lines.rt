@@ -3,10 +3,10 @@ use crate::draw;
 use crate::lent;
 use bench::BenchAnswer;
 use finish::FinishAnswer;
-use front::Answer;
-use front::Refusal;
 use libc::STDOUT_FILENO;
 use lists::Peak;
+use refusals::Answer;
+use refusals::Refusal;
 use reply::ReplyAnswer;
 
 pub fn text(t: &[u8]) {

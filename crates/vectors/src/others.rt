@@ -10,7 +10,7 @@ use crate::lent::name;
 use crate::lent::numbers;
 use crate::lent::room;
 use crate::lines;
-use front::Answer;
+use refusals::Answer;
 
 // Word i of Noise's table: each of an entry's three is 2^58 times the entry's number, counted from 1. In cases 6 to 9 the entries from 25 on are each
 // the one before.

@@ -1,13 +1,13 @@
 // Frodo by rows: each exported function hands on to one call of crate `rows`. Begin and part have no output but the state.
 ghost use mathlib.Core.Path.{_≡_};
 ghost use Rattle.lists.specs.Lent.{was, left, room};
-ghost use Rattle.front.specs.Seen.{seen};
+ghost use Rattle.refusals.specs.Seen.{seen};
 ghost use Rattle.reply.specs.Reply.{replyRooms, replySeen};
-ghost use Rattle.running.specs.State.{frodoOf};
-ghost use Rattle.running.specs.Part.{partResult};
+ghost use Rattle.rows_state.specs.State.{frodoOf};
+ghost use Rattle.rows_state.specs.Part.{partResult};
 ghost use Rattle.rows.specs.Offer.{offerBegin, offerBeginResult, offerEndResult};
 ghost use Rattle.rows.specs.Reply.{replyBegin, replyBeginResult, replyEndResult};
-ghost use Rattle.running.specs.declared.Call.{Call};
+ghost use Rattle.rows_state.specs.declared.Call.{Call};
 
 // Offer, begin: the secret s, the noise e and the seed into the state.
 #[no_mangle]

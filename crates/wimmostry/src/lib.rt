@@ -3,7 +3,7 @@
 ghost use mathlib.Core.Path.{_≡_};
 ghost use Rattle.schemes.specs.Schemes.{schemeOf};
 ghost use Rattle.lists.specs.Lent.{was, left, room};
-ghost use Rattle.front.specs.Seen.{seen};
+ghost use Rattle.refusals.specs.Seen.{seen};
 ghost use Rattle.sampling.specs.Noise.{noise, noiseResult};
 ghost use Rattle.noise.specs.Expand.{ruleOf};
 ghost use Rattle.sampling.specs.Expand.{expand, expandResult};

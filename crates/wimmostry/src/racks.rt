@@ -2,7 +2,7 @@
 // plain call takes.
 ghost use mathlib.Core.Path.{_≡_};
 ghost use Rattle.lists.specs.Lent.{was, left, room};
-ghost use Rattle.front.specs.Seen.{seen};
+ghost use Rattle.refusals.specs.Seen.{seen};
 ghost use Rattle.offer.specs.Offer.{offer};
 ghost use Rattle.reply.specs.Reply.{reply, replyRooms, replySeen};
 ghost use Rattle.finish.specs.Finish.{finish, finishRooms, finishSeen};

@@ -1,7 +1,7 @@
 // The calls on a session behind a pointer, 130 lent bytes: 02, request a. Each takes the session first, and then what the plain call takes.
 ghost use mathlib.Core.Path.{_≡_};
 ghost use Rattle.lists.specs.Lent.{was, left, room};
-ghost use Rattle.front.specs.Seen.{seen};
+ghost use Rattle.refusals.specs.Seen.{seen};
 ghost use Rattle.offer.specs.Offer.{offer};
 ghost use Rattle.reply.specs.Reply.{reply, replyRooms, replySeen};
 ghost use Rattle.finish.specs.Finish.{finish, finishRooms, finishSeen};

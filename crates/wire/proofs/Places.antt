@@ -20,28 +20,28 @@ use lib.Seq.{take-at, drop-at, take-all, length-take-le}
 use borrow.Rule.Slice.PartMut.{putMid}
 use Rattle.lists.specs.Entries.{Below}
 use Rattle.lists.proofs.Parts.{part-long, joined}
-use Rattle.schemes.specs.Schemes.{familyOf, fixedOf, by}
+use Rattle.schemes.specs.Schemes.{familyOf, fixedOf, byFamily}
 use Rattle.schemes.specs.declared.Family.{Family}
 use Rattle.schemes.specs.declared.Fixed.{Fixed}
 use Rattle.schemes.specs.declared.Scheme.{Scheme}
 use Rattle.schemes.proofs.Laws.{tied}
 use Rattle.schemes.proofs.Sound.{sound}
 use Rattle.packing.specs.Packing.{packed, unpacked}
-use Rattle.front.specs.Front.{receivedIn}
-use Rattle.front.specs.declared.Verdict.{Verdict}
-use Rattle.ends.specs.Fit.{Counted}
+use Rattle.refusals.specs.Refusals.{receivedIn}
+use Rattle.refusals.specs.declared.Verdict.{Verdict}
+use Rattle.values.specs.Fit.{Counted}
 use Rattle.wire.specs.Wire.{opening, packedAt, seedAt, openedIn, repliedIn, numbersIn, hintsIn, coinsIn}
 use Rattle.wire.proofs.Whole.{numbers, hints, keys, coins, fit, long, hold}
 
 -- ---- by the family
 
 -- of a packed part of k entries and a seed of j
-packed-in : (F : Family) (k j : ℕ) → by F 0 0 j + k ≤ k + j
+packed-in : (F : Family) (k j : ℕ) → byFamily F 0 0 j + k ≤ k + j
 packed-in Family.Bcns k j = omega arith
 packed-in Family.NewHope k j = omega arith
 packed-in Family.Frodo k j = omega arith
 
-seed-in : (F : Family) (k j : ℕ) → by F k k 0 + j ≤ k + j
+seed-in : (F : Family) (k j : ℕ) → byFamily F k k 0 + j ≤ k + j
 seed-in Family.Bcns k j = omega arith
 seed-in Family.NewHope k j = omega arith
 seed-in Family.Frodo k j = omega arith
@@ -80,7 +80,7 @@ module _ {A : Type 0} (k j : ℕ) (d p s : List A) (lp : length p ≡ k) (ls : l
       let z = drop-of-length-le (drop j d) {i = k} (omega (arith, length-drop j d)) in
       rw (drop-at (take j d) (p ++ drop k (drop j d)) j (length-take-le j d (omega arith)), z, append-nil p)
 
-  either : (F : Family) → putMid (by F k k 0) j (putMid (by F 0 0 j) k d p) s ≡ by F (p ++ s) (p ++ s) (s ++ p)
+  either : (F : Family) → putMid (byFamily F k k 0) j (putMid (byFamily F 0 0 j) k d p) s ≡ byFamily F (p ++ s) (p ++ s) (s ++ p)
   either Family.Bcns = front-first
   either Family.NewHope = front-first
   either Family.Frodo = rear-first
@@ -88,9 +88,9 @@ module _ {A : Type 0} (k j : ℕ) (d p s : List A) (lp : length p ≡ k) (ls : l
 -- ---- by the struct that the code reads them from
 
 module _ (c : Scheme) {f : Fixed} (e : f ≡ fixedOf c) where
-  pub starts-by : {F : Family} → familyOf c ≡ F → (by F 0 0 (f .seed) ≡ packedAt c) × (by F (f .packed) (f .packed) 0 ≡ seedAt c)
+  pub starts-by : {F : Family} → familyOf c ≡ F → (byFamily F 0 0 (f .seed) ≡ packedAt c) × (byFamily F (f .packed) (f .packed) 0 ≡ seedAt c)
   starts-by d =
-      (ap₂ (λ (F : Family) (g : Fixed). by F 0 0 (g .seed)) (sym d) e, ap₂ (λ (F : Family) (g : Fixed). by F (g .packed) (g .packed) 0) (sym d) e)
+      (ap₂ (λ (F : Family) (g : Fixed). byFamily F 0 0 (g .seed)) (sym d) e, ap₂ (λ (F : Family) (g : Fixed). byFamily F (g .packed) (g .packed) 0) (sym d) e)
 
   -- what `pack` asks of numbers, hints and key entries, for a buffer of m bytes
   pub numbers-fit : {xs : List ℕ} {m : ℕ} → Counted (fixedOf c .secret) (fixedOf c .q) xs → m ≡ f .packed

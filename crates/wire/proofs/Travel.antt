@@ -17,18 +17,18 @@ use lib.ListN.{length, take, drop, length-append, length-drop, take-append-drop}
 use lib.Seq.{take-at, drop-at, take-all}
 use Rattle.lists.specs.Entries.{Below}
 use Rattle.lists.proofs.Parts.{below-take, below-drop}
-use Rattle.schemes.specs.Schemes.{familyOf, fixedOf, by}
+use Rattle.schemes.specs.Schemes.{familyOf, fixedOf, byFamily}
 use Rattle.schemes.specs.declared.Family.{Family}
 use Rattle.schemes.specs.declared.Scheme.{Scheme}
 use Rattle.schemes.proofs.Laws.{tied}
 use Rattle.schemes.proofs.Sound.{sound}
 use Rattle.packing.specs.Packing.{packed, unpacked}
 use Rattle.packing.proofs.Laws.{unpacked-length, unpacked-below}
-use Rattle.front.specs.Front.{notBlank, receivedIn}
-use Rattle.front.specs.declared.Verdict.{Verdict}
-use Rattle.front.specs.declared.Verdict.the-variants.{Pass}
-use Rattle.front.proofs.Laws.{both, message-passed}
-use Rattle.ends.specs.Fit.{Counted}
+use Rattle.refusals.specs.Refusals.{notBlank, receivedIn}
+use Rattle.refusals.specs.declared.Verdict.{Verdict}
+use Rattle.refusals.specs.declared.Verdict.the-variants.{Pass}
+use Rattle.refusals.proofs.Laws.{both, message-passed}
+use Rattle.values.specs.Fit.{Counted}
 use Rattle.wire.specs.Wire.{opening, packedAt, openedIn, seedIn, repliedIn, numbersIn, hintsIn, coinsIn}
 use Rattle.wire.specs.Again.{OpeningAgain, ReplyAgain, OpeningBack, ReplyBack}
 use Rattle.wire.proofs.Whole.{numbers, hints, keys, long, back, as-blank, again}
@@ -37,23 +37,23 @@ use Rattle.wire.proofs.Places.{opened-long, replied-long, hints-long}
 -- ---- an opening of a packed part p of k entries and a seed of j, by the family
 
 module _ (k j : ℕ) (seed p : List ℕ) (ls : length seed ≡ j) (lp : length p ≡ k) where
-  laid-long : (F : Family) → length (by F (p ++ seed) (p ++ seed) (seed ++ p)) ≡ k + j
+  laid-long : (F : Family) → length (byFamily F (p ++ seed) (p ++ seed) (seed ++ p)) ≡ k + j
   laid-long Family.Bcns = length-append p seed ∙ omega arith
   laid-long Family.NewHope = length-append p seed ∙ omega arith
   laid-long Family.Frodo = length-append seed p ∙ omega arith
 
-  laid-packed : (F : Family) → take k (drop (by F 0 0 j) (by F (p ++ seed) (p ++ seed) (seed ++ p))) ≡ p
+  laid-packed : (F : Family) → take k (drop (byFamily F 0 0 j) (byFamily F (p ++ seed) (p ++ seed) (seed ++ p))) ≡ p
   laid-packed Family.Bcns = take-at p seed k lp
   laid-packed Family.NewHope = take-at p seed k lp
   laid-packed Family.Frodo = ap (take k) (drop-at seed p j ls) ∙ take-all k p (omega arith)
 
-  laid-seed : (F : Family) → take j (drop (by F k k 0) (by F (p ++ seed) (p ++ seed) (seed ++ p))) ≡ seed
+  laid-seed : (F : Family) → take j (drop (byFamily F k k 0) (byFamily F (p ++ seed) (p ++ seed) (seed ++ p))) ≡ seed
   laid-seed Family.Bcns = ap (take j) (drop-at p seed k lp) ∙ take-all j seed (omega arith)
   laid-seed Family.NewHope = ap (take j) (drop-at p seed k lp) ∙ take-all j seed (omega arith)
   laid-seed Family.Frodo = take-at seed p j ls
 
 laid-again : (k j : ℕ) (m : List ℕ) → length m ≡ k + j → (F : Family)
-    → let p = take k (drop (by F 0 0 j) m) in let seed = take j (drop (by F k k 0) m) in by F (p ++ seed) (p ++ seed) (seed ++ p) ≡ m
+    → let p = take k (drop (byFamily F 0 0 j) m) in let seed = take j (drop (byFamily F k k 0) m) in byFamily F (p ++ seed) (p ++ seed) (seed ++ p) ≡ m
 laid-again k j m l Family.Bcns = ap (λ (s : List ℕ). take k m ++ s) (take-all j (drop k m) (omega (arith, length-drop k m))) ∙ take-append-drop k m
 laid-again k j m l Family.NewHope = ap (λ (s : List ℕ). take k m ++ s) (take-all j (drop k m) (omega (arith, length-drop k m))) ∙ take-append-drop k m
 laid-again k j m l Family.Frodo = ap (λ (p : List ℕ). take j m ++ p) (take-all k (drop j m) (omega (arith, length-drop j m))) ∙ take-append-drop j m

@@ -20,9 +20,9 @@ use Rattle.schemes.proofs.Laws.{tied}
 use Rattle.schemes.proofs.Sound.{sound}
 use Rattle.packing.specs.Packing.{packed, unpacked}
 use Rattle.packing.proofs.Laws.{packed-length, unpack-pack, pack-unpack}
-use Rattle.front.specs.Front.{notBlank}
-use Rattle.front.proofs.Laws.{not-blank-packed}
-use Rattle.ends.specs.Fit.{Counted}
+use Rattle.refusals.specs.Refusals.{notBlank}
+use Rattle.refusals.proofs.Laws.{not-blank-packed}
+use Rattle.values.specs.Fit.{Counted}
 
 pub record Whole (w n b : ℕ) : Type 0 where
   pub some : 0 < w

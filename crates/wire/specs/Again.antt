@@ -10,7 +10,7 @@ use Rattle.lists.specs.Entries.{Below}
 use Rattle.schemes.specs.Schemes.{fixedOf}
 use Rattle.schemes.specs.declared.Scheme.{Scheme}
 use Rattle.packing.specs.Packing.{packed}
-use Rattle.ends.specs.Fit.{Counted}
+use Rattle.values.specs.Fit.{Counted}
 use Rattle.wire.specs.Wire.{opening, openedIn, seedIn, repliedIn, numbersIn, hintsIn}
 
 abbrev pub OpeningAgain : Type 0

@@ -9,18 +9,18 @@
 use mathlib.Core.List.{List, _++_}
 use Prim.Native.Nat.{ℕ}
 use lib.ListN.{take, drop}
-use Rattle.schemes.specs.Schemes.{familyOf, fixedOf, by}
+use Rattle.schemes.specs.Schemes.{familyOf, fixedOf, byFamily}
 use Rattle.schemes.specs.declared.Scheme.{Scheme}
 use Rattle.packing.specs.Packing.{unpacked}
 
 unfoldable pub opening : Scheme → List ℕ → List ℕ → List ℕ
-opening c seed p = by (familyOf c) (p ++ seed) (p ++ seed) (seed ++ p)
+opening c seed p = byFamily (familyOf c) (p ++ seed) (p ++ seed) (seed ++ p)
 
 abbrev pub packedAt : Scheme → ℕ
-packedAt c = by (familyOf c) 0 0 (fixedOf c .seed)
+packedAt c = byFamily (familyOf c) 0 0 (fixedOf c .seed)
 
 abbrev pub seedAt : Scheme → ℕ
-seedAt c = by (familyOf c) (fixedOf c .packed) (fixedOf c .packed) 0
+seedAt c = byFamily (familyOf c) (fixedOf c .packed) (fixedOf c .packed) 0
 
 unfoldable pub openedIn : Scheme → List ℕ → List ℕ
 openedIn c m = take (fixedOf c .packed) (drop (packedAt c) m)

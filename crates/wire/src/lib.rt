@@ -7,10 +7,10 @@ ghost use lib.ListN.{length};
 ghost use Rattle.lists.specs.Lent.{was, left};
 ghost use Rattle.schemes.specs.Schemes.{fixedOf};
 ghost use Rattle.packing.specs.Packing.{packed};
-ghost use Rattle.ends.specs.Fit.{Counted};
-ghost use Rattle.front.specs.Front.{receivedIn};
+ghost use Rattle.values.specs.Fit.{Counted};
+ghost use Rattle.refusals.specs.Refusals.{receivedIn};
 ghost use Rattle.wire.specs.Wire.{opening, packedAt, seedAt, openedIn, repliedIn, numbersIn, hintsIn, coinsIn};
-use front::Verdict;
+use refusals::Verdict;
 use schemes::Family;
 use schemes::Scheme;
 
@@ -55,7 +55,7 @@ pub fn take_opening(scheme: Scheme, opening: &[u8], numbers: &mut [u32]) -> Verd
     let starts = opening_starts(scheme);
     let start = starts.0;
     let end = start + f.packed;
-    front::take_message(f.width, f.q, &opening[start..end], numbers)
+    refusals::take_message(f.width, f.q, &opening[start..end], numbers)
 }
 
 // The unpack step of Finish: the same of the reply.
@@ -66,7 +66,7 @@ pub fn take_reply(scheme: Scheme, reply: &[u8], numbers: &mut [u32]) -> Verdict
 {
     let f = scheme.fixed();
     let k = f.packed;
-    front::take_message(f.width, f.q, &reply[..k], numbers)
+    refusals::take_message(f.width, f.q, &reply[..k], numbers)
 }
 
 // The hints of a reply.

@@ -3,7 +3,7 @@ use mathlib.Core.Path.{refl, sym, _∙_}
 use native.Mathlib.Omega.{arith}
 use borrow.Author.Needs.{needs}
 use lib.ListN.{length}
-use Rattle.front.proofs.Laws.{also}
+use Rattle.refusals.proofs.Laws.{also}
 use Rattle.halves.specs.Halves.{productTests, factorsOf}
 use Rattle.halves.proofs.Part.{size-most}
 use Rattle.halves.proofs.Multiplied.{size-passed, tests-stop}

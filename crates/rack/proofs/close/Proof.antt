@@ -3,7 +3,7 @@ use mathlib.Core.Path.{_≡_, _∙_, sym}
 use mathlib.Core.Bool.{true}
 use Prim.Native.Nat.{_+_, _-_, _*_}
 use native.Mathlib.Omega.{arith}
-use Rattle.front.specs.declared.Verdict.the-variants.{Pass}
+use Rattle.refusals.specs.declared.Verdict.the-variants.{Pass}
 use Rattle.rack.specs.Slots.{slotTests}
 use Rattle.rack.proofs.Parts.{slot-rack}
 use Rattle.rack.proofs.Calls.{close-stopped, closed}

@@ -2,8 +2,8 @@
 use mathlib.Core.Path.{sym, _∙_}
 use lib.ListN.{length}
 use Rattle.lists.proofs.Same.{zeros, zeros-long}
-use Rattle.running.proofs.Tests.{frodo-named}
-use Rattle.running.proofs.Turns.{state-by}
+use Rattle.rows_state.proofs.Tests.{frodo-named}
+use Rattle.rows_state.proofs.Turns.{state-by}
 use Rattle.rows.proofs.Replying.{begin-unknown}
 use borrow.Author.Needs.{needs}
 use Rattle.rows.proofs.reply_begin.Statement.{statement}

@@ -2,7 +2,7 @@
 use mathlib.Core.Path.{sym, _∙_}
 use lib.ListN.{length, getD}
 use Rattle.lists.proofs.Same.{zeros, zeros-long}
-use Rattle.running.proofs.Tests.{frodo-named}
+use Rattle.rows_state.proofs.Tests.{frodo-named}
 use Rattle.rows.proofs.Replying.{end-unknown, end-refused}
 use borrow.Author.Needs.{needs}
 use Rattle.rows.proofs.reply_end.Statement.{statement}

@@ -1,6 +1,6 @@
 -- `session::finish` meets its contract: 10, a refusal of the call beneath, or its answer.
 use mathlib.Core.Path.{_∙_, sym}
-use Rattle.front.specs.declared.Refusal.the-variants.{OutOfStage}
+use Rattle.refusals.specs.declared.Refusal.the-variants.{OutOfStage}
 use Rattle.session.specs.Table.{row}
 use borrow.Author.Tests.{not-true, not-false}
 use Rattle.session.proofs.Laws.{turned, fits, keeps, finish-stops, finish-refused, finish-given}

@@ -1,7 +1,7 @@
 -- `session::offer` meets its contract: 10, a refusal of the call beneath, or its answer.
 use mathlib.Core.Path.{_∙_, sym}
 use borrow.Author.Tests.{not-true, not-false}
-use Rattle.front.specs.declared.Refusal.the-variants.{OutOfStage}
+use Rattle.refusals.specs.declared.Refusal.the-variants.{OutOfStage}
 use Rattle.session.specs.Table.{row}
 use Rattle.session.proofs.Laws.{turned, offer-stops, offer-refused, offer-done}
 use borrow.Author.Needs.{needs}

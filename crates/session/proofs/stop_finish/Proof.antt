@@ -1,5 +1,5 @@
 -- `session::stop_finish` meets its contract.
-use Rattle.front.specs.Seen.{written}
+use Rattle.refusals.specs.Seen.{written}
 use Rattle.finish.specs.Finish.{finishShown, finishSeen}
 use borrow.Author.Needs.{needs}
 use Rattle.session.proofs.stop_finish.Statement.{statement}

@@ -1,5 +1,5 @@
 -- `session::stop_reply` meets its contract.
-use Rattle.front.specs.Seen.{written}
+use Rattle.refusals.specs.Seen.{written}
 use Rattle.reply.specs.Reply.{outputs, replySeen}
 use borrow.Author.Needs.{needs}
 use Rattle.session.proofs.stop_reply.Statement.{statement}

@@ -9,9 +9,9 @@ use Rattle.schemes.specs.declared.Fixed.{Fixed}
 use Rattle.lists.proofs.Parts.{front-long}
 use Rattle.sponge.proofs.Output.{sha3-length}
 use Rattle.sponge.proofs.Digest.{digest-laid}
-use Rattle.front.proofs.Seen.{written-passed}
-use Rattle.front.proofs.Steps.{blank-front, kept, passed-by, failed-by}
-use Rattle.schemes.specs.declared.Named.the-variants.{Is}
+use Rattle.refusals.proofs.Seen.{written-passed}
+use Rattle.refusals.proofs.Steps.{blank-front, kept, passed-by, failed-by}
+use Rattle.schemes.specs.declared.Named.the-variants.{Known}
 use Rattle.finish.specs.Finish.{Finish, finishOf, finishRoomsOf, finishKey, finishSlack}
 use Rattle.finish.specs.Inside.{finishRest}
 use Rattle.finish.proofs.Finishing.{key-length, finish-sized, finish-rest-decides, finish-refused, finish-done}
@@ -63,7 +63,7 @@ returns c =
     let k : tie.After-with-reply = search needs in
     let v : tie.After-v = search needs in
     let f : tie.After-fixed = search needs in
-    let rest = failed-by (finishRest (b .args .scheme) (x b)) (finishSlack (Is (b .args .scheme)) (x b)) (k .with-reply .ensures .0) (v .v .given .1) in
+    let rest = failed-by (finishRest (b .args .scheme) (x b)) (finishSlack (Known (b .args .scheme)) (x b)) (k .with-reply .ensures .0) (v .v .given .1) in
     let e = finish-rest-decides _ _ _ (b .pre .0) (sym rest) in
     finish-refused _ _ _ e (kept _ (f .fixed .result .key) (b .args .key .now) rest (k .with-reply .ensures .1) ∙ b .pre .1 .0) (b .pre .1 .1)
 
@@ -90,7 +90,7 @@ returns-2 c =
     let f : tie.After-fixed = search needs in
     let o : tie.After-v2 = search needs in
     let b = start f in
-    let rest = passed-by (finishRest (b .args .scheme) (x b)) (finishSlack (Is (b .args .scheme)) (x b)) (k .with-reply .ensures .0) (o .v2 .given .1) in
+    let rest = passed-by (finishRest (b .args .scheme) (x b)) (finishSlack (Known (b .args .scheme)) (x b)) (k .with-reply .ensures .0) (o .v2 .given .1) in
     let e = finish-rest-decides _ _ _ (b .pre .0) (sym (rest .0)) in
     let keyed = rw (rest .0) at (k .with-reply .ensures .1) in
     let n = key-length (b .args .scheme) (finishOf (b .args .reply .now) (b .args .s .now)) ∙ sym (long f) in

@@ -5,16 +5,16 @@ use Prim.Native.Nat.{ℕ, _≤_}
 use native.Mathlib.Omega.{arith}
 use lib.ListN.{length}
 use Rattle.schemes.specs.Schemes.{fixedOf}
-use Rattle.schemes.specs.declared.Named.the-variants.{Is}
+use Rattle.schemes.specs.declared.Named.the-variants.{Known}
 use Rattle.schemes.proofs.Sound.{sound}
 use Rattle.lists.proofs.Same.{zeros}
 use Rattle.lists.proofs.Parts.{buffer-long, front-long}
 use Rattle.packing.proofs.Laws.{unpacked-length}
-use Rattle.front.specs.Seen.{ifPassed}
-use Rattle.front.specs.Steps.{outcome}
-use Rattle.front.specs.declared.Verdict.{Verdict}
-use Rattle.front.proofs.Laws.{failed, went-on}
-use Rattle.front.proofs.Steps.{front-is, front-fits, outcome-refused}
+use Rattle.refusals.specs.Seen.{ifPassed}
+use Rattle.refusals.specs.Steps.{outcome}
+use Rattle.refusals.specs.declared.Verdict.{Verdict}
+use Rattle.refusals.proofs.Laws.{failed, went-on}
+use Rattle.refusals.proofs.Steps.{front-is, front-fits, outcome-refused}
 use Rattle.wire.specs.Wire.{repliedIn, numbersIn}
 use Rattle.wire.proofs.Travel.{message-counted}
 use Rattle.finish.specs.Finish.{finishOf, repliedOf, finishSlack}
@@ -48,7 +48,7 @@ returns c =
     let f = o .enum-told2 .given .1 in
     let e = failed _ (t .take-reply .ensures .0) f in (
       r .ended .ensures ∙ outcome-refused f (record { most = 0; at = 0 })
-          ∙ sym (outcome-refused e (finishSlack (Is (b .args .scheme)) (finishOf (b .args .reply .now) (b .args .s .now)))),
+          ∙ sym (outcome-refused e (finishSlack (Known (b .args .scheme)) (finishOf (b .args .reply .now) (b .args .s .now)))),
       rw e (z .zero-bytes .ensures ∙ sym blank),
     )
 

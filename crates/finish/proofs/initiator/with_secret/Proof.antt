@@ -5,9 +5,9 @@ use Rattle.schemes.specs.declared.Fixed.{Fixed}
 use Rattle.lists.proofs.Same.{zeros-long}
 use Rattle.finish.specs.Finish.{finishOf}
 use Rattle.finish.specs.Inside.{slackFrom}
-use Rattle.front.specs.declared.Outcome.the-variants.{Slack}
-use Rattle.front.proofs.Laws.{first, secrets-passed}
-use Rattle.front.proofs.Steps.{outcome-slack, outcome-refused}
+use Rattle.refusals.specs.declared.Outcome.the-variants.{Slack}
+use Rattle.refusals.proofs.Laws.{first, secrets-passed}
+use Rattle.refusals.proofs.Steps.{outcome-slack, outcome-refused}
 use borrow.Author.Needs.{needs}
 use Rattle.finish.proofs.initiator.with_secret.Statement.{statement}
 use Rattle.finish.proofs.initiator.with_secret.Tie as tie

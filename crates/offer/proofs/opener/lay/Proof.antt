@@ -9,12 +9,12 @@ use lib.ListN.{length}
 use Rattle.lists.specs.Entries.{Below}
 use Rattle.lists.proofs.Parts.{buffer-long, front-long}
 use Rattle.packing.specs.Packing.{packed}
-use Rattle.front.specs.Front.{publicsIn, notBlank}
-use Rattle.front.specs.Seen.{ifPassed}
-use Rattle.front.proofs.Steps.{front-is, front-fits}
-use Rattle.front.proofs.Laws.{publics-passed, failed, went-on}
-use Rattle.ends.specs.Values.{offered}
-use Rattle.ends.proofs.Ranges.{offered-counted}
+use Rattle.refusals.specs.Refusals.{publicsIn, notBlank}
+use Rattle.refusals.specs.Seen.{ifPassed}
+use Rattle.refusals.proofs.Steps.{front-is, front-fits}
+use Rattle.refusals.proofs.Laws.{publics-passed, failed, went-on}
+use Rattle.values.specs.Values.{offered}
+use Rattle.values.proofs.Ranges.{offered-counted}
 use Rattle.wire.specs.Wire.{opening}
 use Rattle.offer.specs.Offer.{offerMessage}
 use borrow.Author.Needs.{needs}

@@ -7,8 +7,8 @@ use lib.ListN.{length, take, drop}
 use Rattle.schemes.specs.Schemes.{fixedOf}
 use Rattle.schemes.specs.declared.Fixed.{Fixed}
 use Rattle.lists.proofs.Parts.{front-long}
-use Rattle.front.proofs.Seen.{shown-passed, shown-failed}
-use Rattle.front.proofs.Steps.{kept}
+use Rattle.refusals.proofs.Seen.{shown-passed, shown-failed}
+use Rattle.refusals.proofs.Steps.{kept}
 use Rattle.offer.specs.Offer.{Offer, offerOf, offerMessage}
 use Rattle.offer.specs.Inside.{Opens}
 use Rattle.offer.proofs.Offering.{ahead-opens, opening-long, offer-last-decides}

@@ -11,12 +11,12 @@ use Rattle.schemes.proofs.Sound.{sound}
 use Rattle.lists.specs.Entries.{Below}
 use Rattle.lists.proofs.Parts.{buffer-long, front-long}
 use Rattle.packing.specs.Packing.{packed}
-use Rattle.front.specs.Front.{publicsIn, notBlank}
-use Rattle.front.specs.Seen.{ifPassed}
-use Rattle.front.proofs.Laws.{publics-passed, failed, went-on}
-use Rattle.front.proofs.Steps.{front-is, front-fits}
-use Rattle.ends.specs.Values.{mixedValue}
-use Rattle.ends.proofs.Ranges.{replied-counted, mixed-counted}
+use Rattle.refusals.specs.Refusals.{publicsIn, notBlank}
+use Rattle.refusals.specs.Seen.{ifPassed}
+use Rattle.refusals.proofs.Laws.{publics-passed, failed, went-on}
+use Rattle.refusals.proofs.Steps.{front-is, front-fits}
+use Rattle.values.specs.Values.{mixedValue}
+use Rattle.values.proofs.Ranges.{replied-counted, mixed-counted}
 use Rattle.reply.specs.Inside.{messageBy, keyBy, messageFrom, keyFrom}
 use borrow.Author.Needs.{needs}
 use Rattle.reply.proofs.replier.lay.Statement.{statement}

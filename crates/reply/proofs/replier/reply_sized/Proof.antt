@@ -9,8 +9,8 @@ use Rattle.schemes.specs.declared.Fixed.{Fixed}
 use Rattle.lists.proofs.Parts.{front-long}
 use Rattle.sponge.proofs.Output.{sha3-length}
 use Rattle.sponge.proofs.Digest.{digest-laid}
-use Rattle.front.proofs.Seen.{written-passed}
-use Rattle.front.proofs.Steps.{blank-front, kept}
+use Rattle.refusals.proofs.Seen.{written-passed}
+use Rattle.refusals.proofs.Steps.{blank-front, kept}
 use Rattle.reply.specs.Reply.{Reply, replyOf, replyRoomsOf, replyMessage, replyKey}
 use Rattle.reply.proofs.Replying.{message-length, key-length, Sized, reply-sized, reply-rest-decides, reply-refused, reply-done}
 use borrow.Author.Needs.{needs}

@@ -10,11 +10,11 @@ use Rattle.schemes.proofs.Sound.{sound}
 use Rattle.lists.proofs.Same.{zeros}
 use Rattle.lists.proofs.Parts.{buffer-long, front-long}
 use Rattle.packing.proofs.Laws.{unpacked-length}
-use Rattle.front.specs.Front.{_then_, publicsIn}
-use Rattle.front.specs.Seen.{ifPassed}
-use Rattle.front.specs.declared.Verdict.{Verdict}
-use Rattle.front.proofs.Laws.{failed, went-on, before-fail}
-use Rattle.front.proofs.Steps.{front-is, front-fits, put-kept}
+use Rattle.refusals.specs.Refusals.{_then_, publicsIn}
+use Rattle.refusals.specs.Seen.{ifPassed}
+use Rattle.refusals.specs.declared.Verdict.{Verdict}
+use Rattle.refusals.proofs.Laws.{failed, went-on, before-fail}
+use Rattle.refusals.proofs.Steps.{front-is, front-fits, put-kept}
 use Rattle.wire.specs.Wire.{openedIn, numbersIn}
 use Rattle.wire.proofs.Travel.{message-counted}
 use Rattle.reply.specs.Reply.{replyOf, openedOf}

@@ -2,11 +2,11 @@
 use mathlib.Core.Path.{_≡_, refl, sym, ap, _∙_}
 use Rattle.schemes.specs.Schemes.{fixedOf}
 use Rattle.lists.proofs.Same.{zeros-long}
-use Rattle.front.specs.Front.{_then_, publicsIn}
-use Rattle.front.specs.declared.Verdict.{Verdict}
-use Rattle.front.proofs.Laws.{failed, went-on, before-fail}
-use Rattle.front.proofs.Steps.{put-kept}
-use Rattle.ends.specs.Fit.{Small}
+use Rattle.refusals.specs.Refusals.{_then_, publicsIn}
+use Rattle.refusals.specs.declared.Verdict.{Verdict}
+use Rattle.refusals.proofs.Laws.{failed, went-on, before-fail}
+use Rattle.refusals.proofs.Steps.{put-kept}
+use Rattle.values.specs.Fit.{Small}
 use Rattle.reply.specs.Inside.{replyLast}
 use Rattle.reply.proofs.Replying.{secrets-small}
 use borrow.Author.Needs.{needs}

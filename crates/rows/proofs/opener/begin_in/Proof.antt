@@ -6,14 +6,14 @@ use native.Mathlib.Omega.{arith}
 use borrow.Author.Needs.{needs}
 use lib.ListN.{length, replicate}
 use Rattle.schemes.specs.Schemes.{fixedOf}
-use Rattle.schemes.specs.declared.Named.the-variants.{Is}
-use Rattle.ends.proofs.Numbers.{numbers-in}
-use Rattle.front.specs.declared.Verdict.the-variants.{Pass}
-use Rattle.running.specs.State.{laid, fresh}
-use Rattle.running.specs.declared.Call.{Call}
-use Rattle.running.proofs.Tests.{frodos}
-use Rattle.running.proofs.Turns.{state-by}
-use Rattle.running.proofs.Laying.{seed-kept-long, kept-zeros, keeping-long, keeping-kept, keeping-is}
+use Rattle.schemes.specs.declared.Named.the-variants.{Known}
+use Rattle.values.proofs.Numbers.{numbers-in}
+use Rattle.refusals.specs.declared.Verdict.the-variants.{Pass}
+use Rattle.rows_state.specs.State.{laid, fresh}
+use Rattle.rows_state.specs.declared.Call.{Call}
+use Rattle.rows_state.proofs.Tests.{frodos}
+use Rattle.rows_state.proofs.Turns.{state-by}
+use Rattle.rows_state.proofs.Laying.{seed-kept-long, kept-zeros, keeping-long, keeping-kept, keeping-is}
 use Rattle.rows.specs.Offer.{offerBeginOf, offerBeginTests, offerState}
 use Rattle.rows.proofs.Opening.{OfferSized, begin-sized}
 use Rattle.rows.proofs.opener.begin_in.Statement.{statement}
@@ -24,7 +24,7 @@ begin-tests-requires c κs = let s : tie.Start = search needs in numbers-in (s .
 
 -- where the tests have passed
 passes : (c : tie.After-enum-told) → let s : tie.Start = search needs in
-    offerBeginTests (Is (s .args .scheme)) (offerBeginOf (s .args .s .now) (s .args .e .now) (s .args .seed .now)) (length (s .args .state .now)) ≡ Pass
+    offerBeginTests (Known (s .args .scheme)) (offerBeginOf (s .args .s .now) (s .args .e .now) (s .args .seed .now)) (length (s .args .state .now)) ≡ Pass
 passes c = let t : tie.After-begin-tests = search needs in sym (t .begin-tests .ensures) ∙ c .enum-told .given .1
 
 module _ (o : tie.After-enum-told) where

@@ -3,7 +3,7 @@ use mathlib.Core.Path.{refl, ap}
 use native.Mathlib.Omega.{arith}
 use borrow.Author.Needs.{needs}
 use Rattle.schemes.specs.declared.Fixed.{Fixed}
-use Rattle.front.proofs.Laws.{first, also}
+use Rattle.refusals.proofs.Laws.{first, also}
 use Rattle.rows.specs.Inside.{offerBeginSizes}
 use Rattle.rows.proofs.opener.begin_sizes.Statement.{statement}
 use Rattle.rows.proofs.opener.begin_sizes.Tie as tie

@@ -1,7 +1,7 @@
 -- `rows::opener::begin_tests` meets its contract: one test after the other.
 use mathlib.Core.Path.{refl}
 use borrow.Author.Needs.{needs}
-use Rattle.front.proofs.Laws.{also}
+use Rattle.refusals.proofs.Laws.{also}
 use Rattle.rows.specs.Offer.{offerBeginTests}
 use Rattle.rows.specs.Inside.{offerBeginSizes}
 use Rattle.rows.proofs.opener.begin_tests.Statement.{statement}

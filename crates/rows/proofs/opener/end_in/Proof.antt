@@ -3,8 +3,8 @@ use mathlib.Core.Path.{_≡_, sym, _∙_}
 use lib.ListN.{getD}
 use Rattle.schemes.specs.Schemes.{familyOf}
 use Rattle.schemes.specs.declared.Family.{Family}
-use Rattle.ends.proofs.Numbers.{numbers-in}
-use Rattle.running.proofs.Tests.{frodo-named}
+use Rattle.values.proofs.Numbers.{numbers-in}
+use Rattle.rows_state.proofs.Tests.{frodo-named}
 use Rattle.rows.proofs.Opening.{end-failed, end-refused}
 use borrow.Author.Needs.{needs}
 use Rattle.rows.proofs.opener.end_in.Statement.{statement}

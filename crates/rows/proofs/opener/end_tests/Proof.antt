@@ -1,8 +1,8 @@
 -- `rows::opener::end_tests` meets its contract: its turn, then the room.
 use mathlib.Core.Path.{refl, _∙_, ap}
 use borrow.Author.Needs.{needs}
-use Rattle.front.specs.Front.{inTurn}
-use Rattle.front.proofs.Laws.{also}
+use Rattle.refusals.specs.Refusals.{inTurn}
+use Rattle.refusals.proofs.Laws.{also}
 use Rattle.rows.specs.Inside.{offerEndSizes}
 use Rattle.rows.proofs.opener.end_tests.Statement.{statement}
 use Rattle.rows.proofs.opener.end_tests.Tie as tie

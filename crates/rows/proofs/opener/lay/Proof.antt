@@ -10,15 +10,15 @@ use Rattle.schemes.specs.declared.Fixed.{Fixed}
 use Rattle.schemes.proofs.Sound.{sound}
 use Rattle.lists.proofs.Parts.{buffer-long, front-long}
 use Rattle.packing.specs.Packing.{packed}
-use Rattle.front.specs.Front.{notBlank}
-use Rattle.front.specs.Seen.{ifPassed}
-use Rattle.front.proofs.Steps.{front-is, front-fits}
-use Rattle.ends.specs.Fit.{Counted}
-use Rattle.ends.proofs.Numbers.{numbers-in}
+use Rattle.refusals.specs.Refusals.{notBlank}
+use Rattle.refusals.specs.Seen.{ifPassed}
+use Rattle.refusals.proofs.Steps.{front-is, front-fits}
+use Rattle.values.specs.Fit.{Counted}
+use Rattle.values.proofs.Numbers.{numbers-in}
 use Rattle.wire.specs.Wire.{opening}
-use Rattle.running.specs.State.{long}
-use Rattle.running.proofs.Tests.{frodos}
-use Rattle.running.proofs.Laying.{take-less}
+use Rattle.rows_state.specs.State.{long}
+use Rattle.rows_state.proofs.Tests.{frodos}
+use Rattle.rows_state.proofs.Laying.{take-less}
 use Rattle.rows.specs.Offer.{sentNumbers, offerEndMessage}
 use Rattle.rows.proofs.Sending.{sent-counted, sent-is}
 use Rattle.rows.proofs.Opening.{state-long, seed-bytes, seed-long}

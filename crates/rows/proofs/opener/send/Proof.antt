@@ -8,8 +8,8 @@ use Rattle.schemes.specs.Schemes.{fixedOf}
 use Rattle.schemes.specs.declared.Fixed.{Fixed}
 use Rattle.schemes.specs.declared.Named.{Named}
 use Rattle.lists.proofs.Parts.{front-long}
-use Rattle.front.proofs.Seen.{shown-passed}
-use Rattle.front.proofs.Steps.{kept}
+use Rattle.refusals.proofs.Seen.{shown-passed}
+use Rattle.refusals.proofs.Steps.{kept}
 use Rattle.rows.specs.Offer.{offerEndMessage}
 use Rattle.rows.proofs.Ends.{end-by}
 use Rattle.rows.proofs.Opening.{end-sized, end-decides, end-refused, message-long}

@@ -2,10 +2,10 @@
 use mathlib.Core.Path.{sym, ap, _∙_}
 use mathlib.Core.List.{List}
 use Prim.Native.Nat.{ℕ}
-use Rattle.schemes.specs.declared.Named.the-variants.{Is}
-use Rattle.front.specs.Seen.{ifPassed}
-use Rattle.ends.proofs.Numbers.{numbers-in}
-use Rattle.running.proofs.Turns.{state-by}
+use Rattle.schemes.specs.declared.Named.the-variants.{Known}
+use Rattle.refusals.specs.Seen.{ifPassed}
+use Rattle.values.proofs.Numbers.{numbers-in}
+use Rattle.rows_state.proofs.Turns.{state-by}
 use Rattle.rows.specs.Reply.{replyBeginOf, replyState}
 use Rattle.rows.proofs.Replying.{begin-failed, begin-decides}
 use borrow.Author.Needs.{needs}
@@ -37,7 +37,7 @@ returns-2 c =
     let b : tie.Start = search needs in
     let a = b .args in
     let d = begin-decides _ _ _ (sym (s .begin-sizes .ensures) ∙ o .enum-told .given .1) (p .begin-sized .ensures .0) in
-    state-by _ _ d (p .begin-sized .ensures .1 ∙ ap (λ (l : List ℕ). ifPassed (p .begin-sized .result) (replyState (Is (a .scheme)) (replyBeginOf (a .opening .now) (a .s1 .now) (a .e1 .now) (a .e2 .now))) l) (b .pre .1))
+    state-by _ _ d (p .begin-sized .ensures .1 ∙ ap (λ (l : List ℕ). ifPassed (p .begin-sized .result) (replyState (Known (a .scheme)) (replyBeginOf (a .opening .now) (a .s1 .now) (a .e1 .now) (a .e2 .now))) l) (b .pre .1))
 
 pub begin-in-spec : {M : Type 1} → statement M
 begin-in-spec =

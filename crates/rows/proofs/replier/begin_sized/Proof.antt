@@ -6,21 +6,21 @@ use native.Mathlib.Omega.{arith}
 use lib.ListN.{length}
 use Rattle.schemes.specs.Schemes.{fixedOf}
 use Rattle.schemes.specs.declared.Fixed.{Fixed}
-use Rattle.schemes.specs.declared.Named.the-variants.{Is}
+use Rattle.schemes.specs.declared.Named.the-variants.{Known}
 use Rattle.schemes.proofs.Sound.{sound}
 use Rattle.lists.proofs.Parts.{buffer-long, front-long}
 use Rattle.packing.proofs.Laws.{unpacked-length}
-use Rattle.front.specs.Front.{notBlank}
-use Rattle.front.specs.Seen.{ifPassed}
-use Rattle.front.specs.declared.Verdict.{Verdict}
-use Rattle.front.proofs.Laws.{failed, went-on}
-use Rattle.front.proofs.Steps.{front-is, front-fits}
-use Rattle.ends.specs.Values.{mixedValue}
+use Rattle.refusals.specs.Refusals.{notBlank}
+use Rattle.refusals.specs.Seen.{ifPassed}
+use Rattle.refusals.specs.declared.Verdict.{Verdict}
+use Rattle.refusals.proofs.Laws.{failed, went-on}
+use Rattle.refusals.proofs.Steps.{front-is, front-fits}
+use Rattle.values.specs.Values.{mixedValue}
 use Rattle.wire.specs.Wire.{openedIn, numbersIn}
 use Rattle.wire.proofs.Travel.{message-counted}
 use Rattle.reply.proofs.Replying.{secrets-small}
-use Rattle.running.specs.State.{long, laid, fresh}
-use Rattle.running.specs.declared.Call.{Call}
+use Rattle.rows_state.specs.State.{long, laid, fresh}
+use Rattle.rows_state.specs.declared.Call.{Call}
 use Rattle.rows.specs.Reply.{ReplyBegin, replyBeginOf, valueOf, replyState}
 use Rattle.rows.specs.Inside.{replyBeginRest}
 use Rattle.rows.proofs.Replying.{Sized, begin-sized, opened-tests}
@@ -134,7 +134,7 @@ returns c =
       e ∙ sym (failed _ (unpacked t) e),
       z .zero-numbers .ensures
           ∙ sym (b .pre .0 .1)
-          ∙ ap (λ (v : Verdict). ifPassed v (replyState (Is (b .args .scheme)) (lent x)) (b .args .state .now)) (sym e),
+          ∙ ap (λ (v : Verdict). ifPassed v (replyState (Known (b .args .scheme)) (lent x)) (b .args .state .now)) (sym e),
     )
 
 returns-2 : tie.Need-returns-2

@@ -3,7 +3,7 @@ use mathlib.Core.Path.{refl, ap}
 use Prim.Native.Nat.{_≤_}
 use native.Mathlib.Omega.{arith}
 use Rattle.schemes.specs.declared.Fixed.{Fixed}
-use Rattle.front.proofs.Laws.{first, also}
+use Rattle.refusals.proofs.Laws.{first, also}
 use Rattle.rows.specs.Inside.{replyBeginSizes}
 use borrow.Author.Needs.{needs}
 use Rattle.rows.proofs.replier.begin_sizes.Statement.{statement}

@@ -1,6 +1,6 @@
 -- `rows::replier::end_in` meets its contract: turn and rooms, then the part about to be sent.
 use mathlib.Core.Path.{sym, _∙_}
-use Rattle.ends.proofs.Numbers.{numbers-in}
+use Rattle.values.proofs.Numbers.{numbers-in}
 use Rattle.rows.proofs.Replying.{end-failed, end-refused}
 use borrow.Author.Needs.{needs}
 use Rattle.rows.proofs.replier.end_in.Statement.{statement}

@@ -2,8 +2,8 @@
 use mathlib.Core.Path.{refl, _∙_, ap}
 use native.Mathlib.Omega.{arith}
 use Rattle.schemes.specs.declared.Fixed.{Fixed}
-use Rattle.front.specs.Front.{inTurn}
-use Rattle.front.proofs.Laws.{also}
+use Rattle.refusals.specs.Refusals.{inTurn}
+use Rattle.refusals.proofs.Laws.{also}
 use Rattle.rows.specs.Inside.{replyEndSizes}
 use borrow.Author.Needs.{needs}
 use Rattle.rows.proofs.replier.end_sizes.Statement.{statement}

@@ -10,14 +10,14 @@ use Rattle.schemes.specs.declared.Fixed.{Fixed}
 use Rattle.schemes.proofs.Sound.{sound}
 use Rattle.lists.proofs.Parts.{buffer-long, front-long}
 use Rattle.packing.specs.Packing.{packed}
-use Rattle.front.specs.Front.{notBlank}
-use Rattle.front.specs.Seen.{ifPassed}
-use Rattle.front.proofs.Steps.{front-is, front-fits}
-use Rattle.ends.specs.Fit.{Counted}
-use Rattle.ends.proofs.Numbers.{numbers-in}
+use Rattle.refusals.specs.Refusals.{notBlank}
+use Rattle.refusals.specs.Seen.{ifPassed}
+use Rattle.refusals.proofs.Steps.{front-is, front-fits}
+use Rattle.values.specs.Fit.{Counted}
+use Rattle.values.proofs.Numbers.{numbers-in}
 use Rattle.reply.specs.Inside.{messageBy}
-use Rattle.running.specs.State.{long, keptOf}
-use Rattle.running.proofs.Tests.{frodos}
+use Rattle.rows_state.specs.State.{long, savedOf}
+use Rattle.rows_state.proofs.Tests.{frodos}
 use Rattle.rows.specs.Offer.{sentNumbers}
 use Rattle.rows.specs.Reply.{replyEndMessage, replyEndKey}
 use Rattle.rows.proofs.Sending.{sent-counted, sent-is}
@@ -109,7 +109,7 @@ returns c =
     let q = l .lay-values .ensures in
     let v = l .lay-values .result in (
       q .0 ∙ ap (λ (y : List ℕ). notBlank (packed (fixedOf d .width) y)) u,
-      (q .1 .0 ∙ ap (λ (y : List ℕ). ifPassed v (messageBy d y (keptOf (lent x)) []) (b .args .message .now)) u, q .1 .1),
+      (q .1 .0 ∙ ap (λ (y : List ℕ). ifPassed v (messageBy d y (savedOf (lent x)) []) (b .args .message .now)) u, q .1 .1),
     )
 
 pub lay-spec : {M : Type 1} → statement M

@@ -7,13 +7,13 @@ use borrow.Author.Needs.{needs}
 use lib.ListN.{length}
 use Rattle.schemes.specs.Schemes.{fixedOf}
 use Rattle.lists.proofs.Parts.{part-long}
-use Rattle.ends.specs.Values.{mixedValue}
-use Rattle.ends.proofs.Numbers.{Frodo, numbers-in}
-use Rattle.ends.proofs.Ranges.{mixed-counted}
-use Rattle.running.specs.State.{laid, fresh}
-use Rattle.running.specs.declared.Call.{Call}
-use Rattle.running.proofs.Tests.{frodos}
-use Rattle.running.proofs.Laying.{keeping-long, keeping-kept, keeping-is}
+use Rattle.values.specs.Values.{mixedValue}
+use Rattle.values.proofs.Numbers.{Frodo, numbers-in}
+use Rattle.values.proofs.Ranges.{mixed-counted}
+use Rattle.rows_state.specs.State.{laid, fresh}
+use Rattle.rows_state.specs.declared.Call.{Call}
+use Rattle.rows_state.proofs.Tests.{frodos}
+use Rattle.rows_state.proofs.Laying.{keeping-long, keeping-kept, keeping-is}
 use Rattle.rows.proofs.replier.lay_state.Statement.{statement}
 use Rattle.rows.proofs.replier.lay_state.Tie as tie
 

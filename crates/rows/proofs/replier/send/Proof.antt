@@ -10,11 +10,11 @@ use Rattle.schemes.specs.declared.Named.{Named}
 use Rattle.lists.proofs.Parts.{front-long}
 use Rattle.sponge.proofs.Output.{sha3-length}
 use Rattle.sponge.proofs.Digest.{digest-laid}
-use Rattle.front.proofs.Seen.{written-passed}
-use Rattle.front.proofs.Steps.{kept, laid-on}
+use Rattle.refusals.proofs.Seen.{written-passed}
+use Rattle.refusals.proofs.Steps.{kept, laid-on}
 use Rattle.reply.specs.Reply.{replyRoomsOf}
 use Rattle.reply.proofs.Replying.{reply-done}
-use Rattle.running.specs.State.{named}
+use Rattle.rows_state.specs.State.{named}
 use Rattle.rows.specs.Reply.{replyEndMessage, replyEndKey}
 use Rattle.rows.proofs.Ends.{end-by}
 use Rattle.rows.proofs.Replying.{Roomy, end-roomy, end-decides, end-refused, message-length, key-length}
@@ -70,10 +70,10 @@ module _ (p : tie.After-lay) where
   abbrev a : tie.Start
   a = start (fixed p)
 
-  message-is : replyEndMessage (named (a .args .state .now)) (a .args .state .now) ≡ replyEndMessage (Named.Is (a .args .scheme)) (a .args .state .now)
+  message-is : replyEndMessage (named (a .args .state .now)) (a .args .state .now) ≡ replyEndMessage (Named.Known (a .args .scheme)) (a .args .state .now)
   message-is = ap (λ (m : Named). replyEndMessage m (a .args .state .now)) (a .pre .1 .0 .1)
 
-  key-is : replyEndKey (named (a .args .state .now)) (a .args .state .now) ≡ replyEndKey (Named.Is (a .args .scheme)) (a .args .state .now)
+  key-is : replyEndKey (named (a .args .state .now)) (a .args .state .now) ≡ replyEndKey (Named.Known (a .args .scheme)) (a .args .state .now)
   key-is = ap (λ (m : Named). replyEndKey m (a .args .state .now)) (a .pre .1 .0 .1)
 
 returns : tie.Need-returns

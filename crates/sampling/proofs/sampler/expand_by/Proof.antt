@@ -1,6 +1,6 @@
 -- `sampling::sampler::expand_by` meets its contract: zeros stay where a test fails.
 use mathlib.Core.Path.{_∙_, sym}
-use Rattle.front.proofs.Seen.{shown-failed}
+use Rattle.refusals.proofs.Seen.{shown-failed}
 use Rattle.sampling.proofs.Expanding.{sizes-failed}
 use borrow.Author.Needs.{needs}
 use Rattle.sampling.proofs.sampler.expand_by.Statement.{statement}

@@ -5,7 +5,7 @@ use Prim.Native.Nat.{ℕ, _≤_}
 use native.Mathlib.Omega.{arith}
 use lib.ListN.{length, drop, length-take}
 use lib.Seq.{length-take-le}
-use Rattle.front.proofs.Seen.{shown-passed, shown-restored}
+use Rattle.refusals.proofs.Seen.{shown-passed, shown-restored}
 use Rattle.noise.specs.declared.Ruled.the-variants.{By}
 use Rattle.sampling.specs.Expand.{Expand, expandOf, expandNumbers}
 use Rattle.sampling.proofs.Expanding.{room-enough, ran-out, full, numbers-few, whole-part}

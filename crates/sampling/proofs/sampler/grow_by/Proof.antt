@@ -1,6 +1,6 @@
 -- `sampling::sampler::grow_by` meets its contract: zeros stay where a test fails.
 use mathlib.Core.Path.{_∙_, sym}
-use Rattle.front.proofs.Seen.{shown-failed}
+use Rattle.refusals.proofs.Seen.{shown-failed}
 use Rattle.sampling.proofs.Growing.{sizes-failed}
 use borrow.Author.Needs.{needs}
 use Rattle.sampling.proofs.sampler.grow_by.Statement.{statement}

@@ -1,6 +1,6 @@
 -- `sampling::sampler::grow_sizes` meets its contract.
 use mathlib.Core.Path.{refl}
-use Rattle.front.proofs.Laws.{first, also}
+use Rattle.refusals.proofs.Laws.{first, also}
 use Rattle.sampling.specs.Steps.{growSizes}
 use borrow.Author.Needs.{needs}
 use Rattle.sampling.proofs.sampler.grow_sizes.Statement.{statement}

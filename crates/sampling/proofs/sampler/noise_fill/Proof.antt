@@ -5,9 +5,9 @@ use Prim.Native.Nat.{_*_}
 use native.Mathlib.Omega.{arith}
 use lib.IntN.{ℤ}
 use lib.ListN.{length}
-use Rattle.schemes.specs.Schemes.{familyOf, by}
+use Rattle.schemes.specs.Schemes.{familyOf, byFamily}
 use Rattle.schemes.specs.declared.Scheme.{Scheme}
-use Rattle.schemes.specs.declared.Named.the-variants.{Is}
+use Rattle.schemes.specs.declared.Named.the-variants.{Known}
 use Rattle.sampling.specs.Noise.{Noise, noiseOf, noiseValues}
 use Rattle.sampling.proofs.Noising.{takes, filled}
 use borrow.Author.Needs.{needs}
@@ -19,10 +19,10 @@ module _ (b : tie.Start) {t : Scheme} (e : b .args .s ≡ t) where
   abbrev lent : Noise
   lent = noiseOf (b .args .bytes .now) (b .args .table .now)
 
-  bytes-of : length (b .args .bytes .now) ≡ by (familyOf t) 25 4 2 * length (b .args .out .now)
+  bytes-of : length (b .args .bytes .now) ≡ byFamily (familyOf t) 25 4 2 * length (b .args .out .now)
   bytes-of = takes lent e _ (b .pre .0)
 
-  values-of : {out : List ℤ} → out ≡ noiseValues (Is t) lent → out ≡ noiseValues (Is (b .args .s)) lent
+  values-of : {out : List ℤ} → out ≡ noiseValues (Known t) lent → out ≡ noiseValues (Known (b .args .s)) lent
   values-of o = filled lent e o
 
 pub noise-fill-spec : {M : Type 1} → statement M

@@ -6,7 +6,7 @@ use native.Mathlib.Nat.{mul-le-mul}
 use lib.ListN.{length}
 use Rattle.schemes.specs.declared.Fixed.{Fixed}
 use Rattle.schemes.proofs.Sound.{Sound, sound}
-use Rattle.front.proofs.Laws.{also}
+use Rattle.refusals.proofs.Laws.{also}
 use Rattle.sampling.specs.Noise.{lengthEither}
 use Rattle.sampling.specs.Steps.{noiseSizes}
 use borrow.Author.Needs.{needs}

@@ -1,6 +1,6 @@
 -- `sampling::sampler::noise_tests` meets its contract: by the family.
 use mathlib.Core.Path.{refl, _∙_, sym}
-use Rattle.front.proofs.Laws.{also}
+use Rattle.refusals.proofs.Laws.{also}
 use Rattle.sampling.proofs.Noising.{tests-by}
 use borrow.Author.Needs.{needs}
 use Rattle.sampling.proofs.sampler.noise_tests.Statement.{statement}

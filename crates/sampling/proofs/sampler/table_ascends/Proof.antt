@@ -1,8 +1,8 @@
 -- `sampling::sampler::table_ascends` meets its contract.
 use mathlib.Core.Path.{ap, _∙_}
 use Prim.Native.Nat.{ℕ}
-use Rattle.front.specs.Front.{tableIn}
-use Rattle.front.proofs.Laws.{stays, goes-on, first}
+use Rattle.refusals.specs.Refusals.{tableIn}
+use Rattle.refusals.proofs.Laws.{stays, goes-on, first}
 use borrow.Author.Needs.{needs}
 use Rattle.sampling.proofs.sampler.table_ascends.Statement.{statement}
 use Rattle.sampling.proofs.sampler.table_ascends.Tie as tie

@@ -1,5 +1,5 @@
 -- `settings::writer::label_in` meets its contract.
-use Rattle.front.proofs.Laws.{stays}
+use Rattle.refusals.proofs.Laws.{stays}
 use Rattle.settings.specs.Calls.{allowed}
 use Rattle.settings.proofs.Store.{letter-fails, letters-pass}
 use borrow.Author.Needs.{needs}

@@ -1,0 +1,48 @@
+-- A refusal back from its number and its place.
+--   same-refusal   two refusals with the same number and place are the same
+use mathlib.Core.Path.{_≡_, refl}
+use mathlib.Core.Bool.{cond}
+use Prim.Native.Nat.{ℕ}
+use lib.Dec.{eqb}
+use Rattle.refusals.specs.Refusals.{numberOf, placeOf}
+use Rattle.refusals.specs.declared.Refusal.{Refusal}
+use Rattle.refusals.specs.declared.Refusal.the-variants.{NoScheme, BadLength, Short, PublicOver, MessageOver, SecretBeyond, RanOut, Misfit, OutOfStage, OutOfTurn, NoRule, NewerFormat, NoStudio, Blank, NotAscending}
+
+refusalBy : ℕ → ℕ → Refusal
+refusalBy k p =
+    cond (eqb k 1) NoScheme
+    (cond (eqb k 2) BadLength
+    (cond (eqb k 3) Short
+    (cond (eqb k 4) (PublicOver p)
+    (cond (eqb k 5) (MessageOver p)
+    (cond (eqb k 6) (SecretBeyond p)
+    (cond (eqb k 7) (RanOut p)
+    (cond (eqb k 8) Misfit
+    (cond (eqb k 10) OutOfStage
+    (cond (eqb k 11) OutOfTurn
+    (cond (eqb k 12) NoRule
+    (cond (eqb k 15) NewerFormat
+    (cond (eqb k 16) NoStudio
+    (cond (eqb k 17) Blank
+    (NotAscending p))))))))))))))
+
+back : (r : Refusal) → refusalBy (numberOf r) (placeOf r) ≡ r
+unfolding refusalBy
+back NoScheme = refl
+back BadLength = refl
+back Short = refl
+back (PublicOver k) = refl
+back (MessageOver k) = refl
+back (SecretBeyond k) = refl
+back (RanOut k) = refl
+back Misfit = refl
+back OutOfStage = refl
+back OutOfTurn = refl
+back NoRule = refl
+back NewerFormat = refl
+back NoStudio = refl
+back Blank = refl
+back (NotAscending k) = refl
+
+pub same-refusal : (a b : Refusal) → numberOf a ≡ numberOf b → placeOf a ≡ placeOf b → a ≡ b
+same-refusal a b e f = cc (back a, back b)

@@ -1,0 +1,28 @@
+-- `rows_state::state::fills` meets its contract: one test after the other.
+use mathlib.Core.Path.{refl}
+use native.Mathlib.Omega.{arith}
+use borrow.Author.Needs.{needs}
+use borrow.Author.Tests.{le-leb, lt-leb}
+use Rattle.rows_state.specs.State.{fills}
+use Rattle.rows_state.proofs.Tests.{stops, goes, square}
+use Rattle.rows_state.proofs.state.fills.Statement.{statement}
+use Rattle.rows_state.proofs.state.fills.Tie as tie
+
+returns : tie.Need-returns
+unfolding fills
+returns c = let s : tie.Start = search needs in stops _ (lt-leb 1 (s .args .m) (c .if1 .taken))
+
+add-result : tie.Need-add-result
+add-result c = let s : tie.Start = search needs in record { fits = omega (arith, square (s .args .n) (s .pre .1), s .pre .2) }
+
+returns-2 : tie.Need-returns-2
+unfolding fills
+returns-2 c =
+    let s : tie.Start = search needs in
+    let i : tie.Else1 = search needs in
+    goes (le-leb 1 (s .args .m) (omega (arith, i .if1 .left))) refl
+
+pub fills-spec : {M : Type 1} → statement M
+fills-spec =
+    tie.close
+    (tie.spec returns add-result (search needs) (search needs) returns-2)

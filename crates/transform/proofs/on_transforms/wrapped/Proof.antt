@@ -1,0 +1,34 @@
+-- `transform::on_transforms::wrapped` meets its contract.
+use mathlib.Core.Path.{_≡_}
+use mathlib.Core.Bool.{Bool}
+use Prim.Native.Nat.{ℕ, _<_}
+use native.Mathlib.Omega.{arith}
+use borrow.Author.Needs.{needs}
+use borrow.Author.Tests.{ltb-true, ltb-false}
+use lib.Dec.{ltb}
+use lib.IntN.{ℤ, pos}
+use lib.Signed.{ltZ}
+use mir.Syntax.{w32}
+use mir.Val.{toZ}
+use Rattle.numbers.proofs.Machine.{toZ-pos}
+use Rattle.transform.proofs.on_transforms.wrapped.Statement.{statement}
+use Rattle.transform.proofs.on_transforms.wrapped.Tie as tie
+
+-- what the signed test says
+test : (x : ℕ) {b : Bool} → x < 24578 → ltZ (toZ w32 x) (pos 12289) ≡ b → ltb x 12289 ≡ b
+test x h t = rw (toZ-pos w32 x (omega arith)) at t
+
+below : (c : tie.Then1) → c .before .args .x < 12289
+below c = ltb-true _ _ (test _ (c .before .pre) (c .if1 .taken))
+
+sub-result : tie.Need-sub-result
+sub-result c = ltb-false _ _ (test _ (c .before .pre) (c .if1 .left))
+
+returns : tie.Need-returns
+returns c = omega (arith, below c)
+
+returns-2 : tie.Need-returns-2
+returns-2 c = omega (arith, sub-result c)
+
+pub wrapped-spec : {M : Type 1} → statement M
+wrapped-spec = tie.close (tie.spec (search needs) (search needs) sub-result returns returns-2)
