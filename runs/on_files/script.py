@@ -1,20 +1,32 @@
 """The script at the root: links, no kit, what it says while it proves, what it builds again."""
 import os
+import pty
+import re
 import shutil
+import signal
+import subprocess
+import time
 
-from .common import hold, run, write
+from .common import hold, read, run, write
 
-# a prover that takes no time, and a cargo that makes a program of three lines
+# a prover that takes no time, but for the crate SLOW, and a cargo that makes a program of three lines
 FAKE = {
     "bin/rt": """#!/bin/bash
-[ "$1" = staticlib ] || { echo fake; exit 0; }
-crates=CRATES_$2
-for name in ${!crates}; do
-    for i in $(seq 40); do echo "fn $name::f$i: proved"; done
-    [ "$name" != "${BREAK:-}" ] || { echo "error: $name NOT PROVED"; exit 1; }
-    echo "rt: $name proved (1 s)"
+case $1 in check | staticlib) ;; *) echo fake; exit 0 ;; esac
+mkdir -p target/log target/staticlib
+echo "$*" >>target/asked
+for name in "${@:2}"; do
+    for i in $(seq 40); do echo "fn $name::f$i: proved"; done >"target/log/$name.out"
+    [ "$name" != "${SLOW:-}" ] || { echo "$$" >target/slow; sleep "$SECONDS_OF_SLOW"; }
+    if [ "$name" = "${BREAK:-}" ]; then
+        echo "rt: $name NOT PROVED (exit 1, 1 s)" >>"target/log/$name.out"
+    else
+        echo "rt: $name proved (1 s)" >>"target/log/$name.out"
+    fi
+    cat "target/log/$name.out"
 done
-mkdir -p target/staticlib
+[ -z "${BREAK:-}" ] || exit 1
+[ "$1" = staticlib ] || exit 0
 rm -f "target/staticlib/lib$2.a"
 ar rc "target/staticlib/lib$2.a"
 """,
@@ -61,6 +73,43 @@ def made_of(archive, crates):
     return sorted(order, key=lambda x: level[x])
 
 
+def broken_off(tree, around):
+    """While a crate is proved its name is told; a script that is ended ends its prover."""
+    slow = {**around, "SLOW": "matrix", "SECONDS_OF_SLOW": "60"}
+    with subprocess.Popen([tree + "/native", "wimmostry"], env=slow, stderr=subprocess.PIPE) as native:
+        line = b""
+        while not line.endswith(b": matrix\n"):
+            line = native.stderr.readline()
+            if not line:
+                break
+        proving = re.fullmatch(rb"native: \d+ of \d+ proved in 0m\d+s, about \d min left: matrix\n", line)
+        native.send_signal(signal.SIGTERM)
+        status = native.wait(timeout=30)
+    prover = int(read(tree + "/target/slow"))
+    for _ in range(50):
+        if not os.path.exists(f"/proc/{prover}"):
+            break
+        time.sleep(0.1)
+    hold("script", proving and status == 143 and not os.path.exists(f"/proc/{prover}"),
+         f"broken off: {line!r} {status}")
+
+
+def on_terminal(tree, around):
+    """One line is rewritten, and is no wider than the terminal."""
+    main, side = pty.openpty()
+    subprocess.run(["stty", "cols", "40"], stdin=side, check=True)
+    slow = {**around, "SLOW": "matrix", "SECONDS_OF_SLOW": "2"}
+    subprocess.run([tree + "/native", "wimmostry"], env=slow, stderr=side, check=True, timeout=60)
+    os.close(side)
+    text = os.read(main, 10000)
+    os.close(main)
+    lines = text.split(b"\r\n")
+    parts = lines[1].split(b"\r")
+    fine = len(lines) == 3 and lines[2] == b"" and len(parts) > 3
+    fine = fine and all(len(x.removesuffix(b"\x1b[K")) < 40 for x in parts)
+    hold("script", fine, f"on a terminal: {text!r}")
+
+
 def script(both):
     real = os.path.realpath(both.box)
     root = os.path.dirname(real)
@@ -100,27 +149,33 @@ def script(both):
     for name in {*made["wimmostry"], *made["trace"]}:
         os.makedirs(os.path.join(tree, "crates", name, "src"))
         write(os.path.join(tree, "crates", name, "src/lib.rt"), b"")
-    around = {**os.environ, "PATH": tree + "/bin:" + os.environ["PATH"],
-              **{f"CRATES_{x}": " ".join(names) for x, names in made.items()}}
+    around = {**os.environ, "PATH": tree + "/bin:" + os.environ["PATH"]}
     start = lambda **more: run([os.path.join(tree, "box"), "some", "words"], env={**around, **more})
 
     def proving(done, what, archives=ARCHIVES):
+        """It names the logs, and tells of all crates at the end; rt is asked for what is below the
+        archive's crate first, and for that crate then."""
         status, text, error = done
-        lines = error.decode().splitlines()
-        expected = []
+        fine, asked = status == 7 and text == b"some words\n", ""
         for archive in archives:
-            names = made[archive]
-            expected += [f"native: the log is target/native/{archive}.log"]
-            expected += [f"proving {i + 1} of {len(names)}: {x}" for i, x in enumerate(names)]
-            expected += [f"compiling {archive}"]
-        fine = status == 7 and text == b"some words\n" and lines == expected
-        hold("script", fine, f"{what}: {done}")
+            *below, last = made[archive]
+            many, told = len(below) + 1, f"native: the log is target/native/{archive}\\.log\n"
+            told += rf"(native: \d+ of {many} proved in .*\n)*native: {many} of {many} proved in \w+\n"
+            found = re.match(told, error.decode())
+            fine, error = fine and found, error[found.end() if found else 0:]
+            asked += f"check {' '.join(below)}\nstaticlib {last}\n"
+        got = read(tree + "/target/asked").decode()
+        hold("script", fine and error == b"" and got == asked, f"{what}: {done} {got}")
+        os.remove(tree + "/target/asked")
 
     broken = start(BREAK="matrix")
-    fine = broken[0] == 4 and broken[1] == b"" and b"error: matrix NOT PROVED" in broken[2]
+    fine = broken[0] == 4 and broken[1] == b"" and b"rt: matrix NOT PROVED" in broken[2]
     hold("script", fine and broken[2].count(b"\n") < 60, f"a proof that fails: {broken}")
     broken = start(BREAK_CARGO="1")
     hold("script", broken[0] == 4 and b"error: cargo" in broken[2], f"a build that fails: {broken}")
+    shutil.rmtree(os.path.join(tree, "target"))
+    broken_off(tree, around)
+    on_terminal(tree, around)
     shutil.rmtree(os.path.join(tree, "target"))
     proving(start(), "first")
     hold("script", start() == (7, b"some words\n", b""), "it builds again what it has")
