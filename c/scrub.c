@@ -18,12 +18,16 @@ typedef uint64_t wide;
 /*
  * Parts of secrets also stay in registers, and whatever saves registers next would lay them on
  * the stack again: a signal lays all of them there. Zeroed are the general and the vector registers
- * that a function may change, as code for the plain processor has them: the archive is such code
+ * that a function may change, as code for the archive's level has them: the archive is such code
  * and calls no other (c/memory.c). On Arm a call leaves nothing in v8 to v15: it loads the lower
  * halves of its caller again, which zeroes the upper ones.
  */
 #if defined(__GNUC__) && defined(__x86_64__)
+#if defined(__AVX__) /* the upper halves too */
+#define ZERO(n) "vpxor %%xmm" #n ", %%xmm" #n ", %%xmm" #n "\n\t"
+#else
 #define ZERO(n) "pxor %%xmm" #n ", %%xmm" #n "\n\t"
+#endif
 #define ZERO_REGISTERS()                                                                         \
     __asm__ volatile(ZERO(0) ZERO(1) ZERO(2) ZERO(3) ZERO(4) ZERO(5) ZERO(6) ZERO(7)             \
                      ZERO(8) ZERO(9) ZERO(10) ZERO(11) ZERO(12) ZERO(13) ZERO(14) ZERO(15)       \

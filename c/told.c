@@ -1,9 +1,16 @@
-/* What the archive tells of itself: its version, and a sentence for each refusal. */
+/* What the archive tells of itself: its version, its level, and a sentence for each refusal. */
 #include "wimmostry.h"
 
 const char *wim_version(void)
 {
     return WIM_VERSION;
+}
+
+/* WIM_CPU is given where this is compiled. A processor that lacks the level can still run this: a
+ * constant's address takes no vector register. */
+const char *wim_cpu(void)
+{
+    return WIM_CPU;
 }
 
 /* The sentences are those of the header's table, to the letter; runs/declared compares them. */

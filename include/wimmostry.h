@@ -3,8 +3,8 @@
  *
  * The library does the arithmetic of one exchange and of its two messages. It is written in
  * Rattle, and every call below is proved to meet its contract: for all inputs whatsoever it ends,
- * touches no memory but what it is lent, and gives exactly what this file says. Three small
- * functions beside the calls are plain C: wim_scrub, wim_version and wim_refusal_text.
+ * touches no memory but what it is lent, and gives exactly what this file says. Four small
+ * functions beside the calls are plain C: wim_scrub, wim_version, wim_cpu and wim_refusal_text.
  *
  *     the initiator                             the replier
  *     wim_offer   a, s, e, seed -> opening  -->
@@ -36,8 +36,9 @@
  *
  *     cc yours.c $(pkg-config --cflags --libs wimmostry)
  *
- * finds them. The archive needs memcpy and memset and nothing else. It has no state, takes no
- * memory from a heap and starts nothing, so that any number of threads may call at once.
+ * finds them. Both take `--cpu x86-64-v3` for an archive that is faster and needs a processor with
+ * AVX2; wim_cpu tells which it is. The archive needs no function from outside. It has no state,
+ * takes no memory from a heap and starts nothing, so that any number of threads may call at once.
  *
  *
  * RETURN VALUE, PLACE AND COUNTS
@@ -315,9 +316,10 @@
  * nothing. By rows begin has those of its secrets, 2 and 3, and end those of what is sent; each
  * part and end of Reply has one more, the verdict on the values in its state, and a part of Offer
  * none. A refused secret is searched value by value for its place. Nothing is divided but 65,536 by
- * q, and by rows how many numbers have come by n and 16 n. So it is in the archive for x86-64, by
- * valgrind with the secrets marked as undefined, in all schemes (runs/secrets); another compiler
- * may do otherwise, and what the processor makes of it is not measured.
+ * q, and by rows how many numbers have come by n and 16 n. So it is in the archives for x86-64 and
+ * x86-64-v3, in all schemes (runs/secrets): the branches by valgrind with the secrets marked as
+ * undefined, the divisions by a trace with two sets of secrets. Another compiler may do otherwise,
+ * and what the processor makes of it is not measured.
  */
 #ifndef WIMMOSTRY_H
 #define WIMMOSTRY_H
@@ -838,13 +840,20 @@ WIM_MUST_USE uint32_t wim_settings_write(uint32_t scheme, uint32_t rule,
 /*
  * Overwrites what a call may have left on the stack below the caller's frame; see STACK above. It
  * zeroes the general registers and the vector registers that a function may change besides: on
- * x86-64 xmm0 to xmm15, on Arm v0 to v7 and v16 to v31. The calls leave nothing in others or in
- * wider ones: they call no function from outside the archive, not even memcpy.
+ * x86-64 xmm0 to xmm15 (for x86-64-v3 ymm0 to ymm15), on Arm v0 to v7 and v16 to v31. The calls
+ * leave nothing in others or in wider ones: they call no function from outside the archive, not
+ * even memcpy.
  */
 void wim_scrub(void);
 
 /* The archive's version, WIM_VERSION of the header that it was built with. */
 const char *wim_version(void);
+
+/*
+ * The level of processors that the archive was compiled for: "x86-64", "x86-64-v3" or "aarch64". On
+ * a processor without it no other function may be called.
+ */
+const char *wim_cpu(void);
 
 /* A sentence for a return value, "done" for 0 and "unknown refusal" for what is no refusal. */
 const char *wim_refusal_text(uint32_t refusal);

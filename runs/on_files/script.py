@@ -9,10 +9,11 @@ import time
 
 from .common import hold, read, run, write
 
-# a prover that takes no time, but for the crate SLOW, and a cargo that makes a program of three lines
+# a prover that takes no time, but for the crate SLOW, whose compiler makes an empty object, and a
+# cargo that makes a program of three lines
 FAKE = {
     "bin/rt": """#!/bin/bash
-case $1 in check | staticlib) ;; *) echo fake; exit 0 ;; esac
+case $1 in check | staticlib) ;; *) echo "$(dirname "$0")/../kit/docs/guide"; exit 0 ;; esac
 mkdir -p target/log target/staticlib
 echo "$*" >>target/asked
 for name in "${@:2}"; do
@@ -28,8 +29,12 @@ done
 [ -z "${BREAK:-}" ] || exit 1
 [ "$1" = staticlib ] || exit 0
 rm -f "target/staticlib/lib$2.a"
-ar rc "target/staticlib/lib$2.a"
+: >"target/$2.bc"
+"$RATTLE_HOME/on/x86_64/toolchain/bin/clang" "target/$2.bc" -o "target/$2.o"
+ar rc "target/staticlib/lib$2.a" "target/$2.o"
 """,
+    "kit/docs/guide": "",
+    "kit/on/x86_64/toolchain/bin/clang": "#!/bin/bash\ncc -c -x c /dev/null -o \"$3\"\n",
     "bin/uname": "#!/bin/bash\necho x86_64\n",
     "bin/cargo": """#!/bin/bash
 root=$(dirname "$0")/..
@@ -82,8 +87,8 @@ def broken_off(tree, around):
             line = native.stderr.readline()
             if not line:
                 break
-        proving = re.fullmatch(rb"native: \d+ of \d+ proved in 0m\d+s, about \d min left: matrix\n", line)
-        native.send_signal(signal.SIGTERM)
+        proving = re.fullmatch(rb"prove: \d+ of \d+ proved in 0m\d+s, about \d min left: matrix\n", line)
+        native.send_signal(signal.SIGINT)
         status = native.wait(timeout=30)
     prover = int(read(tree + "/target/slow"))
     for _ in range(50):
@@ -99,7 +104,8 @@ def on_terminal(tree, around):
     main, side = pty.openpty()
     subprocess.run(["stty", "cols", "40"], stdin=side, check=True)
     slow = {**around, "SLOW": "matrix", "SECONDS_OF_SLOW": "2"}
-    subprocess.run([tree + "/native", "wimmostry"], env=slow, stderr=side, check=True, timeout=60)
+    subprocess.run([tree + "/native", "wimmostry"], env=slow, stdout=subprocess.DEVNULL, stderr=side,
+                   check=True, timeout=60)
     os.close(side)
     text = os.read(main, 10000)
     os.close(main)
@@ -137,7 +143,7 @@ def script(both):
         os.makedirs(os.path.dirname(os.path.join(tree, name)), exist_ok=True)
         write(os.path.join(tree, name), text.encode())
         os.chmod(os.path.join(tree, name), 0o755)
-    for name in ("box", "native", "crates.txt"):
+    for name in ("box", "native", "prove", "compile", "crates.txt"):
         shutil.copy(os.path.join(root, name), tree)
     for name in ("c", "include", "data"):
         shutil.copytree(os.path.join(root, name), os.path.join(tree, name))
@@ -159,8 +165,8 @@ def script(both):
         fine, asked = status == 7 and text == b"some words\n", ""
         for archive in archives:
             *below, last = made[archive]
-            many, told = len(below) + 1, f"native: the log is target/native/{archive}\\.log\n"
-            told += rf"(native: \d+ of {many} proved in .*\n)*native: {many} of {many} proved in \w+\n"
+            many, told = len(below) + 1, f"prove: the log is target/native/{archive}\\.log\n"
+            told += rf"(prove: \d+ of {many} proved in .*\n)*prove: {many} of {many} proved in \w+\n"
             found = re.match(told, error.decode())
             fine, error = fine and found, error[found.end() if found else 0:]
             asked += f"check {' '.join(below)}\nstaticlib {last}\n"

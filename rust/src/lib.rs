@@ -116,3 +116,12 @@ pub fn version() -> &'static str {
     let text = unsafe { core::ffi::CStr::from_ptr(raw::ffi::wim_version()) };
     text.to_str().expect("digits and dots")
 }
+
+/// The level of processors that the archive was compiled for: `x86-64`,
+/// `x86-64-v3` or `aarch64`. On a processor without it no other function may be
+/// called.
+pub fn cpu() -> &'static str {
+    // SAFETY: it takes nothing and gives a constant text that ends with a zero.
+    let text = unsafe { core::ffi::CStr::from_ptr(raw::ffi::wim_cpu()) };
+    text.to_str().expect("letters, digits and dashes")
+}

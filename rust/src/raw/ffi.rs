@@ -357,5 +357,6 @@ extern "C" {
     ) -> u32;
     pub fn wim_scrub();
     pub fn wim_version() -> *const c_char;
+    pub fn wim_cpu() -> *const c_char;
     pub fn wim_refusal_text(refusal: u32) -> *const c_char;
 }
