@@ -28,7 +28,28 @@ use table::Form;
 use tell::Done;
 use words::Found;
 
+/// Whether this processor has all that code for a level takes: where a part is
+/// missing the first call would end the process by a signal.
+#[cfg(target_arch = "x86_64")]
+fn runs(level: &str) -> bool {
+    use std::is_x86_feature_detected as has;
+    let v3 = has!("avx2") && has!("bmi1") && has!("bmi2") && has!("f16c") && has!("fma");
+    level != "x86-64-v3" || v3 && has!("lzcnt") && has!("movbe")
+}
+
+#[cfg(not(target_arch = "x86_64"))]
+fn runs(_: &str) -> bool {
+    true
+}
+
 fn main() -> ExitCode {
+    let level = wimmostry::cpu();
+    if !runs(level) {
+        eprintln!(
+            "wimmostry: this processor cannot run a program for {level}; build it for x86-64"
+        );
+        return ExitCode::from(4);
+    }
     let words: Vec<OsString> = std::env::args_os().skip(1).collect();
     let status = dispatch(&words).unwrap_or_else(|fault| {
         tell::complain(&fault);
