@@ -3,16 +3,50 @@
  * marked as undefined, each accepted call in each scheme: what memcheck then reports as a jump, a
  * move or an address that depends on an undefined value depends on a secret. runs/secrets reads
  * the lines.
+ *
+ * secrets FILE: the same calls without valgrind, each once with its secrets as they are and once
+ * with other ones, beside the same public inputs. The lines of divisions.h, of the instructions in
+ * FILE, come behind each: where a division depends on a secret, the two differ. At the end stands a
+ * division of a secret, of which the lines have to differ.
  */
 #include "calls.h"
+#include "divisions.h"
 
 #include <stdio.h>
 #include <stdlib.h>
+#include <string.h>
+#if defined(NO_VALGRIND)
+#define VALGRIND_MAKE_MEM_UNDEFINED(AT, BYTES) ((void)(AT))
+#define VALGRIND_MAKE_MEM_DEFINED(AT, BYTES) ((void)(AT))
+#define VALGRIND_COUNT_ERRORS 0
+#define VALGRIND_PRINTF(...) ((void)0)
+#else
 #include <valgrind/memcheck.h>
+#endif
 
 static struct lent lent;
+static int divides; /* whether FILE is given */
 
-#define HIDE(SLICE, COUNT) VALGRIND_MAKE_MEM_UNDEFINED(SLICE, (COUNT) * sizeof *(SLICE))
+/* Marks a list as undefined; or makes it another one of the same entries, so that a call accepts
+ * it: the first goes behind the others. */
+static void hidden(void *list, size_t count, size_t width)
+{
+    uint8_t first[8], *bytes = list;
+
+    if (!divides) {
+        (void)VALGRIND_MAKE_MEM_UNDEFINED(list, count * width);
+        return;
+    }
+    memcpy(first, bytes, width);
+    memmove(bytes, bytes + width, (count - 1) * width);
+    memcpy(bytes + (count - 1) * width, first, width);
+}
+
+#define HIDE(SLICE, COUNT)                                                                       \
+    do {                                                                                         \
+        if ((COUNT) > 0)                                                                         \
+            hidden(SLICE, COUNT, sizeof *(SLICE));                                               \
+    } while (0)
 
 static void hide(size_t call)
 {
@@ -57,15 +91,51 @@ static void hide(size_t call)
         HIDE(lent.offer_fifteen + 67, x->s);
     if (call == ROWS_OFFER_END)
         HIDE(lent.offer_full + 67, x->s);
-    if (call == ROWS_REPLY_PART)
-        HIDE(lent.reply_fifteen + 3, 64 + x->s);
-    if (call == ROWS_REPLY_END)
-        HIDE(lent.reply_full + 3, 64 + x->s);
+    if (call == ROWS_REPLY_PART) {
+        HIDE(lent.reply_fifteen + 3, 64);
+        HIDE(lent.reply_fifteen + 67, x->s);
+    }
+    if (call == ROWS_REPLY_END) {
+        HIDE(lent.reply_full + 3, 64);
+        HIDE(lent.reply_full + 67, x->s);
+    }
 }
 
-int main(void)
+static uint32_t divide_a_secret(struct lent *l)
 {
-    if (!read_table())
+    volatile uint32_t divisor = 7;
+    uint32_t sum = 0;
+
+    for (uint32_t i = 0; i < l->scheme->s; i++)
+        sum += i * (uint32_t)l->s[i];
+    l->place = sum / divisor;
+    return WIM_DONE;
+}
+
+/* Makes a call twice; the name stands before the lines of each. */
+static int divided(const struct call *call, size_t hides)
+{
+    static const char *const secrets[2] = {"as they are", "others"};
+
+    for (int i = 0; i < 2; i++) {
+        uint32_t refusal;
+
+        printf("%s|%s|%s\n", lent.scheme->name, call->name, secrets[i]);
+        if (i == 1)
+            hide(hides);
+        if (!divisions_watch(1))
+            return 0;
+        refusal = call->make(&lent);
+        if (!divisions_watch(0) || refusal != WIM_DONE)
+            return 0;
+    }
+    return 1;
+}
+
+int main(int count, char **words)
+{
+    divides = count == 2;
+    if (!read_table() || (divides && !divisions_read(words[1])))
         return EXIT_FAILURE;
     for (int k = 0; k < 6; k++) {
         if (draw_all(&lent, &schemes[k]) != WIM_DONE)
@@ -78,6 +148,11 @@ int main(void)
                 continue;
             if (i >= ROWS_OFFER_BEGIN && lent.scheme->state == 0)
                 continue;
+            if (divides) {
+                if (!divided(&calls[i], i))
+                    return EXIT_FAILURE;
+                continue;
+            }
             VALGRIND_PRINTF("call %s, %s\n", lent.scheme->name, calls[i].name);
             hide(i);
             before = VALGRIND_COUNT_ERRORS;
@@ -90,6 +165,11 @@ int main(void)
             if (refusal != WIM_DONE)
                 return EXIT_FAILURE;
         }
+    }
+    if (divides) {
+        const struct call canary = {"divide_a_secret", divide_a_secret};
+
+        return divided(&canary, OFFER) ? EXIT_SUCCESS : EXIT_FAILURE;
     }
     return EXIT_SUCCESS;
 }
