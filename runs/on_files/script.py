@@ -18,6 +18,7 @@ mkdir -p target/log target/staticlib
 echo "$*" >>target/asked
 for name in "${@:2}"; do
     for i in $(seq 40); do echo "fn $name::f$i: proved"; done >"target/log/$name.out"
+    : >"target/log/$name.say"
     [ "$name" != "${SLOW:-}" ] || { echo "$$" >target/slow; sleep "$SECONDS_OF_SLOW"; }
     if [ "$name" = "${BREAK:-}" ]; then
         echo "rt: $name NOT PROVED (exit 1, 1 s)" >>"target/log/$name.out"
@@ -159,19 +160,16 @@ def script(both):
     start = lambda **more: run([os.path.join(tree, "box"), "some", "words"], env={**around, **more})
 
     def proving(done, what, archives=ARCHIVES):
-        """It names the logs, and tells of all crates at the end; rt is asked for what is below the
-        archive's crate first, and for that crate then."""
+        """It names the log, and tells of all crates at the end; rt is asked for what is below the
+        archives' crates first, and for these crates then."""
         status, text, error = done
-        fine, asked = status == 7 and text == b"some words\n", ""
-        for archive in archives:
-            *below, last = made[archive]
-            many, told = len(below) + 1, f"prove: the log is target/native/{archive}\\.log\n"
-            told += rf"(prove: \d+ of {many} proved in .*\n)*prove: {many} of {many} proved in \w+\n"
-            found = re.match(told, error.decode())
-            fine, error = fine and found, error[found.end() if found else 0:]
-            asked += f"check {' '.join(below)}\nstaticlib {last}\n"
+        below = {x: 0 for archive in archives for x in made[archive][:-1]}
+        many, told = len(below) + len(archives), r"prove: the log is target/native/prove\.log\n"
+        told += rf"(prove: \d+ of {many} proved in .*\n)*prove: {many} of {many} proved in \w+\n"
+        asked = f"check {' '.join(below)}\n" + "".join(f"staticlib {x}\n" for x in archives)
         got = read(tree + "/target/asked").decode()
-        hold("script", fine and error == b"" and got == asked, f"{what}: {done} {got}")
+        fine = status == 7 and text == b"some words\n" and re.fullmatch(told, error.decode())
+        hold("script", fine and got == asked, f"{what}: {done} {got}")
         os.remove(tree + "/target/asked")
 
     broken = start(BREAK="matrix")
