@@ -1,5 +1,6 @@
 /*
- * wim_scrub, which overwrites the stack that a call may have used, and the registers.
+ * wim_scrub and wim_scrub_depth, which overwrite the stack that a call may have used, and the
+ * registers.
  *
  * It is C and no proof speaks of it: Rattle has no word for memory that no variable stands in. It
  * changes nothing that a program may still read.
@@ -19,18 +20,20 @@ typedef uint64_t wide;
  * Parts of secrets also stay in registers, and whatever saves registers next would lay them on
  * the stack again: a signal lays all of them there. Zeroed are the general and the vector registers
  * that a function may change, as code for the archive's level has them: the archive is such code
- * and calls no other (c/memory.c). On Arm a call leaves nothing in v8 to v15: it loads the lower
- * halves of its caller again, which zeroes the upper ones.
+ * and calls no other (c/memory.c). With AVX they are ymm0 to ymm15. On Arm a call leaves nothing in
+ * v8 to v15: it loads the lower halves of its caller again, which zeroes the upper ones.
  */
 #if defined(__GNUC__) && defined(__x86_64__)
-#if defined(__AVX__) /* the upper halves too */
-#define ZERO(n) "vpxor %%xmm" #n ", %%xmm" #n ", %%xmm" #n "\n\t"
+#if defined(__AVX__)
+#define ZERO_VECTORS "vzeroall\n\t"
 #else
 #define ZERO(n) "pxor %%xmm" #n ", %%xmm" #n "\n\t"
+#define ZERO_VECTORS                                                                             \
+    ZERO(0) ZERO(1) ZERO(2) ZERO(3) ZERO(4) ZERO(5) ZERO(6) ZERO(7)                              \
+    ZERO(8) ZERO(9) ZERO(10) ZERO(11) ZERO(12) ZERO(13) ZERO(14) ZERO(15)
 #endif
 #define ZERO_REGISTERS()                                                                         \
-    __asm__ volatile(ZERO(0) ZERO(1) ZERO(2) ZERO(3) ZERO(4) ZERO(5) ZERO(6) ZERO(7)             \
-                     ZERO(8) ZERO(9) ZERO(10) ZERO(11) ZERO(12) ZERO(13) ZERO(14) ZERO(15)       \
+    __asm__ volatile(ZERO_VECTORS                                                                \
                      "xorl %%eax, %%eax\n\txorl %%ecx, %%ecx\n\txorl %%edx, %%edx\n\t"           \
                      "xorl %%esi, %%esi\n\txorl %%edi, %%edi\n\txorl %%r8d, %%r8d\n\t"           \
                      "xorl %%r9d, %%r9d\n\txorl %%r10d, %%r10d\n\txorl %%r11d, %%r11d"           \
@@ -60,23 +63,28 @@ typedef uint64_t wide;
 #define ZERO_REGISTERS() ((void)0)
 #endif
 
-/* The loop writes 64 bytes at a time; with another WIM_STACK this does not compile. */
-typedef char stack_is_a_multiple_of_64[WIM_STACK % 64 == 0 ? 1 : -1];
-
 /*
  * No compiler drops a write to what is volatile. There is no call to memset: where the linker
- * looks that up at its first call, it saves registers below all that is overwritten here.
+ * looks that up at its first call, it saves registers below all that is overwritten here. The loop
+ * writes 64 bytes at a time.
  */
-OWN_FRAME void wim_scrub(void)
+OWN_FRAME void wim_scrub_depth(size_t depth)
 {
     static const wide zero;
-    volatile wide room[WIM_STACK / sizeof(wide)];
+    const size_t count = (depth + WIM_SCRUB_MORE + 63) / 64 * (64 / sizeof(wide));
+    volatile wide room[count];
 
-    for (size_t i = 0; i < sizeof room / sizeof *room; i += 4) {
-        room[i] = zero;
-        room[i + 1] = zero;
-        room[i + 2] = zero;
-        room[i + 3] = zero;
+    for (volatile wide *at = room; at < room + count; at += 4) {
+        at[0] = zero;
+        at[1] = zero;
+        at[2] = zero;
+        at[3] = zero;
     }
     ZERO_REGISTERS();
+}
+
+/* Without a frame of its own, or with one of a few bytes that holds no secret. */
+void wim_scrub(void)
+{
+    wim_scrub_depth(WIM_STACK);
 }

@@ -1,9 +1,11 @@
 /* What the archive tells of itself: its version, its level, and a sentence for each refusal. */
 #include "wimmostry.h"
 
+const char WIM_VERSION_SYMBOL[] = WIM_VERSION;
+
 const char *wim_version(void)
 {
-    return WIM_VERSION;
+    return WIM_VERSION_SYMBOL;
 }
 
 /* WIM_CPU is given where this is compiled. A processor that lacks the level can still run this: a

@@ -3,8 +3,9 @@
  *
  * The library does the arithmetic of one exchange and of its two messages. It is written in
  * Rattle, and every call below is proved to meet its contract: for all inputs whatsoever it ends,
- * touches no memory but what it is lent, and gives exactly what this file says. Four small
- * functions beside the calls are plain C: wim_scrub, wim_version, wim_cpu and wim_refusal_text.
+ * touches no memory but what it is lent, and gives exactly what this file says. Beside the calls
+ * stand eight small functions and a table in plain C: wim_sizes, wim_bcns_table, wim_wipe,
+ * wim_same, wim_scrub, wim_scrub_depth, wim_version, wim_cpu and wim_refusal_text.
  *
  *     the initiator                             the replier
  *     wim_offer   a, s, e, seed -> opening  -->
@@ -37,8 +38,12 @@
  *     cc yours.c $(pkg-config --cflags --libs wimmostry)
  *
  * finds them. Both take `--cpu x86-64-v3` for an archive that is faster and needs a processor with
- * AVX2; wim_cpu tells which it is. The archive needs no function from outside. It has no state,
- * takes no memory from a heap and starts nothing, so that any number of threads may call at once.
+ * AVX2; wim_cpu tells which it is. The archive needs nothing from outside. It has no state, takes
+ * no memory from a heap and starts nothing, so that any number of threads may call at once.
+ *
+ * Header and archive belong together. Each file that includes the header refers to a symbol that
+ * has the header's version in its name (WIM_VERSION_SYMBOL). An archive of another version has
+ * another symbol, so that the link fails. The version changes with whatever a caller sees.
  *
  *
  * RETURN VALUE, PLACE AND COUNTS
@@ -112,15 +117,16 @@
  * - Key confirmation. The two keys agree unless the noise was uncommonly large, or a message was
  *   changed on the way into another that no test refuses. Differing public numbers, and another s
  *   at wim_finish, also end in different keys. Only what is made with the key shows that the keys
- *   agree: tags, or the digests, where nobody on the way can change them. Compare tags in constant
- *   time; on a mismatch drop the keys and start again with fresh secrets.
+ *   agree: tags, or the digests, where nobody on the way can change them. Compare tags by wim_same,
+ *   in constant time; on a mismatch drop the keys and start again with fresh secrets.
  * - The keys are raw. Hash them, together with both messages, before use. A digest is of the key
  *   alone: it can be the key that is used, as the print of NewHope has it, or be shown, not both.
  *   Whoever sees one can try keys against it, and Frodo Challenge's have 8 bytes.
  * - Wiping. A refused call leaves nothing in its outputs. But parts of secrets and keys stay
  *   behind on the stack below the caller's frame and in registers, as after any function, until
- *   wim_scrub overwrites them; and the caller's own buffers are the caller's to wipe, and what the
- *   caller's own copies of a key leave in registers.
+ *   wim_scrub overwrites them; and the caller's own buffers are the caller's to wipe, by wim_wipe,
+ *   since a compiler drops a memset before a free or a return. What the caller's own copies of a
+ *   key leave in registers is the caller's too.
  * - Time. Nothing is promised about how long a call takes, nor that its time does not depend on
  *   secrets; SECRETS AND TIME below has what was measured.
  *
@@ -174,8 +180,9 @@
  *   then enter the sums together: the part that ends them takes the time of all sixteen, the others
  *   that of a copy.
  * - A state is a secret: it holds s or s', and what the key is made of. A good end zeroes it, and
- *   so does a refused begin. Where the exchange is given up before the end, the caller zeroes it,
- *   all WIM_X_STATE numbers. No copy of it goes on by itself: that would use the secrets twice.
+ *   so does a refused begin. Where the exchange is given up before the end, the caller zeroes it by
+ *   wim_wipe, all WIM_X_STATE numbers. No copy of it goes on by itself: that would use the secrets
+ *   twice.
  * - What was lent to begin is not lent again. e, s', e' and e'' can be destroyed as soon as begin
  *   has returned; s is kept for wim_finish.
  * - A grows as it is needed. The library makes no A: both ends make row i by a generator of their
@@ -264,8 +271,9 @@
  *                         label=STUDIO7
  *
  * The scheme is 0 to 5, the rule 14 or 16, the label 1 to 16 capital letters or digits. A number
- * has no leading zero, and nothing stands behind the last line. wim_settings_write takes the oldest
- * format that holds the settings, so that boxes that know format 1 alone read all they can;
+ * has 1 to 10 decimal digits and no leading zero but that of 0 itself, so that the newest format
+ * that 15 can name is 9999999999. Nothing stands behind the last line. wim_settings_write takes the
+ * oldest format that holds the settings, so that boxes that know format 1 alone read all they can;
  * wim_settings_read reads all formats up to its own number. What is written is read back as it was,
  * two settings have the same text exactly where they are the same, and no other text is read: a
  * file with a byte too many is refused and not guessed at. A reader of format 1 that meets a text
@@ -278,30 +286,44 @@
  * What a call takes below its caller's frame at most, over all schemes, in KiB rounded up, on
  * x86-64. On Arm it was measured before the products that stand now: no call took more than here.
  *
- *     wim_offer 102     wim_reply 125      wim_finish 105
- *     wim_noise 1       wim_expand 1       wim_grow 6
- *     wim_shake128 2    wim_sha3_256 2     wim_product 1
- *     wim_bench 160     wim_settings_read 1                  wim_settings_write 1
- *     wim_session_offer 103      wim_session_reply 126     wim_session_finish 105
- *     wim_session_close 1
- *     wim_rack_offer 103         wim_rack_reply 126        wim_rack_finish 105
- *     wim_rack_close 1           wim_rack_clear 1
- *     wim_rows_offer_begin 28    wim_rows_offer_part 23    wim_rows_offer_end 41
- *     wim_rows_reply_begin 82    wim_rows_reply_part 23    wim_rows_reply_end 43
+ *     wim_offer 102              wim_reply 125              wim_finish 105
+ *     wim_noise 1                wim_expand 1               wim_grow 6
+ *     wim_shake128 2             wim_sha3_256 2             wim_product 1
+ *     wim_bench 159              wim_session_offer 103      wim_session_reply 126
+ *     wim_session_finish 105     wim_session_close 1        wim_rack_offer 103
+ *     wim_rack_reply 126         wim_rack_finish 105        wim_rack_close 1
+ *     wim_rack_clear 1           wim_settings_write 1       wim_settings_read 1
+ *     wim_rows_offer_begin 28    wim_rows_offer_part 21     wim_rows_offer_end 41
+ *     wim_rows_reply_begin 82    wim_rows_reply_part 21     wim_rows_reply_end 43
  *
  * Measured by filling a thread's stack with a pattern and looking, after an accepted call in each
- * scheme, how deep the pattern is gone (examples/c/stack.c, which examples/c/run runs). All local
- * arrays have fixed sizes, so that no input makes it more.
+ * scheme, how deep the pattern is gone (examples/c/stack.c). All local arrays have fixed sizes, so
+ * that no input makes it more. examples/c/depths writes the table, and fails where a call is off it
+ * by more than a KiB.
  *
  * Call wim_scrub after every call that had secrets or a key, on the same thread and from the
- * function that made the call. It overwrites WIM_STACK bytes below that function's frame, which is
- * more than any call takes. A function further up may call it as well, where the frames in between
- * and the call take no more than WIM_STACK together. Several calls in a row need it once.
+ * function that made the call. It overwrites WIM_STACK + WIM_SCRUB_MORE bytes below that function's
+ * frame, which is more than any call takes. A function further up may call it as well, where the
+ * frames in between and the call take no more than that together. Several calls in a row need it
+ * once. wim_scrub_depth does the same for a caller who knows what its calls took, by the table.
  * examples/c/residue.c looks on the stack for secrets, keys and intermediate values after each
  * call, in all schemes: it finds many before the scrub and none after it, and what the
  * call used is then zero but for less than 64 bytes next to the caller's frame. After the scrub
  * every vector register that the processor has is as it was before the call, or zero, and a
  * signal's frame, which holds all registers, has no part of a key.
+ *
+ * A signal that comes during a call finds secrets in the registers. The system lays all of them on
+ * the thread's stack, below what the call has taken so far, and the handler runs below them. The
+ * WIM_SCRUB_MORE bytes are for that: registers take 3 KiB with AVX-512, the rest is the handler's.
+ * What lies deeper, or on a stack of the handler's own (sigaltstack), no scrub reaches. Where a
+ * handler takes more, or stands on a stack of its own, block signals around call and scrub:
+ *
+ *     sigset_t all, before;
+ *     sigfillset(&all);
+ *     pthread_sigmask(SIG_SETMASK, &all, &before);
+ *     refusal = wim_finish(..);
+ *     wim_scrub();
+ *     pthread_sigmask(SIG_SETMASK, &before, NULL);
  *
  *
  * SECRETS AND TIME
@@ -312,14 +334,15 @@
  * its factors (refusal 4), should they be secret. wim_offer and wim_reply have two more, on the
  * first number that is sent (refusal 17), which the peer sees anyway. wim_bench has those of its
  * parts, and branches on the numbers of the messages and, but in BCNS, on the keys, which it
- * compares. The calls on a session or a rack branch as those without one, and close and clear on
- * nothing. By rows begin has those of its secrets, 2 and 3, and end those of what is sent; each
- * part and end of Reply has one more, the verdict on the values in its state, and a part of Offer
- * none. A refused secret is searched value by value for its place. Nothing is divided but 65,536 by
- * q, and by rows how many numbers have come by n and 16 n. So it is in the archives for x86-64 and
- * x86-64-v3, in all schemes (runs/secrets): the branches by valgrind with the secrets marked as
- * undefined, the divisions by a trace with two sets of secrets. Another compiler may do otherwise,
- * and what the processor makes of it is not measured.
+ * compares. The calls on a session or a rack branch as those without one, and close, clear,
+ * wim_wipe and wim_same on nothing. By rows begin has those of its secrets, 2 and 3, and end those
+ * of what is sent; each part and end of Reply has one more, the verdict on the values in its state,
+ * and a part of Offer none. A refused secret is searched value by value for its place. Nothing is
+ * divided but 65,536 by q, and by rows how many numbers have come by n and 16 n, all of which are
+ * public. So it is in the archives for x86-64 and x86-64-v3, in all schemes (runs/secrets): the
+ * branches by valgrind with the secrets marked as undefined, the divisions by a trace with two sets
+ * of secrets. Another compiler may do otherwise, and what the processor makes of it is not
+ * measured.
  */
 #ifndef WIMMOSTRY_H
 #define WIMMOSTRY_H
@@ -336,6 +359,24 @@ extern "C" {
 #define WIM_VERSION_MINOR 2
 #define WIM_VERSION_PATCH 0
 #define WIM_VERSION "0.2.0"
+
+/*
+ * The archive's version once more, in a symbol that has it in its name. Who includes this header
+ * refers to it, used or not, so that nothing links with an archive of another version.
+ */
+#define WIM_VERSION_SYMBOL wim_version_0_2_0
+extern const char WIM_VERSION_SYMBOL[];
+#if defined(__has_attribute)
+#if __has_attribute(retain)
+#define WIM_KEPT __attribute__((used, retain)) /* also where the linker drops unused sections */
+#endif
+#endif
+#if defined(__GNUC__) && !defined(WIM_KEPT)
+#define WIM_KEPT __attribute__((used))
+#endif
+#if defined(WIM_KEPT)
+static const char *const wim_linked_version WIM_KEPT = WIM_VERSION_SYMBOL;
+#endif
 
 /* A refusal that nobody looks at is a mistake: the compiler warns where it can. */
 #if defined(__GNUC__)
@@ -395,7 +436,8 @@ extern "C" {
  *     WIM_X_ROW      numbers of a row of A, which is n, and rows of A: 0, but in Frodo
  *     WIM_X_STATE    numbers of a running state by rows, 16 n + 67: 0, but in Frodo
  *
- * WIM_MAX_.. is the largest over all schemes: buffers of these sizes serve each of them.
+ * WIM_MAX_.. is the largest over all schemes: buffers of these sizes serve each of them. A program
+ * that learns its scheme as it runs finds the numbers by name in what wim_sizes gives.
  */
 #define WIM_BCNS_Q 4294967295u
 #define WIM_BCNS_NOISE 51
@@ -549,9 +591,43 @@ extern "C" {
 #define WIM_SETTINGS_TEXT 49
 #define WIM_SETTINGS_FORMAT 2
 
-/* Bytes of stack that are enough for any call on either machine, and for wim_scrub. */
+/* Bytes of stack that are enough for any call on either machine; how many more wim_scrub
+ * overwrites; and bytes of stack that are enough for wim_scrub. */
 #define WIM_STACK 163840
-#define WIM_SCRUB_STACK 164864
+#define WIM_SCRUB_MORE 8192
+#define WIM_SCRUB_STACK 173056
+
+/* What is fixed in a scheme: its name as it is written, its number, and then each WIM_X_.. under
+ * its own name. A later version may have more behind them. */
+struct wim_sizes {
+    const char *name;
+    uint32_t number;
+    uint32_t q;
+    int32_t noise;
+    size_t a;
+    size_t s;
+    size_t e2;
+    size_t seed;
+    size_t coins;
+    size_t opening;
+    size_t reply;
+    size_t key;
+    size_t s_bytes;
+    size_t e2_bytes;
+    size_t table;
+    uint64_t margin;
+    size_t row;
+    size_t state;
+};
+
+/* Those of the scheme of a number, 0 to 5; null for any other number. */
+const struct wim_sizes *wim_sizes(uint32_t scheme);
+
+/*
+ * The table by which BCNS's paper draws noise, as wim_noise takes it: 51 entries of three 64-bit
+ * words, the highest first. data/bcns-table.txt has it as text, in hexadecimal, an entry a line.
+ */
+extern const uint64_t wim_bcns_table[WIM_BCNS_TABLE];
 
 /*
  * Offer: scheme, public a, secret s, noise e, seed. Gives the opening message: as + e in packed
@@ -603,8 +679,8 @@ WIM_MUST_USE uint32_t wim_finish(uint32_t scheme, const uint8_t *reply, size_t r
  * value's size is how many of the table's 51 entries are at most v, so 0 to 51, and it is negative
  * where the last byte is odd. An entry is three 64-bit words, the highest first, and the entries
  * must ascend. Any such table is taken; that of the paper, by which keys are as secret as the paper
- * says, is data/bcns-table.txt, which ./install puts into PREFIX/share/wimmostry. The table is
- * public: the bytes are not, and every entry is looked at whatever they are.
+ * says, is wim_bcns_table. The table is public: the bytes are not, and every entry is looked at
+ * whatever they are.
  *
  * Refuses with 1, 2, 3, 18, in this order; of 2, the bytes' length is tested first.
  */
@@ -838,13 +914,31 @@ WIM_MUST_USE uint32_t wim_settings_write(uint32_t scheme, uint32_t rule,
                                          uint64_t *place, uint64_t *written);
 
 /*
- * Overwrites what a call may have left on the stack below the caller's frame; see STACK above. It
- * zeroes the general registers and the vector registers that a function may change besides: on
- * x86-64 xmm0 to xmm15 (for x86-64-v3 ymm0 to ymm15), on Arm v0 to v7 and v16 to v31. The calls
- * leave nothing in others or in wider ones: they call no function from outside the archive, not
- * even memcpy.
+ * Zeros over count bytes (bytes, not entries: sizeof), which no compiler drops though nobody reads
+ * them: for secrets and keys that are done with. Where count is 0 the pointer may be null.
+ */
+void wim_wipe(void *memory, size_t count);
+
+/*
+ * 1 where the count bytes of a and b are the same, else 0, in a time that depends on count alone:
+ * for tags and digests. Where count is 0 the pointers may be null, and it is 1.
+ */
+WIM_MUST_USE uint32_t wim_same(const void *a, const void *b, size_t count);
+
+/*
+ * Overwrites what a call may have left on the stack below the caller's frame, and what a signal
+ * during it may have left there; see STACK above. It zeroes the general registers and the vector
+ * registers that a function may change besides: on x86-64 xmm0 to xmm15 (for x86-64-v3 ymm0 to
+ * ymm15), on Arm v0 to v7 and v16 to v31. The calls leave nothing in others or in wider ones: they
+ * call no function from outside the archive, not even memcpy.
  */
 void wim_scrub(void);
+
+/*
+ * wim_scrub after calls that took at most `depth` bytes of stack: it overwrites these and
+ * WIM_SCRUB_MORE more. It takes 1024 bytes of stack besides.
+ */
+void wim_scrub_depth(size_t depth);
 
 /* The archive's version, WIM_VERSION of the header that it was built with. */
 const char *wim_version(void);

@@ -4,7 +4,7 @@
 
 static uint32_t offer(struct lent *l)
 {
-    const struct scheme *x = l->scheme;
+    const struct wim_sizes *x = l->scheme;
 
     return wim_offer(x->number, l->a, x->a, l->s, x->s, l->e, x->s, l->seed, x->seed, l->opening,
                      sizeof l->opening, &l->place, &l->written);
@@ -12,7 +12,7 @@ static uint32_t offer(struct lent *l)
 
 static uint32_t reply(struct lent *l)
 {
-    const struct scheme *x = l->scheme;
+    const struct wim_sizes *x = l->scheme;
 
     return wim_reply(x->number, l->opening, x->opening, l->a, x->a, l->s1, x->s, l->e1, x->s, l->e2,
                      x->e2, l->coins, x->coins, l->reply, sizeof l->reply, l->key, sizeof l->key,
@@ -22,7 +22,7 @@ static uint32_t reply(struct lent *l)
 
 static uint32_t finish(struct lent *l)
 {
-    const struct scheme *x = l->scheme;
+    const struct wim_sizes *x = l->scheme;
 
     return wim_finish(x->number, l->reply, x->reply, l->s, x->s, l->peer_key, sizeof l->peer_key,
                       l->peer_digest, sizeof l->peer_digest, &l->place, &l->key_written,
@@ -31,10 +31,10 @@ static uint32_t finish(struct lent *l)
 
 static uint32_t noise(struct lent *l)
 {
-    const struct scheme *x = l->scheme;
+    const struct wim_sizes *x = l->scheme;
 
-    return wim_noise(x->number, l->bytes, x->s_bytes, bcns_table, x->table, l->values, WIM_MAX_S,
-                     &l->place, &l->written);
+    return wim_noise(x->number, l->bytes, x->s_bytes, wim_bcns_table, x->table, l->values,
+                     WIM_MAX_S, &l->place, &l->written);
 }
 
 /* By the one rule and then by the other. */
@@ -81,7 +81,7 @@ static uint32_t product(struct lent *l)
 
 static uint32_t bench(struct lent *l)
 {
-    const struct scheme *x = l->scheme;
+    const struct wim_sizes *x = l->scheme;
 
     return wim_bench(x->number, l->a, x->a, l->s, x->s, l->e, x->s, l->seed, x->seed, l->s1, x->s,
                      l->e1, x->s, l->e2, x->e2, l->coins, x->coins, &l->place, &l->differ,
@@ -112,7 +112,7 @@ void stand(struct lent *l, uint8_t stage)
 
 static uint32_t session_offer(struct lent *l)
 {
-    const struct scheme *x = l->scheme;
+    const struct wim_sizes *x = l->scheme;
 
     stand(l, WIM_STAGE_IDLE);
     return wim_session_offer(l->session, sizeof l->session, x->number, l->a, x->a, l->s, x->s, l->e,
@@ -122,7 +122,7 @@ static uint32_t session_offer(struct lent *l)
 
 static uint32_t session_reply(struct lent *l)
 {
-    const struct scheme *x = l->scheme;
+    const struct wim_sizes *x = l->scheme;
 
     stand(l, WIM_STAGE_IDLE);
     return wim_session_reply(l->session, sizeof l->session, x->number, l->opening, x->opening, l->a,
@@ -134,7 +134,7 @@ static uint32_t session_reply(struct lent *l)
 
 static uint32_t session_finish(struct lent *l)
 {
-    const struct scheme *x = l->scheme;
+    const struct wim_sizes *x = l->scheme;
 
     stand(l, WIM_STAGE_OFFERED);
     return wim_session_finish(l->session, sizeof l->session, x->number, l->reply, x->reply, l->s,
@@ -161,7 +161,7 @@ void stand_all(struct lent *l, uint8_t stage)
 
 static uint32_t rack_offer(struct lent *l)
 {
-    const struct scheme *x = l->scheme;
+    const struct wim_sizes *x = l->scheme;
 
     stand_all(l, WIM_STAGE_IDLE);
     return wim_rack_offer(l->rack, sizeof l->rack, STUDIO, x->number, l->a, x->a, l->s, x->s, l->e,
@@ -171,7 +171,7 @@ static uint32_t rack_offer(struct lent *l)
 
 static uint32_t rack_reply(struct lent *l)
 {
-    const struct scheme *x = l->scheme;
+    const struct wim_sizes *x = l->scheme;
 
     stand_all(l, WIM_STAGE_IDLE);
     return wim_rack_reply(l->rack, sizeof l->rack, STUDIO, x->number, l->opening, x->opening, l->a,
@@ -183,7 +183,7 @@ static uint32_t rack_reply(struct lent *l)
 
 static uint32_t rack_finish(struct lent *l)
 {
-    const struct scheme *x = l->scheme;
+    const struct wim_sizes *x = l->scheme;
 
     stand_all(l, WIM_STAGE_OFFERED);
     return wim_rack_finish(l->rack, sizeof l->rack, STUDIO, x->number, l->reply, x->reply, l->s,
@@ -228,7 +228,7 @@ static int ready(struct lent *l, const uint32_t *state)
 
 static uint32_t rows_offer_begin(struct lent *l)
 {
-    const struct scheme *x = l->scheme;
+    const struct wim_sizes *x = l->scheme;
 
     if (!ready(l, l->offer_full))
         return WIM_DONE;
@@ -239,7 +239,7 @@ static uint32_t rows_offer_begin(struct lent *l)
 /* The sixteenth row. */
 static uint32_t rows_offer_part(struct lent *l)
 {
-    const struct scheme *x = l->scheme;
+    const struct wim_sizes *x = l->scheme;
 
     if (!ready(l, l->offer_fifteen))
         return WIM_DONE;
@@ -256,7 +256,7 @@ static uint32_t rows_offer_end(struct lent *l)
 
 static uint32_t rows_reply_begin(struct lent *l)
 {
-    const struct scheme *x = l->scheme;
+    const struct wim_sizes *x = l->scheme;
 
     if (!ready(l, l->reply_full))
         return WIM_DONE;
@@ -266,7 +266,7 @@ static uint32_t rows_reply_begin(struct lent *l)
 
 static uint32_t rows_reply_part(struct lent *l)
 {
-    const struct scheme *x = l->scheme;
+    const struct wim_sizes *x = l->scheme;
 
     if (!ready(l, l->reply_fifteen))
         return WIM_DONE;
@@ -304,7 +304,7 @@ typedef uint32_t (*part_call)(const uint32_t *, size_t, uint32_t *, size_t, uint
  * fifteen and after all of them; 0 or the refusal. */
 static uint32_t all_rows(struct lent *l, part_call part, uint32_t *fifteen, uint32_t *full)
 {
-    const struct scheme *x = l->scheme;
+    const struct wim_sizes *x = l->scheme;
     uint32_t refusal = WIM_DONE;
 
     for (size_t i = 0; i < x->row && refusal == WIM_DONE; i++) {
@@ -332,7 +332,7 @@ static uint32_t draw_states(struct lent *l)
     return refusal;
 }
 
-uint32_t draw_all(struct lent *l, const struct scheme *x)
+uint32_t draw_all(struct lent *l, const struct wim_sizes *x)
 {
     int32_t *secrets[] = {l->s, l->e, l->s1, l->e1};
     uint64_t state = 3;

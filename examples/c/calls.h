@@ -6,7 +6,7 @@
 #include "draw.h"
 
 struct lent {
-    const struct scheme *scheme;
+    const struct wim_sizes *scheme;
     uint32_t a[WIM_MAX_A], numbers[WIM_EXPAND_NUMBERS];
     uint32_t factors[2][WIM_PRODUCT], product[WIM_PRODUCT], scratch[6 * WIM_PRODUCT];
     int32_t s[WIM_MAX_S], e[WIM_MAX_S], s1[WIM_MAX_S], e1[WIM_MAX_S], e2[WIM_MAX_E2];
@@ -54,8 +54,8 @@ void stand_all(struct lent *lent, uint8_t stage);
 /* The studio that the calls on the rack are for. */
 #define STUDIO 5
 
-/* Draws every input of a scheme, once the table was read, and in Frodo makes an exchange by rows,
- * for their states. 0 or the refusal. */
-uint32_t draw_all(struct lent *lent, const struct scheme *scheme);
+/* Draws every input of a scheme, and in Frodo makes an exchange by rows, for their states. 0 or the
+ * refusal. */
+uint32_t draw_all(struct lent *lent, const struct wim_sizes *scheme);
 
 #endif

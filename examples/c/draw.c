@@ -14,18 +14,18 @@ void draw_bytes(uint64_t *state, uint8_t *out, size_t count)
         out[i] = draw_byte(state);
 }
 
-uint32_t draw_secrets(uint64_t *state, const struct scheme *scheme, int32_t *out, size_t count,
+uint32_t draw_secrets(uint64_t *state, const struct wim_sizes *scheme, int32_t *out, size_t count,
                       size_t bytes)
 {
     uint8_t random[WIM_MAX_S_BYTES];
     uint64_t place, written;
 
     draw_bytes(state, random, bytes);
-    return wim_noise(scheme->number, random, bytes, bcns_table, scheme->table, out, count, &place,
-                     &written);
+    return wim_noise(scheme->number, random, bytes, wim_bcns_table, scheme->table, out, count,
+                     &place, &written);
 }
 
-uint32_t draw_public(const struct scheme *scheme, const uint8_t *seed, uint32_t *a)
+uint32_t draw_public(const struct wim_sizes *scheme, const uint8_t *seed, uint32_t *a)
 {
     uint64_t state = 0x5eed, place, written;
 

@@ -10,7 +10,7 @@
 #include <string.h>
 
 static struct lent lent;
-static const struct scheme *x;
+static const struct wim_sizes *x;
 static uint64_t place, written, key_written, digest_written, slack, slack_index;
 static int failures;
 
@@ -80,7 +80,7 @@ static void noise(int nulls)
 {
     const size_t lengths[] = {x->s_bytes, x->table};
     uint32_t refusal =
-        wim_noise(x->number, LEND(0, lent.bytes, x->s_bytes), LEND(1, bcns_table, x->table),
+        wim_noise(x->number, LEND(0, lent.bytes, x->s_bytes), LEND(1, wim_bcns_table, x->table),
                   LEND(2, lent.values, x->s), &place, &written);
 
     held("wim_noise", nulls, refusal, expected(nulls, lengths, 2, 1));
@@ -368,10 +368,7 @@ static void each(void (*call)(int), int slices)
 
 int main(void)
 {
-    if (!read_table())
-        return EXIT_FAILURE;
-    for (int k = 0; k < 6; k++) {
-        x = &schemes[k];
+    for (uint32_t k = 0; (x = wim_sizes(k)) != NULL; k++) {
         if (draw_all(&lent, x) != WIM_DONE)
             return EXIT_FAILURE;
         each(offer, 5);

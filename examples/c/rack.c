@@ -33,7 +33,7 @@ static void *serve(void *of)
 {
     struct studio *studio = of;
     struct lent *l = &studio->lent;
-    const struct scheme *x = l->scheme;
+    const struct wim_sizes *x = l->scheme;
     uint8_t *own = racks[0] + WIM_RECORD * studio->number + WIM_RECORD_SESSION;
     uint32_t no;
 
@@ -63,7 +63,7 @@ static void *serve(void *of)
 static uint32_t on_rack(struct studio *studio)
 {
     struct lent *l = &studio->lent;
-    const struct scheme *x = l->scheme;
+    const struct wim_sizes *x = l->scheme;
     uint32_t no;
 
     if (replies(studio)) {
@@ -113,14 +113,14 @@ int main(void)
     uint64_t place;
     int wrong = 0;
 
-    if (studios == NULL || !read_table() || wim_rack_clear(racks[0], WIM_RACK, &place) != 0 ||
+    if (studios == NULL || wim_rack_clear(racks[0], WIM_RACK, &place) != 0 ||
         wim_rack_clear(racks[1], WIM_RACK, &place) != 0)
         return EXIT_FAILURE;
     for (uint32_t i = 0; i < WIM_STUDIOS; i++) {
         struct lent *l = &studios[i].lent;
         studios[i].number = i;
         /* the messages of the peer */
-        if (draw_all(l, &schemes[i % 6]) != WIM_DONE || calls[OFFER].make(l) != WIM_DONE ||
+        if (draw_all(l, wim_sizes(i % 6)) != WIM_DONE || calls[OFFER].make(l) != WIM_DONE ||
             calls[REPLY].make(l) != WIM_DONE)
             return EXIT_FAILURE;
     }

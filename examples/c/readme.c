@@ -1,6 +1,5 @@
 /* One exchange by NewHope, with both boxes in one program. */
 #include <stdio.h>
-#include <string.h>
 #include <wimmostry.h>
 
 enum { N = WIM_NEWHOPE_S, NEWHOPE = WIM_NEWHOPE, RULE = WIM_RULE_LOW_BITS };
@@ -48,7 +47,8 @@ int main(void)
             WIM_DONE)
         fprintf(stderr, "refused: %s\n", wim_refusal_text(no));
     else
-        puts(memcmp(digest, peer_digest, WIM_DIGEST) == 0 ? "the keys agree" : "the keys differ");
-    wim_scrub(); /* what the calls left of secrets on the stack */
+        puts(wim_same(digest, peer_digest, WIM_DIGEST) ? "the keys agree" : "the keys differ");
+    wim_wipe(s, sizeof s); /* and so all other secrets, and the key once it was used */
+    wim_scrub();           /* what the calls left of secrets on the stack */
     return no == WIM_DONE ? 0 : 1;
 }

@@ -245,7 +245,7 @@ static void look_bytes(const char *name, const uint8_t *bytes, size_t count, uns
 
 static void look_for_all(size_t depth)
 {
-    const struct scheme *x = lent.scheme;
+    const struct wim_sizes *x = lent.scheme;
     const size_t n = x->s / 8;
     const unsigned key_bits = x->number < 2 ? 1 : (unsigned)(8 * x->key / 64);
 
@@ -348,8 +348,8 @@ static void look_at_registers(size_t depth)
 static int count_all(uint8_t *stack)
 {
     found = 0;
-    for (int k = 0; k < 6; k++) {
-        if (draw_all(&lent, &schemes[k]) != WIM_DONE)
+    for (uint32_t k = 0; wim_sizes(k) != NULL; k++) {
+        if (draw_all(&lent, wim_sizes(k)) != WIM_DONE)
             return -1;
         /* all outputs first, so that they too are looked for after every call */
         for (size_t i = 0; i < CALLS; i++)
@@ -382,7 +382,7 @@ int main(int argc, char **argv)
     int before, after;
 
     tells = argc > 1 && strcmp(argv[1], "all") == 0;
-    if (!read_table() || posix_memalign(&stack, 65536, SIZE) != 0 ||
+    if (posix_memalign(&stack, 65536, SIZE) != 0 ||
         sigaction(SIGUSR1, &action, NULL) != 0)
         return EXIT_FAILURE;
     before = count_all(stack);

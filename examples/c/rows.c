@@ -27,7 +27,7 @@
 #define PATTERN 0xA5
 #define MOST ((size_t)256 << 10)
 
-static const struct scheme *const scheme = &schemes[WIM_FRODO_RECOMMENDED];
+static const struct wim_sizes *scheme;
 
 /* Row i of A: SHAKE-128 of the seed and i, two bytes a number, the lower byte first, of which 15
  * bits are taken. This is the boxes' own rule: any that both know will do. */
@@ -236,6 +236,7 @@ int main(void)
     void *stack = NULL;
     int fine = posix_memalign(&stack, 65536, STACK) == 0;
 
+    scheme = wim_sizes(WIM_FRODO_RECOMMENDED);
     fine = fine && show("the initiator's offer", sizeof one, taken(stack, initiate));
     fine = fine && show("the replier's reply", sizeof other, taken(stack, answer));
     fine = fine && show("the initiator's finish", sizeof one, taken(stack, finish));

@@ -48,9 +48,26 @@ static void hidden(void *list, size_t count, size_t width)
             hidden(SLICE, COUNT, sizeof *(SLICE));                                               \
     } while (0)
 
+/* What the archive has besides its calls. */
+static uint32_t same(struct lent *l)
+{
+    volatile uint32_t unused = wim_same(l->key, l->peer_key, l->scheme->key);
+
+    (void)unused;
+    return WIM_DONE;
+}
+
+static uint32_t wipe(struct lent *l)
+{
+    wim_wipe(l->key, l->scheme->key);
+    return WIM_DONE;
+}
+
+static const struct call more[] = {{"wim_same", same}, {"wim_wipe", wipe}};
+
 static void hide(size_t call)
 {
-    const struct scheme *x = lent.scheme;
+    const struct wim_sizes *x = lent.scheme;
     int bench = call == BENCH;
     int offers = call == OFFER || call == SESSION_OFFER || call == RACK_OFFER || bench;
     int replies = call == REPLY || call == SESSION_REPLY || call == RACK_REPLY || bench;
@@ -74,8 +91,8 @@ static void hide(size_t call)
         HIDE(lent.factors[0], WIM_PRODUCT);
         HIDE(lent.factors[1], WIM_PRODUCT);
     }
-    /* these lay it into the session, or into all of a rack */
-    if (call == SESSION_CLOSE || call == RACK_CLOSE || call == RACK_CLEAR)
+    /* these lay it into the session, or into all of a rack; and those behind the calls */
+    if (call == SESSION_CLOSE || call == RACK_CLOSE || call == RACK_CLEAR || call >= CALLS)
         HIDE(lent.key, x->key);
     if (call == ROWS_OFFER_BEGIN) {
         HIDE(lent.s, x->s);
@@ -135,33 +152,34 @@ static int divided(const struct call *call, size_t hides)
 int main(int count, char **words)
 {
     divides = count == 2;
-    if (!read_table() || (divides && !divisions_read(words[1])))
+    if (divides && !divisions_read(words[1]))
         return EXIT_FAILURE;
-    for (int k = 0; k < 6; k++) {
-        if (draw_all(&lent, &schemes[k]) != WIM_DONE)
+    for (uint32_t k = 0; wim_sizes(k) != NULL; k++) {
+        if (draw_all(&lent, wim_sizes(k)) != WIM_DONE)
             return EXIT_FAILURE;
-        for (size_t i = 0; i < CALLS; i++) {
+        for (size_t i = 0; i < CALLS + sizeof more / sizeof *more; i++) {
+            const struct call *call = i < CALLS ? &calls[i] : &more[i - CALLS];
             uint32_t refusal;
             unsigned before, after;
             /* a stream, a seed and their numbers are public, and so are settings */
             if (i == EXPAND || i == GROW || i == SETTINGS_WRITE || i == SETTINGS_READ)
                 continue;
-            if (i >= ROWS_OFFER_BEGIN && lent.scheme->state == 0)
+            if (i >= ROWS_OFFER_BEGIN && i < CALLS && lent.scheme->state == 0)
                 continue;
             if (divides) {
-                if (!divided(&calls[i], i))
+                if (!divided(call, i))
                     return EXIT_FAILURE;
                 continue;
             }
-            VALGRIND_PRINTF("call %s, %s\n", lent.scheme->name, calls[i].name);
+            VALGRIND_PRINTF("call %s, %s\n", lent.scheme->name, call->name);
             hide(i);
             before = VALGRIND_COUNT_ERRORS;
-            refusal = calls[i].make(&lent);
+            refusal = call->make(&lent);
             after = VALGRIND_COUNT_ERRORS;
             /* answers, refusal and secrets are looked at here, and by the next call */
             VALGRIND_MAKE_MEM_DEFINED(&lent, sizeof lent);
             VALGRIND_MAKE_MEM_DEFINED(&refusal, sizeof refusal);
-            printf("%s|%s|%u\n", lent.scheme->name, calls[i].name, after - before);
+            printf("%s|%s|%u\n", lent.scheme->name, call->name, after - before);
             if (refusal != WIM_DONE)
                 return EXIT_FAILURE;
         }

@@ -7,8 +7,7 @@
  * wim_noise, BCNS's by the table of document 000. In NewHope the public numbers grow from the seed,
  * elsewhere they are random and below q.
  */
-#include "schemes.h"
-#include "table.h"
+#include "wimmostry.h"
 
 #include <stdio.h>
 #include <stdlib.h>
@@ -19,7 +18,7 @@ static uint8_t seed[WIM_MAX_SEED], coins[WIM_MAX_COINS], bytes[4 * WIM_MAX_A];
 
 /* Which exchange, and which of its lists was drawn last. */
 static struct {
-    const struct scheme *scheme;
+    const struct wim_sizes *scheme;
     uint64_t number;
     uint8_t list;
 } at;
@@ -43,7 +42,7 @@ static uint32_t word(size_t i)
 
 static uint32_t draw_public(void)
 {
-    const struct scheme *x = at.scheme;
+    const struct wim_sizes *x = at.scheme;
     uint64_t place, written;
     uint32_t refusal;
 
@@ -57,19 +56,19 @@ static uint32_t draw_public(void)
 
 static uint32_t draw_secrets(int32_t *out, size_t count, size_t random)
 {
-    const struct scheme *x = at.scheme;
+    const struct wim_sizes *x = at.scheme;
     uint64_t place, written;
     uint32_t refusal = draw_bytes(bytes, random);
 
     return refusal != WIM_DONE ? refusal
-                               : wim_noise(x->number, bytes, random, bcns_table, x->table, out,
+                               : wim_noise(x->number, bytes, random, wim_bcns_table, x->table, out,
                                            count, &place, &written);
 }
 
 /* One exchange: its slack, and whether the keys differ. 0 or the refusal. */
 static uint32_t exchange(uint64_t *slack, uint64_t *differ)
 {
-    const struct scheme *x = at.scheme;
+    const struct wim_sizes *x = at.scheme;
     uint64_t place, slack_index;
     uint32_t no;
 
@@ -90,15 +89,10 @@ int main(int count, char **words)
 {
     uint64_t first, end, differed = 0;
 
-    if (count != 4 || atoi(words[1]) < 0 || atoi(words[1]) > 5) {
+    if (count != 4 || (at.scheme = wim_sizes((uint32_t)atoi(words[1]))) == NULL) {
         fputs("slack SCHEME FIRST COUNT\n", stderr);
         return 2;
     }
-    if (!read_table()) {
-        fputs("BCNS's table cannot be read\n", stderr);
-        return 1;
-    }
-    at.scheme = &schemes[atoi(words[1])];
     first = strtoull(words[2], NULL, 10);
     end = first + strtoull(words[3], NULL, 10);
     for (at.number = first; at.number < end; at.number++) {

@@ -2,7 +2,8 @@
  * How much stack each call takes, at most over all schemes. A thread's stack is filled with a
  * pattern, the thread makes one accepted call, and afterwards the pattern is gone as deep as the
  * call went. It counts from the frame of the function that calls. Fails where WIM_STACK is not
- * enough, or WIM_SCRUB_STACK for wim_scrub.
+ * enough, or WIM_SCRUB_STACK for wim_scrub, or where the scrub does not go WIM_SCRUB_MORE deeper
+ * than it was told. examples/c/depths reads the lines.
  */
 #define _POSIX_C_SOURCE 200809L
 
@@ -25,6 +26,15 @@ static uint32_t scrub(struct lent *unused)
 {
     (void)unused;
     wim_scrub();
+    return WIM_DONE;
+}
+
+#define SOME 2000 /* bytes of stack of some call */
+
+static uint32_t scrub_depth(struct lent *unused)
+{
+    (void)unused;
+    wim_scrub_depth(SOME);
     return WIM_DONE;
 }
 
@@ -67,10 +77,10 @@ int main(void)
     size_t scrubbed;
     int enough = 1;
 
-    if (!read_table() || posix_memalign(&stack, 65536, SIZE) != 0)
+    if (posix_memalign(&stack, 65536, SIZE) != 0)
         return EXIT_FAILURE;
-    for (int k = 0; k < 6; k++) {
-        if (draw_all(&lent, &schemes[k]) != WIM_DONE)
+    for (uint32_t k = 0; wim_sizes(k) != NULL; k++) {
+        if (draw_all(&lent, wim_sizes(k)) != WIM_DONE)
             return EXIT_FAILURE;
         for (size_t i = 0; i < CALLS; i++) {
             size_t taken;
@@ -87,7 +97,11 @@ int main(void)
     make = scrub;
     scrubbed = depth(stack);
     printf("%-20s %6zu bytes of stack\n", "wim_scrub", scrubbed);
-    enough = enough && scrubbed >= WIM_STACK && scrubbed <= WIM_SCRUB_STACK;
+    enough = enough && scrubbed >= WIM_STACK + WIM_SCRUB_MORE && scrubbed <= WIM_SCRUB_STACK;
+    make = scrub_depth;
+    scrubbed = depth(stack);
+    enough = enough && scrubbed >= SOME + WIM_SCRUB_MORE &&
+             scrubbed <= SOME + WIM_SCRUB_MORE + 1024;
     free(stack);
     return enough ? EXIT_SUCCESS : EXIT_FAILURE;
 }

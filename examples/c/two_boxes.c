@@ -12,12 +12,11 @@
 #include <pthread.h>
 #include <stdio.h>
 #include <stdlib.h>
-#include <string.h>
 #include <sys/socket.h>
 #include <unistd.h>
 
 struct box {
-    const struct scheme *scheme;
+    const struct wim_sizes *scheme;
     int line;
     uint32_t *a;
     uint8_t key[WIM_MAX_KEY], digest[WIM_DIGEST];
@@ -52,7 +51,7 @@ static int receive_all(int line, uint8_t *bytes, size_t count)
 /* Each end says what failed, or nothing. It scrubs the stack after each call that had secrets. */
 static const char *initiate(struct box *box)
 {
-    const struct scheme *x = box->scheme;
+    const struct wim_sizes *x = box->scheme;
     uint64_t state = 1, place, written, key_written, slack_index;
     int32_t s[WIM_MAX_S], e[WIM_MAX_S];
     uint8_t seed[WIM_MAX_SEED], opening[WIM_MAX_OPENING], reply[WIM_MAX_REPLY];
@@ -79,7 +78,7 @@ static const char *initiate(struct box *box)
 
 static const char *answer(struct box *box)
 {
-    const struct scheme *x = box->scheme;
+    const struct wim_sizes *x = box->scheme;
     uint64_t state = 2, place, written, key_written, digest_written;
     int32_t s1[WIM_MAX_S], e1[WIM_MAX_S], e2[WIM_MAX_E2];
     uint8_t coins[WIM_MAX_COINS], opening[WIM_MAX_OPENING], reply[WIM_MAX_REPLY];
@@ -137,7 +136,7 @@ static const char *run(struct box *one, struct box *other)
     pthread_join(second, NULL);
     if (one->failed != NULL || other->failed != NULL)
         return one->failed != NULL ? one->failed : other->failed;
-    return memcmp(one->digest, other->digest, WIM_DIGEST) == 0 ? NULL : "the digests differ";
+    return wim_same(one->digest, other->digest, WIM_DIGEST) ? NULL : "the digests differ";
 }
 
 /* What both boxes can show of their key, and how near to failing the initiator saw it. */
@@ -162,15 +161,13 @@ int main(void)
     other.a = malloc(WIM_MAX_A * sizeof *other.a);
     if (one.a == NULL || other.a == NULL)
         failed = "malloc";
-    else if (!read_table())
-        failed = "BCNS's table cannot be read";
-    for (int k = 0; k < 6 && failed == NULL; k++) {
-        one.scheme = other.scheme = &schemes[k];
+    for (uint32_t k = 0; wim_sizes(k) != NULL && failed == NULL; k++) {
+        one.scheme = other.scheme = wim_sizes(k);
         failed = run(&one, &other);
         if (failed == NULL)
             show(&one);
         else
-            printf("%s: %s\n", schemes[k].name, failed);
+            printf("%s: %s\n", one.scheme->name, failed);
     }
     free(one.a);
     free(other.a);
