@@ -127,7 +127,7 @@ pub fn reply(scheme: u32, given: &[&Data], out: &mut [Data]) -> Result<Answer, R
         key.bytes_mut(),
         digest.bytes_mut(),
     );
-    ended(done.map(|(m, k, d)| Answer::written(&[m, k, d])))
+    ended(done.map(|n| Answer::written(&[n.message, n.key, n.digest])))
 }
 
 /// A state by rows, which is zeroed when it is dropped; empty but in Frodo.
@@ -172,7 +172,7 @@ pub fn rows_reply(scheme: u32, given: &[&Data], out: &mut [Data]) -> Result<Answ
             let (m, k, d) = (message.bytes_mut(), key.bytes_mut(), digest.bytes_mut());
             raw::rows::reply_end(&mut state, m, k, d)
         });
-    ended(done.map(|(m, k, d)| Answer::written(&[m, k, d])))
+    ended(done.map(|n| Answer::written(&[n.message, n.key, n.digest])))
 }
 
 pub fn finish(scheme: u32, given: &[&Data], out: &mut [Data]) -> Result<Answer, Refused> {
@@ -184,9 +184,9 @@ pub fn finish(scheme: u32, given: &[&Data], out: &mut [Data]) -> Result<Answer, 
         key.bytes_mut(),
         digest.bytes_mut(),
     );
-    ended(done.map(|(k, d, slack)| Answer {
-        slack: Some(slack),
-        ..Answer::written(&[k, d])
+    ended(done.map(|n| Answer {
+        slack: Some(n.slack),
+        ..Answer::written(&[n.key, n.digest])
     }))
 }
 
@@ -228,7 +228,7 @@ pub fn session_reply(
         key.bytes_mut(),
         digest.bytes_mut(),
     );
-    ended(done.map(|(m, k, d)| Answer::written(&[m, k, d])))
+    ended(done.map(|n| Answer::written(&[n.message, n.key, n.digest])))
 }
 
 pub fn session_finish(
@@ -246,9 +246,9 @@ pub fn session_finish(
         key.bytes_mut(),
         digest.bytes_mut(),
     );
-    ended(done.map(|(k, d, slack)| Answer {
-        slack: Some(slack),
-        ..Answer::written(&[k, d])
+    ended(done.map(|n| Answer {
+        slack: Some(n.slack),
+        ..Answer::written(&[n.key, n.digest])
     }))
 }
 

@@ -13,7 +13,7 @@ use std::net::{Ipv4Addr, SocketAddr, TcpListener, TcpStream};
 use std::thread;
 use std::time::{Duration, Instant};
 use wimmostry::{grow, Rack, Refusal, Replier, Rule, Scheme, Secret, Session, Stage, Studio};
-use wimmostry::{RACK, SESSION};
+use wimmostry::{BCNS_TABLE, RACK, SESSION};
 
 /// Exchanges of a studio, and how long the whole may take.
 const EXCHANGES: usize = 40;
@@ -39,11 +39,10 @@ impl Bytes {
     }
 }
 
-/// What one end of a line has: its scheme, BCNS's table, the public numbers that
-/// both ends have, and the line.
+/// What one end of a line has: its scheme, the public numbers that both ends have,
+/// and the line.
 struct End {
     scheme: Scheme,
-    table: Vec<u64>,
     a: Vec<u32>,
     bytes: Bytes,
     line: TcpStream,
@@ -52,21 +51,15 @@ struct End {
 impl End {
     fn new(studio: Studio, seed: u64, line: TcpStream) -> Result<End, Fault> {
         let scheme = Scheme::ALL[studio.number() as usize % Scheme::ALL.len()];
-        let table = include_str!("../../data/bcns-table.txt");
-        let words = table.lines().filter(|line| !line.starts_with('#'));
-        let words = words.flat_map(str::split_whitespace);
-        let table: Result<Vec<u64>, _> = words.map(|x| u64::from_str_radix(x, 16)).collect();
         line.set_read_timeout(Some(LIMIT))?;
         line.set_write_timeout(Some(LIMIT))?;
         line.set_nodelay(true)?;
         let mut end = End {
             scheme,
-            table: table?,
             a: vec![0; scheme.sizes().a],
             bytes: Bytes(seed + u64::from(studio.number())),
             line,
         };
-        end.table.truncate(scheme.sizes().table);
         if scheme != Scheme::NewHope {
             let q = scheme.sizes().q;
             let four = |x: &[u8]| u32::from_le_bytes([x[0], x[1], x[2], x[3]]) % q;
@@ -88,7 +81,8 @@ impl End {
     /// Noise from so many bytes, as many values as `room` takes.
     fn secret<'b>(&mut self, bytes: usize, room: &'b mut [i32]) -> Result<Secret<'b>, Refusal> {
         let mut bytes = self.bytes.take(bytes);
-        Secret::noise(self.scheme, Secret::new(&mut bytes), &self.table, room)
+        let table = &BCNS_TABLE[..self.scheme.sizes().table];
+        Secret::noise(self.scheme, Secret::new(&mut bytes), table, room)
     }
 
     fn offer(&mut self, session: &mut Session) -> Result<(), Fault> {

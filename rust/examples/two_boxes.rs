@@ -10,7 +10,7 @@ use std::error::Error;
 use std::io::{Read, Write};
 use std::os::unix::net::UnixStream;
 use std::thread;
-use wimmostry::{grow, Digest, Initiator, Refusal, Replier, Rule, Scheme, Secret};
+use wimmostry::{grow, Digest, Initiator, Refusal, Replier, Rule, Scheme, Secret, BCNS_TABLE};
 
 /// The digest of the key, which is wiped where its box is done.
 type Outcome = Result<Digest, Box<dyn Error + Send + Sync>>;
@@ -42,23 +42,10 @@ impl Bytes {
         bytes: usize,
         room: &'b mut [i32],
     ) -> Result<Secret<'b>, Refusal> {
-        let table = match scheme {
-            Scheme::Bcns => table(),
-            _ => vec![],
-        };
-        Secret::noise(scheme, Secret::new(&mut self.take(bytes)), &table, room)
+        // all of it in BCNS, and none elsewhere
+        let table = &BCNS_TABLE[..scheme.sizes().table];
+        Secret::noise(scheme, Secret::new(&mut self.take(bytes)), table, room)
     }
-}
-
-/// BCNS's table, as it ships: words of 16 hexadecimal digits, and lines that
-/// begin with # are comments.
-fn table() -> Vec<u64> {
-    let text = include_str!("../../data/bcns-table.txt");
-    let lines = text.lines().filter(|line| !line.starts_with('#'));
-    let words = lines.flat_map(str::split_whitespace);
-    words
-        .map(|word| u64::from_str_radix(word, 16).expect("hexadecimal digits"))
-        .collect()
 }
 
 /// The public numbers: NewHope's both boxes grow from one seed by one rule, the

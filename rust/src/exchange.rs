@@ -30,6 +30,7 @@ use crate::{raw, Digest, Key, Refusal, Scheme, Secret};
 /// # }
 /// ```
 #[derive(Debug)]
+#[must_use]
 pub struct Initiator<'s> {
     pub(crate) scheme: Scheme,
     pub(crate) s: Secret<'s>,
@@ -37,6 +38,7 @@ pub struct Initiator<'s> {
 
 /// What an offer gives.
 #[derive(Debug)]
+#[must_use]
 #[non_exhaustive]
 pub struct Offered<'s, 'm> {
     /// The initiator, which waits for the reply.
@@ -47,6 +49,7 @@ pub struct Offered<'s, 'm> {
 
 /// What the initiator has in the end.
 #[derive(Debug)]
+#[must_use]
 #[non_exhaustive]
 pub struct Finished<'k> {
     /// The initiator's key.
@@ -82,6 +85,7 @@ impl<'s> Initiator<'s> {
     }
 
     /// The scheme of the exchange.
+    #[must_use]
     pub fn scheme(&self) -> Scheme {
         self.scheme
     }
@@ -100,7 +104,7 @@ impl<'s> Initiator<'s> {
     /// never, since the offer has tested s. s is wiped, and the exchange is over.
     pub fn finish<'k>(self, reply: &[u8], key: &'k mut [u8]) -> Result<Finished<'k>, Refusal> {
         let mut digest = [0; 32];
-        let (written, _, slack) = raw::finish(
+        let written = raw::finish(
             self.scheme.number(),
             reply,
             self.s.entries(),
@@ -108,9 +112,9 @@ impl<'s> Initiator<'s> {
             &mut digest,
         )?;
         Ok(Finished {
-            key: Key::new(&mut key[..written]),
+            key: Key::new(&mut key[..written.key]),
             digest: Digest(digest),
-            slack,
+            slack: written.slack,
         })
     }
 }
@@ -129,6 +133,7 @@ impl<'s> Initiator<'s> {
 /// # }
 /// ```
 #[derive(Debug)]
+#[must_use]
 pub struct Replier<'s> {
     pub(crate) scheme: Scheme,
     pub(crate) s1: Secret<'s>,
@@ -139,6 +144,7 @@ pub struct Replier<'s> {
 
 /// What a reply gives.
 #[derive(Debug)]
+#[must_use]
 #[non_exhaustive]
 pub struct Replied<'m, 'k> {
     /// The reply message, for the initiator.
@@ -169,6 +175,7 @@ impl<'s> Replier<'s> {
     }
 
     /// The scheme of the exchange.
+    #[must_use]
     pub fn scheme(&self) -> Scheme {
         self.scheme
     }
@@ -190,7 +197,7 @@ impl<'s> Replier<'s> {
         key: &'k mut [u8],
     ) -> Result<Replied<'m, 'k>, Refusal> {
         let mut digest = [0; 32];
-        let (written, key_written, _) = raw::reply(
+        let written = raw::reply(
             self.scheme.number(),
             opening,
             a,
@@ -203,8 +210,8 @@ impl<'s> Replier<'s> {
             &mut digest,
         )?;
         Ok(Replied {
-            message: &message[..written],
-            key: Key::new(&mut key[..key_written]),
+            message: &message[..written.message],
+            key: Key::new(&mut key[..written.key]),
             digest: Digest(digest),
         })
     }

@@ -18,6 +18,7 @@ impl Rule {
     pub const ALL: [Rule; 2] = [Rule::LowBits, Rule::WholeWord];
 
     /// The number by which a call knows the rule, 14 or 16.
+    #[must_use]
     pub const fn number(self) -> u32 {
         match self {
             Rule::LowBits => 14,
@@ -26,6 +27,7 @@ impl Rule {
     }
 
     /// The name as it is written.
+    #[must_use]
     pub const fn name(self) -> &'static str {
         match self {
             Rule::LowBits => "low bits",

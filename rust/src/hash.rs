@@ -23,6 +23,7 @@ pub const HASH_INPUT: usize = 65536;
 /// # Ok::<(), wimmostry::Refusal>(())
 /// ```
 #[derive(Clone, Copy, Debug, PartialEq, Eq, Hash)]
+#[must_use]
 pub struct Digest(pub [u8; 32]);
 
 impl fmt::Display for Digest {

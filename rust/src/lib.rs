@@ -13,8 +13,8 @@
 //! Both know the public numbers a; NewHope's are [`grow`]n from the seed. The
 //! secrets s, e, s', e', e'' and the coins
 //! are drawn afresh for each exchange; [`Secret::noise`] makes them from random
-//! bytes, in BCNS by a table that is lent. A [`Secret`] is a lent buffer that is wiped when its owner is done
-//! with it; each call takes its secrets for good, so that one used twice does
+//! bytes, in BCNS by a table, [`BCNS_TABLE`]. A [`Secret`] is a lent buffer that is
+//! wiped when its owner is done with it; each call takes its secrets for good, so that one used twice does
 //! not compile. A [`Key`] is wiped likewise, and neither prints what it holds.
 //! The [`Digest`] beside a key is its SHA3-256, which can be shown. A [`Session`]
 //! keeps one end in step and holds its key, a [`Rack`] the sessions of eight studios.
@@ -76,15 +76,24 @@
 //! with one [`Refusal`], given exactly when its condition holds.
 //!
 //! What a caller must see to is in `include/wimmostry.h`: fresh secrets, who
-//! the peer is, key confirmation, hashing the raw keys, and 161 KiB of stack.
+//! the peer is, key confirmation, hashing the raw keys, and 169 KiB of stack.
 //! That buffers do not overlap and pointers are valid, these functions see to;
-//! and after every call, by rows at the end, they scrub the stack of what it left
-//! there.
+//! and after every call that was lent a secret, by rows at the end, they scrub the
+//! stack as deep as the call went.
+//!
+//! # Panics
+//!
+//! No function panics, whatever it is lent: what is wrong is told by a [`Refusal`].
 //!
 //! The library needs no `std` and takes no memory from a heap: buffers are lent.
 //! [`Sizes::LARGEST`] has room for every scheme.
 #![no_std]
 #![warn(missing_docs)]
+#![warn(
+    clippy::missing_errors_doc,
+    clippy::missing_panics_doc,
+    clippy::must_use_candidate
+)]
 
 pub mod raw;
 
@@ -102,26 +111,34 @@ mod settings;
 pub use exchange::{Finished, Initiator, Offered, Replied, Replier};
 pub use expand::{expand, grow, Rule, EXPAND_NUMBERS, EXPAND_STREAM};
 pub use hash::{sha3_256, shake128, Digest, HASH_INPUT};
-pub use rack::{Rack, Slot, Studio, RACK, RECORD};
+pub use rack::{Rack, Studio, RACK, RECORD};
 pub use raw::{product, scrub, Slack};
 pub use refusal::Refusal;
 pub use schemes::{Scheme, Sizes};
-pub use secret::{Entry, Key, Secret};
+pub use secret::{same, wipe, Entry, Key, Secret};
 pub use session::{Answered, Linked, Session, Stage, Unfinished, SESSION};
 pub use settings::{Format, Label, Settings, LABEL, SETTINGS_TEXT};
 
-/// The version of the archive that is linked.
+/// The version of the archive that is linked, which is this package's.
+#[must_use]
 pub fn version() -> &'static str {
-    // SAFETY: it takes nothing and gives a constant text that ends with a zero.
-    let text = unsafe { core::ffi::CStr::from_ptr(raw::ffi::wim_version()) };
-    text.to_str().expect("digits and dots")
+    // SAFETY: a constant text of the archive, which ends with a zero: digits and dots.
+    let text = unsafe { core::ffi::CStr::from_ptr(raw::ffi::wim_version_0_2_0.as_ptr()) };
+    text.to_str().unwrap_or_default()
 }
 
 /// The level of processors that the archive was compiled for: `x86-64`,
 /// `x86-64-v3` or `aarch64`. On a processor without it no other function may be
 /// called.
+#[must_use]
 pub fn cpu() -> &'static str {
-    // SAFETY: it takes nothing and gives a constant text that ends with a zero.
+    // SAFETY: it takes nothing and gives a constant text that ends with a zero:
+    // letters, digits and dashes.
     let text = unsafe { core::ffi::CStr::from_ptr(raw::ffi::wim_cpu()) };
-    text.to_str().expect("letters, digits and dashes")
+    text.to_str().unwrap_or_default()
 }
+
+/// The table by which BCNS's paper draws noise, for [`Secret::noise`] and
+/// [`raw::noise`]: 51 entries of three words, the highest first.
+// SAFETY: a constant of the archive.
+pub static BCNS_TABLE: &[u64; 153] = unsafe { &raw::ffi::wim_bcns_table };

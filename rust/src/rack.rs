@@ -3,8 +3,6 @@
 use crate::session::{answered, key, linked, offered, Answered, Linked, Unfinished, SESSION};
 use crate::{raw, Initiator, Offered, Refusal, Replier, Scheme, Secret, Session, Stage};
 use core::fmt;
-use core::mem::ManuallyDrop;
-use core::ops::{Deref, DerefMut};
 
 /// Bytes of a record: the number of its studio, and a session.
 pub const RECORD: usize = 1 + SESSION;
@@ -30,6 +28,7 @@ impl Studio {
     ];
 
     /// The number by which a call knows the studio, 0 to 7.
+    #[must_use]
     pub const fn number(self) -> u32 {
         self.0 as u32
     }
@@ -80,40 +79,8 @@ impl fmt::Display for Studio {
 ///     }
 /// });
 /// ```
+#[must_use]
 pub struct Rack<'b>(&'b mut [u8; RACK]);
-
-/// The session of a studio, lent by its rack. Unlike a [`Session`] of its own it is
-/// not closed when it is dropped: the rack keeps it.
-///
-/// ```
-/// # use wimmostry::{Rack, Studio, RACK};
-/// # let mut bytes = [0; RACK];
-/// # let mut rack = Rack::new(&mut bytes);
-/// rack.session(Studio::ALL[3]).close();
-/// ```
-#[derive(Debug)]
-pub struct Slot<'r>(ManuallyDrop<Session<'r>>);
-
-impl<'r> Slot<'r> {
-    /// The session in a record, behind the studio's number.
-    fn of(record: &'r mut [u8]) -> Slot<'r> {
-        let session = record.last_chunk_mut().expect("a record has a session");
-        Slot(ManuallyDrop::new(Session::resume(session)))
-    }
-}
-
-impl<'r> Deref for Slot<'r> {
-    type Target = Session<'r>;
-    fn deref(&self) -> &Session<'r> {
-        &self.0
-    }
-}
-
-impl<'r> DerefMut for Slot<'r> {
-    fn deref_mut(&mut self) -> &mut Session<'r> {
-        &mut self.0
-    }
-}
 
 impl<'b> Rack<'b> {
     /// An empty rack: what the buffer holds is cleared.
@@ -137,11 +104,13 @@ impl<'b> Rack<'b> {
 
     /// Where a studio's link stands; none where its slot was resumed from bytes
     /// that no call leaves.
+    #[must_use]
     pub fn stage(&self, studio: Studio) -> Option<Stage> {
         Stage::of(self.bytes(studio)?)
     }
 
     /// A studio's raw key, once it is there.
+    #[must_use]
     pub fn key(&self, studio: Studio) -> Option<&[u8]> {
         key(self.bytes(studio)?)
     }
@@ -219,25 +188,35 @@ impl<'b> Rack<'b> {
     /// Leaves the studio's number in its slot and zeros behind it.
     pub fn close(&mut self, studio: Studio) {
         let closed = raw::rack::close(self.0, studio.number());
-        closed.expect("a studio, and a rack of its length");
+        debug_assert!(closed.is_ok(), "a studio, and a rack of its length");
     }
 
     /// Closes all eight.
     pub fn clear(&mut self) {
-        raw::rack::clear(self.0).expect("a rack of its length");
+        let cleared = raw::rack::clear(self.0);
+        debug_assert!(cleared.is_ok(), "a rack of its length");
     }
 
-    /// One studio's session.
-    pub fn session(&mut self, studio: Studio) -> Slot<'_> {
-        Slot::of(&mut self.0[studio.slot() * RECORD..][..RECORD])
+    /// One studio's session, which the rack keeps when it is dropped.
+    pub fn session(&mut self, studio: Studio) -> Session<'_> {
+        session_in(&mut self.0[studio.slot() * RECORD..][..RECORD])
     }
 
     /// All eight sessions, in the order of the studios, each to be lent to a thread
-    /// of its own.
-    pub fn sessions(&mut self) -> [Slot<'_>; Studio::ALL.len()] {
-        let mut records = self.0.chunks_exact_mut(RECORD);
-        Studio::ALL.map(|_| Slot::of(records.next().expect("a record for each studio")))
+    /// of its own. The rack keeps them when they are dropped.
+    pub fn sessions(&mut self) -> [Session<'_>; Studio::ALL.len()] {
+        let mut rest = &mut self.0[..];
+        Studio::ALL.map(|_| {
+            let (record, behind) = core::mem::take(&mut rest).split_at_mut(RECORD);
+            rest = behind;
+            session_in(record)
+        })
     }
+}
+
+/// The session in a record, behind the studio's number.
+fn session_in(record: &mut [u8]) -> Session<'_> {
+    Session::kept(record.last_chunk_mut().expect("a record has a session"))
 }
 
 impl Drop for Rack<'_> {

@@ -2,26 +2,73 @@
 //! number, every length is the caller's to get right, and secrets are the
 //! caller's to wipe.
 //!
-//! Each function is one call of the archive and scrubs the stack after it, but for
-//! the parts of [`rows`], which leave that to the end. For
+//! Each function is one call of the archive. It scrubs the stack after it, as deep
+//! as the call went, but for Expand, Grow and the settings, which are lent nothing
+//! secret, and the parts of [`rows`], which leave that to the end. For
 //! all inputs it ends with an answer or with one [`Refusal`]. After a success an
 //! output holds the answer and zeros behind it, after a refusal zeros from end
 //! to end, whatever it held.
 
 use crate::{Refusal, Scheme};
 
+/// What a call of the archive tells: the number of its refusal or 0, the place, and
+/// its counts and other numbers.
+struct Told<const N: usize> {
+    number: u32,
+    place: u64,
+    numbers: [u64; N],
+}
+
+impl<const N: usize> Told<N> {
+    /// The numbers, or the refusal.
+    fn answer(self) -> Result<[u64; N], Refusal> {
+        match self.number {
+            0 => Ok(self.numbers),
+            number => Err(Refusal::told(number, self.place)),
+        }
+    }
+}
+
+/// One call of the archive, which does not scrub: in the order of the header a slice
+/// that is in and out, the numbers, the slices that are lent, the outputs; and what
+/// is told besides the place.
+macro_rules! ask {
+    ($function:ident($($own:ident)?; $($number:ident),*; $($lent:ident),*; $($out:ident),*)
+        $($told:ident),*) => {{
+        let mut place = 0;
+        $(let mut $told = 0;)*
+        // SAFETY: each pointer and length are those of one slice, and the place and
+        // the numbers told are of this frame. What the call changes is borrowed
+        // mutably here, and so shares memory with nothing else. The compiler sees
+        // to the types, and `runs/declared` to it that they are the header's.
+        let number = unsafe {
+            $crate::raw::ffi::$function(
+                $($own.as_mut_ptr(), $own.len(),)?
+                $($number,)*
+                $($lent.as_ptr(), $lent.len(),)*
+                $($out.as_mut_ptr(), $out.len(),)*
+                &mut place,
+                $(&mut $told,)*
+            )
+        };
+        $crate::raw::Told { number, place, numbers: [$($told),*] }
+    }};
+}
+
+/// `ask!`, and then the scrub of what it left on the stack.
+macro_rules! call {
+    ($function:ident $arguments:tt $($told:ident),*) => {{
+        let told: $crate::raw::Told<_> = ask!($function $arguments $($told),*);
+        $crate::raw::scrub_depth($crate::raw::stack::$function);
+        told.answer()
+    }};
+}
+
 pub mod ffi;
 pub mod rack;
 pub mod rows;
 pub mod session;
-
-/// The answer, or the refusal that a number other than 0 names.
-fn told<T>(number: u32, place: u64, answer: T) -> Result<T, Refusal> {
-    match number {
-        0 => Ok(answer),
-        _ => Err(Refusal::told(number, place)),
-    }
-}
+mod stack;
 
 /// How near an exchange came to failing, in BCNS and Frodo: how far the
 /// initiator's value w (in BCNS twice it, around 2q) lies from the nearest value
@@ -37,13 +84,24 @@ pub struct Slack {
     pub index: usize,
 }
 
-/// A count or an index: the archive keeps them in 64 bits.
-pub(crate) fn count(n: u64) -> usize {
-    usize::try_from(n).expect("no more than a slice has")
+impl Slack {
+    fn of(largest: u64, index: u64) -> Slack {
+        Slack {
+            largest,
+            index: count(index),
+        }
+    }
 }
 
-/// Overwrites what a call may have left of secrets on the stack below its caller.
-/// Every function here does so itself; it is for callers of [`ffi`].
+/// A count or an index: the archive keeps them in 64 bits, and is there for machines
+/// of 64 bits alone.
+pub(crate) fn count(n: u64) -> usize {
+    n as usize
+}
+
+/// Overwrites what a call may have left of secrets on the stack below its caller,
+/// whichever call it was. The functions here do so themselves; it is for callers of
+/// [`ffi`].
 ///
 /// It is always inlined: a frame of its own would be left out of what is
 /// overwritten.
@@ -54,6 +112,62 @@ pub fn scrub() {
     #[cfg(not(wimmostry_unscrubbed))]
     unsafe {
         ffi::wim_scrub()
+    }
+}
+
+/// [`scrub`] after a call that took some KiB of stack.
+#[inline(always)]
+fn scrub_depth(kib: usize) {
+    // SAFETY: as in `scrub`.
+    #[cfg(not(wimmostry_unscrubbed))]
+    unsafe {
+        ffi::wim_scrub_depth(kib << 10)
+    }
+    #[cfg(wimmostry_unscrubbed)]
+    let _ = kib;
+}
+
+/// How many bytes of its outputs a reply took.
+#[derive(Clone, Copy, Debug, PartialEq, Eq, Hash)]
+#[non_exhaustive]
+pub struct Replied {
+    /// Of the reply message.
+    pub message: usize,
+    /// Of the key.
+    pub key: usize,
+    /// Of the key's digest.
+    pub digest: usize,
+}
+
+impl Replied {
+    fn of([message, key, digest]: [u64; 3]) -> Replied {
+        Replied {
+            message: count(message),
+            key: count(key),
+            digest: count(digest),
+        }
+    }
+}
+
+/// How many bytes of its outputs a finish took, and the [`Slack`].
+#[derive(Clone, Copy, Debug, PartialEq, Eq, Hash)]
+#[non_exhaustive]
+pub struct Finished {
+    /// Of the key.
+    pub key: usize,
+    /// Of the key's digest.
+    pub digest: usize,
+    /// How near the exchange came to failing.
+    pub slack: Slack,
+}
+
+impl Finished {
+    fn of([key, digest, slack, slack_index]: [u64; 4]) -> Finished {
+        Finished {
+            key: count(key),
+            digest: count(digest),
+            slack: Slack::of(slack, slack_index),
+        }
     }
 }
 
@@ -71,29 +185,8 @@ pub fn offer(
     seed: &[u8],
     message: &mut [u8],
 ) -> Result<usize, Refusal> {
-    let (mut place, mut written) = (0, 0);
-    // SAFETY: each pointer and length are those of one slice, and place and the
-    // counts are numbers of this frame. No output shares memory with anything
-    // else, since it is borrowed mutably.
-    let number = unsafe {
-        ffi::wim_offer(
-            scheme,
-            a.as_ptr(),
-            a.len(),
-            s.as_ptr(),
-            s.len(),
-            e.as_ptr(),
-            e.len(),
-            seed.as_ptr(),
-            seed.len(),
-            message.as_mut_ptr(),
-            message.len(),
-            &mut place,
-            &mut written,
-        )
-    };
-    scrub();
-    told(number, place, count(written))
+    let [written] = call!(wim_offer(; scheme; a, s, e, seed; message) written)?;
+    Ok(count(written))
 }
 
 /// Reply: scheme, opening message, public a, s', e', e'', coins. Gives the
@@ -116,45 +209,10 @@ pub fn reply(
     message: &mut [u8],
     key: &mut [u8],
     digest: &mut [u8],
-) -> Result<(usize, usize, usize), Refusal> {
-    let (mut place, mut message_written, mut key_written, mut digest_written) = (0, 0, 0, 0);
-    // SAFETY: each pointer and length are those of one slice, and place and the
-    // counts are numbers of this frame. No output shares memory with anything
-    // else, since it is borrowed mutably.
-    let number = unsafe {
-        ffi::wim_reply(
-            scheme,
-            opening.as_ptr(),
-            opening.len(),
-            a.as_ptr(),
-            a.len(),
-            s1.as_ptr(),
-            s1.len(),
-            e1.as_ptr(),
-            e1.len(),
-            e2.as_ptr(),
-            e2.len(),
-            coins.as_ptr(),
-            coins.len(),
-            message.as_mut_ptr(),
-            message.len(),
-            key.as_mut_ptr(),
-            key.len(),
-            digest.as_mut_ptr(),
-            digest.len(),
-            &mut place,
-            &mut message_written,
-            &mut key_written,
-            &mut digest_written,
-        )
-    };
-    scrub();
-    let written = (
-        count(message_written),
-        count(key_written),
-        count(digest_written),
-    );
-    told(number, place, written)
+) -> Result<Replied, Refusal> {
+    let written = call!(wim_reply(; scheme; opening, a, s1, e1, e2, coins; message, key, digest)
+        message_written, key_written, digest_written)?;
+    Ok(Replied::of(written))
 }
 
 /// Finish: scheme, reply message, secret s. Gives the initiator's key and the
@@ -171,38 +229,10 @@ pub fn finish(
     s: &[i32],
     key: &mut [u8],
     digest: &mut [u8],
-) -> Result<(usize, usize, Slack), Refusal> {
-    let (mut place, mut key_written, mut digest_written) = (0, 0, 0);
-    let (mut largest, mut index) = (0, 0);
-    // SAFETY: each pointer and length are those of one slice, and place and the
-    // counts are numbers of this frame. No output shares memory with anything
-    // else, since it is borrowed mutably.
-    let number = unsafe {
-        ffi::wim_finish(
-            scheme,
-            reply.as_ptr(),
-            reply.len(),
-            s.as_ptr(),
-            s.len(),
-            key.as_mut_ptr(),
-            key.len(),
-            digest.as_mut_ptr(),
-            digest.len(),
-            &mut place,
-            &mut key_written,
-            &mut digest_written,
-            &mut largest,
-            &mut index,
-        )
-    };
-    scrub();
-    let index = count(index);
-    let slack = Slack { largest, index };
-    told(
-        number,
-        place,
-        (count(key_written), count(digest_written), slack),
-    )
+) -> Result<Finished, Refusal> {
+    let written = call!(wim_finish(; scheme; reply, s; key, digest)
+        key_written, digest_written, slack, slack_index)?;
+    Ok(Finished::of(written))
 }
 
 /// Noise: scheme, random bytes, a table. Gives as many values as the bytes make,
@@ -210,31 +240,14 @@ pub fn finish(
 /// of e'' ([`e2_bytes`](crate::Sizes::e2_bytes)).
 ///
 /// The table is BCNS's, 51 entries of three words each, the highest first, as
-/// `data/bcns-table.txt` has them; the other schemes take an empty one.
+/// [`BCNS_TABLE`](crate::BCNS_TABLE) has them; the other schemes take an empty one.
 ///
 /// # Errors
 ///
 /// Refuses with 1, 2, 3 and 18, in this order.
 pub fn noise(scheme: u32, bytes: &[u8], table: &[u64], out: &mut [i32]) -> Result<usize, Refusal> {
-    let (mut place, mut written) = (0, 0);
-    // SAFETY: each pointer and length are those of one slice, and place and the
-    // counts are numbers of this frame. No output shares memory with anything
-    // else, since it is borrowed mutably.
-    let number = unsafe {
-        ffi::wim_noise(
-            scheme,
-            bytes.as_ptr(),
-            bytes.len(),
-            table.as_ptr(),
-            table.len(),
-            out.as_mut_ptr(),
-            out.len(),
-            &mut place,
-            &mut written,
-        )
-    };
-    scrub();
-    told(number, place, count(written))
+    let [written] = call!(wim_noise(; scheme; bytes, table; out) written)?;
+    Ok(count(written))
 }
 
 /// Expand: rule ([`Rule`](crate::Rule)), a stream of bytes. Gives the first 1,024
@@ -244,23 +257,8 @@ pub fn noise(scheme: u32, bytes: &[u8], table: &[u64], out: &mut [i32]) -> Resul
 ///
 /// Refuses with 12, 2, 3 and 7.
 pub fn expand(rule: u32, stream: &[u8], out: &mut [u32]) -> Result<usize, Refusal> {
-    let (mut place, mut written) = (0, 0);
-    // SAFETY: each pointer and length are those of one slice, and place and the
-    // counts are numbers of this frame. No output shares memory with anything
-    // else, since it is borrowed mutably.
-    let number = unsafe {
-        ffi::wim_expand(
-            rule,
-            stream.as_ptr(),
-            stream.len(),
-            out.as_mut_ptr(),
-            out.len(),
-            &mut place,
-            &mut written,
-        )
-    };
-    scrub();
-    told(number, place, count(written))
+    let [written] = ask!(wim_expand(; rule; stream; out) written).answer()?;
+    Ok(count(written))
 }
 
 /// Grow: rule ([`Rule`](crate::Rule)), NewHope's seed. Gives what [`expand`] gives
@@ -270,23 +268,8 @@ pub fn expand(rule: u32, stream: &[u8], out: &mut [u32]) -> Result<usize, Refusa
 ///
 /// Refuses with 12, 2, 3 and 7.
 pub fn grow(rule: u32, seed: &[u8], out: &mut [u32]) -> Result<usize, Refusal> {
-    let (mut place, mut written) = (0, 0);
-    // SAFETY: each pointer and length are those of one slice, and place and the
-    // counts are numbers of this frame. No output shares memory with anything
-    // else, since it is borrowed mutably.
-    let number = unsafe {
-        ffi::wim_grow(
-            rule,
-            seed.as_ptr(),
-            seed.len(),
-            out.as_mut_ptr(),
-            out.len(),
-            &mut place,
-            &mut written,
-        )
-    };
-    scrub();
-    told(number, place, count(written))
+    let [written] = ask!(wim_grow(; rule; seed; out) written).answer()?;
+    Ok(count(written))
 }
 
 /// SHAKE-128: the input. Fills `out`, and tells its length.
@@ -295,22 +278,8 @@ pub fn grow(rule: u32, seed: &[u8], out: &mut [u32]) -> Result<usize, Refusal> {
 ///
 /// Refuses with 2.
 pub fn shake128(input: &[u8], out: &mut [u8]) -> Result<usize, Refusal> {
-    let (mut place, mut written) = (0, 0);
-    // SAFETY: each pointer and length are those of one slice, and place and the
-    // counts are numbers of this frame. No output shares memory with anything
-    // else, since it is borrowed mutably.
-    let number = unsafe {
-        ffi::wim_shake128(
-            input.as_ptr(),
-            input.len(),
-            out.as_mut_ptr(),
-            out.len(),
-            &mut place,
-            &mut written,
-        )
-    };
-    scrub();
-    told(number, place, count(written))
+    let [written] = call!(wim_shake128(; ; input; out) written)?;
+    Ok(count(written))
 }
 
 /// SHA3-256: the input. Gives 32 bytes.
@@ -319,22 +288,8 @@ pub fn shake128(input: &[u8], out: &mut [u8]) -> Result<usize, Refusal> {
 ///
 /// Refuses with 2 and 3.
 pub fn sha3_256(input: &[u8], out: &mut [u8]) -> Result<usize, Refusal> {
-    let (mut place, mut written) = (0, 0);
-    // SAFETY: each pointer and length are those of one slice, and place and the
-    // counts are numbers of this frame. No output shares memory with anything
-    // else, since it is borrowed mutably.
-    let number = unsafe {
-        ffi::wim_sha3_256(
-            input.as_ptr(),
-            input.len(),
-            out.as_mut_ptr(),
-            out.len(),
-            &mut place,
-            &mut written,
-        )
-    };
-    scrub();
-    told(number, place, count(written))
+    let [written] = call!(wim_sha3_256(; ; input; out) written)?;
+    Ok(count(written))
 }
 
 /// Product: a, b, two BCNS polynomials of a length L, which is 32 times a power
@@ -360,26 +315,8 @@ pub fn product(
     out: &mut [u32],
     scratch: &mut [u32],
 ) -> Result<usize, Refusal> {
-    let (mut place, mut written) = (0, 0);
-    // SAFETY: each pointer and length are those of one slice, and place and the
-    // counts are numbers of this frame. No output shares memory with anything
-    // else, since it is borrowed mutably.
-    let number = unsafe {
-        ffi::wim_product(
-            a.as_ptr(),
-            a.len(),
-            b.as_ptr(),
-            b.len(),
-            out.as_mut_ptr(),
-            out.len(),
-            scratch.as_mut_ptr(),
-            scratch.len(),
-            &mut place,
-            &mut written,
-        )
-    };
-    scrub();
-    told(number, place, count(written))
+    let [written] = call!(wim_product(; ; a, b; out, scratch) written)?;
+    Ok(count(written))
 }
 
 /// What [`bench()`] finds of the two keys.
@@ -408,62 +345,10 @@ impl From<BcnsBench> for Bench {
     }
 }
 
-/// What a bench is lent: the initiator's a, s, e and seed, the replier's s', e',
-/// e'' and coins.
-struct Lent<'a> {
-    a: &'a [u32],
-    s: &'a [i32],
-    e: &'a [i32],
-    seed: &'a [u8],
-    s1: &'a [i32],
-    e1: &'a [i32],
-    e2: &'a [i32],
-    coins: &'a [u8],
-}
-
-impl Lent<'_> {
-    /// The archive's call: its `differ` and the slack, or the refusal.
-    fn bench(&self, scheme: u32) -> Result<(u64, Slack), Refusal> {
-        let (mut place, mut differ) = (0, 0);
-        let (mut largest, mut index) = (0, 0);
-        // SAFETY: each pointer and length are those of one slice, and place and the
-        // counts are numbers of this frame. No output shares memory with anything
-        // else, since it is borrowed mutably.
-        let number = unsafe {
-            ffi::wim_bench(
-                scheme,
-                self.a.as_ptr(),
-                self.a.len(),
-                self.s.as_ptr(),
-                self.s.len(),
-                self.e.as_ptr(),
-                self.e.len(),
-                self.seed.as_ptr(),
-                self.seed.len(),
-                self.s1.as_ptr(),
-                self.s1.len(),
-                self.e1.as_ptr(),
-                self.e1.len(),
-                self.e2.as_ptr(),
-                self.e2.len(),
-                self.coins.as_ptr(),
-                self.coins.len(),
-                &mut place,
-                &mut differ,
-                &mut largest,
-                &mut index,
-            )
-        };
-        scrub();
-        let index = count(index);
-        told(number, place, (differ, Slack { largest, index }))
-    }
-}
-
 /// Bench: both ends on lent secrets, the initiator's s, e and seed and the
 /// replier's s', e', e'' and coins. Messages and keys stay inside. The [`Slack`]
-/// is Finish's, whether the keys agree or differ. BCNS's answer is that of
-/// [`bench_bcns`].
+/// is Finish's, whether the keys agree or differ. In BCNS they agree always:
+/// [`bench_bcns`] has no other answer.
 ///
 /// # Errors
 ///
@@ -480,26 +365,13 @@ pub fn bench(
     e2: &[i32],
     coins: &[u8],
 ) -> Result<(Bench, Slack), Refusal> {
-    if scheme == Scheme::Bcns.number() {
-        let (found, slack) = bench_bcns(a, s, e, seed, s1, e1, e2, coins)?;
-        return Ok((found.into(), slack));
-    }
-    let lent = Lent {
-        a,
-        s,
-        e,
-        seed,
-        s1,
-        e1,
-        e2,
-        coins,
-    };
-    let (differ, slack) = lent.bench(scheme)?;
+    let [differ, slack, slack_index] = call!(
+        wim_bench(; scheme; a, s, e, seed, s1, e1, e2, coins;) differ, slack, slack_index)?;
     let found = match count(differ) {
         0 => Bench::Agree,
         bit => Bench::Differ(bit - 1),
     };
-    Ok((found, slack))
+    Ok((found, Slack::of(slack, slack_index)))
 }
 
 /// Bench in BCNS, whose keys cannot differ: agree or a refusal, and the [`Slack`].
@@ -518,18 +390,8 @@ pub fn bench_bcns(
     e2: &[i32],
     coins: &[u8],
 ) -> Result<(BcnsBench, Slack), Refusal> {
-    let lent = Lent {
-        a,
-        s,
-        e,
-        seed,
-        s1,
-        e1,
-        e2,
-        coins,
-    };
-    let (differ, slack) = lent.bench(Scheme::Bcns.number())?;
-    debug_assert_eq!(differ, 0, "BCNS has no such answer");
+    let (found, slack) = bench(Scheme::Bcns.number(), a, s, e, seed, s1, e1, e2, coins)?;
+    debug_assert_eq!(found, Bench::Agree, "BCNS has no other answer");
     Ok((BcnsBench::Agree, slack))
 }
 
@@ -559,37 +421,18 @@ pub struct Read {
 /// [`LABEL`](crate::LABEL) bytes are always enough, and a text in format 1 needs
 /// none.
 pub fn settings_read(reader: u32, text: &[u8], label: &mut [u8]) -> Result<Read, Refusal> {
-    let (mut place, mut label_written) = (0, 0);
-    let (mut format, mut scheme, mut rule) = (0, 0, 0);
-    // SAFETY: each pointer and length are those of one slice, and place, the count
-    // and the numbers are numbers of this frame. No output shares memory with
-    // anything else, since it is borrowed mutably.
-    let number = unsafe {
-        ffi::wim_settings_read(
-            reader,
-            text.as_ptr(),
-            text.len(),
-            label.as_mut_ptr(),
-            label.len(),
-            &mut place,
-            &mut label_written,
-            &mut format,
-            &mut scheme,
-            &mut rule,
-        )
-    };
-    scrub();
-    if number == Refusal::NewerFormat(format).number() {
-        return Err(Refusal::NewerFormat(format));
-    }
-    let small = |n: u64| u32::try_from(n).expect("at most 16");
-    let read = Read {
-        label: count(label_written),
+    let told = ask!(wim_settings_read(; reader; text; label) label_written, format, scheme, rule);
+    let [label, format, scheme, rule] = told.numbers;
+    told.answer().map_err(|refusal| match refusal {
+        Refusal::NewerFormat(_) => Refusal::NewerFormat(format),
+        other => other,
+    })?;
+    Ok(Read {
+        label: count(label),
         format,
-        scheme: small(scheme),
-        rule: small(rule),
-    };
-    told(number, place, read)
+        scheme: scheme as u32,
+        rule: rule as u32,
+    })
 }
 
 /// Settings write: scheme, rule, label, empty where there is none. Gives the text,
@@ -605,22 +448,6 @@ pub fn settings_write(
     label: &[u8],
     text: &mut [u8],
 ) -> Result<usize, Refusal> {
-    let (mut place, mut written) = (0, 0);
-    // SAFETY: each pointer and length are those of one slice, and place and the
-    // counts are numbers of this frame. No output shares memory with anything
-    // else, since it is borrowed mutably.
-    let number = unsafe {
-        ffi::wim_settings_write(
-            scheme,
-            rule,
-            label.as_ptr(),
-            label.len(),
-            text.as_mut_ptr(),
-            text.len(),
-            &mut place,
-            &mut written,
-        )
-    };
-    scrub();
-    told(number, place, count(written))
+    let [written] = ask!(wim_settings_write(; scheme, rule; label; text) written).answer()?;
+    Ok(count(written))
 }

@@ -5,7 +5,23 @@ use core::fmt;
 /// and within a number in the order of the inputs; the first that fails is told.
 /// [`Blank`](Refusal::Blank) stands here for a message received; for one about to
 /// be sent it comes last. Reading settings tests [`Room`](Refusal::Room) last.
+///
+/// A later version may have more of them, so that a `match` has a case for the rest:
+///
+/// ```compile_fail,E0004
+/// # use wimmostry::Refusal;
+/// # fn all(refusal: Refusal) -> bool {
+/// match refusal {
+///     Refusal::NoStudio | Refusal::OutOfStage | Refusal::OutOfTurn | Refusal::NoScheme => true,
+///     Refusal::NoRule | Refusal::Length | Refusal::Room | Refusal::NotAscending(_) => true,
+///     Refusal::PublicOver(_) | Refusal::MessageOver(_) | Refusal::Blank => true,
+///     Refusal::SecretBeyond(_) | Refusal::RanOut(_) | Refusal::NewerFormat(_) => true,
+///     Refusal::Misfit | Refusal::Unknown { .. } => true,
+/// }
+/// # }
+/// ```
 #[derive(Clone, Copy, Debug, PartialEq, Eq, Hash)]
+#[non_exhaustive]
 pub enum Refusal {
     /// 16: the studio's number is over 7.
     NoStudio,
@@ -43,10 +59,18 @@ pub enum Refusal {
     NewerFormat(u64),
     /// 8: the text is no settings, or a byte of the label is not allowed.
     Misfit,
+    /// Any other number: a refusal of a newer archive.
+    Unknown {
+        /// The number.
+        number: u32,
+        /// The place.
+        place: usize,
+    },
 }
 
 impl Refusal {
-    /// The number, 1 to 8, 10 to 12 or 15 to 18.
+    /// The number, 1 to 8, 10 to 12 or 15 to 18, but for one of a newer archive.
+    #[must_use]
     pub const fn number(self) -> u32 {
         match self {
             Refusal::NoStudio => 16,
@@ -64,11 +88,13 @@ impl Refusal {
             Refusal::RanOut(_) => 7,
             Refusal::NewerFormat(_) => 15,
             Refusal::Misfit => 8,
+            Refusal::Unknown { number, .. } => number,
         }
     }
 
     /// The place: the index of the first bad entry in its input or its table, or
     /// how many numbers a stream held; 0 where there is none.
+    #[must_use]
     pub fn place(self) -> usize {
         match self {
             Refusal::NoStudio
@@ -85,18 +111,22 @@ impl Refusal {
             | Refusal::PublicOver(k)
             | Refusal::MessageOver(k)
             | Refusal::SecretBeyond(k)
-            | Refusal::RanOut(k) => k,
+            | Refusal::RanOut(k)
+            | Refusal::Unknown { place: k, .. } => k,
         }
     }
 
     /// What it says, without the place: the header's sentence.
+    #[must_use]
     pub fn text(self) -> &'static str {
         // SAFETY: any number is taken, and a constant text comes back that ends
-        // with a zero.
+        // with a zero. It has plain letters alone.
         let text = unsafe { CStr::from_ptr(crate::raw::ffi::wim_refusal_text(self.number())) };
-        text.to_str().expect("plain letters")
+        text.to_str().unwrap_or_default()
     }
 
+    /// The refusal of a number other than 0. 15 carries the format, which is put in
+    /// where it is known.
     pub(crate) fn told(number: u32, place: u64) -> Refusal {
         let place = crate::raw::count(place);
         match number {
@@ -113,9 +143,9 @@ impl Refusal {
             17 => Refusal::Blank,
             6 => Refusal::SecretBeyond(place),
             7 => Refusal::RanOut(place),
+            15 => Refusal::NewerFormat(0),
             8 => Refusal::Misfit,
-            // 15 carries the format, and is made where that is known
-            _ => unreachable!("the archive has no other refusal"),
+            number => Refusal::Unknown { number, place },
         }
     }
 }
@@ -141,8 +171,25 @@ impl fmt::Display for Refusal {
             }
             Refusal::RanOut(k) => write!(f, ", it held {k}"),
             Refusal::NewerFormat(n) => write!(f, ", format {n}"),
+            Refusal::Unknown { place, .. } => write!(f, ", place {place}"),
         }
     }
 }
 
 impl core::error::Error for Refusal {}
+
+#[cfg(test)]
+mod tests {
+    use super::Refusal;
+
+    /// Every number is some refusal's, and comes back; those of no archive so far too.
+    #[test]
+    fn of_every_number() {
+        for number in (1..100).chain([u32::MAX]) {
+            let refusal = Refusal::told(number, 7);
+            assert_eq!(refusal.number(), number);
+            let unknown = refusal == Refusal::Unknown { number, place: 7 };
+            assert_eq!(unknown, refusal.text() == "unknown refusal", "{number}");
+        }
+    }
+}

@@ -98,6 +98,7 @@ use core::fmt;
 /// A refused end, which changes nothing: it can be tried again, or more rows be
 /// fed. With `?` the rows are dropped, and their state is wiped.
 #[derive(Debug)]
+#[must_use]
 pub struct Unended<T> {
     /// Why.
     pub refusal: Refusal,
@@ -154,6 +155,7 @@ impl Drop for State<'_> {
 /// It holds s, for [`Initiator::finish`], and the lent state. Both are wiped when
 /// it is dropped.
 #[derive(Debug)]
+#[must_use]
 pub struct Offering<'b> {
     state: State<'b>,
     s: Secret<'b>,
@@ -195,11 +197,13 @@ impl<'b> Offering<'b> {
     }
 
     /// Row and column of the next number; behind the last row n and 0.
+    #[must_use]
     pub fn position(&self) -> (usize, usize) {
         self.state.position()
     }
 
     /// The scheme of the exchange.
+    #[must_use]
     pub fn scheme(&self) -> Scheme {
         self.state.scheme
     }
@@ -227,6 +231,7 @@ impl<'b> Offering<'b> {
 /// Reply between its begin and its end. It holds the lent state, which is wiped
 /// when it is dropped.
 #[derive(Debug)]
+#[must_use]
 pub struct Replying<'b> {
     state: State<'b>,
 }
@@ -271,11 +276,13 @@ impl<'b> Replying<'b> {
     }
 
     /// Row and column of the next number; behind the last row n and 0.
+    #[must_use]
     pub fn position(&self) -> (usize, usize) {
         self.state.position()
     }
 
     /// The scheme of the exchange.
+    #[must_use]
     pub fn scheme(&self) -> Scheme {
         self.state.scheme
     }
@@ -295,9 +302,9 @@ impl<'b> Replying<'b> {
         let mut digest = [0; 32];
         let state = self.state.numbers.entries_mut();
         match raw::rows::reply_end(state, message, key, &mut digest) {
-            Ok((written, key_written, _)) => Ok(Replied {
-                message: &message[..written],
-                key: Key::new(&mut key[..key_written]),
+            Ok(written) => Ok(Replied {
+                message: &message[..written.message],
+                key: Key::new(&mut key[..written.key]),
                 digest: Digest(digest),
             }),
             Err(refusal) => Err(Unended {

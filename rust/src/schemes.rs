@@ -1,8 +1,20 @@
 use crate::Refusal;
 use core::fmt;
 
-/// The six schemes by name.
+/// The six schemes by name. A `match` has a case for those of a later version.
+///
+/// ```compile_fail,E0004
+/// # use wimmostry::Scheme;
+/// # fn frodo(scheme: Scheme) -> bool {
+/// match scheme {
+///     Scheme::Bcns | Scheme::NewHope => false,
+///     Scheme::FrodoChallenge | Scheme::FrodoClassical => true,
+///     Scheme::FrodoRecommended | Scheme::FrodoParanoid => true,
+/// }
+/// # }
+/// ```
 #[derive(Clone, Copy, Debug, PartialEq, Eq, Hash)]
+#[non_exhaustive]
 pub enum Scheme {
     /// 0: BCNS.
     Bcns,
@@ -68,11 +80,13 @@ impl Scheme {
     ];
 
     /// The number by which a call knows the scheme, 0 to 5.
+    #[must_use]
     pub const fn number(self) -> u32 {
         self as u32
     }
 
     /// The name as it is written.
+    #[must_use]
     pub const fn name(self) -> &'static str {
         match self {
             Scheme::Bcns => "BCNS",
@@ -85,6 +99,7 @@ impl Scheme {
     }
 
     /// Its fixed numbers.
+    #[must_use]
     pub const fn sizes(self) -> Sizes {
         match self {
             Scheme::Bcns => Sizes {

@@ -2,13 +2,9 @@
 
 use crate::{raw, Refusal, Scheme};
 use core::fmt;
-use core::sync::atomic::{compiler_fence, Ordering};
 
 /// What a secret is made of: values, bytes or numbers.
-pub trait Entry: Copy + sealed::Sealed {
-    #[doc(hidden)]
-    const ZERO: Self;
-}
+pub trait Entry: Copy + sealed::Sealed {}
 
 mod sealed {
     pub trait Sealed {}
@@ -17,25 +13,30 @@ mod sealed {
     impl Sealed for u32 {}
 }
 
-impl Entry for u8 {
-    const ZERO: u8 = 0;
+impl Entry for u8 {}
+impl Entry for i32 {}
+impl Entry for u32 {}
+
+/// Zeros that no compiler drops, though nobody reads them. A [`Secret`] and a [`Key`]
+/// are wiped by themselves; this is for buffers that are neither.
+pub fn wipe<T: Entry>(entries: &mut [T]) {
+    // SAFETY: pointer and length in bytes are those of one slice, borrowed mutably,
+    // whose entries are numbers, so that zeros are entries too.
+    unsafe { raw::ffi::wim_wipe(entries.as_mut_ptr().cast(), size_of_val(entries)) }
 }
 
-impl Entry for i32 {
-    const ZERO: i32 = 0;
-}
-
-impl Entry for u32 {
-    const ZERO: u32 = 0;
-}
-
-/// Zeros that no compiler drops, though nobody reads them.
-pub(crate) fn wipe<T: Entry>(entries: &mut [T]) {
-    for entry in entries {
-        // SAFETY: a mutable reference is valid for a write.
-        unsafe { core::ptr::write_volatile(entry, T::ZERO) };
-    }
-    compiler_fence(Ordering::SeqCst);
+/// Whether two slices hold the same bytes, in a time that depends on their lengths
+/// alone: for tags and digests. Slices of different lengths are not the same.
+///
+/// ```
+/// assert!(wimmostry::same(b"tag", b"tag"));
+/// assert!(!wimmostry::same(b"tag", b"tap") && !wimmostry::same(b"tag", b"ta"));
+/// ```
+#[must_use]
+pub fn same(a: &[u8], b: &[u8]) -> bool {
+    // SAFETY: both slices have as many bytes as it reads of each.
+    a.len() == b.len()
+        && unsafe { raw::ffi::wim_same(a.as_ptr().cast(), b.as_ptr().cast(), a.len()) } == 1
 }
 
 /// A secret in a lent buffer, which is wiped when the secret is dropped: values
@@ -53,6 +54,15 @@ pub(crate) fn wipe<T: Entry>(entries: &mut [T]) {
 /// drop(secret);
 /// assert_eq!(coins, [0; 32]);
 /// ```
+///
+/// One that nobody takes is wiped on the spot, of which the compiler warns:
+///
+/// ```compile_fail
+/// #![deny(unused_must_use)]
+/// # let mut coins = [7u8; 32];
+/// wimmostry::Secret::new(&mut coins);
+/// ```
+#[must_use]
 pub struct Secret<'b, T: Entry = i32>(&'b mut [T]);
 
 impl<'b, T: Entry> Secret<'b, T> {
@@ -74,8 +84,8 @@ impl<'b> Secret<'b> {
     /// The values that random bytes give, written to `room`: those of s, e, s'
     /// or e' from [`s_bytes`](crate::Sizes::s_bytes) bytes, those of e'' from
     /// [`e2_bytes`](crate::Sizes::e2_bytes). The bytes are wiped. The table, which
-    /// is public, is BCNS's alone: [`table`](crate::Sizes::table) words, and `&[]`
-    /// in the other schemes.
+    /// is public, is BCNS's alone: [`BCNS_TABLE`](crate::BCNS_TABLE), or another of
+    /// [`table`](crate::Sizes::table) words; and `&[]` in the other schemes.
     ///
     /// # Errors
     ///
@@ -108,6 +118,7 @@ impl<T: Entry> fmt::Debug for Secret<'_, T> {
 ///
 /// It cannot be copied, compared or printed; [`Key::bytes`] is the one way in,
 /// and what can be compared and shown is its [`Digest`](crate::Digest).
+#[must_use]
 pub struct Key<'b>(&'b mut [u8]);
 
 impl<'b> Key<'b> {
@@ -115,8 +126,8 @@ impl<'b> Key<'b> {
         Key(bytes)
     }
 
-    /// The bytes. Compare tags that are made with them, in constant time, and
-    /// not keys.
+    /// The bytes. Compare tags that are made with them, by [`same`], and not keys.
+    #[must_use]
     pub fn bytes(&self) -> &[u8] {
         self.0
     }

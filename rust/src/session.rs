@@ -26,6 +26,7 @@ impl Stage {
     /// The stage that the bytes of a session are in. A buffer of another length,
     /// or one that no call leaves, is in none: every call but close refuses it
     /// with 10.
+    #[must_use]
     pub fn of(session: &[u8]) -> Option<Stage> {
         let (&[stage, scheme], key) = session.split_first_chunk()?;
         let known = Scheme::try_from(u32::from(scheme)).ok()?;
@@ -40,6 +41,7 @@ impl Stage {
     }
 
     /// The scheme that the link was opened with.
+    #[must_use]
     pub fn scheme(self) -> Option<Scheme> {
         match self {
             Stage::Idle => None,
@@ -48,6 +50,7 @@ impl Stage {
     }
 
     /// The name as it is written.
+    #[must_use]
     pub const fn name(self) -> &'static str {
         match self {
             Stage::Idle => "idle",
@@ -73,7 +76,8 @@ impl Stage {
 ///
 /// It cannot be copied, and does not print its key; [`Session::key`] is the one
 /// way in. The buffer is the caller's, so that moving a session leaves no copy of
-/// it behind.
+/// it behind. One that a [`Rack`](crate::Rack) lends is not closed when it is dropped:
+/// the rack keeps it.
 ///
 /// The initiator's end, where `a`, `seed` and the secrets were drawn and `reply` is
 /// what came back for the opening:
@@ -93,10 +97,18 @@ impl Stage {
 /// # Ok(())
 /// # }
 /// ```
-pub struct Session<'b>(&'b mut [u8; SESSION]);
+#[must_use]
+pub struct Session<'b> {
+    bytes: &'b mut [u8; SESSION],
+    /// By a rack, and so not closed when it is dropped. It is told here and not by
+    /// a type around the session, so that it stays with the bytes when two sessions
+    /// are swapped.
+    kept: bool,
+}
 
 /// What a reply on a session gives; the key is in the session.
 #[derive(Debug)]
+#[must_use]
 #[non_exhaustive]
 pub struct Answered<'m> {
     /// The reply message, for the initiator.
@@ -118,6 +130,7 @@ pub struct Linked {
 /// A finish that was refused. The session is as it was, so the initiator comes
 /// back with its s, for another reply or another session.
 #[derive(Debug)]
+#[must_use]
 #[non_exhaustive]
 pub struct Unfinished<'s> {
     /// Why.
@@ -132,6 +145,14 @@ impl From<Unfinished<'_>> for Refusal {
         unfinished.refusal
     }
 }
+
+impl fmt::Display for Unfinished<'_> {
+    fn fmt(&self, f: &mut fmt::Formatter) -> fmt::Result {
+        self.refusal.fmt(f)
+    }
+}
+
+impl core::error::Error for Unfinished<'_> {}
 
 /// An offer on a session: s stays with the initiator.
 pub(crate) fn offered<'s, 'm>(
@@ -151,13 +172,13 @@ pub(crate) fn offered<'s, 'm>(
 /// wiped.
 pub(crate) fn answered(
     message: &mut [u8],
-    call: impl FnOnce(&mut [u8], &mut [u8], &mut [u8]) -> Result<(usize, usize, usize), Refusal>,
+    call: impl FnOnce(&mut [u8], &mut [u8], &mut [u8]) -> Result<raw::Replied, Refusal>,
 ) -> Result<Answered<'_>, Refusal> {
     let (mut key, mut digest) = ([0; Sizes::LARGEST.key], [0; 32]);
     let mut key = Secret::new(&mut key);
-    let (written, _, _) = call(message, key.entries_mut(), &mut digest)?;
+    let written = call(message, key.entries_mut(), &mut digest)?;
     Ok(Answered {
-        message: &message[..written],
+        message: &message[..written.message],
         digest: Digest(digest),
     })
 }
@@ -165,14 +186,14 @@ pub(crate) fn answered(
 /// A finish on a session, likewise.
 pub(crate) fn linked(
     initiator: Initiator<'_>,
-    call: impl FnOnce(&[i32], &mut [u8], &mut [u8]) -> Result<(usize, usize, Slack), Refusal>,
+    call: impl FnOnce(&[i32], &mut [u8], &mut [u8]) -> Result<raw::Finished, Refusal>,
 ) -> Result<Linked, Unfinished<'_>> {
     let (mut key, mut digest) = ([0; Sizes::LARGEST.key], [0; 32]);
     let mut key = Secret::new(&mut key);
     match call(initiator.s.entries(), key.entries_mut(), &mut digest) {
-        Ok((_, _, slack)) => Ok(Linked {
+        Ok(written) => Ok(Linked {
             digest: Digest(digest),
-            slack,
+            slack: written.slack,
         }),
         Err(refusal) => Err(Unfinished { refusal, initiator }),
     }
@@ -189,7 +210,7 @@ pub(crate) fn key(session: &[u8]) -> Option<&[u8]> {
 impl<'b> Session<'b> {
     /// An idle session: what the buffer holds is zeroed.
     pub fn new(bytes: &'b mut [u8; SESSION]) -> Session<'b> {
-        let mut session = Session(bytes);
+        let mut session = Session::resume(bytes);
         session.close();
         session
     }
@@ -197,19 +218,26 @@ impl<'b> Session<'b> {
     /// The session whose bytes the buffer holds, as they were kept. They may be
     /// any: such that no call leaves are in no stage.
     pub fn resume(bytes: &'b mut [u8; SESSION]) -> Session<'b> {
-        Session(bytes)
+        Session { bytes, kept: false }
+    }
+
+    /// The session of a slot, which its rack keeps.
+    pub(crate) fn kept(bytes: &'b mut [u8; SESSION]) -> Session<'b> {
+        Session { bytes, kept: true }
     }
 
     /// Where the link stands; none where it was resumed from bytes that no call
     /// leaves.
+    #[must_use]
     pub fn stage(&self) -> Option<Stage> {
-        Stage::of(self.0)
+        Stage::of(self.bytes)
     }
 
     /// The raw key, once it is there. Hash it, together with both messages,
     /// before use, and close the session.
+    #[must_use]
     pub fn key(&self) -> Option<&[u8]> {
-        key(self.0)
+        key(self.bytes)
     }
 
     /// [`Initiator::offer`] when idle, which leads to offered with that scheme.
@@ -230,7 +258,7 @@ impl<'b> Session<'b> {
     ) -> Result<Offered<'s, 'm>, Refusal> {
         let (number, e) = (scheme.number(), e.entries());
         offered(scheme, s, message, |s, message| {
-            raw::session::offer(self.0, number, a, s, e, seed, message)
+            raw::session::offer(self.bytes, number, a, s, e, seed, message)
         })
     }
 
@@ -250,7 +278,7 @@ impl<'b> Session<'b> {
     ) -> Result<Answered<'m>, Refusal> {
         answered(message, |message, key, digest| {
             raw::session::reply(
-                self.0,
+                self.bytes,
                 replier.scheme.number(),
                 opening,
                 a,
@@ -280,19 +308,21 @@ impl<'b> Session<'b> {
     ) -> Result<Linked, Unfinished<'s>> {
         let number = initiator.scheme.number();
         linked(initiator, |s, key, digest| {
-            raw::session::finish(self.0, number, reply, s, key, digest)
+            raw::session::finish(self.bytes, number, reply, s, key, digest)
         })
     }
 
     /// Zeroes the key, whatever the stage: the session is idle.
     pub fn close(&mut self) {
-        raw::session::close(self.0);
+        raw::session::close(self.bytes);
     }
 }
 
 impl Drop for Session<'_> {
     fn drop(&mut self) {
-        wipe(self.0);
+        if !self.kept {
+            wipe(self.bytes);
+        }
     }
 }
 

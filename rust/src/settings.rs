@@ -23,6 +23,7 @@ impl Format {
     pub const NEWEST: Format = Format::Two;
 
     /// The number by which a text names the format.
+    #[must_use]
     pub const fn number(self) -> u32 {
         match self {
             Format::One => 1,
@@ -62,13 +63,16 @@ impl Label {
     }
 
     /// Its bytes, none where there is no label.
+    #[must_use]
     pub fn bytes(&self) -> &[u8] {
         &self.bytes[..self.count]
     }
 
     /// The same as text.
+    #[must_use]
     pub fn text(&self) -> &str {
-        core::str::from_utf8(self.bytes()).expect("capital letters and digits")
+        // capital letters and digits alone
+        core::str::from_utf8(self.bytes()).unwrap_or_default()
     }
 }
 
@@ -145,6 +149,7 @@ impl Settings {
     }
 
     /// The format of that text.
+    #[must_use]
     pub fn format(&self) -> Format {
         match self.label.bytes() {
             [] => Format::One,

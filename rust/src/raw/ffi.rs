@@ -2,7 +2,30 @@
 //! what a caller must see to; `runs/declared` compares the two.
 #![allow(missing_docs)]
 
-use core::ffi::c_char;
+use core::ffi::{c_char, c_void};
+
+/// What `wim_sizes` points to.
+#[repr(C)]
+pub struct Sizes {
+    pub name: *const c_char,
+    pub number: u32,
+    pub q: u32,
+    pub noise: i32,
+    pub a: usize,
+    pub s: usize,
+    pub e2: usize,
+    pub seed: usize,
+    pub coins: usize,
+    pub opening: usize,
+    pub reply: usize,
+    pub key: usize,
+    pub s_bytes: usize,
+    pub e2_bytes: usize,
+    pub table: usize,
+    pub margin: u64,
+    pub row: usize,
+    pub state: usize,
+}
 
 extern "C" {
     pub fn wim_offer(
@@ -355,7 +378,13 @@ extern "C" {
         place: *mut u64,
         written: *mut u64,
     ) -> u32;
+    pub fn wim_sizes(scheme: u32) -> *const Sizes;
+    pub static wim_bcns_table: [u64; 153];
+    pub fn wim_wipe(memory: *mut c_void, count: usize);
+    pub fn wim_same(a: *const c_void, b: *const c_void, count: usize) -> u32;
     pub fn wim_scrub();
+    pub fn wim_scrub_depth(depth: usize);
+    pub static wim_version_0_2_0: [c_char; 6];
     pub fn wim_version() -> *const c_char;
     pub fn wim_cpu() -> *const c_char;
     pub fn wim_refusal_text(refusal: u32) -> *const c_char;

@@ -5,7 +5,7 @@
 //! another length, and another number in the studio's slot, with 10. A refused call
 //! changes no byte of the rack, and no call one of another slot.
 
-use super::{count, ffi, scrub, told, Slack};
+use super::{count, Finished, Replied};
 use crate::Refusal;
 
 /// [`session::offer`](super::session::offer) on the session of a studio.
@@ -24,32 +24,8 @@ pub fn offer(
     seed: &[u8],
     message: &mut [u8],
 ) -> Result<usize, Refusal> {
-    let (mut place, mut written) = (0, 0);
-    // SAFETY: each pointer and length are those of one slice, and place and the
-    // counts are numbers of this frame. Neither the rack nor an output shares
-    // memory with anything else, since it is borrowed mutably.
-    let number = unsafe {
-        ffi::wim_rack_offer(
-            rack.as_mut_ptr(),
-            rack.len(),
-            studio,
-            scheme,
-            a.as_ptr(),
-            a.len(),
-            s.as_ptr(),
-            s.len(),
-            e.as_ptr(),
-            e.len(),
-            seed.as_ptr(),
-            seed.len(),
-            message.as_mut_ptr(),
-            message.len(),
-            &mut place,
-            &mut written,
-        )
-    };
-    scrub();
-    told(number, place, count(written))
+    let [written] = call!(wim_rack_offer(rack; studio, scheme; a, s, e, seed; message) written)?;
+    Ok(count(written))
 }
 
 /// [`session::reply`](super::session::reply) on the session of a studio.
@@ -71,48 +47,11 @@ pub fn reply(
     message: &mut [u8],
     key: &mut [u8],
     digest: &mut [u8],
-) -> Result<(usize, usize, usize), Refusal> {
-    let (mut place, mut message_written, mut key_written, mut digest_written) = (0, 0, 0, 0);
-    // SAFETY: each pointer and length are those of one slice, and place and the
-    // counts are numbers of this frame. Neither the rack nor an output shares
-    // memory with anything else, since it is borrowed mutably.
-    let number = unsafe {
-        ffi::wim_rack_reply(
-            rack.as_mut_ptr(),
-            rack.len(),
-            studio,
-            scheme,
-            opening.as_ptr(),
-            opening.len(),
-            a.as_ptr(),
-            a.len(),
-            s1.as_ptr(),
-            s1.len(),
-            e1.as_ptr(),
-            e1.len(),
-            e2.as_ptr(),
-            e2.len(),
-            coins.as_ptr(),
-            coins.len(),
-            message.as_mut_ptr(),
-            message.len(),
-            key.as_mut_ptr(),
-            key.len(),
-            digest.as_mut_ptr(),
-            digest.len(),
-            &mut place,
-            &mut message_written,
-            &mut key_written,
-            &mut digest_written,
-        )
-    };
-    scrub();
-    let written = (
-        count(message_written),
-        count(key_written),
-        count(digest_written),
-    );
-    told(number, place, written)
+) -> Result<Replied, Refusal> {
+    let written = call!(
+        wim_rack_reply(rack; studio, scheme; opening, a, s1, e1, e2, coins; message, key, digest)
+            message_written, key_written, digest_written)?;
+    Ok(Replied::of(written))
 }
 
 /// [`session::finish`](super::session::finish) on the session of a studio.
@@ -128,41 +67,10 @@ pub fn finish(
     s: &[i32],
     key: &mut [u8],
     digest: &mut [u8],
-) -> Result<(usize, usize, Slack), Refusal> {
-    let (mut place, mut key_written, mut digest_written) = (0, 0, 0);
-    let (mut largest, mut index) = (0, 0);
-    // SAFETY: each pointer and length are those of one slice, and place and the
-    // counts are numbers of this frame. Neither the rack nor an output shares
-    // memory with anything else, since it is borrowed mutably.
-    let number = unsafe {
-        ffi::wim_rack_finish(
-            rack.as_mut_ptr(),
-            rack.len(),
-            studio,
-            scheme,
-            reply.as_ptr(),
-            reply.len(),
-            s.as_ptr(),
-            s.len(),
-            key.as_mut_ptr(),
-            key.len(),
-            digest.as_mut_ptr(),
-            digest.len(),
-            &mut place,
-            &mut key_written,
-            &mut digest_written,
-            &mut largest,
-            &mut index,
-        )
-    };
-    scrub();
-    let index = count(index);
-    let slack = Slack { largest, index };
-    told(
-        number,
-        place,
-        (count(key_written), count(digest_written), slack),
-    )
+) -> Result<Finished, Refusal> {
+    let written = call!(wim_rack_finish(rack; studio, scheme; reply, s; key, digest)
+        key_written, digest_written, slack, slack_index)?;
+    Ok(Finished::of(written))
 }
 
 /// Leaves the studio's number in its slot and zeros behind it, whatever it held.
@@ -171,12 +79,7 @@ pub fn finish(
 ///
 /// Refuses with 16, and with 10 where the rack has another length.
 pub fn close(rack: &mut [u8], studio: u32) -> Result<(), Refusal> {
-    let mut place = 0;
-    // SAFETY: pointer and length are those of one slice, borrowed mutably, and
-    // place is a number of this frame.
-    let number = unsafe { ffi::wim_rack_close(rack.as_mut_ptr(), rack.len(), studio, &mut place) };
-    scrub();
-    told(number, place, ())
+    call!(wim_rack_close(rack; studio;;)).map(|[]| ())
 }
 
 /// Eight idle records with their numbers, whatever the rack held.
@@ -185,10 +88,5 @@ pub fn close(rack: &mut [u8], studio: u32) -> Result<(), Refusal> {
 ///
 /// Refuses with 10 where the rack has another length.
 pub fn clear(rack: &mut [u8]) -> Result<(), Refusal> {
-    let mut place = 0;
-    // SAFETY: pointer and length are those of one slice, borrowed mutably, and
-    // place is a number of this frame.
-    let number = unsafe { ffi::wim_rack_clear(rack.as_mut_ptr(), rack.len(), &mut place) };
-    scrub();
-    told(number, place, ())
+    call!(wim_rack_clear(rack;;;)).map(|[]| ())
 }

@@ -10,10 +10,10 @@
 //! up. [`rows`](crate::rows) sees to that.
 //!
 //! Begin and end scrub the stack. A part does not, since there are many of them and
-//! a scrub takes longer than a row: what parts leave there goes with the end, or by
-//! [`scrub`] where there is none.
+//! a scrub takes longer than a row: what parts leave there goes with the end, which
+//! scrubs deeper than itself for them, or by [`scrub`] where there is none.
 
-use super::{count, ffi, scrub, told};
+use super::{count, scrub, Replied};
 use crate::Refusal;
 
 /// Offer, begin: scheme, secret s, noise e, seed, into the state.
@@ -28,26 +28,7 @@ pub fn offer_begin(
     seed: &[u8],
     state: &mut [u32],
 ) -> Result<(), Refusal> {
-    let mut place = 0;
-    // SAFETY: each pointer and length are those of one slice, and place is a
-    // number of this frame. The state shares memory with nothing else, since it is
-    // borrowed mutably.
-    let number = unsafe {
-        ffi::wim_rows_offer_begin(
-            scheme,
-            s.as_ptr(),
-            s.len(),
-            e.as_ptr(),
-            e.len(),
-            seed.as_ptr(),
-            seed.len(),
-            state.as_mut_ptr(),
-            state.len(),
-            &mut place,
-        )
-    };
-    scrub();
-    told(number, place, ())
+    call!(wim_rows_offer_begin(; scheme; s, e, seed; state)).map(|[]| ())
 }
 
 /// Offer, a part: the next numbers of the current row of A.
@@ -56,18 +37,9 @@ pub fn offer_begin(
 ///
 /// Refuses with 11 and 4, whose place is the index in the part.
 pub fn offer_part(part: &[u32], state: &mut [u32]) -> Result<(), Refusal> {
-    let mut place = 0;
-    // SAFETY: as in `offer_begin`.
-    let number = unsafe {
-        ffi::wim_rows_offer_part(
-            part.as_ptr(),
-            part.len(),
-            state.as_mut_ptr(),
-            state.len(),
-            &mut place,
-        )
-    };
-    told(number, place, ())
+    ask!(wim_rows_offer_part(; ; part; state))
+        .answer()
+        .map(|[]| ())
 }
 
 /// Offer, end. Gives the opening message and how many bytes of `message` it takes.
@@ -76,20 +48,10 @@ pub fn offer_part(part: &[u32], state: &mut [u32]) -> Result<(), Refusal> {
 ///
 /// Refuses with 11, 3 and 17.
 pub fn offer_end(state: &mut [u32], message: &mut [u8]) -> Result<usize, Refusal> {
-    let (mut place, mut written) = (0, 0);
-    // SAFETY: as in `offer_begin`, of the output too.
-    let number = unsafe {
-        ffi::wim_rows_offer_end(
-            state.as_mut_ptr(),
-            state.len(),
-            message.as_mut_ptr(),
-            message.len(),
-            &mut place,
-            &mut written,
-        )
-    };
+    let told = ask!(wim_rows_offer_end(state; ; ; message) written);
     scrub();
-    told(number, place, count(written))
+    let [written] = told.answer()?;
+    Ok(count(written))
 }
 
 /// Reply, begin: scheme, opening message, s', e', e'', into the state. Frodo has
@@ -107,26 +69,7 @@ pub fn reply_begin(
     e2: &[i32],
     state: &mut [u32],
 ) -> Result<(), Refusal> {
-    let mut place = 0;
-    // SAFETY: as in `offer_begin`.
-    let number = unsafe {
-        ffi::wim_rows_reply_begin(
-            scheme,
-            opening.as_ptr(),
-            opening.len(),
-            s1.as_ptr(),
-            s1.len(),
-            e1.as_ptr(),
-            e1.len(),
-            e2.as_ptr(),
-            e2.len(),
-            state.as_mut_ptr(),
-            state.len(),
-            &mut place,
-        )
-    };
-    scrub();
-    told(number, place, ())
+    call!(wim_rows_reply_begin(; scheme; opening, s1, e1, e2; state)).map(|[]| ())
 }
 
 /// Reply, a part: the next numbers of the current row of A.
@@ -135,18 +78,9 @@ pub fn reply_begin(
 ///
 /// Refuses with 11 and 4, whose place is the index in the part.
 pub fn reply_part(part: &[u32], state: &mut [u32]) -> Result<(), Refusal> {
-    let mut place = 0;
-    // SAFETY: as in `offer_begin`.
-    let number = unsafe {
-        ffi::wim_rows_reply_part(
-            part.as_ptr(),
-            part.len(),
-            state.as_mut_ptr(),
-            state.len(),
-            &mut place,
-        )
-    };
-    told(number, place, ())
+    ask!(wim_rows_reply_part(; ; part; state))
+        .answer()
+        .map(|[]| ())
 }
 
 /// Reply, end. Gives the reply message, the replier's key and the key's SHA3-256,
@@ -161,30 +95,9 @@ pub fn reply_end(
     message: &mut [u8],
     key: &mut [u8],
     digest: &mut [u8],
-) -> Result<(usize, usize, usize), Refusal> {
-    let (mut place, mut message_written, mut key_written, mut digest_written) = (0, 0, 0, 0);
-    // SAFETY: as in `offer_begin`, of the outputs too.
-    let number = unsafe {
-        ffi::wim_rows_reply_end(
-            state.as_mut_ptr(),
-            state.len(),
-            message.as_mut_ptr(),
-            message.len(),
-            key.as_mut_ptr(),
-            key.len(),
-            digest.as_mut_ptr(),
-            digest.len(),
-            &mut place,
-            &mut message_written,
-            &mut key_written,
-            &mut digest_written,
-        )
-    };
+) -> Result<Replied, Refusal> {
+    let told = ask!(wim_rows_reply_end(state; ; ; message, key, digest)
+        message_written, key_written, digest_written);
     scrub();
-    let written = (
-        count(message_written),
-        count(key_written),
-        count(digest_written),
-    );
-    told(number, place, written)
+    Ok(Replied::of(told.answer()?))
 }

@@ -5,7 +5,7 @@
 //! anything else is tested; so is a buffer that is in no stage. A refused call
 //! changes no byte of the session.
 
-use super::{count, ffi, scrub, told, Slack};
+use super::{count, ffi, scrub_depth, stack, Finished, Replied};
 use crate::Refusal;
 
 /// [`offer`](super::offer) when idle, which leads to offered with that scheme.
@@ -22,31 +22,8 @@ pub fn offer(
     seed: &[u8],
     message: &mut [u8],
 ) -> Result<usize, Refusal> {
-    let (mut place, mut written) = (0, 0);
-    // SAFETY: each pointer and length are those of one slice, and place and the
-    // counts are numbers of this frame. Neither the session nor an output shares
-    // memory with anything else, since it is borrowed mutably.
-    let number = unsafe {
-        ffi::wim_session_offer(
-            session.as_mut_ptr(),
-            session.len(),
-            scheme,
-            a.as_ptr(),
-            a.len(),
-            s.as_ptr(),
-            s.len(),
-            e.as_ptr(),
-            e.len(),
-            seed.as_ptr(),
-            seed.len(),
-            message.as_mut_ptr(),
-            message.len(),
-            &mut place,
-            &mut written,
-        )
-    };
-    scrub();
-    told(number, place, count(written))
+    let [written] = call!(wim_session_offer(session; scheme; a, s, e, seed; message) written)?;
+    Ok(count(written))
 }
 
 /// [`reply`](super::reply) when idle, which leads to keyed with that scheme and
@@ -68,47 +45,11 @@ pub fn reply(
     message: &mut [u8],
     key: &mut [u8],
     digest: &mut [u8],
-) -> Result<(usize, usize, usize), Refusal> {
-    let (mut place, mut message_written, mut key_written, mut digest_written) = (0, 0, 0, 0);
-    // SAFETY: each pointer and length are those of one slice, and place and the
-    // counts are numbers of this frame. Neither the session nor an output shares
-    // memory with anything else, since it is borrowed mutably.
-    let number = unsafe {
-        ffi::wim_session_reply(
-            session.as_mut_ptr(),
-            session.len(),
-            scheme,
-            opening.as_ptr(),
-            opening.len(),
-            a.as_ptr(),
-            a.len(),
-            s1.as_ptr(),
-            s1.len(),
-            e1.as_ptr(),
-            e1.len(),
-            e2.as_ptr(),
-            e2.len(),
-            coins.as_ptr(),
-            coins.len(),
-            message.as_mut_ptr(),
-            message.len(),
-            key.as_mut_ptr(),
-            key.len(),
-            digest.as_mut_ptr(),
-            digest.len(),
-            &mut place,
-            &mut message_written,
-            &mut key_written,
-            &mut digest_written,
-        )
-    };
-    scrub();
-    let written = (
-        count(message_written),
-        count(key_written),
-        count(digest_written),
-    );
-    told(number, place, written)
+) -> Result<Replied, Refusal> {
+    let written = call!(
+        wim_session_reply(session; scheme; opening, a, s1, e1, e2, coins; message, key, digest)
+            message_written, key_written, digest_written)?;
+    Ok(Replied::of(written))
 }
 
 /// [`finish`](super::finish) when offered, with that scheme, which leads to keyed
@@ -124,46 +65,16 @@ pub fn finish(
     s: &[i32],
     key: &mut [u8],
     digest: &mut [u8],
-) -> Result<(usize, usize, Slack), Refusal> {
-    let (mut place, mut key_written, mut digest_written) = (0, 0, 0);
-    let (mut largest, mut index) = (0, 0);
-    // SAFETY: each pointer and length are those of one slice, and place and the
-    // counts are numbers of this frame. Neither the session nor an output shares
-    // memory with anything else, since it is borrowed mutably.
-    let number = unsafe {
-        ffi::wim_session_finish(
-            session.as_mut_ptr(),
-            session.len(),
-            scheme,
-            reply.as_ptr(),
-            reply.len(),
-            s.as_ptr(),
-            s.len(),
-            key.as_mut_ptr(),
-            key.len(),
-            digest.as_mut_ptr(),
-            digest.len(),
-            &mut place,
-            &mut key_written,
-            &mut digest_written,
-            &mut largest,
-            &mut index,
-        )
-    };
-    scrub();
-    let index = count(index);
-    let slack = Slack { largest, index };
-    told(
-        number,
-        place,
-        (count(key_written), count(digest_written), slack),
-    )
+) -> Result<Finished, Refusal> {
+    let written = call!(wim_session_finish(session; scheme; reply, s; key, digest)
+        key_written, digest_written, slack, slack_index)?;
+    Ok(Finished::of(written))
 }
 
 /// Zeroes the session, whatever it holds and however long it is: it is idle.
 pub fn close(session: &mut [u8]) {
     // SAFETY: pointer and length are those of one slice, borrowed mutably.
     let number = unsafe { ffi::wim_session_close(session.as_mut_ptr(), session.len()) };
-    scrub();
+    scrub_depth(stack::wim_session_close);
     debug_assert_eq!(number, 0, "close has no refusal");
 }

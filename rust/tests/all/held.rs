@@ -172,7 +172,7 @@ fn reply(g: &mut Generator, ready: &Ready) -> u32 {
     let mut key = Lent::new(&expected_key, 9);
     let mut digest = Lent::new(&expected_digest, 9);
     let told = same(
-        wimmostry::raw::reply(
+        crate::calls::reply(
             scheme,
             lopening.entries(),
             la.entries(),
@@ -231,7 +231,7 @@ fn finish(g: &mut Generator, ready: &Ready) -> u32 {
     let (mut expected, mut expected_digest) = (g.bytes(room), g.bytes(digest_room));
     let mut key = Lent::new(&expected, 9);
     let mut digest = Lent::new(&expected_digest, 9);
-    let answer = wimmostry::raw::finish(
+    let answer = crate::calls::finish(
         scheme,
         lreply.entries(),
         ls.entries(),

@@ -5,7 +5,10 @@
 use crate::generator::Generator;
 use crate::inputs::Inputs;
 use second::schemes::SIX;
-use wimmostry::{Offered, Refusal, Replier, Scheme, Secret, Session, Stage, Unfinished, SESSION};
+use std::error::Error;
+use wimmostry::{
+    Initiator, Offered, Refusal, Replier, Scheme, Secret, Session, Stage, Unfinished, SESSION,
+};
 
 fn scheme(inputs: &Inputs) -> Scheme {
     Scheme::try_from(inputs.scheme.number as u32).expect("one of six")
@@ -96,6 +99,12 @@ fn a_link_in_every_scheme() {
     }
 }
 
+/// What a refused finish says as an error, and the initiator that comes back.
+fn told(unfinished: Unfinished) -> (String, Initiator) {
+    let said = |error: &dyn Error| error.to_string();
+    (said(&unfinished), unfinished.initiator)
+}
+
 /// Out of stage, a call wipes its secrets and leaves the session. A refused
 /// finish gives the initiator back, and the next reply is taken.
 #[test]
@@ -125,10 +134,8 @@ fn refused_calls_leave_the_session() {
     let Offered { initiator, .. } =
         offer(&mut others, &mut peer, &mut peer_room).expect("good inputs");
     let refused = session.finish(initiator, &reply);
-    let Unfinished {
-        refusal, initiator, ..
-    } = refused.expect_err("another scheme");
-    assert_eq!(refusal, Refusal::OutOfStage);
+    let (said, initiator) = told(refused.expect_err("another scheme"));
+    assert_eq!(said, Refusal::OutOfStage.to_string());
     assert_eq!(initiator.scheme(), Scheme::FrodoChallenge);
     drop(initiator);
     assert_eq!(peer.s, vec![0; 2816]);

@@ -1,5 +1,6 @@
 //! The second program's long list, each case through the archive.
 
+use crate::calls;
 use second::long::run::{noise, noise_by, run, run_by, Calls};
 use second::long::{noise::cases, of_no_scheme, of_scheme, Group};
 use second::reconcile::Slack;
@@ -27,12 +28,12 @@ const ARCHIVE: Calls = Calls {
     offer: |k, a, s, e, seed, message| told(raw::offer(number(k), a, s, e, seed, message)),
     reply: |k, opening, a, s1, e1, e2, coins, message, key, digest| {
         let k = number(k);
-        told(raw::reply(
+        told(calls::reply(
             k, opening, a, s1, e1, e2, coins, message, key, digest,
         ))
     },
     finish: |k, reply, s, key, digest| {
-        let answer = raw::finish(number(k), reply, s, key, digest);
+        let answer = calls::finish(number(k), reply, s, key, digest);
         told(answer.map(|(key, digest, used)| (key, digest, slack(used))))
     },
     bench: |k, a, s, e, seed, s1, e1, e2, coins| {

@@ -5,8 +5,6 @@
 //! list, and some 80,000 on sessions; `cargo test -- --ignored` makes 100,000
 //! random ones, which takes some fifteen minutes.
 
-use wimmostry::raw as calls;
-
 #[path = "../../../second/tests/all/generator.rs"]
 mod generator;
 #[allow(dead_code)]
@@ -17,11 +15,13 @@ mod published;
 #[path = "../../../second/tests/all/standards.rs"]
 mod standards;
 
+mod calls;
 mod damage;
 mod held;
 mod lent;
 mod links;
 mod long;
+mod package;
 mod products;
 mod racks;
 mod residue;

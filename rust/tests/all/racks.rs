@@ -12,7 +12,8 @@ use second::schemes::SIX;
 use second::session::{alphabet, Call, Inputs as Lends};
 use std::thread;
 use wimmostry::raw::{rack, Slack};
-use wimmostry::{Offered, Rack, Refusal, Replier, Scheme, Secret, Stage, Studio, RACK};
+use wimmostry::{Offered, Rack, Refusal, Replier, Scheme, Secret, Session, Stage, Studio};
+use wimmostry::{RACK, SESSION};
 
 /// The archive's call for a studio in a rack.
 fn on_rack(studio: u64) -> Box<Make> {
@@ -36,11 +37,11 @@ fn for_studio(studio: u32, call: &Call, kept: &mut [u8], x: &Given, out: &mut [&
             let done = rack::reply(
                 kept, studio, scheme, opening, a, s1, e1, e2, coins, message, key, digest,
             );
-            done.map(|(m, k, d)| (vec![m, k, d], none))
+            done.map(|n| (vec![n.message, n.key, n.digest], none))
         }
         (Lends::Finish { .. }, [], [s], [reply], [key, digest]) => {
             let done = rack::finish(kept, studio, scheme, reply, s, key, digest);
-            done.map(|(k, d, slack)| (vec![k, d], slack))
+            done.map(|n| (vec![n.key, n.digest], n.slack))
         }
         (Lends::Close, ..) => rack::close(kept, studio).map(|()| (vec![], none)),
         _ => panic!("other inputs than the call's"),
@@ -255,6 +256,29 @@ fn two_studios_of_one_rack() {
     assert_eq!(rack.key(right), Some(&expected[..]));
     drop(rack);
     assert_eq!(bytes[..], empty(), "dropped");
+}
+
+/// Swapped, a session of a rack and one of its own stay what they are: the one is kept
+/// by its rack when it is dropped, the other is closed.
+#[test]
+fn swapped_sessions() {
+    let mut i = drawn(2);
+    let (opening, a, studio) = (i.opening(), i.a.clone(), Studio::ALL[4]);
+    let (mut message, expected) = i.reply_and_key(&opening);
+    let (mut bytes, mut own_bytes) = ([0; RACK], [0; SESSION]);
+    let mut rack = Rack::new(&mut bytes);
+    let mut slot = rack.session(studio);
+    let replied = slot.reply(replier(&mut i), &opening, &a, &mut message);
+    assert!(replied.is_ok());
+    let mut own = Session::new(&mut own_bytes);
+    let mut i = drawn(2);
+    let replied = own.reply(replier(&mut i), &opening, &a, &mut message);
+    assert!(replied.is_ok());
+
+    std::mem::swap(&mut slot, &mut own);
+    drop((slot, own));
+    assert_eq!(own_bytes, [0; SESSION]);
+    assert_eq!(rack.key(studio), Some(&expected[..]));
 }
 
 /// Eight threads, each on its own studio's session; the rack has what they left.

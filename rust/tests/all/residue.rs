@@ -1,14 +1,17 @@
 //! After a call of this package no secret stands on the stack below its caller.
 //! `examples/c/residue.c` looks for everything in all schemes; here it is Frodo,
-//! whose products keep s and s' as 16-bit words, and whether each call scrubs.
+//! whose products keep s and s' as 16-bit words, and whether each call scrubs, and no
+//! deeper than it has to.
 
 use crate::generator::Generator;
 use crate::inputs::Inputs;
 use second::schemes::SIX;
+use std::collections::HashMap;
 use std::mem::MaybeUninit;
 use wimmostry::raw;
 
-const DEPTH: usize = 150_000;
+const DEPTH: usize = 180_000;
+const PATTERN: u8 = 0xa5;
 
 /// The bytes that lie on the stack below the caller, as they were left there.
 #[inline(never)]
@@ -22,6 +25,35 @@ fn left() -> Vec<u8> {
         *byte = unsafe { start.add(k).read_volatile() };
     }
     bytes
+}
+
+/// Lays the pattern on the stack below the caller, deeper than `left` looks.
+#[inline(never)]
+fn fill() {
+    const ROOM: usize = DEPTH + 4096;
+    let mut room = MaybeUninit::<[u8; ROOM]>::uninit();
+    let start = room.as_mut_ptr().cast::<u8>();
+    for k in 0..ROOM {
+        // SAFETY: inside a variable of this frame.
+        unsafe { start.add(k).write_volatile(PATTERN) };
+    }
+}
+
+/// How deep a call and its scrub went, and how far from here the farthest byte lies
+/// that they left other than zero.
+fn depth(call: &mut dyn FnMut() -> bool) -> (usize, usize) {
+    fill();
+    let done = call();
+    let after = left();
+    assert!(done);
+    // more than the compiler's probe of each page, which is a word
+    let mut runs = after.windows(64);
+    let touched = runs.position(|run| !run.contains(&PATTERN));
+    let other = after.iter().position(|&byte| byte != PATTERN && byte != 0);
+    (
+        DEPTH - touched.unwrap_or(DEPTH),
+        DEPTH - other.unwrap_or(DEPTH),
+    )
 }
 
 /// Whether 16 values in a row stand there as 16-bit words.
@@ -153,4 +185,108 @@ fn none_is_left() {
     let after = left();
     assert!(done.is_ok(), "bench");
     assert!(!stands(&after, &columns) && !stands(&after, &i.s1), "bench");
+}
+
+/// The header's table of the stack that each call takes, in bytes.
+fn table() -> HashMap<&'static str, usize> {
+    let header = include_str!("../../../include/wimmostry.h");
+    let (_, stack) = header.split_once(" * STACK\n").expect("a section STACK");
+    let (stack, _) = stack.split_once("Measured").expect("its table");
+    let words: Vec<_> = stack.split_whitespace().collect();
+    let pairs = words.windows(2).filter(|pair| pair[0].starts_with("wim_"));
+    let kib = |text: &str| text.parse::<usize>().expect("KiB");
+    pairs.map(|pair| (pair[0], kib(pair[1]) << 10)).collect()
+}
+
+/// Each call that is lent secrets leaves zeros where it went, and touches no more of the
+/// stack than the call takes and the scrub adds. Those that are not lent any do not
+/// scrub at all.
+#[test]
+fn each_by_its_own_depth() {
+    const MORE: usize = 8192; // WIM_SCRUB_MORE
+    const NEAR: usize = 4096; // frames of this test and of the package, without secrets
+    let fixed = &SIX[2];
+    let i = Inputs::random(fixed, &mut Generator::new(6));
+    let (number, opening) = (fixed.number as u32, i.opening());
+    let (reply, _) = i.reply_and_key(&opening);
+    let (mut message, mut answer) = (opening.clone(), reply.clone());
+    let (mut key, mut digest) = ([0; 8], [0; 32]);
+    let mut seen = HashMap::new();
+    let mut look = |name: &'static str, call: &mut dyn FnMut() -> bool| {
+        call(); // so that nothing is looked up for the first time
+        seen.insert(name, depth(call));
+    };
+    look("wim_offer", &mut || {
+        raw::offer(number, &i.a, &i.s, &i.e, &i.seed, &mut message).is_ok()
+    });
+    look("wim_reply", &mut || {
+        let (m, k, d) = (&mut answer, &mut key, &mut digest);
+        raw::reply(
+            number, &opening, &i.a, &i.s1, &i.e1, &i.e2, &i.coins, m, k, d,
+        )
+        .is_ok()
+    });
+    look("wim_finish", &mut || {
+        raw::finish(number, &reply, &i.s, &mut key, &mut digest).is_ok()
+    });
+    look("wim_bench", &mut || {
+        let (s1, e1, e2) = (&i.s1, &i.e1, &i.e2);
+        raw::bench(number, &i.a, &i.s, &i.e, &i.seed, s1, e1, e2, &i.coins).is_ok()
+    });
+    let (bytes, mut values) = (
+        vec![5; fixed.secret_count() * 2],
+        vec![0; fixed.secret_count()],
+    );
+    look("wim_noise", &mut || {
+        raw::noise(number, &bytes, &[], &mut values).is_ok()
+    });
+    look("wim_shake128", &mut || {
+        raw::shake128(&bytes, &mut digest).is_ok()
+    });
+    look("wim_sha3_256", &mut || {
+        raw::sha3_256(&bytes, &mut digest).is_ok()
+    });
+    let (mut a, mut scratch, mut text) = ([0; 1024], [0; 6 * 32], [0; 49]);
+    look("wim_product", &mut || {
+        raw::product(&[1; 32], &[2; 32], &mut a, &mut scratch).is_ok()
+    });
+    let mut session = [0; 130];
+    look("wim_session_close", &mut || {
+        raw::session::close(&mut session);
+        true
+    });
+    look("wim_grow", &mut || raw::grow(14, &[7; 32], &mut a).is_ok());
+    look("wim_expand", &mut || {
+        raw::expand(14, &[0; 2048], &mut a).is_ok()
+    });
+    look("wim_settings_write", &mut || {
+        raw::settings_write(1, 14, b"A", &mut text).is_ok()
+    });
+    look("wim_settings_read", &mut || {
+        raw::settings_read(2, b"format=1\nscheme=1\nrule=14\n", &mut []).is_ok()
+    });
+
+    let table = table();
+    for (name, (touched, other)) in seen {
+        let own = table[name];
+        let public = [
+            "wim_grow",
+            "wim_expand",
+            "wim_settings_write",
+            "wim_settings_read",
+        ];
+        if public.contains(&name) {
+            assert!(
+                touched < own + NEAR,
+                "{name} touches {touched} of the stack"
+            );
+        } else {
+            let scrubbed = own + MORE..own + MORE + NEAR;
+            assert!(
+                scrubbed.contains(&touched),
+                "{name} touches {touched} of the stack"
+            );
+            assert!(other < NEAR, "{name} leaves something at {other}");
+        }
+    }
 }

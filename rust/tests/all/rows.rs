@@ -3,6 +3,7 @@
 //! every output from end to end, the state, the inputs and the guards around every
 //! buffer.
 
+use crate::calls::replied;
 use crate::generator::Generator;
 use crate::inputs::Inputs;
 use crate::lent::Lent;
@@ -104,7 +105,7 @@ fn make(call: &Call, given: &Given, state: &mut [u32], out: &mut [Lent<u8>]) -> 
             key.entries_mut(),
             digest.entries_mut(),
         )
-        .map(|(m, k, d)| vec![m, k, d]),
+        .map(|n| vec![n.message, n.key, n.digest]),
         _ => panic!("other outputs than the call's"),
     }
 }
@@ -462,7 +463,7 @@ fn as_the_whole_matrix() {
             assert!(parts().all(|part| rows::reply_part(part, &mut state).is_ok()));
             let [mut m, mut k, mut d] = [reply.len(), key.len(), 32].map(|room| vec![1; room]);
             let ended = rows::reply_end(&mut state, &mut m, &mut k, &mut d);
-            assert_eq!(ended, Ok((reply.len(), key.len(), 32)));
+            assert_eq!(ended.map(replied), Ok((reply.len(), key.len(), 32)));
             assert_eq!((&m, &k, &d), (&reply, &key, &digest));
             assert!(state.iter().all(|&number| number == 0));
         }

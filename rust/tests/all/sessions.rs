@@ -144,11 +144,11 @@ pub fn on_session(call: &Call, kept: &mut [u8], x: &Given, out: &mut [&mut [u8]]
             let done = session::reply(
                 kept, scheme, opening, a, s1, e1, e2, coins, message, key, digest,
             );
-            done.map(|(m, k, d)| (vec![m, k, d], none))
+            done.map(|n| (vec![n.message, n.key, n.digest], none))
         }
         (Inputs::Finish { .. }, [], [s], [reply], [key, digest]) => {
             let done = session::finish(kept, scheme, reply, s, key, digest);
-            done.map(|(k, d, slack)| (vec![k, d], slack))
+            done.map(|n| (vec![n.key, n.digest], n.slack))
         }
         (Inputs::Close, ..) => {
             session::close(kept);

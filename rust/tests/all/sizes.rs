@@ -108,6 +108,51 @@ fn of_the_header() {
     }
 }
 
+/// What `wim_sizes` gives is this package's, and null for any other number.
+#[test]
+fn of_the_archive() {
+    use wimmostry::raw::ffi;
+    for scheme in wimmostry::Scheme::ALL {
+        // SAFETY: any number is taken; a constant struct comes back, and in it a name
+        // that ends with a zero.
+        let (told, name) = unsafe {
+            let told = ffi::wim_sizes(scheme.number()).as_ref().expect("a scheme");
+            (told, std::ffi::CStr::from_ptr(told.name))
+        };
+        assert_eq!(name.to_str(), Ok(scheme.name()));
+        assert_eq!(told.number, scheme.number());
+        let sizes = wimmostry::Sizes {
+            q: told.q,
+            noise: told.noise,
+            a: told.a,
+            s: told.s,
+            e2: told.e2,
+            seed: told.seed,
+            coins: told.coins,
+            opening: told.opening,
+            reply: told.reply,
+            key: told.key,
+            s_bytes: told.s_bytes,
+            e2_bytes: told.e2_bytes,
+            table: told.table,
+            margin: told.margin,
+            row: told.row,
+            state: told.state,
+        };
+        assert_eq!(sizes, scheme.sizes());
+    }
+    for number in [6, 7, u32::MAX] {
+        // SAFETY: any number is taken.
+        assert!(unsafe { ffi::wim_sizes(number) }.is_null());
+    }
+}
+
+/// BCNS's table in the archive is the one that the second program computes.
+#[test]
+fn table_of_the_archive() {
+    assert_eq!(wimmostry::BCNS_TABLE[..], second::table::table());
+}
+
 #[test]
 fn of_this_package() {
     let header = header();

@@ -5,6 +5,7 @@ use crate::generator::Generator;
 use crate::inputs::Inputs;
 use second::schemes::SIX;
 use wimmostry::{expand, grow, sha3_256, shake128, Digest};
+use wimmostry::{same, wipe};
 use wimmostry::{Initiator, Offered, Refusal, Replier, Rule, Scheme, Secret, Sizes};
 
 fn scheme(inputs: &Inputs) -> Scheme {
@@ -267,6 +268,25 @@ fn hashes() {
     counted[..3].copy_from_slice(&[0x0f, 0xa0, 0xff]);
     let text = format!("{}", Digest(counted));
     assert_eq!(text, format!("0fa0ff{}", "0".repeat(58)));
+}
+
+#[test]
+fn wipes_and_compares() {
+    let (mut bytes, mut values) = ([7u8; 40], [-7i32; 40]);
+    wipe(&mut bytes[3..30]);
+    wipe(&mut values[3..30]);
+    wipe::<u32>(&mut []);
+    for k in 0..40 {
+        let wiped = (3..30).contains(&k);
+        assert_eq!((bytes[k], values[k]), if wiped { (0, 0) } else { (7, -7) });
+    }
+    let (a, mut b) = ([5; 40], [5; 40]);
+    assert!(same(&a, &b) && same(&[], &[]) && !same(&a, &b[..39]));
+    for bit in 0..320 {
+        b[bit / 8] ^= 1 << (bit % 8);
+        assert!(!same(&a, &b) && same(&a[..bit / 8], &b[..bit / 8]));
+        b[bit / 8] ^= 1 << (bit % 8);
+    }
 }
 
 #[test]
