@@ -20,7 +20,9 @@ fn main() {
     let Ok(bytes) = std::fs::read(&archive) else {
         eprintln!("wimmostry: there is no archive {}.", archive.display());
         eprintln!("Run ./native wimmostry at the root of the repository, or set WIMMOSTRY_LIB_DIR");
-        eprintln!("to the folder of an installed one (./install PREFIX puts it into PREFIX/lib), or");
+        eprintln!(
+            "to the folder of an installed one (./install PREFIX puts it into PREFIX/lib), or"
+        );
         eprintln!("PKG_CONFIG_PATH to that of its pkg-config file.");
         exit(1);
     };
