@@ -112,3 +112,9 @@ fn licence() {
     let readme = fs::read_to_string(root.join("README.md")).expect("README");
     assert_ne!(given, readme.contains("No licence has been given yet."));
 }
+
+/// The oldest compiler is told: the one from which on `core` has `Error`.
+#[test]
+fn oldest_compiler() {
+    assert_eq!(env!("CARGO_PKG_RUST_VERSION"), "1.81");
+}

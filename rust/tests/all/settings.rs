@@ -101,6 +101,19 @@ fn every_call_is_written_alike() {
 }
 
 /// The typed ones: back and forth, and the same texts by both readers.
+/// A number has at most ten digits.
+#[test]
+fn digits_of_a_number() {
+    for (text, refusal) in [
+        ("format=9999999999\n", Refusal::NewerFormat(9_999_999_999)),
+        ("format=10000000000\n", Refusal::Misfit),
+        ("format=03\n", Refusal::Misfit),
+    ] {
+        let answer = Settings::read(Format::Two, text.as_bytes());
+        assert_eq!(answer, Err(refusal), "{text}");
+    }
+}
+
 #[test]
 fn settings_come_back() {
     for one in grid() {
