@@ -356,15 +356,15 @@ extern "C" {
 
 /* The version of header and archive; wim_version tells the archive's. */
 #define WIM_VERSION_MAJOR 0
-#define WIM_VERSION_MINOR 2
+#define WIM_VERSION_MINOR 3
 #define WIM_VERSION_PATCH 0
-#define WIM_VERSION "0.2.0"
+#define WIM_VERSION "0.3.0"
 
 /*
  * The archive's version once more, in a symbol that has it in its name. Who includes this header
  * refers to it, used or not, so that nothing links with an archive of another version.
  */
-#define WIM_VERSION_SYMBOL wim_version_0_2_0
+#define WIM_VERSION_SYMBOL wim_version_0_3_0
 extern const char WIM_VERSION_SYMBOL[];
 #if defined(__has_attribute)
 #if __has_attribute(retain)

@@ -36,7 +36,7 @@ import typing
 from array import array
 from typing import Iterable, NamedTuple, Optional, Sequence, Union
 
-VERSION = "0.2.0"
+VERSION = "0.3.0"
 
 BCNS, NEWHOPE, FRODO_CHALLENGE, FRODO_CLASSICAL, FRODO_RECOMMENDED, FRODO_PARANOID = range(6)
 RULE_LOW_BITS, RULE_WHOLE_WORD = 14, 16

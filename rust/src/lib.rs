@@ -123,7 +123,7 @@ pub use settings::{Format, Label, Settings, LABEL, SETTINGS_TEXT};
 #[must_use]
 pub fn version() -> &'static str {
     // SAFETY: a constant text of the archive, which ends with a zero: digits and dots.
-    let text = unsafe { core::ffi::CStr::from_ptr(raw::ffi::wim_version_0_2_0.as_ptr()) };
+    let text = unsafe { core::ffi::CStr::from_ptr(raw::ffi::wim_version_0_3_0.as_ptr()) };
     text.to_str().unwrap_or_default()
 }
 

@@ -384,7 +384,7 @@ extern "C" {
     pub fn wim_same(a: *const c_void, b: *const c_void, count: usize) -> u32;
     pub fn wim_scrub();
     pub fn wim_scrub_depth(depth: usize);
-    pub static wim_version_0_2_0: [c_char; 6];
+    pub static wim_version_0_3_0: [c_char; 6];
     pub fn wim_version() -> *const c_char;
     pub fn wim_cpu() -> *const c_char;
     pub fn wim_refusal_text(refusal: u32) -> *const c_char;
