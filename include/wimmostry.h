@@ -32,14 +32,19 @@
  *
  * LINKING
  *
- * `./native wimmostry` writes target/native/libwimmostry.a for the machine at hand, x86-64 or Arm,
- * and `./install` puts header and archive where
+ * `./native wimmostry` writes an archive, libwimmostry.a, and a shared library of the whole of it,
+ * libwimmostry.so, in target/native for the machine at hand, x86-64 or Arm. `./install` puts them
+ * and this header where
  *
- *     cc yours.c $(pkg-config --cflags --libs wimmostry)
+ *     cc -static yours.c $(pkg-config --static --cflags --libs wimmostry)   the archive
+ *     cc yours.c $(pkg-config --cflags --libs wimmostry)                    the shared library
  *
- * finds them. Both take `--cpu x86-64-v3` for an archive that is faster and needs a processor with
- * AVX2; wim_cpu tells which it is. The archive needs nothing from outside. It has no state, takes
- * no memory from a heap and starts nothing, so that any number of threads may call at once.
+ * finds them. Both take `--cpu x86-64-v3` for libraries that are faster and need a processor with
+ * AVX2; wim_cpu tells which it is. Of the shared library `./install` always puts that one beside
+ * the other, and the loader takes it where the processor has AVX2. What is said of the archive here
+ * and below holds of the shared library too. The archive needs nothing from outside. It has no
+ * state, takes no memory from a heap and starts nothing, so that any number of threads may call at
+ * once.
  *
  * Header and archive belong together. Each file that includes the header refers to a symbol that
  * has the header's version in its name (WIM_VERSION_SYMBOL). An archive of another version has

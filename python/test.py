@@ -43,6 +43,7 @@ def constants():
     words = [int(x, 16) for line in text.splitlines() if line[0] != "#" for x in line.split()]
     assert list(w.bcns_table) == words
     assert w.version() == w.VERSION and refused(1, w.sizes, 6)
+    assert w.cpu() in ("x86-64", "x86-64-v3", "aarch64")
 
 
 def exchange(scheme):

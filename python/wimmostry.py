@@ -175,7 +175,7 @@ def _load() -> ctypes.CDLL:
         raise ImportError(f"{name} is not of version {VERSION}, which this module is for")
     library.wim_sizes.restype = ctypes.POINTER(Sizes)
     library.wim_refusal_text.restype = ctypes.c_char_p
-    library.wim_version.restype = ctypes.c_char_p
+    library.wim_version.restype = library.wim_cpu.restype = ctypes.c_char_p
     library.wim_wipe.restype = library.wim_scrub.restype = None
     library.wim_wipe.argtypes = [ctypes.c_void_p, ctypes.c_size_t]
     library.wim_same.argtypes = [ctypes.c_void_p, ctypes.c_void_p, ctypes.c_size_t]
@@ -269,6 +269,11 @@ def sizes(scheme: int) -> Sizes:
 def version() -> str:
     """The library's version."""
     return typing.cast(bytes, _library.wim_version()).decode()
+
+
+def cpu() -> str:
+    """The level of processors that the library was compiled for."""
+    return typing.cast(bytes, _library.wim_cpu()).decode()
 
 
 def refusal_text(number: int) -> str:
