@@ -81,6 +81,17 @@ pub fn rules() -> [(u32, &'static str); 2] {
 /// The rule that every box knows.
 pub const LOW_BITS: u32 = Rule::LowBits.number();
 
+/// The library's sentence for a refusal.
+pub fn sentence(number: u32) -> &'static str {
+    extern "C" {
+        fn wim_refusal_text(number: u32) -> *const std::ffi::c_char;
+    }
+    // SAFETY: any number is taken, and a constant text comes back that ends with a
+    // zero.
+    let text = unsafe { std::ffi::CStr::from_ptr(wim_refusal_text(number)) };
+    text.to_str().unwrap_or_default()
+}
+
 /// The end of every call: the stack is scrubbed before anything else is done.
 /// Inlined, so that no frame of its own covers what is to be overwritten.
 #[inline(always)]
@@ -252,8 +263,36 @@ pub fn session_finish(
     }))
 }
 
-pub fn session_close(session: &mut [u8]) {
-    raw::session::close(session);
+/// The key of a session that is keyed, and its digest.
+pub fn session_key(
+    session: &mut [u8],
+    _: u32,
+    _: &[&Data],
+    out: &mut [Data],
+) -> Result<Answer, Refused> {
+    let key = key(session).ok_or_else(|| refused(Refusal::OutOfStage))?;
+    let [raw_key, digest] = several(out);
+    raw_key.bytes_mut()[..key.len()].copy_from_slice(key);
+    let done = raw::sha3_256(key, digest.bytes_mut());
+    let n = key.len();
+    ended(done.map(|d| Answer::written(&[n, d])))
+}
+
+/// For a command that there is on a session alone.
+pub fn no_session(_: u32, _: &[&Data], _: &mut [Data]) -> Result<Answer, Refused> {
+    Err(refused(Refusal::OutOfStage))
+}
+
+/// Bytes of the longest key, and where a session has it.
+pub const SESSION_KEY: usize = Sizes::LARGEST.key;
+const KEY_AT: usize = SESSION - SESSION_KEY;
+
+/// The key of a session that is keyed.
+pub fn key(session: &[u8]) -> Option<&[u8]> {
+    match Stage::of(session)? {
+        Stage::Keyed(scheme) => Some(&session[KEY_AT..][..scheme.sizes().key]),
+        Stage::Idle | Stage::Offered(_) => None,
+    }
 }
 
 /// The name of a session's stage and the number of its scheme, if it has one;
@@ -263,9 +302,10 @@ pub fn stage(session: &[u8]) -> Option<(&'static str, Option<u32>)> {
     Some((stage.name(), stage.scheme().map(Scheme::number)))
 }
 
-/// The names of the stages in which a link begins, and in which it is finished.
+/// The names of the stages.
 pub const IDLE: &str = Stage::Idle.name();
 pub const OFFERED: &str = Stage::Offered(Scheme::Bcns).name();
+pub const KEYED: &str = Stage::Keyed(Scheme::Bcns).name();
 
 /// The refusal of a call that the stage does not allow.
 pub const OUT_OF_STAGE: u32 = Refusal::OutOfStage.number();
@@ -293,6 +333,12 @@ pub fn grow(rule: u32, given: &[&Data], out: &mut [Data]) -> Result<Answer, Refu
 pub fn shake128(_: u32, given: &[&Data], out: &mut [Data]) -> Result<Answer, Refused> {
     let done = raw::shake128(given[0].bytes(), out[0].bytes_mut());
     ended(done.map(|n| Answer::written(&[n])))
+}
+
+/// Fills a buffer with the SHAKE-128 of a short input.
+pub fn stream(input: &[u8], out: &mut [u8]) {
+    let done = raw::shake128(input, out);
+    debug_assert!(done.is_ok(), "it is short");
 }
 
 pub fn sha3_256(_: u32, given: &[&Data], out: &mut [Data]) -> Result<Answer, Refused> {

@@ -1,6 +1,7 @@
 //! What is in a file, as numbers, values, bytes or words, in memory that is zeroed
 //! when it is given back.
 
+use crate::guard;
 use crate::rows::Rows;
 use std::ops::{Deref, DerefMut};
 use std::sync::atomic::{compiler_fence, Ordering};
@@ -11,7 +12,9 @@ pub struct Wiped<T: Copy + Default>(Vec<T>);
 
 impl<T: Copy + Default> Wiped<T> {
     pub fn zeros(n: usize) -> Self {
-        Wiped(vec![T::default(); n])
+        let all = vec![T::default(); n];
+        guard::lock(&all);
+        Wiped(all)
     }
 
     pub fn collect(entries: impl ExactSizeIterator<Item = T>) -> Self {

@@ -6,9 +6,10 @@ use crate::calls::{self, Answer, Bench, Call, Refused, Sizes, Slack};
 use crate::calls::{DIGEST, EXPAND_NUMBERS, LOW_BITS, SCHEMES};
 use crate::data::{Data, Kind};
 use crate::draw::{self, BCNS, NEWHOPE};
+use crate::explain;
 use crate::random;
 use crate::settings;
-use crate::tell::{self, Done, Fault, Voice};
+use crate::tell::{self, Done, Fault};
 use crate::words;
 use std::ffi::OsString;
 use std::time::Instant;
@@ -27,29 +28,25 @@ proved to agree, in the same unit. NewHope's public numbers grow by rule 14, or 
 pub fn run(given: &[OsString]) -> Done {
     let (asked, rule) = match given {
         [] => (None, LOW_BITS),
-        [word] if word != "settings" => (Some(words::scheme(word)?), LOW_BITS),
-        [word, file] if word == "settings" => match settings::from(file)? {
-            Ok(kept) => (Some(kept.scheme), kept.rule),
-            Err(line) => {
-                tell::say(Voice::Output, &line)?;
-                return Ok(tell::REFUSED);
-            }
-        },
+        [word] if word != "settings" => (Some(words::scheme(word)?.scheme()?), LOW_BITS),
+        [word, file] if word == "settings" => {
+            let kept = settings::from(&words::place("FILE", file)?)?;
+            (Some(kept.scheme), kept.rule)
+        }
         _ => {
             let line = "demo takes SCHEME, or settings FILE, or no words";
             return Err(tell::words(line.to_string()));
         }
     };
     if let Some(scheme) = asked.filter(|&scheme| calls::sizes(scheme).is_none()) {
-        let detail = tell::no_scheme(scheme, 0, SCHEMES - 1);
-        tell::say(Voice::Output, &format!("refusal=1 place=0 {detail}\n"))?;
-        return Ok(tell::REFUSED);
+        let detail = explain::no_scheme(scheme, 0, SCHEMES - 1);
+        return Err(tell::refused(1, 0, Some(detail)));
     }
     let heading = "A digest is the SHA3-256 of a key: the same where the keys are the same.\n";
-    tell::say(Voice::Output, heading)?;
+    tell::page(heading)?;
     for scheme in asked.map_or(0..SCHEMES, |scheme| scheme..scheme + 1) {
         if let Some(sizes) = calls::sizes(scheme) {
-            tell::say(Voice::Output, &exchange(scheme, rule, &sizes)?)?;
+            tell::page(&exchange(scheme, rule, &sizes)?)?;
         }
     }
     Ok(tell::DONE)
@@ -146,7 +143,7 @@ fn public(scheme: u32, rule: u32) -> String {
 
 fn noise(scheme: u32, sizes: &Sizes) -> String {
     let by = match scheme {
-        BCNS => ", by document 000's table",
+        BCNS => ", by the table of its paper",
         _ => "",
     };
     format!(

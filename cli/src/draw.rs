@@ -5,13 +5,18 @@ use crate::bcns;
 use crate::calls::{self, Refused, Sizes, SCHEMES};
 use crate::data::{Data, Kind, Wiped};
 use crate::escape::shown;
-use crate::files;
+use crate::explain;
+use crate::files::{self, Named};
+use crate::fresh::Mode;
 use crate::outputs;
+use crate::public;
 use crate::random;
 use crate::run::voice;
+use crate::table::SEED;
 use crate::tell::{self, Done, Fault};
-use crate::words;
+use crate::words::{self, Asked, Place};
 use std::ffi::{OsStr, OsString};
+use std::os::unix::ffi::OsStrExt;
 
 pub const WORDS: &str = "\
 \x20 WHAT     s or e     the initiator's secret and noise: values
@@ -19,12 +24,16 @@ pub const WORDS: &str = "\
            a          public numbers below q, for both ends
            seed       bytes that travel in the opening (none in BCNS: an empty file)
            coins      the replier's random bytes (none in Frodo: an empty file)
+  FILE     in: the seed of which a is made in Frodo; in BCNS none
   OUT      out: what was drawn; mode 600 but for a and seed
 ";
 
 pub const MORE: &str = "\
-Values come from /dev/urandom through noise; in BCNS by the table that document 000 describes, which
-the program has with it. Draw all anew for each exchange.";
+Values come from /dev/urandom through noise; in BCNS by the table of its paper, which the program
+has with it. Draw all anew for each exchange. With seed=FILE nothing is drawn: a is made as link
+makes it, in Frodo of the seed that the opening carries, row i being SHAKE-128 of i, as two bytes,
+the lower first, and the seed, in words of 16 bits modulo q; in BCNS of the text 'wimmostry BCNS a',
+the same for all, in words of 32 bits, those of q or more passed over (seed=none).";
 
 pub const BCNS: u32 = 0;
 pub const NEWHOPE: u32 = 1;
@@ -55,29 +64,82 @@ fn what(word: &OsStr) -> Result<What, Fault> {
 }
 
 pub fn run(given: &[OsString]) -> Done {
-    let scheme = words::scheme(&given[0])?;
+    let asked = words::scheme(&given[0])?;
     let what = what(&given[1])?;
-    let place = [words::output("OUT", &given[2])?];
-    files::no_clash(&[], &[("OUT", &place[0])])?;
-    files::replaceable(&place[0])?;
-    let drawn = match calls::sizes(scheme) {
-        Some(sizes) => draw(scheme, &sizes, what)?,
-        None => Data::zeros(Kind::Bytes, 0),
+    let (seed, out) = match &given[2..] {
+        [seed, out] => (Some(seed_word(seed, what)?), out),
+        _ => (None, &given[2]),
     };
-    let refused = calls::sizes(scheme).is_none();
+    let place = [words::output("OUT", out)?];
+    let secret = !matches!(what, What::Public | What::Seed);
+    let named = |word, place, secret| Named {
+        word,
+        place,
+        secret,
+    };
+    let seed_named = seed.as_ref().map(|place| named("seed=", place, false));
+    let inputs: Vec<Named> = asked.named().into_iter().chain(seed_named).collect();
+    files::no_clash(&inputs, &[named("OUT", &place[0], secret)])?;
+    files::new(&place[0])?;
+    let drawn = match drawn(&asked, what, seed.as_ref()) {
+        Err(fault) if fault.status == tell::REFUSED => {
+            outputs::clear(&place)?;
+            return Err(fault);
+        }
+        drawn => drawn?,
+    };
     let answer = outputs::Answer {
         place: &place[0],
         bytes: drawn.to_file(),
-        secret: !matches!(what, What::Public | What::Seed),
+        mode: if secret { Mode::Closed } else { Mode::Open },
+        kept: false,
     };
-    outputs::put(&[answer], refused)?;
-    if refused {
-        let detail = tell::no_scheme(scheme, 0, SCHEMES - 1);
-        tell::say(voice(&place), &format!("refusal=1 place=0 {detail}\n"))?;
-        return Ok(tell::REFUSED);
-    }
+    outputs::put(&[answer])?;
     tell::say(voice(&place), &format!("written={}\n", drawn.len()))?;
     Ok(tell::DONE)
+}
+
+/// `seed=FILE`, for public numbers.
+fn seed_word(word: &OsStr, what: What) -> Result<Place, Fault> {
+    match word.as_bytes().strip_prefix(b"seed=") {
+        Some(file) if what == What::Public => words::place("seed=", OsStr::from_bytes(file)),
+        Some(_) => Err(tell::words("only a is made of a seed".to_string())),
+        None => Err(tell::words(format!(
+            "draw takes SCHEME WHAT [seed=FILE] OUT, and '{}' is no seed=FILE",
+            shown(word)
+        ))),
+    }
+}
+
+fn drawn(asked: &Asked, what: What, seed: Option<&Place>) -> Result<Data, Fault> {
+    let scheme = asked.scheme()?;
+    let Some(sizes) = calls::sizes(scheme) else {
+        let detail = explain::no_scheme(scheme, 0, SCHEMES - 1);
+        return Err(tell::refused(1, 0, Some(detail)));
+    };
+    match seed {
+        Some(place) => from_seed(scheme, &sizes, place),
+        None => draw(scheme, &sizes, what),
+    }
+}
+
+/// The public numbers that a seed makes: Frodo's A, and BCNS's a of no seed.
+fn from_seed(scheme: u32, sizes: &Sizes, place: &Place) -> Result<Data, Fault> {
+    if scheme == NEWHOPE {
+        let line = "NewHope's numbers are made of a seed by grow, with a rule";
+        return Err(tell::words(line.to_string()));
+    }
+    let seed = files::read(&SEED, place)?;
+    if seed.data.len() != sizes.seed {
+        let there = seed.there();
+        let detail = format!("input=seed length={there} expected={}", sizes.seed);
+        return Err(tell::refused(2, 0, Some(detail)));
+    }
+    Ok(Data::Numbers(public::numbers(
+        scheme,
+        sizes,
+        seed.data.bytes(),
+    )))
 }
 
 fn draw(scheme: u32, sizes: &Sizes, what: What) -> Result<Data, Fault> {

@@ -4,6 +4,7 @@
 use crate::bcns;
 use crate::data::{Data, Kind, Wiped};
 use crate::escape::shown;
+use crate::options;
 use crate::rows::Rows;
 use crate::table::Input;
 use crate::tell::{self, reason, Fault};
@@ -23,52 +24,76 @@ pub const NO_WAIT: i32 = 0o4000;
 #[cfg(not(any(target_os = "linux", target_os = "android")))]
 pub const NO_WAIT: i32 = 4;
 
-/// A named word: `KEY` and where it points.
-pub type Named<'a> = (&'a str, &'a Place);
+/// A symbolic link that came in the place of a file is not followed. Arm has a
+/// number of its own.
+#[cfg(any(target_arch = "aarch64", target_arch = "arm"))]
+const NO_FOLLOW: i32 = 0o100000;
+#[cfg(not(any(target_arch = "aarch64", target_arch = "arm")))]
+const NO_FOLLOW: i32 = 0o400000;
+
+/// Both, for a file that is written to.
+pub const PLAIN: i32 = NO_WAIT | NO_FOLLOW;
+
+/// A named word: `KEY`, where it points, and whether nobody else may read it.
+#[derive(Clone, Copy)]
+pub struct Named<'a> {
+    pub word: &'a str,
+    pub place: &'a Place,
+    pub secret: bool,
+}
 
 // ---- before anything is read
 
-/// That no output is another output or an input, that `-` stands once each way
-/// and that no answer goes to a terminal.
+/// That no output is another output or an input, that a secret is no other input,
+/// that `-` stands once each way and that no answer goes to a terminal.
 pub fn no_clash(inputs: &[Named], outputs: &[Named]) -> Result<(), Fault> {
     for (way, names) in [("input", inputs), ("output", outputs)] {
-        let mut twice = names.iter().filter(|(_, place)| **place == Place::Standard);
-        if let (Some((one, _)), Some((other, _))) = (twice.next(), twice.next()) {
+        let mut twice = names.iter().filter(|x| *x.place == Place::Standard);
+        if let (Some(one), Some(other)) = (twice.next(), twice.next()) {
+            let (one, other) = (one.word, other.word);
             return Err(tell::words(format!(
                 "{one} and {other} are both -, which is one {way} at most"
             )));
         }
     }
-    let identities = |names: &[Named], way| -> Vec<Option<Identity>> {
-        names
-            .iter()
-            .map(|(_, place)| identity(place, way))
-            .collect()
+    let known = |names: &[Named], way| -> Vec<Option<Identity>> {
+        names.iter().map(|x| identity(x.place, way)).collect()
     };
-    let (from, to) = (identities(inputs, Way::In), identities(outputs, Way::Out));
-    for (i, (name, place)) in outputs.iter().enumerate() {
-        let same = |other: &Option<Identity>| other.is_some() && *other == to[i];
-        if let Some(k) = to[..i].iter().position(same) {
-            let (other, before) = outputs[k];
-            let word = file_word(place, before);
+    let (from, to) = (known(inputs, Way::In), known(outputs, Way::Out));
+    for (i, output) in outputs.iter().enumerate() {
+        if let Some(k) = same(&to[..i], &to[i]) {
+            return Err(one_file(&outputs[k], output));
+        }
+        if let Some(k) = same(&from, &to[i]) {
+            let word = file_word(output.place, inputs[k].place);
+            let (output, input) = (output.word, inputs[k].word);
             return Err(tell::words(format!(
-                "{other} and {name} are one file: '{word}'"
+                "the output {output} is the input {input}: '{word}'"
             )));
         }
-        if let Some(k) = from.iter().position(same) {
-            let (input, source) = inputs[k];
-            let word = file_word(place, source);
-            return Err(tell::words(format!(
-                "the output {name} is the input {input}: '{word}'"
-            )));
+        if *output.place == Place::Standard && io::stdout().is_terminal() {
+            let line = "is -, and standard output is a terminal: name a file";
+            return Err(tell::words(format!("{} {line}", output.word)));
         }
-        if **place == Place::Standard && io::stdout().is_terminal() {
-            return Err(tell::words(format!(
-                "{name} is -, and standard output is a terminal: name a file"
-            )));
+    }
+    for (i, input) in inputs.iter().enumerate() {
+        if let Some(k) = same(&from[..i], &from[i]) {
+            if input.secret || inputs[k].secret {
+                return Err(one_file(&inputs[k], input));
+            }
         }
     }
     Ok(())
+}
+
+fn same(all: &[Option<Identity>], one: &Option<Identity>) -> Option<usize> {
+    all.iter().position(|other| one.is_some() && other == one)
+}
+
+fn one_file(one: &Named, other: &Named) -> Fault {
+    let word = file_word(other.place, one.place);
+    let (one, other) = (one.word, other.word);
+    tell::words(format!("{one} and {other} are one file: '{word}'"))
 }
 
 /// The word of whichever of the two is a file.
@@ -161,6 +186,18 @@ fn plain(path: &Path, found: &Metadata) -> Result<(), Fault> {
     Err(tell::file(path, advice))
 }
 
+/// An output is a file that is not there yet, or with `--replace` a plain file.
+pub fn new(place: &Place) -> Result<(), Fault> {
+    replaceable(place)?;
+    match place.path() {
+        Some(path) if !options::replace() && path.symlink_metadata().is_ok() => {
+            let line = "is there already: name another file, or put --replace first";
+            Err(tell::file(path, line))
+        }
+        _ => Ok(()),
+    }
+}
+
 /// An output that is there already is a plain file, not a link to one.
 pub fn replaceable(place: &Place) -> Result<(), Fault> {
     let Some(path) = place.path() else {
@@ -174,6 +211,29 @@ pub fn replaceable(place: &Place) -> Result<(), Fault> {
         },
         Err(error) => Err(tell::file(path, reason(&error))),
     }
+}
+
+/// Whether a path still leads to the file that was opened there, and is no link.
+pub fn same_file(path: &Path, file: &File) -> bool {
+    match (path.symlink_metadata(), file.metadata()) {
+        (Ok(named), Ok(opened)) => (named.dev(), named.ino()) == (opened.dev(), opened.ino()),
+        _ => false,
+    }
+}
+
+/// That a secret is closed to others, or that `--any-mode` was given. A stream that
+/// is no file has no mode to be looked at.
+fn closed(name: &OsStr, file: &File) -> Result<(), Fault> {
+    let found = file
+        .metadata()
+        .map_err(|error| tell::file(name, reason(&error)))?;
+    let mode = found.mode() & 0o777;
+    if !found.is_file() || mode & 0o066 == 0 || options::any_mode() {
+        return Ok(());
+    }
+    let line =
+        format!("is a secret that others may read (mode {mode:o}): chmod 600, or --any-mode");
+    Err(tell::file(name, line))
 }
 
 // ---- the inputs
@@ -219,6 +279,9 @@ pub fn read(input: &Input, place: &Place) -> Result<Lent, Fault> {
         Place::Standard => standard(Way::In).map_err(wrong)?,
         Place::Nothing => return Ok(Lent::zeros(input.kind, 0)),
     };
+    if input.secret {
+        closed(name, &file)?;
+    }
     match input.kind {
         Kind::Words => return words(&mut file, name),
         Kind::Rows => return rows(file, name, place),

@@ -3,27 +3,38 @@
 
 use crate::calls::{self, SCHEMES};
 use crate::data::Kind;
-use crate::table::{By, Command, Form, Length, OnFiles, COMMANDS};
-use crate::tell::{self, Done, Voice};
+use crate::table::{By, Command, Form, Length, OnFiles, Opt, COMMANDS, OPTIONS};
+use crate::tell::{self, Done};
 use crate::{session, words};
 use std::ffi::OsString;
 use std::fmt::Write;
 
 pub fn run(given: &[OsString]) -> Done {
-    let text = match given {
-        [] => overview(),
-        name => {
-            let pages: Vec<String> = words::about(name)?.into_iter().map(page).collect();
-            pages.join("\n")
-        }
-    };
-    tell::say(Voice::Output, &text)?;
-    Ok(tell::DONE)
+    match given {
+        [] => tell::page(&overview()),
+        [word] if word == "statuses" => tell::page(STATUSES),
+        name => pages(words::about(name)?),
+    }
+}
+
+/// What `--help` behind any words shows: the page of their command.
+pub fn of(words: &[OsString]) -> Done {
+    match words {
+        [] => run(&[]),
+        words => match words::command(words) {
+            Ok(found) => pages(vec![found.command]),
+            Err(_) => run(words),
+        },
+    }
+}
+
+fn pages(commands: Vec<&Command>) -> Done {
+    let pages: Vec<String> = commands.into_iter().map(page).collect();
+    tell::page(&pages.join("\n"))
 }
 
 pub fn version(_: &[OsString]) -> Done {
-    tell::say(Voice::Output, &format!("wimmostry {}\n", calls::version()))?;
-    Ok(tell::DONE)
+    tell::page(&format!("wimmostry {}\n", calls::version()))
 }
 
 const ABOUT: &str = "\
@@ -33,13 +44,17 @@ proved library on files.
 ";
 
 const WORDS: &str = "
-SCHEME is 0 BCNS, 1 NewHope, 2 Frodo Challenge, 3 Frodo Classical, 4 Frodo Recommended,
-5 Frodo Paranoid. RULE is 14 low bits or 16 whole word, the same at both ends; settings=FILE in the
-place of either takes it from a box's settings. LENGTH is a number of bytes, LABEL up to 16 capital
-letters or digits. Every other word in capitals is a file, - for standard input or output (once each
-way), or, of an input, none for nothing at all: BCNS has no seed, Frodo no coins, and BCNS alone a
-table. A file that has such a name is ./- or ./none. The FILE of a session and of wipe is a name.
+SCHEME is 0 BCNS, 1 NewHope, 2 Frodo Challenge, 3 Frodo Classical, 4 Frodo Recommended or
+5 Frodo Paranoid, or a name as newhope or frodo-challenge. RULE is 14 low bits or 16 whole word, the
+same at both ends; settings=FILE in the place of either takes it from a box's settings. LENGTH is a
+number of bytes, LABEL up to 16 capital letters or digits. Every other word in capitals is a file, -
+for standard input or output (once each way), or, of an input, none for nothing at all: BCNS has no
+seed, Frodo no coins, and BCNS alone a table. A file that has such a name is ./- or ./none. The FILE
+of a session and of wipe is a name. A word that begins with a dash is an option; -- ends them:
 
+";
+
+const NUMBERS: &str = "
 Public numbers (A) and secrets and noise (S, E, S1, E1, E2) are 32 bits each, the lowest byte
 first, secrets and noise in two's complement. A TABLE is text. All else is bytes.
 
@@ -76,31 +91,44 @@ left/a), and they go to the replier as well. Draw everything but a anew for each
 are raw, and the peer is whoever sent the message: see that messages come from whom you think,
 confirm the keys, and hash them before use.
 
-An output is written to a fresh file, brought to the disk and renamed into its place, all outputs
-of a call or none; keys, digests, hashes, secrets, noise and sessions have mode 600. It is replaced
-only by a whole answer, or, after a refusal, by zeros over the answer's length (by nothing, where no
-scheme tells that length or the answer of noise has two). A session is written with the outputs of
-its call, and stays as it is after a refusal. Where a word or a file is wrong no output is touched:
-an old key is then still there. Nor is a file that is replaced overwritten on the disk, but for a
-session that is closed: wipe a key that must be gone. Outputs that are one file, or an input, are
-not taken; nor is a symbolic link, a pipe or a device, nor - where standard output is a terminal.
+An output is a file that is not there yet: one that is there is status 3 before anything is read,
+unless --replace stands first. It is written to a fresh file, brought to the disk and renamed into
+its place, all outputs of a call or none; keys, digests, hashes, secrets, noise and sessions have
+mode 600. A refused call leaves no output file; with --replace what stood there is overwritten and
+removed, but for refusal 10, which touches nothing. A session and settings are kept and replaced
+whole; after a refusal they stay. Outputs that are one file, or an input, are not taken; nor are two
+secrets that are one file, a secret that others may read (--any-mode takes it), a symbolic link, a
+pipe or a device, nor - where standard output is a terminal.
 
-Status 0: done; written=N (of reply and finish key_written=N and so on), agree or differ=I, of
-          finish and bench slack=N and slack_index=I, of session stage=WORD and scheme=N.
-Status 1: refused; one line, as refusal=6 place=3 input=e value=7 largest=6
+Whatever is removed or replaced is overwritten first. A run that is killed by 9 can leave temporary
+files, .wimmostry-*: the next run that writes in that folder finds, wipes and tells them. A session
+is locked by FILE.lock while a command works on it; a second one waits a second and is told busy.
+
+wimmostry help statuses has the statuses and all refusals.
+";
+
+const STATUSES: &str = "\
+Status 0: done; lines on standard output, as written=N (of reply and finish key_written=N and so
+          on), agree or differ=I, of finish and bench slack=N and slack_index=I, of session
+          stage=WORD and scheme=N.
+Status 1: refused; one line on standard error, as
+          refusal=6 place=3 input=e value=7 largest=6: a secret or noise value lies beyond ..
           1 no such scheme            4 a public number is q or more
          12 no such rule              5 a number of the message is q or more
           2 a wrong length           17 a message is blank: all its packed bytes are zero
           3 (not here)                6 a secret or noise is too large
          18 a table does not ascend   7 the stream of expand or grow ran out
-          8 no trace, or no settings 10 the session's stage does not allow it (session alone)
+          8 no trace, or no settings 10 the session's stage does not allow it (session and link)
          15 a newer settings' format 11 A has too few or too many numbers (rows alone)
           A blank message is an input, as a dead card sends it, or the answer, where a secret and
-          its noise are zero.
-          place counts from 0. A length of 33.. is 33 or more. To - nothing is written.
-Status 2: wrong words. Status 3: a file. Both with lines on standard error.
-With an output to - the lines of an answer go to standard error too. Ended by a signal, the
-program leaves no temporary file, but for a kill -9 while it writes: then .wimmostry-* may stay.
+          its noise are zero. place counts from 0. A length of 33.. is 33 or more. No output file is
+          left, and to - nothing is written.
+Status 2: wrong words.
+Status 3: a file: it is missing, is there already, is open to others, is busy, or cannot be written.
+Status 4: of the script box alone: there is no program, and it could not be built.
+Status 5: done, but it could not be said: what was asked for stands, and must not be asked again.
+Of 2, 3 and 5 standard error has lines that begin with 'wimmostry: '. With an output to - the lines
+of an answer go to standard error too. With --json each answer, refusal and fault is an object.
 ";
 
 fn overview() -> String {
@@ -110,7 +138,18 @@ fn overview() -> String {
         let _ = writeln!(text, "{}", usage.trim_end());
         let _ = writeln!(text, "      {}", command.brief);
     }
-    text + WORDS + EXCHANGE + REST
+    text + WORDS + &options() + NUMBERS + EXCHANGE + REST
+}
+
+fn options() -> String {
+    let line = |x: &Opt| {
+        let short = match x.short {
+            "" => String::new(),
+            short => format!("{short}, "),
+        };
+        format!("  {:<17}{}\n", short + x.name, x.what)
+    };
+    OPTIONS.iter().map(line).collect()
 }
 
 fn page(command: &Command) -> String {
@@ -230,7 +269,11 @@ mod tests {
 
     #[test]
     fn no_line_is_wider_than_a_page() {
-        for text in COMMANDS.iter().map(page).chain([overview()]) {
+        for text in COMMANDS
+            .iter()
+            .map(page)
+            .chain([overview(), STATUSES.to_string()])
+        {
             for line in text.lines() {
                 assert!(line.chars().count() <= PAGE, "{line}");
                 assert_eq!(line.trim_end(), line);

@@ -7,9 +7,17 @@ mod data;
 mod demo;
 mod draw;
 mod escape;
+mod explain;
 mod files;
+mod fresh;
+mod guard;
 mod help;
+mod json;
+mod lock;
+mod near;
+mod options;
 mod outputs;
+mod public;
 mod random;
 mod rows;
 mod run;
@@ -24,8 +32,8 @@ mod words;
 
 use std::ffi::OsString;
 use std::process::ExitCode;
-use table::Form;
-use tell::Done;
+use table::{Command, Form, OPTIONS};
+use tell::{Done, Fault};
 use words::Found;
 
 /// Whether this processor has all that code for a level takes: where a part is
@@ -50,24 +58,26 @@ fn main() -> ExitCode {
         );
         return ExitCode::from(4);
     }
-    let words: Vec<OsString> = std::env::args_os().skip(1).collect();
-    let status = dispatch(&words).unwrap_or_else(|fault| {
-        tell::complain(&fault);
-        fault.status
-    });
+    guard::begin();
+    let words = options::take(std::env::args_os().skip(1));
+    let status = words
+        .and_then(|words| dispatch(&words))
+        .unwrap_or_else(|fault| {
+            tell::complain(&fault);
+            fault.status
+        });
     ExitCode::from(status)
 }
 
 fn dispatch(words: &[OsString]) -> Done {
-    let Some((last, before)) = words.split_last() else {
-        return help::run(&[]);
-    };
-    let asks = last == "-h" || last == "--help";
-    if asks && (before.is_empty() || words::about(before).is_ok()) {
-        return help::run(before);
+    if options::given("--help") {
+        return help::of(words);
     }
-    if last == "--version" && before.is_empty() {
+    if options::given("--version") && words.is_empty() {
         return help::version(&[]);
+    }
+    if words.is_empty() {
+        return help::run(&[]);
     }
     let Found {
         command,
@@ -75,10 +85,26 @@ fn dispatch(words: &[OsString]) -> Done {
         rest,
     } = words::command(words)?;
     words::counted(command, rest.len())?;
+    taken(command)?;
     match &command.form {
         Form::Files(own) => run::run(own, None, rest),
         Form::Session(own) => session::run(own, file, rest),
         Form::Kept(run) => run(file),
         Form::Words(own) => (own.run)(rest),
+    }
+}
+
+/// That the command takes the options that were given.
+fn taken(command: &Command) -> Result<(), Fault> {
+    let other = |only: &str| only != command.name;
+    let mut options = OPTIONS.iter().filter(|x| x.only.is_some_and(other));
+    match options.find(|x| options::given(x.name)) {
+        None => Ok(()),
+        Some(option) => Err(tell::words(format!(
+            "{} is an option of {}, not of {}",
+            option.name,
+            option.only.unwrap_or_default(),
+            command.name
+        ))),
     }
 }

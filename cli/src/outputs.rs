@@ -3,97 +3,106 @@
 //! Each is written to a fresh file beside its place, which nobody else has
 //! open, and brought to the disk; then all are renamed into their places. So a
 //! file is never seen half written, a handle that was opened before reads the
-//! old bytes, and the mode and the owner are those of the fresh file.
+//! old bytes until they are overwritten, and the mode and the owner are those of
+//! the fresh file.
 
 use crate::data::Wiped;
 use crate::files::{folder, standard, Way};
-use crate::random;
-use crate::signals::{self, Listed};
+use crate::fresh::{self, beside, unwritten, Fresh, Mode};
+use crate::options;
+use crate::signals;
 use crate::tell::{self, reason, Fault};
+use crate::wipe;
 use crate::words::Place;
 use std::fs::{self, File, OpenOptions};
 use std::io::{self, ErrorKind, Write};
-use std::os::unix::fs::{MetadataExt, OpenOptionsExt};
+use std::os::unix::fs::OpenOptionsExt;
 use std::path::{Path, PathBuf};
 
 pub struct Answer<'a> {
     pub place: &'a Place,
     pub bytes: Wiped<u8>,
-    pub secret: bool,
+    pub mode: Mode,
+    /// Whether it is a file that is kept, as a session, and so replaced without
+    /// being asked.
+    pub kept: bool,
 }
 
-/// A file beside another, under a name that nobody can guess. It is removed
-/// when it is dropped or when a signal ends the program.
-struct Beside {
-    path: PathBuf,
-    _listed: Listed,
+/// A file that is replaced: another name for it, to put it back by where the
+/// system allows one, and a handle, to overwrite it in the end.
+struct Old {
+    name: Option<PathBuf>,
+    file: Option<File>,
 }
 
-impl Beside {
-    fn name(place: &Path) -> Result<Beside, Fault> {
-        let random = random::bytes(8)?;
-        let digits: String = random.iter().map(|byte| format!("{byte:02x}")).collect();
-        let path = folder(place).join(format!(".wimmostry-{digits}"));
-        let _listed = signals::list(&path);
-        Ok(Beside { path, _listed })
-    }
-
-    /// A fresh file with the answer in it, on the disk.
-    fn written(place: &Path, answer: &Answer) -> Result<Beside, Fault> {
-        let beside = Beside::name(place)?;
-        let made = || -> io::Result<()> {
-            let mut file = OpenOptions::new()
-                .write(true)
-                .create_new(true)
-                .mode(if answer.secret { 0o600 } else { 0o666 })
-                .open(&beside.path)?;
-            // some drives, as sticks with FAT, keep no modes
-            if answer.secret && file.metadata()?.mode() & 0o077 != 0 {
-                return Err(io::Error::other("the drive keeps no file closed to others"));
+impl Old {
+    fn of(place: &Path) -> Result<Old, Fault> {
+        let opened = OpenOptions::new()
+            .write(true)
+            .custom_flags(crate::files::PLAIN)
+            .open(place);
+        let file = match opened {
+            Ok(file) => file,
+            Err(_) => {
+                return Ok(Old {
+                    name: None,
+                    file: None,
+                })
             }
-            file.write_all(&answer.bytes)?;
-            file.sync_all()
         };
-        made().map_err(|error| unwritten(place, &error))?;
-        Ok(beside)
+        let _ = file.try_lock();
+        let name = beside(place)?;
+        let linked = fs::hard_link(place, &name).is_ok();
+        Ok(Old {
+            name: linked.then_some(name),
+            file: Some(file),
+        })
     }
 
-    /// Another name for what is there now, to put it back by. Where the system
-    /// allows none, it cannot be put back.
-    fn kept(place: &Path) -> Result<Option<Beside>, Fault> {
-        let beside = Beside::name(place)?;
-        let linked = fs::hard_link(place, &beside.path).is_ok();
-        Ok(linked.then_some(beside))
+    /// Puts it back.
+    fn back(&self, place: &Path) -> bool {
+        self.name
+            .as_ref()
+            .is_some_and(|name| fs::rename(name, place).is_ok())
+    }
+
+    /// Overwrites it, where no other name than ours leads to it, and removes it.
+    fn gone(self) {
+        if let Some(file) = &self.file {
+            let names = std::os::unix::fs::MetadataExt::nlink;
+            if file.metadata().is_ok_and(|found| names(&found) <= 1) {
+                let _ = wipe::zeros(file);
+            }
+        }
+        if let Some(name) = &self.name {
+            let _ = fs::remove_file(name);
+        }
     }
 }
 
-impl Drop for Beside {
-    fn drop(&mut self) {
-        let _ = fs::remove_file(&self.path);
-    }
-}
-
-fn unwritten(place: &Path, error: &io::Error) -> Fault {
-    tell::file(place, format!("not written: {}", reason(error)))
-}
-
-/// Puts all answers into their places. After a refusal standard output gets
-/// nothing: a reader would take zeros for a key.
-pub fn put(answers: &[Answer], refused: bool) -> Result<(), Fault> {
+/// Puts all answers into their places.
+pub fn put(answers: &[Answer]) -> Result<(), Fault> {
     signals::guard();
-    let done = put_all(answers, refused);
+    let done = put_all(answers);
     signals::free();
     done
 }
 
-fn put_all(answers: &[Answer], refused: bool) -> Result<(), Fault> {
-    let mut fresh = vec![];
-    for answer in answers {
-        if let Some(path) = answer.place.path() {
-            fresh.push((path, Beside::written(path, answer)?));
-        }
+fn put_all(answers: &[Answer]) -> Result<(), Fault> {
+    let files = || answers.iter().filter_map(|x| Some((x, x.place.path()?)));
+    for (_, path) in files() {
+        fresh::sweep(folder(path));
     }
-    for answer in answers.iter().filter(|_| !refused) {
+    let mut fresh = vec![];
+    for (answer, path) in files() {
+        let replace = answer.kept || options::replace();
+        fresh.push((
+            path,
+            Fresh::written(path, &answer.bytes, answer.mode)?,
+            replace,
+        ));
+    }
+    for answer in answers {
         if *answer.place == Place::Standard {
             let sent = standard(Way::Out).and_then(|mut out| out.write_all(&answer.bytes));
             sent.map_err(|error| tell::file("standard output", reason(&error)))?;
@@ -101,41 +110,67 @@ fn put_all(answers: &[Answer], refused: bool) -> Result<(), Fault> {
     }
     signals::hold();
     let mut placed = Placed(vec![]);
-    for (path, beside) in &fresh {
-        placed.rename(path, beside, fresh.len() > 1)?;
+    for (path, fresh, replace) in fresh {
+        placed.rename(path, fresh, replace)?;
     }
-    for (path, _) in &fresh {
+    for (path, ..) in &placed.0 {
         settle(folder(path)).map_err(|error| unwritten(path, &error))?;
     }
-    placed.0.clear();
+    placed.stay();
     Ok(())
 }
 
-/// What stands in its place by now, and what stood there before. Unless it is
-/// cleared, the answers are taken back when it is dropped.
-struct Placed<'a>(Vec<(&'a Path, Option<Beside>)>);
+/// What stands in its place by now, and what stood there before. Unless it stays,
+/// the answers are taken back when it is dropped.
+struct Placed<'a>(Vec<(&'a Path, Fresh, Old)>);
 
 impl<'a> Placed<'a> {
-    fn rename(&mut self, place: &'a Path, fresh: &Beside, several: bool) -> Result<(), Fault> {
-        let old = match several {
-            true => Beside::kept(place)?,
-            false => None,
+    fn rename(&mut self, place: &'a Path, mut fresh: Fresh, replace: bool) -> Result<(), Fault> {
+        let old = match replace {
+            true => Old::of(place)?,
+            false => Old {
+                name: None,
+                file: None,
+            },
         };
-        fs::rename(&fresh.path, place).map_err(|error| unwritten(place, &error))?;
-        self.0.push((place, old));
+        let done = fresh.place(place, replace);
+        if let (Err(_), Some(name)) = (&done, &old.name) {
+            let _ = fs::remove_file(name);
+        }
+        done.map_err(|error| unwritten(place, &error))?;
+        self.0.push((place, fresh, old));
         Ok(())
+    }
+
+    fn stay(&mut self) {
+        for (_, fresh, old) in self.0.drain(..) {
+            fresh.leave();
+            old.gone();
+        }
     }
 }
 
 impl Drop for Placed<'_> {
     fn drop(&mut self) {
-        for (place, old) in &self.0 {
-            let back = old.as_ref().map(|old| fs::rename(&old.path, place));
-            if !matches!(back, Some(Ok(()))) {
-                let _ = fs::remove_file(place);
+        for (place, fresh, old) in self.0.drain(..) {
+            match old.back(place) {
+                // the fresh one has no name any more
+                true => fresh.lost(),
+                false => drop(fresh),
             }
         }
     }
+}
+
+/// After a refusal no output is there: with `--replace` what stood there is
+/// overwritten and removed.
+pub fn clear(places: &[Place]) -> Result<(), Fault> {
+    for path in places.iter().filter_map(Place::path) {
+        if options::replace() && path.symlink_metadata().is_ok() {
+            wipe::remove(path)?;
+        }
+    }
+    Ok(())
 }
 
 /// Brings the names in a folder to the disk, where the system can do that.
@@ -163,24 +198,47 @@ mod tests {
         room
     }
 
-    fn answer<'a>(place: &'a Place, bytes: &[u8], secret: bool) -> Answer<'a> {
+    fn answer<'a>(place: &'a Place, bytes: &[u8], kept: bool) -> Answer<'a> {
         Answer {
             place,
             bytes: Wiped::collect(bytes.iter().copied()),
-            secret,
+            mode: Mode::Closed,
+            kept,
         }
     }
 
+    fn names(room: &Path) -> Vec<std::ffi::OsString> {
+        let mut left: Vec<_> = fs::read_dir(room)
+            .unwrap()
+            .map(|x| x.unwrap().file_name())
+            .collect();
+        left.sort();
+        left
+    }
+
     #[test]
-    fn a_secret_is_closed_to_others_whatever_stood_there() {
-        let room = room("secret");
-        let key = Place::File(room.join("key"));
-        fs::write(room.join("key"), "old").unwrap();
-        fs::set_permissions(room.join("key"), fs::Permissions::from_mode(0o666)).unwrap();
-        assert!(put(&[answer(&key, b"new", true)], false).is_ok());
-        assert_eq!(fs::read(room.join("key")).unwrap(), b"new");
-        let mode = fs::metadata(room.join("key")).unwrap().permissions().mode();
+    fn a_kept_file_is_closed_to_others_and_the_old_one_overwritten() {
+        let room = room("kept");
+        let session = Place::File(room.join("session"));
+        fs::write(room.join("session"), "old").unwrap();
+        fs::set_permissions(room.join("session"), fs::Permissions::from_mode(0o666)).unwrap();
+        let mut handle = File::open(room.join("session")).unwrap();
+        assert!(put(&[answer(&session, b"new", true)]).is_ok());
+        assert_eq!(fs::read(room.join("session")).unwrap(), b"new");
+        let mode = fs::metadata(room.join("session"))
+            .unwrap()
+            .permissions()
+            .mode();
         assert_eq!(mode & 0o777, 0o600);
+        let mut old = vec![];
+        io::Read::read_to_end(&mut handle, &mut old).unwrap();
+        assert_eq!(old, [0; 3]);
+        assert_eq!(names(&room), ["session"]);
+        // what is no kept file is not replaced
+        let fault = put(&[answer(&session, b"newer", false)]).unwrap_err();
+        assert_eq!(fault.status, tell::FILE);
+        assert_eq!(fs::read(room.join("session")).unwrap(), b"new");
+        assert_eq!(names(&room), ["session"]);
         fs::remove_dir_all(room).unwrap();
     }
 
@@ -193,20 +251,15 @@ mod tests {
         fs::write(room.join("old"), "as it was").unwrap();
         fs::create_dir(room.join("folder")).unwrap();
         let answers = [
-            answer(&old, b"message", false),
+            answer(&old, b"message", true),
             answer(&new, b"more", false),
             answer(&wrong, b"key", true),
         ];
-        let fault = put(&answers, false).unwrap_err();
+        let fault = put(&answers).unwrap_err();
         assert_eq!(fault.status, tell::FILE);
         assert!(fault.lines[0].contains("folder: not written: "));
         assert_eq!(fs::read(room.join("old")).unwrap(), b"as it was");
-        let mut left: Vec<_> = fs::read_dir(&room)
-            .unwrap()
-            .map(|x| x.unwrap().file_name())
-            .collect();
-        left.sort();
-        assert_eq!(left, ["folder", "old"]);
+        assert_eq!(names(&room), ["folder", "old"]);
         fs::remove_dir_all(room).unwrap();
     }
 }

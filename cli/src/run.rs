@@ -3,36 +3,83 @@
 
 use crate::calls::{Sizes, OUT_OF_STAGE};
 use crate::data::Data;
+use crate::explain;
 use crate::files::{self, Lent, Named};
+use crate::fresh::Mode;
 use crate::outputs::{self, Answer};
 use crate::session::Kept;
 use crate::table::{Length, OnFiles, Output};
 use crate::tell::{self, Done, Fault, Voice};
-use crate::words::{self, Place};
+use crate::words::{self, Asked, Place};
 use std::ffi::OsString;
 
+/// The words of a call.
+struct Words {
+    asked: Asked,
+    sources: Vec<Place>,
+    targets: Vec<Place>,
+}
+
 pub fn run(own: &OnFiles, mut session: Option<Kept>, given: &[OsString]) -> Done {
-    let (asked, places) = own.by.number(given)?;
+    let words = taken(own, given)?;
+    apart(own, &words, session.as_ref())?;
+    let _lock = session.as_ref().map(Kept::lock).transpose()?;
+    let done = made(own, &words, session.as_mut());
+    match done {
+        // what is not there cannot be taken for an answer; 10 touches nothing
+        Err(mut fault) if fault.status == tell::REFUSED && !out_of_stage(&fault) => {
+            if let Err(mut other) = outputs::clear(&words.targets) {
+                fault.status = other.status;
+                fault.lines.append(&mut other.lines);
+            }
+            Err(fault)
+        }
+        done => done,
+    }
+}
+
+fn taken(own: &OnFiles, given: &[OsString]) -> Result<Words, Fault> {
+    let (asked, places) = own.by.asked(given)?;
     let (from, to) = places.split_at(own.inputs.len());
     let sources = own.inputs.iter().zip(from);
-    let sources: Vec<Place> = sources
-        .map(|(x, word)| words::place(x.word, word))
-        .collect::<Result<_, _>>()?;
     let targets = own.outputs.iter().zip(to);
-    let targets: Vec<Place> = targets
-        .map(|(x, word)| words::output(x.word, word))
-        .collect::<Result<_, _>>()?;
+    Ok(Words {
+        asked,
+        sources: sources
+            .map(|(x, word)| words::place(x.word, word))
+            .collect::<Result<_, _>>()?,
+        targets: targets
+            .map(|(x, word)| words::output(x.word, word))
+            .collect::<Result<_, _>>()?,
+    })
+}
 
-    let named = |words: Vec<&'static str>, places| words.into_iter().zip(places).collect();
-    let inputs: Vec<Named> = named(own.inputs.iter().map(|x| x.word).collect(), &sources);
-    let mut outs: Vec<Named> = named(own.outputs.iter().map(|x| x.word).collect(), &targets);
-    outs.extend(session.as_ref().map(Kept::named));
-    files::no_clash(&inputs, &outs)?;
-    for (_, target) in &outs {
-        files::replaceable(target)?;
-    }
-    let lent = read(own, &sources, session.as_mut())?;
+/// That no two files are one that may not be, and that the outputs are new.
+fn apart(own: &OnFiles, words: &Words, session: Option<&Kept>) -> Result<(), Fault> {
+    let inputs = own.inputs.iter().zip(&words.sources);
+    let inputs = inputs.map(|(x, place)| Named {
+        word: x.word,
+        place,
+        secret: x.secret,
+    });
+    let inputs: Vec<Named> = words.asked.named().into_iter().chain(inputs).collect();
+    let outputs = own.outputs.iter().zip(&words.targets);
+    let outputs = outputs.map(|(x, place)| Named {
+        word: x.word,
+        place,
+        secret: x.secret,
+    });
+    let mut outputs: Vec<Named> = outputs.collect();
+    outputs.extend(session.into_iter().flat_map(Kept::named));
+    files::no_clash(&inputs, &outputs)?;
+    words.targets.iter().try_for_each(files::new)?;
+    session.map_or(Ok(()), Kept::replaceable)
+}
 
+/// Reads, calls, writes and tells.
+fn made(own: &OnFiles, words: &Words, mut session: Option<&mut Kept>) -> Done {
+    let lent = read(own, &words.sources, session.as_deref_mut())?;
+    let asked = own.by.number(&words.asked)?;
     let data: Vec<&Data> = lent.iter().map(|x| &x.data).collect();
     let sizes = own.by.sizes(asked);
     let room = |x: &Output| room(x, asked, sizes.as_ref());
@@ -44,33 +91,26 @@ pub fn run(own: &OnFiles, mut session: Option<Kept>, given: &[OsString]) -> Done
     if let Some(fault) = data.iter().find_map(|data| unread(data)) {
         return Err(fault);
     }
-    match done {
-        Ok(answer) => {
-            for (data, n) in out.iter_mut().zip(&answer.written) {
-                data.truncate(*n);
-            }
-            save(own, &targets, out, session.as_ref(), false)?;
-            let stage = session.as_ref().map(Kept::told).unwrap_or_default();
-            let lines = tell::answer(own, &answer) + &stage;
-            tell::say(voice(&targets), &lines)?;
-            Ok(tell::DONE)
+    let answer = done.map_err(|refused| match &session {
+        Some(session) if refused.number == OUT_OF_STAGE => session.refusal(asked),
+        _ => {
+            let detail = explain::refusal(own, asked, refused, &lent);
+            tell::refused(refused.number, refused.place, detail)
         }
-        Err(refused) => {
-            for (data, output) in out.iter_mut().zip(own.outputs) {
-                if let Length::Either(..) = output.length {
-                    data.truncate(0);
-                }
-            }
-            let saved = save(own, &targets, out, None, true);
-            let line = match &session {
-                Some(session) if refused.number == OUT_OF_STAGE => session.refusal(asked),
-                _ => tell::refusal(own, asked, refused, &lent),
-            };
-            tell::say(voice(&targets), &line)?;
-            saved?;
-            Ok(tell::REFUSED)
-        }
+    })?;
+    for (data, n) in out.iter_mut().zip(&answer.written) {
+        data.truncate(*n);
     }
+    save(own, &words.targets, out, session.as_deref())?;
+    let stage = session.map(|session| session.told()).unwrap_or_default();
+    let lines = tell::answer(own, &answer) + &stage;
+    tell::say(voice(&words.targets), &lines)?;
+    Ok(tell::DONE)
+}
+
+fn out_of_stage(fault: &Fault) -> bool {
+    let start = format!("refusal={OUT_OF_STAGE} ");
+    fault.lines.iter().any(|line| line.starts_with(&start))
 }
 
 /// Reads all inputs, and the session; each that cannot be read has its line.
@@ -127,16 +167,20 @@ fn save(
     targets: &[Place],
     out: Vec<Data>,
     session: Option<&Kept>,
-    refused: bool,
 ) -> Result<(), Fault> {
     let all = own.outputs.iter().zip(targets).zip(out);
     let answers: Vec<Answer> = all
         .map(|((output, place), data)| Answer {
             place,
             bytes: data.to_file(),
-            secret: output.secret,
+            mode: if output.secret {
+                Mode::Closed
+            } else {
+                Mode::Open
+            },
+            kept: false,
         })
-        .chain(session.map(Kept::answer))
+        .chain(session.and_then(Kept::answer))
         .collect();
-    outputs::put(&answers, refused)
+    outputs::put(&answers)
 }

@@ -1,14 +1,16 @@
 //! The settings of a box in a file: read, and written whole or not at all.
 
-use crate::calls::{self, rules, Refused, Settings, Unread, LABEL, SCHEMES, SETTINGS_TEXT};
+use crate::calls::{self, Refused, Settings, Unread, LABEL, SCHEMES, SETTINGS_TEXT};
 use crate::data::{Kind, Wiped};
-use crate::files;
+use crate::explain;
+use crate::files::{self, Named};
+use crate::fresh::Mode;
 use crate::outputs::{self, Answer};
 use crate::run;
 use crate::table::{Input, Length};
 use crate::tell::{self, Done, Fault, Voice};
-use crate::words;
-use std::ffi::{OsStr, OsString};
+use crate::words::{self, Place};
+use std::ffi::OsString;
 use std::os::unix::ffi::OsStrExt;
 
 pub const READ_WORDS: &str = "  FILE     in: the settings, as write makes them\n";
@@ -28,47 +30,40 @@ pub const WRITE_WORDS: &str = "\
 ";
 
 pub const WRITE_MORE: &str = "\
-Without a label they are written in format 1, which every box reads, else in format 2. OUT is
-replaced whole or not at all: the text is on the disk before it takes the old one's name, so that a
-power cut leaves the old settings or the new. After a refusal the old settings stay.";
+Without a label they are written in format 1, which every box reads, else in format 2. Settings that
+stand in OUT are replaced whole or not at all: the text is on the disk before it takes the old one's
+name, so that a power cut leaves the old settings or the new. After a refusal the old settings stay.
+What stands there and is no settings is replaced with --replace alone.";
 
 const TEXT: Input = Input {
     word: "FILE",
     kind: Kind::Bytes,
     length: Length::AtMost(SETTINGS_TEXT),
     packed: None,
+    secret: false,
     what: "the settings",
 };
 
-/// Settings from a file, or the line of the refusal. Of a longer file one byte
-/// more than the longest text is read, which is refused like all of it.
-pub fn from(word: &OsStr) -> Result<Result<Settings, String>, Fault> {
-    let lent = files::read(&TEXT, &words::place(TEXT.word, word)?)?;
+/// Settings from a file. Of a longer file one byte more than the longest text is
+/// read, which is refused like all of it.
+pub fn from(place: &Place) -> Result<Settings, Fault> {
+    let lent = files::read(&TEXT, place)?;
     let text = lent.data.bytes();
-    Ok(calls::settings_read(text).map_err(|unread| match unread {
+    calls::settings_read(text).map_err(|unread| match unread {
         Unread::Newer(format) => {
-            format!(
-                "refusal=15 place=0 format={format} newest={}\n",
-                calls::NEWEST
-            )
+            let detail = format!("format={format} newest={}", calls::NEWEST);
+            tell::refused(15, 0, Some(detail))
         }
         Unread::Refused(Refused { number, place }) => {
-            format!("refusal={number} place={place} line={}\n", misfit(text))
+            tell::refused(number, place, Some(format!("line={}", misfit(text))))
         }
-    }))
+    })
 }
 
 pub fn read(given: &[OsString]) -> Done {
-    match from(&given[0])? {
-        Ok(settings) => {
-            tell::say(Voice::Output, &lines(&settings))?;
-            Ok(tell::DONE)
-        }
-        Err(line) => {
-            tell::say(Voice::Output, &line)?;
-            Ok(tell::REFUSED)
-        }
-    }
+    let settings = from(&words::place(TEXT.word, &given[0])?)?;
+    tell::say(Voice::Output, &lines(&settings))?;
+    Ok(tell::DONE)
 }
 
 fn lines(settings: &Settings) -> String {
@@ -108,40 +103,56 @@ fn misfit(text: &[u8]) -> usize {
 pub fn write(given: &[OsString]) -> Done {
     let (scheme, rule) = (words::scheme(&given[0])?, words::rule(&given[1])?);
     let (label, out) = match &given[2..] {
+        [label, _] if label.is_empty() => {
+            let line = "LABEL is an empty word: leave it out where there is no label";
+            return Err(tell::words(line.to_string()));
+        }
         [label, out] => (label.as_bytes(), out),
         _ => (&b""[..], &given[2]),
     };
-    let place = words::output("OUT", out)?;
-    files::no_clash(&[], &[("OUT", &place)])?;
-    files::replaceable(&place)?;
-    let places = [place];
-    match calls::settings_write(scheme, rule, label) {
-        Ok(text) => {
-            let answer = Answer {
-                place: &places[0],
-                bytes: Wiped::collect(text.iter().copied()),
-                secret: false,
-            };
-            outputs::put(&[answer], false)?;
-            let line = format!("written={}\n", text.len());
-            tell::say(run::voice(&places), &line)?;
-            Ok(tell::DONE)
-        }
-        Err(Refused { number, place }) => {
-            let detail = match number {
-                1 => tell::no_scheme(scheme, 0, SCHEMES - 1),
-                12 => {
-                    let [(one, _), (other, _)] = rules();
-                    format!("rule={rule} expected={one},{other}")
-                }
-                2 => format!("input=label length={} at-most={LABEL}", label.len()),
-                _ => "input=label allowed=A..Z,0..9".to_string(),
-            };
-            let line = format!("refusal={number} place={place} {detail}\n");
-            tell::say(run::voice(&places), &line)?;
-            Ok(tell::REFUSED)
-        }
+    let places = [words::output("OUT", out)?];
+    let named = Named {
+        word: "OUT",
+        place: &places[0],
+        secret: false,
+    };
+    let kept: Vec<Named> = [scheme.named(), rule.named()]
+        .into_iter()
+        .flatten()
+        .collect();
+    files::no_clash(&kept, &[named])?;
+    replaceable(&places[0])?;
+    let (scheme, rule) = (scheme.scheme()?, rule.rule()?);
+    let text = calls::settings_write(scheme, rule, label)
+        .map_err(|refused| unwritten(refused, scheme, rule, label))?;
+    let answer = Answer {
+        place: &places[0],
+        bytes: Wiped::collect(text.iter().copied()),
+        mode: Mode::Open,
+        kept: true,
+    };
+    outputs::put(&[answer])?;
+    tell::say(run::voice(&places), &format!("written={}\n", text.len()))?;
+    Ok(tell::DONE)
+}
+
+/// Settings are replaced by settings; anything else with `--replace` alone.
+fn replaceable(place: &Place) -> Result<(), Fault> {
+    files::replaceable(place)?;
+    match place.path() {
+        Some(path) if path.exists() && from(place).is_err() => files::new(place),
+        _ => Ok(()),
     }
+}
+
+fn unwritten(refused: Refused, scheme: u32, rule: u32, label: &[u8]) -> Fault {
+    let detail = match refused.number {
+        1 => explain::no_scheme(scheme, 0, SCHEMES - 1),
+        12 => explain::no_rule(rule),
+        2 => format!("input=label length={} at-most={LABEL}", label.len()),
+        _ => "input=label allowed=A..Z,0..9".to_string(),
+    };
+    tell::refused(refused.number, refused.place, Some(detail))
 }
 
 #[cfg(test)]

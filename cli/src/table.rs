@@ -2,9 +2,10 @@
 //! Parsing, help, the lines of refusals and the handling of files follow from it.
 
 use crate::calls::{self, Call, SessionCall, Sizes, DIGEST, EXPAND_NUMBERS, EXPAND_STREAM};
-use crate::calls::{GROW_SEED, HASH_INPUT, SCHEMES};
+use crate::calls::{GROW_SEED, HASH_INPUT, IDLE, KEYED, OFFERED, SCHEMES, SESSION_KEY};
 use crate::data::Kind;
 use crate::tell::{Done, Fault};
+use crate::words::Asked;
 use crate::{demo, draw, help, rows, session, settings, trace, wipe, words};
 use std::ffi::{OsStr, OsString};
 
@@ -62,6 +63,8 @@ pub struct Input {
     /// Of a message, where its packed part begins, of which refusals 5 and 17
     /// speak.
     pub packed: Option<fn(&Sizes) -> usize>,
+    /// Whether nobody else may read it.
+    pub secret: bool,
     pub what: &'static str,
 }
 
@@ -108,15 +111,23 @@ impl By {
         }
     }
 
-    /// The number, and the words behind it.
-    pub fn number(self, given: &[OsString]) -> Result<(u32, &[OsString]), Fault> {
-        let number = match self {
+    /// What the word says, and the words behind it.
+    pub fn asked(self, given: &[OsString]) -> Result<(Asked, &[OsString]), Fault> {
+        let asked = match self {
             By::Scheme(..) => words::scheme(&given[0])?,
             By::Rule => words::rule(&given[0])?,
-            By::Length => words::length(&given[0])?,
-            By::Nothing => return Ok((0, given)),
+            By::Length => Asked::Number(words::length(&given[0])?),
+            By::Nothing => return Ok((Asked::Number(0), given)),
         };
-        Ok((number, &given[1..]))
+        Ok((asked, &given[1..]))
+    }
+
+    /// The number, from the settings where they have it.
+    pub fn number(self, asked: &Asked) -> Result<u32, Fault> {
+        match self {
+            By::Rule => asked.rule(),
+            By::Scheme(..) | By::Length | By::Nothing => asked.scheme(),
+        }
     }
 
     /// The fixed numbers, where they go by a scheme and there is such a scheme.
@@ -141,8 +152,10 @@ pub struct OnFiles {
 /// the call without one.
 pub struct OnSession {
     pub plain: OnFiles,
-    /// Whether it begins a link, and so is allowed when idle; else when offered.
-    pub begins: bool,
+    /// The stage in which it is allowed.
+    pub allowed: &'static str,
+    /// Whether it leads to another.
+    pub moves: bool,
     pub call: SessionCall,
 }
 
@@ -233,6 +246,53 @@ impl Command {
     }
 }
 
+/// A word that begins with a dash.
+pub struct Opt {
+    pub name: &'static str,
+    pub short: &'static str,
+    /// The command that takes it, where not all do.
+    pub only: Option<&'static str>,
+    pub what: &'static str,
+}
+
+const fn option(name: &'static str, short: &'static str, what: &'static str) -> Opt {
+    Opt {
+        name,
+        short,
+        only: None,
+        what,
+    }
+}
+
+pub const OPTIONS: &[Opt] = &[
+    option(
+        "--replace",
+        "",
+        "an output may stand in the place of a file that is there, which is overwritten",
+    ),
+    option("--any-mode", "", "secrets are taken that others may read"),
+    option(
+        "--quiet",
+        "-q",
+        "answers are not said; refusals and faults are",
+    ),
+    option(
+        "--json",
+        "",
+        "answers, refusals and faults as JSON, one object a line",
+    ),
+    Opt {
+        only: Some("trace"),
+        ..option(
+            "--margins",
+            "",
+            "the margin of each scheme beside its largest slack",
+        )
+    },
+    option("--help", "-h", "the page of the command, or the overview"),
+    option("--version", "-V", "the version of the program"),
+];
+
 // ---- the inputs
 
 const A: Input = Input {
@@ -240,6 +300,7 @@ const A: Input = Input {
     kind: Kind::Numbers,
     length: Length::By(|z| z.a),
     packed: None,
+    secret: false,
     what: "the public numbers a, below q, known to both ends",
 };
 
@@ -255,6 +316,7 @@ const fn values(word: &'static str, what: &'static str) -> Input {
         kind: Kind::Values,
         length: Length::By(|z| z.s),
         packed: None,
+        secret: true,
         what,
     }
 }
@@ -280,20 +342,24 @@ const fn bytes(word: &'static str, length: Length, what: &'static str) -> Input 
         kind: Kind::Bytes,
         length,
         packed: None,
+        secret: false,
         what,
     }
 }
 
-const SEED: Input = bytes(
+pub const SEED: Input = bytes(
     "SEED",
     Length::By(|z| z.seed),
     "the seed, which travels in the opening unread; none in BCNS",
 );
-const COINS: Input = bytes(
-    "COINS",
-    Length::By(|z| z.coins),
-    "random bytes for the hints; none in Frodo",
-);
+const COINS: Input = Input {
+    secret: true,
+    ..bytes(
+        "COINS",
+        Length::By(|z| z.coins),
+        "random bytes for the hints; none in Frodo",
+    )
+};
 
 const OPENING: Input = Input {
     // Frodo, which alone has no coins, puts the seed first
@@ -347,32 +413,36 @@ const GROWN: Output = Output {
 const ALL_SCHEMES: By = By::Scheme(0, SCHEMES - 1);
 const FRODO: By = By::Scheme(2, SCHEMES - 1);
 
+const OFFERED_MESSAGE: &[Output] = &[output(
+    "MESSAGE",
+    Length::By(|z| z.opening),
+    "the opening message, for the replier",
+)];
+
+const REPLIED: &[Output] = &[
+    Output {
+        label: "message_written",
+        ..output(
+            "MESSAGE",
+            Length::By(|z| z.reply),
+            "the reply message, for the initiator",
+        )
+    },
+    KEY,
+    DIGEST_OF_KEY,
+];
+
 const OFFERS: OnFiles = OnFiles {
     by: ALL_SCHEMES,
     inputs: &[A, S, E, SEED],
-    outputs: &[output(
-        "MESSAGE",
-        Length::By(|z| z.opening),
-        "the opening message, for the replier",
-    )],
+    outputs: OFFERED_MESSAGE,
     call: calls::offer,
 };
 
 const REPLIES: OnFiles = OnFiles {
     by: ALL_SCHEMES,
     inputs: &[OPENING, A, S1, E1, E2, COINS],
-    outputs: &[
-        Output {
-            label: "message_written",
-            ..output(
-                "MESSAGE",
-                Length::By(|z| z.reply),
-                "the reply message, for the initiator",
-            )
-        },
-        KEY,
-        DIGEST_OF_KEY,
-    ],
+    outputs: REPLIED,
     call: calls::reply,
 };
 
@@ -390,9 +460,9 @@ pub const COMMANDS: &[Command] = &[
         name: "draw",
         brief: "secrets, noise, seed, coins or public numbers from the system's randomness",
         form: Form::Words(OnWords {
-            usage: "SCHEME WHAT OUT",
+            usage: "SCHEME WHAT [seed=FILE] OUT",
             least: 3,
-            most: 3,
+            most: 4,
             run: draw::run,
             words: draw::WORDS,
         }),
@@ -438,11 +508,7 @@ pub const COMMANDS: &[Command] = &[
         form: Form::Files(OnFiles {
             by: FRODO,
             inputs: &[A_BY_ROWS, S, E, SEED],
-            outputs: &[output(
-                "MESSAGE",
-                Length::By(|z| z.opening),
-                "the opening message, for the replier",
-            )],
+            outputs: OFFERED_MESSAGE,
             call: calls::rows_offer,
         }),
         more: rows::MORE,
@@ -454,18 +520,7 @@ pub const COMMANDS: &[Command] = &[
         form: Form::Files(OnFiles {
             by: FRODO,
             inputs: &[OPENING, A_BY_ROWS, S1, E1, E2],
-            outputs: &[
-                Output {
-                    label: "message_written",
-                    ..output(
-                        "MESSAGE",
-                        Length::By(|z| z.reply),
-                        "the reply message, for the initiator",
-                    )
-                },
-                KEY,
-                DIGEST_OF_KEY,
-            ],
+            outputs: REPLIED,
             call: calls::rows_reply,
         }),
         more: rows::MORE,
@@ -477,7 +532,8 @@ pub const COMMANDS: &[Command] = &[
         brief: "offer on a session, which has to be idle and is then offered",
         form: Form::Session(OnSession {
             plain: OFFERS,
-            begins: true,
+            allowed: IDLE,
+            moves: true,
             call: calls::session_offer,
         }),
         more: session::OFFER_MORE,
@@ -488,7 +544,8 @@ pub const COMMANDS: &[Command] = &[
         brief: "reply on a session, which has to be idle and then holds the key",
         form: Form::Session(OnSession {
             plain: REPLIES,
-            begins: true,
+            allowed: IDLE,
+            moves: true,
             call: calls::session_reply,
         }),
         more: session::REPLY_MORE,
@@ -500,11 +557,35 @@ pub const COMMANDS: &[Command] = &[
         brief: "finish on a session that has offered with this scheme, and then holds the key",
         form: Form::Session(OnSession {
             plain: FINISHES,
-            begins: false,
+            allowed: OFFERED,
+            moves: true,
             call: calls::session_finish,
         }),
         more: session::FINISH_MORE,
         example: "wimmostry session left/link finish 1 left/reply left/s left/key left/digest",
+    },
+    Command {
+        name: "session FILE key",
+        brief: "the key of a session and its digest, once more",
+        form: Form::Session(OnSession {
+            plain: OnFiles {
+                by: By::Nothing,
+                inputs: &[],
+                outputs: &[
+                    Output {
+                        length: Length::AtMost(SESSION_KEY),
+                        ..KEY
+                    },
+                    DIGEST_OF_KEY,
+                ],
+                call: calls::no_session,
+            },
+            allowed: KEYED,
+            moves: false,
+            call: calls::session_key,
+        }),
+        more: session::KEY_MORE,
+        example: "wimmostry session left/link key left/key left/digest",
     },
     Command {
         name: "session FILE close",
@@ -526,16 +607,20 @@ pub const COMMANDS: &[Command] = &[
         form: Form::Files(OnFiles {
             by: ALL_SCHEMES,
             inputs: &[
-                bytes(
-                    "BYTES",
-                    Length::Either(|z| z.s_bytes, |z| z.e2_bytes),
-                    "random bytes: as many as s, e, s1 or e1 take, or as e2 takes",
-                ),
+                Input {
+                    secret: true,
+                    ..bytes(
+                        "BYTES",
+                        Length::Either(|z| z.s_bytes, |z| z.e2_bytes),
+                        "random bytes: as many as s, e, s1 or e1 take, or as e2 takes",
+                    )
+                },
                 Input {
                     word: "TABLE",
                     kind: Kind::Words,
                     length: Length::By(|z| z.table),
                     packed: None,
+                    secret: false,
                     what: "BCNS's table, as text; none in the other schemes",
                 },
             ],

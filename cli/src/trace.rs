@@ -3,7 +3,7 @@
 use crate::data::Kind;
 use crate::files;
 use crate::table::{Input, Length};
-use crate::tell::{self, Done, Voice};
+use crate::tell::{self, Done};
 use crate::words;
 use std::ffi::OsString;
 
@@ -31,6 +31,7 @@ const TRACE: Input = Input {
     kind: Kind::Bytes,
     length: Length::AtMost(LONGEST),
     packed: None,
+    secret: false,
     what: "the trace",
 };
 
@@ -49,7 +50,7 @@ mod raw {
 pub fn run(given: &[OsString]) -> Done {
     let lent = files::read(&TRACE, &words::place(TRACE.word, &given[0])?)?;
     let said = answer(lent.data.bytes());
-    tell::say(Voice::Output, &String::from_utf8_lossy(&said))?;
+    tell::page(&String::from_utf8_lossy(&said))?;
     match said == REFUSAL {
         true => Ok(tell::REFUSED),
         false => Ok(tell::DONE),

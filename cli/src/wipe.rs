@@ -2,7 +2,8 @@
 
 use crate::data::Wiped;
 use crate::escape::shown;
-use crate::files::{self, NO_WAIT};
+use crate::files::{self, PLAIN};
+use crate::fresh;
 use crate::outputs;
 use crate::random;
 use crate::tell::{self, reason, Done, Fault, Voice};
@@ -17,9 +18,10 @@ pub const WORDS: &str = "  FILE     a plain file with no other name\n";
 
 pub const MORE: &str = "\
 The file is overwritten with random bytes, then with zeros, each brought to the disk, and removed.
-That is all a program can do. It is no promise on flash drives (sticks, cards, SSDs), which write
-elsewhere and keep the old cells, nor on file systems with journals or snapshots, nor for copies.
-Keep secrets on a drive that is encrypted, or in memory (a tmpfs, such as /dev/shm).";
+Where it cannot be removed, as in a folder that nobody may write to, a line says that it was
+overwritten. That is all a program can do. It is no promise on flash drives (sticks, cards, SSDs),
+which write elsewhere and keep the old cells, nor on file systems with journals or snapshots, nor
+for copies. Keep secrets on a drive that is encrypted, or in memory (a tmpfs, such as /dev/shm).";
 
 const NOTE: &str = "\
 note: flash drives, journals, snapshots and copies may still hold the bytes; see 'help wipe'\n";
@@ -34,18 +36,38 @@ pub fn run(given: &[OsString]) -> Done {
         let line = format!("wipe takes the name of a file, not '{word}'");
         return Err(tell::words(line));
     };
+    fresh::sweep(files::folder(&path));
     let n = wipe(&path)?;
     tell::say(Voice::Output, &format!("wiped={n}\n{NOTE}"))?;
     Ok(tell::DONE)
 }
 
 /// Gives how many bytes there were.
-fn wipe(path: &Path) -> Result<u64, Fault> {
+pub fn wipe(path: &Path) -> Result<u64, Fault> {
     let file = open(path)?;
-    let n = overwrite(path, file)?;
-    fs::remove_file(path).map_err(|error| unwiped(path, &error))?;
-    outputs::settle(files::folder(path)).map_err(|error| unwiped(path, &error))?;
+    let n = overwrite(path, &file)?;
+    unlink(path)?;
     Ok(n)
+}
+
+/// The same of a file that is to go whatever it is: one that has other names keeps
+/// what it holds under them.
+pub fn remove(path: &Path) -> Result<(), Fault> {
+    let found = path
+        .symlink_metadata()
+        .map_err(|error| unwiped(path, &error))?;
+    match found.is_file() && found.nlink() == 1 {
+        true => wipe(path).map(|_| ()),
+        false => unlink(path),
+    }
+}
+
+fn unlink(path: &Path) -> Result<(), Fault> {
+    let gone = fs::remove_file(path).and_then(|()| outputs::settle(files::folder(path)));
+    gone.map_err(|error| {
+        let line = format!("overwritten, but not removed: {}", reason(&error));
+        tell::file(path, line)
+    })
 }
 
 fn unwiped(path: &Path, error: &io::Error) -> Fault {
@@ -59,37 +81,42 @@ pub fn open(path: &Path) -> Result<File, Fault> {
     plain(path, &named)?;
     let file = OpenOptions::new()
         .write(true)
-        .custom_flags(NO_WAIT)
+        .custom_flags(PLAIN)
         .open(path)
         .map_err(wrong)?;
     // what was opened is what was looked at
-    let opened = file.metadata().map_err(wrong)?;
-    plain(path, &opened)?;
-    if (opened.dev(), opened.ino()) != (named.dev(), named.ino()) {
+    plain(path, &file.metadata().map_err(wrong)?)?;
+    if !files::same_file(path, &file) {
         return Err(tell::file(path, "not wiped: it was changed meanwhile"));
     }
     Ok(file)
 }
 
-/// Overwrites what an open file holds, whatever its name is by now; gives how
-/// many bytes there were.
-pub fn overwrite(path: &Path, mut file: File) -> Result<u64, Fault> {
-    let wrong = |error: io::Error| unwiped(path, &error);
-    let n = file.metadata().map_err(wrong)?.len();
-    for random in [true, false] {
-        let mut piece = Wiped::zeros(PIECE);
-        file.seek(SeekFrom::Start(0)).map_err(wrong)?;
-        let mut left = n;
-        while left > 0 {
-            let now = PIECE.min(usize::try_from(left).unwrap_or(PIECE));
-            if random {
-                random::fill(&mut piece[..now])?;
-            }
-            file.write_all(&piece[..now]).map_err(wrong)?;
-            left -= now as u64;
-        }
-        file.sync_all().map_err(wrong)?;
+/// Overwrites what an open file holds with random bytes and then with zeros,
+/// whatever its name is by now; gives how many bytes there were.
+pub fn overwrite(path: &Path, file: &File) -> Result<u64, Fault> {
+    let mut random = Wiped::zeros(PIECE);
+    random::fill(&mut random)?;
+    let both = over(file, &random).and_then(|_| zeros(file));
+    both.map_err(|error| unwiped(path, &error))
+}
+
+/// Zeros over what an open file holds, on the disk.
+pub fn zeros(file: &File) -> io::Result<u64> {
+    over(file, &Wiped::zeros(PIECE))
+}
+
+/// A piece again and again over what an open file holds, on the disk.
+fn over(mut file: &File, piece: &[u8]) -> io::Result<u64> {
+    let n = file.seek(SeekFrom::End(0))?;
+    file.seek(SeekFrom::Start(0))?;
+    let mut left = n;
+    while left > 0 {
+        let now = piece.len().min(usize::try_from(left).unwrap_or(PIECE));
+        file.write_all(&piece[..now])?;
+        left -= now as u64;
     }
+    file.sync_all()?;
     Ok(n)
 }
 

@@ -1,7 +1,9 @@
 //! Words of the command line: which command, which number, which file.
 
-use crate::calls::{rules, Settings, SCHEMES};
+use crate::calls::{self, rules, Settings, SCHEMES};
 use crate::escape::shown;
+use crate::files::Named;
+use crate::near;
 use crate::settings;
 use crate::table::{Command, COMMANDS};
 use crate::tell::{self, Fault};
@@ -56,9 +58,11 @@ pub fn about(name: &[OsString]) -> Result<Vec<&'static Command>, Fault> {
     }
     if found.is_empty() {
         let words: Vec<String> = name.iter().map(shown).collect();
+        let firsts = COMMANDS.iter().filter_map(|c| c.name.split(' ').next());
         return Err(tell::words(format!(
-            "there is no command '{}'; 'wimmostry help' lists them",
-            words.join(" ")
+            "there is no command '{}'{}; 'wimmostry help' lists them",
+            words.join(" "),
+            near::hint(&name[0], firsts)
         )));
     }
     Ok(found)
@@ -87,41 +91,84 @@ fn number(word: &OsStr) -> Option<u32> {
     digits.and_then(|w| w.parse().ok())
 }
 
-/// What a word `settings=FILE` in the place of a number names: the settings there.
-fn kept(word: &OsStr) -> Result<Option<Settings>, Fault> {
-    let Some(file) = word.as_bytes().strip_prefix(b"settings=") else {
-        return Ok(None);
-    };
-    let file = OsStr::from_bytes(file);
-    match settings::from(file)? {
-        Ok(settings) => Ok(Some(settings)),
-        Err(line) => Err(tell::file(
-            file,
-            format!("no settings: {}", line.trim_end()),
-        )),
+/// A number that a word gives, or the box's settings that have it.
+pub enum Asked {
+    Number(u32),
+    Kept(Place),
+}
+
+impl Asked {
+    /// What a word `settings=FILE` in the place of a number names.
+    fn kept(word: &OsStr) -> Result<Option<Asked>, Fault> {
+        match word.as_bytes().strip_prefix(b"settings=") {
+            None => Ok(None),
+            Some(file) => Ok(Some(Asked::Kept(place(
+                "settings=",
+                OsStr::from_bytes(file),
+            )?))),
+        }
+    }
+
+    /// The settings, as an input of the command.
+    pub fn named(&self) -> Option<Named<'_>> {
+        match self {
+            Asked::Number(_) => None,
+            Asked::Kept(place) => Some(Named {
+                word: "settings=",
+                place,
+                secret: false,
+            }),
+        }
+    }
+
+    pub fn scheme(&self) -> Result<u32, Fault> {
+        self.number(|settings| settings.scheme)
+    }
+
+    pub fn rule(&self) -> Result<u32, Fault> {
+        self.number(|settings| settings.rule)
+    }
+
+    fn number(&self, of: fn(&Settings) -> u32) -> Result<u32, Fault> {
+        match self {
+            Asked::Number(number) => Ok(*number),
+            Asked::Kept(place) => Ok(of(&settings::from(place)?)),
+        }
     }
 }
 
-pub fn scheme(word: &OsStr) -> Result<u32, Fault> {
-    if let Some(settings) = kept(word)? {
-        return Ok(settings.scheme);
+/// The scheme's name as a word: `frodo-recommended`.
+pub fn scheme_word(scheme: u32) -> String {
+    let name = calls::name(scheme).unwrap_or_default();
+    name.to_lowercase().replace(' ', "-")
+}
+
+pub fn scheme(word: &OsStr) -> Result<Asked, Fault> {
+    if let Some(kept) = Asked::kept(word)? {
+        return Ok(kept);
     }
-    number(word).ok_or_else(|| {
+    let names: Vec<String> = (0..SCHEMES).map(scheme_word).collect();
+    let named = names
+        .iter()
+        .position(|name| word.eq_ignore_ascii_case(name));
+    let named = named.and_then(|no| u32::try_from(no).ok());
+    named.or(number(word)).map(Asked::Number).ok_or_else(|| {
         tell::words(format!(
-            "SCHEME is a number from 0 to {}, not '{}'",
+            "SCHEME is a number from 0 to {} or a name, not '{}'{}",
             SCHEMES - 1,
-            shown(word)
+            shown(word),
+            near::hint(word, names.iter().map(String::as_str))
         ))
     })
 }
 
-pub fn rule(word: &OsStr) -> Result<u32, Fault> {
-    if let Some(settings) = kept(word)? {
-        return Ok(settings.rule);
+pub fn rule(word: &OsStr) -> Result<Asked, Fault> {
+    if let Some(kept) = Asked::kept(word)? {
+        return Ok(kept);
     }
     let [(one, _), (other, _)] = rules();
-    number(word)
-        .ok_or_else(|| tell::words(format!("RULE is {one} or {other}, not '{}'", shown(word))))
+    let line = || tell::words(format!("RULE is {one} or {other}, not '{}'", shown(word)));
+    number(word).map(Asked::Number).ok_or_else(line)
 }
 
 /// The longest output that is made: it is held in memory whole.

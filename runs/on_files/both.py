@@ -3,7 +3,7 @@ import os
 import re
 import struct
 
-from .common import (INPUTS, NUMBERS, OLD, OUTPUTS, SCHEMES, hold, mode, read, run, words_of,
+from .common import (INPUTS, NUMBERS, OLD, OUTPUTS, SCHEMES, hold, mode, read, run, said, words_of,
                      write)
 
 
@@ -104,7 +104,7 @@ class Both:
         """The words with the usual files, and those that are given in place of them."""
         given = {w: (given or {}).get(w, self.name(w)) for w in INPUTS[command]}
         out = {w: (out or {}).get(w, self.name(w + "1")) for w in OUTPUTS[command]}
-        return [self.box, command, str(scheme), *given.values(), *out.values()]
+        return [self.box, "--replace", command, str(scheme), *given.values(), *out.values()]
 
     def old(self, command):
         """The usual outputs with old bytes in them."""
@@ -115,30 +115,31 @@ class Both:
 
     def __call__(self, kind, command, scheme, given, sizes, secrets=()):
         """The scheme, the rule, the length asked for or nothing; the words of the inputs; the
-        outputs' words and lengths after a refusal. Returns what it said and wrote."""
+        outputs' words, and which of them are secrets. Returns what the second said and wrote."""
         asked = [] if scheme is None else [str(scheme)]
         before = [*command.split(), *asked, *map(self.name, given)]
         results = []
-        for program, mark in (([self.program], "1"), ([self.second, "box"], "2")):
+        for program, mark in (([self.program, "--replace"], "1"), ([self.second, "box"], "2")):
             out = [self.name(w + mark) for w in sizes]
             for name in out:
                 write(name, OLD)
                 os.chmod(name, 0o644)
-            results.append((run(program + before + out), [read(name) for name in out]))
+            done = run(program + before + out)
+            results.append((done, [read(name) if os.path.exists(name) else None for name in out]))
         (status, text, error), files = results[0]
         (_, text2, error2), files2 = results[1]
         what = f"{command} {scheme} {given}: {text!r} {error!r} but {text2!r} {error2!r}"
-        expected = text2
         if refused := re.fullmatch(rb"refusal=(\d+) place=(\d+)\n", text2):
             data = dict(zip(INPUTS[command], (self.data[w] for w in given)))
             more = detail(command, scheme, data, *map(int, refused.groups()))
-            expected = text2[:-1] + f" {more}\n".encode()
-        fine = text == expected and files == files2 and error == b"" and status == bool(refused)
-        hold(kind, fine, f"{what}: not {expected!r}, status {status}")
-        for (word, size), data in zip(sizes.items(), files):
-            if refused:
-                hold(kind, data == bytes(size),
-                     f"{what}: {word} has {len(data)} bytes, not {size} zeros")
-            if word in secrets:
-                hold(kind, mode(self.name(word + "1")) == 0o600, f"{what}: mode of {word}")
+            line = text2[:-1] + f" {more}\n".encode()
+            expected = said(line)
+            fine = (status, text, error) == (1, b"", expected) and not any(files)
+            hold(kind, fine and files == [None] * len(files),
+                 f"{what}: not {expected!r} without a file, status {status}")
+            return line, files2
+        fine = (status, text, error) == (0, text2, b"") and files == files2
+        hold(kind, fine, f"{what}: not {text2!r}, status {status}")
+        for word in secrets:
+            hold(kind, mode(self.name(word + "1")) == 0o600, f"{what}: mode of {word}")
         return text, files

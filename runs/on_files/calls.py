@@ -3,8 +3,8 @@ import hashlib
 import re
 
 from .both import packed
-from .common import (INPUTS, MARGINS, NUMBERS, OLD, OUTPUTS, SCHEMES, TABLE, hold, read, run,
-                     table_of, words32, words_of, write)
+from .common import (INPUTS, MARGINS, NUMBERS, OLD, OUTPUTS, SCHEMES, TABLE, hold, read, refused,
+                     run, said, table_of, words32, words_of, write)
 
 
 def exchange(both, scheme, files):
@@ -117,8 +117,7 @@ def damaged(both, scheme, files, sizes, rand):
             both.put({w: files[w] for w in pair})
     for command in OUTPUTS:
         for other in (6, 99, 4294967295):
-            left = {w: 32 if w == "DIGEST" else 0 for w in sizes[command]}
-            both("damaged", command, other, INPUTS[command], left)
+            both("damaged", command, other, INPUTS[command], sizes[command])
     # far beyond the largest of any scheme: what is there is told, of a stream as far as it was read
     both.put({"SEED": bytes(100000), "S": bytes(400000)})
     both("damaged", "offer", scheme, INPUTS["offer"], sizes["offer"])
@@ -126,8 +125,7 @@ def damaged(both, scheme, files, sizes, rand):
     both.put({"S": files["S"]})
     status, text, error = run(both.words("offer", scheme, {"SEED": "-"}), input=bytes(100000))
     expected = f"refusal=2 place=0 input=seed length=33.. expected={len(files['SEED'])}\n".encode()
-    hold("damaged", (status, text, error) == (1, expected, b""),
-         f"a long stream: {text!r} {error!r}")
+    hold("damaged", refused((status, text, error), expected), f"a long stream: {text!r} {error!r}")
     both.put({"SEED": files["SEED"]})
 
 
@@ -180,7 +178,8 @@ def tables(both, rand):
         both.put({"TABLE": text})
         out = both.name("OUT1")
         write(out, OLD)
-        done = run([both.box, "noise", "0", both.name("BYTES"), both.name("TABLE"), out])
+        done = run([both.box, "--replace", "noise", "0", both.name("BYTES"), both.name("TABLE"),
+                    out])
         fine = done[:2] == (3, b"") and b": is no table: " in done[2] and read(out) == OLD
         hold("noise", fine, f"noise by {text[:40]!r}: {done}")
 
@@ -221,10 +220,11 @@ def traces(both, rand):
             both.put({"TRACE": text})
             words = ["trace", both.name("TRACE")]
             done, (_, told, _) = run([both.program, *words]), run([both.second, "box", *words])
-            hold("trace", done == (status, told, b""), f"trace {text[:50]!r}: {done} not {told!r}")
+            # standard error has what is wrong in which line
+            hold("trace", done[:2] == (status, told), f"trace {text[:50]!r}: {done} not {told!r}")
             hold("trace", (told == b"refusal=8\n") == status, f"trace {text[:50]!r}: {told!r}")
             done = run([both.program, "trace", "-"], input=text)
-            hold("trace", done == (status, told, b""), f"trace - {text[:50]!r}: {done}")
+            hold("trace", done[:2] == (status, told), f"trace - {text[:50]!r}: {done}")
 
 
 def settings(both):
@@ -238,15 +238,16 @@ def settings(both):
         both.put({"TEXT": text})
         words = ["settings", "read", both.name("TEXT")]
         done, (_, told, _) = run([both.program, *words]), run([both.second, "box", *words])
+        expected = (0, told, b"")
         if more:
-            told = told.replace(b"\n", f" {more}\n".encode())
-        hold("settings", done == (1 if more else 0, told, b""), f"read {text[:60]!r}: {done} not {told!r}")
+            expected = (1, b"", said(told.replace(b"\n", f" {more}\n".encode())))
+        hold("settings", done == expected, f"read {text[:60]!r}: {done} not {expected}")
         done = run([both.program, "settings", "read", "-"], input=text)
-        hold("settings", done == (1 if more else 0, told, b""), f"read - {text[:60]!r}: {done}")
+        hold("settings", done == expected, f"read - {text[:60]!r}: {done}")
         hold("settings", bool(more) or told == text, f"read {text!r} is {told!r}")
         demo = run([both.program, "demo", "settings", both.name("TEXT")])
         scheme = text[16:17].decode()
-        fine = demo[1] == told if more else f"scheme {scheme}, ".encode() in demo[1]
+        fine = demo == expected if more else f"scheme {scheme}, ".encode() in demo[1]
         hold("settings", fine and demo[0] == bool(more), f"demo settings {text[:60]!r}: {demo}")
     both.put({"TEXT": b"format=1\nscheme=1\nrule=16\n"})
     demo = run([both.program, "demo", "settings", both.name("TEXT")])[1]
@@ -257,18 +258,24 @@ def settings(both):
             (1, 14, "a" * 17, "input=label length=17 at-most=16"),
             (1, 14, "STUDIO 7", "input=label allowed=A..Z,0..9"), (1, 14, "\u00c4", "input=label allowed=A..Z,0..9")]:
         words = ["settings", "write", str(scheme), str(rule), *([label] if label else [])]
-        outs = [both.name("BOX"), both.name("OTHER")]
+        outs, old = [both.name("BOX"), both.name("OTHER")], good[0]
         for out in outs:
-            write(out, OLD)
+            write(out, old)
         done = run([both.program, *words, outs[0]])
         _, told, _ = run([both.second, "box", *words, outs[1]])
+        expected = (0, told, b"")
         if more:
-            told = told.replace(b"\n", f" {more}\n".encode())
-        hold("settings", done == (1 if more else 0, told, b""), f"{words}: {done} not {told!r}")
+            expected = (1, b"", said(told.replace(b"\n", f" {more}\n".encode())))
+        hold("settings", done == expected, f"{words}: {done} not {expected}")
         hold("settings", read(outs[0]) == read(outs[1]), f"{words}: {read(outs[0])[:60]!r}")
-        hold("settings", (read(outs[0]) == OLD) == bool(more), f"{words}: the old settings")
+        hold("settings", (read(outs[0]) == old) == bool(more), f"{words}: the old settings")
         done = run([both.program, *words, "-"])
-        hold("settings", done == (bool(more), b"" if more else read(outs[0]), told), f"{words} -: {done}")
+        hold("settings", done == (expected if more else (0, read(outs[0]), told)),
+             f"{words} -: {done}")
+        # what is no settings is not replaced by some
+        write(outs[0], OLD)
+        done = run([both.program, *words, outs[0]])
+        hold("settings", done[:2] == (3, b"") and read(outs[0]) == OLD, f"{words} over a key: {done}")
 
 
 def expand(both, rand):

@@ -1,5 +1,6 @@
 """The schemes, the commands, and what every part does: run, read, write, count."""
 import os
+import re
 import stat
 import struct
 import subprocess
@@ -37,6 +38,10 @@ with open(os.path.join(os.path.dirname(__file__), "../../data/bcns-table.txt"), 
     TABLE = shipped.read()
 OLD = b"an old key that stays where it is" * 9
 
+# the library's sentence for each refusal, from the table of the header
+with open(os.path.join(os.path.dirname(__file__), "../../include/wimmostry.h")) as header:
+    SENTENCES = dict(re.findall(r"^ \*     WIM_\w+ +(\d+)   (.*)$", header.read(), re.M))
+
 counts, wrong = {}, []
 
 
@@ -56,13 +61,25 @@ def run(words, **more):
     return done.returncode, done.stdout, done.stderr
 
 
+def said(line):
+    """The line of a refusal, as standard error has it: with the sentence behind it."""
+    number = re.match(rb"refusal=(\d+) ", line)[1].decode()
+    return line.rstrip(b"\n") + f": {SENTENCES[number]}\n".encode()
+
+
+def refused(done, line):
+    """Whether it was refused by this line, and said nothing else."""
+    return done == (1, b"", said(line))
+
+
 def read(name):
     with open(name, "rb") as f:
         return f.read()
 
 
 def write(name, data):
-    with open(name, "wb") as f:
+    """What nobody else may read."""
+    with open(name, "wb", opener=lambda path, flags: os.open(path, flags, 0o600)) as f:
         f.write(data)
 
 

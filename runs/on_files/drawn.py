@@ -1,10 +1,55 @@
 """draw, wipe, and the exchange that help shows."""
+import hashlib
 import os
 import re
 import shutil
+import struct
 
 from .both import entries
-from .common import OLD, SCHEMES, device, hold, mode, read, run, write
+from .common import (OLD, SCHEMES, device, hold, mode, read, refused, run, words32, write)
+
+
+def from_seed(both, name):
+    """Frodo's A of a seed, and BCNS's a of none, by the rules that link uses."""
+    seed = bytes(range(16))
+    write(both.name("SEED"), seed)
+    for scheme in (0, 2, 5):
+        q, _, _, public, *_ = SCHEMES[scheme]
+        if scheme == 0:
+            stream = hashlib.shake_128(b"wimmostry BCNS a").digest(4 * public + 40)
+            numbers = [x for x in struct.unpack(f"<{public + 10}I", stream) if x < q][:public]
+        else:
+            n = round(public ** 0.5)
+            row = lambda i: hashlib.shake_128(struct.pack("<H", i) + seed).digest(2 * n)
+            numbers = [x % q for i in range(n) for x in struct.unpack(f"<{n}H", row(i))]
+        given = "seed=none" if scheme == 0 else "seed=" + both.name("SEED")
+        done = run([both.box, "draw", str(scheme), "a", given, name])
+        fine = done == (0, b"written=%d\n" % public, b"") and read(name) == words32(numbers)
+        hold("drawn", fine, f"draw {scheme} a {given}: {done}")
+        os.remove(name)
+    for words, status in ((["1", "a", "seed=none"], 2), (["4", "s", "seed=none"], 2),
+                          (["4", "a", "seed=none"], 1), (["0", "a", "seed=" + both.name("SEED")], 1)):
+        done = run([both.box, "draw", *words, name])
+        hold("drawn", done[:2] == (status, b"") and not os.path.exists(name), f"{words}: {done}")
+
+
+def unremovable(both):
+    """A file that is overwritten in a folder that nobody may write to: the line says both."""
+    folder = both.name("closed")
+    os.mkdir(folder)
+    name = os.path.join(folder, "key")
+    write(name, OLD)
+    nobody = {}
+    if os.getuid() == 0:
+        os.chown(name, 65534, 65534)
+        os.chmod(both.folder, 0o755)
+        nobody = {"user": 65534, "group": 65534, "extra_groups": []}
+    os.chmod(folder, 0o555)
+    status, text, error = run([both.program, "wipe", name], **nobody)
+    fine = (status, text) == (3, b"") and b"key: overwritten, but not removed: " in error
+    hold("drawn", fine and read(name) == bytes(len(OLD)), f"wipe in a closed folder: {error!r}")
+    os.chmod(folder, 0o755)
+    shutil.rmtree(folder)
 
 
 def drawn(both):
@@ -15,7 +60,8 @@ def drawn(both):
         for what, many in each.items():
             write(name, OLD)
             os.chmod(name, 0o666)
-            status, text, error = run([both.box, "draw", str(scheme), what, name], umask=0)
+            words = [both.box, "--replace", "draw", str(scheme), what, name]
+            status, text, error = run(words, umask=0)
             values = entries(what.upper(), read(name))
             line = b"written=%d\n" % many
             fine = (status, text, error) == (0, line, b"") and len(values) == many
@@ -30,8 +76,11 @@ def drawn(both):
     hold("drawn", len(one) == len(two) == 32 and one != two, "coins drawn twice are the same")
     write(name, OLD)
     done = run([both.box, "draw", "6", "s", name])
-    fine = done == (1, b"refusal=1 place=0 scheme=6 expected=0..5\n", b"") and read(name) == b""
+    hold("drawn", done[:2] == (3, b"") and read(name) == OLD, f"draw over a file: {done}")
+    done = run([both.box, "--replace", "draw", "6", "s", name])
+    fine = refused(done, b"refusal=1 place=0 scheme=6 expected=0..5") and not os.path.exists(name)
     hold("drawn", fine, f"draw 6: {done}")
+    from_seed(both, name)
     # wipe
     for data in (b"", OLD, OLD * 1000):
         write(name, data)
@@ -59,6 +108,7 @@ def drawn(both):
     if len(others) > 2:
         os.remove(both.name("device"))
     os.remove(name)
+    unremovable(both)
     # the exchange that help shows
     text = run([both.box, "help"])[1].decode()
     newhope = re.search(r"^    mkdir left right\n(    .*\n)*", text, re.M).group()

@@ -7,7 +7,7 @@ import signal
 import subprocess
 import time
 
-from .common import OLD, SCHEMES, device, hold, mode, read, run, temporaries, write
+from .common import OLD, SCHEMES, device, hold, mode, read, refused, run, temporaries, write
 
 ENDINGS = (signal.SIGTERM, signal.SIGINT, signal.SIGHUP)
 
@@ -73,11 +73,20 @@ def clash(both, scheme, files):
         told, _, error = run(given, **opened)
         same = all(read(name(w)) == data for w, data in before.items())
         hold("clash", told == 2 and same, f"{given[1:]} {stream}: {told} {error!r}")
-    # an input may be a link, and may be lent twice
+    # an input may be a link; a secret is not lent twice
     told, text, error = run(one(name("new"), name("S.soft")))
     hold("clash", told == 0 and mode(name("new")) == 0o600, f"an input by a link: {error!r}")
-    told, text, error = run(both.words("offer", scheme, {"E": name("S")}))
-    hold("clash", told == 0, f"one input twice: {error!r}")
+    for twice in ("S", "S.soft"):
+        told, text, error = run(both.words("offer", scheme, {"E": name(twice)}))
+        fine = told == 2 and b"S and E are one file" in error
+        hold("clash", fine, f"one secret twice: {error!r}")
+    # nor is an output put where a file is, without being asked
+    for command in ("offer", "reply", "finish"):
+        old = both.old(command)
+        words = both.words(command, scheme)
+        done = run([words[0], *words[2:]])
+        fine = done[:2] == (3, b"") and b"1: is there already: " in done[2]
+        hold("clash", fine and all(read(x) == OLD for x in old), f"{command} over files: {done}")
     for w in ("new", "pipe", "dangling", "BOTH", "BOTH.hard", "BOTH.soft", "S.hard", "S.soft",
               "inside/up", "o.bin", "stdout", "device"):
         if os.path.lexists(name(w)):
@@ -96,25 +105,27 @@ def modes(both, scheme, files):
 
 
 def closed(both, scheme, name, size):
-    """An output of finish, of this size, is for nobody else, whatever stood there."""
-    for refused in (False, True):
-        given = {"S": "none"} if refused else {}
+    """An output of finish, of this size, is for nobody else, whatever stood there; and what stood
+    there is overwritten, also where the call is refused."""
+    for turned in (False, True):
+        given = {"S": "none"} if turned else {}
         write(name, OLD)
         os.chmod(name, 0o666)
         if os.getuid() == 0:
             os.chown(name, 65534, 65534)
         with open(name, "rb") as handle:
             status, text, error = run(both.words("finish", scheme, given), umask=0)
-            there = os.stat(name)
-            fine = there.st_mode & 0o777 == 0o600 and there.st_size == size
-            fine = fine and there.st_uid == os.getuid()
-            hold("modes", fine and status == refused,
-                 f"a key over a file of mode 666: {there} {text!r}")
-            hold("modes", handle.read() == OLD, "a handle opened before reads the key")
+            hold("modes", handle.read() == bytes(len(OLD)), "what stood there is not overwritten")
+        if turned:
+            hold("modes", status == 1 and not os.path.exists(name), f"refused: {status} {error!r}")
+            continue
+        there = os.stat(name)
+        fine = there.st_mode & 0o777 == 0o600 and there.st_size == size
+        fine = fine and there.st_uid == os.getuid() and status == 0
+        hold("modes", fine, f"a key over a file of mode 666: {there} {text!r}")
         os.remove(name)
         status, text, error = run(both.words("finish", scheme, given), umask=0)
-        hold("modes", mode(name) == 0o600 and status == refused,
-             f"a new key: {mode(name):o} {text!r}")
+        hold("modes", mode(name) == 0o600 and status == 0, f"a new key: {mode(name):o} {text!r}")
 
 
 def full_pipe():
@@ -206,6 +217,7 @@ def whole(both, scheme, files):
             hold("whole", fine, f"while writing: {found}")
             # until it waits for the pipe, a file may still be empty
             waited(lambda: sum(os.stat(x).st_size for x in found) == key + 32)
+            handles = [open(x, "rb") for x in found]
             program.send_signal(ending)
             status = program.wait(20)
         os.close(reader)
@@ -213,6 +225,10 @@ def whole(both, scheme, files):
         fine = status == -ending and read(name("KEY1")) == OLD
         hold("whole", fine and temporaries(folder) == [],
              f"{ending!r} while writing: {status} {temporaries(folder)}")
+        wiped = b"".join(x.read() for x in handles)
+        hold("whole", wiped == bytes(key + 32), f"what was written stays: {wiped!r}")
+        for handle in handles:
+            handle.close()
     # a hangup that whoever started it wants ignored
     both.old("reply")
     reader, writer = full_pipe()
@@ -252,8 +268,8 @@ def streams(both, scheme, files):
     hold("streams", fine, f"a message to -: {error!r}")
     # a refusal writes nothing there
     status, text, error = run(both.words("finish", scheme, {"S": "none"}, {"KEY": "-"}))
-    expected = f"refusal=2 place=0 input=s length=0 expected={SCHEMES[scheme][4]}\n".encode()
-    hold("streams", (status, text, error) == (1, b"", expected),
+    expected = f"refusal=2 place=0 input=s length=0 expected={SCHEMES[scheme][4]}".encode()
+    hold("streams", refused((status, text, error), expected),
          f"a refusal to -: {text!r} {error!r}")
     status, text, error = run(both.words("finish", scheme, {"S": "-"}), input=files["S"][:13])
     hold("streams", status == 3 and b"standard input: 13 bytes" in error,

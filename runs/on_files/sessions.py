@@ -4,7 +4,8 @@ import re
 import shutil
 import signal
 
-from .common import INPUTS, OLD, OUTPUTS, SCHEMES, hold, mode, read, run, temporaries, write
+from .common import (INPUTS, OLD, OUTPUTS, SCHEMES, hold, mode, read, refused, run, temporaries,
+                     write)
 from .outputs import ENDINGS, full_pipe, started, waited
 
 BYTES = 130
@@ -42,8 +43,8 @@ class Links:
 
     def words(self, command, asked=None, given=None, out=None):
         asked = self.scheme if asked is None else asked
-        before = [self.both.program, "session", self.link]
-        return before + self.both.words(command, asked, given, out)[1:]
+        before = [self.both.program, "--replace", "session", self.link]
+        return before + self.both.words(command, asked, given, out)[2:]
 
     def moved(self, command):
         """The session after an accepted call."""
@@ -71,10 +72,11 @@ class Links:
             fine = read(self.link) == after and mode(self.link) == 0o600
             hold("session", fine, f"{what}: the file")
             return
-        hold("session", (status, text, error) == (1, expected, b""), f"{what} not {expected!r}")
-        if asked == self.scheme:
-            zeros = [bytes(self.sizes[command][w]) for w in OUTPUTS[command]]
-            hold("session", [read(x) for x in out] == zeros, f"{what}: the outputs")
+        hold("session", refused((status, text, error), expected), f"{what} not {expected!r}")
+        # after 10 the outputs are as they were, after another refusal none is there
+        left = [OLD] * len(out) if expected.startswith(b"refusal=10 ") else []
+        there = [read(x) for x in out if os.path.exists(x)]
+        hold("session", there == left, f"{what}: the outputs")
         # what is not written is not touched
         kept = not os.path.exists(self.link) if link is None else (
             read(self.link) == link and written(self.link) == before)
@@ -133,7 +135,7 @@ def no_stage(links):
             links(link, command, scheme, ten(detail))
         write(links.link, link)
         done = run([links.both.box, "session", links.link, "show"])
-        hold("session", done == (1, ten(detail), b""), f"show of {link[:4]}: {done}")
+        hold("session", refused(done, ten(detail)), f"show of {link[:4]}: {done}")
         status, text, error = run([links.both.box, "session", links.link, "close"])
         if len(link) == BYTES:
             fine = (status, text, error) == (0, b"stage=idle\n", b"")
@@ -146,7 +148,7 @@ def no_stage(links):
 
 
 def closed(links):
-    """show, and close, whose file is a fresh one; what the old one held is overwritten."""
+    """show, and close, which overwrites in place."""
     box, link = links.both.box, links.link
     key = links.plain["reply"][1][1]
     for held in (laid(0, 0), laid(1, links.scheme), laid(2, links.scheme, key)):
@@ -168,12 +170,13 @@ def closed(links):
         fine = (status, text) == (3, b"") and said in error and read(link)[0] == 2
         hold("session", fine, f"close of {name}: {error!r}")
     os.remove(link + ".hard")
-    status, text, error = run([box, "session", link + ".soft", *links.words("offer")[3:]])
+    status, text, error = run([box, "--replace", "session", link + ".soft",
+                               *links.words("offer")[4:]])
     hold("session", (status, text) == (3, b"") and b"is a symbolic link" in error, f"{error!r}")
     os.remove(link + ".soft")
     os.remove(link)
-    for action in (["close"], ["show"], links.words("finish")[3:]):
-        done = run([box, "session", link, *action])
+    for action in (["close"], ["show"], links.words("finish")[4:]):
+        done = run([box, "--replace", "session", link, *action])
         line = f"wimmostry: {link}: No such file or directory\n".encode()
         fine = done == (3, b"", line) and not os.path.exists(link)
         hold("session", fine, f"{action[0]} of nothing: {done}")
@@ -219,8 +222,8 @@ def whole(links):
     for word, said in (("-", b"session takes the name of a file, not '-'"),
                        ("none", b"FILE is an output, and none is for inputs"),
                        ("", b"FILE is an empty word"), (folder, b"is a folder")):
-        for action in (["show"], ["close"], links.words("offer")[3:]):
-            status, text, error = run([both.box, "session", word, *action])
+        for action in (["show"], ["close"], links.words("offer")[4:]):
+            status, text, error = run([both.box, "--replace", "session", word, *action])
             hold("session", status in (2, 3) and text == b"" and said in error,
                  f"session {word!r} {action[0]}: {error!r}")
     # a long link: the peer's reply comes with a wrong byte first
@@ -230,8 +233,33 @@ def whole(links):
     hold("session", done[0] == 0 and read(name("MESSAGE1")) == opening[0], f"offer: {done}")
     both.put({"REPLY": bytes(SCHEMES[scheme][9])})
     done = run(links.words("finish"))
-    hold("session", done[1].startswith(b"refusal=17 ") and read(link) == laid(1, scheme),
+    hold("session", done[2].startswith(b"refusal=17 ") and read(link) == laid(1, scheme),
          f"a blank reply: {done}")
+
+
+def full(both):
+    """A session is closed on a drive that is full, and with a second name that a killed run left.
+    It takes a drive of its own, as whoever may make one."""
+    folder, key = both.name("drive"), laid(2, 1, bytes(range(32)))
+    os.mkdir(folder)
+    write(both.name("keyed"), key)
+    script = f"""set -e
+        mount -t tmpfs -o size=64k none {folder}
+        cp {both.name("keyed")} {folder}/link
+        cat /dev/zero >{folder}/fill 2>/dev/null || true
+        ln {folder}/link {folder}/.wimmostry-0123456789abcdef
+        {both.program} session {folder}/link close 2>{both.name("said")}
+        cat {folder}/link >{both.name("closed")}
+        ls -A {folder}"""
+    status, text, error = run(["unshare", "-rm", "sh", "-c", script])
+    if status and b"unshare" in error or b"mount" in error:
+        print(f"box: no drive of its own: a full one was not tried: {error!r}")
+    else:
+        fine = status == 0 and text == b"stage=idle\nfill\nlink\n"
+        fine = fine and read(both.name("closed")) == bytes(BYTES)
+        fine = fine and b"left by a run that was killed: wiped" in read(both.name("said"))
+        hold("session", fine, f"close on a full drive: {status} {text!r} {error!r}")
+    os.rmdir(folder)
 
 
 def words_of(text):
@@ -249,6 +277,7 @@ def by_hand(both):
         shown = words_of(f.read())
     calls = re.findall(r"wimmostry session (?:.*\\\n)?.*\n", script)
     hold("session", len(calls) == 3 and all(words_of(x) in shown for x in calls), f"{calls}")
+    full(both)
     folder = both.name("linked")
     os.makedirs(folder + "/bin")
     os.symlink(both.box, folder + "/bin/wimmostry")
@@ -269,6 +298,6 @@ def sessions(both, scheme, files, sizes):
     closed(links)
     whole(links)
     both.put(files)
-    for word in ("LINK", "KEY1", "DIGEST1", "MESSAGE1"):
+    for word in ("LINK", "LINK.lock", "KEY1", "DIGEST1", "MESSAGE1"):
         if os.path.exists(both.name(word)):
             os.remove(both.name(word))

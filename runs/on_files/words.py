@@ -4,7 +4,7 @@ import re
 import socket
 import subprocess
 
-from .common import INPUTS, MARGINS, NUMBERS, OLD, OUTPUTS, hold, read, run, write
+from .common import INPUTS, MARGINS, NUMBERS, OLD, OUTPUTS, hold, read, refused, run, write
 
 
 def unread(both, scheme, files):
@@ -59,8 +59,12 @@ def words(both):
         (["x"], b"there is no command 'x'"),
         (["Offer", *files[:6]], b"there is no command 'Offer'"),
         ([""], b"there is no command ''"), (["help", "me"], b"there is no command 'me'"),
-        (["--help", "x"], b"there is no command '--help'"),
+        (["--help", "x"], b"there is no command 'x'"),
         (["--version", "x"], b"there is no command"),
+        (["fnish", *files[:5]], b"there is no command 'fnish' (did you mean finish?)"),
+        (["--jsno", "version"], b"there is no option '--jsno' (did you mean --json?)"),
+        (["draw", "1", "s", "-x"], b"there is no option '-x'"),
+        (["draw", "newhop", "s", "x"], b"SCHEME is a number from 0 to 5 or a name, not 'newhop' (did"),
         (["offer"], b"offer takes SCHEME A S E SEED MESSAGE\n"),
         (["offer", *files[:5]], b"offer takes"), (["offer", *files[:7]], b"offer takes"),
         (["reply", *files], b"reply takes"), (["finish", *files[:4]], b"finish takes"),
@@ -76,16 +80,19 @@ def words(both):
         (["demo", "settings"], b"demo takes SCHEME, or settings FILE"),
         (["demo", "settings", ""], b"FILE is an empty word"),
         (["demo", "1", "2", "3"], b"demo takes [SCHEME | settings FILE]\n"),
+        (["settings", "write", "1", "14", "", "y"], b"LABEL is an empty word"),
         (["settings"], b"settings is one of several: settings read FILE; settings write SCHEME RULE"),
         (["settings", "x"], b"settings is one of several: "),
         (["settings", "read"], b"settings read takes FILE\n"),
         (["settings", "write", "1", "14"], b"settings write takes SCHEME RULE [LABEL] OUT\n"),
         (["settings", "write", "1", "14", "A", "x", "y"], b"settings write takes SCHEME RULE"),
-        (["settings", "write", "x", "14", "y"], b"SCHEME is a number from 0 to 5, not 'x'"),
+        (["settings", "write", "x", "14", "y"], b"SCHEME is a number from 0 to 5 or a name, not 'x'"),
         (["settings", "write", "1", "016", "y"], b"RULE is 14 or 16, not '016'"),
         (["settings", "write", "1", "16", "A", ""], b"OUT is an empty word"),
         (["settings", "write", "1", "16", "A", "none"], b"OUT is an output, and none is for inputs"),
-        (["draw", "1", "s"], b"draw takes SCHEME WHAT OUT\n"), (["wipe"], b"wipe takes FILE\n"),
+        (["draw", "1", "s"], b"draw takes SCHEME WHAT [seed=FILE] OUT\n"),
+        (["draw", "1", "a", "x", "y"], b"draw takes SCHEME WHAT [seed=FILE] OUT, and 'x'"),
+        (["wipe"], b"wipe takes FILE\n"),
         (["trace"], b"trace takes FILE\n"), (["trace", "x", "y"], b"trace takes FILE\n"),
         (["trace", ""], b"FILE is an empty word"),
         (["version", "x"], b"version takes no words\n"),
@@ -95,7 +102,7 @@ def words(both):
         (["session", "offer", "x"], b"session is one of several: "),
         (["session", "x", "offer"], b"session FILE offer takes SCHEME A S E SEED MESSAGE\n"),
         (["session", "x", "finish", *files[:4]], b"session FILE finish takes SCHEME REPLY S KEY"),
-        (["session", "x", "reply", "y", *files], b"SCHEME is a number from 0 to 5, not 'y'"),
+        (["session", "x", "reply", "y", *files], b"SCHEME is a number from 0 to 5 or a name, not 'y'"),
         (["session", "x", "close", "y"], b"session FILE close takes no words\n"),
         (["session", "x", "show", "y"], b"session FILE show takes no words\n"),
         (["help", "session", "open", "x"], b"help takes [COMMAND]\n"),
@@ -108,14 +115,17 @@ def words(both):
         (["finish", "1", "", "y", "z", "d"], b"REPLY is an empty word"),
         (["finish", "1", "x", "y", "none", "d"], b"KEY is an output, and none is for inputs"),
         (["finish", "1", "x", "y", "z", "none"], b"DIGEST is an output, and none is for inputs"),
-        *((["finish", w, "x", "y", "z", "d"], f"SCHEME is a number from 0 to 5, not '{w}'".encode())
-          for w in ("x", "", "-1", "01", "00", "1x", "4294967296", "12345678901")),
+        *((["finish", w, "x", "y", "z", "d"],
+           f"SCHEME is a number from 0 to 5 or a name, not '{w}'".encode())
+          for w in ("x", "", "01", "00", "1x", "4294967296", "12345678901")),
         *(([command, w, "x", "y"], f"RULE is 14 or 16, not '{w}'".encode())
           for command in ("expand", "grow")
-          for w in ("x", "", "-14", "014", "16x", "low", "4294967296")),
+          for w in ("x", "", "014", "16x", "low", "4294967296")),
         *((["hash", "shake128", w, "x", "y"],
            f"LENGTH is a number from 0 to 16777216, not '{w}'".encode())
-          for w in ("x", "", "-1", "032", "32x", "16777217", "4294967296")),
+          for w in ("x", "", "032", "32x", "16777217", "4294967296")),
+        *(([*given, "-1", "x", "y"], b"there is no option '-1'")
+          for given in (["finish"], ["grow"], ["hash", "shake128"])),
     ]:
         status, text, error = run([both.box, *given])
         fine = status == 2 and text == b"" and error.startswith(b"wimmostry: " + said)
@@ -133,21 +143,19 @@ def words(both):
         hold("words", status == 2 and read(both.name("KEY1")) == OLD,
              f"{given} touches the old key")
     # nothing lent
-    status, text, error = run([both.box, "finish", "1", "none", "none", both.name("KEY1"),
-                               both.name("DIGEST1")])
-    expected = (1, b"refusal=2 place=0 input=reply length=0 expected=2048\n", b"")
-    hold("words", (status, text, error) == expected and read(both.name("KEY1")) == bytes(32),
-         f"nothing: {text!r}")
+    done = run([both.box, "--replace", "finish", "1", "none", "none", both.name("KEY1"),
+                both.name("DIGEST1")])
+    fine = refused(done, b"refusal=2 place=0 input=reply length=0 expected=2048")
+    hold("words", fine and not os.path.exists(both.name("KEY1")), f"nothing: {done}")
     overview = run([both.box, "help"])
     fine = overview[0] == 0 and overview[2] == b""
     hold("words", fine and overview[1].startswith(b"Two boxes agree"), "help")
-    hold("words", b"o old key stays" not in overview[1], "help promises that no old key stays")
     for given in ([], ["--help"], ["-h"]):
         hold("words", run([both.box, *given]) == overview, f"{given} is not the overview")
     names = re.findall(r"^  wimmostry ([a-z]\S*(?: [a-z]\S*)?)", overview[1].decode(), re.M)
     wanted = {"hash shake128", "hash sha3-256", "grow", "trace", "session", "settings read"}
     hold("words", wanted <= {*names}, f"commands: {names}")
-    for action in ("offer", "reply", "finish", "close", "show"):
+    for action in ("offer", "reply", "finish", "key", "close", "show"):
         page = run([both.box, "help", "session", action])
         hold("words", page[1].startswith(f"wimmostry session FILE {action}".encode())
              and page[1].count(b"\nExample:\n") == 1, f"help session {action}: {page}")
@@ -158,8 +166,8 @@ def words(both):
         hold("words", fine and b"\nExample:\n" in page[1], f"help {name}: {page}")
         hold("words", run([both.box, *name.split(), "--help"]) == page, f"{name} --help")
         hold("words", max(map(len, page[1].split(b"\n"))) <= 100, f"help {name} is too wide")
-    told = [run([both.box, w]) for w in ("version", "--version")]
-    fine = told[0] == told[1] and told[0][0] == 0
+    told = [run([both.box, w]) for w in ("version", "--version", "-V")]
+    fine = told[0] == told[1] == told[2] and told[0][0] == 0
     fine = fine and re.fullmatch(rb"wimmostry \d+\.\d+\.\d+\n", told[0][1])
     hold("words", fine, f"version: {told}")
     # a reader that goes away is no mistake
@@ -183,9 +191,8 @@ def demo(both):
         grown = text.count(b"  public numbers: 1024, grown from the seed by rule 14\n")
         fine = fine and grown == (given in (["demo"], ["demo", "1"]))
         hold("demo", fine and text.count(b"  keys agree\n") == same, f"{given}: {text!r} {error!r}")
-    status, text, error = run([both.box, "demo", "6"])
-    expected = (1, b"refusal=1 place=0 scheme=6 expected=0..5\n", b"")
-    hold("demo", (status, text, error) == expected, f"demo 6: {text!r}")
+    done = run([both.box, "demo", "6"])
+    hold("demo", refused(done, b"refusal=1 place=0 scheme=6 expected=0..5"), f"demo 6: {done}")
 
 
 def shown(both, scheme):
