@@ -335,6 +335,14 @@ pub fn shake128(_: u32, given: &[&Data], out: &mut [Data]) -> Result<Answer, Ref
     ended(done.map(|n| Answer::written(&[n])))
 }
 
+/// The SHA3-256 of what is no longer than both messages and a key.
+pub fn digest(input: &[u8]) -> Wiped<u8> {
+    let mut digest = Wiped::zeros(DIGEST);
+    let done = raw::sha3_256(input, &mut digest);
+    debug_assert!(done.is_ok(), "it is short");
+    digest
+}
+
 /// Fills a buffer with the SHAKE-128 of a short input.
 pub fn stream(input: &[u8], out: &mut [u8]) {
     let done = raw::shake128(input, out);

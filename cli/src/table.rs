@@ -6,7 +6,7 @@ use crate::calls::{GROW_SEED, HASH_INPUT, IDLE, KEYED, OFFERED, SCHEMES, SESSION
 use crate::data::Kind;
 use crate::tell::{Done, Fault};
 use crate::words::Asked;
-use crate::{demo, draw, help, rows, session, settings, trace, wipe, words};
+use crate::{demo, draw, help, link, rows, session, settings, trace, wipe, words};
 use std::ffi::{OsStr, OsString};
 
 /// How long an input or an output is, in entries.
@@ -439,14 +439,14 @@ const OFFERS: OnFiles = OnFiles {
     call: calls::offer,
 };
 
-const REPLIES: OnFiles = OnFiles {
+pub const REPLIES: OnFiles = OnFiles {
     by: ALL_SCHEMES,
     inputs: &[OPENING, A, S1, E1, E2, COINS],
     outputs: REPLIED,
     call: calls::reply,
 };
 
-const FINISHES: OnFiles = OnFiles {
+pub const FINISHES: OnFiles = OnFiles {
     by: ALL_SCHEMES,
     inputs: &[REPLY, S],
     outputs: &[KEY, DIGEST_OF_KEY],
@@ -456,6 +456,84 @@ const FINISHES: OnFiles = OnFiles {
 // ---- the commands
 
 pub const COMMANDS: &[Command] = &[
+    Command {
+        name: "link open",
+        brief: "begins a link in a folder: the opening, to be sent to the peer",
+        form: Form::Words(OnWords {
+            usage: "DIR [SCHEME [RULE]]",
+            least: 1,
+            most: 3,
+            run: link::open,
+            words: link::OPEN_WORDS,
+        }),
+        more: link::OPEN_MORE,
+        example: "wimmostry link open left newhope",
+    },
+    Command {
+        name: "link answer",
+        brief: "answers an opening: the reply, to be sent back, and what to say",
+        form: Form::Words(OnWords {
+            usage: "DIR OPENING [RULE]",
+            least: 2,
+            most: 3,
+            run: link::answer,
+            words: link::ANSWER_WORDS,
+        }),
+        more: link::ANSWER_MORE,
+        example: "wimmostry link answer right left/opening",
+    },
+    Command {
+        name: "link finish",
+        brief: "takes the reply: the link is keyed, and what to say",
+        form: Form::Words(OnWords {
+            usage: "DIR REPLY",
+            least: 2,
+            most: 2,
+            run: link::finish,
+            words: link::FINISH_WORDS,
+        }),
+        more: link::FINISH_MORE,
+        example: "wimmostry link finish left right/reply",
+    },
+    Command {
+        name: "link key",
+        brief: "the key, where what the peer said is right",
+        form: Form::Words(OnWords {
+            usage: "DIR HEARD OUT",
+            least: 3,
+            most: 3,
+            run: link::key,
+            words: link::KEY_WORDS,
+        }),
+        more: link::KEY_MORE,
+        example: "wimmostry link key left 03f1-9a2c-77d0-4be8 key",
+    },
+    Command {
+        name: "link close",
+        brief: "ends a link: its key and its secret are overwritten",
+        form: Form::Words(OnWords {
+            usage: "DIR",
+            least: 1,
+            most: 1,
+            run: link::close,
+            words: link::DIR_WORDS,
+        }),
+        more: link::CLOSE_MORE,
+        example: "wimmostry link close left",
+    },
+    Command {
+        name: "link status",
+        brief: "where a link stands, and the command to type next",
+        form: Form::Words(OnWords {
+            usage: "DIR",
+            least: 1,
+            most: 1,
+            run: link::status,
+            words: link::DIR_WORDS,
+        }),
+        more: link::STATUS_MORE,
+        example: "wimmostry link status left",
+    },
     Command {
         name: "draw",
         brief: "secrets, noise, seed, coins or public numbers from the system's randomness",

@@ -18,7 +18,7 @@ digits and no zero in front. Any other text, a missing slack line or too many li
 the line refusal=8 alone. finish and bench print the slack of an exchange.";
 
 /// Bytes of the longest trace: 2,048 times `scheme=N` and a slack of ten digits.
-const LONGEST: usize = 2048 * (9 + 17);
+const LONGEST: usize = MOST * (9 + 17);
 
 /// Bytes of the longest answer.
 const ANSWER: usize = 372;
@@ -57,6 +57,26 @@ pub fn run(given: &[OsString]) -> Done {
     }
 }
 
+/// Exchanges that a trace has at most.
+const MOST: usize = 2048;
+
+/// A trace with one exchange more, of which the newest are kept; nothing where it is
+/// none.
+pub fn added(old: &[u8], scheme: u32, slack: u64) -> Option<String> {
+    if answer(old) == REFUSAL {
+        return None;
+    }
+    let lines: Vec<&str> = std::str::from_utf8(old)
+        .ok()?
+        .split_inclusive('\n')
+        .collect();
+    let first = lines.len().saturating_sub(2 * (MOST - 1));
+    Some(format!(
+        "{}scheme={scheme}\nslack={slack}\n",
+        lines[first..].concat()
+    ))
+}
+
 fn answer(text: &[u8]) -> Vec<u8> {
     let mut out = [0; ANSWER];
     // SAFETY: pointer and length are those of one slice, and the answer has the
@@ -77,6 +97,19 @@ mod tests {
         assert_eq!(answer(lines.as_bytes()), told);
         assert_eq!(answer((lines + "\n").as_bytes()), REFUSAL);
         assert_eq!(answer(b""), b"");
+    }
+
+    #[test]
+    fn the_newest_are_kept() {
+        assert_eq!(added(b"", 4, 7).unwrap(), "scheme=4\nslack=7\n");
+        let full = "scheme=5\nslack=1\n".to_string() + &"scheme=0\nslack=2\n".repeat(2047);
+        let newer = added(full.as_bytes(), 2, 3).unwrap();
+        assert_eq!(
+            newer,
+            "scheme=0\nslack=2\n".repeat(2047) + "scheme=2\nslack=3\n"
+        );
+        assert_ne!(answer(newer.as_bytes()), REFUSAL);
+        assert_eq!(added(b"scheme=5\n", 2, 3), None);
     }
 
     #[test]

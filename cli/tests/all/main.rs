@@ -3,5 +3,6 @@
 
 mod calls;
 mod files;
+mod link;
 mod room;
 mod sessions;
