@@ -37,13 +37,13 @@ pub fn version(_: &[OsString]) -> Done {
     tell::page(&format!("wimmostry {}\n", calls::version()))
 }
 
-const ABOUT: &str = "\
+pub const ABOUT: &str = "\
 Two boxes agree on a fresh key by BCNS, NewHope or Frodo. This program makes the calls of the
 proved library on files.
 
 ";
 
-const WORDS: &str = "
+pub const WORDS: &str = "
 SCHEME is 0 BCNS, 1 NewHope, 2 Frodo Challenge, 3 Frodo Classical, 4 Frodo Recommended or
 5 Frodo Paranoid, or a name as newhope or frodo-challenge. RULE is 14 low bits or 16 whole word, the
 same at both ends; settings=FILE in the place of either takes it from a box's settings. LENGTH is a
@@ -54,11 +54,28 @@ of a session and of wipe is a name. A word that begins with a dash is an option;
 
 ";
 
+/// Lines of the shell: a link between two folders, with what each end says typed at
+/// the other.
+pub const LINK: &str = "\
+\x20   wimmostry link open left newhope
+    wimmostry link answer right left/opening
+    wimmostry link finish left right/reply
+    wimmostry link key left \"$(wimmostry link status right | sed -n s/^say=//p)\" left.key
+    wimmostry link key right \"$(wimmostry link status left | sed -n s/^say=//p)\" right.key
+    wimmostry link close left
+    wimmostry link close right
+";
+
 const NUMBERS: &str = "
 Public numbers (A) and secrets and noise (S, E, S1, E1, E2) are 32 bits each, the lowest byte
 first, secrets and noise in two's complement. A TABLE is text. All else is bytes.
 
-An exchange between two folders, the initiator's left and the replier's right:
+A link between two folders, left and right. Each end types what the other says, here by status:
+
+";
+
+const BY_HAND: &str = "
+The same exchange by hand, one command a call, the initiator's folder left and the replier's right:
 
 ";
 
@@ -85,7 +102,7 @@ pub const EXCHANGE: &str = "\
     for f in left/s left/e right/s1 right/e1 right/e2 right/coins; do wimmostry wipe $f; done
 ";
 
-const REST: &str = "
+pub const REST: &str = "
 Only NewHope's public numbers grow from a seed: in another scheme the initiator draws them (draw 0 a
 left/a), and they go to the replier as well. Draw everything but a anew for each exchange. The keys
 are raw, and the peer is whoever sent the message: see that messages come from whom you think,
@@ -107,7 +124,7 @@ is locked by FILE.lock while a command works on it; a second one waits a second 
 wimmostry help statuses has the statuses and all refusals.
 ";
 
-const STATUSES: &str = "\
+pub const STATUSES: &str = "\
 Status 0: done; lines on standard output, as written=N (of reply and finish key_written=N and so
           on), agree or differ=I, of finish and bench slack=N and slack_index=I, of session
           stage=WORD and scheme=N.
@@ -138,7 +155,7 @@ fn overview() -> String {
         let _ = writeln!(text, "{}", usage.trim_end());
         let _ = writeln!(text, "      {}", command.brief);
     }
-    text + WORDS + &options() + NUMBERS + EXCHANGE + REST
+    text + WORDS + &options() + NUMBERS + LINK + BY_HAND + EXCHANGE + REST
 }
 
 fn options() -> String {
@@ -152,7 +169,7 @@ fn options() -> String {
     OPTIONS.iter().map(line).collect()
 }
 
-fn page(command: &Command) -> String {
+pub fn page(command: &Command) -> String {
     let usage = format!("wimmostry {} {}", command.name, command.usage());
     let mut text = format!("{}\n\n  {}\n\n", usage.trim_end(), command.brief);
     match &command.form {

@@ -19,6 +19,7 @@ mod lock;
 mod near;
 mod options;
 mod outputs;
+mod pages;
 mod public;
 mod random;
 mod rows;

@@ -6,7 +6,7 @@ use crate::calls::{GROW_SEED, HASH_INPUT, IDLE, KEYED, OFFERED, SCHEMES, SESSION
 use crate::data::Kind;
 use crate::tell::{Done, Fault};
 use crate::words::Asked;
-use crate::{demo, draw, help, link, rows, session, settings, trace, wipe, words};
+use crate::{demo, draw, help, link, pages, rows, session, settings, trace, wipe, words};
 use std::ffi::{OsStr, OsString};
 
 /// How long an input or an output is, in entries.
@@ -860,9 +860,9 @@ pub const COMMANDS: &[Command] = &[
     },
     Command {
         name: "demo",
-        brief: "a whole exchange in memory, in one scheme, that of a box, or all six",
+        brief: "a whole exchange in memory, by NewHope, another scheme, that of a box, or all six",
         form: Form::Words(OnWords {
-            usage: "[SCHEME | settings FILE]",
+            usage: "[SCHEME | all | settings FILE]",
             least: 0,
             most: 2,
             run: demo::run,
@@ -898,6 +898,21 @@ pub const COMMANDS: &[Command] = &[
         example: "wimmostry version",
     },
 ];
+
+/// Commands that no page lists.
+pub const HIDDEN: &[Command] = &[Command {
+    name: "page",
+    brief: "the man page, or what completes words in a shell",
+    form: Form::Words(OnWords {
+        usage: "man | bash | zsh | fish",
+        least: 1,
+        most: 1,
+        run: pages::run,
+        words: "",
+    }),
+    more: "They are made from the table of commands, and installed.",
+    example: "wimmostry page man",
+}];
 
 #[cfg(test)]
 mod tests {

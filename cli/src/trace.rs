@@ -1,11 +1,15 @@
 //! A recorded trace, summed up by the proved function, whose archive is `trace`.
 
+use crate::calls;
 use crate::data::Kind;
+use crate::escape::shown;
 use crate::files;
+use crate::options;
 use crate::table::{Input, Length};
-use crate::tell::{self, Done};
+use crate::tell::{self, Done, Voice};
 use crate::words;
-use std::ffi::OsString;
+use std::ffi::{OsStr, OsString};
+use std::os::unix::ffi::OsStrExt;
 
 pub const WORDS: &str = "\
 \x20 FILE     in: the trace, up to 4096 lines scheme=N and slack=N in turn
@@ -13,9 +17,11 @@ pub const WORDS: &str = "\
 
 pub const MORE: &str = "\
 For each scheme in the trace, lowest first, it prints scheme=, exchanges=, sum= and largest=, a line
-each; of an empty trace nothing. A line ends with LF, SCHEME is 0 to 5, and a number has 1 to 10
-digits and no zero in front. Any other text, a missing slack line or too many lines is refused by
-the line refusal=8 alone. finish and bench print the slack of an exchange.";
+each; of an empty trace nothing. With --margins a line margin= follows each largest=, with what an
+exchange of the scheme bears; NewHope has none. A line ends with LF, SCHEME is 0 to 5, and a number
+has 1 to 10 digits and no zero in front. Any other text, a missing slack line or too many lines is
+refused by the line refusal=8 alone; standard error has the line that does not fit. finish and bench
+print the slack of an exchange, and link adds each to the file trace of its folder.";
 
 /// Bytes of the longest trace: 2,048 times `scheme=N` and a slack of ten digits.
 const LONGEST: usize = MOST * (9 + 17);
@@ -48,14 +54,79 @@ mod raw {
 /// Of a longer file one byte more than the longest trace is read, which is
 /// refused like all of it.
 pub fn run(given: &[OsString]) -> Done {
-    let lent = files::read(&TRACE, &words::place(TRACE.word, &given[0])?)?;
-    let said = answer(lent.data.bytes());
-    tell::page(&String::from_utf8_lossy(&said))?;
-    match said == REFUSAL {
-        true => Ok(tell::REFUSED),
-        false => Ok(tell::DONE),
+    let place = words::place(TRACE.word, &given[0])?;
+    let lent = files::read(&TRACE, &place)?;
+    let text = lent.data.bytes();
+    let said = answer(text);
+    let lines = String::from_utf8_lossy(&said);
+    if said == REFUSAL {
+        tell::say(Voice::Output, &lines)?;
+        let name = place
+            .path()
+            .map_or(OsStr::new("standard input"), |path| path.as_os_str());
+        tell::note(&format!("{}: {}", shown(name), misfit(text)));
+        return Ok(tell::REFUSED);
+    }
+    // four lines a scheme
+    let all: Vec<&str> = lines.split_inclusive('\n').collect();
+    let each: Vec<String> = all.chunks(4).map(summed).collect();
+    match options::given("--json") {
+        true => each
+            .iter()
+            .try_for_each(|one| tell::say(Voice::Output, one))?,
+        false => tell::say(Voice::Output, &each.concat())?,
+    }
+    Ok(tell::DONE)
+}
+
+/// The lines of a scheme, with its margin where that is asked for.
+fn summed(lines: &[&str]) -> String {
+    let number = lines.first().and_then(|line| line.strip_prefix("scheme="));
+    let scheme = number.and_then(|number| number.trim_end().parse().ok());
+    let margin = scheme
+        .and_then(calls::sizes)
+        .map_or(0, |sizes| sizes.margin);
+    match options::given("--margins") && margin > 0 {
+        true => format!("{}margin={margin}\n", lines.concat()),
+        false => lines.concat(),
     }
 }
+
+/// What does not fit, by asking the proved function: the first line behind which no
+/// good line makes it a trace. Lines count from 1.
+fn misfit(text: &[u8]) -> String {
+    let lines: Vec<&[u8]> = text.split_inclusive(|&byte| byte == b'\n').collect();
+    let fits = |n: usize| {
+        let good: &[u8] = if n % 2 == 1 { b"slack=0\n" } else { b"" };
+        answer(&[&lines[..n].concat(), good].concat()) != REFUSAL
+    };
+    // what stands in front of lines that fit, fits
+    let (mut fit, mut end) = (0, lines.len() + 1);
+    while end - fit > 1 {
+        let middle = (fit + end) / 2;
+        match middle <= lines.len() && fits(middle) {
+            true => fit = middle,
+            false => end = middle,
+        }
+    }
+    let due = if fit % 2 == 0 {
+        "scheme=, 0 to 5"
+    } else {
+        "slack=N"
+    };
+    match lines.get(fit) {
+        _ if fit == 2 * MOST => format!("line {} is one too many", fit + 1),
+        None => format!("line {} is missing: {due}", fit + 1),
+        Some(line) => {
+            let line = line.strip_suffix(b"\n").unwrap_or(line);
+            let line = shown(OsStr::from_bytes(&line[..line.len().min(SHOWN)]));
+            format!("line {} is '{line}', not {due} and an LF", fit + 1)
+        }
+    }
+}
+
+/// How much is shown of a line that does not fit.
+const SHOWN: usize = 40;
 
 /// Exchanges that a trace has at most.
 const MOST: usize = 2048;
@@ -97,6 +168,38 @@ mod tests {
         assert_eq!(answer(lines.as_bytes()), told);
         assert_eq!(answer((lines + "\n").as_bytes()), REFUSAL);
         assert_eq!(answer(b""), b"");
+    }
+
+    #[test]
+    fn the_line_that_does_not_fit() {
+        let full = "scheme=5\nslack=1\n".repeat(MOST);
+        for (text, line) in [
+            ("x", "line 1 is 'x', not scheme=, 0 to 5 and an LF"),
+            (
+                "scheme=6\n",
+                "line 1 is 'scheme=6', not scheme=, 0 to 5 and an LF",
+            ),
+            ("scheme=5\n", "line 2 is missing: slack=N"),
+            (
+                "scheme=5\nslack=07\nx",
+                "line 2 is 'slack=07', not slack=N and an LF",
+            ),
+            (
+                "scheme=5\nslack=7",
+                "line 2 is 'slack=7', not slack=N and an LF",
+            ),
+            (
+                "scheme=5\nslack=7\n\n",
+                "line 3 is '', not scheme=, 0 to 5 and an LF",
+            ),
+            (
+                &format!("{full}scheme=5\nslack=1\n"),
+                "line 4097 is one too many",
+            ),
+        ] {
+            assert_eq!(answer(text.as_bytes()), REFUSAL);
+            assert_eq!(misfit(text.as_bytes()), line);
+        }
     }
 
     #[test]

@@ -5,7 +5,7 @@ use crate::escape::shown;
 use crate::files::Named;
 use crate::near;
 use crate::settings;
-use crate::table::{Command, COMMANDS};
+use crate::table::{Command, COMMANDS, HIDDEN};
 use crate::tell::{self, Fault};
 use std::ffi::{OsStr, OsString};
 use std::os::unix::ffi::OsStrExt;
@@ -24,7 +24,7 @@ pub fn command(words: &[OsString]) -> Result<Found<'_>, Fault> {
     for count in 1..=words.len().min(LONGEST_NAME) {
         let (name, rest) = words.split_at(count);
         let whole = |c: &&Command| c.begins(name) && c.name_words().0 == count;
-        if let Some(command) = COMMANDS.iter().find(whole) {
+        if let Some(command) = COMMANDS.iter().chain(HIDDEN).find(whole) {
             let (_, at) = command.name_words();
             let file = at.map(|at| name[at].as_os_str()).unwrap_or_default();
             return Ok(Found {

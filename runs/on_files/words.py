@@ -77,9 +77,9 @@ def words(both):
         (["hash", "shake128", "x", "y"], b"hash shake128 takes LENGTH INPUT OUT\n"),
         (["sha3-256", "x", "y"], b"there is no command 'sha3-256'"),
         (["bench", *files[:8]], b"bench takes"), (["demo", "1", "2"], b"demo takes SCHEME, or"),
-        (["demo", "settings"], b"demo takes SCHEME, or settings FILE"),
+        (["demo", "settings"], b"demo takes SCHEME, or all, or settings FILE"),
         (["demo", "settings", ""], b"FILE is an empty word"),
-        (["demo", "1", "2", "3"], b"demo takes [SCHEME | settings FILE]\n"),
+        (["demo", "1", "2", "3"], b"demo takes [SCHEME | all | settings FILE]\n"),
         (["settings", "write", "1", "14", "", "y"], b"LABEL is an empty word"),
         (["settings"], b"settings is one of several: settings read FILE; settings write SCHEME RULE"),
         (["settings", "x"], b"settings is one of several: "),
@@ -176,8 +176,13 @@ def words(both):
 
 
 def demo(both):
-    for given, many in ((["demo"], 6), (["demo", "0"], 1), (["demo", "1"], 1), (["demo", "5"], 1)):
+    newhope = (["demo"], ["demo", "all"], ["demo", "1"], ["demo", "newhope"])
+    for given, many in ((["demo"], 1), (["demo", "all"], 6), (["demo", "0"], 1), (["demo", "1"], 1),
+                        (["demo", "newhope"], 1), (["demo", "5"], 1)):
         status, text, error = run([both.box, *given], cwd=both.folder)
+        hold("demo", (b"\nType next: wimmostry link open " in text) == (given == ["demo"])
+             and (many > 1 or text.count(b"\n") < 21), f"{given}: {text!r}")
+        hold("demo", text.count(b"] public numbers -") == many - (given in newhope), f"{text!r}")
         prints = re.findall(rb"^  .* digest ([0-9a-f]{64})$", text, re.M)
         told = text.count(b"  keys agree\n") + text.count(b"  keys differ at bit ")
         same = sum(a == b for a, b in zip(prints[::2], prints[1::2]))
@@ -186,10 +191,10 @@ def demo(both):
         fine = fine and text.count(b"] opening -") == text.count(b"- reply [") == many
         used = re.findall(rb"^          slack (\d+) of a margin of (\d+), at entry \d+$", text, re.M)
         none = text.count(b"          no slack: NewHope has none\n")
-        fine = fine and len(used) + none == many and none == (given in (["demo"], ["demo", "1"]))
+        fine = fine and len(used) + none == many and none == (given in newhope)
         fine = fine and all(int(margin) in MARGINS.values() for _, margin in used)
         grown = text.count(b"  public numbers: 1024, grown from the seed by rule 14\n")
-        fine = fine and grown == (given in (["demo"], ["demo", "1"]))
+        fine = fine and grown == (given in newhope)
         hold("demo", fine and text.count(b"  keys agree\n") == same, f"{given}: {text!r} {error!r}")
     done = run([both.box, "demo", "6"])
     hold("demo", refused(done, b"refusal=1 place=0 scheme=6 expected=0..5"), f"demo 6: {done}")

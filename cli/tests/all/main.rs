@@ -4,5 +4,6 @@
 mod calls;
 mod files;
 mod link;
+mod pages;
 mod room;
 mod sessions;
