@@ -26,6 +26,7 @@ mod rows;
 mod run;
 mod session;
 mod settings;
+mod shape;
 mod signals;
 mod table;
 mod tell;

@@ -119,8 +119,13 @@ impl Kept {
         files::replaceable(&self.place)
     }
 
-    /// Held while the command works on the session.
+    /// Held while the command works on the session. There is none of a file that is
+    /// missing, where no link begins.
     pub fn lock(&self) -> Result<Lock, Fault> {
+        if let (Some(path), true) = (self.place.path(), self.on.allowed != IDLE) {
+            path.metadata()
+                .map_err(|error| tell::file(path, tell::reason(&error)))?;
+        }
         Lock::take(self.lock.path().unwrap_or(Path::new("")))
     }
 

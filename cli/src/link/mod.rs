@@ -2,9 +2,13 @@
 
 mod check;
 mod folder;
+mod numbers;
+mod texts;
 mod told;
 
-use crate::calls::{self, Sizes, IDLE, KEYED, LOW_BITS, OFFERED, SCHEMES};
+pub use texts::*;
+
+use crate::calls::{self, Sizes, IDLE, KEYED, OFFERED};
 use crate::data::{Data, Kind};
 use crate::draw::NEWHOPE;
 use crate::escape::shown;
@@ -17,73 +21,17 @@ use crate::public;
 use crate::random;
 use crate::run::voice;
 use crate::session::out_of_stage;
-use crate::settings;
 use crate::table::{Input, Length, FINISHES, REPLIES};
 use crate::tell::{self, Done, Fault, Voice};
 use crate::trace;
 use crate::wipe;
-use crate::words::{self, Asked, Place};
+use crate::words::{self, Place};
 use check::{End, Exchange};
 use folder::{quoted, Folder, Stage};
+use numbers::{kept, rule_of, scheme_by, scheme_of, sizes};
 use std::ffi::{OsStr, OsString};
 use std::path::{Path, PathBuf};
 use told::Told;
-
-pub const OPEN_WORDS: &str = "\
-\x20 DIR      the link's folder, made where it is not there, mode 700
-  SCHEME   where the folder has no settings: 0 to 5, or a name
-  RULE     14 or 16; where none is given 14
-";
-
-pub const OPEN_MORE: &str = "\
-Draws all that the initiator needs, makes the opening and says which file to send. With a file
-settings in the folder, as 'settings write' makes it, its scheme and rule are taken. While the link
-is open it is refused by 10, and says once more which file to send.";
-
-pub const ANSWER_WORDS: &str = "\
-\x20 DIR      the link's folder, made where it is not there, mode 700
-  OPENING  in: the message of the peer, whose length tells the scheme
-  RULE     14 or 16, as the opener has it; where none is given that of the settings, or 14
-";
-
-pub const ANSWER_MORE: &str = "\
-Draws all that the replier needs, makes the reply and says which file to send, and what to say to
-the peer. The same opening once more gives the same lines again, and draws nothing; another is
-refused by 10.";
-
-pub const FINISH_WORDS: &str = "\
-\x20 DIR      the folder of a link that was opened
-  REPLY    in: the message of the peer
-";
-
-pub const FINISH_MORE: &str = "\
-Makes the key, wipes the secret s and adds the slack to the file trace. It says the slack, how much
-the exchange bears (margin=, none in NewHope), and what to say to the peer. A refused reply leaves
-all as it is: another may be tried. The same reply once more gives the same lines again.";
-
-pub const KEY_WORDS: &str = "\
-\x20 DIR      the folder of a link that is keyed
-  HEARD    what the peer said, in either case, with the marks or without
-  OUT      out, mode 600: the key, 32 bytes
-";
-
-pub const KEY_MORE: &str = "\
-Each end says what its command showed behind say=, over a way on which the peer is known, as by
-telephone, and types what the other said. Only where that is right do both have the same key, with
-nobody between them. It is then written: SHA3-256 of 'wimmostry key', scheme and rule, a byte each,
-raw key, opening and reply. Else it says heard=differs, and nothing is written. It may be given
-again for another file. The check, of which each end says a half, is SHA3-256 of 'wimmostry check',
-scheme, rule, digest, opening and reply.";
-
-pub const CLOSE_MORE: &str = "\
-Overwrites session and s in place, and removes the rest but settings and trace; wiped=N says how
-many bytes were overwritten. It may be given as often as one likes, and also on a full drive.";
-
-pub const STATUS_MORE: &str = "\
-Says the stage, the scheme, once keyed what to say, and behind next= the command to type. It changes
-nothing.";
-
-pub const DIR_WORDS: &str = "  DIR      the link's folder\n";
 
 const OPENING: Input = Input {
     length: Length::By(|z| z.opening),
@@ -115,69 +63,6 @@ fn path(word: &OsStr) -> Result<PathBuf, Fault> {
             shown(word)
         ))),
     }
-}
-
-// ---- scheme and rule
-
-/// What the folder's settings say, where there are any.
-fn kept(dir: &Path) -> Result<Option<(u32, u32)>, Fault> {
-    let file = dir.join("settings");
-    match file.symlink_metadata() {
-        Err(_) => Ok(None),
-        Ok(_) => {
-            let settings = settings::from(&Place::File(file))?;
-            Ok(Some((settings.scheme, settings.rule)))
-        }
-    }
-}
-
-/// A number that a word may give and the settings may have: they must not differ.
-fn agreed(
-    dir: &Path,
-    name: &str,
-    word: Option<u32>,
-    kept: Option<u32>,
-) -> Result<Option<u32>, Fault> {
-    match (word, kept) {
-        (Some(word), Some(kept)) if word != kept => Err(tell::words(format!(
-            "{} has {name} {kept}, not {word}",
-            shown(dir.join("settings"))
-        ))),
-        (word, kept) => Ok(word.or(kept)),
-    }
-}
-
-fn rule_of(dir: &Path, word: Option<&OsString>, kept: Option<u32>) -> Result<u32, Fault> {
-    let word = word.map(|word| words::rule(word)).transpose()?;
-    let word = word.as_ref().map(Asked::rule).transpose()?;
-    let rule = agreed(dir, "rule", word, kept)?.unwrap_or(LOW_BITS);
-    match calls::rules().iter().any(|(number, _)| *number == rule) {
-        true => Ok(rule),
-        false => Err(tell::refused(12, 0, Some(explain::no_rule(rule)))),
-    }
-}
-
-fn scheme_of(dir: &Path, word: Option<&OsString>, kept: Option<u32>) -> Result<u32, Fault> {
-    let word = word.map(|word| words::scheme(word)).transpose()?;
-    let word = word.as_ref().map(Asked::scheme).transpose()?;
-    let scheme = agreed(dir, "scheme", word, kept)?.ok_or_else(|| {
-        tell::words(format!(
-            "link open takes DIR SCHEME [RULE] where there is no {}",
-            shown(dir.join("settings"))
-        ))
-    })?;
-    match calls::sizes(scheme) {
-        Some(_) => Ok(scheme),
-        None => {
-            let detail = explain::no_scheme(scheme, 0, SCHEMES - 1);
-            Err(tell::refused(1, 0, Some(detail)))
-        }
-    }
-}
-
-fn sizes(scheme: u32) -> Result<Sizes, Fault> {
-    let unknown = || tell::refused(1, 0, Some(explain::no_scheme(scheme, 0, SCHEMES - 1)));
-    calls::sizes(scheme).ok_or_else(unknown)
 }
 
 /// What the calls from random bytes are lent: but in NewHope, where they grow
@@ -288,22 +173,6 @@ pub fn answer(given: &[OsString]) -> Done {
     ])?;
     tell::say(Voice::Output, &told.lines)?;
     Ok(tell::DONE)
-}
-
-/// The scheme whose opening has this length, which is that of the settings where
-/// there are any.
-fn scheme_by(opening: &files::Lent, kept: Option<u32>) -> Result<u32, Fault> {
-    let allowed = |no: &u32| kept.is_none_or(|kept| kept == *no);
-    let length = |no: u32| calls::sizes(no).map_or(0, |sizes| sizes.opening);
-    let schemes: Vec<u32> = (0..SCHEMES).filter(allowed).collect();
-    let found = schemes.iter().find(|no| length(**no) == opening.data.len());
-    found.copied().ok_or_else(|| {
-        let lengths: Vec<usize> = schemes.iter().map(|no| length(*no)).collect();
-        let lengths = explain::listed(&lengths);
-        let there = opening.there();
-        let detail = format!("input=opening length={there} expected={lengths}");
-        tell::refused(2, 0, Some(detail))
-    })
 }
 
 /// The lines of the last answer, where this end gave it and the same message has

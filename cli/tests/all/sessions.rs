@@ -24,6 +24,7 @@ fn a_link_is_walked_by_hand() {
     for words in ["session left show", "session left close", FINISH] {
         let line = room.fails(3, words);
         assert!(line.contains("left: No such file"), "{words}: {line}");
+        assert!(!room.exists("left.lock"), "{words}");
     }
     let line = room.refused("session left offer 1 a s none seed opening");
     assert_eq!(line, "refusal=2 place=0 input=e length=0 expected=1024");
