@@ -63,3 +63,16 @@ pub fn lock<T>(entries: &[T]) {
         unsafe { mlock(entries.as_ptr().cast(), size_of_val(entries)) };
     }
 }
+
+#[cfg(test)]
+mod tests {
+    use super::*;
+
+    #[test]
+    fn not_dumpable() {
+        const PR_GET_DUMPABLE: c_int = 3;
+        begin();
+        // SAFETY: it only asks.
+        assert_eq!(unsafe { prctl(PR_GET_DUMPABLE) }, 0);
+    }
+}

@@ -235,7 +235,7 @@ fn a_call_that_fails_leaves_nothing() {
     assert_eq!(room.names("."), before);
 }
 
-/// No core dump: the limit is 0, and the process is not dumpable.
+/// No core dump: the limit is 0. And memory is locked, where it may be.
 #[test]
 fn no_core_dump() {
     let room = Room::new("core");
@@ -247,18 +247,26 @@ fn no_core_dump() {
         .spawn()
         .unwrap();
     let limits = format!("/proc/{}/limits", child.id());
-    let dumps = || {
+    let limit = |name: &str| {
         let text = fs::read_to_string(&limits).unwrap();
-        let line = text
-            .lines()
-            .find(|line| line.starts_with("Max core file size"));
-        line.unwrap().split_whitespace().nth(4).unwrap().to_string()
+        let line = text.lines().find_map(|line| line.strip_prefix(name));
+        line.unwrap().split_whitespace().next().unwrap().to_string()
     };
+    let dumps = || limit("Max core file size");
     let until = std::time::Instant::now() + std::time::Duration::from_secs(20);
     while dumps() != "0" && std::time::Instant::now() < until {
         std::thread::sleep(std::time::Duration::from_millis(5));
     }
     assert_eq!(dumps(), "0");
+    let locked = || {
+        let text = fs::read_to_string(format!("/proc/{}/status", child.id())).unwrap();
+        let line = text.lines().find_map(|line| line.strip_prefix("VmLck:"));
+        line.unwrap().split_whitespace().next().unwrap() != "0"
+    };
+    while !locked() && std::time::Instant::now() < until {
+        std::thread::sleep(std::time::Duration::from_millis(5));
+    }
+    assert!(locked() || limit("Max locked memory") == "0");
     drop(child.stdin.take());
     assert!(child.wait().unwrap().success());
 }

@@ -133,6 +133,48 @@ fn what_cannot_be_said_is_done() {
     assert_eq!(room.done("session left show"), "stage=keyed\nscheme=1\n");
 }
 
+/// A session or a link on which another command works is busy after a second, and is
+/// not touched; one that is free by then is not.
+#[test]
+fn one_command_at_a_time() {
+    let room = Room::new("busy");
+    drawn(&room);
+    room.done(OFFER);
+    room.done("link open linked 1");
+    room.put("message", [255; 2048]);
+    for (lock, words) in [
+        ("left.lock", "session left finish 1 message s key2 digest2"),
+        ("left.lock", "session left close"),
+        ("linked/lock", "link finish linked message"),
+        ("linked/lock", "link close linked"),
+    ] {
+        let held = fs::OpenOptions::new()
+            .write(true)
+            .open(room.0.join(lock))
+            .unwrap();
+        held.lock().unwrap();
+        let begun = std::time::Instant::now();
+        let line = room.fails(3, words);
+        assert!(line.contains(&format!("{lock}: busy")), "{words}: {line}");
+        assert!(begun.elapsed().as_secs() < 5);
+        let waiting = std::thread::spawn(move || {
+            std::thread::sleep(std::time::Duration::from_millis(300));
+            drop(held);
+        });
+        // it is free before the second is over: this one is refused by what came
+        if words.contains("finish") {
+            assert!(room.refused(words).starts_with("refusal=5 "), "{words}");
+        }
+        waiting.join().unwrap();
+    }
+    assert_eq!(room.done("session left show"), "stage=offered\nscheme=1\n");
+    assert!(room
+        .done("link status linked")
+        .starts_with("stage=offered\n"));
+    room.done("session left close");
+    assert!(!room.exists("left.lock"));
+}
+
 /// Of many replies at once one is done; the others are told why not.
 #[test]
 fn one_of_many_replies_is_done() {
