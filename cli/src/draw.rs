@@ -8,6 +8,7 @@ use crate::escape::shown;
 use crate::explain;
 use crate::files::{self, Named};
 use crate::fresh::Mode;
+use crate::near;
 use crate::outputs;
 use crate::public;
 use crate::random;
@@ -57,8 +58,9 @@ fn what(word: &OsStr) -> Result<What, Fault> {
         Some("seed") => Ok(What::Seed),
         Some("coins") => Ok(What::Coins),
         _ => Err(tell::words(format!(
-            "WHAT is a, s, e, seed, s1, e1, e2 or coins, not '{}'",
-            shown(word)
+            "WHAT is a, s, e, seed, s1, e1, e2 or coins, not '{}'{}",
+            shown(word),
+            near::hint(word, ["seed", "coins"])
         ))),
     }
 }

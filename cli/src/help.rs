@@ -294,6 +294,8 @@ mod tests {
             for line in text.lines() {
                 assert!(line.chars().count() <= PAGE, "{line}");
                 assert_eq!(line.trim_end(), line);
+                // a reader has the papers by their names
+                assert!(!line.contains("document 0"), "{line}");
             }
         }
     }

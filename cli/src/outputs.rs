@@ -14,6 +14,7 @@ use crate::signals;
 use crate::tell::{self, reason, Fault};
 use crate::wipe;
 use crate::words::Place;
+use std::collections::BTreeSet;
 use std::fs::{self, File, OpenOptions};
 use std::io::{self, ErrorKind, Write};
 use std::os::unix::fs::OpenOptionsExt;
@@ -90,9 +91,8 @@ pub fn put(answers: &[Answer]) -> Result<(), Fault> {
 
 fn put_all(answers: &[Answer]) -> Result<(), Fault> {
     let files = || answers.iter().filter_map(|x| Some((x, x.place.path()?)));
-    for (_, path) in files() {
-        fresh::sweep(folder(path));
-    }
+    let folders: BTreeSet<&Path> = files().map(|(_, path)| folder(path)).collect();
+    folders.into_iter().for_each(fresh::sweep);
     let mut fresh = vec![];
     for (answer, path) in files() {
         let replace = answer.kept || options::replace();

@@ -34,12 +34,15 @@ pub fn command(words: &[OsString]) -> Result<Found<'_>, Fault> {
             });
         }
     }
-    let several = about(&words[..1])?.into_iter();
-    let usages = several.map(|c| format!("{} {}", c.name, c.usage()));
+    let several = about(&words[..1])?;
+    let lasts = several.iter().filter_map(|c| c.name.split(' ').next_back());
+    let hint = words.get(1).map(|word| near::hint(word, lasts));
+    let usages = several.iter().map(|c| format!("{} {}", c.name, c.usage()));
     let usages: Vec<String> = usages.map(|usage| usage.trim_end().to_string()).collect();
     Err(tell::words(format!(
-        "{} is one of several: {}",
+        "{} is one of several{}: {}",
         shown(&words[0]),
+        hint.unwrap_or_default(),
         usages.join("; ")
     )))
 }
