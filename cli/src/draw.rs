@@ -12,7 +12,7 @@ use crate::near;
 use crate::outputs;
 use crate::public;
 use crate::random;
-use crate::run::voice;
+use crate::run::{cleared, voice};
 use crate::table::SEED;
 use crate::tell::{self, Done, Fault};
 use crate::words::{self, Asked, Place};
@@ -83,13 +83,7 @@ pub fn run(given: &[OsString]) -> Done {
     let inputs: Vec<Named> = asked.named().into_iter().chain(seed_named).collect();
     files::no_clash(&inputs, &[named("OUT", &place[0], secret)])?;
     files::new(&place[0])?;
-    let drawn = match drawn(&asked, what, seed.as_ref()) {
-        Err(fault) if fault.status == tell::REFUSED => {
-            outputs::clear(&place)?;
-            return Err(fault);
-        }
-        drawn => drawn?,
-    };
+    let drawn = drawn(&asked, what, seed.as_ref()).map_err(|fault| cleared(fault, &place))?;
     let answer = outputs::Answer {
         place: &place[0],
         bytes: drawn.to_file(),

@@ -24,18 +24,19 @@ pub fn run(own: &OnFiles, mut session: Option<Kept>, given: &[OsString]) -> Done
     let words = taken(own, given)?;
     apart(own, &words, session.as_ref())?;
     let _lock = session.as_ref().map(Kept::lock).transpose()?;
-    let done = made(own, &words, session.as_mut());
-    match done {
-        // what is not there cannot be taken for an answer; 10 touches nothing
-        Err(mut fault) if fault.status == tell::REFUSED && !out_of_stage(&fault) => {
-            if let Err(mut other) = outputs::clear(&words.targets) {
-                fault.status = other.status;
-                fault.lines.append(&mut other.lines);
-            }
-            Err(fault)
+    made(own, &words, session.as_mut())
+}
+
+/// After a refusal no output is there: what is not there cannot be taken for an
+/// answer.
+pub fn cleared(mut fault: Fault, targets: &[Place]) -> Fault {
+    if fault.status == tell::REFUSED {
+        if let Err(mut other) = outputs::clear(targets) {
+            fault.status = other.status;
+            fault.lines.append(&mut other.lines);
         }
-        done => done,
     }
+    fault
 }
 
 fn taken(own: &OnFiles, given: &[OsString]) -> Result<Words, Fault> {
@@ -79,7 +80,8 @@ fn apart(own: &OnFiles, words: &Words, session: Option<&Kept>) -> Result<(), Fau
 /// Reads, calls, writes and tells.
 fn made(own: &OnFiles, words: &Words, mut session: Option<&mut Kept>) -> Done {
     let lent = read(own, &words.sources, session.as_deref_mut())?;
-    let asked = own.by.number(&words.asked)?;
+    let clear = |fault| cleared(fault, &words.targets);
+    let asked = own.by.number(&words.asked).map_err(clear)?;
     let data: Vec<&Data> = lent.iter().map(|x| &x.data).collect();
     let sizes = own.by.sizes(asked);
     let room = |x: &Output| room(x, asked, sizes.as_ref());
@@ -92,10 +94,11 @@ fn made(own: &OnFiles, words: &Words, mut session: Option<&mut Kept>) -> Done {
         return Err(fault);
     }
     let answer = done.map_err(|refused| match &session {
+        // it touches no file
         Some(session) if refused.number == OUT_OF_STAGE => session.refusal(asked),
         _ => {
             let detail = explain::refusal(own, asked, refused, &lent);
-            tell::refused(refused.number, refused.place, detail)
+            clear(tell::refused(refused.number, refused.place, detail))
         }
     })?;
     for (data, n) in out.iter_mut().zip(&answer.written) {
@@ -106,11 +109,6 @@ fn made(own: &OnFiles, words: &Words, mut session: Option<&mut Kept>) -> Done {
     let lines = tell::answer(own, &answer) + &stage;
     tell::say(voice(&words.targets), &lines)?;
     Ok(tell::DONE)
-}
-
-fn out_of_stage(fault: &Fault) -> bool {
-    let start = format!("refusal={OUT_OF_STAGE} ");
-    fault.lines.iter().any(|line| line.starts_with(&start))
 }
 
 /// Reads all inputs, and the session; each that cannot be read has its line.
