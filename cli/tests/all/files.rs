@@ -5,6 +5,7 @@ use crate::room::Room;
 use std::fs::{self, File};
 use std::io::Read;
 use std::os::unix::process::CommandExt;
+use std::process::Command;
 
 /// With one byte lost on the way both ends are refused, and neither has a key file
 /// that could be taken for one.
@@ -204,6 +205,22 @@ mod raw {
         pub fn setrlimit(resource: i32, limit: *const Limit) -> i32;
     }
     pub const FILE_SIZE: i32 = 1;
+    pub const CORE: i32 = 4;
+}
+
+/// A limit of a command, where it may be set.
+fn limited(command: &mut Command, resource: i32, limit: u64) {
+    let set = move || {
+        let limit = raw::Limit {
+            now: limit,
+            most: limit,
+        };
+        // SAFETY: the limit is of this frame.
+        unsafe { raw::setrlimit(resource, &limit) };
+        Ok(())
+    };
+    // SAFETY: it makes one call, which a child may make.
+    unsafe { command.pre_exec(set) };
 }
 
 /// A call that fails leaves no temporary file, and overwrites what it wrote; here the
@@ -219,17 +236,7 @@ fn a_call_that_fails_leaves_nothing() {
     let words = "reply 1 opening a s1 e1 e2 coins reply key digest";
     let words: Vec<&str> = words.split(' ').collect();
     let mut command = room.command(&words);
-    let limit = || {
-        let limit = raw::Limit {
-            now: 100,
-            most: 100,
-        };
-        // SAFETY: the limit is of this frame.
-        unsafe { raw::setrlimit(raw::FILE_SIZE, &limit) };
-        Ok(())
-    };
-    // SAFETY: it makes one call, which a child may make.
-    unsafe { command.pre_exec(limit) };
+    limited(&mut command, raw::FILE_SIZE, 100);
     let done = command.output().unwrap();
     assert_eq!(done.status.code(), Some(3), "{done:?}");
     assert_eq!(room.names("."), before);
@@ -239,9 +246,10 @@ fn a_call_that_fails_leaves_nothing() {
 #[test]
 fn no_core_dump() {
     let room = Room::new("core");
-    // it waits for standard input
-    let mut child = room
-        .command(&["hash", "sha3-256", "-", "out"])
+    // it waits for standard input; a limit that is 0 before says nothing
+    let mut command = room.command(&["hash", "sha3-256", "-", "out"]);
+    limited(&mut command, raw::CORE, u64::MAX);
+    let mut child = command
         .stdin(std::process::Stdio::piped())
         .stdout(std::process::Stdio::null())
         .spawn()
