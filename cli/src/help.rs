@@ -142,7 +142,7 @@ Status 1: refused; one line on standard error, as
           left, and to - nothing is written.
 Status 2: wrong words.
 Status 3: a file: it is missing, is there already, is open to others, is busy, or cannot be written.
-Status 4: of the script box alone: there is no program, and it could not be built.
+Status 4: the script box could not build the program, or the program is for another processor.
 Status 5: done, but it could not be said: what was asked for stands, and must not be asked again.
 Of 2, 3 and 5 standard error has lines that begin with 'wimmostry: '. With an output to - the lines
 of an answer go to standard error too. With --json each answer, refusal and fault is an object.
