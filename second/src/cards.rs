@@ -1,4 +1,4 @@
-//! 01, "Bench cards", as amended by request d of 02 (docs/AMENDMENTS.md): each
+//! 01, "Bench cards", as amended by request d of 02 (docs/RULES.md): each
 //! card's inputs and what this program gives for them. Cards that 01 marks begin
 //! with `*`, the others with `-`.
 

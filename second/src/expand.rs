@@ -1,5 +1,5 @@
 //! 01, "The NewHope transform", under "Expand", as amended by request g of 02
-//! (docs/AMENDMENTS.md).
+//! (docs/RULES.md).
 
 use crate::schemes::NEWHOPE;
 

@@ -1,5 +1,5 @@
 //! 01, "Reconciliation", under "NewHope", as amended by request d of 02
-//! (docs/AMENDMENTS.md).
+//! (docs/RULES.md).
 
 use crate::schemes::NEWHOPE;
 use crate::signed::{distance, remainder};

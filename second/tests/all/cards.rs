@@ -1,5 +1,5 @@
 //! 01, "Bench cards", all of them, with the answers that 01 gives, in NewHope
-//! those of request d (docs/AMENDMENTS.md).
+//! those of request d (docs/RULES.md).
 
 use second::cards::cards;
 
