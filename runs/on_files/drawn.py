@@ -39,16 +39,18 @@ def unremovable(both):
     os.mkdir(folder)
     name = os.path.join(folder, "key")
     write(name, OLD)
+    program = shutil.copy(both.program, both.name("program"))  # which the user nobody can reach
     nobody = {}
     if os.getuid() == 0:
         os.chown(name, 65534, 65534)
         os.chmod(both.folder, 0o755)
         nobody = {"user": 65534, "group": 65534, "extra_groups": []}
     os.chmod(folder, 0o555)
-    status, text, error = run([both.program, "wipe", name], **nobody)
+    status, text, error = run([program, "wipe", name], **nobody)
     fine = (status, text) == (3, b"") and b"key: overwritten, but not removed: " in error
     hold("drawn", fine and read(name) == bytes(len(OLD)), f"wipe in a closed folder: {error!r}")
     os.chmod(folder, 0o755)
+    os.remove(program)
     shutil.rmtree(folder)
 
 

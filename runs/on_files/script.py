@@ -82,7 +82,10 @@ def made_of(archive, crates):
 def broken_off(tree, around):
     """While a crate is proved its name is told; a script that is ended ends its prover."""
     slow = {**around, "SLOW": "matrix", "SECONDS_OF_SLOW": "60"}
-    with subprocess.Popen([tree + "/native", "wimmostry"], env=slow, stderr=subprocess.PIPE) as native:
+    # Ctrl-C is ignored by what a shell has put into the background, and by all that it starts
+    heard = lambda: signal.signal(signal.SIGINT, signal.SIG_DFL)
+    with subprocess.Popen([tree + "/native", "wimmostry"], env=slow, stderr=subprocess.PIPE,
+                          preexec_fn=heard) as native:
         line = b""
         while not line.endswith(b": matrix\n"):
             line = native.stderr.readline()
