@@ -272,13 +272,13 @@ def words_of(text):
 
 
 def by_hand(both):
-    """The exchange that help shows, on two sessions, as README has it."""
+    """The exchange that help shows, on two sessions, as docs/GUIDE.md has it."""
     text = run([both.box, "help"])[1].decode()
     script = re.search(r"^    mkdir left right\n(    .*\n)*", text, re.M).group()
     sides = {"offer": "left", "reply": "right", "finish": "left"}
     script = re.sub(r"wimmostry (offer|reply|finish) ",
                     lambda x: f"wimmostry session {sides[x[1]]}/link {x[1]} ", script)
-    with open(os.path.join(os.path.dirname(__file__), "../../README.md")) as f:
+    with open(os.path.join(os.path.dirname(__file__), "../../docs/GUIDE.md")) as f:
         shown = words_of(f.read())
     calls = re.findall(r"wimmostry session (?:.*\\\n)?.*\n", script)
     hold("session", len(calls) == 3 and all(words_of(x) in shown for x in calls), f"{calls}")
@@ -292,7 +292,7 @@ def by_hand(both):
     key = read(folder + "/left/key") if status == 0 else b""
     fine = status == 0 and error == b"" and links == 2 * [laid(2, 1, key)] and any(key)
     fine = fine and re.findall(rb"stage=(\w+)", text) == [b"offered", b"keyed", b"keyed"]
-    hold("session", fine, f"the link of README: {status} {text!r} {error!r}")
+    hold("session", fine, f"the link of docs/GUIDE.md: {status} {text!r} {error!r}")
     shutil.rmtree(folder)
 
 
