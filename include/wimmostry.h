@@ -336,7 +336,7 @@
  * Measured and not proved: on accepted input no address depends on a secret, and the branches that
  * do are the verdicts of the range tests (refusal 6), one an input: 2 in wim_offer, 3 in wim_reply,
  * 1 in wim_finish, none in wim_noise and the two hashes; in wim_product those of the range tests of
- * its factors (refusal 4), should they be secret. wim_offer and wim_reply have two more, on the
+ * its factors (refusal 4), should they be secret. wim_offer has two more and wim_reply one, on the
  * first number that is sent (refusal 17), which the peer sees anyway. wim_bench has those of its
  * parts, and branches on the numbers of the messages and, but in BCNS, on the keys, which it
  * compares. The calls on a session or a rack branch as those without one, and close, clear,
