@@ -39,7 +39,7 @@ pub struct Refused {
 /// the outputs.
 pub type Call = fn(u32, &[&Data], &mut [Data]) -> Result<Answer, Refused>;
 
-/// The same on the bytes of a session, which come first.
+/// A call on the bytes of a session, which come first; then as in [`Call`].
 pub type SessionCall = fn(&mut [u8], u32, &[&Data], &mut [Data]) -> Result<Answer, Refused>;
 
 pub const EXPAND_NUMBERS: usize = wimmostry::EXPAND_NUMBERS;

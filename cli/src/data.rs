@@ -67,7 +67,7 @@ impl<T: Copy + Default> DerefMut for Wiped<T> {
 pub enum Kind {
     /// Public numbers: 32 bits, the lowest byte first.
     Numbers,
-    /// Secrets and noise: the same, in two's complement.
+    /// Secrets and noise: 32 bits in two's complement, the lowest byte first.
     Values,
     Bytes,
     /// 64-bit words of a table: text, an entry a line.

@@ -42,7 +42,8 @@ impl Lock {
         }
     }
 
-    /// The same for what has to go on where the drive has no room for a lock.
+    /// Takes the lock, or none where the drive has no room for it: for work that
+    /// has to go on.
     pub fn take_if_room(path: &Path) -> Result<Option<Lock>, Fault> {
         match open(path) {
             Err(error) if error.kind() == io::ErrorKind::StorageFull => Ok(None),

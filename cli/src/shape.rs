@@ -14,7 +14,7 @@ pub enum Length {
     By(fn(&Sizes) -> usize),
     /// One of two, as the scheme has them.
     Either(fn(&Sizes) -> usize, fn(&Sizes) -> usize),
-    /// The same in every scheme.
+    /// One length for every scheme.
     Fixed(usize),
     /// Anything up to this.
     AtMost(usize),
@@ -24,7 +24,7 @@ pub enum Length {
 
 impl Length {
     /// The lengths in a scheme. Where there is no such scheme only a length
-    /// that is the same in all of them is known.
+    /// that all of them share is known.
     pub fn known(self, sizes: Option<&Sizes>) -> Vec<usize> {
         match (self, sizes) {
             (Length::Fixed(n) | Length::AtMost(n), _) => vec![n],
@@ -198,7 +198,8 @@ impl Command {
         words.iter().all(is)
     }
 
-    /// The same with FILE left out, as in `help session offer`.
+    /// Whether these words are its name or the beginning of it, where FILE is
+    /// left out, as in `help session offer`.
     pub fn begins_without_file(&self, words: &[OsString]) -> bool {
         let mut name = self.name.split(' ').filter(|&own| own != FILE);
         let is = |word: &OsString| name.next().is_some_and(|own| word == own);

@@ -50,8 +50,8 @@ pub fn wipe(path: &Path) -> Result<u64, Fault> {
     Ok(n)
 }
 
-/// The same of a file that is to go whatever it is: one that has other names keeps
-/// what it holds under them.
+/// Takes a file away whatever it is, and wipes it first where it has one name: one
+/// that has other names keeps what it holds under them.
 pub fn remove(path: &Path) -> Result<(), Fault> {
     let found = path
         .symlink_metadata()

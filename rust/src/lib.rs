@@ -59,7 +59,7 @@
 //! let (mut message, mut key) = ([0; 2048], [0; 32]);
 //! let replied = replier.reply(offered.opening, &a, &mut message, &mut key)?;
 //!
-//! // The initiator's key, which is the same.
+//! // The initiator's key, which is equal to the replier's.
 //! let mut peer_key = [0; 32];
 //! let finished = offered.initiator.finish(replied.message, &mut peer_key)?;
 //! assert_eq!(finished.digest, replied.digest);

@@ -68,7 +68,7 @@ impl Label {
         &self.bytes[..self.count]
     }
 
-    /// The same as text.
+    /// Its bytes as text.
     #[must_use]
     pub fn text(&self) -> &str {
         // capital letters and digits alone

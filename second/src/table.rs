@@ -47,7 +47,7 @@ pub fn read(text: &str) -> Option<Vec<u64>> {
         .collect()
 }
 
-/// floor(2^192 x / 8), where both ends of x say the same.
+/// floor(2^192 x / 8), where both ends of x give one floor.
 fn eighth_of_2_to_192(x: &Between) -> [u64; WORDS] {
     let floor = |end: &Units| {
         // in units of 2^-320 it is 2^131 times too large: two limbs and three bits

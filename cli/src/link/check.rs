@@ -58,7 +58,7 @@ impl Exchange<'_> {
         }
     }
 
-    /// The same in groups, to be read aloud.
+    /// The digits in groups, to be read aloud.
     pub fn said(&self, key: &[u8], end: End) -> String {
         let digits = self.digits(key, end);
         let groups = digits.as_bytes().chunks(GROUP).map(String::from_utf8_lossy);

@@ -31,7 +31,7 @@ impl Room {
         self.command(&words).output().unwrap()
     }
 
-    /// The same with this on standard input, of which not all may be taken.
+    /// Runs these words with this on standard input, of which not all may be taken.
     pub fn fed(&self, words: &str, input: &[u8]) -> Output {
         let words: Vec<&str> = words.split_whitespace().collect();
         let mut child = self

@@ -434,7 +434,7 @@ fn bench(g: &mut Generator, ready: &Ready) -> u32 {
     );
     let expected = second::calls::bench(scheme.into(), &a, &s, &e, &seed, &s1, &e1, &e2, &coins);
     if scheme == 0 {
-        // a type without the differing case, and the same answer
+        // a type without the differing case, and the answer of `bench`
         let typed = wimmostry::raw::bench_bcns(
             la.entries(),
             ls.entries(),

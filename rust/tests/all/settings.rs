@@ -100,7 +100,6 @@ fn every_call_is_written_alike() {
     }
 }
 
-/// The typed ones: back and forth, and the same texts by both readers.
 /// A number has at most ten digits.
 #[test]
 fn digits_of_a_number() {

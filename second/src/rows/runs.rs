@@ -1,4 +1,4 @@
-//! Whole runs by rows and damaged states, to hold another program to, the same in
+//! Whole runs by rows and damaged states, to hold another program to: one list in
 //! every run.
 
 use super::lent::{lay, state_count};
@@ -86,8 +86,8 @@ pub fn begin(scheme: &'static Scheme, which: Which, seed: u64) -> Call {
 }
 
 /// A run from begin to end; each call with what its caller sees and the state after
-/// it. Where `mixed`, calls that are refused come in between, and the same is tried
-/// again. Gives the outputs of the end, and those of the whole-matrix call.
+/// it. Where `mixed`, calls that are refused come before some of the parts. Gives the
+/// outputs of the end, and those of the whole-matrix call.
 pub fn run(
     scheme: &'static Scheme,
     which: Which,

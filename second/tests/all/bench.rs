@@ -114,8 +114,7 @@ fn bcns_never_differs() {
     }
 }
 
-/// The same a value at a time: w lies up to 5,326,899 from v, and both have one
-/// bit. All of the way up to the margin is in `reconcile_bcns`.
+/// In BCNS the two bits of an entry agree: w lies up to 5,326,899 from v. All of the way up to the margin is in `reconcile_bcns`.
 #[test]
 fn bcns_never_differs_entry_by_entry() {
     let (rule, q) = (Rule::of(&SIX[0]), SIX[0].q);

@@ -1,4 +1,4 @@
-//! A tiny seeded generator (xorshift), so that every run tests the same.
+//! A tiny seeded generator (xorshift), so that every run tests one list of cases.
 
 pub struct Generator(u64);
 

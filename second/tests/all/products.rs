@@ -222,7 +222,7 @@ fn what_the_cases_have() {
         }
     }
     assert!(all.len() > 400);
-    // Another seed draws other factors, and the same one the same.
+    // Equal seeds draw equal factors, and another seed draws others.
     let factors = |seed| cases(seed)[20].a.clone();
     assert_eq!(factors(5), factors(5));
     assert_ne!(factors(5), factors(6));
