@@ -14,9 +14,9 @@ use lib.ListN.{length, getD}
 use Rattle.numbers.specs.Residue.{apart}
 use Rattle.lists.specs.Entries.{tab, Below}
 use Rattle.lists.proofs.Entries.{tab-length, tab-at, tab-ext, below-tab}
-use Rattle.bcns.specs.Rounding.{q, doubled, hintOf, peerOf, hintsOf, keysOf, peersOf}
+use Rattle.bcns.specs.Rounding.{q, doubled, hintOf, peerOf, hintsOf, keysOf, peersOf, slackOf, slacksOf}
 use Rattle.bcns.specs.Agreement.{EveryEntry}
-use Rattle.bcns.specs.Slack.{slackOf, slacksOf, mostSlack}
+use Rattle.bcns.specs.Slack.{mostSlack}
 use Rattle.bcns.proofs.Regions.{hint-below, key-below}
 use Rattle.bcns.proofs.Formula.{peer-below}
 use Rattle.bcns.proofs.Margin.{meet}

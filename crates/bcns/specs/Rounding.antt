@@ -1,10 +1,11 @@
--- BCNS's reconciliation: 01, "Reconciliation"; q is that of `schemes`.
+-- BCNS's reconciliation: 01, "Reconciliation", and the slack used: 02f; q is that of `schemes`.
 --   coinOf c        two coin bits: 0, 1 give 0; 2 gives 1; 3 gives -1
 --   doubled c v     z = 2v - c modulo 2q
 --   hintOf z        floor(2z / q) mod 2
 --   keyOf z         1 exactly if (q + 1)/2 <= z <= (3q - 1)/2
 --   peerOf h w      the initiator's bit: 0 exactly if 2w lies, modulo 2q, within 1073741823 of some z with the hint h and the key bit 0
---   hintsOf, keysOf, peersOf   the same entry by entry
+--   slackOf h w     how far 2w lies, around a circle of 2q, from the nearest z with the hint h
+--   hintsOf, keysOf, peersOf, slacksOf   hint, key, peer's key and slack, entry by entry
 use mathlib.Core.Bool.{Bool, true, false, cond}
 use mathlib.Core.List.{List}
 use Prim.Native.Nat.{ℕ, zero, suc, _+_, _*_, _-_, _/_, _%_}
@@ -14,6 +15,7 @@ use lib.ListN.{length, getD}
 use Rattle.schemes.specs.Schemes.{fixedOf}
 use Rattle.schemes.specs.declared.Scheme.the-variants.{Bcns}
 use Rattle.numbers.specs.Residue.{residue, apart}
+use Rattle.numbers.specs.Least.{awayFrom}
 use Rattle.lists.specs.Entries.{tab}
 use Rattle.lists.specs.Table.{both}
 
@@ -44,6 +46,9 @@ reached h w z = both (eqb (hintOf z) h) (both (eqb (keyOf z) 0) (leb (apart (2 *
 unfoldable pub peerOf : ℕ → ℕ → ℕ
 peerOf h w = cond (someBelow (reached h w) (2 * q)) 0 1
 
+unfoldable pub slackOf : ℕ → ℕ → ℕ
+slackOf h w = awayFrom (2 * q) (λ z. eqb (hintOf z) h) (2 * w)
+
 unfoldable pub hintsOf : List ℕ → List ℕ → List ℕ
 hintsOf cs vs = tab (length vs) (λ k. hintOf (doubled (getD cs k 0) (getD vs k 0)))
 
@@ -52,3 +57,6 @@ keysOf cs vs = tab (length vs) (λ k. keyOf (doubled (getD cs k 0) (getD vs k 0)
 
 unfoldable pub peersOf : List ℕ → List ℕ → List ℕ
 peersOf hs ws = tab (length ws) (λ k. peerOf (getD hs k 0) (getD ws k 0))
+
+unfoldable pub slacksOf : List ℕ → List ℕ → List ℕ
+slacksOf hs ws = tab (length ws) (λ k. slackOf (getD hs k 0) (getD ws k 0))

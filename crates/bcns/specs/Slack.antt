@@ -1,29 +1,14 @@
--- BCNS's slack used: 02f.
---   slackOf h w     how far 2w lies, around a circle of 2q, from the nearest z with the hint h
---   slacksOf        the same entry by entry
---   mostSlack       the largest that it can be
--- What is shown of it:
+-- What is shown of BCNS's slack used: 02f.
 --   LeastApart, SlackLeast   some z with the hint is that far from 2w, and none is nearer
---   past, SlackFormula       it as the code computes it
---   SlackNone       it is 0 exactly if 2w has the hint
---   SlackBound      it is at most `mostSlack`
---   SlackApart      under the hint of the replier's z it is at most twice the distance of v and w, and one
+--   past, SlackFormula       the slack as the code computes it
+--   SlackNone                it is 0 exactly if 2w has the hint
+--   mostSlack, SlackBound    the largest that it can be, and that it is no more
+--   SlackApart               under the hint of the replier's z it is at most twice the distance of v and w, and one
 use mathlib.Core.Path.{_≡_}
 use mathlib.Core.Logic.{_↔_}
-use mathlib.Core.List.{List}
 use Prim.Native.Nat.{ℕ, _+_, _*_, _-_, _/_, _%_, _≤_, _<_, min}
-use lib.Dec.{eqb}
-use lib.ListN.{length, getD}
 use Rattle.numbers.specs.Residue.{apart}
-use Rattle.numbers.specs.Least.{awayFrom}
-use Rattle.lists.specs.Entries.{tab}
-use Rattle.bcns.specs.Rounding.{q, doubled, hintOf}
-
-unfoldable pub slackOf : ℕ → ℕ → ℕ
-slackOf h w = awayFrom (2 * q) (λ z. eqb (hintOf z) h) (2 * w)
-
-unfoldable pub slacksOf : List ℕ → List ℕ → List ℕ
-slacksOf hs ws = tab (length ws) (λ k. slackOf (getD hs k 0) (getD ws k 0))
+use Rattle.bcns.specs.Rounding.{q, doubled, hintOf, slackOf}
 
 abbrev pub mostSlack : ℕ
 mostSlack = 1073741824

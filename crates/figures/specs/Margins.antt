@@ -19,6 +19,7 @@ use Rattle.schemes.specs.declared.Scheme.{Scheme}
 use Rattle.numbers.specs.Residue.{apart}
 use Rattle.bcns.specs.Rounding as bcns
 use Rattle.newhope.specs.Group as newhope
+use Rattle.newhope.specs.Agreement.{BelowQ, apartOf}
 use Rattle.newhope.specs.declared.Four.{Four}
 use Rattle.frodo.specs.Rounding as frodo
 
@@ -71,8 +72,8 @@ BcnsFrom =
 abbrev pub NewHopeFrom : Type 0
 NewHopeFrom =
     FailsFrom (Tossed Four)
-    (λ x. (x .coin < 2) × newhope.BelowQ (x .v) × newhope.BelowQ (x .w))
-    (λ x. newhope.apartOf (x .v) (x .w))
+    (λ x. (x .coin < 2) × BelowQ (x .v) × BelowQ (x .w))
+    (λ x. apartOf (x .v) (x .w))
     (λ x. newhope.bitOf (newhope.hintOf (x .coin) (x .v)) (x .w) ≡ newhope.bitOf (newhope.hintOf (x .coin) (x .v)) (x .v))
     9215
 

@@ -16,8 +16,8 @@ use Rattle.numbers.specs.Residue.{apart}
 use Rattle.numbers.specs.Least.{awayFrom}
 use Rattle.numbers.proofs.Natural.{rest-is}
 use Rattle.numbers.proofs.Arc.{Arc, away-arc, away-at-most, away-none}
-use Rattle.frodo.specs.Rounding.{hintOf}
-use Rattle.frodo.specs.Slack.{slackOf, mostSlack, LeastApart, SlackLeast, past, SlackFormula, SlackNone, SlackBound, SlackApart}
+use Rattle.frodo.specs.Rounding.{hintOf, slackOf}
+use Rattle.frodo.specs.Slack.{mostSlack, LeastApart, SlackLeast, past, SlackFormula, SlackNone, SlackBound, SlackApart}
 use Rattle.frodo.proofs.Margin.{Half, half-of, hint-half}
 use Rattle.frodo.proofs.Rule.{inner, chosen, chosen-nearest, quarter}
 

@@ -16,9 +16,9 @@ use lib.Pow.{pow-pos}
 use Rattle.numbers.specs.Residue.{apart}
 use Rattle.lists.specs.Entries.{tab, Below}
 use Rattle.lists.proofs.Entries.{tab-length, tab-at, tab-ext, below-tab}
-use Rattle.frodo.specs.Rounding.{hintOf, keyOf, peerOf, hintsOf, keysOf, peersOf, Round}
-use Rattle.frodo.specs.Agreement.{EveryEntry}
-use Rattle.frodo.specs.Slack.{slackOf, slacksOf, mostSlack}
+use Rattle.frodo.specs.Rounding.{hintOf, keyOf, peerOf, hintsOf, keysOf, peersOf, slackOf, slacksOf}
+use Rattle.frodo.specs.Agreement.{Round, EveryEntry}
+use Rattle.frodo.specs.Slack.{mostSlack}
 use Rattle.frodo.proofs.Rule.{hint-below, agreement}
 use Rattle.frodo.proofs.Away.{slack-apart, slack-bound}
 

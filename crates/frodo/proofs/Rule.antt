@@ -19,8 +19,8 @@ use Rattle.numbers.specs.Circle.{Close, direct, over, under}
 use Rattle.numbers.specs.Least.{nearestTo}
 use Rattle.numbers.proofs.Circle.{apart-close, close-apart}
 use Rattle.numbers.proofs.Arc.{nearest-least}
-use Rattle.frodo.specs.Rounding.{hintOf, keyOf, peerOf, Nearest}
-use Rattle.frodo.specs.Agreement.{NoTie, formulaOf, Formula, Agreement}
+use Rattle.frodo.specs.Rounding.{hintOf, keyOf, peerOf}
+use Rattle.frodo.specs.Agreement.{Nearest, NoTie, formulaOf, Formula, Agreement}
 use Rattle.frodo.proofs.Margin.{Half, half-of, hint-half, margin}
 
 pub hint-below : (I v : ℕ) → hintOf I v < 2

@@ -1,29 +1,14 @@
--- Frodo's slack used: 02f, once over I and B as in `Rounding.antt`.
---   slackOf I B h w    how far w lies, around the circle, from the nearest value with the hint h
---   slacksOf           the same entry by entry
---   mostSlack I        the largest that it can be: a quarter of the interval
--- What is shown of it:
+-- What is shown of Frodo's slack used: 02f, once over I and B as in `Rounding.antt`.
 --   LeastApart, SlackLeast   some value with the hint is that far from w, and none is nearer
---   past, SlackFormula       it as the code computes it
---   SlackNone          it is 0 exactly if w has the hint
---   SlackBound         it is at most `mostSlack`
---   SlackApart         under the hint of v it is at most the distance of v and w
+--   past, SlackFormula       the slack as the code computes it
+--   SlackNone                it is 0 exactly if w has the hint
+--   mostSlack, SlackBound    the largest that it can be, a quarter of the interval, and that it is no more
+--   SlackApart               under the hint of v it is at most the distance of v and w
 use mathlib.Core.Path.{_≡_}
 use mathlib.Core.Logic.{_↔_}
-use mathlib.Core.List.{List}
 use Prim.Native.Nat.{ℕ, _+_, _*_, _-_, _/_, _%_, _^_, _≤_, _<_, min}
-use lib.Dec.{eqb}
-use lib.ListN.{length, getD}
 use Rattle.numbers.specs.Residue.{apart}
-use Rattle.numbers.specs.Least.{awayFrom}
-use Rattle.lists.specs.Entries.{tab}
-use Rattle.frodo.specs.Rounding.{hintOf}
-
-unfoldable pub slackOf : ℕ → ℕ → ℕ → ℕ → ℕ
-slackOf I B h w = awayFrom (I * 2 ^ B) (λ z. eqb (hintOf I z) h) w
-
-unfoldable pub slacksOf : ℕ → ℕ → List ℕ → List ℕ → List ℕ
-slacksOf I B hs ws = tab (length ws) (λ k. slackOf I B (getD hs k 0) (getD ws k 0))
+use Rattle.frodo.specs.Rounding.{hintOf, slackOf}
 
 abbrev pub mostSlack : ℕ → ℕ
 mostSlack I = I / 4

@@ -26,7 +26,7 @@ use Rattle.schemes.specs.Schemes.{byFamily, familyOf, fixedOf, schemeOf}
 use Rattle.lists.specs.Table.{both}
 use Rattle.bcns.specs.Rounding as bcns
 use Rattle.frodo.specs.Rounding as frodo
-use Rattle.frodo.specs.Rounding.{Round}
+use Rattle.frodo.specs.Agreement.{Round}
 use Rattle.frodo.proofs.Entries as frodo-entries
 use Rattle.frodo.proofs.Schemes.{each-scheme}
 use Rattle.text.specs.Text.{schemeName, Read, number, other, fieldIn}

@@ -2,8 +2,8 @@
 use mathlib.Core.Path.{refl}
 use native.Mathlib.Omega.{arith}
 use Rattle.numbers.specs.Residue.{residue, nearest, distance, apart}
-use Rattle.newhope.specs.Group.{upOf, downOf, offOf, offsOf, kOf, pOf, lessOf, lastOf, hintOf, termOf, sumOf, bitOf, apartOf}
-use Rattle.newhope.specs.Agreement.{Sharp}
+use Rattle.newhope.specs.Group.{upOf, downOf, offOf, offsOf, kOf, pOf, lessOf, lastOf, hintOf, termOf, sumOf, bitOf}
+use Rattle.newhope.specs.Agreement.{apartOf, Sharp}
 
 pub sharp : Sharp
 unfolding upOf downOf offOf offsOf kOf pOf lessOf lastOf hintOf termOf sumOf bitOf apartOf residue nearest distance apart

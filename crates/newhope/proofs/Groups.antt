@@ -17,8 +17,8 @@ use lib.ListN.{length, getD, set}
 use Rattle.lists.specs.Entries.{Below}
 use Rattle.lists.proofs.Entries.{tab-length, tab-at, tab-ext, below-tab}
 use Rattle.newhope.specs.declared.Four.{Four}
-use Rattle.newhope.specs.Group.{q, groups, BelowQ, Hint, hintOf, sumOf, bitOf, groupOf, entryOf, hintsOf, keysOf, peersOf}
-use Rattle.newhope.specs.Agreement.{EveryGroup}
+use Rattle.newhope.specs.Group.{q, groups, hintOf, sumOf, bitOf, groupOf, entryOf, hintsOf, keysOf, peersOf}
+use Rattle.newhope.specs.Agreement.{BelowQ, Hint, EveryGroup}
 use Rattle.newhope.proofs.Margin.{agreement}
 use Rattle.newhope.proofs.Parts.{hint-small}
 use Rattle.newhope.proofs.Spread.{Spread, spread-next, spread-end}

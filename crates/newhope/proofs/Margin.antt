@@ -11,8 +11,8 @@ use lib.IntN.{pos, _-ℤ_, +ℤ-invr}
 use borrow.Author.Tests.{ltb-true, ltb-false, le-leb, lt-leb}
 use Rattle.numbers.specs.Residue.{residue, apart}
 use Rattle.newhope.specs.declared.Four.{Four}
-use Rattle.newhope.specs.Group.{q, upOf, downOf, offsOf, kOf, pOf, lessOf, lastOf, hintOf, termOf, sumOf, bitOf, apartOf}
-use Rattle.newhope.specs.Agreement.{Agreement, Published}
+use Rattle.newhope.specs.Group.{q, upOf, downOf, offsOf, kOf, pOf, lessOf, lastOf, hintOf, termOf, sumOf, bitOf}
+use Rattle.newhope.specs.Agreement.{apartOf, Agreement, Published}
 use Rattle.numbers.proofs.Circle.{apart-self}
 use Rattle.newhope.proofs.Entry.{term-same, named, moved, opposite, own-up, own-down, up-five, down-five}
 

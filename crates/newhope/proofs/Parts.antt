@@ -11,7 +11,8 @@ use lib.IntN.{pos, _-ℤ_}
 use Rattle.numbers.specs.Residue.{residue}
 use Rattle.numbers.proofs.Congruence.{residue-lt}
 use Rattle.newhope.specs.declared.Four.{Four}
-use Rattle.newhope.specs.Group.{q, Hint, upOf, downOf, offsOf, kOf, pOf, lessOf, lastOf, hintOf}
+use Rattle.newhope.specs.Group.{q, upOf, downOf, offsOf, kOf, pOf, lessOf, lastOf, hintOf}
+use Rattle.newhope.specs.Agreement.{Hint}
 
 pub hint-small : (b : ℕ) (v : Four) → Hint (hintOf b v)
 unfolding hintOf lessOf lastOf

@@ -1,16 +1,35 @@
--- What is shown of NewHope's reconciliation.
+-- What is shown of NewHope's reconciliation, and the ranges of what it takes.
+--   BelowQ v     the four entries of a group are below q
+--   Hint h       the four of a hint are below 4
+--   apartOf v w  the four distances between v and w, summed
 --   margin       how large the four distances between v and w may be together
 --   Agreement    up to there both ends compute the same bit
 --   Published    and the replier's is the published one
 --   Sharp        one more, and the bits can differ
---   EveryGroup   the same of all 256 groups
+--   EveryGroup   both ends have the same bits where the margin holds in each of the 256 groups
 use mathlib.Core.Path.{_≡_}
 use mathlib.Core.List.{List}
 use mathlib.Core.Logic.{_↔_}
 use Prim.Native.Nat.{ℕ, _+_, _≤_, _<_}
 use Rattle.lists.specs.Entries.{Below}
+use Rattle.numbers.specs.Residue.{apart}
 use Rattle.newhope.specs.declared.Four.{Four}
-use Rattle.newhope.specs.Group.{q, groups, BelowQ, pOf, hintOf, bitOf, apartOf, groupOf, hintsOf, keysOf, peersOf}
+use Rattle.newhope.specs.Group.{q, groups, pOf, hintOf, bitOf, groupOf, hintsOf, keysOf, peersOf}
+
+pub record BelowQ (v : Four) : Type 0 where
+  pub s0 : v .e0 < q
+  pub s1 : v .e1 < q
+  pub s2 : v .e2 < q
+  pub s3 : v .e3 < q
+
+pub record Hint (h : Four) : Type 0 where
+  pub h0 : h .e0 < 4
+  pub h1 : h .e1 < 4
+  pub h2 : h .e2 < 4
+  pub h3 : h .e3 < 4
+
+unfoldable pub apartOf : Four → Four → ℕ
+apartOf v w = apart q (v .e0) (w .e0) + apart q (v .e1) (w .e1) + apart q (v .e2) (w .e2) + apart q (v .e3) (w .e3)
 
 abbrev pub margin : ℕ
 margin = 9214

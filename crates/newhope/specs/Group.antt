@@ -6,12 +6,11 @@
 --   hintOf b v             (p0 - p3, p1 - p3, p2 - p3, k + 2 p3) modulo 4
 --   termOf c x             how far 8x - qc lies from the nearest multiple of 8q
 --   bitOf h x              1 (near) if the four sum to at most 8q, else 0 (far): both ends' bit
---   apartOf v w            the four distances between v and w, summed
 --   groupOf xs i           group i of a list of 1,024 numbers
 --   hintsOf, keysOf, peersOf   over all 256 groups: hint j of group i stands at i + 256 j
 use mathlib.Core.Bool.{cond}
 use mathlib.Core.List.{List}
-use Prim.Native.Nat.{ℕ, zero, suc, _+_, _*_, _/_, _%_, _<_}
+use Prim.Native.Nat.{ℕ, zero, suc, _+_, _*_, _/_, _%_}
 use lib.Dec.{ltb, leb}
 use lib.IntN.{pos, natAbs, _-ℤ_}
 use lib.ListN.{getD}
@@ -67,9 +66,6 @@ sumOf h x =
 unfoldable pub bitOf : Four → Four → ℕ
 bitOf h x = cond (leb (sumOf h x) (8 * q)) 1 0
 
-unfoldable pub apartOf : Four → Four → ℕ
-apartOf v w = apart q (v .e0) (w .e0) + apart q (v .e1) (w .e1) + apart q (v .e2) (w .e2) + apart q (v .e3) (w .e3)
-
 -- ---- over all groups
 
 unfoldable pub groupOf : List ℕ → ℕ → Four
@@ -91,17 +87,3 @@ keysOf cs vs = tab groups (λ i. bitOf (hintOf (getD cs i 0) (groupOf vs i)) (gr
 
 unfoldable pub peersOf : List ℕ → List ℕ → List ℕ
 peersOf hs ws = tab groups (λ i. bitOf (groupOf hs i) (groupOf ws i))
-
--- ---- ranges
-
-pub record BelowQ (v : Four) : Type 0 where
-  pub s0 : v .e0 < q
-  pub s1 : v .e1 < q
-  pub s2 : v .e2 < q
-  pub s3 : v .e3 < q
-
-pub record Hint (h : Four) : Type 0 where
-  pub h0 : h .e0 < 4
-  pub h1 : h .e1 < 4
-  pub h2 : h .e2 < 4
-  pub h3 : h .e3 < 4

@@ -21,7 +21,7 @@ use Rattle.schemes.specs.declared.Fixed.{Fixed}
 use Rattle.schemes.specs.declared.Scheme.{Scheme}
 use Rattle.schemes.proofs.Sound.{sound}
 use Rattle.lists.specs.Entries.{Below}
-use Rattle.frodo.specs.Rounding.{Round}
+use Rattle.frodo.specs.Agreement.{Round}
 
 -- the rounding interval, `interval` of the scheme
 abbrev wide : Fixed → ℕ

@@ -17,8 +17,7 @@ use Rattle.lists.specs.Entries.{Below}
 use Rattle.bcns.specs.Rounding as bcns-spec
 use Rattle.newhope.specs.Group as newhope-spec
 use Rattle.frodo.specs.Rounding as frodo-spec
-use Rattle.bcns.specs.Slack as bcns-slack
-use Rattle.frodo.specs.Slack as frodo-slack
+use Rattle.frodo.specs.Agreement as frodo-shown
 use Rattle.bcns.proofs.Entries as bcns
 use Rattle.newhope.proofs.Groups as newhope
 use Rattle.frodo.proofs.Entries as frodo-laws
@@ -153,10 +152,10 @@ module _ {X : Scheme → List ℕ → List ℕ → List ℕ → ℕ → Type 0} 
 
   -- what is asked of the value in Frodo, and of its room
   abbrev FrodoValue : Type 0
-  FrodoValue = frodo-spec.Round (t .I) (t .B) × Below (t .I * 2 ^ t .B) (t .v)
+  FrodoValue = frodo-shown.Round (t .I) (t .B) × Below (t .I * 2 ^ t .B) (t .v)
 
   abbrev FrodoAsks : Type 0
-  FrodoAsks = frodo-spec.Round (t .I) (t .B) × Below (t .I * 2 ^ t .B) (t .v) × (length (t .v) ≡ t .room)
+  FrodoAsks = frodo-shown.Round (t .I) (t .B) × Below (t .I * 2 ^ t .B) (t .v) × (length (t .v) ≡ t .room)
 
   frodo-value : Counted (fixedOf (t .c) .mixed) (fixedOf (t .c) .q) (t .v) → Frodo (fixedOf (t .c)) → FrodoValue
   frodo-value h k = rw (t .wide, t .bits) (k .round, subst (λ (q : ℕ). Below q (t .v)) (sym (k .whole)) (h .below))
@@ -259,8 +258,8 @@ module _ (F : Family) (t : Told Slacking) (i : t .kind ≡ F) where
       (λ k. tt)
       (λ k. (frodo-value t (h .0) k, (bits refl (k .hintbits) (h .1) .below, same)))
 
-  pub slacks-made : {out : List ℕ} → out ≡ byFamily F (bcns-slack.slacksOf (t .xs) (t .v)) (replicate (length (t .v)) 0)
-      (frodo-slack.slacksOf (t .I) (t .B) (t .xs) (t .v))
+  pub slacks-made : {out : List ℕ} → out ≡ byFamily F (bcns-spec.slacksOf (t .xs) (t .v)) (replicate (length (t .v)) 0)
+      (frodo-spec.slacksOf (t .I) (t .B) (t .xs) (t .v))
       → out ≡ slacks (t .c) (t .xs) (t .v)
   unfolding slacks
   slacks-made p = in-arm F (t .c) (sym (t .family) ∙ i) p (λ k. refl) (λ k. refl) (λ k. rw (t .wide, t .bits) refl)

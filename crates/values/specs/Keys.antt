@@ -10,10 +10,8 @@ use lib.ListN.{length, replicate}
 use Rattle.schemes.specs.Schemes.{byFamily, familyOf, fixedOf}
 use Rattle.schemes.specs.declared.Scheme.{Scheme}
 use Rattle.bcns.specs.Rounding as bcns
-use Rattle.bcns.specs.Slack as bcns-slack
 use Rattle.newhope.specs.Group as newhope
 use Rattle.frodo.specs.Rounding as frodo
-use Rattle.frodo.specs.Slack as frodo-slack
 
 abbrev pub interval : Scheme → ℕ
 interval c = frodo.interval (fixedOf c)
@@ -28,4 +26,4 @@ unfoldable pub peers : Scheme → List ℕ → List ℕ → List ℕ
 peers c hs w = byFamily (familyOf c) (bcns.peersOf hs w) (newhope.peersOf hs w) (frodo.peersOf (interval c) (fixedOf c .keybits) hs w)
 
 unfoldable pub slacks : Scheme → List ℕ → List ℕ → List ℕ
-slacks c hs w = byFamily (familyOf c) (bcns-slack.slacksOf hs w) (replicate (length w) 0) (frodo-slack.slacksOf (interval c) (fixedOf c .keybits) hs w)
+slacks c hs w = byFamily (familyOf c) (bcns.slacksOf hs w) (replicate (length w) 0) (frodo.slacksOf (interval c) (fixedOf c .keybits) hs w)

@@ -5,7 +5,7 @@ use native.Mathlib.Omega.{arith}
 use lib.ListN.{length, getD, length-set}
 use borrow.Author.Needs.{needs}
 use Rattle.lists.proofs.Fill.{Filled, fill-start, fill-next, fill-whole, fill-old}
-use Rattle.frodo.specs.Slack.{slackOf, slacksOf}
+use Rattle.frodo.specs.Rounding.{slackOf, slacksOf}
 use Rattle.frodo.proofs.slacks.Statement.{statement}
 use Rattle.frodo.proofs.slacks.Tie as tie
 
