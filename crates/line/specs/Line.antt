@@ -14,7 +14,8 @@ use Rattle.schemes.specs.Schemes.{byFamily, familyOf, fixedOf, schemeOf}
 use Rattle.lists.specs.Table.{both}
 use Rattle.bcns.specs.Rounding as bcns
 use Rattle.frodo.specs.Rounding as frodo
-use Rattle.text.specs.Text.{schemeName, refusalName, line, Read, number, other, fieldIn}
+use Rattle.text.specs.Text.{schemeName, line, Read, number, other, fieldIn}
+use Rattle.text.specs.Answer.{refusalName}
 
 -- the names, in bytes
 abbrev pub coinName : List ℕ

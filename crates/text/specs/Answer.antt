@@ -1,10 +1,14 @@
 -- A program's answer, as it stands in the room that it is lent.
+--   refusalName             the name of the line that tells a refusal
 --   Answers room xs r out   out, of that many bytes, holds the text xs and zeros behind it, and r is how many bytes xs has
 --   OneAnswer               no two results satisfy it
 use mathlib.Core.Path.{_≡_}
-use mathlib.Core.List.{List, _++_}
+use mathlib.Core.List.{List, [], _∷_, _++_}
 use Prim.Native.Nat.{ℕ, _-_}
 use lib.ListN.{length, replicate}
+
+abbrev pub refusalName : List ℕ
+refusalName = 114 ∷ 101 ∷ 102 ∷ 117 ∷ 115 ∷ 97 ∷ 108 ∷ []
 
 pub record Answers (room : ℕ) (xs : List ℕ) (r : ℕ) (out : List ℕ) : Type 0 where
   pub count : r ≡ length xs

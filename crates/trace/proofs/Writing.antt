@@ -10,7 +10,8 @@ use native.Mathlib.Numerals.{add-one}
 use native.Mathlib.Omega.{arith}
 use lib.ListN.{length, drop}
 use borrow.Author.Tests.{eq-eqb, ne-eqb}
-use Rattle.text.specs.Text.{schemeName, refusalName, line}
+use Rattle.text.specs.Text.{schemeName, line}
+use Rattle.text.specs.Answer.{refusalName}
 use Rattle.text.specs.Steps.{labelled, Written}
 use Rattle.text.proofs.Writing.{joined, Left, left-all, left-room, left-next, left-none, written-none}
 use Rattle.trace.specs.Trace.{exchangesName, sumName, largestName, block}

@@ -10,7 +10,8 @@ use mathlib.Core.Bool.{Bool, true, false}
 use mathlib.Core.List.{List, [], _∷_, _++_}
 use Prim.Native.Nat.{ℕ, zero, suc, _+_, _*_, _≤_, max}
 use lib.ListN.{length, getD, set, drop, replicate}
-use Rattle.text.specs.Text.{refusalName, line}
+use Rattle.text.specs.Text.{line}
+use Rattle.text.specs.Answer.{refusalName}
 use Rattle.trace.specs.Trace.{Two, two, neither, twoIn, block}
 use Rattle.trace.specs.declared.Pair.{Pair}
 use Rattle.trace.specs.declared.Pair.the-variants as pair

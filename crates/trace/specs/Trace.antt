@@ -10,7 +10,8 @@ use Prim.Native.Nat.{ℕ, zero, suc, _+_}
 use lib.Dec.{eqb, leb}
 use lib.ListN.{length}
 use Rattle.lists.specs.First.{largestBy}
-use Rattle.text.specs.Text.{schemeName, refusalName, line, Read, number, other, fieldIn}
+use Rattle.text.specs.Text.{schemeName, line, Read, number, other, fieldIn}
+use Rattle.text.specs.Answer.{refusalName}
 
 -- the names, in bytes
 abbrev pub slackName : List ℕ
