@@ -23,7 +23,8 @@ use Rattle.lists.proofs.Entries.{tab-length, tab-at, within-tab}
 use Rattle.lists.proofs.First.{Passed, passed-none, passed-more, found, missing, none-before, none-passes, none-found, first-passes}
 use Rattle.noise.specs.Noise.{atMost, withSign}
 use Rattle.noise.proofs.Noise.{at-most-le, sign-size, Counted, counted-more}
-use Rattle.bcns_noise.specs.Noise.{wide, entryOf, entries, bigEndian, bcnsValue, bcnsNoise, falls, firstNotAbove, Largest, Largest51, Ascending, Ascends, Place, EachPlace}
+use Rattle.bcns_noise.specs.Noise.{wide, entryOf, entries, bigEndian, bcnsValue, bcnsNoise, falls, firstNotAbove}
+use Rattle.bcns_noise.specs.Shown.{Largest, Largest51, Ascending, Ascends, Place, EachPlace}
 use Rattle.bcns_noise.proofs.Words.{big-wide}
 
 pub entries-long : (table : List ℕ) → length (entries table) ≡ length table / 3

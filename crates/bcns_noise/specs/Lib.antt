@@ -1,1 +1,2 @@
 pub mod Noise
+pub mod Shown

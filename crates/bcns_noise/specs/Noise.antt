@@ -11,19 +11,13 @@
 --   "18, a table not strictly ascending, place of the first entry not above its forerunner"
 --   falls table k         entry k has a forerunner and is not above it
 --   firstNotAbove table   the first such k, or the number of entries where there is none
--- What is shown of them:
---   Largest, Largest51    no value lies beyond the number of entries: none beyond 51, the largest noise, where there are 51
---   Ascending, Ascends    there is no such k exactly where each entry is above its forerunner
---   Place, EachPlace      where there is one it is 1 or more, that entry is not above its forerunner, and those in front of it ascend
-use mathlib.Core.Path.{_≡_}
 use mathlib.Core.Bool.{Bool, false}
 use mathlib.Core.List.{List}
-use mathlib.Core.Logic.{_↔_}
-use Prim.Native.Nat.{ℕ, zero, suc, _+_, _*_, _-_, _/_, _^_, _<_, _≤_}
+use Prim.Native.Nat.{ℕ, zero, suc, _+_, _*_, _/_, _^_}
 use lib.Dec.{leb}
 use lib.IntN.{ℤ}
 use lib.ListN.{length, getD}
-use Rattle.lists.specs.Entries.{tab, Within}
+use Rattle.lists.specs.Entries.{tab}
 use Rattle.lists.specs.First.{firstWhere}
 use Rattle.noise.specs.Noise.{atMost, withSign}
 
@@ -52,25 +46,3 @@ falls table (suc k) = leb (entryOf table (suc k)) (entryOf table k)
 
 unfoldable pub firstNotAbove : List ℕ → ℕ
 firstNotAbove table = firstWhere (falls table) (tab (length table / 3) (λ k. k))
-
--- ---- what is shown
-
-abbrev pub Largest : Type 0
-Largest = (table bs : List ℕ) → Within (length table / 3) (bcnsNoise table bs)
-
-abbrev pub Largest51 : Type 0
-Largest51 = (table bs : List ℕ) → length table ≡ 153 → Within 51 (bcnsNoise table bs)
-
-pub record Ascending (table : List ℕ) (n : ℕ) : Type 0 where
-  pub above : (k : ℕ) → suc k < n → entryOf table k < entryOf table (suc k)
-
-abbrev pub Ascends : Type 0
-Ascends = (table : List ℕ) → (firstNotAbove table ≡ length table / 3) ↔ Ascending table (length table / 3)
-
-pub record Place (table : List ℕ) (p : ℕ) : Type 0 where
-  pub behind : 0 < p
-  pub not-above : entryOf table p ≤ entryOf table (p - 1)
-  pub front : Ascending table p
-
-abbrev pub EachPlace : Type 0
-EachPlace = (table : List ℕ) → firstNotAbove table < length table / 3 → Place table (firstNotAbove table)

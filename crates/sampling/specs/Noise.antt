@@ -29,7 +29,8 @@ use Rattle.refusals.specs.declared.Verdict.{Verdict}
 use Rattle.refusals.specs.declared.Verdict.the-variants.{Pass, Fail}
 use Rattle.refusals.specs.declared.Refusal.the-variants.{NoScheme}
 use Rattle.noise.specs.Noise.{newHopeNoise, frodoNoise, d1, d2, d3, d4}
-use Rattle.bcns_noise.specs.Noise.{bcnsNoise, firstNotAbove, Place}
+use Rattle.bcns_noise.specs.Noise.{bcnsNoise, firstNotAbove}
+use Rattle.bcns_noise.specs.Shown.{Place}
 
 pub record Noise : Type 0 where
   pub bytes : List ℕ
