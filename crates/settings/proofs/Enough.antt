@@ -12,13 +12,13 @@ use Rattle.text.specs.Text.{line, number, fieldIn}
 use Rattle.text.proofs.Numeral.{decimal-length}
 use Rattle.text.proofs.Lines.{line-forth, line-back}
 use Rattle.text.proofs.Writing.{line-length}
-use Rattle.settings.specs.Settings.{Kept, formatName, Reading, kept, newer, misfit, reads}
-use Rattle.settings.specs.Answers.{sizeOf}
+use Rattle.settings.specs.Settings.{Setup, formatName, Reading, setup, newer, misfit, reads}
+use Rattle.settings.specs.Steps.{sizeOf}
 use Rattle.settings.specs.Shown.{Is, Enough}
 use Rattle.settings.proofs.Inverse.{no-other, newer-told, newer-only}
 use Rattle.settings.proofs.Store.{size-is}
 
-text-short : {reader : ℕ} {xs : List ℕ} {x : Kept} → Is reader xs x → length xs ≤ 49
+text-short : {reader : ℕ} {xs : List ℕ} {x : Setup} → Is reader xs x → length xs ≤ 49
 text-short {reader} {xs} {x} h =
     let v = h .valid in
     let l = x .label in
@@ -59,9 +59,9 @@ enough reader xs = go (decLe (length xs) 49)
     go (no l) = pick (reads reader xs) (reads reader (take 50 xs)) refl refl
       where
         pick : (r q : Reading) → reads reader xs ≡ r → reads reader (take 50 xs) ≡ q → q ≡ r
-        pick (kept x) q e f = absurd (omega (arith, text-short (no-other reader xs x e)))
+        pick (setup x) q e f = absurd (omega (arith, text-short (no-other reader xs x e)))
         pick (newer n) q e f = sym f ∙ whole-newer reader xs e
-        pick misfit (kept x) e f =
+        pick misfit (setup x) e f =
             absurd (omega (arith, text-short (no-other reader (take 50 xs) x f), length-take 50 xs))
         pick misfit (newer n) e f = let z = part-newer reader xs f in cc
         pick misfit misfit e f = refl

@@ -18,15 +18,15 @@ use Rattle.text.specs.Text.{LF, schemeName, line, Read, number, other, isDigit,
 use Rattle.text.proofs.Reading.{begins-is}
 use Rattle.text.proofs.Runs.{run-all, run-take}
 use Rattle.text.proofs.Lines.{begins-front, line-forth, line-back}
-use Rattle.settings.specs.Settings.{Kept, keptOf, formatName, ruleName, labelName, formatOf, labelLine, textOf, isScheme, isRule, notAllowed, letters, Valid, Reading, kept, newer, misfit, wellSpelled, spelledIn, lastIn, endIn, tailIn, ruleIn, schemeIn, formatIn, reads}
-use Rattle.settings.specs.Shown.{Is, Newer, TextRead, NoOther, NewerTold, NewerOnly, Back, SameBytes, SameReading, OlderTells, Upgraded}
+use Rattle.settings.specs.Settings.{Setup, setupOf, formatName, ruleName, labelName, formatOf, labelLine, textOf, isScheme, isRule, notAllowed, letters, Reading, setup, newer, misfit, wellSpelled, spelledIn, lastIn, endIn, tailIn, ruleIn, schemeIn, formatIn, reads}
+use Rattle.settings.specs.Shown.{Valid, Is, Newer, TextRead, NoOther, NewerTold, NewerOnly, Back, SameBytes, SameReading, OlderTells, Upgraded}
 use Rattle.settings.proofs.Known.{scheme-small, rule-small, format-some}
 
-never : {X : Type 0} {r : Reading} {x : Kept} → r ≡ misfit → r ≡ kept x → X
+never : {X : Type 0} {r : Reading} {x : Setup} → r ≡ misfit → r ≡ setup x → X
 never e h = let z : _≡_ {A = ℕ} 0 1 = cc in absurd (omega arith)
 
-same-kept : {x y : Kept} → kept x ≡ kept y → x ≡ y
-same-kept e = cc
+same-setup : {x y : Setup} → setup x ≡ setup y → x ≡ y
+same-setup e = cc
 
 -- ---- a newer format
 
@@ -47,11 +47,11 @@ module _ (l : List ℕ) (some : 1 ≤ length l) (short : length l ≤ 16) (bytes
       rw (run-is, le-leb 1 (length l) some, le-leb (length l) 16 short, eq-eqb (length (l ++ LF ∷ [])) (suc (length l)) (length-append l (LF ∷ []) ∙ omega arith))
       (eq-eqb (getD (l ++ LF ∷ []) (length l) 0) LF (getD-append-seam l LF [] 0))
 
-  spelled-forth : (a b : ℕ) → spelledIn a b (l ++ LF ∷ []) ≡ kept (keptOf a b l)
+  spelled-forth : (a b : ℕ) → spelledIn a b (l ++ LF ∷ []) ≡ setup (setupOf a b l)
   unfolding spelledIn
   spelled-forth a b = rw (spelled-true, run-is, take-append-seam)
 
-tail-forth : (a b : ℕ) (l : List ℕ) → length l ≤ 16 → letters l ≡ length l → tailIn (formatOf (length l)) a b (labelLine l) ≡ kept (keptOf a b l)
+tail-forth : (a b : ℕ) (l : List ℕ) → length l ≤ 16 → letters l ≡ length l → tailIn (formatOf (length l)) a b (labelLine l) ≡ setup (setupOf a b l)
 unfolding tailIn formatOf labelLine endIn lastIn
 tail-forth a b [] s h = refl
 tail-forth a b (x ∷ l) s h = rw (begins-front (labelName ++ 61 ∷ []) ((x ∷ l) ++ LF ∷ [])) (spelled-forth (x ∷ l) (omega arith) s h a b)
@@ -103,12 +103,12 @@ tail-empty : Tail 1 [] []
 unfolding labelLine formatOf letters firstWhere
 tail-empty = record { text = refl; format = refl; short = omega arith; bytes = refl }
 
-module _ {x : Kept} where
-  spelled-back : (a b : ℕ) (xs : List ℕ) → spelledIn a b xs ≡ kept x → (a ≡ x .scheme) × (b ≡ x .rule) × Spelled (x .label) xs
+module _ {x : Setup} where
+  spelled-back : (a b : ℕ) (xs : List ℕ) → spelledIn a b xs ≡ setup x → (a ≡ x .scheme) × (b ≡ x .rule) × Spelled (x .label) xs
   unfolding spelledIn wellSpelled letters
   spelled-back a b xs = go (wellSpelled xs) refl
     where
-      go : (t : Bool) → wellSpelled xs ≡ t → cond t (kept (keptOf a b (take (letters xs) xs))) misfit ≡ kept x
+      go : (t : Bool) → wellSpelled xs ≡ t → cond t (setup (setupOf a b (take (letters xs) xs))) misfit ≡ setup x
           → (a ≡ x .scheme) × (b ≡ x .rule) × Spelled (x .label) xs
       go true w e =
           let n = letters xs in
@@ -120,13 +120,13 @@ module _ {x : Kept} where
           let most = leb-true n 16 (t2 .0) in
           let long = eqb-true (length xs) (suc n) (t3 .0) in
           let stop = eqb-true (getD xs n 0) LF (t3 .1) in
-          let q = same-kept e in
-          let k : take n xs ≡ l = ap (λ (y : Kept). y .label) q in
+          let q = same-setup e in
+          let k : take n xs ≡ l = ap (λ (y : Setup). y .label) q in
           let m : length xs ≤ suc n = omega arith in
           let z : drop (suc n) xs ≡ [] = drop-of-length-le xs m in
           let ln : length l ≡ n = sym (ap length k) ∙ length-take-le n xs (omega arith) in (
-            ap (λ (y : Kept). y .scheme) q,
-            ap (λ (y : Kept). y .rule) q,
+            ap (λ (y : Setup). y .scheme) q,
+            ap (λ (y : Setup). y .rule) q,
             record {
               text = split-at xs n 0 (omega arith) ∙ ap₂ (λ (s t : List ℕ). s ++ t) k (ap₂ (λ (c : ℕ) (t : List ℕ). c ∷ t) stop z);
               some = omega arith;
@@ -136,11 +136,11 @@ module _ {x : Kept} where
           )
       go false w e = never refl e
 
-  last-back : (a b : ℕ) (xs : List ℕ) → lastIn a b xs ≡ kept x → (a ≡ x .scheme) × (b ≡ x .rule) × Tail 2 xs (x .label)
+  last-back : (a b : ℕ) (xs : List ℕ) → lastIn a b xs ≡ setup x → (a ≡ x .scheme) × (b ≡ x .rule) × Tail 2 xs (x .label)
   unfolding lastIn
   last-back a b xs = go (begins (labelName ++ 61 ∷ []) xs) refl
     where
-      go : (t : Bool) → begins (labelName ++ 61 ∷ []) xs ≡ t → cond t (spelledIn a b (drop 6 xs)) misfit ≡ kept x
+      go : (t : Bool) → begins (labelName ++ 61 ∷ []) xs ≡ t → cond t (spelledIn a b (drop 6 xs)) misfit ≡ setup x
           → (a ≡ x .scheme) × (b ≡ x .rule) × Tail 2 xs (x .label)
       go true w e =
           let o = spelled-back a b (drop 6 xs) e in
@@ -157,29 +157,29 @@ module _ {x : Kept} where
           )
       go false w e = never refl e
 
-  end-back : (a b : ℕ) (xs : List ℕ) → endIn a b xs ≡ kept x → (a ≡ x .scheme) × (b ≡ x .rule) × Tail 1 xs (x .label)
+  end-back : (a b : ℕ) (xs : List ℕ) → endIn a b xs ≡ setup x → (a ≡ x .scheme) × (b ≡ x .rule) × Tail 1 xs (x .label)
   unfolding endIn
   end-back a b [] e =
-      let q = same-kept e in
-      (ap (λ (y : Kept). y .scheme) q, ap (λ (y : Kept). y .rule) q, subst (λ (y : Kept). Tail 1 [] (y .label)) q tail-empty)
+      let q = same-setup e in
+      (ap (λ (y : Setup). y .scheme) q, ap (λ (y : Setup). y .rule) q, subst (λ (y : Setup). Tail 1 [] (y .label)) q tail-empty)
   end-back a b (c ∷ xs) e = never refl e
 
-  tail-back : (f a b : ℕ) (xs : List ℕ) → tailIn f a b xs ≡ kept x → (a ≡ x .scheme) × (b ≡ x .rule) × Tail f xs (x .label)
+  tail-back : (f a b : ℕ) (xs : List ℕ) → tailIn f a b xs ≡ setup x → (a ≡ x .scheme) × (b ≡ x .rule) × Tail f xs (x .label)
   unfolding tailIn
   tail-back f a b xs = go (eqb f 1) (eqb f 2) refl refl
     where
-      go : (s t : Bool) → eqb f 1 ≡ s → eqb f 2 ≡ t → cond s (endIn a b xs) (cond t (lastIn a b xs) misfit) ≡ kept x
+      go : (s t : Bool) → eqb f 1 ≡ s → eqb f 2 ≡ t → cond s (endIn a b xs) (cond t (lastIn a b xs) misfit) ≡ setup x
           → (a ≡ x .scheme) × (b ≡ x .rule) × Tail f xs (x .label)
       go true t p q e = rw (eqb-true f 1 p) (end-back a b xs e)
       go false true p q e = rw (eqb-true f 2 q) (last-back a b xs e)
       go false false p q e = never refl e
 
-  rule-back : (f a : ℕ) (r : Read) → ruleIn f a r ≡ kept x
+  rule-back : (f a : ℕ) (r : Read) → ruleIn f a r ≡ setup x
       → (a ≡ x .scheme) × (r ≡ number (x .rule) (labelLine (x .label))) × (isRule (x .rule) ≡ true) × Tail f (labelLine (x .label)) (x .label)
   unfolding ruleIn
   rule-back f a (number b xs) = go (isRule b) refl
     where
-      go : (t : Bool) → isRule b ≡ t → cond t (tailIn f a b xs) misfit ≡ kept x
+      go : (t : Bool) → isRule b ≡ t → cond t (tailIn f a b xs) misfit ≡ setup x
           → (a ≡ x .scheme) × (number b xs ≡ number (x .rule) (labelLine (x .label))) × (isRule (x .rule) ≡ true) × Tail f (labelLine (x .label)) (x .label)
       go true q e =
           let o = tail-back f a b xs e in
@@ -188,12 +188,12 @@ module _ {x : Kept} where
       go false q e = never refl e
   rule-back f a other = λ e. never refl e
 
-  scheme-back : (f : ℕ) (r : Read) → schemeIn f r ≡ kept x
+  scheme-back : (f : ℕ) (r : Read) → schemeIn f r ≡ setup x
       → (f ≡ formatOf (length (x .label))) × (r ≡ number (x .scheme) (line ruleName (x .rule) ++ labelLine (x .label))) × Valid x
   unfolding schemeIn
   scheme-back f (number a xs) = go (isScheme a) refl
     where
-      go : (t : Bool) → isScheme a ≡ t → cond t (ruleIn f a (fieldIn ruleName xs)) misfit ≡ kept x
+      go : (t : Bool) → isScheme a ≡ t → cond t (ruleIn f a (fieldIn ruleName xs)) misfit ≡ setup x
           → (f ≡ formatOf (length (x .label))) × (number a xs ≡ number (x .scheme) (line ruleName (x .rule) ++ labelLine (x .label))) × Valid x
       go true q e =
           let o = rule-back f a (fieldIn ruleName xs) e in
@@ -205,14 +205,14 @@ module _ {x : Kept} where
       go false q e = never refl e
   scheme-back f other = λ e. never refl e
 
-  format-back : (reader : ℕ) (r : Read) → formatIn reader r ≡ kept x
+  format-back : (reader : ℕ) (r : Read) → formatIn reader r ≡ setup x
       → (formatOf (length (x .label)) ≤ reader)
       × (r ≡ number (formatOf (length (x .label))) (line schemeName (x .scheme) ++ (line ruleName (x .rule) ++ labelLine (x .label))))
       × Valid x
   unfolding formatIn
   format-back reader (number f xs) = go (ltb reader f) refl
     where
-      go : (t : Bool) → ltb reader f ≡ t → cond t (newer f) (schemeIn f (fieldIn schemeName xs)) ≡ kept x
+      go : (t : Bool) → ltb reader f ≡ t → cond t (newer f) (schemeIn f (fieldIn schemeName xs)) ≡ setup x
           → (formatOf (length (x .label)) ≤ reader)
           × (number f xs ≡ number (formatOf (length (x .label))) (line schemeName (x .scheme) ++ (line ruleName (x .rule) ++ labelLine (x .label))))
           × Valid x
@@ -234,22 +234,22 @@ no-other reader xs x e =
 record Quiet (r : Reading) : Type 0 where
   quiet : (n : ℕ) → r ≡ newer n → ⊥
 
-quiet-kept : (x : Kept) → Quiet (kept x)
-quiet-kept x = record { quiet = λ n e. let z : _≡_ {A = ℕ} 0 1 = cc in omega arith }
+quiet-setup : (x : Setup) → Quiet (setup x)
+quiet-setup x = record { quiet = λ n e. let z : _≡_ {A = ℕ} 0 1 = cc in omega arith }
 
 quiet-misfit : Quiet misfit
 quiet-misfit = record { quiet = λ n e. let z : _≡_ {A = ℕ} 0 1 = cc in omega arith }
 
 end-quiet : (a b : ℕ) (xs : List ℕ) → Quiet (endIn a b xs)
 unfolding endIn
-end-quiet a b [] = quiet-kept _
+end-quiet a b [] = quiet-setup _
 end-quiet a b (x ∷ xs) = quiet-misfit
 
 last-quiet : (a b : ℕ) (xs : List ℕ) → Quiet (lastIn a b xs)
 unfolding lastIn spelledIn
 last-quiet a b xs =
     cond-all Quiet (begins (labelName ++ 61 ∷ []) xs)
-    (cond-all Quiet (wellSpelled (drop 6 xs)) (quiet-kept (keptOf a b (take (letters (drop 6 xs)) (drop 6 xs)))) quiet-misfit) quiet-misfit
+    (cond-all Quiet (wellSpelled (drop 6 xs)) (quiet-setup (setupOf a b (take (letters (drop 6 xs)) (drop 6 xs)))) quiet-misfit) quiet-misfit
 
 rule-quiet : (f a : ℕ) (r : Read) → Quiet (ruleIn f a r)
 unfolding ruleIn tailIn
@@ -281,7 +281,7 @@ pub back : Back
 back x v = text-read 2 (textOf x) x (record { text = refl; valid = v; format = format-small (length (x .label)) })
 
 pub same-bytes : SameBytes
-same-bytes x y v w = (λ e. same-kept (sym (back x v) ∙ ap (reads 2) e ∙ back y w), λ e. ap textOf e)
+same-bytes x y v w = (λ e. same-setup (sym (back x v) ∙ ap (reads 2) e ∙ back y w), λ e. ap textOf e)
 
 pub same-reading : SameReading
 unfolding reads formatIn

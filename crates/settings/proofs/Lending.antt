@@ -18,9 +18,9 @@ use Rattle.refusals.specs.declared.Refusal.the-variants.{Short, Misfit, NewerFo
 use Rattle.refusals.specs.declared.Verdict.the-variants.{Pass, Fail}
 use Rattle.refusals.proofs.Laws.{room-passes, failed, went-on}
 use Rattle.refusals.proofs.Seen.{written-passed, told-all}
-use Rattle.settings.specs.Settings.{Kept, formatOf, Reading, kept, newer, misfit, reads}
-use Rattle.settings.specs.Answers.{answerOf, lentOf, shortOf}
-use Rattle.settings.specs.Calls.{Read, readingOf, readTests, formatTold, ReadSeen, ReadCounts, readShown, readResult, readTold, readSeen, ReadSeenAll, ReadToldAll}
+use Rattle.settings.specs.Settings.{Setup, formatOf, Reading, setup, newer, misfit, reads}
+use Rattle.settings.specs.Calls.{answerOf, Read, readingOf, readTests, formatTold, ReadSeen, ReadCounts, readShown, readResult, readTold, readSeen, ReadSeenAll, ReadToldAll}
+use Rattle.settings.specs.Steps.{lentOf, shortOf}
 use Rattle.settings.specs.declared.ReadAnswer.{ReadAnswer}
 use Rattle.settings.specs.declared.LentAnswer.{LentAnswer}
 
@@ -28,7 +28,7 @@ pub label-fits : (reader : ℕ) (xs : List ℕ) {a : ReadAnswer} → a ≡ answe
 label-fits reader xs e = rw e (go (reads reader xs))
   where
     go : (q : Reading) → answerOf q .settings .count ≤ length (answerOf q .settings .label)
-    go (kept x) = rw length-append (omega arith)
+    go (setup x) = rw length-append (omega arith)
     go (newer n) = omega arith
     go misfit = omega arith
 
@@ -48,8 +48,8 @@ module _ (x : Read) (n : ℕ) {q : Reading} (f : readingOf x ≡ q) where
   unfolding readSeen readShown written
   stopped t o = rw (f, t, o)
 
-module _ (x : Read) (n : ℕ) {y : Kept} (f : readingOf x ≡ kept y) where
-  read-on : {old label : List ℕ} → readTests (kept y) n ≡ Pass → old ≡ replicate n 0 → label ≡ y .label ++ drop (length (y .label)) old
+module _ (x : Read) (n : ℕ) {y : Setup} (f : readingOf x ≡ setup y) where
+  read-on : {old label : List ℕ} → readTests (setup y) n ≡ Pass → old ≡ replicate n 0 → label ≡ y .label ++ drop (length (y .label)) old
       → readSeen (done (record { label = length (y .label); format = formatOf (length (y .label)); scheme = y .scheme; rule = y .rule })) label
       ≡ readResult x n
   unfolding readSeen readShown
@@ -63,16 +63,16 @@ misfit-fails : (n : ℕ) → readTests misfit n ≡ Fail Misfit
 unfolding readTests
 misfit-fails n = failed _ refl refl
 
-kept-tests : (y : Kept) (n : ℕ) → readTests (kept y) n ≡ roomFor n (length (y .label))
+setup-tests : (y : Setup) (n : ℕ) → readTests (setup y) n ≡ roomFor n (length (y .label))
 unfolding readTests
-kept-tests y n = went-on _ refl refl
+setup-tests y n = went-on _ refl refl
 
 module _ (x : Read) (n : ℕ) {old : List ℕ} {a : ReadAnswer} (o : old ≡ replicate n 0) (e : a ≡ answerOf (readingOf x)) where
   pub read-short : {r : LentAnswer} → length old < a .settings .count → r ≡ shortOf → Promised x n old r
   read-short h s = rw s (go (readingOf x) refl (rw e at h))
     where
       go : (q : Reading) → readingOf x ≡ q → length old < answerOf q .settings .count → Promised x n old shortOf
-      go (kept y) f l = stopped x n f (kept-tests y n ∙ short-fails (omega (arith, l, zeros-long n 0 o))) o
+      go (setup y) f l = stopped x n f (setup-tests y n ∙ short-fails (omega (arith, l, zeros-long n 0 o))) o
       go (newer m) f l = absurd (omega arith)
       go misfit f l = absurd (omega arith)
 
@@ -83,8 +83,8 @@ module _ (x : Read) (n : ℕ) {old : List ℕ} {a : ReadAnswer} (o : old ≡ rep
       go : (q : Reading) → readingOf x ≡ q → answerOf q .settings .count ≤ length old
           → Promised x n (take (answerOf q .settings .count) (answerOf q .settings .label) ++ drop (answerOf q .settings .count) old)
           (lentOf (answerOf q .ending) (answerOf q .settings))
-      go (kept y) f l =
-          read-on x n f (kept-tests y n ∙ room-passes (omega (arith, l, zeros-long n 0 o))) o
+      go (setup y) f l =
+          read-on x n f (setup-tests y n ∙ room-passes (omega (arith, l, zeros-long n 0 o))) o
           (ap (λ (t : List ℕ). t ++ drop (length (y .label)) old) (take-append-seam (y .label) _))
       go (newer m) f l = stopped x n f (newer-fails m n) o
       go misfit f l = stopped x n f (misfit-fails n) o

@@ -1,7 +1,7 @@
 -- What the reader's steps rest on, each in the terms of `Settings`.
 --   padded                                 a label in its 16 bytes
 --   few, many, unended, formed             the tests of `wellSpelled`, the first three failing
---   spelled-size, spelled-kept, spelled-misfit, last-room, last-spelled, last-misfit   the label's line
+--   spelled-size, spelled-setup, spelled-misfit, last-room, last-spelled, last-misfit   the label's line
 --   tail-two, tail-none, tail-more, tail-end, end-short   what stands behind the rule
 --   rule-other, rule-read, rule-bad, scheme-.., format-..   the lines, where they are other text, read, or bad
 use mathlib.Core.Path.{_≡_, refl, _∙_, sym, ap}
@@ -23,7 +23,7 @@ use Rattle.text.specs.declared.Found.{Found}
 use Rattle.text.specs.declared.Found.the-variants as found
 use Rattle.text.proofs.Reading.{begins-is}
 use Rattle.text.proofs.Lines.{told-number, told-within, told-other}
-use Rattle.settings.specs.Settings.{keptOf, formatName, ruleName, labelName, isScheme, isRule, letters, kept, newer, misfit, wellSpelled, spelledIn, lastIn, endIn, tailIn, ruleIn, schemeIn, formatIn, reads}
+use Rattle.settings.specs.Settings.{setupOf, formatName, ruleName, labelName, isScheme, isRule, letters, setup, newer, misfit, wellSpelled, spelledIn, lastIn, endIn, tailIn, ruleIn, schemeIn, formatIn, reads}
 
 -- ---- a label
 
@@ -67,9 +67,9 @@ module _ (xs : List ℕ) {n : ℕ} (r : n ≡ letters xs) where
       let v = both-true (eqb (length xs) (suc n)) stop (u .1) in
       (omega (arith, leb-true (letters xs) 16 (u .0)), omega (arith, eqb-true (length xs) (suc (letters xs)) (v .0)))
 
-  pub spelled-kept : (a b : ℕ) → true ≡ wellSpelled xs → kept (keptOf a b (take n xs)) ≡ spelledIn a b xs
+  pub spelled-setup : (a b : ℕ) → true ≡ wellSpelled xs → setup (setupOf a b (take n xs)) ≡ spelledIn a b xs
   unfolding spelledIn
-  spelled-kept a b w = rw (← w, r)
+  spelled-setup a b w = rw (← w, r)
 
 pub spelled-misfit : (a b : ℕ) (xs : List ℕ) → false ≡ wellSpelled xs → misfit ≡ spelledIn a b xs
 unfolding spelledIn
@@ -109,7 +109,7 @@ module _ (f a b : ℕ) (s : List ℕ) (at : ℕ) where
   unfolding tailIn endIn
   tail-more e l = rw (e, drop-cons s at 0 l)
 
-  pub tail-end : f ≡ 1 → length s ≤ at → kept (keptOf a b (part s at)) ≡ tailIn f a b (drop at s)
+  pub tail-end : f ≡ 1 → length s ≤ at → setup (setupOf a b (part s at)) ≡ tailIn f a b (drop at s)
   unfolding tailIn endIn
   tail-end e l = rw (e, to-end s at, drop-of-length-le s l)
 

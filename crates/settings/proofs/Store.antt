@@ -29,10 +29,10 @@ use Rattle.text.specs.Steps.{labelled, Written}
 use Rattle.text.proofs.Writing.{joined, Left, left-all, written-none, one-digit, line-length}
 use Rattle.text.proofs.Answer.{answers}
 use Rattle.text.proofs.Runs.{run-within}
-use Rattle.settings.specs.Settings.{Kept, formatName, ruleName, labelName, formatOf, labelLine, textOf, isScheme, isRule, notAllowed, letters, Valid, kept, reads}
-use Rattle.settings.specs.Answers.{sizeOf}
+use Rattle.settings.specs.Settings.{Setup, formatName, ruleName, labelName, formatOf, labelLine, textOf, isScheme, isRule, notAllowed, letters, setup, reads}
+use Rattle.settings.specs.Shown.{Valid, StoredBack}
+use Rattle.settings.specs.Steps.{sizeOf}
 use Rattle.settings.specs.Calls.{schemeKnown, ruleKnown, allowed, writeTests, writeResult}
-use Rattle.settings.specs.Shown.{StoredBack}
 use Rattle.settings.proofs.Known.{scheme-small, rule-is}
 use Rattle.settings.proofs.Inverse.{back}
 use Rattle.settings.proofs.Steps.{label=, rule=, scheme=, format=}
@@ -57,7 +57,7 @@ unfolding labelLine
 label-size [] = refl
 label-size (x ∷ l) = rw (ne-eqb (suc (length l)) 0 (λ z. omega arith)) (simp length-append (omega arith))
 
-pub size-is : (x : Kept) → isScheme (x .scheme) ≡ true → isRule (x .rule) ≡ true → length (textOf x) ≡ sizeOf (length (x .label))
+pub size-is : (x : Setup) → isScheme (x .scheme) ≡ true → isRule (x .rule) ≡ true → length (textOf x) ≡ sizeOf (length (x .label))
 unfolding textOf
 size-is x h k =
     let a = x .scheme in
@@ -114,7 +114,7 @@ module _ {v : Verdict} (l : List ℕ) {n : ℕ} (p : v ≡ Pass) (e : n ≡ lett
   letters-pass h = goes-on p (rw (← e, le-leb (length l) n h))
 
 -- the first three tests, and their verdict v
-module _ (x : Kept) (room : ℕ) {u v : Verdict} (e : u ≡ schemeKnown (x .scheme) then ruleKnown (x .rule))
+module _ (x : Setup) (room : ℕ) {u v : Verdict} (e : u ≡ schemeKnown (x .scheme) then ruleKnown (x .rule))
     (f : v ≡ u then lengthUpTo (length (x .label)) 16) where
   front-is : v ≡ schemeKnown (x .scheme) then ruleKnown (x .rule) then lengthUpTo (length (x .label)) 16
   front-is = also f e refl
@@ -139,11 +139,11 @@ module _ (x : Kept) (room : ℕ) {u v : Verdict} (e : u ≡ schemeKnown (x .sche
         let q : m ≡ length (textOf x) = s ∙ sym text-long in
         h ∙ rw (o, q, ← front-is, g)
 
-pub record Accepted (x : Kept) (room : ℕ) : Type 0 where
+pub record Accepted (x : Setup) (room : ℕ) : Type 0 where
   pub valid : Valid x
   pub fits : length (textOf x) ≤ room
 
-pub accepted : {x : Kept} {room : ℕ} → writeTests x room ≡ Pass → Accepted x room
+pub accepted : {x : Setup} {room : ℕ} → writeTests x room ≡ Pass → Accepted x room
 unfolding writeTests
 accepted {x} {room} e =
     let a = both _ _ e in
@@ -178,21 +178,21 @@ pub label-left : (l d : List ℕ) (at : ℕ) → (length l ≡ 0 → ⊥) → at
 label-left l d at n h = left-all at (label= ∷ l ∷ (LF ∷ []) ∷ []) d (label-parts l n) h
 
 -- with f the format's number
-abbrev parts : ℕ → Kept → List (List ℕ)
+abbrev parts : ℕ → Setup → List (List ℕ)
 parts f x = labelled format= f ∷ labelled scheme= (x .scheme) ∷ labelled rule= (x .rule) ∷ labelLine (x .label) ∷ []
 
-lines-are : (f : ℕ) (x : Kept) → f ≡ formatOf (length (x .label)) → textOf x ≡ joined (parts f x)
+lines-are : (f : ℕ) (x : Setup) → f ≡ formatOf (length (x .label)) → textOf x ≡ joined (parts f x)
 unfolding textOf line labelled joined
 lines-are f x e =
     ap (λ (k : ℕ). line formatName k ++ (line schemeName (x .scheme) ++ (line ruleName (x .rule) ++ labelLine (x .label)))) (sym e)
     ∙ ap (λ (t : List ℕ). line formatName f ++ (line schemeName (x .scheme) ++ (line ruleName (x .rule) ++ t))) (sym (append-nil (labelLine (x .label))))
 
-pub lines-left : (x : Kept) (d : List ℕ) {f : ℕ} → f ≡ formatOf (length (x .label)) → length (textOf x) ≤ length d → Left 0 (textOf x) d (parts f x) d 0
+pub lines-left : (x : Setup) (d : List ℕ) {f : ℕ} → f ≡ formatOf (length (x .label)) → length (textOf x) ≤ length d → Left 0 (textOf x) d (parts f x) d 0
 lines-left x d {f} e h = left-all 0 (parts f x) d (lines-are f x e) (omega arith)
 
 -- ---- the promise; an output of n bytes has k of them still, once it is zeroed
 
-module _ (x : Kept) {n k : ℕ} {v : Verdict} (h : k ≡ n) (e : v ≡ writeTests x k) where
+module _ (x : Setup) {n k : ℕ} {v : Verdict} (h : k ≡ n) (e : v ≡ writeTests x k) where
   tests : v ≡ writeTests x n
   tests = e ∙ ap (writeTests x) h
 

@@ -3,11 +3,13 @@
 --   allowed l                    8: a byte of the label is no capital letter and no digit
 --   writeTests x n               the writer's tests in their order, with room for n bytes
 --   writeResult x n              what the writer shows
---   Read                         what the reader is lent: its own number and the text
---   readOf, read                 the same from its parts, and from what is lent in a contract
+--   stored x                     a setup as the struct `Settings`: the label in 16 bytes with zeros behind it, and its count
+--   nothing, ended e             no settings, all zero; an answer without any
+--   answerOf r                   the reader's answer by value to what it made of a text
+--   Read, readOf                 what the reader is lent: its own number and the text
 --   readingOf x                  what the reader makes of it
 --   verdictOf r                  15: the format is newer; 8: any other misfit
---   keptIn r                     the settings that were read; after 15 and 8 the scheme and the rule are 0 and the label is empty
+--   setupIn r                    the setup that was read; after 15 and 8 the scheme and the rule are 0 and the label is empty
 --   readTests r n                the reader's tests in their order, with room for n bytes: 15 or 8, then 3 for the label that was read
 --   formatTold r v               the format that was read or is newer, where v is the tests' verdict; 0 after 8 and 3
 --   ReadSeen                     what is seen of the reader: the refusal's number and place, the label, the format, the scheme and the rule
@@ -19,17 +21,20 @@
 --   ReadSeenAll, ReadToldAll     `readSeen` and `readTold` forget nothing
 use mathlib.Core.Path.{_≡_}
 use mathlib.Core.Bool.{cond}
-use mathlib.Core.List.{List, []}
-use Prim.Native.Nat.{ℕ}
+use mathlib.Core.List.{List, [], _++_}
+use Prim.Native.Nat.{ℕ, _-_}
 use lib.Dec.{leb}
-use lib.ListN.{length}
-use Rattle.lists.specs.Lent.{Lent, was}
+use lib.ListN.{length, replicate}
 use Rattle.refusals.specs.Refusals.{numberIn, placeIn, _then_, lengthUpTo, roomFor}
 use Rattle.refusals.specs.Seen.{ifPassed, Output, output, written, Told, Seen, shown, told}
 use Rattle.refusals.specs.declared.Refusal.the-variants.{NoScheme, NoRule, Misfit, NewerFormat}
 use Rattle.refusals.specs.declared.Verdict.{Verdict}
 use Rattle.refusals.specs.declared.Verdict.the-variants.{Pass, Fail}
-use Rattle.settings.specs.Settings.{Kept, keptOf, formatOf, textOf, isScheme, isRule, letters, Reading, kept, newer, misfit, reads}
+use Rattle.settings.specs.Settings.{Setup, setupOf, formatOf, textOf, isScheme, isRule, letters, Reading, setup, newer, misfit, reads}
+use Rattle.settings.specs.declared.Ending.{Ending}
+use Rattle.settings.specs.declared.Ending.the-variants as ending
+use Rattle.settings.specs.declared.Settings.{Settings}
+use Rattle.settings.specs.declared.ReadAnswer.{ReadAnswer}
 use Rattle.settings.specs.declared.LentAnswer.{LentAnswer}
 
 -- ---- writing
@@ -43,12 +48,29 @@ ruleKnown b = cond (isRule b) Pass (Fail NoRule)
 unfoldable pub allowed : List ℕ → Verdict
 allowed l = cond (leb (length l) (letters l)) Pass (Fail Misfit)
 
-unfoldable pub writeTests : Kept → ℕ → Verdict
+unfoldable pub writeTests : Setup → ℕ → Verdict
 writeTests x n =
     schemeKnown (x .scheme) then ruleKnown (x .rule) then lengthUpTo (length (x .label)) 16 then roomFor n (length (textOf x)) then allowed (x .label)
 
-abbrev pub writeResult : Kept → ℕ → Seen ℕ
+abbrev pub writeResult : Setup → ℕ → Seen ℕ
 writeResult x n = shown (writeTests x n) (textOf x) 0 n
+
+-- ---- reading by value
+
+abbrev pub stored : Setup → Settings
+stored x =
+    record { scheme = x .scheme; rule = x .rule; label = x .label ++ replicate (16 - length (x .label)) 0; count = length (x .label) }
+
+abbrev pub nothing : Settings
+nothing = record { scheme = 0; rule = 0; label = replicate 16 0; count = 0 }
+
+abbrev pub ended : Ending → ReadAnswer
+ended e = record { ending = e; settings = nothing }
+
+abbrev pub answerOf : Reading → ReadAnswer
+answerOf (setup x) = record { ending = ending.Read; settings = stored x }
+answerOf (newer n) = ended (ending.Newer n)
+answerOf misfit = ended ending.Refused
 
 -- ---- reading into a lent label
 
@@ -59,27 +81,24 @@ pub record Read : Type 0 where
 abbrev pub readOf : ℕ → List ℕ → Read
 readOf reader text = record { reader = reader; text = text }
 
-abbrev pub read : ℕ → Lent (List ℕ) → Read
-read reader text = readOf reader (was text)
-
 abbrev pub readingOf : Read → Reading
 readingOf x = reads (x .reader) (x .text)
 
 abbrev pub verdictOf : Reading → Verdict
-verdictOf (kept x) = Pass
+verdictOf (setup x) = Pass
 verdictOf (newer n) = Fail NewerFormat
 verdictOf misfit = Fail Misfit
 
-abbrev pub keptIn : Reading → Kept
-keptIn (kept x) = x
-keptIn (newer n) = keptOf 0 0 []
-keptIn misfit = keptOf 0 0 []
+abbrev pub setupIn : Reading → Setup
+setupIn (setup x) = x
+setupIn (newer n) = setupOf 0 0 []
+setupIn misfit = setupOf 0 0 []
 
 unfoldable pub readTests : Reading → ℕ → Verdict
-readTests r n = verdictOf r then roomFor n (length (keptIn r .label))
+readTests r n = verdictOf r then roomFor n (length (setupIn r .label))
 
 abbrev pub formatTold : Reading → Verdict → ℕ
-formatTold (kept x) v = ifPassed v (formatOf (length (x .label))) 0
+formatTold (setup x) v = ifPassed v (formatOf (length (x .label))) 0
 formatTold (newer n) v = n
 formatTold misfit v = 0
 
@@ -102,10 +121,10 @@ readShown v r n =
     record {
       number = numberIn v;
       place = placeIn v;
-      label = written v (keptIn r .label) 0 n;
+      label = written v (setupIn r .label) 0 n;
       format = formatTold r v;
-      scheme = ifPassed v (keptIn r .scheme) 0;
-      rule = ifPassed v (keptIn r .rule) 0;
+      scheme = ifPassed v (setupIn r .scheme) 0;
+      rule = ifPassed v (setupIn r .rule) 0;
     }
 
 abbrev pub readResult : Read → ℕ → ReadSeen

@@ -1,4 +1,4 @@
 pub mod Settings
-pub mod Answers
 pub mod Calls
+pub mod Steps
 pub mod Shown

@@ -1,16 +1,15 @@
 -- The settings of a box as text: 02, request h.
---   Kept                what is kept: a scheme, a rule, and a label, empty where there is none
---   keptOf              the same from its three parts
+--   Setup               what is set: a scheme, a rule, and a label, empty where there is none
+--   setupOf a b l       a setup from these three
 --   formatOf n          the oldest format that holds a label of n bytes: 1 where there are none, else 2
 --   textOf x            the text of the settings x
 --   isScheme, isRule    whether a number names a scheme, a rule
 --   letters xs          how many capital letters and digits xs begins with
---   Valid x             what settings are: a scheme, a rule, a label of at most 16 capital letters and digits
---   reads reader xs     what a reader of the formats up to its own makes of the text xs: settings, a newer format by its number, or a misfit
-use mathlib.Core.Path.{_≡_}
+--   Reading             what a reader makes of a text: a setup, a newer format by its number, or a misfit
+--   reads reader xs     that of the text xs, by a reader of the formats up to its own
 use mathlib.Core.Bool.{Bool, true, false, cond}
 use mathlib.Core.List.{List, [], _∷_, _++_}
-use Prim.Native.Nat.{ℕ, zero, suc, _≤_}
+use Prim.Native.Nat.{ℕ, zero, suc}
 use lib.Dec.{eqb, leb, ltb}
 use lib.ListN.{length, getD, take, drop}
 use Rattle.lists.specs.First.{firstWhere}
@@ -23,17 +22,17 @@ use Rattle.noise.specs.declared.Ruled.{Ruled}
 use Rattle.noise.specs.declared.Ruled.the-variants as ruled
 use Rattle.text.specs.Text.{LF, schemeName, line, Read, number, other, isDigit, begins, fieldIn}
 
-pub record Kept : Type 0 where
+pub record Setup : Type 0 where
   pub scheme : ℕ
   pub rule : ℕ
   pub label : List ℕ
 
-abbrev pub keptOf : ℕ → ℕ → List ℕ → Kept
-keptOf a b l = record { scheme = a; rule = b; label = l }
+abbrev pub setupOf : ℕ → ℕ → List ℕ → Setup
+setupOf a b l = record { scheme = a; rule = b; label = l }
 
 -- ---- the text of settings
 
--- `format`, `rule`, `figures` in bytes
+-- `format`, `rule`, `label` in bytes
 abbrev pub formatName : List ℕ
 formatName = 102 ∷ 111 ∷ 114 ∷ 109 ∷ 97 ∷ 116 ∷ []
 
@@ -52,10 +51,10 @@ unfoldable pub labelLine : List ℕ → List ℕ
 labelLine [] = []
 labelLine (x ∷ l) = (labelName ++ 61 ∷ []) ++ ((x ∷ l) ++ LF ∷ [])
 
-unfoldable pub textOf : Kept → List ℕ
+unfoldable pub textOf : Setup → List ℕ
 textOf x = line formatName (formatOf (length (x .label))) ++ (line schemeName (x .scheme) ++ (line ruleName (x .rule) ++ labelLine (x .label)))
 
--- ---- what settings are
+-- ---- their numbers and letters
 
 abbrev pub someScheme : Named → Bool
 someScheme (named.Known s) = true
@@ -78,16 +77,10 @@ notAllowed c = cond (isDigit c) false (cond (both (leb 65 c) (leb c 90)) false t
 unfoldable pub letters : List ℕ → ℕ
 letters xs = firstWhere notAllowed xs
 
-pub record Valid (x : Kept) : Type 0 where
-  pub scheme : isScheme (x .scheme) ≡ true
-  pub rule : isRule (x .rule) ≡ true
-  pub short : length (x .label) ≤ 16
-  pub bytes : letters (x .label) ≡ length (x .label)
-
 -- ---- reading: the lines one after the other, and nothing behind them
 
 pub data Reading : Type 0 where
-  kept : Kept → Reading
+  setup : Setup → Reading
   newer : ℕ → Reading
   misfit : Reading
 
@@ -100,7 +93,7 @@ wellSpelled xs =
     (eqb (getD xs (letters xs) 0) LF)))
 
 unfoldable pub spelledIn : ℕ → ℕ → List ℕ → Reading
-spelledIn a b xs = cond (wellSpelled xs) (kept (keptOf a b (take (letters xs) xs))) misfit
+spelledIn a b xs = cond (wellSpelled xs) (setup (setupOf a b (take (letters xs) xs))) misfit
 
 -- behind the rule in format 2: the label's line
 unfoldable pub lastIn : ℕ → ℕ → List ℕ → Reading
@@ -108,7 +101,7 @@ lastIn a b xs = cond (begins (labelName ++ 61 ∷ []) xs) (spelledIn a b (drop 6
 
 -- and in format 1: nothing
 unfoldable pub endIn : ℕ → ℕ → List ℕ → Reading
-endIn a b [] = kept (keptOf a b [])
+endIn a b [] = setup (setupOf a b [])
 endIn a b (x ∷ xs) = misfit
 
 -- a format that is not newer and not one of these two is a misfit

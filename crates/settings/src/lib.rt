@@ -3,9 +3,8 @@
 ghost use mathlib.Core.Path.{_≡_};
 ghost use Rattle.lists.specs.Lent.{was, left, room};
 ghost use Rattle.refusals.specs.Seen.{told, seen};
-ghost use Rattle.settings.specs.Settings.{keptOf, formatOf, isScheme, isRule, notAllowed, letters, reads};
-ghost use Rattle.settings.specs.Answers.{answerOf};
-ghost use Rattle.settings.specs.Calls.{writeResult, readOf, readResult, readTold, readSeen};
+ghost use Rattle.settings.specs.Settings.{setupOf, formatOf, isScheme, isRule, notAllowed, letters, reads};
+ghost use Rattle.settings.specs.Calls.{answerOf, writeResult, readOf, readResult, readTold, readSeen};
 
 mod reader;
 mod writer;
@@ -123,7 +122,7 @@ pub fn read_lent(reader: u32, text: &[u8], label: &mut [u8]) -> LentAnswer
 // Write: scheme, rule, label. The text with zeros behind it, or zeros after a refusal: 1 scheme, 12 rule, 2 a label over 16 bytes, 3 an output too short, 8 a
 // byte of the label that is not allowed.
 pub fn write(scheme: u32, rule: u32, label: &[u8], out: &mut [u8]) -> Answer
-    ensures { λ r. ⌜ seen (told r) (left out) ≡ writeResult (keptOf scheme rule (was label)) (room out) ⌝ }
+    ensures { λ r. ⌜ seen (told r) (left out) ≡ writeResult (setupOf scheme rule (was label)) (room out) ⌝ }
 {
     lists::zero_bytes(out);
     let v = writer::write_tests(scheme, rule, label, out.len());

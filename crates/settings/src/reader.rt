@@ -4,8 +4,9 @@ ghost use Prim.Native.Nat.{_≤_};
 ghost use lib.ListN.{length, drop};
 ghost use Rattle.lists.specs.Lent.{was};
 ghost use Rattle.text.specs.Text.{schemeName, fieldIn};
-ghost use Rattle.settings.specs.Settings.{keptOf, letters, kept, ruleName, wellSpelled, spelledIn, lastIn, tailIn, ruleIn, schemeIn};
-ghost use Rattle.settings.specs.Answers.{ended, answerOf, lentOf, shortOf};
+ghost use Rattle.settings.specs.Settings.{setupOf, letters, setup, ruleName, wellSpelled, spelledIn, lastIn, tailIn, ruleIn, schemeIn};
+ghost use Rattle.settings.specs.Calls.{ended, answerOf};
+ghost use Rattle.settings.specs.Steps.{lentOf, shortOf};
 use crate::Ending;
 use crate::LentAnswer;
 use crate::ReadAnswer;
@@ -31,7 +32,7 @@ pub(crate) fn nothing(e: Ending) -> ReadAnswer
 
 fn found(scheme: u32, rule: u32, label: &[u8]) -> ReadAnswer
     requires { ⌜ length (now label) ≤ 16 ⌝ }
-    ensures { λ r. ⌜ r ≡ answerOf (kept (keptOf scheme rule (was label))) ⌝ }
+    ensures { λ r. ⌜ r ≡ answerOf (setup (setupOf scheme rule (was label))) ⌝ }
 {
     let n = label.len();
     let mut bytes = [0u8; 16];

@@ -5,8 +5,8 @@ ghost use lib.ListN.{length};
 ghost use Rattle.lists.specs.Lent.{was, left};
 ghost use Rattle.refusals.specs.Refusals.{_then_};
 ghost use Rattle.text.specs.Steps.{Written};
-ghost use Rattle.settings.specs.Settings.{keptOf, labelLine, textOf};
-ghost use Rattle.settings.specs.Answers.{sizeOf};
+ghost use Rattle.settings.specs.Settings.{setupOf, labelLine, textOf};
+ghost use Rattle.settings.specs.Steps.{sizeOf};
 ghost use Rattle.settings.specs.Calls.{schemeKnown, ruleKnown, allowed, writeTests};
 use refusals::Refusal;
 use refusals::Verdict;
@@ -53,7 +53,7 @@ fn size(n: usize) -> usize
 
 // The text's length is known once the scheme, the rule and the label's length are.
 pub(crate) fn write_tests(scheme: u32, rule: u32, label: &[u8], room: usize) -> Verdict
-    ensures { λ r. ⌜ r ≡ writeTests (keptOf scheme rule (was label)) room ⌝ }
+    ensures { λ r. ⌜ r ≡ writeTests (setupOf scheme rule (was label)) room ⌝ }
 {
     let v = refusals::length_up_to(known(scheme, rule), label.len(), 16);
     let Verdict::Pass = v else {
@@ -79,8 +79,8 @@ fn write_label(label: &[u8], out: &mut [u8], at: usize) -> usize
 }
 
 pub(crate) fn write_lines(scheme: u32, rule: u32, label: &[u8], out: &mut [u8]) -> usize
-    requires { ⌜ length (textOf (keptOf scheme rule (now label))) ≤ length (now out) ⌝ }
-    ensures { λ r. ⌜ Written 0 (textOf (keptOf scheme rule (was label))) (was out) (left out) r ⌝ }
+    requires { ⌜ length (textOf (setupOf scheme rule (now label))) ≤ length (now out) ⌝ }
+    ensures { λ r. ⌜ Written 0 (textOf (setupOf scheme rule (was label))) (was out) (left out) r ⌝ }
 {
     let i = text::write_line(b"format=", crate::format_of(label.len()), out, 0);
     let j = text::write_line(b"scheme=", scheme as u64, out, i);

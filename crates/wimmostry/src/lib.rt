@@ -18,7 +18,7 @@ ghost use Rattle.bench.specs.Bench.{bench, benchResult};
 mod racks;
 mod sessions;
 
-ghost use Rattle.settings.specs.Settings.{keptOf};
+ghost use Rattle.settings.specs.Settings.{setupOf};
 ghost use Rattle.settings.specs.Calls.{writeResult, readOf, readResult, readSeen};
 
 mod by_rows;
@@ -251,7 +251,7 @@ pub extern "C" fn wim_settings_write(
     place: &mut u64,
     written: &mut u64,
 ) -> u32
-    ensures { λ r. ⌜ seen (record { number = r; place = left place; counts = left written }) (left text) ≡ writeResult (keptOf scheme rule (was label)) (room text) ⌝ }
+    ensures { λ r. ⌜ seen (record { number = r; place = left place; counts = left written }) (left text) ≡ writeResult (setupOf scheme rule (was label)) (room text) ⌝ }
 {
     let answer = settings::write(scheme, rule, label, text);
     told::tell(answer, place, written)

@@ -2,7 +2,7 @@
 use mathlib.Core.Path.{_∙_, sym}
 use lib.ListN.{length}
 use Rattle.lists.proofs.Same.{zeros-long}
-use Rattle.settings.specs.Settings.{keptOf}
+use Rattle.settings.specs.Settings.{setupOf}
 use Rattle.settings.proofs.Store.{accepted, write-refused, write-done}
 use borrow.Author.Needs.{needs}
 use Rattle.settings.proofs.write.Statement.{statement}
@@ -36,7 +36,7 @@ returns c =
     let t : tie.After-write-tests = search needs in
     let p : tie.After-v = search needs in
     let n = zeros-long (length (s .args .out .now)) 0 (z .zero-bytes .ensures) in
-    write-refused (keptOf (s .args .scheme) (s .args .rule) (s .args .label .now)) n (t .write-tests .ensures) (p .v .given .1) (z .zero-bytes .ensures)
+    write-refused (setupOf (s .args .scheme) (s .args .rule) (s .args .label .now)) n (t .write-tests .ensures) (p .v .given .1) (z .zero-bytes .ensures)
 
 same-length-2 : tie.Need-same-length-2
 same-length-2 c = search needs
@@ -49,7 +49,7 @@ returns-2 c =
     let p : tie.After-enum-told = search needs in
     let w : tie.After-write-lines = search needs in
     let n = zeros-long (length (s .args .out .now)) 0 (z .zero-bytes .ensures) in
-    write-done (keptOf (s .args .scheme) (s .args .rule) (s .args .label .now)) n (t .write-tests .ensures)
+    write-done (setupOf (s .args .scheme) (s .args .rule) (s .args .label .now)) n (t .write-tests .ensures)
     (p .enum-told .given .1) (z .zero-bytes .ensures) (w .write-lines .ensures)
 
 pub write-spec : {M : Type 1} → statement M

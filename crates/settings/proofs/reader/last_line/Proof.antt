@@ -1,6 +1,6 @@
 -- `settings::reader::last_line` meets its contract.
 use mathlib.Core.Path.{_∙_, sym, ap}
-use Rattle.settings.specs.Answers.{answerOf}
+use Rattle.settings.specs.Calls.{answerOf}
 use Rattle.settings.proofs.Steps.{last-room, last-spelled, last-misfit}
 use borrow.Author.Needs.{needs}
 use Rattle.settings.proofs.reader.last_line.Statement.{statement}

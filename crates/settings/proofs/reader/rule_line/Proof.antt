@@ -3,7 +3,7 @@ use mathlib.Core.Path.{_∙_, sym, ap}
 use native.Mathlib.Omega.{arith}
 use Rattle.text.proofs.Lines.{told-within}
 use Rattle.settings.specs.Settings.{ruleName}
-use Rattle.settings.specs.Answers.{answerOf}
+use Rattle.settings.specs.Calls.{answerOf}
 use Rattle.settings.proofs.Known.{rule-small}
 use Rattle.settings.proofs.Steps.{rule-other, rule-read, rule-bad}
 use borrow.Author.Needs.{needs}

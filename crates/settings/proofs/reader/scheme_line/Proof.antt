@@ -3,7 +3,7 @@ use mathlib.Core.Path.{_∙_, sym, ap}
 use native.Mathlib.Omega.{arith}
 use Rattle.text.specs.Text.{schemeName}
 use Rattle.text.proofs.Lines.{told-within}
-use Rattle.settings.specs.Answers.{answerOf}
+use Rattle.settings.specs.Calls.{answerOf}
 use Rattle.settings.proofs.Known.{scheme-small}
 use Rattle.settings.proofs.Steps.{scheme-other, scheme-read, scheme-bad}
 use borrow.Author.Needs.{needs}

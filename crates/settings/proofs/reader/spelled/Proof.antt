@@ -4,8 +4,8 @@ use native.Mathlib.Omega.{arith}
 use Prim.Native.Nat.{_≤_}
 use lib.ListN.{length, length-take}
 use lib.Seq.{length-take-le}
-use Rattle.settings.specs.Answers.{answerOf}
-use Rattle.settings.proofs.Steps.{spelled-size, spelled-kept, spelled-misfit}
+use Rattle.settings.specs.Calls.{answerOf}
+use Rattle.settings.proofs.Steps.{spelled-size, spelled-setup, spelled-misfit}
 use borrow.Author.Needs.{needs}
 use Rattle.settings.proofs.reader.spelled.Statement.{statement}
 use Rattle.settings.proofs.reader.spelled.Tie as tie
@@ -43,7 +43,7 @@ returns c =
     let t : tie.Then1 = search needs in
     c .found .ensures
     ∙ ap answerOf
-    (spelled-kept (s .args .s .now) (n .count-letters .ensures) (s .args .scheme) (s .args .rule) (sym (t .if1 .taken) ∙ w .well-spelled .ensures))
+    (spelled-setup (s .args .s .now) (n .count-letters .ensures) (s .args .scheme) (s .args .rule) (sym (t .if1 .taken) ∙ w .well-spelled .ensures))
 
 returns-2 : tie.Need-returns-2
 returns-2 c =

@@ -1,7 +1,7 @@
 -- `settings::reader::tail` meets its contract.
 use mathlib.Core.Path.{_∙_, sym, ap}
 use native.Mathlib.Omega.{arith}
-use Rattle.settings.specs.Answers.{answerOf}
+use Rattle.settings.specs.Calls.{answerOf}
 use Rattle.settings.proofs.Steps.{tail-two, tail-none, tail-more, tail-end, end-short}
 use borrow.Author.Needs.{needs}
 use Rattle.settings.proofs.reader.tail.Statement.{statement}

@@ -1,6 +1,6 @@
 -- `settings::writer::write_lines` meets its contract.
 use Rattle.text.proofs.Writing.{left-room, left-next, left-none}
-use Rattle.settings.specs.Settings.{keptOf}
+use Rattle.settings.specs.Settings.{setupOf}
 use Rattle.settings.proofs.Store.{lines-left}
 use borrow.Author.Needs.{needs}
 use Rattle.settings.proofs.writer.write_lines.Statement.{statement}
@@ -16,7 +16,7 @@ write-line-requires : tie.Need-write-line-requires
 write-line-requires c κs =
     let s : tie.Start = search needs in
     let f : tie.After-format-of = search needs in
-    let l = lines-left (keptOf (s .args .scheme) (s .args .rule) (s .args .label .now)) (s .args .out .now) (f .format-of .ensures) (s .pre) in
+    let l = lines-left (setupOf (s .args .scheme) (s .args .rule) (s .args .label .now)) (s .args .out .now) (f .format-of .ensures) (s .pre) in
     left-room l
 
 slice-aggregate-write-line-2 : tie.Need-slice-aggregate-write-line-2
@@ -26,7 +26,7 @@ write-line-requires-2 : tie.Need-write-line-requires-2
 write-line-requires-2 c κs =
     let s : tie.Start = search needs in
     let f : tie.After-format-of = search needs in
-    let l = lines-left (keptOf (s .args .scheme) (s .args .rule) (s .args .label .now)) (s .args .out .now) (f .format-of .ensures) (s .pre) in
+    let l = lines-left (setupOf (s .args .scheme) (s .args .rule) (s .args .label .now)) (s .args .out .now) (f .format-of .ensures) (s .pre) in
     let i : tie.After-write-line = search needs in
     left-room (left-next l (i .write-line .ensures))
 
@@ -37,7 +37,7 @@ write-line-requires-3 : tie.Need-write-line-requires-3
 write-line-requires-3 c κs =
     let s : tie.Start = search needs in
     let f : tie.After-format-of = search needs in
-    let l = lines-left (keptOf (s .args .scheme) (s .args .rule) (s .args .label .now)) (s .args .out .now) (f .format-of .ensures) (s .pre) in
+    let l = lines-left (setupOf (s .args .scheme) (s .args .rule) (s .args .label .now)) (s .args .out .now) (f .format-of .ensures) (s .pre) in
     let i : tie.After-write-line = search needs in
     let j : tie.After-write-line2 = search needs in
     left-room (left-next (left-next l (i .write-line .ensures)) (j .write-line2 .ensures))
@@ -46,7 +46,7 @@ write-label-requires : tie.Need-write-label-requires
 write-label-requires c κs =
     let s : tie.Start = search needs in
     let f : tie.After-format-of = search needs in
-    let l = lines-left (keptOf (s .args .scheme) (s .args .rule) (s .args .label .now)) (s .args .out .now) (f .format-of .ensures) (s .pre) in
+    let l = lines-left (setupOf (s .args .scheme) (s .args .rule) (s .args .label .now)) (s .args .out .now) (f .format-of .ensures) (s .pre) in
     let i : tie.After-write-line = search needs in
     let j : tie.After-write-line2 = search needs in
     let k : tie.After-write-line3 = search needs in
@@ -79,7 +79,7 @@ returns c =
     let i = first j in
     let s : tie.Start = start i in
     let f : tie.After-format-of = format i in
-    let l = lines-left (keptOf (s .args .scheme) (s .args .rule) (s .args .label .now)) (s .args .out .now) (f .format-of .ensures) (s .pre) in
+    let l = lines-left (setupOf (s .args .scheme) (s .args .rule) (s .args .label .now)) (s .args .out .now) (f .format-of .ensures) (s .pre) in
     left-none
     (left-next
     (left-next (left-next (left-next l (i .write-line .ensures)) (j .write-line2 .ensures)) (k .write-line3 .ensures))

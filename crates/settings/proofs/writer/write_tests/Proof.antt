@@ -1,5 +1,5 @@
 -- `settings::writer::write_tests` meets its contract.
-use Rattle.settings.specs.Settings.{keptOf}
+use Rattle.settings.specs.Settings.{setupOf}
 use Rattle.settings.proofs.Store.{tests-failed, label-short, tests-go-on}
 use borrow.Author.Needs.{needs}
 use Rattle.settings.proofs.writer.write_tests.Statement.{statement}
@@ -23,7 +23,7 @@ returns c =
     let k : tie.After-known = search needs in
     let l : tie.After-length-up-to = search needs in
     let p : tie.After-enum-told2 = search needs in
-    tests-failed (keptOf (s .args .scheme) (s .args .rule) (s .args .label .now)) (s .args .room) (k .known .ensures) (l .length-up-to .ensures) (p .enum-told2 .given .1)
+    tests-failed (setupOf (s .args .scheme) (s .args .rule) (s .args .label .now)) (s .args .room) (k .known .ensures) (l .length-up-to .ensures) (p .enum-told2 .given .1)
 
 size-requires : tie.Need-size-requires
 size-requires c κs =
@@ -31,7 +31,7 @@ size-requires c κs =
     let k : tie.After-known = search needs in
     let l : tie.After-length-up-to = search needs in
     let p : tie.After-enum-told = search needs in
-    label-short (keptOf (s .args .scheme) (s .args .rule) (s .args .label .now)) (s .args .room) (k .known .ensures) (l .length-up-to .ensures) (p .enum-told .given .1)
+    label-short (setupOf (s .args .scheme) (s .args .rule) (s .args .label .now)) (s .args .room) (k .known .ensures) (l .length-up-to .ensures) (p .enum-told .given .1)
 
 room-for-requires : tie.Need-room-for-requires
 room-for-requires c κs = search needs
@@ -47,7 +47,7 @@ returns-2 c =
     let p : tie.After-enum-told = search needs in
     let n : tie.After-size = search needs in
     let r : tie.After-room-for = search needs in
-    tests-go-on (keptOf (s .args .scheme) (s .args .rule) (s .args .label .now)) (s .args .room) (k .known .ensures) (l .length-up-to .ensures)
+    tests-go-on (setupOf (s .args .scheme) (s .args .rule) (s .args .label .now)) (s .args .room) (k .known .ensures) (l .length-up-to .ensures)
     (p .enum-told .given .1) (n .size .ensures) (r .room-for .ensures) (c .label-in .ensures)
 
 pub write-tests-spec : {M : Type 1} → statement M

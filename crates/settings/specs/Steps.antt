@@ -1,39 +1,17 @@
--- What the reader answers, by value: 02, request h.
---   stored x     settings in a struct: the label in 16 bytes with zeros behind it, and its count
---   nothing      no settings: all zero
---   ended e      an answer without settings
---   answerOf r   the reader's answer to what it made of a text
+-- What the steps of the reader and the writer give each other.
 --   lentOf e s   the answer that ended with e and s, in numbers, for a caller that lends the label's room
 --   shortOf      that caller's answer where the room is shorter than the label that was read
 --   sizeOf n     how long the text with a label of n bytes is
 use mathlib.Core.Bool.{cond}
-use mathlib.Core.List.{_++_}
-use Prim.Native.Nat.{ℕ, _+_, _-_}
+use Prim.Native.Nat.{ℕ, _+_}
 use lib.Dec.{eqb}
-use lib.ListN.{length, replicate}
 use Rattle.refusals.specs.declared.Answer.the-variants.{Done, Refused}
 use Rattle.refusals.specs.declared.Refusal.the-variants.{Short, Misfit, NewerFormat}
-use Rattle.settings.specs.Settings.{Kept, Reading, kept, newer, misfit, formatOf}
+use Rattle.settings.specs.Settings.{formatOf}
 use Rattle.settings.specs.declared.Ending.{Ending}
 use Rattle.settings.specs.declared.Ending.the-variants as ending
 use Rattle.settings.specs.declared.Settings.{Settings}
-use Rattle.settings.specs.declared.ReadAnswer.{ReadAnswer}
 use Rattle.settings.specs.declared.LentAnswer.{LentAnswer}
-
-abbrev pub stored : Kept → Settings
-stored x =
-    record { scheme = x .scheme; rule = x .rule; label = x .label ++ replicate (16 - length (x .label)) 0; count = length (x .label) }
-
-abbrev pub nothing : Settings
-nothing = record { scheme = 0; rule = 0; label = replicate 16 0; count = 0 }
-
-abbrev pub ended : Ending → ReadAnswer
-ended e = record { ending = e; settings = nothing }
-
-abbrev pub answerOf : Reading → ReadAnswer
-answerOf (kept x) = record { ending = ending.Read; settings = stored x }
-answerOf (newer n) = ended (ending.Newer n)
-answerOf misfit = ended ending.Refused
 
 abbrev pub lentOf : Ending → Settings → LentAnswer
 lentOf ending.Read s = record { answer = Done (s .count); format = formatOf (s .count); scheme = s .scheme; rule = s .rule }
