@@ -9,7 +9,7 @@ ghost use Rattle.lists.specs.Lent.{was, left, room};
 ghost use Rattle.packing.specs.Packing.{value};
 ghost use Rattle.keccak.specs.Keccak.{keccakF};
 ghost use Rattle.sponge.specs.Sponge.{byteAt, over, ending, absorbed, squeezed, shake128 as shaken, sha3};
-ghost use Rattle.sponge.specs.Fit.{Lanes, Rate};
+ghost use Rattle.sponge.specs.Fit.{WholeLanes, Rate};
 
 // The number of eight bytes, the lowest first. Of bytes that lie side by side it compiles to one load.
 fn joined(a: u8, b: u8, c: u8, d: u8, e: u8, f: u8, g: u8, h: u8) -> u64
@@ -30,7 +30,7 @@ fn load(b: &[u8]) -> u64
 
 // The state with a block laid over its first lanes.
 fn xor_block(s: [u64; 25], b: &[u8]) -> [u64; 25]
-    requires { ⌜ Lanes (length (now b)) ⌝ }
+    requires { ⌜ WholeLanes (length (now b)) ⌝ }
     ensures { λ r. ⌜ r ≡ over s (was b) ⌝ }
 {
     let mut t = s;
@@ -63,7 +63,7 @@ fn pad(rest: &[u8], suffix: u8, block: &mut [u8])
 }
 
 fn absorb_last(s: [u64; 25], rest: &[u8], suffix: u8, block: &mut [u8]) -> [u64; 25]
-    requires { ⌜ (length (now rest) < length (now block)) × (suffix < 128) × Lanes (length (now block)) ⌝ }
+    requires { ⌜ (length (now rest) < length (now block)) × (suffix < 128) × WholeLanes (length (now block)) ⌝ }
     ensures { λ r. ⌜ r ≡ keccakF (over s (was rest ++ ending (room block - length (was rest)) suffix)) ⌝ }
 {
     pad(rest, suffix, block);

@@ -4,7 +4,7 @@ use Prim.Native.Nat.{_-_, _*_}
 use native.Mathlib.Omega.{arith}
 use lib.ListN.{length, length-take, length-drop}
 use Rattle.lists.proofs.Parts.{slice-long}
-use Rattle.sponge.specs.Fit.{Lanes}
+use Rattle.sponge.specs.Fit.{WholeLanes}
 use Rattle.sponge.proofs.Absorbing.{few-blocks, Absorbed, absorb-none, absorb-more, absorb-all}
 use borrow.Author.Needs.{needs}
 use Rattle.sponge.proofs.absorb.Statement.{statement}
@@ -22,7 +22,7 @@ loop-holds c = absorb-none _ _ _
 xor-block-requires : tie.Need-xor-block-requires Inv-loop μ-loop
 xor-block-requires c κs =
     let b : tie.Start Inv-loop μ-loop = search needs in
-    subst Lanes (sym (slice-long _ (b .args .rate) (b .args .input .now) (omega arith))) (b .pre .0 .lanes)
+    subst WholeLanes (sym (slice-long _ (b .args .rate) (b .args .input .now) (omega arith))) (b .pre .0 .lanes)
 
 add-j : tie.Need-add-j Inv-loop μ-loop
 add-j c =

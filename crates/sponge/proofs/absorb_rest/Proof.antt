@@ -6,7 +6,7 @@ use lib.ListN.{length, take, replicate}
 use Rattle.lists.proofs.Parts.{buffer-long}
 use Rattle.keccak.specs.Keccak.{keccakF}
 use Rattle.sponge.specs.Sponge.{over, ending}
-use Rattle.sponge.specs.Fit.{Lanes}
+use Rattle.sponge.specs.Fit.{WholeLanes}
 use borrow.Author.Needs.{needs}
 use Rattle.sponge.proofs.absorb_rest.Statement.{statement}
 use Rattle.sponge.proofs.absorb_rest.Tie as tie
@@ -21,7 +21,7 @@ slice-aggregate-absorb-last c = let b : tie.Start = search needs in sym (long b)
 absorb-last-requires : tie.Need-absorb-last-requires
 absorb-last-requires c κs =
     let b : tie.Start = search needs in
-    subst (λ (n : ℕ). (length (b .args .rest .now) < n) × (b .args .suffix < 128) × Lanes n) (sym (long b)) (b .pre .0, b .pre .1, b .pre .2 .lanes)
+    subst (λ (n : ℕ). (length (b .args .rest .now) < n) × (b .args .suffix < 128) × WholeLanes n) (sym (long b)) (b .pre .0, b .pre .1, b .pre .2 .lanes)
 
 returns : tie.Need-returns
 returns c =
