@@ -1,36 +1,24 @@
 -- What SHAKE-128 and SHA3-256 promise as calls: 02, request c, and 01, "Refusal numbers and their order".
---   Hash                     what either is lent: the input
---   hashOf, hash             the same from a list, and from what is lent in a contract
---   shakeTests x             the test of SHAKE-128: an output of any length has room, since the answer fills it
---   digestTests x n          the tests of SHA3-256 in 01's order, with room for n bytes
---   shakeResult x n          what SHAKE-128 shows, with room for n bytes
---   digestResult x n         what SHA3-256 shows
+--   shakeTests input         the test of SHAKE-128: an output of any length has room, since the answer fills it
+--   digestTests input n      the tests of SHA3-256 in 01's order, with room for n bytes
+--   shakeResult input n      what SHAKE-128 shows, with room for n bytes
+--   digestResult input n     what SHA3-256 shows
 use mathlib.Core.List.{List}
 use Prim.Native.Nat.{ℕ}
 use lib.ListN.{length}
-use Rattle.lists.specs.Lent.{Lent, was}
 use Rattle.refusals.specs.Refusals.{_then_, lengthUpTo, roomFor}
 use Rattle.refusals.specs.Seen.{Seen, shown}
 use Rattle.refusals.specs.declared.Verdict.{Verdict}
 use Rattle.sponge.specs.Sponge.{shake128, sha3}
 
-pub record Hash : Type 0 where
-  pub input : List ℕ
+unfoldable pub shakeTests : List ℕ → Verdict
+shakeTests input = lengthUpTo (length input) 65536
 
-abbrev pub hashOf : List ℕ → Hash
-hashOf input = record { input = input }
+unfoldable pub digestTests : List ℕ → ℕ → Verdict
+digestTests input n = lengthUpTo (length input) 65536 then roomFor n 32
 
-abbrev pub hash : Lent (List ℕ) → Hash
-hash input = hashOf (was input)
+abbrev pub shakeResult : List ℕ → ℕ → Seen ℕ
+shakeResult input n = shown (shakeTests input) (shake128 input n) 0 n
 
-unfoldable pub shakeTests : Hash → Verdict
-shakeTests x = lengthUpTo (length (x .input)) 65536
-
-unfoldable pub digestTests : Hash → ℕ → Verdict
-digestTests x n = lengthUpTo (length (x .input)) 65536 then roomFor n 32
-
-abbrev pub shakeResult : Hash → ℕ → Seen ℕ
-shakeResult x n = shown (shakeTests x) (shake128 (x .input) n) 0 n
-
-abbrev pub digestResult : Hash → ℕ → Seen ℕ
-digestResult x n = shown (digestTests x n) (sha3 (x .input)) 0 n
+abbrev pub digestResult : List ℕ → ℕ → Seen ℕ
+digestResult input n = shown (digestTests input n) (sha3 input) 0 n

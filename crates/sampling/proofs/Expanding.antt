@@ -30,16 +30,16 @@ use Rattle.noise.specs.declared.RuleName.{RuleName}
 use Rattle.noise.specs.declared.Ruled.{Ruled}
 use Rattle.noise.specs.declared.Ruled.the-variants.{By, Unknown}
 use Rattle.noise.proofs.Stream.{expanded-length}
-use Rattle.sampling.specs.Expand.{Expand, expandNumbers, enough, expandTests, expandResult}
+use Rattle.sampling.specs.Expand.{expandNumbers, enough, expandTests, expandResult}
 use Rattle.sampling.specs.Steps.{expandSizes}
 
-module _ (k : RuleName) (x : Expand) (room : ℕ) where
-  pub sizes-failed : {v : Verdict} {r : Refusal} → v ≡ expandSizes x room → v ≡ Fail r → expandTests (By k) x room ≡ Fail r
+module _ (k : RuleName) (stream : List ℕ) (room : ℕ) where
+  pub sizes-failed : {v : Verdict} {r : Refusal} → v ≡ expandSizes stream room → v ≡ Fail r → expandTests (By k) stream room ≡ Fail r
   unfolding expandTests expandSizes
   sizes-failed e f = failed _ e f
 
-  module _ (e : expandSizes x room ≡ Pass) where
-    pub sizes-passed : expandTests (By k) x room ≡ enough (length (expandNumbers (By k) (x .stream)))
+  module _ (e : expandSizes stream room ≡ Pass) where
+    pub sizes-passed : expandTests (By k) stream room ≡ enough (length (expandNumbers (By k) stream))
     unfolding expandTests expandSizes
     sizes-passed = went-on _ refl e
 
@@ -47,11 +47,11 @@ module _ (k : RuleName) (x : Expand) (room : ℕ) where
     unfolding expandSizes
     room-enough = room-passed room 1024 (both _ _ e .1)
 
-    pub ran-out : {n : ℕ} → n ≡ length (expandNumbers (By k) (x .stream)) → n < 1024 → expandTests (By k) x room ≡ Fail (RanOut n)
+    pub ran-out : {n : ℕ} → n ≡ length (expandNumbers (By k) stream) → n < 1024 → expandTests (By k) stream room ≡ Fail (RanOut n)
     unfolding enough
     ran-out {n} t l = rw (sizes-passed, ← t, lt-leb 1024 n l)
 
-    pub full : {n : ℕ} → n ≡ length (expandNumbers (By k) (x .stream)) → 1024 ≤ n → expandTests (By k) x room ≡ Pass
+    pub full : {n : ℕ} → n ≡ length (expandNumbers (By k) stream) → 1024 ≤ n → expandTests (By k) stream room ≡ Pass
     unfolding enough
     full {n} t l = rw (sizes-passed, ← t, le-leb 1024 n l)
 
@@ -60,9 +60,9 @@ unfolding enough
 enough-passed m true e f = leb-true 1024 m e
 enough-passed m false e f = differ (rw e at f)
 
-pub refused-zeros : (k : Ruled) (x : Expand) (room : ℕ) {a : Answer} {r : Refusal} {out : List ℕ} → a ≡ Refused r
-    → seen (told a) out ≡ expandResult k x room → out ≡ replicate room 0
-refused-zeros k x room {r = r} e p = seen-refused (expandNumbers k (x .stream)) 0 room (expandTests k x room) r 0 (rw e at p)
+pub refused-zeros : (k : Ruled) (stream : List ℕ) (room : ℕ) {a : Answer} {r : Refusal} {out : List ℕ} → a ≡ Refused r
+    → seen (told a) out ≡ expandResult k stream room → out ≡ replicate room 0
+refused-zeros k stream room {r = r} e p = seen-refused (expandNumbers k stream) 0 room (expandTests k stream room) r 0 (rw e at p)
 
 pub numbers-few : (k : RuleName) (stream : List ℕ) → length (expandNumbers (By k) stream) ≤ 1024
 unfolding expandNumbers
@@ -74,11 +74,11 @@ whole-part xs old part n e l =
 
 -- ---- the promise
 
-module _ {k l : Ruled} (e : l ≡ k) (x : Expand) (n : ℕ) where
-  pub expand-unknown : {out : List ℕ} → l ≡ Unknown → out ≡ replicate n 0 → seen (refused NoRule 0) out ≡ expandResult k x n
+module _ {k l : Ruled} (e : l ≡ k) (stream : List ℕ) (n : ℕ) where
+  pub expand-unknown : {out : List ℕ} → l ≡ Unknown → out ≡ replicate n 0 → seen (refused NoRule 0) out ≡ expandResult k stream n
   unfolding expandTests
   expand-unknown u o = rw (← e, u) (shown-failed _ _ _ refl o)
 
-  pub expand-named : {r : RuleName} {out : List ℕ} {s : Seen ℕ} → l ≡ By r → out ≡ replicate n 0 → s ≡ expandResult (By r) x (length out)
-      → s ≡ expandResult k x n
+  pub expand-named : {r : RuleName} {out : List ℕ} {s : Seen ℕ} → l ≡ By r → out ≡ replicate n 0 → s ≡ expandResult (By r) stream (length out)
+      → s ≡ expandResult k stream n
   expand-named u o p = rw (← e, u, ← zeros-long n 0 o) p

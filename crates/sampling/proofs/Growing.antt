@@ -26,8 +26,7 @@ use Rattle.noise.specs.declared.Ruled.the-variants.{By, Unknown}
 use Rattle.noise.proofs.Stream.{expanded-counted, unread}
 use Rattle.sponge.specs.Sponge.{shake128}
 use Rattle.sponge.proofs.Output.{shake-length, longer}
-use Rattle.sampling.specs.Expand.{expandOf, expandNumbers, enough, expandTests, expandResult}
-use Rattle.sampling.specs.Grow.{Grow, blocks, growNumbers, growTests, growResult}
+use Rattle.sampling.specs.Expand.{expandNumbers, enough, expandTests, expandResult, blocks, growNumbers, growTests, growResult}
 use Rattle.sampling.specs.Steps.{expandSizes, growSizes}
 use Rattle.sampling.proofs.Expanding.{sizes-passed, enough-passed}
 
@@ -43,47 +42,47 @@ first-numbers k seed n few even many =
     ap (expanded (rule k)) (sym (take-append-drop n (blocks seed)) ∙ ap (λ (bs : List ℕ). bs ++ more) front)
     ∙ unread (rule k) firsts more (omega (arith, shake-length seed n)) (omega (arith, expanded-counted (rule k) firsts))
 
-module _ (k : RuleName) (x : Grow) (room : ℕ) where
-  pub sizes-failed : {v : Verdict} {r : Refusal} → v ≡ growSizes x room → v ≡ Fail r → growTests (By k) x room ≡ Fail r
+module _ (k : RuleName) (seed : List ℕ) (room : ℕ) where
+  pub sizes-failed : {v : Verdict} {r : Refusal} → v ≡ growSizes seed room → v ≡ Fail r → growTests (By k) seed room ≡ Fail r
   unfolding growTests growSizes
   sizes-failed e f = failed _ e f
 
-  module _ (e : growSizes x room ≡ Pass) where
-    pub bytes-sized : (bytes : List ℕ) → length bytes ≤ 24 * 168 → expandSizes (expandOf bytes) room ≡ Pass
+  module _ (e : growSizes seed room ≡ Pass) where
+    pub bytes-sized : (bytes : List ℕ) → length bytes ≤ 24 * 168 → expandSizes bytes room ≡ Pass
     unfolding expandSizes growSizes
     bytes-sized bytes l = all-pass (up-to-passes (omega arith)) (room-passes (room-passed room 1024 (both _ _ e .1)))
 
     module _ (n : ℕ) (few : n ≤ 24 * 168) where
       abbrev firsts : List ℕ
-      firsts = shake128 (x .seed) n
+      firsts = shake128 seed n
 
-      tests : expandTests (By k) (expandOf firsts) room ≡ enough (length (expandNumbers (By k) firsts))
-      tests = sizes-passed k (expandOf firsts) room (bytes-sized firsts (omega (arith, shake-length (x .seed) n)))
+      tests : expandTests (By k) firsts room ≡ enough (length (expandNumbers (By k) firsts))
+      tests = sizes-passed k firsts room (bytes-sized firsts (omega (arith, shake-length seed n)))
 
-      grown-by : {u : Seen ℕ} → growNumbers (By k) (x .seed) ≡ expandNumbers (By k) firsts → u ≡ expandResult (By k) (expandOf firsts) room
-          → u ≡ growResult (By k) x room
+      grown-by : {u : Seen ℕ} → growNumbers (By k) seed ≡ expandNumbers (By k) firsts → u ≡ expandResult (By k) firsts room
+          → u ≡ growResult (By k) seed room
       unfolding growTests growSizes
       grown-by s p =
-          let t : growTests (By k) x room ≡ expandTests (By k) (expandOf firsts) room =
+          let t : growTests (By k) seed room ≡ expandTests (By k) firsts room =
           went-on _ refl e ∙ ap (λ (xs : List ℕ). enough (length xs)) s ∙ sym tests in
           p ∙ ap₂ (λ (v : Verdict) (xs : List ℕ). shown v xs 0 room) (sym t) (sym s)
 
-      pub grown-all : {u : Seen ℕ} → n ≡ 24 * 168 → u ≡ expandResult (By k) (expandOf firsts) room → u ≡ growResult (By k) x room
-      grown-all f p = grown-by (ap (λ (m : ℕ). expandNumbers (By k) (shake128 (x .seed) m)) (sym f)) p
+      pub grown-all : {u : Seen ℕ} → n ≡ 24 * 168 → u ≡ expandResult (By k) firsts room → u ≡ growResult (By k) seed room
+      grown-all f p = grown-by (ap (λ (m : ℕ). expandNumbers (By k) (shake128 seed m)) (sym f)) p
 
-      pub grown-first : {a : Answer} {m : ℕ} (out : List ℕ) → n % 2 ≡ 0 → a ≡ Done m → seen (told a) out ≡ expandResult (By k) (expandOf firsts) room
-          → seen (told a) out ≡ growResult (By k) x room
+      pub grown-first : {a : Answer} {m : ℕ} (out : List ℕ) → n % 2 ≡ 0 → a ≡ Done m → seen (told a) out ≡ expandResult (By k) firsts room
+          → seen (told a) out ≡ growResult (By k) seed room
       grown-first {m = m} out f d p =
-          let v = seen-done (expandNumbers (By k) firsts) 0 room (expandTests (By k) (expandOf firsts) room) m out (rw d at p) in
-          grown-by (first-numbers k (x .seed) n few f (enough-passed _ _ refl (sym tests ∙ v))) p
+          let v = seen-done (expandNumbers (By k) firsts) 0 room (expandTests (By k) firsts room) m out (rw d at p) in
+          grown-by (first-numbers k seed n few f (enough-passed _ _ refl (sym tests ∙ v))) p
 
 -- ---- the promise
 
-module _ {k l : Ruled} (e : l ≡ k) (x : Grow) (n : ℕ) where
-  pub grow-unknown : {out : List ℕ} → l ≡ Unknown → out ≡ replicate n 0 → seen (refused NoRule 0) out ≡ growResult k x n
+module _ {k l : Ruled} (e : l ≡ k) (seed : List ℕ) (n : ℕ) where
+  pub grow-unknown : {out : List ℕ} → l ≡ Unknown → out ≡ replicate n 0 → seen (refused NoRule 0) out ≡ growResult k seed n
   unfolding growTests
   grow-unknown u o = rw (← e, u) (shown-failed _ _ _ refl o)
 
-  pub grow-named : {r : RuleName} {out : List ℕ} {s : Seen ℕ} → l ≡ By r → out ≡ replicate n 0 → s ≡ growResult (By r) x (length out)
-      → s ≡ growResult k x n
+  pub grow-named : {r : RuleName} {out : List ℕ} {s : Seen ℕ} → l ≡ By r → out ≡ replicate n 0 → s ≡ growResult (By r) seed (length out)
+      → s ≡ growResult k seed n
   grow-named u o p = rw (← e, u, ← zeros-long n 0 o) p

@@ -36,8 +36,7 @@ use Rattle.noise.specs.declared.Ruled.{Ruled}
 use Rattle.noise.specs.declared.Ruled.the-variants.{By, Unknown}
 use Rattle.noise.proofs.Stream.{by-name-below}
 use Rattle.sampling.specs.Noise.{Noise, lengthEither, noiseTests, noiseValues, noiseResult, NoisePasses, NeverEighteen, EighteenSays}
-use Rattle.sampling.specs.Expand.{Expand, expandNumbers, expandResult, ExpandPasses}
-use Rattle.sampling.specs.Grow.{Grow, blocks, growNumbers, growTests, growResult, SameGrown, GrowPasses}
+use Rattle.sampling.specs.Expand.{expandNumbers, expandResult, ExpandPasses, blocks, growNumbers, growTests, growResult, SameGrown, GrowPasses}
 use Rattle.sampling.specs.Steps.{noiseSizes}
 use Rattle.sampling.proofs.Noising.{sizes-passed, tests-passed}
 use Rattle.sampling.proofs.Expanding.{enough-passed, numbers-few}
@@ -71,19 +70,19 @@ unfolding expandNumbers
 numbers-below Unknown stream = record { below = λ i. omega arith }
 numbers-below (By r) stream = by-name-below r stream
 
-pub expand-below : (k : Ruled) (x : Expand) (n : ℕ) → Below (newHope .q) (expandResult k x n .out .holds)
+pub expand-below : (k : Ruled) (stream : List ℕ) (n : ℕ) → Below (newHope .q) (expandResult k stream n .out .holds)
 unfolding shown
-expand-below k x n = record { below = written-all 0 (λ i. i < newHope .q) _ _ n (omega arith) (λ e. numbers-below k (x .stream) .below) }
+expand-below k stream n = record { below = written-all 0 (λ i. i < newHope .q) _ _ n (omega arith) (λ e. numbers-below k stream .below) }
 
 pub expand-passes : ExpandPasses
-expand-passes k x n from many = below-passes (below-take (below-drop (expand-below k x n) from) many)
+expand-passes k stream n from many = below-passes (below-take (below-drop (expand-below k stream n) from) many)
 
-pub grow-below : (k : Ruled) (x : Grow) (n : ℕ) → Below (newHope .q) (growResult k x n .out .holds)
+pub grow-below : (k : Ruled) (seed : List ℕ) (n : ℕ) → Below (newHope .q) (growResult k seed n .out .holds)
 unfolding shown
-grow-below k x n = record { below = written-all 0 (λ i. i < newHope .q) _ _ n (omega arith) (λ e. numbers-below k (blocks (x .seed)) .below) }
+grow-below k seed n = record { below = written-all 0 (λ i. i < newHope .q) _ _ n (omega arith) (λ e. numbers-below k (blocks seed) .below) }
 
 pub grow-passes : GrowPasses
-grow-passes k x n from many = below-passes (below-take (below-drop (grow-below k x n) from) many)
+grow-passes k seed n from many = below-passes (below-take (below-drop (grow-below k seed n) from) many)
 
 -- ---- the table
 
@@ -137,17 +136,17 @@ eighteen-says x n e =
 
 -- ---- two boxes
 
-grown-long : (k : Ruled) (x : Grow) (n : ℕ) → growTests k x n ≡ Pass → length (growNumbers k (x .seed)) ≡ 1024
+grown-long : (k : Ruled) (seed : List ℕ) (n : ℕ) → growTests k seed n ≡ Pass → length (growNumbers k seed) ≡ 1024
 unfolding growTests
-grown-long Unknown x n e = differ e
-grown-long (By r) x n e = omega (arith, enough-passed _ _ refl (both _ _ e .1), numbers-few r (blocks (x .seed)))
+grown-long Unknown seed n e = differ e
+grown-long (By r) seed n e = omega (arith, enough-passed _ _ refl (both _ _ e .1), numbers-few r (blocks seed))
 
 -- the answer stands at the front, whatever the room
-grown-front : (k : Ruled) (x : Grow) (n : ℕ) → growResult k x n .number ≡ 0 → take 1024 (growResult k x n .out .holds) ≡ growNumbers k (x .seed)
+grown-front : (k : Ruled) (seed : List ℕ) (n : ℕ) → growResult k seed n .number ≡ 0 → take 1024 (growResult k seed n .out .holds) ≡ growNumbers k seed
 unfolding shown written
-grown-front k x n z =
-    let e = number-zero (growTests k x n) (sym z) in
-    rw e (take-at (growNumbers k (x .seed)) _ 1024 (grown-long k x n e))
+grown-front k seed n z =
+    let e = number-zero (growTests k seed n) (sym z) in
+    rw e (take-at (growNumbers k seed) _ 1024 (grown-long k seed n e))
 
 pub same-grown : SameGrown
-same-grown k x n n′ z z′ = grown-front k x n z ∙ sym (grown-front k x n′ z′)
+same-grown k seed n n′ z z′ = grown-front k seed n z ∙ sym (grown-front k seed n′ z′)

@@ -1,20 +1,22 @@
--- What Expand promises: 01, "The NewHope transform" and "Refusal numbers and their order", and its rule: 02, request g.
---   Expand                   what it is lent: the stream
---   expandOf, expand         the same from a list, and from what is lent in a contract
---   expandNumbers k stream   the numbers, by the rule that is named
+-- What Expand and Grow promise: 01, "The NewHope transform" and "Refusal numbers and their order"; their rule, and Grow, which takes NewHope's public polynomial
+-- from its seed: 02, requests g and c.
+--   expandNumbers k stream   the numbers that the rule k takes from a stream
+--   blocks seed              the stream of a seed: the first 24 blocks of 168 bytes of SHAKE-128
+--   growNumbers k seed       the numbers that the rule k takes from it
 --   enough m                 7: the stream ran out, with so many accepted
---   expandTests k x n        its tests in 01's order, 12 before them, with room for n numbers
---   expandResult k x n       what it shows
---   ExpandPasses             no part of what Expand writes is refused as public numbers of NewHope
+--   expandTests k stream n   Expand's tests in 01's order, 12 before them, with room for n numbers
+--   expandResult k stream n  what Expand shows
+--   growTests, growResult k seed n   Grow's tests, and what it shows
+--   ExpandPasses, GrowPasses   no part of what either writes is refused as public numbers of NewHope
+--   SameGrown                two boxes that grow from one rule and seed hold the same numbers, whatever room they lend
 use mathlib.Core.Path.{_≡_}
 use mathlib.Core.Bool.{cond}
 use mathlib.Core.List.{List, []}
-use Prim.Native.Nat.{ℕ}
+use Prim.Native.Nat.{ℕ, _*_}
 use lib.Dec.{leb}
 use lib.ListN.{length, take, drop}
 use Rattle.schemes.specs.Schemes.{newHope}
-use Rattle.lists.specs.Lent.{Lent, was}
-use Rattle.refusals.specs.Refusals.{_then_, lengthUpTo, roomFor, publicsIn}
+use Rattle.refusals.specs.Refusals.{_then_, lengthIs, lengthUpTo, roomFor, publicsIn}
 use Rattle.refusals.specs.Seen.{Seen, shown}
 use Rattle.refusals.specs.declared.Verdict.{Verdict}
 use Rattle.refusals.specs.declared.Verdict.the-variants.{Pass, Fail}
@@ -22,33 +24,48 @@ use Rattle.refusals.specs.declared.Refusal.the-variants.{RanOut, NoRule}
 use Rattle.noise.specs.Expand.{expanded, rule}
 use Rattle.noise.specs.declared.Ruled.{Ruled}
 use Rattle.noise.specs.declared.Ruled.the-variants.{By, Unknown}
-
-pub record Expand : Type 0 where
-  pub stream : List ℕ
-
-abbrev pub expandOf : List ℕ → Expand
-expandOf stream = record { stream = stream }
-
-abbrev pub expand : Lent (List ℕ) → Expand
-expand stream = expandOf (was stream)
+use Rattle.sponge.specs.Sponge.{shake128}
 
 unfoldable pub expandNumbers : Ruled → List ℕ → List ℕ
 expandNumbers Unknown stream = []
 expandNumbers (By r) stream = expanded (rule r) stream
 
+abbrev pub blocks : List ℕ → List ℕ
+blocks seed = shake128 seed (24 * 168)
+
+abbrev pub growNumbers : Ruled → List ℕ → List ℕ
+growNumbers k seed = expandNumbers k (blocks seed)
+
 unfoldable pub enough : ℕ → Verdict
 enough m = cond (leb (newHope .public) m) Pass (Fail (RanOut m))
 
-unfoldable pub expandTests : Ruled → Expand → ℕ → Verdict
-expandTests Unknown x n = Fail NoRule
-expandTests (By r) x n =
-    lengthUpTo (length (x .stream)) 65536 then roomFor n (newHope .public) then enough (length (expandNumbers (By r) (x .stream)))
+unfoldable pub expandTests : Ruled → List ℕ → ℕ → Verdict
+expandTests Unknown stream n = Fail NoRule
+expandTests (By r) stream n =
+    lengthUpTo (length stream) 65536 then roomFor n (newHope .public) then enough (length (expandNumbers (By r) stream))
 
-abbrev pub expandResult : Ruled → Expand → ℕ → Seen ℕ
-expandResult k x n = shown (expandTests k x n) (expandNumbers k (x .stream)) 0 n
+abbrev pub expandResult : Ruled → List ℕ → ℕ → Seen ℕ
+expandResult k stream n = shown (expandTests k stream n) (expandNumbers k stream) 0 n
+
+unfoldable pub growTests : Ruled → List ℕ → ℕ → Verdict
+growTests Unknown seed n = Fail NoRule
+growTests (By r) seed n =
+    lengthIs (length seed) (newHope .seed) then roomFor n (newHope .public) then enough (length (growNumbers (By r) seed))
+
+abbrev pub growResult : Ruled → List ℕ → ℕ → Seen ℕ
+growResult k seed n = shown (growTests k seed n) (growNumbers k seed) 0 n
 
 -- ---- what follows
 
 abbrev pub ExpandPasses : Type 0
 ExpandPasses =
-    (k : Ruled) (x : Expand) (n from many : ℕ) → publicsIn (newHope .q) (take many (drop from (expandResult k x n .out .holds))) ≡ Pass
+    (k : Ruled) (stream : List ℕ) (n from many : ℕ) → publicsIn (newHope .q) (take many (drop from (expandResult k stream n .out .holds))) ≡ Pass
+
+abbrev pub GrowPasses : Type 0
+GrowPasses =
+    (k : Ruled) (seed : List ℕ) (n from many : ℕ) → publicsIn (newHope .q) (take many (drop from (growResult k seed n .out .holds))) ≡ Pass
+
+abbrev pub SameGrown : Type 0
+SameGrown =
+    (k : Ruled) (seed : List ℕ) (n n′ : ℕ) → growResult k seed n .number ≡ 0 → growResult k seed n′ .number ≡ 0
+    → take (newHope .public) (growResult k seed n .out .holds) ≡ take (newHope .public) (growResult k seed n′ .out .holds)

@@ -3,12 +3,11 @@
 ghost use mathlib.Core.Path.{_≡_};
 ghost use lib.ListN.{length, replicate};
 ghost use Rattle.schemes.specs.Schemes.{schemeOf};
-ghost use Rattle.lists.specs.Lent.{left, room};
+ghost use Rattle.lists.specs.Lent.{was, left, room};
 ghost use Rattle.refusals.specs.Seen.{told, seen};
 ghost use Rattle.noise.specs.Expand.{ruleOf};
 ghost use Rattle.sampling.specs.Noise.{noise, noiseResult};
-ghost use Rattle.sampling.specs.Expand.{expand, expandResult};
-ghost use Rattle.sampling.specs.Grow.{grow, growResult};
+ghost use Rattle.sampling.specs.Expand.{expandResult, growResult};
 
 mod sampler;
 
@@ -40,7 +39,7 @@ fn named(rule: u32, out: &mut [u32]) -> Ruled
 
 // Expand: rule, stream. The first 1,024 numbers that the rule takes from it.
 pub fn expand(rule: u32, stream: &[u8], out: &mut [u32]) -> Answer
-    ensures { λ r. ⌜ seen (told r) (left out) ≡ expandResult (ruleOf rule) (expand stream) (room out) ⌝ }
+    ensures { λ r. ⌜ seen (told r) (left out) ≡ expandResult (ruleOf rule) (was stream) (room out) ⌝ }
 {
     let Ruled::By(name) = named(rule, out) else {
         return Answer::Refused(Refusal::NoRule);
@@ -50,7 +49,7 @@ pub fn expand(rule: u32, stream: &[u8], out: &mut [u32]) -> Answer
 
 // Grow: rule, seed. The first 1,024 numbers that the rule takes from the blocks of SHAKE-128 of the seed.
 pub fn grow(rule: u32, seed: &[u8], out: &mut [u32]) -> Answer
-    ensures { λ r. ⌜ seen (told r) (left out) ≡ growResult (ruleOf rule) (grow seed) (room out) ⌝ }
+    ensures { λ r. ⌜ seen (told r) (left out) ≡ growResult (ruleOf rule) (was seed) (room out) ⌝ }
 {
     let Ruled::By(name) = named(rule, out) else {
         return Answer::Refused(Refusal::NoRule);

@@ -15,8 +15,7 @@ ghost use Rattle.bcns_noise.specs.Noise.{firstNotAbove};
 ghost use Rattle.noise.specs.declared.Ruled.the-variants.{By};
 ghost use Rattle.sponge.specs.Sponge.{shake128};
 ghost use Rattle.sampling.specs.Noise.{noiseOf, noise, lengthEither, noiseTests, noiseValues, noiseResult};
-ghost use Rattle.sampling.specs.Expand.{expandOf, expand, expandResult};
-ghost use Rattle.sampling.specs.Grow.{growOf, grow, growResult};
+ghost use Rattle.sampling.specs.Expand.{expandResult, growResult};
 ghost use Rattle.sampling.specs.Steps.{noiseSizes, expandSizes, growSizes};
 use noise::RuleName;
 use refusals::Answer;
@@ -126,7 +125,7 @@ pub(crate) fn noise_in(s: Scheme, bytes: &[u8], table: &[u64], out: &mut [i32]) 
 
 // Expand's tests of lengths.
 fn expand_sizes(stream: &[u8], room: usize) -> Verdict
-    ensures { λ r. ⌜ r ≡ expandSizes (expand stream) room ⌝ }
+    ensures { λ r. ⌜ r ≡ expandSizes (was stream) room ⌝ }
 {
     let v = refusals::length_up_to(Verdict::Pass, stream.len(), 65536);
     refusals::room_for(v, room, NewHope::PUBLIC)
@@ -134,9 +133,9 @@ fn expand_sizes(stream: &[u8], room: usize) -> Verdict
 
 // Expand, where the lengths are allowed. Where the stream runs out, the numbers that were written are zeroed again.
 fn expand_in(name: RuleName, stream: &[u8], out: &mut [u32]) -> Answer
-    requires { ⌜ expandSizes (expandOf (now stream)) (length (now out)) ≡ Pass ⌝ }
+    requires { ⌜ expandSizes (now stream) (length (now out)) ≡ Pass ⌝ }
     requires { ⌜ now out ≡ replicate (length (now out)) 0 ⌝ }
-    ensures { λ r. ⌜ seen (told r) (left out) ≡ expandResult (By name) (expand stream) (room out) ⌝ }
+    ensures { λ r. ⌜ seen (told r) (left out) ≡ expandResult (By name) (was stream) (room out) ⌝ }
 {
     let n = noise::expand(name, stream, &mut out[..NewHope::PUBLIC]);
     if n < NewHope::PUBLIC {
@@ -149,7 +148,7 @@ fn expand_in(name: RuleName, stream: &[u8], out: &mut [u32]) -> Answer
 // Expand by a known rule.
 pub(crate) fn expand_by(name: RuleName, stream: &[u8], out: &mut [u32]) -> Answer
     requires { ⌜ now out ≡ replicate (length (now out)) 0 ⌝ }
-    ensures { λ r. ⌜ seen (told r) (left out) ≡ expandResult (By name) (expand stream) (room out) ⌝ }
+    ensures { λ r. ⌜ seen (told r) (left out) ≡ expandResult (By name) (was stream) (room out) ⌝ }
 {
     let v = expand_sizes(stream, out.len());
     match v {
@@ -160,7 +159,7 @@ pub(crate) fn expand_by(name: RuleName, stream: &[u8], out: &mut [u32]) -> Answe
 
 // Grow's tests of lengths.
 fn grow_sizes(seed: &[u8], room: usize) -> Verdict
-    ensures { λ r. ⌜ r ≡ growSizes (grow seed) room ⌝ }
+    ensures { λ r. ⌜ r ≡ growSizes (was seed) room ⌝ }
 {
     let v = refusals::length_is(Verdict::Pass, seed.len(), NewHope::SEED);
     refusals::room_for(v, room, NewHope::PUBLIC)
@@ -179,9 +178,9 @@ fn first_bytes(name: RuleName) -> usize
 
 // As many bytes of the seed as are lent, then their numbers.
 fn grow_from(name: RuleName, seed: &[u8], bytes: &mut [u8], out: &mut [u32]) -> Answer
-    requires { ⌜ (growSizes (growOf (now seed)) (length (now out)) ≡ Pass) × (length (now bytes) ≤ 24 * 168) ⌝ }
+    requires { ⌜ (growSizes (now seed) (length (now out)) ≡ Pass) × (length (now bytes) ≤ 24 * 168) ⌝ }
     requires { ⌜ now out ≡ replicate (length (now out)) 0 ⌝ }
-    ensures { λ r. ⌜ seen (told r) (left out) ≡ expandResult (By name) (expandOf (shake128 (was seed) (length (was bytes)))) (room out) ⌝ }
+    ensures { λ r. ⌜ seen (told r) (left out) ≡ expandResult (By name) (shake128 (was seed) (length (was bytes))) (room out) ⌝ }
 {
     sponge::shake128(seed, bytes);
     expand_in(name, bytes, out)
@@ -189,9 +188,9 @@ fn grow_from(name: RuleName, seed: &[u8], bytes: &mut [u8], out: &mut [u32]) -> 
 
 // By the first bytes, and only where they run out by all. What decides is public, as the seed is.
 fn grow_first(name: RuleName, seed: &[u8], bytes: &mut [u8], out: &mut [u32]) -> Answer
-    requires { ⌜ (growSizes (growOf (now seed)) (length (now out)) ≡ Pass) × (length (now bytes) ≡ 24 * 168) ⌝ }
+    requires { ⌜ (growSizes (now seed) (length (now out)) ≡ Pass) × (length (now bytes) ≡ 24 * 168) ⌝ }
     requires { ⌜ now out ≡ replicate (length (now out)) 0 ⌝ }
-    ensures { λ r. ⌜ seen (told r) (left out) ≡ growResult (By name) (grow seed) (room out) ⌝ }
+    ensures { λ r. ⌜ seen (told r) (left out) ≡ growResult (By name) (was seed) (room out) ⌝ }
 {
     let n = first_bytes(name);
     let a = grow_from(name, seed, &mut bytes[..n], out);
@@ -203,9 +202,9 @@ fn grow_first(name: RuleName, seed: &[u8], bytes: &mut [u8], out: &mut [u32]) ->
 
 // The same with room for 24 blocks of 168 bytes.
 fn grow_in(name: RuleName, seed: &[u8], out: &mut [u32]) -> Answer
-    requires { ⌜ growSizes (growOf (now seed)) (length (now out)) ≡ Pass ⌝ }
+    requires { ⌜ growSizes (now seed) (length (now out)) ≡ Pass ⌝ }
     requires { ⌜ now out ≡ replicate (length (now out)) 0 ⌝ }
-    ensures { λ r. ⌜ seen (told r) (left out) ≡ growResult (By name) (grow seed) (room out) ⌝ }
+    ensures { λ r. ⌜ seen (told r) (left out) ≡ growResult (By name) (was seed) (room out) ⌝ }
 {
     let mut blocks = [0u8; 4032];
     grow_first(name, seed, &mut blocks, out)
@@ -214,7 +213,7 @@ fn grow_in(name: RuleName, seed: &[u8], out: &mut [u32]) -> Answer
 // Grow by a known rule.
 pub(crate) fn grow_by(name: RuleName, seed: &[u8], out: &mut [u32]) -> Answer
     requires { ⌜ now out ≡ replicate (length (now out)) 0 ⌝ }
-    ensures { λ r. ⌜ seen (told r) (left out) ≡ growResult (By name) (grow seed) (room out) ⌝ }
+    ensures { λ r. ⌜ seen (told r) (left out) ≡ growResult (By name) (was seed) (room out) ⌝ }
 {
     let v = grow_sizes(seed, out.len());
     match v {

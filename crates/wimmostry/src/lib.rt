@@ -6,9 +6,8 @@ ghost use Rattle.lists.specs.Lent.{was, left, room};
 ghost use Rattle.refusals.specs.Seen.{seen};
 ghost use Rattle.sampling.specs.Noise.{noise, noiseResult};
 ghost use Rattle.noise.specs.Expand.{ruleOf};
-ghost use Rattle.sampling.specs.Expand.{expand, expandResult};
-ghost use Rattle.sampling.specs.Grow.{grow, growResult};
-ghost use Rattle.hashing.specs.Hashing.{hash, shakeResult, digestResult};
+ghost use Rattle.sampling.specs.Expand.{expandResult, growResult};
+ghost use Rattle.hashing.specs.Hashing.{shakeResult, digestResult};
 ghost use Rattle.halves.specs.Halves.{factors, productSeen, productResult};
 ghost use Rattle.offer.specs.Offer.{offer, offerResult};
 ghost use Rattle.reply.specs.Reply.{reply, replyRooms, replySeen, replyResult};
@@ -124,7 +123,7 @@ pub extern "C" fn wim_expand(
     place: &mut u64,
     written: &mut u64,
 ) -> u32
-    ensures { λ r. ⌜ seen (record { number = r; place = left place; counts = left written }) (left out) ≡ expandResult (ruleOf rule) (expand stream) (room out) ⌝ }
+    ensures { λ r. ⌜ seen (record { number = r; place = left place; counts = left written }) (left out) ≡ expandResult (ruleOf rule) (was stream) (room out) ⌝ }
 {
     let answer = sampling::expand(rule, stream, out);
     told::tell(answer, place, written)
@@ -139,7 +138,7 @@ pub extern "C" fn wim_grow(
     place: &mut u64,
     written: &mut u64,
 ) -> u32
-    ensures { λ r. ⌜ seen (record { number = r; place = left place; counts = left written }) (left out) ≡ growResult (ruleOf rule) (grow seed) (room out) ⌝ }
+    ensures { λ r. ⌜ seen (record { number = r; place = left place; counts = left written }) (left out) ≡ growResult (ruleOf rule) (was seed) (room out) ⌝ }
 {
     let answer = sampling::grow(rule, seed, out);
     told::tell(answer, place, written)
@@ -153,7 +152,7 @@ pub extern "C" fn wim_shake128(
     place: &mut u64,
     written: &mut u64,
 ) -> u32
-    ensures { λ r. ⌜ seen (record { number = r; place = left place; counts = left written }) (left out) ≡ shakeResult (hash input) (room out) ⌝ }
+    ensures { λ r. ⌜ seen (record { number = r; place = left place; counts = left written }) (left out) ≡ shakeResult (was input) (room out) ⌝ }
 {
     let answer = hashing::shake128(input, out);
     told::tell(answer, place, written)
@@ -167,7 +166,7 @@ pub extern "C" fn wim_sha3_256(
     place: &mut u64,
     written: &mut u64,
 ) -> u32
-    ensures { λ r. ⌜ seen (record { number = r; place = left place; counts = left written }) (left out) ≡ digestResult (hash input) (room out) ⌝ }
+    ensures { λ r. ⌜ seen (record { number = r; place = left place; counts = left written }) (left out) ≡ digestResult (was input) (room out) ⌝ }
 {
     let answer = hashing::sha3_256(input, out);
     told::tell(answer, place, written)

@@ -7,14 +7,14 @@ use lib.ListN.{length, drop, length-take}
 use lib.Seq.{length-take-le}
 use Rattle.refusals.proofs.Seen.{shown-passed, shown-restored}
 use Rattle.noise.specs.declared.Ruled.the-variants.{By}
-use Rattle.sampling.specs.Expand.{Expand, expandOf, expandNumbers}
+use Rattle.sampling.specs.Expand.{expandNumbers}
 use Rattle.sampling.proofs.Expanding.{room-enough, ran-out, full, numbers-few, whole-part}
 use borrow.Author.Needs.{needs}
 use Rattle.sampling.proofs.sampler.expand_in.Statement.{statement}
 use Rattle.sampling.proofs.sampler.expand_in.Tie as tie
 
-abbrev lent : tie.Start → Expand
-lent b = expandOf (b .args .stream .now)
+abbrev lent : tie.Start → List ℕ
+lent b = b .args .stream .now
 
 enough : (b : tie.Start) → 1024 ≤ length (b .args .out .now)
 enough b = room-enough (b .args .name) (lent b) _ (b .pre .0)

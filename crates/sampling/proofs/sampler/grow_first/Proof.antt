@@ -5,7 +5,6 @@ use native.Mathlib.Omega.{arith}
 use lib.ListN.{length, take}
 use lib.Seq.{length-take-le}
 use Rattle.lists.proofs.Same.{zeros, zeros-long}
-use Rattle.sampling.specs.Grow.{growOf}
 use Rattle.sampling.specs.Steps.{growSizes}
 use Rattle.sampling.proofs.Expanding.{refused-zeros}
 use Rattle.sampling.proofs.Growing.{grown-all, grown-first, grow-named}
@@ -35,7 +34,7 @@ returns c =
     let f : tie.After-first-bytes = search needs in
     let p : tie.After-grow-from = search needs in
     let l = lent b _ (f .first-bytes .ensures .0) in
-    grown-first (b .args .name) (growOf (b .args .seed .now)) _ (b .pre .0 .0) _ (omega (arith, l)) _ (omega (arith, l, f .first-bytes .ensures .1))
+    grown-first (b .args .name) (b .args .seed .now) _ (b .pre .0 .0) _ (omega (arith, l)) _ (omega (arith, l, f .first-bytes .ensures .1))
     (c .enum-told2 .given .1) (p .grow-from .ensures)
 
 grow-from-requires-2 : tie.Need-grow-from-requires-2
@@ -46,7 +45,7 @@ grow-from-requires-2 c κs =
     let t : tie.After-enum-told = search needs in
     let z = refused-zeros _ _ _ (t .enum-told .given .1) (p .grow-from .ensures) in
     let n = length (b .args .out .now) in
-    ((ap (growSizes (growOf (b .args .seed .now))) (zeros-long n 0 z) ∙ b .pre .0 .0, omega (arith, y .bytes .given .1, b .pre .0 .1)), zeros n 0 z)
+    ((ap (growSizes (b .args .seed .now)) (zeros-long n 0 z) ∙ b .pre .0 .0, omega (arith, y .bytes .given .1, b .pre .0 .1)), zeros n 0 z)
 
 returns-2 : tie.Need-returns-2
 returns-2 c =
@@ -57,9 +56,9 @@ returns-2 c =
     let q : tie.After-grow-from2 = search needs in
     let z = refused-zeros _ _ _ (t .enum-told .given .1) (p .grow-from .ensures) in
     let n = length (b .args .out .now) in
-    let e = ap (growSizes (growOf (b .args .seed .now))) (zeros-long n 0 z) ∙ b .pre .0 .0 in
+    let e = ap (growSizes (b .args .seed .now)) (zeros-long n 0 z) ∙ b .pre .0 .0 in
     grow-named refl _ n refl z
-    (grown-all (b .args .name) (growOf (b .args .seed .now)) _ e _ (omega (arith, y .bytes .given .1, b .pre .0 .1)) (y .bytes .given .1 ∙ b .pre .0 .1) (q .grow-from2 .ensures))
+    (grown-all (b .args .name) (b .args .seed .now) _ e _ (omega (arith, y .bytes .given .1, b .pre .0 .1)) (y .bytes .given .1 ∙ b .pre .0 .1) (q .grow-from2 .ensures))
 
 pub grow-first-spec : {M : Type 1} → statement M
 grow-first-spec =

@@ -3,7 +3,6 @@ use mathlib.Core.Path.{_∙_, ap}
 use native.Mathlib.Omega.{arith}
 use lib.ListN.{length}
 use Rattle.sponge.proofs.Output.{shake-length}
-use Rattle.sampling.specs.Grow.{growOf}
 use Rattle.sampling.proofs.Growing.{bytes-sized}
 use borrow.Author.Needs.{needs}
 use Rattle.sampling.proofs.sampler.grow_from.Statement.{statement}
@@ -14,7 +13,7 @@ expand-in-requires c κs =
     let b : tie.Start = search needs in
     let h : tie.After-shake128 = search needs in
     let l = ap length (h .shake128 .ensures) ∙ shake-length (b .args .seed .now) _ in
-    (bytes-sized (b .args .name) (growOf (b .args .seed .now)) _ (b .pre .0 .0) _ (omega (arith, l, b .pre .0 .1)), b .pre .1)
+    (bytes-sized (b .args .name) (b .args .seed .now) _ (b .pre .0 .0) _ (omega (arith, l, b .pre .0 .1)), b .pre .1)
 
 same-length : tie.Need-same-length
 same-length c =
