@@ -6,10 +6,11 @@ ghost use Rattle.schemes.specs.Schemes.{bcns};
 ghost use Rattle.lists.specs.Lent.{was, left, room};
 ghost use Rattle.lists.specs.Entries.{Below};
 ghost use Rattle.polynomial.specs.Fit as polynomial;
-ghost use Rattle.polynomial.specs.Mixing as polynomials;
-ghost use Rattle.transform.specs.Transform.{transformed, inverted, multiplied};
+ghost use Rattle.polynomial.specs.Product as polynomials;
+ghost use Rattle.transform.specs.Transform.{transformed, inverted};
+ghost use Rattle.transform.specs.Theorems.{multiplied};
 ghost use Rattle.matrix.specs.Fit as matrix;
-ghost use Rattle.matrix.specs.Mixing as matrices;
+ghost use Rattle.matrix.specs.Matrix as matrices;
 
 #[no_mangle]
 pub extern "C" fn polynomial_mix(a: &[u32], s: &[i32], e: &[i32], out: &mut [u32])

@@ -21,7 +21,8 @@ use Rattle.lists.specs.Entries.{tab, ints}
 use Rattle.lists.proofs.Entries.{tab-length, tab-at, tab-ext, tab-getD}
 use Rattle.lists.proofs.Same.{equal-all}
 use Rattle.matrix.specs.Matrix.{times, rows, intsAt}
-use Rattle.matrix.specs.Steps.{wordsOf, gained, reduced, dotTerm}
+use Rattle.matrix.specs.Steps.{dotTerm}
+use Rattle.matrix.specs.Words.{wordsOf, gained, reduced}
 
 pub words-length : (m : ℕ) (zs : List ℤ) → length (wordsOf m zs) ≡ length zs
 unfolding wordsOf

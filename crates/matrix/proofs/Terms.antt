@@ -17,7 +17,8 @@ use Rattle.numbers.proofs.Sums.{natural, sum-ext}
 use Rattle.lists.specs.Entries.{tab}
 use Rattle.lists.proofs.Entries.{tab-at, tab-ext}
 use Rattle.lists.proofs.Parts.{slice-long, slice-at}
-use Rattle.matrix.specs.Steps.{gained, turned, dotTerm, rightTerm, blockTerm, partTerm, leftTerm, blockGained}
+use Rattle.matrix.specs.Steps.{turned, dotTerm, blockTerm, partTerm, blockGained}
+use Rattle.matrix.specs.Words.{gained, rightTerm, leftTerm}
 
 pub row-in : (r n i : ℕ) → i < r → i * n + n ≤ r * n
 row-in r n i h = let m : suc i * n ≤ r * n = mul-le-mul-right n h in omega arith

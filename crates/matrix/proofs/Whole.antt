@@ -16,10 +16,9 @@ use Rattle.numbers.proofs.Congruence.{eq-≅, refl-≅, _⨾_, mul-≅, residue
 use Rattle.lists.specs.Entries.{nums, ints, Below}
 use Rattle.lists.proofs.Entries.{tab-length, tab-at, tab-ext}
 use Rattle.lists.proofs.Same.{equal-all}
-use Rattle.matrix.specs.Matrix.{times, rows, numsAt, intsAt}
-use Rattle.matrix.specs.Mixing.{rightMixed, leftMixed, bare}
+use Rattle.matrix.specs.Matrix.{times, rows, numsAt, intsAt, rightMixed, leftMixed, bare}
 use Rattle.matrix.specs.Fit.{Fit, Shape}
-use Rattle.matrix.specs.Steps.{wordsOf, gained, reduced, columnsOf, rightTerm, leftTerm}
+use Rattle.matrix.specs.Words.{wordsOf, gained, reduced, columnsOf, rightTerm, leftTerm}
 use Rattle.matrix.proofs.Steps.{words-at, mixed}
 
 pub column-at : (m n : ℕ) (s : List ℤ) (j t : ℕ) → j < 8 → t < n → getD (columnsOf m n s) (j * n + t) 0 ≡ residue m (ints s (t * 8 + j))

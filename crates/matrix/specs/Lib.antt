@@ -1,4 +1,5 @@
 pub mod Matrix
-pub mod Mixing
+pub mod Difference
 pub mod Fit
+pub mod Words
 pub mod Steps

@@ -1,51 +1,30 @@
--- How the code goes about a product: in words, which wrap at a multiple m of q, with sums that start as the noise, gain n products each, and are reduced
--- once. Here m is 65536.
---   wordsOf m zs        secrets or noise as words: their remainders modulo m
---   gained m n f ws     the sums ws, of which sum k has gained f k 0 + .. + f k (n - 1)
---   reduced q ws        the remainders of the sums in 0 .. q - 1
---   columnsOf m n s     the 8 columns of S, one after the other, as words
---   turned n y          the 8 columns of Y, likewise
---   dotTerm, rightTerm  the products of a row with column j; of the entry k of XS
---   blockTerm, partTerm, leftTerm   the products of a block y of rows of Y, each with its word of w, at column j; of the block that starts at row t, with
---                       the words of S, for the entry k of SY; of all rows for that entry
+-- How the code goes about a product, beside `Words.antt`.
+--   turned n y          the 8 columns of Y, one after the other
+--   columnsFrom n i c s   of a matrix of 8 rows and n columns the c columns from column i on
+--   dotTerm             the products of a row with column j
+--   blockTerm, partTerm   the products of a block y of rows of Y, each with its word of w, at column j; of the block that starts at row t, with the words of S,
+--                       for the entry k of SY
 --   blockGained w y ws  the sums ws, a row of them, with the products of the block
 use mathlib.Core.List.{List}
 use Prim.Native.Nat.{ℕ, _+_, _*_, _/_, _%_}
 use lib.ListN.{length, getD}
-use lib.IntN.{ℤ}
-use Rattle.numbers.specs.Sum.{sumℕ}
-use Rattle.numbers.specs.Residue.{residue}
-use Rattle.lists.specs.Entries.{tab, ints}
-
-unfoldable pub wordsOf : ℕ → List ℤ → List ℕ
-wordsOf m zs = tab (length zs) (λ k. residue m (ints zs k))
-
-unfoldable pub gained : ℕ → ℕ → (ℕ → ℕ → ℕ) → List ℕ → List ℕ
-gained m n f ws = tab (length ws) (λ k. (getD ws k 0 + sumℕ n (f k)) % m)
-
-unfoldable pub reduced : ℕ → List ℕ → List ℕ
-reduced q ws = tab (length ws) (λ k. getD ws k 0 % q)
-
-unfoldable pub columnsOf : ℕ → ℕ → List ℤ → List ℕ
-columnsOf m n s = tab (8 * n) (λ k. residue m (ints s (k % n * 8 + k / n)))
+use Rattle.lists.specs.Entries.{tab}
+use Rattle.matrix.specs.Words.{gained}
 
 unfoldable pub turned : ℕ → List ℕ → List ℕ
 turned n y = tab (8 * n) (λ k. getD y (k % n * 8 + k / n) 0)
 
+unfoldable pub columnsFrom : ℕ → ℕ → ℕ → List ℕ → List ℕ
+columnsFrom n i c s = tab (8 * c) (λ k. getD s (k / c * n + (i + k % c)) 0)
+
 unfoldable pub dotTerm : ℕ → List ℕ → List ℕ → ℕ → ℕ → ℕ
 dotTerm n row cols j t = getD row t 0 * getD cols (j * n + t) 0
-
-unfoldable pub rightTerm : ℕ → List ℕ → List ℕ → ℕ → ℕ → ℕ
-rightTerm n x cols k t = getD x (k / 8 * n + t) 0 * getD cols (k % 8 * n + t) 0
 
 unfoldable pub blockTerm : ℕ → List ℕ → List ℕ → ℕ → ℕ → ℕ
 blockTerm c w y j u = getD y (u * c + j) 0 * getD w u 0
 
 unfoldable pub partTerm : ℕ → ℕ → ℕ → List ℕ → List ℕ → ℕ → ℕ → ℕ
 partTerm n c t s y k u = getD y (u * c + k % c) 0 * getD s (k / c * n + (t + u)) 0
-
-unfoldable pub leftTerm : ℕ → ℕ → List ℕ → List ℕ → ℕ → ℕ → ℕ
-leftTerm n c s y k t = getD y (t * c + k % c) 0 * getD s (k / c * n + t) 0
 
 unfoldable pub blockGained : List ℕ → List ℕ → List ℕ → List ℕ
 blockGained w y ws = gained 65536 (length w) (blockTerm (length ws) w y) ws

@@ -14,21 +14,10 @@ ghost use Rattle.numbers.specs.Residue.{residue};
 ghost use Rattle.lists.specs.Lent.{was, left};
 ghost use Rattle.lists.specs.First.{firstOver};
 ghost use Rattle.lists.specs.Entries.{tab, ints, Below};
-ghost use Rattle.matrix.specs.Mixing.{rightMixed, leftMixed, bare};
+ghost use Rattle.matrix.specs.Matrix.{rightMixed, leftMixed, bare};
 ghost use Rattle.matrix.specs.Fit.{Fit, Shape};
-ghost use Rattle.matrix.specs.Steps.{
-  wordsOf,
-  gained,
-  reduced,
-  turned,
-  columnsOf,
-  dotTerm,
-  rightTerm,
-  blockTerm,
-  partTerm,
-  leftTerm,
-  blockGained,
-};
+ghost use Rattle.matrix.specs.Steps.{turned, dotTerm, blockTerm, partTerm, blockGained};
+ghost use Rattle.matrix.specs.Words.{wordsOf, gained, reduced, columnsOf, rightTerm, leftTerm};
 
 // One product more. A sum of words is below 2^32, so nothing is lost before it wraps; the compiler makes one multiplication of 16 bits of it.
 fn add_product(sum: u16, x: u16, w: u16) -> u16

@@ -16,9 +16,10 @@ use Rattle.lists.specs.Entries.{tab, Below}
 use Rattle.lists.proofs.Entries.{tab-ext, tab-at, tab-getD, below-tab}
 use lib.Arith.{digits-lt, digits-div, digits-mod}
 use Rattle.lists.proofs.Parts.{part-long, part-at, slice-long, slice-at}
-use Rattle.matrix.specs.Steps.{gained, rightTerm, leftTerm, partTerm}
+use Rattle.matrix.specs.Steps.{partTerm, columnsFrom}
+use Rattle.matrix.specs.Words.{gained, rightTerm, leftTerm}
 use Rattle.matrix.proofs.Steps.{gained-length, gained-at}
-use Rattle.parts.specs.Parts.{wrap, words, pairs, columnsFrom, placed}
+use Rattle.parts.specs.Parts.{wrap, words, pairs, placed}
 use Rattle.parts.proofs.Joining.{placed-before, placed-in, placed-after}
 use Rattle.parts.proofs.Put.{put-tab}
 use Rattle.parts.proofs.Words.{words-long, words-append, words-take, words-drop, words-below, slice-words-long, slice-words-at, pairs-words, words-pairs}

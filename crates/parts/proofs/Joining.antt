@@ -16,7 +16,7 @@ use Rattle.numbers.proofs.Sums.{natural, sum-ext, sum-add, sum-none}
 use Rattle.lists.specs.Entries.{tab}
 use Rattle.lists.proofs.Entries.{tab-ext, tab-getD}
 use Rattle.lists.proofs.Same.{equal-all}
-use Rattle.matrix.specs.Steps.{gained, rightTerm, leftTerm}
+use Rattle.matrix.specs.Words.{gained, rightTerm, leftTerm}
 use Rattle.matrix.proofs.Steps.{gained-length, gained-at, wrapped}
 use Rattle.matrix.proofs.Whole.{right-any, left-any}
 use Rattle.parts.specs.Parts.{placed}

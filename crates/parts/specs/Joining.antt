@@ -10,8 +10,8 @@ use Prim.Native.Nat.{ℕ, _+_, _*_, _%_, _<_}
 use lib.ListN.{length, getD}
 use lib.IntN.{ℤ}
 use Rattle.lists.specs.Entries.{Below}
-use Rattle.matrix.specs.Mixing.{rightMixed, leftMixed}
-use Rattle.matrix.specs.Steps.{wordsOf, columnsOf, gained, reduced, rightTerm, leftTerm}
+use Rattle.matrix.specs.Matrix.{rightMixed, leftMixed}
+use Rattle.matrix.specs.Words.{wordsOf, columnsOf, gained, reduced, rightTerm, leftTerm}
 use Rattle.parts.specs.Parts.{placed}
 
 pub record Linear (T : List ℕ → ℕ → ℕ → ℕ) : Type 0 where

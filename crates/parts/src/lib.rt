@@ -7,8 +7,9 @@ ghost use Prim.Native.Nat.{_+_, _*_, _%_, _<_, _≤_};
 ghost use lib.ListN.{length, take, drop, set};
 ghost use Rattle.lists.specs.Lent.{was, left};
 ghost use Rattle.lists.specs.Entries.{Below};
-ghost use Rattle.matrix.specs.Steps.{gained, rightTerm, partTerm};
-ghost use Rattle.parts.specs.Parts.{wrap, words, pairs, columnsFrom};
+ghost use Rattle.matrix.specs.Steps.{partTerm, columnsFrom};
+ghost use Rattle.matrix.specs.Words.{gained, rightTerm};
+ghost use Rattle.parts.specs.Parts.{wrap, words, pairs};
 
 // Both words of each number. Where the lower word lies first the compiler makes one copy of it.
 pub fn unpair(xs: &[u32], out: &mut [u16])

@@ -5,8 +5,8 @@
 --   laid-high, laid-low     they are what the dot products ask
 --   sums-small, leaf-made   the sums of both halves, their size, and what they are put together
 --   made-ext                the sums of numbers that are congruent, and of the same secrets
---   raise-fits, raise-next  numbers added to others, where they stand
---   raised-small, joined    what is added to both halves
+--   add-fits, add-next      numbers added to others, where they stand
+--   added-small, joined     what is added to both halves
 --   three-small, level-made both halves of the sums from three products, and that they fit
 --   low-*, high-*, middle-* what these three are lent, and what they make
 --   few-size                where there are many secrets, none is large
@@ -211,19 +211,19 @@ module _ (W : Width) (B n : ℕ) {o o′ : List ℤ} {to x k : ℕ} (old : Store
   few : natAbs (getD o′ (to + k) (pos 0)) + natAbs (getD o′ (x + k) (pos 0)) < 2 ^ hbits W
   few = rw (to-is, from-is) (omega (arith, fits, h .2 (to + k) (omega (arith, h .0)), h .2 (x + k) (omega arith)))
 
-  pub raise-fits : SFits W (toZ W (ofZ W (getD o′ (to + k) (pos 0))) +ℤ toZ W (ofZ W (getD o′ (x + k) (pos 0))))
-  raise-fits = plus-fits W _ _ fx fy few
+  pub add-fits : SFits W (toZ W (ofZ W (getD o′ (to + k) (pos 0))) +ℤ toZ W (ofZ W (getD o′ (x + k) (pos 0))))
+  add-fits = plus-fits W _ _ fx fy few
 
-  pub raise-next :
+  pub add-next :
       Stored (pos 0) o to (k + 1) (λ j. ints o (to + j) +ℤ ints o (x + j))
       (set o′ (to + k) (toZ W (ofZ W (toZ W (ofZ W (getD o′ (to + k) (pos 0))) +ℤ toZ W (ofZ W (getD o′ (x + k) (pos 0)))))))
-  raise-next = store-next old (omega (arith, h .0, h .1)) (plus-read W _ _ fx fy few ∙ ap₂ (λ (y z : ℤ). y +ℤ z) to-is from-is)
+  add-next = store-next old (omega (arith, h .0, h .1)) (plus-read W _ _ fx fy few ∙ ap₂ (λ (y z : ℤ). y +ℤ z) to-is from-is)
 
 -- ---- three products
 
 module _ {m : ℕ} {o o₁ : List ℤ} (s₁ : Stored (pos 0) o 0 m (λ k. ints o (0 + k) +ℤ ints o (m + m + k)) o₁) where
-  raised-low : (k : ℕ) → k < m → ints o₁ k ≡ ints o k +ℤ ints o (m + m + k)
-  raised-low k p =
+  added-low : (k : ℕ) → k < m → ints o₁ k ≡ ints o k +ℤ ints o (m + m + k)
+  added-low k p =
       let e : 0 + k ≡ k = omega arith in
       ints-is o₁ k ∙ front-at s₁ k p ∙ ap (λ (i : ℕ). ints o i +ℤ ints o (m + m + k)) e
 
@@ -231,18 +231,18 @@ module _ {m : ℕ} {o o₁ : List ℤ} (s₁ : Stored (pos 0) o 0 m (λ k. ints 
   unfolding ints
   kept-high k p = s₁ .above k (omega arith)
 
-  pub raised-small : ((k : ℕ) → k < m + m + m → natAbs (ints o k) ≤ 2 ^ 60) → (k : ℕ) → k < m + m + m → natAbs (ints o₁ k) ≤ 2 ^ 61
-  raised-small h k p = go (decLt k m)
+  pub added-small : ((k : ℕ) → k < m + m + m → natAbs (ints o k) ≤ 2 ^ 60) → (k : ℕ) → k < m + m + m → natAbs (ints o₁ k) ≤ 2 ^ 61
+  added-small h k p = go (decLt k m)
     where
       go : Dec (k < m) → natAbs (ints o₁ k) ≤ 2 ^ 61
-      go (yes l) = rw (raised-low k l) (omega (arith, abs-add (ints o k) (ints o (m + m + k)), h k p, h (m + m + k) (omega arith)))
+      go (yes l) = rw (added-low k l) (omega (arith, abs-add (ints o k) (ints o (m + m + k)), h k p, h (m + m + k) (omega arith)))
       go (no l) = rw (kept-high k (omega arith)) (omega (arith, h k p))
 
   pub joined : {o₂ : List ℤ} → Stored (pos 0) o₁ m m (λ k. ints o₁ (m + k) +ℤ ints o₁ (m + m + k)) o₂ → Joined m o o₂
   unfolding ints
   joined {o₂} s₂ =
       record {
-        low = λ k p. s₂ .below k p ∙ raised-low k p;
+        low = λ k p. s₂ .below k p ∙ added-low k p;
         high = λ k p. s₂ .inside k p ∙ ap₂ (λ (x y : ℤ). x +ℤ y) (kept-high (m + k) (omega arith)) (kept-high (m + m + k) (omega arith));
       }
 

@@ -18,8 +18,7 @@ use Rattle.numbers.proofs.Congruence.{eq-≅, refl-≅, _⨾_, add-≅, same-re
 use Rattle.numbers.proofs.Size.{abs-zero}
 use Rattle.lists.specs.Entries.{tab, nums, ints, Below, Within}
 use Rattle.lists.proofs.Entries.{tab-ext}
-use Rattle.polynomial.specs.Product.{turn, product}
-use Rattle.polynomial.specs.Mixing.{mixed, bare}
+use Rattle.polynomial.specs.Product.{turn, product, mixed, bare}
 use Rattle.polynomial.specs.Fit.{Fit}
 use Rattle.polynomial.specs.Window.{both, dot, slide}
 use Rattle.lists.specs.Stored.{Stored}

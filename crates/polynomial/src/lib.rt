@@ -16,7 +16,7 @@ ghost use Rattle.numbers.specs.Residue.{residue};
 ghost use Rattle.lists.specs.Entries.{tab, nums, ints, Below, Within};
 ghost use Rattle.lists.specs.Lent.{was, left, room};
 ghost use Rattle.lists.specs.Stored.{Stored};
-ghost use Rattle.polynomial.specs.Mixing.{mixed, bare};
+ghost use Rattle.polynomial.specs.Product.{mixed, bare};
 ghost use Rattle.polynomial.specs.Fit.{Fit};
 ghost use Rattle.polynomial.specs.Window.{lift, upper, lower, span, slide, Pair};
 ghost use Rattle.polynomial.specs.Steps.{Ready, Prepared, Halved, Made, Joined, Windowed};
@@ -250,8 +250,8 @@ fn add(t: &mut [i16], to: usize, x: usize, n: usize)
     }
 }
 
-// The same of sums.
-fn raise(o: &mut [i64], to: usize, x: usize, n: usize)
+// The n sums at x, added to those at `to`.
+fn add_sums(o: &mut [i64], to: usize, x: usize, n: usize)
     requires { ⌜ (to + n ≤ x) × (x + n ≤ length (now o)) × ((k : ℕ) → k < x + n → natAbs (ints (now o) k) ≤ 2 ^ 61) ⌝ }
     ensures { λ _. ⌜ Stored (pos 0) (was o) to n (λ (k : ℕ). ints (was o) (to + k) +ℤ ints (was o) (x + k)) (left o) ⌝ }
 {
@@ -269,8 +269,8 @@ fn join(o: &mut [i64], m: usize)
     ensures { λ _. ⌜ Joined m (was o) (left o) ⌝ }
 {
     let two = m + m;
-    raise(o, 0, two, m);
-    raise(o, m, two, m);
+    add_sums(o, 0, two, m);
+    add_sums(o, m, two, m);
 }
 
 // Half of a length that is even and above 64, else 0. A block of 64 products is what the compiler makes full instructions of: down to 128 the product takes 1.04

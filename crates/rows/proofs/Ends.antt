@@ -19,7 +19,7 @@ use Rattle.schemes.proofs.Laws.{by-number}
 use Rattle.lists.specs.Entries.{Below}
 use Rattle.lists.proofs.Entries.{below-tab}
 use Rattle.lists.proofs.Same.{equal-all}
-use Rattle.matrix.specs.Steps.{wordsOf, columnsOf}
+use Rattle.matrix.specs.Words.{wordsOf, columnsOf}
 use Rattle.parts.specs.Parts.{wrap}
 use Rattle.refusals.specs.Seen.{ifPassed}
 use Rattle.refusals.specs.declared.Verdict.{Verdict}

@@ -18,7 +18,7 @@ use Rattle.schemes.specs.declared.Family.{Family}
 use Rattle.schemes.specs.declared.Named.the-variants.{Known}
 use Rattle.schemes.specs.declared.Scheme.{Scheme}
 use Rattle.lists.specs.Entries.{Below}
-use Rattle.matrix.specs.Steps.{wordsOf, gained, reduced}
+use Rattle.matrix.specs.Words.{wordsOf, gained, reduced}
 use Rattle.matrix.proofs.Steps.{words-length}
 use Rattle.parts.specs.Parts.{wrap}
 use Rattle.parts.proofs.Joining.{whole-right, whole-left}

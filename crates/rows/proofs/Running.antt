@@ -18,7 +18,7 @@ use lib.ListN.{length, take, drop, length-append, length-take, length-drop, take
 use lib.Seq.{take-at, take-all, take-nil, drop-nil, take-append-le, drop-append-le, length-take-le}
 use Rattle.lists.specs.Entries.{Below}
 use Rattle.lists.proofs.Parts.{below-drop, below-take}
-use Rattle.matrix.specs.Steps.{gained}
+use Rattle.matrix.specs.Words.{gained}
 use Rattle.matrix.proofs.Steps.{gained-length}
 use Rattle.parts.specs.Parts.{wrap, words, pairs, placed}
 use Rattle.parts.proofs.Joining.{append-at, placed-in, so-far, nothing}

@@ -12,7 +12,7 @@ use Rattle.schemes.specs.declared.Family.{Family}
 use Rattle.schemes.specs.declared.Fixed.{Fixed}
 use Rattle.schemes.specs.declared.Scheme.{Scheme}
 use Rattle.lists.proofs.Entries.{tab-length, below-tab}
-use Rattle.matrix.specs.Steps.{reduced}
+use Rattle.matrix.specs.Words.{reduced}
 use Rattle.refusals.specs.Refusals.{notBlank}
 use Rattle.values.specs.Fit.{Counted}
 use Rattle.values.proofs.Numbers.{numbers-in}

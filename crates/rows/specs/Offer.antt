@@ -19,7 +19,7 @@ use Rattle.schemes.specs.declared.Named.the-variants.{Known, Unknown}
 use Rattle.schemes.specs.declared.Scheme.{Scheme}
 use Rattle.lists.specs.Lent.{Lent, was}
 use Rattle.packing.specs.Packing.{packed}
-use Rattle.matrix.specs.Steps.{reduced}
+use Rattle.matrix.specs.Words.{reduced}
 use Rattle.refusals.specs.Refusals.{_then_, lengthIs, roomFor, inTurn, notBlank, secretsIn}
 use Rattle.refusals.specs.Seen.{ifPassed, Seen, shown}
 use Rattle.refusals.specs.declared.Verdict.{Verdict}

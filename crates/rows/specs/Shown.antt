@@ -28,8 +28,8 @@ use Rattle.schemes.specs.declared.Family.{Family}
 use Rattle.schemes.specs.declared.Named.the-variants.{Known}
 use Rattle.schemes.specs.declared.Scheme.{Scheme}
 use Rattle.lists.specs.Entries.{Below}
-use Rattle.matrix.specs.Mixing.{rightMixed, leftMixed}
-use Rattle.matrix.specs.Steps.{wordsOf, gained, reduced}
+use Rattle.matrix.specs.Matrix.{rightMixed, leftMixed}
+use Rattle.matrix.specs.Words.{wordsOf, gained, reduced}
 use Rattle.parts.specs.Parts.{wrap}
 use Rattle.refusals.specs.Seen.{Seen, shown}
 use Rattle.refusals.specs.declared.Verdict.the-variants.{Pass, Fail}

@@ -23,7 +23,7 @@ use Rattle.lists.specs.Entries.{Below}
 use Rattle.lists.proofs.Parts.{drop-same, below-drop, below-take}
 use Rattle.lists.proofs.Same.{take-same}
 use Rattle.lists.proofs.Entries.{tab-length}
-use Rattle.matrix.specs.Steps.{columnsOf, gained}
+use Rattle.matrix.specs.Words.{columnsOf, gained}
 use Rattle.matrix.proofs.Steps.{gained-length, words-length}
 use Rattle.parts.specs.Parts.{wrap, words, pairs}
 use Rattle.parts.proofs.Words.{words-long, words-below, append-below, pairs-long, pairs-words, words-pairs}

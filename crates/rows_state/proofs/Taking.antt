@@ -17,9 +17,10 @@ use borrow.Rule.Slice.PartMut.{putMid}
 use lib.Seq.{take-add, take-take, take-append-le, drop-append-le, drop-drop}
 use Rattle.lists.specs.Entries.{Below}
 use Rattle.lists.proofs.Parts.{below-drop, below-take, to-end}
-use Rattle.matrix.specs.Steps.{gained, rightTerm, partTerm}
+use Rattle.matrix.specs.Steps.{partTerm, columnsFrom}
+use Rattle.matrix.specs.Words.{gained, rightTerm}
 use Rattle.matrix.proofs.Steps.{gained-length}
-use Rattle.parts.specs.Parts.{wrap, words, pairs, columnsFrom, placed}
+use Rattle.parts.specs.Parts.{wrap, words, pairs, placed}
 use Rattle.parts.specs.Joining.{Linear}
 use Rattle.parts.proofs.Joining.{right-linear, left-linear}
 use Rattle.parts.proofs.Words.{pairs-long, pairs-words}

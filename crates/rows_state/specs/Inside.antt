@@ -8,7 +8,7 @@ use mathlib.Core.Path.{_≡_}
 use mathlib.Core.List.{List, _∷_, _++_}
 use Prim.Native.Nat.{ℕ, _+_, _*_, _%_, _<_, _≤_}
 use lib.ListN.{length, take, drop, replicate}
-use Rattle.matrix.specs.Steps.{gained}
+use Rattle.matrix.specs.Words.{gained}
 use Rattle.parts.specs.Parts.{wrap, pairs, placed}
 use Rattle.rows_state.specs.State.{long, taken, secretOf, sumsOf, heldOf, laid, onward, terms, heldWith}
 use Rattle.rows_state.specs.declared.Call.{Call}

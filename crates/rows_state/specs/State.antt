@@ -39,7 +39,7 @@ use Rattle.schemes.specs.declared.Fixed.{Fixed}
 use Rattle.schemes.specs.declared.Named.{Named}
 use Rattle.schemes.specs.declared.Named.the-variants.{Known, Unknown}
 use Rattle.schemes.specs.declared.Scheme.{Scheme}
-use Rattle.matrix.specs.Steps.{wordsOf, columnsOf, gained, rightTerm, leftTerm}
+use Rattle.matrix.specs.Words.{wordsOf, columnsOf, gained, rightTerm, leftTerm}
 use Rattle.parts.specs.Parts.{wrap, words, pairs, placed}
 use Rattle.rows_state.specs.declared.Call.{Call}
 

@@ -5,7 +5,7 @@ ghost use Prim.Native.Nat.{_+_, _*_, _%_, _<_, _≤_};
 ghost use lib.ListN.{length, replicate};
 ghost use Rattle.schemes.specs.Schemes.{fixedOf};
 ghost use Rattle.lists.specs.Lent.{was, left};
-ghost use Rattle.matrix.specs.Steps.{wordsOf, reduced};
+ghost use Rattle.matrix.specs.Words.{wordsOf, reduced};
 ghost use Rattle.parts.specs.Parts.{wrap, pairs};
 ghost use Rattle.rows_state.specs.State.{frodoOf, long, named, taken, savedOf, sumsOf, laid, secretWords, fresh, _and_, allBelow, savedIn, begun, fitsIn, complete, fills};
 ghost use Rattle.rows_state.specs.Inside.{keeping, Sized};

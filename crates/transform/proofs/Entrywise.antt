@@ -12,7 +12,7 @@ use lib.ListN.{getD}
 use Rattle.numbers.specs.Residue.{residue}
 use Rattle.lists.specs.Entries.{tab, ints}
 use Rattle.lists.proofs.Entries.{tab-at, tab-ext}
-use Rattle.transform.specs.Transform.{entrywise, summed}
+use Rattle.transform.specs.Theorems.{entrywise, summed}
 use Rattle.transform.specs.Level.{reduced}
 
 pub combine-fits : (x y z : ℕ) → x < 12289 → y < 12289 → z < 12289 → x * y + z < 2 ^ 32

@@ -1,6 +1,6 @@
--- What a level writes, entry by entry: the first n of each half (`specs/Level.antt`, Joined).
+-- What a level writes, entry by entry: the first n of each half (`specs/Level.antt`, Butterflies).
 --   stored-is                  what the code stores
---   joined-none, run-more      before, and after one more of a run
+--   butterflies-none, run-more   before, and after one more of a run
 --   product-fits, exponent-≤   the products, and the power that a run reads
 --   next-run                   a run ends within its block
 use mathlib.Core.Path.{_≡_, _∙_, ap, ap₂}
@@ -12,10 +12,10 @@ use native.Mathlib.Nat.{add-assoc, not-suc-le-zero, mul-div-le, mul-le-mul, mul-
 use borrow.Author.Count.{below-more}
 use lib.ListN.{length, getD, set, length-set}
 use lib.Seq.{getD-set-same, getD-set-other}
-use Rattle.transform.specs.Level.{tight, powered, low, high, Half, first, second, place, joined, stored, entry, Joined, Room}
+use Rattle.transform.specs.Level.{tight, powered, low, high, Half, first, second, place, butterfly, stored, entry, Butterflies, OneBlock}
 
-pub joined-none : (src : List ℕ) (a h : ℕ) (dst : List ℕ) → length dst ≡ 1024 → Joined src a h 0 dst
-joined-none src a h dst e = record { size = e; made = λ c k p. absurd (not-suc-le-zero p) }
+pub butterflies-none : (src : List ℕ) (a h : ℕ) (dst : List ℕ) → length dst ≡ 1024 → Butterflies src a h 0 dst
+butterflies-none src a h dst e = record { size = e; made = λ c k p. absurd (not-suc-le-zero p) }
 
 -- two stores, one to each half
 module _ (dst : List ℕ) (k : ℕ) (f : Half → ℕ) where
@@ -49,7 +49,7 @@ module _ (dst : List ℕ) (k : ℕ) (f : Half → ℕ) where
 pub stored-is :
     (src dst : List ℕ) (w r h k x y : ℕ) → x ≡ tight (getD src r 0) → y ≡ powered w (getD src (r + h) 0) →
     set (set dst k (x + y)) (k + 512) (x + 24578 - y) ≡ stored src w r h k dst
-unfolding stored joined low high
+unfolding stored butterfly low high
 stored-is src dst w r h k x y a b = rw (a, b)
 
 -- an entry of a run stands in the run's block
@@ -57,26 +57,26 @@ in-block : (h k j : ℕ) → k + j < k / h * h + h → (k + j) / h ≡ k / h
 in-block h k j l = div-eq-of-lt-le h (omega (arith, div-mul-le-self k h)) (omega arith)
 
 -- one more of each half, of any power and place that are those of its block
-joined-more :
-    (src dst dst′ : List ℕ) (a h k w r : ℕ) → k < 512 → Joined src a h k dst → w ≡ 7 ^ (h * (a + 2 * (k / h))) % 12289 → r ≡ k + k / h * h →
-    dst′ ≡ stored src w r h k dst → Joined src a h (k + 1) dst′
+butterflies-more :
+    (src dst dst′ : List ℕ) (a h k w r : ℕ) → k < 512 → Butterflies src a h k dst → w ≡ 7 ^ (h * (a + 2 * (k / h))) % 12289 → r ≡ k + k / h * h →
+    dst′ ≡ stored src w r h k dst → Butterflies src a h (k + 1) dst′
 unfolding entry stored
-joined-more src dst dst′ a h k w r lt old ew er e =
+butterflies-more src dst dst′ a h k w r lt old ew er e =
     rw e
     (record {
-      size = two-length dst k (λ c. joined c src w r h) ∙ old .size;
+      size = two-length dst k (λ c. butterfly c src w r h) ∙ old .size;
       made =
-          λ c. below-more _ k (λ j p. earlier dst k (λ c. joined c src w r h) lt c j p ∙ old .made c j p)
-          (new dst k (λ c. joined c src w r h) lt (old .size) c ∙ rw (ew, er));
+          λ c. below-more _ k (λ j p. earlier dst k (λ c. butterfly c src w r h) lt c j p ∙ old .made c j p)
+          (new dst k (λ c. butterfly c src w r h) lt (old .size) c ∙ rw (ew, er));
     })
 
 -- and in a run from k on
 pub run-more :
-    (src dst dst′ : List ℕ) (a h k j w : ℕ) → k + j < k / h * h + h → k / h * h + h ≤ 512 → Joined src a h (k + j) dst →
-    w ≡ 7 ^ (h * (a + 2 * (k / h))) % 12289 → dst′ ≡ stored src w (k + k / h * h + j) h (k + j) dst → Joined src a h (k + (j + 1)) dst′
+    (src dst dst′ : List ℕ) (a h k j w : ℕ) → k + j < k / h * h + h → k / h * h + h ≤ 512 → Butterflies src a h (k + j) dst →
+    w ≡ 7 ^ (h * (a + 2 * (k / h))) % 12289 → dst′ ≡ stored src w (k + k / h * h + j) h (k + j) dst → Butterflies src a h (k + (j + 1)) dst′
 run-more src dst dst′ a h k j w l m old ew e =
     let b : (k + j) / h ≡ k / h = in-block h k j l in
-    rw (← add-assoc k j 1) (joined-more src dst dst′ a h (k + j) w (k + k / h * h + j) (omega arith) old (rw b ew) (rw b (omega arith)) e)
+    rw (← add-assoc k j 1) (butterflies-more src dst dst′ a h (k + j) w (k + k / h * h + j) (omega arith) old (rw b ew) (rw b (omega arith)) e)
 
 -- ---- bounds
 
@@ -103,7 +103,7 @@ within c d b n h k e f l =
     omega arith
 
 -- a run of c, where c divides h and k, lies in one block, and that, where h divides 512, within the half
-pub next-run : (h c k : ℕ) → 0 < h → 512 % h ≡ 0 → 0 < c → h % c ≡ 0 → k % c ≡ 0 → k < 512 → Room h c k
+pub next-run : (h c k : ℕ) → 0 < h → 512 % h ≡ 0 → 0 < c → h % c ≡ 0 → k % c ≡ 0 → k < 512 → OneBlock h c k
 next-run h c k p e q f g l =
     let hd : h ≡ c * (h / c) = omega (arith, div-add-mod h c) in
     let kb : k ≡ c * (k / c) = omega (arith, div-add-mod k c) in

@@ -18,7 +18,7 @@ use Rattle.numbers.proofs.Congruence.{eq-≅, refl-≅, sym-≅, _⨾_, add-≅
 use Rattle.numbers.proofs.Modular.{more-≅, sumℕ-≅}
 use Rattle.lists.specs.Entries.{Below}
 use Rattle.lists.proofs.Entries.{tab-ext}
-use Rattle.transform.specs.Level.{tight, factor, powered, low, high, Half, first, second, place, joined, entry, Joined, remainders, sums}
+use Rattle.transform.specs.Level.{tight, factor, powered, low, high, Half, first, second, place, butterfly, entry, Butterflies, remainders, sums}
 use Rattle.transform.proofs.Seven.{_≈_, seven-turn, seven-minus}
 use Rattle.transform.proofs.Words.{quotient-≤, tight-lt, powered-lt}
 
@@ -105,10 +105,10 @@ block : ℕ → Half → ℕ → ℕ
 block m first i = i
 block m second i = m + i
 
-joined-lt : (c : Half) (src : List ℕ) (w r h : ℕ) → Below 65536 src → joined c src w r h < 65536
-unfolding joined low high
-joined-lt first src w r h s = omega (arith, tight-lt (getD src r 0) (s .below r), powered-lt w (getD src (r + h) 0) (s .below (r + h)))
-joined-lt second src w r h s = omega (arith, tight-lt (getD src r 0) (s .below r))
+butterfly-lt : (c : Half) (src : List ℕ) (w r h : ℕ) → Below 65536 src → butterfly c src w r h < 65536
+unfolding butterfly low high
+butterfly-lt first src w r h s = omega (arith, tight-lt (getD src r 0) (s .below r), powered-lt w (getD src (r + h) 0) (s .below (r + h)))
+butterfly-lt second src w r h s = omega (arith, tight-lt (getD src r 0) (s .below r))
 
 module _ (g src : List ℕ) (a m h : ℕ) (fit : m * h ≡ 512) (had : Holds g a m (2 * h) src) where
   module _ (i o : ℕ) (hi : i < m) (ho : o < h) where
@@ -116,19 +116,19 @@ module _ (g src : List ℕ) (a m h : ℕ) (fit : m * h ≡ 512) (had : Holds g a
     read : (d r : ℕ) → d < 2 * h → r ≡ i * (2 * h) + d → getD src r 0 ≈ part g a m (2 * h) i d
     read d r l e = eq-≅ (ap (λ (n : ℕ). pos (getD src n 0)) e) ⨾ had .holds i d hi l
 
-    joined-≅ : (w r : ℕ) → r ≡ i * (2 * h) + o → w ≈ 7 ^ (h * (a + 2 * i)) → (c : Half) → joined c src w r h ≈ part g a (2 * m) h (block m c i) o
-    unfolding joined block
-    joined-≅ w r hr hw first = step-low g a m h i o w _ _ hw (read o r (omega arith) hr) (read (o + h) (r + h) (omega arith) (omega arith))
-    joined-≅ w r hr hw second =
+    butterfly-≅ : (w r : ℕ) → r ≡ i * (2 * h) + o → w ≈ 7 ^ (h * (a + 2 * i)) → (c : Half) → butterfly c src w r h ≈ part g a (2 * m) h (block m c i) o
+    unfolding butterfly block
+    butterfly-≅ w r hr hw first = step-low g a m h i o w _ _ hw (read o r (omega arith) hr) (read (o + h) (r + h) (omega arith) (omega arith))
+    butterfly-≅ w r hr hw second =
         step-high g a m h i o w _ _ hw (read o r (omega arith) hr) (read (o + h) (r + h) (omega arith) (omega arith)) (had .small .below (r + h)) fit
 
     entry-≅ : (c : Half) → entry c src a h (i * h + o) ≈ part g a (2 * m) h (block m c i) o
     unfolding entry
     entry-≅ c =
         let d : (i * h + o) / h ≡ i = digits-div i ho in
-        rw d (joined-≅ _ (i * h + o + i * h) (omega arith) (mod-≅ 12289 _) c)
+        rw d (butterfly-≅ _ (i * h + o + i * h) (omega arith) (mod-≅ 12289 _) c)
 
-  module _ (dst : List ℕ) (new : Joined src a h 512 dst) where
+  module _ (dst : List ℕ) (new : Butterflies src a h 512 dst) where
     -- each entry stands in a half
     at-≅ : (c : Half) (i o : ℕ) → i < m → o < h → getD dst (i * h + o + place c) 0 ≈ part g a (2 * m) h (block m c i) o
     at-≅ c i o hi ho =
@@ -151,7 +151,7 @@ module _ (g src : List ℕ) (a m h : ℕ) (fit : m * h ≡ 512) (had : Holds g a
 
     made-lt : (c : Half) (j k : ℕ) → j < 512 → k ≡ j + place c → getD dst k 0 < 65536
     unfolding entry
-    made-lt c j k l e = rw (e, new .made c j l) (joined-lt c src _ _ h (had .small))
+    made-lt c j k l e = rw (e, new .made c j l) (butterfly-lt c src _ _ h (had .small))
 
     all-lt : (k : ℕ) → getD dst k 0 < 65536
     unfolding place

@@ -1,4 +1,4 @@
--- What NewHope's ends compute through the transform is what 01 says of polynomials (`polynomial`, `specs/Mixing.antt`); a, b and u lie transformed.
+-- What NewHope's ends compute through the transform is what 01 says of polynomials (`polynomial`, `specs/Product.antt`); a, b and u lie transformed.
 -- What runs, entry by entry, on any x that is the transform of s:
 --   mixed-through    a x and the transform of e: the transform of as + e
 --   bare-through     the inverse of a x: as
@@ -16,11 +16,12 @@ use Rattle.numbers.specs.Residue.{_≅⟨_⟩_, distance, apart}
 use Rattle.numbers.proofs.Congruence.{eq-≅, refl-≅, sym-≅, _⨾_, add-≅, residue-≅, same-residue}
 use Rattle.lists.specs.Entries.{nums, ints, Below}
 use Rattle.lists.proofs.Entries.{tab-ext, nums-tab, below-ext}
-use Rattle.polynomial.specs.Product.{product}
-use Rattle.polynomial.specs.Mixing.{mixed, bare, difference}
+use Rattle.polynomial.specs.Product.{product, mixed, bare}
+use Rattle.polynomial.specs.Difference.{difference}
 use Rattle.polynomial.proofs.Laws.{product-≅}
 use Rattle.polynomial.proofs.Mixing.{mixed-length, mixed-below, mixed-at, apart-difference}
-use Rattle.transform.specs.Transform.{transformed, inverted, entrywise, multiplied, summed}
+use Rattle.transform.specs.Transform.{transformed, inverted}
+use Rattle.transform.specs.Theorems.{entrywise, multiplied, summed}
 use Rattle.transform.specs.Level.{reduced}
 use Rattle.transform.proofs.Sizes.{multiplied-length, multiplied-below, summed-length, summed-below}
 use Rattle.transform.proofs.Inverses.{inverted-transformed, transformed-inverted}

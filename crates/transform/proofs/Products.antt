@@ -16,7 +16,8 @@ use Rattle.numbers.proofs.Modular.{minus-≅, sumℕ-≅}
 use Rattle.lists.specs.Entries.{nums}
 use Rattle.lists.proofs.Entries.{tab-at, nums-tab, below-ext}
 use Rattle.polynomial.specs.Product.{product}
-use Rattle.transform.specs.Transform.{transformed, inverted, entrywise, multiplied, summed}
+use Rattle.transform.specs.Transform.{transformed, inverted}
+use Rattle.transform.specs.Theorems.{entrywise, multiplied, summed}
 use Rattle.transform.proofs.Seven.{_≈_, seven-turn, seven-minus}
 use Rattle.transform.proofs.Evaluate.{value, Point, value-≅, value-product}
 use Rattle.transform.proofs.Sizes.{transformed-length, transformed-below, entrywise-length, entrywise-below, multiplied-length, multiplied-below, summed-length, summed-below}

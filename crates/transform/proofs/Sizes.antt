@@ -9,7 +9,8 @@ use lib.IntN.{ℤ}
 use Rattle.numbers.proofs.Congruence.{residue-lt}
 use Rattle.lists.specs.Entries.{Below}
 use Rattle.lists.proofs.Entries.{tab-length, below-tab}
-use Rattle.transform.specs.Transform.{transformed, inverted, entrywise, multiplied, summed}
+use Rattle.transform.specs.Transform.{transformed, inverted}
+use Rattle.transform.specs.Theorems.{entrywise, multiplied, summed}
 use Rattle.transform.specs.Level.{sums, reduced}
 
 pub transformed-length : (g : List ℕ) → length (transformed g) ≡ 1024

@@ -5,11 +5,11 @@
 --   powered w y              w y less the multiple of 12289 that the factor tells: below 2 times 12289
 --   low w x y, high w x y    x + w y and x - w y modulo 12289: not reduced, but small
 --   Half, place              the two halves of a level's entries, and where each starts
---   joined c src w r h       an entry of half c, of the entries of src at r and r + h and the power w
+--   butterfly c src w r h    an entry of half c, of the entries of src at r and r + h and the power w
 --   stored src w r h k dst   the two of them, in entry k of each half of dst
 --   entry c src a h k        what entry k of half c is to be, where k / h is its block
---   Joined src a h n dst     the first n entries of each half are so
---   Room h c k               c entries from k on lie in one block, and that in the half
+--   Butterflies src a h n dst   the first n entries of each half are so
+--   OneBlock h c k           c entries from k on lie in one block, and that in the half
 --   remainders f             the remainder of each entry
 --   sums a g                 what ten levels come to: entry i is the sum over j of g_j 7^(j (a + 2i))
 --   scaled f                 entry k is entry 1024 - k of f times 12 7^(1024 - k)
@@ -45,21 +45,21 @@ unfoldable pub place : Half → ℕ
 place first = 0
 place second = 512
 
-unfoldable pub joined : Half → List ℕ → ℕ → ℕ → ℕ → ℕ
-joined first src w r h = low w (getD src r 0) (getD src (r + h) 0)
-joined second src w r h = high w (getD src r 0) (getD src (r + h) 0)
+unfoldable pub butterfly : Half → List ℕ → ℕ → ℕ → ℕ → ℕ
+butterfly first src w r h = low w (getD src r 0) (getD src (r + h) 0)
+butterfly second src w r h = high w (getD src r 0) (getD src (r + h) 0)
 
 unfoldable pub stored : List ℕ → ℕ → ℕ → ℕ → ℕ → List ℕ → List ℕ
-stored src w r h k dst = set (set dst k (joined first src w r h)) (k + 512) (joined second src w r h)
+stored src w r h k dst = set (set dst k (butterfly first src w r h)) (k + 512) (butterfly second src w r h)
 
 unfoldable pub entry : Half → List ℕ → ℕ → ℕ → ℕ → ℕ
-entry c src a h k = joined c src (7 ^ (h * (a + 2 * (k / h))) % 12289) (k + k / h * h) h
+entry c src a h k = butterfly c src (7 ^ (h * (a + 2 * (k / h))) % 12289) (k + k / h * h) h
 
-pub record Joined (src : List ℕ) (a h n : ℕ) (dst : List ℕ) : Type 0 where
+pub record Butterflies (src : List ℕ) (a h n : ℕ) (dst : List ℕ) : Type 0 where
   pub size : length dst ≡ 1024
   pub made : (c : Half) (k : ℕ) → k < n → getD dst (k + place c) 0 ≡ entry c src a h k
 
-pub record Room (h c k : ℕ) : Type 0 where
+pub record OneBlock (h c k : ℕ) : Type 0 where
   pub block : k + c ≤ k / h * h + h
   pub half : k / h * h + h ≤ 512
 

@@ -7,9 +7,9 @@ ghost use mathlib.Core.Path.{_≡_};
 ghost use Prim.Native.Nat.{_+_, _%_, _<_};
 ghost use lib.ListN.{length};
 ghost use Rattle.lists.specs.Entries.{Below};
-ghost use Rattle.transform.specs.Transform.{transformed, inverted, entrywise, multiplied};
-ghost use Rattle.transform.specs.Theorems.{TableRule};
-ghost use Rattle.transform.specs.Level.{tight, factor, powered, stored, Joined, Room, remainders, sums, scaled};
+ghost use Rattle.transform.specs.Transform.{transformed, inverted};
+ghost use Rattle.transform.specs.Theorems.{entrywise, multiplied, TableRule};
+ghost use Rattle.transform.specs.Level.{tight, factor, powered, stored, Butterflies, OneBlock, remainders, sums, scaled};
 use schemes::NewHope;
 
 pub mod on_transforms;
@@ -57,9 +57,9 @@ fn run(
     c: usize,
     k: usize,
 )
-    requires { ⌜ (a < 2) × (0 < h) × Room h c k ⌝ }
-    requires { ⌜ TableRule (now t) × Joined (now src) a h k (now dst) ⌝ }
-    ensures { λ _. ⌜ Joined (now (src .entry)) a h (k + c) (now (dst .exit)) ⌝ }
+    requires { ⌜ (a < 2) × (0 < h) × OneBlock h c k ⌝ }
+    requires { ⌜ TableRule (now t) × Butterflies (now src) a h k (now dst) ⌝ }
+    ensures { λ _. ⌜ Butterflies (now (src .entry)) a h (k + c) (now (dst .exit)) ⌝ }
 {
     let i = k / h;
     let r = k + i * h;
@@ -80,7 +80,7 @@ fn run(
 fn level(t: &[u32; 2048], src: &[u16; 1024], dst: &mut [u16; 1024], a: usize, h: usize, c: usize)
     requires { ⌜ (a < 2) × (0 < h) × (512 % h ≡ 0) × (0 < c) × (h % c ≡ 0) ⌝ }
     requires { ⌜ TableRule (now t) × (length (now dst) ≡ 1024) ⌝ }
-    ensures { λ _. ⌜ Joined (now (src .entry)) a h 512 (now (dst .exit)) ⌝ }
+    ensures { λ _. ⌜ Butterflies (now (src .entry)) a h 512 (now (dst .exit)) ⌝ }
 {
     let mut k: usize = 0;
     while k < 512 {

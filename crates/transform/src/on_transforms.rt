@@ -8,9 +8,9 @@ ghost use lib.IntN.{natAbs};
 ghost use Rattle.numbers.specs.Residue.{residue};
 ghost use Rattle.lists.specs.Entries.{Below, Within};
 ghost use Rattle.lists.specs.Lent.{was, left};
-ghost use Rattle.polynomial.specs.Mixing.{mixed, bare};
-ghost use Rattle.transform.specs.Transform.{transformed, inverted, entrywise, summed};
-ghost use Rattle.transform.specs.Theorems.{TableRule};
+ghost use Rattle.polynomial.specs.Product.{mixed, bare};
+ghost use Rattle.transform.specs.Transform.{transformed, inverted};
+ghost use Rattle.transform.specs.Theorems.{entrywise, summed, TableRule};
 ghost use Rattle.transform.specs.Level.{reduced};
 use schemes::NewHope;
 

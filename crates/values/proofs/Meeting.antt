@@ -13,11 +13,13 @@ use Rattle.schemes.specs.declared.Family.{Family}
 use Rattle.schemes.specs.declared.Fixed.{Fixed}
 use Rattle.schemes.specs.declared.Scheme.{Scheme}
 use Rattle.numbers.specs.Residue.{distance, apart}
-use Rattle.polynomial.specs.Mixing as polynomial
+use Rattle.polynomial.specs.Product as polynomial
+use Rattle.polynomial.specs.Difference as polynomials-apart
 use Rattle.polynomial.proofs.Mixing as polynomial-laws
 use Rattle.transform.specs.Transform.{transformed, inverted}
 use Rattle.transform.proofs.Mixing.{apart-through}
-use Rattle.matrix.specs.Mixing as matrix
+use Rattle.matrix.specs.Matrix as matrix
+use Rattle.matrix.specs.Difference as matrices-apart
 use Rattle.matrix.proofs.Mixing as matrix-laws
 use Rattle.values.specs.Values.{offered, replied, mixedValue, bareValue}
 use Rattle.values.proofs.Numbers.{Numbers, numbers-of}
@@ -25,8 +27,8 @@ use Rattle.values.proofs.Numbers.{Numbers, numbers-of}
 -- by the family and the numbers
 abbrev between : Family → Fixed → List ℤ → List ℤ → List ℤ → List ℤ → List ℤ → ℕ → ℤ
 between F f s e s' e' e'' k =
-    byFamily F (polynomial.difference (f .n) s e s' e' e'' k) (polynomial.difference (f .n) s e s' e' e'' k)
-    (matrix.difference (f .n) 8 s e s' e' e'' (k / 8) (k % 8))
+    byFamily F (polynomials-apart.difference (f .n) s e s' e' e'' k) (polynomials-apart.difference (f .n) s e s' e' e'' k)
+    (matrices-apart.difference (f .n) 8 s e s' e' e'' (k / 8) (k % 8))
 
 abbrev pub differenceOf : Scheme → List ℤ → List ℤ → List ℤ → List ℤ → List ℤ → ℕ → ℤ
 differenceOf c = between (familyOf c) (fixedOf c)

@@ -12,12 +12,11 @@ use Rattle.schemes.specs.declared.Fixed.{Fixed}
 use Rattle.schemes.specs.declared.Scheme.{Scheme}
 use Rattle.numbers.specs.Residue.{residue}
 use Rattle.numbers.proofs.Congruence.{residue-lt}
-use Rattle.polynomial.specs.Mixing as polynomial-spec
+use Rattle.polynomial.specs.Product as polynomial-spec
 use Rattle.polynomial.proofs.Mixing as polynomial
 use Rattle.transform.specs.Transform.{transformed}
 use Rattle.transform.proofs.Sizes.{transformed-length, transformed-below}
-use Rattle.matrix.specs.Matrix.{rows}
-use Rattle.matrix.specs.Mixing.{rightMixed, leftMixed, bare}
+use Rattle.matrix.specs.Matrix.{rows, rightMixed, leftMixed, bare}
 use Rattle.matrix.proofs.Rows.{rows-length, rows-below}
 use Rattle.values.specs.Fit.{Counted}
 use Rattle.values.specs.Values.{offered, replied, mixedValue, bareValue}

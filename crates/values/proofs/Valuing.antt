@@ -24,10 +24,10 @@ use Rattle.lists.specs.Entries.{Below, Within}
 use Rattle.lists.specs.First.{firstOver}
 use Rattle.lists.proofs.First.{none-found, all-below}
 use Rattle.polynomial.specs.Fit as polynomial-fit
-use Rattle.polynomial.specs.Mixing as polynomial
+use Rattle.polynomial.specs.Product as polynomial
 use Rattle.transform.specs.Transform.{transformed, inverted}
 use Rattle.matrix.specs.Fit as matrix-fit
-use Rattle.matrix.specs.Mixing as matrix
+use Rattle.matrix.specs.Matrix as matrix
 use Rattle.values.specs.Fit.{Counted, Small, NewHopeAsks}
 use Rattle.values.specs.Values.{offered, replied, mixedValue, bareValue}
 use Rattle.values.proofs.Numbers.{Bcns, NewHope, Frodo, Each, in-arm, arm-asks}

@@ -10,9 +10,9 @@ use Prim.Native.Nat.{ℕ}
 use lib.IntN.{ℤ}
 use Rattle.schemes.specs.Schemes.{byFamily, familyOf, fixedOf}
 use Rattle.schemes.specs.declared.Scheme.{Scheme}
-use Rattle.polynomial.specs.Mixing as polynomial
+use Rattle.polynomial.specs.Product as polynomial
 use Rattle.transform.specs.Transform.{transformed, inverted}
-use Rattle.matrix.specs.Mixing as matrix
+use Rattle.matrix.specs.Matrix as matrix
 
 unfoldable pub offered : Scheme → List ℕ → List ℤ → List ℤ → List ℕ
 offered c a s e =

@@ -7,7 +7,7 @@ ghost use Rattle.lists.specs.Lent.{was, left, room};
 ghost use Rattle.lists.specs.Entries.{Below, Within};
 ghost use Rattle.lists.specs.First.{firstOver};
 ghost use Rattle.polynomial.specs.Fit.{Fit};
-ghost use Rattle.polynomial.specs.Mixing.{mixed};
+ghost use Rattle.polynomial.specs.Product.{mixed};
 ghost use Rattle.transform.specs.Transform.{transformed, inverted};
 ghost use Rattle.values.specs.Fit.{Counted, Small, NewHopeAsks, NewHopeReplies, NewHopeSecrets};
 ghost use Rattle.values.specs.Values.{offered, replied, mixedValue, bareValue};

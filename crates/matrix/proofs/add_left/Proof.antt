@@ -7,7 +7,8 @@ use borrow.Author.Needs.{needs}
 use lib.ListN.{length, getD, take, drop}
 use Rattle.numbers.specs.Sum.{sumℕ}
 use Rattle.lists.proofs.Fill.{Filled, fill-end, rows-start, rows-next, fill-rest}
-use Rattle.matrix.specs.Steps.{gained, partTerm}
+use Rattle.matrix.specs.Steps.{partTerm}
+use Rattle.matrix.specs.Words.{gained}
 use Rattle.matrix.proofs.Terms.{row-in, in-s, block-long, block-row}
 use Rattle.matrix.proofs.add_left.Statement.{statement}
 use Rattle.matrix.proofs.add_left.Tie as tie

@@ -10,7 +10,7 @@ use Rattle.numbers.specs.Residue.{residue}
 use Rattle.lists.specs.Entries.{tab, ints}
 use Rattle.lists.proofs.Fill.{Filled, fill-end, rows-start, rows-next}
 use Rattle.lists.proofs.Parts.{slice-long}
-use Rattle.matrix.specs.Steps.{columnsOf}
+use Rattle.matrix.specs.Words.{columnsOf}
 use Rattle.matrix.proofs.Terms.{row-in, column-row}
 use Rattle.matrix.proofs.columns.Statement.{statement}
 use Rattle.matrix.proofs.columns.Tie as tie

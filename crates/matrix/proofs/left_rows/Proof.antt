@@ -8,7 +8,7 @@ use borrow.Author.Needs.{needs}
 use lib.ListN.{length, take}
 use lib.Seq.{length-take-le}
 use Rattle.lists.proofs.Parts.{slice-long}
-use Rattle.matrix.specs.Steps.{gained, leftTerm}
+use Rattle.matrix.specs.Words.{gained, leftTerm}
 use Rattle.matrix.proofs.Search.{Clear, clear-start, clear-part, clear-all, part-below, part-place, part-full}
 use Rattle.matrix.proofs.Steps.{gained-length, gained-none, gained-more}
 use Rattle.matrix.proofs.Terms.{in-y, part-terms}

@@ -8,7 +8,7 @@ use borrow.Author.Needs.{needs}
 use lib.ListN.{length, length-set, getD}
 use Rattle.lists.specs.Entries.{tab}
 use Rattle.lists.proofs.Fill.{Filled, fill-start, fill-next, fill-end}
-use Rattle.matrix.specs.Steps.{reduced}
+use Rattle.matrix.specs.Words.{reduced}
 use Rattle.matrix.proofs.reduce.Statement.{statement}
 use Rattle.matrix.proofs.reduce.Tie as tie
 

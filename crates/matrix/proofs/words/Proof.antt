@@ -10,7 +10,7 @@ use mir.Facts.{toZ-ofZ}
 use Rattle.numbers.specs.Residue.{residue}
 use Rattle.lists.specs.Entries.{tab, ints}
 use Rattle.lists.proofs.Fill.{Filled, fill-start, fill-next, fill-end}
-use Rattle.matrix.specs.Steps.{wordsOf}
+use Rattle.matrix.specs.Words.{wordsOf}
 use Rattle.matrix.proofs.words.Statement.{statement}
 use Rattle.matrix.proofs.words.Tie as tie
 

@@ -7,7 +7,8 @@ use native.Mathlib.Nat.{mul-le-mul-right}
 use borrow.Author.Needs.{needs}
 use lib.ListN.{length, take, drop}
 use Rattle.lists.proofs.Parts.{slice-long}
-use Rattle.matrix.specs.Steps.{gained, partTerm}
+use Rattle.matrix.specs.Steps.{partTerm}
+use Rattle.matrix.specs.Words.{gained}
 use Rattle.matrix.proofs.Steps.{gained-length, gained-none, gained-more}
 use Rattle.parts.specs.Parts.{words}
 use Rattle.parts.proofs.Words.{slice-words-long}

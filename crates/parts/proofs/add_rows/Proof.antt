@@ -8,7 +8,7 @@ use lib.ListN.{length, getD, take, drop}
 use Rattle.numbers.specs.Sum.{sumℕ}
 use Rattle.lists.proofs.Fill.{Filled, fill-end, rows-start, rows-next, fill-rest}
 use Rattle.lists.proofs.Parts.{slice-long}
-use Rattle.matrix.specs.Steps.{gained, rightTerm}
+use Rattle.matrix.specs.Words.{gained, rightTerm}
 use Rattle.matrix.proofs.Terms.{row-in}
 use Rattle.parts.specs.Parts.{words}
 use Rattle.parts.proofs.Words.{slice-words-long}

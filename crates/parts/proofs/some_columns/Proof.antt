@@ -8,7 +8,8 @@ use lib.ListN.{length, getD}
 use Rattle.lists.proofs.Fill.{Filled, fill-whole, rows-start, rows-next}
 use Rattle.lists.proofs.Parts.{slice-long}
 use Rattle.matrix.proofs.Terms.{row-in}
-use Rattle.parts.specs.Parts.{words, columnsFrom}
+use Rattle.parts.specs.Parts.{words}
+use Rattle.matrix.specs.Steps.{columnsFrom}
 use Rattle.parts.proofs.Blocks.{columns-row}
 use Rattle.parts.proofs.some_columns.Statement.{statement}
 use Rattle.parts.proofs.some_columns.Tie as tie

@@ -8,7 +8,7 @@ use borrow.Author.Needs.{needs}
 use Rattle.lists.specs.Entries.{ints}
 use Rattle.lists.specs.Stored.{Stored}
 use Rattle.lists.proofs.Stored.{store-none, stored-all}
-use Rattle.polynomial.proofs.Level.{raise-fits, raise-next}
+use Rattle.polynomial.proofs.Level.{add-fits, add-next}
 use Rattle.polynomial.proofs.add.Statement.{statement}
 use Rattle.polynomial.proofs.add.Tie as tie
 
@@ -22,13 +22,13 @@ add-t : tie.Need-add-t Inv-loop μ-loop
 add-t c =
     let s : tie.Start Inv-loop μ-loop = search needs in
     let l : tie.At-loop Inv-loop μ-loop = search needs in
-    raise-fits w16 16383 (s .args .n) (l .loop .inv .1) (record { sfits = c .before .t .given }) (record { sfits = c .t2 .given }) (lit≤ tt) (s .pre) (omega arith)
+    add-fits w16 16383 (s .args .n) (l .loop .inv .1) (record { sfits = c .before .t .given }) (record { sfits = c .t2 .given }) (lit≤ tt) (s .pre) (omega arith)
 
 loop-again : tie.Need-loop-again Inv-loop μ-loop
 loop-again c =
     let s : tie.Start Inv-loop μ-loop = search needs in
     let l : tie.At-loop Inv-loop μ-loop = search needs in
-    (omega arith, raise-next w16 16383 (s .args .n) (l .loop .inv .1) (record { sfits = c .before .t .given }) (record { sfits = c .t2 .given }) (lit≤ tt) (s .pre) (omega arith))
+    (omega arith, add-next w16 16383 (s .args .n) (l .loop .inv .1) (record { sfits = c .before .t .given }) (record { sfits = c .t2 .given }) (lit≤ tt) (s .pre) (omega arith))
 
 returns : tie.Need-returns Inv-loop μ-loop
 returns c = let s : tie.Start Inv-loop μ-loop = search needs in stored-all (c .before .loop .inv .1) (omega arith)

@@ -3,22 +3,22 @@ use mathlib.Core.Path.{_≡_, _∙_}
 use Prim.Native.Nat.{_-_, _%_, _≤_}
 use native.Mathlib.Omega.{arith}
 use native.Mathlib.Nat.{add-mod-right, zero-mod}
-use Rattle.transform.specs.Level.{Joined, Room}
-use Rattle.transform.proofs.Joins.{joined-none, next-run}
+use Rattle.transform.specs.Level.{Butterflies, OneBlock}
+use Rattle.transform.proofs.Joins.{butterflies-none, next-run}
 use Rattle.transform.proofs.level.Statement.{statement}
 use Rattle.transform.proofs.level.Tie as tie
 
 abbrev Inv-loop : tie.InvT-loop
-Inv-loop t src dst₀ a h c k₀ dst k = (k ≤ 512) × (k % c ≡ 0) × Joined src a h k dst
+Inv-loop t src dst₀ a h c k₀ dst k = (k ≤ 512) × (k % c ≡ 0) × Butterflies src a h k dst
 
 abbrev μ-loop : tie.MeasureT-loop
 μ-loop t src dst₀ a h c k₀ dst k = 512 - k
 
 loop-holds : tie.Need-loop-holds Inv-loop μ-loop
-loop-holds c = (omega arith, zero-mod _, joined-none _ _ _ _ (c .pre .1 .1))
+loop-holds c = (omega arith, zero-mod _, butterflies-none _ _ _ _ (c .pre .1 .1))
 
 -- the next run lies in one block
-within : (c : tie.In-loop Inv-loop μ-loop) → Room (c .before .before .args .h) (c .before .before .args .c) (c .before .loop .k)
+within : (c : tie.In-loop Inv-loop μ-loop) → OneBlock (c .before .before .args .h) (c .before .before .args .c) (c .before .loop .k)
 within c =
     let a = c .before .before in
     let l = c .before .loop in

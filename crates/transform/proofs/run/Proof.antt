@@ -4,14 +4,14 @@ use Prim.Native.Nat.{ℕ, _+_, _-_, _*_, _/_, _%_, _^_, _≤_, _<_}
 use native.Mathlib.Omega.{arith}
 use native.Mathlib.Nat.{add-zero, div-le-self, div-mul-le-self}
 use lib.ListN.{getD}
-use Rattle.transform.specs.Level.{factor, Joined}
+use Rattle.transform.specs.Level.{factor, Butterflies}
 use Rattle.transform.proofs.Seven.{power-lt}
 use Rattle.transform.proofs.Joins.{exponent-≤, run-more}
 use Rattle.transform.proofs.run.Statement.{statement}
 use Rattle.transform.proofs.run.Tie as tie
 
 abbrev Inv-loop : tie.InvT-loop
-Inv-loop t src dst₀ a h c k i r e v w f j₀ dst j = (j ≤ c) × Joined src a h (k + j) dst
+Inv-loop t src dst₀ a h c k i r e v w f j₀ dst j = (j ≤ c) × Butterflies src a h (k + j) dst
 
 abbrev μ-loop : tie.MeasureT-loop
 μ-loop t src dst₀ a h c k i r e v w f j₀ dst j = c - j

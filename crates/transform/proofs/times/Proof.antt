@@ -5,7 +5,7 @@ use native.Mathlib.Omega.{arith}
 use lib.ListN.{getD}
 use Rattle.lists.specs.Entries.{tab}
 use Rattle.lists.proofs.Fill.{Filled, fill-start, fill-next, fill-end, fill-old}
-use Rattle.transform.specs.Transform.{entrywise}
+use Rattle.transform.specs.Theorems.{entrywise}
 use Rattle.transform.proofs.Joins.{product-fits}
 use Rattle.transform.proofs.times.Statement.{statement}
 use Rattle.transform.proofs.times.Tie as tie

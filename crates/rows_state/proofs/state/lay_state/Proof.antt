@@ -7,7 +7,7 @@ use native.Mathlib.Omega.{arith}
 use borrow.Author.Needs.{needs}
 use borrow.Rule.Slice.PartMut.{putMid}
 use lib.ListN.{length, replicate, length-set}
-use Rattle.matrix.specs.Steps.{wordsOf}
+use Rattle.matrix.specs.Words.{wordsOf}
 use Rattle.parts.specs.Parts.{wrap, pairs}
 use Rattle.rows_state.specs.State.{tagOf, long, savedOf, laid, secretWords, fresh}
 use Rattle.rows_state.proofs.Laying.{kept-long, headed, headed-long, behind-zeros, lay-is, fresh-long}

@@ -4,7 +4,7 @@ use Prim.Native.Nat.{ℕ, _+_, _*_, _-_}
 use native.Mathlib.Omega.{arith}
 use borrow.Author.Needs.{needs}
 use lib.ListN.{length, take, drop}
-use Rattle.matrix.specs.Steps.{reduced}
+use Rattle.matrix.specs.Words.{reduced}
 use Rattle.parts.specs.Parts.{words}
 use Rattle.parts.proofs.Words.{words-long}
 use Rattle.lists.proofs.Parts.{slice-long}

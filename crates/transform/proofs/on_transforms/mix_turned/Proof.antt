@@ -3,7 +3,7 @@ use mathlib.Core.Path.{_∙_, ap}
 use mathlib.Core.List.{List}
 use Prim.Native.Nat.{ℕ}
 use borrow.Author.Needs.{needs}
-use Rattle.transform.specs.Transform.{entrywise, summed}
+use Rattle.transform.specs.Theorems.{entrywise, summed}
 use Rattle.transform.proofs.Sizes.{transformed-below}
 use Rattle.transform.proofs.on_transforms.mix_turned.Statement.{statement}
 use Rattle.transform.proofs.on_transforms.mix_turned.Tie as tie

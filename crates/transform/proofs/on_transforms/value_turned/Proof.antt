@@ -4,7 +4,7 @@ use mathlib.Core.List.{List}
 use Prim.Native.Nat.{ℕ}
 use borrow.Author.Needs.{needs}
 use lib.ListN.{length}
-use Rattle.transform.specs.Transform.{summed}
+use Rattle.transform.specs.Theorems.{summed}
 use Rattle.transform.specs.Level.{reduced}
 use Rattle.transform.proofs.Sizes.{inverted-length, inverted-below}
 use Rattle.transform.proofs.on_transforms.value_turned.Statement.{statement}

@@ -1,4 +1,4 @@
--- `polynomial::raise` meets its contract.
+-- `polynomial::add_sums` meets its contract.
 use Prim.Native.Nat.{_+_, _-_, _^_, _≤_}
 use native.Mathlib.Omega.{arith}
 use lib.Dec.{lit≤}
@@ -8,9 +8,9 @@ use borrow.Author.Needs.{needs}
 use Rattle.lists.specs.Entries.{ints}
 use Rattle.lists.specs.Stored.{Stored}
 use Rattle.lists.proofs.Stored.{store-none, stored-all}
-use Rattle.polynomial.proofs.Level.{raise-fits, raise-next}
-use Rattle.polynomial.proofs.raise.Statement.{statement}
-use Rattle.polynomial.proofs.raise.Tie as tie
+use Rattle.polynomial.proofs.Level.{add-fits, add-next}
+use Rattle.polynomial.proofs.add_sums.Statement.{statement}
+use Rattle.polynomial.proofs.add_sums.Tie as tie
 
 abbrev Inv-loop : tie.InvT-loop
 Inv-loop o₀ to x n k₀ o k = (k ≤ n) × Stored (pos 0) o₀ to k (λ j. ints o₀ (to + j) +ℤ ints o₀ (x + j)) o
@@ -22,18 +22,18 @@ add-o : tie.Need-add-o Inv-loop μ-loop
 add-o c =
     let s : tie.Start Inv-loop μ-loop = search needs in
     let l : tie.At-loop Inv-loop μ-loop = search needs in
-    raise-fits w64 (2 ^ 61) (s .args .n) (l .loop .inv .1) (record { sfits = c .before .o .given }) (record { sfits = c .o2 .given }) (lit≤ tt) (s .pre) (omega arith)
+    add-fits w64 (2 ^ 61) (s .args .n) (l .loop .inv .1) (record { sfits = c .before .o .given }) (record { sfits = c .o2 .given }) (lit≤ tt) (s .pre) (omega arith)
 
 loop-again : tie.Need-loop-again Inv-loop μ-loop
 loop-again c =
     let s : tie.Start Inv-loop μ-loop = search needs in
     let l : tie.At-loop Inv-loop μ-loop = search needs in
-    (omega arith, raise-next w64 (2 ^ 61) (s .args .n) (l .loop .inv .1) (record { sfits = c .before .o .given }) (record { sfits = c .o2 .given }) (lit≤ tt) (s .pre) (omega arith))
+    (omega arith, add-next w64 (2 ^ 61) (s .args .n) (l .loop .inv .1) (record { sfits = c .before .o .given }) (record { sfits = c .o2 .given }) (lit≤ tt) (s .pre) (omega arith))
 
 returns : tie.Need-returns Inv-loop μ-loop
 returns c = let s : tie.Start Inv-loop μ-loop = search needs in stored-all (c .before .loop .inv .1) (omega arith)
 
-pub raise-spec : {M : Type 1} → statement M
-raise-spec = tie.close (tie.spec Inv-loop μ-loop (λ c. (omega arith, store-none _ _ _)) (omega arith) (omega arith)
+pub add-sums-spec : {M : Type 1} → statement M
+add-sums-spec = tie.close (tie.spec Inv-loop μ-loop (λ c. (omega arith, store-none _ _ _)) (omega arith) (omega arith)
     (omega arith) (omega arith) (omega arith) (omega arith) add-o (omega arith) (omega arith) (omega arith)
     (omega arith) loop-again (λ c. c .before .loop .inv .1 .long) returns)
