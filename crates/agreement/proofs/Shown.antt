@@ -18,7 +18,7 @@ use Rattle.refusals.proofs.Number.{and, passes, lengths, rooms, publics, secret
 use Rattle.wire.specs.Wire.{numbersIn}
 use Rattle.reply.specs.Reply.{replyTests, openedOf}
 use Rattle.finish.specs.Finish.{finishTests, repliedOf}
-use Rattle.agreement.specs.Shown.{NeverFive}
+use Rattle.agreement.specs.Exchange.{NeverFive}
 
 -- Frodo's q is all that a packed number can hold
 whole : (c : Scheme) → familyOf c ≡ Family.Frodo → 2 ^ fixedOf c .width ≤ fixedOf c .q

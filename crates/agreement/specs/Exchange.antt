@@ -12,23 +12,26 @@
 --   Accepted       lengths, ranges and blank parts decide, nothing else: the inputs of an exchange are sendable, and on any such there is an exchange
 --   Numbered       a call that refuses nothing was given a scheme
 --   OneNumber      which its number names, and no other number
+--   NeverFive      01: refusal 5 can't arise in Frodo
 use mathlib.Core.Path.{_≡_}
 use mathlib.Core.Bool.{false}
 use mathlib.Core.List.{List}
 use mathlib.Core.Logic.{_↔_}
 use Prim.Native.Nat.{ℕ, _≤_}
 use lib.ListN.{length}
-use Rattle.schemes.specs.Schemes.{fixedOf, schemeNumber, schemeOf}
+use Rattle.schemes.specs.Schemes.{familyOf, fixedOf, schemeNumber, schemeOf}
+use Rattle.schemes.specs.declared.Family.{Family}
 use Rattle.schemes.specs.declared.Named.{Named}
 use Rattle.schemes.specs.declared.Named.the-variants.{Known}
 use Rattle.schemes.specs.declared.Scheme.{Scheme}
 use Rattle.lists.specs.declared.Peak.{Peak}
+use Rattle.refusals.specs.Refusals.{numberIn}
 use Rattle.refusals.specs.Seen.{Seen, answer}
 use Rattle.values.specs.Fit.{Counted, Small}
 use Rattle.blank.specs.Blank.{blank}
 use Rattle.offer.specs.Offer.{Offer, offeredPart, offerResult}
-use Rattle.reply.specs.Reply.{ReplyRooms, ReplySeen, repliedPart, replyResult}
-use Rattle.finish.specs.Finish.{FinishRooms, FinishSeen, finishResult}
+use Rattle.reply.specs.Reply.{Reply, ReplyRooms, ReplySeen, repliedPart, replyTests, replyResult}
+use Rattle.finish.specs.Finish.{Finish, FinishRooms, FinishSeen, finishTests, finishResult}
 use Rattle.agreement.specs.Run.{Run, offering, replyTo, finishWith}
 
 pub record Ranged (c : Scheme) (x : Run) : Type 0 where
@@ -102,3 +105,8 @@ Numbered = (n : Named) (x : Offer) (room : ℕ) → offerResult n x room .number
 
 abbrev pub OneNumber : Type 0
 OneNumber = (k : ℕ) (c : Scheme) → (schemeOf k ≡ Known c) ↔ (k ≡ schemeNumber c)
+
+abbrev pub NeverFive : Type 0
+NeverFive =
+    (c : Scheme) → familyOf c ≡ Family.Frodo
+    → ((x : Reply) (m : ReplyRooms) → numberIn (replyTests (Known c) x m) ≡ 5 → ⊥) × ((x : Finish) (m : FinishRooms) → numberIn (finishTests (Known c) x m) ≡ 5 → ⊥)
