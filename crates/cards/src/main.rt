@@ -8,7 +8,8 @@ use refusals::Refusal;
 use reply::ReplyAnswer;
 use schemes::FrodoRecommended;
 ghost use Prim.Native.Nat.{_<_};
-ghost use Rattle.schemes.specs.Schemes.{bcns, newHope, recommended};
+ghost use Rattle.schemes.specs.Schemes.{bcns, newHope, fixedOf};
+ghost use Rattle.schemes.specs.declared.Scheme.the-variants.{Recommended};
 ghost use Rattle.lists.specs.Entries.{Below};
 
 fn text(t: &[u8]) {
@@ -94,7 +95,7 @@ const B: u32 = FrodoRecommended::KEYBITS;
 const I: u32 = FrodoRecommended::Q >> B;
 
 fn frodo_value(v: u32)
-    requires { ⌜ v < recommended .q ⌝ }
+    requires { ⌜ v < fixedOf Recommended .q ⌝ }
 {
     field(b"* frodo scheme=4 v=", v);
     field(b" : hint=", frodo::hint(I, B, v));
@@ -103,7 +104,7 @@ fn frodo_value(v: u32)
 }
 
 fn frodo_peer(w: u32, h: u32)
-    requires { ⌜ (h < 2) × (w < recommended .q) ⌝ }
+    requires { ⌜ (h < 2) × (w < fixedOf Recommended .q) ⌝ }
 {
     field(b"* frodo scheme=4 w=", w);
     field(b" hint=", h);

@@ -13,9 +13,10 @@
 --   Margins               all of this
 use mathlib.Core.Path.{_≡_}
 use Prim.Native.Nat.{ℕ, _+_, _*_, _/_, _%_, _^_, _<_}
-use Rattle.schemes.specs.Schemes.{familyOf, fixedOf, challenge, classical, recommended, paranoid}
+use Rattle.schemes.specs.Schemes.{familyOf, fixedOf}
 use Rattle.schemes.specs.declared.Family.{Family}
 use Rattle.schemes.specs.declared.Scheme.{Scheme}
+use Rattle.schemes.specs.declared.Scheme.the-variants.{Challenge, Classical, Recommended, Paranoid}
 use Rattle.numbers.specs.Residue.{apart}
 use Rattle.bcns.specs.Rounding as bcns
 use Rattle.newhope.specs.Group as newhope
@@ -56,10 +57,10 @@ EachSet = (s : Scheme) → familyOf s ≡ Family.Frodo → FrodoFrom (fixedOf s 
 
 abbrev pub Quarters : Type 0
 Quarters =
-    (frodo.interval challenge / 4 ≡ 256)
-    × (frodo.interval classical / 4 ≡ 256)
-    × (frodo.interval recommended / 4 ≡ 512)
-    × (frodo.interval paranoid / 4 ≡ 512)
+    (frodo.interval (fixedOf Challenge) / 4 ≡ 256)
+    × (frodo.interval (fixedOf Classical) / 4 ≡ 256)
+    × (frodo.interval (fixedOf Recommended) / 4 ≡ 512)
+    × (frodo.interval (fixedOf Paranoid) / 4 ≡ 512)
 
 abbrev pub BcnsFrom : Type 0
 BcnsFrom =

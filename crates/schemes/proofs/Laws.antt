@@ -1,18 +1,29 @@
 -- The lengths of each scheme hang together, and a scheme is found by its number.
---   tied             as specs/Schemes states it
+--   Tied f, tied     how the lengths of a scheme hang together
 --   by-number, by-scheme   a scheme's own number names it, and no other does
 --   few-schemes      which is at most 5
 use mathlib.Core.Path.{_≡_, refl, _∙_}
 use mathlib.Core.Bool.{Bool, true, false, cond}
-use Prim.Native.Nat.{ℕ, _≤_}
+use Prim.Native.Nat.{ℕ, _+_, _*_, _≤_}
 use native.Mathlib.Omega.{arith}
 use lib.Dec.{eqb}
 use borrow.Author.Tests.{eqb-true}
+use Rattle.schemes.specs.declared.Fixed.{Fixed}
 use Rattle.schemes.specs.declared.Scheme.{Scheme}
 use Rattle.schemes.specs.declared.Scheme.the-variants.{Bcns, NewHope, Challenge, Classical, Recommended, Paranoid}
 use Rattle.schemes.specs.declared.Named.{Named}
 use Rattle.schemes.specs.declared.Named.the-variants.{Known, Unknown}
-use Rattle.schemes.specs.Schemes.{fixedOf, schemeNumber, schemeOf, Tied}
+use Rattle.schemes.specs.Schemes.{fixedOf, schemeNumber, schemeOf}
+
+-- 01, "Bytes on the wire": every total fills whole bytes, and a message is the sum of its parts
+pub record Tied (f : Fixed) : Type 0 where
+  pub numbers : 8 * f .packed ≡ f .width * f .secret
+  pub hints : 8 * f .hint ≡ f .hintbits * f .mixed
+  pub keys : 8 * f .key ≡ f .keybits * f .groups
+  pub coins : 8 * f .coins ≡ f .coinbits * f .groups
+  pub noise : f .noise ≡ f .secret
+  pub opening : f .opening ≡ f .packed + f .seed
+  pub reply : f .reply ≡ f .packed + f .hint
 
 pub tied : (s : Scheme) → Tied (fixedOf s)
 tied Bcns = record { numbers = refl; hints = refl; keys = refl; coins = refl; noise = refl; opening = refl; reply = refl }

@@ -8,7 +8,7 @@ use borrow.Author.Tests.{leb-true}
 use Rattle.schemes.specs.declared.Fixed.{Fixed}
 use Rattle.schemes.specs.declared.Scheme.{Scheme}
 use Rattle.schemes.specs.declared.Scheme.the-variants.{Bcns, NewHope, Challenge, Classical, Recommended, Paranoid}
-use Rattle.schemes.specs.Schemes.{fixedOf, bcns, newHope, challenge, classical, recommended, paranoid}
+use Rattle.schemes.specs.Schemes.{fixedOf}
 
 pub record Sound (f : Fixed) : Type 0 where
   pub some : 1 < f .q
@@ -37,7 +37,8 @@ pub record Sound (f : Fixed) : Type 0 where
 -- ---- a test of all schemes, and what it says of each
 
 abbrev all : (Fixed → Bool) → Bool
-all p = p bcns && (p newHope && (p challenge && (p classical && (p recommended && p paranoid))))
+all p =
+    p (fixedOf Bcns) && (p (fixedOf NewHope) && (p (fixedOf Challenge) && (p (fixedOf Classical) && (p (fixedOf Recommended) && p (fixedOf Paranoid)))))
 
 both : (a b : Bool) → a && b ≡ true → (a ≡ true) × (b ≡ true)
 both a b e = and-eq-true-iff a b .0 e
@@ -51,7 +52,8 @@ at p e s =
     let r = both _ _ (d .1) in
     go s (b .0) (n .0) (c .0) (d .0) (r .0) (r .1)
   where
-    go : (s : Scheme) → p bcns ≡ true → p newHope ≡ true → p challenge ≡ true → p classical ≡ true → p recommended ≡ true → p paranoid ≡ true → p (fixedOf s) ≡ true
+    go : (s : Scheme) → p (fixedOf Bcns) ≡ true → p (fixedOf NewHope) ≡ true → p (fixedOf Challenge) ≡ true → p (fixedOf Classical) ≡ true
+        → p (fixedOf Recommended) ≡ true → p (fixedOf Paranoid) ≡ true → p (fixedOf s) ≡ true
     go Bcns b n c d r t = b
     go NewHope b n c d r t = n
     go Challenge b n c d r t = c

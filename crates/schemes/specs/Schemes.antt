@@ -1,12 +1,11 @@
 -- The schemes' fixed numbers as 01 has them, a record for each scheme, and the schemes' own numbers.
---   bcns, newHope, frodo ..   what is fixed in each scheme, in the order of the struct `Fixed`
---   fixedOf s                 the same, by the scheme
---   familyOf s                the family of a scheme
---   by F bcns newHope frodo   what is meant in each family
---   schemeNumber s                the number of a scheme, 0 to 5
---   schemeOf k                the scheme that a number names, or that it names none
---   Tied f                    how the lengths of a scheme hang together
-use mathlib.Core.Path.{_≡_}
+--   bcns, newHope      what is fixed in BCNS and in NewHope, in the order of the struct `Fixed`
+--   frodo ..           what is fixed in a scheme of Frodo's, over the numbers in which the four differ
+--   fixedOf s          what is fixed in the scheme s
+--   familyOf s         the family of a scheme
+--   byFamily F bcns newHope frodo   what is meant in each family
+--   schemeNumber s     the number of a scheme, 0 to 5
+--   schemeOf k         the scheme that a number names, or that it names none
 use Prim.Native.Nat.{ℕ, _+_, _*_}
 use mathlib.Core.Bool.{cond}
 use lib.Dec.{eqb}
@@ -91,25 +90,13 @@ frodo n q largest D B key =
       key = key;
     }
 
-abbrev pub challenge : Fixed
-challenge = frodo 352 2048 3 11 1 8
-
-abbrev pub classical : Fixed
-classical = frodo 592 4096 4 12 2 16
-
-abbrev pub recommended : Fixed
-recommended = frodo 752 32768 5 15 4 32
-
-abbrev pub paranoid : Fixed
-paranoid = frodo 864 32768 6 15 4 32
-
 abbrev pub fixedOf : Scheme → Fixed
 fixedOf Bcns = bcns
 fixedOf NewHope = newHope
-fixedOf Challenge = challenge
-fixedOf Classical = classical
-fixedOf Recommended = recommended
-fixedOf Paranoid = paranoid
+fixedOf Challenge = frodo 352 2048 3 11 1 8
+fixedOf Classical = frodo 592 4096 4 12 2 16
+fixedOf Recommended = frodo 752 32768 5 15 4 32
+fixedOf Paranoid = frodo 864 32768 6 15 4 32
 
 abbrev pub familyOf : Scheme → Family
 familyOf Bcns = Family.Bcns
@@ -143,13 +130,3 @@ schemeOf k =
     (cond (eqb k 4) (Known Recommended)
     (cond (eqb k 5) (Known Paranoid)
     Unknown)))))
-
--- 01, "Bytes on the wire": every total fills whole bytes, and a message is the sum of its parts
-pub record Tied (f : Fixed) : Type 0 where
-  pub numbers : 8 * f .packed ≡ f .width * f .secret
-  pub hints : 8 * f .hint ≡ f .hintbits * f .mixed
-  pub keys : 8 * f .key ≡ f .keybits * f .groups
-  pub coins : 8 * f .coins ≡ f .coinbits * f .groups
-  pub noise : f .noise ≡ f .secret
-  pub opening : f .opening ≡ f .packed + f .seed
-  pub reply : f .reply ≡ f .packed + f .hint

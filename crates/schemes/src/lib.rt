@@ -1,9 +1,10 @@
 // The six schemes by name, each with its fixed numbers, written once: 01, "The three families and their numbers", "The calls"
-// and "Bytes on the wire". The definitions (`specs/Schemes.antt`) have the same numbers as a record for each scheme, and the proofs tie
-// the two: a number that is changed on one side alone fails the check.
+// and "Bytes on the wire". The definitions (`specs/Schemes.antt`) have these numbers as a record for each scheme, and the proofs tie
+// code and definitions: a number that is changed on one side alone fails the check.
 ghost use mathlib.Core.Path.{_≡_};
 ghost use Prim.Native.Nat.{_≤_};
-ghost use Rattle.schemes.specs.Schemes.{bcns, newHope, frodo, challenge, classical, recommended, paranoid, fixedOf, familyOf, schemeNumber, schemeOf};
+ghost use Rattle.schemes.specs.Schemes.{bcns, newHope, frodo, fixedOf, familyOf, schemeNumber, schemeOf};
+ghost use Rattle.schemes.specs.declared.Scheme.the-variants.{Challenge, Classical, Recommended, Paranoid};
 
 // What is fixed in a scheme. Lengths of bytes and counts of numbers are usize, widths in bits and bounds u32.
 pub struct Fixed {
@@ -213,7 +214,7 @@ impl FrodoChallenge {
     pub const KEY: usize = 8;
 
     pub fn fixed() -> Fixed
-        ensures { λ r. ⌜ r ≡ challenge ⌝ }
+        ensures { λ r. ⌜ r ≡ fixedOf Challenge ⌝ }
     {
         frodo(
             FrodoChallenge::N,
@@ -242,7 +243,7 @@ impl FrodoClassical {
     pub const KEY: usize = 16;
 
     pub fn fixed() -> Fixed
-        ensures { λ r. ⌜ r ≡ classical ⌝ }
+        ensures { λ r. ⌜ r ≡ fixedOf Classical ⌝ }
     {
         frodo(
             FrodoClassical::N,
@@ -271,7 +272,7 @@ impl FrodoRecommended {
     pub const KEY: usize = 32;
 
     pub fn fixed() -> Fixed
-        ensures { λ r. ⌜ r ≡ recommended ⌝ }
+        ensures { λ r. ⌜ r ≡ fixedOf Recommended ⌝ }
     {
         frodo(
             FrodoRecommended::N,
@@ -305,7 +306,7 @@ impl FrodoParanoid {
     pub const REPLY: usize = 15 * FrodoParanoid::N + 8;
 
     pub fn fixed() -> Fixed
-        ensures { λ r. ⌜ r ≡ paranoid ⌝ }
+        ensures { λ r. ⌜ r ≡ fixedOf Paranoid ⌝ }
     {
         frodo(
             FrodoParanoid::N,
