@@ -12,7 +12,7 @@ use native.Mathlib.Omega.{arith}
 use lib.Dec.{eqb}
 use borrow.Author.Tests.{eqb-true, eq-eqb}
 use Rattle.numbers.specs.Residue.{apart}
-use Rattle.numbers.specs.Least.{nearestTo, awayFrom}
+use Rattle.numbers.specs.Least.{nearestTo, gapTo}
 use Rattle.numbers.proofs.Natural.{rest-is}
 use Rattle.numbers.proofs.Circle.{apart-close, close-apart, close-swap, close-join, close-scale}
 use Rattle.numbers.proofs.Arc.{Arc, away-arc, away-at-most, away-none, nearest-least}
@@ -160,7 +160,7 @@ some : (h : ℕ) → h < 2 → mark h (h * 2147483648) ≡ true
 some h l = marked h (h * 2147483648) h (omega arith) (omega arith) (omega arith)
 
 pub slack-least : SlackLeast
-unfolding slackOf awayFrom mark
+unfolding slackOf gapTo mark
 slack-least h w hw l =
     let m = nearest-least (2 * q) (λ z. eqb (hintOf z) h) (2 * w) in
     let b = m .least (h * 2147483648) (omega arith) (some h l) .0 in

@@ -12,7 +12,7 @@ use native.Mathlib.Omega.{arith}
 use native.Mathlib.Nat.{mod-lt}
 use lib.Dec.{leb}
 use borrow.Author.Tests.{le-leb, lt-leb}
-use Rattle.numbers.specs.Circle.{Close, direct, over, under}
+use Rattle.numbers.specs.Congruence.{Close, direct, over, under}
 use Rattle.lists.specs.Table.{both}
 use Rattle.numbers.proofs.Natural.{quotient-is}
 use Rattle.bcns.specs.Rounding.{q, hintOf, keyOf}

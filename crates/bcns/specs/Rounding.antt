@@ -15,7 +15,7 @@ use lib.ListN.{length, getD}
 use Rattle.schemes.specs.Schemes.{fixedOf}
 use Rattle.schemes.specs.declared.Scheme.the-variants.{Bcns}
 use Rattle.numbers.specs.Residue.{residue, apart}
-use Rattle.numbers.specs.Least.{awayFrom}
+use Rattle.numbers.specs.Least.{gapTo}
 use Rattle.lists.specs.Entries.{tab}
 use Rattle.lists.specs.Table.{both}
 
@@ -47,7 +47,7 @@ unfoldable pub peerOf : ℕ → ℕ → ℕ
 peerOf h w = cond (someBelow (reached h w) (2 * q)) 0 1
 
 unfoldable pub slackOf : ℕ → ℕ → ℕ
-slackOf h w = awayFrom (2 * q) (λ z. eqb (hintOf z) h) (2 * w)
+slackOf h w = gapTo (2 * q) (λ z. eqb (hintOf z) h) (2 * w)
 
 unfoldable pub hintsOf : List ℕ → List ℕ → List ℕ
 hintsOf cs vs = tab (length vs) (λ k. hintOf (doubled (getD cs k 0) (getD vs k 0)))

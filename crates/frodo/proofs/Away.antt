@@ -13,7 +13,7 @@ use lib.Dec.{eqb}
 use lib.Pow.{pow-pos}
 use borrow.Author.Tests.{eqb-true, eq-eqb}
 use Rattle.numbers.specs.Residue.{apart}
-use Rattle.numbers.specs.Least.{awayFrom}
+use Rattle.numbers.specs.Least.{gapTo}
 use Rattle.numbers.proofs.Natural.{rest-is}
 use Rattle.numbers.proofs.Arc.{Arc, away-arc, away-at-most, away-none}
 use Rattle.frodo.specs.Rounding.{hintOf, slackOf}
@@ -122,7 +122,7 @@ module _ (t : ℕ) (p : 0 < t) (B w : ℕ) (hw : w < 4 * t * 2 ^ B) where
   bound-at h (lacks d r i z y) = omega arith
 
   least-at : (h : ℕ) → h < 2 → LeastApart (4 * t) B h w
-  unfolding slackOf awayFrom chosen
+  unfolding slackOf gapTo chosen
   least-at h l =
       let n = chosen-nearest t p B w hw h l in
       record { z = chosen t p B w hw h; below = n .below; hinted = n .hinted; reached = refl; least = n .nearest }

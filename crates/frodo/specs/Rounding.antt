@@ -10,7 +10,7 @@ use Prim.Native.Nat.{ℕ, _+_, _*_, _/_, _%_, _^_}
 use lib.Dec.{eqb}
 use lib.ListN.{length, getD}
 use Rattle.schemes.specs.declared.Fixed.{Fixed}
-use Rattle.numbers.specs.Least.{nearestTo, awayFrom}
+use Rattle.numbers.specs.Least.{nearestTo, gapTo}
 use Rattle.lists.specs.Entries.{tab}
 
 abbrev pub interval : Fixed → ℕ
@@ -26,7 +26,7 @@ unfoldable pub peerOf : ℕ → ℕ → ℕ → ℕ → ℕ
 peerOf I B h w = keyOf I B (nearestTo (I * 2 ^ B) (λ z. eqb (hintOf I z) h) w)
 
 unfoldable pub slackOf : ℕ → ℕ → ℕ → ℕ → ℕ
-slackOf I B h w = awayFrom (I * 2 ^ B) (λ z. eqb (hintOf I z) h) w
+slackOf I B h w = gapTo (I * 2 ^ B) (λ z. eqb (hintOf I z) h) w
 
 unfoldable pub hintsOf : ℕ → List ℕ → List ℕ
 hintsOf I vs = tab (length vs) (λ k. hintOf I (getD vs k 0))

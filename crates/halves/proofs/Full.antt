@@ -15,7 +15,7 @@ use borrow.Author.Tests.{le-leb, lt-leb, lt-ltb, le-ltb}
 use lib.Dec.{leb}
 use lib.IntN.{pos}
 use Rattle.numbers.specs.Sum.{sumℕ}
-use Rattle.numbers.specs.Residue.{_≅⟨_⟩_}
+use Rattle.numbers.specs.Congruence.{_≅⟨_⟩_}
 use Rattle.numbers.proofs.Sums.{natural, sum-ext, sum-add, sum-split, sum-none}
 use Rattle.numbers.proofs.Congruence.{mul-≅}
 use Rattle.numbers.proofs.Modular.{sumℕ-≅}

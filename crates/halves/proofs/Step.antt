@@ -8,7 +8,7 @@ use native.Mathlib.Omega.{arith}
 use native.Mathlib.Nat.{mod-lt}
 use native.Mathlib.Decide.{decLt}
 use lib.IntN.{ℤ, pos, negsuc, _+ℤ_, _-ℤ_}
-use Rattle.numbers.specs.Residue.{_≅⟨_⟩_}
+use Rattle.numbers.specs.Congruence.{_≅⟨_⟩_}
 use Rattle.numbers.proofs.Difference.{as-diff, diff-≡, diffs, pos-sub}
 use Rattle.numbers.proofs.Congruence.{eq-≅, refl-≅, sym-≅, _⨾_, add-≅, sub-≅, mod-≅, same-mod}
 use Rattle.halves.specs.Steps.{full, cut}

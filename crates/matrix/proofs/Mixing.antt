@@ -9,7 +9,8 @@ use mathlib.Core.List.{List}
 use Prim.Native.Nat.{ℕ, _+_, _*_, _<_, _≤_}
 use lib.ListN.{getD}
 use lib.IntN.{ℤ, natAbs, _+ℤ_, _-ℤ_}
-use Rattle.numbers.specs.Residue.{distance, apart, _≅⟨_⟩_}
+use Rattle.numbers.specs.Residue.{distance, apart}
+use Rattle.numbers.specs.Congruence.{_≅⟨_⟩_}
 use Rattle.numbers.proofs.Ring.{cancel}
 use Rattle.numbers.proofs.Size.{abs-three}
 use Rattle.numbers.proofs.Congruence.{eq-≅, _⨾_, add-≅, sub-≅, residue-≅}

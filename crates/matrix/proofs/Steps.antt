@@ -14,7 +14,8 @@ use native.Mathlib.Numerals.{add-one}
 use lib.ListN.{length, getD, replicate, length-replicate}
 use lib.IntN.{ℤ, pos, _+ℤ_, _*ℤ_, +ℤ-comm}
 use Rattle.numbers.specs.Sum.{sum, sumℕ, sumℤ}
-use Rattle.numbers.specs.Residue.{residue, _≅⟨_⟩_}
+use Rattle.numbers.specs.Residue.{residue}
+use Rattle.numbers.specs.Congruence.{_≅⟨_⟩_}
 use Rattle.numbers.proofs.Sums.{natural, sum-split, pos-sum}
 use Rattle.numbers.proofs.Congruence.{finer-≅, eq-≅, _⨾_, add-≅, sum-≅, mod-≅, residue-≅, same-residue}
 use Rattle.lists.specs.Entries.{tab, ints}

@@ -11,7 +11,8 @@ use native.Mathlib.Nat.{mod-lt, div-lt-iff-lt-mul}
 use lib.Arith.{digits-div, digits-mod, digits-lt}
 use lib.ListN.{length, getD, replicate}
 use lib.IntN.{ℤ, pos, _+ℤ_, _*ℤ_, +ℤ-idr, *ℤ-comm}
-use Rattle.numbers.specs.Residue.{residue, _≅⟨_⟩_}
+use Rattle.numbers.specs.Residue.{residue}
+use Rattle.numbers.specs.Congruence.{_≅⟨_⟩_}
 use Rattle.numbers.proofs.Congruence.{eq-≅, refl-≅, _⨾_, mul-≅, residue-≅}
 use Rattle.lists.specs.Entries.{nums, ints, Below}
 use Rattle.lists.proofs.Entries.{tab-length, tab-at, tab-ext}

@@ -10,7 +10,8 @@ use Prim.Native.Nat.{ℕ, _+_, _*_, _-_, _/_, _%_, _<_, _≤_}
 use native.Mathlib.Omega.{arith}
 use native.Mathlib.Decide.{decLt}
 use lib.IntN.{ℤ, pos, negℤ, _+ℤ_, _-ℤ_, _*ℤ_, -ℤ-+ℤ-cancel}
-use Rattle.numbers.specs.Residue.{residue, nearest, distance, apart, _≅⟨_⟩_}
+use Rattle.numbers.specs.Residue.{residue, nearest, distance, apart}
+use Rattle.numbers.specs.Congruence.{_≅⟨_⟩_}
 use Rattle.numbers.proofs.Difference.{as-diff, diff-≡, diffs}
 use Rattle.numbers.proofs.Congruence.{refl-≅, eq-≅, _⨾_, add-≅, sub-≅, scale-≅, residue-≅, same-mod, multiples-≅}
 use Rattle.numbers.proofs.Nearest.{distance-≤, distance-same, distance-neg, distance-add, distance-scale}

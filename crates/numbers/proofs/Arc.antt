@@ -11,8 +11,8 @@ use native.Mathlib.Decide.{decLt, decLe, ℕ-discrete}
 use native.Mathlib.Nat.{le-refl, le-trans}
 use native.Mathlib.Omega.{arith}
 use Rattle.numbers.specs.Residue.{apart}
-use Rattle.numbers.specs.Circle.{Close, direct, over, under}
-use Rattle.numbers.specs.Least.{nearestTo, awayFrom}
+use Rattle.numbers.specs.Congruence.{Close, direct, over, under}
+use Rattle.numbers.specs.Least.{nearestTo, gapTo}
 use Rattle.numbers.proofs.Circle.{apart-close, close-apart, apart-self}
 use Rattle.numbers.proofs.Least.{Least, least-below}
 
@@ -21,11 +21,11 @@ module _ (m : ℕ) (p : ℕ → Bool) (x : ℕ) where
   unfolding nearestTo
   nearest-least = least-below (λ z. apart m z x) p m
 
-  pub away-at-most : (z : ℕ) → z < m → p z ≡ true → awayFrom m p x ≤ apart m z x
-  unfolding awayFrom
+  pub away-at-most : (z : ℕ) → z < m → p z ≡ true → gapTo m p x ≤ apart m z x
+  unfolding gapTo
   away-at-most z l e = nearest-least .least z l e .1
 
-  pub away-none : x < m → p x ≡ true → awayFrom m p x ≡ 0
+  pub away-none : x < m → p x ≡ true → gapTo m p x ≡ 0
   away-none l e = omega (arith, away-at-most x l e, apart-self m x (omega arith))
 
   pub record Arc (lo hi : ℕ) : Type 0 where
@@ -54,22 +54,22 @@ module _ (m : ℕ) (p : ℕ → Bool) (x : ℕ) where
     no-nearer z l e = side z _ l (decLt z lo) (decLe hi z) e (apart-close m z x l (omega (arith, a .to, a .room)) (le-refl _))
 
     -- both ends are reached
-    by : (z d : ℕ) → z < m → p z ≡ true → Close m d z x → awayFrom m p x ≤ d
+    by : (z d : ℕ) → z < m → p z ≡ true → Close m d z x → gapTo m p x ≤ d
     by z d l e n = le-trans (away-at-most z l e) (close-apart m z x l (omega (arith, a .to, a .room)) n)
 
-    to-hi : awayFrom m p x ≤ hi - x
+    to-hi : gapTo m p x ≤ hi - x
     to-hi = go (decLt hi m)
       where
-        go : Dec (hi < m) → awayFrom m p x ≤ hi - x
+        go : Dec (hi < m) → gapTo m p x ≤ hi - x
         go (yes l) = by hi _ l (a .ahead l) (direct (omega (arith, a .to)) (omega (arith, a .to)))
         go (no l) =
             let e : hi ≡ m = omega (arith, a .room) in
             by 0 _ (omega (arith, a .to)) (a .first e) (over (omega (arith, a .to)))
 
-    to-lo : awayFrom m p x ≤ x + 1 - lo
+    to-lo : gapTo m p x ≤ x + 1 - lo
     to-lo = go (ℕ-discrete lo 0)
       where
-        go : Dec (lo ≡ 0) → awayFrom m p x ≤ x + 1 - lo
+        go : Dec (lo ≡ 0) → gapTo m p x ≤ x + 1 - lo
         go (yes e) = by (m - 1) _ (omega (arith, a .to, a .room)) (a .last e) (under (omega (arith, a .to, a .room)))
         go (no d) = by (lo - 1) _ (omega (arith, a .from, a .to, a .room)) (a .behind (omega arith)) (direct (omega (arith, a .from)) (omega (arith, a .from)))
 
@@ -82,9 +82,9 @@ module _ (m : ℕ) (p : ℕ → Bool) (x : ℕ) where
             let e : hi ≡ m = omega (arith, a .room) in
             nearest-least .least 0 (omega (arith, a .to)) (a .first e) .0
 
-    found-far : min (x + 1 - lo) (hi - x) ≤ awayFrom m p x
-    unfolding awayFrom
+    found-far : min (x + 1 - lo) (hi - x) ≤ gapTo m p x
+    unfolding gapTo
     found-far = no-nearer (nearestTo m p x) found-below (nearest-least .marked found-below)
 
-    pub away-arc : awayFrom m p x ≡ min (x + 1 - lo) (hi - x)
+    pub away-arc : gapTo m p x ≡ min (x + 1 - lo) (hi - x)
     away-arc = let f = found-far in let g = to-hi in let h = to-lo in omega arith

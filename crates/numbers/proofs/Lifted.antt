@@ -12,7 +12,8 @@ use lib.Signed.{nonNeg}
 use mir.Syntax.{w64}
 use mir.Val.{Fits, SFits, toZ, ofZ}
 use mir.Facts.{toZ-ofZ}
-use Rattle.numbers.specs.Residue.{residue, _≅⟨_⟩_}
+use Rattle.numbers.specs.Residue.{residue}
+use Rattle.numbers.specs.Congruence.{_≅⟨_⟩_}
 use Rattle.numbers.proofs.Difference.{diff-ge, negsuc-add}
 use Rattle.numbers.proofs.Congruence.{eq-≅, _⨾_, mod-≅, residue-is}
 use Rattle.numbers.proofs.Machine.{pos-cast}

@@ -1,7 +1,7 @@
 -- The nearest among the numbers with a mark, as a search over all of them: 01, "Reconciliation", and 02f, the slack used.
 --   leastBelow f p n   the first number below n at which f is least among those with the mark p; n where none has it
 --   nearestTo m p x    the first number below m nearest to x, around a circle of m numbers, among those with the mark p
---   awayFrom m p x     how far x lies from it, around the circle: the least distance over all numbers with the mark
+--   gapTo m p x        how far x lies from it, around the circle: the least distance over all numbers with the mark
 use mathlib.Core.Bool.{Bool, cond}
 use Prim.Native.Nat.{ℕ, zero, suc}
 use lib.Dec.{eqb, ltb}
@@ -18,5 +18,5 @@ leastBelow f p (suc n) = choose (p n) (eqb (leastBelow f p n) n) (ltb (f n) (f (
 unfoldable pub nearestTo : ℕ → (ℕ → Bool) → ℕ → ℕ
 nearestTo m p x = leastBelow (λ z. apart m z x) p m
 
-unfoldable pub awayFrom : ℕ → (ℕ → Bool) → ℕ → ℕ
-awayFrom m p x = apart m (nearestTo m p x) x
+unfoldable pub gapTo : ℕ → (ℕ → Bool) → ℕ → ℕ
+gapTo m p x = apart m (nearestTo m p x) x

@@ -16,7 +16,8 @@ use lib.IntN.{ℤ, pos, natAbs, _+ℤ_, _-ℤ_, _*ℤ_}
 use mir.Syntax.{w16, w32}
 use mir.Val.{SFits, toZ, ofZ, boolByte}
 use mir.Facts.{toZ-ofZ, sfits-widen}
-use Rattle.numbers.specs.Residue.{residue, _≅⟨_⟩_}
+use Rattle.numbers.specs.Residue.{residue}
+use Rattle.numbers.specs.Congruence.{_≅⟨_⟩_}
 use Rattle.numbers.proofs.Difference.{diff, pos-diff, pos-sub, diff-≡, diff-ge, diff-lt, diffs, diff-add}
 use Rattle.numbers.proofs.Size.{abs-difference}
 use Rattle.numbers.proofs.Congruence.{eq-≅, _⨾_, sym-≅, residue-is}

@@ -23,7 +23,8 @@ use mir.Syntax.{Width}
 use mir.Val.{SFits, toZ, ofZ, hbits}
 use lib.IntN.{ℤ, pos, natAbs, _+ℤ_, _-ℤ_, _*ℤ_}
 use borrow.Author.Count.{below-more}
-use Rattle.numbers.specs.Residue.{residue, _≅⟨_⟩_}
+use Rattle.numbers.specs.Residue.{residue}
+use Rattle.numbers.specs.Congruence.{_≅⟨_⟩_}
 use Rattle.numbers.proofs.Congruence.{eq-≅, _⨾_, add-≅, residue-lt, residue-≅}
 use Rattle.numbers.proofs.Difference.{as-diff, diff-≡, diffs}
 use Rattle.numbers.proofs.Size.{abs-add, abs-mul, abs-mul-≤, abs-sum}

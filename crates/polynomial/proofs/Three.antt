@@ -6,7 +6,7 @@ use mathlib.Core.Path.{_≡_, _∙_, sym, ap, ap₂}
 use Prim.Native.Nat.{ℕ, _+_, _<_}
 use native.Mathlib.Omega.{arith}
 use lib.IntN.{ℤ, _+ℤ_, _-ℤ_, _*ℤ_, +ℤ-comm}
-use Rattle.numbers.specs.Residue.{_≅⟨_⟩_}
+use Rattle.numbers.specs.Congruence.{_≅⟨_⟩_}
 use Rattle.numbers.proofs.Congruence.{mul-≅, sum-≅, eq-≅}
 use Rattle.numbers.proofs.Difference.{as-diff, diff-≡, diffs}
 use Rattle.numbers.proofs.Size.{abs-add}

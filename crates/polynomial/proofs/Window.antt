@@ -12,7 +12,8 @@ use native.Mathlib.Decide.{decLe, decLt}
 use borrow.Author.Tests.{lt-ltb, le-ltb}
 use lib.ListN.{length, getD}
 use lib.IntN.{ℤ, pos, negℤ, natAbs, _+ℤ_, _*ℤ_, *ℤ-comm, +ℤ-idr}
-use Rattle.numbers.specs.Residue.{residue, _≅⟨_⟩_}
+use Rattle.numbers.specs.Residue.{residue}
+use Rattle.numbers.specs.Congruence.{_≅⟨_⟩_}
 use Rattle.numbers.proofs.Sums.{whole, sum-ext, sum-reverse}
 use Rattle.numbers.proofs.Congruence.{eq-≅, refl-≅, _⨾_, add-≅, same-residue, residue-lt, residue-≅}
 use Rattle.numbers.proofs.Size.{abs-zero}

@@ -12,7 +12,7 @@ use mathlib.Core.List.{List}
 use Prim.Native.Nat.{ℕ, _+_, _*_, _^_, _<_, _≤_}
 use lib.ListN.{length, getD}
 use lib.IntN.{ℤ, natAbs, _+ℤ_}
-use Rattle.numbers.specs.Residue.{_≅⟨_⟩_}
+use Rattle.numbers.specs.Congruence.{_≅⟨_⟩_}
 use Rattle.lists.specs.Entries.{nums, ints}
 use Rattle.polynomial.specs.Window.{both, lift, upper, lower, slide}
 

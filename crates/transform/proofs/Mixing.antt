@@ -12,7 +12,8 @@ use Prim.Native.Nat.{ℕ, _<_}
 use native.Mathlib.Omega.{arith}
 use lib.IntN.{ℤ}
 use lib.ListN.{length, getD}
-use Rattle.numbers.specs.Residue.{_≅⟨_⟩_, distance, apart}
+use Rattle.numbers.specs.Residue.{distance, apart}
+use Rattle.numbers.specs.Congruence.{_≅⟨_⟩_}
 use Rattle.numbers.proofs.Congruence.{eq-≅, refl-≅, sym-≅, _⨾_, add-≅, residue-≅, same-residue}
 use Rattle.lists.specs.Entries.{nums, ints, Below}
 use Rattle.lists.proofs.Entries.{tab-ext, nums-tab, below-ext}

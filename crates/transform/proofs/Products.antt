@@ -9,7 +9,7 @@ use native.Mathlib.Omega.{arith}
 use lib.IntN.{ℤ, pos, negℤ}
 use lib.ListN.{getD}
 use lib.Pow.{pow-add}
-use Rattle.numbers.specs.Residue.{_≅⟨_⟩_}
+use Rattle.numbers.specs.Congruence.{_≅⟨_⟩_}
 use Rattle.numbers.proofs.Sums.{natural, sum-ext, sum-add, pos-sum}
 use Rattle.numbers.proofs.Congruence.{eq-≅, refl-≅, sym-≅, _⨾_, add-≅, mul-≅, mod-≅, residue-≅}
 use Rattle.numbers.proofs.Modular.{minus-≅, sumℕ-≅}

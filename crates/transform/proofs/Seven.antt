@@ -16,7 +16,7 @@ use lib.IntN.{pos}
 use lib.Pow.{pow-add}
 use lib.Dec.{T, eqb, eqb→eq}
 use lib.ListN.{length, getD, List·getD-eq-default}
-use Rattle.numbers.specs.Residue.{_≅⟨_⟩_}
+use Rattle.numbers.specs.Congruence.{_≅⟨_⟩_}
 use Rattle.numbers.proofs.Congruence.{eq-≅, refl-≅, sym-≅, _⨾_, mul-≅, mod-≅}
 use Rattle.numbers.proofs.Natural.{one-pow, power-power}
 use Rattle.numbers.proofs.Modular.{pow-≅}
