@@ -12,7 +12,8 @@ use Prim.Native.Nat.{ℕ, _+_, _*_, _≤_, _<_}
 use native.Mathlib.Omega.{arith}
 use lib.ListN.{length, getD}
 use Rattle.numbers.specs.Residue.{apart}
-use Rattle.lists.specs.Entries.{tab, Below}
+use Rattle.lists.specs.Entries.{tab}
+use Rattle.lists.specs.Ranges.{Below}
 use Rattle.lists.proofs.Entries.{tab-length, tab-at, tab-ext, below-tab}
 use Rattle.bcns.specs.Rounding.{q, doubled, hintOf, peerOf, hintsOf, keysOf, peersOf, slackOf, slacksOf}
 use Rattle.bcns.specs.Agreement.{EveryEntry}

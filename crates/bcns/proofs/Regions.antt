@@ -13,7 +13,7 @@ use native.Mathlib.Nat.{mod-lt}
 use lib.Dec.{leb}
 use borrow.Author.Tests.{le-leb, lt-leb}
 use Rattle.numbers.specs.Congruence.{Close, direct, over, under}
-use Rattle.lists.specs.Table.{both}
+use Rattle.lists.specs.First.{both}
 use Rattle.numbers.proofs.Natural.{quotient-is}
 use Rattle.bcns.specs.Rounding.{q, hintOf, keyOf}
 use Rattle.bcns.specs.Agreement.{formulaOf}

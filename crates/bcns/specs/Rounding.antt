@@ -17,7 +17,7 @@ use Rattle.schemes.specs.declared.Scheme.the-variants.{Bcns}
 use Rattle.numbers.specs.Residue.{residue, apart}
 use Rattle.numbers.specs.Least.{gapTo}
 use Rattle.lists.specs.Entries.{tab}
-use Rattle.lists.specs.Table.{both}
+use Rattle.lists.specs.First.{both}
 
 abbrev pub q : ℕ
 q = fixedOf Bcns .q

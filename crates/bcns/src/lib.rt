@@ -5,7 +5,7 @@ ghost use mathlib.Core.Path.{_≡_};
 ghost use Prim.Native.Nat.{ℕ, _*_, _≤_, _<_};
 ghost use lib.ListN.{length};
 ghost use lib.IntN.{natAbs};
-ghost use Rattle.lists.specs.Entries.{Below};
+ghost use Rattle.lists.specs.Ranges.{Below};
 ghost use Rattle.bcns.specs.Rounding.{q, coinOf, doubled, hintOf, keyOf, peerOf, hintsOf, keysOf, peersOf, slackOf, slacksOf};
 
 // q, 2q, the first and the last z whose key bit is 1, an eighth of the circle of w, and how many z of the hint 1 stand in a row; of the hint 0 one more.

@@ -7,7 +7,7 @@ use mathlib.Core.List.{List}
 use mathlib.Core.Logic.{_↔_}
 use Prim.Native.Nat.{ℕ, suc, _-_, _/_, _<_, _≤_}
 use lib.ListN.{length}
-use Rattle.lists.specs.Entries.{Within}
+use Rattle.lists.specs.Ranges.{Within}
 use Rattle.bcns_noise.specs.Noise.{entryOf, bcnsNoise, firstNotAbove}
 
 abbrev pub Largest : Type 0

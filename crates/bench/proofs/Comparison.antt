@@ -18,7 +18,7 @@ use Rattle.schemes.specs.declared.Scheme.{Scheme}
 use Rattle.schemes.specs.declared.Named.{Named}
 use Rattle.schemes.specs.declared.Named.the-variants.{Known, Unknown}
 use Rattle.schemes.proofs.Sound.{sound}
-use Rattle.lists.specs.Entries.{Below}
+use Rattle.lists.specs.Ranges.{Below}
 use Rattle.lists.specs.First.{firstApart}
 use Rattle.lists.specs.declared.Peak.{Peak}
 use Rattle.refusals.specs.Seen.{ifPassed}

@@ -14,7 +14,7 @@ use lib.Dec.{eqb}
 use lib.ListN.{length, getD}
 use lib.Seq.{ext-getD}
 use borrow.Author.Tests.{eqb-true, eqb-false, eq-eqb, lt-ltb, le-ltb}
-use Rattle.lists.specs.Entries.{Below}
+use Rattle.lists.specs.Ranges.{Below}
 use Rattle.packing.specs.Packing.{packed}
 use Rattle.packing.proofs.Laws.{unpacked-length, pack-unpack}
 use Rattle.lists.specs.First.{firstApart}

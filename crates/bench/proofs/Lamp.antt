@@ -9,7 +9,7 @@ use Rattle.schemes.specs.declared.Named.{Named}
 use Rattle.schemes.specs.declared.Named.the-variants.{Known, Unknown}
 use Rattle.schemes.specs.declared.Scheme.{Scheme}
 use Rattle.schemes.specs.declared.Scheme.the-variants.{Bcns, NewHope, Challenge, Classical, Recommended, Paranoid}
-use Rattle.lists.specs.Entries.{Below}
+use Rattle.lists.specs.Ranges.{Below}
 use Rattle.lists.specs.declared.Peak.{Peak}
 use Rattle.packing.proofs.Laws.{packed-below}
 use Rattle.refusals.specs.declared.Verdict.{Verdict}

@@ -22,9 +22,8 @@ use Rattle.schemes.specs.Schemes.{byFamily, familyOf, fixedOf}
 use Rattle.schemes.specs.declared.Scheme.{Scheme}
 use Rattle.schemes.specs.declared.Named.{Named}
 use Rattle.schemes.specs.declared.Named.the-variants.{Known, Unknown}
-use Rattle.lists.specs.First.{firstApart}
+use Rattle.lists.specs.First.{firstApart, peakOf}
 use Rattle.lists.specs.Lent.{Lent, was}
-use Rattle.lists.specs.Top.{peakOf}
 use Rattle.lists.specs.declared.Peak.{Peak}
 use Rattle.packing.specs.Packing.{unpacked}
 use Rattle.refusals.specs.Refusals.{numberOf, placeOf, numberIn, placeIn, _then_}

@@ -8,7 +8,7 @@ use lib.Dec.{T, eqb, ltb, eqb→eq, ltb→lt, lit<}
 use lib.IntN.{ℤ, pos, negsuc}
 use Rattle.numbers.specs.Residue.{residue, nearest, distance, apart}
 use Rattle.lists.specs.Entries.{tab}
-use Rattle.lists.specs.Table.{both}
+use Rattle.lists.specs.First.{both}
 use Rattle.lists.proofs.Table.{both-T}
 use Rattle.bcns.specs.Rounding as bcns
 use Rattle.bcns.specs.Agreement as bcns-agreement

@@ -10,7 +10,7 @@ use schemes::FrodoRecommended;
 ghost use Prim.Native.Nat.{_<_};
 ghost use Rattle.schemes.specs.Schemes.{bcns, newHope, fixedOf};
 ghost use Rattle.schemes.specs.declared.Scheme.the-variants.{Recommended};
-ghost use Rattle.lists.specs.Entries.{Below};
+ghost use Rattle.lists.specs.Ranges.{Below};
 
 fn text(t: &[u8]) {
     io::write_all(STDOUT_FILENO, t);

@@ -22,7 +22,7 @@ use lib.Dec.{leb, eqb}
 use lib.IntN.{ℤ, pos, negsuc, _-ℤ_}
 use lib.ListN.{getD}
 use Rattle.numbers.specs.Sum.{sumℕ}
-use Rattle.lists.specs.Table.{both}
+use Rattle.lists.specs.First.{both}
 use Rattle.noise.specs.Noise.{onesLessOf, thresholdOf, d1, d2, d3, d4}
 
 unfoldable pub howOften : ℕ → (ℕ → Bool) → ℕ

@@ -20,7 +20,7 @@ use Rattle.schemes.specs.declared.Scheme.{Scheme}
 use Rattle.schemes.specs.declared.Named.{Named}
 use Rattle.schemes.specs.declared.Named.the-variants.{Known, Unknown}
 use Rattle.lists.specs.Lent.{Lent, was, room}
-use Rattle.lists.specs.Top.{peakOf}
+use Rattle.lists.specs.First.{peakOf}
 use Rattle.lists.specs.declared.Peak.{Peak}
 use Rattle.packing.specs.Packing.{packed}
 use Rattle.refusals.specs.Refusals.{numberIn, placeIn, _then_, lengthIs, roomFor, messageIn, notBlank, secretsIn}

@@ -6,7 +6,7 @@ ghost use lib.ListN.{length, replicate};
 ghost use Rattle.schemes.specs.Schemes.{fixedOf};
 ghost use Rattle.schemes.specs.declared.Named.the-variants.{Known};
 ghost use Rattle.lists.specs.Lent.{was, left};
-ghost use Rattle.lists.specs.Top.{peakOf};
+ghost use Rattle.lists.specs.First.{peakOf};
 ghost use Rattle.packing.specs.Packing.{packed};
 ghost use Rattle.refusals.specs.Refusals.{secretsIn};
 ghost use Rattle.refusals.specs.Steps.{Laid, outcome};

@@ -9,7 +9,7 @@ use native.Mathlib.Nat.{mod-lt, le-of-eq, lt-of-le-of-lt, div-le-self}
 use native.Mathlib.Omega.{arith}
 use lib.Bits.{bitXor, xor-lt, or-lt, and-le-r}
 use lib.ListN.{set}
-use Rattle.lists.specs.Entries.{Below}
+use Rattle.lists.specs.Ranges.{Below}
 use Rattle.lists.specs.First.{firstOver, firstWhere}
 use Rattle.lists.proofs.Entries.{below-tab, below-set}
 use Rattle.lists.proofs.First.{all-below}

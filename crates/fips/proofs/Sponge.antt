@@ -10,7 +10,8 @@ use lib.Bits.{bitXor}
 use lib.Pow.{shr-shr}
 use lib.ListN.{length, getD, take, drop, replicate}
 use lib.Seq.{ext-getD, take-nil, drop-nil}
-use Rattle.lists.specs.Entries.{tab, Below}
+use Rattle.lists.specs.Entries.{tab}
+use Rattle.lists.specs.Ranges.{Below}
 use Rattle.lists.proofs.Entries.{tab-length, tab-at, tab-ext, below-tab, below-zeros}
 use Rattle.lists.proofs.Parts.{part-at, below-take, below-drop, below-tail}
 use Rattle.packing.specs.Packing.{value, digits}

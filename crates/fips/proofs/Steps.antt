@@ -11,7 +11,7 @@ use native.Mathlib.Omega.{arith}
 use lib.Bits.{bitXor, bitAnd, xor-lt}
 use lib.ListN.{getD}
 use lib.Seq.{getD-set-same, getD-set-other}
-use Rattle.lists.specs.Entries.{Below}
+use Rattle.lists.specs.Ranges.{Below}
 use Rattle.lists.specs.First.{firstOver, firstWhere}
 use Rattle.lists.proofs.Entries.{tab-at}
 use Rattle.lists.proofs.First.{all-below}

@@ -18,7 +18,8 @@ use mathlib.Core.Path.{_≡_}
 use mathlib.Core.List.{List, [], _∷_, _++_}
 use Prim.Native.Nat.{ℕ, zero, suc, _+_, _-_, _*_, _/_, _%_, _^_}
 use lib.ListN.{length, getD, take, drop, replicate}
-use Rattle.lists.specs.Entries.{tab, Below}
+use Rattle.lists.specs.Entries.{tab}
+use Rattle.lists.specs.Ranges.{Below}
 use Rattle.packing.specs.Packing.{value, digits}
 use Rattle.sponge.specs.Sponge.{padded, shake128, sha3}
 use Rattle.fips.specs.Steps.{Array, keccakP}

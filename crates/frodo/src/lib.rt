@@ -5,7 +5,7 @@ ghost use mathlib.Core.Path.{_≡_};
 ghost use Prim.Native.Nat.{_*_, _^_, _<_};
 ghost use lib.ListN.{length};
 ghost use Rattle.schemes.specs.Schemes.{fixedOf};
-ghost use Rattle.lists.specs.Entries.{Below};
+ghost use Rattle.lists.specs.Ranges.{Below};
 ghost use Rattle.frodo.specs.Rounding.{interval, hintOf, keyOf, peerOf, hintsOf, keysOf, peersOf, slackOf, slacksOf};
 ghost use Rattle.frodo.specs.Agreement.{Round};
 use schemes::Scheme;

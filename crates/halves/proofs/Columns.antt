@@ -19,7 +19,7 @@ use Rattle.numbers.proofs.Sums.{natural, sum-ext, sum-split, sum-none}
 use Rattle.numbers.proofs.Congruence.{multiples-≅, same-mod}
 use Rattle.lists.proofs.Parts.{slice-long, slice-at}
 use Rattle.halves.specs.Halves.{q}
-use Rattle.lists.specs.Stored.{Stored}
+use Rattle.lists.specs.Ranges.{Stored}
 use Rattle.halves.specs.Steps.{full, cut, from, times, column, Product}
 use Rattle.halves.proofs.Full.{cut-in, cut-out}
 use Rattle.halves.proofs.Moves.{same, times-ext}

@@ -11,7 +11,7 @@ use native.Mathlib.Nat.{zero-add}
 use native.Mathlib.Decide.{decLt}
 use lib.ListN.{getD}
 use Rattle.halves.specs.Halves.{q}
-use Rattle.lists.specs.Stored.{Stored}
+use Rattle.lists.specs.Ranges.{Stored}
 use Rattle.halves.specs.Steps.{full, cut, from, times, Product, InPart, Spread, middle, Joined}
 use Rattle.halves.proofs.Full.{cut-ext, full-ext}
 use Rattle.halves.proofs.Step.{step-low, step-mid-low, step-mid-high, step-high}

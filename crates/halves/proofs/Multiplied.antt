@@ -26,7 +26,7 @@ use Rattle.refusals.specs.declared.Verdict.the-variants.{Pass, Fail}
 use Rattle.refusals.proofs.Laws.{differ, both, failed, length-passed, room-passed}
 use Rattle.refusals.proofs.Seen.{shown-passed, shown-failed}
 use Rattle.halves.specs.Halves.{q, sizeUpTo, sizeIn, Factors, factorsOf, productTests, plain, ProductSeen, withScratch, productResult, ProductSeenAll}
-use Rattle.lists.specs.Stored.{Stored}
+use Rattle.lists.specs.Ranges.{Stored}
 use Rattle.halves.specs.Steps.{full, cut, from, times, Product, Fit}
 use Rattle.halves.proofs.Full.{cut-ext, full-ext}
 use Rattle.halves.proofs.Folded.{product-folded}

@@ -6,7 +6,7 @@ use Prim.Native.Nat.{ℕ, _+_, _-_, _<_}
 use native.Mathlib.Omega.{arith}
 use native.Mathlib.Decide.{decLt}
 use lib.ListN.{getD}
-use Rattle.lists.specs.Stored.{Stored}
+use Rattle.lists.specs.Ranges.{Stored}
 use Rattle.halves.specs.Steps.{Ahead}
 
 pub read-ahead : {w w′ : List ℕ} {to i : ℕ} {f : ℕ → ℕ} → Stored 0 w to i f w′ → {x n : ℕ} → Ahead x to n → i < n → getD w′ (x + i) 0 ≡ getD w (x + i) 0

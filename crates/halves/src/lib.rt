@@ -9,7 +9,7 @@ ghost use lib.ListN.{length, getD, replicate};
 ghost use Rattle.numbers.specs.Sum.{sumℕ};
 ghost use Rattle.lists.specs.Entries.{tab};
 ghost use Rattle.lists.specs.Lent.{was, left, room};
-ghost use Rattle.lists.specs.Stored.{Stored};
+ghost use Rattle.lists.specs.Ranges.{Stored};
 ghost use Rattle.refusals.specs.Seen.{told, shown, seen};
 ghost use Rattle.halves.specs.Halves.{q, sizeUpTo, sizeIn, factors, productTests, plain, productSeen, productResult};
 ghost use Rattle.halves.specs.Steps.{Size, from, column, Ahead, Product, Spread, Joined, Fit};

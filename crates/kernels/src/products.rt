@@ -4,7 +4,7 @@ ghost use Prim.Native.Nat.{_*_};
 ghost use lib.ListN.{length};
 ghost use Rattle.schemes.specs.Schemes.{bcns};
 ghost use Rattle.lists.specs.Lent.{was, left, room};
-ghost use Rattle.lists.specs.Entries.{Below};
+ghost use Rattle.lists.specs.Ranges.{Below};
 ghost use Rattle.polynomial.specs.Fit as polynomial;
 ghost use Rattle.polynomial.specs.Product as polynomials;
 ghost use Rattle.transform.specs.Transform.{transformed, inverted};

@@ -12,7 +12,7 @@ use Rattle.schemes.specs.declared.Named.{Named}
 use Rattle.schemes.specs.declared.Named.the-variants.{Known, Unknown}
 use Rattle.schemes.specs.Schemes.{byFamily, familyOf, fixedOf, schemeOf}
 use Rattle.schemes.proofs.Sound.{sound}
-use Rattle.lists.specs.Table.{both}
+use Rattle.lists.specs.First.{both}
 use Rattle.lists.proofs.Table.{cond-all}
 use Rattle.bcns.specs.Rounding as bcns
 use Rattle.bcns.proofs.Regions.{hint-below, key-below}

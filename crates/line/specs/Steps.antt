@@ -11,7 +11,7 @@ use mathlib.Core.List.{List, [], _∷_, _++_}
 use Prim.Native.Nat.{ℕ, _≤_}
 use lib.Dec.{ltb}
 use lib.ListN.{length, drop}
-use Rattle.lists.specs.Table.{both}
+use Rattle.lists.specs.First.{both}
 use Rattle.text.specs.Text.{schemeName, Read, number, other}
 use Rattle.text.specs.Steps.{labelIn}
 use Rattle.line.specs.Line.{coinName, vName, wName, shown, refusal}

@@ -10,7 +10,7 @@ use native.Mathlib.Omega.{arith}
 use lib.ListN.{length, getD, set, length-set}
 use lib.Seq.{getD-set-same, getD-set-other}
 use borrow.Author.Count.{below-more}
-use Rattle.lists.specs.Stored.{Stored}
+use Rattle.lists.specs.Ranges.{Stored}
 
 module _ {A : Type 0} {z : A} where
   pub store-none : (w : List A) (to : ℕ) (f : ℕ → A) → Stored z w to 0 f w

@@ -16,8 +16,7 @@ use native.Mathlib.Omega.{arith}
 use lib.Dec.{eqb, leb}
 use lib.ListN.{length, getD, replicate}
 use borrow.Author.Tests.{eqb-true, eqb-false, eq-eqb, ne-eqb, le-leb, lt-leb}
-use Rattle.lists.specs.First.{firstWhere, firstOver, largestBy}
-use Rattle.lists.specs.Top.{largest, peakOf}
+use Rattle.lists.specs.First.{firstWhere, firstOver, largestBy, peakOf}
 use Rattle.lists.proofs.First.{none-before, none-passes, first-passes}
 
 alike : (m x : ℕ) → x ≤ m → leb m x ≡ eqb x m
@@ -44,24 +43,24 @@ largest-le m [] h = omega arith
 largest-le m (x ∷ xs) h = omega (arith, h 0 (omega arith), largest-le m xs (λ k l. h (suc k) (omega arith)))
 
 pub peak-none : peakOf [] ≡ record { most = 0; at = 0 }
-unfolding peakOf largest largestBy firstWhere
+unfolding peakOf largestBy firstWhere
 peak-none = refl
 
 module _ (xs : List ℕ) where
   pub peak-is : (m k : ℕ) → m ≡ largestBy (λ x. x) xs → k ≡ firstOver m xs → record { most = m; at = k } ≡ peakOf xs
-  unfolding peakOf largest firstOver
+  unfolding peakOf firstOver
   peak-is m k e f = rw (f, e) (ap (λ (j : ℕ). record { most = largestBy (λ x. x) xs; at = j }) (as-large (largestBy (λ x. x) xs) xs (le-refl _)))
 
   pub peak-most : (k : ℕ) → k < length xs → getD xs k 0 ≤ peakOf xs .most
-  unfolding peakOf largest
+  unfolding peakOf
   peak-most k l = largest-most xs k
 
   pub peak-le : (m : ℕ) → ((k : ℕ) → k < length xs → getD xs k 0 ≤ m) → peakOf xs .most ≤ m
-  unfolding peakOf largest
+  unfolding peakOf
   peak-le m h = largest-le m xs h
 
   pub peak-below : (k : ℕ) → k < peakOf xs .at → getD xs k 0 < peakOf xs .most
-  unfolding peakOf largest
+  unfolding peakOf
   peak-below k l =
       let m = largestBy (λ x. x) xs in
       omega (arith, largest-most xs k, eqb-false (getD xs k 0) m (none-before (λ x. eqb x m) 0 xs k l))
@@ -73,7 +72,7 @@ module _ (xs : List ℕ) where
       omega (arith, largest-most xs k, eqb-false (getD xs k 0) m (none-passes (λ x. eqb x m) 0 xs l k i))
 
   pub peak-at : getD xs (peakOf xs .at) 0 ≡ peakOf xs .most
-  unfolding peakOf largest
+  unfolding peakOf
   peak-at = go (decLt (firstWhere (λ x. eqb x (largestBy (λ x. x) xs)) xs) (length xs))
     where
       m : ℕ
@@ -87,7 +86,7 @@ module _ (xs : List ℕ) where
       go (no l) = let b : m ≤ m - 1 = largest-le (m - 1) xs (missed (omega arith)) in omega (arith, largest-most xs at)
 
   pub peak-inside : 0 < length xs → peakOf xs .at < length xs
-  unfolding peakOf largest
+  unfolding peakOf
   peak-inside h = go (decLt (firstWhere (λ x. eqb x (largestBy (λ x. x) xs)) xs) (length xs))
     where
       m : ℕ

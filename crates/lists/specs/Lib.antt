@@ -1,6 +1,4 @@
 pub mod Lent
 pub mod Entries
 pub mod First
-pub mod Top
-pub mod Table
-pub mod Stored
+pub mod Ranges

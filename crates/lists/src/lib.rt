@@ -7,8 +7,7 @@ ghost use Prim.Native.Nat.{_≤_};
 ghost use lib.ListN.{length, replicate};
 ghost use lib.IntN.{pos, natAbs};
 ghost use Rattle.lists.specs.Lent.{was};
-ghost use Rattle.lists.specs.First.{largestBy, firstOver, firstBeyond, firstApart};
-ghost use Rattle.lists.specs.Top.{peakOf};
+ghost use Rattle.lists.specs.First.{largestBy, firstOver, firstBeyond, firstApart, peakOf};
 
 // The largest number of a list and the first index at which it stands; 0 and 0 of an empty list.
 pub struct Peak {

@@ -15,7 +15,8 @@ use Rattle.numbers.proofs.Ring.{cancel}
 use Rattle.numbers.proofs.Size.{abs-three}
 use Rattle.numbers.proofs.Congruence.{eq-≅, _⨾_, add-≅, sub-≅, residue-≅}
 use Rattle.numbers.proofs.Nearest.{distance-same}
-use Rattle.lists.specs.Entries.{nums, ints, Within}
+use Rattle.lists.specs.Entries.{nums, ints}
+use Rattle.lists.specs.Ranges.{Within}
 use Rattle.matrix.specs.Matrix.{times, numsAt, intsAt, rightMixed, leftMixed, bare}
 use Rattle.matrix.specs.Difference.{difference, Identity}
 use Rattle.matrix.proofs.Laws.{times-≅, times-add-left, times-add-right, times-assoc, times-size}

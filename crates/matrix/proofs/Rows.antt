@@ -7,7 +7,8 @@ use native.Mathlib.Nat.{mul-le-mul-right}
 use lib.Arith.{digits-div, digits-mod}
 use lib.ListN.{length, getD}
 use lib.IntN.{pos}
-use Rattle.lists.specs.Entries.{nums, Below}
+use Rattle.lists.specs.Entries.{nums}
+use Rattle.lists.specs.Ranges.{Below}
 use Rattle.lists.proofs.Entries.{tab-length, tab-at, below-tab}
 use Rattle.matrix.specs.Matrix.{rows, numsAt}
 

@@ -14,7 +14,7 @@ use native.Mathlib.Omega.{arith}
 use lib.Dec.{leb}
 use lib.ListN.{length, getD, take, drop}
 use borrow.Author.Tests.{lt-leb}
-use Rattle.lists.specs.Entries.{Below}
+use Rattle.lists.specs.Ranges.{Below}
 use Rattle.lists.specs.First.{firstOver}
 use Rattle.lists.proofs.First.{Passed, passed-none, found, missing, none-before, first-passes, none-found, all-below}
 use Rattle.lists.proofs.Parts.{slice-long, slice-at, slice-below}

@@ -14,7 +14,8 @@ use lib.IntN.{ℤ, pos, _+ℤ_, _*ℤ_, +ℤ-idr, *ℤ-comm}
 use Rattle.numbers.specs.Residue.{residue}
 use Rattle.numbers.specs.Congruence.{_≅⟨_⟩_}
 use Rattle.numbers.proofs.Congruence.{eq-≅, refl-≅, _⨾_, mul-≅, residue-≅}
-use Rattle.lists.specs.Entries.{nums, ints, Below}
+use Rattle.lists.specs.Entries.{nums, ints}
+use Rattle.lists.specs.Ranges.{Below}
 use Rattle.lists.proofs.Entries.{tab-length, tab-at, tab-ext}
 use Rattle.lists.proofs.Same.{equal-all}
 use Rattle.matrix.specs.Matrix.{times, rows, numsAt, intsAt, rightMixed, leftMixed, bare}

@@ -4,7 +4,7 @@ use mathlib.Core.List.{List}
 use Prim.Native.Nat.{ℕ, _*_, _%_, _<_, _≤_}
 use lib.ListN.{length}
 use lib.IntN.{ℤ}
-use Rattle.lists.specs.Entries.{Below, Within}
+use Rattle.lists.specs.Ranges.{Below, Within}
 
 -- r rows of n numbers, or n rows of r; and 8 n secrets of which none is larger than Frodo's largest noise
 pub record Shape (q n r : ℕ) (xs : List ℕ) (s : List ℤ) : Type 0 where

@@ -12,7 +12,7 @@ use Rattle.schemes.specs.Schemes.{familyOf, fixedOf}
 use Rattle.schemes.specs.declared.Family.{Family}
 use Rattle.schemes.specs.declared.Named.the-variants.{Known}
 use Rattle.schemes.specs.declared.Scheme.{Scheme}
-use Rattle.lists.specs.Entries.{Below}
+use Rattle.lists.specs.Ranges.{Below}
 use Rattle.refusals.specs.Seen.{Seen, answer, shown}
 use Rattle.refusals.specs.declared.Refusal.the-variants.{OutOfTurn}
 use Rattle.refusals.specs.declared.Verdict.the-variants.{Pass, Fail}

@@ -14,7 +14,7 @@ use Prim.Native.Nat.{ℕ, zero, suc, _+_, _*_, _/_, _%_, _<_, _≤_}
 use native.Mathlib.Omega.{arith}
 use lib.Dec.{leb}
 use lib.ListN.{length, getD, set}
-use Rattle.lists.specs.Entries.{Below}
+use Rattle.lists.specs.Ranges.{Below}
 use Rattle.lists.proofs.Entries.{tab-length, tab-at, tab-ext, below-tab}
 use Rattle.newhope.specs.declared.Four.{Four}
 use Rattle.newhope.specs.Group.{q, groups, hintOf, sumOf, bitOf, groupOf, entryOf, hintsOf, keysOf, peersOf}

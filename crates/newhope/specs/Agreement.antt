@@ -11,7 +11,7 @@ use mathlib.Core.Path.{_≡_}
 use mathlib.Core.List.{List}
 use mathlib.Core.Logic.{_↔_}
 use Prim.Native.Nat.{ℕ, _+_, _≤_, _<_}
-use Rattle.lists.specs.Entries.{Below}
+use Rattle.lists.specs.Ranges.{Below}
 use Rattle.numbers.specs.Residue.{apart}
 use Rattle.newhope.specs.declared.Four.{Four}
 use Rattle.newhope.specs.Group.{q, groups, pOf, hintOf, bitOf, groupOf, hintsOf, keysOf, peersOf}

@@ -7,7 +7,7 @@ ghost use lib.Dec.{ltb};
 ghost use lib.IntN.{pos, _-ℤ_};
 ghost use lib.ListN.{length};
 ghost use Rattle.numbers.specs.Residue.{residue};
-ghost use Rattle.lists.specs.Entries.{Below};
+ghost use Rattle.lists.specs.Ranges.{Below};
 ghost use Rattle.newhope.specs.Group.{q, size, groups, upOf, downOf, offOf, offsOf, termOf, hintOf, bitOf, groupOf, hintsOf, peersOf};
 ghost use Rattle.newhope.specs.Agreement.{BelowQ, Hint};
 

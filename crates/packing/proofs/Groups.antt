@@ -26,7 +26,7 @@ use lib.Pow.{field, mod-pow-add, pow-add, pow-mono, pow-pos, shl-exact, shl-shr,
 use lib.Pow as Pow
 use lib.Arith.{digits-lt}
 use Rattle.numbers.proofs.Natural.{power-power}
-use Rattle.lists.specs.Entries.{Below}
+use Rattle.lists.specs.Ranges.{Below}
 use Rattle.lists.proofs.Parts.{below-drop}
 use Rattle.packing.specs.Packing.{value, digits}
 use Rattle.packing.proofs.Laws.{value-split, value-parts, value-next, value-one, value-take-below, value-drop, digits-append, digits-length, digits-low}

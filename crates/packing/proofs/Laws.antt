@@ -29,7 +29,7 @@ use lib.Seq.{getD-drop, drop-drop, take-all, take-nil}
 use lib.Pow.{pow-pos}
 use lib.Arith.{digits-div, digits-mod, digits-lt, lt-one}
 use Rattle.numbers.proofs.Natural.{power-power}
-use Rattle.lists.specs.Entries.{Below}
+use Rattle.lists.specs.Ranges.{Below}
 use Rattle.lists.proofs.Parts.{below-tail}
 use Rattle.packing.specs.Packing.{value, digits, packed, unpacked, UnpackPack, PackUnpack}
 

@@ -12,7 +12,8 @@ use native.Mathlib.Nat.{mul-le-mul-right, mod-eq-of-lt, mod-lt, mul-add-div-righ
 use lib.ListN.{length, getD, take, drop}
 use Rattle.numbers.specs.Sum.{sumℕ}
 use Rattle.numbers.proofs.Sums.{natural, sum-ext, sum-none, sum-split}
-use Rattle.lists.specs.Entries.{tab, Below}
+use Rattle.lists.specs.Entries.{tab}
+use Rattle.lists.specs.Ranges.{Below}
 use Rattle.lists.proofs.Entries.{tab-ext, tab-at, tab-getD, below-tab}
 use lib.Arith.{digits-lt, digits-div, digits-mod}
 use Rattle.lists.proofs.Parts.{part-long, part-at, slice-long, slice-at}

@@ -14,7 +14,8 @@ use native.Mathlib.Omega.{arith}
 use native.Mathlib.Nat.{mod-lt}
 use lib.ListN.{length, getD, set, take, drop}
 use lib.Seq.{ext-getD, drop-drop}
-use Rattle.lists.specs.Entries.{tab, Below}
+use Rattle.lists.specs.Entries.{tab}
+use Rattle.lists.specs.Ranges.{Below}
 use Rattle.lists.proofs.Entries.{tab-at, tab-length, tab-ext, tab-getD}
 use Rattle.lists.proofs.Parts.{slice-long, part-at}
 use Rattle.lists.proofs.Same.{append-all}

@@ -9,7 +9,7 @@ use mathlib.Core.List.{List, [], _++_}
 use Prim.Native.Nat.{ℕ, _+_, _*_, _%_, _<_}
 use lib.ListN.{length, getD}
 use lib.IntN.{ℤ}
-use Rattle.lists.specs.Entries.{Below}
+use Rattle.lists.specs.Ranges.{Below}
 use Rattle.matrix.specs.Matrix.{rightMixed, leftMixed}
 use Rattle.matrix.specs.Words.{wordsOf, columnsOf, gained, reduced, rightTerm, leftTerm}
 use Rattle.parts.specs.Parts.{placed}

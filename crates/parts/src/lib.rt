@@ -6,7 +6,7 @@ ghost use mathlib.Core.List.{_++_};
 ghost use Prim.Native.Nat.{_+_, _*_, _%_, _<_, _≤_};
 ghost use lib.ListN.{length, take, drop, set};
 ghost use Rattle.lists.specs.Lent.{was, left};
-ghost use Rattle.lists.specs.Entries.{Below};
+ghost use Rattle.lists.specs.Ranges.{Below};
 ghost use Rattle.matrix.specs.Steps.{partTerm, columnsFrom};
 ghost use Rattle.matrix.specs.Words.{gained, rightTerm};
 ghost use Rattle.parts.specs.Parts.{wrap, words, pairs};

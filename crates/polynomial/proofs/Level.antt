@@ -32,7 +32,7 @@ use Rattle.numbers.proofs.Sums.{whole, sum-ext, sum-add, sum-mul-right}
 use Rattle.lists.specs.Entries.{nums, ints}
 use Rattle.lists.proofs.Parts.{slice-long, slice-at, front-long, part}
 use Rattle.polynomial.specs.Window.{lift, upper, lower, dot, span, slide, Pair}
-use Rattle.lists.specs.Stored.{Stored}
+use Rattle.lists.specs.Ranges.{Stored}
 use Rattle.polynomial.specs.Steps.{Few, Ready, Prepared, Halved, Made, Joined}
 use Rattle.polynomial.proofs.Halves.{upper-small, lower-small, lift-lt, halves-≅}
 use Rattle.polynomial.proofs.Three.{slide-≅, three-low, three-high, few-low, few-high, few-middle, few-ext}

@@ -12,7 +12,8 @@ use lib.ListN.{length, getD, take, drop, length-take, length-drop, List·getD-ap
 use lib.Seq.{getD-take, getD-drop, getD-append-add, length-take-le}
 use lib.IntN.{ℤ, pos, natAbs}
 use borrow.Rule.Slice.PartMut.{putMid, same-len-mid}
-use Rattle.lists.specs.Entries.{ints, Within}
+use Rattle.lists.specs.Entries.{ints}
+use Rattle.lists.specs.Ranges.{Within}
 use Rattle.lists.proofs.Parts.{to-end}
 
 pub ints-is : (o : List ℤ) (k : ℕ) → ints o k ≡ getD o k (pos 0)

@@ -17,12 +17,12 @@ use Rattle.numbers.specs.Congruence.{_≅⟨_⟩_}
 use Rattle.numbers.proofs.Sums.{whole, sum-ext, sum-reverse}
 use Rattle.numbers.proofs.Congruence.{eq-≅, refl-≅, _⨾_, add-≅, same-residue, residue-lt, residue-≅}
 use Rattle.numbers.proofs.Size.{abs-zero}
-use Rattle.lists.specs.Entries.{tab, nums, ints, Below, Within}
+use Rattle.lists.specs.Entries.{tab, nums, ints}
+use Rattle.lists.specs.Ranges.{Below, Within, Stored}
 use Rattle.lists.proofs.Entries.{tab-ext}
 use Rattle.polynomial.specs.Product.{turn, product, mixed, bare}
 use Rattle.polynomial.specs.Fit.{Fit}
 use Rattle.polynomial.specs.Window.{both, dot, slide}
-use Rattle.lists.specs.Stored.{Stored}
 use Rattle.polynomial.specs.Steps.{Ready, Made, Windowed}
 use Rattle.polynomial.proofs.Turn.{turn-in, turn-over}
 use Rattle.polynomial.proofs.Laws.{product-comm}

@@ -23,7 +23,7 @@ use lib.Dec.{leb, ltb}
 use lib.ListN.{length, getD, replicate}
 use lib.IntN.{ℤ, pos, natAbs}
 use borrow.Author.Tests.{eqb-true, leb-true, ltb-false, lt-ltb, le-ltb, le-leb, lt-leb, eq-eqb}
-use Rattle.lists.specs.Entries.{Below, Within}
+use Rattle.lists.specs.Ranges.{Below, Within}
 use Rattle.lists.specs.First.{firstOver, firstBeyond}
 use Rattle.lists.proofs.First.{all-below, all-within, none-found}
 use Rattle.lists.proofs.Same.{append-all, equal-all}

@@ -16,7 +16,7 @@ use Rattle.schemes.specs.declared.Family.{Family}
 use Rattle.schemes.specs.declared.Named.{Named}
 use Rattle.schemes.specs.declared.Named.the-variants.{Known, Unknown}
 use Rattle.schemes.specs.declared.Scheme.{Scheme}
-use Rattle.lists.specs.Entries.{Below}
+use Rattle.lists.specs.Ranges.{Below}
 use Rattle.refusals.specs.Refusals.{notBlank}
 use Rattle.refusals.specs.Seen.{told, seen}
 use Rattle.refusals.specs.declared.Answer.the-variants.{Refused}

@@ -16,7 +16,7 @@ use native.Mathlib.Omega.{arith}
 use native.Mathlib.Nat.{zero-mod, div-mul-le-self}
 use lib.ListN.{length, take, drop, length-append, length-take, length-drop, take-append-drop, drop-of-length-le}
 use lib.Seq.{take-at, take-all, take-nil, drop-nil, take-append-le, drop-append-le, length-take-le}
-use Rattle.lists.specs.Entries.{Below}
+use Rattle.lists.specs.Ranges.{Below}
 use Rattle.lists.proofs.Parts.{below-drop, below-take}
 use Rattle.matrix.specs.Words.{gained}
 use Rattle.matrix.proofs.Steps.{gained-length}

@@ -20,7 +20,7 @@ use Rattle.schemes.specs.declared.Named.{Named}
 use Rattle.schemes.specs.declared.Named.the-variants.{Known, Unknown}
 use Rattle.schemes.specs.declared.Scheme.{Scheme}
 use Rattle.schemes.proofs.Sound.{sound}
-use Rattle.lists.specs.Entries.{Below}
+use Rattle.lists.specs.Ranges.{Below}
 use Rattle.lists.proofs.Parts.{below-drop, below-take}
 use Rattle.matrix.specs.Words.{gained}
 use Rattle.matrix.proofs.Steps.{gained-length}

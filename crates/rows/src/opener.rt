@@ -8,7 +8,7 @@ ghost use Rattle.schemes.specs.Schemes.{familyOf, fixedOf};
 ghost use Rattle.schemes.specs.declared.Family.{Family};
 ghost use Rattle.schemes.specs.declared.Named.the-variants.{Known};
 ghost use Rattle.lists.specs.Lent.{was, left, room};
-ghost use Rattle.lists.specs.Entries.{Below};
+ghost use Rattle.lists.specs.Ranges.{Below};
 ghost use Rattle.refusals.specs.Refusals.{notBlank};
 ghost use Rattle.refusals.specs.Seen.{told, seen};
 ghost use Rattle.refusals.specs.Steps.{Laid};

@@ -19,7 +19,7 @@ use lib.ListN.{length, getD, take, drop, set, replicate, length-append, length-t
 use lib.Seq.{take-at, drop-at, drop-drop, take-add}
 use native.Mathlib.Nat.{suc-add}
 use borrow.Rule.Slice.PartMut.{putMid}
-use Rattle.lists.specs.Entries.{Below}
+use Rattle.lists.specs.Ranges.{Below}
 use Rattle.lists.proofs.Parts.{drop-same, below-drop, below-take}
 use Rattle.lists.proofs.Same.{take-same}
 use Rattle.lists.proofs.Entries.{tab-length}

@@ -15,7 +15,7 @@ use native.Mathlib.Omega.{arith}
 use lib.ListN.{length, getD, take, drop, set, length-append, length-take, length-drop, take-append-drop, drop-of-length-le}
 use borrow.Rule.Slice.PartMut.{putMid}
 use lib.Seq.{take-add, take-take, take-append-le, drop-append-le, drop-drop}
-use Rattle.lists.specs.Entries.{Below}
+use Rattle.lists.specs.Ranges.{Below}
 use Rattle.lists.proofs.Parts.{below-drop, below-take, to-end}
 use Rattle.matrix.specs.Steps.{partTerm, columnsFrom}
 use Rattle.matrix.specs.Words.{gained, rightTerm}

@@ -32,8 +32,7 @@ use Prim.Native.Nat.{ℕ, _+_, _*_, _-_, _%_}
 use lib.Dec.{eqb, leb}
 use lib.IntN.{ℤ}
 use lib.ListN.{length, getD, take, drop, replicate}
-use Rattle.lists.specs.First.{firstOver}
-use Rattle.lists.specs.Table.{both}
+use Rattle.lists.specs.First.{firstOver, both}
 use Rattle.schemes.specs.Schemes.{byFamily, familyOf, fixedOf, schemeNumber, schemeOf}
 use Rattle.schemes.specs.declared.Fixed.{Fixed}
 use Rattle.schemes.specs.declared.Named.{Named}

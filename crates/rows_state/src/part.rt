@@ -11,7 +11,7 @@ ghost use Rattle.schemes.specs.Schemes.{familyOf, fixedOf};
 ghost use Rattle.schemes.specs.declared.Family.{Family};
 ghost use Rattle.schemes.specs.declared.Named.the-variants.{Known};
 ghost use Rattle.lists.specs.Lent.{was, left};
-ghost use Rattle.lists.specs.Entries.{Below};
+ghost use Rattle.lists.specs.Ranges.{Below};
 ghost use Rattle.matrix.specs.Steps.{partTerm};
 ghost use Rattle.matrix.specs.Words.{gained, rightTerm};
 ghost use Rattle.parts.specs.Parts.{wrap, words};

@@ -18,7 +18,7 @@ use Rattle.schemes.specs.Schemes.{fixedOf, familyOf, byFamily, newHope}
 use Rattle.schemes.specs.declared.Scheme.{Scheme}
 use Rattle.schemes.specs.declared.Scheme.the-variants.{Bcns, NewHope, Challenge, Classical, Recommended, Paranoid}
 use Rattle.schemes.specs.declared.Named.the-variants.{Known}
-use Rattle.lists.specs.Entries.{Below, Within}
+use Rattle.lists.specs.Ranges.{Below, Within}
 use Rattle.lists.proofs.Parts.{below-take, below-drop, part-within}
 use borrow.Author.Tests.{ltb-true}
 use Rattle.refusals.specs.Refusals.{numberIn, placeIn, _then_, lengthIs, tableIn}

@@ -21,7 +21,7 @@ use Rattle.schemes.specs.declared.Scheme.{Scheme}
 use Rattle.schemes.specs.declared.Scheme.the-variants.{Bcns, NewHope, Challenge, Classical, Recommended, Paranoid}
 use Rattle.schemes.specs.declared.Named.{Named}
 use Rattle.schemes.specs.declared.Named.the-variants.{Known, Unknown}
-use Rattle.lists.specs.Entries.{Below}
+use Rattle.lists.specs.Ranges.{Below}
 use Rattle.lists.specs.Lent.{Lent, was}
 use Rattle.refusals.specs.Refusals.{numberIn, placeIn, _then_, lengthIs, roomFor, tableIn, secretsIn}
 use Rattle.refusals.specs.Seen.{Seen, shown}

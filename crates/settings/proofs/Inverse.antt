@@ -11,8 +11,7 @@ use lib.Dec.{eqb, leb, ltb}
 use lib.ListN.{length, getD, take, drop, length-append, drop-of-length-le}
 use lib.Seq.{take-append-seam, getD-append-seam, split-at, length-take-le}
 use borrow.Author.Tests.{leb-true, ltb-true, ltb-false, eqb-true, le-leb, lt-ltb, le-ltb, eq-eqb}
-use Rattle.lists.specs.First.{firstWhere}
-use Rattle.lists.specs.Table.{both}
+use Rattle.lists.specs.First.{firstWhere, both}
 use Rattle.lists.proofs.Table.{both-true, cond-all}
 use Rattle.text.specs.Text.{LF, schemeName, line, Read, number, other, isDigit, begins, fieldIn}
 use Rattle.text.proofs.Reading.{begins-is}

@@ -10,7 +10,7 @@ use Prim.Native.Nat.{ℕ, zero, suc, _≤_, _<_}
 use native.Mathlib.Omega.{arith}
 use lib.Dec.{eqb, leb, ltb}
 use borrow.Author.Tests.{leb-true, eqb-true, eqb-false, le-leb, lt-leb}
-use Rattle.lists.specs.Table.{both}
+use Rattle.lists.specs.First.{both}
 use Rattle.text.specs.Text.{isDigit}
 use Rattle.text.proofs.Reading.{less}
 use Rattle.settings.specs.Settings.{formatOf, isScheme, isRule, notAllowed}

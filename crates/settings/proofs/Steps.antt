@@ -14,7 +14,7 @@ use lib.Dec.{eqb, leb, ltb}
 use lib.ListN.{length, getD, take, drop, replicate, length-append, length-drop, drop-of-length-le}
 use lib.Seq.{drop-cons}
 use borrow.Author.Tests.{leb-true, eqb-true, le-leb, lt-leb, lt-ltb, le-ltb, eq-eqb, ne-eqb}
-use Rattle.lists.specs.Table.{both}
+use Rattle.lists.specs.First.{both}
 use Rattle.lists.proofs.Table.{both-true}
 use Rattle.lists.proofs.Parts.{part, to-end, drop-same}
 use Rattle.text.specs.Text.{LF, schemeName, Read, number, other, begins, fieldIn}

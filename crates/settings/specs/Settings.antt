@@ -12,8 +12,7 @@ use mathlib.Core.List.{List, [], _∷_, _++_}
 use Prim.Native.Nat.{ℕ, zero, suc}
 use lib.Dec.{eqb, leb, ltb}
 use lib.ListN.{length, getD, take, drop}
-use Rattle.lists.specs.First.{firstWhere}
-use Rattle.lists.specs.Table.{both}
+use Rattle.lists.specs.First.{firstWhere, both}
 use Rattle.schemes.specs.Schemes.{schemeOf}
 use Rattle.schemes.specs.declared.Named.{Named}
 use Rattle.schemes.specs.declared.Named.the-variants as named

@@ -14,8 +14,7 @@ use lib.Dec.{eqb}
 use lib.ListN.{length, getD, take, drop, length-append, length-take}
 use lib.Seq.{take-append-seam, drop-append-add, drop-at, getD-append-seam, split-at}
 use borrow.Author.Tests.{eqb-true, eq-eqb, le-leb}
-use Rattle.lists.specs.First.{firstWhere}
-use Rattle.lists.specs.Table.{both}
+use Rattle.lists.specs.First.{firstWhere, both}
 use Rattle.text.specs.Text.{LF, digitsUpTo, decimal, line, number, other, isDigit, notDigit, run, valueOf, wellFormed, numberIn, begins, fieldIn}
 use Rattle.text.specs.Steps.{readOf, behind, Reads, labelIn}
 use Rattle.text.specs.declared.Found.{Found}

@@ -18,8 +18,7 @@ use native.Mathlib.Omega.{arith}
 use lib.Dec.{leb, ltb}
 use lib.ListN.{length, getD, take, length-append}
 use borrow.Author.Tests.{leb-true, lt-ltb, le-ltb, le-leb}
-use Rattle.lists.specs.First.{firstWhere}
-use Rattle.lists.specs.Table.{both}
+use Rattle.lists.specs.First.{firstWhere, both}
 use Rattle.text.specs.Text.{digitsUpTo, decimal, isDigit, notDigit, run, valueOf}
 use Rattle.text.proofs.Reading.{Formed}
 

@@ -20,7 +20,7 @@ use lib.Dec.{eqb, leb, ltb}
 use lib.ListN.{length, getD, take, drop, drop-of-length-le, length-append, length-drop, List·getD-eq-default}
 use lib.Seq.{drop-cons, drop-drop}
 use borrow.Author.Tests.{leb-true, leb-false, eqb-true, lt-ltb, le-ltb, le-leb, lt-leb, eq-eqb, ne-eqb}
-use Rattle.lists.specs.Table.{both}
+use Rattle.lists.specs.First.{both}
 use Rattle.lists.proofs.Table.{both-true}
 use Rattle.lists.proofs.Parts.{part, to-end}
 use Rattle.text.specs.Text.{LF, number, isDigit, notDigit, run, valueOf, wellFormed, numberIn, begins}

@@ -15,7 +15,7 @@ use Rattle.numbers.specs.Sum.{sumℕ}
 use Rattle.numbers.proofs.Sums.{natural, sum-ext, sum-mul, sum-mul-right, sum-swap}
 use Rattle.numbers.proofs.Congruence.{eq-≅, refl-≅, sym-≅, _⨾_, mul-≅, mod-≅, same-mod}
 use Rattle.numbers.proofs.Modular.{sumℕ-≅, only-≅}
-use Rattle.lists.specs.Entries.{Below}
+use Rattle.lists.specs.Ranges.{Below}
 use Rattle.lists.proofs.Entries.{tab-at, tab-ext, below-ext}
 use Rattle.transform.specs.Transform.{transformed, inverted}
 use Rattle.transform.specs.Level.{sums, scaled}

@@ -16,7 +16,7 @@ use Rattle.numbers.specs.Sum.{sum, sumℕ}
 use Rattle.numbers.proofs.Sums.{natural, sum-ext, sum-mul, sum-double}
 use Rattle.numbers.proofs.Congruence.{eq-≅, refl-≅, sym-≅, _⨾_, add-≅, mul-≅, mod-≅, same-mod}
 use Rattle.numbers.proofs.Modular.{more-≅, sumℕ-≅}
-use Rattle.lists.specs.Entries.{Below}
+use Rattle.lists.specs.Ranges.{Below}
 use Rattle.lists.proofs.Entries.{tab-ext}
 use Rattle.transform.specs.Level.{tight, factor, powered, low, high, Half, first, second, place, butterfly, entry, Butterflies, remainders, sums}
 use Rattle.transform.proofs.Seven.{_≈_, seven-turn, seven-minus}

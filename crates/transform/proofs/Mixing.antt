@@ -15,7 +15,8 @@ use lib.ListN.{length, getD}
 use Rattle.numbers.specs.Residue.{distance, apart}
 use Rattle.numbers.specs.Congruence.{_≅⟨_⟩_}
 use Rattle.numbers.proofs.Congruence.{eq-≅, refl-≅, sym-≅, _⨾_, add-≅, residue-≅, same-residue}
-use Rattle.lists.specs.Entries.{nums, ints, Below}
+use Rattle.lists.specs.Entries.{nums, ints}
+use Rattle.lists.specs.Ranges.{Below}
 use Rattle.lists.proofs.Entries.{tab-ext, nums-tab, below-ext}
 use Rattle.polynomial.specs.Product.{product, mixed, bare}
 use Rattle.polynomial.specs.Difference.{difference}

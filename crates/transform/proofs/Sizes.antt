@@ -7,7 +7,7 @@ use native.Mathlib.Nat.{mod-lt}
 use lib.ListN.{length}
 use lib.IntN.{ℤ}
 use Rattle.numbers.proofs.Congruence.{residue-lt}
-use Rattle.lists.specs.Entries.{Below}
+use Rattle.lists.specs.Ranges.{Below}
 use Rattle.lists.proofs.Entries.{tab-length, below-tab}
 use Rattle.transform.specs.Transform.{transformed, inverted}
 use Rattle.transform.specs.Theorems.{entrywise, multiplied, summed}

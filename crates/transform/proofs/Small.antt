@@ -18,7 +18,7 @@ use borrow.Author.Tests.{ltb-true}
 use Rattle.numbers.specs.Residue.{residue}
 use Rattle.numbers.proofs.Difference.{diff-ge, negsuc-add}
 use Rattle.numbers.proofs.Congruence.{residue-lt}
-use Rattle.lists.specs.Entries.{Within}
+use Rattle.lists.specs.Ranges.{Within}
 
 low : (z : ℤ) → natAbs z ≤ 16 → ltZ z (pos 0) ≡ true → z +ℤ pos 12289 ≡ pos (residue 12289 z)
 unfolding residue

@@ -11,7 +11,8 @@ use mathlib.Core.List.{List}
 use Prim.Native.Nat.{ℕ, _+_, _*_, _%_, _^_, _<_}
 use lib.ListN.{length, getD}
 use Rattle.numbers.specs.Residue.{residue}
-use Rattle.lists.specs.Entries.{tab, nums, Below}
+use Rattle.lists.specs.Entries.{tab, nums}
+use Rattle.lists.specs.Ranges.{Below}
 use Rattle.polynomial.specs.Product.{product}
 use Rattle.transform.specs.Transform.{transformed, inverted}
 

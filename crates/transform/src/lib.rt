@@ -6,7 +6,7 @@
 ghost use mathlib.Core.Path.{_≡_};
 ghost use Prim.Native.Nat.{_+_, _%_, _<_};
 ghost use lib.ListN.{length};
-ghost use Rattle.lists.specs.Entries.{Below};
+ghost use Rattle.lists.specs.Ranges.{Below};
 ghost use Rattle.transform.specs.Transform.{transformed, inverted};
 ghost use Rattle.transform.specs.Theorems.{entrywise, multiplied, TableRule};
 ghost use Rattle.transform.specs.Level.{tight, factor, powered, stored, Butterflies, OneBlock, remainders, sums, scaled};

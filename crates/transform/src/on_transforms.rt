@@ -6,7 +6,7 @@ ghost use Prim.Native.Nat.{_%_, _<_, _≤_};
 ghost use lib.ListN.{length};
 ghost use lib.IntN.{natAbs};
 ghost use Rattle.numbers.specs.Residue.{residue};
-ghost use Rattle.lists.specs.Entries.{Below, Within};
+ghost use Rattle.lists.specs.Ranges.{Below, Within};
 ghost use Rattle.lists.specs.Lent.{was, left};
 ghost use Rattle.polynomial.specs.Product.{mixed, bare};
 ghost use Rattle.transform.specs.Transform.{transformed, inverted};

@@ -13,7 +13,7 @@ use Rattle.schemes.specs.Schemes.{byFamily, familyOf, fixedOf}
 use Rattle.schemes.specs.declared.Family.{Family}
 use Rattle.schemes.specs.declared.Fixed.{Fixed}
 use Rattle.schemes.specs.declared.Scheme.{Scheme}
-use Rattle.lists.specs.Entries.{Below}
+use Rattle.lists.specs.Ranges.{Below}
 use Rattle.bcns.specs.Rounding as bcns-spec
 use Rattle.newhope.specs.Group as newhope-spec
 use Rattle.frodo.specs.Rounding as frodo-spec

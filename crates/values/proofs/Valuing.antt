@@ -20,7 +20,7 @@ use Rattle.schemes.specs.declared.Family.{Family}
 use Rattle.schemes.specs.declared.Fixed.{Fixed}
 use Rattle.schemes.specs.declared.Scheme.{Scheme}
 use Rattle.schemes.proofs.Sound.{sound}
-use Rattle.lists.specs.Entries.{Below, Within}
+use Rattle.lists.specs.Ranges.{Below, Within}
 use Rattle.lists.specs.First.{firstOver}
 use Rattle.lists.proofs.First.{none-found, all-below}
 use Rattle.polynomial.specs.Fit as polynomial-fit

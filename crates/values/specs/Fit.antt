@@ -7,7 +7,7 @@ use mathlib.Core.List.{List}
 use Prim.Native.Nat.{ℕ}
 use lib.ListN.{length}
 use lib.IntN.{ℤ}
-use Rattle.lists.specs.Entries.{Below, Within}
+use Rattle.lists.specs.Ranges.{Below, Within}
 
 pub record Counted (m q : ℕ) (xs : List ℕ) : Type 0 where
   pub long : length xs ≡ m

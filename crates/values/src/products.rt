@@ -4,7 +4,7 @@ ghost use Prim.Native.Nat.{_<_};
 ghost use lib.ListN.{length};
 ghost use Rattle.schemes.specs.Schemes.{bcns, fixedOf};
 ghost use Rattle.lists.specs.Lent.{was, left, room};
-ghost use Rattle.lists.specs.Entries.{Below, Within};
+ghost use Rattle.lists.specs.Ranges.{Below, Within};
 ghost use Rattle.lists.specs.First.{firstOver};
 ghost use Rattle.polynomial.specs.Fit.{Fit};
 ghost use Rattle.polynomial.specs.Product.{mixed};

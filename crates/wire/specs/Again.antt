@@ -7,7 +7,7 @@ use mathlib.Core.Path.{_≡_}
 use mathlib.Core.List.{List, _++_}
 use Prim.Native.Nat.{ℕ, _^_}
 use lib.ListN.{length, take, drop}
-use Rattle.lists.specs.Entries.{Below}
+use Rattle.lists.specs.Ranges.{Below}
 use Rattle.schemes.specs.Schemes.{familyOf, fixedOf, byFamily}
 use Rattle.schemes.specs.declared.Scheme.{Scheme}
 use Rattle.packing.specs.Packing.{packed}

@@ -4,7 +4,7 @@ use Prim.Native.Nat.{ℕ, _+_, _-_, _%_, _≤_}
 use native.Mathlib.Omega.{arith}
 use borrow.Author.Needs.{needs}
 use Rattle.halves.specs.Halves.{q}
-use Rattle.lists.specs.Stored.{Stored}
+use Rattle.lists.specs.Ranges.{Stored}
 use Rattle.halves.specs.Steps.{from}
 use Rattle.lists.proofs.Stored.{store-none, store-next}
 use Rattle.halves.proofs.Stores.{read-ahead}

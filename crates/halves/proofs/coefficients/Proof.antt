@@ -3,7 +3,7 @@ use mathlib.Core.Path.{_≡_, _∙_}
 use Prim.Native.Nat.{_-_, _≤_}
 use native.Mathlib.Omega.{arith}
 use borrow.Author.Needs.{needs}
-use Rattle.lists.specs.Stored.{Stored}
+use Rattle.lists.specs.Ranges.{Stored}
 use Rattle.halves.specs.Steps.{column}
 use Rattle.lists.proofs.Stored.{store-none, store-next}
 use Rattle.halves.proofs.Columns.{column-ext}

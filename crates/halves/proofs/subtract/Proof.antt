@@ -5,7 +5,7 @@ use native.Mathlib.Omega.{arith}
 use borrow.Author.Needs.{needs}
 use lib.ListN.{getD}
 use Rattle.halves.specs.Halves.{q}
-use Rattle.lists.specs.Stored.{Stored}
+use Rattle.lists.specs.Ranges.{Stored}
 use Rattle.halves.specs.Steps.{from}
 use Rattle.lists.proofs.Stored.{store-none, store-next, not-yet}
 use Rattle.halves.proofs.Stores.{read-ahead}

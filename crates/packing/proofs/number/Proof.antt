@@ -7,7 +7,7 @@ use borrow.Author.Needs.{needs}
 use lib.ListN.{take, drop}
 use lib.Seq.{drop-drop}
 use lib.Pow.{pow-mono, pow-pos}
-use Rattle.lists.specs.Entries.{Below}
+use Rattle.lists.specs.Ranges.{Below}
 use Rattle.packing.specs.Packing.{value}
 use Rattle.packing.proofs.Laws.{value-parts}
 use Rattle.packing.proofs.Groups.{based, bits-at}

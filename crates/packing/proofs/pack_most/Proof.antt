@@ -5,7 +5,7 @@ use native.Mathlib.Nat.{mul-zero}
 use native.Mathlib.Omega.{arith}
 use borrow.Author.Needs.{needs}
 use lib.ListN.{length}
-use Rattle.lists.specs.Entries.{Below}
+use Rattle.lists.specs.Ranges.{Below}
 use Rattle.packing.specs.Packing.{digits}
 use Rattle.packing.proofs.pack_most.Statement.{statement}
 use Rattle.packing.proofs.pack_most.Tie as tie

@@ -5,7 +5,7 @@ use native.Mathlib.Nat.{le-of-mul-le-mul-left}
 use native.Mathlib.Omega.{arith}
 use borrow.Author.Needs.{needs}
 use lib.ListN.{length, take}
-use Rattle.lists.specs.Entries.{Below}
+use Rattle.lists.specs.Ranges.{Below}
 use Rattle.packing.specs.Packing.{value, digits}
 use Rattle.packing.proofs.Groups.{unpacked-on}
 use Rattle.packing.proofs.unpack_groups.Statement.{statement}

@@ -7,7 +7,7 @@ use lib.IntN.{pos}
 use mir.Facts.{toZ-ofZ}
 use borrow.Author.Needs.{needs}
 use Rattle.lists.specs.Entries.{ints}
-use Rattle.lists.specs.Stored.{Stored}
+use Rattle.lists.specs.Ranges.{Stored}
 use Rattle.lists.proofs.Stored.{store-none, store-next, stored-all}
 use Rattle.polynomial.proofs.copy.Statement.{statement}
 use Rattle.polynomial.proofs.copy.Tie as tie

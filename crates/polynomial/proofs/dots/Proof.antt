@@ -8,7 +8,7 @@ use Rattle.numbers.proofs.Machine.{wide, wide-fits}
 use Rattle.lists.specs.Entries.{ints}
 use Rattle.lists.proofs.Parts.{front-long}
 use Rattle.polynomial.specs.Window.{slide}
-use Rattle.lists.specs.Stored.{Stored}
+use Rattle.lists.specs.Ranges.{Stored}
 use Rattle.polynomial.proofs.Level.{dot-pair, dot-part}
 use Rattle.lists.proofs.Stored.{store-none, store-next, stored-all}
 use Rattle.polynomial.proofs.dots.Statement.{statement}

@@ -6,7 +6,7 @@ use lib.IntN.{negℤ}
 use borrow.Author.Needs.{needs}
 use Rattle.numbers.specs.Residue.{residue}
 use Rattle.lists.specs.Entries.{nums}
-use Rattle.lists.specs.Stored.{Stored}
+use Rattle.lists.specs.Ranges.{Stored}
 use Rattle.lists.proofs.Stored.{store-none, store-front, stored-all}
 use Rattle.polynomial.proofs.lay_negatives.Statement.{statement}
 use Rattle.polynomial.proofs.lay_negatives.Tie as tie

@@ -9,7 +9,7 @@ use mir.Val.{toZ, ofZ}
 use mir.Facts.{toZ-ofZ}
 use borrow.Author.Needs.{needs}
 use Rattle.lists.specs.Entries.{ints}
-use Rattle.lists.specs.Stored.{Stored}
+use Rattle.lists.specs.Ranges.{Stored}
 use Rattle.lists.proofs.Stored.{store-none, store-front, front-not-yet, stored-all}
 use Rattle.polynomial.proofs.put_together.Statement.{statement}
 use Rattle.polynomial.proofs.put_together.Tie as tie

@@ -7,7 +7,7 @@ use lib.IntN.{ℤ, pos}
 use mathlib.Core.List.{List}
 use borrow.Author.Needs.{needs}
 use Rattle.lists.specs.Entries.{ints}
-use Rattle.lists.specs.Stored.{Stored}
+use Rattle.lists.specs.Ranges.{Stored}
 use Rattle.polynomial.proofs.Kernel.{secret-fits, secret}
 use Rattle.lists.proofs.Stored.{store-none, store-front, stored-all}
 use Rattle.polynomial.proofs.reverse.Statement.{statement}

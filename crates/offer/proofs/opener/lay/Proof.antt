@@ -6,7 +6,7 @@ use native.Mathlib.Omega.{arith}
 use Rattle.schemes.specs.Schemes.{fixedOf}
 use Rattle.schemes.proofs.Sound.{sound}
 use lib.ListN.{length}
-use Rattle.lists.specs.Entries.{Below}
+use Rattle.lists.specs.Ranges.{Below}
 use Rattle.lists.proofs.Parts.{buffer-long, front-long}
 use Rattle.packing.specs.Packing.{packed}
 use Rattle.refusals.specs.Refusals.{publicsIn, notBlank}

@@ -8,7 +8,7 @@ use lib.ListN.{length}
 use Rattle.schemes.specs.Schemes.{fixedOf}
 use Rattle.schemes.specs.declared.Fixed.{Fixed}
 use Rattle.schemes.proofs.Sound.{sound}
-use Rattle.lists.specs.Entries.{Below}
+use Rattle.lists.specs.Ranges.{Below}
 use Rattle.lists.proofs.Parts.{buffer-long, front-long}
 use Rattle.packing.specs.Packing.{packed}
 use Rattle.refusals.specs.Refusals.{publicsIn, notBlank}
