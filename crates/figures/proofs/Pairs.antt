@@ -1,7 +1,7 @@
 -- How often each noise value of NewHope comes out: `Binomial` of `specs/Frequencies.antt`.
 --   ones-sum       a sum over words of n + 1 bits, by the ones in the words of n bits
 --   ones-count     k ones in choose n k of the words of n bits
---   pair-count     the same of pairs: choose (n + m) k
+--   pair-count     k ones in choose (n + m) k of the pairs of words of n and m bits
 --   binomial       for words of n bits
 use mathlib.Core.Path.{_≡_, refl, _∙_, sym, ap, ap₂}
 use mathlib.Core.Bool.{Bool, true, false, cond}

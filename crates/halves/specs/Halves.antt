@@ -3,7 +3,7 @@
 --   sizeUpTo k n             n is 32 times a power of two up to 2^k
 --   sizeIn n                 2: a factor's length is none of those, up to 1024
 --   Factors                  what the call is lent to read: a and b
---   factorsOf, factors       the same from lists, and from what is lent in a contract
+--   factorsOf, factors       the factors from lists, and from what is lent in a contract
 --   productTests x n m       the tests in their order, with room for n numbers and a scratch of m
 --   plain x                  what the call gives: the product of 01's rule, modulo X^L + 1 and q
 --   ProductSeen              what is seen of the call: the refusal's number and place, the output, and what the scratch holds

@@ -7,7 +7,7 @@
 --   column w k            coefficient k of the full product of the 32 numbers at 0 with those at 32, which stand backwards at 64: a dot product of neighbours
 --   Ahead x to n          the n numbers at x are read, in order, before those at `to` are written over
 --   Product w n w′        two factors of n numbers at the front of w have become their full product
---   InPart w at h w′      the same of the 6 h numbers at `at`, with all others as they were
+--   InPart w at h w′      two factors of h numbers at `at` have become their full product, in 6 h numbers, with all others as they were
 --   Spread w h w′         two factors of 2 h numbers have become three pairs of h: lower halves, upper halves, sums
 --   middle w h            the product of the sums less the two others
 --   Joined w h w′         the three products of 2 h numbers have become one of 4 h

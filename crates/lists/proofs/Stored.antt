@@ -2,7 +2,7 @@
 --   store-none, store-next   before, and at each turn
 --   not-yet                  what is not yet written is as it was
 --   stored-all               at the end, by another count
---   store-front, front-not-yet, front-at   the same at the front of a list
+--   store-front, front-not-yet, front-at   a turn, what is not yet written and what is, at the front of a list
 use mathlib.Core.Path.{_≡_, refl, _∙_, sym, ap, subst}
 use mathlib.Core.List.{List}
 use Prim.Native.Nat.{ℕ, _+_, _<_}

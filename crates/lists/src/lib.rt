@@ -111,7 +111,7 @@ pub fn first_over(q: u32, xs: &[u32]) -> usize
     search_over(q, xs)
 }
 
-// The same of numbers that may be secret: every one is looked at, and no branch is on any.
+// The index of the first number that is q or more, or the length where none is, of numbers that may be secret: every one is looked at, and no branch is on any.
 fn search_all(q: u32, xs: &[u32]) -> usize
     ensures { λ r. ⌜ r ≡ firstOver q (now (xs .entry)) ⌝ }
 {

@@ -152,7 +152,7 @@ fn newhope_in(
     told(1, name, answer);
 }
 
-// The same, with room for the lists.
+// Lends `newhope_in` its lists.
 fn newhope(name: &[u8], third: u32)
     requires { ⌜ third < 32768 ⌝ }
 {
@@ -229,7 +229,7 @@ fn frodo_in(
     told(scheme, name, answer);
 }
 
-// The same, with room for the lists, of which no scheme has longer ones.
+// Lends `frodo_in` its lists, of which no scheme has longer ones.
 fn frodo_run(scheme: u32, name: &[u8], t: u32, q: u32, b: u32, public: usize, secret: usize)
     requires { ⌜ (t < 2 ^ 31) × (1 < q) × (0 < b) × (b < 2 ^ 31) × (public ≤ 746496) × (secret ≤ 6912) ⌝ }
 {

@@ -96,7 +96,7 @@ on-zeros m n r f ws {l} s e d =
     ∙ wrapped m 0 (sumℕ n (f k)) (getD ws k 0)
     ∙ ap (λ (y : ℕ). y % m) c)
 
--- of y, made of b, which holds the same
+-- of y, made of a copy b of it
 pub on-copy : (f : List ℕ → List ℕ) {b y o : List ℕ} → b ≡ y → o ≡ f b → o ≡ f y
 on-copy f e d = d ∙ ap f e
 

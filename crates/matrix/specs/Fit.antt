@@ -19,7 +19,7 @@ pub record Shape (q n r : ℕ) (xs : List ℕ) (s : List ℤ) : Type 0 where
   pub s-long : length s ≡ 8 * n
   pub s-within : Within 6 s
 
--- the same, where the numbers are below q
+-- `Shape`, where the numbers are below q
 pub record Fit (q n r : ℕ) (xs : List ℕ) (s : List ℤ) : Type 0 where
   pub some : 0 < q
   pub room : q ≤ 32768

@@ -182,7 +182,7 @@ fn dots_on(n: usize, row: &[u16], cols: &[u16], sums: &mut [u16])
     }
 }
 
-// The same. For Frodo's n the compiler can read here how far apart the columns lie, and so it reckons no addresses.
+// `dots_on`, where the compiler can read for Frodo's n how far apart the columns lie, and so reckons no addresses.
 fn dots_by(n: usize, row: &[u16], cols: &[u16], sums: &mut [u16])
     requires { ⌜ (length (now row) ≡ n) × (length (now cols) ≡ 8 * n) × (length (now sums) ≡ 8) ⌝ }
     ensures { λ _. ⌜ left sums ≡ gained 65536 n (dotTerm n (was row) (was cols)) (was sums) ⌝ }
@@ -196,7 +196,7 @@ fn dots_by(n: usize, row: &[u16], cols: &[u16], sums: &mut [u16])
     }
 }
 
-// The same, on sums of its own, which are added at the end: the compiler keeps those in registers, where lent ones, which might lie in the row, would go to
+// `dots_by` on sums of its own, which are added at the end: the compiler keeps those in registers, where lent ones, which might lie in the row, would go to
 // memory each time.
 fn add_dots(n: usize, row: &[u16], cols: &[u16], sums: &mut [u16])
     requires { ⌜ (length (now row) ≡ n) × (length (now cols) ≡ 8 * n) × (length (now sums) ≡ 8) ⌝ }
@@ -363,7 +363,7 @@ fn add_rows(w: &[u16], y: &[u16], sums: &mut [u16])
     }
 }
 
-// The same. Four rows, as nearly all blocks are, go in one pass with four products for each sum that is loaded and stored: here the compiler can
+// `add_rows`, where four rows, as nearly all blocks are, go in one pass with four products for each sum that is loaded and stored: here the compiler can
 // read that there are four.
 fn add_block(w: &[u16], y: &[u16], sums: &mut [u16])
     requires { ⌜ length (now y) ≡ length (now w) * length (now sums) ⌝ }

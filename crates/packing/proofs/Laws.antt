@@ -5,7 +5,7 @@
 --   value-one         the number of one digit is that digit
 --   value-four        the number of four bytes, written out
 --   value-take-below  the number of at most k digits is below b ^ k
---   value-below       the same of a list of at most k digits
+--   value-below       the number of a list of at most k digits is below b ^ k
 --   value-drop        a number without its k lowest digits is that of the others
 --   digits-length     n digits are n
 --   digits-below      each is below the base

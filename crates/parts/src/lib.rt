@@ -75,7 +75,7 @@ fn pair_numbers(xs: &[u32], out: &mut [u32])
     }
 }
 
-// The same from any word on. Where they start and end on whole numbers, as whole rows do, two go at a time.
+// Numbers of 16 bits as words, from word `at` on. Where they start and end on whole numbers, as whole rows do, two go at a time.
 pub fn put_words(at: usize, ws: &[u32], out: &mut [u32])
     requires { ⌜ (at + length (now ws) ≤ 2 * length (now out)) × Below 65536 (now ws) ⌝ }
     ensures { λ _. ⌜ left out ≡ pairs (take at (words (was out)) ++ (was ws ++ drop (at + length (was ws)) (words (was out)))) ⌝ }

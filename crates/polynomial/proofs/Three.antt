@@ -72,6 +72,6 @@ module _ {m : ℕ} {s : ℕ → ℤ} (f : Few (m + m) s) where
         within = λ j p. omega (arith, abs-add (s j) (s (m + j)), f .within j (omega arith), f .within (m + j) (omega arith));
       }
 
--- of the same secrets
+-- of equal secrets
 pub few-ext : {m : ℕ} {s t : ℕ → ℤ} → Few m s → ((j : ℕ) → j < m → t j ≡ s j) → Few m t
 few-ext {m} {s} {t} f e = record { size = f .size; room = f .room; within = λ j p. rw (e j p) (f .within j p) }

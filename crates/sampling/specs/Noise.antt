@@ -1,6 +1,6 @@
 -- What Noise promises: 01, "The calls", "Noise" and "Refusal numbers and their order", and 02, request m.
 --   Noise                        what it is lent: the bytes and the table
---   noiseOf, noise               the same from lists, and from what is lent in a contract
+--   noiseOf, noise               what it is lent, from lists, and from the slices of a contract
 --   lengthEither m x y           2: a length is one of two
 --   bytesEach c, tableWords c    how many bytes a value takes, and how many words the table has
 --   noiseTests c x n             its tests in 01's order, 18 "after 3 and before 4", with room for n values

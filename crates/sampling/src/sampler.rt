@@ -200,7 +200,7 @@ fn grow_first(name: RuleName, seed: &[u8], bytes: &mut [u8], out: &mut [u32]) ->
     grow_from(name, seed, bytes, out)
 }
 
-// The same with room for 24 blocks of 168 bytes.
+// Lends `grow_first` room for 24 blocks of 168 bytes.
 fn grow_in(name: RuleName, seed: &[u8], out: &mut [u32]) -> Answer
     requires { ⌜ growSizes (now seed) (length (now out)) ≡ Pass ⌝ }
     requires { ⌜ now out ≡ replicate (length (now out)) 0 ⌝ }

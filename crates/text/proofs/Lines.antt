@@ -1,7 +1,7 @@
 -- A number and a line are read as what was written, and nothing else is.
 --   number-forth, number-back   the text of a number is read as that number, and nothing else is
 --   begins-front                a text that a label stands before begins with it
---   line-forth, line-back       the same of a line
+--   line-forth, line-back       the text of a line is read as its number, and nothing else is
 --   told-number, told-within, told-other   what was found at a position
 use mathlib.Core.Path.{_≡_, refl, _∙_, sym, ap, ap₂, subst}
 use mathlib.Core.Bool.{Bool, true, false, cond}

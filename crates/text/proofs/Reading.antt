@@ -7,7 +7,7 @@
 --   Begun, begun-none, begun-more, begun-differs, begun-short, begun-all   a loop over a label: before, at each turn, and at its three ends
 --   begins-is               a text that begins with a label is the label and the rest
 --   number-size, number-found, number-other   the number at a position, or other text
---   label-room, label-found, label-other   the same of a line with its label
+--   label-room, label-found, label-other   the number of a line with its label at a position, or other text
 use mathlib.Core.Path.{_≡_, refl, _∙_, sym, ap}
 use mathlib.Core.Bool.{Bool, true, false, cond, not, _||_, _&&_}
 use mathlib.Core.List.{List, [], _∷_, _++_}

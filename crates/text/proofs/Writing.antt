@@ -1,7 +1,7 @@
 -- Writing into a buffer from a position on.
 --   written-byte, written-copy   one byte, a text
 --   written-then           one text behind another
---   written-as             the same text
+--   written-as             a text under another name
 --   written-length         the buffer keeps its length
 --   joined, Left, left-all, left-room, left-next, left-none   a text in parts: at the start, the room for a part, behind it, at the end
 --   one-digit, last-digit  the text of a number, by its last digit

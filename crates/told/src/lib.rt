@@ -50,7 +50,7 @@ pub fn tell_verdict(verdict: Verdict, place: &mut u64) -> u32
     }
 }
 
-// The same of Reply, with its three counts.
+// Reply's answer in numbers, with its three counts.
 pub fn tell_reply(
     answer: ReplyAnswer,
     place: &mut u64,
@@ -79,7 +79,7 @@ pub fn tell_reply(
     }
 }
 
-// The same of Finish, with its two counts and the slack used.
+// Finish's answer in numbers, with its two counts and the slack used.
 pub fn tell_finish(
     answer: FinishAnswer,
     place: &mut u64,
@@ -115,7 +115,7 @@ pub fn tell_finish(
     }
 }
 
-// The same of Bench: 0 where the keys agree, else 1 + the first differing bit, of which a key has no more than 1024.
+// Bench's answer in numbers: 0 where the keys agree, else 1 + the first differing bit, of which a key has no more than 1024.
 pub fn tell_bench(
     answer: BenchAnswer,
     place: &mut u64,
@@ -150,7 +150,7 @@ pub fn tell_bench(
     }
 }
 
-// The same of settings that were read: the label's count, and the format, the scheme and the rule.
+// The reader's answer in numbers: the label's count, and the format, the scheme and the rule.
 pub fn tell_settings(
     found: LentAnswer,
     place: &mut u64,

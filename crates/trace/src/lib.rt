@@ -180,7 +180,7 @@ pub fn answer(text: &[u8], out: &mut [u8; 372]) -> usize
     n
 }
 
-// The same for programs in other languages.
+// `answer`, for programs in other languages.
 #[no_mangle]
 pub extern "C" fn trace_answer(text: &[u8], out: &mut [u8; 372]) -> usize
     ensures { λ r. ⌜ Answers 372 (answered (now (text .entry))) r (now (out .exit)) ⌝ }

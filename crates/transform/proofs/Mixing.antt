@@ -2,7 +2,7 @@
 -- What runs, entry by entry, on any x that is the transform of s:
 --   mixed-through    a x and the transform of e: the transform of as + e
 --   bare-through     the inverse of a x: as
---   value-through    the same, and e: as + e
+--   value-through    the inverse of a x, and e: as + e
 -- And of the two ends:
 --   travelled        as + e travels transformed, and the inverse gives it back
 --   apart-through    NewHope's identity: how far v and w are apart is how far d = s'e + e'' - e's is from a multiple of 12289
@@ -29,7 +29,7 @@ use Rattle.transform.proofs.Sizes.{multiplied-length, multiplied-below,
 use Rattle.transform.proofs.Inverses.{inverted-transformed, transformed-inverted}
 use Rattle.transform.proofs.Products.{multiplied-at, summed-at, transformed-multiplied, transformed-summed}
 
--- ---- the same with secrets and noise reduced
+-- ---- secrets and noise, reduced
 
 reduced-at : (s : List ℤ) (k : ℕ) → k < 1024 → nums (reduced s) k ≅⟨ 12289 ⟩ ints s k
 unfolding reduced

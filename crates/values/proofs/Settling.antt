@@ -3,7 +3,7 @@
 --   hints-counted, keys-counted, peers-counted   as many as the scheme has, and each within its bits; slacks-long: as many
 --   Hinting, Keying, Peering, Slacking   what the functions are given: coins or hints xs, the replier's own hints, a value and room, with the scheme's counts and ranges
 --   Told X, tell     what a function knows in an arm: what it is given, what `scheme.family()` returned, and the interval and the key bits
---   frodo            the same, where these two are what Frodo's arm computed
+--   frodo            what it knows in Frodo's arm, where the interval and the key bits are what the arm computed
 --   hints-asks, hints-made, keys-asks, keys-made, peers-asks, peers-made, slacks-asks, slacks-made   in the arms; NewHope's keys are the bits of its own hints
 use mathlib.Core.Path.{_≡_, refl, _∙_, sym, ap, subst}
 use mathlib.Core.List.{List}
@@ -28,7 +28,7 @@ use Rattle.values.proofs.Numbers.{Bcns, NewHope, Frodo, numbers-of, in-
 pub counted : {m n q r : ℕ} {xs : List ℕ} → m ≡ n → q ≡ r → Counted m q xs → Counted n r xs
 counted {xs = xs} d e h = record { long = h .long ∙ d; below = subst (λ (q : ℕ). Below q xs) e (h .below) }
 
--- within the same number of bits
+-- a count and a number of bits under another name
 bits : {m n b c : ℕ} {xs : List ℕ} → m ≡ n → b ≡ c → Counted m (2 ^ b) xs → Counted n (2 ^ c) xs
 bits d e = counted d (ap (λ (b : ℕ). 2 ^ b) e)
 

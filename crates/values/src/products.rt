@@ -29,7 +29,7 @@ fn mix_bcns(q: u32, a: &[u32], s: &[i32], e: &[i32], out: &mut [u32]) -> usize
     at
 }
 
-// The same in NewHope, as it travels.
+// as + e in NewHope, as it travels, where no number of a is q or more; the answer is as in `mix_bcns`.
 fn mix_newhope(q: u32, a: &[u32], s: &[i32], e: &[i32], out: &mut [u32]) -> usize
     requires { ⌜ 0 < q ⌝ }
     requires { ⌜ (Below q (now a) → NewHopeAsks (now a) (now s) (length (now out)) × ((length (now e) ≡ 1024) × (Within 16 (now s) × Within 16 (now e)))) ⌝ }
@@ -44,7 +44,7 @@ fn mix_newhope(q: u32, a: &[u32], s: &[i32], e: &[i32], out: &mut [u32]) -> usiz
     at
 }
 
-// The same of the replier, with its value v.
+// The replier's as' + e' in NewHope, as it travels, and its value v, where no number of a is q or more; the answer is as in `mix_bcns`.
 fn reply_newhope(
     q: u32,
     a: &[u32],

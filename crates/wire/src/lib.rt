@@ -59,7 +59,7 @@ pub fn take_opening(scheme: Scheme, opening: &[u8], numbers: &mut [u32]) -> Verd
     refusals::take_message(f.width, f.q, &opening[start..end], numbers)
 }
 
-// The unpack step of Finish: the same of the reply.
+// The unpack step of Finish: the reply's numbers, whether each is below q, and whether its packed part is blank.
 pub fn take_reply(scheme: Scheme, reply: &[u8], numbers: &mut [u32]) -> Verdict
     requires { ⌜ (length (now reply) ≡ fixedOf scheme .reply) × (length (now numbers) ≡ fixedOf scheme .secret) ⌝ }
     ensures { λ r. ⌜ r ≡ receivedIn (fixedOf scheme .q) (repliedIn scheme (was reply)) (numbersIn scheme (repliedIn scheme (was reply))) ⌝ }
