@@ -2,7 +2,7 @@
 --   testsFromFinish c x, testsFromReply c x s, testsFromOffer c x   the tests that are still to come: x is what the call is lent, s what Finish will be
 --   Keyed v key out             where nothing is refused, a buffer holds the key
 --   FromFinish c x r peer       from Finish on: what it hands on, and the initiator's key
---   FromReply c x s r own peer  from Reply on, where Finish is lent its message and s: the same, and the replier's key
+--   FromReply c x s r own peer  from Reply on, where Finish is lent its message and s: what it hands on, the initiator's key, and the replier's
 --   FromOffer c x r own peer    from Offer on
 --   agreed o                    what was handed on, as the BCNS bench's answer
 --   comparison d p              the answer without a refusal, where d says how the keys differ, and p is the slack

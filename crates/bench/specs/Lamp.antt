@@ -1,5 +1,5 @@
 -- The bench lamp that never lights: 02, request i.
---   "With noise from -51 to 51 no entry of d exceeds 5,326,899, and reconciliation bears 536,870,911": `Largest` in polynomial/specs/Mixing, `Always` in
+--   "With noise from -51 to 51 no entry of d exceeds 5,326,899, and reconciliation bears 536,870,911": `Largest` in polynomial/specs/Difference, `Always` in
 --   agreement/specs/Agreement
 --   NeverDiffer        where Bench refuses nothing in BCNS, the two keys are the same
 --   comparedResult     Bench's promise where the keys are compared in every scheme

@@ -23,7 +23,7 @@ fn by_bits(own: &[u8], peer: &[u8], slack: Peak, x: &mut [u32], y: &mut [u32]) -
     }
 }
 
-// The same with room for the bits of a key, of which no scheme has more than 1024.
+// Lends `by_bits` room for the bits of a key, of which no scheme has more than 1024.
 pub(crate) fn keys(own: &[u8], peer: &[u8], slack: Peak) -> BenchAnswer
     requires { ⌜ (length (now own) ≤ 128) × (length (now own) ≡ length (now peer)) ⌝ }
     ensures { λ r. ⌜ r ≡ comparison (differing (was own) (was peer)) slack ⌝ }

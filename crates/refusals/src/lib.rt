@@ -192,7 +192,7 @@ pub fn publics_at(at: usize, xs: &[u32]) -> Verdict
     }
 }
 
-// The same of numbers in which it has still to be found.
+// No lent public number is q or more, where the first that is has still to be found.
 pub fn publics_in(v: Verdict, q: u32, xs: &[u32]) -> Verdict
     ensures { λ r. ⌜ r ≡ v then publicsIn q (now (xs .entry)) ⌝ }
 {
@@ -202,7 +202,7 @@ pub fn publics_in(v: Verdict, q: u32, xs: &[u32]) -> Verdict
     publics_at(lists::first_over(q, xs), xs)
 }
 
-// The same, ahead of a verdict that stands already: where that is no refusal the numbers are not looked at.
+// No lent public number is q or more, ahead of a verdict that stands already: where that is no refusal the numbers are not looked at.
 pub fn publics_before(w: Verdict, q: u32, xs: &[u32]) -> Verdict
     ensures { λ r. ⌜ r ≡ publicsIn q (now (xs .entry)) before w ⌝ }
 {

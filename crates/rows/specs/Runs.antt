@@ -78,7 +78,7 @@ pub record ReplyRun (c : Scheme) (x : ReplyBegin) (a : List ℕ) (m : ReplyRooms
   pub parts : Parts Call.Reply (replyBeginResult (Known c) x stateRoom .state) a last
   pub ends : t ≡ replyEndResult last m .answer
 
--- ---- the same, where nothing is refused
+-- ---- a begin, parts and an end, none of them refused
 
 pub record OfferAccepted (c : Scheme) (x : OfferBegin) (ps : List (List ℕ)) (n : ℕ) : Type 0 where
   pub begins : offerBeginResult (Known c) x (long (fixedOf c .n)) .number ≡ 0

@@ -104,7 +104,7 @@ Once =
     (steps k n (laid (record { call = call; scheme = scheme; taken = 0; kept = kept; secret = secretWords k n s; sums = wordsOf wrap e; held = held })) ps))
     ≡ mixed k q n (joined ps) s e
 
--- ---- the same as whole
+-- ---- as the whole-matrix calls
 
 abbrev pub SameOffer : Type 0
 SameOffer =

@@ -86,7 +86,7 @@ fn add_right_small(n: usize, row: usize, state: &mut [u32])
     put_right(n, row, &mut line[..n], &mut cols[..k], &mut sums, state);
 }
 
-// The same in any set.
+// Sixteen rows into the sums of Offer, in any set.
 fn add_right(n: usize, row: usize, state: &mut [u32])
     requires { ⌜ Sized n (now state) × (row + 16 ≤ n) ⌝ }
     ensures { λ _. ⌜ left state ≡ entered Call.Offer n (row * n) (was state) ⌝ }
