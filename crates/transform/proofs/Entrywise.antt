@@ -1,4 +1,5 @@
 -- What is computed entry by entry on the way through the transform.
+--   turned-round     the products, the other way round
 --   combine-fits     a product of reduced numbers, and one more
 --   combined         a x + y, where only the sum is reduced
 --   noised           x + e, where e is reduced entry by entry
@@ -6,7 +7,7 @@ use mathlib.Core.Path.{_≡_, _∙_, sym, ap}
 use mathlib.Core.List.{List}
 use Prim.Native.Nat.{ℕ, _+_, _*_, _%_, _^_, _<_}
 use native.Mathlib.Omega.{arith}
-use native.Mathlib.Nat.{mul-le-mul, mod-add-mod}
+use native.Mathlib.Nat.{mul-le-mul, mod-add-mod, mul-comm}
 use lib.IntN.{ℤ}
 use lib.ListN.{getD}
 use Rattle.numbers.specs.Residue.{residue}
@@ -14,6 +15,10 @@ use Rattle.lists.specs.Entries.{tab, ints}
 use Rattle.lists.proofs.Entries.{tab-at, tab-ext}
 use Rattle.transform.specs.Theorems.{entrywise, summed}
 use Rattle.transform.specs.Level.{reduced}
+
+pub turned-round : (f g : List ℕ) → entrywise f g ≡ entrywise g f
+unfolding entrywise
+turned-round f g = tab-ext 1024 _ _ (λ k l. ap (λ (p : ℕ). p % 12289) (mul-comm (getD f k 0) (getD g k 0)))
 
 pub combine-fits : (x y z : ℕ) → x < 12289 → y < 12289 → z < 12289 → x * y + z < 2 ^ 32
 combine-fits x y z p q r = omega (arith, mul-le-mul {n₁ = x} {m₁ = y} {n₂ = 12288} {m₂ = 12288} (omega arith) (omega arith))

@@ -2,6 +2,7 @@
 --   part g a m s i o    the sum of length m over the entries o, o + s, o + 2s, .. of g, at the point 7^(s (a + 2i))
 --   Holds g a m s xs    xs holds all of them modulo 12289, that of point i and offset o at i s + o, each in 16 bits
 --   holds-start, holds-level, holds-end   before, at each level, and after
+--   five-levels         half of the ten
 use mathlib.Core.Path.{_≡_, refl, _∙_, sym, ap, ap₂}
 use mathlib.Core.List.{List}
 use Prim.Native.Nat.{ℕ, _+_, _-_, _*_, _/_, _%_, _^_, _<_, _≤_}
@@ -177,6 +178,20 @@ holds-start g xs a e s = rw e (record { small = record { below = λ k. omega (ar
         let e : i * 1024 + o ≡ o + 0 * 1024 = omega arith in
         let z : 1024 * 0 * (a + 2 * i) ≡ 0 = omega arith in
         ap (λ (n : ℕ). getD g n 0) e ∙ sym (ap (λ (n : ℕ). 0 + getD g (o + 0 * 1024) 0 * 7 ^ n) z ∙ omega arith)
+
+pub five-levels :
+    (g : List ℕ) (a m h : ℕ) {x0 x1 x2 x3 x4 x5 : List ℕ} → 16 * m * h ≡ 512 → Holds g a m (2 * (16 * h)) x0 →
+    Joined x0 a (16 * h) 512 x1 → Joined x1 a (8 * h) 512 x2 → Joined x2 a (4 * h) 512 x3 → Joined x3 a (2 * h) 512 x4 → Joined x4 a h 512 x5 →
+    Holds g a (2 * (16 * m)) h x5
+five-levels g a m h e had j1 j2 j3 j4 j5 =
+    let n1 = next m (16 * h) (8 * h) (2 * m) (omega arith) (omega arith) (omega arith) had j1 in
+    let n2 = next (2 * m) (8 * h) (4 * h) (4 * m) (omega arith) (omega arith) (omega arith) n1 j2 in
+    let n3 = next (4 * m) (4 * h) (2 * h) (8 * m) (omega arith) (omega arith) (omega arith) n2 j3 in
+    let n4 = next (8 * m) (2 * h) h (16 * m) (omega arith) (omega arith) (omega arith) n3 j4 in
+    holds-level g _ a (16 * m) h (omega arith) n4 _ j5
+  where
+    next : (m h k n : ℕ) {x y : List ℕ} → m * h ≡ 512 → h ≡ 2 * k → 2 * m ≡ n → Holds g a m (2 * h) x → Joined x a h 512 y → Holds g a n (2 * k) y
+    next m h k n f d w had j = rw (← d, ← w) (holds-level g _ a m h f had _ j)
 
 -- a sum of length 1,024 is the whole
 pub holds-end : (g xs : List ℕ) (a : ℕ) → Holds g a 1024 1 xs → remainders xs ≡ sums a g

@@ -182,18 +182,6 @@ pub fn inverse(g: &mut [u32; 1024])
     back(&t, g);
 }
 
-// The products of the entries, into f.
-fn times(f: &mut [u32; 1024], g: &[u32; 1024])
-    requires { ⌜ Below 12289 (now f) × (length (now f) ≡ 1024) × Below 12289 (now g) ⌝ }
-    ensures { λ _. ⌜ now (f .exit) ≡ entrywise (now (f .entry)) (now (g .entry)) ⌝ }
-{
-    let mut k: usize = 0;
-    while k < NewHope::N {
-        f[k] = f[k] * g[k] % NewHope::Q;
-        k += 1;
-    }
-}
-
 // The product modulo X^1024 + 1, through the transform, into a; b is left transformed.
 pub fn product(a: &mut [u32; 1024], b: &mut [u32; 1024])
     requires { ⌜ Below 12289 (now a) × (length (now a) ≡ 1024) × Below 12289 (now b) × (length (now b) ≡ 1024) ⌝ }
@@ -203,6 +191,6 @@ pub fn product(a: &mut [u32; 1024], b: &mut [u32; 1024])
     let t = powers::table();
     ahead(&t, a);
     ahead(&t, b);
-    times(a, b);
+    on_transforms::weigh(b, a);
     back(&t, a);
 }

@@ -73,7 +73,7 @@ fn combine(a: &[u32], x: &[u32; 1024], y: &[u32; 1024], out: &mut [u32])
 }
 
 // u x, entry by entry, into x.
-fn weigh(u: &[u32], x: &mut [u32; 1024])
+pub(crate) fn weigh(u: &[u32], x: &mut [u32; 1024])
     requires { ⌜ (length (now u) ≡ 1024) × Below 12289 (now u) × (length (now x) ≡ 1024) × Below 12289 (now x) ⌝ }
     ensures { λ _. ⌜ left x ≡ entrywise (was u) (was x) ⌝ }
 {

@@ -7,6 +7,7 @@ use Rattle.transform.specs.Level.{Butterflies, OneBlock}
 use Rattle.transform.proofs.Joins.{butterflies-none, next-run}
 use Rattle.transform.proofs.level.Statement.{statement}
 use Rattle.transform.proofs.level.Tie as tie
+use borrow.Author.Needs.{needs}
 
 abbrev Inv-loop : tie.InvT-loop
 Inv-loop t src dst₀ a h c k₀ dst k = (k ≤ 512) × (k % c ≡ 0) × Butterflies src a h k dst
@@ -26,7 +27,7 @@ within c =
 
 run-requires : tie.Need-run-requires Inv-loop μ-loop
 run-requires c κs =
-    let a = c .before .before .before in
+    let a : tie.Start Inv-loop μ-loop = search needs in
     ((a .pre .0 .0, a .pre .0 .1, within (c .before)), (a .pre .1 .0, c .before .before .loop .inv .2))
 
 add-k : tie.Need-add-k Inv-loop μ-loop
@@ -37,7 +38,8 @@ loop-less c = omega (arith, within (c .before .before) .block, within (c .before
 
 loop-again : tie.Need-loop-again Inv-loop μ-loop
 loop-again c =
-    let l = c .before .before .before .loop in
+    let at-loop : tie.At-loop Inv-loop μ-loop = search needs in
+    let l = at-loop .loop in
     (omega (arith, within (c .before .before) .block, within (c .before .before) .half), add-mod-right (l .k) _ ∙ l .inv .1, c .run .ensures)
 
 returns : tie.Need-returns Inv-loop μ-loop

@@ -1,9 +1,9 @@
 -- `transform::powered` meets its contract.
-use mathlib.Core.Path.{_≡_, ap}
-use Prim.Native.Nat.{ℕ, _*_, _-_, _/_, _≤_, _<_}
+use mathlib.Core.Path.{_≡_}
+use Prim.Native.Nat.{_*_, _-_, _/_, _≤_, _<_}
 use native.Mathlib.Omega.{arith}
 use borrow.Author.Needs.{needs}
-use Rattle.transform.specs.Level.{factor, powered}
+use Rattle.transform.specs.Level.{powered}
 use Rattle.transform.proofs.Words.{words-fit, quotient-≤, powered-lt, wrapped-is}
 use Rattle.transform.proofs.powered.Statement.{statement}
 use Rattle.transform.proofs.powered.Tie as tie

@@ -1,4 +1,5 @@
 -- `transform::scale` meets its contract: it fills with the entries of the inverse.
+use borrow.Author.Needs.{needs}
 use mathlib.Core.Path.{_≡_, _∙_, sym, ap, ap₂}
 use mathlib.Core.List.{List}
 use Prim.Native.Nat.{ℕ, _-_, _*_, _%_, _^_, _<_}
@@ -23,70 +24,39 @@ Inv-loop t src dst₀ k₀ dst k = (0 < k) × (length dst₀ ≡ 1024) × Filled
 abbrev μ-loop : tie.MeasureT-loop
 μ-loop t src dst₀ k₀ dst k = 1024 - k
 
-element-copy-out-dst : tie.Need-element-copy-out-dst Inv-loop μ-loop
-element-copy-out-dst c = omega arith
-
-element-copy-out-dst-2 : tie.Need-element-copy-out-dst-2 Inv-loop μ-loop
-element-copy-out-dst-2 c = omega arith
-
 mul-dst : tie.Need-mul-dst Inv-loop μ-loop
 mul-dst c = omega (arith, power-lt (c .before .before .pre .0) 1024)
 
 mul-dst-2 : tie.Need-mul-dst-2 Inv-loop μ-loop
 mul-dst-2 c = record { fits = product-fits _ _ (c .before .before .pre .1 .below 0) (omega (arith, power-lt (c .before .before .pre .0) 1024)) }
 
-element-write-dst : tie.Need-element-write-dst Inv-loop μ-loop
-element-write-dst c = omega arith
-
 loop-holds : tie.Need-loop-holds Inv-loop μ-loop
 loop-holds c =
-    let a = c .before .before in
+    let a : tie.Start Inv-loop μ-loop = search needs in
     let z : 0 < length (a .args .dst .now) = omega arith in (
       omega arith,
       simp length-set (a .pre .2),
       fill-first _ (a .args .dst .now) _ z (ap (λ (x : ℕ). getD (a .args .src .now) 0 0 * (12 * x) % 12289) (a .pre .0 .power 1024 (omega arith))),
     )
 
-sub-r : tie.Need-sub-r Inv-loop μ-loop
-sub-r c = omega arith
-
-mul-dst-3 : tie.Need-mul-dst-3 Inv-loop μ-loop
-mul-dst-3 c = omega arith
-
-element-copy-out-dst-3 : tie.Need-element-copy-out-dst-3 Inv-loop μ-loop
-element-copy-out-dst-3 c = omega arith
-
-mul-dst-4 : tie.Need-mul-dst-4 Inv-loop μ-loop
-mul-dst-4 c = omega arith
-
-element-copy-out-dst-4 : tie.Need-element-copy-out-dst-4 Inv-loop μ-loop
-element-copy-out-dst-4 c = omega arith
-
 mul-dst-5 : tie.Need-mul-dst-5 Inv-loop μ-loop
-mul-dst-5 c = omega (arith, power-lt (c .before .before .before .before .before .before .pre .0) (1024 - c .before .before .before .loop .k))
+mul-dst-5 c =
+    let start : tie.Start Inv-loop μ-loop = search needs in
+    let at-loop : tie.At-loop Inv-loop μ-loop = search needs in
+    omega (arith, power-lt (start .pre .0) (1024 - at-loop .loop .k))
 
 mul-dst-6 : tie.Need-mul-dst-6 Inv-loop μ-loop
 mul-dst-6 c =
-    let a = c .before .before .before .before .before .before in
-    let k = c .before .before .before .loop .k in
+    let at-loop : tie.At-loop Inv-loop μ-loop = search needs in
+    let a : tie.Start Inv-loop μ-loop = search needs in
+    let k = at-loop .loop .k in
     record { fits = product-fits _ _ (a .pre .1 .below (1024 - k)) (omega (arith, power-lt (a .pre .0) (1024 - k))) }
-
-mul-dst-7 : tie.Need-mul-dst-7 Inv-loop μ-loop
-mul-dst-7 c = omega arith
-
-element-write-dst-2 : tie.Need-element-write-dst-2 Inv-loop μ-loop
-element-write-dst-2 c = omega arith
-
-add-k : tie.Need-add-k Inv-loop μ-loop
-add-k c = omega arith
-
-loop-less : tie.Need-loop-less Inv-loop μ-loop
-loop-less c = omega arith
 
 loop-again : tie.Need-loop-again Inv-loop μ-loop
 loop-again c =
-    let a = c .before .before .before .before .before .before in
-    let l = c .before .before .before .loop in
+    let at-loop : tie.At-loop Inv-loop μ-loop = search needs in
+    let a : tie.Start Inv-loop μ-loop = search needs in
+    let l = at-loop .loop in
     let m : 1024 - l .k ≡ (1024 - l .k) % 1024 = sym (mod-eq-of-lt (omega arith)) in (
       omega arith,
       l .inv .1,
@@ -97,32 +67,11 @@ loop-again c =
 returns : tie.Need-returns Inv-loop μ-loop
 unfolding scaled
 returns c =
-    let a = c .before .before .before .before in
+    let a : tie.Start Inv-loop μ-loop = search needs in
     let l = c .before .loop in
     fill-end (l .inv .2) (omega arith) ∙ ap (λ (n : ℕ). tab n (entry (a .args .src .now))) (l .inv .1)
 
 pub scale-spec : {M : Type 1} → statement M
-scale-spec =
-    tie.close
-    (tie.spec
-    Inv-loop
-    μ-loop
-    element-copy-out-dst
-    element-copy-out-dst-2
-    mul-dst
-    mul-dst-2
-    element-write-dst
-    loop-holds
-    sub-r
-    mul-dst-3
-    element-copy-out-dst-3
-    mul-dst-4
-    element-copy-out-dst-4
-    mul-dst-5
-    mul-dst-6
-    mul-dst-7
-    element-write-dst-2
-    add-k
-    loop-less
-    loop-again
-    returns)
+scale-spec = tie.close (tie.spec Inv-loop μ-loop (omega arith) (omega arith) mul-dst mul-dst-2 (omega arith) loop-holds
+    (omega arith) (omega arith) (omega arith) (omega arith) (omega arith) mul-dst-5 mul-dst-6 (omega arith)
+    (omega arith) (omega arith) (omega arith) loop-again returns)

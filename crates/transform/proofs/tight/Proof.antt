@@ -6,9 +6,6 @@ use Rattle.transform.specs.Level.{tight}
 use Rattle.transform.proofs.tight.Statement.{statement}
 use Rattle.transform.proofs.tight.Tie as tie
 
-returns : tie.Need-returns
-unfolding tight
-returns c = (refl, omega arith)
-
 pub tight-spec : {M : Type 1} → statement M
-tight-spec = tie.close (tie.spec (search needs) (search needs) (search needs) (search needs) returns)
+tight-spec = tie.close (tie.spec (search needs) (search needs) (search needs) (search needs)
+    (λ c. unfold tight in (refl, omega arith)))

@@ -1,4 +1,5 @@
 -- `transform::on_transforms::add_noise` meets its contract: it fills with the sums.
+use borrow.Author.Needs.{needs}
 use mathlib.Core.Path.{_≡_, _∙_, ap}
 use Prim.Native.Nat.{ℕ, _+_, _-_, _%_, _<_}
 use native.Mathlib.Omega.{arith}
@@ -19,86 +20,43 @@ Inv-loop x e out₀ k₀ out k = Filled (λ k. (getD x k 0 + residue 12289 (ints
 abbrev μ-loop : tie.MeasureT-loop
 μ-loop x e out₀ k₀ out k = 1024 - k
 
-loop-holds : tie.Need-loop-holds Inv-loop μ-loop
-loop-holds c = fill-start _ _
-
-mul-wrapped : tie.Need-mul-wrapped Inv-loop μ-loop
-mul-wrapped c = omega arith
-
-element-copy-out-wrapped : tie.Need-element-copy-out-wrapped Inv-loop μ-loop
-element-copy-out-wrapped c = omega arith
-
-mul-lifted : tie.Need-mul-lifted Inv-loop μ-loop
-mul-lifted c = omega arith
-
-shared-slice-copy-out-lifted : tie.Need-shared-slice-copy-out-lifted Inv-loop μ-loop
-shared-slice-copy-out-lifted c = omega arith
-
 lifted-requires : tie.Need-lifted-requires Inv-loop μ-loop
 lifted-requires c κs =
-    entry-small (c .before .before .before .loop .k) (c .before .before .before .before .before .pre .2) (record { sfits = c .lifted-arg .given })
+    let at-loop : tie.At-loop Inv-loop μ-loop = search needs in
+    let start : tie.Start Inv-loop μ-loop = search needs in
+    entry-small (at-loop .loop .k) (start .pre .2) (record { sfits = c .lifted-arg .given })
 
 -- what the callee says of the entry that it was handed
-remainder : (c : tie.After-lifted Inv-loop μ-loop) → c .lifted .result ≡ residue 12289 (ints (c .before .before .before .before .before .before .args .e .now) (c .before .before .before .before .loop .k))
+remainder : (c : tie.After-lifted Inv-loop μ-loop)
+    → let s : tie.Start Inv-loop μ-loop = search needs in
+    let l : tie.At-loop Inv-loop μ-loop = search needs in
+    c .lifted .result ≡ residue 12289 (ints (s .args .e .now) (l .loop .k))
 unfolding ints
 remainder c = rw (toZ-ofZ (record { sfits = c .before .lifted-arg .given })) at (c .lifted .ensures)
 
 -- a sum of two numbers below q
-sum-lt : (c : tie.After-lifted Inv-loop μ-loop) → getD (c .before .before .before .before .before .before .args .x .now) (c .before .before .before .before .loop .k) 0 + c .lifted .result < 24578
+sum-lt : (c : tie.After-lifted Inv-loop μ-loop)
+    → let s : tie.Start Inv-loop μ-loop = search needs in
+    let l : tie.At-loop Inv-loop μ-loop = search needs in
+    getD (s .args .x .now) (l .loop .k) 0 + c .lifted .result < 24578
 sum-lt c =
-    let a = c .before .before .before .before .before .before in
-    let k = c .before .before .before .before .loop .k in
-    omega (arith, a .pre .0 .below k, remainder c, residue-lt 12289 (ints (a .args .e .now) k) (omega arith))
-
-add-wrapped : tie.Need-add-wrapped Inv-loop μ-loop
-add-wrapped c = omega (arith, sum-lt c)
-
-wrapped-requires : tie.Need-wrapped-requires Inv-loop μ-loop
-wrapped-requires c κs = sum-lt c
-
-mul-out : tie.Need-mul-out Inv-loop μ-loop
-mul-out c = omega arith
-
-slice-write-out : tie.Need-slice-write-out Inv-loop μ-loop
-slice-write-out c = omega arith
-
-add-k : tie.Need-add-k Inv-loop μ-loop
-add-k c = omega arith
-
-loop-less : tie.Need-loop-less Inv-loop μ-loop
-loop-less c = omega arith
+    let s : tie.Start Inv-loop μ-loop = search needs in
+    let l : tie.At-loop Inv-loop μ-loop = search needs in
+    omega (arith, s .pre .0 .below (l .loop .k), remainder c, residue-lt 12289 (ints (s .args .e .now) (l .loop .k)) (omega arith))
 
 loop-again : tie.Need-loop-again Inv-loop μ-loop
 loop-again c =
-    let d = c .before in
-    let a = d .before .before .before .before .before .before in
-    let l = d .before .before .before .before .loop in
-    fill-next _ (l .inv) (omega arith) (c .wrapped .ensures ∙ ap (λ (r : ℕ). (getD (a .args .x .now) (l .k) 0 + r) % 12289) (remainder d))
-
-same-length : tie.Need-same-length Inv-loop μ-loop
-same-length c = c .before .loop .inv .long
+    let s : tie.Start Inv-loop μ-loop = search needs in
+    let l : tie.At-loop Inv-loop μ-loop = search needs in
+    fill-next _ (l .loop .inv) (omega arith)
+    (c .wrapped .ensures ∙ ap (λ (r : ℕ). (getD (s .args .x .now) (l .loop .k) 0 + r) % 12289) (remainder (c .before)))
 
 returns : tie.Need-returns Inv-loop μ-loop
-returns c = fill-whole (c .before .loop .inv) (c .before .before .before .pre .3) (omega arith) ∙ noised _ _
+returns c =
+    let start : tie.Start Inv-loop μ-loop = search needs in
+    fill-whole (c .before .loop .inv) (start .pre .3) (omega arith) ∙ noised _ _
 
 pub add-noise-spec : {M : Type 1} → statement M
-add-noise-spec =
-    tie.close
-    (tie.spec
-    Inv-loop
-    μ-loop
-    loop-holds
-    mul-wrapped
-    element-copy-out-wrapped
-    mul-lifted
-    shared-slice-copy-out-lifted
-    lifted-requires
-    add-wrapped
-    wrapped-requires
-    mul-out
-    slice-write-out
-    add-k
-    loop-less
-    loop-again
-    same-length
-    returns)
+add-noise-spec = tie.close (tie.spec Inv-loop μ-loop (λ c. fill-start _ _) (omega arith) (omega arith) (omega arith)
+    (omega arith) lifted-requires (λ c. omega (arith, sum-lt c)) (λ c κs. sum-lt c) (omega arith) (omega arith)
+    (omega arith) (omega arith) loop-again (λ c. c .before .loop .inv .long) returns)

@@ -6,7 +6,7 @@ use native.Mathlib.Omega.{arith}
 use borrow.Author.Needs.{needs}
 use borrow.Author.Tests.{ltb-true, ltb-false}
 use lib.Dec.{ltb}
-use lib.IntN.{ℤ, pos}
+use lib.IntN.{pos}
 use lib.Signed.{ltZ}
 use mir.Syntax.{w32}
 use mir.Val.{toZ}
@@ -24,11 +24,6 @@ below c = ltb-true _ _ (test _ (c .before .pre) (c .if1 .taken))
 sub-result : tie.Need-sub-result
 sub-result c = ltb-false _ _ (test _ (c .before .pre) (c .if1 .left))
 
-returns : tie.Need-returns
-returns c = omega (arith, below c)
-
-returns-2 : tie.Need-returns-2
-returns-2 c = omega (arith, sub-result c)
-
 pub wrapped-spec : {M : Type 1} → statement M
-wrapped-spec = tie.close (tie.spec (search needs) (search needs) sub-result returns returns-2)
+wrapped-spec = tie.close (tie.spec (search needs) (search needs) sub-result (λ c. omega (arith, below c))
+    (λ c. omega (arith, sub-result c)))

@@ -4,8 +4,5 @@ use Rattle.transform.proofs.Seven.{table-rule}
 use Rattle.transform.proofs.powers.table.Statement.{statement}
 use Rattle.transform.proofs.powers.table.Tie as tie
 
-returns : tie.Need-returns
-returns c = table-rule _ tt refl
-
 pub table-spec : {M : Type 1} → statement M
-table-spec = tie.close (tie.spec returns)
+table-spec = tie.close (tie.spec (λ c. table-rule _ tt refl))
