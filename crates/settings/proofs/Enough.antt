@@ -1,6 +1,6 @@
 -- The first 50 bytes of a text tell what is read (`specs/Shown.antt`): settings have at most 49, and the line of a newer format at most 18.
 use mathlib.Core.Path.{_≡_, refl, _∙_, sym, ap}
-use mathlib.Core.List.{List, [], _∷_, _++_, append-assoc}
+use mathlib.Core.List.{List, _++_, append-assoc}
 use Prim.Native.Nat.{ℕ, _+_, _-_, _^_, _≤_, _<_}
 use native.Mathlib.Decide.{decLe}
 use native.Mathlib.Omega.{arith}
@@ -8,7 +8,7 @@ use lib.Dec.{eqb}
 use lib.ListN.{length, take, drop, length-take, take-append-drop}
 use lib.Seq.{take-all, take-append-add}
 use Rattle.lists.proofs.Table.{cond-all}
-use Rattle.text.specs.Text.{line, number, fieldIn}
+use Rattle.text.specs.Text.{line}
 use Rattle.text.proofs.Numeral.{decimal-length}
 use Rattle.text.proofs.Lines.{line-forth, line-back}
 use Rattle.text.proofs.Writing.{line-length}

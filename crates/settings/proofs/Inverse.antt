@@ -5,9 +5,9 @@
 use mathlib.Core.Path.{_≡_, refl, _∙_, sym, ap, ap₂, subst}
 use mathlib.Core.Bool.{Bool, true, false, cond}
 use mathlib.Core.List.{List, [], _∷_, _++_}
-use Prim.Native.Nat.{ℕ, zero, suc, _≤_, _<_}
+use Prim.Native.Nat.{ℕ, zero, suc, _≤_}
 use native.Mathlib.Omega.{arith}
-use lib.Dec.{eqb, leb, ltb}
+use lib.Dec.{eqb, ltb}
 use lib.ListN.{length, getD, take, drop, length-append, drop-of-length-le}
 use lib.Seq.{take-append-seam, getD-append-seam, split-at, length-take-le}
 use borrow.Author.Tests.{leb-true, ltb-true, ltb-false, eqb-true, le-leb, lt-ltb, le-ltb, eq-eqb}
@@ -18,7 +18,7 @@ use Rattle.text.proofs.Reading.{begins-is}
 use Rattle.text.proofs.Runs.{run-all, run-take}
 use Rattle.text.proofs.Lines.{begins-front, line-forth, line-back}
 use Rattle.settings.specs.Settings.{Setup, setupOf, formatName, ruleName, labelName, formatOf, labelLine, textOf, isScheme, isRule, notAllowed, letters, Reading, setup, newer, misfit, wellSpelled, spelledIn, lastIn, endIn, tailIn, ruleIn, schemeIn, formatIn, reads}
-use Rattle.settings.specs.Shown.{Valid, Is, Newer, TextRead, NoOther, NewerTold, NewerOnly, Back, SameBytes, SameReading, OlderTells, Upgraded}
+use Rattle.settings.specs.Shown.{Valid, Newer, TextRead, NoOther, NewerTold, NewerOnly, Back, SameBytes, SameReading, OlderTells, Upgraded}
 use Rattle.settings.proofs.Known.{scheme-small, rule-small, format-some}
 
 never : {X : Type 0} {r : Reading} {x : Setup} → r ≡ misfit → r ≡ setup x → X

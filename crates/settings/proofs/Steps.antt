@@ -5,25 +5,27 @@
 --   tail-two, tail-none, tail-more, tail-end, end-short   what stands behind the rule
 --   rule-other, rule-read, rule-bad, scheme-.., format-..   the lines, where they are other text, read, or bad
 use mathlib.Core.Path.{_≡_, refl, _∙_, sym, ap}
-use mathlib.Core.Bool.{Bool, true, false, cond, _||_, _&&_}
+use mathlib.Core.Bool.{Bool, true, false, _&&_}
 use mathlib.Core.List.{List, [], _∷_, _++_}
 use Prim.Native.Nat.{ℕ, suc, _+_, _-_, _≤_, _<_}
 use native.Mathlib.Numerals.{add-one}
 use native.Mathlib.Omega.{arith}
-use lib.Dec.{eqb, leb, ltb}
+use lib.Dec.{eqb, leb}
 use lib.ListN.{length, getD, take, drop, replicate, length-append, length-drop, drop-of-length-le}
 use lib.Seq.{drop-cons}
-use borrow.Author.Tests.{leb-true, eqb-true, le-leb, lt-leb, lt-ltb, le-ltb, eq-eqb, ne-eqb}
+use borrow.Author.Tests.{leb-true, eqb-true, le-leb, lt-leb, lt-ltb, le-ltb, ne-eqb}
 use Rattle.lists.specs.First.{both}
 use Rattle.lists.proofs.Table.{both-true}
 use Rattle.lists.proofs.Parts.{part, to-end, drop-same}
-use Rattle.text.specs.Text.{LF, schemeName, Read, number, other, begins, fieldIn}
+use Rattle.text.specs.Text.{LF, schemeName, begins, fieldIn}
 use Rattle.text.specs.Steps.{Reads, labelIn}
 use Rattle.text.specs.declared.Found.{Found}
 use Rattle.text.specs.declared.Found.the-variants as found
 use Rattle.text.proofs.Reading.{begins-is}
-use Rattle.text.proofs.Lines.{told-number, told-within, told-other}
+use Rattle.text.proofs.Lines.{told-number, told-other}
 use Rattle.settings.specs.Settings.{setupOf, formatName, ruleName, labelName, isScheme, isRule, letters, setup, newer, misfit, wellSpelled, spelledIn, lastIn, endIn, tailIn, ruleIn, schemeIn, formatIn, reads}
+use Rattle.settings.specs.Answers.{answerOf}
+use Rattle.settings.specs.declared.ReadAnswer.{ReadAnswer}
 
 -- ---- a label
 
@@ -127,33 +129,33 @@ scheme= = schemeName ++ 61 ∷ []
 abbrev pub format= : List ℕ
 format= = formatName ++ 61 ∷ []
 
-module _ (f a : ℕ) (s : List ℕ) (at : ℕ) {g : Found} (r : Reads s g (labelIn rule= (drop at s))) where
-  pub rule-other : g ≡ found.Other → misfit ≡ ruleIn f a (fieldIn ruleName (drop at s))
+module _ (f a : ℕ) (s : List ℕ) (at : ℕ) {g : Found} (r : Reads s g (labelIn rule= (drop at s))) {o : ReadAnswer} where
+  pub rule-other : g ≡ found.Other → o ≡ answerOf misfit → o ≡ answerOf (ruleIn f a (fieldIn ruleName (drop at s)))
   unfolding ruleIn
-  rule-other e = rw (told-other ruleName s at r e)
+  rule-other e d = rw (told-other ruleName s at r e) d
 
-  module _ {b k : ℕ} (e : g ≡ found.Number b k) where
-    pub rule-read : isRule b ≡ true → tailIn f a b (drop k s) ≡ ruleIn f a (fieldIn ruleName (drop at s))
+  module _ {b k : ℕ} {t : Bool} (e : g ≡ found.Number b k) (w : t ≡ isRule b) where
+    pub rule-read : t ≡ true → o ≡ answerOf (tailIn f a b (drop k s)) → o ≡ answerOf (ruleIn f a (fieldIn ruleName (drop at s)))
     unfolding ruleIn
-    rule-read w = rw (told-number ruleName s at r e, w)
+    rule-read z d = rw (told-number ruleName s at r e, ← w, z) d
 
-    pub rule-bad : isRule b ≡ false → misfit ≡ ruleIn f a (fieldIn ruleName (drop at s))
+    pub rule-bad : t ≡ false → o ≡ answerOf misfit → o ≡ answerOf (ruleIn f a (fieldIn ruleName (drop at s)))
     unfolding ruleIn
-    rule-bad w = rw (told-number ruleName s at r e, w)
+    rule-bad z d = rw (told-number ruleName s at r e, ← w, z) d
 
-module _ (f : ℕ) (s : List ℕ) (at : ℕ) {g : Found} (r : Reads s g (labelIn scheme= (drop at s))) where
-  pub scheme-other : g ≡ found.Other → misfit ≡ schemeIn f (fieldIn schemeName (drop at s))
+module _ (f : ℕ) (s : List ℕ) (at : ℕ) {g : Found} (r : Reads s g (labelIn scheme= (drop at s))) {o : ReadAnswer} where
+  pub scheme-other : g ≡ found.Other → o ≡ answerOf misfit → o ≡ answerOf (schemeIn f (fieldIn schemeName (drop at s)))
   unfolding schemeIn
-  scheme-other e = rw (told-other schemeName s at r e)
+  scheme-other e d = rw (told-other schemeName s at r e) d
 
-  module _ {a k : ℕ} (e : g ≡ found.Number a k) where
-    pub scheme-read : isScheme a ≡ true → ruleIn f a (fieldIn ruleName (drop k s)) ≡ schemeIn f (fieldIn schemeName (drop at s))
+  module _ {a k : ℕ} {t : Bool} (e : g ≡ found.Number a k) (w : t ≡ isScheme a) where
+    pub scheme-read : t ≡ true → o ≡ answerOf (ruleIn f a (fieldIn ruleName (drop k s))) → o ≡ answerOf (schemeIn f (fieldIn schemeName (drop at s)))
     unfolding schemeIn
-    scheme-read w = rw (told-number schemeName s at r e, w)
+    scheme-read z d = rw (told-number schemeName s at r e, ← w, z) d
 
-    pub scheme-bad : isScheme a ≡ false → misfit ≡ schemeIn f (fieldIn schemeName (drop at s))
+    pub scheme-bad : t ≡ false → o ≡ answerOf misfit → o ≡ answerOf (schemeIn f (fieldIn schemeName (drop at s)))
     unfolding schemeIn
-    scheme-bad w = rw (told-number schemeName s at r e, w)
+    scheme-bad z d = rw (told-number schemeName s at r e, ← w, z) d
 
 module _ (reader : ℕ) (s : List ℕ) {g : Found} (r : Reads s g (labelIn format= (drop 0 s))) where
   pub format-other : g ≡ found.Other → misfit ≡ reads reader s

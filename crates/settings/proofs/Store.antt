@@ -11,10 +11,9 @@ use mathlib.Core.Path.{_≡_, refl, _∙_, sym, ap}
 use mathlib.Core.Logic.{_⊎_, inl, inr}
 use mathlib.Core.Bool.{Bool, true, false, cond}
 use mathlib.Core.List.{List, [], _∷_, _++_, append-nil}
-use Prim.Native.Nat.{ℕ, zero, suc, _+_, _-_, _≤_, _<_}
+use Prim.Native.Nat.{ℕ, zero, suc, _+_, _≤_, _<_}
 use native.Mathlib.Omega.{arith}
-use lib.ListN.{length, take, replicate, length-append}
-use lib.Seq.{take-append-seam}
+use lib.ListN.{length, replicate, length-append}
 use borrow.Author.Tests.{leb-true, le-leb, lt-leb, ne-eqb}
 use Rattle.refusals.specs.Refusals.{_then_, lengthUpTo, roomFor}
 use Rattle.refusals.specs.Seen.{written, done, refused, shown, seen}
@@ -29,7 +28,7 @@ use Rattle.text.specs.Steps.{labelled, Written}
 use Rattle.text.proofs.Writing.{joined, Left, left-all, written-none, one-digit, line-length}
 use Rattle.text.proofs.Answer.{answers}
 use Rattle.text.proofs.Runs.{run-within}
-use Rattle.settings.specs.Settings.{Setup, formatName, ruleName, labelName, formatOf, labelLine, textOf, isScheme, isRule, notAllowed, letters, setup, reads}
+use Rattle.settings.specs.Settings.{Setup, formatName, ruleName, formatOf, labelLine, textOf, isScheme, isRule, notAllowed, letters, setup}
 use Rattle.settings.specs.Shown.{Valid, StoredBack}
 use Rattle.settings.specs.Steps.{sizeOf}
 use Rattle.settings.specs.Calls.{schemeKnown, ruleKnown, allowed, writeTests, writeResult}

@@ -15,30 +15,15 @@ Inv-loop s i₀ i = Passed notAllowed s 0 i
 abbrev μ-loop : tie.MeasureT-loop
 μ-loop s i₀ i = length s - i
 
-loop-holds : tie.Need-loop-holds Inv-loop μ-loop
-loop-holds c = passed-none notAllowed _ 0
-
-shared-slice-read-not-allowed : tie.Need-shared-slice-read-not-allowed Inv-loop μ-loop
-shared-slice-read-not-allowed c = omega arith
-
-not-allowed-requires : tie.Need-not-allowed-requires Inv-loop μ-loop
-not-allowed-requires c κs = search needs
-
 returns : tie.Need-returns Inv-loop μ-loop
 unfolding letters
 returns c =
-    let a = c .before .before .before .before in
+    let a : tie.At-loop Inv-loop μ-loop = search needs in
     found notAllowed _ 0 (a .loop .i) (a .loop .inv) (omega arith) (sym (c .before .not-allowed .ensures) ∙ c .if1 .taken)
-
-add-i : tie.Need-add-i Inv-loop μ-loop
-add-i c = omega arith
-
-loop-less : tie.Need-loop-less Inv-loop μ-loop
-loop-less c = omega arith
 
 loop-again : tie.Need-loop-again Inv-loop μ-loop
 loop-again c =
-    let a = c .before .before .before .before in
+    let a : tie.At-loop Inv-loop μ-loop = search needs in
     passed-more notAllowed _ 0 (a .loop .i) (a .loop .inv) (omega arith) (sym (c .before .not-allowed .ensures) ∙ c .if1 .left)
 
 returns-2 : tie.Need-returns-2 Inv-loop μ-loop
@@ -46,4 +31,5 @@ unfolding letters
 returns-2 c = missing notAllowed _ 0 (c .before .loop .i) (c .before .loop .inv) (c .loop-test .left)
 
 pub count-letters-spec : {M : Type 1} → statement M
-count-letters-spec = tie.close (tie.spec Inv-loop μ-loop loop-holds shared-slice-read-not-allowed not-allowed-requires returns add-i loop-less loop-again returns-2)
+count-letters-spec = tie.close (tie.spec Inv-loop μ-loop (λ c. passed-none notAllowed _ 0) (omega arith)
+    (λ c κs. search needs) returns (omega arith) (omega arith) loop-again returns-2)

@@ -3,8 +3,5 @@ use Rattle.settings.proofs.Known.{rule-known}
 use Rattle.settings.proofs.is_rule.Statement.{statement}
 use Rattle.settings.proofs.is_rule.Tie as tie
 
-returns : tie.Need-returns
-returns c = rule-known (c .args .n)
-
 pub is-rule-spec : {M : Type 1} → statement M
-is-rule-spec = tie.close (tie.spec returns)
+is-rule-spec = tie.close (tie.spec (λ c. rule-known (c .args .n)))

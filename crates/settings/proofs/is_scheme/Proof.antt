@@ -3,8 +3,5 @@ use Rattle.settings.proofs.Known.{scheme-known}
 use Rattle.settings.proofs.is_scheme.Statement.{statement}
 use Rattle.settings.proofs.is_scheme.Tie as tie
 
-returns : tie.Need-returns
-returns c = scheme-known (c .args .n)
-
 pub is-scheme-spec : {M : Type 1} → statement M
-is-scheme-spec = tie.close (tie.spec returns)
+is-scheme-spec = tie.close (tie.spec (λ c. scheme-known (c .args .n)))

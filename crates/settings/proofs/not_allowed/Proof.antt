@@ -3,8 +3,5 @@ use Rattle.settings.proofs.Known.{not-allowed}
 use Rattle.settings.proofs.not_allowed.Statement.{statement}
 use Rattle.settings.proofs.not_allowed.Tie as tie
 
-returns : tie.Need-returns
-returns c = not-allowed (c .args .c)
-
 pub not-allowed-spec : {M : Type 1} → statement M
-not-allowed-spec = tie.close (tie.spec returns)
+not-allowed-spec = tie.close (tie.spec (λ c. not-allowed (c .args .c)))

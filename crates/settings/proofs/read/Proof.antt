@@ -1,6 +1,5 @@
 -- `settings::read` meets its contract.
-use mathlib.Core.Path.{_∙_, sym, ap}
-use native.Mathlib.Omega.{arith}
+use mathlib.Core.Path.{_∙_, ap}
 use Rattle.text.proofs.Lines.{told-within}
 use Rattle.settings.specs.Settings.{formatName}
 use Rattle.settings.specs.Calls.{answerOf}
@@ -9,20 +8,8 @@ use borrow.Author.Needs.{needs}
 use Rattle.settings.proofs.read.Statement.{statement}
 use Rattle.settings.proofs.read.Tie as tie
 
-slice-aggregate-field : tie.Need-slice-aggregate-field
-slice-aggregate-field c = search needs
-
-field-requires : tie.Need-field-requires
-field-requires c κs = search needs
-
-enum-known-format : tie.Need-enum-known-format
-enum-known-format c = search needs
-
 enum-told : tie.Need-enum-told
 enum-told c = search needs
-
-nothing-requires : tie.Need-nothing-requires
-nothing-requires c κs = search needs
 
 returns : tie.Need-returns
 returns c =
@@ -30,9 +17,6 @@ returns c =
     let f : tie.After-field = search needs in
     let o : tie.After-enum-told = search needs in
     c .nothing .ensures ∙ ap answerOf (format-other (s .args .reader) (s .args .text .now) (f .field .ensures) (o .enum-told .given .1))
-
-nothing-requires-2 : tie.Need-nothing-requires-2
-nothing-requires-2 c κs = search needs
 
 returns-2 : tie.Need-returns-2
 returns-2 c =
@@ -58,16 +42,5 @@ returns-3 c =
     c .scheme-line .ensures ∙ ap answerOf (format-read (s .args .reader) (s .args .text .now) (f .field .ensures) (v .format .given .1) (t .if1 .left))
 
 pub read-spec : {M : Type 1} → statement M
-read-spec =
-    tie.close
-    (tie.spec
-    slice-aggregate-field
-    field-requires
-    enum-known-format
-    enum-told
-    nothing-requires
-    returns
-    nothing-requires-2
-    returns-2
-    scheme-line-requires
-    returns-3)
+read-spec = tie.close (tie.spec (search needs) (λ c κs. search needs) (search needs) enum-told (λ c κs. search needs)
+    returns (λ c κs. search needs) returns-2 scheme-line-requires returns-3)

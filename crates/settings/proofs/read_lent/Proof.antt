@@ -8,18 +8,6 @@ use borrow.Author.Needs.{needs}
 use Rattle.settings.proofs.read_lent.Statement.{statement}
 use Rattle.settings.proofs.read_lent.Tie as tie
 
-zero-bytes-requires : tie.Need-zero-bytes-requires
-zero-bytes-requires c κs = search needs
-
-read-requires : tie.Need-read-requires
-read-requires c κs = search needs
-
-short-requires : tie.Need-short-requires
-short-requires c κs = search needs
-
-same-length : tie.Need-same-length
-same-length c = search needs
-
 returns : tie.Need-returns
 returns c =
     let s : tie.Start = search needs in
@@ -39,23 +27,11 @@ slice-aggregate-copy-bytes c =
     let r : tie.After-read = search needs in
     sym (front-long _ _ (label-fits (s .args .reader) (s .args .text .now) (r .read .ensures)))
 
-slice-relend-prefix-copy-bytes : tie.Need-slice-relend-prefix-copy-bytes
-slice-relend-prefix-copy-bytes c = search needs
-
-slice-aggregate-copy-bytes-2 : tie.Need-slice-aggregate-copy-bytes-2
-slice-aggregate-copy-bytes-2 c = sym (front-long _ _ (omega arith))
-
 copy-bytes-requires : tie.Need-copy-bytes-requires
 copy-bytes-requires c κs =
     let s : tie.Start = search needs in
     let r : tie.After-read = search needs in
     front-long _ _ (label-fits (s .args .reader) (s .args .text .now) (r .read .ensures)) ∙ sym (front-long _ _ (omega arith))
-
-lent-requires : tie.Need-lent-requires
-lent-requires c κs = search needs
-
-same-length-2 : tie.Need-same-length-2
-same-length-2 c = search needs
 
 returns-2 : tie.Need-returns-2
 returns-2 c =
@@ -68,19 +44,6 @@ returns-2 c =
     (l .lent .ensures)
 
 pub read-lent-spec : {M : Type 1} → statement M
-read-lent-spec =
-    tie.close
-    (tie.spec
-    zero-bytes-requires
-    read-requires
-    short-requires
-    same-length
-    returns
-    array-share-prefix-bytes
-    slice-aggregate-copy-bytes
-    slice-relend-prefix-copy-bytes
-    slice-aggregate-copy-bytes-2
-    copy-bytes-requires
-    lent-requires
-    same-length-2
-    returns-2)
+read-lent-spec = tie.close (tie.spec (λ c κs. search needs) (λ c κs. search needs) (λ c κs. search needs) (search needs)
+    returns array-share-prefix-bytes slice-aggregate-copy-bytes (search needs) (λ c. sym (front-long _ _ (omega arith)))
+    copy-bytes-requires (λ c κs. search needs) (search needs) returns-2)

@@ -8,15 +8,6 @@ use borrow.Author.Needs.{needs}
 use Rattle.settings.proofs.write.Statement.{statement}
 use Rattle.settings.proofs.write.Tie as tie
 
-zero-bytes-requires : tie.Need-zero-bytes-requires
-zero-bytes-requires c κs = search needs
-
-write-tests-requires : tie.Need-write-tests-requires
-write-tests-requires c κs = search needs
-
-enum-known-v : tie.Need-enum-known-v
-enum-known-v c = search needs
-
 enum-told : tie.Need-enum-told
 enum-told c = search needs
 
@@ -26,9 +17,6 @@ write-lines-requires c κs =
     let p : tie.After-enum-told = search needs in
     accepted (sym (t .write-tests .ensures) ∙ p .enum-told .given .1) .fits
 
-same-length : tie.Need-same-length
-same-length c = search needs
-
 returns : tie.Need-returns
 returns c =
     let s : tie.Start = search needs in
@@ -37,9 +25,6 @@ returns c =
     let p : tie.After-v = search needs in
     let n = zeros-long (length (s .args .out .now)) 0 (z .zero-bytes .ensures) in
     write-refused (setupOf (s .args .scheme) (s .args .rule) (s .args .label .now)) n (t .write-tests .ensures) (p .v .given .1) (z .zero-bytes .ensures)
-
-same-length-2 : tie.Need-same-length-2
-same-length-2 c = search needs
 
 returns-2 : tie.Need-returns-2
 returns-2 c =
@@ -53,15 +38,5 @@ returns-2 c =
     (p .enum-told .given .1) (z .zero-bytes .ensures) (w .write-lines .ensures)
 
 pub write-spec : {M : Type 1} → statement M
-write-spec =
-    tie.close
-    (tie.spec
-    zero-bytes-requires
-    write-tests-requires
-    enum-known-v
-    enum-told
-    write-lines-requires
-    same-length
-    returns
-    same-length-2
-    returns-2)
+write-spec = tie.close (tie.spec (λ c κs. search needs) (λ c κs. search needs) (search needs) enum-told
+    write-lines-requires (search needs) returns (search needs) returns-2)

@@ -12,9 +12,6 @@ use borrow.Author.Needs.{needs}
 use Rattle.settings.proofs.reader.found.Statement.{statement}
 use Rattle.settings.proofs.reader.found.Tie as tie
 
-array-borrow-prefix-bytes : tie.Need-array-borrow-prefix-bytes
-array-borrow-prefix-bytes c = search needs
-
 slice-aggregate-copy-bytes : tie.Need-slice-aggregate-copy-bytes
 slice-aggregate-copy-bytes c = sym (length-take-le {A = ℕ} (length (c .before .before .args .label .now)) (replicate 16 0) (omega arith))
 
@@ -23,7 +20,7 @@ copy-bytes-requires c κs = sym (length-take-le {A = ℕ} (length (c .before .be
 
 returns : tie.Need-returns
 returns c =
-    let a = c .before .before .before .before in
+    let a : tie.Start = search needs in
     ap {B = ReadAnswer}
     (λ (l : List ℕ). record {
       ending = ending.Read;
@@ -32,6 +29,4 @@ returns c =
     (padded (a .args .label .now) (c .before .copy-bytes .ensures))
 
 pub found-spec : {M : Type 1} → statement M
-found-spec =
-    tie.close
-    (tie.spec array-borrow-prefix-bytes slice-aggregate-copy-bytes copy-bytes-requires returns)
+found-spec = tie.close (tie.spec (search needs) slice-aggregate-copy-bytes copy-bytes-requires returns)

@@ -6,21 +6,6 @@ use borrow.Author.Needs.{needs}
 use Rattle.settings.proofs.reader.last_line.Statement.{statement}
 use Rattle.settings.proofs.reader.last_line.Tie as tie
 
-sub-t : tie.Need-sub-t
-sub-t c = search needs
-
-part-t-start : tie.Need-part-t-start
-part-t-start c = search needs
-
-part-t-end : tie.Need-part-t-end
-part-t-end c = search needs
-
-slice-aggregate-begins-with : tie.Need-slice-aggregate-begins-with
-slice-aggregate-begins-with c = search needs
-
-begins-with-requires : tie.Need-begins-with-requires
-begins-with-requires c κs = search needs
-
 sub-spelled : tie.Need-sub-spelled
 sub-spelled c =
     let s : tie.Start = search needs in
@@ -34,15 +19,6 @@ part-spelled-start c =
     let b : tie.After-begins-with = search needs in
     let t : tie.Then1 = search needs in
     last-room (s .args .scheme) (s .args .rule) (s .args .s .now) (s .args .at) (sym (t .if1 .taken) ∙ b .begins-with .ensures)
-
-part-spelled-end : tie.Need-part-spelled-end
-part-spelled-end c = search needs
-
-spelled-requires : tie.Need-spelled-requires
-spelled-requires c κs = search needs
-
-nothing-requires : tie.Need-nothing-requires
-nothing-requires c κs = search needs
 
 returns : tie.Need-returns
 returns c =
@@ -59,18 +35,5 @@ returns-2 c =
     c .nothing .ensures ∙ ap answerOf (last-misfit (s .args .scheme) (s .args .rule) (s .args .s .now) (s .args .at) (sym (t .if1 .left) ∙ b .begins-with .ensures))
 
 pub last-line-spec : {M : Type 1} → statement M
-last-line-spec =
-    tie.close
-    (tie.spec
-    sub-t
-    part-t-start
-    part-t-end
-    slice-aggregate-begins-with
-    begins-with-requires
-    sub-spelled
-    part-spelled-start
-    part-spelled-end
-    spelled-requires
-    nothing-requires
-    returns
-    returns-2)
+last-line-spec = tie.close (tie.spec (search needs) (search needs) (search needs) (search needs) (λ c κs. search needs)
+    sub-spelled part-spelled-start (search needs) (λ c κs. search needs) (λ c κs. search needs) returns returns-2)

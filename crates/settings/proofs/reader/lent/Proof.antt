@@ -1,5 +1,4 @@
 -- `settings::reader::lent` meets its contract.
-use mathlib.Core.Path.{_≡_, refl}
 use borrow.Author.Needs.{needs}
 use Rattle.settings.proofs.reader.lent.Statement.{statement}
 use Rattle.settings.proofs.reader.lent.Tie as tie
@@ -7,26 +6,13 @@ use Rattle.settings.proofs.reader.lent.Tie as tie
 enum-told : tie.Need-enum-told
 enum-told c = search needs
 
-format-of-requires : tie.Need-format-of-requires
-format-of-requires c κs = search needs
-
-enum-known-e : tie.Need-enum-known-e
-enum-known-e c = search needs
-
-enum-told-2 : tie.Need-enum-told-2
-enum-told-2 c = search needs
-
 returns : tie.Need-returns
 returns c = let f : tie.After-format-of = search needs in
     rw (c .before .enum-told .given .1, f .format-of .ensures)
-
-returns-2 : tie.Need-returns-2
-returns-2 c = rw (c .before .e .given .1)
 
 returns-3 : tie.Need-returns-3
 returns-3 c = let o : tie.After-enum-told2 = search needs in rw (o .enum-told2 .given .1)
 
 pub lent-spec : {M : Type 1} → statement M
-lent-spec =
-    tie.close
-    (tie.spec enum-told format-of-requires enum-known-e enum-told-2 returns returns-2 returns-3)
+lent-spec = tie.close (tie.spec enum-told (λ c κs. search needs) (search needs) (search needs) returns
+    (λ c. rw (c .before .e .given .1)) returns-3)

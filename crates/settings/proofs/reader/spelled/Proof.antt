@@ -10,16 +10,11 @@ use borrow.Author.Needs.{needs}
 use Rattle.settings.proofs.reader.spelled.Statement.{statement}
 use Rattle.settings.proofs.reader.spelled.Tie as tie
 
-count-letters-requires : tie.Need-count-letters-requires
-count-letters-requires c κs = search needs
-
-well-spelled-requires : tie.Need-well-spelled-requires
-well-spelled-requires c κs = search needs
-
 -- the letters lie within the text
 size : (c : tie.Then1)
-    → let n = c .before .before .count-letters .result in
-    (n ≤ 16) × (n ≤ length (c .before .before .before .before .args .s .now))
+    → let s : tie.Start = search needs in
+    let n : tie.After-count-letters = search needs in
+    (n .count-letters .result ≤ 16) × (n .count-letters .result ≤ length (s .args .s .now))
 size c =
     let s : tie.Start = search needs in
     let n : tie.After-count-letters = search needs in
@@ -31,9 +26,6 @@ slice-aggregate-found c = sym (length-take-le _ _ (size (c .before) .1))
 
 found-requires : tie.Need-found-requires
 found-requires c κs = simp length-take (omega (arith, size (c .before) .0))
-
-nothing-requires : tie.Need-nothing-requires
-nothing-requires c κs = search needs
 
 returns : tie.Need-returns
 returns c =
@@ -53,13 +45,5 @@ returns-2 c =
     c .nothing .ensures ∙ ap answerOf (spelled-misfit (s .args .scheme) (s .args .rule) (s .args .s .now) (sym (t .if1 .left) ∙ w .well-spelled .ensures))
 
 pub spelled-spec : {M : Type 1} → statement M
-spelled-spec =
-    tie.close
-    (tie.spec
-    count-letters-requires
-    well-spelled-requires
-    slice-aggregate-found
-    found-requires
-    nothing-requires
-    returns
-    returns-2)
+spelled-spec = tie.close (tie.spec (λ c κs. search needs) (λ c κs. search needs) slice-aggregate-found found-requires
+    (λ c κs. search needs) returns returns-2)

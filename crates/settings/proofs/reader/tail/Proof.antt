@@ -1,5 +1,5 @@
 -- `settings::reader::tail` meets its contract.
-use mathlib.Core.Path.{_∙_, sym, ap}
+use mathlib.Core.Path.{_∙_, ap}
 use native.Mathlib.Omega.{arith}
 use Rattle.settings.specs.Calls.{answerOf}
 use Rattle.settings.proofs.Steps.{tail-two, tail-none, tail-more, tail-end, end-short}
@@ -7,38 +7,20 @@ use borrow.Author.Needs.{needs}
 use Rattle.settings.proofs.reader.tail.Statement.{statement}
 use Rattle.settings.proofs.reader.tail.Tie as tie
 
-last-line-requires : tie.Need-last-line-requires
-last-line-requires c κs = search needs
-
 returns : tie.Need-returns
 returns c =
     let s : tie.Start = search needs in
     c .last-line .ensures ∙ ap answerOf (tail-two (s .args .format) (s .args .scheme) (s .args .rule) (s .args .s .now) (s .args .at) (omega arith))
-
-nothing-requires : tie.Need-nothing-requires
-nothing-requires c κs = search needs
 
 returns-2 : tie.Need-returns-2
 returns-2 c =
     let s : tie.Start = search needs in
     c .nothing .ensures ∙ ap answerOf (tail-none (s .args .format) (s .args .scheme) (s .args .rule) (s .args .s .now) (s .args .at) (λ z. omega arith) (λ z. omega arith))
 
-nothing-requires-2 : tie.Need-nothing-requires-2
-nothing-requires-2 c κs = search needs
-
 returns-3 : tie.Need-returns-3
 returns-3 c =
     let s : tie.Start = search needs in
     c .nothing2 .ensures ∙ ap answerOf (tail-more (s .args .format) (s .args .scheme) (s .args .rule) (s .args .s .now) (s .args .at) (omega arith) (omega arith))
-
-sub-found : tie.Need-sub-found
-sub-found c = search needs
-
-part-found-start : tie.Need-part-found-start
-part-found-start c = search needs
-
-part-found-end : tie.Need-part-found-end
-part-found-end c = search needs
 
 found-requires : tie.Need-found-requires
 found-requires c κs =
@@ -51,17 +33,5 @@ returns-4 c =
     c .found .ensures ∙ ap answerOf (tail-end (s .args .format) (s .args .scheme) (s .args .rule) (s .args .s .now) (s .args .at) (omega arith) (omega arith))
 
 pub tail-spec : {M : Type 1} → statement M
-tail-spec =
-    tie.close
-    (tie.spec
-    last-line-requires
-    returns
-    nothing-requires
-    returns-2
-    nothing-requires-2
-    returns-3
-    sub-found
-    part-found-start
-    part-found-end
-    found-requires
-    returns-4)
+tail-spec = tie.close (tie.spec (λ c κs. search needs) returns (λ c κs. search needs) returns-2 (λ c κs. search needs)
+    returns-3 (search needs) (search needs) (search needs) found-requires returns-4)

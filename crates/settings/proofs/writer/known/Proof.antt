@@ -5,12 +5,6 @@ use borrow.Author.Needs.{needs}
 use Rattle.settings.proofs.writer.known.Statement.{statement}
 use Rattle.settings.proofs.writer.known.Tie as tie
 
-is-scheme-requires : tie.Need-is-scheme-requires
-is-scheme-requires c κs = search needs
-
-is-rule-requires : tie.Need-is-rule-requires
-is-rule-requires c κs = search needs
-
 returns : tie.Need-returns
 returns c =
     let s : tie.Start = search needs in
@@ -32,4 +26,4 @@ returns-3 c =
     known-no-scheme (s .args .scheme) (s .args .rule) (sym (a .is-scheme .ensures) ∙ c .if1 .left)
 
 pub known-spec : {M : Type 1} → statement M
-known-spec = tie.close (tie.spec is-scheme-requires is-rule-requires returns returns-2 returns-3)
+known-spec = tie.close (tie.spec (λ c κs. search needs) (λ c κs. search needs) returns returns-2 returns-3)

@@ -9,17 +9,11 @@ use Rattle.settings.proofs.writer.label_in.Tie as tie
 enum-told : tie.Need-enum-told
 enum-told c = search needs
 
-enum-told-2 : tie.Need-enum-told-2
-enum-told-2 c = search needs
-
 returns : tie.Need-returns
 returns c =
     let s : tie.Start = search needs in
     let p : tie.After-enum-told2 = search needs in
     stays (allowed (s .args .label .now)) (p .enum-told2 .given .1)
-
-count-letters-requires : tie.Need-count-letters-requires
-count-letters-requires c κs = search needs
 
 returns-2 : tie.Need-returns-2
 returns-2 c =
@@ -36,5 +30,4 @@ returns-3 c =
     letters-pass (s .args .label .now) (p .enum-told .given .1) (n .count-letters .ensures) (c .if1 .left)
 
 pub label-in-spec : {M : Type 1} → statement M
-label-in-spec =
-    tie.close (tie.spec enum-told enum-told-2 returns count-letters-requires returns-2 returns-3)
+label-in-spec = tie.close (tie.spec enum-told (search needs) returns (λ c κs. search needs) returns-2 returns-3)

@@ -7,11 +7,8 @@ use Rattle.settings.proofs.writer.size.Tie as tie
 returns : tie.Need-returns
 returns c = rw (eq-eqb (c .before .args .n) 0 (c .if1 .taken))
 
-add-result : tie.Need-add-result
-add-result c = search needs
-
 returns-2 : tie.Need-returns-2
 returns-2 c = rw (ne-eqb (c .before .args .n) 0 (c .if1 .left))
 
 pub size-spec : {M : Type 1} → statement M
-size-spec = tie.close (tie.spec returns add-result returns-2)
+size-spec = tie.close (tie.spec returns (search needs) returns-2)

@@ -9,9 +9,6 @@ use Rattle.settings.proofs.writer.write_label.Tie as tie
 returns : tie.Need-returns
 returns c = let s : tie.Start = search needs in label-none (s .args .label .now) (s .args .out .now) (s .args .at) (omega arith)
 
-slice-aggregate-write-text : tie.Need-slice-aggregate-write-text
-slice-aggregate-write-text c = search needs
-
 write-text-requires : tie.Need-write-text-requires
 write-text-requires c κs =
     let s : tie.Start = search needs in
@@ -25,9 +22,6 @@ write-text-requires-2 c κs =
     let i : tie.After-write-text = search needs in
     left-room (left-next l (i .write-text .ensures))
 
-slice-aggregate-write-text-2 : tie.Need-slice-aggregate-write-text-2
-slice-aggregate-write-text-2 c = search needs
-
 write-text-requires-3 : tie.Need-write-text-requires-3
 write-text-requires-3 c κs =
     let s : tie.Start = search needs in
@@ -35,9 +29,6 @@ write-text-requires-3 c κs =
     let i : tie.After-write-text = search needs in
     let j : tie.After-write-text2 = search needs in
     left-room (left-next (left-next l (i .write-text .ensures)) (j .write-text2 .ensures))
-
-same-length : tie.Need-same-length
-same-length c = search needs
 
 returns-2 : tie.Need-returns-2
 returns-2 c =
@@ -49,14 +40,5 @@ returns-2 c =
     left-none (left-next (left-next (left-next l (i .write-text .ensures)) (j .write-text2 .ensures)) (k .write-text3 .ensures))
 
 pub write-label-spec : {M : Type 1} → statement M
-write-label-spec =
-    tie.close
-    (tie.spec
-    returns
-    slice-aggregate-write-text
-    write-text-requires
-    write-text-requires-2
-    slice-aggregate-write-text-2
-    write-text-requires-3
-    same-length
-    returns-2)
+write-label-spec = tie.close (tie.spec returns (search needs) write-text-requires write-text-requires-2 (search needs)
+    write-text-requires-3 (search needs) returns-2)

@@ -6,21 +6,12 @@ use borrow.Author.Needs.{needs}
 use Rattle.settings.proofs.writer.write_lines.Statement.{statement}
 use Rattle.settings.proofs.writer.write_lines.Tie as tie
 
-slice-aggregate-write-line : tie.Need-slice-aggregate-write-line
-slice-aggregate-write-line c = search needs
-
-format-of-requires : tie.Need-format-of-requires
-format-of-requires c κs = search needs
-
 write-line-requires : tie.Need-write-line-requires
 write-line-requires c κs =
     let s : tie.Start = search needs in
     let f : tie.After-format-of = search needs in
     let l = lines-left (setupOf (s .args .scheme) (s .args .rule) (s .args .label .now)) (s .args .out .now) (f .format-of .ensures) (s .pre) in
     left-room l
-
-slice-aggregate-write-line-2 : tie.Need-slice-aggregate-write-line-2
-slice-aggregate-write-line-2 c = search needs
 
 write-line-requires-2 : tie.Need-write-line-requires-2
 write-line-requires-2 c κs =
@@ -29,9 +20,6 @@ write-line-requires-2 c κs =
     let l = lines-left (setupOf (s .args .scheme) (s .args .rule) (s .args .label .now)) (s .args .out .now) (f .format-of .ensures) (s .pre) in
     let i : tie.After-write-line = search needs in
     left-room (left-next l (i .write-line .ensures))
-
-slice-aggregate-write-line-3 : tie.Need-slice-aggregate-write-line-3
-slice-aggregate-write-line-3 c = search needs
 
 write-line-requires-3 : tie.Need-write-line-requires-3
 write-line-requires-3 c κs =
@@ -51,9 +39,6 @@ write-label-requires c κs =
     let j : tie.After-write-line2 = search needs in
     let k : tie.After-write-line3 = search needs in
     left-room (left-next (left-next (left-next l (i .write-line .ensures)) (j .write-line2 .ensures)) (k .write-line3 .ensures))
-
-same-length : tie.Need-same-length
-same-length c = search needs
 
 -- the places before, one at a time
 abbrev start : tie.After-write-line → tie.Start
@@ -86,16 +71,5 @@ returns c =
     (m .write-label .ensures))
 
 pub write-lines-spec : {M : Type 1} → statement M
-write-lines-spec =
-    tie.close
-    (tie.spec
-    slice-aggregate-write-line
-    format-of-requires
-    write-line-requires
-    slice-aggregate-write-line-2
-    write-line-requires-2
-    slice-aggregate-write-line-3
-    write-line-requires-3
-    write-label-requires
-    same-length
-    returns)
+write-lines-spec = tie.close (tie.spec (search needs) (λ c κs. search needs) write-line-requires (search needs)
+    write-line-requires-2 (search needs) write-line-requires-3 write-label-requires (search needs) returns)

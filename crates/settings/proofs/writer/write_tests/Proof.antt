@@ -5,17 +5,8 @@ use borrow.Author.Needs.{needs}
 use Rattle.settings.proofs.writer.write_tests.Statement.{statement}
 use Rattle.settings.proofs.writer.write_tests.Tie as tie
 
-known-requires : tie.Need-known-requires
-known-requires c κs = search needs
-
-length-up-to-requires : tie.Need-length-up-to-requires
-length-up-to-requires c κs = search needs
-
 enum-told : tie.Need-enum-told
 enum-told c = search needs
-
-enum-told-2 : tie.Need-enum-told-2
-enum-told-2 c = search needs
 
 returns : tie.Need-returns
 returns c =
@@ -33,12 +24,6 @@ size-requires c κs =
     let p : tie.After-enum-told = search needs in
     label-short (setupOf (s .args .scheme) (s .args .rule) (s .args .label .now)) (s .args .room) (k .known .ensures) (l .length-up-to .ensures) (p .enum-told .given .1)
 
-room-for-requires : tie.Need-room-for-requires
-room-for-requires c κs = search needs
-
-label-in-requires : tie.Need-label-in-requires
-label-in-requires c κs = search needs
-
 returns-2 : tie.Need-returns-2
 returns-2 c =
     let s : tie.Start = search needs in
@@ -51,15 +36,5 @@ returns-2 c =
     (p .enum-told .given .1) (n .size .ensures) (r .room-for .ensures) (c .label-in .ensures)
 
 pub write-tests-spec : {M : Type 1} → statement M
-write-tests-spec =
-    tie.close
-    (tie.spec
-    known-requires
-    length-up-to-requires
-    enum-told
-    enum-told-2
-    returns
-    size-requires
-    room-for-requires
-    label-in-requires
-    returns-2)
+write-tests-spec = tie.close (tie.spec (λ c κs. search needs) (λ c κs. search needs) enum-told (search needs) returns
+    size-requires (λ c κs. search needs) (λ c κs. search needs) returns-2)
