@@ -16,9 +16,6 @@ Inv-loop input rate suffix n s₀ j₀ s j = Absorbed rate suffix input s j
 abbrev μ-loop : tie.MeasureT-loop
 μ-loop input rate suffix n s₀ j₀ s j = n - j * rate
 
-loop-holds : tie.Need-loop-holds Inv-loop μ-loop
-loop-holds c = absorb-none _ _ _
-
 xor-block-requires : tie.Need-xor-block-requires Inv-loop μ-loop
 xor-block-requires c κs =
     let b : tie.Start Inv-loop μ-loop = search needs in
@@ -27,14 +24,14 @@ xor-block-requires c κs =
 add-j : tie.Need-add-j Inv-loop μ-loop
 add-j c =
     let b : tie.Start Inv-loop μ-loop = search needs in
-    let l = c .before .before .before .before .loop in
-    record { fits = omega (arith, few-blocks (b .args .rate) (l .j) (length (b .args .input .now)) (b .pre .0 .some) (omega arith)) }
+    let l : tie.At-loop Inv-loop μ-loop = search needs in
+    record { fits = omega (arith, few-blocks (b .args .rate) (l .loop .j) (length (b .args .input .now)) (b .pre .0 .some) (omega arith)) }
 
 loop-again : tie.Need-loop-again Inv-loop μ-loop
 loop-again c =
-    let l = c .before .before .before .before .loop in
+    let l : tie.At-loop Inv-loop μ-loop = search needs in
     let x : tie.After-xor-block Inv-loop μ-loop = search needs in
-    absorb-more (l .inv) (x .xor-block .result) (c .permute .result) (omega arith) (x .xor-block .ensures) (c .permute .ensures)
+    absorb-more (l .loop .inv) (x .xor-block .result) (c .permute .result) (omega arith) (x .xor-block .ensures) (c .permute .ensures)
 
 absorb-rest-requires : tie.Need-absorb-rest-requires Inv-loop μ-loop
 absorb-rest-requires c κs =
@@ -43,31 +40,10 @@ absorb-rest-requires c κs =
 
 returns : tie.Need-returns Inv-loop μ-loop
 returns c =
-    let l = c .before .before .before in
+    let l : tie.At-loop Inv-loop μ-loop = search needs in
     absorb-all (l .loop .inv) (c .absorb-rest .result) (omega arith) (c .absorb-rest .ensures)
 
 pub absorb-spec : {M : Type 1} → statement M
-absorb-spec =
-    tie.close
-    (tie.spec
-    Inv-loop
-    μ-loop
-    loop-holds
-    (λ c. omega arith)
-    (λ c. omega arith)
-    (λ c. omega arith)
-    (λ c. omega arith)
-    (λ c. omega arith)
-    (λ c. omega arith)
-    (λ c. omega arith)
-    xor-block-requires
-    (search needs)
-    add-j
-    (λ c. omega arith)
-    loop-again
-    (λ c. omega arith)
-    (λ c. omega arith)
-    (λ c. omega arith)
-    (λ c. omega arith)
-    absorb-rest-requires
-    returns)
+absorb-spec = tie.close (tie.spec Inv-loop μ-loop (λ c. absorb-none _ _ _) (omega arith) (omega arith) (omega arith)
+    (omega arith) (omega arith) (omega arith) (omega arith) xor-block-requires (search needs) add-j (omega arith)
+    loop-again (omega arith) (omega arith) (omega arith) (omega arith) absorb-rest-requires returns)

@@ -14,9 +14,6 @@ slice-aggregate-copy-bytes c =
     let z : tie.After-zero-bytes = search needs in
     sym (front-fits _ (length (b .args .block .now)) (z .zero-bytes .ensures) (omega arith))
 
-copy-bytes-requires : tie.Need-copy-bytes-requires
-copy-bytes-requires c κs = slice-aggregate-copy-bytes c
-
 same-length : tie.Need-same-length
 same-length c =
     let b : tie.Start = search needs in
@@ -54,20 +51,6 @@ returns-2 c =
     ending-two (b .args .rest .now) (length (b .args .block .now)) (x .copy-bytes .ensures) (z .zero-bytes .ensures) (b .args .suffix) (omega arith)
 
 pub pad-spec : {M : Type 1} → statement M
-pad-spec =
-    tie.close
-    (tie.spec
-    (search needs)
-    (search needs)
-    slice-aggregate-copy-bytes
-    copy-bytes-requires
-    (search needs)
-    (search needs)
-    (search needs)
-    same-length
-    returns
-    (search needs)
-    (search needs)
-    slice-write-block-3
-    same-length-2
-    returns-2)
+pad-spec = tie.close (tie.spec (search needs) (search needs) slice-aggregate-copy-bytes
+    (λ c κs. slice-aggregate-copy-bytes c) (search needs) (search needs) (search needs) same-length returns
+    (search needs) (search needs) slice-write-block-3 same-length-2 returns-2)

@@ -23,18 +23,15 @@ Inv-loop2 out₀ s n lanes i k₀ out k = (length out₀ ≡ n) × Filled (byteA
 abbrev μ-loop2 : tie.MeasureT-loop2
 μ-loop2 out₀ s n lanes i k₀ out k = n - k
 
-loop-holds : tie.Need-loop-holds Inv-loop μ-loop Inv-loop2 μ-loop2
-loop-holds c = (omega arith, rows-start _ _ 8)
-
 store-requires : tie.Need-store-requires Inv-loop μ-loop Inv-loop2 μ-loop2
 store-requires c κs = simp (length-take, length-drop) (omega arith)
 
 loop-again : tie.Need-loop-again Inv-loop μ-loop Inv-loop2 μ-loop2
 loop-again c =
-    let l = c .before .before .before .before .before in
-    let a = l .before .before .args in
+    let s : tie.Start Inv-loop μ-loop Inv-loop2 μ-loop2 = search needs in
+    let l : tie.At-loop Inv-loop μ-loop Inv-loop2 μ-loop2 = search needs in
     let p : tie.After-store Inv-loop μ-loop Inv-loop2 μ-loop2 = search needs in
-    (omega arith, rows-next (l .loop .i) 8 _ (l .loop .inv .1) (omega arith) (p .store .ensures ∙ lane-bytes (a .t1) (l .loop .i)))
+    (omega arith, rows-next (l .loop .i) 8 _ (l .loop .inv .1) (omega arith) (p .store .ensures ∙ lane-bytes (s .args .t1) (l .loop .i)))
 
 loop2-holds : tie.Need-loop2-holds Inv-loop μ-loop Inv-loop2 μ-loop2
 loop2-holds c =
@@ -57,35 +54,7 @@ returns c =
     fill-whole (l .inv .1) (l .inv .0) (omega arith)
 
 pub put-spec : {M : Type 1} → statement M
-put-spec =
-    tie.close
-    (tie.spec
-    Inv-loop
-    μ-loop
-    Inv-loop2
-    μ-loop2
-    loop-holds
-    (λ c. omega arith)
-    (λ c. omega arith)
-    (λ c. omega arith)
-    (λ c. omega arith)
-    (λ c. omega arith)
-    (λ c. omega arith)
-    (λ c. omega arith)
-    store-requires
-    (λ c. omega arith)
-    (λ c. omega arith)
-    loop-again
-    (λ c. omega arith)
-    loop2-holds
-    (λ c. omega arith)
-    (λ c. omega arith)
-    (λ c. omega arith)
-    (λ c. omega arith)
-    (λ c. omega arith)
-    (λ c. omega arith)
-    (λ c. omega arith)
-    (λ c. omega arith)
-    loop2-again
-    same-length
-    returns)
+put-spec = tie.close (tie.spec Inv-loop μ-loop Inv-loop2 μ-loop2 (λ c. (omega arith, rows-start _ _ 8)) (omega arith)
+    (omega arith) (omega arith) (omega arith) (omega arith) (omega arith) (omega arith) store-requires (omega arith)
+    (omega arith) loop-again (omega arith) loop2-holds (omega arith) (omega arith) (omega arith) (omega arith)
+    (omega arith) (omega arith) (omega arith) (omega arith) loop2-again same-length returns)

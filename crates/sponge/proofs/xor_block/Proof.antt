@@ -13,9 +13,6 @@ Inv-loop b t₀ n i₀ t i = (i ≤ n) × Filled (laid t₀ b) t₀ t i
 abbrev μ-loop : tie.MeasureT-loop
 μ-loop b t₀ n i₀ t i = n - i
 
-loop-holds : tie.Need-loop-holds Inv-loop μ-loop
-loop-holds c = (omega arith, fill-start _ _)
-
 load-requires : tie.Need-load-requires Inv-loop μ-loop
 load-requires c κs = simp (length-take, length-drop) (omega arith)
 
@@ -32,23 +29,6 @@ returns c =
     laid-all (a .args .s) (a .args .b .now) (l .loop .inv .1) (omega arith) (omega arith)
 
 pub xor-block-spec : {M : Type 1} → statement M
-xor-block-spec =
-    tie.close
-    (tie.spec
-    Inv-loop
-    μ-loop
-    loop-holds
-    (λ c. omega arith)
-    (λ c. omega arith)
-    (λ c. omega arith)
-    (λ c. omega arith)
-    (λ c. omega arith)
-    load-requires
-    (λ c. omega arith)
-    (λ c. omega arith)
-    (λ c. omega arith)
-    (λ c. omega arith)
-    (λ c. omega arith)
-    (λ c. omega arith)
-    loop-again
-    returns)
+xor-block-spec = tie.close (tie.spec Inv-loop μ-loop (λ c. (omega arith, fill-start _ _)) (omega arith) (omega arith)
+    (omega arith) (omega arith) (omega arith) load-requires (omega arith) (omega arith) (omega arith) (omega arith)
+    (omega arith) (omega arith) loop-again returns)
