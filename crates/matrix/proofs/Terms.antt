@@ -1,5 +1,6 @@
 -- The products that the sums gain: how the parts of the matrices that are lent make up the whole. Row i of a matrix with n columns lies from i n on.
 --   row-in                 a row ends inside
+--   Row, row-of            row i of a list that is filled row by row: it ends inside, and is as it was
 --   column-row             column j is row j of the columns
 --   eight-terms            the sums of SY where Y has 8 columns, by its columns
 --   right-sums             row i of the sums of XS
@@ -19,9 +20,20 @@ use Rattle.lists.proofs.Entries.{tab-at, tab-ext}
 use Rattle.lists.proofs.Parts.{slice-long, slice-at}
 use Rattle.matrix.specs.Steps.{turned, dotTerm, blockTerm, partTerm, blockGained}
 use Rattle.matrix.specs.Words.{gained, rightTerm, leftTerm}
+use Rattle.lists.proofs.Fill.{Filled, fill-rest}
 
 pub row-in : (r n i : ℕ) → i < r → i * n + n ≤ r * n
 row-in r n i h = let m : suc i * n ≤ r * n = mul-le-mul-right n h in omega arith
+
+pub record Row (n i : ℕ) (d out : List ℕ) : Type 0 where
+  pub first : i * n + n ≤ length d
+  pub room : i * n + n ≤ length out
+  pub same : take (i * n + n - i * n) (drop (i * n) out) ≡ take (i * n + n - i * n) (drop (i * n) d)
+
+pub row-of : {f : ℕ → ℕ} {d out : List ℕ} (r n i : ℕ) → Filled f d out (i * n) → r * n ≤ length d → i < r → Row n i d out
+row-of r n i h l p =
+    let e = row-in r n i p in
+    record { first = omega arith; room = omega (arith, h .long); same = ap (take (i * n + n - i * n)) (fill-rest h) }
 
 pub column-row : (f : ℕ → ℕ) (n m j : ℕ) → m ≡ n → tab m (λ t. f (t * 8 + j)) ≡ tab n (λ t. f ((j * n + t) % n * 8 + (j * n + t) / n))
 column-row f n m j e =

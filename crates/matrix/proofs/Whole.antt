@@ -21,7 +21,7 @@ use Rattle.lists.proofs.Same.{equal-all}
 use Rattle.matrix.specs.Matrix.{times, rows, numsAt, intsAt, rightMixed, leftMixed, bare}
 use Rattle.matrix.specs.Fit.{Fit, Shape}
 use Rattle.matrix.specs.Words.{wordsOf, gained, reduced, columnsOf, rightTerm, leftTerm}
-use Rattle.matrix.proofs.Steps.{words-at, mixed}
+use Rattle.matrix.proofs.Steps.{words-at, mixed, steps-are}
 
 pub column-at : (m n : ℕ) (s : List ℤ) (j t : ℕ) → j < 8 → t < n → getD (columnsOf m n s) (j * n + t) 0 ≡ residue m (ints s (t * 8 + j))
 unfolding columnsOf
@@ -76,9 +76,9 @@ right-any m q n r x s e some w some-q h =
     (λ k t p b. product-≅ m some (getD x (k / 8 * n + t) 0) _ _ (column-at m n s (k % 8) t (mod-lt k (omega arith)) b))
 
 pub right-is :
-    (m : ℕ) {q n r : ℕ} {x : List ℕ} {s : List ℤ} → 0 < m → m % q ≡ 0 → (e : List ℤ) {l out : List ℕ} → Fit q n r x s → l ≡ columnsOf m n s → length e ≡ 8 * r →
-    out ≡ reduced q (gained m n (rightTerm n x l) (wordsOf m e)) → out ≡ rightMixed q r n 8 x s e
-right-is m {q} {n} {r} {x} {s} some w e f d h o = o ∙ rw d (right-any m q n r x s e some w (f .some) h)
+    (m : ℕ) {q n r : ℕ} {x : List ℕ} {s : List ℤ} → 0 < m → m % q ≡ 0 → (e : List ℤ) {l u v out : List ℕ} → Fit q n r x s → l ≡ columnsOf m n s → length e ≡ 8 * r →
+    u ≡ wordsOf m e → v ≡ gained m n (rightTerm n x l) u → out ≡ reduced q v → out ≡ rightMixed q r n 8 x s e
+right-is m {q} {n} {r} {x} {s} some w e f d h i g o = steps-are m q n _ e i g o ∙ rw d (right-any m q n r x s e some w (f .some) h)
 
 pub left-any : (m q n c : ℕ) (s : List ℤ) (y : List ℕ) (e : List ℤ) → 0 < m → m % q ≡ 0 → 0 < q → 0 < c → length s ≡ 8 * n → length e ≡ 8 * c
     → reduced q (gained m n (leftTerm n c (wordsOf m s) y) (wordsOf m e)) ≡ leftMixed q n c 8 s y e
@@ -91,9 +91,10 @@ left-any m q n c s y e some w some-q some-c long h =
     ⨾ eq-≅ (*ℤ-comm (pos (getD y (t * c + k % c) 0)) (ints s (k / c * n + t))))
 
 pub left-is :
-    (m : ℕ) {q n c : ℕ} {s : List ℤ} {y : List ℕ} → 0 < m → m % q ≡ 0 → (e : List ℤ) {l out : List ℕ} → Fit q n c y s → l ≡ wordsOf m s → length e ≡ 8 * c →
-    out ≡ reduced q (gained m n (leftTerm n c l y) (wordsOf m e)) → out ≡ leftMixed q n c 8 s y e
-left-is m {q} {n} {c} {s} {y} some w e f d h o = o ∙ rw d (left-any m q n c s y e some w (f .some) (f .rows-many) (f .s-long) h)
+    (m : ℕ) {q n c : ℕ} {s : List ℤ} {y : List ℕ} → 0 < m → m % q ≡ 0 → (e : List ℤ) {l u v out : List ℕ} → Fit q n c y s → l ≡ wordsOf m s → length e ≡ 8 * c →
+    u ≡ wordsOf m e → v ≡ gained m n (leftTerm n c l y) u → out ≡ reduced q v → out ≡ leftMixed q n c 8 s y e
+left-is m {q} {n} {c} {s} {y} some w e f d h i g o =
+    steps-are m q n _ e i g o ∙ rw d (left-any m q n c s y e some w (f .some) (f .rows-many) (f .s-long) h)
 
 pub bare-is : (q n : ℕ) (u : List ℕ) (s : List ℤ) {out : List ℕ} → out ≡ rightMixed q 8 n 8 u s (replicate 64 (pos 0)) → out ≡ bare q n 8 u s
 unfolding rightMixed bare rows intsAt ints

@@ -7,17 +7,18 @@ use lib.Seq.{take-all}
 use Rattle.matrix.proofs.add_block.Statement.{statement}
 use Rattle.matrix.proofs.add_block.Tie as tie
 
-all : (c : tie.Then1) → take 4 (c .before .before .before .before .args .w .now) ≡ c .before .before .before .before .args .w .now
-all c = take-all 4 (c .before .before .before .before .args .w .now) (omega arith)
-
-slice-aggregate-add-rows : tie.Need-slice-aggregate-add-rows
-slice-aggregate-add-rows c = rw (all (c .before)) (omega arith)
+all : (c : tie.Then1) → let s : tie.Start = search needs in take 4 (s .args .w .now) ≡ s .args .w .now
+all c = let s : tie.Start = search needs in take-all 4 (s .args .w .now) (omega arith)
 
 add-rows-requires : tie.Need-add-rows-requires
-add-rows-requires c κs = rw (all (c .before .before)) (c .before .before .before .before .before .before .pre)
+add-rows-requires c κs = let s : tie.Start = search needs in rw (all (c .before .before)) (s .pre)
 
 returns : tie.Need-returns
-returns c = rw (all (c .before .before .before .before .before)) at (c .before .before .add-rows .ensures)
+returns c =
+    let then : tie.Then1 = search needs in
+    let d : tie.After-add-rows = search needs in
+    rw (all then) at (d .add-rows .ensures)
 
 pub add-block-spec : {M : Type 1} → statement M
-add-block-spec = tie.close (tie.spec slice-aggregate-add-rows add-rows-requires (search needs) (search needs) returns (search needs) (λ c. search needs))
+add-block-spec = tie.close (tie.spec (λ c. rw (all (c .before)) (omega arith)) add-rows-requires (search needs)
+    (search needs) returns (search needs) (λ c. search needs))

@@ -10,11 +10,6 @@ use Rattle.matrix.proofs.add_product.Tie as tie
 small : (c : tie.Start) → c .args .x * c .args .w ≤ 65535 * 65535
 small c = mul-le-mul {n₁ = c .args .x} {m₁ = c .args .w} {n₂ = 65535} {m₂ = 65535} (omega arith) (omega arith)
 
-mul-result : tie.Need-mul-result
-mul-result c = record { fits = omega (arith, small c) }
-
-add-result : tie.Need-add-result
-add-result c = record { fits = omega (arith, small c) }
-
 pub add-product-spec : {M : Type 1} → statement M
-add-product-spec = tie.close (tie.spec mul-result add-result (search needs) (search needs))
+add-product-spec = tie.close (tie.spec (λ c. record { fits = omega (arith, small c) })
+    (λ c. record { fits = omega (arith, small c) }) (search needs) (search needs))

@@ -21,8 +21,9 @@ abbrev μ-loop : tie.MeasureT-loop
 μ-loop x n t cols sums₀ j₀ sums j = 8 - j
 
 -- the place in column j
-place : (c : tie.In-loop Inv-loop μ-loop) → let a = c .before .before .before .before .args in c .before .loop .j * a .n + a .t < 8 * a .n
-place c = digits-lt (c .loop-test .taken) (c .before .before .before .before .pre .0)
+place : (c : tie.In-loop Inv-loop μ-loop)
+    → let a : tie.Start Inv-loop μ-loop = search needs in c .before .loop .j * a .args .n + a .args .t < 8 * a .args .n
+place c = let a : tie.Start Inv-loop μ-loop = search needs in digits-lt (c .loop-test .taken) (a .pre .0)
 
 loop-again : tie.Need-loop-again Inv-loop μ-loop
 loop-again c =

@@ -31,9 +31,6 @@ loop-holds c = (omega arith, rows-start _ _ (c .before .args .n))
 inside : (c : tie.In-loop Inv-loop μ-loop) → let n = c .before .before .before .args .n in c .before .loop .j * n + n ≤ length (c .before .loop .cols)
 inside c = omega (arith, row-in 8 (c .before .before .before .args .n) (c .before .loop .j) (c .loop-test .taken), c .before .loop .inv .1 .long)
 
-part-column-end : tie.Need-part-column-end Inv-loop μ-loop
-part-column-end c = inside c
-
 column-requires : tie.Need-column-requires Inv-loop μ-loop
 column-requires c κs =
     let l : tie.At-loop Inv-loop μ-loop = search needs in
@@ -61,5 +58,5 @@ returns c =
 
 pub columns-spec : {M : Type 1} → statement M
 columns-spec = tie.close (tie.spec Inv-loop μ-loop loop-holds (λ c. omega (arith, inside c))
-    (λ c. omega (arith, inside c)) (λ c. omega (arith, inside c)) (omega arith) (search needs) part-column-end
+    (λ c. omega (arith, inside c)) (λ c. omega (arith, inside c)) (omega arith) (search needs) (λ c. inside c)
     column-requires (omega arith) (omega arith) loop-again (λ c. c .before .loop .inv .1 .long) returns)

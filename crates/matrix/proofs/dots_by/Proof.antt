@@ -1,5 +1,4 @@
 -- `matrix::dots_by` meets its contract: each n that it names is n.
-use mathlib.Core.Path.{_≡_}
 use native.Mathlib.Omega.{arith}
 use borrow.Author.Needs.{needs}
 use Rattle.matrix.proofs.Steps.{known}
@@ -7,32 +6,16 @@ use Rattle.matrix.proofs.dots_by.Statement.{statement}
 use Rattle.matrix.proofs.dots_by.Tie as tie
 
 returns : tie.Need-returns
-returns c =
-    let a : tie.Start = search needs in
-    let w : tie.After-dots-on = search needs in
-    let e : a .args .n ≡ 352 = omega arith in
-    known 65536 (a .args .row .now) (a .args .cols .now) (a .args .sums .now) e (w .dots-on .ensures)
+returns c = let w : tie.After-dots-on = search needs in known 65536 _ _ _ (omega arith) (w .dots-on .ensures)
 
 returns-2 : tie.Need-returns-2
-returns-2 c =
-    let a : tie.Start = search needs in
-    let w : tie.After-dots-on2 = search needs in
-    let e : a .args .n ≡ 592 = omega arith in
-    known 65536 (a .args .row .now) (a .args .cols .now) (a .args .sums .now) e (w .dots-on2 .ensures)
+returns-2 c = let w : tie.After-dots-on2 = search needs in known 65536 _ _ _ (omega arith) (w .dots-on2 .ensures)
 
 returns-3 : tie.Need-returns-3
-returns-3 c =
-    let a : tie.Start = search needs in
-    let w : tie.After-dots-on3 = search needs in
-    let e : a .args .n ≡ 752 = omega arith in
-    known 65536 (a .args .row .now) (a .args .cols .now) (a .args .sums .now) e (w .dots-on3 .ensures)
+returns-3 c = let w : tie.After-dots-on3 = search needs in known 65536 _ _ _ (omega arith) (w .dots-on3 .ensures)
 
 returns-4 : tie.Need-returns-4
-returns-4 c =
-    let a : tie.Start = search needs in
-    let w : tie.After-dots-on4 = search needs in
-    let e : a .args .n ≡ 864 = omega arith in
-    known 65536 (a .args .row .now) (a .args .cols .now) (a .args .sums .now) e (w .dots-on4 .ensures)
+returns-4 c = let w : tie.After-dots-on4 = search needs in known 65536 _ _ _ (omega arith) (w .dots-on4 .ensures)
 
 pub dots-by-spec : {M : Type 1} → statement M
 dots-by-spec =

@@ -4,7 +4,7 @@ use native.Mathlib.Omega.{arith}
 use borrow.Author.Needs.{needs}
 use lib.ListN.{length}
 use Rattle.matrix.proofs.Search.{below-wider}
-use Rattle.matrix.proofs.Steps.{words-length, gained-length, steps-are}
+use Rattle.matrix.proofs.Steps.{words-length, gained-length}
 use Rattle.matrix.proofs.Terms.{eight-terms}
 use Rattle.matrix.proofs.Whole.{left-is}
 use Rattle.matrix.proofs.eight_on.Statement.{statement}
@@ -43,9 +43,9 @@ returns c =
     let g = a r .args in
     let f = a r .pre .0 .0 in
     left-is 65536 (omega arith) (f .whole) (g .e .now) f (s r .words .ensures) (a r .pre .0 .1)
-    (steps-are 65536 (g .q) _ _ (g .e .now) (e r .words2 .ensures)
+    (e r .words2 .ensures)
     (eight-terms 65536 (g .n) _ (g .y .now) _ (t r .turn .ensures) (r .add-right .ensures))
-    (d .reduce .ensures))
+    (d .reduce .ensures)
 
 pub eight-on-spec : {M : Type 1} → statement M
 eight-on-spec =

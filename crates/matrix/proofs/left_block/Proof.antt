@@ -10,9 +10,10 @@ use Rattle.matrix.proofs.left_block.Tie as tie
 
 returns : tie.Need-returns
 returns c =
-    let d = c .before .before in
-    let b = d .before .before .before .before .before in
-    let g = b .before .before .before .before .before .before .args in (
+    let d : tie.After-add-left = search needs in
+    let b : tie.After-narrow-below = search needs in
+    let s : tie.Start = search needs in
+    let g = s .args in (
       b .narrow-below .ensures .0,
       λ h.
           on-copy (λ (l : List ℕ). gained 65536 (g .m) (partTerm (g .n) (g .c) (g .t) (g .s .now) l) (g .sums .now)) (b .narrow-below .ensures .1 h)

@@ -1,26 +1,22 @@
 -- `matrix::left_on` meets its contract.
 use native.Mathlib.Omega.{arith}
 use borrow.Author.Needs.{needs}
-use Rattle.matrix.proofs.Steps.{steps-are}
 use Rattle.matrix.proofs.Whole.{fit, left-is}
 use Rattle.matrix.proofs.left_on.Statement.{statement}
 use Rattle.matrix.proofs.left_on.Tie as tie
 
 returns : tie.Need-returns
 returns c =
-    let r = c .before .before in
-    let g = r .before .before .before .before .before .before .before in
-    let e = g .before .before .before .before .before .before in
-    let s = e .before .before .before .before in
-    let a = s .before .before .before .before .before .before .before in
-    let p = a .pre .0 in (
+    let r : tie.After-reduce = search needs in
+    let g : tie.After-left-rows = search needs in
+    let e : tie.After-words2 = search needs in
+    let s : tie.After-words = search needs in
+    let a : tie.Start = search needs in (
       g .left-rows .ensures .0,
-      λ b.
-          left-is 65536 (omega arith) (p .0 .whole) (a .args .e .now) (fit (p .0) b) (s .words .ensures) (p .1)
-          (steps-are 65536 (a .args .q) _ _ (a .args .e .now) (e .words2 .ensures) (g .left-rows .ensures .1 b) (r .reduce .ensures)),
+      λ b. left-is 65536 (omega arith) (a .pre .0 .0 .whole) (a .args .e .now) (fit (a .pre .0 .0) b)
+          (s .words .ensures) (a .pre .0 .1) (e .words2 .ensures) (g .left-rows .ensures .1 b) (r .reduce .ensures),
     )
 
 pub left-on-spec : {M : Type 1} → statement M
-left-on-spec =
-    tie.close
-    (tie.spec (λ c κs. search needs) (λ c κs. search needs) (λ c κs. search needs) (λ c κs. search needs) (search needs) (search needs) (search needs) (search needs) returns)
+left-on-spec = tie.close (tie.spec (λ c κs. search needs) (λ c κs. search needs) (λ c κs. search needs)
+    (λ c κs. search needs) (search needs) (search needs) (search needs) (search needs) returns)

@@ -29,7 +29,7 @@ loop-holds c =
 
 module _ (c : tie.At-loop Inv-loop μ-loop) where
   abbrev a : tie.Start Inv-loop μ-loop
-  a = c .before .before .before .before .before
+  a = search needs
 
   -- the sums are as many as ever
   long : length (c .loop .sums) ≡ 8 * a .args .c
@@ -38,7 +38,7 @@ module _ (c : tie.At-loop Inv-loop μ-loop) where
 -- the block at t
 module _ (c : tie.After-at-most-four Inv-loop μ-loop) where
   abbrev at : tie.At-loop Inv-loop μ-loop
-  at = c .before .before
+  at = search needs
 
   abbrev m : ℕ
   m = c .at-most-four .result
@@ -62,50 +62,26 @@ module _ (c : tie.After-at-most-four Inv-loop μ-loop) where
   part : length (take (m * w) (at .loop .block)) ≡ m * w
   part = length-take-le _ _ room
 
-mul-l : tie.Need-mul-l Inv-loop μ-loop
-mul-l c = omega (arith, room c)
-
-mul-d : tie.Need-mul-d Inv-loop μ-loop
-mul-d c = omega (arith, rows c)
-
-add-left-block : tie.Need-add-left-block Inv-loop μ-loop
-add-left-block c = omega (arith, rows c)
-
-mul-left-block : tie.Need-mul-left-block Inv-loop μ-loop
-mul-left-block c = omega (arith, rows c)
-
-part-left-block-end : tie.Need-part-left-block-end Inv-loop μ-loop
-part-left-block-end c = rows c
-
-slice-relend-prefix-left-block : tie.Need-slice-relend-prefix-left-block Inv-loop μ-loop
-slice-relend-prefix-left-block c = room (c .before)
-
-slice-aggregate-left-block : tie.Need-slice-aggregate-left-block Inv-loop μ-loop
-slice-aggregate-left-block c = sym (part (c .before .before))
-
 left-block-requires : tie.Need-left-block-requires Inv-loop μ-loop
 left-block-requires c κs =
-    let d = c .before .before .before in
+    let d : tie.After-at-most-four Inv-loop μ-loop = search needs in
     let l = at d in
     let p = a l .pre in
     ((p .0 .0, p .0 .1, p .0 .3, inside d, slice-long (l .loop .t * w d) (m d * w d) (y d) (rows d)), (part d, long l))
 
 -- after the block
 abbrev block : tie.After-left-block Inv-loop μ-loop → tie.After-at-most-four Inv-loop μ-loop
-block c = c .before .before .before .before
+block c = search needs
 
 add-result : tie.Need-add-result Inv-loop μ-loop
-add-result c = omega (arith, rows (block (c .before .before .before .before .before)))
-
-same-length : tie.Need-same-length Inv-loop μ-loop
-same-length c = search needs
+add-result c = omega (arith, rows (block (search needs)))
 
 same-length-2 : tie.Need-same-length-2 Inv-loop μ-loop
-same-length-2 c = let l = at (block (c .before .before .before .before .before)) in omega (arith, long l, a l .pre .1 .1)
+same-length-2 c = let l = at (block (search needs)) in omega (arith, long l, a l .pre .1 .1)
 
 returns : tie.Need-returns Inv-loop μ-loop
 returns c =
-    let b = c .before .before .before .before .before in
+    let b : tie.After-left-block Inv-loop μ-loop = search needs in
     let d = block b in
     let l = at d in
     let q = a l .args .q in (
@@ -115,7 +91,7 @@ returns c =
 
 loop-again : tie.Need-loop-again Inv-loop μ-loop
 loop-again c =
-    let b = c .before .before .before .before .before in
+    let b : tie.After-left-block Inv-loop μ-loop = search needs in
     let d = block b in
     let l = at d in
     let g = a l .args in
@@ -126,9 +102,6 @@ loop-again c =
       gained-more 65536 (l .loop .t) (m d) (leftTerm (g .n) (g .c) (g .s .now) (g .y .now)) (g .sums .now) (l .loop .inv .3)
           (part-terms (g .n) (g .c) (l .loop .t) (m d) (g .s .now) (g .y .now) (a l .pre .0 .2) (inside d) (l .loop .sums) (long l) (b .left-block .ensures .1 f)),
     )
-
-same-length-3 : tie.Need-same-length-3 Inv-loop μ-loop
-same-length-3 c = c .before .loop .inv .1
 
 same-length-4 : tie.Need-same-length-4 Inv-loop μ-loop
 same-length-4 c = long (c .before) ∙ sym (a (c .before) .pre .1 .1)
@@ -144,8 +117,8 @@ returns-2 c =
     )
 
 pub left-rows-spec : {M : Type 1} → statement M
-left-rows-spec =
-    tie.close
-    (tie.spec Inv-loop μ-loop loop-holds (λ c. omega arith) (λ c κs. omega arith) mul-l mul-d add-left-block mul-left-block (λ c. omega arith) (λ c. search needs) part-left-block-end
-    slice-relend-prefix-left-block slice-aggregate-left-block left-block-requires add-result same-length same-length-2 returns
-    (λ c. omega arith) (λ c. omega arith) loop-again same-length-3 same-length-4 returns-2)
+left-rows-spec = tie.close (tie.spec Inv-loop μ-loop loop-holds (omega arith) (λ c κs. omega arith)
+    (λ c. omega (arith, room c)) (λ c. omega (arith, rows c)) (λ c. omega (arith, rows c)) (λ c. omega (arith, rows c))
+    (omega arith) (λ c. search needs) (λ c. rows c) (λ c. room (c .before)) (λ c. sym (part (c .before .before)))
+    left-block-requires add-result (search needs) same-length-2 returns (omega arith) (omega arith) loop-again
+    (λ c. c .before .loop .inv .1) same-length-4 returns-2)

@@ -8,20 +8,20 @@ use Rattle.matrix.proofs.mix_left.Statement.{statement}
 use Rattle.matrix.proofs.mix_left.Tie as tie
 
 slice-aggregate-left-on : tie.Need-slice-aggregate-left-on
-slice-aggregate-left-on c = sym (buffer-long (8 * c .before .before .before .args .n) 6912 (omega arith))
+slice-aggregate-left-on c = let a : tie.Start = search needs in sym (buffer-long (8 * a .args .n) 6912 (omega arith))
 
 slice-aggregate-left-on-3 : tie.Need-slice-aggregate-left-on-3
-slice-aggregate-left-on-3 c = sym (buffer-long (8 * c .before .before .before .before .before .args .c) 6920 (omega arith))
+slice-aggregate-left-on-3 c = let a : tie.Start = search needs in sym (buffer-long (8 * a .args .c) 6920 (omega arith))
 
 left-on-requires : tie.Need-left-on-requires
 left-on-requires c κs =
-    let a = c .before .before .before .before .before .before in (
+    let a : tie.Start = search needs in (
       (a .pre .0 .0, a .pre .1, a .pre .0 .1),
       (buffer-long (8 * a .args .n) 6912 (omega arith), omega arith, buffer-long (8 * a .args .c) 6920 (omega arith)),
     )
 
 returns : tie.Need-returns
-returns c = c .before .before .before .before .before .left-on .ensures
+returns c = let w : tie.After-left-on = search needs in w .left-on .ensures
 
 pub mix-left-spec : {M : Type 1} → statement M
 mix-left-spec =

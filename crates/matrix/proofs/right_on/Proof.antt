@@ -1,7 +1,6 @@
 -- `matrix::right_on` meets its contract.
 use native.Mathlib.Omega.{arith}
 use borrow.Author.Needs.{needs}
-use Rattle.matrix.proofs.Steps.{steps-are}
 use Rattle.matrix.proofs.Whole.{fit, right-is}
 use Rattle.matrix.proofs.right_on.Statement.{statement}
 use Rattle.matrix.proofs.right_on.Tie as tie
@@ -12,15 +11,12 @@ returns c =
     let g : tie.After-right-rows = search needs in
     let w : tie.After-words = search needs in
     let k : tie.After-columns = search needs in
-    let a : tie.Start = search needs in
-    let p = a .pre .0 in (
+    let a : tie.Start = search needs in (
       g .right-rows .ensures .0,
-      λ b.
-          right-is 65536 (omega arith) (p .0 .whole) (a .args .e .now) (fit (p .0) b) (k .columns .ensures) (p .1)
-          (steps-are 65536 (a .args .q) _ _ (a .args .e .now) (w .words .ensures) (g .right-rows .ensures .1 b) (d .reduce .ensures)),
+      λ b. right-is 65536 (omega arith) (a .pre .0 .0 .whole) (a .args .e .now) (fit (a .pre .0 .0) b)
+          (k .columns .ensures) (a .pre .0 .1) (w .words .ensures) (g .right-rows .ensures .1 b) (d .reduce .ensures),
     )
 
 pub right-on-spec : {M : Type 1} → statement M
-right-on-spec =
-    tie.close
-    (tie.spec (λ c κs. search needs) (λ c κs. search needs) (λ c κs. search needs) (λ c κs. search needs) (search needs) (search needs) (search needs) (search needs) returns)
+right-on-spec = tie.close (tie.spec (λ c κs. search needs) (λ c κs. search needs) (λ c κs. search needs)
+    (λ c κs. search needs) (search needs) (search needs) (search needs) (search needs) returns)

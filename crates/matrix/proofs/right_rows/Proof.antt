@@ -4,13 +4,13 @@ use mathlib.Core.List.{List}
 use Prim.Native.Nat.{ℕ, _+_, _*_, _-_, _%_, _≤_}
 use native.Mathlib.Omega.{arith}
 use borrow.Author.Needs.{needs}
-use lib.ListN.{length, getD, take, drop}
+use lib.ListN.{length, getD}
 use Rattle.numbers.specs.Sum.{sumℕ}
-use Rattle.lists.proofs.Fill.{Filled, fill-end, rows-start, rows-next, fill-rest}
+use Rattle.lists.proofs.Fill.{Filled, fill-end, rows-start, rows-next}
 use Rattle.lists.proofs.Parts.{slice-long}
 use Rattle.matrix.specs.Words.{gained, rightTerm}
 use Rattle.matrix.proofs.Search.{Clear, clear-start, clear-part, clear-all, part-below, part-place, part-full}
-use Rattle.matrix.proofs.Terms.{row-in, right-sums}
+use Rattle.matrix.proofs.Terms.{row-in, right-sums, Row, row-of}
 use Rattle.matrix.proofs.right_rows.Statement.{statement}
 use Rattle.matrix.proofs.right_rows.Tie as tie
 
@@ -31,48 +31,26 @@ loop-holds c =
 
 module _ (c : tie.In-loop Inv-loop μ-loop) where
   abbrev a : tie.Start Inv-loop μ-loop
-  a = c .before .before .before .before .before .before
+  a = search needs
 
   abbrev i : ℕ
   i = c .before .loop .i
 
-  -- row i ends inside X, and inside the sums
+  -- row i of X, and of the sums
   in-x : i * a .args .n + a .args .n ≤ length (a .args .x .now)
   in-x = rw (a .pre .2) (row-in (a .args .r) (a .args .n) i (c .loop-test .taken))
 
-  first : i * 8 + 8 ≤ length (a .args .sums .now)
-  first = rw (a .pre .5) (omega arith)
-
-  row : i * 8 + 8 ≤ length (c .before .loop .sums)
-  row = rw (c .before .loop .inv .3 .long) first
-
-  -- which is as it was
-  same : take (i * 8 + 8 - i * 8) (drop (i * 8) (c .before .loop .sums)) ≡ take (i * 8 + 8 - i * 8) (drop (i * 8) (a .args .sums .now))
-  same = ap (take (i * 8 + 8 - i * 8)) (fill-rest (c .before .loop .inv .3))
-
-mul-a : tie.Need-mul-a Inv-loop μ-loop
-mul-a c = omega (arith, in-x c)
-
-mul-b : tie.Need-mul-b Inv-loop μ-loop
-mul-b c = omega (arith, row c)
-
-add-right-row : tie.Need-add-right-row Inv-loop μ-loop
-add-right-row c = omega (arith, in-x c)
-
-mul-right-row : tie.Need-mul-right-row Inv-loop μ-loop
-mul-right-row c = omega (arith, in-x c)
-
-part-right-row-end : tie.Need-part-right-row-end Inv-loop μ-loop
-part-right-row-end c = in-x c
+  row : Row 8 i (a .args .sums .now) (c .before .loop .sums)
+  row = row-of (a .args .r) 8 i (c .before .loop .inv .3) (omega (arith, a .pre .5)) (c .loop-test .taken)
 
 add-right-row-2 : tie.Need-add-right-row-2 Inv-loop μ-loop
-add-right-row-2 c = let b : tie.In-loop Inv-loop μ-loop = search needs in omega (arith, row b)
+add-right-row-2 c = let b : tie.In-loop Inv-loop μ-loop = search needs in omega (arith, row b .room)
 
 mul-right-row-2 : tie.Need-mul-right-row-2 Inv-loop μ-loop
-mul-right-row-2 c = let b : tie.In-loop Inv-loop μ-loop = search needs in omega (arith, row b)
+mul-right-row-2 c = let b : tie.In-loop Inv-loop μ-loop = search needs in omega (arith, row b .room)
 
 part-right-row-end-2 : tie.Need-part-right-row-end-2 Inv-loop μ-loop
-part-right-row-end-2 c = let b : tie.In-loop Inv-loop μ-loop = search needs in row b
+part-right-row-end-2 c = let b : tie.In-loop Inv-loop μ-loop = search needs in row b .room
 
 right-row-requires : tie.Need-right-row-requires Inv-loop μ-loop
 right-row-requires c κs =
@@ -80,7 +58,7 @@ right-row-requires c κs =
     let l = b .before .loop in
     let g = a b .args in
     let p = a b .pre in
-    (p .0, p .1, slice-long (i b * g .n) (g .n) (g .x .now) (in-x b), p .3, l .inv .1 ∙ p .4, slice-long (i b * 8) 8 (l .sums) (row b))
+    (p .0, p .1, slice-long (i b * g .n) (g .n) (g .x .now) (in-x b), p .3, l .inv .1 ∙ p .4, slice-long (i b * 8) 8 (l .sums) (row b .room))
 
 -- after row i
 module _ (c : tie.After-right-row Inv-loop μ-loop) where
@@ -95,12 +73,6 @@ module _ (c : tie.After-right-row Inv-loop μ-loop) where
 
 add-result : tie.Need-add-result Inv-loop μ-loop
 add-result c = let w : tie.After-right-row Inv-loop μ-loop = search needs in omega (arith, in-x (at w))
-
-same-length : tie.Need-same-length Inv-loop μ-loop
-same-length c = search needs
-
-same-length-2 : tie.Need-same-length-2 Inv-loop μ-loop
-same-length-2 c = search needs
 
 returns : tie.Need-returns Inv-loop μ-loop
 returns c =
@@ -122,15 +94,9 @@ loop-again c =
       omega arith,
       search needs,
       clear-part (g .q) (x w) (i b * n w) (n w) (l .inv .2) (in-x b) (w .right-row .ensures .0) (c .if1 .left) _ (omega arith),
-      rows-next (i b) 8 _ (l .inv .3) (first b)
-          (right-sums (g .n) (i b) (g .x .now) (g .cols .now) (g .sums .now) _ (first b) (same b) (w .right-row .ensures .1 f)),
+      rows-next (i b) 8 _ (l .inv .3) (row b .first)
+          (right-sums (g .n) (i b) (g .x .now) (g .cols .now) (g .sums .now) _ (row b .first) (row b .same) (w .right-row .ensures .1 f)),
     )
-
-same-length-3 : tie.Need-same-length-3 Inv-loop μ-loop
-same-length-3 c = c .before .loop .inv .1
-
-same-length-4 : tie.Need-same-length-4 Inv-loop μ-loop
-same-length-4 c = c .before .loop .inv .3 .long
 
 returns-2 : tie.Need-returns-2 Inv-loop μ-loop
 unfolding gained
@@ -144,8 +110,8 @@ returns-2 c =
     )
 
 pub right-rows-spec : {M : Type 1} → statement M
-right-rows-spec =
-    tie.close
-    (tie.spec Inv-loop μ-loop loop-holds mul-a mul-b add-right-row mul-right-row (λ c. omega arith) (λ c. search needs) part-right-row-end
-    add-right-row-2 mul-right-row-2 (λ c. omega arith) (λ c. search needs) part-right-row-end-2 right-row-requires
-    add-result same-length same-length-2 returns (λ c. omega arith) (λ c. omega arith) loop-again same-length-3 same-length-4 returns-2)
+right-rows-spec = tie.close (tie.spec Inv-loop μ-loop loop-holds (λ c. omega (arith, in-x c))
+    (λ c. omega (arith, row c .room)) (λ c. omega (arith, in-x c)) (λ c. omega (arith, in-x c)) (omega arith)
+    (λ c. search needs) (λ c. in-x c) add-right-row-2 mul-right-row-2 (omega arith) (λ c. search needs)
+    part-right-row-end-2 right-row-requires add-result (search needs) (search needs) returns (omega arith) (omega arith)
+    loop-again (λ c. c .before .loop .inv .1) (λ c. c .before .loop .inv .3 .long) returns-2)

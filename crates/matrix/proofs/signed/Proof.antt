@@ -18,14 +18,9 @@ below : (n : ℕ) → n < 2147483648 → SFits w32 (negsuc 0 -ℤ pos n)
 below zero h = record { sfits = omega arith }
 below (suc n) h = record { sfits = omega arith }
 
-returns : tie.Need-returns
-returns c = λ h. read _ (omega arith)
-
 sub-result : tie.Need-sub-result
 sub-result c = let n = 4294967295 - c .before .args .x in rw (read n (omega arith)) (below n (omega arith))
 
-returns-2 : tie.Need-returns-2
-returns-2 c = λ h. absurd (omega arith)
-
 pub signed-spec : {M : Type 1} → statement M
-signed-spec = tie.close (tie.spec (search needs) returns (search needs) (search needs) sub-result returns-2)
+signed-spec = tie.close (tie.spec (search needs) (λ c. λ h. read _ (omega arith)) (search needs) (search needs)
+    sub-result (λ c. λ h. absurd (omega arith)))

@@ -17,10 +17,6 @@ Inv-loop start w y c j sum₀ u₀ sum u = (u ≤ length w) × (sum ≡ (start +
 abbrev μ-loop : tie.MeasureT-loop
 μ-loop start w y c j sum₀ u₀ sum u = length w - u
 
-loop-holds : tie.Need-loop-holds Inv-loop μ-loop
-unfolding sum
-loop-holds c = (omega arith, omega arith)
-
 mul-number-at : tie.Need-mul-number-at Inv-loop μ-loop
 mul-number-at c = let start₀ : tie.Start Inv-loop μ-loop = search needs in omega (arith, mul-le-mul-right (start₀ .args .c) (c .loop-test .taken))
 
@@ -48,5 +44,5 @@ returns c =
     c .before .loop .inv .1 ∙ ap (λ (u : ℕ). (a .start + sumℕ u (blockTerm (a .c) (a .w .now) (a .y .now) (a .j))) % 65536) (omega arith)
 
 pub weigh-spec : {M : Type 1} → statement M
-weigh-spec = tie.close (tie.spec Inv-loop μ-loop loop-holds mul-number-at number-at-requires (omega arith) (omega arith)
-    (search needs) (omega arith) (omega arith) loop-again returns)
+weigh-spec = tie.close (tie.spec Inv-loop μ-loop (λ c. unfold sum in (omega arith, omega arith)) mul-number-at
+    number-at-requires (omega arith) (omega arith) (search needs) (omega arith) (omega arith) loop-again returns)
