@@ -3,8 +3,9 @@
 --   few, many, unended, formed             the tests of `wellSpelled`, the first three failing
 --   spelled-size, spelled-setup, spelled-misfit, last-room, last-spelled, last-misfit   the label's line
 --   tail-two, tail-none, tail-more, tail-end, end-short   what stands behind the rule
+--   within                                 a number that was read ends within the text
 --   rule-other, rule-read, rule-bad, scheme-.., format-..   the lines, where they are other text, read, or bad
-use mathlib.Core.Path.{_≡_, refl, _∙_, sym, ap}
+use mathlib.Core.Path.{_≡_, refl, _∙_, sym, ap, subst}
 use mathlib.Core.Bool.{Bool, true, false, _&&_}
 use mathlib.Core.List.{List, [], _∷_, _++_}
 use Prim.Native.Nat.{ℕ, suc, _+_, _-_, _≤_, _<_}
@@ -17,8 +18,8 @@ use borrow.Author.Tests.{leb-true, eqb-true, le-leb, lt-leb, lt-ltb, le-ltb, ne-
 use Rattle.lists.specs.First.{both}
 use Rattle.lists.proofs.Table.{both-true}
 use Rattle.lists.proofs.Parts.{part, to-end, drop-same}
-use Rattle.text.specs.Text.{LF, schemeName, begins, fieldIn}
-use Rattle.text.specs.Steps.{Reads, labelIn}
+use Rattle.text.specs.Text.{LF, schemeName, begins, fieldIn, Read}
+use Rattle.text.specs.Steps.{Reads, labelIn, behind}
 use Rattle.text.specs.declared.Found.{Found}
 use Rattle.text.specs.declared.Found.the-variants as found
 use Rattle.text.proofs.Reading.{begins-is}
@@ -119,6 +120,9 @@ pub end-short : (s : List ℕ) (at : ℕ) → length s ≤ at → length (part s
 end-short s at l = omega (arith, ap length (to-end s at), length-drop at s)
 
 -- ---- the lines
+
+pub within : {s : List ℕ} {g : Found} {x : Read} {n k : ℕ} → Reads s g x → g ≡ found.Number n k → k ≤ length s
+within {s} r e = subst (λ (g : Found). behind g ≤ length s) e (r .within)
 
 abbrev pub rule= : List ℕ
 rule= = ruleName ++ 61 ∷ []

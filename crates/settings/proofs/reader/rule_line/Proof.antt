@@ -1,11 +1,9 @@
 -- `settings::reader::rule_line` meets its contract.
 use mathlib.Core.Path.{_∙_, sym}
 use native.Mathlib.Omega.{arith}
-use Rattle.text.proofs.Lines.{told-within}
-use Rattle.settings.specs.Settings.{ruleName}
 use Rattle.settings.specs.Calls.{answerOf}
 use Rattle.settings.proofs.Known.{rule-small}
-use Rattle.settings.proofs.Steps.{rule-other, rule-read, rule-bad}
+use Rattle.settings.proofs.Steps.{rule-other, rule-read, rule-bad, within}
 use borrow.Author.Needs.{needs}
 use Rattle.settings.proofs.reader.rule_line.Statement.{statement}
 use Rattle.settings.proofs.reader.rule_line.Tie as tie
@@ -22,13 +20,6 @@ cast-tail c =
     let t : tie.Then1 = search needs in
     omega (arith, rule-small _ (sym (k .is-rule .ensures) ∙ t .if1 .taken))
 
-tail-requires : tie.Need-tail-requires
-tail-requires c κs =
-    let s : tie.Start = search needs in
-    let f : tie.After-field = search needs in
-    let v : tie.After-rule = search needs in
-    told-within ruleName (s .args .s .now) (s .args .at) (f .field .ensures) (v .rule .given .1)
-
 returns-2 : tie.Need-returns-2
 returns-2 c = search (needs, rule-read)
 
@@ -37,5 +28,5 @@ returns-3 c = search (needs, rule-bad)
 
 pub rule-line-spec : {M : Type 1} → statement M
 rule-line-spec = tie.close (tie.spec (search needs) (λ c κs. search needs) (search needs) enum-told
-    (λ c κs. search needs) returns (λ c κs. search needs) cast-tail tail-requires (λ c κs. search needs) returns-2
-    returns-3)
+    (λ c κs. search needs) returns (λ c κs. search needs) cast-tail (λ c κs. search (needs, within))
+    (λ c κs. search needs) returns-2 returns-3)

@@ -1,11 +1,9 @@
 -- `settings::reader::scheme_line` meets its contract.
 use mathlib.Core.Path.{_∙_, sym}
 use native.Mathlib.Omega.{arith}
-use Rattle.text.specs.Text.{schemeName}
-use Rattle.text.proofs.Lines.{told-within}
 use Rattle.settings.specs.Calls.{answerOf}
 use Rattle.settings.proofs.Known.{scheme-small}
-use Rattle.settings.proofs.Steps.{scheme-other, scheme-read, scheme-bad}
+use Rattle.settings.proofs.Steps.{scheme-other, scheme-read, scheme-bad, within}
 use borrow.Author.Needs.{needs}
 use Rattle.settings.proofs.reader.scheme_line.Statement.{statement}
 use Rattle.settings.proofs.reader.scheme_line.Tie as tie
@@ -22,13 +20,6 @@ cast-rule-line c =
     let t : tie.Then1 = search needs in
     omega (arith, scheme-small _ (sym (k .is-scheme .ensures) ∙ t .if1 .taken))
 
-rule-line-requires : tie.Need-rule-line-requires
-rule-line-requires c κs =
-    let s : tie.Start = search needs in
-    let f : tie.After-field = search needs in
-    let v : tie.After-scheme = search needs in
-    told-within schemeName (s .args .s .now) (s .args .at) (f .field .ensures) (v .scheme .given .1)
-
 returns-2 : tie.Need-returns-2
 returns-2 c = search (needs, scheme-read)
 
@@ -37,5 +28,5 @@ returns-3 c = search (needs, scheme-bad)
 
 pub scheme-line-spec : {M : Type 1} → statement M
 scheme-line-spec = tie.close (tie.spec (search needs) (λ c κs. search needs) (search needs) enum-told
-    (λ c κs. search needs) returns (λ c κs. search needs) cast-rule-line rule-line-requires (λ c κs. search needs)
-    returns-2 returns-3)
+    (λ c κs. search needs) returns (λ c κs. search needs) cast-rule-line (λ c κs. search (needs, within))
+    (λ c κs. search needs) returns-2 returns-3)
