@@ -11,49 +11,32 @@ use borrow.Author.Needs.{needs}
 use Rattle.line.proofs.write.Statement.{statement}
 use Rattle.line.proofs.write.Tie as tie
 
-enum-known-v : tie.Need-enum-known-v
-enum-known-v c = search needs
-
 write-shown-requires : tie.Need-write-shown-requires
-write-shown-requires c κs = let v = c .before .before in omega (arith, v .before .before .before .pre, ap (λ r. length (textOf r)) (v .v .given .1))
-
-enum-known-v-2 : tie.Need-enum-known-v-2
-enum-known-v-2 c = search needs
-
-slice-aggregate-write-line : tie.Need-slice-aggregate-write-line
-slice-aggregate-write-line c = search needs
-
-cast-write-line : tie.Need-cast-write-line
-cast-write-line c = search needs
+write-shown-requires c κs =
+    let s : tie.Start = search needs in
+    let v : tie.After-v = search needs in
+    omega (arith, s .pre, ap (λ r. length (textOf r)) (v .v .given .1))
 
 write-line-requires : tie.Need-write-line-requires
 unfolding refusal line labelled
-write-line-requires c κs = let v = c .before .before .before in omega (arith, v .before .before .before .pre, ap (λ r. length (textOf r)) (v .v2 .given .1))
-
-same-length : tie.Need-same-length
-same-length c = search needs
+write-line-requires c κs =
+    let s : tie.Start = search needs in
+    let v : tie.After-v2 = search needs in
+    omega (arith, s .pre, ap (λ r. length (textOf r)) (v .v2 .given .1))
 
 returns : tie.Need-returns
-returns c = let w = c .before .before in written-as (ap textOf (w .before .before .before .v .given .1)) (w .write-shown .ensures)
-
-same-length-2 : tie.Need-same-length-2
-same-length-2 c = search needs
+returns c =
+    let v : tie.After-v = search needs in
+    let w : tie.After-write-shown = search needs in
+    written-as (ap textOf (v .v .given .1)) (w .write-shown .ensures)
 
 returns-2 : tie.Need-returns-2
 unfolding refusal line labelled
-returns-2 c = let w = c .before .before in written-as (ap textOf (w .before .before .before .before .v2 .given .1)) (w .write-line .ensures)
+returns-2 c =
+    let v : tie.After-v2 = search needs in
+    let w : tie.After-write-line = search needs in
+    written-as (ap textOf (v .v2 .given .1)) (w .write-line .ensures)
 
 pub write-spec : {M : Type 1} → statement M
-write-spec =
-    tie.close
-    (tie.spec
-    enum-known-v
-    write-shown-requires
-    enum-known-v-2
-    slice-aggregate-write-line
-    cast-write-line
-    write-line-requires
-    same-length
-    returns
-    same-length-2
-    returns-2)
+write-spec = tie.close (tie.spec (search needs) write-shown-requires (search needs) (search needs) (search needs)
+    write-line-requires (search needs) returns (search needs) returns-2)

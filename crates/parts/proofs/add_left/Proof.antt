@@ -34,7 +34,7 @@ module _ (c : tie.In-loop Inv-loop μ-loop) where
   at = c .before
 
   abbrev a : tie.Start Inv-loop μ-loop
-  a = c .before .before .before .before .before .before
+  a = search needs
 
   abbrev t : ℕ
   t = at .loop .t
@@ -53,18 +53,6 @@ module _ (c : tie.In-loop Inv-loop μ-loop) where
   -- their words are as many as the block has room for
   block-long : {l : List ℕ} → l ≡ words (take (t * a .args .h + 4 * a .args .h - t * a .args .h) (drop (t * a .args .h) (a .args .x .now))) → length l ≡ 4 * a .args .n
   block-long e = slice-words-long (t * a .args .h) (4 * a .args .h) (a .args .x .now) rows e ∙ omega (arith, a .pre .1)
-
-mul-a : tie.Need-mul-a Inv-loop μ-loop
-mul-a c = omega (arith, rows c)
-
-add-unpair : tie.Need-add-unpair Inv-loop μ-loop
-add-unpair c = omega (arith, rows c)
-
-mul-unpair : tie.Need-mul-unpair Inv-loop μ-loop
-mul-unpair c = omega (arith, rows c)
-
-part-unpair-end : tie.Need-part-unpair-end Inv-loop μ-loop
-part-unpair-end c = rows c
 
 unpair-requires : tie.Need-unpair-requires Inv-loop μ-loop
 unpair-requires c κs =
@@ -91,9 +79,6 @@ loop-again c =
           (one-block 65536 (g .n) (g .h) (g .w) (t b) 4 (g .s .now) (g .x .now) (at b .loop .sums) (a b .pre .0) (a b .pre .1) (u .unpair .ensures) (d .add-left .ensures)),
     )
 
-same-length : tie.Need-same-length Inv-loop μ-loop
-same-length c = c .before .loop .inv .2
-
 same-length-2 : tie.Need-same-length-2 Inv-loop μ-loop
 same-length-2 c = ap length (c .before .loop .inv .3) ∙ gained-length _ _ _ _
 
@@ -106,7 +91,7 @@ returns c =
     l .inv .3 ∙ ap (λ (t : ℕ). gained 65536 t (partTerm (g .w) (g .n) 0 (g .s .now) (words (g .x .now))) (g .sums .now)) k
 
 pub add-left-spec : {M : Type 1} → statement M
-add-left-spec =
-    tie.close
-    (tie.spec Inv-loop μ-loop mul-l loop-holds mul-a add-unpair mul-unpair (λ c. omega arith) (search needs) part-unpair-end unpair-requires add-left-requires
-    (λ c. let b : tie.In-loop Inv-loop μ-loop = search needs in omega (arith, inside b)) (λ c. omega arith) loop-again same-length same-length-2 returns)
+add-left-spec = tie.close (tie.spec Inv-loop μ-loop mul-l loop-holds (λ c. omega (arith, rows c))
+    (λ c. omega (arith, rows c)) (λ c. omega (arith, rows c)) (omega arith) (search needs) (λ c. rows c) unpair-requires
+    add-left-requires (λ c. let b : tie.In-loop Inv-loop μ-loop = search needs in omega (arith, inside b)) (omega arith)
+    loop-again (λ c. c .before .loop .inv .2) same-length-2 returns)

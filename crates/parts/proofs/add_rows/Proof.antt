@@ -25,12 +25,9 @@ Inv-loop n h r x cols line₀ sums₀ i₀ line sums i = (i ≤ r) × (length li
 abbrev μ-loop : tie.MeasureT-loop
 μ-loop n h r x cols line₀ sums₀ i₀ line sums i = r - i
 
-loop-holds : tie.Need-loop-holds Inv-loop μ-loop
-loop-holds c = (omega arith, refl, rows-start _ _ 8)
-
 module _ (c : tie.In-loop Inv-loop μ-loop) where
   abbrev a : tie.Start Inv-loop μ-loop
-  a = c .before .before .before .before .before .before
+  a = search needs
 
   abbrev i : ℕ
   i = c .before .loop .i
@@ -52,21 +49,6 @@ module _ (c : tie.In-loop Inv-loop μ-loop) where
   -- its words are as many as the line has room for
   line-long : {l : List ℕ} → l ≡ words (take (i * a .args .h + a .args .h - i * a .args .h) (drop (i * a .args .h) (a .args .x .now))) → length l ≡ a .args .n
   line-long e = slice-words-long (i * a .args .h) (a .args .h) (a .args .x .now) in-x e ∙ sym (a .pre .0)
-
-mul-a : tie.Need-mul-a Inv-loop μ-loop
-mul-a c = omega (arith, in-x c)
-
-mul-b : tie.Need-mul-b Inv-loop μ-loop
-mul-b c = omega (arith, row c)
-
-add-unpair : tie.Need-add-unpair Inv-loop μ-loop
-add-unpair c = omega (arith, in-x c)
-
-mul-unpair : tie.Need-mul-unpair Inv-loop μ-loop
-mul-unpair c = omega (arith, in-x c)
-
-part-unpair-end : tie.Need-part-unpair-end Inv-loop μ-loop
-part-unpair-end c = in-x c
 
 unpair-requires : tie.Need-unpair-requires Inv-loop μ-loop
 unpair-requires c κs =
@@ -105,12 +87,6 @@ loop-again c =
           (one-row (g .n) (g .h) (i b) (g .x .now) (g .cols .now) (g .sums .now) _ _ (a b .pre .0) (first b) (same b) (w .unpair .ensures) (d .add-right .ensures)),
     )
 
-same-length : tie.Need-same-length Inv-loop μ-loop
-same-length c = c .before .loop .inv .1
-
-same-length-2 : tie.Need-same-length-2 Inv-loop μ-loop
-same-length-2 c = c .before .loop .inv .2 .long
-
 returns : tie.Need-returns Inv-loop μ-loop
 unfolding gained
 returns c =
@@ -120,6 +96,8 @@ returns c =
     fill-end (l .inv .2) (rw (k, s .pre .4) (omega arith))
 
 pub add-rows-spec : {M : Type 1} → statement M
-add-rows-spec =
-    tie.close
-    (tie.spec Inv-loop μ-loop loop-holds mul-a mul-b add-unpair mul-unpair (λ c. omega arith) (search needs) part-unpair-end unpair-requires add-add-right mul-add-right (λ c. omega arith) (search needs) part-add-right-end add-right-requires (λ c. omega arith) (λ c. omega arith) loop-again same-length same-length-2 returns)
+add-rows-spec = tie.close (tie.spec Inv-loop μ-loop (λ c. (omega arith, refl, rows-start _ _ 8))
+    (λ c. omega (arith, in-x c)) (λ c. omega (arith, row c)) (λ c. omega (arith, in-x c)) (λ c. omega (arith, in-x c))
+    (omega arith) (search needs) (λ c. in-x c) unpair-requires add-add-right mul-add-right (omega arith) (search needs)
+    part-add-right-end add-right-requires (omega arith) (omega arith) loop-again (λ c. c .before .loop .inv .1)
+    (λ c. c .before .loop .inv .2 .long) returns)

@@ -1,7 +1,7 @@
 -- `parts::pair_numbers` meets its contract: it fills with numbers of two words each.
 use mathlib.Core.Path.{refl, _∙_, ap}
 use mathlib.Core.List.{List}
-use Prim.Native.Nat.{ℕ, _+_, _*_, _-_, _/_, _<_}
+use Prim.Native.Nat.{ℕ, _+_, _*_, _-_, _<_}
 use native.Mathlib.Omega.{arith}
 use borrow.Author.Needs.{needs}
 use lib.ListN.{length, getD, length-set}
@@ -19,9 +19,6 @@ Inv-loop xs out₀ i₀ out i = Filled (from xs) out₀ out i
 
 abbrev μ-loop : tie.MeasureT-loop
 μ-loop xs out₀ i₀ out i = length out - i
-
-loop-holds : tie.Need-loop-holds Inv-loop μ-loop
-loop-holds c = fill-start _ _
 
 -- numbers of 16 bits
 module _ (c : tie.In-loop Inv-loop μ-loop) where
@@ -46,22 +43,17 @@ mul-out-5 c = let l : tie.In-loop Inv-loop μ-loop = search needs in record { fi
 add-out-2 : tie.Need-add-out-2 Inv-loop μ-loop
 add-out-2 c = let l : tie.In-loop Inv-loop μ-loop = search needs in record { fits = omega (arith, lower l, upper l) }
 
-loop-less : tie.Need-loop-less Inv-loop μ-loop
-loop-less c = simp length-set (omega arith)
-
 loop-again : tie.Need-loop-again Inv-loop μ-loop
-loop-again c = fill-next _ (c .before .before .before .loop .inv) (omega arith) refl
-
-same-length : tie.Need-same-length Inv-loop μ-loop
-same-length c = c .before .loop .inv .long
+loop-again c = let at-loop : tie.At-loop Inv-loop μ-loop = search needs in fill-next _ (at-loop .loop .inv) (omega arith) refl
 
 returns : tie.Need-returns Inv-loop μ-loop
 unfolding pairs
 returns c =
-    let a = c .before .before in
+    let a : tie.Start Inv-loop μ-loop = search needs in
     fill-end (c .before .loop .inv) (omega arith) ∙ ap (λ (n : ℕ). tab n (from (a .args .xs .now))) (omega (arith, a .pre .0))
 
 pub pair-numbers-spec : {M : Type 1} → statement M
-pair-numbers-spec =
-    tie.close
-    (tie.spec Inv-loop μ-loop loop-holds (search needs) (search needs) (search needs) (search needs) (search needs) (search needs) (search needs) mul-out-5 add-out-2 (search needs) (search needs) (search needs) loop-less loop-again same-length returns)
+pair-numbers-spec = tie.close (tie.spec Inv-loop μ-loop (λ c. fill-start _ _) (search needs) (search needs)
+    (search needs) (search needs) (search needs) (search needs) (search needs) mul-out-5 add-out-2 (search needs)
+    (search needs) (search needs) (λ c. simp length-set (omega arith)) loop-again (λ c. c .before .loop .inv .long)
+    returns)

@@ -47,9 +47,6 @@ abbrev μ-loop : tie.MeasureT-loop
 loop-holds : tie.Need-loop-holds Inv-loop μ-loop
 loop-holds c = let a : tie.Start Inv-loop μ-loop = search needs in (omega arith, refl, paste-zero (words (a .args .out .now)) (a .args .at) (a .args .ws .now))
 
-add-put-word : tie.Need-add-put-word Inv-loop μ-loop
-add-put-word c = omega arith
-
 put-word-requires : tie.Need-put-word-requires Inv-loop μ-loop
 put-word-requires c κs =
     let l : tie.In-loop Inv-loop μ-loop = search needs in
@@ -66,9 +63,6 @@ loop-again c =
     let e = put-next (words (g .out .now)) (g .at) (g .ws .now) (b .k) (b .inv .2) (omega (arith, words-long (g .out .now))) (l .loop-test .taken) (d .put-word .ensures) in
     (omega arith, lasting (g .at) (g .ws .now) (b .k + 1) _ _ e (omega arith) (omega (arith, words-long (g .out .now))), e)
 
-same-length : tie.Need-same-length Inv-loop μ-loop
-same-length c = c .before .loop .inv .1
-
 returns : tie.Need-returns Inv-loop μ-loop
 returns c =
     let a : tie.Start Inv-loop μ-loop = search needs in
@@ -78,6 +72,5 @@ returns c =
     put-all (words (g .out .now)) (g .at) (g .ws .now) (l .inv .2 ∙ ap (paste (words (g .out .now)) (g .at) (g .ws .now)) e)
 
 pub put-each-spec : {M : Type 1} → statement M
-put-each-spec =
-    tie.close
-    (tie.spec Inv-loop μ-loop loop-holds add-put-word (λ c. omega arith) (λ c. omega arith) put-word-requires (λ c. omega arith) (λ c. omega arith) loop-again same-length returns)
+put-each-spec = tie.close (tie.spec Inv-loop μ-loop loop-holds (omega arith) (omega arith) (omega arith)
+    put-word-requires (omega arith) (omega arith) loop-again (λ c. c .before .loop .inv .1) returns)

@@ -25,12 +25,12 @@ returns c =
     let s : tie.Start = search needs in
     let d : tie.After-pair-numbers = search needs in
     let g = s .args in
+    let t : tie.Then2 = search needs in
     let e : 2 * (g .at / 2) ≡ g .at = omega arith in
-    let even : length (g .ws .now) % 2 ≡ 0 = eqb-true (length (g .ws .now) % 2) 0 (c .before .before .before .before .if2 .taken) in
+    let even : length (g .ws .now) % 2 ≡ 0 = eqb-true (length (g .ws .now) % 2) 0 (t .if2 .taken) in
     put-whole (g .at / 2) (length (g .ws .now) / 2) (g .out .now) (g .ws .now) (omega (arith, even)) (s .pre .1) (d .pair-numbers .ensures)
     ∙ ap (λ (k : ℕ). pairs (take k (words (g .out .now)) ++ (g .ws .now ++ drop (k + length (g .ws .now)) (words (g .out .now))))) e
 
 pub put-words-spec : {M : Type 1} → statement M
-put-words-spec =
-    tie.close
-    (tie.spec (search needs) (search needs) (search needs) (search needs) (search needs) pair-numbers-requires (λ c κs. search needs) (search needs) returns (search needs) (λ c. search needs))
+put-words-spec = tie.close (tie.spec (search needs) (search needs) (search needs) (search needs) (search needs)
+    pair-numbers-requires (λ c κs. search needs) (search needs) returns (search needs) (λ c. search needs))

@@ -28,7 +28,7 @@ loop-holds c = let a : tie.Start Inv-loop μ-loop = search needs in (omega arith
 
 module _ (c : tie.In-loop Inv-loop μ-loop) where
   abbrev a : tie.Start Inv-loop μ-loop
-  a = c .before .before .before .before
+  a = search needs
 
   abbrev k : ℕ
   k = c .before .loop .k
@@ -50,33 +50,6 @@ module _ (c : tie.In-loop Inv-loop μ-loop) where
 mul-w : tie.Need-mul-w Inv-loop μ-loop
 mul-w c = let a : tie.Start Inv-loop μ-loop = search needs in omega (arith, a .pre .3)
 
-mul-a : tie.Need-mul-a Inv-loop μ-loop
-mul-a c = omega (arith, in-secret c)
-
-add-a : tie.Need-add-a Inv-loop μ-loop
-add-a c = omega (arith, in-secret c)
-
-mul-b : tie.Need-mul-b Inv-loop μ-loop
-mul-b c = omega (arith, row c)
-
-add-unpair : tie.Need-add-unpair Inv-loop μ-loop
-add-unpair c = omega (arith, in-secret c)
-
-mul-unpair : tie.Need-mul-unpair Inv-loop μ-loop
-mul-unpair c = omega (arith, in-secret c)
-
-part-unpair-end : tie.Need-part-unpair-end Inv-loop μ-loop
-part-unpair-end c = in-secret c
-
-add-unpair-2 : tie.Need-add-unpair-2 Inv-loop μ-loop
-add-unpair-2 c = omega (arith, row (c .before))
-
-mul-unpair-2 : tie.Need-mul-unpair-2 Inv-loop μ-loop
-mul-unpair-2 c = omega (arith, row (c .before))
-
-part-unpair-end-2 : tie.Need-part-unpair-end-2 Inv-loop μ-loop
-part-unpair-end-2 c = row (c .before)
-
 unpair-requires : tie.Need-unpair-requires Inv-loop μ-loop
 unpair-requires c κs =
     let b : tie.In-loop Inv-loop μ-loop = search needs in
@@ -93,9 +66,6 @@ loop-again c =
       rows-next (k b) (w b) _ (b .before .loop .inv .1) (first b) (columns-row (g .h) (g .r) (g .c) (k b) (g .secret .now) (in-secret b) (u .unpair .ensures)),
     )
 
-same-length : tie.Need-same-length Inv-loop μ-loop
-same-length c = c .before .loop .inv .1 .long
-
 returns : tie.Need-returns Inv-loop μ-loop
 unfolding columnsFrom
 returns c =
@@ -104,6 +74,9 @@ returns c =
     fill-whole (c .before .loop .inv .1) (s .pre .3) (rw e (omega arith))
 
 pub some-columns-spec : {M : Type 1} → statement M
-some-columns-spec =
-    tie.close
-    (tie.spec Inv-loop μ-loop mul-w loop-holds mul-a add-a mul-b add-unpair mul-unpair (λ c. omega arith) (search needs) part-unpair-end add-unpair-2 mul-unpair-2 (λ c. omega arith) (search needs) part-unpair-end-2 unpair-requires (λ c. omega arith) (λ c. omega arith) loop-again same-length returns)
+some-columns-spec = tie.close (tie.spec Inv-loop μ-loop mul-w loop-holds (λ c. omega (arith, in-secret c))
+    (λ c. omega (arith, in-secret c)) (λ c. omega (arith, row c)) (λ c. omega (arith, in-secret c))
+    (λ c. omega (arith, in-secret c)) (omega arith) (search needs) (λ c. in-secret c)
+    (λ c. omega (arith, row (c .before))) (λ c. omega (arith, row (c .before))) (omega arith) (search needs)
+    (λ c. row (c .before)) unpair-requires (omega arith) (omega arith) loop-again (λ c. c .before .loop .inv .1 .long)
+    returns)

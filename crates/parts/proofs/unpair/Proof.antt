@@ -1,5 +1,5 @@
 -- `parts::unpair` meets its contract: it fills with the words, two at a time.
-use mathlib.Core.Path.{_≡_, _∙_, sym, ap, subst}
+use mathlib.Core.Path.{_≡_, _∙_, sym, ap}
 use mathlib.Core.List.{List}
 use Prim.Native.Nat.{ℕ, _+_, _*_, _-_, _≤_}
 use native.Mathlib.Omega.{arith}
@@ -22,9 +22,6 @@ Inv-loop xs out₀ i₀ out i = (i ≤ length xs) × Filled (from xs) out₀ out
 abbrev μ-loop : tie.MeasureT-loop
 μ-loop xs out₀ i₀ out i = length xs - i
 
-loop-holds : tie.Need-loop-holds Inv-loop μ-loop
-loop-holds c = (omega arith, fill-start _ _)
-
 slice-write-out : tie.Need-slice-write-out Inv-loop μ-loop
 slice-write-out c = omega (arith, c .before .before .loop .inv .1 .long)
 
@@ -37,24 +34,22 @@ cast-out-2 c = record { fits = omega (arith, c .shared-slice-known .given (c .be
 
 loop-again : tie.Need-loop-again Inv-loop μ-loop
 loop-again c =
+    let start : tie.Start Inv-loop μ-loop = search needs in
     let l = c .before .before .loop in
-    let a = c .before .before .before .args in
+    let a = start .args in
     let e : 2 * l .i + 1 + 1 ≡ 2 * (l .i + 1) = omega arith in
     let one = fill-next _ (l .inv .1) (omega arith) (sym (words-even (a .xs .now) (l .i))) in
     let two = fill-next _ one (omega arith) (sym (words-odd (a .xs .now) (l .i))) in
     (omega arith, rw e at two)
 
-same-length : tie.Need-same-length Inv-loop μ-loop
-same-length c = c .before .loop .inv .1 .long
-
 returns : tie.Need-returns Inv-loop μ-loop
 returns c =
-    let a = c .before .before in
+    let a : tie.Start Inv-loop μ-loop = search needs in
     fill-end (c .before .loop .inv .1) (omega arith)
     ∙ ap (λ (n : ℕ). tab n (from (a .args .xs .now))) (a .pre ∙ sym (words-long (a .args .xs .now)))
     ∙ tab-getD (words (a .args .xs .now)) 0
 
 pub unpair-spec : {M : Type 1} → statement M
-unpair-spec =
-    tie.close
-    (tie.spec Inv-loop μ-loop loop-holds (search needs) (search needs) (search needs) (search needs) (search needs) slice-write-out cast-out-2 (search needs) (search needs) (search needs) slice-write-out-2 (search needs) (search needs) loop-again same-length returns)
+unpair-spec = tie.close (tie.spec Inv-loop μ-loop (λ c. (omega arith, fill-start _ _)) (search needs) (search needs)
+    (search needs) (search needs) (search needs) slice-write-out cast-out-2 (search needs) (search needs) (search needs)
+    slice-write-out-2 (search needs) (search needs) loop-again (λ c. c .before .loop .inv .1 .long) returns)
