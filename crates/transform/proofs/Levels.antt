@@ -181,7 +181,7 @@ holds-start g xs a e s = rw e (record { small = record { below = λ k. omega (ar
 
 pub five-levels :
     (g : List ℕ) (a m h : ℕ) {x0 x1 x2 x3 x4 x5 : List ℕ} → 16 * m * h ≡ 512 → Holds g a m (2 * (16 * h)) x0 →
-    Joined x0 a (16 * h) 512 x1 → Joined x1 a (8 * h) 512 x2 → Joined x2 a (4 * h) 512 x3 → Joined x3 a (2 * h) 512 x4 → Joined x4 a h 512 x5 →
+    Butterflies x0 a (16 * h) 512 x1 → Butterflies x1 a (8 * h) 512 x2 → Butterflies x2 a (4 * h) 512 x3 → Butterflies x3 a (2 * h) 512 x4 → Butterflies x4 a h 512 x5 →
     Holds g a (2 * (16 * m)) h x5
 five-levels g a m h e had j1 j2 j3 j4 j5 =
     let n1 = next m (16 * h) (8 * h) (2 * m) (omega arith) (omega arith) (omega arith) had j1 in
@@ -190,7 +190,7 @@ five-levels g a m h e had j1 j2 j3 j4 j5 =
     let n4 = next (8 * m) (2 * h) h (16 * m) (omega arith) (omega arith) (omega arith) n3 j4 in
     holds-level g _ a (16 * m) h (omega arith) n4 _ j5
   where
-    next : (m h k n : ℕ) {x y : List ℕ} → m * h ≡ 512 → h ≡ 2 * k → 2 * m ≡ n → Holds g a m (2 * h) x → Joined x a h 512 y → Holds g a n (2 * k) y
+    next : (m h k n : ℕ) {x y : List ℕ} → m * h ≡ 512 → h ≡ 2 * k → 2 * m ≡ n → Holds g a m (2 * h) x → Butterflies x a h 512 y → Holds g a n (2 * k) y
     next m h k n f d w had j = rw (← d, ← w) (holds-level g _ a m h f had _ j)
 
 -- a sum of length 1,024 is the whole
