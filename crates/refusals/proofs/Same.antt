@@ -1,12 +1,16 @@
--- A refusal back from its number and its place.
---   same-refusal   two refusals with the same number and place are the same
-use mathlib.Core.Path.{_≡_, refl}
+-- A refusal and a verdict back from their number and their place.
+--   same-refusal, same-verdict   two refusals with the same number and place are the same; so are two verdicts
+use mathlib.Core.Path.{_≡_, refl, ap}
 use mathlib.Core.Bool.{cond}
 use Prim.Native.Nat.{ℕ}
+use native.Mathlib.Omega.{arith}
 use lib.Dec.{eqb}
-use Rattle.refusals.specs.Refusals.{numberOf, placeOf}
+use Rattle.refusals.specs.Refusals.{numberOf, placeOf, numberIn, placeIn}
 use Rattle.refusals.specs.declared.Refusal.{Refusal}
 use Rattle.refusals.specs.declared.Refusal.the-variants.{NoScheme, BadLength, Short, PublicOver, MessageOver, SecretBeyond, RanOut, Misfit, OutOfStage, OutOfTurn, NoRule, NewerFormat, NoStudio, Blank, NotAscending}
+use Rattle.refusals.specs.declared.Verdict.{Verdict}
+use Rattle.refusals.specs.declared.Verdict.the-variants.{Pass, Fail}
+use Rattle.refusals.proofs.Laws.{some}
 
 refusalBy : ℕ → ℕ → Refusal
 refusalBy k p =
@@ -46,3 +50,9 @@ back (NotAscending k) = refl
 
 pub same-refusal : (a b : Refusal) → numberOf a ≡ numberOf b → placeOf a ≡ placeOf b → a ≡ b
 same-refusal a b e f = cc (back a, back b)
+
+pub same-verdict : (v w : Verdict) → numberIn v ≡ numberIn w → placeIn v ≡ placeIn w → v ≡ w
+same-verdict Pass Pass e f = refl
+same-verdict Pass (Fail s) e f = absurd (omega (arith, some s))
+same-verdict (Fail r) Pass e f = absurd (omega (arith, some r))
+same-verdict (Fail r) (Fail s) e f = ap Fail (same-refusal r s e f)

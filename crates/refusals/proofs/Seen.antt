@@ -6,6 +6,7 @@
 --   shown-passed, shown-failed        a call with one output
 --   shown-restored                    after a refusal, where a part of that output was written before and zeroed again
 --   seen-done, seen-refused           what is seen without a refusal says that the tests have passed; what is seen of a refusal, that the output is zero
+--   same-counts, same-refused, never-both   what an answer's numbers say: of two without a refusal, of two refusals, and of one of each
 --   one, seen-all, told-all           what follows
 use mathlib.Core.Path.{_≡_, refl, sym, _∙_, ap}
 use mathlib.Core.List.{List, _++_, append-nil}
@@ -101,8 +102,18 @@ seen-all A t t′ out out′ e = (
   ap (λ (s : Seen A). s .out .holds) e,
 )
 
+module _ {A : Type 0} where
+  pub same-counts : {n m : A} → done n ≡ done m → n ≡ m
+  same-counts e = ap (λ (t : Told A). t .counts) e
+
+  pub same-refused : (r s : Refusal) {z : A} → refused r z ≡ refused s z → r ≡ s
+  same-refused r s e = same-refusal r s (ap (λ (t : Told A). t .number) e) (ap (λ (t : Told A). t .place) e)
+
+  pub never-both : {X : Type 0} (r : Refusal) {n z : A} → done n ≡ refused r z → X
+  never-both r e = let z : 0 ≡ numberOf r = ap (λ (t : Told A). t .number) e in absurd (omega (arith, some r))
+
 pub told-all : ToldAll
-told-all (Done m) (Done n) e = ap Done (ap (λ (t : Told ℕ). t .counts) e)
-told-all (Done m) (Refused s) e = let n : 0 ≡ numberOf s = ap (λ (t : Told ℕ). t .number) e in absurd (omega (arith, some s))
-told-all (Refused r) (Done n) e = let n : numberOf r ≡ 0 = ap (λ (t : Told ℕ). t .number) e in absurd (omega (arith, some r))
-told-all (Refused r) (Refused s) e = ap Refused (same-refusal r s (ap (λ (t : Told ℕ). t .number) e) (ap (λ (t : Told ℕ). t .place) e))
+told-all (Done m) (Done n) e = ap Done (same-counts e)
+told-all (Done m) (Refused s) e = never-both s e
+told-all (Refused r) (Done n) e = never-both r (sym e)
+told-all (Refused r) (Refused s) e = ap Refused (same-refused r s e)

@@ -1,11 +1,9 @@
 -- What is stated in specs/Shown.
-use mathlib.Core.Path.{_≡_, sym, ap, _∙_}
-use Prim.Native.Nat.{ℕ}
-use native.Mathlib.Omega.{arith}
+use mathlib.Core.Path.{sym, ap, _∙_}
 use Rattle.schemes.proofs.Sound.{sound}
 use Rattle.refusals.specs.Seen.{Told}
-use Rattle.refusals.proofs.Laws.{some, both}
-use Rattle.refusals.proofs.Same.{same-refusal}
+use Rattle.refusals.proofs.Laws.{both}
+use Rattle.refusals.proofs.Seen.{same-counts, same-refused, never-both}
 use Rattle.wire.proofs.Travel.{opening-again}
 use Rattle.reply.specs.Reply.{ReplySeen, openedOf, replyTold, replySeen}
 use Rattle.reply.specs.Shown.{ReplySeenAll, ReplyToldAll, OpeningComesBack, KeysFit}
@@ -32,11 +30,10 @@ reply-seen-all t t′ message message′ key key′ digest digest′ e = (
 )
 
 pub reply-told-all : ReplyToldAll
-reply-told-all (Done n) (Done n′) e = ap Done (ap (λ (t : Told ReplyCounts). t .counts) e)
-reply-told-all (Done n) (Refused r) e = let z = ap (λ (t : Told ReplyCounts). t .number) e in absurd (omega (arith, some r))
-reply-told-all (Refused r) (Done n) e = let z = ap (λ (t : Told ReplyCounts). t .number) e in absurd (omega (arith, some r))
-reply-told-all (Refused r) (Refused s) e =
-    ap Refused (same-refusal r s (ap (λ (t : Told ReplyCounts). t .number) e) (ap (λ (t : Told ReplyCounts). t .place) e))
+reply-told-all (Done n) (Done n′) e = ap Done (same-counts e)
+reply-told-all (Done n) (Refused r) e = never-both r e
+reply-told-all (Refused r) (Done n) e = never-both r (sym e)
+reply-told-all (Refused r) (Refused s) e = ap Refused (same-refused r s e)
 
 pub opening-comes-back : OpeningComesBack
 unfolding openedOf

@@ -6,21 +6,20 @@ use mathlib.Core.Path.{_≡_, refl, _∙_, sym, ap}
 use mathlib.Core.Bool.{Bool, true}
 use mathlib.Core.List.{List}
 use Prim.Native.Nat.{ℕ}
-use native.Mathlib.Omega.{arith}
 use lib.ListN.{length}
 use Rattle.schemes.specs.Schemes.{fixedOf}
 use Rattle.schemes.specs.declared.Fixed.{Fixed}
 use Rattle.schemes.specs.declared.Named.{Named}
 use Rattle.schemes.specs.declared.Named.the-variants.{Known, Unknown}
 use Rattle.schemes.specs.declared.Scheme.{Scheme}
-use Rattle.refusals.specs.Refusals.{numberIn, placeIn, inTurn, publicsIn}
+use Rattle.refusals.specs.Refusals.{inTurn, publicsIn}
 use Rattle.refusals.specs.Seen.{ifPassed}
 use Rattle.refusals.specs.declared.Verdict.{Verdict}
 use Rattle.refusals.specs.declared.Verdict.the-variants.{Pass, Fail}
 use Rattle.refusals.specs.declared.Refusal.{Refusal}
 use Rattle.refusals.specs.declared.Refusal.the-variants.{OutOfTurn}
-use Rattle.refusals.proofs.Laws.{some, turn-passed, failed, went-on}
-use Rattle.refusals.proofs.Same.{same-refusal}
+use Rattle.refusals.proofs.Laws.{turn-passed, failed, went-on}
+use Rattle.refusals.proofs.Same.{same-verdict}
 use Rattle.rows_state.specs.State.{named, taken, _and_, begun, fitsIn, stepped}
 use Rattle.rows_state.specs.Part.{StateSeen, stateShown, stateSeen, partTests, partState, partResult, StateSeenAll}
 use Rattle.rows_state.specs.declared.Call.{Call}
@@ -47,12 +46,6 @@ module _ (k : Call) (c : Scheme) (st p : List ℕ) {f : Fixed} {b : Bool} {v : V
 pub state-by : {v r : Verdict} (xs old : List ℕ) {after : List ℕ} → v ≡ r → after ≡ ifPassed r xs old → stateSeen r after ≡ stateShown v xs old
 unfolding stateSeen stateShown
 state-by xs old e d = rw (d, e)
-
-same-verdict : (v w : Verdict) → numberIn v ≡ numberIn w → placeIn v ≡ placeIn w → v ≡ w
-same-verdict Pass Pass e f = refl
-same-verdict Pass (Fail s) e f = absurd (omega (arith, some s))
-same-verdict (Fail r) Pass e f = absurd (omega (arith, some r))
-same-verdict (Fail r) (Fail s) e f = ap Fail (same-refusal r s e f)
 
 pub state-seen-all : StateSeenAll
 unfolding stateSeen
