@@ -11,6 +11,7 @@ use Rattle.schemes.specs.Schemes.{fixedOf}
 use Rattle.schemes.specs.declared.Named.the-variants.{Known, Unknown}
 use Rattle.schemes.specs.declared.Scheme.{Scheme}
 use Rattle.schemes.proofs.Laws.{by-number, by-scheme}
+use Rattle.sponge.specs.Sponge.{sha3}
 use Rattle.refusals.specs.Refusals.{numberIn}
 use Rattle.refusals.specs.Seen.{answer, shown}
 use Rattle.refusals.specs.declared.Verdict.the-variants.{Pass}
@@ -18,7 +19,7 @@ use Rattle.refusals.proofs.Laws.{number-zero}
 use Rattle.refusals.proofs.Seen.{written-answer}
 use Rattle.offer.specs.Offer.{Offer, offerTests, offerMessage, offerResult}
 use Rattle.reply.specs.Reply.{Reply, ReplyRooms, replyRoomsOf, replyTests, replyMessage, replyKey, replyDigest, outputs, replyResult}
-use Rattle.finish.specs.Finish.{Finish, FinishRooms, FinishSeen, finishRoomsOf, finishTests, finishKey, finishDigest, finishSlack, finishShown, finishResult}
+use Rattle.finish.specs.Finish.{Finish, FinishRooms, FinishSeen, finishRoomsOf, finishTests, finishKey, finishSlack, finishShown, finishResult}
 use Rattle.offer.proofs.Offering.{offer-unknown}
 use Rattle.agreement.specs.Run.{Run, offering, replyTo, replying, finishWith, finishing}
 use Rattle.agreement.specs.Exchange.{Sendable, Rooms, Enough, offers, replies, finishes, Exchange, ownKey, peerKey, ownDigest, peerDigest, toldSlack, Accepted, Numbered, OneNumber}
@@ -36,7 +37,7 @@ unfolding outputs
 reply-gave c x m e = (written-answer _ _ _ e, written-answer _ _ _ e, written-answer _ _ _ e)
 
 finish-gave : (c : Scheme) (x : Finish) (m : FinishRooms) → finishTests (Known c) x m ≡ Pass → let t = finishResult (Known c) x m in
-    (answer (t .key) ≡ finishKey (Known c) x) × (answer (t .digest) ≡ finishDigest (Known c) x) × (t .slack ≡ finishSlack (Known c) x)
+    (answer (t .key) ≡ finishKey (Known c) x) × (answer (t .digest) ≡ sha3 (finishKey (Known c) x)) × (t .slack ≡ finishSlack (Known c) x)
 unfolding finishShown
 finish-gave c x m e = (written-answer _ _ _ e, written-answer _ _ _ e, rw e)
 
@@ -48,7 +49,7 @@ pub record Gave {c : Scheme} {x : Run} (t : Exchange c x) : Type 0 where
   pub own : ownKey t ≡ replyKey (Known c) (replying c x)
   pub peer : peerKey t ≡ finishKey (Known c) (finishing c x)
   pub own-digest : ownDigest t ≡ replyDigest (Known c) (replying c x)
-  pub peer-digest : peerDigest t ≡ finishDigest (Known c) (finishing c x)
+  pub peer-digest : peerDigest t ≡ sha3 (finishKey (Known c) (finishing c x))
   pub slack : toldSlack t ≡ finishSlack (Known c) (finishing c x)
 
 pub gave : {c : Scheme} {x : Run} (t : Exchange c x) → Gave t

@@ -29,7 +29,7 @@ use Rattle.reply.specs.Inside.{replyLast, replyRest}
 use Rattle.finish.specs.Finish.{Finish, FinishRooms, repliedOf, finishTests}
 use Rattle.offer.proofs.Offering.{opening-long, offer-opens}
 use Rattle.reply.proofs.Replying.{message-length, reply-sized, reply-apart, secrets-small}
-use Rattle.finish.proofs.Finishing.{finish-sized, finish-apart}
+use Rattle.finish.proofs.Finishing.{finish-passed}
 use Rattle.agreement.specs.Run.{Run, offering, replyTo, replying, finishing}
 use Rattle.agreement.specs.Exchange.{Ranged, Sendable}
 
@@ -163,4 +163,4 @@ module _ (c : Scheme) where
       (s .roomy, s .key-roomy, s .digest-roomy)
 
   pub finish-rooms : (x : Finish) (m : FinishRooms) → finishTests (Known c) x m ≡ Pass → (fixedOf c .key ≤ m .key) × (32 ≤ m .digest)
-  finish-rooms x m t = let s = finish-sized c x m (both _ _ (sym (finish-apart c x m) ∙ t) .0) in (s .2, s .3)
+  finish-rooms x m t = let s = finish-passed c x m t in (s .1, s .2)

@@ -1,32 +1,37 @@
 -- Finish.
 --   key-length     a key is as long as the scheme says
 --   key-taken      the key of the reply's own numbers is Finish's; slack-taken: so is the slack
---   finish-sized        what passed sizes say: the lengths, and room for key and digest
---   finish-sizes-failed, finish-rest-decides   its verdict by the test that decides
+--   finish-sized, finish-passed   what passed sizes and what passed tests say of lengths and rooms
+--   finish-apart   its tests in two parts
+--   laid-front, held, held-fits, held-hashed   an output of which a step was lent the front
 --   finish-unknown      its tests where the number names no scheme
 --   finish-refused, finish-done   what is seen after a refusal, and where nothing is refused
-use mathlib.Core.Path.{_≡_, refl, _∙_, sym}
-use mathlib.Core.List.{List}
+use mathlib.Core.Path.{_≡_, refl, _∙_, sym, ap}
+use mathlib.Core.List.{List, _++_}
 use Prim.Native.Nat.{ℕ, _≤_}
-use lib.ListN.{length, replicate}
+use native.Mathlib.Omega.{arith}
+use lib.ListN.{length, take, drop, replicate, length-append, take-append-drop}
+use lib.Seq.{take-at}
 use Rattle.schemes.specs.Schemes.{fixedOf}
 use Rattle.schemes.specs.declared.Named.{Named}
 use Rattle.schemes.specs.declared.Named.the-variants.{Known, Unknown}
 use Rattle.schemes.specs.declared.Scheme.{Scheme}
-use Rattle.refusals.specs.Refusals.{_then_, receivedIn}
-use Rattle.refusals.specs.Seen.{output, written}
+use Rattle.refusals.specs.Refusals.{_then_, roomFor, receivedIn}
+use Rattle.refusals.specs.Seen.{output, written, ifPassed}
 use Rattle.refusals.specs.declared.Verdict.{Verdict}
 use Rattle.refusals.specs.declared.Verdict.the-variants.{Pass, Fail}
 use Rattle.refusals.specs.declared.Refusal.{Refusal}
 use Rattle.refusals.specs.declared.Refusal.the-variants.{NoScheme}
-use Rattle.refusals.proofs.Laws.{both, length-passed, room-passed, failed, went-on}
+use Rattle.refusals.proofs.Laws.{both, length-passed, room-passed}
 use Rattle.refusals.proofs.Seen.{written-failed}
+use Rattle.refusals.proofs.Steps.{laid-on}
+use Rattle.sponge.specs.Sponge.{sha3}
 use Rattle.values.specs.Values.{bareValue}
 use Rattle.values.proofs.Ranges.{bare-counted}
 use Rattle.values.proofs.Settling.{peers-counted}
 use Rattle.wire.specs.Wire.{hintsIn}
 use Rattle.wire.proofs.Travel.{key-long}
-use Rattle.finish.specs.Finish.{Finish, FinishRooms, repliedOf, finishValue, finishTests, finishKey, finishDigest, finishSlack, finishShown, finishTold, finishSeen, finishResult}
+use Rattle.finish.specs.Finish.{Finish, FinishRooms, repliedOf, finishValue, finishTests, finishKey, finishSlack, finishShown, finishTold, finishSeen, finishResult}
 use Rattle.finish.specs.Inside.{finishSizes, finishRest, keyFrom, slackFrom}
 use Rattle.finish.specs.declared.FinishCounts.{FinishCounts}
 use Rattle.finish.specs.declared.FinishAnswer.the-variants.{Done, Refused}
@@ -55,37 +60,56 @@ module _ (c : Scheme) (x : Finish) where
 
   -- ---- its tests
 
-  pub finish-sized : (m : FinishRooms) → finishSizes c x m ≡ Pass
-      → (length (x .reply) ≡ fixedOf c .reply) × (length (x .s) ≡ fixedOf c .secret) × (fixedOf c .key ≤ m .key) × (32 ≤ m .digest)
+  pub finish-sized : (room : ℕ) → finishSizes c x room ≡ Pass
+      → (length (x .reply) ≡ fixedOf c .reply) × (length (x .s) ≡ fixedOf c .secret) × (fixedOf c .key ≤ room)
   unfolding finishSizes
-  finish-sized m t =
-      let digest = both _ _ t in
-      let key = both _ _ (digest .0) in
+  finish-sized room t =
+      let key = both _ _ t in
       let lengths = both _ _ (key .0) in
-      (length-passed _ _ (lengths .0), length-passed _ _ (lengths .1), room-passed _ _ (key .1), room-passed _ _ (digest .1))
+      (length-passed _ _ (lengths .0), length-passed _ _ (lengths .1), room-passed _ _ (key .1))
 
-  -- its tests in two parts: lengths and rooms, and what follows
-  pub finish-apart : (m : FinishRooms) → finishTests (Known c) x m ≡ finishSizes c x m then finishRest c x
+  -- its tests as the code goes through them: v so far, with its own rooms, and what follows
+  pub finish-apart : (m : FinishRooms) {u v : Verdict} → u ≡ finishSizes c x (m .key) → v ≡ u then roomFor (m .digest) 32
+      → finishTests (Known c) x m ≡ v then finishRest c x
   unfolding finishTests finishSizes finishRest receivedIn
-  finish-apart m = grouped (finishSizes c x m) _ _ _
+  finish-apart m e f = rw (f, e) (grouped _ _ _ _)
 
-  pub finish-sizes-failed : (m : FinishRooms) {v : Verdict} {r : Refusal} → v ≡ finishSizes c x m → v ≡ Fail r → finishTests (Known c) x m ≡ Fail r
-  finish-sizes-failed m e f = finish-apart m ∙ failed _ e f
-
-  pub finish-rest-decides : (m : FinishRooms) {v : Verdict} → finishSizes c x m ≡ Pass → v ≡ finishRest c x → finishTests (Known c) x m ≡ v
-  finish-rest-decides m t e = finish-apart m ∙ went-on _ refl t ∙ sym e
+  -- where all have passed: the lengths, and room for key and digest
+  pub finish-passed : (m : FinishRooms) → finishTests (Known c) x m ≡ Pass
+      → (length (x .reply) ≡ fixedOf c .reply) × (fixedOf c .key ≤ m .key) × (32 ≤ m .digest)
+  finish-passed m t =
+      let sizes = both _ _ (both _ _ (sym (finish-apart m refl refl) ∙ t) .0) in
+      let s = finish-sized (m .key) (sizes .0) in
+      (s .0, s .2, room-passed _ _ (sizes .1))
 
 pub finish-unknown : {c : Named} (x : Finish) (m : FinishRooms) → c ≡ Unknown → finishTests c x m ≡ Fail NoScheme
 unfolding finishTests
 finish-unknown x m e = rw e
 
+-- the front of an output as a step has left it, and the rest behind it
+pub laid-front : (v : Verdict) (xs old : List ℕ) (k : ℕ) {part : List ℕ} → part ≡ ifPassed v xs (take k old) → part ++ drop k old ≡ ifPassed v (xs ++ drop k old) old
+laid-front Pass xs old k e = ap (λ (t : List ℕ). t ++ drop k old) e
+laid-front (Fail r) xs old k e = ap (λ (t : List ℕ). t ++ drop k old) e ∙ take-append-drop k old
+
+-- of one that held zeros, where nothing is refused: all of it, how much there is of it, and the hash of its front
+module _ {v : Verdict} (xs : List ℕ) {old : List ℕ} {n k : ℕ} {out : List ℕ} (z : old ≡ replicate (length old) 0) (p : v ≡ Pass) (i : n ≡ k) (l : length xs ≡ k)
+    (e : out ≡ ifPassed v (xs ++ drop k old) old) where
+  pub held : out ≡ xs ++ drop n old
+  held = laid-on (xs ++ drop k old) old p e ∙ ap (λ (j : ℕ). xs ++ drop j old) (sym i)
+
+  pub held-fits : n ≤ length out
+  held-fits = omega (arith, ap length held, l, i, length-append xs (drop n old))
+
+  pub held-hashed : (behind : List ℕ) {hash : List ℕ} → hash ≡ sha3 (take n out) ++ behind → hash ≡ sha3 xs ++ behind
+  held-hashed behind h = h ∙ ap (λ (t : List ℕ). sha3 t ++ behind) (ap (take n) held ∙ take-at xs (drop n old) n (l ∙ sym i))
+
 module _ (c : Named) (x : Finish) (m : FinishRooms) {key digest : List ℕ} where
   pub finish-refused : {r : Refusal} → finishTests c x m ≡ Fail r → key ≡ replicate (m .key) 0 → digest ≡ replicate (m .digest) 0
       → finishSeen (finishTold (Refused r)) key digest ≡ finishResult c x m
   unfolding finishShown finishSeen
-  finish-refused e o p = rw (← written-failed (finishKey c x) 0 (m .key) e o, ← written-failed (finishDigest c x) 0 (m .digest) e p, e)
+  finish-refused e o p = rw (← written-failed (finishKey c x) 0 (m .key) e o, ← written-failed (sha3 (finishKey c x)) 0 (m .digest) e p, e)
 
   pub finish-done : {n : FinishCounts} → let v = finishTests c x m in v ≡ Pass → output (n .key) key ≡ written v (finishKey c x) 0 (m .key)
-      → output (n .digest) digest ≡ written v (finishDigest c x) 0 (m .digest) → n .slack ≡ finishSlack c x → finishSeen (finishTold (Done n)) key digest ≡ finishResult c x m
+      → output (n .digest) digest ≡ written v (sha3 (finishKey c x)) 0 (m .digest) → n .slack ≡ finishSlack c x → finishSeen (finishTold (Done n)) key digest ≡ finishResult c x m
   unfolding finishShown finishSeen
   finish-done e k d s = rw (← k, ← d, e, ← s)

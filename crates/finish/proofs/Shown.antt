@@ -1,20 +1,17 @@
 -- What is stated in specs/Shown.
-use mathlib.Core.Path.{_≡_, sym, ap, _∙_}
-use Prim.Native.Nat.{ℕ}
-use native.Mathlib.Omega.{arith}
+use mathlib.Core.Path.{sym, ap}
 use lib.ListN.{length}
 use Rattle.schemes.proofs.Sound.{sound}
 use Rattle.lists.proofs.Top.{peak-zeros}
 use Rattle.refusals.specs.Seen.{Told}
-use Rattle.refusals.proofs.Laws.{some, both}
-use Rattle.refusals.proofs.Same.{same-refusal}
+use Rattle.refusals.proofs.Seen.{same-counts, same-refused, never-both}
 use Rattle.values.specs.Keys.{slacks}
 use Rattle.wire.proofs.Travel.{reply-again}
 use Rattle.finish.specs.Finish.{FinishSeen, repliedOf, finishValue, finishSlack, finishTold, finishSeen}
 use Rattle.finish.specs.Shown.{FinishSeenAll, FinishToldAll, ReplyComesBack, NoSlack, KeysFit}
 use Rattle.finish.specs.declared.FinishAnswer.the-variants.{Done, Refused}
 use Rattle.finish.specs.declared.FinishCounts.{FinishCounts}
-use Rattle.finish.proofs.Finishing.{key-length, finish-sized, finish-apart}
+use Rattle.finish.proofs.Finishing.{key-length, finish-passed}
 
 -- the numbers of the answer, from what is seen
 toldIn : FinishSeen → Told FinishCounts
@@ -34,16 +31,14 @@ finish-seen-all t t′ key key′ digest digest′ e = (
 )
 
 pub finish-told-all : FinishToldAll
-finish-told-all (Done n) (Done n′) e = ap Done (ap (λ (t : Told FinishCounts). t .counts) e)
-finish-told-all (Done n) (Refused r) e = let z = ap (λ (t : Told FinishCounts). t .number) e in absurd (omega (arith, some r))
-finish-told-all (Refused r) (Done n) e = let z = ap (λ (t : Told FinishCounts). t .number) e in absurd (omega (arith, some r))
-finish-told-all (Refused r) (Refused s) e =
-    ap Refused (same-refusal r s (ap (λ (t : Told FinishCounts). t .number) e) (ap (λ (t : Told FinishCounts). t .place) e))
+finish-told-all (Done n) (Done n′) e = ap Done (same-counts e)
+finish-told-all (Done n) (Refused r) e = never-both r e
+finish-told-all (Refused r) (Done n) e = never-both r (sym e)
+finish-told-all (Refused r) (Refused s) e = ap Refused (same-refused r s e)
 
 pub reply-comes-back : ReplyComesBack
 unfolding repliedOf
-reply-comes-back c x m b t =
-    reply-again c (x .reply) (finish-sized c x m (both _ _ (sym (finish-apart c x m) ∙ t) .0) .0) b
+reply-comes-back c x m b t = reply-again c (x .reply) (finish-passed c x m t .0) b
 
 pub no-slack : NoSlack
 unfolding finishSlack slacks

@@ -5,7 +5,7 @@
 --   repliedOf c x             u, the numbers of the reply
 --   finishValue c x           w = us
 --   finishTests c x m         its tests in 01's order, with the rooms m
---   finishKey c x             the key: the bits of w under the hints; finishDigest: the key's digest
+--   finishKey c x             the key: the bits of w under the hints
 --   finishSlack c x           the largest slack of an entry of w, and its first index
 --   finishResult c x m        its promise: what is seen, as a function of what is lent, in the scheme c; finishShown v: by the verdict v of any tests
 --   finish, finishRooms       what is lent, from the slices of a contract; finishOf, finishRoomsOf: from lists and numbers
@@ -72,9 +72,6 @@ unfoldable pub finishKey : Named → Finish → List ℕ
 finishKey Unknown x = []
 finishKey (Known c) x = packed (fixedOf c .keybits) (peers c (hintsIn c (x .reply)) (finishValue c x))
 
-abbrev pub finishDigest : Named → Finish → List ℕ
-finishDigest c x = sha3 (finishKey c x)
-
 unfoldable pub finishSlack : Named → Finish → Peak
 finishSlack Unknown x = peakOf []
 finishSlack (Known c) x = peakOf (slacks c (hintsIn c (x .reply)) (finishValue c x))
@@ -87,7 +84,7 @@ finishShown v c x m =
       number = numberIn v;
       place = placeIn v;
       key = written v (finishKey c x) 0 (m .key);
-      digest = written v (finishDigest c x) 0 (m .digest);
+      digest = written v (sha3 (finishKey c x)) 0 (m .digest);
       slack = ifPassed v (finishSlack c x) unused;
     }
 

@@ -1,22 +1,21 @@
-// Finish, once the scheme is known and both outputs hold zeros: lengths and rooms, then the reply's numbers, then the secret, in 01's order; then the key into
-// the part of the output that it takes, and its digest.
+// Finish's key, once the scheme is known, lengths and rooms are tested and the output holds zeros: the reply's numbers, then the secret, in 01's order; then the
+// key into the part of the output that it takes.
 ghost use mathlib.Core.Path.{_≡_};
 ghost use Prim.Native.Nat.{_^_};
-ghost use lib.ListN.{length, replicate};
+ghost use lib.ListN.{length, replicate, drop};
 ghost use Rattle.schemes.specs.Schemes.{fixedOf};
 ghost use Rattle.schemes.specs.declared.Named.the-variants.{Known};
 ghost use Rattle.lists.specs.Lent.{was, left};
 ghost use Rattle.lists.specs.First.{peakOf};
 ghost use Rattle.packing.specs.Packing.{packed};
-ghost use Rattle.refusals.specs.Refusals.{secretsIn};
+ghost use Rattle.refusals.specs.Refusals.{secretsIn, _then_};
 ghost use Rattle.refusals.specs.Steps.{Laid, outcome};
 ghost use Rattle.refusals.specs.declared.Verdict.the-variants.{Pass};
 ghost use Rattle.values.specs.Fit.{Counted};
 ghost use Rattle.values.specs.Keys as settled;
-ghost use Rattle.finish.specs.Finish.{finishOf, finishRoomsOf, finish, finishRooms, finishKey, finishSlack, finishTold, finishSeen, finishResult};
+ghost use Rattle.finish.specs.Finish.{finishOf, finish, finishKey, finishSlack};
 ghost use Rattle.finish.specs.Inside.{finishSizes, finishRest, keyFrom, slackFrom, Derives, Finishing};
-use crate::FinishAnswer;
-use crate::FinishCounts;
+ghost use mathlib.Core.List.{_++_};
 use lists::Peak;
 use refusals::Outcome;
 use refusals::Verdict;
@@ -87,47 +86,19 @@ fn with_reply(scheme: Scheme, n: usize, reply: &[u8], s: &[i32], key: &mut [u8])
     with_secret(scheme, reply, &u[..n], s, key)
 }
 
-// Where the sizes have passed.
-fn finish_sized(
-    scheme: Scheme,
-    reply: &[u8],
-    s: &[i32],
-    key: &mut [u8],
-    digest: &mut [u8],
-) -> FinishAnswer
-    requires { ⌜ finishSizes scheme (finishOf (now reply) (now s)) (finishRoomsOf (length (now key)) (length (now digest))) ≡ Pass ⌝ }
-    requires { ⌜ (now key ≡ replicate (length (now key)) 0) × (now digest ≡ replicate (length (now digest)) 0) ⌝ }
-    ensures { λ r. ⌜ finishSeen (finishTold r) (left key) (left digest) ≡ finishResult (Known scheme) (finish reply s) (finishRooms key digest) ⌝ }
+// The key into the front of its output, where the tests so far, v, have passed.
+pub(crate) fn key_in(scheme: Scheme, v: Verdict, reply: &[u8], s: &[i32], key: &mut [u8]) -> Outcome
+    requires { ⌜ (v ≡ Pass → finishSizes scheme (finishOf (now reply) (now s)) (length (now key)) ≡ Pass) ⌝ }
+    requires { ⌜ now key ≡ replicate (length (now key)) 0 ⌝ }
+    ensures { λ r. ⌜ r ≡ outcome (v then finishRest scheme (finish reply s)) (finishSlack (Known scheme) (finish reply s)) ⌝ }
+    ensures { λ _. ⌜ Laid (v then finishRest scheme (finish reply s)) (finishKey (Known scheme) (finish reply s) ++ drop (fixedOf scheme .key) (was key)) key ⌝ }
 {
-    let f = scheme.fixed();
-    let k = f.key;
-    let v = with_reply(scheme, f.secret, reply, s, &mut key[..k]);
     match v {
-        Outcome::Refused(r) => FinishAnswer::Refused(r),
-        Outcome::Slack(used) => {
-            sponge::lay_digest(&key[..k], digest);
-            FinishAnswer::Done(FinishCounts {
-                key: k,
-                digest: 32,
-                slack: used,
-            })
+        Verdict::Fail(r) => Outcome::Refused(r),
+        Verdict::Pass => {
+            let f = scheme.fixed();
+            let k = f.key;
+            with_reply(scheme, f.secret, reply, s, &mut key[..k])
         }
-    }
-}
-
-pub(crate) fn finish_in(
-    scheme: Scheme,
-    reply: &[u8],
-    s: &[i32],
-    key: &mut [u8],
-    digest: &mut [u8],
-) -> FinishAnswer
-    requires { ⌜ (now key ≡ replicate (length (now key)) 0) × (now digest ≡ replicate (length (now digest)) 0) ⌝ }
-    ensures { λ r. ⌜ finishSeen (finishTold r) (left key) (left digest) ≡ finishResult (Known scheme) (finish reply s) (finishRooms key digest) ⌝ }
-{
-    let v = crate::tests::finish_sizes(scheme, reply, s, key.len(), digest.len());
-    match v {
-        Verdict::Fail(r) => FinishAnswer::Refused(r),
-        Verdict::Pass => finish_sized(scheme, reply, s, key, digest),
     }
 }

@@ -1,22 +1,15 @@
-// The tests of Finish that come first, in 01's order.
+// The tests of Finish that come first, in 01's order: of its lengths, and of the room for its key.
 ghost use mathlib.Core.Path.{_≡_};
-ghost use Rattle.finish.specs.Finish.{finish, finishRoomsOf};
+ghost use Rattle.finish.specs.Finish.{finish};
 ghost use Rattle.finish.specs.Inside.{finishSizes};
 use refusals::Verdict;
 use schemes::Scheme;
 
-pub(crate) fn finish_sizes(
-    scheme: Scheme,
-    reply: &[u8],
-    s: &[i32],
-    room: usize,
-    digestroom: usize,
-) -> Verdict
-    ensures { λ r. ⌜ r ≡ finishSizes scheme (finish reply s) (finishRoomsOf room digestroom) ⌝ }
+pub(crate) fn finish_sizes(scheme: Scheme, reply: &[u8], s: &[i32], room: usize) -> Verdict
+    ensures { λ r. ⌜ r ≡ finishSizes scheme (finish reply s) room ⌝ }
 {
     let f = scheme.fixed();
     let v = refusals::length_is(Verdict::Pass, reply.len(), f.reply);
     let v = refusals::length_is(v, s.len(), f.secret);
-    let v = refusals::room_for(v, room, f.key);
-    refusals::room_for(v, digestroom, 32)
+    refusals::room_for(v, room, f.key)
 }
