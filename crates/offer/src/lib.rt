@@ -6,7 +6,7 @@ ghost use Rattle.lists.specs.Lent.{left, room};
 ghost use Rattle.refusals.specs.Seen.{told, seen};
 ghost use Rattle.offer.specs.Offer.{offer, offerResult};
 
-pub mod opener;
+mod opener;
 mod tests;
 
 use refusals::Answer;

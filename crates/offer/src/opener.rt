@@ -5,35 +5,15 @@ ghost use lib.ListN.{length, replicate};
 ghost use Rattle.schemes.specs.Schemes.{fixedOf};
 ghost use Rattle.schemes.specs.declared.Named.the-variants.{Known};
 ghost use Rattle.lists.specs.Lent.{was, left, room};
-ghost use Rattle.packing.specs.Packing.{packed};
 ghost use Rattle.refusals.specs.Refusals.{_then_, publicsIn, notBlank};
 ghost use Rattle.refusals.specs.Seen.{told, seen};
 ghost use Rattle.refusals.specs.Steps.{Laid};
 ghost use Rattle.refusals.specs.declared.Verdict.the-variants.{Pass};
-ghost use Rattle.values.specs.Fit.{Counted};
-ghost use Rattle.wire.specs.Wire.{opening};
 ghost use Rattle.offer.specs.Offer.{offerOf, offer, offeredPart, offerMessage, offerResult};
 ghost use Rattle.offer.specs.Inside.{offerAhead, Opens};
 use refusals::Answer;
 use refusals::Verdict;
 use schemes::Scheme;
-
-// The opening's bytes, of its numbers b. A blank part is refused before anything is written. Crate `rows` ends so too.
-pub fn lay_numbers(scheme: Scheme, b: &[u32], seed: &[u8], out: &mut [u8]) -> Verdict
-    requires { ⌜ Counted (fixedOf scheme .secret) (fixedOf scheme .q) (now b) ⌝ }
-    requires { ⌜ (length (now seed) ≡ fixedOf scheme .seed) × (length (now out) ≡ fixedOf scheme .opening) ⌝ }
-    ensures { λ r. ⌜ r ≡ notBlank (packed (fixedOf scheme .width) (was b)) ⌝ }
-    ensures { λ r. ⌜ Laid r (opening scheme (was seed) (packed (fixedOf scheme .width) (was b))) out ⌝ }
-{
-    let v = refusals::not_blank(b);
-    match v {
-        Verdict::Fail(r) => Verdict::Fail(r),
-        Verdict::Pass => {
-            wire::lay_opening(scheme, b, seed, out);
-            Verdict::Pass
-        }
-    }
-}
 
 // The opening of what is lent, with the test of the public numbers and room for n numbers, of which no scheme has more than 6912.
 fn lay(
@@ -55,7 +35,7 @@ fn lay(
     let v = refusals::publics_at(at, a);
     match v {
         Verdict::Fail(r) => Verdict::Fail(r),
-        Verdict::Pass => lay_numbers(scheme, &b[..n], seed, out),
+        Verdict::Pass => wire::steps::lay_numbers(scheme, &b[..n], seed, out),
     }
 }
 

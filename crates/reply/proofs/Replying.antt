@@ -30,9 +30,10 @@ use Rattle.values.proofs.Settling.{hints-counted, keys-counted}
 use Rattle.wire.specs.Wire.{coinsIn}
 use Rattle.wire.proofs.Travel.{key-long, reply-length}
 use Rattle.reply.specs.Reply.{Reply, ReplyRooms, openedOf, replyValue, replyTests, replyMessage, replyKey, outputs, replyTold, replySeen}
-use Rattle.reply.specs.Inside.{replyLengths, replySizes, replySecrets, replyLast, replyRest, messageFrom, keyFrom}
+use Rattle.reply.specs.Inside.{replyLengths, replySizes, replyLast, replyRest, messageFrom, keyFrom}
 use Rattle.reply.specs.declared.ReplyCounts.{ReplyCounts}
 use Rattle.reply.specs.declared.ReplyAnswer.the-variants.{Done, Refused}
+use Rattle.wire.specs.Steps.{replySecrets}
 
 module _ (c : Scheme) (b : List ℕ) (s' e'' : List ℤ) (coins : List ℕ) where
   pub key-from-length : length (keyFrom c b s' e'' coins) ≡ fixedOf c .key

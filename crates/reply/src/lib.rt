@@ -5,8 +5,8 @@ ghost use Rattle.schemes.specs.Schemes.{schemeOf};
 ghost use Rattle.lists.specs.Lent.{left};
 ghost use Rattle.reply.specs.Reply.{reply, replyRooms, replyTold, replySeen, replyResult};
 
-pub mod replier;
-pub mod tests;
+mod replier;
+mod tests;
 
 use refusals::Refusal;
 use schemes::Named;

@@ -2,21 +2,16 @@
 // the public numbers, which the product reads once, and, where they are not all 0, message and key into the parts of the outputs that they take, and the key's
 // digest. In 01's order the public numbers come before the opening and the secrets: where one of these is refused, they are tested first.
 ghost use mathlib.Core.Path.{_≡_};
-ghost use mathlib.Core.List.{_++_};
-ghost use Prim.Native.Nat.{_^_};
 ghost use lib.ListN.{length, replicate};
 ghost use Rattle.schemes.specs.Schemes.{fixedOf};
 ghost use Rattle.schemes.specs.declared.Named.the-variants.{Known};
 ghost use Rattle.lists.specs.Lent.{was, left, room};
-ghost use Rattle.packing.specs.Packing.{packed};
 ghost use Rattle.refusals.specs.Refusals.{_then_, publicsIn, notBlank};
 ghost use Rattle.refusals.specs.Steps.{Laid};
 ghost use Rattle.refusals.specs.declared.Verdict.the-variants.{Pass};
 ghost use Rattle.values.specs.Fit.{Counted};
-ghost use Rattle.values.specs.Keys as settled;
-ghost use Rattle.wire.specs.Wire.{coinsIn};
 ghost use Rattle.reply.specs.Reply.{replyOf, replyRoomsOf, reply, replyRooms, repliedPart, replyMessage, replyKey, replyTold, replySeen, replyResult};
-ghost use Rattle.reply.specs.Inside.{replySizes, replyLast, replyRest, Rooms, messageBy, keyBy, messageFrom, keyFrom, Settles, Mixes, Replying};
+ghost use Rattle.reply.specs.Inside.{replySizes, replyLast, replyRest, messageFrom, keyFrom, Settles, Mixes, Replying};
 use crate::ReplyAnswer;
 use crate::ReplyCounts;
 use refusals::Verdict;
@@ -29,72 +24,6 @@ pub(crate) fn zero_outputs(message: &mut [u8], key: &mut [u8])
 {
     lists::zero_bytes(message);
     lists::zero_bytes(key);
-}
-
-// The hints and the entries of the key, of v; tosses, the coins as numbers, is room for what lies between.
-fn settle(
-    scheme: Scheme,
-    coins: &[u8],
-    v: &[u32],
-    tosses: &mut [u32],
-    hints: &mut [u32],
-    entries: &mut [u32],
-)
-    requires { ⌜ Counted (fixedOf scheme .mixed) (fixedOf scheme .q) (now v) × (length (now coins) ≡ fixedOf scheme .coins) ⌝ }
-    requires { ⌜ Rooms scheme (now tosses) (now hints) (now entries) ⌝ }
-    ensures { λ _. ⌜ left hints ≡ settled.hints scheme (coinsIn scheme (was coins)) (was v) ⌝ }
-    ensures { λ _. ⌜ left entries ≡ settled.keys scheme (coinsIn scheme (was coins)) (was v) ⌝ }
-{
-    wire::take_coins(scheme, coins, tosses);
-    values::settle::hints(scheme, tosses, v, hints);
-    values::settle::keys(scheme, tosses, hints, v, entries);
-}
-
-// The message's bytes, of its numbers u and the hints. A blank part is refused before anything is written.
-fn lay_message(scheme: Scheme, u: &[u32], hints: &[u32], message: &mut [u8]) -> Verdict
-    requires { ⌜ Counted (fixedOf scheme .secret) (fixedOf scheme .q) (now u) ⌝ }
-    requires { ⌜ Counted (fixedOf scheme .mixed) (2 ^ fixedOf scheme .hintbits) (now hints) × (length (now message) ≡ fixedOf scheme .reply) ⌝ }
-    ensures { λ r. ⌜ r ≡ notBlank (packed (fixedOf scheme .width) (was u)) ⌝ }
-    ensures { λ r. ⌜ Laid r (packed (fixedOf scheme .width) (was u) ++ packed (fixedOf scheme .hintbits) (was hints)) message ⌝ }
-{
-    let v = refusals::not_blank(u);
-    match v {
-        Verdict::Fail(r) => Verdict::Fail(r),
-        Verdict::Pass => {
-            wire::lay_reply(scheme, u, hints, message);
-            Verdict::Pass
-        }
-    }
-}
-
-// Message and key, of u and v; tosses, hints and entries are room for what lies between. Crate `rows` ends so too.
-pub fn lay_values(
-    scheme: Scheme,
-    u: &[u32],
-    v: &[u32],
-    coins: &[u8],
-    tosses: &mut [u32],
-    hints: &mut [u32],
-    entries: &mut [u32],
-    message: &mut [u8],
-    key: &mut [u8],
-) -> Verdict
-    requires { ⌜ Counted (fixedOf scheme .secret) (fixedOf scheme .q) (now u) × Counted (fixedOf scheme .mixed) (fixedOf scheme .q) (now v) ⌝ }
-    requires { ⌜ (length (now coins) ≡ fixedOf scheme .coins) × Rooms scheme (now tosses) (now hints) (now entries) ⌝ }
-    requires { ⌜ (length (now message) ≡ fixedOf scheme .reply) × (length (now key) ≡ fixedOf scheme .key) ⌝ }
-    ensures { λ r. ⌜ r ≡ notBlank (packed (fixedOf scheme .width) (was u)) ⌝ }
-    ensures { λ r. ⌜ Laid r (messageBy scheme (was u) (was v) (was coins)) message ⌝ }
-    ensures { λ r. ⌜ Laid r (keyBy scheme (was v) (was coins)) key ⌝ }
-{
-    settle(scheme, coins, v, tosses, hints, entries);
-    let sent = lay_message(scheme, u, hints, message);
-    match sent {
-        Verdict::Fail(r) => Verdict::Fail(r),
-        Verdict::Pass => {
-            wire::lay_key(scheme, entries, key);
-            Verdict::Pass
-        }
-    }
 }
 
 // Message and key of what is lent, with the test of the public numbers. The opening's numbers b become the message's. No scheme has more than 1024 values or
@@ -128,7 +57,7 @@ fn lay(
     match w {
         Verdict::Fail(r) => Verdict::Fail(r),
         Verdict::Pass => {
-            lay_values(
+            wire::steps::lay_values(
                 scheme,
                 b,
                 &v[..n],
@@ -162,7 +91,7 @@ fn with_secrets(
     ensures { λ r. ⌜ Laid r (keyFrom scheme (was b) (was s1) (was e2) (was coins)) key ⌝ }
 {
     let f = scheme.fixed();
-    let v = crate::tests::reply_secrets(scheme, s1, e1, e2);
+    let v = wire::steps::reply_secrets(scheme, s1, e1, e2);
     match v {
         Verdict::Fail(_) => refusals::publics_before(v, f.q, a),
         Verdict::Pass => lay(scheme, b, a, s1, e1, e2, coins, message, key),

@@ -1,8 +1,7 @@
 // The tests of Reply, in 01's order. That of the public numbers is the product's own, which reads them once.
 ghost use mathlib.Core.Path.{_≡_};
-ghost use Rattle.lists.specs.Lent.{was};
 ghost use Rattle.reply.specs.Reply.{reply, replyRoomsOf};
-ghost use Rattle.reply.specs.Inside.{replyLengths, replySizes, replySecrets};
+ghost use Rattle.reply.specs.Inside.{replyLengths, replySizes};
 use refusals::Verdict;
 use schemes::Scheme;
 
@@ -45,14 +44,4 @@ pub(crate) fn reply_sizes(
     let v = refusals::room_for(v, room, f.reply);
     let v = refusals::room_for(v, keyroom, f.key);
     refusals::room_for(v, digestroom, 32)
-}
-
-// Crate `rows` tests so too.
-pub fn reply_secrets(scheme: Scheme, s1: &[i32], e1: &[i32], e2: &[i32]) -> Verdict
-    ensures { λ r. ⌜ r ≡ replySecrets scheme (was s1) (was e1) (was e2) ⌝ }
-{
-    let f = scheme.fixed();
-    let v = refusals::secrets_in(Verdict::Pass, f.largest, s1);
-    let v = refusals::secrets_in(v, f.largest, e1);
-    refusals::secrets_in(v, f.largest, e2)
 }

@@ -24,7 +24,8 @@ use Rattle.values.proofs.Numbers.{numbers-in}
 use Rattle.values.proofs.Ranges.{mixed-counted}
 use Rattle.wire.specs.Wire.{openedIn, coinsIn}
 use Rattle.reply.specs.Reply.{Reply, ReplyRooms, replyOf, replyTests, openedOf, repliedPart, replyValue, replyMessage, replyKey, outputs}
-use Rattle.reply.specs.Inside.{replyLengths, replySecrets, replyLast, replyRest, keyBy}
+use Rattle.wire.specs.Steps.{replySecrets, keyBy}
+use Rattle.reply.specs.Inside.{replyLengths, replyLast, replyRest}
 use Rattle.reply.proofs.Replying.{Sized, reply-sized, reply-apart}
 use Rattle.rows_state.specs.State.{long, named}
 use Rattle.rows_state.specs.Part.{stateShown}

@@ -29,7 +29,7 @@ use Rattle.values.proofs.Settling.{hints-counted, keys-counted}
 use Rattle.wire.specs.Wire.{coinsIn, numbersIn}
 use Rattle.wire.proofs.Travel.{reply-length, key-long}
 use Rattle.reply.specs.Reply.{ReplyRooms, replyTold, replySeen}
-use Rattle.reply.specs.Inside.{replySecrets}
+use Rattle.wire.specs.Steps.{replySecrets}
 use Rattle.reply.specs.declared.ReplyAnswer.the-variants.{Refused}
 use Rattle.reply.proofs.Replying.{reply-refused}
 use Rattle.rows_state.specs.State.{long, named, savedOf, begun}

@@ -11,7 +11,7 @@ use Rattle.refusals.specs.Refusals.{_then_, lengthIs, roomFor, inTurn, notBlank
 use Rattle.refusals.specs.declared.Verdict.{Verdict}
 use Rattle.wire.specs.Wire.{openedIn}
 use Rattle.reply.specs.Reply.{ReplyRooms}
-use Rattle.reply.specs.Inside.{replySecrets}
+use Rattle.wire.specs.Steps.{replySecrets}
 use Rattle.rows_state.specs.State.{long, complete}
 use Rattle.rows_state.specs.declared.Call.{Call}
 use Rattle.rows.specs.Offer.{OfferBegin}

@@ -109,7 +109,7 @@ fn lay(scheme: Scheme, state: &[u32], out: &mut [u8]) -> Verdict
     let mut b = [0u32; 6912];
     gather(&state[3..19], &mut seed);
     rows_state::state::reduce(f.q, f.n, state, &mut b[..n]);
-    offer::opener::lay_numbers(scheme, &b[..n], &seed, out)
+    wire::steps::lay_numbers(scheme, &b[..n], &seed, out)
 }
 
 fn end_tests(scheme: Scheme, state: &[u32], room: usize) -> Verdict

@@ -88,7 +88,7 @@ fn begin_sized(
         lists::zero_numbers(state);
         return v;
     };
-    let v = reply::tests::reply_secrets(scheme, s1, e1, e2);
+    let v = wire::steps::reply_secrets(scheme, s1, e1, e2);
     match v {
         Verdict::Fail(r) => Verdict::Fail(r),
         Verdict::Pass => {
@@ -132,7 +132,7 @@ fn lay(scheme: Scheme, state: &[u32], message: &mut [u8], key: &mut [u8]) -> Ver
     let mut entries = [0u32; 64];
     let mut u = [0u32; 6912];
     rows_state::state::reduce(f.q, f.n, state, &mut u[..n]);
-    reply::replier::lay_values(
+    wire::steps::lay_values(
         scheme,
         &u[..n],
         &state[3..67],

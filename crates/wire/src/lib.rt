@@ -11,6 +11,9 @@ ghost use Rattle.values.specs.Fit.{Counted};
 ghost use Rattle.refusals.specs.Refusals.{receivedIn};
 ghost use Rattle.wire.specs.Wire.{opening, packedAt, openedIn, repliedIn, numbersIn, hintsIn, coinsIn};
 ghost use Rattle.wire.specs.Again.{seedAt};
+
+pub mod steps;
+
 use refusals::Verdict;
 use schemes::Family;
 use schemes::Scheme;

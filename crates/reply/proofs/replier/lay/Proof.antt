@@ -17,10 +17,11 @@ use Rattle.refusals.proofs.Laws.{publics-passed, failed, went-on}
 use Rattle.refusals.proofs.Steps.{front-is, front-fits}
 use Rattle.values.specs.Values.{mixedValue}
 use Rattle.values.proofs.Ranges.{replied-counted, mixed-counted}
-use Rattle.reply.specs.Inside.{messageBy, keyBy, messageFrom, keyFrom}
+use Rattle.reply.specs.Inside.{messageFrom, keyFrom}
 use borrow.Author.Needs.{needs}
 use Rattle.reply.proofs.replier.lay.Statement.{statement}
 use Rattle.reply.proofs.replier.lay.Tie as tie
+use Rattle.wire.specs.Steps.{messageBy, keyBy}
 
 -- the places, from the last to the first
 abbrev told : tie.After-lay-values → tie.After-enum-told

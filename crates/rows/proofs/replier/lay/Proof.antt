@@ -15,7 +15,7 @@ use Rattle.refusals.specs.Seen.{ifPassed}
 use Rattle.refusals.proofs.Steps.{front-is, front-fits}
 use Rattle.values.specs.Fit.{Counted}
 use Rattle.values.proofs.Numbers.{numbers-in}
-use Rattle.reply.specs.Inside.{messageBy}
+use Rattle.wire.specs.Steps.{messageBy}
 use Rattle.rows_state.specs.State.{long, savedOf}
 use Rattle.rows_state.proofs.Tests.{frodos}
 use Rattle.rows.specs.Offer.{sentNumbers}
