@@ -35,12 +35,12 @@ use Rattle.agreement.proofs.Accepted.{gave, accepted}
 use Rattle.agreement.proofs.Agreement.{agreement}
 use Rattle.bench.specs.Bench.{Bench, BenchSeen, bits, differing, benchTests, keysDiffer, benchDiffers, benchSlack, benchShown, benchResult, benchTold}
 use Rattle.bench.specs.Inside.{comparison}
-use Rattle.bench.specs.Comparison.{FirstBit, BenchAccepts, BenchTells, BenchAgrees}
 use Rattle.bench.specs.declared.BenchAnswer.{BenchAnswer}
 use Rattle.bench.specs.declared.BenchAnswer.the-variants.{Agree, Differ}
 use Rattle.bench.proofs.Differing.{differing-none, differing-at}
 use Rattle.bench.proofs.Lamp.{same-long, own-bytes, peer-bytes, differs-is}
 use Rattle.bench.proofs.Shown.{bench-told-all}
+use Rattle.bench.specs.Shown.{FirstBit, BenchAccepts, BenchTells, BenchAgrees}
 
 -- ---- without a refusal
 

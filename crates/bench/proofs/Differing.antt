@@ -19,7 +19,7 @@ use Rattle.packing.specs.Packing.{packed}
 use Rattle.packing.proofs.Laws.{unpacked-length, pack-unpack}
 use Rattle.lists.specs.First.{firstApart}
 use Rattle.bench.specs.Bench.{bits, differing}
-use Rattle.bench.specs.Comparison.{FirstBit}
+use Rattle.bench.specs.Shown.{FirstBit}
 
 -- ---- lists
 

@@ -24,8 +24,8 @@ use Rattle.agreement.specs.Agreement.{Near}
 use Rattle.agreement.proofs.Tests.{sendable-by}
 use Rattle.agreement.proofs.Meeting.{keys-meet}
 use Rattle.bench.specs.Bench.{Bench, benchTests, keysDiffer, benchDiffers, benchSlack, benchShown}
-use Rattle.bench.specs.Lamp.{NeverDiffer, differedBefore, SameNumbers}
 use Rattle.bench.proofs.Differing.{differing-none}
+use Rattle.bench.specs.Shown.{NeverDiffer, differedBefore, SameNumbers}
 
 module _ (c : Scheme) (x : Bench) where
   pub same-long : length (replyKey (Known c) (replying c x)) ≡ length (finishKey (Known c) (finishing c x))
