@@ -2,8 +2,8 @@
 --   testsFromFinish c x, testsFromReply c x s, testsFromOffer c x   the tests that are still to come: x is what the call is lent, s what Finish will be
 --   Keyed v key out             where nothing is refused, a buffer holds the key
 --   FromFinish c x r peer       from Finish on: what it hands on, and the initiator's key
---   FromReply c x s r own peer  from Reply on, where Finish is lent its message and s: what it hands on, the initiator's key, and the replier's
---   FromOffer c x r own peer    from Offer on
+--   FromReply c x s r keys      from Reply on, where Finish is lent its message and s: what is handed on, and the replier's key before the initiator's
+--   FromOffer c x r keys        from Offer on
 --   agreed o                    what was handed on, as the BCNS bench's answer
 --   comparison d p              the answer without a refusal, where d says how the keys differ, and p is the slack
 use mathlib.Core.Path.{_≡_}
@@ -27,6 +27,7 @@ use Rattle.bench.specs.Bench.{Bench}
 use Rattle.bench.specs.declared.BcnsAnswer.{BcnsAnswer}
 use Rattle.bench.specs.declared.BenchAnswer.{BenchAnswer}
 use Rattle.bench.specs.declared.BenchAnswer.the-variants.{Agree, Differ}
+use lib.ListN.{take, drop}
 
 abbrev pub testsFromFinish : Scheme → Finish → Verdict
 testsFromFinish c x = finishTests (Known c) x (finishRoomsOf (fixedOf c .key) 32)
@@ -45,15 +46,15 @@ pub record FromFinish (c : Scheme) (x : Finish) (r : Outcome) (peer : List ℕ) 
   pub ended : r ≡ outcome (testsFromFinish c x) (finishSlack (Known c) x)
   pub peered : Keyed (testsFromFinish c x) (finishKey (Known c) x) peer
 
-pub record FromReply (c : Scheme) (x : Reply) (s : List ℤ) (r : Outcome) (own peer : List ℕ) : Type 0 where
+pub record FromReply (c : Scheme) (x : Reply) (s : List ℤ) (r : Outcome) (keys : List ℕ) : Type 0 where
   pub ended : r ≡ outcome (testsFromReply c x s) (finishSlack (Known c) (finishOf (replyMessage (Known c) x) s))
-  pub owned : Keyed (testsFromReply c x s) (replyKey (Known c) x) own
-  pub peered : Keyed (testsFromReply c x s) (finishKey (Known c) (finishOf (replyMessage (Known c) x) s)) peer
+  pub owned : Keyed (testsFromReply c x s) (replyKey (Known c) x) (take (fixedOf c .key) keys)
+  pub peered : Keyed (testsFromReply c x s) (finishKey (Known c) (finishOf (replyMessage (Known c) x) s)) (drop (fixedOf c .key) keys)
 
-pub record FromOffer (c : Scheme) (x : Bench) (r : Outcome) (own peer : List ℕ) : Type 0 where
+pub record FromOffer (c : Scheme) (x : Bench) (r : Outcome) (keys : List ℕ) : Type 0 where
   pub ended : r ≡ outcome (testsFromOffer c x) (finishSlack (Known c) (finishing c x))
-  pub owned : Keyed (testsFromOffer c x) (replyKey (Known c) (replying c x)) own
-  pub peered : Keyed (testsFromOffer c x) (finishKey (Known c) (finishing c x)) peer
+  pub owned : Keyed (testsFromOffer c x) (replyKey (Known c) (replying c x)) (take (fixedOf c .key) keys)
+  pub peered : Keyed (testsFromOffer c x) (finishKey (Known c) (finishing c x)) (drop (fixedOf c .key) keys)
 
 abbrev pub comparison : ℕ → Peak → BenchAnswer
 comparison zero p = Agree p

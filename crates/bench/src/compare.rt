@@ -1,7 +1,7 @@
 // Two keys bit by bit, lowest first through the bytes.
 ghost use mathlib.Core.Path.{_≡_};
-ghost use Prim.Native.Nat.{_*_, _≤_};
-ghost use lib.ListN.{length};
+ghost use Prim.Native.Nat.{_*_, _≤_, _+_};
+ghost use lib.ListN.{length, take, drop};
 ghost use Rattle.lists.specs.Lent.{was};
 ghost use Rattle.bench.specs.Bench.{differing};
 ghost use Rattle.bench.specs.Inside.{comparison};
@@ -23,13 +23,13 @@ fn by_bits(own: &[u8], peer: &[u8], slack: Peak, x: &mut [u32], y: &mut [u32]) -
     }
 }
 
-// Lends `by_bits` room for the bits of a key, of which no scheme has more than 1024.
-pub(crate) fn keys(own: &[u8], peer: &[u8], slack: Peak) -> BenchAnswer
-    requires { ⌜ (length (now own) ≤ 128) × (length (now own) ≡ length (now peer)) ⌝ }
-    ensures { λ r. ⌜ r ≡ comparison (differing (was own) (was peer)) slack ⌝ }
+// Two keys of k bytes, one behind the other, with room for the bits of each, of which no scheme has more than 1024.
+pub(crate) fn both(k: usize, keys: &[u8], slack: Peak) -> BenchAnswer
+    requires { ⌜ (k ≤ 128) × (length (now keys) ≡ k + k) ⌝ }
+    ensures { λ r. ⌜ r ≡ comparison (differing (take k (was keys)) (drop k (was keys))) slack ⌝ }
 {
     let mut x = [0u32; 1024];
     let mut y = [0u32; 1024];
-    let n = 8 * own.len();
-    by_bits(own, peer, slack, &mut x[..n], &mut y[..n])
+    let n = 8 * k;
+    by_bits(&keys[..k], &keys[k..], slack, &mut x[..n], &mut y[..n])
 }

@@ -2,6 +2,7 @@
 // `requires`: it answers agree, differ with the first differing key bit, or the first refusal of Offer or Reply, and passes on the slack that Finish used.
 // Messages, keys and digests stay inside.
 ghost use mathlib.Core.Path.{_≡_};
+ghost use Prim.Native.Nat.{_+_};
 ghost use lib.ListN.{length};
 ghost use Rattle.schemes.specs.Schemes.{fixedOf, schemeOf};
 ghost use Rattle.schemes.specs.declared.Named.the-variants.{Known};
@@ -20,7 +21,6 @@ use refusals::Answer;
 use refusals::Outcome;
 use refusals::Refusal;
 use reply::ReplyAnswer;
-use schemes::Bcns;
 use schemes::FrodoParanoid;
 use schemes::Named;
 use schemes::Scheme;
@@ -39,17 +39,12 @@ pub enum BcnsAnswer {
 }
 
 // From Finish on: the initiator's key into peer.
-fn from_finish(
-    scheme: Scheme,
-    reply: &[u8],
-    s: &[i32],
-    peer: &mut [u8],
-    digest: &mut [u8],
-) -> Outcome
-    requires { ⌜ (length (now peer) ≡ fixedOf scheme .key) × (length (now digest) ≡ 32) ⌝ }
+fn from_finish(scheme: Scheme, reply: &[u8], s: &[i32], peer: &mut [u8]) -> Outcome
+    requires { ⌜ length (now peer) ≡ fixedOf scheme .key ⌝ }
     ensures { λ r. ⌜ FromFinish scheme (finish reply s) r (left peer) ⌝ }
 {
-    let v = finish::finish(scheme.number(), reply, s, peer, digest);
+    let mut digest = [0u8; 32];
+    let v = finish::finish(scheme.number(), reply, s, peer, &mut digest);
     match v {
         FinishAnswer::Refused(r) => Outcome::Refused(r),
         FinishAnswer::Done(n) => {
@@ -59,7 +54,7 @@ fn from_finish(
     }
 }
 
-// From Reply on: the reply message into reply, the replier's key into own.
+// From Reply on: the replier's key into the front half of keys, the initiator's into the other. Frodo Paranoid has the longest reply.
 fn from_reply(
     scheme: Scheme,
     opening: &[u8],
@@ -69,15 +64,16 @@ fn from_reply(
     e1: &[i32],
     e2: &[i32],
     coins: &[u8],
-    reply: &mut [u8],
-    own: &mut [u8],
-    peer: &mut [u8],
-    digest: &mut [u8],
+    keys: &mut [u8],
 ) -> Outcome
-    requires { ⌜ length (now reply) ≡ fixedOf scheme .reply ⌝ }
-    requires { ⌜ (length (now own) ≡ fixedOf scheme .key) × (length (now peer) ≡ fixedOf scheme .key) × (length (now digest) ≡ 32) ⌝ }
-    ensures { λ r. ⌜ FromReply scheme (lent.reply opening a s1 e1 e2 coins) (was s) r (left own) (left peer) ⌝ }
+    requires { ⌜ length (now keys) ≡ fixedOf scheme .key + fixedOf scheme .key ⌝ }
+    ensures { λ r. ⌜ FromReply scheme (lent.reply opening a s1 e1 e2 coins) (was s) r (left keys) ⌝ }
 {
+    let f = scheme.fixed();
+    let n = f.reply;
+    let k = f.key;
+    let mut reply = [0u8; FrodoParanoid::REPLY];
+    let mut digest = [0u8; 32];
     let v = reply::reply(
         scheme.number(),
         opening,
@@ -86,17 +82,17 @@ fn from_reply(
         e1,
         e2,
         coins,
-        reply,
-        own,
-        digest,
+        &mut reply[..n],
+        &mut keys[..k],
+        &mut digest,
     );
     match v {
         ReplyAnswer::Refused(r) => Outcome::Refused(r),
-        ReplyAnswer::Done(_) => from_finish(scheme, reply, s, peer, digest),
+        ReplyAnswer::Done(_) => from_finish(scheme, &reply[..n], s, &mut keys[k..]),
     }
 }
 
-// From Offer on: the opening message into opening.
+// From Offer on. Frodo Paranoid has the longest opening.
 fn from_offer(
     scheme: Scheme,
     a: &[u32],
@@ -107,33 +103,18 @@ fn from_offer(
     e1: &[i32],
     e2: &[i32],
     coins: &[u8],
-    opening: &mut [u8],
-    reply: &mut [u8],
-    own: &mut [u8],
-    peer: &mut [u8],
-    digest: &mut [u8],
+    keys: &mut [u8],
 ) -> Outcome
-    requires { ⌜ (length (now opening) ≡ fixedOf scheme .opening) × (length (now reply) ≡ fixedOf scheme .reply) ⌝ }
-    requires { ⌜ (length (now own) ≡ fixedOf scheme .key) × (length (now peer) ≡ fixedOf scheme .key) × (length (now digest) ≡ 32) ⌝ }
-    ensures { λ r. ⌜ FromOffer scheme (bench a s e seed s1 e1 e2 coins) r (left own) (left peer) ⌝ }
+    requires { ⌜ length (now keys) ≡ fixedOf scheme .key + fixedOf scheme .key ⌝ }
+    ensures { λ r. ⌜ FromOffer scheme (bench a s e seed s1 e1 e2 coins) r (left keys) ⌝ }
 {
-    let v = offer::offer(scheme.number(), a, s, e, seed, opening);
+    let f = scheme.fixed();
+    let m = f.opening;
+    let mut opening = [0u8; FrodoParanoid::OPENING];
+    let v = offer::offer(scheme.number(), a, s, e, seed, &mut opening[..m]);
     match v {
         Answer::Refused(r) => Outcome::Refused(r),
-        Answer::Done(_) => from_reply(
-            scheme,
-            opening,
-            a,
-            s,
-            s1,
-            e1,
-            e2,
-            coins,
-            reply,
-            own,
-            peer,
-            digest,
-        ),
+        Answer::Done(_) => from_reply(scheme, &opening[..m], a, s, s1, e1, e2, coins, keys),
     }
 }
 
@@ -148,40 +129,21 @@ fn run(
     e1: &[i32],
     e2: &[i32],
     coins: &[u8],
-    opening: &mut [u8],
-    reply: &mut [u8],
-    own: &mut [u8],
-    peer: &mut [u8],
-    digest: &mut [u8],
+    keys: &mut [u8],
 ) -> BenchAnswer
-    requires { ⌜ (length (now opening) ≡ fixedOf scheme .opening) × (length (now reply) ≡ fixedOf scheme .reply) ⌝ }
-    requires { ⌜ (length (now own) ≡ fixedOf scheme .key) × (length (now peer) ≡ fixedOf scheme .key) × (length (now digest) ≡ 32) ⌝ }
+    requires { ⌜ length (now keys) ≡ fixedOf scheme .key + fixedOf scheme .key ⌝ }
     ensures { λ r. ⌜ benchTold r ≡ benchResult (Known scheme) (bench a s e seed s1 e1 e2 coins) ⌝ }
 {
-    let v = from_offer(
-        scheme,
-        a,
-        s,
-        e,
-        seed,
-        s1,
-        e1,
-        e2,
-        coins,
-        opening,
-        reply,
-        own,
-        peer,
-        digest,
-    );
+    let f = scheme.fixed();
+    let k = f.key;
+    let v = from_offer(scheme, a, s, e, seed, s1, e1, e2, coins, keys);
     match v {
         Outcome::Refused(r) => BenchAnswer::Refused(r),
-        Outcome::Slack(used) => compare::keys(own, peer, used),
+        Outcome::Slack(used) => compare::both(k, keys, used),
     }
 }
 
-// `run` with room for messages and keys, each with just the bytes that it has in the scheme, and for one digest, which both ends write. Frodo Paranoid has the
-// longest messages, and BCNS the longest key.
+// `run` with room for two keys, of which BCNS has the longest.
 fn bench_in(
     scheme: Scheme,
     a: &[u32],
@@ -196,30 +158,9 @@ fn bench_in(
     ensures { λ r. ⌜ benchTold r ≡ benchResult (Known scheme) (bench a s e seed s1 e1 e2 coins) ⌝ }
 {
     let f = scheme.fixed();
-    let m = f.opening;
-    let n = f.reply;
-    let k = f.key;
-    let mut opening = [0u8; FrodoParanoid::OPENING];
-    let mut reply = [0u8; FrodoParanoid::REPLY];
-    let mut own = [0u8; Bcns::KEY];
-    let mut peer = [0u8; Bcns::KEY];
-    let mut digest = [0u8; 32];
-    run(
-        scheme,
-        a,
-        s,
-        e,
-        seed,
-        s1,
-        e1,
-        e2,
-        coins,
-        &mut opening[..m],
-        &mut reply[..n],
-        &mut own[..k],
-        &mut peer[..k],
-        &mut digest,
-    )
+    let n = f.key + f.key;
+    let mut keys = [0u8; 256];
+    run(scheme, a, s, e, seed, s1, e1, e2, coins, &mut keys[..n])
 }
 
 // What was handed on, as the BCNS bench's answer.
@@ -232,7 +173,7 @@ fn agreed(v: Outcome) -> BcnsAnswer
     }
 }
 
-// Both ends in BCNS. No keys are compared: whatever is not refused agrees (specs/Lamp).
+// Both ends in BCNS. No keys are compared: whatever is not refused agrees (`NeverDiffer`).
 pub fn bcns(
     a: &[u32],
     s: &[i32],
@@ -245,27 +186,8 @@ pub fn bcns(
 ) -> BcnsAnswer
     ensures { λ r. ⌜ bcnsTold r ≡ benchResult (Known variants.Bcns) (bench a s e seed s1 e1 e2 coins) ⌝ }
 {
-    let mut opening = [0u8; Bcns::OPENING];
-    let mut reply = [0u8; Bcns::REPLY];
-    let mut own = [0u8; Bcns::KEY];
-    let mut peer = [0u8; Bcns::KEY];
-    let mut digest = [0u8; 32];
-    let v = from_offer(
-        Scheme::Bcns,
-        a,
-        s,
-        e,
-        seed,
-        s1,
-        e1,
-        e2,
-        coins,
-        &mut opening,
-        &mut reply,
-        &mut own,
-        &mut peer,
-        &mut digest,
-    );
+    let mut keys = [0u8; 256];
+    let v = from_offer(Scheme::Bcns, a, s, e, seed, s1, e1, e2, coins, &mut keys);
     agreed(v)
 }
 

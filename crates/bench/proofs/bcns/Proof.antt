@@ -20,14 +20,4 @@ returns c =
     bcns-answered x _ (p .from-offer .ensures) (g .agreed .ensures)
 
 pub bcns-spec : {M : Type 1} → statement M
-bcns-spec =
-    tie.close
-    (tie.spec
-    (search needs)
-    (search needs)
-    (search needs)
-    (search needs)
-    (search needs)
-    (λ c κs. search needs)
-    (λ c κs. search needs)
-    returns)
+bcns-spec = tie.close (tie.spec (search needs) (λ c κs. search needs) (λ c κs. search needs) returns)

@@ -35,12 +35,11 @@ from-finish-spec =
     tie.close
     (tie.spec
     (λ c κs. search needs)
+    (search needs)
     (λ c κs. search needs)
     (search needs)
     (search needs)
     (search needs)
-    (search needs)
     returns
-    (search needs)
     (search needs)
     returns-2)
