@@ -1,5 +1,6 @@
-//! Links the archive that `native kernels` writes; the library's own is linked
-//! by its package. Where Botan's headers are found, its NewHope is built in.
+//! Links the archive that `native kernels` writes, in the folder that WIMMOSTRY_LIB_DIR
+//! names as for the library's own, which is linked by its package. Where Botan's
+//! headers are found, its NewHope is built in.
 
 use std::env::var;
 use std::path::Path;
@@ -7,7 +8,8 @@ use std::process::Command;
 
 fn main() {
     let root = var("CARGO_MANIFEST_DIR").expect("cargo sets it");
-    let native = format!("{root}/../target/native");
+    let native = var("WIMMOSTRY_LIB_DIR").unwrap_or(format!("{root}/../target/native"));
+    println!("cargo:rerun-if-env-changed=WIMMOSTRY_LIB_DIR");
     println!("cargo:rustc-link-search=native={native}");
     println!("cargo:rustc-link-lib=static=kernels");
     println!("cargo:rerun-if-changed={native}/libkernels.a");

@@ -1,7 +1,7 @@
 //! Each call beside what it cannot take less than, all measured in this run: the
 //! bytes lent are read by a plain loop from a buffer of as many, again and again,
 //! so that they lie in the same cache; products are made in registers, as wide as
-//! the kit's target has them; a permutation is that of the long SHAKE-128.
+//! the level that the archive is for has them; a permutation is that of the long SHAKE-128.
 
 use super::by_rows::ByRows;
 use super::calls::Exchange;
@@ -18,13 +18,28 @@ use second::schemes::{Family, Scheme, SIX};
 use std::arch::asm;
 use std::hint::black_box;
 
-/// Turns of the loop below, each of 12 instructions of 8 products: as many as
-/// hide that each has to wait for the one before it in its register.
+/// Turns of the loop below, each of 12 instructions of as many products as a vector
+/// holds: as many as hide that each has to wait for the one before it in its register.
 const TURNS: usize = 1000;
-const PRODUCTS: usize = TURNS * 12 * 8;
+const VECTOR: usize = if cfg!(target_feature = "avx2") { 16 } else { 8 };
+const PRODUCTS: usize = TURNS * 12 * VECTOR;
+
+/// AVX2, which x86-64-v3 has.
+#[cfg(target_feature = "avx2")]
+fn multiply() {
+    unsafe {
+        asm!("2:",
+            "vpmaddwd ymm0, ymm0, ymm12", "vpmaddwd ymm1, ymm1, ymm12", "vpmaddwd ymm2, ymm2, ymm12", "vpmaddwd ymm3, ymm3, ymm12",
+            "vpmaddwd ymm4, ymm4, ymm12", "vpmaddwd ymm5, ymm5, ymm12", "vpmaddwd ymm6, ymm6, ymm12", "vpmaddwd ymm7, ymm7, ymm12",
+            "vpmaddwd ymm8, ymm8, ymm12", "vpmaddwd ymm9, ymm9, ymm12", "vpmaddwd ymm10, ymm10, ymm12", "vpmaddwd ymm11, ymm11, ymm12",
+            "dec {turns}", "jnz 2b", turns = inout(reg) TURNS => _,
+            out("ymm0") _, out("ymm1") _, out("ymm2") _, out("ymm3") _, out("ymm4") _, out("ymm5") _, out("ymm6") _,
+            out("ymm7") _, out("ymm8") _, out("ymm9") _, out("ymm10") _, out("ymm11") _, options(nomem, nostack));
+    }
+}
 
 /// SSE2, which every x86-64 processor has.
-#[cfg(target_arch = "x86_64")]
+#[cfg(all(target_arch = "x86_64", not(target_feature = "avx2")))]
 fn multiply() {
     unsafe {
         asm!("2:",

@@ -5,6 +5,7 @@ mod by_rows;
 mod calls;
 pub mod growth;
 mod kernels;
+mod levels;
 mod limits;
 mod products;
 mod seeds;
@@ -33,9 +34,10 @@ pub struct Part {
 }
 
 /// Those of one name are measured together.
-pub static PARTS: [Part; 12] = [
+pub static PARTS: [Part; 13] = [
     Part { name: "kernels", columns: &["kernel", "ns", "plain code", "ns", "ratio"], rows: kernels::rows },
     Part { name: "calls", columns: &["call", "ns", "against", "ns", "ratio"], rows: calls::rows },
+    Part { name: "levels", columns: &["call for x86-64-v3", "ns", "against", "ns", "ratio"], rows: levels::rows },
     Part { name: "products", columns: &["product by halves", "ns", "against", "ns", "ratio"], rows: products::rows },
     Part { name: "seeds", columns: &["hash, or call from bytes", "ns", "against", "ns", "ratio"], rows: seeds::rows },
     Part { name: "tests", columns: &["call refused by its last range test", "ns", "against", "ns", "ratio"], rows: tests::rows },
