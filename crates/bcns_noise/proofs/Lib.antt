@@ -1,3 +1,4 @@
 pub mod Words
 pub mod Sign
 pub mod Table
+pub mod Limbs

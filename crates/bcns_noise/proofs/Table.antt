@@ -1,7 +1,6 @@
 -- The table: its entries, what is drawn by it, and the search for an entry that is not above its forerunner.
 --   entries-long, entry-at   how many entries there are, and which
 --   byte-le, count-entry     a test as a number, added to the count at each turn
---   value-is                 a value from its parts, as the code forms them
 --   noise-long               25 bytes a value
 --   largest, largest-51      no value lies beyond the number of entries
 --   falls-behind             the test of an entry that has a forerunner
@@ -25,7 +24,6 @@ use Rattle.noise.specs.Noise.{atMost, withSign}
 use Rattle.noise.proofs.Noise.{at-most-le, sign-size, Counted, counted-more}
 use Rattle.bcns_noise.specs.Noise.{wide, entryOf, entries, bigEndian, bcnsValue, bcnsNoise, falls, firstNotAbove}
 use Rattle.bcns_noise.specs.Shown.{Largest, Largest51, Ascending, Ascends, Place, EachPlace}
-use Rattle.bcns_noise.proofs.Words.{big-wide}
 
 pub entries-long : (table : List ℕ) → length (entries table) ≡ length table / 3
 unfolding entries
@@ -51,14 +49,6 @@ pub count-entry :
 count-entry table {v} {k} {size} r c h e =
     counted-more c _ (omega (arith, entries-long table))
     (one-more size r ∙ ap (λ (b : Bool). cond b (size + 1) size) (e ∙ ap (λ (n : ℕ). leb n v) (sym (entry-at table k h))))
-
-pub value-is :
-    (table bs : List ℕ) (k : ℕ) {n x y z : ℕ} → n ≡ atMost (entries table) (wide x y z) → x ≡ bigEndian bs (25 * k) 8 → y ≡ bigEndian bs (25 * k + 8) 8
-    → z ≡ bigEndian bs (25 * k + 16) 8 → withSign (getD bs (25 * k + 24) 0) n ≡ bcnsValue table bs k
-unfolding bcnsValue
-value-is table bs k {n} {x} {y} {z} en ex ey ez =
-    let v : wide x y z ≡ bigEndian bs (25 * k) 24 = rw (ex, ey, ez) (sym (big-wide bs (25 * k))) in
-    ap (λ (m : ℕ). withSign (getD bs (25 * k + 24) 0) m) (en ∙ ap (atMost (entries table)) v)
 
 pub noise-long : (table bs : List ℕ) → length (bcnsNoise table bs) ≡ length bs / 25
 unfolding bcnsNoise

@@ -1,8 +1,8 @@
 -- Numbers as words and as bytes.
 --   words-order   the order of the words, highest first, is the order of the numbers
 --   big-join      the number of some bytes and those behind them
---   big-two, big-four, big-eight   of 2, 4 and 8 bytes, from their halves
 --   big-wide      24 bytes are three words
+--   big-three     three bytes
 use mathlib.Core.Path.{_≡_, _∙_, sym, ap, ap₂}
 use mathlib.Core.Bool.{Bool, _&&_, _||_}
 use mathlib.Core.List.{List}
@@ -72,13 +72,6 @@ pub big-wide : (bs : List ℕ) (at : ℕ) → bigEndian bs at 24 ≡ wide (bigEn
 unfolding wide
 big-wide bs at = big-join bs at 16 8 ∙ ap (λ (n : ℕ). n * 2 ^ 64 + bigEndian bs (at + 16) 8) (big-join bs at 8 8)
 
--- from their halves
-pub big-two : (bs : List ℕ) (at : ℕ) → getD bs at 0 * 256 + getD bs (at + 1) 0 ≡ bigEndian bs at 2
+pub big-three : (bs : List ℕ) (at : ℕ) → getD bs at 0 * 65536 + getD bs (at + 1) 0 * 256 + getD bs (at + 2) 0 ≡ bigEndian bs at 3
 unfolding bigEndian
-big-two bs at = let e : at ≡ at + 0 = omega arith in ap (λ (k : ℕ). getD bs k 0 * 256 + getD bs (at + 1) 0) e ∙ omega arith
-
-pub big-four : (bs : List ℕ) (at : ℕ) → bigEndian bs at 2 * 65536 + bigEndian bs (at + 2) 2 ≡ bigEndian bs at 4
-big-four bs at = sym (big-join bs at 2 2)
-
-pub big-eight : (bs : List ℕ) (at : ℕ) → bigEndian bs at 4 * 4294967296 + bigEndian bs (at + 4) 4 ≡ bigEndian bs at 8
-big-eight bs at = sym (big-join bs at 4 4)
+big-three bs at = let e : at ≡ at + 0 = omega arith in ap (λ (k : ℕ). getD bs k 0 * 65536 + getD bs (at + 1) 0 * 256 + getD bs (at + 2) 0) e ∙ omega arith

@@ -1,2 +1,3 @@
 pub mod Noise
 pub mod Shown
+pub mod Limbs

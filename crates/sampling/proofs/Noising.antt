@@ -2,8 +2,7 @@
 --   tests-by, count-by   its tests, and how many values the bytes give, by the family of the scheme
 --   count                how many values there are
 --   Fits, sizes-passed, tests-passed   what passed tests say of the lengths
---   few                  no table that passes has more than 153 words
---   takes, filled        the bytes and the values of a scheme that is known by its name
+--   takes, words, filled   the bytes, the table and the values of a scheme that is known by its name
 --   noise-unknown, noise-named   what is seen where no scheme is named, and under another name and room
 use mathlib.Core.Path.{_≡_, refl, _∙_, sym, ap}
 use mathlib.Core.Bool.{Bool, true, false}
@@ -102,16 +101,14 @@ module _ (c : Scheme) (x : Noise) (n : ℕ) where
   unfolding noiseTests noiseSizes
   tests-passed e = sizes-passed (bytesEach c) (tableWords c) (whole-in (familyOf c)) (both _ _ e .0)
 
-pub few : (F : Family) {m : ℕ} → m ≡ byFamily F 153 0 0 → m ≤ 153
-few Family.Bcns e = omega arith
-few Family.NewHope e = omega arith
-few Family.Frodo e = omega arith
-
 -- ---- the values
 
 module _ {c t : Scheme} (x : Noise) (e : c ≡ t) where
   pub takes : (n : ℕ) → length (x .bytes) ≡ eachIn (familyOf c) * n → length (x .bytes) ≡ eachIn (familyOf t) * n
   takes n h = h ∙ ap (λ (s : Scheme). eachIn (familyOf s) * n) e
+
+  pub words : length (x .table) ≡ wordsIn (familyOf c) → length (x .table) ≡ wordsIn (familyOf t)
+  words h = h ∙ ap (λ (s : Scheme). wordsIn (familyOf s)) e
 
   pub filled : {out : List ℤ} → out ≡ noiseValues (Known t) x → out ≡ noiseValues (Known c) x
   filled o = rw e o

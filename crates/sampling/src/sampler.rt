@@ -87,7 +87,7 @@ fn noise_count(s: Scheme, bytes: &[u8]) -> usize
 
 // The values, into the part that they fill.
 fn noise_fill(s: Scheme, bytes: &[u8], table: &[u64], out: &mut [i32])
-    requires { ⌜ (length (now bytes) ≡ byFamily (familyOf s) 25 4 2 * length (now out)) × (length (now table) ≤ 153) ⌝ }
+    requires { ⌜ (length (now bytes) ≡ byFamily (familyOf s) 25 4 2 * length (now out)) × (length (now table) ≡ byFamily (familyOf s) 153 0 0) ⌝ }
     ensures { λ _. ⌜ left out ≡ noiseValues (Known s) (noise bytes table) ⌝ }
 {
     match s {

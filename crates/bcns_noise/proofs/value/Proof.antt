@@ -1,23 +1,52 @@
--- `bcns_noise::value` meets its contract: three words of eight bytes, a count and a sign.
-use mathlib.Core.Path.{_∙_}
+-- `bcns_noise::value` meets its contract: eight limbs of three bytes, a count and a sign.
+use mathlib.Core.Path.{_∙_, refl}
+use native.Mathlib.Omega.{arith}
 use borrow.Author.Needs.{needs}
 use mir.Facts.{toZ-ofZ}
-use Rattle.bcns_noise.proofs.Table.{value-is}
+use Rattle.bcns_noise.proofs.Limbs.{eight-below, number-eight, value-is}
 use Rattle.bcns_noise.proofs.value.Statement.{statement}
 use Rattle.bcns_noise.proofs.value.Tie as tie
 
+count-requires : tie.Need-count-requires
+count-requires c κs =
+    let s : tie.Start = search needs in
+    let x1 : tie.After-three = search needs in
+    let x2 : tie.After-three2 = search needs in
+    let x3 : tie.After-three3 = search needs in
+    let x4 : tie.After-three4 = search needs in
+    let x5 : tie.After-three5 = search needs in
+    let x6 : tie.After-three6 = search needs in
+    let x7 : tie.After-three7 = search needs in
+    let x8 : tie.After-three8 = search needs in
+    record {
+      long = s .pre .0 .long;
+      eight = refl;
+      column = omega arith;
+      small = s .pre .0 .small;
+      below = eight-below (x1 .three .ensures .1) (x2 .three2 .ensures .1) (x3 .three3 .ensures .1) (x4 .three4 .ensures .1) (x5 .three5 .ensures .1) (x6 .three6 .ensures .1) (x7 .three7 .ensures .1) (x8 .three8 .ensures .1);
+    }
+
+-- the places of the eight limbs lie too far back to be searched for
 returns : tie.Need-returns
 returns c =
-    let a : tie.Start = search needs in
-    let x : tie.After-eight = search needs in
-    let y : tie.After-eight2 = search needs in
-    let z : tie.After-eight3 = search needs in
     let n : tie.After-count = search needs in
+    let x8 = c .before .before .before .before in
+    let x7 = x8 .before in
+    let x6 = x7 .before in
+    let x5 = x6 .before in
+    let x4 = x5 .before in
+    let x3 = x4 .before in
+    let x2 = x3 .before in
+    let x1 = x2 .before in
+    let s = x1 .before .before .before .before in
     toZ-ofZ (record { sfits = c .signed .ok })
     ∙ c .signed .ensures
-    ∙ value-is (a .args .table .now) (a .args .bytes .now) (a .args .k) (n .count .ensures .0) (x .eight .ensures) (y .eight2 .ensures) (z .eight3 .ensures)
+    ∙ value-is (s .pre .0) (s .pre .1) (eight-below (x1 .three .ensures .1) (x2 .three2 .ensures .1) (x3 .three3 .ensures .1) (x4 .three4 .ensures .1) (x5 .three5 .ensures .1) (x6 .three6 .ensures .1) (x7 .three7 .ensures .1) (x8 .three8 .ensures .1)) (s .args .bytes .now) (s .args .k)
+    (number-eight (s .args .bytes .now) _ (x1 .three .ensures .0) (x2 .three2 .ensures .0) (x3 .three3 .ensures .0) (x4 .three4 .ensures .0) (x5 .three5 .ensures .0) (x6 .three6 .ensures .0) (x7 .three7 .ensures .0) (x8 .three8 .ensures .0)) (n .count .ensures .0)
 
 pub value-spec : {M : Type 1} → statement M
 value-spec =
     tie.close
-    (tie.spec (search needs) (search needs) (search needs) (search needs) (search needs) (search needs) (search needs) (search needs) (search needs) (search needs) returns)
+    (tie.spec (search needs) (λ c κs. search needs) (search needs) (λ c κs. search needs) (search needs) (λ c κs. search needs) (search needs) (λ c κs. search needs)
+    (search needs) (λ c κs. search needs) (search needs) (λ c κs. search needs) (search needs) (λ c κs. search needs) (search needs) (λ c κs. search needs) (search needs)
+    count-requires (search needs) (search needs) (λ c κs. search needs) returns)

@@ -2,25 +2,27 @@
 use mathlib.Core.Path.{_≡_}
 use mathlib.Core.List.{List}
 use Prim.Native.Nat.{_*_}
-use native.Mathlib.Omega.{arith}
 use lib.IntN.{ℤ}
 use lib.ListN.{length}
 use Rattle.schemes.specs.Schemes.{familyOf, byFamily}
 use Rattle.schemes.specs.declared.Scheme.{Scheme}
 use Rattle.schemes.specs.declared.Named.the-variants.{Known}
 use Rattle.sampling.specs.Noise.{Noise, noiseOf, noiseValues}
-use Rattle.sampling.proofs.Noising.{takes, filled}
+use Rattle.sampling.proofs.Noising.{takes, words, filled}
 use borrow.Author.Needs.{needs}
 use Rattle.sampling.proofs.sampler.noise_fill.Statement.{statement}
 use Rattle.sampling.proofs.sampler.noise_fill.Tie as tie
 
--- in every arm, where s is t: the bytes are those of so many values, and the values of t are those of s
+-- in every arm, where s is t: the bytes are those of so many values, the words are those of its table, and the values of t are those of s
 module _ (b : tie.Start) {t : Scheme} (e : b .args .s ≡ t) where
   abbrev lent : Noise
   lent = noiseOf (b .args .bytes .now) (b .args .table .now)
 
   bytes-of : length (b .args .bytes .now) ≡ byFamily (familyOf t) 25 4 2 * length (b .args .out .now)
   bytes-of = takes lent e _ (b .pre .0)
+
+  words-of : length (b .args .table .now) ≡ byFamily (familyOf t) 153 0 0
+  words-of = words lent e (b .pre .1)
 
   values-of : {out : List ℤ} → out ≡ noiseValues (Known t) lent → out ≡ noiseValues (Known (b .args .s)) lent
   values-of o = filled lent e o
@@ -31,7 +33,7 @@ noise-fill-spec =
     tie.close
     (tie.spec
     (search needs)
-    (λ c κs. let b : tie.Start = search needs in (omega (arith, b .pre .1), bytes-of b (c .before .enum-told .given .1)))
+    (λ c κs. let b : tie.Start = search needs in let e = c .before .enum-told .given .1 in (words-of b e, bytes-of b e))
     (search needs)
     (λ c κs. let b : tie.Start = search needs in bytes-of b (c .before .enum-told2 .given .1))
     (search needs)

@@ -1,4 +1,4 @@
--- `bcns_noise::values` meets its contract: it fills with the values of the bytes.
+-- `bcns_noise::fill` meets its contract: it fills with the values of the bytes.
 use mathlib.Core.Path.{_≡_, _∙_}
 use Prim.Native.Nat.{_-_, _/_}
 use native.Mathlib.Omega.{arith}
@@ -7,20 +7,20 @@ use lib.ListN.{length, length-set}
 use mir.Facts.{toZ-ofZ}
 use Rattle.lists.proofs.Fill.{Filled, fill-start, fill-next, fill-end}
 use Rattle.bcns_noise.specs.Noise.{bcnsValue, bcnsNoise}
-use Rattle.bcns_noise.proofs.values.Statement.{statement}
-use Rattle.bcns_noise.proofs.values.Tie as tie
+use Rattle.bcns_noise.proofs.fill.Statement.{statement}
+use Rattle.bcns_noise.proofs.fill.Tie as tie
 
 abbrev Inv-loop : tie.InvT-loop
-Inv-loop table bytes out₀ i₀ out i = Filled (bcnsValue table bytes) out₀ out i
+Inv-loop table t bytes out₀ i₀ out i = Filled (bcnsValue table bytes) out₀ out i
 
 abbrev μ-loop : tie.MeasureT-loop
-μ-loop table bytes out₀ i₀ out i = length out - i
+μ-loop table t bytes out₀ i₀ out i = length out - i
 
 loop-holds : tie.Need-loop-holds Inv-loop μ-loop
 loop-holds c = fill-start _ _
 
 value-requires : tie.Need-value-requires Inv-loop μ-loop
-value-requires c κs = let b : tie.Start Inv-loop μ-loop = search needs in (b .pre .0, omega arith)
+value-requires c κs = let b : tie.Start Inv-loop μ-loop = search needs in (b .pre .0, b .pre .1, omega arith)
 
 loop-less : tie.Need-loop-less Inv-loop μ-loop
 loop-less c = simp length-set (omega arith)
@@ -42,7 +42,7 @@ returns c =
     let e : length (b .args .out .now) ≡ length (b .args .bytes .now) / 25 = omega arith in
     rw (← e) (fill-end (l .loop .inv) (omega arith))
 
-pub values-spec : {M : Type 1} → statement M
-values-spec =
+pub fill-spec : {M : Type 1} → statement M
+fill-spec =
     tie.close
     (tie.spec Inv-loop μ-loop loop-holds value-requires (λ c. omega arith) (λ c. omega arith) (λ c. omega arith) loop-less loop-again same-length returns)
