@@ -1,3 +1,4 @@
 pub mod Noise
 pub mod Stream
 pub mod Cards
+pub mod Blocks
