@@ -292,7 +292,7 @@
  * x86-64. On Arm it was measured before the products that stand now: no call took more than here.
  *
  *     wim_offer 102              wim_reply 125              wim_finish 105
- *     wim_noise 1                wim_expand 1               wim_grow 6
+ *     wim_noise 3                wim_expand 1               wim_grow 6
  *     wim_shake128 2             wim_sha3_256 2             wim_product 1
  *     wim_bench 159              wim_session_offer 103      wim_session_reply 126
  *     wim_session_finish 105     wim_session_close 1        wim_rack_offer 103

@@ -5,7 +5,7 @@
 pub const wim_offer: usize = 102;
 pub const wim_reply: usize = 125;
 pub const wim_finish: usize = 105;
-pub const wim_noise: usize = 1;
+pub const wim_noise: usize = 3;
 pub const wim_expand: usize = 1;
 pub const wim_grow: usize = 6;
 pub const wim_shake128: usize = 2;
