@@ -1,0 +1,165 @@
+-- Noise values of random bytes, and what they are made of.
+--   seen-fails, seen-whole       what is seen of a refusal says that the tests have failed with it; what is seen without one, that an answer fills its output
+--   lengths-by                   how much is lent and taken, by the family of the scheme
+--   secret-few, mixed-few        no values take more bytes than these
+--   draws-secret, draws-mixed    what `draw` asks, of the bytes of s, e, s' or e', and of e''
+--   sliced                       a part of the random bytes as the code lends it
+--   drawn-long                   how many values they are
+--   draw-failed, draw-passed     what `draw` gives, by Noise's answer
+--   drew-as                      the same under another name
+use mathlib.Core.Path.{_≡_, refl, _∙_, sym, ap, ap₂}
+use mathlib.Core.Bool.{Bool, true, false, cond}
+use mathlib.Core.List.{List}
+use Prim.Native.Nat.{ℕ, _+_, _-_, _*_, _/_, _≤_}
+use native.Mathlib.Nat.{le-of-eq, mul-le-mul}
+use native.Mathlib.Omega.{arith}
+use lib.Dec.{eqb}
+use lib.IntN.{ℤ, pos}
+use lib.ListN.{length, take, drop}
+use borrow.Author.Tests.{eq-eqb}
+use Rattle.schemes.specs.Schemes.{fixedOf, familyOf, byFamily}
+use Rattle.schemes.specs.declared.Family.{Family}
+use Rattle.schemes.specs.declared.Fixed.{Fixed}
+use Rattle.schemes.specs.declared.Named.{Named}
+use Rattle.schemes.specs.declared.Named.the-variants.{Known}
+use Rattle.schemes.specs.declared.Scheme.{Scheme}
+use Rattle.schemes.proofs.Sound.{sound}
+use Rattle.lists.specs.Entries.{Below, Within}
+use Rattle.lists.proofs.Parts.{part-long, below-take, below-drop}
+use Rattle.refusals.specs.Refusals.{numberOf, _then_, lengthIs}
+use Rattle.refusals.specs.Seen.{Output, done, refused, told, Seen, shown, seen}
+use Rattle.refusals.specs.declared.Answer.{Answer}
+use Rattle.refusals.specs.declared.Refusal.{Refusal}
+use Rattle.refusals.specs.declared.Verdict.{Verdict}
+use Rattle.refusals.specs.declared.Verdict.the-variants.{Pass, Fail}
+use Rattle.refusals.proofs.Laws.{some, all-pass, length-passes, room-passes, went-on}
+use Rattle.refusals.proofs.Same.{same-refusal}
+use Rattle.refusals.proofs.Seen.{written-whole, seen-done}
+use Rattle.sampling.specs.Noise.{noiseOf, lengthEither, bytesEach, tableWords, noiseTests, noiseResult}
+use Rattle.sampling.proofs.Noising.{count}
+use Rattle.sampling.proofs.Sampled.{values-within}
+use Rattle.exchange.specs.Random.{secretBytes, mixedBytes, cut, valuesIn, publicLent, tableOrder}
+use Rattle.exchange.specs.Inside.{Draws, Drew}
+
+-- ---- what is seen
+
+module _ {A : Type 0} (xs : List A) (z : A) (room : ℕ) where
+  pub seen-fails : (v : Verdict) (r : Refusal) (n : ℕ) (out : List A) → seen (refused r n) out ≡ shown v xs z room → v ≡ Fail r
+  unfolding seen shown
+  seen-fails Pass r n out e = let k : numberOf r ≡ 0 = ap (λ (s : Seen A). s .number) e in absurd (omega (arith, some r))
+  seen-fails (Fail t) r n out e =
+      ap Fail (same-refusal t r (sym (ap (λ (s : Seen A). s .number) e)) (sym (ap (λ (s : Seen A). s .place) e)))
+
+  pub seen-whole : (v : Verdict) (n : ℕ) (out : List A) → length xs ≡ room → seen (done n) out ≡ shown v xs z room → out ≡ xs
+  unfolding seen shown
+  seen-whole v n out l e =
+      ap (λ (o : Output A). o .holds) (ap (λ (s : Seen A). s .out) e ∙ written-whole xs z room (seen-done xs z room v n out e) l)
+
+-- ---- by the scheme
+
+module _ (c : Scheme) {f : Fixed} {F : Family} (e : f ≡ fixedOf c) (d : familyOf c ≡ F) where
+  pub lengths-by : ((byFamily F (f .public) 0 (f .public) ≡ publicLent c) × (byFamily F 153 0 0 ≡ tableWords c))
+      × ((byFamily F 25 4 2 * f .noise ≡ secretBytes c) × (byFamily F 25 4 2 * f .mixed ≡ mixedBytes c))
+  lengths-by = (
+    (ap₂ (λ (G : Family) (g : Fixed). byFamily G (g .public) 0 (g .public)) (sym d) e, ap (λ (G : Family). byFamily G 153 0 0) (sym d)),
+    (
+      ap₂ (λ (G : Family) (g : Fixed). byFamily G 25 4 2 * g .noise) (sym d) e,
+      ap₂ (λ (G : Family) (g : Fixed). byFamily G 25 4 2 * g .mixed) (sym d) e,
+    ),
+  )
+
+each-few : (F : Family) → byFamily F 25 4 2 ≤ 25
+each-few Family.Bcns = omega arith
+each-few Family.NewHope = omega arith
+each-few Family.Frodo = omega arith
+
+each-back : (F : Family) (k : ℕ) → k ≡ byFamily F 25 4 2 * k / byFamily F 25 4 2
+each-back Family.Bcns k = omega arith
+each-back Family.NewHope k = omega arith
+each-back Family.Frodo k = omega arith
+
+either-first : (m y : ℕ) → lengthEither m m y ≡ Pass
+unfolding lengthEither
+either-first m y = rw (eq-eqb m m refl)
+
+passes-both : (t : Bool) → cond t Pass Pass ≡ Pass
+passes-both true = refl
+passes-both false = refl
+
+either-second : (m x : ℕ) → lengthEither m x m ≡ Pass
+unfolding lengthEither
+either-second m x = rw (length-passes {m = m} {n = m} refl) (passes-both (eqb m x))
+
+pub sliced : {A : Type 0} (at k : ℕ) (l : List A) → take (at + k - at) (drop at l) ≡ take k (drop at l)
+sliced at k l = let e : at + k - at ≡ k = omega arith in rw e
+
+module _ (c : Scheme) where
+  pub secret-few : secretBytes c ≤ 172800
+  secret-few = mul-le-mul (each-few (familyOf c)) (sound c .noises)
+
+  pub mixed-few : mixedBytes c ≤ 25600
+  mixed-few = mul-le-mul (each-few (familyOf c)) (sound c .values)
+
+  module _ {at k n : ℕ} {random table : List ℕ} (h : at + k ≤ length random) (t : length table ≡ tableWords c) where
+    pub draws-secret : k ≡ secretBytes c → n ≡ fixedOf c .noise → Draws c at k random table n
+    draws-secret e l =
+        record {
+          inside = h;
+          either = rw e (either-first (secretBytes c) (mixedBytes c));
+          table-long = t;
+          many = rw (e, l) (each-back (familyOf c) (fixedOf c .noise));
+        }
+
+    pub draws-mixed : k ≡ mixedBytes c → n ≡ fixedOf c .mixed → Draws c at k random table n
+    draws-mixed e l =
+        record {
+          inside = h;
+          either = rw e (either-second (mixedBytes c) (secretBytes c));
+          table-long = t;
+          many = rw (e, l) (each-back (familyOf c) (fixedOf c .mixed));
+        }
+
+-- ---- what is drawn
+
+module _ {c : Scheme} {at k n : ℕ} {random table : List ℕ} (d : Draws c at k random table n) where
+  cut-long : length (cut at k random) ≡ k
+  cut-long = part-long at k random (d .inside)
+
+  many-long : length (cut at k random) / bytesEach c ≡ n
+  many-long = ap (λ (m : ℕ). m / bytesEach c) cut-long ∙ sym (d .many)
+
+  pub draw-tests : noiseTests (Known c) (noiseOf (cut at k random) table) n ≡ tableOrder c table
+  unfolding noiseTests tableOrder
+  draw-tests =
+      went-on _ refl (all-pass (all-pass (rw cut-long (d .either)) (length-passes (d .table-long))) (room-passes (le-of-eq many-long)))
+
+  pub drawn-long : length (valuesIn c table (cut at k random)) ≡ n
+  drawn-long = count c (noiseOf (cut at k random) table) ∙ many-long
+
+  module _ {m : Named} (e : m ≡ Known c) {bytes : List ℕ} (b : bytes ≡ cut at k random) (v : Answer) (out : List ℤ)
+      (p : seen (told v) out ≡ noiseResult m (noiseOf bytes table) n) where
+    given : seen (told v) out ≡ shown (tableOrder c table) (valuesIn c table (cut at k random)) (pos 0) n
+    given = rw (b, e) at p ∙ ap (λ (u : Verdict). shown u (valuesIn c table (cut at k random)) (pos 0) n) draw-tests
+
+    pub draw-failed : {r : Refusal} → v ≡ Answer.Refused r → Fail r ≡ tableOrder c table
+    draw-failed {r} f = sym (seen-fails (valuesIn c table (cut at k random)) (pos 0) n (tableOrder c table) r 0 out (rw f at given))
+
+    pub draw-passed : {j : ℕ} → v ≡ Answer.Done j → Below 256 random → (Pass ≡ tableOrder c table) × Drew c table (cut at k random) n out
+    draw-passed {j} f below =
+        let xs = valuesIn c table (cut at k random) in
+        let g = rw f at given in
+        let w = seen-whole xs (pos 0) n (tableOrder c table) j out drawn-long g in (
+          sym (seen-done xs (pos 0) n (tableOrder c table) j out g),
+          record {
+            values = w;
+            small =
+                record {
+                  long = ap length w ∙ drawn-long;
+                  within = rw w (values-within c (noiseOf (cut at k random) table) (below-take (below-drop below at) k) (d .table-long));
+                };
+          },
+        )
+
+pub drew-as : {c : Scheme} {table bytes bytes′ : List ℕ} {n n′ : ℕ} {out : List ℤ} → bytes ≡ bytes′ → n ≡ n′ → Drew c table bytes n out
+    → Drew c table bytes′ n′ out
+drew-as e f d = rw (← e, ← f) d

@@ -1,0 +1,284 @@
+-- open.
+--   OpenSized, open-sized        what passed sizes say: lengths and rooms; open-cut: they pass with just the room that s takes; s-long: how long s is
+--   open-sizes-failed, open-rest-decides   its verdict by the test that decides
+--   open-unknown, open-unruled   its tests where no scheme or no rule is named
+--   bcns-lends, frodo-lends, only-newhope   where the public numbers are lent, and where they are grown
+--   send-lent, send-ran-out, send-grows, send-newhope, sends-newhope   Offer by lent public numbers; by grown ones, where the bytes ran out, and where they did not
+--   open-unordered, open-sent    what is seen where the table is refused, and what Offer shows where it is not
+--   open-refused, open-done      what is seen of open after a refusal, and where nothing is refused; open-rest-refused, open-rest-done: behind lengths and rooms
+use mathlib.Core.Path.{_≡_, refl, _∙_, sym, ap, subst}
+use mathlib.Core.List.{List, [], _++_}
+use Prim.Native.Nat.{ℕ, suc, _+_, _≤_}
+use native.Mathlib.Nat.{le-of-eq, le-refl}
+use native.Mathlib.Omega.{arith}
+use lib.IntN.{ℤ, pos}
+use lib.ListN.{length, replicate, take, drop}
+use Rattle.schemes.specs.Schemes.{fixedOf, familyOf, byFamily, newHope}
+use Rattle.schemes.specs.declared.Family.{Family}
+use Rattle.schemes.specs.declared.Named.{Named}
+use Rattle.schemes.specs.declared.Named.the-variants.{Known, Unknown}
+use Rattle.schemes.specs.declared.Scheme.{Scheme}
+use Rattle.schemes.specs.declared.Scheme.the-variants.{Bcns, NewHope, Challenge, Classical, Recommended, Paranoid}
+use Rattle.schemes.proofs.Laws.{tied}
+use Rattle.lists.specs.Entries.{Below}
+use Rattle.lists.proofs.Same.{empty}
+use Rattle.refusals.specs.Refusals.{_then_, publicsIn, notBlank}
+use Rattle.refusals.specs.Seen.{output, written, refused, told, Seen, shown, seen}
+use Rattle.refusals.specs.declared.Answer.{Answer}
+use Rattle.refusals.specs.declared.Refusal.{Refusal}
+use Rattle.refusals.specs.declared.Refusal.the-variants.{NoScheme, NoRule}
+use Rattle.refusals.specs.declared.Verdict.{Verdict}
+use Rattle.refusals.specs.declared.Verdict.the-variants.{Pass, Fail}
+use Rattle.refusals.proofs.Laws.{both, all-pass, length-passed, length-passes, room-passed, room-passes, within-passes, below-passes, before-pass, last-passes, failed, went-on}
+use Rattle.refusals.proofs.Seen.{written-passed, written-failed, shown-failed, seen-done, seen-refused}
+use Rattle.noise.specs.Expand.{ruleOf}
+use Rattle.noise.specs.declared.RuleName.{RuleName}
+use Rattle.noise.specs.declared.Ruled.{Ruled}
+use Rattle.noise.specs.declared.Ruled.the-variants.{By}
+use Rattle.sampling.specs.Noise.{tableWords}
+use Rattle.sampling.specs.Expand.{enough}
+use Rattle.sampling.specs.Grow.{growOf, growNumbers, blocks, growTests, growResult}
+use Rattle.sampling.proofs.Expanding.{enough-passed, numbers-few}
+use Rattle.sampling.proofs.Sampled.{grow-below}
+use Rattle.offer.specs.Offer.{offerOf, offeredPart, offerTests, offerMessage, offerResult}
+use Rattle.offer.specs.Inside.{offerLengths, offerAhead}
+use Rattle.offer.proofs.Offering.{offer-last-decides}
+use Rattle.exchange.specs.Random.{secretBytes, publicLent, publicFrom, openRandom, tableOrder, grown}
+use Rattle.exchange.specs.Open.{OpenLent, OpenRooms, openRoomsOf, openOffer, openTests, openShown, openTold, openSeen}
+use Rattle.exchange.specs.Inside.{openSizes, sendTests, openRest, Sends}
+use Rattle.exchange.specs.declared.OpenAnswer.{OpenAnswer}
+use Rattle.exchange.specs.declared.OpenCounts.{OpenCounts}
+use Rattle.exchange.proofs.Drawn.{seen-fails, seen-whole, draws-secret, drawn-long}
+
+-- ---- its tests
+
+grouped : (p t u g n : Verdict) → p then t then u then g then n ≡ p then (t then (u then g then n))
+unfolding _then_
+grouped (Fail r) t u g n = refl
+grouped Pass (Fail r) u g n = refl
+grouped Pass Pass u g n = refl
+
+pub record OpenSized (c : Scheme) (x : OpenLent) (m : OpenRooms) : Type 0 where
+  pub public-long : length (x .a) ≡ publicLent c
+  pub table-long : length (x .table) ≡ tableWords c
+  pub random-long : length (x .random) ≡ openRandom c
+  pub roomy : fixedOf c .opening ≤ m .opening
+  pub s-roomy : fixedOf c .secret ≤ m .s
+
+module _ (c : Scheme) (x : OpenLent) (m : OpenRooms) where
+  pub open-sized : openSizes c x m ≡ Pass → OpenSized c x m
+  unfolding openSizes
+  open-sized t =
+      let s = both _ _ t in
+      let o = both _ _ (s .0) in
+      let random = both _ _ (o .0) in
+      let table = both _ _ (random .0) in
+      record {
+        public-long = length-passed _ _ (table .0);
+        table-long = length-passed _ _ (table .1);
+        random-long = length-passed _ _ (random .1);
+        roomy = room-passed _ _ (o .1);
+        s-roomy = room-passed _ _ (s .1);
+      }
+
+  pub s-long : openSizes c x m ≡ Pass → (k : Ruled) → length (openOffer (Known c) k x .s) ≡ fixedOf c .secret
+  unfolding openOffer
+  s-long t k =
+      let z = open-sized t in
+      let h : fixedOf c .seed + secretBytes c ≤ length (x .random) = omega (arith, z .random-long) in
+      drawn-long (draws-secret c {n = fixedOf c .noise} h (z .table-long) refl refl) ∙ tied c .noise
+
+  pub open-cut : {n : ℕ} → openSizes c x m ≡ Pass → n ≡ fixedOf c .secret → openSizes c x (openRoomsOf (m .opening) n) ≡ Pass
+  unfolding openSizes
+  open-cut t l = all-pass (both _ _ t .0) (room-passes (le-of-eq (sym l)))
+
+  module _ (k : RuleName) where
+    open-apart : openTests (Known c) (By k) x m ≡ openSizes c x m then openRest c (By k) x
+    unfolding openTests openSizes openRest sendTests openOffer
+    open-apart = grouped (openSizes c x m) _ _ _ _
+
+    pub open-sizes-failed : {v : Verdict} {r : Refusal} → v ≡ openSizes c x m → v ≡ Fail r → openTests (Known c) (By k) x m ≡ Fail r
+    open-sizes-failed e f = open-apart ∙ failed _ e f
+
+    pub open-rest-decides : openSizes c x m ≡ Pass → openTests (Known c) (By k) x m ≡ openRest c (By k) x
+    open-rest-decides t = open-apart ∙ went-on _ refl t
+
+pub open-unknown : {c : Named} (k : Ruled) (x : OpenLent) (m : OpenRooms) → c ≡ Unknown → openTests c k x m ≡ Fail NoScheme
+unfolding openTests
+open-unknown k x m e = rw e
+
+pub open-unruled : (c : Scheme) {k : Ruled} (x : OpenLent) (m : OpenRooms) → k ≡ Ruled.Unknown → openTests (Known c) k x m ≡ Fail NoRule
+unfolding openTests
+open-unruled c x m e = rw e
+
+-- ---- where the public numbers come from
+
+pub record Lends (c : Scheme) (k : Ruled) (seed a : List ℕ) : Type 0 where
+  pub from : publicFrom c k seed a ≡ a
+  pub none : grown c k seed ≡ Pass
+  pub long : publicLent c ≡ fixedOf c .public
+
+module _ (c : Scheme) (k : Ruled) (seed a : List ℕ) where
+  lends : (F : Family) → byFamily F a (growNumbers k seed) a ≡ a → byFamily F Pass (enough (length (growNumbers k seed))) Pass ≡ Pass
+      → byFamily F (fixedOf c .public) 0 (fixedOf c .public) ≡ fixedOf c .public → familyOf c ≡ F → Lends c k seed a
+  unfolding publicFrom grown
+  lends F f g h e =
+      record {
+        from = ap (λ (G : Family). byFamily G a (growNumbers k seed) a) e ∙ f;
+        none = ap (λ (G : Family). byFamily G Pass (enough (length (growNumbers k seed))) Pass) e ∙ g;
+        long = ap (λ (G : Family). byFamily G (fixedOf c .public) 0 (fixedOf c .public)) e ∙ h;
+      }
+
+  pub bcns-lends : familyOf c ≡ Family.Bcns → Lends c k seed a
+  bcns-lends = lends Family.Bcns refl refl refl
+
+  pub frodo-lends : familyOf c ≡ Family.Frodo → Lends c k seed a
+  frodo-lends = lends Family.Frodo refl refl refl
+
+-- by a number for each family
+familyNumber : Family → ℕ
+familyNumber Family.Bcns = 0
+familyNumber Family.NewHope = 1
+familyNumber Family.Frodo = 2
+
+pub only-newhope : (c : Scheme) → familyOf c ≡ Family.NewHope → c ≡ NewHope
+unfolding familyNumber
+only-newhope Bcns e = let z : _≡_ {A = ℕ} 0 1 = ap familyNumber e in absurd (omega arith)
+only-newhope NewHope e = refl
+only-newhope Challenge e = let z : _≡_ {A = ℕ} 2 1 = ap familyNumber e in absurd (omega arith)
+only-newhope Classical e = let z : _≡_ {A = ℕ} 2 1 = ap familyNumber e in absurd (omega arith)
+only-newhope Recommended e = let z : _≡_ {A = ℕ} 2 1 = ap familyNumber e in absurd (omega arith)
+only-newhope Paranoid e = let z : _≡_ {A = ℕ} 2 1 = ap familyNumber e in absurd (omega arith)
+
+-- ---- Offer
+
+module _ (c : Scheme) {s e : List ℤ} {seed : List ℕ} {n : ℕ} (h : Sends c s e seed n) where
+  offer-tests : (a : List ℕ) → length a ≡ fixedOf c .public
+      → offerTests (Known c) (offerOf a s e seed) n ≡ publicsIn (fixedOf c .q) a then notBlank (offeredPart c (offerOf a s e seed))
+  unfolding offerAhead offerLengths
+  offer-tests a l =
+      let small = all-pass (within-passes (h .secret .within)) (within-passes (h .noise .within)) in
+      offer-last-decides c (offerOf a s e seed) n
+      (all-pass
+      (all-pass
+      (all-pass (all-pass (all-pass (length-passes l) (length-passes (h .secret .long))) (length-passes (h .noise .long))) (length-passes (h .seed-long)))
+      (room-passes (h .roomy)))
+      (sym (before-pass (publicsIn (fixedOf c .q) a) small) ∙ small))
+      refl
+
+  pub send-lent : (k : Ruled) (a : List ℕ) {m : Named} {u : Seen ℕ} → Lends c k seed a → length a ≡ publicLent c → m ≡ Known c
+      → u ≡ offerResult m (offerOf a s e seed) n
+      → u ≡ shown (sendTests c k a s e seed) (offerMessage (Known c) (offerOf (publicFrom c k seed a) s e seed)) 0 n
+  unfolding sendTests
+  send-lent k a L l d p =
+      let q = rw d at p in
+      rw (L .from, L .none, last-passes (publicsIn (fixedOf c .q) a))
+      (q ∙ ap (λ (v : Verdict). shown v (offerMessage (Known c) (offerOf a s e seed)) 0 n) (offer-tests a (l ∙ L .long)))
+
+no-publics : (q : ℕ) → publicsIn (suc q) [] ≡ Pass
+no-publics q = below-passes (record { below = λ i. omega arith })
+
+-- in NewHope, of the numbers that Grow has left in a
+module _ (k : RuleName) {s e : List ℤ} {seed : List ℕ} {n : ℕ} (h : Sends NewHope s e seed n) {j : Ruled} (d : j ≡ By k) {room : ℕ} (r : room ≡ 1024)
+    (v : Answer) (a : List ℕ) (p : seen (told v) a ≡ growResult j (growOf seed) room) where
+  grow-tests : growTests (By k) (growOf seed) 1024 ≡ grown NewHope (By k) seed
+  unfolding growTests grown
+  grow-tests = went-on _ refl (all-pass (length-passes (h .seed-long)) (room-passes (le-refl 1024)))
+
+  grow-given : seen (told v) a ≡ shown (grown NewHope (By k) seed) (growNumbers (By k) seed) 0 1024
+  grow-given = rw (d, r) at p ∙ ap (λ (w : Verdict). shown w (growNumbers (By k) seed) 0 1024) grow-tests
+
+  grow-front : publicsIn 12289 [] then grown NewHope (By k) seed ≡ grown NewHope (By k) seed
+  grow-front = went-on _ refl (no-publics 12288)
+
+  pub send-ran-out : {t : Refusal} {opening : List ℕ} → v ≡ Answer.Refused t → opening ≡ replicate n 0
+      → seen (refused t 0) opening
+      ≡ shown (sendTests NewHope (By k) [] s e seed) (offerMessage (Known NewHope) (offerOf (growNumbers (By k) seed) s e seed)) 0 n
+  unfolding sendTests
+  send-ran-out {t} f o =
+      let w = seen-fails (growNumbers (By k) seed) 0 1024 (grown NewHope (By k) seed) t 0 a (rw f at grow-given) in
+      shown-failed _ 0 n (failed _ refl (grow-front ∙ w)) o
+
+  module _ {m : ℕ} (f : v ≡ Answer.Done m) where
+    grow-passed : grown NewHope (By k) seed ≡ Pass
+    grow-passed = seen-done (growNumbers (By k) seed) 0 1024 (grown NewHope (By k) seed) m a (rw f at grow-given)
+
+    grow-long : length (growNumbers (By k) seed) ≡ 1024
+    unfolding grown
+    grow-long = omega (arith, enough-passed (length (growNumbers (By k) seed)) _ refl grow-passed, numbers-few k (blocks seed))
+
+    pub grow-is : a ≡ growNumbers (By k) seed
+    grow-is = seen-whole (growNumbers (By k) seed) 0 1024 (grown NewHope (By k) seed) m a grow-long (rw f at grow-given)
+
+    grow-in : Below 12289 a
+    unfolding seen
+    grow-in = rw (ap (λ (u : Seen ℕ). u .out .holds) p) (grow-below j (growOf seed) room)
+
+    pub send-grows : {u : Seen ℕ} → u ≡ offerResult (Known NewHope) (offerOf a s e seed) n
+        → u ≡ shown (sendTests NewHope (By k) [] s e seed) (offerMessage (Known NewHope) (offerOf (growNumbers (By k) seed) s e seed)) 0 n
+    unfolding sendTests publicFrom
+    send-grows q =
+        let part = notBlank (offeredPart NewHope (offerOf a s e seed)) in
+        let t = offer-tests NewHope h a (ap length grow-is ∙ grow-long) ∙ went-on part refl (below-passes grow-in) in
+        rw (← grow-is, went-on part refl (grow-front ∙ grow-passed)) (q ∙ ap (λ (w : Verdict). shown w (offerMessage (Known NewHope) (offerOf a s e seed)) 0 n) t)
+
+-- the same of a scheme that is NewHope
+pub sends-newhope : {c : Scheme} {s e : List ℤ} {seed : List ℕ} {n : ℕ} → c ≡ NewHope → Sends c s e seed n → Sends NewHope s e seed n
+sends-newhope {s = s} {e = e} {seed = seed} {n = n} d h = subst (λ (c : Scheme). Sends c s e seed n) d h
+
+pub send-newhope : {c : Scheme} → c ≡ NewHope → (k : RuleName) (a : List ℕ) (s e : List ℤ) (seed : List ℕ) (n : ℕ) {u : Seen ℕ} → length a ≡ publicLent c
+    → u ≡ shown (sendTests NewHope (By k) [] s e seed) (offerMessage (Known NewHope) (offerOf (growNumbers (By k) seed) s e seed)) 0 n
+    → u ≡ shown (sendTests c (By k) a s e seed) (offerMessage (Known c) (offerOf (publicFrom c (By k) seed a) s e seed)) 0 n
+unfolding publicFrom
+send-newhope d k a s e seed n l p = let none = empty a (l ∙ ap publicLent d) in rw (d, none) p
+
+-- ---- s and e
+
+module _ (c : Scheme) (k : RuleName) (x : OpenLent) (n : ℕ) where
+  pub open-unordered : {v : Verdict} {r : Refusal} → v ≡ tableOrder c (x .table) → v ≡ Fail r → openRest c (By k) x ≡ Fail r
+  unfolding openRest
+  open-unordered e f = failed _ e f
+
+  pub open-sent : {v : Verdict} {s e : List ℤ} {seed : List ℕ} {u : Seen ℕ} → v ≡ tableOrder c (x .table) → v ≡ Pass → s ≡ openOffer (Known c) (By k) x .s
+      → e ≡ openOffer (Known c) (By k) x .e → seed ≡ openOffer (Known c) (By k) x .seed
+      → u ≡ shown (sendTests c (By k) (x .a) s e seed) (offerMessage (Known c) (offerOf (publicFrom c (By k) seed (x .a)) s e seed)) 0 n
+      → u ≡ shown (openRest c (By k) x) (offerMessage (Known c) (openOffer (Known c) (By k) x)) 0 n
+  unfolding openRest openOffer
+  open-sent t f es ee ed p = let q = rw (es, ee, ed) at p in q ∙ ap (λ (w : Verdict). shown w (offerMessage (Known c) (openOffer (Known c) (By k) x)) 0 n) (sym (went-on _ t f))
+
+-- ---- what is seen
+
+module _ (c : Named) (k : Ruled) (x : OpenLent) (m : OpenRooms) {v : Verdict} {opening : List ℕ} {s : List ℤ} where
+  pub open-refused : {r : Refusal} → v ≡ Fail r → opening ≡ replicate (m .opening) 0 → s ≡ replicate (m .s) (pos 0)
+      → openSeen (openTold (OpenAnswer.Refused r)) opening s ≡ openShown v c k x m
+  unfolding openSeen openShown
+  open-refused e o p = rw (← written-failed _ 0 (m .opening) e o, ← written-failed _ (pos 0) (m .s) e p, e)
+
+  pub open-done : {n : OpenCounts} → v ≡ Pass → output (n .opening) opening ≡ written v (offerMessage c (openOffer c k x)) 0 (m .opening)
+      → output (n .s) s ≡ written v (openOffer c k x .s) (pos 0) (m .s) → openSeen (openTold (OpenAnswer.Done n)) opening s ≡ openShown v c k x m
+  unfolding openSeen openShown
+  open-done e o p = rw (← o, ← p, e)
+
+-- where lengths and rooms have passed: by what is seen of the opening, and what stands in s
+module _ (c : Scheme) (k : RuleName) (x : OpenLent) (m : OpenRooms) (t : openSizes c x m ≡ Pass) (v : Answer) (opening : List ℕ)
+    (p : seen (told v) opening ≡ shown (openRest c (By k) x) (offerMessage (Known c) (openOffer (Known c) (By k) x)) 0 (m .opening)) where
+  pub open-rest-refused : {r : Refusal} {s : List ℤ} → v ≡ Answer.Refused r → s ≡ replicate (m .s) (pos 0)
+      → openSeen (openTold (OpenAnswer.Refused r)) opening s ≡ openShown (openTests (Known c) (By k) x m) (Known c) (By k) x m
+  open-rest-refused {r} f z =
+      let q = rw f at p in
+      let w = seen-fails _ 0 (m .opening) (openRest c (By k) x) r 0 opening q in
+      open-refused (Known c) (By k) x m (open-rest-decides c x m k t ∙ w) (seen-refused _ 0 (m .opening) (openRest c (By k) x) r 0 q) z
+
+  pub open-rest-done : {i n : ℕ} {part : List ℤ} → v ≡ Answer.Done i
+      → (openRest c (By k) x ≡ Pass → part ≡ openOffer (Known c) (By k) x .s) → (old : List ℤ) → n ≡ fixedOf c .secret
+      → old ≡ replicate (m .s) (pos 0)
+      → openSeen (openTold (OpenAnswer.Done (record { opening = i; s = n }))) opening (part ++ drop n old)
+      ≡ openShown (openTests (Known c) (By k) x m) (Known c) (By k) x m
+  unfolding seen shown
+  open-rest-done {i} {n} {part} f h old l z =
+      let q = rw f at p in
+      let w = seen-done _ 0 (m .opening) (openRest c (By k) x) i opening q in
+      let d = open-rest-decides c x m k t in
+      let s = h w in
+      open-done (Known c) (By k) x m (d ∙ w) (rw d (ap (λ (u : Seen ℕ). u .out) q))
+      (written-passed (openOffer (Known c) (By k) x .s) (pos 0) (m .s) (d ∙ w) old (s-long c x m t (By k) ∙ sym l) z (ap (λ (xs : List ℤ). xs ++ drop n old) s))

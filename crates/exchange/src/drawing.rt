@@ -1,0 +1,108 @@
+// What open and answer make of what they are lent: lengths by the scheme, noise values of random bytes, and the number of a rule.
+ghost use mathlib.Core.Path.{_≡_};
+ghost use Prim.Native.Nat.{_+_, _≤_};
+ghost use lib.ListN.{length};
+ghost use Rattle.schemes.specs.Schemes.{fixedOf};
+ghost use Rattle.lists.specs.Lent.{was, left};
+ghost use Rattle.refusals.specs.declared.Verdict.the-variants.{Pass};
+ghost use Rattle.noise.specs.Expand.{ruleOf};
+ghost use Rattle.noise.specs.declared.Ruled.the-variants.{By};
+ghost use Rattle.sampling.specs.Noise.{tableWords};
+ghost use Rattle.exchange.specs.Random.{publicLent, secretBytes, mixedBytes, cut, tableOrder};
+ghost use Rattle.exchange.specs.Inside.{Draws, Drew};
+use noise::RuleName;
+use refusals::Answer;
+use refusals::Verdict;
+use schemes::Family;
+use schemes::Scheme;
+
+// How many public numbers and words of a table are lent, and how many random bytes the values of s or e and those of e'' take.
+pub(crate) struct Takes {
+    pub(crate) public: usize,
+    pub(crate) table: usize,
+    pub(crate) secret: usize,
+    pub(crate) mixed: usize,
+}
+
+// A value takes 25 bytes in BCNS, 4 in NewHope and 2 in Frodo.
+pub(crate) fn lengths(scheme: Scheme) -> Takes
+    ensures { λ r. ⌜ (r .public ≡ publicLent scheme) × (r .table ≡ tableWords scheme) ⌝ }
+    ensures { λ r. ⌜ (r .secret ≡ secretBytes scheme) × (r .mixed ≡ mixedBytes scheme) ⌝ }
+{
+    let f = scheme.fixed();
+    match scheme.family() {
+        Family::Bcns => Takes {
+            public: f.public,
+            table: 153,
+            secret: 25 * f.noise,
+            mixed: 25 * f.mixed,
+        },
+        Family::NewHope => Takes {
+            public: 0,
+            table: 0,
+            secret: 4 * f.noise,
+            mixed: 4 * f.mixed,
+        },
+        Family::Frodo => Takes {
+            public: f.public,
+            table: 0,
+            secret: 2 * f.noise,
+            mixed: 2 * f.mixed,
+        },
+    }
+}
+
+// The number that names a rule.
+pub(crate) fn number(name: RuleName) -> u32
+    ensures { λ r. ⌜ ruleOf r ≡ By name ⌝ }
+{
+    match name {
+        RuleName::LowBits => 14,
+        RuleName::WholeWord => 16,
+    }
+}
+
+// The noise values of k random bytes from the place at on. A table that is not in order leaves zeros.
+pub(crate) fn draw(
+    scheme: Scheme,
+    k: usize,
+    at: usize,
+    random: &[u8],
+    table: &[u64],
+    out: &mut [i32],
+) -> Verdict
+    requires { ⌜ Draws scheme at k (now random) (now table) (length (now out)) ⌝ }
+    ensures { λ r. ⌜ r ≡ tableOrder scheme (was table) ⌝ }
+    ensures { λ r. ⌜ (r ≡ Pass → Drew scheme (was table) (cut at k (was random)) (length (was out)) (left out)) ⌝ }
+{
+    let end = at + k;
+    let v = sampling::noise(scheme.number(), &random[at..end], table, out);
+    match v {
+        Answer::Refused(r) => Verdict::Fail(r),
+        Answer::Done(_) => Verdict::Pass,
+    }
+}
+
+// A secret and its noise, of the random bytes from the place at on, one after the other.
+pub(crate) fn draw_pair(
+    scheme: Scheme,
+    at: usize,
+    random: &[u8],
+    table: &[u64],
+    s: &mut [i32],
+    e: &mut [i32],
+) -> Verdict
+    requires { ⌜ (at + secretBytes scheme + secretBytes scheme ≤ length (now random)) × (length (now table) ≡ tableWords scheme) ⌝ }
+    requires { ⌜ (length (now s) ≡ fixedOf scheme .secret) × (length (now e) ≡ fixedOf scheme .noise) ⌝ }
+    ensures { λ r. ⌜ r ≡ tableOrder scheme (was table) ⌝ }
+    ensures { λ r. ⌜ (r ≡ Pass → Drew scheme (was table) (cut at (secretBytes scheme) (was random)) (fixedOf scheme .secret) (left s)) ⌝ }
+    ensures { λ r. ⌜ (r ≡ Pass → Drew scheme (was table) (cut (at + secretBytes scheme) (secretBytes scheme) (was random)) (fixedOf scheme .noise) (left e)) ⌝ }
+{
+    let l = lengths(scheme);
+    let k = l.secret;
+    let v = draw(scheme, k, at, random, table, s);
+    match v {
+        Verdict::Fail(r) => Verdict::Fail(r),
+        Verdict::Pass => draw(scheme, k, at + k, random, table, e),
+    }
+}
