@@ -4,7 +4,7 @@
 --   secret-few, mixed-few        no values take more bytes than these
 --   draws-secret, draws-mixed    what `draw` asks, of the bytes of s, e, s' or e', and of e''
 --   sliced                       a part of the random bytes as the code lends it
---   drawn-long                   how many values they are
+--   drawn-long, drawn-small      how many values they are, and that none lies beyond the largest noise
 --   draw-failed, draw-passed     what `draw` gives, by Noise's answer
 --   drew-as                      the same under another name
 use mathlib.Core.Path.{_≡_, refl, _∙_, sym, ap, ap₂}
@@ -24,7 +24,7 @@ use Rattle.schemes.specs.declared.Named.{Named}
 use Rattle.schemes.specs.declared.Named.the-variants.{Known}
 use Rattle.schemes.specs.declared.Scheme.{Scheme}
 use Rattle.schemes.proofs.Sound.{sound}
-use Rattle.lists.specs.Entries.{Below, Within}
+use Rattle.lists.specs.Entries.{Below}
 use Rattle.lists.proofs.Parts.{part-long, below-take, below-drop}
 use Rattle.refusals.specs.Refusals.{numberOf, _then_, lengthIs}
 use Rattle.refusals.specs.Seen.{Output, done, refused, told, Seen, shown, seen}
@@ -38,6 +38,7 @@ use Rattle.refusals.proofs.Seen.{written-whole, seen-done}
 use Rattle.sampling.specs.Noise.{noiseOf, lengthEither, bytesEach, tableWords, noiseTests, noiseResult}
 use Rattle.sampling.proofs.Noising.{count}
 use Rattle.sampling.proofs.Sampled.{values-within}
+use Rattle.values.specs.Fit.{Small}
 use Rattle.exchange.specs.Random.{secretBytes, mixedBytes, cut, valuesIn, publicLent, tableOrder}
 use Rattle.exchange.specs.Inside.{Draws, Drew}
 
@@ -136,6 +137,13 @@ module _ {c : Scheme} {at k n : ℕ} {random table : List ℕ} (d : Draws c at k
   pub drawn-long : length (valuesIn c table (cut at k random)) ≡ n
   drawn-long = count c (noiseOf (cut at k random) table) ∙ many-long
 
+  pub drawn-small : Below 256 random → Small n (fixedOf c .largest) (valuesIn c table (cut at k random))
+  drawn-small below =
+      record {
+        long = drawn-long;
+        within = values-within c (noiseOf (cut at k random) table) (below-take (below-drop below at) k) (d .table-long);
+      }
+
   module _ {m : Named} (e : m ≡ Known c) {bytes : List ℕ} (b : bytes ≡ cut at k random) (v : Answer) (out : List ℤ)
       (p : seen (told v) out ≡ noiseResult m (noiseOf bytes table) n) where
     given : seen (told v) out ≡ shown (tableOrder c table) (valuesIn c table (cut at k random)) (pos 0) n
@@ -150,14 +158,7 @@ module _ {c : Scheme} {at k n : ℕ} {random table : List ℕ} (d : Draws c at k
         let g = rw f at given in
         let w = seen-whole xs (pos 0) n (tableOrder c table) j out drawn-long g in (
           sym (seen-done xs (pos 0) n (tableOrder c table) j out g),
-          record {
-            values = w;
-            small =
-                record {
-                  long = ap length w ∙ drawn-long;
-                  within = rw w (values-within c (noiseOf (cut at k random) table) (below-take (below-drop below at) k) (d .table-long));
-                };
-          },
+          record { values = w; small = rw w (drawn-small below) },
         )
 
 pub drew-as : {c : Scheme} {table bytes bytes′ : List ℕ} {n n′ : ℕ} {out : List ℤ} → bytes ≡ bytes′ → n ≡ n′ → Drew c table bytes n out

@@ -1,26 +1,24 @@
 -- open.
 --   OpenSized, open-sized        what passed sizes say: lengths and rooms; open-cut: they pass with just the room that s takes; s-long: how long s is
---   open-sizes-failed, open-rest-decides   its verdict by the test that decides
+--   open-apart, open-sizes-failed, open-rest-decides   its tests in two parts, and its verdict by the test that decides
 --   open-unknown, open-unruled   its tests where no scheme or no rule is named
---   bcns-lends, frodo-lends, only-newhope   where the public numbers are lent, and where they are grown
+--   offer-tests                  Offer's tests, where its inputs are in range but for the public numbers
 --   send-lent, send-ran-out, send-grows, send-newhope, sends-newhope   Offer by lent public numbers; by grown ones, where the bytes ran out, and where they did not
 --   open-unordered, open-sent    what is seen where the table is refused, and what Offer shows where it is not
 --   open-refused, open-done      what is seen of open after a refusal, and where nothing is refused; open-rest-refused, open-rest-done: behind lengths and rooms
 use mathlib.Core.Path.{_≡_, refl, _∙_, sym, ap, subst}
 use mathlib.Core.List.{List, [], _++_}
-use Prim.Native.Nat.{ℕ, suc, _+_, _≤_}
-use native.Mathlib.Nat.{le-of-eq, le-refl}
+use Prim.Native.Nat.{ℕ, _+_, _≤_}
+use native.Mathlib.Nat.{le-of-eq}
 use native.Mathlib.Omega.{arith}
 use lib.IntN.{ℤ, pos}
-use lib.ListN.{length, replicate, take, drop}
-use Rattle.schemes.specs.Schemes.{fixedOf, familyOf, byFamily, newHope}
-use Rattle.schemes.specs.declared.Family.{Family}
+use lib.ListN.{length, replicate, drop}
+use Rattle.schemes.specs.Schemes.{fixedOf}
 use Rattle.schemes.specs.declared.Named.{Named}
 use Rattle.schemes.specs.declared.Named.the-variants.{Known, Unknown}
 use Rattle.schemes.specs.declared.Scheme.{Scheme}
-use Rattle.schemes.specs.declared.Scheme.the-variants.{Bcns, NewHope, Challenge, Classical, Recommended, Paranoid}
+use Rattle.schemes.specs.declared.Scheme.the-variants.{NewHope}
 use Rattle.schemes.proofs.Laws.{tied}
-use Rattle.lists.specs.Entries.{Below}
 use Rattle.lists.proofs.Same.{empty}
 use Rattle.refusals.specs.Refusals.{_then_, publicsIn, notBlank}
 use Rattle.refusals.specs.Seen.{output, written, refused, told, Seen, shown, seen}
@@ -31,24 +29,21 @@ use Rattle.refusals.specs.declared.Verdict.{Verdict}
 use Rattle.refusals.specs.declared.Verdict.the-variants.{Pass, Fail}
 use Rattle.refusals.proofs.Laws.{both, all-pass, length-passed, length-passes, room-passed, room-passes, within-passes, below-passes, before-pass, last-passes, failed, went-on}
 use Rattle.refusals.proofs.Seen.{written-passed, written-failed, shown-failed, seen-done, seen-refused}
-use Rattle.noise.specs.Expand.{ruleOf}
 use Rattle.noise.specs.declared.RuleName.{RuleName}
 use Rattle.noise.specs.declared.Ruled.{Ruled}
 use Rattle.noise.specs.declared.Ruled.the-variants.{By}
 use Rattle.sampling.specs.Noise.{tableWords}
-use Rattle.sampling.specs.Expand.{enough}
-use Rattle.sampling.specs.Grow.{growOf, growNumbers, blocks, growTests, growResult}
-use Rattle.sampling.proofs.Expanding.{enough-passed, numbers-few}
-use Rattle.sampling.proofs.Sampled.{grow-below}
+use Rattle.sampling.specs.Grow.{growOf, growNumbers, growResult}
 use Rattle.offer.specs.Offer.{offerOf, offeredPart, offerTests, offerMessage, offerResult}
 use Rattle.offer.specs.Inside.{offerLengths, offerAhead}
 use Rattle.offer.proofs.Offering.{offer-last-decides}
-use Rattle.exchange.specs.Random.{secretBytes, publicLent, publicFrom, openRandom, tableOrder, grown}
+use Rattle.exchange.specs.Random.{secretBytes, publicLent, publicFrom, openRandom, tableOrder}
 use Rattle.exchange.specs.Open.{OpenLent, OpenRooms, openRoomsOf, openOffer, openTests, openShown, openTold, openSeen}
 use Rattle.exchange.specs.Inside.{openSizes, sendTests, openRest, Sends}
 use Rattle.exchange.specs.declared.OpenAnswer.{OpenAnswer}
 use Rattle.exchange.specs.declared.OpenCounts.{OpenCounts}
-use Rattle.exchange.proofs.Drawn.{seen-fails, seen-whole, draws-secret, drawn-long}
+use Rattle.exchange.proofs.Drawn.{seen-fails, draws-secret, drawn-long}
+use Rattle.exchange.proofs.Grown.{Lends, no-publics, ran-out, grows}
 
 -- ---- its tests
 
@@ -93,7 +88,7 @@ module _ (c : Scheme) (x : OpenLent) (m : OpenRooms) where
   open-cut t l = all-pass (both _ _ t .0) (room-passes (le-of-eq (sym l)))
 
   module _ (k : RuleName) where
-    open-apart : openTests (Known c) (By k) x m ≡ openSizes c x m then openRest c (By k) x
+    pub open-apart : openTests (Known c) (By k) x m ≡ openSizes c x m then openRest c (By k) x
     unfolding openTests openSizes openRest sendTests openOffer
     open-apart = grouped (openSizes c x m) _ _ _ _
 
@@ -111,49 +106,10 @@ pub open-unruled : (c : Scheme) {k : Ruled} (x : OpenLent) (m : OpenRooms) → k
 unfolding openTests
 open-unruled c x m e = rw e
 
--- ---- where the public numbers come from
-
-pub record Lends (c : Scheme) (k : Ruled) (seed a : List ℕ) : Type 0 where
-  pub from : publicFrom c k seed a ≡ a
-  pub none : grown c k seed ≡ Pass
-  pub long : publicLent c ≡ fixedOf c .public
-
-module _ (c : Scheme) (k : Ruled) (seed a : List ℕ) where
-  lends : (F : Family) → byFamily F a (growNumbers k seed) a ≡ a → byFamily F Pass (enough (length (growNumbers k seed))) Pass ≡ Pass
-      → byFamily F (fixedOf c .public) 0 (fixedOf c .public) ≡ fixedOf c .public → familyOf c ≡ F → Lends c k seed a
-  unfolding publicFrom grown
-  lends F f g h e =
-      record {
-        from = ap (λ (G : Family). byFamily G a (growNumbers k seed) a) e ∙ f;
-        none = ap (λ (G : Family). byFamily G Pass (enough (length (growNumbers k seed))) Pass) e ∙ g;
-        long = ap (λ (G : Family). byFamily G (fixedOf c .public) 0 (fixedOf c .public)) e ∙ h;
-      }
-
-  pub bcns-lends : familyOf c ≡ Family.Bcns → Lends c k seed a
-  bcns-lends = lends Family.Bcns refl refl refl
-
-  pub frodo-lends : familyOf c ≡ Family.Frodo → Lends c k seed a
-  frodo-lends = lends Family.Frodo refl refl refl
-
--- by a number for each family
-familyNumber : Family → ℕ
-familyNumber Family.Bcns = 0
-familyNumber Family.NewHope = 1
-familyNumber Family.Frodo = 2
-
-pub only-newhope : (c : Scheme) → familyOf c ≡ Family.NewHope → c ≡ NewHope
-unfolding familyNumber
-only-newhope Bcns e = let z : _≡_ {A = ℕ} 0 1 = ap familyNumber e in absurd (omega arith)
-only-newhope NewHope e = refl
-only-newhope Challenge e = let z : _≡_ {A = ℕ} 2 1 = ap familyNumber e in absurd (omega arith)
-only-newhope Classical e = let z : _≡_ {A = ℕ} 2 1 = ap familyNumber e in absurd (omega arith)
-only-newhope Recommended e = let z : _≡_ {A = ℕ} 2 1 = ap familyNumber e in absurd (omega arith)
-only-newhope Paranoid e = let z : _≡_ {A = ℕ} 2 1 = ap familyNumber e in absurd (omega arith)
-
 -- ---- Offer
 
 module _ (c : Scheme) {s e : List ℤ} {seed : List ℕ} {n : ℕ} (h : Sends c s e seed n) where
-  offer-tests : (a : List ℕ) → length a ≡ fixedOf c .public
+  pub offer-tests : (a : List ℕ) → length a ≡ fixedOf c .public
       → offerTests (Known c) (offerOf a s e seed) n ≡ publicsIn (fixedOf c .q) a then notBlank (offeredPart c (offerOf a s e seed))
   unfolding offerAhead offerLengths
   offer-tests a l =
@@ -175,52 +131,24 @@ module _ (c : Scheme) {s e : List ℤ} {seed : List ℕ} {n : ℕ} (h : Sends c 
       rw (L .from, L .none, last-passes (publicsIn (fixedOf c .q) a))
       (q ∙ ap (λ (v : Verdict). shown v (offerMessage (Known c) (offerOf a s e seed)) 0 n) (offer-tests a (l ∙ L .long)))
 
-no-publics : (q : ℕ) → publicsIn (suc q) [] ≡ Pass
-no-publics q = below-passes (record { below = λ i. omega arith })
-
 -- in NewHope, of the numbers that Grow has left in a
 module _ (k : RuleName) {s e : List ℤ} {seed : List ℕ} {n : ℕ} (h : Sends NewHope s e seed n) {j : Ruled} (d : j ≡ By k) {room : ℕ} (r : room ≡ 1024)
     (v : Answer) (a : List ℕ) (p : seen (told v) a ≡ growResult j (growOf seed) room) where
-  grow-tests : growTests (By k) (growOf seed) 1024 ≡ grown NewHope (By k) seed
-  unfolding growTests grown
-  grow-tests = went-on _ refl (all-pass (length-passes (h .seed-long)) (room-passes (le-refl 1024)))
-
-  grow-given : seen (told v) a ≡ shown (grown NewHope (By k) seed) (growNumbers (By k) seed) 0 1024
-  grow-given = rw (d, r) at p ∙ ap (λ (w : Verdict). shown w (growNumbers (By k) seed) 0 1024) grow-tests
-
-  grow-front : publicsIn 12289 [] then grown NewHope (By k) seed ≡ grown NewHope (By k) seed
-  grow-front = went-on _ refl (no-publics 12288)
-
   pub send-ran-out : {t : Refusal} {opening : List ℕ} → v ≡ Answer.Refused t → opening ≡ replicate n 0
       → seen (refused t 0) opening
       ≡ shown (sendTests NewHope (By k) [] s e seed) (offerMessage (Known NewHope) (offerOf (growNumbers (By k) seed) s e seed)) 0 n
   unfolding sendTests
-  send-ran-out {t} f o =
-      let w = seen-fails (growNumbers (By k) seed) 0 1024 (grown NewHope (By k) seed) t 0 a (rw f at grow-given) in
-      shown-failed _ 0 n (failed _ refl (grow-front ∙ w)) o
+  send-ran-out f o = shown-failed _ 0 n (failed _ refl (went-on _ refl (no-publics 12288) ∙ ran-out k seed (h .seed-long) d r v a p f)) o
 
-  module _ {m : ℕ} (f : v ≡ Answer.Done m) where
-    grow-passed : grown NewHope (By k) seed ≡ Pass
-    grow-passed = seen-done (growNumbers (By k) seed) 0 1024 (grown NewHope (By k) seed) m a (rw f at grow-given)
-
-    grow-long : length (growNumbers (By k) seed) ≡ 1024
-    unfolding grown
-    grow-long = omega (arith, enough-passed (length (growNumbers (By k) seed)) _ refl grow-passed, numbers-few k (blocks seed))
-
-    pub grow-is : a ≡ growNumbers (By k) seed
-    grow-is = seen-whole (growNumbers (By k) seed) 0 1024 (grown NewHope (By k) seed) m a grow-long (rw f at grow-given)
-
-    grow-in : Below 12289 a
-    unfolding seen
-    grow-in = rw (ap (λ (u : Seen ℕ). u .out .holds) p) (grow-below j (growOf seed) room)
-
-    pub send-grows : {u : Seen ℕ} → u ≡ offerResult (Known NewHope) (offerOf a s e seed) n
-        → u ≡ shown (sendTests NewHope (By k) [] s e seed) (offerMessage (Known NewHope) (offerOf (growNumbers (By k) seed) s e seed)) 0 n
-    unfolding sendTests publicFrom
-    send-grows q =
-        let part = notBlank (offeredPart NewHope (offerOf a s e seed)) in
-        let t = offer-tests NewHope h a (ap length grow-is ∙ grow-long) ∙ went-on part refl (below-passes grow-in) in
-        rw (← grow-is, went-on part refl (grow-front ∙ grow-passed)) (q ∙ ap (λ (w : Verdict). shown w (offerMessage (Known NewHope) (offerOf a s e seed)) 0 n) t)
+  pub send-grows : {m : ℕ} {u : Seen ℕ} → v ≡ Answer.Done m → u ≡ offerResult (Known NewHope) (offerOf a s e seed) n
+      → u ≡ shown (sendTests NewHope (By k) [] s e seed) (offerMessage (Known NewHope) (offerOf (growNumbers (By k) seed) s e seed)) 0 n
+  unfolding sendTests publicFrom
+  send-grows f q =
+      let g = grows k seed (h .seed-long) d r v a p f in
+      let part = notBlank (offeredPart NewHope (offerOf a s e seed)) in
+      let t = offer-tests NewHope h a (g .counted .long) ∙ went-on part refl (below-passes (g .counted .below)) in
+      rw (← g .is, went-on part refl (went-on _ refl (no-publics 12288) ∙ g .passed))
+      (q ∙ ap (λ (w : Verdict). shown w (offerMessage (Known NewHope) (offerOf a s e seed)) 0 n) t)
 
 -- the same of a scheme that is NewHope
 pub sends-newhope : {c : Scheme} {s e : List ℤ} {seed : List ℕ} {n : ℕ} → c ≡ NewHope → Sends c s e seed n → Sends NewHope s e seed n

@@ -2,14 +2,19 @@
 // given exactly when its condition holds; after a refusal every output is zero from end to end, and after a success what lies behind the answer is zero.
 ghost use mathlib.Core.Path.{_≡_};
 ghost use Rattle.schemes.specs.Schemes.{schemeOf};
-ghost use Rattle.lists.specs.Lent.{left};
+ghost use lib.ListN.{replicate};
+ghost use Rattle.lists.specs.Lent.{left, room};
 ghost use Rattle.noise.specs.Expand.{ruleOf};
+ghost use Rattle.reply.specs.Reply.{replyRooms, replyTold, replySeen};
 ghost use Rattle.exchange.specs.Open.{openLent, openRooms, openTold, openSeen, openResult};
+ghost use Rattle.exchange.specs.Answer.{answerLent, answerResult};
 
+mod answerer;
 mod drawing;
 mod opener;
 
 use refusals::Refusal;
+use reply::ReplyAnswer;
 use schemes::Named;
 
 // What open gives: how much it wrote of each output, or the refusal.
@@ -40,4 +45,35 @@ pub fn open(
         return OpenAnswer::Refused(Refusal::NoScheme);
     };
     opener::open_by(known, rule, a, table, random, opening, s)
+}
+
+// Whatever they held.
+fn zero_outputs(message: &mut [u8], key: &mut [u8])
+    ensures { λ _. ⌜ left message ≡ replicate (room message) 0 ⌝ }
+    ensures { λ _. ⌜ left key ≡ replicate (room key) 0 ⌝ }
+{
+    lists::zero_bytes(message);
+    lists::zero_bytes(key);
+}
+
+// answer: the reply message, the replier's key and its digest, from the opening message, the public numbers a, the table and random bytes: s', e', e'' and coins,
+// one after the other.
+pub fn answer(
+    scheme: u32,
+    rule: u32,
+    opening: &[u8],
+    a: &[u32],
+    table: &[u64],
+    random: &[u8],
+    message: &mut [u8],
+    key: &mut [u8],
+    digest: &mut [u8],
+) -> ReplyAnswer
+    ensures { λ r. ⌜ replySeen (replyTold r) (left message) (left key) (left digest) ≡ answerResult (schemeOf scheme) (ruleOf rule) (answerLent opening a table random) (replyRooms message key digest) ⌝ }
+{
+    zero_outputs(message, key);
+    let Named::Known(known) = refusals::named(scheme, digest) else {
+        return ReplyAnswer::Refused(Refusal::NoScheme);
+    };
+    answerer::answer_by(known, rule, opening, a, table, random, message, key, digest)
 }

@@ -2,7 +2,8 @@
 use mathlib.Core.Path.{sym, ap, _∙_}
 use Rattle.schemes.specs.Schemes.{schemeOf}
 use Rattle.schemes.proofs.Laws.{by-number}
-use Rattle.exchange.proofs.Opening.{bcns-lends, frodo-lends, only-newhope, send-lent, send-newhope, sends-newhope}
+use Rattle.exchange.proofs.Grown.{bcns-lends, frodo-lends, only-newhope}
+use Rattle.exchange.proofs.Opening.{send-lent, send-newhope, sends-newhope}
 use borrow.Author.Needs.{needs}
 use Rattle.exchange.proofs.opener.send.Statement.{statement}
 use Rattle.exchange.proofs.opener.send.Tie as tie

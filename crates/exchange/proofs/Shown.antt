@@ -1,0 +1,217 @@
+-- What is stated in specs/Shown.
+use mathlib.Core.Path.{_≡_, refl, sym, ap, _∙_}
+use mathlib.Core.Bool.{Bool, true, false, cond}
+use mathlib.Core.List.{List}
+use Prim.Native.Nat.{ℕ, _+_, _≤_}
+use native.Mathlib.Omega.{arith}
+use lib.Dec.{leb, ltb}
+use lib.ListN.{length}
+use Rattle.schemes.specs.Schemes.{fixedOf, familyOf, byFamily}
+use Rattle.schemes.specs.declared.Family.{Family}
+use Rattle.schemes.specs.declared.Named.{Named}
+use Rattle.schemes.specs.declared.Named.the-variants.{Known, Unknown}
+use Rattle.schemes.specs.declared.Scheme.{Scheme}
+use Rattle.schemes.proofs.Laws.{tied}
+use Rattle.lists.specs.Entries.{Below}
+use Rattle.lists.specs.First.{firstOver}
+use Rattle.lists.proofs.Parts.{front-long, part-long}
+use Rattle.refusals.specs.Refusals.{numberIn, _then_, lengthIs, roomFor, publicsIn, messageIn, notBlank, tableIn, receivedIn}
+use Rattle.refusals.specs.Seen.{Told}
+use Rattle.refusals.specs.declared.Verdict.{Verdict}
+use Rattle.refusals.specs.declared.Verdict.the-variants.{Pass, Fail}
+use Rattle.refusals.proofs.Laws.{differ, some, both, all-pass, below-passes}
+use Rattle.refusals.proofs.Number.{and, lengths, rooms, publics, blanks}
+use Rattle.refusals.proofs.Same.{same-refusal}
+use Rattle.noise.specs.declared.RuleName.{RuleName}
+use Rattle.noise.specs.declared.Ruled.the-variants.{By}
+use Rattle.noise.specs.declared.Ruled.{Ruled}
+use Rattle.sampling.specs.Expand.{enough}
+use Rattle.offer.specs.Offer.{offerTests}
+use Rattle.reply.specs.Reply.{ReplyRooms, replyTests}
+use Rattle.exchange.specs.Random.{secretBytes, mixedBytes, tableOrder, grown}
+use Rattle.exchange.specs.Open.{OpenLent, OpenRooms, OpenSeen, openOffer, openTests, openTold, openSeen}
+use Rattle.exchange.specs.Answer.{AnswerLent, answerReply, answerTests}
+use Rattle.exchange.specs.Inside.{openRest, sendTests, Sends, answerSizes, answerRest, settleTests, Settles}
+use Rattle.exchange.specs.Shown.{NeverSix, OpenOffers, AnswerReplies, OpenSeenAll, OpenToldAll}
+use Rattle.exchange.specs.declared.OpenAnswer.the-variants.{Done, Refused}
+use Rattle.exchange.specs.declared.OpenCounts.{OpenCounts}
+use Rattle.exchange.proofs.Drawn.{draws-secret, draws-mixed, drawn-small}
+use Rattle.exchange.proofs.Grown.{public-counted}
+use Rattle.exchange.proofs.Opening.{open-sized, open-apart, offer-tests}
+use Rattle.exchange.proofs.Answering.{answer-sized, answer-apart, reply-tests}
+
+-- ---- 6
+
+abbrev Other : ℕ → Type 0
+Other k = k ≡ 6 → ⊥
+
+none : Other 0
+none e = omega arith
+
+either : (t : Bool) (v w : Verdict) → Other (numberIn v) → Other (numberIn w) → Other (numberIn (cond t v w))
+either true v w a b = a
+either false v w a b = b
+
+by-family : (F : Family) (v w u : Verdict) → Other (numberIn v) → Other (numberIn w) → Other (numberIn u) → Other (numberIn (byFamily F v w u))
+by-family Family.Bcns v w u a b d = a
+by-family Family.NewHope v w u a b d = b
+by-family Family.Frodo v w u a b d = d
+
+entry-other : (p n : ℕ) → Other (numberIn (tableIn p n))
+unfolding tableIn
+entry-other p n = either (ltb p n) _ _ (λ e. omega arith) none
+
+table-other : (c : Scheme) (table : List ℕ) → Other (numberIn (tableOrder c table))
+unfolding tableOrder
+table-other c table = by-family (familyOf c) _ _ _ (entry-other _ _) none none
+
+enough-other : (m : ℕ) → Other (numberIn (enough m))
+unfolding enough
+enough-other m = either (leb 1024 m) _ _ none (λ e. omega arith)
+
+grown-other : (c : Scheme) (k : Ruled) (seed : List ℕ) → Other (numberIn (grown c k seed))
+unfolding grown
+grown-other c k seed = by-family (familyOf c) _ _ _ none (enough-other _) none
+
+message-other : (q : ℕ) (xs : List ℕ) → Other (numberIn (messageIn q xs))
+unfolding messageIn
+message-other q xs = either (ltb (firstOver q xs) (length xs)) _ _ (λ e. omega arith) none
+
+length-other : (m n : ℕ) → Other (numberIn (lengthIs m n))
+length-other = lengths Other none (λ e. omega arith)
+
+room-other : (room n : ℕ) → Other (numberIn (roomFor room n))
+room-other = rooms Other none (λ e. omega arith)
+
+publics-other : (q : ℕ) (xs : List ℕ) → Other (numberIn (publicsIn q xs))
+publics-other = publics Other none (λ e. omega arith)
+
+blank-other : (part : List ℕ) → Other (numberIn (notBlank part))
+blank-other = blanks Other none (λ e. omega arith)
+
+also : (v w : Verdict) → Other (numberIn v) → Other (numberIn w) → Other (numberIn (v then w))
+also v w a b = and Other v w a (λ _. b)
+
+open-never : (c : Scheme) (r : RuleName) (x : OpenLent) (m : OpenRooms) → Other (numberIn (openTests (Known c) (By r) x m))
+unfolding openTests
+open-never c r x m =
+    also _ _
+    (also _ _
+    (also _ _
+    (also _ _ (also _ _ (also _ _ (also _ _ (also _ _ (length-other _ _) (length-other _ _)) (length-other _ _)) (room-other _ _)) (room-other _ _)) (table-other c (x .table)))
+    (publics-other _ _))
+    (grown-other c (By r) _))
+    (blank-other _)
+
+-- ---- what passes
+
+open-offers-by : (c : Scheme) (r : RuleName) (x : OpenLent) (m : OpenRooms) → Below 256 (x .random) → openTests (Known c) (By r) x m ≡ Pass
+    → offerTests (Known c) (openOffer (Known c) (By r) x) (m .opening) ≡ Pass
+unfolding openRest sendTests openOffer
+open-offers-by c r x m b t =
+    let apart = both _ _ (sym (open-apart c x m r) ∙ t) in
+    let sends = both _ _ (both _ _ (apart .1) .1) in
+    let publics = both _ _ (sends .0) in
+    let z = open-sized c x m (apart .0) in
+    let k = secretBytes c in
+    let at = fixedOf c .seed in
+    let first : at + k ≤ length (x .random) = omega (arith, z .random-long) in
+    let second : at + k + k ≤ length (x .random) = omega (arith, z .random-long) in
+    let seed : at ≤ length (x .random) = omega (arith, z .random-long) in
+    let h : Sends c _ _ _ (m .opening) =
+    record {
+      secret = drawn-small (draws-secret c first (z .table-long) refl (sym (tied c .noise))) b;
+      noise = drawn-small (draws-secret c second (z .table-long) refl refl) b;
+      seed-long = front-long at (x .random) seed;
+      roomy = z .roomy;
+    } in
+    let a = public-counted c r _ (x .a) (z .public-long) (publics .0) (publics .1) in
+    offer-tests c h _ (a .long) ∙ all-pass (below-passes (a .below)) (sends .1)
+
+pub open-offers : OpenOffers
+unfolding openTests
+open-offers Unknown k x m b t = differ t
+open-offers (Known c) Ruled.Unknown x m b t = differ t
+open-offers (Known c) (By r) x m b t = open-offers-by c r x m b t
+
+answer-sizes : (c : Scheme) (x : AnswerLent) (m : ReplyRooms) → Other (numberIn (answerSizes c x m))
+unfolding answerSizes
+answer-sizes c x m =
+    also _ _
+    (also _ _
+    (also _ _ (also _ _ (also _ _ (also _ _ (length-other _ _) (length-other _ _)) (length-other _ _)) (length-other _ _)) (room-other _ _))
+    (room-other _ _))
+    (room-other _ _)
+
+answer-never : (c : Scheme) (r : RuleName) (x : AnswerLent) (m : ReplyRooms) → Other (numberIn (answerTests (Known c) (By r) x m))
+unfolding answerTests answerSizes
+answer-never c r x m =
+    also _ _
+    (also _ _ (also _ _ (also _ _ (also _ _ (also _ _ (answer-sizes c x m) (table-other c (x .table))) (publics-other _ _)) (message-other _ _)) (blank-other _)) (grown-other c (By r) _))
+    (blank-other _)
+
+pub never-six : NeverSix
+unfolding openTests answerTests
+never-six = (opens, answers)
+  where
+    opens : (c : Named) (k : Ruled) (x : OpenLent) (m : OpenRooms) → numberIn (openTests c k x m) ≡ 6 → ⊥
+    opens Unknown k x m = λ e. omega arith
+    opens (Known c) Ruled.Unknown x m = λ e. omega arith
+    opens (Known c) (By r) x m = open-never c r x m
+
+    answers : (c : Named) (k : Ruled) (x : AnswerLent) (m : ReplyRooms) → numberIn (answerTests c k x m) ≡ 6 → ⊥
+    answers Unknown k x m = λ e. omega arith
+    answers (Known c) Ruled.Unknown x m = λ e. omega arith
+    answers (Known c) (By r) x m = answer-never c r x m
+
+answer-replies-by : (c : Scheme) (r : RuleName) (x : AnswerLent) (m : ReplyRooms) → Below 256 (x .random) → answerTests (Known c) (By r) x m ≡ Pass
+    → replyTests (Known c) (answerReply (Known c) (By r) x) m ≡ Pass
+unfolding answerRest settleTests answerReply
+answer-replies-by c r x m b t =
+    let apart = both _ _ (sym (answer-apart c x m r) ∙ t) in
+    let settles = both _ _ (both _ _ (apart .1) .1) in
+    let grows = both _ _ (settles .0) in
+    let publics = both _ _ (grows .0) in
+    let z = answer-sized c x m (apart .0) in
+    let k = secretBytes c in
+    let l = mixedBytes c in
+    let first : 0 + k ≤ length (x .random) = omega (arith, z .random-long) in
+    let second : k + k ≤ length (x .random) = omega (arith, z .random-long) in
+    let third : k + k + l ≤ length (x .random) = omega (arith, z .random-long) in
+    let fourth : k + k + l + fixedOf c .coins ≤ length (x .random) = omega (arith, z .random-long) in
+    let h : Settles c (x .opening) _ _ _ _ m =
+    record {
+      opening-long = z .opening-long;
+      secret = drawn-small (draws-secret c first (z .table-long) refl (sym (tied c .noise))) b;
+      noise = drawn-small (draws-secret c second (z .table-long) refl refl) b;
+      last = drawn-small (draws-mixed c third (z .table-long) refl refl) b;
+      coins-long = part-long (k + k + l) (fixedOf c .coins) (x .random) fourth;
+      roomy = z .roomy;
+      key-roomy = z .key-roomy;
+      digest-roomy = z .digest-roomy;
+    } in
+    let a = public-counted c r _ (x .a) (z .public-long) (publics .0) (grows .1) in
+    reply-tests c h _ (a .long) ∙ all-pass (below-passes (a .below)) (all-pass (publics .1) (settles .1))
+
+pub answer-replies : AnswerReplies
+unfolding answerTests
+answer-replies Unknown k x m b t = differ t
+answer-replies (Known c) Ruled.Unknown x m b t = differ t
+answer-replies (Known c) (By r) x m b t = answer-replies-by c r x m b t
+
+-- ---- nothing is forgotten
+
+-- the numbers of the answer, from what is seen
+toldIn : OpenSeen → Told OpenCounts
+toldIn s = record { number = s .number; place = s .place; counts = record { opening = s .opening .count; s = s .s .count } }
+
+pub open-seen-all : OpenSeenAll
+unfolding openSeen toldIn
+open-seen-all t t′ opening opening′ s s′ e = (ap toldIn e, ap (λ (u : OpenSeen). u .opening .holds) e, ap (λ (u : OpenSeen). u .s .holds) e)
+
+pub open-told-all : OpenToldAll
+open-told-all (Done n) (Done n′) e = ap Done (ap (λ (t : Told OpenCounts). t .counts) e)
+open-told-all (Done n) (Refused r) e = let z = ap (λ (t : Told OpenCounts). t .number) e in absurd (omega (arith, some r))
+open-told-all (Refused r) (Done n) e = let z = ap (λ (t : Told OpenCounts). t .number) e in absurd (omega (arith, some r))
+open-told-all (Refused r) (Refused s) e =
+    ap Refused (same-refusal r s (ap (λ (t : Told OpenCounts). t .number) e) (ap (λ (t : Told OpenCounts). t .place) e))

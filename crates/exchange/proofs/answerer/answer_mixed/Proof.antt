@@ -1,0 +1,157 @@
+-- `exchange::answerer::answer_mixed` meets its contract: the table's refusal, or what Reply shows of s', e', e'' and coins.
+use mathlib.Core.Path.{_≡_, sym, ap, ap₂, _∙_}
+use mathlib.Core.List.{List}
+use Prim.Native.Nat.{ℕ, _+_, _-_}
+use native.Mathlib.Omega.{arith}
+use lib.IntN.{ℤ}
+use lib.ListN.{length, take, drop}
+use Rattle.schemes.specs.Schemes.{fixedOf}
+use Rattle.lists.proofs.Parts.{part-long}
+use Rattle.reply.specs.Reply.{ReplyRooms, replyRoomsOf}
+use Rattle.reply.proofs.Replying.{reply-refused}
+use Rattle.exchange.specs.Random.{secretBytes, mixedBytes, cut, valuesIn}
+use Rattle.exchange.specs.Answer.{AnswerLent, answerLentOf, answerReply}
+use Rattle.exchange.proofs.Drawn.{secret-few, mixed-few, draws-mixed}
+use Rattle.exchange.proofs.Answering.{AnswerSized, answer-sized, rest-taken, answer-unordered, answer-settled}
+use borrow.Author.Needs.{needs}
+use Rattle.exchange.proofs.answerer.answer_mixed.Statement.{statement}
+use Rattle.exchange.proofs.answerer.answer_mixed.Tie as tie
+
+-- the places, from the last to the first
+abbrev told : tie.After-settle → tie.After-enum-told
+told c = search needs
+
+abbrev drawn : tie.After-enum-told → tie.After-draw
+drawn c = search needs
+
+abbrev taken : tie.After-draw → tie.After-lengths
+taken c = search needs
+
+abbrev start : tie.After-lengths → tie.Start
+start c = search needs
+
+abbrev lent : tie.Start → AnswerLent
+lent b = let a = b .args in answerLentOf (a .opening .now) (a .a .now) (a .table .now) (a .random .now)
+
+abbrev rooms : tie.Start → ReplyRooms
+rooms b = let a = b .args in replyRoomsOf (length (a .message .now)) (length (a .key .now)) (length (a .digest .now))
+
+abbrev drawnAt : tie.Start → ℕ → ℕ → List ℤ
+drawnAt b i k = let a = b .args in valuesIn (a .scheme) (a .table .now) (cut i k (a .random .now))
+
+module _ (l : tie.After-lengths) where
+  sized : AnswerSized (start l .args .scheme) (lent (start l)) (rooms (start l))
+  sized = answer-sized _ _ _ (start l .pre .0)
+
+  secret-is : l .lengths .result .secret ≡ secretBytes (start l .args .scheme)
+  secret-is = l .lengths .ensures .1 .0
+
+  mixed-is : l .lengths .result .mixed ≡ mixedBytes (start l .args .scheme)
+  mixed-is = l .lengths .ensures .1 .1
+
+  -- where e'' ends
+  end-is : let k = l .lengths .result in
+      k .secret + k .secret + k .mixed
+      ≡ secretBytes (start l .args .scheme) + secretBytes (start l .args .scheme) + mixedBytes (start l .args .scheme)
+  end-is = ap₂ (λ (i j : ℕ). i + i + j) secret-is mixed-is
+
+  random-long : let k = l .lengths .result in
+      length (start l .args .random .now) ≡ k .secret + k .secret + k .mixed + fixedOf (start l .args .scheme) .coins
+  random-long = sized .random-long ∙ ap (λ (i : ℕ). i + fixedOf (start l .args .scheme) .coins) (sym end-is)
+
+  coins-is : let k = l .lengths .result in
+      take (length (start l .args .random .now) - (k .secret + k .secret + k .mixed)) (drop (k .secret + k .secret + k .mixed) (start l .args .random .now))
+      ≡ cut (k .secret + k .secret + k .mixed) (fixedOf (start l .args .scheme) .coins) (start l .args .random .now)
+  coins-is = rest-taken _ _ _ random-long
+
+  coins-long : let k = l .lengths .result in
+      length (cut (k .secret + k .secret + k .mixed) (fixedOf (start l .args .scheme) .coins) (start l .args .random .now))
+      ≡ fixedOf (start l .args .scheme) .coins
+  coins-long = let k = l .lengths .result in part-long (k .secret + k .secret + k .mixed) _ (start l .args .random .now) (omega (arith, random-long))
+
+add-at : tie.Need-add-at
+add-at c = let l : tie.After-lengths = search needs in record { fits = omega (arith, secret-is l, secret-few (start l .args .scheme)) }
+
+add-end : tie.Need-add-end
+add-end c =
+    let l : tie.After-lengths = search needs in
+    let s = start l .args .scheme in
+    record { fits = omega (arith, secret-is l, mixed-is l, secret-few s, mixed-few s) }
+
+draw-requires : tie.Need-draw-requires
+draw-requires c κs =
+    let l : tie.After-lengths = search needs in
+    let b = start l in
+    draws-mixed (b .args .scheme) (omega (arith, random-long l)) (sized l .table-long) (mixed-is l) (b .pre .1 .1 .1 .1 .1)
+
+sub-settle : tie.Need-sub-settle
+sub-settle c = let o : tie.After-enum-told = search needs in omega (arith, random-long (taken (drawn o)))
+
+part-settle-start : tie.Need-part-settle-start
+part-settle-start c = let o : tie.After-enum-told = search needs in omega (arith, random-long (taken (drawn o)))
+
+settle-requires : tie.Need-settle-requires
+settle-requires c κs =
+    let o : tie.After-enum-told = search needs in
+    let d = drawn o in
+    let l = taken d in
+    let b = start l in
+    let z = sized l in
+    let h = b .pre .1 in (
+      record {
+        opening-long = z .opening-long;
+        secret = h .0 .small;
+        noise = h .1 .0 .small;
+        last = rw (← h .1 .1 .1 .1) (d .draw .ensures .1 (o .enum-told .given .1) .small);
+        coins-long = ap length (coins-is l) ∙ coins-long l;
+        roomy = z .roomy;
+        key-roomy = z .key-roomy;
+        digest-roomy = z .digest-roomy;
+      },
+      (h .1 .1 .0, (h .1 .1 .1 .0, z .public-long)),
+    )
+
+returns : tie.Need-returns
+returns c =
+    let v : tie.After-v = search needs in
+    let d : tie.After-draw = search needs in
+    let b = start (taken d) in
+    let h = b .pre .1 .1 .1 in
+    reply-refused _ _ _ (rooms b) (answer-unordered (b .args .scheme) (b .args .name) (lent b) (rooms b) (b .pre .0) (d .draw .ensures .0) (v .v .given .1)) (h .0 .0) (h .0 .1) (h .1 .0)
+
+returns-2 : tie.Need-returns-2
+unfolding answerReply
+returns-2 c =
+    let p : tie.After-settle = search needs in
+    let o = told p in
+    let d = drawn o in
+    let l = taken d in
+    let b = start l in
+    let a = b .args in
+    let e = o .enum-told .given .1 in
+    let h = b .pre .1 in
+    answer-settled (a .scheme) (a .name) (lent b) (rooms b) (b .pre .0) (d .draw .ensures .0) e (h .0 .values) (h .1 .0 .values)
+    (d .draw .ensures .1 e .values ∙ ap₂ (λ (i j : ℕ). drawnAt b (i + i) j) (secret-is l) (mixed-is l))
+    (coins-is l ∙ ap (λ (i : ℕ). cut i (fixedOf (a .scheme) .coins) (a .random .now)) (end-is l)) (p .settle .ensures)
+
+pub answer-mixed-spec : {M : Type 1} → statement M
+answer-mixed-spec =
+    tie.close
+    (tie.spec
+    (λ c κs. search needs)
+    add-at
+    add-end
+    draw-requires
+    (search needs)
+    (search needs)
+    sub-settle
+    part-settle-start
+    (search needs)
+    settle-requires
+    (search needs)
+    returns
+    (search needs)
+    (search needs)
+    (search needs)
+    (search needs)
+    returns-2)

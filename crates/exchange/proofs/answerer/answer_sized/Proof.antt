@@ -1,0 +1,78 @@
+-- `exchange::answerer::answer_sized` meets its contract: it lends room for s', e' and e''.
+use mathlib.Core.Path.{_≡_, sym, ap, _∙_}
+use Prim.Native.Nat.{_≤_}
+use native.Mathlib.Omega.{arith}
+use Rattle.schemes.specs.Schemes.{fixedOf}
+use Rattle.schemes.specs.declared.Fixed.{Fixed}
+use Rattle.schemes.proofs.Laws.{tied}
+use Rattle.schemes.proofs.Sound.{sound}
+use Rattle.lists.proofs.Parts.{same-long}
+use borrow.Author.Needs.{needs}
+use Rattle.exchange.proofs.answerer.answer_sized.Statement.{statement}
+use Rattle.exchange.proofs.answerer.answer_sized.Tie as tie
+
+abbrev start : tie.After-fixed → tie.Start
+start c = search needs
+
+module _ (f : tie.After-fixed) where
+  long : f .fixed .result .secret ≡ fixedOf (start f .args .scheme) .secret
+  long = ap (λ (g : Fixed). g .secret) (f .fixed .ensures)
+
+  few : f .fixed .result .secret ≤ 6912
+  few = omega (arith, long, sound (start f .args .scheme) .secrets)
+
+  mixed-long : f .fixed .result .mixed ≡ fixedOf (start f .args .scheme) .mixed
+  mixed-long = ap (λ (g : Fixed). g .mixed) (f .fixed .ensures)
+
+  mixed-few : f .fixed .result .mixed ≤ 1024
+  mixed-few = omega (arith, mixed-long, sound (start f .args .scheme) .values)
+
+array-borrow-prefix-s1 : tie.Need-array-borrow-prefix-s1
+array-borrow-prefix-s1 c = let f : tie.After-fixed = search needs in few f
+
+slice-aggregate-answer-drawn : tie.Need-slice-aggregate-answer-drawn
+slice-aggregate-answer-drawn c = let f : tie.After-fixed = search needs in sym (same-long _ 6912 _ (few f))
+
+array-borrow-prefix-e1 : tie.Need-array-borrow-prefix-e1
+array-borrow-prefix-e1 c = let f : tie.After-fixed = search needs in few f
+
+slice-aggregate-answer-drawn-2 : tie.Need-slice-aggregate-answer-drawn-2
+slice-aggregate-answer-drawn-2 c = let f : tie.After-fixed = search needs in sym (same-long _ 6912 _ (few f))
+
+array-borrow-prefix-e2 : tie.Need-array-borrow-prefix-e2
+array-borrow-prefix-e2 c = let f : tie.After-fixed = search needs in mixed-few f
+
+slice-aggregate-answer-drawn-3 : tie.Need-slice-aggregate-answer-drawn-3
+slice-aggregate-answer-drawn-3 c = let f : tie.After-fixed = search needs in sym (same-long _ 1024 _ (mixed-few f))
+
+answer-drawn-requires : tie.Need-answer-drawn-requires
+answer-drawn-requires c κs =
+    let f : tie.After-fixed = search needs in
+    let b = start f in (
+      b .pre .0,
+      (
+        (
+          same-long _ 6912 _ (few f) ∙ long f,
+          same-long _ 6912 _ (few f) ∙ long f ∙ sym (tied (b .args .scheme) .noise),
+          same-long _ 1024 _ (mixed-few f) ∙ mixed-long f,
+        ),
+        b .pre .1,
+      ),
+    )
+
+pub answer-sized-spec : {M : Type 1} → statement M
+answer-sized-spec =
+    tie.close
+    (tie.spec
+    (λ c κs. search needs)
+    array-borrow-prefix-s1
+    slice-aggregate-answer-drawn
+    array-borrow-prefix-e1
+    slice-aggregate-answer-drawn-2
+    array-borrow-prefix-e2
+    slice-aggregate-answer-drawn-3
+    answer-drawn-requires
+    (search needs)
+    (search needs)
+    (search needs)
+    (λ c. search needs))
