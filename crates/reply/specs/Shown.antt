@@ -14,8 +14,7 @@ use Rattle.lists.specs.Ranges.{Below}
 use Rattle.packing.specs.Packing.{packed}
 use Rattle.refusals.specs.Seen.{Told}
 use Rattle.refusals.specs.declared.Verdict.the-variants.{Pass}
-use Rattle.wire.specs.Wire.{opening}
-use Rattle.wire.specs.Again.{seedIn}
+use Rattle.wire.specs.Wire.{opening, seedIn}
 use Rattle.reply.specs.Reply.{Reply, ReplyRooms, openedOf, replyTests, replyKey, replyTold, replySeen}
 use Rattle.reply.specs.declared.ReplyAnswer.{ReplyAnswer}
 use Rattle.reply.specs.declared.ReplyCounts.{ReplyCounts}

@@ -30,8 +30,7 @@ use Rattle.packing.specs.Packing.{packed, unpacked}
 use Rattle.refusals.specs.Refusals.{receivedIn}
 use Rattle.refusals.specs.declared.Verdict.{Verdict}
 use Rattle.values.specs.Fit.{Counted}
-use Rattle.wire.specs.Wire.{opening, packedAt, openedIn, repliedIn, numbersIn, hintsIn, coinsIn}
-use Rattle.wire.specs.Again.{seedAt}
+use Rattle.wire.specs.Wire.{opening, packedAt, openedIn, repliedIn, numbersIn, hintsIn, coinsIn, seedAt}
 use Rattle.wire.proofs.Whole.{numbers, hints, keys, coins, fit, long, hold}
 
 -- ---- by the family

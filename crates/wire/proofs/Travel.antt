@@ -29,8 +29,8 @@ use Rattle.refusals.specs.declared.Verdict.{Verdict}
 use Rattle.refusals.specs.declared.Verdict.the-variants.{Pass}
 use Rattle.refusals.proofs.Laws.{both, message-passed}
 use Rattle.values.specs.Fit.{Counted}
-use Rattle.wire.specs.Wire.{opening, packedAt, openedIn, repliedIn, numbersIn, hintsIn, coinsIn}
-use Rattle.wire.specs.Again.{seedIn, OpeningAgain, ReplyAgain, OpeningBack, ReplyBack}
+use Rattle.wire.specs.Wire.{opening, packedAt, openedIn, repliedIn, numbersIn, hintsIn, coinsIn, seedIn}
+use Rattle.wire.specs.Again.{OpeningAgain, ReplyAgain, OpeningBack, ReplyBack}
 use Rattle.wire.proofs.Whole.{numbers, hints, keys, long, back, as-blank, again}
 use Rattle.wire.proofs.Places.{opened-long, replied-long, hints-long}
 

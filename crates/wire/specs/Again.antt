@@ -1,24 +1,17 @@
 -- Messages there and back.
---   seedAt c, seedIn c m       where the seed of an opening begins, and the seed
 --   OpeningAgain, ReplyAgain   a message of the scheme's length comes back the same when it is unpacked and packed again
 --   OpeningBack                the numbers and the seed that an opening was put together from come back
 --   ReplyBack                  so do the numbers and the hints of a reply
 use mathlib.Core.Path.{_≡_}
 use mathlib.Core.List.{List, _++_}
 use Prim.Native.Nat.{ℕ, _^_}
-use lib.ListN.{length, take, drop}
+use lib.ListN.{length}
 use Rattle.lists.specs.Ranges.{Below}
-use Rattle.schemes.specs.Schemes.{familyOf, fixedOf, byFamily}
+use Rattle.schemes.specs.Schemes.{fixedOf}
 use Rattle.schemes.specs.declared.Scheme.{Scheme}
 use Rattle.packing.specs.Packing.{packed}
 use Rattle.values.specs.Fit.{Counted}
-use Rattle.wire.specs.Wire.{opening, openedIn, repliedIn, numbersIn, hintsIn}
-
-abbrev pub seedAt : Scheme → ℕ
-seedAt c = byFamily (familyOf c) (fixedOf c .packed) (fixedOf c .packed) 0
-
-unfoldable pub seedIn : Scheme → List ℕ → List ℕ
-seedIn c m = take (fixedOf c .seed) (drop (seedAt c) m)
+use Rattle.wire.specs.Wire.{opening, openedIn, repliedIn, numbersIn, hintsIn, seedIn}
 
 abbrev pub OpeningAgain : Type 0
 OpeningAgain =

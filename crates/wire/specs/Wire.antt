@@ -1,7 +1,7 @@
 -- Where the parts of a message stand: 01, "Bytes on the wire". Frodo's seed stands first in an opening, the others' last.
 --   opening c seed p        an opening from its seed and its packed part
---   packedAt c              where its packed part begins
---   openedIn c m            that part
+--   packedAt c, seedAt c    where these two begin
+--   openedIn c m, seedIn c m   the packed part of an opening, and its seed
 --   repliedIn c m           the packed part of a reply; its hints stand behind it
 --   numbersIn c p           the numbers of a packed part
 --   hintsIn c m             the hints of a reply
@@ -19,8 +19,14 @@ opening c seed p = byFamily (familyOf c) (p ++ seed) (p ++ seed) (seed ++ p)
 abbrev pub packedAt : Scheme → ℕ
 packedAt c = byFamily (familyOf c) 0 0 (fixedOf c .seed)
 
+abbrev pub seedAt : Scheme → ℕ
+seedAt c = byFamily (familyOf c) (fixedOf c .packed) (fixedOf c .packed) 0
+
 unfoldable pub openedIn : Scheme → List ℕ → List ℕ
 openedIn c m = take (fixedOf c .packed) (drop (packedAt c) m)
+
+unfoldable pub seedIn : Scheme → List ℕ → List ℕ
+seedIn c m = take (fixedOf c .seed) (drop (seedAt c) m)
 
 unfoldable pub repliedIn : Scheme → List ℕ → List ℕ
 repliedIn c m = take (fixedOf c .packed) m

@@ -9,8 +9,7 @@ ghost use Rattle.schemes.specs.Schemes.{fixedOf};
 ghost use Rattle.packing.specs.Packing.{packed};
 ghost use Rattle.values.specs.Fit.{Counted};
 ghost use Rattle.refusals.specs.Refusals.{receivedIn};
-ghost use Rattle.wire.specs.Wire.{opening, packedAt, openedIn, repliedIn, numbersIn, hintsIn, coinsIn};
-ghost use Rattle.wire.specs.Again.{seedAt};
+ghost use Rattle.wire.specs.Wire.{opening, packedAt, openedIn, repliedIn, numbersIn, hintsIn, coinsIn, seedAt};
 
 pub mod steps;
 
