@@ -34,7 +34,7 @@ use Rattle.noise.specs.declared.RuleName.{RuleName}
 use Rattle.noise.specs.declared.Ruled.{Ruled}
 use Rattle.noise.specs.declared.Ruled.the-variants.{By}
 use Rattle.sampling.specs.Noise.{tableWords}
-use Rattle.sampling.specs.Grow.{growOf, growNumbers, growResult}
+use Rattle.sampling.specs.Expand.{growNumbers, growResult}
 use Rattle.wire.specs.Wire.{openedIn, seedIn, numbersIn}
 use Rattle.reply.specs.Reply.{ReplyRooms, ReplySeen, replyOf, openedOf, repliedPart, replyTests, replyMessage, replyKey, replyShown, replyResult, replyTold, replySeen}
 use Rattle.reply.specs.Inside.{replyLengths, replySecrets, replyLast, replyRest}
@@ -167,7 +167,7 @@ module _ (k : RuleName) {opening coins : List ℕ} {s' e' e'' : List ℤ} {m : R
 
   -- of the numbers that Grow has left in a
   module _ (w : received NewHope opening ≡ Pass) {seed : List ℕ} (g : seed ≡ seedIn NewHope opening) {j : Ruled} (d : j ≡ By k) {room : ℕ} (r : room ≡ 1024)
-      (v : Answer) (a : List ℕ) (p : seen (told v) a ≡ growResult j (growOf seed) room) where
+      (v : Answer) (a : List ℕ) (p : seen (told v) a ≡ growResult j seed room) where
     pub settle-ran-out : {t : Refusal} → v ≡ Answer.Refused t → replySeen (replyTold (ReplyAnswer.Refused t)) message key digest ≡ shows
     unfolding settleTests
     settle-ran-out f =

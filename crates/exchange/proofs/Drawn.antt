@@ -24,7 +24,7 @@ use Rattle.schemes.specs.declared.Named.{Named}
 use Rattle.schemes.specs.declared.Named.the-variants.{Known}
 use Rattle.schemes.specs.declared.Scheme.{Scheme}
 use Rattle.schemes.proofs.Sound.{sound}
-use Rattle.lists.specs.Entries.{Below}
+use Rattle.lists.specs.Ranges.{Below}
 use Rattle.lists.proofs.Parts.{part-long, below-take, below-drop}
 use Rattle.refusals.specs.Refusals.{numberOf, _then_, lengthIs}
 use Rattle.refusals.specs.Seen.{Output, done, refused, told, Seen, shown, seen}

@@ -29,7 +29,7 @@ use Rattle.noise.specs.declared.Ruled.{Ruled}
 use Rattle.noise.specs.declared.Ruled.the-variants.{By}
 use Rattle.noise.proofs.Stream.{by-name-below}
 use Rattle.sampling.specs.Expand.{expandNumbers, enough}
-use Rattle.sampling.specs.Grow.{growOf, growNumbers, blocks, growTests, growResult}
+use Rattle.sampling.specs.Expand.{growNumbers, blocks, growTests, growResult}
 use Rattle.sampling.proofs.Expanding.{enough-passed, numbers-few}
 use Rattle.values.specs.Fit.{Counted}
 use Rattle.exchange.specs.Random.{publicLent, publicFrom, grown}
@@ -91,8 +91,8 @@ pub record Grows (k : RuleName) (seed a : List ℕ) : Type 0 where
 
 -- with just the room that it takes, by what it has left in a
 module _ (k : RuleName) (seed : List ℕ) (l : length seed ≡ 32) {j : Ruled} (d : j ≡ By k) {room : ℕ} (r : room ≡ 1024) (v : Answer) (a : List ℕ)
-    (p : seen (told v) a ≡ growResult j (growOf seed) room) where
-  tests : growTests (By k) (growOf seed) 1024 ≡ grown NewHope (By k) seed
+    (p : seen (told v) a ≡ growResult j seed room) where
+  tests : growTests (By k) seed 1024 ≡ grown NewHope (By k) seed
   unfolding growTests grown
   tests = went-on _ refl (all-pass (length-passes l) (room-passes (le-refl 1024)))
 

@@ -33,7 +33,7 @@ use Rattle.noise.specs.declared.RuleName.{RuleName}
 use Rattle.noise.specs.declared.Ruled.{Ruled}
 use Rattle.noise.specs.declared.Ruled.the-variants.{By}
 use Rattle.sampling.specs.Noise.{tableWords}
-use Rattle.sampling.specs.Grow.{growOf, growNumbers, growResult}
+use Rattle.sampling.specs.Expand.{growNumbers, growResult}
 use Rattle.offer.specs.Offer.{offerOf, offeredPart, offerTests, offerMessage, offerResult}
 use Rattle.offer.specs.Inside.{offerLengths, offerAhead}
 use Rattle.offer.proofs.Offering.{offer-last-decides}
@@ -133,7 +133,7 @@ module _ (c : Scheme) {s e : List ℤ} {seed : List ℕ} {n : ℕ} (h : Sends c 
 
 -- in NewHope, of the numbers that Grow has left in a
 module _ (k : RuleName) {s e : List ℤ} {seed : List ℕ} {n : ℕ} (h : Sends NewHope s e seed n) {j : Ruled} (d : j ≡ By k) {room : ℕ} (r : room ≡ 1024)
-    (v : Answer) (a : List ℕ) (p : seen (told v) a ≡ growResult j (growOf seed) room) where
+    (v : Answer) (a : List ℕ) (p : seen (told v) a ≡ growResult j seed room) where
   pub send-ran-out : {t : Refusal} {opening : List ℕ} → v ≡ Answer.Refused t → opening ≡ replicate n 0
       → seen (refused t 0) opening
       ≡ shown (sendTests NewHope (By k) [] s e seed) (offerMessage (Known NewHope) (offerOf (growNumbers (By k) seed) s e seed)) 0 n

@@ -12,7 +12,7 @@ use Rattle.schemes.specs.declared.Named.{Named}
 use Rattle.schemes.specs.declared.Named.the-variants.{Known, Unknown}
 use Rattle.schemes.specs.declared.Scheme.{Scheme}
 use Rattle.schemes.proofs.Laws.{tied}
-use Rattle.lists.specs.Entries.{Below}
+use Rattle.lists.specs.Ranges.{Below}
 use Rattle.lists.specs.First.{firstOver}
 use Rattle.lists.proofs.Parts.{front-long, part-long}
 use Rattle.refusals.specs.Refusals.{numberIn, _then_, lengthIs, roomFor, publicsIn, messageIn, notBlank, tableIn, receivedIn}

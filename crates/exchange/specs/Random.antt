@@ -21,7 +21,7 @@ use Rattle.noise.specs.declared.Ruled.{Ruled}
 use Rattle.bcns_noise.specs.Noise.{firstNotAbove}
 use Rattle.sampling.specs.Noise.{noiseOf, bytesEach, noiseValues}
 use Rattle.sampling.specs.Expand.{enough}
-use Rattle.sampling.specs.Grow.{growNumbers}
+use Rattle.sampling.specs.Expand.{growNumbers}
 
 abbrev pub secretBytes : Scheme → ℕ
 secretBytes c = bytesEach c * fixedOf c .noise

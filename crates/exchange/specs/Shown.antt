@@ -8,7 +8,7 @@ use mathlib.Core.List.{List}
 use Prim.Native.Nat.{ℕ}
 use lib.IntN.{ℤ}
 use Rattle.schemes.specs.declared.Named.{Named}
-use Rattle.lists.specs.Entries.{Below}
+use Rattle.lists.specs.Ranges.{Below}
 use Rattle.refusals.specs.Refusals.{numberIn}
 use Rattle.refusals.specs.Seen.{Told}
 use Rattle.refusals.specs.declared.Verdict.{Verdict}

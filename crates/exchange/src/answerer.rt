@@ -11,7 +11,7 @@ ghost use Rattle.refusals.specs.Refusals.{receivedIn};
 ghost use Rattle.refusals.specs.declared.Verdict.the-variants.{Pass};
 ghost use Rattle.noise.specs.Expand.{ruleOf};
 ghost use Rattle.noise.specs.declared.Ruled.the-variants.{By};
-ghost use Rattle.sampling.specs.Grow.{growNumbers};
+ghost use Rattle.sampling.specs.Expand.{growNumbers};
 ghost use Rattle.wire.specs.Wire.{seedIn, openedIn, numbersIn};
 ghost use Rattle.reply.specs.Reply.{replyOf, replyRooms, replyRoomsOf, replyTold, replySeen, replyShown};
 ghost use Rattle.exchange.specs.Random.{secretBytes, cut, publicLent, publicFrom};

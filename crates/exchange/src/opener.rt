@@ -12,7 +12,7 @@ ghost use Rattle.refusals.specs.Seen.{told, seen, shown};
 ghost use Rattle.refusals.specs.declared.Verdict.the-variants.{Pass};
 ghost use Rattle.noise.specs.Expand.{ruleOf};
 ghost use Rattle.noise.specs.declared.Ruled.the-variants.{By};
-ghost use Rattle.sampling.specs.Grow.{growNumbers};
+ghost use Rattle.sampling.specs.Expand.{growNumbers};
 ghost use Rattle.offer.specs.Offer.{offerOf, offerMessage};
 ghost use Rattle.exchange.specs.Random.{publicLent, publicFrom};
 ghost use Rattle.exchange.specs.Open.{openLent, openLentOf, openRooms, openRoomsOf, openOffer, openTold, openSeen, openResult};

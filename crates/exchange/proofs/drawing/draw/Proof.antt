@@ -1,6 +1,6 @@
 -- `exchange::drawing::draw` meets its contract: Noise's answer.
 use native.Mathlib.Omega.{arith}
-use Rattle.lists.specs.Entries.{Below}
+use Rattle.lists.specs.Ranges.{Below}
 use Rattle.schemes.specs.Schemes.{schemeOf}
 use Rattle.schemes.proofs.Laws.{by-number}
 use Rattle.refusals.proofs.Laws.{differ}
