@@ -17,7 +17,7 @@ use Rattle.numbers.proofs.Natural.{rest-is}
 use Rattle.numbers.proofs.Circle.{apart-close, close-apart, close-swap, close-join, close-scale}
 use Rattle.numbers.proofs.Arc.{Arc, away-arc, away-at-most, away-none, nearest-least}
 use Rattle.bcns.specs.Rounding.{q, doubled, hintOf, slackOf}
-use Rattle.bcns.specs.Slack.{mostSlack, LeastApart, SlackLeast, past, SlackFormula, SlackNone, SlackBound, SlackApart}
+use Rattle.bcns.specs.Slack.{mostSlack, SlackLeast, past, SlackFormula, SlackNone, SlackBound, SlackApart}
 use Rattle.bcns.proofs.Regions.{hint-is, Region, first, second, third, fourth, region}
 use Rattle.bcns.proofs.Margin.{doubled-below, doubled-near}
 

@@ -12,7 +12,6 @@ use native.Mathlib.Omega.{arith}
 use lib.Dec.{eqb}
 use lib.Pow.{pow-pos}
 use borrow.Author.Tests.{eqb-true, eq-eqb}
-use Rattle.numbers.specs.Residue.{apart}
 use Rattle.numbers.specs.Least.{gapTo}
 use Rattle.numbers.proofs.Natural.{rest-is}
 use Rattle.numbers.proofs.Arc.{Arc, away-arc, away-at-most, away-none}

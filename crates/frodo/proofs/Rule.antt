@@ -14,7 +14,6 @@ use native.Mathlib.Omega.{arith}
 use lib.Dec.{eqb}
 use lib.Pow.{pow-pos}
 use borrow.Author.Tests.{eqb-true, eq-eqb}
-use Rattle.numbers.specs.Residue.{apart}
 use Rattle.numbers.specs.Congruence.{Close, direct, over, under}
 use Rattle.numbers.specs.Least.{nearestTo}
 use Rattle.numbers.proofs.Circle.{apart-close, close-apart}
