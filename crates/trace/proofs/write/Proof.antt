@@ -21,14 +21,16 @@ write-line-requires c κs =
 returns : tie.Need-returns
 returns c =
     let s : tie.Start = search needs in
-    let w = c .before .before in
-    written-as (text-whole (s .args .c) (w .before .before .if1 .taken)) (w .write-summary .ensures)
+    let t : tie.Then1 = search needs in
+    let w : tie.After-write-summary = search needs in
+    written-as (text-whole (s .args .c) (t .if1 .taken)) (w .write-summary .ensures)
 
 returns-2 : tie.Need-returns-2
 returns-2 c =
     let s : tie.Start = search needs in
-    let w = c .before .before in
-    written-as (text-lost (s .args .c) (w .before .before .before .if1 .left)) (w .write-line .ensures)
+    let t : tie.Else1 = search needs in
+    let w : tie.After-write-line = search needs in
+    written-as (text-lost (s .args .c) (t .if1 .left)) (w .write-line .ensures)
 
 pub write-spec : {M : Type 1} → statement M
 write-spec = tie.close (tie.spec write-summary-requires (search needs) write-line-requires (search needs) returns (search needs) returns-2)

@@ -4,7 +4,10 @@ use Rattle.kernels.proofs.products.matrix_mix_left.Statement.{statement
 use Rattle.kernels.proofs.products.matrix_mix_left.Tie as tie
 
 returns : tie.Need-returns
-returns c = let w = c .before .before in w .mix-left .ensures .1 (w .before .before .before .before .pre .0 .0 .xs-below)
+returns c =
+    let s : tie.Start = search needs in
+    let w : tie.After-mix-left = search needs in
+    w .mix-left .ensures .1 (s .pre .0 .0 .xs-below)
 
 pub matrix-mix-left-spec : {M : Type 1} → statement M
 matrix-mix-left-spec = tie.close (tie.spec (λ c κs. search needs) (search needs) returns)
