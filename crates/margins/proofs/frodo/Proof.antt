@@ -7,56 +7,31 @@ use Rattle.margins.proofs.Numbers.{quarter-lt}
 use Rattle.margins.proofs.frodo.Statement.{statement}
 use Rattle.margins.proofs.frodo.Tie as tie
 
-fixed-requires : tie.Need-fixed-requires
-fixed-requires c κs = search needs
-
-number-requires : tie.Need-number-requires
-number-requires c κs = search needs
-
 shr-quarter : tie.Need-shr-quarter
 shr-quarter c = rw (c .before .before .fixed .ensures) (omega (arith, sound (c .before .before .before .args .scheme) .key-room))
 
-slice-aggregate-frodo-run : tie.Need-slice-aggregate-frodo-run
-slice-aggregate-frodo-run c = search needs
-
 frodo-run-requires : tie.Need-frodo-run-requires
 frodo-run-requires c κs =
-    let s = c .before .before .before .before .args .scheme in
-    let e = c .before .before .before .fixed .ensures in
-    let f = sound s in
-    let h = quarter-lt (fixedOf s .keybits) (f .q-word) in
-    rw e (omega arith, f .some, f .noisy, omega (arith, f .small), f .publics, f .secrets)
-
-slice-aggregate-frodo-run-2 : tie.Need-slice-aggregate-frodo-run-2
-slice-aggregate-frodo-run-2 c = search needs
+    let s : tie.Start = search needs in
+    let e : tie.After-fixed = search needs in
+    let f = sound (s .args .scheme) in
+    let h = quarter-lt (fixedOf (s .args .scheme) .keybits) (f .q-word) in
+    rw (e .fixed .ensures) (omega arith, f .some, f .noisy, omega (arith, f .small), f .publics, f .secrets)
 
 add-frodo-run : tie.Need-add-frodo-run
 add-frodo-run c =
-    let s = c .before .before .before .before .before .before .args .scheme in
-    let e = c .before .before .before .before .before .fixed .ensures in
-    let h = quarter-lt (fixedOf s .keybits) (sound s .q-word) in
-    rw e (record { fits = omega arith })
+    let s : tie.Start = search needs in
+    let e : tie.After-fixed = search needs in
+    let h = quarter-lt (fixedOf (s .args .scheme) .keybits) (sound (s .args .scheme) .q-word) in
+    rw (e .fixed .ensures) (record { fits = omega arith })
 
 frodo-run-requires-2 : tie.Need-frodo-run-requires-2
 frodo-run-requires-2 c κs =
-    let s = c .before .before .before .before .before .before .args .scheme in
-    let e = c .before .before .before .before .before .fixed .ensures in
-    let f = sound s in
-    rw e (quarter-lt (fixedOf s .keybits) (f .q-word), f .some, f .noisy, omega (arith, f .small), f .publics, f .secrets)
-
-returns : tie.Need-returns
-returns c = search needs
+    let s : tie.Start = search needs in
+    let e : tie.After-fixed = search needs in
+    let f = sound (s .args .scheme) in
+    rw (e .fixed .ensures) (quarter-lt (fixedOf (s .args .scheme) .keybits) (f .q-word), f .some, f .noisy, omega (arith, f .small), f .publics, f .secrets)
 
 pub frodo-spec : {M : Type 1} → statement M
-frodo-spec =
-    tie.close
-    (tie.spec
-    fixed-requires
-    number-requires
-    shr-quarter
-    slice-aggregate-frodo-run
-    frodo-run-requires
-    slice-aggregate-frodo-run-2
-    add-frodo-run
-    frodo-run-requires-2
-    returns)
+frodo-spec = tie.close (tie.spec (λ c κs. search needs) (λ c κs. search needs) shr-quarter (λ c. search needs)
+    frodo-run-requires (λ c. search needs) add-frodo-run frodo-run-requires-2 (λ c. search needs))

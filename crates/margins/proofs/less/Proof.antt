@@ -7,19 +7,10 @@ use Rattle.numbers.proofs.Size.{abs-difference}
 use Rattle.margins.proofs.less.Statement.{statement}
 use Rattle.margins.proofs.less.Tie as tie
 
-cast-result : tie.Need-cast-result
-cast-result c = search needs
-
-cast-result-2 : tie.Need-cast-result-2
-cast-result-2 c = search needs
-
 sub-result : tie.Need-sub-result
 sub-result c =
     rw (toZ-pos w32 (c .args .up) (omega arith), toZ-pos w32 (c .args .down) (omega arith))
     (fits-abs w32 _ (omega (arith, abs-difference (c .args .up) (c .args .down))))
 
-returns : tie.Need-returns
-returns c = search needs
-
 pub less-spec : {M : Type 1} → statement M
-less-spec = tie.close (tie.spec cast-result cast-result-2 sub-result returns)
+less-spec = tie.close (tie.spec (λ c. search needs) (λ c. search needs) sub-result (λ c. search needs))

@@ -11,11 +11,5 @@ mul-below c = omega (arith, mul-le-mul {n₁ = c .args .s} {m₁ = c .args .i} {
 add-result : tie.Need-add-result
 add-result c = omega (arith, mul-le-mul {n₁ = c .args .s} {m₁ = c .args .i} {n₂ = 2048} {m₂ = 32} (omega arith) (omega arith))
 
-sub-result : tie.Need-sub-result
-sub-result c = search needs
-
-returns : tie.Need-returns
-returns c = search needs
-
 pub part-spec : {M : Type 1} → statement M
-part-spec = tie.close (tie.spec mul-below add-result sub-result returns)
+part-spec = tie.close (tie.spec mul-below add-result (λ c. search needs) (λ c. search needs))
