@@ -1,4 +1,5 @@
 -- `sponge::xor_block` meets its contract: it fills the first lanes, and over the others nothing is laid.
+use borrow.Author.Needs.{needs}
 use Prim.Native.Nat.{_≤_, _-_}
 use native.Mathlib.Omega.{arith}
 use lib.ListN.{length-take, length-drop}
@@ -18,14 +19,14 @@ load-requires c κs = simp (length-take, length-drop) (omega arith)
 
 loop-again : tie.Need-loop-again Inv-loop μ-loop
 loop-again c =
-    let l = c .before .before .before in
-    let a = l .before .before in
+    let l : tie.At-loop Inv-loop μ-loop = search needs in
+    let a : tie.Start Inv-loop μ-loop = search needs in
     (omega arith, laid-next (a .args .s) (a .args .b .now) (l .loop .inv .1) (c .load .result) (omega arith) (c .load .ensures))
 
 returns : tie.Need-returns Inv-loop μ-loop
 returns c =
-    let l = c .before in
-    let a = l .before .before in
+    let l : tie.At-loop Inv-loop μ-loop = search needs in
+    let a : tie.Start Inv-loop μ-loop = search needs in
     laid-all (a .args .s) (a .args .b .now) (l .loop .inv .1) (omega arith) (omega arith)
 
 pub xor-block-spec : {M : Type 1} → statement M
