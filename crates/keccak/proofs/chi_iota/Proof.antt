@@ -6,37 +6,9 @@ use Rattle.keccak.specs.Keccak.{chi, iota}
 use Rattle.keccak.proofs.chi_iota.Statement.{statement}
 use Rattle.keccak.proofs.chi_iota.Tie as tie
 
-returns : tie.Need-returns
-unfolding chi iota tab
-returns c = refl
-
 pub chi-iota-spec : {M : Type 1} → statement M
-chi-iota-spec =
-    tie.close
-    (tie.spec
-    (search needs)
-    (search needs)
-    (search needs)
-    (search needs)
-    (search needs)
-    (search needs)
-    (search needs)
-    (search needs)
-    (search needs)
-    (search needs)
-    (search needs)
-    (search needs)
-    (search needs)
-    (search needs)
-    (search needs)
-    (search needs)
-    (search needs)
-    (search needs)
-    (search needs)
-    (search needs)
-    (search needs)
-    (search needs)
-    (search needs)
-    (search needs)
-    (search needs)
-    returns)
+chi-iota-spec = tie.close (tie.spec (search needs) (search needs) (search needs) (search needs) (search needs)
+    (search needs) (search needs) (search needs) (search needs) (search needs) (search needs) (search needs)
+    (search needs) (search needs) (search needs) (search needs) (search needs) (search needs) (search needs)
+    (search needs) (search needs) (search needs) (search needs) (search needs) (search needs)
+    (λ c. unfold chi iota tab in refl))

@@ -15,10 +15,6 @@ Inv-loop rcs s₀ i₀ s i = (i ≤ 24) × (rounds (drop i constants) s ≡ kecc
 abbrev μ-loop : tie.MeasureT-loop
 μ-loop rcs s₀ i₀ s i = 24 - i
 
-loop-holds : tie.Need-loop-holds Inv-loop μ-loop
-unfolding keccakF
-loop-holds c = (omega arith, refl)
-
 loop-again : tie.Need-loop-again Inv-loop μ-loop
 loop-again c =
     let l = c .before .before .loop in
@@ -33,16 +29,5 @@ returns c =
     ap (λ (k : ℕ). rounds (drop k constants) (l .s)) h ∙ l .inv .1
 
 pub permute-spec : {M : Type 1} → statement M
-permute-spec =
-    tie.close
-    (tie.spec
-    Inv-loop
-    μ-loop
-    loop-holds
-    (λ c. omega arith)
-    (λ c. omega arith)
-    (search needs)
-    (λ c. omega arith)
-    (λ c. omega arith)
-    loop-again
-    returns)
+permute-spec = tie.close (tie.spec Inv-loop μ-loop (λ c. unfold keccakF in (omega arith, refl)) (omega arith)
+    (omega arith) (search needs) (omega arith) (omega arith) loop-again returns)
