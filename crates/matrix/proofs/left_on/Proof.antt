@@ -7,14 +7,13 @@ use Rattle.matrix.proofs.left_on.Tie as tie
 
 returns : tie.Need-returns
 returns c =
-    let r : tie.After-reduce = search needs in
     let g : tie.After-left-rows = search needs in
     let e : tie.After-words2 = search needs in
     let s : tie.After-words = search needs in
     let a : tie.Start = search needs in (
       g .left-rows .ensures .0,
       λ b. left-is 65536 (omega arith) (a .pre .0 .0 .whole) (a .args .e .now) (fit (a .pre .0 .0) b)
-          (s .words .ensures) (a .pre .0 .1) (e .words2 .ensures) (g .left-rows .ensures .1 b) (r .reduce .ensures),
+          (s .words .ensures) (a .pre .0 .1) (e .words2 .ensures) (g .left-rows .ensures .1 b) (c .before .before .reduce .ensures),
     )
 
 pub left-on-spec : {M : Type 1} → statement M
