@@ -19,8 +19,8 @@ use lib.Dec.{leb, ltb}
 use lib.ListN.{length, getD, replicate, length-replicate, getD-replicate}
 use mir.Val.{boolByte}
 use Rattle.numbers.proofs.Natural.{power-power}
-use Rattle.lists.specs.Entries.{tab, Below}
-use Rattle.lists.specs.Stored.{Stored}
+use Rattle.lists.specs.Entries.{tab}
+use Rattle.lists.specs.Ranges.{Below, Stored}
 use Rattle.lists.proofs.Entries.{tab-at, tab-const, below-tab}
 use Rattle.noise.specs.Noise.{atMost, withSign}
 use Rattle.noise.proofs.Noise.{Counted, counted-none, counted-all}

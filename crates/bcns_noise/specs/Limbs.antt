@@ -16,8 +16,8 @@ use Prim.Native.Nat.{ℕ, zero, suc, _+_, _*_, _-_, _/_, _%_, _^_, _<_, _≤_}
 use lib.Dec.{ltb}
 use lib.ListN.{length, getD}
 use mir.Val.{boolByte}
-use Rattle.lists.specs.Entries.{tab, Below}
-use Rattle.lists.specs.Stored.{Stored}
+use Rattle.lists.specs.Entries.{tab}
+use Rattle.lists.specs.Ranges.{Below, Stored}
 use Rattle.bcns_noise.specs.Noise.{bigEndian}
 
 unfoldable pub byteOf : List ℕ → ℕ → ℕ

@@ -9,7 +9,7 @@ ghost use Prim.Native.Nat.{ℕ, suc, _+_, _-_, _*_, _/_, _^_, _<_, _≤_};
 ghost use lib.Dec.{leb, ltb};
 ghost use lib.ListN.{length, replicate};
 ghost use mir.Val.{boolByte};
-ghost use Rattle.lists.specs.Entries.{Below};
+ghost use Rattle.lists.specs.Ranges.{Below};
 ghost use Rattle.lists.specs.Lent.{was, left};
 ghost use Rattle.noise.specs.Noise.{withSign};
 ghost use Rattle.bcns_noise.specs.Noise.{wide, entryOf, bigEndian, bcnsValue, bcnsNoise, falls, firstNotAbove};

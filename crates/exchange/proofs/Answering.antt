@@ -37,7 +37,8 @@ use Rattle.sampling.specs.Noise.{tableWords}
 use Rattle.sampling.specs.Expand.{growNumbers, growResult}
 use Rattle.wire.specs.Wire.{openedIn, seedIn, numbersIn}
 use Rattle.reply.specs.Reply.{ReplyRooms, ReplySeen, replyOf, openedOf, repliedPart, replyTests, replyMessage, replyKey, replyShown, replyResult, replyTold, replySeen}
-use Rattle.reply.specs.Inside.{replyLengths, replySecrets, replyLast, replyRest}
+use Rattle.wire.specs.Steps.{replySecrets}
+use Rattle.reply.specs.Inside.{replyLengths, replyLast, replyRest}
 use Rattle.reply.specs.declared.ReplyAnswer.{ReplyAnswer}
 use Rattle.reply.proofs.Replying.{reply-rest-decides, reply-refused}
 use Rattle.exchange.specs.Random.{publicLent, publicFrom, answerRandom, tableOrder, grown}

@@ -14,7 +14,7 @@ use mir.Facts.{toZ-ofZ, sfits-widen}
 use mir.Syntax.{w16, w32}
 use mir.Val.{SFits, toZ, ofZ}
 use Rattle.lists.specs.Entries.{tab}
-use Rattle.lists.specs.Stored.{Stored}
+use Rattle.lists.specs.Ranges.{Stored}
 use Rattle.lists.proofs.Entries.{tab-getD, tab-ext}
 use Rattle.lists.proofs.Stored.{front-at}
 

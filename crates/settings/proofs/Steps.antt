@@ -25,7 +25,7 @@ use Rattle.text.specs.declared.Found.the-variants as found
 use Rattle.text.proofs.Reading.{begins-is}
 use Rattle.text.proofs.Lines.{told-number, told-other}
 use Rattle.settings.specs.Settings.{setupOf, formatName, ruleName, labelName, isScheme, isRule, letters, setup, newer, misfit, wellSpelled, spelledIn, lastIn, endIn, tailIn, ruleIn, schemeIn, formatIn, reads}
-use Rattle.settings.specs.Answers.{answerOf}
+use Rattle.settings.specs.Calls.{answerOf}
 use Rattle.settings.specs.declared.ReadAnswer.{ReadAnswer}
 
 -- ---- a label

@@ -5,7 +5,7 @@ use native.Mathlib.Omega.{arith}
 use borrow.Author.Needs.{needs}
 use lib.IntN.{pos}
 use mir.Facts.{toZ-ofZ}
-use Rattle.lists.specs.Stored.{Stored}
+use Rattle.lists.specs.Ranges.{Stored}
 use Rattle.lists.proofs.Stored.{store-none, store-front, stored-all}
 use Rattle.noise.specs.Noise.{wordAt, thresholdOf}
 use Rattle.noise.proofs.narrow.Statement.{statement}

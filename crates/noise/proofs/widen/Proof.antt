@@ -4,7 +4,7 @@ use native.Mathlib.Omega.{arith}
 use borrow.Author.Needs.{needs}
 use lib.IntN.{pos}
 use lib.ListN.{getD}
-use Rattle.lists.specs.Stored.{Stored}
+use Rattle.lists.specs.Ranges.{Stored}
 use Rattle.lists.proofs.Stored.{store-none, store-next, stored-all}
 use Rattle.noise.proofs.Blocks.{wide-fits, wide}
 use Rattle.noise.proofs.widen.Statement.{statement}
