@@ -7,14 +7,8 @@ use Rattle.lists.proofs.Entries.{below-set, below-zeros}
 use Rattle.cards.proofs.power.Statement.{statement}
 use Rattle.cards.proofs.power.Tie as tie
 
-mul-g : tie.Need-mul-g
-mul-g c = search needs
-
-array-write-g : tie.Need-array-write-g
-array-write-g c = search needs
-
 returns : tie.Need-returns
 returns c = below-set (replicate 1024 0) (c .args .k) (omega (arith, length-replicate {A = ℕ} 1024 0)) (omega arith) (below-zeros 1024 (omega arith))
 
 pub power-spec : {M : Type 1} → statement M
-power-spec = tie.close (tie.spec mul-g array-write-g returns)
+power-spec = tie.close (tie.spec (λ c. search needs) (λ c. search needs) returns)

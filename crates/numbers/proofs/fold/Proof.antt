@@ -1,7 +1,6 @@
 -- `numbers::fold` meets its contract.
 use native.Mathlib.Omega.{arith}
 use borrow.Author.Needs.{needs}
-use lib.Dec.{leb}
 use Rattle.numbers.proofs.Halves.{taken-le, folded}
 use Rattle.numbers.proofs.fold.Statement.{statement}
 use Rattle.numbers.proofs.fold.Tie as tie

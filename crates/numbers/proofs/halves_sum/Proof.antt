@@ -6,11 +6,8 @@ use lib.Bits.{and-mask, mask-lt}
 use Rattle.numbers.proofs.halves_sum.Statement.{statement}
 use Rattle.numbers.proofs.halves_sum.Tie as tie
 
-add-result : tie.Need-add-result
-add-result c = omega (arith, mask-lt (c .args .x) 32)
-
 returns : tie.Need-returns
 returns c = ap (λ (n : ℕ). c .args .x / 4294967296 + n) (and-mask (c .args .x) 32)
 
 pub halves-sum-spec : {M : Type 1} → statement M
-halves-sum-spec = tie.close (tie.spec add-result returns)
+halves-sum-spec = tie.close (tie.spec (λ c. omega (arith, mask-lt (c .args .x) 32)) returns)

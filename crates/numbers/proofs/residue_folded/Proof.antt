@@ -5,14 +5,9 @@ use Rattle.numbers.proofs.Lifted.{sum-fits, sum-high, sum-rest}
 use Rattle.numbers.proofs.residue_folded.Statement.{statement}
 use Rattle.numbers.proofs.residue_folded.Tie as tie
 
-add-fold : tie.Need-add-fold
-add-fold c = sum-fits _ (c .fits .x) (c .pre)
-
-cast-fold : tie.Need-cast-fold
-cast-fold c = sum-high _ (c .fits .x) (c .pre)
-
 returns : tie.Need-returns
 returns c = let s = c .before in c .fold .ensures ∙ sum-rest _ (s .fits .x) (s .pre)
 
 pub residue-folded-spec : {M : Type 1} → statement M
-residue-folded-spec = tie.close (tie.spec add-fold cast-fold (search needs) (search needs) returns)
+residue-folded-spec = tie.close (tie.spec (λ c. sum-fits _ (c .fits .x) (c .pre))
+    (λ c. sum-high _ (c .fits .x) (c .pre)) (search needs) (search needs) returns)

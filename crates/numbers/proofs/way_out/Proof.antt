@@ -1,7 +1,7 @@
 -- `numbers::way_out` meets its contract: each test is a factor 0 or 1.
 use mathlib.Core.Path.{_≡_, refl, _∙_, ap}
 use mathlib.Core.Bool.{Bool, true, false}
-use Prim.Native.Nat.{ℕ, _+_, _*_, _-_, _≤_, _<_, min}
+use Prim.Native.Nat.{ℕ, _+_, _*_, _-_, _≤_, min}
 use native.Mathlib.Omega.{arith}
 use lib.Dec.{ltb}
 use mir.Val.{boolByte}
@@ -50,9 +50,6 @@ test y n = ltb (y + 1) (rest y n)
 mul-result : tie.Need-mul-result
 mul-result c = record { fits = omega (arith, part (c .args .y + 1) (test (c .args .y) (c .args .n))) }
 
-sub-result : tie.Need-sub-result
-sub-result c = byte (test (c .args .y) (c .args .n))
-
 picked : (y n : ℕ) → (y + 1) * boolByte (test y n) + rest y n * (1 - boolByte (test y n)) ≡ min (y + 1) (n - y)
 picked y n = pick (y + 1) (rest y n) (test y n) refl ∙ ap (min (y + 1)) (ahead y n (ltb y n) refl)
 
@@ -62,10 +59,7 @@ mul-result-2 c = record { fits = omega (arith, picked (c .args .y) (c .args .n))
 add-result-2 : tie.Need-add-result-2
 add-result-2 c = record { fits = omega (arith, picked (c .args .y) (c .args .n)) }
 
-returns : tie.Need-returns
-returns c = picked (c .args .y) (c .args .n)
-
 pub way-out-spec : {M : Type 1} → statement M
-way-out-spec =
-    tie.close
-    (tie.spec (search needs) mul-ahead sub-ahead mul-ahead-2 (search needs) (search needs) (search needs) mul-result sub-result mul-result-2 add-result-2 returns)
+way-out-spec = tie.close (tie.spec (search needs) mul-ahead sub-ahead mul-ahead-2 (search needs) (search needs)
+    (search needs) mul-result (λ c. byte (test (c .args .y) (c .args .n))) mul-result-2 add-result-2
+    (λ c. picked (c .args .y) (c .args .n)))
