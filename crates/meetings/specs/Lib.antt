@@ -1,2 +1,3 @@
 pub mod Linked
 pub mod Meeting
+pub mod Drawn
