@@ -7,16 +7,13 @@ use mathlib.Core.Path.{_≡_, refl, sym, ap, _∙_}
 use Prim.Native.Nat.{ℕ}
 use native.Mathlib.Nat.{le-refl}
 use native.Mathlib.Omega.{arith}
-use Rattle.schemes.specs.Schemes.{fixedOf}
+use Rattle.schemes.specs.{Schemes.fixedOf, declared.Scheme.Scheme}
 use Rattle.schemes.specs.declared.Named.the-variants.{Known, Unknown}
-use Rattle.schemes.specs.declared.Scheme.{Scheme}
 use Rattle.schemes.proofs.Laws.{by-number, by-scheme}
 use Rattle.sponge.specs.Sponge.{sha3}
-use Rattle.refusals.specs.Refusals.{numberIn}
-use Rattle.refusals.specs.Seen.{answer, shown}
+use Rattle.refusals.specs.{Refusals.numberIn, Seen.answer, Seen.shown}
 use Rattle.refusals.specs.declared.Verdict.the-variants.{Pass}
-use Rattle.refusals.proofs.Laws.{number-zero}
-use Rattle.refusals.proofs.Seen.{written-answer}
+use Rattle.refusals.proofs.{Laws.number-zero, Seen.written-answer}
 use Rattle.offer.specs.Offer.{Offer, offerTests, offerMessage, offerResult}
 use Rattle.reply.specs.Reply.{Reply, ReplyRooms, replyRoomsOf, replyTests, replyMessage, replyKey, replyDigest, outputs, replyResult}
 use Rattle.finish.specs.Finish.{Finish, FinishRooms, FinishSeen, finishRoomsOf, finishTests, finishKey, finishSlack, finishShown, finishResult}

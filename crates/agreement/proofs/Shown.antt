@@ -1,18 +1,15 @@
 -- What is stated in specs/Shown.
-use mathlib.Core.Path.{_≡_}
-use mathlib.Core.List.{List}
+use mathlib.Core.{Path._≡_, List.List}
 use Prim.Native.Nat.{ℕ, _^_, _≤_}
 use native.Mathlib.Nat.{lt-of-lt-of-le}
 use native.Mathlib.Omega.{arith}
 use lib.Dec.{lit≤}
-use Rattle.schemes.specs.Schemes.{familyOf, fixedOf}
-use Rattle.schemes.specs.declared.Family.{Family}
+use Rattle.schemes.specs.{Schemes.familyOf, Schemes.fixedOf, declared.Family.Family}
 use Rattle.schemes.specs.declared.Scheme.{Scheme}
 use Rattle.schemes.specs.declared.Scheme.the-variants.{Bcns, NewHope, Challenge, Classical, Recommended, Paranoid}
 use Rattle.packing.proofs.Laws.{unpacked-below}
 use Rattle.refusals.specs.Refusals.{numberIn, _then_, messageIn}
-use Rattle.refusals.specs.declared.Verdict.{Verdict}
-use Rattle.refusals.specs.declared.Verdict.the-variants.{Pass}
+use Rattle.refusals.specs.{declared.Verdict.Verdict, declared.Verdict.the-variants.Pass}
 use Rattle.refusals.proofs.Laws.{message-passes}
 use Rattle.refusals.proofs.Number.{and, passes, lengths, rooms, publics, secrets, blanks}
 use Rattle.wire.specs.Wire.{numbersIn}

@@ -4,20 +4,15 @@
 --   opening-received an opening that Offer has made passes the tests of a part that has come
 --   offer-passes, reply-passes, finish-passes   such inputs pass the tests of each call, in any rooms that are enough
 --   offer-room, reply-rooms, finish-rooms       a call that passes its tests was lent such rooms
-use mathlib.Core.Path.{_≡_, sym, _∙_}
-use mathlib.Core.Bool.{false}
-use mathlib.Core.List.{List}
+use mathlib.Core.{Path._≡_, Path.sym, Path._∙_, Bool.false, List.List}
 use Prim.Native.Nat.{ℕ, _≤_}
 use lib.ListN.{length}
-use Rattle.schemes.specs.Schemes.{fixedOf}
-use Rattle.schemes.specs.declared.Named.the-variants.{Known}
+use Rattle.schemes.specs.{Schemes.fixedOf, declared.Named.the-variants.Known}
 use Rattle.schemes.specs.declared.Scheme.{Scheme}
 use Rattle.blank.specs.Blank.{blank}
-use Rattle.refusals.specs.Refusals.{_then_, receivedIn}
-use Rattle.refusals.specs.declared.Verdict.the-variants.{Pass}
+use Rattle.refusals.specs.{Refusals._then_, Refusals.receivedIn, declared.Verdict.the-variants.Pass}
 use Rattle.refusals.proofs.Laws.{both, all-pass, length-passes, room-passes, below-passes, message-passes, within-passes, not-blank-passes, not-blank-passed}
-use Rattle.values.specs.Keys.{hints}
-use Rattle.values.specs.Values.{offered, replied}
+use Rattle.values.specs.{Keys.hints, Values.offered, Values.replied}
 use Rattle.values.proofs.Ranges.{offered-counted, replied-counted, mixed-counted}
 use Rattle.values.proofs.Settling.{hints-counted}
 use Rattle.wire.specs.Wire.{openedIn, repliedIn, hintsIn, coinsIn}

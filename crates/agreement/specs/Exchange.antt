@@ -13,20 +13,14 @@
 --   Numbered       a call that refuses nothing was given a scheme
 --   OneNumber      which its number names, and no other number
 --   NeverFive      01: refusal 5 can't arise in Frodo
-use mathlib.Core.Path.{_≡_}
-use mathlib.Core.Bool.{false}
-use mathlib.Core.List.{List}
-use mathlib.Core.Logic.{_↔_}
+use mathlib.Core.{Path._≡_, Bool.false, List.List, Logic._↔_}
 use Prim.Native.Nat.{ℕ, _≤_}
 use lib.ListN.{length}
 use Rattle.schemes.specs.Schemes.{familyOf, fixedOf, schemeNumber, schemeOf}
-use Rattle.schemes.specs.declared.Family.{Family}
-use Rattle.schemes.specs.declared.Named.{Named}
+use Rattle.schemes.specs.{declared.Family.Family, declared.Named.Named, declared.Scheme.Scheme}
 use Rattle.schemes.specs.declared.Named.the-variants.{Known}
-use Rattle.schemes.specs.declared.Scheme.{Scheme}
 use Rattle.lists.specs.declared.Peak.{Peak}
-use Rattle.refusals.specs.Refusals.{numberIn}
-use Rattle.refusals.specs.Seen.{Seen, answer}
+use Rattle.refusals.specs.{Refusals.numberIn, Seen.Seen, Seen.answer}
 use Rattle.values.specs.Fit.{Counted, Small}
 use Rattle.blank.specs.Blank.{blank}
 use Rattle.offer.specs.Offer.{Offer, offeredPart, offerResult}

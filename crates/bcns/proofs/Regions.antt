@@ -15,8 +15,7 @@ use borrow.Author.Tests.{le-leb, lt-leb}
 use Rattle.numbers.specs.Congruence.{Close, direct, over, under}
 use Rattle.lists.specs.First.{both}
 use Rattle.numbers.proofs.Natural.{quotient-is}
-use Rattle.bcns.specs.Rounding.{q, hintOf, keyOf}
-use Rattle.bcns.specs.Agreement.{formulaOf}
+use Rattle.bcns.specs.{Rounding.q, Rounding.hintOf, Rounding.keyOf, Agreement.formulaOf}
 use Rattle.lists.proofs.Table.{cond-all}
 
 -- the lowest bit of a quotient, from the multiples of d around s

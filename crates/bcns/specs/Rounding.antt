@@ -6,18 +6,12 @@
 --   peerOf h w      the initiator's bit: 0 exactly if 2w lies, modulo 2q, within 1073741823 of some z with the hint h and the key bit 0
 --   slackOf h w     how far 2w lies, around a circle of 2q, from the nearest z with the hint h
 --   hintsOf, keysOf, peersOf, slacksOf   hint, key, peer's key and slack, entry by entry
-use mathlib.Core.Bool.{Bool, true, false, cond}
-use mathlib.Core.List.{List}
+use mathlib.Core.{Bool.Bool, Bool.true, Bool.false, Bool.cond, List.List}
 use Prim.Native.Nat.{ℕ, zero, suc, _+_, _*_, _-_, _/_, _%_}
-use lib.Dec.{leb, eqb}
-use lib.IntN.{ℤ, pos, negsuc, _-ℤ_}
-use lib.ListN.{length, getD}
-use Rattle.schemes.specs.Schemes.{fixedOf}
-use Rattle.schemes.specs.declared.Scheme.the-variants.{Bcns}
-use Rattle.numbers.specs.Residue.{residue, apart}
-use Rattle.numbers.specs.Least.{gapTo}
-use Rattle.lists.specs.Entries.{tab}
-use Rattle.lists.specs.First.{both}
+use lib.{Dec.leb, Dec.eqb, IntN.ℤ, IntN.pos, IntN.negsuc, IntN._-ℤ_, ListN.length, ListN.getD}
+use Rattle.schemes.specs.{Schemes.fixedOf, declared.Scheme.the-variants.Bcns}
+use Rattle.numbers.specs.{Residue.residue, Residue.apart, Least.gapTo}
+use Rattle.lists.specs.{Entries.tab, First.both}
 
 abbrev pub q : ℕ
 q = fixedOf Bcns .q

@@ -7,8 +7,7 @@
 --   eight-below, number-eight   the limbs of a value: each is small, and they are its 24 bytes
 --   value-is               a value from its parts, as the code forms them
 use mathlib.Core.Path.{_≡_, refl, _∙_, sym, ap, ap₂, subst}
-use mathlib.Core.Bool.{Bool, true, false}
-use mathlib.Core.List.{List, [], _∷_}
+use mathlib.Core.{Bool.Bool, Bool.true, Bool.false, List.List, List.[], List._∷_}
 use Prim.Native.Nat.{ℕ, zero, suc, _+_, _*_, _-_, _/_, _%_, _^_, _<_, _≤_}
 use native.Mathlib.Numerals.{add-one}
 use native.Mathlib.Omega.{arith}
@@ -19,12 +18,11 @@ use lib.Dec.{leb, ltb}
 use lib.ListN.{length, getD, replicate, length-replicate, getD-replicate}
 use mir.Val.{boolByte}
 use Rattle.numbers.proofs.Natural.{power-power}
-use Rattle.lists.specs.Entries.{tab}
-use Rattle.lists.specs.Ranges.{Below, Stored}
+use Rattle.lists.specs.Ranges.{Below}
 use Rattle.lists.proofs.Entries.{tab-at, tab-const, below-tab}
 use Rattle.noise.specs.Noise.{atMost, withSign}
 use Rattle.noise.proofs.Noise.{Counted, counted-none, counted-all}
-use Rattle.bcns_noise.specs.Noise.{wide, entryOf, entries, bigEndian, bcnsValue}
+use Rattle.bcns_noise.specs.Noise.{entryOf, entries, bigEndian, bcnsValue}
 use Rattle.bcns_noise.specs.Limbs.{byteOf, wordBytes, limbs, limbsOf, passes, tally, Row, Laid, Compared}
 use Rattle.bcns_noise.proofs.Words.{big-join, big-wide}
 use Rattle.bcns_noise.proofs.Table.{entries-long, byte-le, count-entry}

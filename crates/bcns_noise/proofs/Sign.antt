@@ -1,12 +1,10 @@
 -- The sign as a factor, 1 - 2 b where b is its bit, as the machine forms it.
 --   double-fits, turn-fits, times-fits   no step leaves the 32 bits
 --   times                                the product is n with that sign
-use mathlib.Core.Path.{_≡_, _∙_, sym, ap, subst}
-use mathlib.Core.Bool.{cond}
+use mathlib.Core.{Path._≡_, Path._∙_, Path.sym, Path.ap, Path.subst, Bool.cond}
 use Prim.Native.Nat.{ℕ, zero, suc, _*_, _^_, _<_}
 use native.Mathlib.Omega.{arith}
-use lib.Dec.{eqb}
-use lib.IntN.{ℤ, pos, negsuc, negℤ, _-ℤ_, _*ℤ_}
+use lib.{Dec.eqb, IntN.ℤ, IntN.pos, IntN.negsuc, IntN.negℤ, IntN._-ℤ_, IntN._*ℤ_}
 use mir.Syntax.{w32}
 use mir.Val.{SFits, toZ, ofZ}
 use mir.Facts.{toZ-ofZ}

@@ -6,23 +6,20 @@
 --   falls-behind             the test of an entry that has a forerunner
 --   Searched ..              the search: before, at each turn, where it finds one and where it ends
 --   ascends, each-place      what the place says
-use mathlib.Core.Path.{_≡_, refl, _∙_, sym, ap}
+use mathlib.Core.{Path._≡_, Path.refl, Path._∙_, Path.sym, Path.ap, List.List}
 use mathlib.Core.Bool.{Bool, true, false, cond}
-use mathlib.Core.List.{List}
 use Prim.Native.Nat.{ℕ, zero, suc, _+_, _*_, _-_, _/_, _%_, _<_, _≤_}
 use native.Mathlib.Omega.{arith}
 use native.Mathlib.Decide.{decLt}
 use borrow.Author.Tests.{lt-leb, leb-true, leb-false}
-use lib.Dec.{leb, eqb}
-use lib.ListN.{length, getD, List·getD-eq-default}
+use lib.{Dec.leb, Dec.eqb, ListN.length, ListN.getD, ListN.List·getD-eq-default}
 use mir.Val.{boolByte}
-use Rattle.lists.specs.Entries.{tab}
-use Rattle.lists.specs.First.{firstWhere}
+use Rattle.lists.specs.{Entries.tab, First.firstWhere}
 use Rattle.lists.proofs.Entries.{tab-length, tab-at, within-tab}
 use Rattle.lists.proofs.First.{Passed, passed-none, passed-more, found, missing, none-before, none-passes, none-found, first-passes}
-use Rattle.noise.specs.Noise.{atMost, withSign}
+use Rattle.noise.specs.Noise.{atMost}
 use Rattle.noise.proofs.Noise.{at-most-le, sign-size, Counted, counted-more}
-use Rattle.bcns_noise.specs.Noise.{wide, entryOf, entries, bigEndian, bcnsValue, bcnsNoise, falls, firstNotAbove}
+use Rattle.bcns_noise.specs.Noise.{entryOf, entries, bigEndian, bcnsValue, bcnsNoise, falls, firstNotAbove}
 use Rattle.bcns_noise.specs.Shown.{Largest, Largest51, Ascending, Ascends, Place, EachPlace}
 
 pub entries-long : (table : List ℕ) → length (entries table) ≡ length table / 3

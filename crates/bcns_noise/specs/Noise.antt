@@ -11,14 +11,10 @@
 --   "18, a table not strictly ascending, place of the first entry not above its forerunner"
 --   falls table k         entry k has a forerunner and is not above it
 --   firstNotAbove table   the first such k, or the number of entries where there is none
-use mathlib.Core.Bool.{Bool, false}
-use mathlib.Core.List.{List}
+use mathlib.Core.{Bool.Bool, Bool.false, List.List}
 use Prim.Native.Nat.{ℕ, zero, suc, _+_, _*_, _/_, _^_}
-use lib.Dec.{leb}
-use lib.IntN.{ℤ}
-use lib.ListN.{length, getD}
-use Rattle.lists.specs.Entries.{tab}
-use Rattle.lists.specs.First.{firstWhere}
+use lib.{Dec.leb, IntN.ℤ, ListN.length, ListN.getD}
+use Rattle.lists.specs.{Entries.tab, First.firstWhere}
 use Rattle.noise.specs.Noise.{atMost, withSign}
 
 unfoldable pub wide : ℕ → ℕ → ℕ → ℕ

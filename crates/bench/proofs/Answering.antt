@@ -8,37 +8,29 @@ use mathlib.Core.Path.{_≡_, refl, _∙_, sym, ap, ap₂}
 use mathlib.Core.List.{List, [], _++_, append-nil}
 use Prim.Native.Nat.{ℕ, zero, suc, _-_}
 use native.Mathlib.Nat.{le-refl, le-of-eq}
-use lib.IntN.{ℤ}
-use lib.ListN.{length, take, drop, length-drop, drop-of-length-le}
+use lib.{IntN.ℤ, ListN.length, ListN.take, ListN.drop, ListN.length-drop, ListN.drop-of-length-le}
 use lib.Seq.{take-at, drop-at}
 use borrow.Rule.Slice.PartMut.{putMid}
 use Rattle.schemes.specs.Schemes.{fixedOf, schemeOf, schemeNumber}
-use Rattle.schemes.specs.declared.Named.{Named}
+use Rattle.schemes.specs.{declared.Named.Named, declared.Scheme.Scheme}
 use Rattle.schemes.specs.declared.Named.the-variants.{Known, Unknown}
-use Rattle.schemes.specs.declared.Scheme.{Scheme}
 use Rattle.schemes.specs.declared.Scheme.the-variants.{Bcns}
 use Rattle.schemes.proofs.Laws.{by-number}
 use Rattle.lists.specs.declared.Peak.{Peak}
-use Rattle.refusals.specs.Refusals.{_then_}
+use Rattle.refusals.specs.{Refusals._then_, declared.Answer.Answer, declared.Outcome.Outcome}
 use Rattle.refusals.specs.Seen.{Output, output, written, Seen, told, seen, shown}
-use Rattle.refusals.specs.declared.Answer.{Answer}
-use Rattle.refusals.specs.declared.Outcome.{Outcome}
-use Rattle.refusals.specs.declared.Refusal.{Refusal}
-use Rattle.refusals.specs.declared.Refusal.the-variants.{NoScheme}
+use Rattle.refusals.specs.{declared.Refusal.Refusal, declared.Refusal.the-variants.NoScheme}
 use Rattle.refusals.specs.declared.Verdict.{Verdict}
 use Rattle.refusals.specs.declared.Verdict.the-variants.{Pass, Fail}
 use Rattle.refusals.proofs.Laws.{differ, number-zero, both, failed, went-on}
-use Rattle.refusals.proofs.Same.{same-verdict}
-use Rattle.refusals.proofs.Seen.{written-whole}
+use Rattle.refusals.proofs.{Same.same-verdict, Seen.written-whole}
 use Rattle.refusals.proofs.Steps.{front-is, outcome-slack, outcome-refused, passed-by, failed-by}
 use Rattle.offer.specs.Offer.{offerTests, offerMessage, offerResult}
 use Rattle.offer.specs.Inside.{offerLengths, offerIn}
 use Rattle.reply.specs.Reply.{Reply, ReplySeen, replyOf, replyRoomsOf, replyMessage, replyKey, outputs, replyResult, replyTold, replySeen}
 use Rattle.finish.specs.Finish.{Finish, FinishSeen, finishOf, finishRoomsOf, finishKey, finishSlack, finishShown, finishResult, finishTold, finishSeen}
-use Rattle.reply.specs.declared.ReplyAnswer.{ReplyAnswer}
-use Rattle.reply.specs.declared.ReplyCounts.{ReplyCounts}
-use Rattle.finish.specs.declared.FinishAnswer.{FinishAnswer}
-use Rattle.finish.specs.declared.FinishCounts.{FinishCounts}
+use Rattle.reply.specs.{declared.ReplyAnswer.ReplyAnswer, declared.ReplyCounts.ReplyCounts}
+use Rattle.finish.specs.{declared.FinishAnswer.FinishAnswer, declared.FinishCounts.FinishCounts}
 use Rattle.offer.proofs.Offering.{offer-opens, opening-long}
 use Rattle.reply.proofs.Replying as reply
 use Rattle.finish.proofs.Finishing as finish
@@ -46,8 +38,7 @@ use Rattle.agreement.specs.Run.{offering, replying, finishing}
 use Rattle.agreement.proofs.Tests.{sendable-by, finish-passes}
 use Rattle.bench.specs.Bench.{Bench, benchTests, keysDiffer, benchDiffers, benchSlack, differing, benchShown, benchResult, benchTold, bcnsTold}
 use Rattle.bench.specs.Inside.{testsFromFinish, testsFromReply, testsFromOffer, Keyed, FromFinish, FromReply, FromOffer, comparison, agreed}
-use Rattle.bench.specs.declared.BcnsAnswer.{BcnsAnswer}
-use Rattle.bench.specs.declared.BenchAnswer.{BenchAnswer}
+use Rattle.bench.specs.{declared.BcnsAnswer.BcnsAnswer, declared.BenchAnswer.BenchAnswer}
 use Rattle.bench.proofs.Lamp.{differs-is}
 
 -- ---- by the verdict

@@ -1,16 +1,13 @@
 -- Two keys bit by bit.
 --   told-apart, told-same   the answer of two keys that differ, and of two that do not
-use mathlib.Core.Path.{_≡_}
-use mathlib.Core.List.{List}
+use mathlib.Core.{Path._≡_, List.List}
 use Prim.Native.Nat.{ℕ, _*_, _≤_, _<_}
 use native.Mathlib.Omega.{arith}
 use lib.ListN.{length}
 use borrow.Author.Tests.{lt-ltb, le-ltb}
 use Rattle.packing.specs.Packing.{unpacked}
-use Rattle.lists.specs.First.{firstApart}
-use Rattle.lists.specs.declared.Peak.{Peak}
-use Rattle.bench.specs.Bench.{bits, differing}
-use Rattle.bench.specs.Inside.{comparison}
+use Rattle.lists.specs.{First.firstApart, declared.Peak.Peak}
+use Rattle.bench.specs.{Bench.bits, Bench.differing, Inside.comparison}
 use Rattle.bench.specs.declared.BenchAnswer.the-variants.{Agree, Differ}
 
 -- ---- two keys, by as many bits of each as x and y have room for

@@ -2,40 +2,29 @@
 --   compared                  an answer without a refusal; told-agree, told-differ: by how two keys differ
 --   bench-sendable, bench-shows, bench-gave  where Bench refuses nothing, its inputs are sendable; and what it shows and answers of such inputs
 --   differ-few                the number that tells how the keys differ, whatever the scheme
-use mathlib.Core.Path.{_≡_, refl, _∙_, sym, ap}
+use mathlib.Core.{Path._≡_, Path.refl, Path._∙_, Path.sym, Path.ap, List.List, Logic._↔_}
 use mathlib.Core.Bool.{Bool, true, false, cond}
-use mathlib.Core.List.{List}
-use mathlib.Core.Logic.{_↔_}
 use Prim.Native.Nat.{ℕ, zero, suc, _*_, _≤_}
 use native.Mathlib.Nat.{le-refl}
 use native.Mathlib.Omega.{arith}
-use lib.Dec.{ltb}
-use lib.ListN.{length}
+use lib.{Dec.ltb, ListN.length}
 use borrow.Author.Tests.{ltb-true}
-use Rattle.schemes.specs.Schemes.{byFamily, familyOf}
-use Rattle.schemes.specs.declared.Family.{Family}
-use Rattle.schemes.specs.declared.Scheme.{Scheme}
-use Rattle.schemes.specs.declared.Named.{Named}
+use Rattle.schemes.specs.{Schemes.byFamily, Schemes.familyOf, declared.Family.Family}
+use Rattle.schemes.specs.{declared.Scheme.Scheme, declared.Named.Named}
 use Rattle.schemes.specs.declared.Named.the-variants.{Known, Unknown}
 use Rattle.schemes.proofs.Sound.{sound}
-use Rattle.lists.specs.Ranges.{Below}
-use Rattle.lists.specs.First.{firstApart}
-use Rattle.lists.specs.declared.Peak.{Peak}
-use Rattle.refusals.specs.Seen.{ifPassed}
-use Rattle.refusals.specs.declared.Verdict.{Verdict}
+use Rattle.lists.specs.{Ranges.Below, First.firstApart, declared.Peak.Peak}
+use Rattle.refusals.specs.{Seen.ifPassed, declared.Verdict.Verdict}
 use Rattle.refusals.specs.declared.Verdict.the-variants.{Pass, Fail}
 use Rattle.refusals.proofs.Laws.{both, number-zero, all-pass}
 use Rattle.reply.specs.Reply.{replyKey}
 use Rattle.finish.specs.Finish.{finishKey, finishSlack}
 use Rattle.reply.proofs.Replying.{key-length}
-use Rattle.agreement.specs.Run.{replying, finishing}
-use Rattle.agreement.specs.Exchange.{Sendable}
+use Rattle.agreement.specs.{Run.replying, Run.finishing, Exchange.Sendable}
 use Rattle.agreement.proofs.Tests.{sendable-by, offer-passes, reply-passes}
-use Rattle.agreement.proofs.Accepted.{gave, accepted}
-use Rattle.agreement.proofs.Agreement.{agreement}
+use Rattle.agreement.proofs.{Accepted.gave, Accepted.accepted, Agreement.agreement}
 use Rattle.bench.specs.Bench.{Bench, BenchSeen, bits, differing, benchTests, keysDiffer, benchDiffers, benchSlack, benchShown, benchResult, benchTold}
-use Rattle.bench.specs.Inside.{comparison}
-use Rattle.bench.specs.declared.BenchAnswer.{BenchAnswer}
+use Rattle.bench.specs.{Inside.comparison, declared.BenchAnswer.BenchAnswer}
 use Rattle.bench.specs.declared.BenchAnswer.the-variants.{Agree, Differ}
 use Rattle.bench.proofs.Differing.{differing-none, differing-at}
 use Rattle.bench.proofs.Lamp.{same-long, own-bytes, peer-bytes, differs-is}

@@ -2,24 +2,18 @@
 --   same-apart, apart-before, apart-there   of two lists: where they are the same, below the first difference, and at it
 --   differing-none     two keys differ at no bit exactly where they are the same
 --   differing-at       they differ first at i exactly where i is the first bit that differs
-use mathlib.Core.Path.{_≡_, refl, _∙_, sym, ap, subst}
-use mathlib.Core.Bool.{Bool, true, false, cond}
-use mathlib.Core.List.{List, [], _∷_}
-use mathlib.Core.Logic.{_↔_}
+use mathlib.Core.{Path._≡_, Path.refl, Path._∙_, Path.sym, Path.ap, Path.subst, Logic._↔_}
+use mathlib.Core.{Bool.Bool, Bool.true, Bool.false, Bool.cond, List.List, List.[], List._∷_}
 use Prim.Native.Nat.{ℕ, zero, suc, _*_, _≤_, _<_}
 use native.Mathlib.Decide.{decLt}
 use native.Mathlib.Nat.{not-suc-le-zero, le-of-suc-le-suc}
 use native.Mathlib.Omega.{arith}
-use lib.Dec.{eqb}
-use lib.ListN.{length, getD}
-use lib.Seq.{ext-getD}
+use lib.{Dec.eqb, ListN.length, ListN.getD, Seq.ext-getD}
 use borrow.Author.Tests.{eqb-true, eqb-false, eq-eqb, lt-ltb, le-ltb}
-use Rattle.lists.specs.Ranges.{Below}
+use Rattle.lists.specs.{Ranges.Below, First.firstApart}
 use Rattle.packing.specs.Packing.{packed}
 use Rattle.packing.proofs.Laws.{unpacked-length, pack-unpack}
-use Rattle.lists.specs.First.{firstApart}
-use Rattle.bench.specs.Bench.{bits, differing}
-use Rattle.bench.specs.Shown.{FirstBit}
+use Rattle.bench.specs.{Bench.bits, Bench.differing, Shown.FirstBit}
 
 -- ---- lists
 

@@ -5,12 +5,10 @@
 use mathlib.Core.Path.{_≡_, refl, _∙_, sym}
 use Prim.Native.Nat.{ℕ}
 use lib.ListN.{length}
-use Rattle.schemes.specs.declared.Named.{Named}
+use Rattle.schemes.specs.{declared.Named.Named, declared.Scheme.Scheme}
 use Rattle.schemes.specs.declared.Named.the-variants.{Known, Unknown}
-use Rattle.schemes.specs.declared.Scheme.{Scheme}
 use Rattle.schemes.specs.declared.Scheme.the-variants.{Bcns, NewHope, Challenge, Classical, Recommended, Paranoid}
-use Rattle.lists.specs.Ranges.{Below}
-use Rattle.lists.specs.declared.Peak.{Peak}
+use Rattle.lists.specs.{Ranges.Below, declared.Peak.Peak}
 use Rattle.packing.proofs.Laws.{packed-below}
 use Rattle.refusals.specs.declared.Verdict.{Verdict}
 use Rattle.refusals.specs.declared.Verdict.the-variants.{Pass, Fail}
@@ -19,10 +17,8 @@ use Rattle.reply.specs.Reply.{replyKey}
 use Rattle.finish.specs.Finish.{finishKey}
 use Rattle.reply.proofs.Replying as reply
 use Rattle.finish.proofs.Finishing as finish
-use Rattle.agreement.specs.Run.{replying, finishing}
-use Rattle.agreement.specs.Agreement.{Near}
-use Rattle.agreement.proofs.Tests.{sendable-by}
-use Rattle.agreement.proofs.Meeting.{keys-meet}
+use Rattle.agreement.specs.{Run.replying, Run.finishing, Agreement.Near}
+use Rattle.agreement.proofs.{Tests.sendable-by, Meeting.keys-meet}
 use Rattle.bench.specs.Bench.{Bench, benchTests, keysDiffer, benchDiffers, benchSlack, benchShown}
 use Rattle.bench.proofs.Differing.{differing-none}
 use Rattle.bench.specs.Shown.{NeverDiffer, differedBefore, SameNumbers}

@@ -3,15 +3,12 @@
 --   never-three-or-five   3 and 5 cannot arise
 --   opening-passes        an opening that Offer has made is not refused
 --   finish-accepts        Finish refuses nothing there
-use mathlib.Core.Path.{_≡_, ap, ap₂}
-use mathlib.Core.List.{List}
+use mathlib.Core.{Path._≡_, Path.ap, Path.ap₂, List.List}
 use Prim.Native.Nat.{ℕ}
 use native.Mathlib.Nat.{le-refl}
 use native.Mathlib.Omega.{arith}
 use lib.IntN.{ℤ}
-use Rattle.schemes.specs.Schemes.{fixedOf}
-use Rattle.schemes.specs.declared.Scheme.{Scheme}
-use Rattle.schemes.specs.declared.Named.{Named}
+use Rattle.schemes.specs.{Schemes.fixedOf, declared.Scheme.Scheme, declared.Named.Named}
 use Rattle.schemes.specs.declared.Named.the-variants.{Known, Unknown}
 use Rattle.refusals.specs.Refusals.{numberIn, lengthIs, roomFor, publicsIn, notBlank, receivedIn, secretsIn}
 use Rattle.refusals.specs.declared.Verdict.the-variants.{Pass}
@@ -19,16 +16,14 @@ use Rattle.refusals.proofs.Laws.{some, both, room-passes, not-blank-passed}
 use Rattle.refusals.proofs.Same.{same-refusal}
 use Rattle.refusals.proofs.Number.{and, passes, lengths, publics, secrets, blanks}
 use Rattle.wire.specs.Wire.{openedIn}
-use Rattle.offer.specs.Offer.{Offer, offerTests}
-use Rattle.offer.specs.Inside.{offerLengths, offerIn}
+use Rattle.offer.specs.{Offer.Offer, Offer.offerTests, Inside.offerLengths, Inside.offerIn}
 use Rattle.reply.specs.Reply.{Reply, replyRoomsOf, replyTests, openedOf}
 use Rattle.offer.proofs.Offering.{offer-opens}
 use Rattle.agreement.specs.Run.{offering, replying}
 use Rattle.agreement.proofs.Tests.{sendable-by, opening-received, finish-passes}
-use Rattle.bench.specs.Bench.{Bench, BenchSeen, benchTests, benchShown, benchTold, bcnsTold}
+use Rattle.bench.specs.Bench.{Bench, BenchSeen, benchTests, benchShown}
 use Rattle.bench.specs.Shown.{BenchToldAll, BcnsToldAll, NeverThreeOrFive, OpeningPasses, FinishPasses}
 use Rattle.bench.specs.declared.BcnsAnswer.{BcnsAnswer}
-use Rattle.bench.specs.declared.BenchAnswer.{BenchAnswer}
 use Rattle.bench.specs.declared.BenchAnswer.the-variants.{Agree, Differ, Refused}
 
 -- ---- one answer

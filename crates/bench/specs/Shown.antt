@@ -14,28 +14,21 @@
 --   NeverDiffer        where Bench refuses nothing in BCNS, the two keys are the same
 --   comparedResult     Bench's promise where the keys are compared in every scheme
 --   SameNumbers        it and the present promise are one, in every scheme
-use mathlib.Core.Path.{_≡_}
-use mathlib.Core.List.{List}
-use mathlib.Core.Logic.{_↔_}
+use mathlib.Core.{Path._≡_, List.List, Logic._↔_}
 use Prim.Native.Nat.{_≤_, ℕ, _<_}
 use lib.ListN.{getD}
-use Rattle.schemes.specs.Schemes.{fixedOf}
-use Rattle.schemes.specs.declared.Scheme.{Scheme}
-use Rattle.schemes.specs.declared.Named.{Named}
+use Rattle.schemes.specs.{Schemes.fixedOf, declared.Scheme.Scheme, declared.Named.Named}
 use Rattle.schemes.specs.declared.Named.the-variants.{Known, Unknown}
 use Rattle.schemes.specs.declared.Scheme.the-variants.{Bcns}
-use Rattle.refusals.specs.Refusals.{receivedIn}
-use Rattle.refusals.specs.declared.Verdict.the-variants.{Pass}
+use Rattle.refusals.specs.{Refusals.receivedIn, declared.Verdict.the-variants.Pass}
 use Rattle.wire.specs.Wire.{openedIn}
 use Rattle.offer.specs.Offer.{offerTests, offerMessage}
 use Rattle.reply.specs.Reply.{openedOf, replyKey}
 use Rattle.finish.specs.Finish.{FinishRooms, finishTests, finishSlack, finishKey}
-use Rattle.agreement.specs.Run.{offering, replying, finishing}
+use Rattle.agreement.specs.{Run.offering, Run.replying, Run.finishing, Agreement.Near}
 use Rattle.agreement.specs.Exchange.{Exchange, ownKey, peerKey, toldSlack}
-use Rattle.agreement.specs.Agreement.{Near}
 use Rattle.bench.specs.Bench.{Bench, benchTests, benchResult, benchTold, bcnsTold, bits, BenchSeen, keysDiffer, benchSlack, benchShown}
-use Rattle.bench.specs.declared.BcnsAnswer.{BcnsAnswer}
-use Rattle.bench.specs.declared.BenchAnswer.{BenchAnswer}
+use Rattle.bench.specs.{declared.BcnsAnswer.BcnsAnswer, declared.BenchAnswer.BenchAnswer}
 use Rattle.bench.specs.declared.BenchAnswer.the-variants.{Agree, Differ}
 
 abbrev pub BenchToldAll : Type 0

@@ -1,14 +1,12 @@
 -- Zero bytes are zero numbers, at every width: a list of zeros has the number 0, whose digits are zeros, and packing and unpacking undo each other.
 --   blank-packed, blank-unpacked   as specs/Blank states them
 --   blank-zeros, zeros-blank       a blank list is one of zeros
-use mathlib.Core.Path.{_≡_, refl, sym, ap₂}
+use mathlib.Core.{Path._≡_, Path.refl, Path.sym, Path.ap₂, List.List, List.[], List._∷_}
 use mathlib.Core.Bool.{Bool, true, false, cond}
-use mathlib.Core.List.{List, [], _∷_}
-use Prim.Native.Nat.{ℕ, zero, suc, _*_, _/_, _^_, _<_}
+use Prim.Native.Nat.{ℕ, zero, suc, _*_, _/_, _^_}
 use native.Mathlib.Nat.{zero-div, zero-mod}
 use native.Mathlib.Omega.{arith}
-use lib.Dec.{eqb}
-use lib.ListN.{length, replicate}
+use lib.{Dec.eqb, ListN.length, ListN.replicate}
 use borrow.Author.Tests.{eqb-true}
 use Rattle.packing.specs.Packing.{value, digits, packed, unpacked}
 use Rattle.packing.proofs.Laws.{unpack-pack, pack-unpack}

@@ -1,15 +1,12 @@
 -- The search for a number that is not 0: before it lie zeros alone.
 --   Zeros, zeros-none, zeros-more   the loop, before it and at a zero
 --   zeros-found, zeros-all          what it finds: another number, or none
-use mathlib.Core.Path.{_≡_, refl, _∙_, sym, ap}
-use mathlib.Core.Bool.{Bool, true, false, cond}
-use mathlib.Core.List.{List, [], _∷_}
-use Prim.Native.Nat.{ℕ, suc, _+_, _<_, _≤_}
+use mathlib.Core.{Path._≡_, Path.refl, Path._∙_, Path.sym, Path.ap, List.List}
+use mathlib.Core.Bool.{true, false, cond}
+use Prim.Native.Nat.{ℕ, _+_, _<_, _≤_}
 use native.Mathlib.Numerals.{add-one}
 use native.Mathlib.Omega.{arith}
-use lib.Dec.{eqb}
-use lib.ListN.{length, getD, drop, drop-of-length-le}
-use lib.Seq.{drop-cons}
+use lib.{Dec.eqb, ListN.length, ListN.getD, ListN.drop, ListN.drop-of-length-le, Seq.drop-cons}
 use borrow.Author.Tests.{eq-eqb, ne-eqb}
 use Rattle.blank.specs.Blank.{blank}
 

@@ -1,14 +1,11 @@
 -- The table of bench cards holds, by one computed test. The initiator's rules are searches, and are computed by their formulas.
-use mathlib.Core.Path.{_≡_, refl, _∙_, ap}
-use mathlib.Core.Bool.{Bool, true, false}
+use mathlib.Core.{Path._≡_, Path.refl, Path._∙_, Path.ap, Bool.Bool, Bool.true, Bool.false}
 use mathlib.Core.List.{List, [], _∷_}
 use Prim.Native.Nat.{_*_, _^_}
-use lib.Count.{ones}
-use lib.Dec.{T, eqb, ltb, eqb→eq, ltb→lt, lit<}
+use lib.{Count.ones, Dec.T, Dec.eqb, Dec.ltb, Dec.eqb→eq, Dec.ltb→lt, Dec.lit<}
 use lib.IntN.{ℤ, pos, negsuc}
 use Rattle.numbers.specs.Residue.{residue, nearest, distance, apart}
-use Rattle.lists.specs.Entries.{tab}
-use Rattle.lists.specs.First.{both}
+use Rattle.lists.specs.{Entries.tab, First.both}
 use Rattle.lists.proofs.Table.{both-T}
 use Rattle.bcns.specs.Rounding as bcns
 use Rattle.bcns.specs.Agreement as bcns-agreement

@@ -3,12 +3,10 @@
 --   Says    what a card says of the definitions
 --   table   the cards, in 01's order
 --   Shown   all of them hold
-use mathlib.Core.Path.{_≡_}
-use mathlib.Core.List.{List, [], _∷_}
+use mathlib.Core.{Path._≡_, List.List, List.[], List._∷_}
 use Prim.Native.Nat.{ℕ}
 use lib.IntN.{ℤ, pos, negsuc}
-use Rattle.schemes.specs.declared.Scheme.the-variants.{Recommended}
-use Rattle.schemes.specs.Schemes.{fixedOf}
+use Rattle.schemes.specs.{declared.Scheme.the-variants.Recommended, Schemes.fixedOf}
 use Rattle.bcns.specs.Rounding as bcns
 use Rattle.frodo.specs.Rounding as frodo
 use Rattle.newhope.specs.Group as newhope

@@ -9,39 +9,29 @@
 --   settle-newhope, settles-newhope   the same of a scheme that is NewHope
 --   rest-taken                   the last part of the random bytes, as the code lends it
 --   answer-unordered, answer-settled   its verdict where the table is refused, and what Reply shows where it is not
-use mathlib.Core.Path.{_≡_, refl, _∙_, sym, ap, subst}
-use mathlib.Core.List.{List, []}
+use mathlib.Core.{Path._≡_, Path.refl, Path._∙_, Path.sym, Path.ap, Path.subst, List.List, List.[]}
 use Prim.Native.Nat.{ℕ, _+_, _-_, _≤_}
 use native.Mathlib.Omega.{arith}
-use lib.IntN.{ℤ}
-use lib.ListN.{length, replicate, take, drop}
-use Rattle.schemes.specs.Schemes.{fixedOf}
-use Rattle.schemes.specs.declared.Named.{Named}
+use lib.{IntN.ℤ, ListN.length, ListN.replicate, ListN.take, ListN.drop}
+use Rattle.schemes.specs.{Schemes.fixedOf, declared.Named.Named, declared.Scheme.Scheme}
 use Rattle.schemes.specs.declared.Named.the-variants.{Known, Unknown}
-use Rattle.schemes.specs.declared.Scheme.{Scheme}
 use Rattle.schemes.specs.declared.Scheme.the-variants.{NewHope}
-use Rattle.lists.proofs.Parts.{part-long}
-use Rattle.lists.proofs.Same.{empty}
+use Rattle.lists.proofs.{Parts.part-long, Same.empty}
 use Rattle.refusals.specs.Refusals.{_then_, publicsIn, notBlank, receivedIn}
-use Rattle.refusals.specs.Seen.{told, seen}
-use Rattle.refusals.specs.declared.Answer.{Answer}
-use Rattle.refusals.specs.declared.Refusal.{Refusal}
+use Rattle.refusals.specs.{Seen.told, Seen.seen, declared.Answer.Answer, declared.Refusal.Refusal}
 use Rattle.refusals.specs.declared.Refusal.the-variants.{NoScheme, NoRule}
 use Rattle.refusals.specs.declared.Verdict.{Verdict}
 use Rattle.refusals.specs.declared.Verdict.the-variants.{Pass, Fail}
 use Rattle.refusals.proofs.Laws.{both, all-pass, length-passed, length-passes, room-passed, room-passes, within-passes, below-passes, last-passes, then-assoc, failed, went-on}
-use Rattle.noise.specs.declared.RuleName.{RuleName}
-use Rattle.noise.specs.declared.Ruled.{Ruled}
+use Rattle.noise.specs.{declared.RuleName.RuleName, declared.Ruled.Ruled}
 use Rattle.noise.specs.declared.Ruled.the-variants.{By}
-use Rattle.sampling.specs.Noise.{tableWords}
-use Rattle.sampling.specs.Expand.{growNumbers, growResult}
-use Rattle.wire.specs.Wire.{openedIn, seedIn, numbersIn}
-use Rattle.reply.specs.Reply.{ReplyRooms, ReplySeen, replyOf, openedOf, repliedPart, replyTests, replyMessage, replyKey, replyShown, replyResult, replyTold, replySeen}
-use Rattle.wire.specs.Steps.{replySecrets}
+use Rattle.sampling.specs.{Noise.tableWords, Expand.growNumbers, Expand.growResult}
+use Rattle.wire.specs.{Wire.openedIn, Wire.seedIn, Wire.numbersIn, Steps.replySecrets}
+use Rattle.reply.specs.Reply.{ReplyRooms, ReplySeen, replyOf, openedOf, repliedPart, replyTests, replyShown, replyResult, replyTold, replySeen}
 use Rattle.reply.specs.Inside.{replyLengths, replyLast, replyRest}
 use Rattle.reply.specs.declared.ReplyAnswer.{ReplyAnswer}
 use Rattle.reply.proofs.Replying.{reply-rest-decides, reply-refused}
-use Rattle.exchange.specs.Random.{publicLent, publicFrom, answerRandom, tableOrder, grown}
+use Rattle.exchange.specs.Random.{publicLent, publicFrom, answerRandom, tableOrder}
 use Rattle.exchange.specs.Answer.{AnswerLent, answerReply, answerTests}
 use Rattle.exchange.specs.Inside.{answerSizes, settleTests, answerRest, Settles}
 use Rattle.exchange.proofs.Grown.{Lends, no-publics, ran-out, grows}

@@ -7,37 +7,27 @@
 --   drawn-long, drawn-small      how many values they are, and that none lies beyond the largest noise
 --   draw-failed, draw-passed     what `draw` gives, by Noise's answer
 --   drew-as                      the same under another name
-use mathlib.Core.Path.{_≡_, refl, _∙_, sym, ap, ap₂}
+use mathlib.Core.{Path._≡_, Path.refl, Path._∙_, Path.sym, Path.ap, Path.ap₂, List.List}
 use mathlib.Core.Bool.{Bool, true, false, cond}
-use mathlib.Core.List.{List}
 use Prim.Native.Nat.{ℕ, _+_, _-_, _*_, _/_, _≤_}
 use native.Mathlib.Nat.{le-of-eq, mul-le-mul}
 use native.Mathlib.Omega.{arith}
-use lib.Dec.{eqb}
-use lib.IntN.{ℤ, pos}
-use lib.ListN.{length, take, drop}
+use lib.{Dec.eqb, IntN.ℤ, IntN.pos, ListN.length, ListN.take, ListN.drop}
 use borrow.Author.Tests.{eq-eqb}
-use Rattle.schemes.specs.Schemes.{fixedOf, familyOf, byFamily}
-use Rattle.schemes.specs.declared.Family.{Family}
-use Rattle.schemes.specs.declared.Fixed.{Fixed}
-use Rattle.schemes.specs.declared.Named.{Named}
+use Rattle.schemes.specs.{Schemes.fixedOf, Schemes.familyOf, Schemes.byFamily, declared.Fixed.Fixed}
+use Rattle.schemes.specs.{declared.Family.Family, declared.Named.Named, declared.Scheme.Scheme}
 use Rattle.schemes.specs.declared.Named.the-variants.{Known}
-use Rattle.schemes.specs.declared.Scheme.{Scheme}
 use Rattle.schemes.proofs.Sound.{sound}
 use Rattle.lists.specs.Ranges.{Below}
 use Rattle.lists.proofs.Parts.{part-long, below-take, below-drop}
-use Rattle.refusals.specs.Refusals.{numberOf, _then_, lengthIs}
+use Rattle.refusals.specs.{Refusals.numberOf, declared.Answer.Answer, declared.Refusal.Refusal}
 use Rattle.refusals.specs.Seen.{Output, done, refused, told, Seen, shown, seen}
-use Rattle.refusals.specs.declared.Answer.{Answer}
-use Rattle.refusals.specs.declared.Refusal.{Refusal}
 use Rattle.refusals.specs.declared.Verdict.{Verdict}
 use Rattle.refusals.specs.declared.Verdict.the-variants.{Pass, Fail}
 use Rattle.refusals.proofs.Laws.{some, all-pass, length-passes, room-passes, went-on}
-use Rattle.refusals.proofs.Same.{same-refusal}
-use Rattle.refusals.proofs.Seen.{written-whole, seen-done}
+use Rattle.refusals.proofs.{Same.same-refusal, Seen.written-whole, Seen.seen-done}
 use Rattle.sampling.specs.Noise.{noiseOf, lengthEither, bytesEach, tableWords, noiseTests, noiseResult}
-use Rattle.sampling.proofs.Noising.{count}
-use Rattle.sampling.proofs.Sampled.{values-within}
+use Rattle.sampling.proofs.{Noising.count, Sampled.values-within}
 use Rattle.values.specs.Fit.{Small}
 use Rattle.exchange.specs.Random.{secretBytes, mixedBytes, cut, valuesIn, publicLent, tableOrder}
 use Rattle.exchange.specs.Inside.{Draws, Drew}

@@ -5,27 +5,22 @@
 --   numbers-counted           the numbers that it makes where it does not refuse: all are there, below q
 --   Grows, grows              what it leaves then
 --   public-counted            the public numbers of any scheme, lent or grown, where their tests have passed
-use mathlib.Core.Path.{_≡_, refl, _∙_, ap}
-use mathlib.Core.List.{List, []}
+use mathlib.Core.{Path._≡_, Path.refl, Path._∙_, Path.ap, List.List, List.[]}
 use Prim.Native.Nat.{ℕ, suc}
 use native.Mathlib.Nat.{le-refl}
 use native.Mathlib.Omega.{arith}
 use lib.ListN.{length}
 use Rattle.schemes.specs.Schemes.{fixedOf, familyOf, byFamily}
-use Rattle.schemes.specs.declared.Family.{Family}
-use Rattle.schemes.specs.declared.Scheme.{Scheme}
+use Rattle.schemes.specs.{declared.Family.Family, declared.Scheme.Scheme}
 use Rattle.schemes.specs.declared.Scheme.the-variants.{Bcns, NewHope, Challenge, Classical, Recommended, Paranoid}
 use Rattle.schemes.proofs.Sound.{sound}
-use Rattle.refusals.specs.Refusals.{_then_, publicsIn}
-use Rattle.refusals.specs.Seen.{told, shown, seen}
-use Rattle.refusals.specs.declared.Answer.{Answer}
-use Rattle.refusals.specs.declared.Refusal.{Refusal}
+use Rattle.refusals.specs.{Refusals.publicsIn, Seen.told, Seen.shown, Seen.seen}
+use Rattle.refusals.specs.{declared.Answer.Answer, declared.Refusal.Refusal}
 use Rattle.refusals.specs.declared.Verdict.{Verdict}
 use Rattle.refusals.specs.declared.Verdict.the-variants.{Pass, Fail}
 use Rattle.refusals.proofs.Laws.{all-pass, length-passes, room-passes, publics-passed, below-passes, went-on}
 use Rattle.refusals.proofs.Seen.{seen-done}
-use Rattle.noise.specs.declared.RuleName.{RuleName}
-use Rattle.noise.specs.declared.Ruled.{Ruled}
+use Rattle.noise.specs.{declared.RuleName.RuleName, declared.Ruled.Ruled}
 use Rattle.noise.specs.declared.Ruled.the-variants.{By}
 use Rattle.noise.proofs.Stream.{by-name-below}
 use Rattle.sampling.specs.Expand.{expandNumbers, enough}

@@ -11,37 +11,30 @@ use mathlib.Core.List.{List, [], _++_}
 use Prim.Native.Nat.{ℕ, _+_, _≤_}
 use native.Mathlib.Nat.{le-of-eq}
 use native.Mathlib.Omega.{arith}
-use lib.IntN.{ℤ, pos}
-use lib.ListN.{length, replicate, drop}
-use Rattle.schemes.specs.Schemes.{fixedOf}
-use Rattle.schemes.specs.declared.Named.{Named}
+use lib.{IntN.ℤ, IntN.pos, ListN.length, ListN.replicate, ListN.drop}
+use Rattle.schemes.specs.{Schemes.fixedOf, declared.Named.Named, declared.Scheme.Scheme}
 use Rattle.schemes.specs.declared.Named.the-variants.{Known, Unknown}
-use Rattle.schemes.specs.declared.Scheme.{Scheme}
 use Rattle.schemes.specs.declared.Scheme.the-variants.{NewHope}
 use Rattle.schemes.proofs.Laws.{tied}
 use Rattle.lists.proofs.Same.{empty}
 use Rattle.refusals.specs.Refusals.{_then_, publicsIn, notBlank}
 use Rattle.refusals.specs.Seen.{output, written, refused, told, Seen, shown, seen}
-use Rattle.refusals.specs.declared.Answer.{Answer}
-use Rattle.refusals.specs.declared.Refusal.{Refusal}
+use Rattle.refusals.specs.{declared.Answer.Answer, declared.Refusal.Refusal}
 use Rattle.refusals.specs.declared.Refusal.the-variants.{NoScheme, NoRule}
 use Rattle.refusals.specs.declared.Verdict.{Verdict}
 use Rattle.refusals.specs.declared.Verdict.the-variants.{Pass, Fail}
 use Rattle.refusals.proofs.Laws.{both, all-pass, length-passed, length-passes, room-passed, room-passes, within-passes, below-passes, before-pass, last-passes, failed, went-on}
 use Rattle.refusals.proofs.Seen.{written-passed, written-failed, shown-failed, seen-done, seen-refused}
-use Rattle.noise.specs.declared.RuleName.{RuleName}
-use Rattle.noise.specs.declared.Ruled.{Ruled}
+use Rattle.noise.specs.{declared.RuleName.RuleName, declared.Ruled.Ruled}
 use Rattle.noise.specs.declared.Ruled.the-variants.{By}
-use Rattle.sampling.specs.Noise.{tableWords}
-use Rattle.sampling.specs.Expand.{growNumbers, growResult}
+use Rattle.sampling.specs.{Noise.tableWords, Expand.growNumbers, Expand.growResult}
 use Rattle.offer.specs.Offer.{offerOf, offeredPart, offerTests, offerMessage, offerResult}
 use Rattle.offer.specs.Inside.{offerLengths, offerAhead}
 use Rattle.offer.proofs.Offering.{offer-last-decides}
 use Rattle.exchange.specs.Random.{secretBytes, publicLent, publicFrom, openRandom, tableOrder}
 use Rattle.exchange.specs.Open.{OpenLent, OpenRooms, openRoomsOf, openOffer, openTests, openShown, openTold, openSeen}
 use Rattle.exchange.specs.Inside.{openSizes, sendTests, openRest, Sends}
-use Rattle.exchange.specs.declared.OpenAnswer.{OpenAnswer}
-use Rattle.exchange.specs.declared.OpenCounts.{OpenCounts}
+use Rattle.exchange.specs.{declared.OpenAnswer.OpenAnswer, declared.OpenCounts.OpenCounts}
 use Rattle.exchange.proofs.Drawn.{seen-fails, draws-secret, drawn-long}
 use Rattle.exchange.proofs.Grown.{Lends, no-publics, ran-out, grows}
 

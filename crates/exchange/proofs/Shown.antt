@@ -1,35 +1,27 @@
 -- What is stated in specs/Shown.
-use mathlib.Core.Path.{_≡_, refl, sym, ap, _∙_}
+use mathlib.Core.{Path._≡_, Path.refl, Path.sym, Path.ap, Path._∙_, List.List}
 use mathlib.Core.Bool.{Bool, true, false, cond}
-use mathlib.Core.List.{List}
 use Prim.Native.Nat.{ℕ, _+_, _≤_}
 use native.Mathlib.Omega.{arith}
-use lib.Dec.{leb, ltb}
-use lib.ListN.{length}
-use Rattle.schemes.specs.Schemes.{fixedOf, familyOf, byFamily}
-use Rattle.schemes.specs.declared.Family.{Family}
-use Rattle.schemes.specs.declared.Named.{Named}
+use lib.{Dec.leb, Dec.ltb, ListN.length}
+use Rattle.schemes.specs.{Schemes.fixedOf, Schemes.familyOf, Schemes.byFamily, declared.Named.Named}
+use Rattle.schemes.specs.{declared.Family.Family, declared.Scheme.Scheme}
 use Rattle.schemes.specs.declared.Named.the-variants.{Known, Unknown}
-use Rattle.schemes.specs.declared.Scheme.{Scheme}
 use Rattle.schemes.proofs.Laws.{tied}
-use Rattle.lists.specs.Ranges.{Below}
-use Rattle.lists.specs.First.{firstOver}
+use Rattle.lists.specs.{Ranges.Below, First.firstOver}
 use Rattle.lists.proofs.Parts.{front-long, part-long}
-use Rattle.refusals.specs.Refusals.{numberIn, _then_, lengthIs, roomFor, publicsIn, messageIn, notBlank, tableIn, receivedIn}
-use Rattle.refusals.specs.Seen.{Told}
-use Rattle.refusals.specs.declared.Verdict.{Verdict}
-use Rattle.refusals.specs.declared.Verdict.the-variants.{Pass, Fail}
+use Rattle.refusals.specs.Refusals.{numberIn, _then_, lengthIs, roomFor, publicsIn, messageIn, notBlank, tableIn}
+use Rattle.refusals.specs.{Seen.Told, declared.Verdict.Verdict, declared.Verdict.the-variants.Pass}
 use Rattle.refusals.proofs.Laws.{differ, some, both, all-pass, below-passes}
 use Rattle.refusals.proofs.Number.{and, lengths, rooms, publics, blanks}
 use Rattle.refusals.proofs.Same.{same-refusal}
-use Rattle.noise.specs.declared.RuleName.{RuleName}
-use Rattle.noise.specs.declared.Ruled.the-variants.{By}
+use Rattle.noise.specs.{declared.RuleName.RuleName, declared.Ruled.the-variants.By}
 use Rattle.noise.specs.declared.Ruled.{Ruled}
 use Rattle.sampling.specs.Expand.{enough}
 use Rattle.offer.specs.Offer.{offerTests}
 use Rattle.reply.specs.Reply.{ReplyRooms, replyTests}
 use Rattle.exchange.specs.Random.{secretBytes, mixedBytes, tableOrder, grown}
-use Rattle.exchange.specs.Open.{OpenLent, OpenRooms, OpenSeen, openOffer, openTests, openTold, openSeen}
+use Rattle.exchange.specs.Open.{OpenLent, OpenRooms, OpenSeen, openOffer, openTests, openSeen}
 use Rattle.exchange.specs.Answer.{AnswerLent, answerReply, answerTests}
 use Rattle.exchange.specs.Inside.{openRest, sendTests, Sends, answerSizes, answerRest, settleTests, Settles}
 use Rattle.exchange.specs.Shown.{NeverSix, OpenOffers, AnswerReplies, OpenSeenAll, OpenToldAll}

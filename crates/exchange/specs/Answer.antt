@@ -7,12 +7,10 @@
 use mathlib.Core.List.{List, []}
 use Prim.Native.Nat.{ℕ, _+_}
 use lib.ListN.{length}
-use Rattle.schemes.specs.Schemes.{fixedOf}
-use Rattle.schemes.specs.declared.Named.{Named}
+use Rattle.schemes.specs.{Schemes.fixedOf, declared.Named.Named}
 use Rattle.lists.specs.Lent.{Lent, was}
 use Rattle.refusals.specs.Refusals.{_then_, lengthIs, roomFor, publicsIn, messageIn, notBlank}
-use Rattle.refusals.specs.declared.Verdict.{Verdict}
-use Rattle.refusals.specs.declared.Refusal.{Refusal}
+use Rattle.refusals.specs.{declared.Verdict.Verdict, declared.Refusal.Refusal}
 use Rattle.noise.specs.declared.Ruled.{Ruled}
 use Rattle.sampling.specs.Noise.{tableWords}
 use Rattle.wire.specs.Wire.{openedIn, seedIn}

@@ -6,17 +6,13 @@
 --   Sends c s e seed n            Offer's inputs but the public numbers are in range, and there is room for the opening
 --   settleTests c k opening a s' e'   the tests of answer behind the table's; answerRest c k x: with the table's
 --   Settles c opening s' e' e'' coins m   Reply's inputs but the public numbers and the opening's are in range, and there is room for its outputs
-use mathlib.Core.Path.{_≡_}
-use mathlib.Core.List.{List}
+use mathlib.Core.{Path._≡_, List.List}
 use Prim.Native.Nat.{ℕ, _+_, _/_, _≤_}
-use lib.IntN.{ℤ}
-use lib.ListN.{length}
-use Rattle.schemes.specs.Schemes.{fixedOf}
-use Rattle.schemes.specs.declared.Scheme.{Scheme}
+use lib.{IntN.ℤ, ListN.length}
+use Rattle.schemes.specs.{Schemes.fixedOf, declared.Scheme.Scheme}
 use Rattle.schemes.specs.declared.Named.the-variants.{Known}
 use Rattle.refusals.specs.Refusals.{_then_, lengthIs, roomFor, publicsIn, notBlank, receivedIn}
-use Rattle.refusals.specs.declared.Verdict.{Verdict}
-use Rattle.refusals.specs.declared.Verdict.the-variants.{Pass}
+use Rattle.refusals.specs.{declared.Verdict.Verdict, declared.Verdict.the-variants.Pass}
 use Rattle.noise.specs.declared.Ruled.{Ruled}
 use Rattle.sampling.specs.Noise.{lengthEither, bytesEach, tableWords}
 use Rattle.values.specs.Fit.{Small}

@@ -9,21 +9,17 @@
 --   openSeen t opening s   what is seen where open tells t and leaves these outputs
 use mathlib.Core.List.{List, []}
 use Prim.Native.Nat.{ℕ, _+_}
-use lib.IntN.{ℤ, pos}
-use lib.ListN.{length, take}
-use Rattle.schemes.specs.Schemes.{fixedOf}
-use Rattle.schemes.specs.declared.Named.{Named}
+use lib.{IntN.ℤ, IntN.pos, ListN.length, ListN.take}
+use Rattle.schemes.specs.{Schemes.fixedOf, declared.Named.Named}
 use Rattle.lists.specs.Lent.{Lent, was, room}
 use Rattle.refusals.specs.Refusals.{numberIn, placeIn, _then_, lengthIs, roomFor, publicsIn, notBlank}
 use Rattle.refusals.specs.Seen.{Output, output, written, Told, done, refused}
-use Rattle.refusals.specs.declared.Verdict.{Verdict}
-use Rattle.refusals.specs.declared.Refusal.{Refusal}
+use Rattle.refusals.specs.{declared.Verdict.Verdict, declared.Refusal.Refusal}
 use Rattle.noise.specs.declared.Ruled.{Ruled}
 use Rattle.sampling.specs.Noise.{tableWords}
 use Rattle.offer.specs.Offer.{Offer, offerOf, offeredPart, offerMessage}
 use Rattle.exchange.specs.Random.{secretBytes, openRandom, cut, valuesIn, publicLent, publicFrom, tableOrder, grown}
-use Rattle.exchange.specs.declared.OpenCounts.{OpenCounts}
-use Rattle.exchange.specs.declared.OpenAnswer.{OpenAnswer}
+use Rattle.exchange.specs.{declared.OpenCounts.OpenCounts, declared.OpenAnswer.OpenAnswer}
 
 pub record OpenLent : Type 0 where
   pub a : List ℕ

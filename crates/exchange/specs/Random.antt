@@ -9,18 +9,14 @@
 --   grown c k seed                7, in NewHope alone
 use mathlib.Core.List.{List}
 use Prim.Native.Nat.{ℕ, _+_, _*_}
-use lib.IntN.{ℤ}
-use lib.ListN.{length, take, drop}
+use lib.{IntN.ℤ, ListN.length, ListN.take, ListN.drop}
 use Rattle.schemes.specs.Schemes.{fixedOf, familyOf, byFamily}
-use Rattle.schemes.specs.declared.Scheme.{Scheme}
-use Rattle.schemes.specs.declared.Named.the-variants.{Known}
-use Rattle.refusals.specs.Refusals.{tableIn}
-use Rattle.refusals.specs.declared.Verdict.{Verdict}
+use Rattle.schemes.specs.{declared.Scheme.Scheme, declared.Named.the-variants.Known}
+use Rattle.refusals.specs.{Refusals.tableIn, declared.Verdict.Verdict}
 use Rattle.refusals.specs.declared.Verdict.the-variants.{Pass}
 use Rattle.noise.specs.declared.Ruled.{Ruled}
 use Rattle.bcns_noise.specs.Noise.{firstNotAbove}
-use Rattle.sampling.specs.Noise.{noiseOf, bytesEach, noiseValues}
-use Rattle.sampling.specs.Expand.{enough}
+use Rattle.sampling.specs.{Noise.noiseOf, Noise.bytesEach, Noise.noiseValues, Expand.enough}
 use Rattle.sampling.specs.Expand.{growNumbers}
 
 abbrev pub secretBytes : Scheme → ℕ

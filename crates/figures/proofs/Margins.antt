@@ -4,8 +4,7 @@ use mathlib.Core.Path.{refl, subst}
 use Prim.Native.Nat.{ℕ, _<_}
 use native.Mathlib.Omega.{arith}
 use lib.Dec.{lit≤}
-use Rattle.schemes.specs.Schemes.{fixedOf}
-use Rattle.schemes.specs.declared.Scheme.{Scheme}
+use Rattle.schemes.specs.{Schemes.fixedOf, declared.Scheme.Scheme}
 use Rattle.schemes.specs.declared.Scheme.the-variants.{Bcns, NewHope, Challenge, Classical, Recommended, Paranoid}
 use Rattle.bcns.proofs.Margin as bcns
 use Rattle.newhope.proofs.Margin as newhope

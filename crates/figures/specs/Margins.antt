@@ -13,15 +13,13 @@
 --   Margins               all of this
 use mathlib.Core.Path.{_≡_}
 use Prim.Native.Nat.{ℕ, _+_, _*_, _/_, _%_, _^_, _<_}
-use Rattle.schemes.specs.Schemes.{familyOf, fixedOf}
-use Rattle.schemes.specs.declared.Family.{Family}
+use Rattle.schemes.specs.{Schemes.familyOf, Schemes.fixedOf, declared.Family.Family}
 use Rattle.schemes.specs.declared.Scheme.{Scheme}
 use Rattle.schemes.specs.declared.Scheme.the-variants.{Challenge, Classical, Recommended, Paranoid}
 use Rattle.numbers.specs.Residue.{apart}
 use Rattle.bcns.specs.Rounding as bcns
 use Rattle.newhope.specs.Group as newhope
-use Rattle.newhope.specs.Agreement.{BelowQ, apartOf}
-use Rattle.newhope.specs.declared.Four.{Four}
+use Rattle.newhope.specs.{Agreement.BelowQ, Agreement.apartOf, declared.Four.Four}
 use Rattle.frodo.specs.Rounding as frodo
 
 pub record Pair : Type 0 where

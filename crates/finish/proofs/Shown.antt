@@ -7,7 +7,7 @@ use Rattle.refusals.specs.Seen.{Told}
 use Rattle.refusals.proofs.Seen.{same-counts, same-refused, never-both}
 use Rattle.values.specs.Keys.{slacks}
 use Rattle.wire.proofs.Travel.{reply-again}
-use Rattle.finish.specs.Finish.{FinishSeen, repliedOf, finishValue, finishSlack, finishTold, finishSeen}
+use Rattle.finish.specs.Finish.{FinishSeen, repliedOf, finishValue, finishSlack, finishSeen}
 use Rattle.finish.specs.Shown.{FinishSeenAll, FinishToldAll, ReplyComesBack, NoSlack, KeysFit}
 use Rattle.finish.specs.declared.FinishAnswer.the-variants.{Done, Refused}
 use Rattle.finish.specs.declared.FinishCounts.{FinishCounts}

@@ -13,24 +13,17 @@
 --   finishSeen t key digest   what is seen where Finish tells t and leaves these outputs
 use mathlib.Core.List.{List, []}
 use Prim.Native.Nat.{ℕ}
-use lib.IntN.{ℤ}
-use lib.ListN.{length}
-use Rattle.schemes.specs.Schemes.{fixedOf}
-use Rattle.schemes.specs.declared.Scheme.{Scheme}
-use Rattle.schemes.specs.declared.Named.{Named}
+use lib.{IntN.ℤ, ListN.length}
+use Rattle.schemes.specs.{Schemes.fixedOf, declared.Scheme.Scheme, declared.Named.Named}
 use Rattle.schemes.specs.declared.Named.the-variants.{Known, Unknown}
-use Rattle.lists.specs.Lent.{Lent, was, room}
-use Rattle.lists.specs.First.{peakOf}
-use Rattle.lists.specs.declared.Peak.{Peak}
+use Rattle.lists.specs.{Lent.Lent, Lent.was, Lent.room, First.peakOf, declared.Peak.Peak}
 use Rattle.packing.specs.Packing.{packed}
 use Rattle.refusals.specs.Refusals.{numberIn, placeIn, _then_, lengthIs, roomFor, messageIn, notBlank, secretsIn}
 use Rattle.refusals.specs.Seen.{Output, output, written, ifPassed, unused, Told, done, refused}
-use Rattle.refusals.specs.declared.Verdict.{Verdict}
-use Rattle.refusals.specs.declared.Verdict.the-variants.{Fail}
+use Rattle.refusals.specs.{declared.Verdict.Verdict, declared.Verdict.the-variants.Fail}
 use Rattle.refusals.specs.declared.Refusal.the-variants.{NoScheme}
 use Rattle.sponge.specs.Sponge.{sha3}
-use Rattle.values.specs.Values.{bareValue}
-use Rattle.values.specs.Keys.{peers, slacks}
+use Rattle.values.specs.{Values.bareValue, Keys.peers, Keys.slacks}
 use Rattle.wire.specs.Wire.{repliedIn, numbersIn, hintsIn}
 use Rattle.finish.specs.declared.FinishCounts.{FinishCounts}
 use Rattle.finish.specs.declared.FinishAnswer.{FinishAnswer}

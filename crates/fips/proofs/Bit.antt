@@ -2,8 +2,7 @@
 --   bit-lt                     it is 0 or 1
 --   bit-suc, bit-low           of a half, and of the low part
 --   bit-xor, bit-and, bit-flip, bit-rot   of two lanes added, of two multiplied, of one flipped, and of one turned
-use mathlib.Core.Path.{_≡_, refl, sym, ap, ap₂, _∙_}
-use mathlib.Core.Logic.{⊎-elim}
+use mathlib.Core.{Path._≡_, Path.refl, Path.sym, Path.ap, Path.ap₂, Path._∙_, Logic.⊎-elim}
 use Prim.Native.Nat.{ℕ, zero, suc, _+_, _-_, _*_, _/_, _%_, _^_, _≤_, _<_, min}
 use native.Mathlib.Nat.{mod-lt, mod-eq-of-lt, mul-mod-left, add-zero, pow-suc, div-one, eq-zero-or-pos}
 use native.Mathlib.Omega.{arith}

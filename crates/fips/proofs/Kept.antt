@@ -2,18 +2,13 @@
 --   theta-keeps, rho-keeps, pi-keeps, chi-keeps, iota-keeps   through each step
 --   xor-keeps                                                 through a sum
 --   keccak-keeps                                              and through all rounds
-use mathlib.Core.Path.{refl}
-use mathlib.Core.List.{List, [], _∷_}
+use mathlib.Core.{Path.refl, List.List, List.[], List._∷_}
 use Prim.Native.Nat.{ℕ, zero, suc, _+_, _-_, _*_, _/_, _%_, _^_, _<_}
 use native.Mathlib.Nat.{mod-lt, le-of-eq, lt-of-le-of-lt, div-le-self}
 use native.Mathlib.Omega.{arith}
-use lib.Bits.{bitXor, xor-lt, or-lt, and-le-r}
-use lib.ListN.{set}
-use Rattle.lists.specs.Ranges.{Below}
-use Rattle.lists.specs.First.{firstOver, firstWhere}
-use Rattle.lists.proofs.Entries.{below-tab, below-set}
-use Rattle.lists.proofs.First.{all-below}
-use Rattle.lists.proofs.Parts.{below-tail}
+use lib.{Bits.bitXor, Bits.xor-lt, Bits.or-lt, Bits.and-le-r, ListN.set}
+use Rattle.lists.specs.{Ranges.Below, First.firstOver, First.firstWhere}
+use Rattle.lists.proofs.{Entries.below-tab, Entries.below-set, First.all-below, Parts.below-tail}
 use Rattle.keccak.specs.Keccak.{state, lane, rot, flip, offsets, theta, rho, pi, chi, iota, round, rounds, constants, keccakF}
 use Rattle.fips.specs.Steps.{Lanes, KeccakKeeps}
 use Rattle.fips.proofs.Steps.{lane-below, parity-below}

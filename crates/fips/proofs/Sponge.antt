@@ -5,13 +5,10 @@ use mathlib.Core.List.{List, [], _∷_, _++_}
 use Prim.Native.Nat.{ℕ, zero, suc, _+_, _-_, _*_, _/_, _%_, _^_, _≤_, _<_}
 use native.Mathlib.Nat.{mod-lt, mod-eq-of-lt, zero-div, div-one, div-add-mod'}
 use native.Mathlib.Omega.{arith}
-use lib.Arith.{digits-div, digits-mod}
-use lib.Bits.{bitXor}
-use lib.Pow.{shr-shr}
+use lib.{Arith.digits-div, Arith.digits-mod, Bits.bitXor, Pow.shr-shr}
 use lib.ListN.{length, getD, take, drop, replicate}
 use lib.Seq.{ext-getD, take-nil, drop-nil}
-use Rattle.lists.specs.Entries.{tab}
-use Rattle.lists.specs.Ranges.{Below}
+use Rattle.lists.specs.{Entries.tab, Ranges.Below}
 use Rattle.lists.proofs.Entries.{tab-length, tab-at, tab-ext, below-tab, below-zeros}
 use Rattle.lists.proofs.Parts.{part-at, below-take, below-drop, below-tail}
 use Rattle.packing.specs.Packing.{value, digits}

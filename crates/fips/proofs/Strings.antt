@@ -5,11 +5,9 @@ use mathlib.Core.List.{List, [], _∷_, _++_}
 use Prim.Native.Nat.{ℕ, zero, suc, _+_, _*_, _/_, _%_, _^_, _<_}
 use native.Mathlib.Nat.{div-one, mod-lt}
 use native.Mathlib.Omega.{arith}
-use lib.Pow.{shr-shr}
-use lib.ListN.{length}
+use lib.{Pow.shr-shr, ListN.length}
 use Rattle.lists.specs.Entries.{tab}
-use Rattle.lists.proofs.Entries.{tab-ext}
-use Rattle.lists.proofs.Parts.{below-tail}
+use Rattle.lists.proofs.{Entries.tab-ext, Parts.below-tail}
 use Rattle.packing.specs.Packing.{value, digits}
 use Rattle.packing.proofs.Laws.{digits-append, digits-low}
 use Rattle.fips.specs.Strings.{string, LaneIs, BytesIs}

@@ -3,18 +3,15 @@
 --   in-half    there the formula's remainder is the place of w in that half; elsewhere it is behind it
 --   Case, case-of   the two cases, with the slack and the formula in each
 --   slack-apart, slack-least, slack-formula, slack-none, slack-bound
-use mathlib.Core.Path.{_≡_, refl, ap, _∙_}
-use mathlib.Core.Bool.{Bool, true}
+use mathlib.Core.{Path._≡_, Path.refl, Path.ap, Path._∙_, Bool.Bool, Bool.true}
 use Prim.Native.Nat.{ℕ, zero, suc, _+_, _*_, _-_, _/_, _%_, _^_, _≤_, _<_, min}
 use native.Mathlib.Decide.{ℕ-discrete, decLt}
 use native.Mathlib.Nat.{mul-le-mul-right}
 use native.Mathlib.Omega.{arith}
-use lib.Dec.{eqb}
-use lib.Pow.{pow-pos}
+use lib.{Dec.eqb, Pow.pow-pos}
 use borrow.Author.Tests.{eqb-true, eq-eqb}
 use Rattle.numbers.specs.Least.{gapTo}
-use Rattle.numbers.proofs.Natural.{rest-is}
-use Rattle.numbers.proofs.Arc.{Arc, away-arc, away-at-most, away-none}
+use Rattle.numbers.proofs.{Natural.rest-is, Arc.Arc, Arc.away-arc, Arc.away-at-most, Arc.away-none}
 use Rattle.frodo.specs.Rounding.{hintOf, slackOf}
 use Rattle.frodo.specs.Slack.{mostSlack, LeastApart, SlackLeast, past, SlackFormula, SlackNone, SlackBound, SlackApart}
 use Rattle.frodo.proofs.Margin.{Half, half-of, hint-half}

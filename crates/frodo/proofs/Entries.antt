@@ -6,22 +6,17 @@
 --   slacks-length                             as many slacks as there are values
 --   slacks-apart                              under the replier's hints each is at most the distance of the two values
 --   slacks-most                               and under any hints at most the largest that a slack can be
-use mathlib.Core.Path.{_≡_, ap, _∙_}
-use mathlib.Core.List.{List}
+use mathlib.Core.{Path._≡_, Path.ap, Path._∙_, List.List}
 use Prim.Native.Nat.{ℕ, _*_, _^_, _≤_, _<_}
 use native.Mathlib.Nat.{mod-lt}
 use native.Mathlib.Omega.{arith}
-use lib.ListN.{length, getD}
-use lib.Pow.{pow-pos}
+use lib.{ListN.length, ListN.getD, Pow.pow-pos}
 use Rattle.numbers.specs.Residue.{apart}
-use Rattle.lists.specs.Entries.{tab}
-use Rattle.lists.specs.Ranges.{Below}
+use Rattle.lists.specs.{Entries.tab, Ranges.Below}
 use Rattle.lists.proofs.Entries.{tab-length, tab-at, tab-ext, below-tab}
 use Rattle.frodo.specs.Rounding.{hintOf, keyOf, peerOf, hintsOf, keysOf, peersOf, slackOf, slacksOf}
-use Rattle.frodo.specs.Agreement.{Round, EveryEntry}
-use Rattle.frodo.specs.Slack.{mostSlack}
-use Rattle.frodo.proofs.Rule.{hint-below, agreement}
-use Rattle.frodo.proofs.Away.{slack-apart, slack-bound}
+use Rattle.frodo.specs.{Agreement.Round, Agreement.EveryEntry, Slack.mostSlack}
+use Rattle.frodo.proofs.{Rule.hint-below, Rule.agreement, Away.slack-apart, Away.slack-bound}
 
 pub hints-length : (I : ℕ) (vs : List ℕ) → length (hintsOf I vs) ≡ length vs
 unfolding hintsOf

@@ -11,13 +11,11 @@ use Prim.Native.Nat.{ℕ, zero, suc, _+_, _*_, _-_, _/_, _%_, _^_, _≤_, _<_}
 use native.Mathlib.Decide.{ℕ-discrete, decLt}
 use native.Mathlib.Nat.{le-trans, mul-le-mul-right, lt-of-mul-lt-mul-right}
 use native.Mathlib.Omega.{arith}
-use lib.Dec.{eqb}
-use lib.Pow.{pow-pos}
+use lib.{Dec.eqb, Pow.pow-pos}
 use borrow.Author.Tests.{eqb-true, eq-eqb}
 use Rattle.numbers.specs.Congruence.{Close, direct, over, under}
 use Rattle.numbers.specs.Least.{nearestTo}
-use Rattle.numbers.proofs.Circle.{apart-close, close-apart}
-use Rattle.numbers.proofs.Arc.{nearest-least}
+use Rattle.numbers.proofs.{Circle.apart-close, Circle.close-apart, Arc.nearest-least}
 use Rattle.frodo.specs.Rounding.{hintOf, keyOf, peerOf}
 use Rattle.frodo.specs.Agreement.{Nearest, NoTie, formulaOf, Formula, Agreement}
 use Rattle.frodo.proofs.Margin.{Half, half-of, hint-half, margin}

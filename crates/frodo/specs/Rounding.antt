@@ -7,8 +7,7 @@
 --   hintsOf, keysOf, peersOf, slacksOf   hint, key, peer's key and slack, entry by entry
 use mathlib.Core.List.{List}
 use Prim.Native.Nat.{ℕ, _+_, _*_, _/_, _%_, _^_}
-use lib.Dec.{eqb}
-use lib.ListN.{length, getD}
+use lib.{Dec.eqb, ListN.length, ListN.getD}
 use Rattle.schemes.specs.declared.Fixed.{Fixed}
 use Rattle.numbers.specs.Least.{nearestTo, gapTo}
 use Rattle.lists.specs.Entries.{tab}

@@ -7,8 +7,7 @@
 --   column-ext       a column, where the factors are the same
 --   column-times     a column is a coefficient of the full product, where the second factor stands backwards behind both
 --   leaf-law         what the three steps of a leaf come to
-use mathlib.Core.Path.{_≡_, refl, _∙_, sym, ap, ap₂}
-use mathlib.Core.List.{List}
+use mathlib.Core.{Path._≡_, Path.refl, Path._∙_, Path.sym, Path.ap, Path.ap₂, List.List}
 use Prim.Native.Nat.{ℕ, suc, _+_, _*_, _-_, _/_, _%_, _<_, _≤_}
 use native.Mathlib.Omega.{arith}
 use native.Mathlib.Nat.{mul-zero, zero-mul, zero-add, div-add-mod, mod-lt}
@@ -21,8 +20,7 @@ use Rattle.lists.proofs.Parts.{slice-long, slice-at}
 use Rattle.halves.specs.Halves.{q}
 use Rattle.lists.specs.Ranges.{Stored}
 use Rattle.halves.specs.Steps.{full, cut, from, times, column, Product}
-use Rattle.halves.proofs.Full.{cut-in, cut-out}
-use Rattle.halves.proofs.Moves.{same, times-ext}
+use Rattle.halves.proofs.{Full.cut-in, Full.cut-out, Moves.same, Moves.times-ext}
 
 -- a number by its low 33 bits and the others
 unfoldable pub together : ℕ → ℕ → ℕ

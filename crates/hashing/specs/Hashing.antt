@@ -7,8 +7,7 @@ use mathlib.Core.List.{List}
 use Prim.Native.Nat.{ℕ}
 use lib.ListN.{length}
 use Rattle.refusals.specs.Refusals.{_then_, lengthUpTo, roomFor}
-use Rattle.refusals.specs.Seen.{Seen, shown}
-use Rattle.refusals.specs.declared.Verdict.{Verdict}
+use Rattle.refusals.specs.{Seen.Seen, Seen.shown, declared.Verdict.Verdict}
 use Rattle.sponge.specs.Sponge.{shake128, sha3}
 
 unfoldable pub shakeTests : List ℕ → Verdict

@@ -8,8 +8,7 @@
 --   offsets, constants   the tables of rho and iota
 use mathlib.Core.List.{List, [], _∷_}
 use Prim.Native.Nat.{ℕ, zero, suc, _+_, _-_, _*_, _/_, _%_, _^_}
-use lib.Bits.{bitAnd, bitOr, bitXor}
-use lib.ListN.{getD, set}
+use lib.{Bits.bitAnd, Bits.bitOr, Bits.bitXor, ListN.getD, ListN.set}
 use Rattle.lists.specs.Entries.{tab}
 
 abbrev pub rot : ℕ → ℕ → ℕ

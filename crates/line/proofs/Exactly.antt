@@ -6,11 +6,9 @@ use mathlib.Core.List.{List, [], _∷_, _++_, append-assoc, append-nil}
 use Prim.Native.Nat.{ℕ, _^_, _≤_, _<_}
 use native.Mathlib.Decide.{decLe}
 use native.Mathlib.Omega.{arith}
-use lib.ListN.{length, take, length-append, length-take}
-use lib.Seq.{take-all}
+use lib.{ListN.length, ListN.take, ListN.length-append, ListN.length-take, Seq.take-all}
 use Rattle.text.specs.Text.{schemeName, decimal, line, Read, number, other, fieldIn}
-use Rattle.text.proofs.Numeral.{decimal-length}
-use Rattle.text.proofs.Lines.{line-forth, line-back}
+use Rattle.text.proofs.{Numeral.decimal-length, Lines.line-forth, Lines.line-back}
 use Rattle.line.specs.Line.{coinName, vName, wName, question, Asked, numbers, text, endIn, wIn, vIn, coinIn, asked, answerTo, answered}
 use Rattle.line.specs.Exactly.{Is, Exactly, bytes, Enough}
 

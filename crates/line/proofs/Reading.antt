@@ -5,13 +5,11 @@ use mathlib.Core.List.{List, [], _∷_, _++_}
 use Prim.Native.Nat.{ℕ, _≤_}
 use native.Mathlib.Omega.{arith}
 use lib.ListN.{length, drop}
-use Rattle.text.specs.Text.{schemeName}
-use Rattle.line.specs.Line.{coinName, vName, wName}
+use Rattle.text.specs.{Text.schemeName, Steps.readOf, Steps.behind, Steps.Reads, Steps.labelIn}
+use Rattle.line.specs.{Line.coinName, Line.vName, Line.wName, declared.Lines.Lines}
 use Rattle.line.specs.Steps.{four, partOf, reached, Stands, shifted, moved, linesOf}
-use Rattle.text.specs.Steps.{readOf, behind, Reads, labelIn}
 use Rattle.text.specs.declared.Found.{Found}
 use Rattle.text.specs.declared.Found.the-variants as found
-use Rattle.line.specs.declared.Lines.{Lines}
 use Rattle.line.specs.declared.Lines.the-variants as lines
 
 -- one line more, with l the lines before it and f what was found at their end

@@ -1,26 +1,19 @@
 -- An answer has at most 22 bytes (`specs/Exactly.antt`).
-use mathlib.Core.Path.{ap}
-use mathlib.Core.Bool.{Bool, cond}
-use mathlib.Core.List.{List}
+use mathlib.Core.{Path.ap, Bool.Bool, Bool.cond, List.List}
 use Prim.Native.Nat.{ℕ, _≤_, _<_}
 use native.Mathlib.Omega.{arith}
-use lib.Dec.{ltb}
-use lib.ListN.{length, length-append}
-use Rattle.schemes.specs.declared.Family.{Family}
-use Rattle.schemes.specs.declared.Fixed.{Fixed}
-use Rattle.schemes.specs.declared.Named.{Named}
+use lib.{Dec.ltb, ListN.length, ListN.length-append}
+use Rattle.schemes.specs.{declared.Family.Family, declared.Fixed.Fixed, declared.Named.Named}
 use Rattle.schemes.specs.declared.Named.the-variants.{Known, Unknown}
 use Rattle.schemes.specs.Schemes.{byFamily, familyOf, fixedOf, schemeOf}
 use Rattle.schemes.proofs.Sound.{sound}
 use Rattle.lists.specs.First.{both}
 use Rattle.lists.proofs.Table.{cond-all}
 use Rattle.bcns.specs.Rounding as bcns
-use Rattle.bcns.proofs.Regions.{hint-below, key-below}
-use Rattle.bcns.proofs.Formula.{peer-below}
+use Rattle.bcns.proofs.{Regions.hint-below, Regions.key-below, Formula.peer-below}
 use Rattle.frodo.specs.Rounding as frodo
 use Rattle.frodo.proofs.Rule as rule
-use Rattle.text.proofs.Numeral.{decimal-length}
-use Rattle.text.proofs.Writing.{one-digit, line-length}
+use Rattle.text.proofs.{Numeral.decimal-length, Writing.one-digit, Writing.line-length}
 use Rattle.line.specs.Line.{Asked, numbers, text, asked, refusal, shown, bcnsShown, frodoShown, bcnsAnswer, frodoAnswer, settledIn, settled, answerTo, answered}
 use Rattle.line.specs.Exactly.{Short}
 use Rattle.line.proofs.Deciding.{key-small, peer-small}

@@ -6,8 +6,7 @@ use mathlib.Core.List.{List, [], _∷_, _++_, append-assoc, append-nil}
 use Prim.Native.Nat.{ℕ, _≤_}
 use native.Mathlib.Omega.{arith}
 use lib.ListN.{length}
-use Rattle.text.specs.Text.{line}
-use Rattle.text.specs.Steps.{labelled}
+use Rattle.text.specs.{Text.line, Steps.labelled}
 use Rattle.text.proofs.Writing.{joined, Left, left-all}
 use Rattle.line.specs.Line.{hintName, keyName, peerName, shown, answered}
 use Rattle.line.proofs.Short.{answered-short}

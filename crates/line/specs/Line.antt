@@ -3,12 +3,10 @@
 --   asked xs           the four numbers of a question, or that xs is other text
 --   settled a b c d    the answer's text: hint, key and the peer's key; or a refusal: 1, 9, 4, in that order
 --   answered xs        the output of every input: 8 for other text
-use mathlib.Core.Bool.{cond}
-use mathlib.Core.List.{List, [], _∷_, _++_}
+use mathlib.Core.{Bool.cond, List.List, List.[], List._∷_, List._++_}
 use Prim.Native.Nat.{ℕ}
 use lib.Dec.{ltb}
-use Rattle.schemes.specs.declared.Fixed.{Fixed}
-use Rattle.schemes.specs.declared.Named.{Named}
+use Rattle.schemes.specs.{declared.Fixed.Fixed, declared.Named.Named}
 use Rattle.schemes.specs.declared.Named.the-variants.{Known, Unknown}
 use Rattle.schemes.specs.Schemes.{byFamily, familyOf, fixedOf, schemeOf}
 use Rattle.lists.specs.First.{both}

@@ -6,15 +6,13 @@
 --   peak-at      it stands where it is said to stand
 --   peak-below   and nowhere before
 --   peak-inside  which is in the list, if it has an entry
-use mathlib.Core.Path.{_≡_, refl, sym, ap, ap₂, _∙_}
-use mathlib.Core.Bool.{Bool, cond}
+use mathlib.Core.{Path._≡_, Path.refl, Path.sym, Path.ap, Path.ap₂, Path._∙_, Bool.Bool, Bool.cond}
 use mathlib.Core.List.{List, [], _∷_}
 use Prim.Native.Nat.{ℕ, zero, suc, _-_, _≤_, _<_}
 use native.Mathlib.Decide.{decLt, ℕ-discrete}
 use native.Mathlib.Nat.{le-refl}
 use native.Mathlib.Omega.{arith}
-use lib.Dec.{eqb, leb}
-use lib.ListN.{length, getD, replicate}
+use lib.{Dec.eqb, Dec.leb, ListN.length, ListN.getD, ListN.replicate}
 use borrow.Author.Tests.{eqb-true, eqb-false, eq-eqb, ne-eqb, le-leb, lt-leb}
 use Rattle.lists.specs.First.{firstWhere, firstOver, largestBy, peakOf}
 use Rattle.lists.proofs.First.{none-before, none-passes, first-passes}

@@ -7,9 +7,8 @@ use mathlib.Core.Path.{_≡_, _∙_, sym}
 use Prim.Native.Nat.{ℕ, _*_, _<_, _≤_}
 use lib.IntN.{ℤ, natAbs, _+ℤ_, _*ℤ_}
 use Rattle.numbers.specs.Congruence.{_≅⟨_⟩_}
-use Rattle.numbers.proofs.Ring.{add-mul, mul-add, mul-assoc}
+use Rattle.numbers.proofs.{Ring.add-mul, Ring.mul-add, Ring.mul-assoc, Size.abs-mul-≤, Size.abs-sum}
 use Rattle.numbers.proofs.Sums.{whole, sum-ext, sum-add, sum-mul, sum-mul-right, sum-swap}
-use Rattle.numbers.proofs.Size.{abs-mul-≤, abs-sum}
 use Rattle.numbers.proofs.Congruence.{mul-≅, sum-≅}
 use Rattle.matrix.specs.Matrix.{times}
 

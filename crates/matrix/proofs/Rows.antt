@@ -4,11 +4,8 @@ use mathlib.Core.Path.{_≡_, _∙_, ap, ap₂}
 use Prim.Native.Nat.{ℕ, suc, _+_, _*_, _<_, _≤_}
 use native.Mathlib.Omega.{arith}
 use native.Mathlib.Nat.{mul-le-mul-right}
-use lib.Arith.{digits-div, digits-mod}
-use lib.ListN.{length, getD}
-use lib.IntN.{pos}
-use Rattle.lists.specs.Entries.{nums}
-use Rattle.lists.specs.Ranges.{Below}
+use lib.{Arith.digits-div, Arith.digits-mod, ListN.length, ListN.getD, IntN.pos}
+use Rattle.lists.specs.{Entries.nums, Ranges.Below}
 use Rattle.lists.proofs.Entries.{tab-length, tab-at, below-tab}
 use Rattle.matrix.specs.Matrix.{rows, numsAt}
 

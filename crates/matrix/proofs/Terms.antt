@@ -6,8 +6,7 @@
 --   right-sums             row i of the sums of XS
 --   in-s, block-long, block-row   a block of rows of Y and their words, for row i of SY
 --   in-y, part-terms       a block as it lies in Y
-use mathlib.Core.Path.{_≡_, _∙_, sym, ap, ap₂}
-use mathlib.Core.List.{List}
+use mathlib.Core.{Path._≡_, Path._∙_, Path.sym, Path.ap, Path.ap₂, List.List}
 use Prim.Native.Nat.{ℕ, suc, _+_, _*_, _-_, _/_, _%_, _<_, _≤_}
 use native.Mathlib.Omega.{arith}
 use native.Mathlib.Nat.{mul-le-mul-right, mul-comm, mod-lt}
@@ -16,8 +15,7 @@ use lib.ListN.{length, getD, take, drop}
 use Rattle.numbers.specs.Sum.{sumℕ}
 use Rattle.numbers.proofs.Sums.{natural, sum-ext}
 use Rattle.lists.specs.Entries.{tab}
-use Rattle.lists.proofs.Entries.{tab-at, tab-ext}
-use Rattle.lists.proofs.Parts.{slice-long, slice-at}
+use Rattle.lists.proofs.{Entries.tab-at, Entries.tab-ext, Parts.slice-long, Parts.slice-at}
 use Rattle.matrix.specs.Steps.{turned, dotTerm, blockTerm, partTerm, blockGained}
 use Rattle.matrix.specs.Words.{gained, rightTerm, leftTerm}
 use Rattle.lists.proofs.Fill.{Filled, fill-rest}

@@ -10,8 +10,7 @@
 use mathlib.Core.List.{List}
 use Prim.Native.Nat.{ℕ, _+_, _*_, _/_, _%_}
 use lib.IntN.{ℤ, _+ℤ_, _*ℤ_}
-use Rattle.numbers.specs.Sum.{sumℤ}
-use Rattle.numbers.specs.Residue.{residue}
+use Rattle.numbers.specs.{Sum.sumℤ, Residue.residue}
 use Rattle.lists.specs.Entries.{tab, nums, ints}
 
 unfoldable pub times : ℕ → (ℕ → ℕ → ℤ) → (ℕ → ℕ → ℤ) → ℕ → ℕ → ℤ

@@ -6,10 +6,8 @@
 --   rightTerm, leftTerm the products for the entry k of XS, and for the entry k of SY
 use mathlib.Core.List.{List}
 use Prim.Native.Nat.{ℕ, _+_, _*_, _/_, _%_}
-use lib.ListN.{length, getD}
-use lib.IntN.{ℤ}
-use Rattle.numbers.specs.Sum.{sumℕ}
-use Rattle.numbers.specs.Residue.{residue}
+use lib.{ListN.length, ListN.getD, IntN.ℤ}
+use Rattle.numbers.specs.{Sum.sumℕ, Residue.residue}
 use Rattle.lists.specs.Entries.{tab, ints}
 
 unfoldable pub wordsOf : ℕ → List ℤ → List ℕ

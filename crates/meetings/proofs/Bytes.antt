@@ -3,17 +3,13 @@
 --   ByValue t, by-values   that link
 --   laid-link              and back: a link of sessions, laid out
 --   linking-bytes, same-key-bytes   as specs/Linked states them
-use mathlib.Core.Path.{_≡_, refl, _∙_, sym, ap, subst}
-use mathlib.Core.Bool.{false}
+use mathlib.Core.{Path._≡_, Path.refl, Path._∙_, Path.sym, Path.ap, Path.subst, Bool.false}
 use mathlib.Core.List.{List}
 use Prim.Native.Nat.{ℕ}
 use Rattle.schemes.specs.declared.Scheme.{Scheme}
 use Rattle.refusals.specs.Seen.{answer}
-use Rattle.agreement.specs.Run.{Run}
-use Rattle.agreement.specs.Exchange.{Rooms}
-use Rattle.session.specs.declared.Stage.{Stage}
-use Rattle.session.specs.declared.Session.{Session}
-use Rattle.session.specs.Table.{Call, step}
+use Rattle.agreement.specs.{Run.Run, Exchange.Rooms}
+use Rattle.session.specs.{declared.Stage.Stage, declared.Session.Session, Table.Call, Table.step}
 use Rattle.session.specs.Seen.{CallSeen, number, Turn, turn, moved}
 use Rattle.session.specs.Sequences.{Sound}
 use Rattle.session.proofs.Sequences.{step-sound}

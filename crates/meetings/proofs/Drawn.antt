@@ -2,19 +2,14 @@
 --   opening-is, secret-is, message-is, key-is, digest-is   what they wrote is Offer's and Reply's; peer-is, peer-digest: what Finish writes then
 --   sendable          what the random bytes make is sendable
 --   drawn-finishes, drawn   as specs/Drawn states them
-use mathlib.Core.Path.{_≡_, refl, _∙_, sym, ap}
-use mathlib.Core.List.{List}
+use mathlib.Core.{Path._≡_, Path._∙_, Path.sym, Path.ap, List.List}
 use Prim.Native.Nat.{ℕ, _≤_}
 use lib.ListN.{length}
-use Rattle.schemes.specs.Schemes.{fixedOf}
-use Rattle.schemes.specs.declared.Named.the-variants.{Known}
+use Rattle.schemes.specs.{Schemes.fixedOf, declared.Named.the-variants.Known}
 use Rattle.schemes.specs.declared.Scheme.{Scheme}
 use Rattle.lists.specs.Ranges.{Below}
-use Rattle.refusals.specs.Refusals.{numberIn}
-use Rattle.refusals.specs.Seen.{answer}
-use Rattle.refusals.specs.declared.Verdict.the-variants.{Pass}
-use Rattle.refusals.proofs.Laws.{number-zero, both}
-use Rattle.refusals.proofs.Seen.{written-answer}
+use Rattle.refusals.specs.{Refusals.numberIn, Seen.answer, declared.Verdict.the-variants.Pass}
+use Rattle.refusals.proofs.{Laws.number-zero, Laws.both, Seen.written-answer}
 use Rattle.noise.specs.declared.Ruled.{Ruled}
 use Rattle.values.proofs.Ranges.{offered-counted}
 use Rattle.wire.specs.Wire.{seedIn}
@@ -22,16 +17,14 @@ use Rattle.wire.proofs.Travel.{seed-back}
 use Rattle.offer.specs.Offer.{Offer, offerTests, offerMessage}
 use Rattle.offer.specs.Inside.{offerLengths, offerIn}
 use Rattle.offer.proofs.Offering.{offer-opens}
-use Rattle.reply.specs.Reply.{Reply, ReplySeen, replyOf, replyTests, replyMessage, replyKey, replyDigest, outputs}
+use Rattle.reply.specs.Reply.{Reply, ReplySeen, replyOf, replyMessage, replyKey, replyDigest, outputs}
 use Rattle.finish.specs.Finish.{FinishRooms, FinishSeen, finishTests, finishKey, finishShown}
-use Rattle.agreement.specs.Run.{Run, offering, replying, finishing}
-use Rattle.agreement.specs.Exchange.{Sendable}
+use Rattle.agreement.specs.{Run.Run, Run.replying, Run.finishing, Exchange.Sendable}
 use Rattle.agreement.proofs.Meeting.{own-published, keys-meet}
 use Rattle.agreement.proofs.Tests.{sendable-by, finish-passes}
 use Rattle.sponge.specs.Sponge.{sha3}
-use Rattle.exchange.specs.Random.{publicFrom}
+use Rattle.exchange.specs.{Random.publicFrom, Answer.answerReply, Answer.answerTests}
 use Rattle.exchange.specs.Open.{OpenSeen, openOffer, openTests, openShown}
-use Rattle.exchange.specs.Answer.{answerReply, answerTests}
 use Rattle.exchange.proofs.Shown.{open-offers, answer-replies}
 use Rattle.meetings.specs.Drawn.{Lendings, opening, answering, runOf, Opened, finishOn, Drawn, DrawnFinishes}
 

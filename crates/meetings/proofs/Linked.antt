@@ -4,13 +4,10 @@
 --   asked          what a link has asked of its sessions, rooms and inputs
 --   link           a link of two idle sessions
 --   linking, same-key   as specs/Linked states them
-use mathlib.Core.Path.{_≡_, refl, _∙_, sym, ap, ap₂}
-use mathlib.Core.Bool.{true}
-use mathlib.Core.List.{List}
+use mathlib.Core.{Path._≡_, Path.refl, Path._∙_, Path.sym, Path.ap, Path.ap₂, Bool.true, List.List}
 use Prim.Native.Nat.{ℕ}
 use borrow.Author.Tests.{eq-eqb}
-use Rattle.schemes.specs.Schemes.{schemeOf, schemeNumber}
-use Rattle.schemes.specs.declared.Named.the-variants.{Known}
+use Rattle.schemes.specs.{Schemes.schemeOf, Schemes.schemeNumber, declared.Named.the-variants.Known}
 use Rattle.schemes.specs.declared.Scheme.{Scheme}
 use Rattle.schemes.proofs.Laws.{by-number}
 use Rattle.refusals.specs.Seen.{Seen, answer}
@@ -23,11 +20,9 @@ use Rattle.agreement.specs.Exchange.{Sendable, Rooms, Enough, Exchange}
 use Rattle.agreement.specs.Exchange as exchange
 use Rattle.agreement.proofs.Accepted.{gave, none-refused}
 use Rattle.agreement.proofs.Meeting.{own-published, keys-meet}
-use Rattle.session.specs.declared.Stage.{Stage}
-use Rattle.session.specs.declared.Session.{Session}
+use Rattle.session.specs.{declared.Stage.Stage, declared.Session.Session, Sequences.beneath}
 use Rattle.session.specs.Table.{Call, offering, replying, finishing, whenIdle, row, keyed}
 use Rattle.session.specs.Seen.{CallSeen, ofOffer, ofReply, ofFinish, number, Turn, turn, moved}
-use Rattle.session.specs.Sequences.{beneath}
 use Rattle.session.proofs.Sequences.{answered, accepted}
 use Rattle.meetings.specs.Linked.{Link, linkedBy, Linking, SameKey}
 

@@ -1,17 +1,14 @@
 -- A meeting is an exchange of the whole-matrix calls.
 --   whole-offer, whole-reply   where an end is not refused, the parts have filled the rows, and it shows what the whole call shows
 --   by-rows, reached, every-cut   what is shown
-use mathlib.Core.Path.{_≡_, refl, sym, ap, subst}
+use mathlib.Core.{Path._≡_, Path.refl, Path.sym, Path.ap, Path.subst, List.List, List.[]}
 use mathlib.Core.Logic.{_⊎_, inl, inr}
-use mathlib.Core.List.{List, []}
 use Prim.Native.Nat.{ℕ}
 use native.Mathlib.Omega.{arith}
 use native.Mathlib.Decide.{ℕ-discrete}
 use lib.ListN.{length}
-use Rattle.schemes.specs.Schemes.{familyOf, fixedOf}
-use Rattle.schemes.specs.declared.Family.{Family}
-use Rattle.schemes.specs.declared.Named.the-variants.{Known}
-use Rattle.schemes.specs.declared.Scheme.{Scheme}
+use Rattle.schemes.specs.{Schemes.familyOf, Schemes.fixedOf, declared.Family.Family}
+use Rattle.schemes.specs.{declared.Named.the-variants.Known, declared.Scheme.Scheme}
 use Rattle.lists.specs.Ranges.{Below}
 use Rattle.refusals.specs.Seen.{Seen, answer, shown}
 use Rattle.refusals.specs.declared.Refusal.the-variants.{OutOfTurn}
@@ -20,11 +17,9 @@ use Rattle.offer.specs.Offer.{offerOf, offerTests, offerMessage, offerResult}
 use Rattle.reply.specs.Reply.{ReplyRooms, ReplySeen, replyOf, replyTests, outputs, replyResult}
 use Rattle.agreement.specs.Run.{Run, offering, replyTo}
 use Rattle.agreement.specs.Exchange.{Exchange, offers, replies, finishes}
-use Rattle.agreement.proofs.Accepted.{accepted}
-use Rattle.agreement.proofs.Agreement.{agreement}
+use Rattle.agreement.proofs.{Accepted.accepted, Agreement.agreement}
 use Rattle.agreement.proofs.Tests.{offer-passes, reply-passes}
-use Rattle.rows.specs.Offer.{OfferBegin, offerBeginOf}
-use Rattle.rows.specs.Reply.{ReplyBegin, replyBeginOf}
+use Rattle.rows.specs.{Offer.OfferBegin, Offer.offerBeginOf, Reply.ReplyBegin, Reply.replyBeginOf}
 use Rattle.rows.specs.Runs.{OfferRun, ReplyRun}
 use Rattle.rows.proofs.Offers.{same-offer, early-offer, offer-taken}
 use Rattle.rows.proofs.Replies.{same-reply, early-reply, reply-taken}

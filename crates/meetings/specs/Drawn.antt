@@ -7,11 +7,9 @@
 --   Drawn               the demand: where Finish refuses nothing either, and what the random bytes make is near, both keys are equal, and are the published bits;
 --                       so are both digests
 --   DrawnFinishes       with enough room Finish then refuses nothing
-use mathlib.Core.Path.{_≡_}
-use mathlib.Core.List.{List}
+use mathlib.Core.{Path._≡_, List.List}
 use Prim.Native.Nat.{ℕ, _≤_}
-use Rattle.schemes.specs.Schemes.{fixedOf}
-use Rattle.schemes.specs.declared.Named.the-variants.{Known}
+use Rattle.schemes.specs.{Schemes.fixedOf, declared.Named.the-variants.Known}
 use Rattle.schemes.specs.declared.Scheme.{Scheme}
 use Rattle.lists.specs.Ranges.{Below}
 use Rattle.refusals.specs.Seen.{answer}
@@ -19,8 +17,7 @@ use Rattle.noise.specs.declared.Ruled.{Ruled}
 use Rattle.offer.specs.Offer.{offerMessage}
 use Rattle.reply.specs.Reply.{ReplyRooms, ReplySeen}
 use Rattle.finish.specs.Finish.{FinishRooms, FinishSeen, finishOf, finishResult}
-use Rattle.agreement.specs.Run.{Run}
-use Rattle.agreement.specs.Agreement.{Near, publishedKey}
+use Rattle.agreement.specs.{Run.Run, Agreement.Near, Agreement.publishedKey}
 use Rattle.exchange.specs.Open.{OpenLent, OpenRooms, OpenSeen, openLentOf, openOffer, openResult}
 use Rattle.exchange.specs.Answer.{AnswerLent, answerLentOf, answerReply, answerResult}
 

@@ -9,19 +9,15 @@
 --   SameKey          under demand 3's premise both sessions are then linkedBy c x, and so hold the same key
 --   LinkingBytes     there is a link of two buffers exactly where both are idle sessions, the rooms are enough and the inputs are sendable
 --   SameKeyBytes     under demand 3's premise both buffers are then the same 130 bytes, linkedBy c x laid out
-use mathlib.Core.Path.{_≡_}
-use mathlib.Core.List.{List}
-use mathlib.Core.Logic.{_↔_}
+use mathlib.Core.{Path._≡_, List.List, Logic._↔_}
 use Prim.Native.Nat.{ℕ}
 use lib.ListN.{length}
-use Rattle.schemes.specs.Schemes.{schemeNumber}
-use Rattle.schemes.specs.declared.Scheme.{Scheme}
+use Rattle.schemes.specs.{Schemes.schemeNumber, declared.Scheme.Scheme}
 use Rattle.refusals.specs.Seen.{Seen, answer}
 use Rattle.reply.specs.Reply.{ReplySeen}
 use Rattle.finish.specs.Finish.{FinishSeen}
-use Rattle.agreement.specs.Run.{Run}
+use Rattle.agreement.specs.{Run.Run, Exchange.Sendable, Exchange.Rooms, Exchange.Enough}
 use Rattle.agreement.specs.Run as inputs
-use Rattle.agreement.specs.Exchange.{Sendable, Rooms, Enough}
 use Rattle.agreement.specs.Agreement.{Near, publishedKey}
 use Rattle.session.specs.declared.Session.{Session}
 use Rattle.session.specs.declared.Stage.the-variants.{Idle, Keyed}

@@ -6,8 +6,7 @@ use mathlib.Core.Path.{_≡_, refl, _∙_, sym, ap}
 use mathlib.Core.Bool.{Bool, true, false, cond}
 use Prim.Native.Nat.{ℕ, zero, suc, _+_, _*_, _-_, _/_, _%_, _<_, _≤_}
 use native.Mathlib.Omega.{arith}
-use lib.Dec.{ltb}
-use lib.IntN.{pos, _-ℤ_, +ℤ-invr}
+use lib.{Dec.ltb, IntN.pos, IntN._-ℤ_, IntN.+ℤ-invr}
 use borrow.Author.Tests.{ltb-true, ltb-false, le-leb, lt-leb}
 use Rattle.numbers.specs.Residue.{residue, apart}
 use Rattle.newhope.specs.declared.Four.{Four}

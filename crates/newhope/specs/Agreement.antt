@@ -7,9 +7,7 @@
 --   Published    and the replier's is the published one
 --   Sharp        one more, and the bits can differ
 --   EveryGroup   both ends have the same bits where the margin holds in each of the 256 groups
-use mathlib.Core.Path.{_≡_}
-use mathlib.Core.List.{List}
-use mathlib.Core.Logic.{_↔_}
+use mathlib.Core.{Path._≡_, List.List, Logic._↔_}
 use Prim.Native.Nat.{ℕ, _+_, _≤_, _<_}
 use Rattle.lists.specs.Ranges.{Below}
 use Rattle.numbers.specs.Residue.{apart}

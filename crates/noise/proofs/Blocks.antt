@@ -3,20 +3,16 @@
 --   stored-more   some at the front, and then those behind them
 --   stored-tab    all of them
 --   wide-fits, wide   a number of 16 bits in 32
-use mathlib.Core.Path.{_≡_, _∙_, sym, ap}
-use mathlib.Core.List.{List}
+use mathlib.Core.{Path._≡_, Path._∙_, Path.sym, Path.ap, List.List}
 use Prim.Native.Nat.{ℕ, _+_, _-_, _<_, _≤_}
 use native.Mathlib.Omega.{arith}
 use native.Mathlib.Decide.{decLt}
-use lib.IntN.{ℤ}
-use lib.ListN.{length, getD}
+use lib.{IntN.ℤ, ListN.length, ListN.getD}
 use mir.Facts.{toZ-ofZ, sfits-widen}
 use mir.Syntax.{w16, w32}
 use mir.Val.{SFits, toZ, ofZ}
-use Rattle.lists.specs.Entries.{tab}
-use Rattle.lists.specs.Ranges.{Stored}
-use Rattle.lists.proofs.Entries.{tab-getD, tab-ext}
-use Rattle.lists.proofs.Stored.{front-at}
+use Rattle.lists.specs.{Entries.tab, Ranges.Stored}
+use Rattle.lists.proofs.{Entries.tab-getD, Entries.tab-ext, Stored.front-at}
 
 module _ {A : Type 0} {z : A} where
   pub stored-same : {w w′ : List A} {to n : ℕ} {f : ℕ → A} (g : ℕ → A) → Stored z w to n f w′ → ((k : ℕ) → k < n → f k ≡ g k) → Stored z w to n g w′

@@ -4,15 +4,13 @@
 --   away-none       it is 0 where x has the mark
 --   Arc             x stands in a stretch lo .. hi - 1 of numbers without the mark, and both neighbours of the stretch have it
 --   away-arc        then it is the way to the nearer end
-use mathlib.Core.Path.{_≡_}
-use mathlib.Core.Bool.{Bool, true}
+use mathlib.Core.{Path._≡_, Bool.Bool, Bool.true}
 use Prim.Native.Nat.{ℕ, _+_, _-_, _≤_, _<_, min}
 use native.Mathlib.Decide.{decLt, decLe, ℕ-discrete}
 use native.Mathlib.Nat.{le-refl, le-trans}
 use native.Mathlib.Omega.{arith}
-use Rattle.numbers.specs.Residue.{apart}
+use Rattle.numbers.specs.{Residue.apart, Least.nearestTo, Least.gapTo}
 use Rattle.numbers.specs.Congruence.{Close, direct, over, under}
-use Rattle.numbers.specs.Least.{nearestTo, gapTo}
 use Rattle.numbers.proofs.Circle.{apart-close, close-apart, apart-self}
 use Rattle.numbers.proofs.Least.{Least, least-below}
 

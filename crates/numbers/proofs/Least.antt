@@ -1,8 +1,7 @@
 -- The search of `specs/Least.antt` finds a least number among those with the mark.
 --   Least f p n z   z is at most n and has the mark where it is below n; where a number below n has the mark, z is below n, and f is no less there than at z
 --   least-below     `leastBelow f p n` is such a z
-use mathlib.Core.Path.{_≡_, refl}
-use mathlib.Core.Bool.{Bool, true, false}
+use mathlib.Core.{Path._≡_, Path.refl, Bool.Bool, Bool.true, Bool.false}
 use Prim.Native.Nat.{ℕ, zero, suc, _≤_, _<_}
 use native.Mathlib.Nat.{not-suc-le-zero}
 use native.Mathlib.Numerals.{add-one}

@@ -8,15 +8,12 @@ use mathlib.Core.Path.{_≡_, sym, ap, _∙_}
 use Prim.Native.Nat.{ℕ, _≤_}
 use native.Mathlib.Omega.{arith}
 use lib.ListN.{length}
-use Rattle.schemes.specs.Schemes.{fixedOf}
-use Rattle.schemes.specs.declared.Named.{Named}
+use Rattle.schemes.specs.{Schemes.fixedOf, declared.Named.Named, declared.Scheme.Scheme}
 use Rattle.schemes.specs.declared.Named.the-variants.{Known, Unknown}
-use Rattle.schemes.specs.declared.Scheme.{Scheme}
 use Rattle.schemes.proofs.Sound.{sound}
 use Rattle.refusals.specs.Refusals.{_then_, publicsIn, notBlank, secretsIn}
-use Rattle.refusals.specs.declared.Verdict.{Verdict}
+use Rattle.refusals.specs.{declared.Verdict.Verdict, declared.Refusal.Refusal}
 use Rattle.refusals.specs.declared.Verdict.the-variants.{Pass, Fail}
-use Rattle.refusals.specs.declared.Refusal.{Refusal}
 use Rattle.refusals.specs.declared.Refusal.the-variants.{NoScheme}
 use Rattle.refusals.proofs.Laws.{both, all-pass, length-passed, room-passed, publics-passed, secrets-passed, then-assoc, failed, before-failed, before-passed}
 use Rattle.values.specs.Fit.{Counted, Small}

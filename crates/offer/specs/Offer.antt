@@ -7,17 +7,13 @@
 --   offer, offerOf      what is lent, from the slices of a contract, and from lists
 use mathlib.Core.List.{List, []}
 use Prim.Native.Nat.{ℕ}
-use lib.IntN.{ℤ}
-use lib.ListN.{length}
-use Rattle.schemes.specs.Schemes.{fixedOf}
-use Rattle.schemes.specs.declared.Scheme.{Scheme}
-use Rattle.schemes.specs.declared.Named.{Named}
+use lib.{IntN.ℤ, ListN.length}
+use Rattle.schemes.specs.{Schemes.fixedOf, declared.Scheme.Scheme, declared.Named.Named}
 use Rattle.schemes.specs.declared.Named.the-variants.{Known, Unknown}
 use Rattle.lists.specs.Lent.{Lent, was}
 use Rattle.packing.specs.Packing.{packed}
 use Rattle.refusals.specs.Refusals.{_then_, lengthIs, roomFor, publicsIn, notBlank, secretsIn}
-use Rattle.refusals.specs.Seen.{Seen, shown}
-use Rattle.refusals.specs.declared.Verdict.{Verdict}
+use Rattle.refusals.specs.{Seen.Seen, Seen.shown, declared.Verdict.Verdict}
 use Rattle.refusals.specs.declared.Verdict.the-variants.{Fail}
 use Rattle.refusals.specs.declared.Refusal.the-variants.{NoScheme}
 use Rattle.values.specs.Values.{offered}

@@ -17,8 +17,7 @@ use mir.Syntax.{w64}
 use mir.Val.{Fits}
 use lib.ListN.{length, take, drop, set, length-append, length-drop, drop-of-length-le}
 use lib.Seq.{append-snoc, drop-drop, length-take-le, set-split, take-all, take-at}
-use lib.Pow.{pow-add, pow-mono, pow-pos, shl-exact, shr-lt}
-use lib.Arith.{digits-lt}
+use lib.{Pow.pow-add, Pow.pow-mono, Pow.pow-pos, Pow.shl-exact, Pow.shr-lt, Arith.digits-lt}
 use Rattle.numbers.proofs.Natural.{power-power}
 use Rattle.packing.specs.Packing.{value, digits}
 use Rattle.packing.proofs.Laws.{value-split, digits-append, digits-length, digits-low}

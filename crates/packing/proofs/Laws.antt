@@ -24,9 +24,8 @@ use mathlib.Core.List.{List, [], _∷_, _++_}
 use Prim.Native.Nat.{ℕ, zero, suc, _+_, _*_, _/_, _^_, _≤_, _<_}
 use native.Mathlib.Nat.{mod-lt, div-add-mod', div-lt-iff-lt-mul, div-div-eq-div-mul, add-mul-div-left, add-mul-mod-self-left, one-le-pow, pow-zero, pow-suc, pow-succ', mul-assoc, add-assoc, add-zero, zero-add, suc-add, div-one, mod-one}
 use native.Mathlib.Omega.{arith}
-use lib.ListN.{length, getD, take, drop, replicate}
+use lib.{ListN.length, ListN.getD, ListN.take, ListN.drop, ListN.replicate, Pow.pow-pos}
 use lib.Seq.{getD-drop, drop-drop, take-all, take-nil}
-use lib.Pow.{pow-pos}
 use lib.Arith.{digits-div, digits-mod, digits-lt, lt-one}
 use Rattle.numbers.proofs.Natural.{power-power}
 use Rattle.lists.specs.Ranges.{Below}

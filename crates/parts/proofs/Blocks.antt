@@ -4,16 +4,14 @@
 --   columns-row, columns-met   of S' only the columns that they meet
 --   right-put, right-back   Offer: the 8 r sums of these rows are exchanged, and no other; as they lie, two in each number
 --   left-is         Reply: of all rows of A it is these that meet something
-use mathlib.Core.Path.{_≡_, _∙_, sym, ap, ap₂}
-use mathlib.Core.List.{List, _++_}
+use mathlib.Core.{Path._≡_, Path._∙_, Path.sym, Path.ap, Path.ap₂, List.List, List._++_}
 use Prim.Native.Nat.{ℕ, _+_, _*_, _-_, _/_, _%_, _<_, _≤_}
 use native.Mathlib.Omega.{arith}
 use native.Mathlib.Nat.{mul-le-mul-right, mod-eq-of-lt, mod-lt, mul-add-div-right, mul-add-mod-self-right, div-lt-iff-lt-mul, le-div-iff-mul-le}
 use lib.ListN.{length, getD, take, drop}
 use Rattle.numbers.specs.Sum.{sumℕ}
 use Rattle.numbers.proofs.Sums.{natural, sum-ext, sum-none, sum-split}
-use Rattle.lists.specs.Entries.{tab}
-use Rattle.lists.specs.Ranges.{Below}
+use Rattle.lists.specs.{Entries.tab, Ranges.Below}
 use Rattle.lists.proofs.Entries.{tab-ext, tab-at, tab-getD, below-tab}
 use lib.Arith.{digits-lt, digits-div, digits-mod}
 use Rattle.lists.proofs.Parts.{part-long, part-at, slice-long, slice-at}

@@ -14,8 +14,7 @@ use lib.Seq.{getD-append-add}
 use Rattle.numbers.specs.Sum.{sumℕ}
 use Rattle.numbers.proofs.Sums.{natural, sum-ext, sum-add, sum-none}
 use Rattle.lists.specs.Entries.{tab}
-use Rattle.lists.proofs.Entries.{tab-ext, tab-getD}
-use Rattle.lists.proofs.Same.{equal-all}
+use Rattle.lists.proofs.{Entries.tab-ext, Entries.tab-getD, Same.equal-all}
 use Rattle.matrix.specs.Words.{gained, rightTerm, leftTerm}
 use Rattle.matrix.proofs.Steps.{gained-length, gained-at, wrapped}
 use Rattle.matrix.proofs.Whole.{right-any, left-any}

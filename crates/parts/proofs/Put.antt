@@ -1,7 +1,6 @@
 -- m entries of a list from entry a on, exchanged.
 --   put-tab   the list is then a table, where what stands before, in and behind them is its entries
-use mathlib.Core.Path.{_≡_, _∙_, sym, ap}
-use mathlib.Core.List.{List, _++_}
+use mathlib.Core.{Path._≡_, Path._∙_, Path.sym, Path.ap, List.List, List._++_}
 use Prim.Native.Nat.{ℕ, _+_, _-_, _<_, _≤_}
 use native.Mathlib.Omega.{arith}
 use native.Mathlib.Decide.{decLt}

@@ -12,13 +12,10 @@ use mathlib.Core.List.{List, [], _∷_, _++_}
 use Prim.Native.Nat.{ℕ, zero, suc, _+_, _*_, _-_, _/_, _%_, _<_, _≤_}
 use native.Mathlib.Omega.{arith}
 use native.Mathlib.Nat.{mod-lt}
-use lib.ListN.{length, getD, set, take, drop}
-use lib.Seq.{ext-getD, drop-drop}
-use Rattle.lists.specs.Entries.{tab}
-use Rattle.lists.specs.Ranges.{Below}
+use lib.{ListN.length, ListN.getD, ListN.set, ListN.take, ListN.drop, Seq.ext-getD, Seq.drop-drop}
+use Rattle.lists.specs.{Entries.tab, Ranges.Below}
 use Rattle.lists.proofs.Entries.{tab-at, tab-length, tab-ext, tab-getD}
-use Rattle.lists.proofs.Parts.{slice-long, part-at}
-use Rattle.lists.proofs.Same.{append-all}
+use Rattle.lists.proofs.{Parts.slice-long, Parts.part-at, Same.append-all}
 use Rattle.parts.specs.Parts.{wrap, words, pairs}
 
 pub words-long : (xs : List ℕ) → length (words xs) ≡ 2 * length xs

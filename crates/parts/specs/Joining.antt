@@ -4,11 +4,9 @@
 --   SoFar        the sums of the numbers xs that have come, then the part p behind them, are those of xs ++ p
 --   Nothing      an empty part changes nothing
 --   WholeRight, WholeLeft   once all of A has come, the remainders of the sums are AS + E, and S'A + E'
-use mathlib.Core.Path.{_≡_}
-use mathlib.Core.List.{List, [], _++_}
+use mathlib.Core.{Path._≡_, List.List, List.[], List._++_}
 use Prim.Native.Nat.{ℕ, _+_, _*_, _%_, _<_}
-use lib.ListN.{length, getD}
-use lib.IntN.{ℤ}
+use lib.{ListN.length, ListN.getD, IntN.ℤ}
 use Rattle.lists.specs.Ranges.{Below}
 use Rattle.matrix.specs.Matrix.{rightMixed, leftMixed}
 use Rattle.matrix.specs.Words.{wordsOf, columnsOf, gained, reduced, rightTerm, leftTerm}

@@ -8,20 +8,17 @@ use mathlib.Core.Bool.{Bool, true, false}
 use mathlib.Core.Path.{_≡_, refl, _∙_, sym, ap, ap₂, subst}
 use Prim.Native.Nat.{ℕ, _+_, _*_, _-_, _/_, _%_, _^_, _≤_, _<_}
 use native.Mathlib.Omega.{arith}
-use lib.Dec.{ltb}
+use lib.{Dec.ltb, IntN.ℤ, IntN.pos, IntN.natAbs, IntN._+ℤ_, IntN._-ℤ_, IntN._*ℤ_}
 use native.Mathlib.Decide.{decLt}
 use native.Mathlib.Nat.{div-add-mod}
 use borrow.Author.Tests.{ltb-true, ltb-false, lt-ltb, le-ltb}
-use lib.IntN.{ℤ, pos, natAbs, _+ℤ_, _-ℤ_, _*ℤ_}
 use mir.Syntax.{w16, w32}
 use mir.Val.{SFits, toZ, ofZ, boolByte}
 use mir.Facts.{toZ-ofZ, sfits-widen}
-use Rattle.numbers.specs.Residue.{residue}
-use Rattle.numbers.specs.Congruence.{_≅⟨_⟩_}
+use Rattle.numbers.specs.{Residue.residue, Congruence._≅⟨_⟩_}
 use Rattle.numbers.proofs.Difference.{diff, pos-diff, pos-sub, diff-≡, diff-ge, diff-lt, diffs, diff-add}
-use Rattle.numbers.proofs.Size.{abs-difference}
+use Rattle.numbers.proofs.{Size.abs-difference, Machine.toZ-pos}
 use Rattle.numbers.proofs.Congruence.{eq-≅, _⨾_, sym-≅, residue-is}
-use Rattle.numbers.proofs.Machine.{toZ-pos}
 use Rattle.polynomial.specs.Window.{lift, upper, lower}
 
 pub upper-small : (y : ℕ) → y < 2 ^ 32 → natAbs (upper y) ≤ 32768

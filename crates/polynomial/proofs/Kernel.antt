@@ -8,13 +8,11 @@
 --   times-*, both-*          65536 times one sum, and another
 --   noise-*                  a sum and the noise
 --   plus-*                   two numbers of one type
-use mathlib.Core.Path.{_≡_, refl, sym, ap, ap₂, _∙_, subst}
-use mathlib.Core.List.{List}
+use mathlib.Core.{Path._≡_, Path.refl, Path.sym, Path.ap, Path.ap₂, Path._∙_, Path.subst, List.List}
 use Prim.Native.Nat.{ℕ, _+_, _*_, _^_, _≤_, _<_}
 use native.Mathlib.Omega.{arith}
 use native.Mathlib.Nat.{mul-le-mul, le-refl}
-use lib.ListN.{getD, length}
-use lib.IntN.{ℤ, pos, natAbs, _+ℤ_, _*ℤ_, +ℤ-idl}
+use lib.{ListN.getD, ListN.length, IntN.ℤ, IntN.pos, IntN.natAbs, IntN._+ℤ_, IntN._*ℤ_, IntN.+ℤ-idl}
 use lib.Signed.{natAbs-le}
 use mir.Syntax.{Width, w16, w32, w64}
 use mir.Val.{SFits, toZ, ofZ, hbits}

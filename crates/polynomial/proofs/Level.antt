@@ -11,8 +11,7 @@
 --   low-*, high-*, middle-* what these three are lent, and what they make
 --   few-size                where there are many secrets, none is large
 --   ready-at, made-at       by another count
-use mathlib.Core.Path.{_≡_, refl, _∙_, sym, ap, ap₂, subst}
-use mathlib.Core.List.{List}
+use mathlib.Core.{Path._≡_, Path.refl, Path._∙_, Path.sym, Path.ap, Path.ap₂, Path.subst, List.List}
 use Prim.Native.Nat.{ℕ, _+_, _-_, _*_, _^_, _<_, _≤_}
 use native.Mathlib.Omega.{arith}
 use native.Mathlib.Decide.{decLt}
@@ -23,16 +22,14 @@ use mir.Syntax.{Width}
 use mir.Val.{SFits, toZ, ofZ, hbits}
 use lib.IntN.{ℤ, pos, natAbs, _+ℤ_, _-ℤ_, _*ℤ_}
 use borrow.Author.Count.{below-more}
-use Rattle.numbers.specs.Residue.{residue}
-use Rattle.numbers.specs.Congruence.{_≅⟨_⟩_}
+use Rattle.numbers.specs.{Residue.residue, Congruence._≅⟨_⟩_}
 use Rattle.numbers.proofs.Congruence.{eq-≅, _⨾_, add-≅, residue-lt, residue-≅}
 use Rattle.numbers.proofs.Difference.{as-diff, diff-≡, diffs}
 use Rattle.numbers.proofs.Size.{abs-add, abs-mul, abs-mul-≤, abs-sum}
 use Rattle.numbers.proofs.Sums.{whole, sum-ext, sum-add, sum-mul-right}
-use Rattle.lists.specs.Entries.{nums, ints}
+use Rattle.lists.specs.{Entries.nums, Entries.ints, Ranges.Stored}
 use Rattle.lists.proofs.Parts.{slice-long, slice-at, front-long, part}
 use Rattle.polynomial.specs.Window.{lift, upper, lower, dot, span, slide, Pair}
-use Rattle.lists.specs.Ranges.{Stored}
 use Rattle.polynomial.specs.Steps.{Few, Ready, Prepared, Halved, Made, Joined}
 use Rattle.polynomial.proofs.Halves.{upper-small, lower-small, lift-lt, halves-≅}
 use Rattle.polynomial.proofs.Three.{slide-≅, three-low, three-high, few-low, few-high, few-middle, few-ext}

@@ -3,8 +3,7 @@
 --   rest-long, part-entry    the part from entry a on: how long, and which entries
 --   put-long, put-below, put-inside   what was lent from entry a on is put back
 --   take-within              the first m entries, where each of them is small
-use mathlib.Core.Path.{_≡_, refl, _∙_, sym, ap}
-use mathlib.Core.List.{List}
+use mathlib.Core.{Path._≡_, Path.refl, Path._∙_, Path.sym, Path.ap, List.List}
 use Prim.Native.Nat.{ℕ, _+_, _-_, _<_, _≤_}
 use native.Mathlib.Omega.{arith}
 use native.Mathlib.Decide.{decLt}
@@ -12,8 +11,7 @@ use lib.ListN.{length, getD, take, drop, length-take, length-drop, List·getD-ap
 use lib.Seq.{getD-take, getD-drop, getD-append-add, length-take-le}
 use lib.IntN.{ℤ, pos, natAbs}
 use borrow.Rule.Slice.PartMut.{putMid, same-len-mid}
-use Rattle.lists.specs.Entries.{ints}
-use Rattle.lists.specs.Ranges.{Within}
+use Rattle.lists.specs.{Entries.ints, Ranges.Within}
 use Rattle.lists.proofs.Parts.{to-end}
 
 pub ints-is : (o : List ℤ) (k : ℕ) → ints o k ≡ getD o k (pos 0)

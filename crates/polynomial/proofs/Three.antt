@@ -7,12 +7,10 @@ use Prim.Native.Nat.{ℕ, _+_, _<_}
 use native.Mathlib.Omega.{arith}
 use lib.IntN.{ℤ, _+ℤ_, _-ℤ_, _*ℤ_, +ℤ-comm}
 use Rattle.numbers.specs.Congruence.{_≅⟨_⟩_}
-use Rattle.numbers.proofs.Congruence.{mul-≅, sum-≅, eq-≅}
+use Rattle.numbers.proofs.{Congruence.mul-≅, Congruence.sum-≅, Congruence.eq-≅, Size.abs-add}
 use Rattle.numbers.proofs.Difference.{as-diff, diff-≡, diffs}
-use Rattle.numbers.proofs.Size.{abs-add}
 use Rattle.numbers.proofs.Sums.{whole, sum-ext, sum-add, sum-split}
-use Rattle.polynomial.specs.Window.{dot, slide}
-use Rattle.polynomial.specs.Steps.{Few}
+use Rattle.polynomial.specs.{Window.dot, Window.slide, Steps.Few}
 
 pub slide-≅ :
     {q : ℕ} (n : ℕ) (w v s t : ℕ → ℤ) (k : ℕ) → k < n → ((i : ℕ) → i + 1 < n + n → w i ≅⟨ q ⟩ v i) → ((j : ℕ) → j < n → s j ≡ t j) → slide n w s k ≅⟨ q ⟩ slide n v t k

@@ -6,8 +6,7 @@ use mathlib.Core.List.{List}
 use Prim.Native.Nat.{ℕ, _<_, _≤_}
 use lib.IntN.{ℤ, natAbs, _+ℤ_, _-ℤ_}
 use Rattle.numbers.specs.Congruence.{_≅⟨_⟩_}
-use Rattle.lists.specs.Entries.{nums, ints}
-use Rattle.lists.specs.Ranges.{Within}
+use Rattle.lists.specs.{Entries.nums, Entries.ints, Ranges.Within}
 use Rattle.polynomial.specs.Product.{product, mixed, bare}
 
 unfoldable pub difference : ℕ → List ℤ → List ℤ → List ℤ → List ℤ → List ℤ → ℕ → ℤ

@@ -5,17 +5,14 @@
 --   called          so as the code lends them
 --   close-stopped, closed   Close
 --   clear-not, clear-done   Clear; laid-empty   the numbers into zeros
-use mathlib.Core.Path.{_≡_, _∙_, sym, ap, ap₂}
-use mathlib.Core.Bool.{true, false}
+use mathlib.Core.{Path._≡_, Path._∙_, Path.sym, Path.ap, Path.ap₂, Bool.true, Bool.false}
 use mathlib.Core.List.{List, _∷_, _++_}
 use Prim.Native.Nat.{ℕ, suc, _+_, _*_, _<_}
 use native.Mathlib.Omega.{arith}
 use native.Mathlib.Numerals.{add-one}
 use lib.ListN.{length, set, take, drop, replicate}
 use borrow.Author.Tests.{eq-eqb, ne-eqb}
-use Rattle.refusals.specs.Seen.{done}
-use Rattle.refusals.specs.declared.Refusal.{Refusal}
-use Rattle.refusals.specs.declared.Verdict.{Verdict}
+use Rattle.refusals.specs.{Seen.done, declared.Refusal.Refusal, declared.Verdict.Verdict}
 use Rattle.refusals.specs.declared.Verdict.the-variants.{Pass, Fail}
 use Rattle.session.specs.Table.{Call, closing}
 use Rattle.session.specs.Seen.{CallSeen, ofClose, toldBy, shownBy, turn}

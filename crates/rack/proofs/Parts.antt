@@ -15,13 +15,11 @@ use lib.ListN.{length, getD, set, take, drop, replicate, length-replicate, lengt
 use lib.Seq.{take-append-le, drop-append-le, drop-drop, length-take-le, drop-at, take-at}
 use borrow.Author.Tests.{eqb-true, ltb-true, eq-eqb, ne-eqb, lt-ltb, le-ltb}
 use Rattle.lists.proofs.Parts as parts
-use Rattle.refusals.specs.Refusals.{_then_}
-use Rattle.refusals.specs.declared.Refusal.{Refusal}
+use Rattle.refusals.specs.{Refusals._then_, declared.Refusal.Refusal}
 use Rattle.refusals.specs.declared.Refusal.the-variants.{OutOfStage, NoStudio}
 use Rattle.refusals.specs.declared.Verdict.the-variants.{Pass, Fail}
 use Rattle.refusals.proofs.Laws.{differ, both}
-use Rattle.session.specs.Table.{Call, step}
-use Rattle.session.specs.Seen.{CallSeen, turn, moved}
+use Rattle.session.specs.{Table.Call, Table.step, Seen.CallSeen, Seen.turn, Seen.moved}
 use Rattle.session.proofs.Sequences.{step-sound}
 use Rattle.session_bytes.specs.declared.Found.{Found}
 use Rattle.session_bytes.specs.declared.Found.the-variants.{At, Nowhere}

@@ -1,22 +1,17 @@
 -- The theorems of specs/Shown.
 --   turned, numbered, slotwise, untouched, blind, wiped, alone, run-rack, emptied; threads is in Calls
 use mathlib.Core.Path.{_≡_, refl, _∙_, sym, ap, subst}
-use mathlib.Core.Bool.{Bool, true, false, cond}
-use mathlib.Core.List.{List, [], _∷_}
+use mathlib.Core.{Bool.Bool, Bool.true, Bool.false, Bool.cond, List.List, List.[], List._∷_}
 use Prim.Native.Nat.{ℕ, zero, suc, _<_}
 use native.Mathlib.Omega.{arith}
-use lib.Dec.{eqb}
-use lib.ListN.{length, getD, drop, replicate}
+use lib.{Dec.eqb, ListN.length, ListN.getD, ListN.drop, ListN.replicate}
 use borrow.Author.Tests.{eqb-true, eqb-false}
-use Rattle.refusals.specs.Seen.{ifPassed, done}
-use Rattle.refusals.specs.declared.Verdict.{Verdict}
+use Rattle.refusals.specs.{Seen.ifPassed, Seen.done, declared.Verdict.Verdict}
 use Rattle.refusals.specs.declared.Verdict.the-variants.{Pass, Fail}
-use Rattle.session.specs.Table.{Call, closing, noKey}
+use Rattle.session.specs.{Table.Call, Table.closing, Table.noKey, Sequences.RanBy}
 use Rattle.session.specs.Table as table
 use Rattle.session.specs.Seen.{CallSeen, ofClose, shownBy, Turn, turn}
-use Rattle.session.specs.Sequences.{RanBy}
-use Rattle.session_bytes.specs.Bytes.{bytesOf, closes, movedBytes}
-use Rattle.session_bytes.specs.Shown.{RanBytes}
+use Rattle.session_bytes.specs.{Bytes.bytesOf, Bytes.closes, Bytes.movedBytes, Shown.RanBytes}
 use Rattle.session_bytes.proofs.Bytes as sessions
 use Rattle.rack.specs.Slots.{part, inside, rackIs, slotTests, Owned, movedBy, movedIn, emptyFrom, emptyRack}
 use Rattle.rack.specs.Shown.{own, views, Turned, Numbered, Slotwise, Untouched, Blind, Wiped, Alone, RunRack, Emptied}

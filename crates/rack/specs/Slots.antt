@@ -9,19 +9,15 @@
 --   movedIn bs i x     the promise of every call of a studio: its slot's tests, and then what the call on the session's bytes leads to and shows
 --   emptyRack          eight idle records with their numbers
 --   ClearSeen, cleared bs   what is seen of clear, and its promise
-use mathlib.Core.Path.{_≡_}
-use mathlib.Core.Bool.{Bool, true, false, cond}
+use mathlib.Core.{Path._≡_, Bool.Bool, Bool.true, Bool.false, Bool.cond}
 use mathlib.Core.List.{List, [], _∷_, _++_}
 use Prim.Native.Nat.{ℕ, zero, suc, _*_}
-use lib.Dec.{eqb, ltb}
-use lib.ListN.{length, getD, take, drop, replicate}
-use Rattle.refusals.specs.Refusals.{numberIn, placeIn, _then_}
-use Rattle.refusals.specs.Seen.{ifPassed}
+use lib.{Dec.eqb, Dec.ltb, ListN.length, ListN.getD, ListN.take, ListN.drop, ListN.replicate}
+use Rattle.refusals.specs.{Refusals.numberIn, Refusals.placeIn, Refusals._then_, Seen.ifPassed}
 use Rattle.refusals.specs.declared.Refusal.the-variants.{OutOfStage, NoStudio}
 use Rattle.refusals.specs.declared.Verdict.{Verdict}
 use Rattle.refusals.specs.declared.Verdict.the-variants.{Pass, Fail}
-use Rattle.session.specs.Table.{Call}
-use Rattle.session.specs.Seen.{shownBy, Turn, turn}
+use Rattle.session.specs.{Table.Call, Seen.shownBy, Seen.Turn, Seen.turn}
 use Rattle.session_bytes.specs.Bytes.{closes, movedBytes}
 
 abbrev pub part : List ℕ → ℕ → List ℕ

@@ -1,13 +1,9 @@
 -- What holds of the number of a chain of tests, if it holds of each test's: which refusals cannot arise.
 --   and, passes                           a test and those after it; a test that passes
 --   lengths, rooms, publics, secrets, blanks   each kind of test
-use mathlib.Core.Path.{_≡_, refl}
-use mathlib.Core.Bool.{Bool, true, false, cond}
-use mathlib.Core.List.{List}
+use mathlib.Core.{Path._≡_, Path.refl, Bool.Bool, Bool.true, Bool.false, Bool.cond, List.List}
 use Prim.Native.Nat.{ℕ}
-use lib.Dec.{eqb, leb, ltb}
-use lib.IntN.{ℤ}
-use lib.ListN.{length}
+use lib.{Dec.eqb, Dec.leb, Dec.ltb, IntN.ℤ, ListN.length}
 use Rattle.lists.specs.First.{firstOver, firstBeyond}
 use Rattle.blank.specs.Blank.{blank}
 use Rattle.refusals.specs.Refusals.{_then_, lengthIs, roomFor, publicsIn, notBlank, secretsIn, numberIn}

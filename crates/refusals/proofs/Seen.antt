@@ -16,15 +16,12 @@ use native.Mathlib.Omega.{arith}
 use lib.ListN.{length, take, drop, replicate, getD, length-replicate, length-append}
 use lib.Seq.{take-append-seam}
 use Rattle.lists.proofs.Same.{restored, append-all, equal-all}
-use Rattle.refusals.specs.Refusals.{numberOf}
-use Rattle.refusals.specs.Seen.{output, written, answer, Told, done, refused, told, Seen, shown, seen, One, SeenAll, ToldAll}
-use Rattle.refusals.specs.declared.Answer.{Answer}
+use Rattle.refusals.specs.{Refusals.numberOf, declared.Refusal.Refusal}
+use Rattle.refusals.specs.Seen.{output, written, answer, Told, done, refused, Seen, shown, seen, One, SeenAll, ToldAll}
 use Rattle.refusals.specs.declared.Answer.the-variants.{Done, Refused}
-use Rattle.refusals.specs.declared.Refusal.{Refusal}
 use Rattle.refusals.specs.declared.Verdict.{Verdict}
 use Rattle.refusals.specs.declared.Verdict.the-variants.{Pass, Fail}
-use Rattle.refusals.proofs.Laws.{some, number-zero}
-use Rattle.refusals.proofs.Same.{same-refusal}
+use Rattle.refusals.proofs.{Laws.some, Laws.number-zero, Same.same-refusal}
 
 drop-zeros : {A : Type 0} (z : A) (m n : ℕ) → drop m (replicate n z) ≡ replicate (n - m) z
 drop-zeros z zero n = simp sub-zero

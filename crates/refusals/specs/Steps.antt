@@ -2,14 +2,10 @@
 --   v before w      v then w, where v is not looked at unless w fails: of tests that all passed it says only that w has
 --   Laid v xs out   a step that is lent a part of an output leaves xs there, and after a refusal what was there
 --   outcome v p     what a step hands on: p, or the refusal
-use mathlib.Core.Path.{_≡_}
-use mathlib.Core.List.{List}
+use mathlib.Core.{Path._≡_, List.List}
 use Prim.Native.Nat.{ℕ}
-use Rattle.lists.specs.Lent.{Lent, was, left}
-use Rattle.lists.specs.declared.Peak.{Peak}
-use Rattle.refusals.specs.Refusals.{_then_}
-use Rattle.refusals.specs.Seen.{ifPassed}
-use Rattle.refusals.specs.declared.Outcome.{Outcome}
+use Rattle.lists.specs.{Lent.Lent, Lent.was, Lent.left, declared.Peak.Peak}
+use Rattle.refusals.specs.{Refusals._then_, Seen.ifPassed, declared.Outcome.Outcome}
 use Rattle.refusals.specs.declared.Outcome.the-variants.{Slack, Refused}
 use Rattle.refusals.specs.declared.Verdict.{Verdict}
 use Rattle.refusals.specs.declared.Verdict.the-variants.{Pass, Fail}

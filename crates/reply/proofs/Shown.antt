@@ -2,10 +2,9 @@
 use mathlib.Core.Path.{sym, ap, _∙_}
 use Rattle.schemes.proofs.Sound.{sound}
 use Rattle.refusals.specs.Seen.{Told}
-use Rattle.refusals.proofs.Laws.{both}
-use Rattle.refusals.proofs.Seen.{same-counts, same-refused, never-both}
+use Rattle.refusals.proofs.{Laws.both, Seen.same-counts, Seen.same-refused, Seen.never-both}
 use Rattle.wire.proofs.Travel.{opening-again}
-use Rattle.reply.specs.Reply.{ReplySeen, openedOf, replyTold, replySeen}
+use Rattle.reply.specs.Reply.{ReplySeen, openedOf, replySeen}
 use Rattle.reply.specs.Shown.{ReplySeenAll, ReplyToldAll, OpeningComesBack, KeysFit}
 use Rattle.reply.specs.declared.ReplyAnswer.the-variants.{Done, Refused}
 use Rattle.reply.specs.declared.ReplyCounts.{ReplyCounts}

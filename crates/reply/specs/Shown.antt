@@ -3,21 +3,17 @@
 --   ReplyToldAll       `replyTold` forgets nothing: two answers with the same numbers are the same
 --   OpeningComesBack   demand 2: an opening that is accepted comes back the same when it is unpacked and packed again
 --   KeysFit            its key is as long as the scheme says, and at most 128 bytes
-use mathlib.Core.Path.{_≡_}
-use mathlib.Core.List.{List}
+use mathlib.Core.{Path._≡_, List.List}
 use Prim.Native.Nat.{ℕ, _≤_}
 use lib.ListN.{length}
-use Rattle.schemes.specs.Schemes.{fixedOf}
-use Rattle.schemes.specs.declared.Named.the-variants.{Known}
+use Rattle.schemes.specs.{Schemes.fixedOf, declared.Named.the-variants.Known}
 use Rattle.schemes.specs.declared.Scheme.{Scheme}
 use Rattle.lists.specs.Ranges.{Below}
 use Rattle.packing.specs.Packing.{packed}
-use Rattle.refusals.specs.Seen.{Told}
-use Rattle.refusals.specs.declared.Verdict.the-variants.{Pass}
+use Rattle.refusals.specs.{Seen.Told, declared.Verdict.the-variants.Pass}
 use Rattle.wire.specs.Wire.{opening, seedIn}
 use Rattle.reply.specs.Reply.{Reply, ReplyRooms, openedOf, replyTests, replyKey, replyTold, replySeen}
-use Rattle.reply.specs.declared.ReplyAnswer.{ReplyAnswer}
-use Rattle.reply.specs.declared.ReplyCounts.{ReplyCounts}
+use Rattle.reply.specs.{declared.ReplyAnswer.ReplyAnswer, declared.ReplyCounts.ReplyCounts}
 
 abbrev pub ReplySeenAll : Type 0
 ReplySeenAll =

@@ -4,29 +4,23 @@
 --   by-frodo                 what is meant in Frodo
 --   number-names             the number of a scheme of Frodo's names it
 --   words-below, columns-below, zeros-below   secrets, noise and zeros are words
-use mathlib.Core.Path.{_≡_, sym, _∙_, ap}
-use mathlib.Core.List.{List}
+use mathlib.Core.{Path._≡_, Path.sym, Path._∙_, Path.ap, List.List}
 use Prim.Native.Nat.{ℕ, _*_, _<_}
 use native.Mathlib.Omega.{arith}
-use lib.IntN.{ℤ}
-use lib.ListN.{length, replicate}
+use lib.{IntN.ℤ, ListN.length, ListN.replicate}
 use Rattle.numbers.proofs.Congruence.{residue-lt}
 use Rattle.schemes.specs.Schemes.{byFamily, familyOf, schemeNumber}
-use Rattle.schemes.specs.declared.Family.{Family}
-use Rattle.schemes.specs.declared.Named.the-variants.{Known}
+use Rattle.schemes.specs.{declared.Family.Family, declared.Named.the-variants.Known}
 use Rattle.schemes.specs.declared.Scheme.{Scheme}
 use Rattle.schemes.proofs.Laws.{by-number}
 use Rattle.lists.specs.Ranges.{Below}
-use Rattle.lists.proofs.Entries.{below-tab}
-use Rattle.lists.proofs.Same.{equal-all}
+use Rattle.lists.proofs.{Entries.below-tab, Same.equal-all}
 use Rattle.matrix.specs.Words.{wordsOf, columnsOf}
 use Rattle.parts.specs.Parts.{wrap}
-use Rattle.refusals.specs.Seen.{ifPassed}
-use Rattle.refusals.specs.declared.Verdict.{Verdict}
+use Rattle.refusals.specs.{Seen.ifPassed, declared.Verdict.Verdict}
 use Rattle.refusals.specs.declared.Verdict.the-variants.{Pass}
 use Rattle.refusals.proofs.Laws.{number-zero}
-use Rattle.rows_state.specs.State.{frodoIn, frodoOf}
-use Rattle.rows_state.specs.Part.{stateShown}
+use Rattle.rows_state.specs.{State.frodoIn, State.frodoOf, Part.stateShown}
 use Rattle.rows.specs.Offer.{EndSeen}
 
 -- a begin or a part that is not refused

@@ -5,27 +5,21 @@
 --   Left, left          such a state after any parts: what it names, counts and keeps, that its call has begun, and what its sums are
 --   fill                parts that join into A are accepted
 --   in-turn, too-early, has-all   whether all of A has come
-use mathlib.Core.Path.{_≡_, refl, _∙_, sym, ap, ap₂, subst}
-use mathlib.Core.Logic.{_≢_}
-use mathlib.Core.Bool.{Bool, true, false}
-use mathlib.Core.List.{List, []}
+use mathlib.Core.{Path._≡_, Path.refl, Path._∙_, Path.sym, Path.ap, Path.ap₂, Path.subst, Logic._≢_}
+use mathlib.Core.{Bool.Bool, Bool.true, Bool.false, List.List, List.[]}
 use Prim.Native.Nat.{ℕ, _*_, _%_, _<_}
 use native.Mathlib.Omega.{arith}
-use lib.IntN.{ℤ}
-use lib.ListN.{length, getD, replicate, length-replicate}
+use lib.{IntN.ℤ, ListN.length, ListN.getD, ListN.replicate, ListN.length-replicate}
 use Rattle.schemes.specs.Schemes.{familyOf, fixedOf, schemeNumber}
-use Rattle.schemes.specs.declared.Family.{Family}
-use Rattle.schemes.specs.declared.Named.the-variants.{Known}
+use Rattle.schemes.specs.{declared.Family.Family, declared.Named.the-variants.Known}
 use Rattle.schemes.specs.declared.Scheme.{Scheme}
 use Rattle.lists.specs.Ranges.{Below}
 use Rattle.matrix.specs.Words.{wordsOf, gained, reduced}
 use Rattle.matrix.proofs.Steps.{words-length}
 use Rattle.parts.specs.Parts.{wrap}
-use Rattle.parts.proofs.Joining.{whole-right, whole-left}
-use Rattle.parts.proofs.Words.{words-pairs}
-use Rattle.refusals.specs.Refusals.{inTurn}
+use Rattle.parts.proofs.{Joining.whole-right, Joining.whole-left, Words.words-pairs}
+use Rattle.refusals.specs.{Refusals.inTurn, declared.Refusal.the-variants.OutOfTurn}
 use Rattle.refusals.specs.declared.Verdict.the-variants.{Pass, Fail}
-use Rattle.refusals.specs.declared.Refusal.the-variants.{OutOfTurn}
 use Rattle.refusals.proofs.Laws.{turn-passes}
 use Rattle.values.proofs.Numbers.{numbers-in}
 use Rattle.rows_state.specs.State.{tagOf, frodoOf, long, named, taken, savedOf, secretOf, sumsOf, heldOf, Layout, laid, secretWords, fresh, savedIn, begun, complete, terms}

@@ -5,24 +5,17 @@
 --   seed-bytes                   the seed, as a state keeps it
 --   message-long                 the opening is as long as the scheme says
 --   end-unknown, end-failed, end-decides, end-refused   its verdict by the test that decides, and its promise after a refusal
-use mathlib.Core.Path.{_≡_, refl, _∙_, sym, ap}
-use mathlib.Core.Bool.{true}
-use mathlib.Core.List.{List}
+use mathlib.Core.{Path._≡_, Path.refl, Path._∙_, Path.sym, Path.ap, Bool.true, List.List}
 use Prim.Native.Nat.{ℕ, _≤_}
 use native.Mathlib.Omega.{arith}
 use lib.ListN.{length, take, replicate, length-take}
-use Rattle.schemes.specs.Schemes.{familyOf, fixedOf}
-use Rattle.schemes.specs.declared.Family.{Family}
-use Rattle.schemes.specs.declared.Named.{Named}
+use Rattle.schemes.specs.{Schemes.familyOf, Schemes.fixedOf, declared.Family.Family}
+use Rattle.schemes.specs.{declared.Named.Named, declared.Scheme.Scheme}
 use Rattle.schemes.specs.declared.Named.the-variants.{Known, Unknown}
-use Rattle.schemes.specs.declared.Scheme.{Scheme}
 use Rattle.lists.specs.Ranges.{Below}
-use Rattle.refusals.specs.Refusals.{notBlank}
-use Rattle.refusals.specs.Seen.{told, seen}
-use Rattle.refusals.specs.declared.Answer.the-variants.{Refused}
-use Rattle.refusals.specs.declared.Verdict.{Verdict}
+use Rattle.refusals.specs.{Refusals.notBlank, Seen.told, Seen.seen, declared.Verdict.Verdict}
+use Rattle.refusals.specs.{declared.Answer.the-variants.Refused, declared.Refusal.Refusal}
 use Rattle.refusals.specs.declared.Verdict.the-variants.{Pass, Fail}
-use Rattle.refusals.specs.declared.Refusal.{Refusal}
 use Rattle.refusals.specs.declared.Refusal.the-variants.{NoScheme, OutOfTurn}
 use Rattle.refusals.proofs.Laws.{both, length-passed, room-passed, turn-passed, failed, went-on}
 use Rattle.refusals.proofs.Seen.{shown-failed}
@@ -33,8 +26,7 @@ use Rattle.rows.specs.Inside.{offerEndSizes}
 use Rattle.rows_state.specs.declared.Call.{Call}
 use Rattle.rows_state.proofs.Tests.{passed, all-below, started, completes, frodos}
 use Rattle.rows_state.proofs.Laying.{kept-long}
-use Rattle.rows.proofs.Ends.{end-by}
-use Rattle.rows.proofs.Sending.{sent-counted}
+use Rattle.rows.proofs.{Ends.end-by, Sending.sent-counted}
 
 -- ---- begin
 

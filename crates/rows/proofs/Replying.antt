@@ -6,30 +6,23 @@
 --   end-failed, end-decides, end-refused    its verdict by the test that decides, and what is seen after a refusal
 --   state-long, kept-counted   a state of Reply's, and V as it keeps it
 --   message-length, key-length   message and key are as long as the scheme says
-use mathlib.Core.Path.{_≡_, refl, _∙_, sym, ap}
-use mathlib.Core.Bool.{true}
-use mathlib.Core.List.{List, []}
+use mathlib.Core.{Path._≡_, Path.refl, Path._∙_, Path.sym, Path.ap, Bool.true, List.List, List.[]}
 use Prim.Native.Nat.{ℕ, _≤_}
 use lib.ListN.{length, replicate}
-use Rattle.schemes.specs.Schemes.{familyOf, fixedOf}
-use Rattle.schemes.specs.declared.Family.{Family}
-use Rattle.schemes.specs.declared.Named.{Named}
+use Rattle.schemes.specs.{Schemes.familyOf, Schemes.fixedOf, declared.Family.Family}
+use Rattle.schemes.specs.{declared.Named.Named, declared.Scheme.Scheme}
 use Rattle.schemes.specs.declared.Named.the-variants.{Known, Unknown}
-use Rattle.schemes.specs.declared.Scheme.{Scheme}
 use Rattle.packing.proofs.Laws.{unpacked-below}
 use Rattle.refusals.specs.Refusals.{_then_, notBlank, receivedIn}
-use Rattle.refusals.specs.declared.Verdict.{Verdict}
+use Rattle.refusals.specs.{declared.Verdict.Verdict, declared.Refusal.Refusal}
 use Rattle.refusals.specs.declared.Verdict.the-variants.{Pass, Fail}
-use Rattle.refusals.specs.declared.Refusal.{Refusal}
 use Rattle.refusals.specs.declared.Refusal.the-variants.{NoScheme, OutOfTurn}
 use Rattle.refusals.proofs.Laws.{both, length-passed, room-passed, turn-passed, message-passes, failed, went-on}
 use Rattle.values.specs.Fit.{Counted}
-use Rattle.values.proofs.Numbers.{numbers-in}
-use Rattle.values.proofs.Settling.{hints-counted, keys-counted}
-use Rattle.wire.specs.Wire.{coinsIn, numbersIn}
+use Rattle.values.proofs.{Numbers.numbers-in, Settling.hints-counted, Settling.keys-counted}
+use Rattle.wire.specs.{Wire.coinsIn, Wire.numbersIn, Steps.replySecrets}
 use Rattle.wire.proofs.Travel.{reply-length, key-long}
 use Rattle.reply.specs.Reply.{ReplyRooms, replyTold, replySeen}
-use Rattle.wire.specs.Steps.{replySecrets}
 use Rattle.reply.specs.declared.ReplyAnswer.the-variants.{Refused}
 use Rattle.reply.proofs.Replying.{reply-refused}
 use Rattle.rows_state.specs.State.{long, named, savedOf, begun}
@@ -39,8 +32,7 @@ use Rattle.rows_state.proofs.Laying.{kept-long}
 use Rattle.rows.specs.Offer.{sentPart}
 use Rattle.rows.specs.Reply.{ReplyBegin, replyBeginTests, replyEndTests, replyEndMessage, replyEndKey, replyEndResult}
 use Rattle.rows.specs.Inside.{replyBeginSizes, replyBeginRest, replyEndSizes}
-use Rattle.rows.proofs.Ends.{end-by}
-use Rattle.rows.proofs.Sending.{sent-counted}
+use Rattle.rows.proofs.{Ends.end-by, Sending.sent-counted}
 
 pub opened-tests : (c : Scheme) → familyOf c ≡ Family.Frodo → (p : List ℕ) → receivedIn (fixedOf c .q) p (numbersIn c p) ≡ notBlank p
 unfolding receivedIn numbersIn

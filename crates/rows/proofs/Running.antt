@@ -23,18 +23,13 @@ use Rattle.matrix.proofs.Steps.{gained-length}
 use Rattle.parts.specs.Parts.{wrap, words, pairs, placed}
 use Rattle.parts.proofs.Joining.{append-at, placed-in, so-far, nothing}
 use Rattle.parts.proofs.Words.{append-below}
-use Rattle.refusals.specs.Refusals.{numberIn}
-use Rattle.refusals.specs.Seen.{ifPassed, shown}
-use Rattle.refusals.specs.declared.Verdict.{Verdict}
+use Rattle.refusals.specs.{Refusals.numberIn, Seen.ifPassed, Seen.shown, declared.Verdict.Verdict}
 use Rattle.refusals.specs.declared.Verdict.the-variants.{Pass, Fail}
 use Rattle.reply.specs.Reply.{outputs}
 use Rattle.rows_state.specs.State.{long, named, taken, savedOf, secretOf, sumsOf, heldOf, laid, onward, terms, fills, heldWith, sumsWith, stepped}
-use Rattle.rows_state.specs.Part.{stateShown, partTests}
-use Rattle.rows.specs.Offer.{offerEndTests}
-use Rattle.rows.specs.Reply.{replyEndTests}
+use Rattle.rows_state.specs.{Part.stateShown, Part.partTests, declared.Call.Call}
+use Rattle.rows.specs.{Offer.offerEndTests, Reply.replyEndTests, Shown.blocks}
 use Rattle.rows.specs.Runs.{Refused, joined, steps, WithinRows}
-use Rattle.rows.specs.Shown.{blocks}
-use Rattle.rows_state.specs.declared.Call.{Call}
 use Rattle.rows_state.proofs.Filling.{fills-up, holds-back, held-div, held-mod, filled-div, filled-mod, start-is, whole-blocks}
 use Rattle.rows_state.proofs.Laying.{apart, kept-long, secret-long, sums-long, held-long, again-words, made-words, held-words, laid-long, laid-kept, laid-secret, laid-sums, laid-held, laid-ext}
 use Rattle.rows_state.proofs.Taking.{linear}

@@ -2,15 +2,12 @@
 --   sent-counted   they are as many as the secret, and below q
 --   sent-is        they are what the code makes
 --   sent-blank     they are tested for their bytes
-use mathlib.Core.Path.{_≡_, _∙_, sym, ap}
-use mathlib.Core.List.{List}
+use mathlib.Core.{Path._≡_, Path._∙_, Path.sym, Path.ap, List.List}
 use Prim.Native.Nat.{ℕ}
 use native.Mathlib.Nat.{mod-lt}
 use lib.ListN.{length}
-use Rattle.schemes.specs.Schemes.{familyOf, fixedOf}
-use Rattle.schemes.specs.declared.Family.{Family}
-use Rattle.schemes.specs.declared.Fixed.{Fixed}
-use Rattle.schemes.specs.declared.Scheme.{Scheme}
+use Rattle.schemes.specs.{Schemes.familyOf, Schemes.fixedOf, declared.Family.Family}
+use Rattle.schemes.specs.{declared.Fixed.Fixed, declared.Scheme.Scheme}
 use Rattle.lists.proofs.Entries.{tab-length, below-tab}
 use Rattle.matrix.specs.Words.{reduced}
 use Rattle.refusals.specs.Refusals.{notBlank}

@@ -11,14 +11,11 @@ use Prim.Native.Nat.{ℕ, zero, suc, _+_, _*_, _-_, _%_, _≤_, _<_}
 use native.Mathlib.Omega.{arith}
 use native.Mathlib.Nat.{mod-lt, mod-eq-of-lt, mod-add-mod}
 use borrow.Author.Tests.{lt-leb, le-leb}
-use lib.Dec.{eqb}
+use lib.{Dec.eqb, Seq.take-at, Seq.drop-at, Seq.drop-drop}
 use lib.ListN.{length, getD, take, drop, length-append, length-take, length-drop, take-append-drop}
-use lib.Seq.{take-at, drop-at, drop-drop}
-use Rattle.schemes.specs.Schemes.{familyOf, fixedOf, schemeOf}
-use Rattle.schemes.specs.declared.Family.{Family}
-use Rattle.schemes.specs.declared.Named.{Named}
+use Rattle.schemes.specs.{Schemes.familyOf, Schemes.fixedOf, Schemes.schemeOf, declared.Named.Named}
+use Rattle.schemes.specs.{declared.Family.Family, declared.Scheme.Scheme}
 use Rattle.schemes.specs.declared.Named.the-variants.{Known, Unknown}
-use Rattle.schemes.specs.declared.Scheme.{Scheme}
 use Rattle.schemes.proofs.Sound.{sound}
 use Rattle.lists.specs.Ranges.{Below}
 use Rattle.lists.proofs.Parts.{below-drop, below-take}
@@ -27,9 +24,7 @@ use Rattle.matrix.proofs.Steps.{gained-length}
 use Rattle.parts.specs.Parts.{wrap, words, pairs, placed}
 use Rattle.parts.proofs.Words.{words-below, append-below}
 use Rattle.values.proofs.Numbers.{numbers-in}
-use Rattle.refusals.specs.Refusals.{numberIn}
-use Rattle.refusals.specs.Seen.{ifPassed}
-use Rattle.refusals.specs.declared.Verdict.{Verdict}
+use Rattle.refusals.specs.{Refusals.numberIn, Seen.ifPassed, declared.Verdict.Verdict}
 use Rattle.refusals.specs.declared.Verdict.the-variants.{Pass, Fail}
 use Rattle.refusals.proofs.Laws.{differ, both, turn-passed, publics-passed, turn-passes, below-passes, all-pass}
 use Rattle.rows_state.specs.State.{frodoIn, named, taken, savedOf, secretOf, sumsOf, heldOf, Layout, laid, onward, _and_, savedIn, begun, terms, fills, heldWith, sumsWith, stepped}

@@ -5,17 +5,13 @@
 use mathlib.Core.List.{List}
 use Prim.Native.Nat.{ℕ}
 use lib.ListN.{length}
-use Rattle.schemes.specs.Schemes.{fixedOf}
-use Rattle.schemes.specs.declared.Scheme.{Scheme}
+use Rattle.schemes.specs.{Schemes.fixedOf, declared.Scheme.Scheme}
 use Rattle.refusals.specs.Refusals.{_then_, lengthIs, roomFor, inTurn, notBlank}
 use Rattle.refusals.specs.declared.Verdict.{Verdict}
-use Rattle.wire.specs.Wire.{openedIn}
+use Rattle.wire.specs.{Wire.openedIn, Steps.replySecrets}
 use Rattle.reply.specs.Reply.{ReplyRooms}
-use Rattle.wire.specs.Steps.{replySecrets}
-use Rattle.rows_state.specs.State.{long, complete}
-use Rattle.rows_state.specs.declared.Call.{Call}
-use Rattle.rows.specs.Offer.{OfferBegin}
-use Rattle.rows.specs.Reply.{ReplyBegin}
+use Rattle.rows_state.specs.{State.long, State.complete, declared.Call.Call}
+use Rattle.rows.specs.{Offer.OfferBegin, Reply.ReplyBegin}
 
 unfoldable pub offerBeginSizes : Scheme → OfferBegin → ℕ → Verdict
 offerBeginSizes c x m =

@@ -11,24 +11,19 @@
 --   offerBegin, offerBeginOf  what is lent, from the slices of a contract, and from lists
 use mathlib.Core.List.{List, [], _++_}
 use Prim.Native.Nat.{ℕ}
-use lib.IntN.{ℤ}
-use lib.ListN.{length, take, replicate}
-use Rattle.schemes.specs.Schemes.{fixedOf}
-use Rattle.schemes.specs.declared.Named.{Named}
+use lib.{IntN.ℤ, ListN.length, ListN.take, ListN.replicate}
+use Rattle.schemes.specs.{Schemes.fixedOf, declared.Named.Named, declared.Scheme.Scheme}
 use Rattle.schemes.specs.declared.Named.the-variants.{Known, Unknown}
-use Rattle.schemes.specs.declared.Scheme.{Scheme}
 use Rattle.lists.specs.Lent.{Lent, was}
 use Rattle.packing.specs.Packing.{packed}
 use Rattle.matrix.specs.Words.{reduced}
 use Rattle.refusals.specs.Refusals.{_then_, lengthIs, roomFor, inTurn, notBlank, secretsIn}
-use Rattle.refusals.specs.Seen.{ifPassed, Seen, shown}
-use Rattle.refusals.specs.declared.Verdict.{Verdict}
+use Rattle.refusals.specs.{Seen.ifPassed, Seen.Seen, Seen.shown, declared.Verdict.Verdict}
 use Rattle.refusals.specs.declared.Verdict.the-variants.{Fail}
 use Rattle.refusals.specs.declared.Refusal.the-variants.{NoScheme, OutOfTurn}
 use Rattle.wire.specs.Wire.{opening}
 use Rattle.rows_state.specs.State.{long, named, savedOf, sumsOf, laid, fresh, complete}
-use Rattle.rows_state.specs.Part.{StateSeen, stateShown}
-use Rattle.rows_state.specs.declared.Call.{Call}
+use Rattle.rows_state.specs.{Part.StateSeen, Part.stateShown, declared.Call.Call}
 
 -- ---- begin
 

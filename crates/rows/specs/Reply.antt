@@ -10,28 +10,22 @@
 --   replyBegin, replyBeginOf  what is lent, from the slices of a contract, and from lists
 use mathlib.Core.List.{List, [], _++_}
 use Prim.Native.Nat.{ℕ}
-use lib.IntN.{ℤ}
-use lib.ListN.{length, replicate}
-use Rattle.schemes.specs.Schemes.{fixedOf}
-use Rattle.schemes.specs.declared.Named.{Named}
+use lib.{IntN.ℤ, ListN.length, ListN.replicate}
+use Rattle.schemes.specs.{Schemes.fixedOf, declared.Named.Named, declared.Scheme.Scheme}
 use Rattle.schemes.specs.declared.Named.the-variants.{Known, Unknown}
-use Rattle.schemes.specs.declared.Scheme.{Scheme}
 use Rattle.lists.specs.Lent.{Lent, was}
 use Rattle.packing.specs.Packing.{packed}
 use Rattle.sponge.specs.Sponge.{sha3}
 use Rattle.refusals.specs.Refusals.{_then_, lengthIs, roomFor, inTurn, notBlank, secretsIn}
-use Rattle.refusals.specs.Seen.{ifPassed}
-use Rattle.refusals.specs.declared.Verdict.{Verdict}
+use Rattle.refusals.specs.{Seen.ifPassed, declared.Verdict.Verdict}
 use Rattle.refusals.specs.declared.Verdict.the-variants.{Fail}
 use Rattle.refusals.specs.declared.Refusal.the-variants.{NoScheme, OutOfTurn}
-use Rattle.values.specs.Values.{mixedValue}
-use Rattle.values.specs.Keys.{hints, keys}
+use Rattle.values.specs.{Values.mixedValue, Keys.hints, Keys.keys}
 use Rattle.wire.specs.Wire.{openedIn, numbersIn, coinsIn}
 use Rattle.reply.specs.Reply.{ReplyRooms, ReplySeen, outputs}
 use Rattle.rows_state.specs.State.{long, named, savedOf, laid, fresh, complete}
-use Rattle.rows_state.specs.Part.{StateSeen, stateShown}
+use Rattle.rows_state.specs.{Part.StateSeen, Part.stateShown, declared.Call.Call}
 use Rattle.rows.specs.Offer.{EndSeen, sentPart}
-use Rattle.rows_state.specs.declared.Call.{Call}
 
 -- ---- begin
 

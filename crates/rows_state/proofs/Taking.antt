@@ -7,8 +7,7 @@
 --   back-right, back-left     they are written in their place
 --   entered-wide              the state stays as long
 --   step-holds, step-enters   so the part is in the state, whether it ends a block or not
-use mathlib.Core.Path.{_≡_, refl, _∙_, sym, ap, ap₂}
-use mathlib.Core.Bool.{true, false}
+use mathlib.Core.{Path._≡_, Path.refl, Path._∙_, Path.sym, Path.ap, Path.ap₂, Bool.true, Bool.false}
 use mathlib.Core.List.{List, [], _∷_, _++_, append-assoc, append-nil}
 use Prim.Native.Nat.{ℕ, _+_, _*_, _-_, _/_, _%_, _≤_}
 use native.Mathlib.Omega.{arith}
@@ -17,11 +16,9 @@ use borrow.Rule.Slice.PartMut.{putMid}
 use lib.Seq.{take-add, take-take, take-append-le, drop-append-le, drop-drop}
 use Rattle.lists.specs.Ranges.{Below}
 use Rattle.lists.proofs.Parts.{below-drop, below-take, to-end}
-use Rattle.matrix.specs.Steps.{partTerm, columnsFrom}
-use Rattle.matrix.specs.Words.{gained, rightTerm}
+use Rattle.matrix.specs.{Steps.partTerm, Steps.columnsFrom, Words.gained, Words.rightTerm}
 use Rattle.matrix.proofs.Steps.{gained-length}
-use Rattle.parts.specs.Parts.{wrap, words, pairs, placed}
-use Rattle.parts.specs.Joining.{Linear}
+use Rattle.parts.specs.{Parts.wrap, Parts.words, Parts.pairs, Parts.placed, Joining.Linear}
 use Rattle.parts.proofs.Joining.{right-linear, left-linear}
 use Rattle.parts.proofs.Words.{pairs-long, pairs-words}
 use Rattle.parts.proofs.Blocks.{right-back, columns-met, left-is}

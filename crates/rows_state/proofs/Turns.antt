@@ -2,24 +2,17 @@
 --   turn-begins, turn-fails, turn-goes   its turn passed, and what that says; failed; and what follows decides
 --   state-by, state-seen-all   what is seen of a call that leaves a state, by its verdict; and that this is all
 --   part-unknown, part-known   the promise of a part, by the scheme that the state names
-use mathlib.Core.Path.{_≡_, refl, _∙_, sym, ap}
-use mathlib.Core.Bool.{Bool, true}
-use mathlib.Core.List.{List}
+use mathlib.Core.{Path._≡_, Path.refl, Path._∙_, Path.sym, Path.ap, Bool.Bool, Bool.true, List.List}
 use Prim.Native.Nat.{ℕ}
 use lib.ListN.{length}
-use Rattle.schemes.specs.Schemes.{fixedOf}
-use Rattle.schemes.specs.declared.Fixed.{Fixed}
-use Rattle.schemes.specs.declared.Named.{Named}
+use Rattle.schemes.specs.{Schemes.fixedOf, declared.Fixed.Fixed, declared.Named.Named}
 use Rattle.schemes.specs.declared.Named.the-variants.{Known, Unknown}
 use Rattle.schemes.specs.declared.Scheme.{Scheme}
-use Rattle.refusals.specs.Refusals.{inTurn, publicsIn}
-use Rattle.refusals.specs.Seen.{ifPassed}
-use Rattle.refusals.specs.declared.Verdict.{Verdict}
+use Rattle.refusals.specs.{Refusals.inTurn, Refusals.publicsIn, Seen.ifPassed}
+use Rattle.refusals.specs.{declared.Verdict.Verdict, declared.Refusal.Refusal}
 use Rattle.refusals.specs.declared.Verdict.the-variants.{Pass, Fail}
-use Rattle.refusals.specs.declared.Refusal.{Refusal}
 use Rattle.refusals.specs.declared.Refusal.the-variants.{OutOfTurn}
-use Rattle.refusals.proofs.Laws.{turn-passed, failed, went-on}
-use Rattle.refusals.proofs.Same.{same-verdict}
+use Rattle.refusals.proofs.{Laws.turn-passed, Laws.failed, Laws.went-on, Same.same-verdict}
 use Rattle.rows_state.specs.State.{named, taken, _and_, begun, fitsIn, stepped}
 use Rattle.rows_state.specs.Part.{StateSeen, stateShown, stateSeen, partTests, partState, partResult, StateSeenAll}
 use Rattle.rows_state.specs.declared.Call.{Call}

@@ -4,8 +4,7 @@
 --   entered k n at st   the state with these sums
 --   keeping n kept      a state of zeros but for what is kept for the end
 --   Sized n st          the length of a state, and numbers that the code can count with
-use mathlib.Core.Path.{_≡_}
-use mathlib.Core.List.{List, _∷_, _++_}
+use mathlib.Core.{Path._≡_, List.List, List._∷_, List._++_}
 use Prim.Native.Nat.{ℕ, _+_, _*_, _%_, _<_, _≤_}
 use lib.ListN.{length, take, drop, replicate}
 use Rattle.matrix.specs.Words.{gained}

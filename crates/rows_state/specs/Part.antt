@@ -7,16 +7,13 @@
 --   partState k c st p    the state with the part
 --   partResult k st p     its promise: what is seen, as a function of what is lent; refused, the state stays as it was
 --   StateSeenAll          `stateSeen` forgets nothing: from what is seen come the verdict and the state
-use mathlib.Core.Path.{_≡_}
-use mathlib.Core.List.{List}
+use mathlib.Core.{Path._≡_, List.List}
 use Prim.Native.Nat.{ℕ}
 use lib.ListN.{length}
-use Rattle.schemes.specs.Schemes.{fixedOf}
-use Rattle.schemes.specs.declared.Named.{Named}
+use Rattle.schemes.specs.{Schemes.fixedOf, declared.Named.Named}
 use Rattle.schemes.specs.declared.Named.the-variants.{Known, Unknown}
 use Rattle.refusals.specs.Refusals.{numberIn, placeIn, _then_, inTurn, publicsIn}
-use Rattle.refusals.specs.Seen.{ifPassed}
-use Rattle.refusals.specs.declared.Verdict.{Verdict}
+use Rattle.refusals.specs.{Seen.ifPassed, declared.Verdict.Verdict}
 use Rattle.refusals.specs.declared.Verdict.the-variants.{Fail}
 use Rattle.refusals.specs.declared.Refusal.the-variants.{OutOfTurn}
 use Rattle.rows_state.specs.State.{named, taken, _and_, begun, fitsIn, stepped}

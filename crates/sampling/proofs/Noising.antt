@@ -4,25 +4,18 @@
 --   Fits, sizes-passed, tests-passed   what passed tests say of the lengths
 --   takes, words, filled   the bytes, the table and the values of a scheme that is known by its name
 --   noise-unknown, noise-named   what is seen where no scheme is named, and under another name and room
-use mathlib.Core.Path.{_≡_, refl, _∙_, sym, ap}
+use mathlib.Core.{Path._≡_, Path.refl, Path._∙_, Path.sym, Path.ap, List.List}
 use mathlib.Core.Bool.{Bool, true, false}
-use mathlib.Core.List.{List}
 use Prim.Native.Nat.{ℕ, _*_, _/_, _≤_}
 use native.Mathlib.Omega.{arith}
-use lib.Dec.{eqb}
-use lib.IntN.{ℤ, pos}
-use lib.ListN.{length, replicate}
+use lib.{Dec.eqb, IntN.ℤ, IntN.pos, ListN.length, ListN.replicate}
 use borrow.Author.Tests.{eqb-true}
-use Rattle.schemes.specs.Schemes.{fixedOf, familyOf, byFamily}
-use Rattle.schemes.specs.declared.Family.{Family}
-use Rattle.schemes.specs.declared.Scheme.{Scheme}
+use Rattle.schemes.specs.{Schemes.fixedOf, Schemes.familyOf, Schemes.byFamily, declared.Named.Named}
+use Rattle.schemes.specs.{declared.Family.Family, declared.Scheme.Scheme}
 use Rattle.schemes.specs.declared.Scheme.the-variants.{Bcns, NewHope, Challenge, Classical, Recommended, Paranoid}
-use Rattle.schemes.specs.declared.Named.{Named}
 use Rattle.schemes.specs.declared.Named.the-variants.{Known, Unknown}
-use Rattle.refusals.specs.Refusals.{_then_, tableIn}
-use Rattle.refusals.specs.declared.Verdict.{Verdict}
-use Rattle.refusals.specs.declared.Verdict.the-variants.{Pass}
-use Rattle.refusals.specs.Seen.{refused, Seen, seen}
+use Rattle.refusals.specs.{Refusals._then_, Refusals.tableIn, declared.Verdict.Verdict}
+use Rattle.refusals.specs.{declared.Verdict.the-variants.Pass, Seen.refused, Seen.Seen, Seen.seen}
 use Rattle.refusals.specs.declared.Refusal.the-variants.{NoScheme}
 use Rattle.refusals.proofs.Laws.{both, last-passes, length-passed, room-passed}
 use Rattle.refusals.proofs.Seen.{shown-failed}

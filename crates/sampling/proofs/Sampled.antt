@@ -5,36 +5,27 @@
 --   grow-below, grow-passes         so of Grow
 --   never-eighteen, eighteen-says   where Noise is refused with 18, and what its place says
 --   same-grown                      two boxes grow the same numbers
-use mathlib.Core.Path.{_≡_, refl, _∙_, sym, ap}
-use mathlib.Core.Bool.{Bool, true, false}
+use mathlib.Core.{Path._≡_, Path.refl, Path._∙_, Path.sym, Bool.Bool, Bool.true, Bool.false}
 use mathlib.Core.List.{List}
 use Prim.Native.Nat.{ℕ, _*_, _/_, _<_, _≤_}
 use native.Mathlib.Omega.{arith}
-use lib.Dec.{eqb, ltb}
-use lib.IntN.{ℤ, pos, natAbs}
-use lib.ListN.{length, take}
-use lib.Seq.{take-at}
+use lib.{Dec.eqb, Dec.ltb, IntN.pos, IntN.natAbs, ListN.length, ListN.take, Seq.take-at}
 use Rattle.schemes.specs.Schemes.{fixedOf, familyOf, byFamily, newHope}
-use Rattle.schemes.specs.declared.Scheme.{Scheme}
+use Rattle.schemes.specs.{declared.Scheme.Scheme, declared.Named.the-variants.Known}
 use Rattle.schemes.specs.declared.Scheme.the-variants.{Bcns, NewHope, Challenge, Classical, Recommended, Paranoid}
-use Rattle.schemes.specs.declared.Named.the-variants.{Known}
 use Rattle.lists.specs.Ranges.{Below, Within}
 use Rattle.lists.proofs.Parts.{below-take, below-drop, part-within}
 use borrow.Author.Tests.{ltb-true}
 use Rattle.refusals.specs.Refusals.{numberIn, placeIn, _then_, lengthIs, tableIn}
-use Rattle.refusals.specs.Seen.{written, shown}
-use Rattle.refusals.specs.declared.Verdict.{Verdict}
+use Rattle.refusals.specs.{Seen.written, Seen.shown, declared.Verdict.Verdict}
 use Rattle.refusals.specs.declared.Verdict.the-variants.{Pass, Fail}
-use Rattle.refusals.proofs.Number.{and, lengths, rooms}
+use Rattle.refusals.proofs.{Number.and, Number.lengths, Number.rooms, Seen.written-all}
 use Rattle.refusals.proofs.Laws.{differ, both, number-zero, within-passes, below-passes}
-use Rattle.refusals.proofs.Seen.{written-all}
-use Rattle.noise.specs.Noise.{d1, d2, d3, d4}
-use Rattle.noise.proofs.Noise.{newhope-within, frodo-within}
+use Rattle.noise.specs.{Noise.d1, Noise.d2, Noise.d3, Noise.d4, declared.Ruled.Ruled}
+use Rattle.noise.proofs.{Noise.newhope-within, Noise.frodo-within, Stream.by-name-below}
 use Rattle.bcns_noise.proofs.Table.{largest-51, each-place}
 use Rattle.bcns_noise.specs.Noise.{firstNotAbove}
-use Rattle.noise.specs.declared.Ruled.{Ruled}
 use Rattle.noise.specs.declared.Ruled.the-variants.{By, Unknown}
-use Rattle.noise.proofs.Stream.{by-name-below}
 use Rattle.sampling.specs.Noise.{Noise, lengthEither, noiseTests, noiseValues, noiseResult, NoisePasses, NeverEighteen, EighteenSays}
 use Rattle.sampling.specs.Expand.{expandNumbers, expandResult, ExpandPasses, blocks, growNumbers, growTests, growResult, SameGrown, GrowPasses}
 use Rattle.sampling.specs.Steps.{noiseSizes}

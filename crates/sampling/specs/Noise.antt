@@ -9,28 +9,20 @@
 --   NoisePasses                  no part of what Noise writes is refused as a secret or as noise
 --   NeverEighteen                18 cannot arise in the other schemes
 --   EighteenSays                 in BCNS its place is "the first entry not above its forerunner", 1 to 50
-use mathlib.Core.Path.{_≡_}
-use mathlib.Core.Bool.{cond}
-use mathlib.Core.List.{List, []}
+use mathlib.Core.{Path._≡_, Bool.cond, List.List, List.[]}
 use Prim.Native.Nat.{ℕ, _*_, _/_, _<_}
-use lib.Dec.{eqb}
-use lib.IntN.{ℤ, pos}
-use lib.ListN.{length, take, drop}
-use Rattle.schemes.specs.Schemes.{fixedOf, familyOf, byFamily}
+use lib.{Dec.eqb, IntN.ℤ, IntN.pos, ListN.length, ListN.take, ListN.drop}
+use Rattle.schemes.specs.{Schemes.fixedOf, Schemes.familyOf, Schemes.byFamily, declared.Named.Named}
 use Rattle.schemes.specs.declared.Scheme.{Scheme}
 use Rattle.schemes.specs.declared.Scheme.the-variants.{Bcns, NewHope, Challenge, Classical, Recommended, Paranoid}
-use Rattle.schemes.specs.declared.Named.{Named}
 use Rattle.schemes.specs.declared.Named.the-variants.{Known, Unknown}
-use Rattle.lists.specs.Ranges.{Below}
-use Rattle.lists.specs.Lent.{Lent, was}
+use Rattle.lists.specs.{Ranges.Below, Lent.Lent, Lent.was}
 use Rattle.refusals.specs.Refusals.{numberIn, placeIn, _then_, lengthIs, roomFor, tableIn, secretsIn}
-use Rattle.refusals.specs.Seen.{Seen, shown}
-use Rattle.refusals.specs.declared.Verdict.{Verdict}
+use Rattle.refusals.specs.{Seen.Seen, Seen.shown, declared.Verdict.Verdict}
 use Rattle.refusals.specs.declared.Verdict.the-variants.{Pass, Fail}
 use Rattle.refusals.specs.declared.Refusal.the-variants.{NoScheme}
 use Rattle.noise.specs.Noise.{newHopeNoise, frodoNoise, d1, d2, d3, d4}
-use Rattle.bcns_noise.specs.Noise.{bcnsNoise, firstNotAbove}
-use Rattle.bcns_noise.specs.Shown.{Place}
+use Rattle.bcns_noise.specs.{Noise.bcnsNoise, Noise.firstNotAbove, Shown.Place}
 
 pub record Noise : Type 0 where
   pub bytes : List ℕ

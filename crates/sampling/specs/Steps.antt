@@ -5,8 +5,7 @@
 use mathlib.Core.List.{List}
 use Prim.Native.Nat.{ℕ, _*_, _/_}
 use lib.ListN.{length}
-use Rattle.schemes.specs.Schemes.{fixedOf, newHope}
-use Rattle.schemes.specs.declared.Scheme.{Scheme}
+use Rattle.schemes.specs.{Schemes.fixedOf, Schemes.newHope, declared.Scheme.Scheme}
 use Rattle.refusals.specs.Refusals.{_then_, lengthIs, lengthUpTo, roomFor}
 use Rattle.refusals.specs.declared.Verdict.{Verdict}
 use Rattle.sampling.specs.Noise.{Noise, lengthEither}

@@ -2,16 +2,13 @@
 --   Tied f, tied     how the lengths of a scheme hang together
 --   by-number, by-scheme   a scheme's own number names it, and no other does
 --   few-schemes      which is at most 5
-use mathlib.Core.Path.{_≡_, refl, _∙_}
-use mathlib.Core.Bool.{Bool, true, false, cond}
+use mathlib.Core.{Path._≡_, Path.refl, Path._∙_, Bool.Bool, Bool.true, Bool.false, Bool.cond}
 use Prim.Native.Nat.{ℕ, _+_, _*_, _≤_}
 use native.Mathlib.Omega.{arith}
 use lib.Dec.{eqb}
 use borrow.Author.Tests.{eqb-true}
-use Rattle.schemes.specs.declared.Fixed.{Fixed}
-use Rattle.schemes.specs.declared.Scheme.{Scheme}
+use Rattle.schemes.specs.{declared.Fixed.Fixed, declared.Scheme.Scheme, declared.Named.Named}
 use Rattle.schemes.specs.declared.Scheme.the-variants.{Bcns, NewHope, Challenge, Classical, Recommended, Paranoid}
-use Rattle.schemes.specs.declared.Named.{Named}
 use Rattle.schemes.specs.declared.Named.the-variants.{Known, Unknown}
 use Rattle.schemes.specs.Schemes.{fixedOf, schemeNumber, schemeOf}
 

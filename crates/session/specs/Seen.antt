@@ -6,8 +6,7 @@
 --   moved y x        the promise: what the call x on the session y leads to and shows
 use Prim.Native.Nat.{ℕ}
 use Rattle.schemes.specs.Schemes.{schemeOf}
-use Rattle.refusals.specs.Refusals.{numberIn, placeIn}
-use Rattle.refusals.specs.Seen.{Told, Seen, shown}
+use Rattle.refusals.specs.{Refusals.numberIn, Refusals.placeIn, Seen.Told, Seen.Seen, Seen.shown}
 use Rattle.refusals.specs.declared.Verdict.{Verdict}
 use Rattle.offer.specs.Offer.{offerMessage}
 use Rattle.reply.specs.Reply.{ReplySeen, replyShown}

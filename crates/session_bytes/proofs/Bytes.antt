@@ -2,8 +2,7 @@
 --   taken-back, laid-back, fresh, closed, untouched, run-bytes
 --   moved-bytes   a call on the bytes of a session is the call by value
 --   held-by       a buffer on which a call other than close refuses nothing is a session
-use mathlib.Core.Path.{_≡_, refl, _∙_, sym, ap}
-use mathlib.Core.Bool.{true, false}
+use mathlib.Core.{Path._≡_, Path.refl, Path._∙_, Path.sym, Path.ap, Bool.true, Bool.false}
 use mathlib.Core.List.{List, [], _∷_, _++_}
 use Prim.Native.Nat.{ℕ, suc, _-_, _≤_}
 use native.Mathlib.Omega.{arith}
@@ -15,17 +14,14 @@ use Rattle.schemes.specs.declared.Scheme.the-variants.{Bcns, NewHope, Challenge
 use Rattle.schemes.proofs.Sound.{sound}
 use Rattle.blank.specs.Blank.{blank}
 use Rattle.blank.proofs.Laws.{blank-zeros, zeros-blank}
-use Rattle.refusals.specs.Seen.{done}
-use Rattle.refusals.specs.declared.Refusal.the-variants.{OutOfStage}
+use Rattle.refusals.specs.{Seen.done, declared.Refusal.the-variants.OutOfStage}
 use Rattle.refusals.specs.declared.Verdict.the-variants.{Fail}
-use Rattle.session.specs.declared.Stage.{Stage}
+use Rattle.session.specs.{declared.Stage.Stage, declared.Session.Session}
 use Rattle.session.specs.declared.Stage.the-variants.{Idle, Offered, Keyed}
-use Rattle.session.specs.declared.Session.{Session}
 use Rattle.session.specs.Table.{Call, closing, row, outcome, step, run, noKey, padded}
 use Rattle.session.specs.Seen.{CallSeen, ofClose, number, shownBy, Turn, turn, moved}
 use Rattle.session.specs.Sequences.{RanBy, Ran, Sound, Holds, fits}
-use Rattle.session.proofs.Laws.{shown-number}
-use Rattle.session.proofs.Sequences.{step-sound}
+use Rattle.session.proofs.{Laws.shown-number, Sequences.step-sound}
 use Rattle.session_bytes.specs.Bytes.{stageByte, schemeByte, bytesOf, stageIn, keyLength, staged, sessionIn, closes, laidOut, movedAt, movedBytes}
 use Rattle.session_bytes.specs.Shown.{TakenBack, LaidBack, Fresh, Closed, Untouched, RanBytes, RunBytes}
 use Rattle.session_bytes.specs.declared.Found.{Found}

@@ -3,19 +3,15 @@
 --   stopped        a buffer that is in no stage
 --   found          one that is a session: it is taken apart, the call made, and the session after it laid out
 --   close-bytes    Close
-use mathlib.Core.Path.{_≡_, _∙_, sym, ap}
-use mathlib.Core.Bool.{false}
+use mathlib.Core.{Path._≡_, Path._∙_, Path.sym, Path.ap, Bool.false}
 use mathlib.Core.List.{List, [], _∷_, _++_, append-nil}
 use Prim.Native.Nat.{ℕ, _≤_}
 use native.Mathlib.Omega.{arith}
 use lib.ListN.{length, take, drop, replicate, set, length-drop, drop-of-length-le}
 use lib.Seq.{take-all, length-take-le}
-use Rattle.refusals.specs.Seen.{done}
-use Rattle.refusals.specs.declared.Refusal.the-variants.{OutOfStage}
+use Rattle.refusals.specs.{Seen.done, declared.Refusal.the-variants.OutOfStage}
 use Rattle.refusals.specs.declared.Verdict.the-variants.{Fail}
-use Rattle.session.specs.declared.Stage.{Stage}
-use Rattle.session.specs.declared.Session.{Session}
-use Rattle.session.specs.Table.{Call, closing}
+use Rattle.session.specs.{declared.Stage.Stage, declared.Session.Session, Table.Call, Table.closing}
 use Rattle.session.specs.Seen.{CallSeen, ofClose, shownBy, turn, moved}
 use Rattle.session_bytes.specs.Bytes.{bytesOf, staged, closes, laidOut, movedBytes}
 use Rattle.session_bytes.specs.declared.Found.the-variants.{At, Nowhere}

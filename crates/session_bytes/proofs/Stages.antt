@@ -3,18 +3,14 @@
 --   numbers-back     and back: the bytes of the stage that they name
 --   staged-short, staged-none, staged-at, staged-behind   the whole buffer, by the tests of the code
 --   Parts, parts     what a buffer that is a session holds
-use mathlib.Core.Path.{_≡_, refl, _∙_, sym, ap}
+use mathlib.Core.{Path._≡_, Path.refl, Path._∙_, Path.sym, Path.ap, List.List}
 use mathlib.Core.Bool.{Bool, true, false, cond}
-use mathlib.Core.List.{List}
 use Prim.Native.Nat.{ℕ, _+_, _-_, _≤_}
 use native.Mathlib.Omega.{arith}
-use lib.Dec.{eqb}
-use lib.ListN.{length, getD, take, drop, length-drop}
+use lib.{Dec.eqb, ListN.length, ListN.getD, ListN.take, ListN.drop, ListN.length-drop}
 use lib.Seq.{take-all, drop-drop}
 use borrow.Author.Tests.{eq-eqb, ne-eqb, eqb-true}
-use Rattle.schemes.specs.Schemes.{schemeOf}
-use Rattle.schemes.specs.declared.Scheme.{Scheme}
-use Rattle.schemes.specs.declared.Named.{Named}
+use Rattle.schemes.specs.{Schemes.schemeOf, declared.Scheme.Scheme, declared.Named.Named}
 use Rattle.schemes.specs.declared.Named.the-variants.{Known, Unknown}
 use Rattle.schemes.proofs.Laws.{by-scheme}
 use Rattle.blank.specs.Blank.{blank}

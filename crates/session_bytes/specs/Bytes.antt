@@ -6,20 +6,17 @@
 --   sessionIn st bs  then the session
 --   movedBytes bs x  the promise of each call on bytes: what the call x by value leads to and shows, laid out; a buffer that is in no stage gives 10 and stays as
 --                    it is, but close zeroes it, however long it is
-use mathlib.Core.Bool.{Bool, true, false, cond}
-use mathlib.Core.List.{List, _∷_}
+use mathlib.Core.{Bool.Bool, Bool.true, Bool.false, Bool.cond, List.List, List._∷_}
 use Prim.Native.Nat.{ℕ}
-use lib.Dec.{eqb}
-use lib.ListN.{length, getD, drop, replicate}
+use lib.{Dec.eqb, ListN.length, ListN.getD, ListN.drop, ListN.replicate}
 use Rattle.schemes.specs.Schemes.{schemeOf, schemeNumber, fixedOf}
 use Rattle.schemes.specs.declared.Named.{Named}
 use Rattle.schemes.specs.declared.Named.the-variants.{Known, Unknown}
 use Rattle.blank.specs.Blank.{blank}
 use Rattle.refusals.specs.declared.Refusal.the-variants.{OutOfStage}
 use Rattle.refusals.specs.declared.Verdict.the-variants.{Pass, Fail}
-use Rattle.session.specs.declared.Stage.{Stage}
+use Rattle.session.specs.{declared.Stage.Stage, declared.Session.Session}
 use Rattle.session.specs.declared.Stage.the-variants.{Idle, Offered, Keyed}
-use Rattle.session.specs.declared.Session.{Session}
 use Rattle.session.specs.Table.{Call, offering, replying, finishing, closing}
 use Rattle.session.specs.Seen.{shownBy, Turn, turn, moved}
 use Rattle.session_bytes.specs.declared.Found.{Found}

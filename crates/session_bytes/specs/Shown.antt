@@ -6,18 +6,13 @@
 --   Untouched     a buffer that is in no stage gives 10 to every other call, and stays as it is
 --   RanBytes      a sequence of calls on bytes, each as its function promises
 --   RunBytes      over any sequence the bytes are those of the table's run, and the caller sees what the calls by value show
-use mathlib.Core.Path.{_≡_}
-use mathlib.Core.Bool.{false}
-use mathlib.Core.List.{List}
+use mathlib.Core.{Path._≡_, Bool.false, List.List}
 use Prim.Native.Nat.{ℕ}
 use lib.ListN.{length, replicate}
-use Rattle.refusals.specs.Seen.{done}
-use Rattle.refusals.specs.declared.Refusal.the-variants.{OutOfStage}
+use Rattle.refusals.specs.{Seen.done, declared.Refusal.the-variants.OutOfStage}
 use Rattle.refusals.specs.declared.Verdict.the-variants.{Fail}
-use Rattle.session.specs.declared.Stage.{Stage}
-use Rattle.session.specs.declared.Stage.the-variants.{Idle}
-use Rattle.session.specs.declared.Session.{Session}
-use Rattle.session.specs.Table.{Call, closing, run}
+use Rattle.session.specs.{declared.Stage.Stage, declared.Stage.the-variants.Idle}
+use Rattle.session.specs.{declared.Session.Session, Table.Call, Table.closing, Table.run}
 use Rattle.session.specs.Table as table
 use Rattle.session.specs.Seen.{CallSeen, ofClose, shownBy, turn}
 use Rattle.session.specs.Sequences.{RanBy, Ran, Sound}

@@ -4,17 +4,14 @@ use mathlib.Core.List.{List, _++_, append-assoc}
 use Prim.Native.Nat.{ℕ, _+_, _-_, _^_, _≤_, _<_}
 use native.Mathlib.Decide.{decLe}
 use native.Mathlib.Omega.{arith}
-use lib.Dec.{eqb}
-use lib.ListN.{length, take, drop, length-take, take-append-drop}
+use lib.{Dec.eqb, ListN.length, ListN.take, ListN.drop, ListN.length-take, ListN.take-append-drop}
 use lib.Seq.{take-all, take-append-add}
 use Rattle.lists.proofs.Table.{cond-all}
 use Rattle.text.specs.Text.{line}
-use Rattle.text.proofs.Numeral.{decimal-length}
-use Rattle.text.proofs.Lines.{line-forth, line-back}
+use Rattle.text.proofs.{Numeral.decimal-length, Lines.line-forth, Lines.line-back}
 use Rattle.text.proofs.Writing.{line-length}
 use Rattle.settings.specs.Settings.{Setup, formatName, Reading, setup, newer, misfit, reads}
-use Rattle.settings.specs.Steps.{sizeOf}
-use Rattle.settings.specs.Shown.{Is, Enough}
+use Rattle.settings.specs.{Steps.sizeOf, Shown.Is, Shown.Enough}
 use Rattle.settings.proofs.Inverse.{no-other, newer-told, newer-only}
 use Rattle.settings.proofs.Store.{size-is}
 

@@ -11,11 +11,10 @@ use lib.Dec.{eqb, ltb}
 use lib.ListN.{length, getD, take, drop, length-append, drop-of-length-le}
 use lib.Seq.{take-append-seam, getD-append-seam, split-at, length-take-le}
 use borrow.Author.Tests.{leb-true, ltb-true, ltb-false, eqb-true, le-leb, lt-ltb, le-ltb, eq-eqb}
-use Rattle.lists.specs.First.{firstWhere, both}
+use Rattle.lists.specs.First.{firstWhere}
 use Rattle.lists.proofs.Table.{both-true, cond-all}
 use Rattle.text.specs.Text.{LF, schemeName, line, Read, number, other, isDigit, begins, fieldIn}
-use Rattle.text.proofs.Reading.{begins-is}
-use Rattle.text.proofs.Runs.{run-all, run-take}
+use Rattle.text.proofs.{Reading.begins-is, Runs.run-all, Runs.run-take}
 use Rattle.text.proofs.Lines.{begins-front, line-forth, line-back}
 use Rattle.settings.specs.Settings.{Setup, setupOf, formatName, ruleName, labelName, formatOf, labelLine, textOf, isScheme, isRule, notAllowed, letters, Reading, setup, newer, misfit, wellSpelled, spelledIn, lastIn, endIn, tailIn, ruleIn, schemeIn, formatIn, reads}
 use Rattle.settings.specs.Shown.{Valid, Newer, TextRead, NoOther, NewerTold, NewerOnly, Back, SameBytes, SameReading, OlderTells, Upgraded}

@@ -3,8 +3,7 @@
 --   scheme-small, rule-is, rule-small   and which they are
 --   format-none, format-some   the format, by the label's length
 --   not-allowed                a byte that is no digit and no capital letter
-use mathlib.Core.Path.{_≡_, refl, _∙_}
-use mathlib.Core.Logic.{_⊎_, inl, inr}
+use mathlib.Core.{Path._≡_, Path.refl, Path._∙_, Logic._⊎_, Logic.inl, Logic.inr}
 use mathlib.Core.Bool.{Bool, true, false, cond, not, _||_, _&&_}
 use Prim.Native.Nat.{ℕ, zero, suc, _≤_, _<_}
 use native.Mathlib.Omega.{arith}

@@ -3,16 +3,14 @@
 --   read-short   what is seen where the room is shorter than that label
 --   read-laid    and where it was laid at the front of the zeros
 --   read-seen-all, read-told-all   `readSeen` and `readTold` forget nothing
-use mathlib.Core.Path.{_≡_, refl, _∙_, ap}
-use mathlib.Core.List.{List, _++_}
+use mathlib.Core.{Path._≡_, Path.refl, Path._∙_, Path.ap, List.List, List._++_}
 use Prim.Native.Nat.{ℕ, _≤_, _<_}
 use native.Mathlib.Omega.{arith}
 use lib.ListN.{length, take, drop, replicate, length-append}
 use lib.Seq.{take-append-seam}
 use borrow.Author.Tests.{lt-leb}
 use Rattle.lists.proofs.Same.{zeros-long}
-use Rattle.refusals.specs.Refusals.{roomFor}
-use Rattle.refusals.specs.Seen.{written, Told, done, refused}
+use Rattle.refusals.specs.{Refusals.roomFor, Seen.written, Seen.Told, Seen.done, Seen.refused}
 use Rattle.refusals.specs.declared.Refusal.{Refusal}
 use Rattle.refusals.specs.declared.Refusal.the-variants.{Short, Misfit, NewerFormat}
 use Rattle.refusals.specs.declared.Verdict.the-variants.{Pass, Fail}
@@ -20,8 +18,7 @@ use Rattle.refusals.proofs.Laws.{room-passes, failed, went-on}
 use Rattle.refusals.proofs.Seen.{written-passed, told-all}
 use Rattle.settings.specs.Settings.{Setup, formatOf, Reading, setup, newer, misfit, reads}
 use Rattle.settings.specs.Calls.{answerOf, Read, readingOf, readTests, formatTold, ReadSeen, ReadCounts, readShown, readResult, readTold, readSeen, ReadSeenAll, ReadToldAll}
-use Rattle.settings.specs.Steps.{lentOf, shortOf}
-use Rattle.settings.specs.declared.ReadAnswer.{ReadAnswer}
+use Rattle.settings.specs.{Steps.lentOf, Steps.shortOf, declared.ReadAnswer.ReadAnswer}
 use Rattle.settings.specs.declared.LentAnswer.{LentAnswer}
 
 pub label-fits : (reader : ℕ) (xs : List ℕ) {a : ReadAnswer} → a ≡ answerOf (reads reader xs) → a .settings .count ≤ length (a .settings .label)

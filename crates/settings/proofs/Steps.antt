@@ -11,22 +11,17 @@ use mathlib.Core.List.{List, [], _∷_, _++_}
 use Prim.Native.Nat.{ℕ, suc, _+_, _-_, _≤_, _<_}
 use native.Mathlib.Numerals.{add-one}
 use native.Mathlib.Omega.{arith}
-use lib.Dec.{eqb, leb}
+use lib.{Dec.eqb, Dec.leb, Seq.drop-cons}
 use lib.ListN.{length, getD, take, drop, replicate, length-append, length-drop, drop-of-length-le}
-use lib.Seq.{drop-cons}
 use borrow.Author.Tests.{leb-true, eqb-true, le-leb, lt-leb, lt-ltb, le-ltb, ne-eqb}
 use Rattle.lists.specs.First.{both}
-use Rattle.lists.proofs.Table.{both-true}
-use Rattle.lists.proofs.Parts.{part, to-end, drop-same}
+use Rattle.lists.proofs.{Table.both-true, Parts.part, Parts.to-end, Parts.drop-same}
 use Rattle.text.specs.Text.{LF, schemeName, begins, fieldIn, Read}
-use Rattle.text.specs.Steps.{Reads, labelIn, behind}
-use Rattle.text.specs.declared.Found.{Found}
+use Rattle.text.specs.{Steps.Reads, Steps.labelIn, Steps.behind, declared.Found.Found}
 use Rattle.text.specs.declared.Found.the-variants as found
-use Rattle.text.proofs.Reading.{begins-is}
-use Rattle.text.proofs.Lines.{told-number, told-other}
+use Rattle.text.proofs.{Reading.begins-is, Lines.told-number, Lines.told-other}
 use Rattle.settings.specs.Settings.{setupOf, formatName, ruleName, labelName, isScheme, isRule, letters, setup, newer, misfit, wellSpelled, spelledIn, lastIn, endIn, tailIn, ruleIn, schemeIn, formatIn, reads}
-use Rattle.settings.specs.Calls.{answerOf}
-use Rattle.settings.specs.declared.ReadAnswer.{ReadAnswer}
+use Rattle.settings.specs.{Calls.answerOf, declared.ReadAnswer.ReadAnswer}
 
 -- ---- a label
 

@@ -10,14 +10,11 @@
 use mathlib.Core.Bool.{Bool, true, false, cond}
 use mathlib.Core.List.{List, [], _∷_, _++_}
 use Prim.Native.Nat.{ℕ, zero, suc}
-use lib.Dec.{eqb, leb, ltb}
-use lib.ListN.{length, getD, take, drop}
+use lib.{Dec.eqb, Dec.leb, Dec.ltb, ListN.length, ListN.getD, ListN.take, ListN.drop}
 use Rattle.lists.specs.First.{firstWhere, both}
-use Rattle.schemes.specs.Schemes.{schemeOf}
-use Rattle.schemes.specs.declared.Named.{Named}
+use Rattle.schemes.specs.{Schemes.schemeOf, declared.Named.Named}
 use Rattle.schemes.specs.declared.Named.the-variants as named
-use Rattle.noise.specs.Expand.{ruleOf}
-use Rattle.noise.specs.declared.Ruled.{Ruled}
+use Rattle.noise.specs.{Expand.ruleOf, declared.Ruled.Ruled}
 use Rattle.noise.specs.declared.Ruled.the-variants as ruled
 use Rattle.text.specs.Text.{LF, schemeName, line, Read, number, other, isDigit, begins, fieldIn}
 

@@ -12,9 +12,7 @@
 --   Upgraded            hence what the format 1 reader reads, the format 2 reader reads as the same settings
 --   OlderTells          of settings with a label the format 1 reader says that they are in format 2
 --   Enough              50 bytes tell, of which settings have at most 49
-use mathlib.Core.Path.{_≡_}
-use mathlib.Core.Bool.{true}
-use mathlib.Core.List.{List}
+use mathlib.Core.{Path._≡_, Bool.true, List.List}
 use Prim.Native.Nat.{ℕ, _≤_, _<_}
 use lib.ListN.{length, take}
 use Rattle.refusals.specs.Seen.{answer}

@@ -7,11 +7,9 @@ use Prim.Native.Nat.{ℕ, _+_}
 use lib.Dec.{eqb}
 use Rattle.refusals.specs.declared.Answer.the-variants.{Done, Refused}
 use Rattle.refusals.specs.declared.Refusal.the-variants.{Short, Misfit, NewerFormat}
-use Rattle.settings.specs.Settings.{formatOf}
-use Rattle.settings.specs.declared.Ending.{Ending}
+use Rattle.settings.specs.{Settings.formatOf, declared.Ending.Ending}
 use Rattle.settings.specs.declared.Ending.the-variants as ending
-use Rattle.settings.specs.declared.Settings.{Settings}
-use Rattle.settings.specs.declared.LentAnswer.{LentAnswer}
+use Rattle.settings.specs.{declared.Settings.Settings, declared.LentAnswer.LentAnswer}
 
 abbrev pub lentOf : Ending → Settings → LentAnswer
 lentOf ending.Read s = record { answer = Done (s .count); format = formatOf (s .count); scheme = s .scheme; rule = s .rule }

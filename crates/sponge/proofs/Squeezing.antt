@@ -2,8 +2,7 @@
 --   Squeezed         what holds after j whole blocks of the output
 --   squeeze-none, squeeze-more   before, and at each turn
 --   squeeze-all      after the last block, which fills what is left of the output
-use mathlib.Core.Path.{_≡_, refl, sym, ap, ap₂, _∙_}
-use mathlib.Core.List.{List}
+use mathlib.Core.{Path._≡_, Path.refl, Path.sym, Path.ap, Path.ap₂, Path._∙_, List.List}
 use Prim.Native.Nat.{ℕ, _+_, _-_, _*_, _/_, _%_, _≤_, _<_}
 use native.Mathlib.Numerals.{add-one}
 use native.Mathlib.Omega.{arith}

@@ -14,11 +14,9 @@
 --   sha3 m              6.1: rate 1088 bits, suffix 01; the first byte of the ending is 2 and, for the padding, 4
 -- What is shown of them:
 --   Longer              a longer output of SHAKE-128 begins with the shorter one
-use mathlib.Core.Path.{_≡_}
-use mathlib.Core.List.{List, [], _∷_, _++_}
+use mathlib.Core.{Path._≡_, List.List, List.[], List._∷_, List._++_}
 use Prim.Native.Nat.{ℕ, zero, suc, _+_, _-_, _*_, _/_, _%_, _^_}
-use lib.Bits.{bitXor}
-use lib.ListN.{length, getD, take, drop, replicate}
+use lib.{Bits.bitXor, ListN.length, ListN.getD, ListN.take, ListN.drop, ListN.replicate}
 use Rattle.lists.specs.Entries.{tab}
 use Rattle.packing.specs.Packing.{value}
 use Rattle.keccak.specs.Keccak.{keccakF}

@@ -2,15 +2,13 @@
 --   answers      what was written over zeros is one
 --   within       it lies in that room
 --   one-answer   a promise has one result
-use mathlib.Core.Path.{_≡_, _∙_, sym, ap}
-use mathlib.Core.List.{List, _++_}
+use mathlib.Core.{Path._≡_, Path._∙_, Path.sym, Path.ap, List.List, List._++_}
 use Prim.Native.Nat.{ℕ, _-_, _≤_}
 use native.Mathlib.Nat.{zero-add}
 use native.Mathlib.Omega.{arith}
 use lib.ListN.{length, replicate, length-append}
 use Rattle.lists.proofs.Parts.{drop-same}
-use Rattle.text.specs.Steps.{put, Written}
-use Rattle.text.specs.Answer.{Answers, OneAnswer}
+use Rattle.text.specs.{Steps.put, Steps.Written, Answer.Answers, Answer.OneAnswer}
 
 pub answers : {xs ys e : List ℕ} {r : ℕ} (room : ℕ) → xs ≡ ys → Written 0 xs (replicate room 0) e r → Answers room ys r e
 unfolding put

@@ -15,8 +15,7 @@ use native.Mathlib.Decide.{decLt}
 use native.Mathlib.Nat.{not-suc-le-zero, pow-succ', zero-add}
 use native.Mathlib.Numerals.{add-one}
 use native.Mathlib.Omega.{arith}
-use lib.Dec.{leb, ltb}
-use lib.ListN.{length, getD, take, length-append}
+use lib.{Dec.leb, Dec.ltb, ListN.length, ListN.getD, ListN.take, ListN.length-append}
 use borrow.Author.Tests.{leb-true, lt-ltb, le-ltb, le-leb}
 use Rattle.lists.specs.First.{firstWhere, both}
 use Rattle.text.specs.Text.{digitsUpTo, decimal, isDigit, notDigit, run, valueOf}

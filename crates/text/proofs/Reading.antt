@@ -16,16 +16,13 @@ use native.Mathlib.Decide.{decLt}
 use native.Mathlib.Nat.{pow-succ', pow-le-pow-right}
 use native.Mathlib.Numerals.{add-one}
 use native.Mathlib.Omega.{arith}
-use lib.Dec.{eqb, leb, ltb}
+use lib.{Dec.eqb, Dec.leb, Dec.ltb, Seq.drop-cons, Seq.drop-drop}
 use lib.ListN.{length, getD, take, drop, drop-of-length-le, length-append, length-drop, List·getD-eq-default}
-use lib.Seq.{drop-cons, drop-drop}
 use borrow.Author.Tests.{leb-true, leb-false, eqb-true, lt-ltb, le-ltb, le-leb, lt-leb, eq-eqb, ne-eqb}
 use Rattle.lists.specs.First.{both}
-use Rattle.lists.proofs.Table.{both-true}
-use Rattle.lists.proofs.Parts.{part, to-end}
+use Rattle.lists.proofs.{Table.both-true, Parts.part, Parts.to-end}
 use Rattle.text.specs.Text.{LF, number, isDigit, notDigit, run, valueOf, wellFormed, numberIn, begins}
-use Rattle.text.specs.Steps.{Reads, labelIn}
-use Rattle.text.specs.declared.Found.{Found}
+use Rattle.text.specs.{Steps.Reads, Steps.labelIn, declared.Found.Found}
 use Rattle.text.specs.declared.Found.the-variants as found
 
 -- ---- digits

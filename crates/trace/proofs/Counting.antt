@@ -6,13 +6,11 @@ use mathlib.Core.List.{List, [], _∷_}
 use Prim.Native.Nat.{ℕ, zero, suc, _+_, _-_, _≤_, _<_}
 use native.Mathlib.Omega.{arith}
 use lib.ListN.{length, drop, drop-of-length-le, length-drop}
-use Rattle.trace.specs.Trace.{two, neither, twoIn}
+use Rattle.trace.specs.{Trace.two, Trace.neither, Trace.twoIn, declared.Tally.Tally}
 use Rattle.trace.specs.Steps.{twoOf, endOf, Reads, zeros, added, counted, lost, run, Held}
-use Rattle.trace.specs.declared.Tally.{Tally}
 use Rattle.trace.specs.declared.Pair.{Pair}
 use Rattle.trace.specs.declared.Pair.the-variants as pair
-use Rattle.trace.proofs.Reading.{two-back}
-use Rattle.trace.proofs.Tallying.{held-none}
+use Rattle.trace.proofs.{Reading.two-back, Tallying.held-none}
 
 run-end : (k : ℕ) (t : Tally) → run k [] t ≡ counted t
 unfolding run

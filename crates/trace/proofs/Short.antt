@@ -7,13 +7,10 @@ use mathlib.Core.List.{List, [], _∷_, _++_}
 use Prim.Native.Nat.{ℕ, suc, _*_, _^_, _≤_, _<_}
 use native.Mathlib.Decide.{decLe}
 use native.Mathlib.Omega.{arith}
-use lib.Dec.{eqb}
-use lib.ListN.{length, take, length-append, length-take}
-use lib.Seq.{take-all}
+use lib.{Dec.eqb, ListN.length, ListN.take, ListN.length-append, ListN.length-take, Seq.take-all}
 use Rattle.lists.specs.First.{largestBy}
 use Rattle.text.specs.Text.{schemeName, line}
-use Rattle.text.proofs.Numeral.{decimal-length}
-use Rattle.text.proofs.Writing.{line-length}
+use Rattle.text.proofs.{Numeral.decimal-length, Writing.line-length}
 use Rattle.trace.specs.Trace.{exchangesName, sumName, largestName, Exchange, traced, Trace, recorded, unread, recordedIn, slacksOf, total, block, blockOf, summary, answerTo, answered}
 use Rattle.trace.specs.Exactly.{Valid, none, some, Short, bytes, Enough}
 use Rattle.trace.proofs.Exactly.{no-other}

@@ -10,14 +10,12 @@ use native.Mathlib.Numerals.{add-one}
 use native.Mathlib.Omega.{arith}
 use lib.ListN.{length, drop}
 use borrow.Author.Tests.{eq-eqb, ne-eqb}
-use Rattle.text.specs.Text.{schemeName, line}
-use Rattle.text.specs.Answer.{refusalName}
+use Rattle.text.specs.{Text.schemeName, Text.line, Answer.refusalName}
 use Rattle.text.specs.Steps.{labelled, Written}
 use Rattle.text.proofs.Writing.{joined, Left, left-all, left-room, left-next, left-none, written-none}
 use Rattle.trace.specs.Trace.{exchangesName, sumName, largestName, block}
 use Rattle.trace.specs.Steps.{blockAt, summaryOf, ranBy, ranOf, textOf}
-use Rattle.trace.specs.declared.Tally.{Tally}
-use Rattle.trace.specs.declared.Counted.{Counted}
+use Rattle.trace.specs.{declared.Tally.Tally, declared.Counted.Counted}
 
 abbrev label : List ℕ → List ℕ
 label name = name ++ 61 ∷ []

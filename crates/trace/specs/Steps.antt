@@ -5,18 +5,14 @@
 --   Held n t              the counters of n exchanges: six of each, and how large they are
 --   summaryOf t           the summary, by the counters
 --   ranOf c, textOf r     what a `Counted` means, and its text
-use mathlib.Core.Path.{_≡_}
-use mathlib.Core.Bool.{Bool, true, false}
+use mathlib.Core.{Path._≡_, Bool.Bool, Bool.true, Bool.false}
 use mathlib.Core.List.{List, [], _∷_, _++_}
 use Prim.Native.Nat.{ℕ, zero, suc, _+_, _*_, _≤_, max}
 use lib.ListN.{length, getD, set, drop, replicate}
-use Rattle.text.specs.Text.{line}
-use Rattle.text.specs.Answer.{refusalName}
+use Rattle.text.specs.{Text.line, Answer.refusalName}
 use Rattle.trace.specs.Trace.{Two, two, neither, twoIn, block}
-use Rattle.trace.specs.declared.Pair.{Pair}
+use Rattle.trace.specs.{declared.Pair.Pair, declared.Tally.Tally, declared.Counted.Counted}
 use Rattle.trace.specs.declared.Pair.the-variants as pair
-use Rattle.trace.specs.declared.Tally.{Tally}
-use Rattle.trace.specs.declared.Counted.{Counted}
 
 abbrev pub twoOf : List ℕ → Pair → Two
 twoOf xs (pair.Exchange a b k) = two a b (drop k xs)

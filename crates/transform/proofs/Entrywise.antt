@@ -3,18 +3,15 @@
 --   combine-fits     a product of reduced numbers, and one more
 --   combined         a x + y, where only the sum is reduced
 --   noised           x + e, where e is reduced entry by entry
-use mathlib.Core.Path.{_≡_, _∙_, sym, ap}
-use mathlib.Core.List.{List}
+use mathlib.Core.{Path._≡_, Path._∙_, Path.sym, Path.ap, List.List}
 use Prim.Native.Nat.{ℕ, _+_, _*_, _%_, _^_, _<_}
 use native.Mathlib.Omega.{arith}
 use native.Mathlib.Nat.{mul-le-mul, mod-add-mod, mul-comm}
-use lib.IntN.{ℤ}
-use lib.ListN.{getD}
+use lib.{IntN.ℤ, ListN.getD}
 use Rattle.numbers.specs.Residue.{residue}
 use Rattle.lists.specs.Entries.{tab, ints}
 use Rattle.lists.proofs.Entries.{tab-at, tab-ext}
-use Rattle.transform.specs.Theorems.{entrywise, summed}
-use Rattle.transform.specs.Level.{reduced}
+use Rattle.transform.specs.{Theorems.entrywise, Theorems.summed, Level.reduced}
 
 pub turned-round : (f g : List ℕ) → entrywise f g ≡ entrywise g f
 unfolding entrywise

@@ -2,15 +2,12 @@
 --   transformed-sums, transformed-at   the transform by powers of 7 alone, and an entry of it modulo 12289
 --   inverted-scaled                    the inverse as the code computes it
 --   inverted-transformed, transformed-inverted   each undoes the other
-use mathlib.Core.Path.{_≡_, _∙_, sym, ap}
-use mathlib.Core.List.{List}
+use mathlib.Core.{Path._≡_, Path._∙_, Path.sym, Path.ap, List.List}
 use Prim.Native.Nat.{ℕ, _+_, _-_, _*_, _%_, _^_, _<_}
 use native.Mathlib.Omega.{arith}
 use native.Mathlib.Decide.{ℕ-discrete}
 use native.Mathlib.Nat.{mul-comm, mul-assoc}
-use lib.IntN.{pos}
-use lib.ListN.{length, getD}
-use lib.Pow.{pow-add}
+use lib.{IntN.pos, ListN.length, ListN.getD, Pow.pow-add}
 use Rattle.numbers.specs.Sum.{sumℕ}
 use Rattle.numbers.proofs.Sums.{natural, sum-ext, sum-mul, sum-mul-right, sum-swap}
 use Rattle.numbers.proofs.Congruence.{eq-≅, refl-≅, sym-≅, _⨾_, mul-≅, mod-≅, same-mod}

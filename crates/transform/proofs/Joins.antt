@@ -3,9 +3,7 @@
 --   butterflies-none, run-more   before, and after one more of a run
 --   product-fits, exponent-≤   the products, and the power that a run reads
 --   next-run                   a run ends within its block
-use mathlib.Core.Path.{_≡_, _∙_, ap, ap₂}
-use mathlib.Core.List.{List}
-use mathlib.Core.Logic.{_≢_}
+use mathlib.Core.{Path._≡_, Path._∙_, Path.ap, Path.ap₂, List.List, Logic._≢_}
 use Prim.Native.Nat.{ℕ, zero, suc, _+_, _-_, _*_, _/_, _%_, _^_, _<_, _≤_}
 use native.Mathlib.Omega.{arith}
 use native.Mathlib.Nat.{add-assoc, not-suc-le-zero, mul-div-le, mul-le-mul, mul-le-mul-left, mul-le-mul-right, div-mul-le-self, div-add-mod, div-add-mod', div-lt-iff-lt-mul, mul-div-mul-left, lt-div-mul-add, div-eq-of-lt-le}

@@ -3,16 +3,12 @@
 --   Holds g a m s xs    xs holds all of them modulo 12289, that of point i and offset o at i s + o, each in 16 bits
 --   holds-start, holds-level, holds-end   before, at each level, and after
 --   five-levels         half of the ten
-use mathlib.Core.Path.{_≡_, refl, _∙_, sym, ap, ap₂}
-use mathlib.Core.List.{List}
+use mathlib.Core.{Path._≡_, Path.refl, Path._∙_, Path.sym, Path.ap, Path.ap₂, List.List}
 use Prim.Native.Nat.{ℕ, _+_, _-_, _*_, _/_, _%_, _^_, _<_, _≤_}
 use native.Mathlib.Omega.{arith}
 use native.Mathlib.Decide.{decLt}
 use native.Mathlib.Nat.{mul-left-comm, mul-assoc, mul-le-mul-right}
-use lib.Arith.{digits-div}
-use lib.IntN.{pos}
-use lib.ListN.{getD, List·getD-eq-default}
-use lib.Pow.{pow-add}
+use lib.{Arith.digits-div, IntN.pos, ListN.getD, ListN.List·getD-eq-default, Pow.pow-add}
 use Rattle.numbers.specs.Sum.{sum, sumℕ}
 use Rattle.numbers.proofs.Sums.{natural, sum-ext, sum-mul, sum-double}
 use Rattle.numbers.proofs.Congruence.{eq-≅, refl-≅, sym-≅, _⨾_, add-≅, mul-≅, mod-≅, same-mod}

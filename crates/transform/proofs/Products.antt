@@ -2,13 +2,10 @@
 --   transformed-multiplied   the transform of a product has the products of the entries
 --   multiplied-through       so the product comes back from them
 --   transformed-summed       the transform of a sum has the sums of the entries
-use mathlib.Core.Path.{_≡_, _∙_, sym, ap}
-use mathlib.Core.List.{List}
+use mathlib.Core.{Path._≡_, Path._∙_, Path.sym, Path.ap, List.List}
 use Prim.Native.Nat.{ℕ, _+_, _*_, _^_, _<_}
 use native.Mathlib.Omega.{arith}
-use lib.IntN.{ℤ, pos, negℤ}
-use lib.ListN.{getD}
-use lib.Pow.{pow-add}
+use lib.{IntN.ℤ, IntN.pos, IntN.negℤ, ListN.getD, Pow.pow-add}
 use Rattle.numbers.specs.Congruence.{_≅⟨_⟩_}
 use Rattle.numbers.proofs.Sums.{natural, sum-ext, sum-add, pos-sum}
 use Rattle.numbers.proofs.Congruence.{eq-≅, refl-≅, sym-≅, _⨾_, add-≅, mul-≅, mod-≅, residue-≅}

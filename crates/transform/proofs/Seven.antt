@@ -5,21 +5,16 @@
 --   forty-nine, seven-back, forty-nine-back   49, 8778 and 1254 as powers of 7
 --   table-rule        where the test passes over a table of 2,048 entries, each entry is its power of 7
 --   power-lt          an entry of the table is below 12289
-use mathlib.Core.Path.{_≡_, sym, ap}
-use mathlib.Core.Bool.{Bool}
-use mathlib.Core.List.{List}
+use mathlib.Core.{Path._≡_, Path.sym, Path.ap, Bool.Bool, List.List}
 use Prim.Native.Nat.{ℕ, _+_, _*_, _%_, _^_, _<_}
 use native.Mathlib.Nat.{mul-one, mod-lt}
 use native.Mathlib.Omega.{arith}
 use native.Mathlib.Decide.{decLt}
-use lib.IntN.{pos}
-use lib.Pow.{pow-add}
-use lib.Dec.{T, eqb, eqb→eq}
+use lib.{IntN.pos, Pow.pow-add, Dec.T, Dec.eqb, Dec.eqb→eq}
 use lib.ListN.{length, getD, List·getD-eq-default}
 use Rattle.numbers.specs.Congruence.{_≅⟨_⟩_}
 use Rattle.numbers.proofs.Congruence.{eq-≅, refl-≅, sym-≅, _⨾_, mul-≅, mod-≅}
-use Rattle.numbers.proofs.Natural.{one-pow, power-power}
-use Rattle.numbers.proofs.Modular.{pow-≅}
+use Rattle.numbers.proofs.{Natural.one-pow, Natural.power-power, Modular.pow-≅}
 use Rattle.lists.proofs.Table.{every, at}
 use Rattle.transform.specs.Theorems.{TableRule}
 

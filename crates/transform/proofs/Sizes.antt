@@ -1,11 +1,9 @@
 -- What the transform, its inverse, the operations on polynomials and what is computed on the way give has 1,024 entries, each below 12289: NAME-length and NAME-below of each.
-use mathlib.Core.Path.{_≡_}
-use mathlib.Core.List.{List}
+use mathlib.Core.{Path._≡_, List.List}
 use Prim.Native.Nat.{ℕ}
 use native.Mathlib.Omega.{arith}
 use native.Mathlib.Nat.{mod-lt}
-use lib.ListN.{length}
-use lib.IntN.{ℤ}
+use lib.{ListN.length, IntN.ℤ}
 use Rattle.numbers.proofs.Congruence.{residue-lt}
 use Rattle.lists.specs.Ranges.{Below}
 use Rattle.lists.proofs.Entries.{tab-length, below-tab}

@@ -14,13 +14,10 @@
 --   sums a g                 what ten levels come to: entry i is the sum over j of g_j 7^(j (a + 2i))
 --   scaled f                 entry k is entry 1024 - k of f times 12 7^(1024 - k)
 --   reduced s                secrets or noise, each reduced to 0 .. q - 1
-use mathlib.Core.Path.{_≡_}
-use mathlib.Core.List.{List}
+use mathlib.Core.{Path._≡_, List.List}
 use Prim.Native.Nat.{ℕ, _+_, _-_, _*_, _/_, _%_, _^_, _<_, _≤_}
-use lib.ListN.{length, getD, set}
-use lib.IntN.{ℤ}
-use Rattle.numbers.specs.Sum.{sumℕ}
-use Rattle.numbers.specs.Residue.{residue}
+use lib.{ListN.length, ListN.getD, ListN.set, IntN.ℤ}
+use Rattle.numbers.specs.{Sum.sumℕ, Residue.residue}
 use Rattle.lists.specs.Entries.{tab, ints}
 
 unfoldable pub tight : ℕ → ℕ

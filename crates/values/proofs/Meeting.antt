@@ -1,17 +1,13 @@
 -- How far the values of the two ends lie apart, by the scheme: d = s'e + e'' - e's, of any a, lent as it is.
 --   differenceOf c s e s' e' e'' k   entry k of d, before any remainder
 --   values-apart                     the values are as far apart as d is from a multiple of q
-use mathlib.Core.Path.{_≡_, subst}
-use mathlib.Core.List.{List}
+use mathlib.Core.{Path._≡_, Path.subst, List.List}
 use Prim.Native.Nat.{ℕ, _/_, _%_, _<_}
 use native.Mathlib.Nat.{div-add-mod'}
 use native.Mathlib.Omega.{arith}
-use lib.IntN.{ℤ}
-use lib.ListN.{getD}
-use Rattle.schemes.specs.Schemes.{byFamily, familyOf, fixedOf}
-use Rattle.schemes.specs.declared.Family.{Family}
-use Rattle.schemes.specs.declared.Fixed.{Fixed}
-use Rattle.schemes.specs.declared.Scheme.{Scheme}
+use lib.{IntN.ℤ, ListN.getD}
+use Rattle.schemes.specs.{Schemes.byFamily, Schemes.familyOf, Schemes.fixedOf, declared.Fixed.Fixed}
+use Rattle.schemes.specs.{declared.Family.Family, declared.Scheme.Scheme}
 use Rattle.numbers.specs.Residue.{distance, apart}
 use Rattle.polynomial.specs.Product as polynomial
 use Rattle.polynomial.specs.Difference as polynomials-apart

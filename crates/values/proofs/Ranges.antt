@@ -1,14 +1,12 @@
 -- The values of both ends: as many as the scheme has, each below q, of whatever they are computed.
 --   offered-counted, replied-counted   b and u, as they travel
 --   mixed-counted, bare-counted        v and w
-use mathlib.Core.Path.{_≡_, _∙_, sym}
-use mathlib.Core.List.{List}
+use mathlib.Core.{Path._≡_, Path._∙_, Path.sym, List.List}
 use Prim.Native.Nat.{ℕ, _*_, _<_}
 use native.Mathlib.Nat.{mul-comm}
 use native.Mathlib.Omega.{arith}
 use lib.IntN.{ℤ}
-use Rattle.schemes.specs.Schemes.{familyOf, fixedOf}
-use Rattle.schemes.specs.declared.Fixed.{Fixed}
+use Rattle.schemes.specs.{Schemes.familyOf, Schemes.fixedOf, declared.Fixed.Fixed}
 use Rattle.schemes.specs.declared.Scheme.{Scheme}
 use Rattle.numbers.specs.Residue.{residue}
 use Rattle.numbers.proofs.Congruence.{residue-lt}

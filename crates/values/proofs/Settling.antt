@@ -5,14 +5,11 @@
 --   Told X, tell     what a function knows in an arm: what it is given, what `scheme.family()` returned, and the interval and the key bits
 --   frodo            what it knows in Frodo's arm, where the interval and the key bits are what the arm computed
 --   hints-asks, hints-made, keys-asks, keys-made, peers-asks, peers-made, slacks-asks, slacks-made   in the arms; NewHope's keys are the bits of its own hints
-use mathlib.Core.Path.{_≡_, refl, _∙_, sym, ap, subst}
-use mathlib.Core.List.{List}
+use mathlib.Core.{Path._≡_, Path.refl, Path._∙_, Path.sym, Path.ap, Path.subst, List.List}
 use Prim.Native.Nat.{ℕ, _*_, _^_}
 use lib.ListN.{length, replicate, length-replicate}
-use Rattle.schemes.specs.Schemes.{byFamily, familyOf, fixedOf}
-use Rattle.schemes.specs.declared.Family.{Family}
-use Rattle.schemes.specs.declared.Fixed.{Fixed}
-use Rattle.schemes.specs.declared.Scheme.{Scheme}
+use Rattle.schemes.specs.{Schemes.byFamily, Schemes.familyOf, Schemes.fixedOf, declared.Fixed.Fixed}
+use Rattle.schemes.specs.{declared.Family.Family, declared.Scheme.Scheme}
 use Rattle.lists.specs.Ranges.{Below}
 use Rattle.bcns.specs.Rounding as bcns-spec
 use Rattle.newhope.specs.Group as newhope-spec

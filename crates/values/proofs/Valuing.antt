@@ -6,22 +6,16 @@
 --   offer-made, reply-made     and what they are where none is
 --   mix-asks, mix-made         the replier's value
 --   multiply-asks, multiply-made   the initiator's value
-use mathlib.Core.Path.{_≡_, refl, _∙_, sym, ap}
-use mathlib.Core.List.{List}
+use mathlib.Core.{Path._≡_, Path.refl, Path._∙_, Path.sym, Path.ap, List.List}
 use Prim.Native.Nat.{ℕ, _*_, _<_, _≤_}
 use native.Mathlib.Nat.{le-trans}
 use native.Mathlib.Omega.{arith}
-use lib.Dec.{leb, lit≤}
-use lib.ListN.{length}
-use lib.IntN.{ℤ}
+use lib.{Dec.leb, Dec.lit≤, ListN.length, IntN.ℤ}
 use borrow.Author.Tests.{lt-leb}
 use Rattle.schemes.specs.Schemes.{bcns, byFamily, familyOf, fixedOf}
-use Rattle.schemes.specs.declared.Family.{Family}
-use Rattle.schemes.specs.declared.Fixed.{Fixed}
-use Rattle.schemes.specs.declared.Scheme.{Scheme}
+use Rattle.schemes.specs.{declared.Family.Family, declared.Fixed.Fixed, declared.Scheme.Scheme}
 use Rattle.schemes.proofs.Sound.{sound}
-use Rattle.lists.specs.Ranges.{Below, Within}
-use Rattle.lists.specs.First.{firstOver}
+use Rattle.lists.specs.{Ranges.Below, Ranges.Within, First.firstOver}
 use Rattle.lists.proofs.First.{none-found, all-below}
 use Rattle.polynomial.specs.Fit as polynomial-fit
 use Rattle.polynomial.specs.Product as polynomial

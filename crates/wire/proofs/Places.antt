@@ -20,15 +20,11 @@ use lib.Seq.{take-at, drop-at, take-all, length-take-le}
 use borrow.Rule.Slice.PartMut.{putMid}
 use Rattle.lists.specs.Ranges.{Below}
 use Rattle.lists.proofs.Parts.{part-long, joined}
-use Rattle.schemes.specs.Schemes.{familyOf, fixedOf, byFamily}
-use Rattle.schemes.specs.declared.Family.{Family}
-use Rattle.schemes.specs.declared.Fixed.{Fixed}
-use Rattle.schemes.specs.declared.Scheme.{Scheme}
-use Rattle.schemes.proofs.Laws.{tied}
-use Rattle.schemes.proofs.Sound.{sound}
+use Rattle.schemes.specs.{Schemes.familyOf, Schemes.fixedOf, Schemes.byFamily, declared.Fixed.Fixed}
+use Rattle.schemes.specs.{declared.Family.Family, declared.Scheme.Scheme}
+use Rattle.schemes.proofs.{Laws.tied, Sound.sound}
 use Rattle.packing.specs.Packing.{packed, unpacked}
-use Rattle.refusals.specs.Refusals.{receivedIn}
-use Rattle.refusals.specs.declared.Verdict.{Verdict}
+use Rattle.refusals.specs.{Refusals.receivedIn, declared.Verdict.Verdict}
 use Rattle.values.specs.Fit.{Counted}
 use Rattle.wire.specs.Wire.{opening, packedAt, openedIn, repliedIn, numbersIn, hintsIn, coinsIn, seedAt}
 use Rattle.wire.proofs.Whole.{numbers, hints, keys, coins, fit, long, hold}

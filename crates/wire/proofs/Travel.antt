@@ -8,8 +8,7 @@
 --   opening-back, reply-back, opening-again, reply-again   what is stated in specs/Again
 --   hints-given, coins-given     hints and coins are as many as the scheme has, each within its bits
 --   message-counted              numbers that are not refused are as many as the scheme has, each below q
-use mathlib.Core.Path.{_≡_, sym, ap, ap₂, _∙_}
-use mathlib.Core.List.{List, _++_}
+use mathlib.Core.{Path._≡_, Path.sym, Path.ap, Path.ap₂, Path._∙_, List.List, List._++_}
 use Prim.Native.Nat.{ℕ, _+_, _^_}
 use native.Mathlib.Nat.{le-refl}
 use native.Mathlib.Omega.{arith}
@@ -18,14 +17,11 @@ use lib.Seq.{take-at, drop-at, take-all}
 use Rattle.lists.specs.Ranges.{Below}
 use Rattle.lists.proofs.Parts.{below-take, below-drop}
 use Rattle.schemes.specs.Schemes.{familyOf, fixedOf, byFamily}
-use Rattle.schemes.specs.declared.Family.{Family}
-use Rattle.schemes.specs.declared.Scheme.{Scheme}
-use Rattle.schemes.proofs.Laws.{tied}
-use Rattle.schemes.proofs.Sound.{sound}
+use Rattle.schemes.specs.{declared.Family.Family, declared.Scheme.Scheme}
+use Rattle.schemes.proofs.{Laws.tied, Sound.sound}
 use Rattle.packing.specs.Packing.{packed, unpacked}
 use Rattle.packing.proofs.Laws.{unpacked-length, unpacked-below}
-use Rattle.refusals.specs.Refusals.{notBlank, receivedIn}
-use Rattle.refusals.specs.declared.Verdict.{Verdict}
+use Rattle.refusals.specs.{Refusals.notBlank, Refusals.receivedIn, declared.Verdict.Verdict}
 use Rattle.refusals.specs.declared.Verdict.the-variants.{Pass}
 use Rattle.refusals.proofs.Laws.{both, message-passed}
 use Rattle.values.specs.Fit.{Counted}

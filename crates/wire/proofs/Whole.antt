@@ -7,17 +7,14 @@
 --   back           numbers packed and unpacked are the same
 --   as-blank       they are blank where their bytes are
 --   again          bytes unpacked and packed are the same
-use mathlib.Core.Path.{_≡_, sym, ap, _∙_}
-use mathlib.Core.List.{List}
+use mathlib.Core.{Path._≡_, Path.sym, Path.ap, Path._∙_, List.List}
 use Prim.Native.Nat.{ℕ, _*_, _^_, _≤_, _<_}
 use native.Mathlib.Nat.{lt-of-lt-of-le}
 use native.Mathlib.Omega.{arith}
 use lib.ListN.{length}
 use Rattle.lists.specs.Ranges.{Below}
-use Rattle.schemes.specs.Schemes.{fixedOf}
-use Rattle.schemes.specs.declared.Scheme.{Scheme}
-use Rattle.schemes.proofs.Laws.{tied}
-use Rattle.schemes.proofs.Sound.{sound}
+use Rattle.schemes.specs.{Schemes.fixedOf, declared.Scheme.Scheme}
+use Rattle.schemes.proofs.{Laws.tied, Sound.sound}
 use Rattle.packing.specs.Packing.{packed, unpacked}
 use Rattle.packing.proofs.Laws.{packed-length, unpack-pack, pack-unpack}
 use Rattle.refusals.specs.Refusals.{notBlank}

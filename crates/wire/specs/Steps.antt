@@ -2,16 +2,12 @@
 --   replySecrets c s' e' e''       the tests of the replier's secrets
 --   messageBy c u v coins, keyBy c v coins   the reply message and the key, of u and v
 --   Rooms c tosses hints entries   there is room for the coins as numbers, the hints and the entries of the key
-use mathlib.Core.Path.{_≡_}
-use mathlib.Core.List.{List, _++_}
+use mathlib.Core.{Path._≡_, List.List, List._++_}
 use Prim.Native.Nat.{ℕ}
-use lib.IntN.{ℤ}
-use lib.ListN.{length}
-use Rattle.schemes.specs.Schemes.{fixedOf}
-use Rattle.schemes.specs.declared.Scheme.{Scheme}
+use lib.{IntN.ℤ, ListN.length}
+use Rattle.schemes.specs.{Schemes.fixedOf, declared.Scheme.Scheme}
 use Rattle.packing.specs.Packing.{packed}
-use Rattle.refusals.specs.Refusals.{_then_, secretsIn}
-use Rattle.refusals.specs.declared.Verdict.{Verdict}
+use Rattle.refusals.specs.{Refusals._then_, Refusals.secretsIn, declared.Verdict.Verdict}
 use Rattle.values.specs.Keys.{hints, keys}
 use Rattle.wire.specs.Wire.{coinsIn}
 

@@ -2,8 +2,7 @@
 use mathlib.Core.Path.{sym, _∙_, ap}
 use Prim.Native.Nat.{ℕ, _+_, _-_, min}
 use borrow.Author.Needs.{needs}
-use Rattle.bcns.proofs.Away.{slack-formula}
-use Rattle.bcns.proofs.slack.Statement.{statement}
+use Rattle.bcns.proofs.{Away.slack-formula, slack.Statement.statement}
 use Rattle.bcns.proofs.slack.Tie as tie
 
 returns : tie.Need-returns

@@ -1,12 +1,10 @@
 -- `bcns_noise::count` meets its contract.
 use mathlib.Core.Path.{_≡_, _∙_, refl, ap}
-use mathlib.Core.Bool.{Bool}
 use Prim.Native.Nat.{ℕ, _-_, _≤_}
 use native.Mathlib.Omega.{arith}
 use borrow.Author.Needs.{needs}
 use Rattle.bcns_noise.specs.Limbs.{limbs, limbsOf, passes, tally}
-use Rattle.bcns_noise.proofs.Limbs.{compared-at, tally-next}
-use Rattle.bcns_noise.proofs.count.Statement.{statement}
+use Rattle.bcns_noise.proofs.{Limbs.compared-at, Limbs.tally-next, count.Statement.statement}
 use Rattle.bcns_noise.proofs.count.Tie as tie
 
 abbrev Inv-loop : tie.InvT-loop

@@ -1,8 +1,7 @@
 -- `bcns_noise::falls_at` meets its contract.
 use borrow.Author.Needs.{needs}
 use Rattle.bcns_noise.specs.Noise.{entryOf, falls}
-use Rattle.bcns_noise.proofs.Table.{falls-behind}
-use Rattle.bcns_noise.proofs.falls_at.Statement.{statement}
+use Rattle.bcns_noise.proofs.{Table.falls-behind, falls_at.Statement.statement}
 use Rattle.bcns_noise.proofs.falls_at.Tie as tie
 
 returns : tie.Need-returns

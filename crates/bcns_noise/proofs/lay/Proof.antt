@@ -1,13 +1,11 @@
 -- `bcns_noise::lay` meets its contract: row by row.
 use mathlib.Core.Path.{_≡_, _∙_, refl, sym, ap, subst}
-use mathlib.Core.List.{List}
 use Prim.Native.Nat.{ℕ, _-_, _≤_}
 use native.Mathlib.Omega.{arith}
 use borrow.Author.Needs.{needs}
 use lib.ListN.{length, length-replicate}
 use Rattle.bcns_noise.specs.Limbs.{Laid}
-use Rattle.bcns_noise.proofs.Limbs.{laid-none, laid-next}
-use Rattle.bcns_noise.proofs.lay.Statement.{statement}
+use Rattle.bcns_noise.proofs.{Limbs.laid-none, Limbs.laid-next, lay.Statement.statement}
 use Rattle.bcns_noise.proofs.lay.Tie as tie
 
 abbrev Inv-loop : tie.InvT-loop

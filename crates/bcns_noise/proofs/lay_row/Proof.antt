@@ -4,8 +4,7 @@ use native.Mathlib.Omega.{arith}
 use borrow.Author.Needs.{needs}
 use Rattle.lists.specs.Ranges.{Below, Stored}
 use Rattle.lists.proofs.Stored.{store-none, store-next, stored-all}
-use Rattle.bcns_noise.specs.Noise.{bigEndian}
-use Rattle.bcns_noise.specs.Limbs.{wordBytes}
+use Rattle.bcns_noise.specs.{Noise.bigEndian, Limbs.wordBytes}
 use Rattle.bcns_noise.proofs.lay_row.Statement.{statement}
 use Rattle.bcns_noise.proofs.lay_row.Tie as tie
 

@@ -2,14 +2,11 @@
 use mathlib.Core.Path.{_≡_, ap₂}
 use native.Mathlib.Omega.{arith}
 use borrow.Author.Needs.{needs}
-use lib.Dec.{ltb}
-use lib.IntN.{ℤ}
-use lib.Signed.{ltZ}
+use lib.{Dec.ltb, IntN.ℤ, Signed.ltZ}
 use mir.Syntax.{w32}
 use mir.Val.{toZ, boolByte}
 use Rattle.numbers.proofs.Machine.{toZ-pos}
-use Rattle.bcns_noise.proofs.Table.{byte-le}
-use Rattle.bcns_noise.proofs.less.Statement.{statement}
+use Rattle.bcns_noise.proofs.{Table.byte-le, less.Statement.statement}
 use Rattle.bcns_noise.proofs.less.Tie as tie
 
 returns : tie.Need-returns

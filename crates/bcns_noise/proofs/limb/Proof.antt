@@ -1,8 +1,7 @@
 -- `bcns_noise::limb` meets its contract.
 use native.Mathlib.Omega.{arith}
 use borrow.Author.Needs.{needs}
-use Rattle.bcns_noise.proofs.Limbs.{table-limb}
-use Rattle.bcns_noise.proofs.limb.Statement.{statement}
+use Rattle.bcns_noise.proofs.{Limbs.table-limb, limb.Statement.statement}
 use Rattle.bcns_noise.proofs.limb.Tie as tie
 
 returns : tie.Need-returns

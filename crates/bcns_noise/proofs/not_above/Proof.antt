@@ -1,6 +1,5 @@
 -- `bcns_noise::not_above` meets its contract: the order of the words is the order of the numbers.
-use Rattle.bcns_noise.proofs.Words.{words-order}
-use Rattle.bcns_noise.proofs.not_above.Statement.{statement}
+use Rattle.bcns_noise.proofs.{Words.words-order, not_above.Statement.statement}
 use Rattle.bcns_noise.proofs.not_above.Tie as tie
 
 returns : tie.Need-returns

@@ -4,8 +4,7 @@ use Prim.Native.Nat.{_+_, _*_}
 use native.Mathlib.Omega.{arith}
 use borrow.Author.Needs.{needs}
 use Rattle.bcns_noise.specs.Limbs.{limbs, limbsOf}
-use Rattle.bcns_noise.proofs.Limbs.{pass-next}
-use Rattle.bcns_noise.proofs.step.Statement.{statement}
+use Rattle.bcns_noise.proofs.{Limbs.pass-next, step.Statement.statement}
 use Rattle.bcns_noise.proofs.step.Tie as tie
 
 add-less-2 : tie.Need-add-less-2

@@ -2,8 +2,7 @@
 use Prim.Native.Nat.{_+_}
 use native.Mathlib.Omega.{arith}
 use borrow.Author.Needs.{needs}
-use Rattle.bcns_noise.proofs.Words.{big-three}
-use Rattle.bcns_noise.proofs.three.Statement.{statement}
+use Rattle.bcns_noise.proofs.{Words.big-three, three.Statement.statement}
 use Rattle.bcns_noise.proofs.three.Tie as tie
 
 cast-result : tie.Need-cast-result

@@ -1,9 +1,8 @@
 -- `bench::bench` meets its contract: what the scheme by its name gives.
 use mathlib.Core.Path.{sym, _∙_}
 use Rattle.bench.specs.Bench.{benchOf}
-use Rattle.bench.proofs.Answering.{bench-unknown}
+use Rattle.bench.proofs.{Answering.bench-unknown, bench.Statement.statement}
 use borrow.Author.Needs.{needs}
-use Rattle.bench.proofs.bench.Statement.{statement}
 use Rattle.bench.proofs.bench.Tie as tie
 
 returns : tie.Need-returns

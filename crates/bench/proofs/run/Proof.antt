@@ -1,8 +1,7 @@
 -- `bench::run` meets its contract: the refusal, or the two keys compared.
 use mathlib.Core.Path.{_≡_, ap}
 use native.Mathlib.Omega.{arith}
-use Rattle.schemes.specs.Schemes.{fixedOf}
-use Rattle.schemes.specs.declared.Fixed.{Fixed}
+use Rattle.schemes.specs.{Schemes.fixedOf, declared.Fixed.Fixed}
 use Rattle.schemes.proofs.Sound.{sound}
 use Rattle.bench.specs.Bench.{Bench, benchOf}
 use Rattle.bench.proofs.Answering.{bench-refused, bench-told}

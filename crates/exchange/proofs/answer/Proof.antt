@@ -2,12 +2,9 @@
 use mathlib.Core.Path.{sym, _∙_}
 use lib.ListN.{length}
 use Rattle.lists.proofs.Same.{zeros, zeros-long}
-use Rattle.reply.specs.Reply.{replyRoomsOf}
 use Rattle.reply.proofs.Replying.{reply-refused}
-use Rattle.exchange.specs.Answer.{answerLentOf}
-use Rattle.exchange.proofs.Answering.{answer-unknown}
+use Rattle.exchange.proofs.{Answering.answer-unknown, answer.Statement.statement}
 use borrow.Author.Needs.{needs}
-use Rattle.exchange.proofs.answer.Statement.{statement}
 use Rattle.exchange.proofs.answer.Tie as tie
 
 -- the places, from the last to the first

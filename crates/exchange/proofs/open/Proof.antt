@@ -1,7 +1,6 @@
 -- `exchange::open` meets its contract: the outputs are zeroed first, and then hold what the scheme by its name gives.
 use mathlib.Core.Path.{sym, _∙_}
-use lib.IntN.{pos}
-use lib.ListN.{length}
+use lib.{IntN.pos, ListN.length}
 use Rattle.lists.proofs.Same.{zeros, zeros-long}
 use Rattle.exchange.specs.Open.{openLentOf, openRoomsOf}
 use Rattle.exchange.proofs.Opening.{open-unknown, open-refused}

@@ -4,9 +4,7 @@ use Prim.Native.Nat.{_*_, _-_, _/_, _+_, _≤_}
 use native.Mathlib.Nat.{mul-le-mul, mod-lt}
 use native.Mathlib.Omega.{arith}
 use borrow.Author.Needs.{needs}
-use Rattle.frodo.proofs.Room.{interval-room}
-use Rattle.frodo.proofs.Away.{slack-formula}
-use Rattle.frodo.proofs.slack.Statement.{statement}
+use Rattle.frodo.proofs.{Room.interval-room, Away.slack-formula, slack.Statement.statement}
 use Rattle.frodo.proofs.slack.Tie as tie
 
 shift-room : (c : tie.Start) → (1 - c .args .h) * (c .args .i / 2) ≤ 1 * 65536

@@ -1,6 +1,5 @@
 -- `halves::halves` meets its contract: the length falls at each call of itself. At a place of its code, `hₙ` is half the length and `wₙ` what w holds.
-use mathlib.Core.Path.{_≡_}
-use mathlib.Core.List.{List}
+use mathlib.Core.{Path._≡_, List.List}
 use Prim.Native.Nat.{ℕ, _+_, _*_, _-_, _/_, _<_, _≤_}
 use native.Mathlib.Omega.{arith}
 use lib.ListN.{length}
@@ -9,7 +8,7 @@ use borrow.Rule.Slice.PartMut.{putMid}
 use borrow.Fn.Kinds.{In, Out}
 use borrow.Fn.PlainCycle.{Measures, is, falls, and}
 use Rattle.halves.specs.Steps.{Size, Product, InPart}
-use Rattle.halves.proofs.Moves.{level-law}
+use Rattle.halves.proofs.{Moves.level-law, +halves.statement, +halves.Tie.close}
 use Rattle.halves.proofs.Part.{size-least, size-half, size-even, lent-long, part-product, product-at}
 use Rattle.halves.proofs.halves.Reads as halves
 use Rattle.halves.proofs.halves.Kinds as halves-kinds
@@ -18,8 +17,6 @@ use Rattle.halves.proofs.copy.Reads as copy-reads
 use Rattle.halves.proofs.join.Reads as join-reads
 use Rattle.halves.proofs.leaf.Reads as leaf-reads
 use Rattle.halves.proofs.spread.Reads as spread-reads
-use Rattle.halves.proofs.+halves.{statement}
-use Rattle.halves.proofs.+halves.Tie.{close}
 
 abbrev μ-halves : Measures 1 halves-kinds.ps ℕ
 μ-halves κs a = a .1 .0

@@ -3,12 +3,10 @@ use mathlib.Core.Path.{_≡_, _∙_, ap₂}
 use Prim.Native.Nat.{ℕ, _+_, _-_, _%_, _≤_}
 use native.Mathlib.Omega.{arith}
 use borrow.Author.Needs.{needs}
-use Rattle.halves.specs.Halves.{q}
+use Rattle.halves.specs.{Halves.q, Steps.from}
 use Rattle.lists.specs.Ranges.{Stored}
-use Rattle.halves.specs.Steps.{from}
 use Rattle.lists.proofs.Stored.{store-none, store-next}
-use Rattle.halves.proofs.Stores.{read-ahead}
-use Rattle.halves.proofs.add.Statement.{statement}
+use Rattle.halves.proofs.{Stores.read-ahead, add.Statement.statement}
 use Rattle.halves.proofs.add.Tie as tie
 
 abbrev Inv-loop : tie.InvT-loop

@@ -1,8 +1,7 @@
 -- `halves::coefficient` meets its contract.
 use mathlib.Core.Path.{_∙_}
 use borrow.Author.Needs.{needs}
-use Rattle.halves.proofs.Columns.{dot-column}
-use Rattle.halves.proofs.coefficient.Statement.{statement}
+use Rattle.halves.proofs.{Columns.dot-column, coefficient.Statement.statement}
 use Rattle.halves.proofs.coefficient.Tie as tie
 
 returns : tie.Need-returns

@@ -6,8 +6,7 @@ use borrow.Author.Needs.{needs}
 use Rattle.lists.specs.Ranges.{Stored}
 use Rattle.halves.specs.Steps.{column}
 use Rattle.lists.proofs.Stored.{store-none, store-next}
-use Rattle.halves.proofs.Columns.{column-ext}
-use Rattle.halves.proofs.coefficients.Statement.{statement}
+use Rattle.halves.proofs.{Columns.column-ext, coefficients.Statement.statement}
 use Rattle.halves.proofs.coefficients.Tie as tie
 
 abbrev Inv-loop : tie.InvT-loop

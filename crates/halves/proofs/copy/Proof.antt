@@ -6,8 +6,7 @@ use borrow.Author.Needs.{needs}
 use Rattle.lists.specs.Ranges.{Stored}
 use Rattle.halves.specs.Steps.{from}
 use Rattle.lists.proofs.Stored.{store-none, store-next}
-use Rattle.halves.proofs.Stores.{read-ahead}
-use Rattle.halves.proofs.copy.Statement.{statement}
+use Rattle.halves.proofs.{Stores.read-ahead, copy.Statement.statement}
 use Rattle.halves.proofs.copy.Tie as tie
 
 abbrev Inv-loop : tie.InvT-loop

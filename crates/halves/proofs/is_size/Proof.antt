@@ -2,8 +2,7 @@
 use borrow.Author.Needs.{needs}
 use mathlib.Core.Path.{refl}
 use Rattle.halves.specs.Halves.{sizeUpTo}
-use Rattle.halves.proofs.Part.{upto-here, upto-next}
-use Rattle.halves.proofs.is_size.Statement.{statement}
+use Rattle.halves.proofs.{Part.upto-here, Part.upto-next, is_size.Statement.statement}
 use Rattle.halves.proofs.is_size.Tie as tie
 
 returns : tie.Need-returns

@@ -1,7 +1,6 @@
 -- `halves::join` meets its contract.
 use borrow.Author.Needs.{needs}
-use Rattle.halves.proofs.Moves.{join-law}
-use Rattle.halves.proofs.join.Statement.{statement}
+use Rattle.halves.proofs.{Moves.join-law, join.Statement.statement}
 use Rattle.halves.proofs.join.Tie as tie
 
 returns : tie.Need-returns

@@ -1,7 +1,6 @@
 -- `halves::leaf` meets its contract.
 use borrow.Author.Needs.{needs}
-use Rattle.halves.proofs.Columns.{leaf-law}
-use Rattle.halves.proofs.leaf.Statement.{statement}
+use Rattle.halves.proofs.{Columns.leaf-law, leaf.Statement.statement}
 use Rattle.halves.proofs.leaf.Tie as tie
 
 returns : tie.Need-returns

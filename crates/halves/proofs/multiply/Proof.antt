@@ -2,8 +2,7 @@
 use native.Mathlib.Omega.{arith}
 use lib.ListN.{length}
 use borrow.Author.Needs.{needs}
-use Rattle.halves.proofs.Multiplied.{plain-law}
-use Rattle.halves.proofs.multiply.Statement.{statement}
+use Rattle.halves.proofs.{Multiplied.plain-law, multiply.Statement.statement}
 use Rattle.halves.proofs.multiply.Tie as tie
 
 returns : tie.Need-returns

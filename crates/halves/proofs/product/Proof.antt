@@ -2,8 +2,7 @@
 use lib.ListN.{length}
 use borrow.Author.Needs.{needs}
 use Rattle.lists.proofs.Same.{zeros, zeros-long}
-use Rattle.halves.proofs.Multiplied.{product-cleared}
-use Rattle.halves.proofs.product.Statement.{statement}
+use Rattle.halves.proofs.{Multiplied.product-cleared, product.Statement.statement}
 use Rattle.halves.proofs.product.Tie as tie
 
 product-in-requires : tie.Need-product-in-requires

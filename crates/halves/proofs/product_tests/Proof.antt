@@ -5,8 +5,7 @@ use borrow.Author.Needs.{needs}
 use lib.ListN.{length}
 use Rattle.refusals.proofs.Laws.{also}
 use Rattle.halves.specs.Halves.{productTests, factorsOf}
-use Rattle.halves.proofs.Part.{size-most}
-use Rattle.halves.proofs.Multiplied.{size-passed, tests-stop}
+use Rattle.halves.proofs.{Part.size-most, Multiplied.size-passed, Multiplied.tests-stop}
 use Rattle.halves.proofs.product_tests.Statement.{statement}
 use Rattle.halves.proofs.product_tests.Tie as tie
 

@@ -1,7 +1,6 @@
 -- `halves::spread` meets its contract.
 use borrow.Author.Needs.{needs}
-use Rattle.halves.proofs.Moves.{spread-law}
-use Rattle.halves.proofs.spread.Statement.{statement}
+use Rattle.halves.proofs.{Moves.spread-law, spread.Statement.statement}
 use Rattle.halves.proofs.spread.Tie as tie
 
 returns : tie.Need-returns

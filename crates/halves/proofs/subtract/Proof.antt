@@ -4,12 +4,10 @@ use Prim.Native.Nat.{ℕ, _+_, _-_, _%_, _≤_}
 use native.Mathlib.Omega.{arith}
 use borrow.Author.Needs.{needs}
 use lib.ListN.{getD}
-use Rattle.halves.specs.Halves.{q}
+use Rattle.halves.specs.{Halves.q, Steps.from}
 use Rattle.lists.specs.Ranges.{Stored}
-use Rattle.halves.specs.Steps.{from}
 use Rattle.lists.proofs.Stored.{store-none, store-next, not-yet}
-use Rattle.halves.proofs.Stores.{read-ahead}
-use Rattle.halves.proofs.subtract.Statement.{statement}
+use Rattle.halves.proofs.{Stores.read-ahead, subtract.Statement.statement}
 use Rattle.halves.proofs.subtract.Tie as tie
 
 abbrev Inv-loop : tie.InvT-loop

@@ -5,8 +5,7 @@ use native.Mathlib.Omega.{arith}
 use lib.ListN.{drop}
 use borrow.Author.Needs.{needs}
 use Rattle.keccak.specs.Keccak.{rounds, keccakF, constants}
-use Rattle.keccak.proofs.Rounds.{round-next}
-use Rattle.keccak.proofs.permute.Statement.{statement}
+use Rattle.keccak.proofs.{Rounds.round-next, permute.Statement.statement}
 use Rattle.keccak.proofs.permute.Tie as tie
 
 abbrev Inv-loop : tie.InvT-loop

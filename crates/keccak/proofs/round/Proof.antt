@@ -1,6 +1,5 @@
 -- `keccak::round` meets its contract.
-use mathlib.Core.Path.{ap, _∙_}
-use mathlib.Core.List.{List}
+use mathlib.Core.{Path.ap, Path._∙_, List.List}
 use Prim.Native.Nat.{ℕ}
 use borrow.Author.Needs.{needs}
 use Rattle.keccak.specs.Keccak.{round, chi, iota}

@@ -1,8 +1,7 @@
 -- `line::answer` meets its contract.
 use borrow.Author.Needs.{needs}
 use Rattle.text.proofs.Answer.{answers}
-use Rattle.line.proofs.Showing.{shown-short}
-use Rattle.line.proofs.answer.Statement.{statement}
+use Rattle.line.proofs.{Showing.shown-short, answer.Statement.statement}
 use Rattle.line.proofs.answer.Tie as tie
 
 write-requires : tie.Need-write-requires

@@ -1,8 +1,7 @@
 -- `line::named` meets its contract: a number of more than 32 bits names no scheme.
 use native.Mathlib.Omega.{arith}
 use borrow.Author.Needs.{needs}
-use Rattle.line.proofs.Deciding.{beyond}
-use Rattle.line.proofs.named.Statement.{statement}
+use Rattle.line.proofs.{Deciding.beyond, named.Statement.statement}
 use Rattle.line.proofs.named.Tie as tie
 
 returns-2 : tie.Need-returns-2

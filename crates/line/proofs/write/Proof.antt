@@ -2,10 +2,8 @@
 use mathlib.Core.Path.{ap}
 use native.Mathlib.Omega.{arith}
 use lib.ListN.{length}
-use Rattle.text.specs.Text.{line}
-use Rattle.text.specs.Steps.{labelled}
-use Rattle.line.specs.Line.{refusal}
-use Rattle.line.specs.Steps.{textOf}
+use Rattle.text.specs.{Text.line, Steps.labelled}
+use Rattle.line.specs.{Line.refusal, Steps.textOf}
 use Rattle.text.proofs.Writing.{written-as}
 use borrow.Author.Needs.{needs}
 use Rattle.line.proofs.write.Statement.{statement}

@@ -1,8 +1,7 @@
 -- `line::write_shown` meets its contract.
 use borrow.Author.Needs.{needs}
 use Rattle.text.proofs.Writing.{left-room, left-next, left-none}
-use Rattle.line.proofs.Showing.{shown-left}
-use Rattle.line.proofs.write_shown.Statement.{statement}
+use Rattle.line.proofs.{Showing.shown-left, write_shown.Statement.statement}
 use Rattle.line.proofs.write_shown.Tie as tie
 
 write-line-requires : tie.Need-write-line-requires

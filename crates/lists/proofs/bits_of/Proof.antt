@@ -2,8 +2,7 @@
 use borrow.Author.Needs.{needs}
 use Prim.Native.Nat.{ℕ, _-_, _≤_}
 use native.Mathlib.Omega.{arith}
-use lib.Bits.{bitOr, and-le-l, and-le-r, or-add-and}
-use lib.ListN.{length, getD}
+use lib.{Bits.bitOr, Bits.and-le-l, Bits.and-le-r, Bits.or-add-and, ListN.length, ListN.getD}
 use Rattle.lists.proofs.First.{Reached, reached-none, reached-more, reached-all}
 use Rattle.lists.proofs.bits_of.Statement.{statement}
 use Rattle.lists.proofs.bits_of.Tie as tie

@@ -1,7 +1,6 @@
 -- `lists::peak_of` meets its contract.
 use borrow.Author.Needs.{needs}
-use Rattle.lists.proofs.Top.{peak-is}
-use Rattle.lists.proofs.peak_of.Statement.{statement}
+use Rattle.lists.proofs.{Top.peak-is, peak_of.Statement.statement}
 use Rattle.lists.proofs.peak_of.Tie as tie
 
 returns : tie.Need-returns

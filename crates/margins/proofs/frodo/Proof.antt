@@ -3,8 +3,7 @@ use native.Mathlib.Omega.{arith}
 use borrow.Author.Needs.{needs}
 use Rattle.schemes.specs.Schemes.{fixedOf}
 use Rattle.schemes.proofs.Sound.{sound}
-use Rattle.margins.proofs.Numbers.{quarter-lt}
-use Rattle.margins.proofs.frodo.Statement.{statement}
+use Rattle.margins.proofs.{Numbers.quarter-lt, frodo.Statement.statement}
 use Rattle.margins.proofs.frodo.Tie as tie
 
 shr-quarter : tie.Need-shr-quarter

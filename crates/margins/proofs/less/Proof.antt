@@ -2,8 +2,7 @@
 use native.Mathlib.Omega.{arith}
 use mir.Syntax.{w32}
 use borrow.Author.Needs.{needs}
-use Rattle.numbers.proofs.Machine.{fits-abs, toZ-pos}
-use Rattle.numbers.proofs.Size.{abs-difference}
+use Rattle.numbers.proofs.{Machine.fits-abs, Machine.toZ-pos, Size.abs-difference}
 use Rattle.margins.proofs.less.Statement.{statement}
 use Rattle.margins.proofs.less.Tie as tie
 

@@ -2,8 +2,7 @@
 use mathlib.Core.Path.{_≡_}
 use native.Mathlib.Omega.{arith}
 use borrow.Author.Needs.{needs}
-use lib.ListN.{take}
-use lib.Seq.{take-all}
+use lib.{ListN.take, Seq.take-all}
 use Rattle.matrix.proofs.add_block.Statement.{statement}
 use Rattle.matrix.proofs.add_block.Tie as tie
 

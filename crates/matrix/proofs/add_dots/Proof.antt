@@ -1,8 +1,7 @@
 -- `matrix::add_dots` meets its contract.
 use borrow.Author.Needs.{needs}
 use Rattle.matrix.specs.Steps.{dotTerm}
-use Rattle.matrix.proofs.Steps.{on-zeros}
-use Rattle.matrix.proofs.add_dots.Statement.{statement}
+use Rattle.matrix.proofs.{Steps.on-zeros, add_dots.Statement.statement}
 use Rattle.matrix.proofs.add_dots.Tie as tie
 
 returns : tie.Need-returns

@@ -1,11 +1,9 @@
 -- `matrix::add_products` meets its contract: it fills with each sum and its product.
-use mathlib.Core.Path.{_∙_, ap}
-use mathlib.Core.List.{List}
+use mathlib.Core.{Path._∙_, Path.ap, List.List}
 use Prim.Native.Nat.{ℕ, _+_, _*_, _-_, _%_, _<_}
 use native.Mathlib.Omega.{arith}
 use borrow.Author.Needs.{needs}
-use lib.Arith.{digits-lt}
-use lib.ListN.{getD}
+use lib.{Arith.digits-lt, ListN.getD}
 use Rattle.lists.specs.Entries.{tab}
 use Rattle.lists.proofs.Fill.{Filled, fill-start, fill-next, fill-end, fill-old}
 use Rattle.matrix.proofs.add_products.Statement.{statement}

@@ -6,8 +6,7 @@ use native.Mathlib.Omega.{arith}
 use lib.ListN.{length, getD}
 use Rattle.numbers.specs.Sum.{sumℕ}
 use Rattle.lists.proofs.Fill.{Filled, fill-start, fill-next, fill-end, fill-old}
-use Rattle.matrix.specs.Steps.{blockTerm, blockGained}
-use Rattle.matrix.specs.Words.{gained}
+use Rattle.matrix.specs.{Steps.blockTerm, Steps.blockGained, Words.gained}
 use Rattle.matrix.proofs.add_rows.Statement.{statement}
 use Rattle.matrix.proofs.add_rows.Tie as tie
 

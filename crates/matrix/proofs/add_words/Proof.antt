@@ -1,6 +1,5 @@
 -- `matrix::add_words` meets its contract: it fills with each sum and its word.
-use mathlib.Core.Path.{_∙_, ap}
-use mathlib.Core.List.{List}
+use mathlib.Core.{Path._∙_, Path.ap, List.List}
 use Prim.Native.Nat.{ℕ, _+_, _-_, _%_}
 use native.Mathlib.Omega.{arith}
 use native.Mathlib.Nat.{mul-one}

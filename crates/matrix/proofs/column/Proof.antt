@@ -3,8 +3,7 @@ use mathlib.Core.List.{List}
 use Prim.Native.Nat.{ℕ, _+_, _*_, _-_}
 use native.Mathlib.Omega.{arith}
 use borrow.Author.Needs.{needs}
-use lib.ListN.{length, length-set}
-use lib.IntN.{ℤ}
+use lib.{ListN.length, ListN.length-set, IntN.ℤ}
 use mir.Facts.{toZ-ofZ}
 use Rattle.numbers.specs.Residue.{residue}
 use Rattle.lists.specs.Entries.{ints}

@@ -1,18 +1,15 @@
 -- `matrix::columns` meets its contract: it fills a column at a time.
-use mathlib.Core.Path.{_≡_, _∙_, ap}
-use mathlib.Core.List.{List}
+use mathlib.Core.{Path._≡_, Path._∙_, Path.ap, List.List}
 use Prim.Native.Nat.{ℕ, _+_, _*_, _-_, _/_, _%_, _≤_}
 use native.Mathlib.Omega.{arith}
 use borrow.Author.Needs.{needs}
-use lib.ListN.{length}
-use lib.IntN.{ℤ}
+use lib.{ListN.length, IntN.ℤ}
 use Rattle.numbers.specs.Residue.{residue}
 use Rattle.lists.specs.Entries.{tab, ints}
 use Rattle.lists.proofs.Fill.{Filled, fill-end, rows-start, rows-next}
 use Rattle.lists.proofs.Parts.{slice-long}
 use Rattle.matrix.specs.Words.{columnsOf}
-use Rattle.matrix.proofs.Terms.{row-in, column-row}
-use Rattle.matrix.proofs.columns.Statement.{statement}
+use Rattle.matrix.proofs.{Terms.row-in, Terms.column-row, columns.Statement.statement}
 use Rattle.matrix.proofs.columns.Tie as tie
 
 abbrev from : ℕ → List ℤ → ℕ → ℕ

@@ -4,8 +4,7 @@ use Prim.Native.Nat.{ℕ, _-_, _≤_}
 use native.Mathlib.Omega.{arith}
 use borrow.Author.Needs.{needs}
 use lib.ListN.{length}
-use Rattle.matrix.specs.Steps.{dotTerm}
-use Rattle.matrix.specs.Words.{gained}
+use Rattle.matrix.specs.{Steps.dotTerm, Words.gained}
 use Rattle.matrix.proofs.Steps.{gained-length, gained-none, gained-next}
 use Rattle.matrix.proofs.dots_on.Statement.{statement}
 use Rattle.matrix.proofs.dots_on.Tie as tie

@@ -3,11 +3,8 @@ use mathlib.Core.Path.{_∙_, sym, ap}
 use native.Mathlib.Omega.{arith}
 use borrow.Author.Needs.{needs}
 use lib.ListN.{length}
-use Rattle.matrix.proofs.Search.{below-wider}
-use Rattle.matrix.proofs.Steps.{words-length, gained-length}
-use Rattle.matrix.proofs.Terms.{eight-terms}
-use Rattle.matrix.proofs.Whole.{left-is}
-use Rattle.matrix.proofs.eight_on.Statement.{statement}
+use Rattle.matrix.proofs.{Search.below-wider, Steps.words-length, Steps.gained-length}
+use Rattle.matrix.proofs.{Terms.eight-terms, Whole.left-is, eight_on.Statement.statement}
 use Rattle.matrix.proofs.eight_on.Tie as tie
 
 turn-requires : tie.Need-turn-requires

@@ -2,10 +2,8 @@
 use mathlib.Core.List.{List}
 use Prim.Native.Nat.{ℕ}
 use borrow.Author.Needs.{needs}
-use Rattle.matrix.specs.Steps.{partTerm}
-use Rattle.matrix.specs.Words.{gained}
-use Rattle.matrix.proofs.Steps.{on-copy}
-use Rattle.matrix.proofs.left_block.Statement.{statement}
+use Rattle.matrix.specs.{Steps.partTerm, Words.gained}
+use Rattle.matrix.proofs.{Steps.on-copy, left_block.Statement.statement}
 use Rattle.matrix.proofs.left_block.Tie as tie
 
 returns : tie.Need-returns

@@ -1,8 +1,7 @@
 -- `matrix::left_on` meets its contract.
 use native.Mathlib.Omega.{arith}
 use borrow.Author.Needs.{needs}
-use Rattle.matrix.proofs.Whole.{fit, left-is}
-use Rattle.matrix.proofs.left_on.Statement.{statement}
+use Rattle.matrix.proofs.{Whole.fit, Whole.left-is, left_on.Statement.statement}
 use Rattle.matrix.proofs.left_on.Tie as tie
 
 returns : tie.Need-returns

@@ -4,8 +4,7 @@ use Prim.Native.Nat.{_*_}
 use native.Mathlib.Omega.{arith}
 use borrow.Author.Needs.{needs}
 use Rattle.lists.proofs.Parts.{buffer-long}
-use Rattle.matrix.proofs.Whole.{shape, bare-is}
-use Rattle.matrix.proofs.multiply.Statement.{statement}
+use Rattle.matrix.proofs.{Whole.shape, Whole.bare-is, multiply.Statement.statement}
 use Rattle.matrix.proofs.multiply.Tie as tie
 
 slice-aggregate-right-on-2 : tie.Need-slice-aggregate-right-on-2

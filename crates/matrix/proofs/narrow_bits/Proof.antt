@@ -7,8 +7,7 @@ use borrow.Author.Count.{below-more}
 use borrow.Author.Needs.{needs}
 use lib.Bits.{bitOr, and-le-l, and-le-r, or-add-and}
 use lib.ListN.{length, getD, length-set}
-use Rattle.lists.specs.Entries.{tab}
-use Rattle.lists.specs.Ranges.{Below}
+use Rattle.lists.specs.{Entries.tab, Ranges.Below}
 use Rattle.lists.proofs.Entries.{tab-getD}
 use Rattle.lists.proofs.Fill.{Filled, fill-start, fill-next, fill-end}
 use Rattle.matrix.proofs.narrow_bits.Statement.{statement}

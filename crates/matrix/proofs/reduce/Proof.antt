@@ -1,6 +1,5 @@
 -- `matrix::reduce` meets its contract: it fills with the remainders of the sums.
-use mathlib.Core.Path.{refl, _∙_, ap}
-use mathlib.Core.List.{List}
+use mathlib.Core.{Path.refl, Path._∙_, Path.ap, List.List}
 use Prim.Native.Nat.{ℕ, _-_, _/_, _%_}
 use native.Mathlib.Omega.{arith}
 use native.Mathlib.Nat.{mod-lt}

@@ -3,8 +3,7 @@ use Prim.Native.Nat.{_*_, _%_, _<_, _≤_}
 use native.Mathlib.Omega.{arith}
 use native.Mathlib.Nat.{mul-le-mul, mod-lt}
 use borrow.Author.Needs.{needs}
-use Rattle.matrix.proofs.Quotient.{back, back-fits}
-use Rattle.matrix.proofs.remainder.Statement.{statement}
+use Rattle.matrix.proofs.{Quotient.back, Quotient.back-fits, remainder.Statement.statement}
 use Rattle.matrix.proofs.remainder.Tie as tie
 
 -- words times words

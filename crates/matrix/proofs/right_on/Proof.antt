@@ -1,8 +1,7 @@
 -- `matrix::right_on` meets its contract.
 use native.Mathlib.Omega.{arith}
 use borrow.Author.Needs.{needs}
-use Rattle.matrix.proofs.Whole.{fit, right-is}
-use Rattle.matrix.proofs.right_on.Statement.{statement}
+use Rattle.matrix.proofs.{Whole.fit, Whole.right-is, right_on.Statement.statement}
 use Rattle.matrix.proofs.right_on.Tie as tie
 
 returns : tie.Need-returns

@@ -2,10 +2,8 @@
 use mathlib.Core.List.{List}
 use Prim.Native.Nat.{ℕ}
 use borrow.Author.Needs.{needs}
-use Rattle.matrix.specs.Steps.{dotTerm}
-use Rattle.matrix.specs.Words.{gained}
-use Rattle.matrix.proofs.Steps.{on-copy}
-use Rattle.matrix.proofs.right_row.Statement.{statement}
+use Rattle.matrix.specs.{Steps.dotTerm, Words.gained}
+use Rattle.matrix.proofs.{Steps.on-copy, right_row.Statement.statement}
 use Rattle.matrix.proofs.right_row.Tie as tie
 
 returns : tie.Need-returns

@@ -7,8 +7,7 @@ use borrow.Author.Needs.{needs}
 use lib.ListN.{length, getD}
 use Rattle.numbers.specs.Sum.{sum, sumℕ}
 use Rattle.matrix.specs.Steps.{blockTerm}
-use Rattle.matrix.proofs.Steps.{gain-next}
-use Rattle.matrix.proofs.weigh.Statement.{statement}
+use Rattle.matrix.proofs.{Steps.gain-next, weigh.Statement.statement}
 use Rattle.matrix.proofs.weigh.Tie as tie
 
 abbrev Inv-loop : tie.InvT-loop

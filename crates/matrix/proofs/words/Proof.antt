@@ -1,11 +1,9 @@
 -- `matrix::words` meets its contract: it fills with the words of the values.
-use mathlib.Core.Path.{_∙_, ap}
-use mathlib.Core.List.{List}
+use mathlib.Core.{Path._∙_, Path.ap, List.List}
 use Prim.Native.Nat.{ℕ, _-_}
 use native.Mathlib.Omega.{arith}
 use borrow.Author.Needs.{needs}
-use lib.ListN.{length, length-set}
-use lib.IntN.{ℤ}
+use lib.{ListN.length, ListN.length-set, IntN.ℤ}
 use mir.Facts.{toZ-ofZ}
 use Rattle.numbers.specs.Residue.{residue}
 use Rattle.lists.specs.Entries.{tab, ints}

@@ -2,8 +2,7 @@
 use mathlib.Core.Path.{refl}
 use borrow.Author.Needs.{needs}
 use Rattle.newhope.specs.Group.{downOf}
-use Rattle.newhope.proofs.Entry.{down-five}
-use Rattle.newhope.proofs.down.Statement.{statement}
+use Rattle.newhope.proofs.{Entry.down-five, down.Statement.statement}
 use Rattle.newhope.proofs.down.Tie as tie
 
 returns : tie.Need-returns

@@ -1,7 +1,6 @@
 -- `newhope::group` meets its contract.
 use borrow.Author.Needs.{needs}
-use Rattle.newhope.proofs.Groups.{group-at}
-use Rattle.newhope.proofs.group.Statement.{statement}
+use Rattle.newhope.proofs.{Groups.group-at, group.Statement.statement}
 use Rattle.newhope.proofs.group.Tie as tie
 
 returns : tie.Need-returns

@@ -1,7 +1,6 @@
 -- `newhope::hint` meets its contract.
 use borrow.Author.Needs.{needs}
-use Rattle.newhope.proofs.Parts.{hint-is, ranged}
-use Rattle.newhope.proofs.hint.Statement.{statement}
+use Rattle.newhope.proofs.{Parts.hint-is, Parts.ranged, hint.Statement.statement}
 use Rattle.newhope.proofs.hint.Tie as tie
 
 returns : tie.Need-returns

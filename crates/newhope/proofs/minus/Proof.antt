@@ -6,8 +6,7 @@ use lib.IntN.{pos, _-ℤ_}
 use mir.Syntax.{w32}
 use mir.Val.{SFits, toZ}
 use mir.Facts.{toZ-ofZ}
-use Rattle.numbers.proofs.Machine.{fits-abs, toZ-pos}
-use Rattle.numbers.proofs.Size.{abs-difference}
+use Rattle.numbers.proofs.{Machine.fits-abs, Machine.toZ-pos, Size.abs-difference}
 use Rattle.newhope.proofs.minus.Statement.{statement}
 use Rattle.newhope.proofs.minus.Tie as tie
 

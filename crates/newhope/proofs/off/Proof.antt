@@ -7,8 +7,7 @@ use lib.IntN.{pos, natAbs, _-ℤ_}
 use mir.Syntax.{w32}
 use Rattle.newhope.specs.Group.{offOf}
 use Rattle.numbers.proofs.Machine.{difference-handed}
-use Rattle.newhope.proofs.Entry.{off-half}
-use Rattle.newhope.proofs.off.Statement.{statement}
+use Rattle.newhope.proofs.{Entry.off-half, off.Statement.statement}
 use Rattle.newhope.proofs.off.Tie as tie
 
 returns : tie.Need-returns

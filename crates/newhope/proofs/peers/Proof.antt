@@ -6,8 +6,7 @@ use borrow.Author.Needs.{needs}
 use Rattle.lists.specs.Entries.{tab}
 use Rattle.lists.proofs.Fill.{Filled, fill-start, fill-next, fill-end}
 use Rattle.newhope.specs.Group.{bitOf, groupOf, peersOf}
-use Rattle.newhope.proofs.Groups.{small-group, hint-group}
-use Rattle.newhope.proofs.peers.Statement.{statement}
+use Rattle.newhope.proofs.{Groups.small-group, Groups.hint-group, peers.Statement.statement}
 use Rattle.newhope.proofs.peers.Tie as tie
 
 abbrev Inv-loop : tie.InvT-loop

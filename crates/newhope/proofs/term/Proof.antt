@@ -6,9 +6,8 @@ use borrow.Author.Needs.{needs}
 use lib.IntN.{pos, _-ℤ_}
 use mir.Syntax.{w32}
 use Rattle.numbers.specs.Residue.{distance, apart}
-use Rattle.numbers.proofs.Nearest.{distance-half}
+use Rattle.numbers.proofs.{Nearest.distance-half, Machine.difference-handed}
 use Rattle.newhope.specs.Group.{termOf}
-use Rattle.numbers.proofs.Machine.{difference-handed}
 use Rattle.newhope.proofs.term.Statement.{statement}
 use Rattle.newhope.proofs.term.Tie as tie
 

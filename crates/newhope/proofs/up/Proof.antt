@@ -2,8 +2,7 @@
 use mathlib.Core.Path.{refl}
 use borrow.Author.Needs.{needs}
 use Rattle.newhope.specs.Group.{upOf}
-use Rattle.newhope.proofs.Entry.{up-five}
-use Rattle.newhope.proofs.up.Statement.{statement}
+use Rattle.newhope.proofs.{Entry.up-five, up.Statement.statement}
 use Rattle.newhope.proofs.up.Tie as tie
 
 returns : tie.Need-returns

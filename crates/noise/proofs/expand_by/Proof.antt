@@ -1,6 +1,5 @@
 -- `noise::expand_by` meets its contract: its loop stores each word's number, and counts those that the rule takes.
-use mathlib.Core.Path.{_∙_, sym, ap}
-use mathlib.Core.Bool.{Bool, true, false}
+use mathlib.Core.{Path._∙_, Path.sym, Path.ap, Bool.Bool, Bool.true, Bool.false}
 use mathlib.Core.Logic.{inl, inr}
 use Prim.Native.Nat.{_-_, _<_, _≤_}
 use native.Mathlib.Omega.{arith}

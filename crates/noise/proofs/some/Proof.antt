@@ -1,8 +1,7 @@
 -- `noise::some` meets its contract.
 use borrow.Author.Needs.{needs}
 use Rattle.lists.proofs.Stored.{front-at}
-use Rattle.noise.proofs.Blocks.{stored-same}
-use Rattle.noise.proofs.some.Statement.{statement}
+use Rattle.noise.proofs.{Blocks.stored-same, some.Statement.statement}
 use Rattle.noise.proofs.some.Tie as tie
 
 returns : tie.Need-returns

@@ -4,8 +4,7 @@ use Prim.Native.Nat.{_-_, _/_, _≤_}
 use native.Mathlib.Omega.{arith}
 use borrow.Author.Needs.{needs}
 use lib.ListN.{length}
-use Rattle.noise.specs.Noise.{wordAt}
-use Rattle.noise.specs.Expand.{rule, words, taken}
+use Rattle.noise.specs.{Noise.wordAt, Expand.rule, Expand.words, Expand.taken}
 use Rattle.noise.proofs.Stream.{soFar, trim-none, trim-less, trim-end}
 use Rattle.noise.proofs.trimmed.Statement.{statement}
 use Rattle.noise.proofs.trimmed.Tie as tie

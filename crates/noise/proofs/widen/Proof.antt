@@ -2,12 +2,10 @@
 use Prim.Native.Nat.{ℕ, _-_, _≤_}
 use native.Mathlib.Omega.{arith}
 use borrow.Author.Needs.{needs}
-use lib.IntN.{pos}
-use lib.ListN.{getD}
+use lib.{IntN.pos, ListN.getD}
 use Rattle.lists.specs.Ranges.{Stored}
 use Rattle.lists.proofs.Stored.{store-none, store-next, stored-all}
-use Rattle.noise.proofs.Blocks.{wide-fits, wide}
-use Rattle.noise.proofs.widen.Statement.{statement}
+use Rattle.noise.proofs.{Blocks.wide-fits, Blocks.wide, widen.Statement.statement}
 use Rattle.noise.proofs.widen.Tie as tie
 
 abbrev Inv-loop : tie.InvT-loop

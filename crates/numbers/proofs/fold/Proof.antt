@@ -1,8 +1,7 @@
 -- `numbers::fold` meets its contract.
 use native.Mathlib.Omega.{arith}
 use borrow.Author.Needs.{needs}
-use Rattle.numbers.proofs.Halves.{taken-le, folded}
-use Rattle.numbers.proofs.fold.Statement.{statement}
+use Rattle.numbers.proofs.{Halves.taken-le, Halves.folded, fold.Statement.statement}
 use Rattle.numbers.proofs.fold.Tie as tie
 
 mul-result : tie.Need-mul-result

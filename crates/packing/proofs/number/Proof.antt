@@ -4,13 +4,10 @@ use Prim.Native.Nat.{_+_, _*_, _/_}
 use native.Mathlib.Nat.{mod-lt, lt-of-lt-of-le}
 use native.Mathlib.Omega.{arith}
 use borrow.Author.Needs.{needs}
-use lib.ListN.{take, drop}
-use lib.Seq.{drop-drop}
-use lib.Pow.{pow-mono, pow-pos}
+use lib.{ListN.take, ListN.drop, Seq.drop-drop, Pow.pow-mono, Pow.pow-pos}
 use Rattle.lists.specs.Ranges.{Below}
 use Rattle.packing.specs.Packing.{value}
-use Rattle.packing.proofs.Laws.{value-parts}
-use Rattle.packing.proofs.Groups.{based, bits-at}
+use Rattle.packing.proofs.{Laws.value-parts, Groups.based, Groups.bits-at}
 use Rattle.packing.proofs.number.Statement.{statement}
 use Rattle.packing.proofs.number.Tie as tie
 

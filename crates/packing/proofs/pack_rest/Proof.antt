@@ -6,10 +6,8 @@ use native.Mathlib.Omega.{arith}
 use borrow.Author.Needs.{needs}
 use lib.ListN.{length, getD}
 use Rattle.packing.specs.Packing.{packed}
-use Rattle.packing.proofs.Laws.{value-one}
-use Rattle.packing.proofs.Groups.{resume}
+use Rattle.packing.proofs.{Laws.value-one, Groups.resume, pack_rest.Statement.statement}
 use Rattle.packing.proofs.Flow.{Flow, take-in, emit, fits, room, all-in}
-use Rattle.packing.proofs.pack_rest.Statement.{statement}
 use Rattle.packing.proofs.pack_rest.Tie as tie
 
 abbrev Inv-loop : tie.InvT-loop

@@ -5,8 +5,7 @@ use Prim.Native.Nat.{_*_, _-_, _/_, _≤_}
 use native.Mathlib.Omega.{arith}
 use lib.ListN.{length, take}
 use Rattle.packing.specs.Packing.{value, digits}
-use Rattle.packing.proofs.Groups.{words-on, fewer}
-use Rattle.packing.proofs.pack_words.Statement.{statement}
+use Rattle.packing.proofs.{Groups.words-on, Groups.fewer, pack_words.Statement.statement}
 use Rattle.packing.proofs.pack_words.Tie as tie
 
 abbrev Inv-loop : tie.InvT-loop

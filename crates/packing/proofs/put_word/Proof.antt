@@ -4,8 +4,7 @@ use Prim.Native.Nat.{_/_, _%_}
 use native.Mathlib.Nat.{div-div-eq-div-mul}
 use native.Mathlib.Numerals.{add-one, add-two, add-three}
 use native.Mathlib.Omega.{arith}
-use lib.ListN.{length-set}
-use lib.Seq.{sets-eq}
+use lib.{ListN.length-set, Seq.sets-eq}
 use borrow.Author.Needs.{needs}
 use Rattle.packing.specs.Packing.{digits}
 use Rattle.packing.proofs.put_word.Statement.{statement}

@@ -6,8 +6,7 @@ use native.Mathlib.Nat.{add-zero, sub-zero}
 use native.Mathlib.Omega.{arith}
 use lib.ListN.{getD, take, drop}
 use Rattle.packing.specs.Packing.{value}
-use Rattle.packing.proofs.Groups.{few, one-more}
-use Rattle.packing.proofs.quad.Statement.{statement}
+use Rattle.packing.proofs.{Groups.few, Groups.one-more, quad.Statement.statement}
 use Rattle.packing.proofs.quad.Tie as tie
 
 abbrev Inv-loop : tie.InvT-loop

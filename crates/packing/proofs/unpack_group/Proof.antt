@@ -6,8 +6,7 @@ use native.Mathlib.Nat.{mul-le-mul-right}
 use native.Mathlib.Omega.{arith}
 use lib.ListN.{length, drop, length-set}
 use Rattle.packing.specs.Packing.{value}
-use Rattle.packing.proofs.Flow.{written}
-use Rattle.packing.proofs.Groups.{written-none, stored}
+use Rattle.packing.proofs.{Flow.written, Groups.written-none, Groups.stored}
 use Rattle.packing.proofs.unpack_group.Statement.{statement}
 use Rattle.packing.proofs.unpack_group.Tie as tie
 

@@ -7,8 +7,7 @@ use borrow.Author.Needs.{needs}
 use lib.ListN.{length, take}
 use Rattle.lists.specs.Ranges.{Below}
 use Rattle.packing.specs.Packing.{value, digits}
-use Rattle.packing.proofs.Groups.{unpacked-on}
-use Rattle.packing.proofs.unpack_groups.Statement.{statement}
+use Rattle.packing.proofs.{Groups.unpacked-on, unpack_groups.Statement.statement}
 use Rattle.packing.proofs.unpack_groups.Tie as tie
 
 abbrev Inv-loop : tie.InvT-loop

@@ -1,7 +1,6 @@
 -- `packing::word` meets its contract: past the end a byte reads 0.
 use borrow.Author.Needs.{needs}
-use Rattle.packing.proofs.Laws.{value-four}
-use Rattle.packing.proofs.word.Statement.{statement}
+use Rattle.packing.proofs.{Laws.value-four, word.Statement.statement}
 use Rattle.packing.proofs.word.Tie as tie
 
 returns-2 : tie.Need-returns-2

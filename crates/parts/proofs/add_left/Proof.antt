@@ -1,18 +1,15 @@
 -- `parts::add_left` meets its contract: after t rows each sum has gained t products.
-use mathlib.Core.Path.{_≡_, refl, _∙_, sym, ap}
-use mathlib.Core.List.{List}
+use mathlib.Core.{Path._≡_, Path.refl, Path._∙_, Path.sym, Path.ap, List.List}
 use Prim.Native.Nat.{ℕ, _+_, _*_, _-_, _%_, _≤_}
 use native.Mathlib.Omega.{arith}
 use native.Mathlib.Nat.{mul-le-mul-right}
 use borrow.Author.Needs.{needs}
 use lib.ListN.{length, take, drop}
 use Rattle.lists.proofs.Parts.{slice-long}
-use Rattle.matrix.specs.Steps.{partTerm}
-use Rattle.matrix.specs.Words.{gained}
+use Rattle.matrix.specs.{Steps.partTerm, Words.gained}
 use Rattle.matrix.proofs.Steps.{gained-length, gained-none, gained-more}
 use Rattle.parts.specs.Parts.{words}
-use Rattle.parts.proofs.Words.{slice-words-long}
-use Rattle.parts.proofs.Blocks.{one-block}
+use Rattle.parts.proofs.{Words.slice-words-long, Blocks.one-block}
 use Rattle.parts.proofs.add_left.Statement.{statement}
 use Rattle.parts.proofs.add_left.Tie as tie
 

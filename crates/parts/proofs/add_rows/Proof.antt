@@ -1,6 +1,5 @@
 -- `parts::add_rows` meets its contract: it fills a row of sums at a time.
-use mathlib.Core.Path.{_≡_, refl, _∙_, sym, ap}
-use mathlib.Core.List.{List}
+use mathlib.Core.{Path._≡_, Path.refl, Path._∙_, Path.sym, Path.ap, List.List}
 use Prim.Native.Nat.{ℕ, _+_, _*_, _-_, _%_, _≤_}
 use native.Mathlib.Omega.{arith}
 use borrow.Author.Needs.{needs}
@@ -11,8 +10,7 @@ use Rattle.lists.proofs.Parts.{slice-long}
 use Rattle.matrix.specs.Words.{gained, rightTerm}
 use Rattle.matrix.proofs.Terms.{row-in}
 use Rattle.parts.specs.Parts.{words}
-use Rattle.parts.proofs.Words.{slice-words-long}
-use Rattle.parts.proofs.Blocks.{one-row}
+use Rattle.parts.proofs.{Words.slice-words-long, Blocks.one-row}
 use Rattle.parts.proofs.add_rows.Statement.{statement}
 use Rattle.parts.proofs.add_rows.Tie as tie
 

@@ -1,6 +1,5 @@
 -- `parts::pair` meets its contract: it fills with numbers of two words each.
-use mathlib.Core.Path.{refl, _∙_, ap}
-use mathlib.Core.List.{List}
+use mathlib.Core.{Path.refl, Path._∙_, Path.ap, List.List}
 use Prim.Native.Nat.{ℕ, _+_, _*_, _-_}
 use native.Mathlib.Omega.{arith}
 use borrow.Author.Needs.{needs}

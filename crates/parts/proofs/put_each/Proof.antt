@@ -8,8 +8,7 @@ use borrow.Author.Needs.{needs}
 use lib.ListN.{length, getD, set, take, drop}
 use lib.Seq.{paste, paste-zero, paste-suc, length-paste, take-all}
 use Rattle.parts.specs.Parts.{words, pairs}
-use Rattle.parts.proofs.Words.{words-long, pairs-words}
-use Rattle.parts.proofs.put_each.Statement.{statement}
+use Rattle.parts.proofs.{Words.words-long, Words.pairs-words, put_each.Statement.statement}
 use Rattle.parts.proofs.put_each.Tie as tie
 
 -- one word more

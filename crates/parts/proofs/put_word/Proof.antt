@@ -5,8 +5,7 @@ use native.Mathlib.Omega.{arith}
 use borrow.Author.Needs.{needs}
 use lib.ListN.{set}
 use Rattle.parts.specs.Parts.{words}
-use Rattle.parts.proofs.Words.{set-lower, set-upper}
-use Rattle.parts.proofs.put_word.Statement.{statement}
+use Rattle.parts.proofs.{Words.set-lower, Words.set-upper, put_word.Statement.statement}
 use Rattle.parts.proofs.put_word.Tie as tie
 
 -- a number of 32 bits

@@ -1,6 +1,5 @@
 -- `parts::put_words` meets its contract: whole numbers at once, or one word at a time.
-use mathlib.Core.Path.{_≡_, _∙_, sym, ap}
-use mathlib.Core.List.{_++_}
+use mathlib.Core.{Path._≡_, Path._∙_, Path.sym, Path.ap, List._++_}
 use Prim.Native.Nat.{ℕ, _+_, _*_, _/_, _%_}
 use native.Mathlib.Omega.{arith}
 use borrow.Author.Needs.{needs}
@@ -8,8 +7,7 @@ use borrow.Author.Tests.{eqb-true}
 use lib.ListN.{length, take, drop}
 use Rattle.lists.proofs.Parts.{slice-long}
 use Rattle.parts.specs.Parts.{words, pairs}
-use Rattle.parts.proofs.Words.{put-whole}
-use Rattle.parts.proofs.put_words.Statement.{statement}
+use Rattle.parts.proofs.{Words.put-whole, put_words.Statement.statement}
 use Rattle.parts.proofs.put_words.Tie as tie
 
 pair-numbers-requires : tie.Need-pair-numbers-requires

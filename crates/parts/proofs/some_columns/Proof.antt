@@ -1,6 +1,5 @@
 -- `parts::some_columns` meets its contract: it fills with the words of one row of S' at a time.
-use mathlib.Core.Path.{_≡_, _∙_, sym, ap}
-use mathlib.Core.List.{List}
+use mathlib.Core.{Path._≡_, Path._∙_, Path.sym, Path.ap, List.List}
 use Prim.Native.Nat.{ℕ, _+_, _*_, _-_, _/_, _%_, _≤_}
 use native.Mathlib.Omega.{arith}
 use borrow.Author.Needs.{needs}
@@ -10,8 +9,7 @@ use Rattle.lists.proofs.Parts.{slice-long}
 use Rattle.matrix.proofs.Terms.{row-in}
 use Rattle.parts.specs.Parts.{words}
 use Rattle.matrix.specs.Steps.{columnsFrom}
-use Rattle.parts.proofs.Blocks.{columns-row}
-use Rattle.parts.proofs.some_columns.Statement.{statement}
+use Rattle.parts.proofs.{Blocks.columns-row, some_columns.Statement.statement}
 use Rattle.parts.proofs.some_columns.Tie as tie
 
 abbrev from : ℕ → ℕ → ℕ → List ℕ → ℕ → ℕ

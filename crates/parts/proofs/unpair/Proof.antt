@@ -1,6 +1,5 @@
 -- `parts::unpair` meets its contract: it fills with the words, two at a time.
-use mathlib.Core.Path.{_≡_, _∙_, sym, ap}
-use mathlib.Core.List.{List}
+use mathlib.Core.{Path._≡_, Path._∙_, Path.sym, Path.ap, List.List}
 use Prim.Native.Nat.{ℕ, _+_, _*_, _-_, _≤_}
 use native.Mathlib.Omega.{arith}
 use borrow.Author.Needs.{needs}

@@ -1,10 +1,8 @@
 -- `polynomial::windows` meets its contract: the length falls at each call of itself.
-use mathlib.Core.Path.{_≡_, _∙_, sym}
-use mathlib.Core.List.{List}
+use mathlib.Core.{Path._≡_, Path._∙_, Path.sym, List.List}
 use Prim.Native.Nat.{ℕ, _+_, _*_, _-_, _<_, _≤_}
 use native.Mathlib.Omega.{arith}
-use lib.ListN.{length, getD}
-use lib.IntN.{ℤ, pos, natAbs, _+ℤ_, _-ℤ_}
+use lib.{ListN.length, ListN.getD, IntN.ℤ, IntN.pos, IntN.natAbs, IntN._+ℤ_, IntN._-ℤ_}
 use borrow.Author.Needs.{needs}
 use borrow.Rule.Slice.PartMut.{putMid}
 use borrow.Fn.Kinds.{In, Out}
@@ -22,8 +20,7 @@ use Rattle.polynomial.proofs.half.Reads as half-reads
 use Rattle.polynomial.proofs.join.Reads as join-reads
 use Rattle.polynomial.proofs.leaf.Reads as leaf-reads
 use Rattle.polynomial.proofs.subtract.Reads as subtract-reads
-use Rattle.polynomial.proofs.+windows.{statement}
-use Rattle.polynomial.proofs.+windows.Tie.{close}
+use Rattle.polynomial.proofs.{+windows.statement, +windows.Tie.close}
 
 abbrev μ-windows : Measures 3 windows-kinds.ps ℕ
 μ-windows κs a = a .1 .1 .1 .1 .0

@@ -1,15 +1,12 @@
 -- `polynomial::add` meets its contract.
 use Prim.Native.Nat.{_+_, _-_, _≤_}
 use native.Mathlib.Omega.{arith}
-use lib.Dec.{lit≤}
-use lib.IntN.{pos, _+ℤ_}
+use lib.{Dec.lit≤, IntN.pos, IntN._+ℤ_}
 use mir.Syntax.{w16}
 use borrow.Author.Needs.{needs}
-use Rattle.lists.specs.Entries.{ints}
-use Rattle.lists.specs.Ranges.{Stored}
+use Rattle.lists.specs.{Entries.ints, Ranges.Stored}
 use Rattle.lists.proofs.Stored.{store-none, stored-all}
-use Rattle.polynomial.proofs.Level.{add-fits, add-next}
-use Rattle.polynomial.proofs.add.Statement.{statement}
+use Rattle.polynomial.proofs.{Level.add-fits, Level.add-next, add.Statement.statement}
 use Rattle.polynomial.proofs.add.Tie as tie
 
 abbrev Inv-loop : tie.InvT-loop

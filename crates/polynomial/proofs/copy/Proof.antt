@@ -2,12 +2,10 @@
 use mathlib.Core.Path.{_∙_}
 use Prim.Native.Nat.{_-_, _≤_}
 use native.Mathlib.Omega.{arith}
-use lib.ListN.{getD}
-use lib.IntN.{pos}
+use lib.{ListN.getD, IntN.pos}
 use mir.Facts.{toZ-ofZ}
 use borrow.Author.Needs.{needs}
-use Rattle.lists.specs.Entries.{ints}
-use Rattle.lists.specs.Ranges.{Stored}
+use Rattle.lists.specs.{Entries.ints, Ranges.Stored}
 use Rattle.lists.proofs.Stored.{store-none, store-next, stored-all}
 use Rattle.polynomial.proofs.copy.Statement.{statement}
 use Rattle.polynomial.proofs.copy.Tie as tie

@@ -5,13 +5,10 @@ use native.Mathlib.Omega.{arith}
 use lib.IntN.{pos}
 use borrow.Author.Needs.{needs}
 use Rattle.numbers.proofs.Machine.{wide, wide-fits}
-use Rattle.lists.specs.Entries.{ints}
-use Rattle.lists.proofs.Parts.{front-long}
+use Rattle.lists.specs.{Entries.ints, Ranges.Stored}
+use Rattle.lists.proofs.{Parts.front-long, Stored.store-none, Stored.store-next, Stored.stored-all}
 use Rattle.polynomial.specs.Window.{slide}
-use Rattle.lists.specs.Ranges.{Stored}
-use Rattle.polynomial.proofs.Level.{dot-pair, dot-part}
-use Rattle.lists.proofs.Stored.{store-none, store-next, stored-all}
-use Rattle.polynomial.proofs.dots.Statement.{statement}
+use Rattle.polynomial.proofs.{Level.dot-pair, Level.dot-part, dots.Statement.statement}
 use Rattle.polynomial.proofs.dots.Tie as tie
 
 abbrev Inv-loop : tie.InvT-loop

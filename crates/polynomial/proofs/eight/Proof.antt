@@ -1,7 +1,6 @@
 -- `polynomial::eight` meets its contract.
 use borrow.Author.Needs.{needs}
-use Rattle.polynomial.proofs.Kernel.{twice-fits, twice}
-use Rattle.polynomial.proofs.eight.Statement.{statement}
+use Rattle.polynomial.proofs.{Kernel.twice-fits, Kernel.twice, eight.Statement.statement}
 use Rattle.polynomial.proofs.eight.Tie as tie
 
 add-result : tie.Need-add-result

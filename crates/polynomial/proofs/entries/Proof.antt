@@ -1,10 +1,8 @@
 -- `polynomial::entries` meets its contract: it fills with the sums, reduced.
-use mathlib.Core.Path.{_≡_, _∙_, sym, ap₂, subst}
+use mathlib.Core.{Path._≡_, Path._∙_, Path.sym, Path.ap₂, Path.subst, List.List}
 use Prim.Native.Nat.{ℕ, _-_, _^_, _≤_}
 use native.Mathlib.Omega.{arith}
-use mathlib.Core.List.{List}
-use lib.ListN.{length, getD, length-set}
-use lib.IntN.{ℤ, pos, natAbs, _+ℤ_}
+use lib.{ListN.length, ListN.getD, ListN.length-set, IntN.ℤ, IntN.pos, IntN.natAbs, IntN._+ℤ_}
 use mir.Syntax.{w32, w64}
 use mir.Val.{toZ, ofZ}
 use mir.Facts.{toZ-ofZ}

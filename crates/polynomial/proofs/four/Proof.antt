@@ -1,7 +1,6 @@
 -- `polynomial::four` meets its contract.
 use borrow.Author.Needs.{needs}
-use Rattle.polynomial.proofs.Kernel.{twice-fits, twice}
-use Rattle.polynomial.proofs.four.Statement.{statement}
+use Rattle.polynomial.proofs.{Kernel.twice-fits, Kernel.twice, four.Statement.statement}
 use Rattle.polynomial.proofs.four.Tie as tie
 
 add-result : tie.Need-add-result

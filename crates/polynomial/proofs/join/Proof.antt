@@ -1,8 +1,7 @@
 -- `polynomial::join` meets its contract.
 use native.Mathlib.Omega.{arith}
 use borrow.Author.Needs.{needs}
-use Rattle.polynomial.proofs.Level.{added-small, joined}
-use Rattle.polynomial.proofs.join.Statement.{statement}
+use Rattle.polynomial.proofs.{Level.added-small, Level.joined, join.Statement.statement}
 use Rattle.polynomial.proofs.join.Tie as tie
 
 add-sums-requires : tie.Need-add-sums-requires

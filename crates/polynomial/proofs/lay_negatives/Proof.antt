@@ -1,12 +1,10 @@
 -- `polynomial::lay_negatives` meets its contract.
 use Prim.Native.Nat.{_+_, _-_, _≤_}
 use native.Mathlib.Omega.{arith}
-use lib.ListN.{length}
-use lib.IntN.{negℤ}
+use lib.{ListN.length, IntN.negℤ}
 use borrow.Author.Needs.{needs}
 use Rattle.numbers.specs.Residue.{residue}
-use Rattle.lists.specs.Entries.{nums}
-use Rattle.lists.specs.Ranges.{Stored}
+use Rattle.lists.specs.{Entries.nums, Ranges.Stored}
 use Rattle.lists.proofs.Stored.{store-none, store-front, stored-all}
 use Rattle.polynomial.proofs.lay_negatives.Statement.{statement}
 use Rattle.polynomial.proofs.lay_negatives.Tie as tie

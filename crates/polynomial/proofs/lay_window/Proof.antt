@@ -1,8 +1,7 @@
 -- `polynomial::lay_window` meets its contract.
 use native.Mathlib.Omega.{arith}
 use borrow.Author.Needs.{needs}
-use Rattle.polynomial.proofs.Window.{laid-window}
-use Rattle.polynomial.proofs.lay_window.Statement.{statement}
+use Rattle.polynomial.proofs.{Window.laid-window, lay_window.Statement.statement}
 use Rattle.polynomial.proofs.lay_window.Tie as tie
 
 returns : tie.Need-returns

@@ -1,8 +1,7 @@
 -- `polynomial::lifted` meets its contract.
 use mathlib.Core.Path.{sym}
 use borrow.Author.Needs.{needs}
-use Rattle.polynomial.proofs.Halves.{lift-low, lift-high}
-use Rattle.polynomial.proofs.lifted.Statement.{statement}
+use Rattle.polynomial.proofs.{Halves.lift-low, Halves.lift-high, lifted.Statement.statement}
 use Rattle.polynomial.proofs.lifted.Tie as tie
 
 returns : tie.Need-returns

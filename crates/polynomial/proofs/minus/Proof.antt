@@ -3,8 +3,7 @@ use native.Mathlib.Omega.{arith}
 use borrow.Author.Needs.{needs}
 use lib.IntN.{pos, _-ℤ_}
 use Rattle.numbers.proofs.Congruence.{residue-lt}
-use Rattle.polynomial.proofs.Halves.{minus-is}
-use Rattle.polynomial.proofs.minus.Statement.{statement}
+use Rattle.polynomial.proofs.{Halves.minus-is, minus.Statement.statement}
 use Rattle.polynomial.proofs.minus.Tie as tie
 
 mul-result : tie.Need-mul-result

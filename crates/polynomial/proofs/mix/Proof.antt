@@ -1,6 +1,5 @@
 -- `polynomial::mix` meets its contract: the three lists that it lends are as long as `mix_lent` asks, and zeros are below q.
-use lib.ListN.{length-replicate}
-use lib.IntN.{pos}
+use lib.{ListN.length-replicate, IntN.pos}
 use Prim.Native.Nat.{ℕ}
 use borrow.Author.Needs.{needs}
 use Rattle.lists.proofs.Entries.{below-zeros}

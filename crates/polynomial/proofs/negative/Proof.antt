@@ -5,8 +5,7 @@ use borrow.Author.Needs.{needs}
 use lib.IntN.{ℤ, pos, negℤ}
 use mir.Syntax.{w64}
 use Rattle.numbers.specs.Residue.{residue}
-use Rattle.numbers.proofs.Congruence.{residue-lt}
-use Rattle.numbers.proofs.Machine.{toZ-pos}
+use Rattle.numbers.proofs.{Congruence.residue-lt, Machine.toZ-pos}
 use Rattle.polynomial.proofs.negative.Statement.{statement}
 use Rattle.polynomial.proofs.negative.Tie as tie
 

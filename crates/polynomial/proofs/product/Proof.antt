@@ -1,7 +1,6 @@
 -- `polynomial::product` meets its contract.
 use mathlib.Core.Path.{_∙_}
-use lib.ListN.{getD}
-use lib.IntN.{ℤ, pos}
+use lib.{ListN.getD, IntN.ℤ, IntN.pos}
 use borrow.Author.Needs.{needs}
 use Rattle.polynomial.proofs.Kernel.{widen-fits, one-fits, one, span-one, secret-small}
 use Rattle.polynomial.proofs.product.Statement.{statement}

@@ -1,7 +1,6 @@
 -- `polynomial::sixteen` meets its contract.
 use borrow.Author.Needs.{needs}
-use Rattle.polynomial.proofs.Kernel.{twice-fits, twice}
-use Rattle.polynomial.proofs.sixteen.Statement.{statement}
+use Rattle.polynomial.proofs.{Kernel.twice-fits, Kernel.twice, sixteen.Statement.statement}
 use Rattle.polynomial.proofs.sixteen.Tie as tie
 
 add-result : tie.Need-add-result

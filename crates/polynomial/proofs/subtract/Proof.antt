@@ -5,8 +5,7 @@ use native.Mathlib.Omega.{arith}
 use lib.IntN.{pos, _-ℤ_}
 use borrow.Author.Needs.{needs}
 use Rattle.numbers.specs.Residue.{residue}
-use Rattle.lists.specs.Entries.{nums}
-use Rattle.lists.specs.Ranges.{Stored}
+use Rattle.lists.specs.{Entries.nums, Ranges.Stored}
 use Rattle.lists.proofs.Stored.{store-none, store-next, stored-all}
 use Rattle.polynomial.proofs.subtract.Statement.{statement}
 use Rattle.polynomial.proofs.subtract.Tie as tie

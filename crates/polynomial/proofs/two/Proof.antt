@@ -1,7 +1,6 @@
 -- `polynomial::two` meets its contract.
 use borrow.Author.Needs.{needs}
-use Rattle.polynomial.proofs.Kernel.{twice-fits, twice}
-use Rattle.polynomial.proofs.two.Statement.{statement}
+use Rattle.polynomial.proofs.{Kernel.twice-fits, Kernel.twice, two.Statement.statement}
 use Rattle.polynomial.proofs.two.Tie as tie
 
 add-result : tie.Need-add-result

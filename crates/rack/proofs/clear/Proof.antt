@@ -1,7 +1,6 @@
 -- `rack::clear` meets its contract.
-use Rattle.rack.proofs.Calls.{clear-not, clear-done}
+use Rattle.rack.proofs.{Calls.clear-not, Calls.clear-done, clear.Statement.statement}
 use borrow.Author.Needs.{needs}
-use Rattle.rack.proofs.clear.Statement.{statement}
 use Rattle.rack.proofs.clear.Tie as tie
 
 returns : tie.Need-returns

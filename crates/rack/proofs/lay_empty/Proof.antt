@@ -2,9 +2,8 @@
 use mathlib.Core.Path.{_∙_, ap}
 use Prim.Native.Nat.{ℕ}
 use lib.ListN.{replicate, length-set}
-use Rattle.rack.proofs.Calls.{laid-empty}
+use Rattle.rack.proofs.{Calls.laid-empty, lay_empty.Statement.statement}
 use borrow.Author.Needs.{needs}
-use Rattle.rack.proofs.lay_empty.Statement.{statement}
 use Rattle.rack.proofs.lay_empty.Tie as tie
 
 returns : tie.Need-returns

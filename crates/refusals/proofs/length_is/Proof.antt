@@ -1,9 +1,8 @@
 -- `refusals::length_is` meets its contract.
 use borrow.Author.Tests.{eq-eqb, ne-eqb}
 use Rattle.refusals.specs.Refusals.{lengthIs}
-use Rattle.refusals.proofs.Laws.{stays, goes-on}
+use Rattle.refusals.proofs.{Laws.stays, Laws.goes-on, length_is.Statement.statement}
 use borrow.Author.Needs.{needs}
-use Rattle.refusals.proofs.length_is.Statement.{statement}
 use Rattle.refusals.proofs.length_is.Tie as tie
 
 returns : tie.Need-returns

@@ -1,9 +1,8 @@
 -- `refusals::length_up_to` meets its contract.
 use borrow.Author.Tests.{le-leb, lt-leb}
 use Rattle.refusals.specs.Refusals.{lengthUpTo}
-use Rattle.refusals.proofs.Laws.{stays, goes-on}
+use Rattle.refusals.proofs.{Laws.stays, Laws.goes-on, length_up_to.Statement.statement}
 use borrow.Author.Needs.{needs}
-use Rattle.refusals.proofs.length_up_to.Statement.{statement}
 use Rattle.refusals.proofs.length_up_to.Tie as tie
 
 returns : tie.Need-returns

@@ -1,7 +1,6 @@
 -- `refusals::publics_in` meets its contract.
-use Rattle.refusals.proofs.Laws.{stays, goes-on}
+use Rattle.refusals.proofs.{Laws.stays, Laws.goes-on, publics_in.Statement.statement}
 use borrow.Author.Needs.{needs}
-use Rattle.refusals.proofs.publics_in.Statement.{statement}
 use Rattle.refusals.proofs.publics_in.Tie as tie
 
 returns : tie.Need-returns

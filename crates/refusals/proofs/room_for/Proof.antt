@@ -1,9 +1,8 @@
 -- `refusals::room_for` meets its contract.
 use borrow.Author.Tests.{le-leb, lt-leb}
 use Rattle.refusals.specs.Refusals.{roomFor}
-use Rattle.refusals.proofs.Laws.{stays, goes-on}
+use Rattle.refusals.proofs.{Laws.stays, Laws.goes-on, room_for.Statement.statement}
 use borrow.Author.Needs.{needs}
-use Rattle.refusals.proofs.room_for.Statement.{statement}
 use Rattle.refusals.proofs.room_for.Tie as tie
 
 returns : tie.Need-returns

@@ -1,9 +1,8 @@
 -- `refusals::secrets_in` meets its contract.
 use borrow.Author.Tests.{lt-ltb, le-ltb}
 use Rattle.refusals.specs.Refusals.{secretsIn}
-use Rattle.refusals.proofs.Laws.{stays, goes-on}
+use Rattle.refusals.proofs.{Laws.stays, Laws.goes-on, secrets_in.Statement.statement}
 use borrow.Author.Needs.{needs}
-use Rattle.refusals.proofs.secrets_in.Statement.{statement}
 use Rattle.refusals.proofs.secrets_in.Tie as tie
 
 returns : tie.Need-returns

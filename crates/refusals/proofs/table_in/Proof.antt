@@ -1,9 +1,8 @@
 -- `refusals::table_in` meets its contract.
 use borrow.Author.Tests.{lt-ltb, le-ltb}
 use Rattle.refusals.specs.Refusals.{tableIn}
-use Rattle.refusals.proofs.Laws.{stays, goes-on}
+use Rattle.refusals.proofs.{Laws.stays, Laws.goes-on, table_in.Statement.statement}
 use borrow.Author.Needs.{needs}
-use Rattle.refusals.proofs.table_in.Statement.{statement}
 use Rattle.refusals.proofs.table_in.Tie as tie
 
 returns : tie.Need-returns

@@ -3,10 +3,8 @@ use mathlib.Core.Path.{_∙_, sym}
 use borrow.Author.Needs.{needs}
 use lib.ListN.{length}
 use Rattle.lists.proofs.Same.{zeros, zeros-long}
-use Rattle.rows_state.proofs.Tests.{frodo-named}
-use Rattle.rows_state.proofs.Turns.{state-by}
-use Rattle.rows.proofs.Opening.{begin-unknown}
-use Rattle.rows.proofs.offer_begin.Statement.{statement}
+use Rattle.rows_state.proofs.{Tests.frodo-named, Turns.state-by}
+use Rattle.rows.proofs.{Opening.begin-unknown, offer_begin.Statement.statement}
 use Rattle.rows.proofs.offer_begin.Tie as tie
 
 returns : tie.Need-returns

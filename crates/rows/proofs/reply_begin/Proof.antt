@@ -2,11 +2,9 @@
 use mathlib.Core.Path.{sym, _∙_}
 use lib.ListN.{length}
 use Rattle.lists.proofs.Same.{zeros, zeros-long}
-use Rattle.rows_state.proofs.Tests.{frodo-named}
-use Rattle.rows_state.proofs.Turns.{state-by}
-use Rattle.rows.proofs.Replying.{begin-unknown}
+use Rattle.rows_state.proofs.{Tests.frodo-named, Turns.state-by}
+use Rattle.rows.proofs.{Replying.begin-unknown, reply_begin.Statement.statement}
 use borrow.Author.Needs.{needs}
-use Rattle.rows.proofs.reply_begin.Statement.{statement}
 use Rattle.rows.proofs.reply_begin.Tie as tie
 
 returns : tie.Need-returns

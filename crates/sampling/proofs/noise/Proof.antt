@@ -1,7 +1,6 @@
 -- `sampling::noise` meets its contract: the output is zeroed first, and then holds what the scheme by its name gives.
 use mathlib.Core.Path.{sym, _∙_}
-use lib.IntN.{pos}
-use lib.ListN.{length}
+use lib.{IntN.pos, ListN.length}
 use Rattle.lists.proofs.Same.{zeros, zeros-long}
 use Rattle.sampling.proofs.Noising.{noise-unknown, noise-named}
 use borrow.Author.Needs.{needs}

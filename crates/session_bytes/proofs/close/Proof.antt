@@ -1,7 +1,6 @@
 -- `session_bytes::close` meets its contract.
-use Rattle.session_bytes.proofs.Calls.{close-bytes}
+use Rattle.session_bytes.proofs.{Calls.close-bytes, close.Statement.statement}
 use borrow.Author.Needs.{needs}
-use Rattle.session_bytes.proofs.close.Statement.{statement}
 use Rattle.session_bytes.proofs.close.Tie as tie
 
 returns : tie.Need-returns

@@ -1,6 +1,5 @@
 -- `settings::is_rule` meets its contract.
-use Rattle.settings.proofs.Known.{rule-known}
-use Rattle.settings.proofs.is_rule.Statement.{statement}
+use Rattle.settings.proofs.{Known.rule-known, is_rule.Statement.statement}
 use Rattle.settings.proofs.is_rule.Tie as tie
 
 pub is-rule-spec : {M : Type 1} → statement M

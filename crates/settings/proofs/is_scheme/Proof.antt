@@ -1,6 +1,5 @@
 -- `settings::is_scheme` meets its contract.
-use Rattle.settings.proofs.Known.{scheme-known}
-use Rattle.settings.proofs.is_scheme.Statement.{statement}
+use Rattle.settings.proofs.{Known.scheme-known, is_scheme.Statement.statement}
 use Rattle.settings.proofs.is_scheme.Tie as tie
 
 pub is-scheme-spec : {M : Type 1} → statement M

@@ -1,8 +1,7 @@
 -- `settings::read` meets its contract.
 use mathlib.Core.Path.{_∙_, ap}
 use Rattle.text.proofs.Lines.{told-within}
-use Rattle.settings.specs.Settings.{formatName}
-use Rattle.settings.specs.Calls.{answerOf}
+use Rattle.settings.specs.{Settings.formatName, Calls.answerOf}
 use Rattle.settings.proofs.Steps.{format-other, format-newer, format-read}
 use borrow.Author.Needs.{needs}
 use Rattle.settings.proofs.read.Statement.{statement}

@@ -1,6 +1,5 @@
 -- `sponge::lay_digest` meets its contract.
-use mathlib.Core.Path.{sym, ap}
-use mathlib.Core.List.{List, _++_}
+use mathlib.Core.{Path.sym, Path.ap, List.List, List._++_}
 use lib.ListN.{drop}
 use Rattle.lists.proofs.Parts.{front-long}
 use borrow.Author.Needs.{needs}

@@ -1,8 +1,7 @@
 -- `sponge::load` meets its contract.
 use mathlib.Core.Path.{_∙_}
 use borrow.Author.Needs.{needs}
-use Rattle.sponge.proofs.Lanes.{eight}
-use Rattle.sponge.proofs.load.Statement.{statement}
+use Rattle.sponge.proofs.{Lanes.eight, load.Statement.statement}
 use Rattle.sponge.proofs.load.Tie as tie
 
 returns : tie.Need-returns

@@ -5,9 +5,8 @@ use native.Mathlib.Omega.{arith}
 use lib.ListN.{length, length-take, length-drop}
 use Rattle.lists.proofs.Fill.{Filled, fill-next, fill-whole, rows-start, rows-next}
 use Rattle.sponge.specs.Sponge.{byteAt}
-use Rattle.sponge.proofs.Lanes.{lane-bytes, fill-again}
+use Rattle.sponge.proofs.{Lanes.lane-bytes, Lanes.fill-again, put.Statement.statement}
 use borrow.Author.Needs.{needs}
-use Rattle.sponge.proofs.put.Statement.{statement}
 use Rattle.sponge.proofs.put.Tie as tie
 
 abbrev Inv-loop : tie.InvT-loop

@@ -1,6 +1,5 @@
 -- `sponge::sha3_256` meets its contract.
-use mathlib.Core.Path.{ap₂, _∙_}
-use mathlib.Core.List.{List}
+use mathlib.Core.{Path.ap₂, Path._∙_, List.List}
 use Prim.Native.Nat.{ℕ}
 use Rattle.sponge.specs.Sponge.{squeezed, sha3}
 use borrow.Author.Needs.{needs}

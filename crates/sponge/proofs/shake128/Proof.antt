@@ -1,6 +1,5 @@
 -- `sponge::shake128` meets its contract.
-use mathlib.Core.Path.{ap, _∙_}
-use mathlib.Core.List.{List}
+use mathlib.Core.{Path.ap, Path._∙_, List.List}
 use Prim.Native.Nat.{ℕ}
 use lib.ListN.{length}
 use Rattle.sponge.specs.Sponge.{squeezed, shake128}

@@ -4,10 +4,9 @@ use Prim.Native.Nat.{_-_, _*_}
 use native.Mathlib.Omega.{arith}
 use lib.ListN.{length, length-take, length-drop}
 use borrow.Rule.Slice.PartMut.{same-len-mid}
-use Rattle.sponge.proofs.Absorbing.{few-blocks}
+use Rattle.sponge.proofs.{Absorbing.few-blocks, squeeze.Statement.statement}
 use Rattle.sponge.proofs.Squeezing.{Squeezed, squeeze-none, squeeze-more, squeeze-all}
 use borrow.Author.Needs.{needs}
-use Rattle.sponge.proofs.squeeze.Statement.{statement}
 use Rattle.sponge.proofs.squeeze.Tie as tie
 
 abbrev Inv-loop : tie.InvT-loop

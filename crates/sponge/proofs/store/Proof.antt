@@ -3,8 +3,7 @@ use mathlib.Core.Path.{refl}
 use native.Mathlib.Omega.{arith}
 use lib.ListN.{length-set}
 use borrow.Author.Needs.{needs}
-use Rattle.sponge.proofs.Lanes.{eight-stored}
-use Rattle.sponge.proofs.store.Statement.{statement}
+use Rattle.sponge.proofs.{Lanes.eight-stored, store.Statement.statement}
 use Rattle.sponge.proofs.store.Tie as tie
 
 returns : tie.Need-returns

@@ -9,8 +9,7 @@ use Rattle.text.proofs.Writing.{one-room, one-written, more-room, Endin
 use Rattle.text.proofs.write_number.Reads as write-number
 use Rattle.text.proofs.write_number.Kinds as kinds
 use Rattle.text.proofs.+write_number.Lts-write_number as lts
-use Rattle.text.proofs.+write_number.{statement}
-use Rattle.text.proofs.+write_number.Tie.{close}
+use Rattle.text.proofs.{+write_number.statement, +write_number.Tie.close}
 
 abbrev μ-write-number : Measures 1 kinds.ps ℕ
 μ-write-number κs a = a .0

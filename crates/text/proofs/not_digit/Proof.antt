@@ -1,6 +1,5 @@
 -- `text::not_digit` meets its contract.
-use Rattle.text.proofs.Reading.{not-digit}
-use Rattle.text.proofs.not_digit.Statement.{statement}
+use Rattle.text.proofs.{Reading.not-digit, not_digit.Statement.statement}
 use Rattle.text.proofs.not_digit.Tie as tie
 
 returns : tie.Need-returns

@@ -2,8 +2,7 @@
 use mathlib.Core.Path.{sym, _∙_}
 use native.Mathlib.Omega.{arith}
 use borrow.Author.Needs.{needs}
-use lib.ListN.{length, length-take}
-use lib.Seq.{length-take-le}
+use lib.{ListN.length, ListN.length-take, Seq.length-take-le}
 use Prim.Native.Nat.{_+_, _≤_, _<_}
 use Rattle.lists.proofs.Parts.{part}
 use Rattle.text.proofs.Reading.{number-size, number-found, number-other}

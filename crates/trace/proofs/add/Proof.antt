@@ -1,8 +1,7 @@
 -- `trace::add` meets its contract.
 use native.Mathlib.Omega.{arith}
 use borrow.Author.Needs.{needs}
-use Rattle.trace.proofs.Tallying.{made-is}
-use Rattle.trace.proofs.add.Statement.{statement}
+use Rattle.trace.proofs.{Tallying.made-is, add.Statement.statement}
 use Rattle.trace.proofs.add.Tie as tie
 
 add-u : tie.Need-add-u

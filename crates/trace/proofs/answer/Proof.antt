@@ -5,8 +5,7 @@ use lib.ListN.{length}
 use borrow.Author.Needs.{needs}
 use Rattle.text.proofs.Answer.{answers}
 use Rattle.trace.specs.Steps.{textOf}
-use Rattle.trace.proofs.Short.{answered-short}
-use Rattle.trace.proofs.Tallying.{answer-is}
+use Rattle.trace.proofs.{Short.answered-short, Tallying.answer-is}
 use Rattle.trace.proofs.answer.Statement.{statement}
 use Rattle.trace.proofs.answer.Tie as tie
 

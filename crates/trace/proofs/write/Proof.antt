@@ -4,8 +4,7 @@ use native.Mathlib.Omega.{arith}
 use lib.ListN.{length}
 use borrow.Author.Needs.{needs}
 use Rattle.text.proofs.Writing.{written-as}
-use Rattle.trace.proofs.Writing.{text-whole, text-lost}
-use Rattle.trace.proofs.write.Statement.{statement}
+use Rattle.trace.proofs.{Writing.text-whole, Writing.text-lost, write.Statement.statement}
 use Rattle.trace.proofs.write.Tie as tie
 
 write-summary-requires : tie.Need-write-summary-requires

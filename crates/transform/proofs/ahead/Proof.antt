@@ -1,8 +1,7 @@
 -- `transform::ahead` meets its contract.
 use mathlib.Core.Path.{_∙_, sym}
 use borrow.Author.Needs.{needs}
-use Rattle.transform.proofs.Inverses.{transformed-sums}
-use Rattle.transform.proofs.ahead.Statement.{statement}
+use Rattle.transform.proofs.{Inverses.transformed-sums, ahead.Statement.statement}
 use Rattle.transform.proofs.ahead.Tie as tie
 
 returns : tie.Need-returns

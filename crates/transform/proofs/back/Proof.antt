@@ -3,8 +3,7 @@ use mathlib.Core.Path.{_∙_, sym, ap}
 use borrow.Author.Needs.{needs}
 use lib.ListN.{length}
 use Rattle.transform.specs.Level.{scaled}
-use Rattle.transform.proofs.Sizes.{sums-length, sums-below}
-use Rattle.transform.proofs.Inverses.{inverted-scaled}
+use Rattle.transform.proofs.{Sizes.sums-length, Sizes.sums-below, Inverses.inverted-scaled}
 use Rattle.transform.proofs.back.Statement.{statement}
 use Rattle.transform.proofs.back.Tie as tie
 

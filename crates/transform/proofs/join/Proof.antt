@@ -1,7 +1,6 @@
 -- `transform::join` meets its contract.
 use borrow.Author.Needs.{needs}
-use Rattle.transform.proofs.Joins.{stored-is}
-use Rattle.transform.proofs.join.Statement.{statement}
+use Rattle.transform.proofs.{Joins.stored-is, join.Statement.statement}
 use Rattle.transform.proofs.join.Tie as tie
 
 returns : tie.Need-returns

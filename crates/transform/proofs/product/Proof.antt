@@ -2,11 +2,9 @@
 use mathlib.Core.Path.{_∙_, ap, ap₂}
 use borrow.Author.Needs.{needs}
 use lib.ListN.{length}
-use Rattle.transform.specs.Transform.{inverted}
-use Rattle.transform.specs.Theorems.{entrywise}
+use Rattle.transform.specs.{Transform.inverted, Theorems.entrywise}
 use Rattle.transform.proofs.Sizes.{transformed-length, transformed-below, entrywise-length, entrywise-below}
-use Rattle.transform.proofs.Products.{multiplied-through}
-use Rattle.transform.proofs.product.Statement.{statement}
+use Rattle.transform.proofs.{Products.multiplied-through, product.Statement.statement}
 use Rattle.transform.proofs.product.Tie as tie
 use Rattle.transform.proofs.Entrywise.{turned-round}
 

@@ -5,8 +5,7 @@ use native.Mathlib.Omega.{arith}
 use native.Mathlib.Nat.{add-zero, div-le-self, div-mul-le-self}
 use lib.ListN.{getD}
 use Rattle.transform.specs.Level.{factor, Butterflies}
-use Rattle.transform.proofs.Seven.{power-lt}
-use Rattle.transform.proofs.Joins.{exponent-≤, run-more}
+use Rattle.transform.proofs.{Seven.power-lt, Joins.exponent-≤, Joins.run-more}
 use Rattle.transform.proofs.run.Statement.{statement}
 use Rattle.transform.proofs.run.Tie as tie
 use borrow.Author.Needs.{needs}

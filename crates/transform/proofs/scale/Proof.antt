@@ -1,7 +1,6 @@
 -- `transform::scale` meets its contract: it fills with the entries of the inverse.
 use borrow.Author.Needs.{needs}
-use mathlib.Core.Path.{_≡_, _∙_, sym, ap, ap₂}
-use mathlib.Core.List.{List}
+use mathlib.Core.{Path._≡_, Path._∙_, Path.sym, Path.ap, Path.ap₂, List.List}
 use Prim.Native.Nat.{ℕ, _-_, _*_, _%_, _^_, _<_}
 use native.Mathlib.Omega.{arith}
 use native.Mathlib.Nat.{mod-eq-of-lt}
@@ -9,9 +8,7 @@ use lib.ListN.{length, getD, length-set}
 use Rattle.lists.specs.Entries.{tab}
 use Rattle.lists.proofs.Fill.{Filled, fill-next, fill-end, fill-first}
 use Rattle.transform.specs.Level.{scaled}
-use Rattle.transform.proofs.Seven.{power-lt}
-use Rattle.transform.proofs.Joins.{product-fits}
-use Rattle.transform.proofs.scale.Statement.{statement}
+use Rattle.transform.proofs.{Seven.power-lt, Joins.product-fits, scale.Statement.statement}
 use Rattle.transform.proofs.scale.Tie as tie
 
 -- entry k of the inverse

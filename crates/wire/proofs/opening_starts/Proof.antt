@@ -1,8 +1,7 @@
 -- `wire::opening_starts` meets its contract: by the family.
 use mathlib.Core.Path.{_∙_, sym}
-use Rattle.wire.proofs.Places.{starts-by}
+use Rattle.wire.proofs.{Places.starts-by, opening_starts.Statement.statement}
 use borrow.Author.Needs.{needs}
-use Rattle.wire.proofs.opening_starts.Statement.{statement}
 use Rattle.wire.proofs.opening_starts.Tie as tie
 
 returns : tie.Need-returns

@@ -5,9 +5,8 @@ use native.Mathlib.Omega.{arith}
 use lib.ListN.{length}
 use Rattle.packing.specs.Packing.{unpacked}
 use Rattle.packing.proofs.Laws.{no-bits}
-use Rattle.wire.proofs.Places.{coins-hold, coins-of}
+use Rattle.wire.proofs.{Places.coins-hold, Places.coins-of, take_coins.Statement.statement}
 use borrow.Author.Needs.{needs}
-use Rattle.wire.proofs.take_coins.Statement.{statement}
 use Rattle.wire.proofs.take_coins.Tie as tie
 
 unpack-requires : tie.Need-unpack-requires

@@ -4,9 +4,8 @@ use lib.ListN.{length}
 use Rattle.reply.specs.Reply.{replyRoomsOf}
 use Rattle.reply.proofs.Replying.{reply-refused}
 use Rattle.exchange.specs.Answer.{answerLentOf}
-use Rattle.exchange.proofs.Answering.{answer-unruled}
+use Rattle.exchange.proofs.{Answering.answer-unruled, answerer.answer_by.Statement.statement}
 use borrow.Author.Needs.{needs}
-use Rattle.exchange.proofs.answerer.answer_by.Statement.{statement}
 use Rattle.exchange.proofs.answerer.answer_by.Tie as tie
 
 abbrev start : tie.After-rule-of → tie.Start

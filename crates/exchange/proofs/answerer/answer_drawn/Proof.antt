@@ -1,5 +1,5 @@
 -- `exchange::answerer::answer_drawn` meets its contract: the table's refusal, or what follows.
-use mathlib.Core.Path.{_≡_, refl, ap, _∙_}
+use mathlib.Core.Path.{_≡_, refl, ap}
 use Prim.Native.Nat.{ℕ, _+_}
 use native.Mathlib.Omega.{arith}
 use lib.ListN.{length}
@@ -7,10 +7,9 @@ use Rattle.reply.specs.Reply.{ReplyRooms, replyRoomsOf}
 use Rattle.reply.proofs.Replying.{reply-refused}
 use Rattle.exchange.specs.Random.{secretBytes, cut}
 use Rattle.exchange.specs.Answer.{AnswerLent, answerLentOf}
-use Rattle.exchange.proofs.Drawn.{drew-as}
+use Rattle.exchange.proofs.{Drawn.drew-as, answerer.answer_drawn.Statement.statement}
 use Rattle.exchange.proofs.Answering.{AnswerSized, answer-sized, answer-unordered}
 use borrow.Author.Needs.{needs}
-use Rattle.exchange.proofs.answerer.answer_drawn.Statement.{statement}
 use Rattle.exchange.proofs.answerer.answer_drawn.Tie as tie
 
 abbrev start : tie.After-draw-pair → tie.Start

@@ -1,10 +1,8 @@
 -- `exchange::answerer::answer_mixed` meets its contract: the table's refusal, or what Reply shows of s', e', e'' and coins.
-use mathlib.Core.Path.{_≡_, sym, ap, ap₂, _∙_}
-use mathlib.Core.List.{List}
+use mathlib.Core.{Path._≡_, Path.sym, Path.ap, Path.ap₂, Path._∙_, List.List}
 use Prim.Native.Nat.{ℕ, _+_, _-_}
 use native.Mathlib.Omega.{arith}
-use lib.IntN.{ℤ}
-use lib.ListN.{length, take, drop}
+use lib.{IntN.ℤ, ListN.length, ListN.take, ListN.drop}
 use Rattle.schemes.specs.Schemes.{fixedOf}
 use Rattle.lists.proofs.Parts.{part-long}
 use Rattle.reply.specs.Reply.{ReplyRooms, replyRoomsOf}

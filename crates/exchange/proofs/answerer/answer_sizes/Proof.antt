@@ -7,8 +7,7 @@ use Rattle.schemes.specs.declared.Fixed.{Fixed}
 use Rattle.schemes.proofs.Sound.{sound}
 use Rattle.refusals.specs.Refusals.{lengthIs, roomFor}
 use Rattle.refusals.proofs.Laws.{first, also}
-use Rattle.exchange.specs.Random.{secretBytes, mixedBytes}
-use Rattle.exchange.specs.Inside.{answerSizes}
+use Rattle.exchange.specs.{Random.secretBytes, Random.mixedBytes, Inside.answerSizes}
 use Rattle.exchange.proofs.Drawn.{secret-few, mixed-few}
 use borrow.Author.Needs.{needs}
 use Rattle.exchange.proofs.answerer.answer_sizes.Statement.{statement}

@@ -1,12 +1,10 @@
 -- `exchange::drawing::draw_pair` meets its contract: the one draw, and then the other.
-use mathlib.Core.Path.{_≡_, sym, ap, _∙_}
-use mathlib.Core.List.{List}
+use mathlib.Core.Path.{sym, ap, _∙_}
 use Prim.Native.Nat.{ℕ, _+_}
 use native.Mathlib.Omega.{arith}
-use Rattle.schemes.specs.Schemes.{fixedOf}
 use Rattle.schemes.proofs.Laws.{tied}
 use Rattle.refusals.proofs.Laws.{differ}
-use Rattle.exchange.specs.Random.{secretBytes, cut}
+use Rattle.exchange.specs.Random.{cut}
 use Rattle.exchange.proofs.Drawn.{draws-secret, drew-as}
 use borrow.Author.Needs.{needs}
 use Rattle.exchange.proofs.drawing.draw_pair.Statement.{statement}

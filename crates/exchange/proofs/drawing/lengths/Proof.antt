@@ -2,9 +2,8 @@
 use mathlib.Core.Path.{_∙_, sym}
 use native.Mathlib.Omega.{arith}
 use Rattle.schemes.proofs.Sound.{Sound, sound}
-use Rattle.exchange.proofs.Drawn.{lengths-by}
+use Rattle.exchange.proofs.{Drawn.lengths-by, drawing.lengths.Statement.statement}
 use borrow.Author.Needs.{needs}
-use Rattle.exchange.proofs.drawing.lengths.Statement.{statement}
 use Rattle.exchange.proofs.drawing.lengths.Tie as tie
 
 abbrev start : tie.After-fixed → tie.Start

@@ -1,15 +1,11 @@
 -- `exchange::opener::open_drawn` meets its contract: the table's refusal, or what Offer shows of s and e.
-use mathlib.Core.Path.{_≡_, sym, ap, _∙_}
-use mathlib.Core.List.{List}
+use mathlib.Core.{Path._≡_, Path.sym, Path.ap, Path._∙_, List.List}
 use Prim.Native.Nat.{ℕ, _+_, _≤_}
 use native.Mathlib.Omega.{arith}
-use lib.IntN.{ℤ}
-use lib.ListN.{length, take}
-use Rattle.schemes.specs.Schemes.{fixedOf}
-use Rattle.schemes.specs.declared.Fixed.{Fixed}
+use lib.{IntN.ℤ, ListN.length, ListN.take}
+use Rattle.schemes.specs.{Schemes.fixedOf, declared.Fixed.Fixed}
 use Rattle.lists.proofs.Parts.{front-long}
-use Rattle.refusals.proofs.Laws.{differ}
-use Rattle.refusals.proofs.Seen.{shown-failed}
+use Rattle.refusals.proofs.{Laws.differ, Seen.shown-failed}
 use Rattle.exchange.specs.Random.{secretBytes, cut, valuesIn}
 use Rattle.exchange.specs.Open.{OpenLent, openLentOf, openRoomsOf, openOffer}
 use Rattle.exchange.proofs.Opening.{OpenSized, open-sized, open-unordered, open-sent}

@@ -1,15 +1,10 @@
 -- `exchange::opener::open_sized` meets its contract: s is zeroed after a refusal, and holds its values where nothing is refused.
 use mathlib.Core.Path.{_≡_, sym, ap, _∙_}
-use mathlib.Core.List.{List, _++_}
 use Prim.Native.Nat.{ℕ, _≤_}
 use native.Mathlib.Omega.{arith}
-use lib.IntN.{ℤ, pos}
-use lib.ListN.{length, drop, replicate}
-use Rattle.schemes.specs.Schemes.{fixedOf}
-use Rattle.schemes.specs.declared.Fixed.{Fixed}
-use Rattle.schemes.specs.declared.Named.the-variants.{Known}
+use lib.{IntN.pos, ListN.length, ListN.replicate}
+use Rattle.schemes.specs.{Schemes.fixedOf, declared.Fixed.Fixed}
 use Rattle.lists.proofs.Parts.{front-long}
-use Rattle.noise.specs.declared.Ruled.the-variants.{By}
 use Rattle.exchange.specs.Open.{OpenLent, openLentOf, OpenRooms, openRoomsOf}
 use Rattle.exchange.proofs.Opening.{OpenSized, open-sized, open-cut, open-rest-refused, open-rest-done}
 use borrow.Author.Needs.{needs}

@@ -1,5 +1,5 @@
 -- `exchange::opener::open_sizes` meets its contract: one test after the other.
-use mathlib.Core.Path.{_≡_, refl, sym, ap, ap₂, _∙_}
+use mathlib.Core.Path.{ap, ap₂}
 use Prim.Native.Nat.{ℕ, _+_}
 use native.Mathlib.Omega.{arith}
 use lib.ListN.{length}
@@ -8,9 +8,8 @@ use Rattle.schemes.proofs.Sound.{sound}
 use Rattle.refusals.specs.Refusals.{lengthIs, roomFor}
 use Rattle.refusals.proofs.Laws.{first, also}
 use Rattle.exchange.specs.Inside.{openSizes}
-use Rattle.exchange.proofs.Drawn.{secret-few}
+use Rattle.exchange.proofs.{Drawn.secret-few, opener.open_sizes.Statement.statement}
 use borrow.Author.Needs.{needs}
-use Rattle.exchange.proofs.opener.open_sizes.Statement.{statement}
 use Rattle.exchange.proofs.opener.open_sizes.Tie as tie
 
 abbrev start : tie.After-fixed → tie.Start

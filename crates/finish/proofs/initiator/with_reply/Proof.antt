@@ -1,18 +1,13 @@
 -- `finish::initiator::with_reply` meets its contract: it lends room for the reply's numbers; a refused message ends the call, and otherwise the secret's test decides.
-use mathlib.Core.Path.{_≡_, sym, ap₂, _∙_}
-use mathlib.Core.List.{List}
+use mathlib.Core.{Path._≡_, Path.sym, Path.ap₂, Path._∙_, List.List}
 use Prim.Native.Nat.{ℕ, _≤_}
 use native.Mathlib.Omega.{arith}
 use lib.ListN.{length}
-use Rattle.schemes.specs.Schemes.{fixedOf}
-use Rattle.schemes.specs.declared.Named.the-variants.{Known}
+use Rattle.schemes.specs.{Schemes.fixedOf, declared.Named.the-variants.Known}
 use Rattle.schemes.proofs.Sound.{sound}
-use Rattle.lists.proofs.Same.{zeros}
-use Rattle.lists.proofs.Parts.{buffer-long, front-long}
+use Rattle.lists.proofs.{Same.zeros, Parts.buffer-long, Parts.front-long}
 use Rattle.packing.proofs.Laws.{unpacked-length}
-use Rattle.refusals.specs.Seen.{ifPassed}
-use Rattle.refusals.specs.Steps.{outcome}
-use Rattle.refusals.specs.declared.Verdict.{Verdict}
+use Rattle.refusals.specs.{Seen.ifPassed, Steps.outcome, declared.Verdict.Verdict}
 use Rattle.refusals.proofs.Laws.{failed, went-on}
 use Rattle.refusals.proofs.Steps.{front-is, front-fits, outcome-refused}
 use Rattle.wire.specs.Wire.{repliedIn, numbersIn}

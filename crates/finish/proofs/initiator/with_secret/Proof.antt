@@ -1,10 +1,8 @@
 -- `finish::initiator::with_secret` meets its contract: the secret's test decides.
-use mathlib.Core.Path.{_≡_, refl, sym, ap, _∙_}
-use Rattle.schemes.specs.Schemes.{fixedOf}
-use Rattle.schemes.specs.declared.Fixed.{Fixed}
+use mathlib.Core.Path.{refl, sym, ap, _∙_}
+use Rattle.schemes.specs.{Schemes.fixedOf, declared.Fixed.Fixed}
 use Rattle.lists.proofs.Same.{zeros-long}
-use Rattle.finish.specs.Finish.{finishOf}
-use Rattle.finish.specs.Inside.{slackFrom}
+use Rattle.finish.specs.{Finish.finishOf, Inside.slackFrom}
 use Rattle.refusals.specs.declared.Outcome.the-variants.{Slack}
 use Rattle.refusals.proofs.Laws.{first, secrets-passed}
 use Rattle.refusals.proofs.Steps.{outcome-slack, outcome-refused}

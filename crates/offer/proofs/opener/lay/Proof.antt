@@ -1,6 +1,5 @@
 -- `offer::opener::lay` meets its contract: the product with the test of the public numbers, then, where that has passed, its bytes.
-use mathlib.Core.Path.{_≡_, refl, sym, ap, _∙_}
-use mathlib.Core.List.{List}
+use mathlib.Core.{Path._≡_, Path.refl, Path.sym, Path.ap, Path._∙_, List.List}
 use Prim.Native.Nat.{ℕ, _≤_}
 use native.Mathlib.Omega.{arith}
 use Rattle.schemes.specs.Schemes.{fixedOf}
@@ -9,8 +8,7 @@ use lib.ListN.{length}
 use Rattle.lists.specs.Ranges.{Below}
 use Rattle.lists.proofs.Parts.{buffer-long, front-long}
 use Rattle.packing.specs.Packing.{packed}
-use Rattle.refusals.specs.Refusals.{publicsIn, notBlank}
-use Rattle.refusals.specs.Seen.{ifPassed}
+use Rattle.refusals.specs.{Refusals.publicsIn, Refusals.notBlank, Seen.ifPassed}
 use Rattle.refusals.proofs.Steps.{front-is, front-fits}
 use Rattle.refusals.proofs.Laws.{publics-passed, failed, went-on}
 use Rattle.values.specs.Values.{offered}

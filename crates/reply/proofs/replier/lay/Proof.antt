@@ -1,18 +1,15 @@
 -- `reply::replier::lay` meets its contract: the products with the test of the public numbers, then, where that has passed, message and key; with room for what lies
 -- between.
-use mathlib.Core.Path.{_≡_, refl, sym, ap, ap₂, _∙_}
-use mathlib.Core.List.{List}
+use mathlib.Core.{Path._≡_, Path.refl, Path.sym, Path.ap, Path.ap₂, Path._∙_, List.List}
 use Prim.Native.Nat.{ℕ, _≤_}
 use native.Mathlib.Omega.{arith}
 use lib.ListN.{length}
-use Rattle.schemes.specs.Schemes.{fixedOf}
-use Rattle.schemes.specs.declared.Fixed.{Fixed}
+use Rattle.schemes.specs.{Schemes.fixedOf, declared.Fixed.Fixed}
 use Rattle.schemes.proofs.Sound.{sound}
 use Rattle.lists.specs.Ranges.{Below}
 use Rattle.lists.proofs.Parts.{buffer-long, front-long}
 use Rattle.packing.specs.Packing.{packed}
-use Rattle.refusals.specs.Refusals.{publicsIn, notBlank}
-use Rattle.refusals.specs.Seen.{ifPassed}
+use Rattle.refusals.specs.{Refusals.publicsIn, Refusals.notBlank, Seen.ifPassed}
 use Rattle.refusals.proofs.Laws.{publics-passed, failed, went-on}
 use Rattle.refusals.proofs.Steps.{front-is, front-fits}
 use Rattle.values.specs.Values.{mixedValue}

@@ -1,16 +1,12 @@
 -- `reply::replier::reply_sized` meets its contract: what the outputs hold, by the verdict of the tests after the sizes.
-use mathlib.Core.Path.{_≡_, sym, ap, _∙_}
-use mathlib.Core.List.{List, _++_}
+use mathlib.Core.{Path._≡_, Path.sym, Path.ap, Path._∙_, List.List, List._++_}
 use Prim.Native.Nat.{ℕ, _≤_}
 use native.Mathlib.Omega.{arith}
 use lib.ListN.{length, drop, replicate, length-take}
-use Rattle.schemes.specs.Schemes.{fixedOf}
-use Rattle.schemes.specs.declared.Fixed.{Fixed}
+use Rattle.schemes.specs.{Schemes.fixedOf, declared.Fixed.Fixed}
 use Rattle.lists.proofs.Parts.{front-long}
-use Rattle.sponge.proofs.Output.{sha3-length}
-use Rattle.sponge.proofs.Digest.{digest-laid}
-use Rattle.refusals.proofs.Seen.{written-passed}
-use Rattle.refusals.proofs.Steps.{blank-front, kept}
+use Rattle.sponge.proofs.{Output.sha3-length, Digest.digest-laid}
+use Rattle.refusals.proofs.{Seen.written-passed, Steps.blank-front, Steps.kept}
 use Rattle.reply.specs.Reply.{Reply, replyOf, replyRoomsOf, replyMessage, replyKey}
 use Rattle.reply.proofs.Replying.{message-length, key-length, Sized, reply-sized, reply-rest-decides, reply-refused, reply-done}
 use borrow.Author.Needs.{needs}

@@ -1,24 +1,19 @@
 -- `reply::replier::with_opening` meets its contract: it lends room for the opening's numbers; a refused message ends the call, and otherwise the secrets' tests decide.
-use mathlib.Core.Path.{_≡_, refl, sym, ap, _∙_}
-use mathlib.Core.List.{List}
+use mathlib.Core.{Path._≡_, Path.sym, Path.ap, Path._∙_, List.List}
 use Prim.Native.Nat.{ℕ, _≤_}
 use native.Mathlib.Omega.{arith}
 use lib.ListN.{length}
-use Rattle.schemes.specs.Schemes.{fixedOf}
-use Rattle.schemes.specs.declared.Fixed.{Fixed}
+use Rattle.schemes.specs.{Schemes.fixedOf, declared.Fixed.Fixed}
 use Rattle.schemes.proofs.Sound.{sound}
-use Rattle.lists.proofs.Same.{zeros}
-use Rattle.lists.proofs.Parts.{buffer-long, front-long}
+use Rattle.lists.proofs.{Same.zeros, Parts.buffer-long, Parts.front-long}
 use Rattle.packing.proofs.Laws.{unpacked-length}
-use Rattle.refusals.specs.Refusals.{_then_, publicsIn}
-use Rattle.refusals.specs.Seen.{ifPassed}
+use Rattle.refusals.specs.{Refusals._then_, Refusals.publicsIn, Seen.ifPassed}
 use Rattle.refusals.specs.declared.Verdict.{Verdict}
 use Rattle.refusals.proofs.Laws.{failed, went-on, before-fail}
 use Rattle.refusals.proofs.Steps.{front-is, front-fits, put-kept}
 use Rattle.wire.specs.Wire.{openedIn, numbersIn}
 use Rattle.wire.proofs.Travel.{message-counted}
-use Rattle.reply.specs.Reply.{replyOf, openedOf}
-use Rattle.reply.specs.Inside.{replyRest}
+use Rattle.reply.specs.{Reply.replyOf, Reply.openedOf, Inside.replyRest}
 use Rattle.reply.proofs.Replying.{message-taken, key-taken}
 use borrow.Author.Needs.{needs}
 use Rattle.reply.proofs.replier.with_opening.Statement.{statement}

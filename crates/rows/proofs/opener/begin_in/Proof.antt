@@ -1,18 +1,14 @@
 -- `rows::opener::begin_in` meets its contract: by the verdict of its tests.
-use mathlib.Core.Path.{_≡_, refl, _∙_, sym, ap}
-use mathlib.Core.List.{List, _++_}
+use mathlib.Core.{Path._≡_, Path.refl, Path._∙_, Path.sym, Path.ap, List.List, List._++_}
 use Prim.Native.Nat.{ℕ}
 use native.Mathlib.Omega.{arith}
 use borrow.Author.Needs.{needs}
 use lib.ListN.{length, replicate}
-use Rattle.schemes.specs.Schemes.{fixedOf}
-use Rattle.schemes.specs.declared.Named.the-variants.{Known}
+use Rattle.schemes.specs.{Schemes.fixedOf, declared.Named.the-variants.Known}
 use Rattle.values.proofs.Numbers.{numbers-in}
 use Rattle.refusals.specs.declared.Verdict.the-variants.{Pass}
-use Rattle.rows_state.specs.State.{laid, fresh}
-use Rattle.rows_state.specs.declared.Call.{Call}
-use Rattle.rows_state.proofs.Tests.{frodos}
-use Rattle.rows_state.proofs.Turns.{state-by}
+use Rattle.rows_state.specs.{State.laid, State.fresh, declared.Call.Call}
+use Rattle.rows_state.proofs.{Tests.frodos, Turns.state-by}
 use Rattle.rows_state.proofs.Laying.{seed-kept-long, kept-zeros, keeping-long, keeping-kept, keeping-is}
 use Rattle.rows.specs.Offer.{offerBeginOf, offerBeginTests, offerState}
 use Rattle.rows.proofs.Opening.{OfferSized, begin-sized}

@@ -2,8 +2,7 @@
 use mathlib.Core.Path.{refl}
 use borrow.Author.Needs.{needs}
 use Rattle.refusals.proofs.Laws.{also}
-use Rattle.rows.specs.Offer.{offerBeginTests}
-use Rattle.rows.specs.Inside.{offerBeginSizes}
+use Rattle.rows.specs.{Offer.offerBeginTests, Inside.offerBeginSizes}
 use Rattle.rows.proofs.opener.begin_tests.Statement.{statement}
 use Rattle.rows.proofs.opener.begin_tests.Tie as tie
 

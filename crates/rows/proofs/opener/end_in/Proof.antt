@@ -1,8 +1,7 @@
 -- `rows::opener::end_in` meets its contract: turn and room, then the part about to be sent.
 use mathlib.Core.Path.{_≡_, sym, _∙_}
 use lib.ListN.{getD}
-use Rattle.schemes.specs.Schemes.{familyOf}
-use Rattle.schemes.specs.declared.Family.{Family}
+use Rattle.schemes.specs.{Schemes.familyOf, declared.Family.Family}
 use Rattle.values.proofs.Numbers.{numbers-in}
 use Rattle.rows_state.proofs.Tests.{frodo-named}
 use Rattle.rows.proofs.Opening.{end-failed, end-refused}

@@ -1,24 +1,20 @@
 -- `rows::opener::lay` meets its contract: the seed and the numbers, then, where these are not blank, the bytes; with room for what lies between.
-use mathlib.Core.Path.{_≡_, sym, ap, ap₂, _∙_}
-use mathlib.Core.List.{List}
+use mathlib.Core.{Path._≡_, Path.sym, Path.ap, Path.ap₂, Path._∙_, List.List}
 use Prim.Native.Nat.{ℕ, _≤_}
 use native.Mathlib.Omega.{arith}
 use borrow.Author.Needs.{needs}
 use lib.ListN.{length, drop}
-use Rattle.schemes.specs.Schemes.{fixedOf}
-use Rattle.schemes.specs.declared.Fixed.{Fixed}
+use Rattle.schemes.specs.{Schemes.fixedOf, declared.Fixed.Fixed}
 use Rattle.schemes.proofs.Sound.{sound}
 use Rattle.lists.proofs.Parts.{buffer-long, front-long}
 use Rattle.packing.specs.Packing.{packed}
-use Rattle.refusals.specs.Refusals.{notBlank}
-use Rattle.refusals.specs.Seen.{ifPassed}
+use Rattle.refusals.specs.{Refusals.notBlank, Seen.ifPassed}
 use Rattle.refusals.proofs.Steps.{front-is, front-fits}
 use Rattle.values.specs.Fit.{Counted}
 use Rattle.values.proofs.Numbers.{numbers-in}
 use Rattle.wire.specs.Wire.{opening}
 use Rattle.rows_state.specs.State.{long}
-use Rattle.rows_state.proofs.Tests.{frodos}
-use Rattle.rows_state.proofs.Laying.{take-less}
+use Rattle.rows_state.proofs.{Tests.frodos, Laying.take-less}
 use Rattle.rows.specs.Offer.{sentNumbers, offerEndMessage}
 use Rattle.rows.proofs.Sending.{sent-counted, sent-is}
 use Rattle.rows.proofs.Opening.{state-long, seed-bytes, seed-long}

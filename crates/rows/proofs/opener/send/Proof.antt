@@ -1,20 +1,15 @@
 -- `rows::opener::send` meets its contract: what output and state hold, by the verdict on the part about to be sent.
-use mathlib.Core.Path.{_≡_, sym, ap, _∙_}
-use mathlib.Core.List.{List, _++_}
+use mathlib.Core.{Path._≡_, Path.sym, Path.ap, Path._∙_, List.List, List._++_}
 use Prim.Native.Nat.{ℕ, _≤_}
 use native.Mathlib.Omega.{arith}
 use lib.ListN.{length, take, drop}
-use Rattle.schemes.specs.Schemes.{fixedOf}
-use Rattle.schemes.specs.declared.Fixed.{Fixed}
-use Rattle.schemes.specs.declared.Named.{Named}
+use Rattle.schemes.specs.{Schemes.fixedOf, declared.Fixed.Fixed, declared.Named.Named}
 use Rattle.lists.proofs.Parts.{front-long}
-use Rattle.refusals.proofs.Seen.{shown-passed}
-use Rattle.refusals.proofs.Steps.{kept}
+use Rattle.refusals.proofs.{Seen.shown-passed, Steps.kept}
 use Rattle.rows.specs.Offer.{offerEndMessage}
-use Rattle.rows.proofs.Ends.{end-by}
+use Rattle.rows.proofs.{Ends.end-by, opener.send.Statement.statement}
 use Rattle.rows.proofs.Opening.{end-sized, end-decides, end-refused, message-long}
 use borrow.Author.Needs.{needs}
-use Rattle.rows.proofs.opener.send.Statement.{statement}
 use Rattle.rows.proofs.opener.send.Tie as tie
 
 abbrev start : tie.After-fixed → tie.Start

@@ -1,6 +1,5 @@
 -- `rows::replier::begin_in` meets its contract: the sizes, then the rest of the tests.
-use mathlib.Core.Path.{sym, ap, _∙_}
-use mathlib.Core.List.{List}
+use mathlib.Core.{Path.sym, Path.ap, Path._∙_, List.List}
 use Prim.Native.Nat.{ℕ}
 use Rattle.schemes.specs.declared.Named.the-variants.{Known}
 use Rattle.refusals.specs.Seen.{ifPassed}

@@ -1,26 +1,19 @@
 -- `rows::replier::begin_sized` meets its contract: it lends room for the opening's numbers; a refused opening ends the call; then the secrets, and then the state.
-use mathlib.Core.Path.{_≡_, refl, _∙_, sym, ap}
-use mathlib.Core.List.{List}
+use mathlib.Core.{Path._≡_, Path.refl, Path._∙_, Path.sym, Path.ap, List.List}
 use Prim.Native.Nat.{ℕ, _≤_}
 use native.Mathlib.Omega.{arith}
 use lib.ListN.{length}
-use Rattle.schemes.specs.Schemes.{fixedOf}
-use Rattle.schemes.specs.declared.Fixed.{Fixed}
-use Rattle.schemes.specs.declared.Named.the-variants.{Known}
+use Rattle.schemes.specs.{Schemes.fixedOf, declared.Fixed.Fixed, declared.Named.the-variants.Known}
 use Rattle.schemes.proofs.Sound.{sound}
 use Rattle.lists.proofs.Parts.{buffer-long, front-long}
 use Rattle.packing.proofs.Laws.{unpacked-length}
-use Rattle.refusals.specs.Refusals.{notBlank}
-use Rattle.refusals.specs.Seen.{ifPassed}
-use Rattle.refusals.specs.declared.Verdict.{Verdict}
-use Rattle.refusals.proofs.Laws.{failed, went-on}
-use Rattle.refusals.proofs.Steps.{front-is, front-fits}
+use Rattle.refusals.specs.{Refusals.notBlank, Seen.ifPassed, declared.Verdict.Verdict}
+use Rattle.refusals.proofs.{Laws.failed, Laws.went-on, Steps.front-is, Steps.front-fits}
 use Rattle.values.specs.Values.{mixedValue}
 use Rattle.wire.specs.Wire.{openedIn, numbersIn}
 use Rattle.wire.proofs.Travel.{message-counted}
 use Rattle.reply.proofs.Replying.{secrets-small}
-use Rattle.rows_state.specs.State.{long, laid, fresh}
-use Rattle.rows_state.specs.declared.Call.{Call}
+use Rattle.rows_state.specs.{State.long, State.laid, State.fresh, declared.Call.Call}
 use Rattle.rows.specs.Reply.{ReplyBegin, replyBeginOf, valueOf, replyState}
 use Rattle.rows.specs.Inside.{replyBeginRest}
 use Rattle.rows.proofs.Replying.{Sized, begin-sized, opened-tests}

@@ -1,25 +1,21 @@
 -- `rows::replier::lay` meets its contract: the numbers, then, where they are not blank, message and key; with room for what lies between.
-use mathlib.Core.Path.{_≡_, sym, ap, _∙_}
-use mathlib.Core.List.{List, []}
+use mathlib.Core.{Path._≡_, Path.sym, Path.ap, Path._∙_, List.List, List.[]}
 use Prim.Native.Nat.{ℕ, _≤_}
 use native.Mathlib.Omega.{arith}
 use borrow.Author.Needs.{needs}
 use lib.ListN.{length}
-use Rattle.schemes.specs.Schemes.{fixedOf}
-use Rattle.schemes.specs.declared.Fixed.{Fixed}
+use Rattle.schemes.specs.{Schemes.fixedOf, declared.Fixed.Fixed}
 use Rattle.schemes.proofs.Sound.{sound}
 use Rattle.lists.proofs.Parts.{buffer-long, front-long}
 use Rattle.packing.specs.Packing.{packed}
-use Rattle.refusals.specs.Refusals.{notBlank}
-use Rattle.refusals.specs.Seen.{ifPassed}
+use Rattle.refusals.specs.{Refusals.notBlank, Seen.ifPassed}
 use Rattle.refusals.proofs.Steps.{front-is, front-fits}
 use Rattle.values.specs.Fit.{Counted}
 use Rattle.values.proofs.Numbers.{numbers-in}
 use Rattle.wire.specs.Steps.{messageBy}
 use Rattle.rows_state.specs.State.{long, savedOf}
 use Rattle.rows_state.proofs.Tests.{frodos}
-use Rattle.rows.specs.Offer.{sentNumbers}
-use Rattle.rows.specs.Reply.{replyEndMessage, replyEndKey}
+use Rattle.rows.specs.{Offer.sentNumbers, Reply.replyEndMessage, Reply.replyEndKey}
 use Rattle.rows.proofs.Sending.{sent-counted, sent-is}
 use Rattle.rows.proofs.Replying.{state-long, kept-counted}
 use Rattle.rows.proofs.replier.lay.Statement.{statement}

@@ -1,6 +1,5 @@
 -- `rows::replier::lay_state` meets its contract: V, and then the rest of the state.
-use mathlib.Core.Path.{_≡_, _∙_, sym, ap}
-use mathlib.Core.List.{List}
+use mathlib.Core.{Path._≡_, Path._∙_, Path.sym, Path.ap, List.List}
 use Prim.Native.Nat.{ℕ, _*_}
 use native.Mathlib.Omega.{arith}
 use borrow.Author.Needs.{needs}
@@ -8,10 +7,8 @@ use lib.ListN.{length}
 use Rattle.schemes.specs.Schemes.{fixedOf}
 use Rattle.lists.proofs.Parts.{part-long}
 use Rattle.values.specs.Values.{mixedValue}
-use Rattle.values.proofs.Numbers.{Frodo, numbers-in}
-use Rattle.values.proofs.Ranges.{mixed-counted}
-use Rattle.rows_state.specs.State.{laid, fresh}
-use Rattle.rows_state.specs.declared.Call.{Call}
+use Rattle.values.proofs.{Numbers.Frodo, Numbers.numbers-in, Ranges.mixed-counted}
+use Rattle.rows_state.specs.{State.laid, State.fresh, declared.Call.Call}
 use Rattle.rows_state.proofs.Tests.{frodos}
 use Rattle.rows_state.proofs.Laying.{keeping-long, keeping-kept, keeping-is}
 use Rattle.rows.proofs.replier.lay_state.Statement.{statement}

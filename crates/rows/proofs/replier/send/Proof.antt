@@ -1,25 +1,19 @@
 -- `rows::replier::send` meets its contract: what the outputs and the state hold, by the test of the part about to be sent.
-use mathlib.Core.Path.{_≡_, sym, ap, _∙_}
-use mathlib.Core.List.{List, _++_}
+use mathlib.Core.{Path._≡_, Path.sym, Path.ap, Path._∙_, List.List, List._++_}
 use Prim.Native.Nat.{ℕ, _≤_}
 use native.Mathlib.Omega.{arith}
 use lib.ListN.{length, drop, length-take}
-use Rattle.schemes.specs.Schemes.{fixedOf}
-use Rattle.schemes.specs.declared.Fixed.{Fixed}
-use Rattle.schemes.specs.declared.Named.{Named}
+use Rattle.schemes.specs.{Schemes.fixedOf, declared.Fixed.Fixed, declared.Named.Named}
 use Rattle.lists.proofs.Parts.{front-long}
-use Rattle.sponge.proofs.Output.{sha3-length}
-use Rattle.sponge.proofs.Digest.{digest-laid}
-use Rattle.refusals.proofs.Seen.{written-passed}
-use Rattle.refusals.proofs.Steps.{kept, laid-on}
+use Rattle.sponge.proofs.{Output.sha3-length, Digest.digest-laid}
+use Rattle.refusals.proofs.{Seen.written-passed, Steps.kept, Steps.laid-on}
 use Rattle.reply.specs.Reply.{replyRoomsOf}
 use Rattle.reply.proofs.Replying.{reply-done}
 use Rattle.rows_state.specs.State.{named}
 use Rattle.rows.specs.Reply.{replyEndMessage, replyEndKey}
-use Rattle.rows.proofs.Ends.{end-by}
+use Rattle.rows.proofs.{Ends.end-by, replier.send.Statement.statement}
 use Rattle.rows.proofs.Replying.{Roomy, end-roomy, end-decides, end-refused, message-length, key-length}
 use borrow.Author.Needs.{needs}
-use Rattle.rows.proofs.replier.send.Statement.{statement}
 use Rattle.rows.proofs.replier.send.Tie as tie
 
 abbrev start : tie.After-fixed → tie.Start

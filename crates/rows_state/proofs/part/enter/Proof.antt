@@ -2,8 +2,7 @@
 use mathlib.Core.Path.{_∙_, sym, ap}
 use Prim.Native.Nat.{_*_}
 use borrow.Author.Needs.{needs}
-use Rattle.rows_state.specs.Inside.{entered}
-use Rattle.rows_state.specs.declared.Call.{Call}
+use Rattle.rows_state.specs.{Inside.entered, declared.Call.Call}
 use Rattle.rows_state.proofs.part.enter.Statement.{statement}
 use Rattle.rows_state.proofs.part.enter.Tie as tie
 

@@ -4,8 +4,7 @@ use Prim.Native.Nat.{_+_, _≤_}
 use native.Mathlib.Omega.{arith}
 use borrow.Author.Needs.{needs}
 use lib.ListN.{length}
-use Rattle.rows_state.proofs.Tests.{square}
-use Rattle.rows_state.proofs.Taking.{hold-at, sized-holding}
+use Rattle.rows_state.proofs.{Tests.square, Taking.hold-at, Taking.sized-holding}
 use Rattle.rows_state.proofs.part.hold.Statement.{statement}
 use Rattle.rows_state.proofs.part.hold.Tie as tie
 

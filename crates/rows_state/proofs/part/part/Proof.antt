@@ -2,8 +2,7 @@
 use mathlib.Core.Path.{_∙_, sym}
 use borrow.Author.Needs.{needs}
 use lib.ListN.{getD}
-use Rattle.rows_state.proofs.Tests.{frodo-named}
-use Rattle.rows_state.proofs.Turns.{part-unknown, part-known}
+use Rattle.rows_state.proofs.{Tests.frodo-named, Turns.part-unknown, Turns.part-known}
 use Rattle.rows_state.proofs.part.part.Statement.{statement}
 use Rattle.rows_state.proofs.part.part.Tie as tie
 

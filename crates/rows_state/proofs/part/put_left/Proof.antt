@@ -1,7 +1,6 @@
 -- `rows_state::part::put_left` meets its contract: the sums, back in their place.
 use borrow.Author.Needs.{needs}
-use Rattle.rows_state.proofs.Taking.{back-left}
-use Rattle.rows_state.proofs.part.put_left.Statement.{statement}
+use Rattle.rows_state.proofs.{Taking.back-left, part.put_left.Statement.statement}
 use Rattle.rows_state.proofs.part.put_left.Tie as tie
 
 returns : tie.Need-returns

@@ -1,12 +1,10 @@
 -- `rows_state::part::put_part` meets its contract: the part, then the rows that it ends.
-use mathlib.Core.Path.{refl, _∙_, sym, ap}
-use mathlib.Core.List.{List}
+use mathlib.Core.{Path.refl, Path._∙_, Path.sym, Path.ap, List.List}
 use Prim.Native.Nat.{ℕ, _+_, _*_, _-_, _/_, _%_, _≤_}
 use native.Mathlib.Omega.{arith}
 use borrow.Author.Needs.{needs}
 use lib.ListN.{length}
-use Rattle.rows_state.specs.State.{taken}
-use Rattle.rows_state.specs.Inside.{entered}
+use Rattle.rows_state.specs.{State.taken, Inside.entered}
 use Rattle.rows_state.proofs.Tests.{Fits, fits, square}
 use Rattle.rows_state.proofs.Filling.{block-fits, row-some, row-is, row-fits, row-sixteenth}
 use Rattle.rows_state.proofs.Laying.{held-words, with-below}

@@ -1,8 +1,7 @@
 -- `rows_state::part::put_right` meets its contract: the sums, back in their place.
 use native.Mathlib.Omega.{arith}
 use borrow.Author.Needs.{needs}
-use Rattle.rows_state.proofs.Taking.{back-right}
-use Rattle.rows_state.proofs.part.put_right.Statement.{statement}
+use Rattle.rows_state.proofs.{Taking.back-right, part.put_right.Statement.statement}
 use Rattle.rows_state.proofs.part.put_right.Tie as tie
 
 returns : tie.Need-returns

@@ -1,7 +1,6 @@
 -- `rows_state::part::sums_left` meets its contract: words, then the products.
 use borrow.Author.Needs.{needs}
-use Rattle.rows_state.proofs.Taking.{left-made}
-use Rattle.rows_state.proofs.part.sums_left.Statement.{statement}
+use Rattle.rows_state.proofs.{Taking.left-made, part.sums_left.Statement.statement}
 use Rattle.rows_state.proofs.part.sums_left.Tie as tie
 
 returns : tie.Need-returns

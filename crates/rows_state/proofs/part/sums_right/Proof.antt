@@ -1,7 +1,6 @@
 -- `rows_state::part::sums_right` meets its contract: words, then the products.
 use borrow.Author.Needs.{needs}
-use Rattle.rows_state.proofs.Taking.{right-made}
-use Rattle.rows_state.proofs.part.sums_right.Statement.{statement}
+use Rattle.rows_state.proofs.{Taking.right-made, part.sums_right.Statement.statement}
 use Rattle.rows_state.proofs.part.sums_right.Tie as tie
 
 returns : tie.Need-returns

@@ -3,9 +3,8 @@ use mathlib.Core.Path.{_≡_, _∙_, sym, ap}
 use Prim.Native.Nat.{ℕ}
 use borrow.Author.Needs.{needs}
 use Rattle.schemes.specs.Schemes.{byFamily, familyOf, schemeOf}
-use Rattle.schemes.specs.declared.Family.{Family}
+use Rattle.schemes.specs.{declared.Family.Family, declared.Scheme.Scheme}
 use Rattle.schemes.specs.declared.Named.the-variants.{Known, Unknown}
-use Rattle.schemes.specs.declared.Scheme.{Scheme}
 use Rattle.rows_state.specs.State.{frodoIn, frodoOf}
 use Rattle.rows_state.proofs.state.frodo_of.Statement.{statement}
 use Rattle.rows_state.proofs.state.frodo_of.Tie as tie

@@ -4,11 +4,9 @@ use Prim.Native.Nat.{_*_}
 use native.Mathlib.Omega.{arith}
 use borrow.Author.Needs.{needs}
 use lib.ListN.{length, length-append, length-drop, length-take}
-use Rattle.lists.proofs.Parts.{front-long}
-use Rattle.lists.proofs.Same.{zeros-long}
+use Rattle.lists.proofs.{Parts.front-long, Same.zeros-long}
 use Rattle.parts.proofs.Words.{pairs-long}
-use Rattle.rows_state.proofs.Laying.{pairs-laid}
-use Rattle.rows_state.proofs.state.lay_pairs.Statement.{statement}
+use Rattle.rows_state.proofs.{Laying.pairs-laid, state.lay_pairs.Statement.statement}
 use Rattle.rows_state.proofs.state.lay_pairs.Tie as tie
 
 out-long : (s : tie.Start) → length (s .args .out .now) ≡ 16 * s .args .n

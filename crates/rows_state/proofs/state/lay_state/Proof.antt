@@ -1,6 +1,5 @@
 -- `rows_state::state::lay_state` meets its contract: two numbers, then the words.
-use mathlib.Core.Path.{_≡_, _∙_, sym, ap, ap₂}
-use mathlib.Core.List.{List, _++_}
+use mathlib.Core.{Path._≡_, Path._∙_, Path.sym, Path.ap, Path.ap₂, List.List, List._++_}
 use Prim.Native.Nat.{ℕ, _-_, _*_}
 use Rattle.schemes.specs.Schemes.{schemeNumber}
 use native.Mathlib.Omega.{arith}

@@ -1,6 +1,5 @@
 -- `rows_state::state::may_take` meets its contract: one test after the other.
-use mathlib.Core.Path.{_≡_, _∙_, sym}
-use mathlib.Core.Bool.{true}
+use mathlib.Core.{Path._≡_, Path._∙_, Path.sym, Bool.true}
 use native.Mathlib.Omega.{arith}
 use borrow.Author.Needs.{needs}
 use borrow.Author.Tests.{not-true, not-false}

@@ -1,8 +1,7 @@
 -- `rows_state::state::secret_words` meets its contract: by the call.
 use mathlib.Core.Path.{_∙_, sym, ap}
 use borrow.Author.Needs.{needs}
-use Rattle.rows_state.specs.State.{secretWords}
-use Rattle.rows_state.specs.declared.Call.{Call}
+use Rattle.rows_state.specs.{State.secretWords, declared.Call.Call}
 use Rattle.rows_state.proofs.state.secret_words.Statement.{statement}
 use Rattle.rows_state.proofs.state.secret_words.Tie as tie
 

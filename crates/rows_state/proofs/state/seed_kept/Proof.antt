@@ -5,8 +5,7 @@ use borrow.Author.Needs.{needs}
 use borrow.Author.Tests.{not-true, not-false}
 use Rattle.lists.proofs.Parts.{front-long, to-end}
 use Rattle.rows_state.specs.State.{allBelow}
-use Rattle.rows_state.proofs.Tests.{stops, goes}
-use Rattle.rows_state.proofs.state.seed_kept.Statement.{statement}
+use Rattle.rows_state.proofs.{Tests.stops, Tests.goes, state.seed_kept.Statement.statement}
 use Rattle.rows_state.proofs.state.seed_kept.Tie as tie
 
 slice-aggregate-all-below : tie.Need-slice-aggregate-all-below

@@ -1,9 +1,8 @@
 -- `sampling::sampler::expand_by` meets its contract: zeros stay where a test fails.
 use mathlib.Core.Path.{_∙_, sym}
 use Rattle.refusals.proofs.Seen.{shown-failed}
-use Rattle.sampling.proofs.Expanding.{sizes-failed}
+use Rattle.sampling.proofs.{Expanding.sizes-failed, sampler.expand_by.Statement.statement}
 use borrow.Author.Needs.{needs}
-use Rattle.sampling.proofs.sampler.expand_by.Statement.{statement}
 use Rattle.sampling.proofs.sampler.expand_by.Tie as tie
 
 expand-in-requires : tie.Need-expand-in-requires

@@ -1,10 +1,8 @@
 -- `sampling::sampler::expand_in` meets its contract: the part that was lent is filled, or is zero again.
-use mathlib.Core.Path.{_≡_, _∙_, sym, ap}
-use mathlib.Core.List.{List, _++_}
+use mathlib.Core.{Path._≡_, Path._∙_, Path.sym, Path.ap, List.List, List._++_}
 use Prim.Native.Nat.{ℕ, _≤_}
 use native.Mathlib.Omega.{arith}
-use lib.ListN.{length, drop, length-take}
-use lib.Seq.{length-take-le}
+use lib.{ListN.length, ListN.drop, ListN.length-take, Seq.length-take-le}
 use Rattle.refusals.proofs.Seen.{shown-passed, shown-restored}
 use Rattle.noise.specs.declared.Ruled.the-variants.{By}
 use Rattle.sampling.specs.Expand.{expandNumbers}

@@ -1,9 +1,8 @@
 -- `sampling::sampler::grow_by` meets its contract: zeros stay where a test fails.
 use mathlib.Core.Path.{_∙_, sym}
 use Rattle.refusals.proofs.Seen.{shown-failed}
-use Rattle.sampling.proofs.Growing.{sizes-failed}
+use Rattle.sampling.proofs.{Growing.sizes-failed, sampler.grow_by.Statement.statement}
 use borrow.Author.Needs.{needs}
-use Rattle.sampling.proofs.sampler.grow_by.Statement.{statement}
 use Rattle.sampling.proofs.sampler.grow_by.Tie as tie
 
 grow-in-requires : tie.Need-grow-in-requires

@@ -1,11 +1,8 @@
 -- `sampling::sampler::noise_fill` meets its contract: each name has its sampler.
-use mathlib.Core.Path.{_≡_}
-use mathlib.Core.List.{List}
+use mathlib.Core.{Path._≡_, List.List}
 use Prim.Native.Nat.{_*_}
-use lib.IntN.{ℤ}
-use lib.ListN.{length}
-use Rattle.schemes.specs.Schemes.{familyOf, byFamily}
-use Rattle.schemes.specs.declared.Scheme.{Scheme}
+use lib.{IntN.ℤ, ListN.length}
+use Rattle.schemes.specs.{Schemes.familyOf, Schemes.byFamily, declared.Scheme.Scheme}
 use Rattle.schemes.specs.declared.Named.the-variants.{Known}
 use Rattle.sampling.specs.Noise.{Noise, noiseOf, noiseValues}
 use Rattle.sampling.proofs.Noising.{takes, words, filled}

@@ -7,8 +7,7 @@ use lib.ListN.{length}
 use Rattle.schemes.specs.declared.Fixed.{Fixed}
 use Rattle.schemes.proofs.Sound.{Sound, sound}
 use Rattle.refusals.proofs.Laws.{also}
-use Rattle.sampling.specs.Noise.{lengthEither}
-use Rattle.sampling.specs.Steps.{noiseSizes}
+use Rattle.sampling.specs.{Noise.lengthEither, Steps.noiseSizes}
 use borrow.Author.Needs.{needs}
 use Rattle.sampling.proofs.sampler.noise_sizes.Statement.{statement}
 use Rattle.sampling.proofs.sampler.noise_sizes.Tie as tie

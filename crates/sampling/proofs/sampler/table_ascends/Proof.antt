@@ -1,5 +1,5 @@
 -- `sampling::sampler::table_ascends` meets its contract.
-use mathlib.Core.Path.{ap, _∙_}
+use mathlib.Core.Path.{ap}
 use Prim.Native.Nat.{ℕ}
 use Rattle.refusals.specs.Refusals.{tableIn}
 use Rattle.refusals.proofs.Laws.{stays, goes-on, first}

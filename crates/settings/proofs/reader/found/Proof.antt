@@ -1,15 +1,12 @@
 -- `settings::reader::found` meets its contract.
-use mathlib.Core.Path.{sym, ap}
+use mathlib.Core.{Path.sym, Path.ap, List.List}
 use native.Mathlib.Omega.{arith}
-use mathlib.Core.List.{List}
 use Prim.Native.Nat.{ℕ}
-use lib.ListN.{length, replicate}
-use lib.Seq.{length-take-le}
-use Rattle.settings.proofs.Steps.{padded}
+use lib.{ListN.length, ListN.replicate, Seq.length-take-le}
+use Rattle.settings.proofs.{Steps.padded, reader.found.Statement.statement}
 use Rattle.settings.specs.declared.ReadAnswer.{ReadAnswer}
 use Rattle.settings.specs.declared.Ending.the-variants as ending
 use borrow.Author.Needs.{needs}
-use Rattle.settings.proofs.reader.found.Statement.{statement}
 use Rattle.settings.proofs.reader.found.Tie as tie
 
 slice-aggregate-copy-bytes : tie.Need-slice-aggregate-copy-bytes

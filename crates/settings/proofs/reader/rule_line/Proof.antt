@@ -1,11 +1,9 @@
 -- `settings::reader::rule_line` meets its contract.
 use mathlib.Core.Path.{_∙_, sym}
 use native.Mathlib.Omega.{arith}
-use Rattle.settings.specs.Calls.{answerOf}
-use Rattle.settings.proofs.Known.{rule-small}
+use Rattle.settings.proofs.{Known.rule-small, reader.rule_line.Statement.statement}
 use Rattle.settings.proofs.Steps.{rule-other, rule-read, rule-bad, within}
 use borrow.Author.Needs.{needs}
-use Rattle.settings.proofs.reader.rule_line.Statement.{statement}
 use Rattle.settings.proofs.reader.rule_line.Tie as tie
 
 enum-told : tie.Need-enum-told

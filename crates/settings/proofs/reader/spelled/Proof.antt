@@ -2,8 +2,7 @@
 use mathlib.Core.Path.{_∙_, sym, ap}
 use native.Mathlib.Omega.{arith}
 use Prim.Native.Nat.{_≤_}
-use lib.ListN.{length, length-take}
-use lib.Seq.{length-take-le}
+use lib.{ListN.length, ListN.length-take, Seq.length-take-le}
 use Rattle.settings.specs.Calls.{answerOf}
 use Rattle.settings.proofs.Steps.{spelled-size, spelled-setup, spelled-misfit}
 use borrow.Author.Needs.{needs}

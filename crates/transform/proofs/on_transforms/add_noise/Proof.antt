@@ -9,9 +9,8 @@ use Rattle.numbers.specs.Residue.{residue}
 use Rattle.numbers.proofs.Congruence.{residue-lt}
 use Rattle.lists.specs.Entries.{ints}
 use Rattle.lists.proofs.Fill.{Filled, fill-start, fill-next, fill-whole}
-use Rattle.transform.proofs.on_transforms.add_noise.Statement.{statement}
+use Rattle.transform.proofs.{on_transforms.add_noise.Statement.statement, Entrywise.noised}
 use Rattle.transform.proofs.on_transforms.add_noise.Tie as tie
-use Rattle.transform.proofs.Entrywise.{noised}
 use Rattle.transform.proofs.Small.{entry-small}
 
 abbrev Inv-loop : tie.InvT-loop

@@ -5,8 +5,7 @@ use Prim.Native.Nat.{_+_, _-_, _*_, _%_}
 use native.Mathlib.Omega.{arith}
 use lib.ListN.{getD}
 use Rattle.lists.proofs.Fill.{Filled, fill-start, fill-next, fill-whole}
-use Rattle.transform.proofs.Joins.{product-fits}
-use Rattle.transform.proofs.on_transforms.combine.Statement.{statement}
+use Rattle.transform.proofs.{Joins.product-fits, on_transforms.combine.Statement.statement}
 use Rattle.transform.proofs.on_transforms.combine.Tie as tie
 use Rattle.transform.proofs.Entrywise.{combine-fits, combined}
 

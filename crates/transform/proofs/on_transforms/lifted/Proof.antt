@@ -4,8 +4,7 @@ use native.Mathlib.Omega.{arith}
 use borrow.Author.Needs.{needs}
 use lib.IntN.{natAbs}
 use mir.Syntax.{w32}
-use Rattle.numbers.proofs.Machine.{pos-cast}
-use Rattle.numbers.proofs.Congruence.{residue-lt}
+use Rattle.numbers.proofs.{Machine.pos-cast, Congruence.residue-lt}
 use Rattle.transform.proofs.Small.{up-fits, up-is, stay-is}
 use Rattle.transform.proofs.on_transforms.lifted.Statement.{statement}
 use Rattle.transform.proofs.on_transforms.lifted.Tie as tie

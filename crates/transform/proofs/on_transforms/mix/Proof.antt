@@ -1,8 +1,7 @@
 -- `transform::on_transforms::mix` meets its contract.
 use mathlib.Core.Path.{_∙_}
 use borrow.Author.Needs.{needs}
-use Rattle.transform.proofs.Sizes.{transformed-below}
-use Rattle.transform.proofs.Mixing.{mixed-through}
+use Rattle.transform.proofs.{Sizes.transformed-below, Mixing.mixed-through}
 use Rattle.transform.proofs.on_transforms.mix.Statement.{statement}
 use Rattle.transform.proofs.on_transforms.mix.Tie as tie
 

@@ -1,6 +1,5 @@
 -- `transform::on_transforms::mix_turned` meets its contract.
-use mathlib.Core.Path.{_∙_, ap}
-use mathlib.Core.List.{List}
+use mathlib.Core.{Path._∙_, Path.ap, List.List}
 use Prim.Native.Nat.{ℕ}
 use borrow.Author.Needs.{needs}
 use Rattle.transform.specs.Theorems.{entrywise, summed}

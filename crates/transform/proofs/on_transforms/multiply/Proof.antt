@@ -3,8 +3,7 @@ use mathlib.Core.Path.{_∙_, ap}
 use borrow.Author.Needs.{needs}
 use lib.ListN.{length}
 use Rattle.transform.proofs.Sizes.{transformed-length, transformed-below, inverted-length}
-use Rattle.transform.proofs.Mixing.{bare-through}
-use Rattle.transform.proofs.on_transforms.multiply.Statement.{statement}
+use Rattle.transform.proofs.{Mixing.bare-through, on_transforms.multiply.Statement.statement}
 use Rattle.transform.proofs.on_transforms.multiply.Tie as tie
 
 weigh-back-requires : tie.Need-weigh-back-requires

@@ -8,8 +8,7 @@ use Rattle.numbers.specs.Residue.{residue}
 use Rattle.lists.specs.Entries.{ints}
 use Rattle.lists.proofs.Fill.{Filled, fill-start, fill-next, fill-whole}
 use Rattle.transform.specs.Level.{reduced}
-use Rattle.transform.proofs.Small.{entry-small}
-use Rattle.transform.proofs.on_transforms.reduce.Statement.{statement}
+use Rattle.transform.proofs.{Small.entry-small, on_transforms.reduce.Statement.statement}
 use Rattle.transform.proofs.on_transforms.reduce.Tie as tie
 
 abbrev Inv-loop : tie.InvT-loop

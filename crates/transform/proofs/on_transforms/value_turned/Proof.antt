@@ -1,11 +1,9 @@
 -- `transform::on_transforms::value_turned` meets its contract.
-use mathlib.Core.Path.{_∙_, ap}
-use mathlib.Core.List.{List}
+use mathlib.Core.{Path._∙_, Path.ap, List.List}
 use Prim.Native.Nat.{ℕ}
 use borrow.Author.Needs.{needs}
 use lib.ListN.{length}
-use Rattle.transform.specs.Theorems.{summed}
-use Rattle.transform.specs.Level.{reduced}
+use Rattle.transform.specs.{Theorems.summed, Level.reduced}
 use Rattle.transform.proofs.Sizes.{inverted-length, inverted-below}
 use Rattle.transform.proofs.on_transforms.value_turned.Statement.{statement}
 use Rattle.transform.proofs.on_transforms.value_turned.Tie as tie

@@ -5,8 +5,7 @@ use native.Mathlib.Omega.{arith}
 use lib.ListN.{getD}
 use Rattle.lists.proofs.Fill.{Filled, fill-start, fill-next, fill-old, fill-whole}
 use Rattle.transform.specs.Theorems.{entrywise}
-use Rattle.transform.proofs.Joins.{product-fits}
-use Rattle.transform.proofs.on_transforms.weigh.Statement.{statement}
+use Rattle.transform.proofs.{Joins.product-fits, on_transforms.weigh.Statement.statement}
 use Rattle.transform.proofs.on_transforms.weigh.Tie as tie
 use borrow.Author.Needs.{needs}
 

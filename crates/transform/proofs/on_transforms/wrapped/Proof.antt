@@ -1,13 +1,10 @@
 -- `transform::on_transforms::wrapped` meets its contract.
-use mathlib.Core.Path.{_≡_}
-use mathlib.Core.Bool.{Bool}
+use mathlib.Core.{Path._≡_, Bool.Bool}
 use Prim.Native.Nat.{ℕ, _<_}
 use native.Mathlib.Omega.{arith}
 use borrow.Author.Needs.{needs}
 use borrow.Author.Tests.{ltb-true, ltb-false}
-use lib.Dec.{ltb}
-use lib.IntN.{pos}
-use lib.Signed.{ltZ}
+use lib.{Dec.ltb, IntN.pos, Signed.ltZ}
 use mir.Syntax.{w32}
 use mir.Val.{toZ}
 use Rattle.numbers.proofs.Machine.{toZ-pos}

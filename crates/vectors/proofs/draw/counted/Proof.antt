@@ -4,8 +4,7 @@ use native.Mathlib.Omega.{arith}
 use borrow.Author.Needs.{needs}
 use lib.Signed.{natAbs-le}
 use Rattle.numbers.specs.Residue.{residue}
-use Rattle.numbers.proofs.Congruence.{residue-lt}
-use Rattle.numbers.proofs.Machine.{wide-fits, wide}
+use Rattle.numbers.proofs.{Congruence.residue-lt, Machine.wide-fits, Machine.wide}
 use Rattle.vectors.proofs.draw.counted.Statement.{statement}
 use Rattle.vectors.proofs.draw.counted.Tie as tie
 
