@@ -5,6 +5,7 @@
 mod bench;
 mod expand;
 mod finish;
+mod from_random;
 mod grow;
 mod hash;
 mod noise;
@@ -16,6 +17,7 @@ mod settings;
 pub use bench::{bench, Bench};
 pub use expand::expand;
 pub use finish::finish;
+pub use from_random::{answer, answer_bytes, lent_public, open, open_bytes};
 pub use grow::grow;
 pub use hash::{sha3_256, shake128};
 pub use noise::noise;

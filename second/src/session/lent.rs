@@ -114,6 +114,53 @@ pub fn finish(
     })
 }
 
+/// Open on a session, in Offer's row.
+#[allow(clippy::too_many_arguments)]
+pub fn open(
+    session: &mut [u8],
+    scheme: u64,
+    rule: u32,
+    a: &[u32],
+    table: &[u64],
+    random: &[u8],
+    opening: &mut [u8],
+    s: &mut [i32],
+) -> Result<(usize, usize), Refusal> {
+    opening.fill(0);
+    s.fill(0);
+
+    lent_step(session, Name::Offer, scheme, || {
+        let written = calls::open(scheme, rule, a, table, random, opening, s)?;
+        Ok((written, vec![]))
+    })
+}
+
+/// Answer on a session, in Reply's row.
+#[allow(clippy::too_many_arguments)]
+pub fn answer(
+    session: &mut [u8],
+    scheme: u64,
+    rule: u32,
+    opening: &[u8],
+    a: &[u32],
+    table: &[u64],
+    random: &[u8],
+    message: &mut [u8],
+    key: &mut [u8],
+    digest: &mut [u8],
+) -> Result<(usize, usize, usize), Refusal> {
+    message.fill(0);
+    key.fill(0);
+    digest.fill(0);
+
+    lent_step(session, Name::Reply, scheme, || {
+        let written = calls::answer(
+            scheme, rule, opening, a, table, random, message, key, digest,
+        )?;
+        Ok((written, key[..written.1].to_vec()))
+    })
+}
+
 /// Close zeroes the bytes, whatever they hold and however many they are. Where
 /// they are a session, so does the table.
 pub fn close(session: &mut [u8]) {

@@ -6,7 +6,7 @@ mod lent;
 mod made;
 mod sequences;
 
-pub use lent::{close, finish, lay, offer, parse, reply, BYTES};
+pub use lent::{answer, close, finish, lay, offer, open, parse, reply, BYTES};
 pub use made::{Call, Inputs, Seen};
 pub use sequences::{all_sequences, alphabet, in_no_stage, Step};
 

@@ -13,6 +13,7 @@ mod easy_to_get_wrong;
 mod exchange;
 mod expand;
 mod failure;
+mod from_random;
 mod grow;
 mod hash;
 mod line;
