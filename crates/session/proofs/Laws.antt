@@ -1,34 +1,44 @@
 -- The promise of each call on a session, from what the call beneath promises.
 --   shown-number                    the number that a call shows is its verdict's
+--   stays                           what a call with a refusal does not change
 --   turned, refuses, accepts        any call: 10, another refusal, accepted
 --   reply-key-few, finish-key-few   a key has a place of 128 bytes
 --   kept-law                        so many bytes of an output, copied into zeros
+--   whole, placed                   of an output with so many bytes of an answer: its front is the answer, and has a place of 128
 --   Given x c t n key               the call x refuses nothing, shows t, and says that it wrote n bytes of a key into a buffer, which then holds `key`
 --   fits, keeps                     these bytes have a place of 128, and are the key of the session that x leads to
 --   offer-stops                     what a refusal ahead of Offer shows; so of the others
 --   offer-refused, offer-done       Offer: a refusal of the call beneath, and its answer; reply-given, finish-given: so of the others
 --   close-moves                     Close
-use mathlib.Core.{Path._≡_, Path.refl, Path._∙_, Path.sym, Path.ap, Bool.true, Bool.false}
+use mathlib.Core.Path.{_≡_, refl, _∙_, sym, ap}
+use mathlib.Core.Bool.{true, false}
 use mathlib.Core.List.{List, [], _++_}
 use Prim.Native.Nat.{ℕ, _-_, _≤_}
 use native.Mathlib.Omega.{arith}
 use native.Mathlib.Nat.{sub-zero}
-use lib.{ListN.length, ListN.take, ListN.drop, ListN.length-take, Seq.length-take-le}
-use Rattle.schemes.specs.{Schemes.schemeOf, declared.Named.Named}
+use lib.ListN.{length, take, drop, length-take}
+use lib.Seq.{length-take-le}
+use Rattle.schemes.specs.Schemes.{schemeOf}
+use Rattle.schemes.specs.declared.Named.{Named}
 use Rattle.schemes.specs.declared.Named.the-variants.{Known, Unknown}
 use Rattle.schemes.proofs.Sound.{sound}
 use Rattle.lists.proofs.Parts.{drop-same}
-use Rattle.refusals.specs.{Refusals.numberOf, Refusals.numberIn, declared.Answer.Answer}
+use Rattle.refusals.specs.Refusals.{numberOf, numberIn}
+use Rattle.refusals.specs.declared.Answer.{Answer}
 use Rattle.refusals.specs.Seen.{ifPassed, Output, output, written, answer, Seen, shown, told, seen}
-use Rattle.refusals.specs.{declared.Refusal.Refusal, declared.Refusal.the-variants.OutOfStage}
+use Rattle.refusals.specs.declared.Refusal.{Refusal}
+use Rattle.refusals.specs.declared.Refusal.the-variants.{OutOfStage}
 use Rattle.refusals.specs.declared.Verdict.{Verdict}
 use Rattle.refusals.specs.declared.Verdict.the-variants.{Pass, Fail}
-use Rattle.refusals.proofs.{Laws.some, Laws.number-zero, Seen.written-answer}
+use Rattle.refusals.proofs.Laws.{some, number-zero}
+use Rattle.refusals.proofs.Seen.{written-answer}
 use Rattle.offer.specs.Offer.{Offer, offerResult}
 use Rattle.reply.specs.Reply.{Reply, ReplyRooms, ReplySeen, replyKey, replyTold, replySeen, outputs, replyResult}
 use Rattle.finish.specs.Finish.{Finish, FinishRooms, FinishSeen, finishKey, finishOf, finishTold, finishSeen, finishShown, finishResult}
-use Rattle.reply.specs.{declared.ReplyAnswer.ReplyAnswer, declared.ReplyCounts.ReplyCounts}
-use Rattle.finish.specs.{declared.FinishCounts.FinishCounts, declared.FinishAnswer.FinishAnswer}
+use Rattle.reply.specs.declared.ReplyAnswer.{ReplyAnswer}
+use Rattle.reply.specs.declared.ReplyCounts.{ReplyCounts}
+use Rattle.finish.specs.declared.FinishCounts.{FinishCounts}
+use Rattle.finish.specs.declared.FinishAnswer.{FinishAnswer}
 use Rattle.reply.proofs.Replying.{key-length}
 use Rattle.finish.proofs.Finishing as finishes
 use Rattle.session.specs.declared.Session.{Session}
@@ -44,7 +54,7 @@ shown-number v (replying k x m) = refl
 shown-number v (finishing k x m) = refl
 shown-number v closing = refl
 
-stays : (v : Verdict) (r : Refusal) (y z : Session) → numberOf r ≡ numberIn v → y ≡ ifPassed v z y
+pub stays : {A : Type 0} (v : Verdict) (r : Refusal) (y z : A) → numberOf r ≡ numberIn v → y ≡ ifPassed v z y
 stays Pass r y z e = absurd (omega (arith, some r))
 stays (Fail q) r y z e = refl
 
@@ -84,6 +94,17 @@ pub kept-law : (key place copied : List ℕ) (n : ℕ) → n ≤ 128 → n ≤ l
 unfolding padded noKey
 kept-law key place copied n l m e f = rw (e, f, sub-zero n, drop-same {A = ℕ} n 128 0, length-take-le n key m)
 
+module _ (own : List ℕ) (room : ℕ) {v : Verdict} {key : List ℕ} {n : ℕ} (p : v ≡ Pass) (w : output n key ≡ written v own 0 room) where
+  pub whole : take n key ≡ own
+  whole = ap (λ (o : Output ℕ). answer o) w ∙ written-answer own 0 room p
+
+  count : n ≡ length own
+  unfolding written
+  count = ap (λ (o : Output ℕ). o .count) w ∙ rw p
+
+  pub placed : length own ≤ 128 → (n ≤ 128) × (n ≤ length key)
+  placed few = let l = ap length whole in (omega (arith, count, few), omega (arith, count, length-take n key, l))
+
 pub record Given (x : Call) (c : Named) (t : CallSeen) (n : ℕ) (key : List ℕ) : Type 0 where
   pub own : List ℕ
   pub few : length own ≤ 128
@@ -97,18 +118,11 @@ module _ {x : Call} {c : Named} {t : CallSeen} {n : ℕ} {key : List ℕ} (g : G
   passed : row x .tests ≡ Pass
   passed = number-zero (row x .tests) (sym (g .accepted) ∙ ap number (g .shows) ∙ shown-number (row x .tests) x)
 
-  whole : take n key ≡ g .own
-  whole = ap (λ (o : Output ℕ). answer o) (g .wrote) ∙ written-answer (g .own) 0 (g .room) passed
-
-  count : n ≡ length (g .own)
-  unfolding written
-  count = ap (λ (o : Output ℕ). o .count) (g .wrote) ∙ rw passed
-
   pub fits : (n ≤ 128) × (n ≤ length key)
-  fits = let l = ap length whole in (omega (arith, count, g .few), omega (arith, count, length-take n key, l))
+  fits = placed (g .own) (g .room) passed (g .wrote) (g .few)
 
   pub keeps : (y : Session) {z : Session} → row x .allowed (y .stage) ≡ true → z ≡ keyed c (take n key) → turn z t ≡ moved y x
-  keeps y a e = accepts y x a (g .shows) (g .accepted) (e ∙ ap (keyed c) whole ∙ sym (g .leads))
+  keeps y a e = accepts y x a (g .shows) (g .accepted) (e ∙ ap (keyed c) (whole (g .own) (g .room) passed (g .wrote)) ∙ sym (g .leads))
 
 -- ---- Offer
 

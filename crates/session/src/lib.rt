@@ -53,7 +53,7 @@ pub struct FinishMoved {
 }
 
 // Whether the stage takes an Offer or a Reply.
-fn is_idle(stage: Stage) -> bool
+pub fn is_idle(stage: Stage) -> bool
     ensures { λ r. ⌜ r ≡ whenIdle stage ⌝ }
 {
     match stage {
@@ -92,7 +92,7 @@ pub fn idle() -> Session
 }
 
 // The session after an Offer that nothing refused.
-fn offered(scheme: u32) -> Session
+pub fn offered(scheme: u32) -> Session
     ensures { λ r. ⌜ r ≡ table.offered (schemeOf scheme) ⌝ }
 {
     let Named::Known(known) = schemes::scheme_of(scheme) else {
@@ -115,7 +115,7 @@ fn kept(key: &[u8], n: usize) -> [u8; 128]
 }
 
 // The session after a Reply or a Finish that nothing refused, with the first n bytes that it wrote as its key.
-fn keyed(scheme: u32, key: &[u8], n: usize) -> Session
+pub fn keyed(scheme: u32, key: &[u8], n: usize) -> Session
     requires { ⌜ (n ≤ 128) × (n ≤ length (now key)) ⌝ }
     ensures { λ r. ⌜ r ≡ table.keyed (schemeOf scheme) (take n (was key)) ⌝ }
 {

@@ -1,3 +1,4 @@
 pub mod Stages
 pub mod Bytes
 pub mod Calls
+pub mod Drawn

@@ -11,6 +11,15 @@ ghost use Rattle.finish.specs.Finish as finishes;
 ghost use Rattle.session.specs.Table.{offering, replying, finishing, closing};
 ghost use Rattle.session.specs.Seen.{ofOffer, ofReply, ofFinish, ofClose, turn};
 ghost use Rattle.session_bytes.specs.Bytes.{stageByte, schemeByte, bytesOf, stageIn, keyLength, staged, movedBytes};
+ghost use mathlib.Core.List.{[]};
+ghost use Rattle.noise.specs.Expand.{ruleOf};
+ghost use Rattle.noise.specs.declared.Ruled as ruled;
+ghost use Rattle.schemes.specs.declared.Named.the-variants.{Unknown};
+ghost use Rattle.refusals.specs.declared.Verdict.the-variants.{Fail};
+ghost use Rattle.exchange.specs.Open.{openLent, openLentOf, openRooms, openShown, openTold, openSeen};
+ghost use Rattle.exchange.specs.Answer.{answerLent};
+ghost use Rattle.session_bytes.specs.Drawn.{idleAt, drawn, openMoved, answerMoved};
+use exchange::OpenAnswer;
 use finish::FinishAnswer;
 use refusals::Answer;
 use refusals::Refusal;
@@ -209,4 +218,94 @@ pub fn close(bytes: &mut [u8])
     ensures { λ _. ⌜ turn (left bytes) (ofClose (done 0)) ≡ movedBytes (was bytes) closing ⌝ }
 {
     lists::zero_bytes(bytes);
+}
+
+// Whether a buffer is an idle session.
+fn takes(bytes: &[u8]) -> bool
+    ensures { λ r. ⌜ r ≡ idleAt (staged (was bytes)) ⌝ }
+{
+    match stage_of(bytes) {
+        Found::At(stage) => session::is_idle(stage),
+        Found::Nowhere => false,
+    }
+}
+
+// The refusal of open ahead of the call beneath.
+fn stop_open(refusal: Refusal, opening: &mut [u8], s: &mut [i32]) -> OpenAnswer
+    ensures { λ r. ⌜
+        openSeen (openTold r) (left opening) (left s)
+        ≡ openShown (Fail refusal) Unknown ruled.Ruled.Unknown (openLentOf [] [] []) (openRooms opening s)
+        ⌝ }
+{
+    lists::zero_bytes(opening);
+    lists::zero_values(s);
+    OpenAnswer::Refused(refusal)
+}
+
+// Open on a session in bytes: Offer from random bytes.
+pub fn open(
+    bytes: &mut [u8],
+    scheme: u32,
+    rule: u32,
+    a: &[u32],
+    table: &[u64],
+    random: &[u8],
+    opening: &mut [u8],
+    s: &mut [i32],
+) -> OpenAnswer
+    ensures { λ r. ⌜
+        drawn (left bytes) (openSeen (openTold r) (left opening) (left s))
+        ≡ openMoved (was bytes) scheme (ruleOf rule) (openLent a table random) (openRooms opening s)
+        ⌝ }
+{
+    if !takes(bytes) {
+        return stop_open(Refusal::OutOfStage, opening, s);
+    }
+    let opened = exchange::open(scheme, rule, a, table, random, opening, s);
+    let OpenAnswer::Done(_) = opened else {
+        return opened;
+    };
+    let next = session::offered(scheme);
+    lay_out(next, bytes);
+    opened
+}
+
+// Answer on one: Reply from random bytes.
+pub fn answer(
+    bytes: &mut [u8],
+    scheme: u32,
+    rule: u32,
+    opening: &[u8],
+    a: &[u32],
+    table: &[u64],
+    random: &[u8],
+    message: &mut [u8],
+    key: &mut [u8],
+    digest: &mut [u8],
+) -> ReplyAnswer
+    ensures { λ r. ⌜
+        drawn (left bytes) (replies.replySeen (replies.replyTold r) (left message) (left key) (left digest))
+        ≡ answerMoved (was bytes) scheme (ruleOf rule) (answerLent opening a table random) (replies.replyRooms message key digest)
+        ⌝ }
+{
+    if !takes(bytes) {
+        return session::stop_reply(Refusal::OutOfStage, message, key, digest);
+    }
+    let reply = exchange::answer(
+        scheme,
+        rule,
+        opening,
+        a,
+        table,
+        random,
+        message,
+        key,
+        digest,
+    );
+    let ReplyAnswer::Done(counts) = reply else {
+        return reply;
+    };
+    let next = session::keyed(scheme, key, counts.key);
+    lay_out(next, bytes);
+    reply
 }

@@ -1,0 +1,177 @@
+-- Open and answer on a session in bytes, from what the calls beneath promise.
+--   idle-long                             an idle session has 130 bytes
+--   open-stops, open-refused, open-done   open: 10, a refusal of the call beneath, and its answer
+--   answer-stops, answer-refused, answer-done   so of answer; answer-fits: its key has a place of 128 bytes
+--   opens, answers, kept                  the theorems of specs/Drawn
+use mathlib.Core.Path.{_≡_, refl, _∙_, sym, ap}
+use mathlib.Core.Bool.{true, false, cond}
+use mathlib.Core.List.{List, []}
+use Prim.Native.Nat.{ℕ, _≤_}
+use native.Mathlib.Omega.{arith}
+use lib.ListN.{length, take}
+use lib.IntN.{ℤ}
+use Rattle.schemes.specs.Schemes.{schemeOf}
+use Rattle.schemes.specs.declared.Named.{Named}
+use Rattle.schemes.specs.declared.Named.the-variants.{Unknown}
+use Rattle.refusals.specs.Refusals.{numberIn}
+use Rattle.refusals.specs.Seen.{ifPassed, output, written, shown}
+use Rattle.refusals.specs.declared.Refusal.{Refusal}
+use Rattle.refusals.specs.declared.Refusal.the-variants.{OutOfStage}
+use Rattle.refusals.specs.declared.Verdict.{Verdict}
+use Rattle.refusals.specs.declared.Verdict.the-variants.{Pass, Fail}
+use Rattle.refusals.proofs.Laws.{differ, number-zero}
+use Rattle.noise.specs.declared.Ruled.{Ruled}
+use Rattle.reply.specs.Reply.{ReplyRooms, ReplySeen, replyKey, outputs, replyTold, replySeen}
+use Rattle.reply.specs.declared.ReplyAnswer.{ReplyAnswer}
+use Rattle.reply.specs.declared.ReplyCounts.{ReplyCounts}
+use Rattle.exchange.specs.Open.{OpenLent, OpenRooms, OpenSeen, openTests, openShown, openResult, openLentOf, openTold, openSeen}
+use Rattle.exchange.specs.Answer.{AnswerLent, answerReply, answerTests, answerShown, answerResult}
+use Rattle.exchange.proofs.Shown.{open-offers, answer-replies}
+use Rattle.exchange.specs.declared.OpenCounts.{OpenCounts}
+use Rattle.exchange.specs.declared.OpenAnswer.{OpenAnswer}
+use Rattle.session.specs.declared.Stage.the-variants.{Idle, Offered, Keyed}
+use Rattle.session.specs.declared.Session.{Session}
+use Rattle.session.specs.Table.{offered, keyed, row, outcome, step}
+use Rattle.session.specs.Seen.{shownBy, moved}
+use Rattle.session.proofs.Laws.{stays, reply-key-few, whole, placed}
+use Rattle.session_bytes.specs.declared.Found.{Found}
+use Rattle.session_bytes.specs.declared.Found.the-variants.{At, Nowhere}
+use Rattle.session_bytes.specs.Bytes.{bytesOf, staged, movedBytes}
+use Rattle.session_bytes.specs.Drawn.{idleAt, ahead, Drawn, drawn, openMoved, answerMoved, Opens, Answers, Stays}
+use Rattle.session_bytes.proofs.Stages.{parts}
+
+pub idle-long : (bs : List ℕ) → idleAt (staged bs) ≡ true → length bs ≡ 130
+idle-long bs = go (staged bs) refl
+  where
+    go : (f : Found) → staged bs ≡ f → idleAt f ≡ true → length bs ≡ 130
+    go (At st) e h = parts bs st e .long
+    go Nowhere e h = let z : _≡_ {A = ℕ} 0 1 = cc in absurd (omega arith)
+
+-- ---- over any call with tests v, that leads to a buffer and shows by a verdict
+
+module _ {T : Type 0} (bs : List ℕ) (v : Verdict) (leads : List ℕ) (shows : Verdict → T) {t : T} where
+  stops : idleAt (staged bs) ≡ false → t ≡ shows (Fail OutOfStage) → drawn bs t ≡ drawn (ifPassed (ahead bs v) leads bs) (shows (ahead bs v))
+  unfolding ahead
+  stops a g = rw (a, g)
+
+  goes : {cs : List ℕ} → idleAt (staged bs) ≡ true → t ≡ shows v → cs ≡ ifPassed v leads bs
+      → drawn cs t ≡ drawn (ifPassed (ahead bs v) leads bs) (shows (ahead bs v))
+  unfolding ahead
+  goes a g e = rw (a, g, e)
+
+-- ---- open
+
+module _ (bs : List ℕ) (k : ℕ) (r : Ruled) (x : OpenLent) (m : OpenRooms) where
+  pub open-stops : {t : OpenSeen} → idleAt (staged bs) ≡ false → t ≡ openShown (Fail OutOfStage) Unknown Ruled.Unknown (openLentOf [] [] []) m
+      → drawn bs t ≡ openMoved bs k r x m
+  unfolding openMoved openShown written
+  open-stops a e = stops bs (openTests (schemeOf k) r x m) (bytesOf (offered (schemeOf k))) (λ (v : Verdict). openShown v (schemeOf k) r x m) a e
+
+  module _ (opening : List ℕ) (s : List ℤ) (w : OpenAnswer) (a : idleAt (staged bs) ≡ true) (p : openSeen (openTold w) opening s ≡ openResult (schemeOf k) r x m)
+    where
+      pub open-refused : {q : Refusal} → w ≡ OpenAnswer.Refused q → drawn bs (openSeen (openTold w) opening s) ≡ openMoved bs k r x m
+      unfolding openMoved openSeen openShown
+      open-refused {q} e =
+          let v = openTests (schemeOf k) r x m in
+          let n = ap (λ (t : OpenSeen). t .number) (rw e at p) in
+          goes bs v (bytesOf (offered (schemeOf k))) (λ (v : Verdict). openShown v (schemeOf k) r x m) a p
+          (stays v q bs (bytesOf (offered (schemeOf k))) n)
+
+      pub open-done : {n : OpenCounts} {z : Session} {cs : List ℕ} → w ≡ OpenAnswer.Done n → z ≡ offered (schemeOf k) → cs ≡ bytesOf z
+          → drawn cs (openSeen (openTold w) opening s) ≡ openMoved bs k r x m
+      unfolding openMoved openSeen openShown
+      open-done e f l =
+          let v = openTests (schemeOf k) r x m in
+          let n = ap (λ (t : OpenSeen). t .number) (rw e at p) in
+          goes bs v (bytesOf (offered (schemeOf k))) (λ (v : Verdict). openShown v (schemeOf k) r x m) a p
+          (l ∙ ap bytesOf f ∙ rw (number-zero v n))
+
+-- ---- answer
+
+-- an answer that refuses nothing
+module _ (c : Named) (r : Ruled) (x : AnswerLent) (m : ReplyRooms) (message key digest : List ℕ) (w : ReplyAnswer) {n : ReplyCounts}
+    (p : replySeen (replyTold w) message key digest ≡ answerResult c r x m) (e : w ≡ ReplyAnswer.Done n)
+  where
+    told : replySeen (replyTold (ReplyAnswer.Done n)) message key digest ≡ answerResult c r x m
+    told = rw e at p
+
+    passed : answerTests c r x m ≡ Pass
+    unfolding replySeen outputs
+    passed = number-zero (answerTests c r x m) (ap (λ (t : ReplySeen). t .number) told)
+
+    wrote : output (n .key) key ≡ written (answerTests c r x m) (replyKey c (answerReply c r x)) 0 (m .key)
+    unfolding replySeen outputs
+    wrote = ap (λ (t : ReplySeen). t .key) told
+
+    pub answer-fits : (n .key ≤ 128) × (n .key ≤ length key)
+    answer-fits = placed (replyKey c (answerReply c r x)) (m .key) passed wrote (reply-key-few c (answerReply c r x))
+
+    own : take (n .key) key ≡ replyKey c (answerReply c r x)
+    own = whole (replyKey c (answerReply c r x)) (m .key) passed wrote
+
+module _ (bs : List ℕ) (k : ℕ) (r : Ruled) (x : AnswerLent) (m : ReplyRooms) where
+  abbrev leads : List ℕ
+  leads = bytesOf (keyed (schemeOf k) (replyKey (schemeOf k) (answerReply (schemeOf k) r x)))
+
+  abbrev shows : Verdict → ReplySeen
+  shows v = answerShown v (schemeOf k) r x m
+
+  pub answer-stops : {t : ReplySeen} → idleAt (staged bs) ≡ false → t ≡ outputs (Fail OutOfStage) [] [] [] m → drawn bs t ≡ answerMoved bs k r x m
+  unfolding answerMoved outputs written
+  answer-stops a e = stops bs (answerTests (schemeOf k) r x m) leads shows a e
+
+  module _ (message key digest : List ℕ) (w : ReplyAnswer) (p : replySeen (replyTold w) message key digest ≡ answerResult (schemeOf k) r x m)
+      (a : idleAt (staged bs) ≡ true)
+    where
+      pub answer-refused : {q : Refusal} → w ≡ ReplyAnswer.Refused q → drawn bs (replySeen (replyTold w) message key digest) ≡ answerMoved bs k r x m
+      unfolding answerMoved replySeen outputs
+      answer-refused {q} e =
+          let v = answerTests (schemeOf k) r x m in
+          let n = ap (λ (t : ReplySeen). t .number) (rw e at p) in
+          goes bs v leads shows a p (stays v q bs leads n)
+
+      pub answer-done : {n : ReplyCounts} {z : Session} {cs : List ℕ} → w ≡ ReplyAnswer.Done n → z ≡ keyed (schemeOf k) (take (n .key) key) → cs ≡ bytesOf z
+          → drawn cs (replySeen (replyTold (ReplyAnswer.Done n)) message key digest) ≡ answerMoved bs k r x m
+      unfolding answerMoved
+      answer-done e f l =
+          let h = told (schemeOf k) r x m message key digest w p e in
+          let o = own (schemeOf k) r x m message key digest w p e in
+          let v = passed (schemeOf k) r x m message key digest w p e in
+          goes bs (answerTests (schemeOf k) r x m) leads shows a h (l ∙ ap bytesOf (f ∙ ap (keyed (schemeOf k)) o) ∙ rw v)
+
+-- ---- in the rows of Offer and Reply
+
+ahead-passed : (bs : List ℕ) (v : Verdict) → ahead bs v ≡ Pass → (staged bs ≡ At Idle) × (v ≡ Pass)
+unfolding ahead
+ahead-passed bs v = go (staged bs) refl
+  where
+    go : (f : Found) → staged bs ≡ f → cond (idleAt f) v (Fail OutOfStage) ≡ Pass → (staged bs ≡ At Idle) × (v ≡ Pass)
+    go (At Idle) e h = (e, h)
+    go (At (Offered c)) e h = differ h
+    go (At (Keyed c)) e h = differ h
+    go Nowhere e h = differ h
+
+pub opens : Opens
+unfolding openMoved openShown movedBytes moved step outcome row shownBy shown
+opens bs k r x m b z =
+    let v = ahead bs (openTests (schemeOf k) r x m) in
+    let p : v ≡ Pass = number-zero v (sym z) in
+    let q = ahead-passed bs (openTests (schemeOf k) r x m) p in
+    rw (p, q .0, open-offers (schemeOf k) r x m b (q .1))
+
+pub answers : Answers
+unfolding answerMoved outputs movedBytes moved step outcome row shownBy
+answers bs k r x m b z =
+    let v = ahead bs (answerTests (schemeOf k) r x m) in
+    let p : v ≡ Pass = number-zero v (sym z) in
+    let q = ahead-passed bs (answerTests (schemeOf k) r x m) p in
+    rw (p, q .0, answer-replies (schemeOf k) r x m b (q .1))
+
+refused-stays : (v : Verdict) (bs cs : List ℕ) → (numberIn v ≡ 0 → ⊥) → ifPassed v cs bs ≡ bs
+refused-stays Pass bs cs n = absurd (n refl)
+refused-stays (Fail r) bs cs n = refl
+
+pub kept : Stays
+unfolding openMoved openShown answerMoved outputs
+kept bs k r =
+    (λ x m n. refused-stays (ahead bs (openTests (schemeOf k) r x m)) bs _ n, λ x m n. refused-stays (ahead bs (answerTests (schemeOf k) r x m)) bs _ n)
