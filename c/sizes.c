@@ -6,7 +6,8 @@
         NAME, WIM_##X, WIM_##X##_Q, WIM_##X##_NOISE, WIM_##X##_A, WIM_##X##_S, WIM_##X##_E2,     \
             WIM_##X##_SEED, WIM_##X##_COINS, WIM_##X##_OPENING, WIM_##X##_REPLY, WIM_##X##_KEY,  \
             WIM_##X##_S_BYTES, WIM_##X##_E2_BYTES, WIM_##X##_TABLE, WIM_##X##_MARGIN,            \
-            WIM_##X##_ROW, WIM_##X##_STATE                                                       \
+            WIM_##X##_ROW, WIM_##X##_STATE, WIM_##X##_LENT_A, WIM_##X##_OPEN_BYTES,              \
+            WIM_##X##_ANSWER_BYTES                                                               \
     }
 
 static const struct wim_sizes six[] = {

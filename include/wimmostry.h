@@ -18,7 +18,8 @@
  * and the replier finds the seed at the end of the opening. wim_expand makes them of a stream that
  * both have. The calls of the exchange carry the seed and do not read it. s, e, s', e' and e'' are
  * secrets, drawn afresh for each exchange; wim_noise makes them from random bytes, in BCNS by a
- * table that is lent too. In names s1, e1 and e2 stand for s', e' and e''.
+ * table that is lent too. In names s1, e1 and e2 stand for s', e' and e''. wim_open and wim_answer
+ * are Offer and Reply on what they make of random bytes themselves: see FROM RANDOM BYTES.
  *
  * Frodo's A has up to 746496 numbers. A box that cannot hold them gives them to Offer and Reply row
  * by row: see BY ROWS.
@@ -74,11 +75,12 @@
  * 16 is that of the calls on a rack alone, 10 that of these and of those on a session, and 11 that
  * of the calls by rows, where 1 is for a scheme that is not one of Frodo's, 2 to 5, and 2 also for
  * a state. 5 never arises in Frodo, 6 is for values above the largest noise or below its negative,
- * 7 and 12 are those of wim_expand and wim_grow alone (12 of wim_settings_write too), and 18 is
- * that of wim_noise in BCNS alone; 15 and 8 are those of the settings; no seed is known for which
- * wim_grow gives 7. 17 is for a message without content, as a dead card sends it: seed and hints
- * don't count. It is given for a message received, and for one about to be sent, which is zero
- * where secret and noise are; a zero secret with some noise passes.
+ * 7 and 12 are those of wim_expand, wim_grow, wim_open and wim_answer alone (12 of
+ * wim_settings_write too), and 18 is that of wim_noise, wim_open and wim_answer in BCNS alone; 15
+ * and 8 are those of the settings; no seed is known for which 7 arises but in wim_expand. 17 is for
+ * a message without content, as a dead card sends it: seed and hints don't count. It is given for a
+ * message received, and for one about to be sent, which is zero where secret and noise are; a zero
+ * secret with some noise passes.
  * *place is the index of the first bad entry after 4, 5 and 6, the first entry of the table that is
  * not above its forerunner, 1 to 50, after 18, how many numbers the stream held after 7, and 0
  * after 16, 10, 11, 1, 12, 2, 3, 17, 15, 8 and a success. wim_product has lengths of its own for 2,
@@ -86,7 +88,7 @@
  *
  * The tests go in the order of this table, and within one number in the order in which the inputs,
  * or for 3 the outputs, stand in the call; the first that fails is the refusal. 17 stands there for
- * a part received, after 5 and before 6; that of a part about to be sent comes last, after 6.
+ * a part received, after 5 and before 6; that of a part about to be sent comes last, after 6 and 7.
  * wim_settings_read tests 3 last, after 15 and 8, since the label has to be read before its length
  * is known. An index counts entries from 0 in its own input; in a message, the numbers of its
  * packed part.
@@ -153,6 +155,25 @@
  * the peer's.
  *
  *
+ * FROM RANDOM BYTES
+ *
+ * wim_open and wim_answer take random bytes in place of seed, secrets, noise and coins, and make of
+ * them what wim_noise, and in NewHope wim_grow, would. Then they are wim_offer and wim_reply: the
+ * same messages, key and digest. wim_finish ends an exchange, with the s that wim_open gives.
+ *
+ * - How many random bytes is fixed by scheme and call: WIM_X_OPEN_BYTES and WIM_X_ANSWER_BYTES.
+ *   They are cut from the front: seed, s, e; and s', e', e'', coins. The seed comes first, so that
+ *   in Frodo the caller makes A of it before the call.
+ * - The random bytes are secret, but for the seed, and serve once: wim_wipe them after the call. e,
+ *   s', e', e'' and NewHope's numbers stay inside the call and never leave it; wim_scrub overwrites
+ *   them.
+ * - a has WIM_X_LENT_A numbers: in NewHope none, since they are grown by the rule from the seed. In
+ *   BCNS and Frodo both ends lend the same a. The table is wim_bcns_table in BCNS, and empty else.
+ * - The rule is WIM_RULE_LOW_BITS or WIM_RULE_WHOLE_WORD in every scheme, as in the settings.
+ *   NewHope alone uses it, and both ends must use the same.
+ * - 6 never arises: what is made of random bytes is in range.
+ *
+ *
  * BY ROWS
  *
  * wim_offer and wim_reply are lent all of A. In Frodo each has three calls in its place, which are
@@ -204,29 +225,32 @@
  *
  *     call                  allowed                     leads to
  *     wim_session_offer     idle                        offered with that scheme
+ *     wim_session_open      idle                        offered with that scheme
  *     wim_session_reply     idle                        keyed with that scheme, its key
+ *     wim_session_answer    idle                        keyed with that scheme, its key
  *     wim_session_finish    offered, with that scheme   keyed with that scheme, its key
  *     wim_session_close     always                      idle, key zero
  *
  * At WIM_SESSION_STAGE stands the stage, at WIM_SESSION_SCHEME the scheme, which is 0 when idle,
- * and from WIM_SESSION_KEY on WIM_MAX_KEY bytes of key: zero until keyed, then the one that reply
- * or finish gave, and zeros behind it. So WIM_SESSION zeros are an idle session: a fresh or a wiped
- * buffer is one, and none has to be set up. These bytes may be read, kept and copied between calls;
- * a copy of a keyed one is a copy of the key.
+ * and from WIM_SESSION_KEY on WIM_MAX_KEY bytes of key: zero until keyed, then the one that reply,
+ * answer or finish gave, and zeros behind it. So WIM_SESSION zeros are an idle session: a fresh or
+ * a wiped buffer is one, and none has to be set up. These bytes may be read, kept and copied
+ * between calls; a copy of a keyed one is a copy of the key.
  *
  * An allowed call does what the call without a session does, refusals and all, and gives all that
  * it gives, the key also in its own output. One that is not allowed is refused with 10, before
- * anything else is tested: a finish when offered with any other scheme, known or not; but an offer
- * or reply when idle with an unknown scheme is 1. A refused call, with 10 or any other number,
- * changes no byte of the session and zeroes its outputs, and may be tried again.
+ * anything else is tested: a finish when offered with any other scheme, known or not; but an offer,
+ * open, reply or answer when idle with an unknown scheme is 1. A refused call, with 10 or any other
+ * number, changes no byte of the session and zeroes its outputs, and may be tried again.
  *
  * A buffer of another length, or one that no call leaves (another stage or scheme, key bytes where
  * the stage has none or behind the key), is in no stage: every call but close refuses it with 10
  * and leaves it as it is. wim_session_close zeroes the buffer, whatever it holds and however long
  * it is, and returns 0 always.
  *
- * - s is not in the session. It is lent to wim_session_offer, kept by the caller, and lent again to
- *   wim_session_finish, which cannot tell whether it is the same: with another the keys differ.
+ * - s is not in the session. It is lent to wim_session_offer, or given by wim_session_open, kept by
+ *   the caller, and lent to wim_session_finish, which cannot tell whether it is the same: with
+ *   another the keys differ.
  *   Destroy it as soon as finish has succeeded or the session is closed.
  * - No s serves two offers, not even after a close. A finish that was refused has made nothing of
  *   s and may be tried again with it; after one that succeeded the next is 10.
@@ -292,14 +316,16 @@
  * x86-64. On Arm it was measured before the products that stand now: no call took more than here.
  *
  *     wim_offer 102              wim_reply 125              wim_finish 105
- *     wim_noise 3                wim_expand 1               wim_grow 6
- *     wim_shake128 2             wim_sha3_256 2             wim_product 1
- *     wim_bench 159              wim_session_offer 103      wim_session_reply 126
- *     wim_session_finish 105     wim_session_close 1        wim_rack_offer 103
- *     wim_rack_reply 126         wim_rack_finish 105        wim_rack_close 1
- *     wim_rack_clear 1           wim_settings_write 1       wim_settings_read 1
- *     wim_rows_offer_begin 28    wim_rows_offer_part 21     wim_rows_offer_end 41
- *     wim_rows_reply_begin 82    wim_rows_reply_part 21     wim_rows_reply_end 43
+ *     wim_open 138               wim_answer 192             wim_noise 3
+ *     wim_expand 1               wim_grow 6                 wim_shake128 2
+ *     wim_sha3_256 2             wim_product 1              wim_bench 160
+ *     wim_session_offer 103      wim_session_reply 126      wim_session_finish 105
+ *     wim_session_open 138       wim_session_answer 192     wim_session_close 1
+ *     wim_rack_offer 103         wim_rack_reply 126         wim_rack_finish 105
+ *     wim_rack_close 1           wim_rack_clear 1           wim_settings_write 1
+ *     wim_settings_read 1        wim_rows_offer_begin 28    wim_rows_offer_part 21
+ *     wim_rows_offer_end 41      wim_rows_reply_begin 82    wim_rows_reply_part 21
+ *     wim_rows_reply_end 43
  *
  * Measured by filling a thread's stack with a pattern and looking, after an accepted call in each
  * scheme, how deep the pattern is gone (examples/c/stack.c). All local arrays have fixed sizes, so
@@ -337,17 +363,17 @@
  * do are the verdicts of the range tests (refusal 6), one an input: 2 in wim_offer, 3 in wim_reply,
  * 1 in wim_finish, none in wim_noise and the two hashes; in wim_product those of the range tests of
  * its factors (refusal 4), should they be secret. wim_offer has two more and wim_reply one, on the
- * first number that is sent (refusal 17), which the peer sees anyway. wim_bench has those of its
- * parts, and branches on the numbers of the messages and, but in BCNS, on the keys, which it
- * compares. The calls on a session or a rack branch as those without one, and close, clear,
- * wim_wipe and wim_same on nothing. By rows begin has those of its secrets, 2 and 3, and end those
- * of what is sent; each part and end of Reply has one more, the verdict on the values in its state,
- * and a part of Offer none. A refused secret is searched value by value for its place. Nothing is
- * divided but 65,536 by q, and by rows how many numbers have come by n and 16 n, all of which are
- * public. So it is in the archives for x86-64 and x86-64-v3, in all schemes (runs/secrets): the
- * branches by valgrind with the secrets marked as undefined, the divisions by a trace with two sets
- * of secrets. Another compiler may do otherwise, and what the processor makes of it is not
- * measured.
+ * first number that is sent (refusal 17), which the peer sees anyway. wim_open and wim_answer
+ * branch as these two do. wim_bench has those of its parts, and branches on the numbers of the
+ * messages and, but in BCNS, on the keys, which it compares. The calls on a session or a rack
+ * branch as those without one, and close, clear, wim_wipe and wim_same on nothing. By rows begin
+ * has those of its secrets, 2 and 3, and end those of what is sent; each part and end of Reply has
+ * one more, the verdict on the values in its state, and a part of Offer none. A refused secret is
+ * searched value by value for its place. Nothing is divided but 65,536 by q, and by rows how many
+ * numbers have come by n and 16 n, all of which are public. So it is in the archives for x86-64 and
+ * x86-64-v3, in all schemes (runs/secrets): the branches by valgrind with the secrets marked as
+ * undefined, the divisions by a trace with two sets of secrets. Another compiler may do otherwise,
+ * and what the processor makes of it is not measured.
  */
 #ifndef WIMMOSTRY_H
 #define WIMMOSTRY_H
@@ -361,15 +387,15 @@ extern "C" {
 
 /* The version of header and archive; wim_version tells the archive's. */
 #define WIM_VERSION_MAJOR 0
-#define WIM_VERSION_MINOR 3
+#define WIM_VERSION_MINOR 4
 #define WIM_VERSION_PATCH 0
-#define WIM_VERSION "0.3.0"
+#define WIM_VERSION "0.4.0"
 
 /*
  * The archive's version once more, in a symbol that has it in its name. Who includes this header
  * refers to it, used or not, so that nothing links with an archive of another version.
  */
-#define WIM_VERSION_SYMBOL wim_version_0_3_0
+#define WIM_VERSION_SYMBOL wim_version_0_4_0
 extern const char WIM_VERSION_SYMBOL[];
 #if defined(__has_attribute)
 #if __has_attribute(retain)
@@ -440,6 +466,9 @@ static const char *const wim_linked_version WIM_KEPT = WIM_VERSION_SYMBOL;
  *     WIM_X_MARGIN   the margin of the slack (0: NewHope has no slack)
  *     WIM_X_ROW      numbers of a row of A, which is n, and rows of A: 0, but in Frodo
  *     WIM_X_STATE    numbers of a running state by rows, 16 n + 67: 0, but in Frodo
+ *     WIM_X_LENT_A   entries of a that wim_open and wim_answer are lent: WIM_X_A, but 0 in NewHope
+ *     WIM_X_OPEN_BYTES    random bytes that wim_open takes
+ *     WIM_X_ANSWER_BYTES  random bytes that wim_answer takes
  *
  * WIM_MAX_.. is the largest over all schemes: buffers of these sizes serve each of them. A program
  * that learns its scheme as it runs finds the numbers by name in what wim_sizes gives.
@@ -460,6 +489,9 @@ static const char *const wim_linked_version WIM_KEPT = WIM_VERSION_SYMBOL;
 #define WIM_BCNS_MARGIN 1073741823
 #define WIM_BCNS_ROW 0
 #define WIM_BCNS_STATE 0
+#define WIM_BCNS_LENT_A 1024
+#define WIM_BCNS_OPEN_BYTES 51200
+#define WIM_BCNS_ANSWER_BYTES 77056
 
 #define WIM_NEWHOPE_Q 12289u
 #define WIM_NEWHOPE_NOISE 16
@@ -477,6 +509,9 @@ static const char *const wim_linked_version WIM_KEPT = WIM_VERSION_SYMBOL;
 #define WIM_NEWHOPE_MARGIN 0
 #define WIM_NEWHOPE_ROW 0
 #define WIM_NEWHOPE_STATE 0
+#define WIM_NEWHOPE_LENT_A 0
+#define WIM_NEWHOPE_OPEN_BYTES 8224
+#define WIM_NEWHOPE_ANSWER_BYTES 12320
 
 #define WIM_FRODO_CHALLENGE_Q 2048u
 #define WIM_FRODO_CHALLENGE_NOISE 3
@@ -494,6 +529,9 @@ static const char *const wim_linked_version WIM_KEPT = WIM_VERSION_SYMBOL;
 #define WIM_FRODO_CHALLENGE_MARGIN 256
 #define WIM_FRODO_CHALLENGE_ROW 352
 #define WIM_FRODO_CHALLENGE_STATE 5699
+#define WIM_FRODO_CHALLENGE_LENT_A 123904
+#define WIM_FRODO_CHALLENGE_OPEN_BYTES 11280
+#define WIM_FRODO_CHALLENGE_ANSWER_BYTES 11392
 
 #define WIM_FRODO_CLASSICAL_Q 4096u
 #define WIM_FRODO_CLASSICAL_NOISE 4
@@ -511,6 +549,9 @@ static const char *const wim_linked_version WIM_KEPT = WIM_VERSION_SYMBOL;
 #define WIM_FRODO_CLASSICAL_MARGIN 256
 #define WIM_FRODO_CLASSICAL_ROW 592
 #define WIM_FRODO_CLASSICAL_STATE 9539
+#define WIM_FRODO_CLASSICAL_LENT_A 350464
+#define WIM_FRODO_CLASSICAL_OPEN_BYTES 18960
+#define WIM_FRODO_CLASSICAL_ANSWER_BYTES 19072
 
 #define WIM_FRODO_RECOMMENDED_Q 32768u
 #define WIM_FRODO_RECOMMENDED_NOISE 5
@@ -528,6 +569,9 @@ static const char *const wim_linked_version WIM_KEPT = WIM_VERSION_SYMBOL;
 #define WIM_FRODO_RECOMMENDED_MARGIN 512
 #define WIM_FRODO_RECOMMENDED_ROW 752
 #define WIM_FRODO_RECOMMENDED_STATE 12099
+#define WIM_FRODO_RECOMMENDED_LENT_A 565504
+#define WIM_FRODO_RECOMMENDED_OPEN_BYTES 24080
+#define WIM_FRODO_RECOMMENDED_ANSWER_BYTES 24192
 
 #define WIM_FRODO_PARANOID_Q 32768u
 #define WIM_FRODO_PARANOID_NOISE 6
@@ -545,6 +589,9 @@ static const char *const wim_linked_version WIM_KEPT = WIM_VERSION_SYMBOL;
 #define WIM_FRODO_PARANOID_MARGIN 512
 #define WIM_FRODO_PARANOID_ROW 864
 #define WIM_FRODO_PARANOID_STATE 13891
+#define WIM_FRODO_PARANOID_LENT_A 746496
+#define WIM_FRODO_PARANOID_OPEN_BYTES 27664
+#define WIM_FRODO_PARANOID_ANSWER_BYTES 27776
 
 #define WIM_MAX_A 746496
 #define WIM_MAX_S 6912
@@ -559,6 +606,9 @@ static const char *const wim_linked_version WIM_KEPT = WIM_VERSION_SYMBOL;
 #define WIM_MAX_TABLE 153
 #define WIM_MAX_ROW 864
 #define WIM_MAX_STATE 13891
+#define WIM_MAX_LENT_A 746496
+#define WIM_MAX_OPEN_BYTES 51200
+#define WIM_MAX_ANSWER_BYTES 77056
 
 /* wim_expand: the length of its answer in numbers, which is wim_grow's too, and the longest stream
  * in bytes. */
@@ -598,9 +648,9 @@ static const char *const wim_linked_version WIM_KEPT = WIM_VERSION_SYMBOL;
 
 /* Bytes of stack that are enough for any call on either machine; how many more wim_scrub
  * overwrites; and bytes of stack that are enough for wim_scrub. */
-#define WIM_STACK 163840
+#define WIM_STACK 204800
 #define WIM_SCRUB_MORE 8192
-#define WIM_SCRUB_STACK 173056
+#define WIM_SCRUB_STACK 214016
 
 /* What is fixed in a scheme: its name as it is written, its number, and then each WIM_X_.. under
  * its own name. A later version may have more behind them. */
@@ -623,6 +673,9 @@ struct wim_sizes {
     uint64_t margin;
     size_t row;
     size_t state;
+    size_t lent_a;
+    size_t open_bytes;
+    size_t answer_bytes;
 };
 
 /* Those of the scheme of a number, 0 to 5; null for any other number. */
@@ -675,6 +728,35 @@ WIM_MUST_USE uint32_t wim_finish(uint32_t scheme, const uint8_t *reply, size_t r
                                  uint64_t *place, uint64_t *key_written,
                                  uint64_t *digest_written,
                                  uint64_t *slack, uint64_t *slack_index);
+
+/*
+ * Open: scheme, rule, public a, a table, random bytes. Gives the opening message and the secret s,
+ * WIM_X_S values, for wim_finish: what wim_offer gives on what the random bytes make. Refuses with
+ * 1, 12, 2, 3, 18, 4, 7, 17 (where as + e is zero), in this order; of 3, the message's room is
+ * tested first. See FROM RANDOM BYTES.
+ */
+WIM_MUST_USE uint32_t wim_open(uint32_t scheme, uint32_t rule, const uint32_t *a, size_t a_len,
+                               const uint64_t *table, size_t table_len,
+                               const uint8_t *random, size_t random_len,
+                               uint8_t *opening, size_t opening_len, int32_t *s, size_t s_len,
+                               uint64_t *place, uint64_t *opening_written, uint64_t *s_written);
+
+/*
+ * Answer: scheme, rule, opening message, public a, a table, random bytes. Gives what wim_reply
+ * gives on what the random bytes make; NewHope's a grows from the seed in the opening. Refuses with
+ * 1, 12, 2, 3, 18, 4, 5, 17 (the opening), 7, 17 (the reply), in this order; of 3, the message's
+ * room is tested first and the digest's last. See FROM RANDOM BYTES.
+ */
+WIM_MUST_USE uint32_t wim_answer(uint32_t scheme, uint32_t rule,
+                                 const uint8_t *opening, size_t opening_len,
+                                 const uint32_t *a, size_t a_len,
+                                 const uint64_t *table, size_t table_len,
+                                 const uint8_t *random, size_t random_len,
+                                 uint8_t *message, size_t message_len,
+                                 uint8_t *key, size_t key_len,
+                                 uint8_t *digest, size_t digest_len,
+                                 uint64_t *place, uint64_t *message_written,
+                                 uint64_t *key_written, uint64_t *digest_written);
 
 /*
  * Noise: scheme, random bytes, a table. Gives WIM_X_S values from WIM_X_S_BYTES bytes, WIM_X_E2
@@ -839,6 +921,32 @@ WIM_MUST_USE uint32_t wim_session_finish(uint8_t *session, size_t session_len, u
                                          uint64_t *place, uint64_t *key_written,
                                          uint64_t *digest_written,
                                          uint64_t *slack, uint64_t *slack_index);
+
+/*
+ * Open and Answer on a session, which is in and out: then all is as in wim_open and wim_answer.
+ * Refuse with 10, and then as these do. See SESSIONS.
+ */
+WIM_MUST_USE uint32_t wim_session_open(uint8_t *session, size_t session_len,
+                                       uint32_t scheme, uint32_t rule,
+                                       const uint32_t *a, size_t a_len,
+                                       const uint64_t *table, size_t table_len,
+                                       const uint8_t *random, size_t random_len,
+                                       uint8_t *opening, size_t opening_len,
+                                       int32_t *s, size_t s_len,
+                                       uint64_t *place, uint64_t *opening_written,
+                                       uint64_t *s_written);
+
+WIM_MUST_USE uint32_t wim_session_answer(uint8_t *session, size_t session_len,
+                                         uint32_t scheme, uint32_t rule,
+                                         const uint8_t *opening, size_t opening_len,
+                                         const uint32_t *a, size_t a_len,
+                                         const uint64_t *table, size_t table_len,
+                                         const uint8_t *random, size_t random_len,
+                                         uint8_t *message, size_t message_len,
+                                         uint8_t *key, size_t key_len,
+                                         uint8_t *digest, size_t digest_len,
+                                         uint64_t *place, uint64_t *message_written,
+                                         uint64_t *key_written, uint64_t *digest_written);
 
 /*
  * Close: zeroes the session, whatever it holds and however long it is: it is idle, and its key is

@@ -29,6 +29,25 @@ static uint32_t finish(struct lent *l)
                       &l->digest_written, &l->slack, &l->slack_index);
 }
 
+static uint32_t open_(struct lent *l)
+{
+    const struct wim_sizes *x = l->scheme;
+
+    return wim_open(x->number, WIM_RULE_LOW_BITS, l->a, x->lent_a, wim_bcns_table, x->table,
+                    l->open_random, x->open_bytes, l->opening, sizeof l->opening, l->values,
+                    WIM_MAX_S, &l->place, &l->written, &l->s_written);
+}
+
+static uint32_t answer(struct lent *l)
+{
+    const struct wim_sizes *x = l->scheme;
+
+    return wim_answer(x->number, WIM_RULE_LOW_BITS, l->opening, x->opening, l->a, x->lent_a,
+                      wim_bcns_table, x->table, l->answer_random, x->answer_bytes, l->reply,
+                      sizeof l->reply, l->key, sizeof l->key, l->digest, sizeof l->digest,
+                      &l->place, &l->written, &l->key_written, &l->digest_written);
+}
+
 static uint32_t noise(struct lent *l)
 {
     const struct wim_sizes *x = l->scheme;
@@ -141,6 +160,29 @@ static uint32_t session_finish(struct lent *l)
                               x->s, l->peer_key, sizeof l->peer_key, l->peer_digest,
                               sizeof l->peer_digest, &l->place, &l->key_written,
                               &l->digest_written, &l->slack, &l->slack_index);
+}
+
+static uint32_t session_open(struct lent *l)
+{
+    const struct wim_sizes *x = l->scheme;
+
+    stand(l, WIM_STAGE_IDLE);
+    return wim_session_open(l->session, sizeof l->session, x->number, WIM_RULE_LOW_BITS, l->a,
+                            x->lent_a, wim_bcns_table, x->table, l->open_random, x->open_bytes,
+                            l->opening, sizeof l->opening, l->values, WIM_MAX_S, &l->place,
+                            &l->written, &l->s_written);
+}
+
+static uint32_t session_answer(struct lent *l)
+{
+    const struct wim_sizes *x = l->scheme;
+
+    stand(l, WIM_STAGE_IDLE);
+    return wim_session_answer(l->session, sizeof l->session, x->number, WIM_RULE_LOW_BITS,
+                              l->opening, x->opening, l->a, x->lent_a, wim_bcns_table, x->table,
+                              l->answer_random, x->answer_bytes, l->reply, sizeof l->reply, l->key,
+                              sizeof l->key, l->digest, sizeof l->digest, &l->place, &l->written,
+                              &l->key_written, &l->digest_written);
 }
 
 static uint32_t session_close(struct lent *l)
@@ -284,11 +326,13 @@ static uint32_t rows_reply_end(struct lent *l)
 
 const struct call calls[CALLS] = {
     {"wim_offer", offer}, {"wim_reply", reply},   {"wim_finish", finish},
+    {"wim_open", open_},  {"wim_answer", answer},
     {"wim_noise", noise}, {"wim_expand", expand}, {"wim_grow", grow},
     {"wim_shake128", shake128}, {"wim_sha3_256", sha3_256}, {"wim_product", product},
     {"wim_bench", bench},
     {"wim_session_offer", session_offer}, {"wim_session_reply", session_reply},
-    {"wim_session_finish", session_finish}, {"wim_session_close", session_close},
+    {"wim_session_finish", session_finish}, {"wim_session_open", session_open},
+    {"wim_session_answer", session_answer}, {"wim_session_close", session_close},
     {"wim_rack_offer", rack_offer}, {"wim_rack_reply", rack_reply},
     {"wim_rack_finish", rack_finish}, {"wim_rack_close", rack_close},
     {"wim_rack_clear", rack_clear},
@@ -332,20 +376,37 @@ static uint32_t draw_states(struct lent *l)
     return refusal;
 }
 
+/* The values of random bytes, which it goes behind. */
+static uint32_t cut(struct lent *l, const uint8_t **random, size_t bytes, int32_t *out, size_t count)
+{
+    const struct wim_sizes *x = l->scheme;
+    uint32_t refusal = wim_noise(x->number, *random, bytes, wim_bcns_table, x->table, out, count,
+                                 &l->place, &l->written);
+
+    *random += bytes;
+    return refusal;
+}
+
 uint32_t draw_all(struct lent *l, const struct wim_sizes *x)
 {
-    int32_t *secrets[] = {l->s, l->e, l->s1, l->e1};
+    const uint8_t *first = l->open_random + x->seed, *second = l->answer_random;
     uint64_t state = 3;
     uint32_t refusal;
 
     l->scheme = x;
-    draw_bytes(&state, l->seed, sizeof l->seed);
+    draw_bytes(&state, l->open_random, x->open_bytes);
+    draw_bytes(&state, l->answer_random, x->answer_bytes);
+    draw_bytes(&state, l->seed, sizeof l->seed); /* Grow takes one in every scheme */
+    memcpy(l->seed, l->open_random, x->seed);
     refusal = draw_public(x, l->seed, l->a);
-    for (size_t i = 0; i < 4 && refusal == WIM_DONE; i++)
-        refusal = draw_secrets(&state, x, secrets[i], x->s, x->s_bytes);
-    if (refusal == WIM_DONE)
-        refusal = draw_secrets(&state, x, l->e2, x->e2, x->e2_bytes);
-    draw_bytes(&state, l->coins, sizeof l->coins);
+    if (refusal != WIM_DONE ||
+        (refusal = cut(l, &first, x->s_bytes, l->s, x->s)) != WIM_DONE ||
+        (refusal = cut(l, &first, x->s_bytes, l->e, x->s)) != WIM_DONE ||
+        (refusal = cut(l, &second, x->s_bytes, l->s1, x->s)) != WIM_DONE ||
+        (refusal = cut(l, &second, x->s_bytes, l->e1, x->s)) != WIM_DONE ||
+        (refusal = cut(l, &second, x->e2_bytes, l->e2, x->e2)) != WIM_DONE)
+        return refusal;
+    memcpy(l->coins, second, x->coins);
     draw_bytes(&state, l->bytes, sizeof l->bytes);
     draw_bytes(&state, l->stream, sizeof l->stream);
     for (size_t i = 0; i < 2; i++)
@@ -355,7 +416,5 @@ uint32_t draw_all(struct lent *l, const struct wim_sizes *x)
             l->factors[i][k] = (uint32_t)bytes[0] | (uint32_t)bytes[1] << 8 |
                                (uint32_t)bytes[2] << 16 | (uint32_t)(bytes[3] >> 1) << 24;
         }
-    if (refusal == WIM_DONE && x->state != 0)
-        refusal = draw_states(l);
-    return refusal;
+    return x->state != 0 ? draw_states(l) : WIM_DONE;
 }

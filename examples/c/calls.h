@@ -12,13 +12,14 @@ struct lent {
     int32_t s[WIM_MAX_S], e[WIM_MAX_S], s1[WIM_MAX_S], e1[WIM_MAX_S], e2[WIM_MAX_E2];
     int32_t values[WIM_MAX_S];
     uint8_t seed[WIM_MAX_SEED], coins[WIM_MAX_COINS], bytes[WIM_MAX_S_BYTES], stream[4096];
+    uint8_t open_random[WIM_MAX_OPEN_BYTES], answer_random[WIM_MAX_ANSWER_BYTES];
     uint8_t opening[WIM_MAX_OPENING], reply[WIM_MAX_REPLY];
     uint8_t key[WIM_MAX_KEY], peer_key[WIM_MAX_KEY];
     uint8_t digest[WIM_DIGEST], peer_digest[WIM_DIGEST];
     uint8_t shaken[500], hashed[WIM_DIGEST];
     uint8_t session[WIM_SESSION], rack[WIM_RACK];
     uint8_t text[WIM_SETTINGS_TEXT], label[WIM_SETTINGS_LABEL];
-    uint64_t place, written, key_written, digest_written, differ, slack, slack_index;
+    uint64_t place, written, s_written, key_written, digest_written, differ, slack, slack_index;
     uint64_t text_written, format, scheme_read, rule_read;
     /* by rows: the state that a call is lent, and what it starts from: with fifteen rows, so that
      * a row more makes sixteen, which enter the sums, and with all rows */
@@ -32,10 +33,10 @@ struct call {
     uint32_t (*make)(struct lent *);
 };
 
-#define CALLS 27
+#define CALLS 31
 enum {
-    OFFER, REPLY, FINISH, NOISE, EXPAND, GROW, SHAKE128, SHA3_256, PRODUCT, BENCH,
-    SESSION_OFFER, SESSION_REPLY, SESSION_FINISH, SESSION_CLOSE,
+    OFFER, REPLY, FINISH, OPEN, ANSWER, NOISE, EXPAND, GROW, SHAKE128, SHA3_256, PRODUCT, BENCH,
+    SESSION_OFFER, SESSION_REPLY, SESSION_FINISH, SESSION_OPEN, SESSION_ANSWER, SESSION_CLOSE,
     RACK_OFFER, RACK_REPLY, RACK_FINISH, RACK_CLOSE, RACK_CLEAR,
     SETTINGS_WRITE, SETTINGS_READ,
     ROWS_OFFER_BEGIN, ROWS_OFFER_PART, ROWS_OFFER_END,
@@ -54,7 +55,8 @@ void stand_all(struct lent *lent, uint8_t stage);
 /* The studio that the calls on the rack are for. */
 #define STUDIO 5
 
-/* Draws every input of a scheme, and in Frodo makes an exchange by rows, for their states. 0 or the
+/* Draws every input of a scheme, and in Frodo makes an exchange by rows, for their states. The random
+ * bytes of open and answer make the secrets, so that both give what Offer and Reply give. 0 or the
  * refusal. */
 uint32_t draw_all(struct lent *lent, const struct wim_sizes *scheme);
 

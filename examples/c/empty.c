@@ -76,6 +76,40 @@ static void finish(int nulls)
     held("wim_finish", nulls, refusal, expected(nulls, lengths, 2, 2));
 }
 
+/* Both rules, and one that there is not. */
+static const uint32_t rules[] = {WIM_RULE_LOW_BITS, WIM_RULE_WHOLE_WORD, 15};
+static uint32_t rule;
+
+/* NewHope's public numbers are empty in accepted calls, and the table but in BCNS. */
+static uint32_t ruled(uint32_t known)
+{
+    return rule == rules[2] ? WIM_NO_RULE : known;
+}
+
+static void open_(int nulls)
+{
+    const size_t lengths[] = {x->lent_a, x->table, x->open_bytes};
+    uint32_t refusal =
+        wim_open(x->number, rule, LEND(0, lent.a, x->lent_a), LEND(1, wim_bcns_table, x->table),
+                 LEND(2, lent.open_random, x->open_bytes), LEND(3, lent.opening, x->opening),
+                 LEND(4, lent.values, x->s), &place, &written, &key_written);
+
+    held("wim_open", nulls, refusal, ruled(expected(nulls, lengths, 3, 2)));
+}
+
+static void answer(int nulls)
+{
+    const size_t lengths[] = {x->opening, x->lent_a, x->table, x->answer_bytes};
+    uint32_t refusal =
+        wim_answer(x->number, rule, LEND(0, lent.opening, x->opening), LEND(1, lent.a, x->lent_a),
+                   LEND(2, wim_bcns_table, x->table),
+                   LEND(3, lent.answer_random, x->answer_bytes), LEND(4, lent.reply, x->reply),
+                   LEND(5, lent.key, x->key), LEND(6, lent.digest, WIM_DIGEST), &place, &written,
+                   &key_written, &digest_written);
+
+    held("wim_answer", nulls, refusal, ruled(expected(nulls, lengths, 4, 3)));
+}
+
 static void noise(int nulls)
 {
     const size_t lengths[] = {x->s_bytes, x->table};
@@ -86,10 +120,6 @@ static void noise(int nulls)
     held("wim_noise", nulls, refusal, expected(nulls, lengths, 2, 1));
 }
 
-/* Both rules, and one that there is not. */
-static const uint32_t rules[] = {WIM_RULE_LOW_BITS, WIM_RULE_WHOLE_WORD, 15};
-static uint32_t rule;
-
 /* An empty stream is no bad length: it runs out. */
 static void expand(int nulls)
 {
@@ -97,7 +127,7 @@ static void expand(int nulls)
                                   LEND(1, lent.numbers, WIM_EXPAND_NUMBERS), &place, &written);
     uint32_t known = nulls >> 1 ? WIM_ROOM : nulls ? WIM_RAN_OUT : WIM_DONE;
 
-    held("wim_expand", nulls, refusal, rule == rules[2] ? WIM_NO_RULE : known);
+    held("wim_expand", nulls, refusal, ruled(known));
 }
 
 static void grow(int nulls)
@@ -106,8 +136,7 @@ static void grow(int nulls)
     uint32_t refusal = wim_grow(rule, LEND(0, lent.seed, WIM_NEWHOPE_SEED),
                                 LEND(1, lent.numbers, WIM_EXPAND_NUMBERS), &place, &written);
 
-    held("wim_grow", nulls, refusal,
-         rule == rules[2] ? WIM_NO_RULE : expected(nulls, lengths, 1, 1));
+    held("wim_grow", nulls, refusal, ruled(expected(nulls, lengths, 1, 1)));
 }
 
 /* An empty input has a hash, and an empty output is full. */
@@ -201,6 +230,39 @@ static void session_finish(int nulls)
                                  LEND(3, lent.key, x->key), LEND(4, lent.digest, WIM_DIGEST),
                                  &place, &written, &digest_written, &slack, &slack_index);
     held("wim_session_finish", nulls, refusal, in_stage(nulls, lengths, 2, 2));
+}
+
+/* Refusal 10 comes before the rule's. */
+static void session_open(int nulls)
+{
+    const size_t lengths[] = {x->lent_a, x->table, x->open_bytes};
+    uint32_t refusal;
+
+    stand(&lent, WIM_STAGE_IDLE);
+    refusal = wim_session_open(LEND(0, lent.session, WIM_SESSION), x->number, rule,
+                               LEND(1, lent.a, x->lent_a), LEND(2, wim_bcns_table, x->table),
+                               LEND(3, lent.open_random, x->open_bytes),
+                               LEND(4, lent.opening, x->opening), LEND(5, lent.values, x->s),
+                               &place, &written, &key_written);
+    held("wim_session_open", nulls, refusal,
+         nulls & 1 ? WIM_OUT_OF_STAGE : ruled(expected(nulls >> 1, lengths, 3, 2)));
+}
+
+static void session_answer(int nulls)
+{
+    const size_t lengths[] = {x->opening, x->lent_a, x->table, x->answer_bytes};
+    uint32_t refusal;
+
+    stand(&lent, WIM_STAGE_IDLE);
+    refusal = wim_session_answer(LEND(0, lent.session, WIM_SESSION), x->number, rule,
+                                 LEND(1, lent.opening, x->opening), LEND(2, lent.a, x->lent_a),
+                                 LEND(3, wim_bcns_table, x->table),
+                                 LEND(4, lent.answer_random, x->answer_bytes),
+                                 LEND(5, lent.reply, x->reply), LEND(6, lent.key, x->key),
+                                 LEND(7, lent.digest, WIM_DIGEST), &place, &written, &key_written,
+                                 &digest_written);
+    held("wim_session_answer", nulls, refusal,
+         nulls & 1 ? WIM_OUT_OF_STAGE : ruled(expected(nulls >> 1, lengths, 4, 3)));
 }
 
 static void session_close(int nulls)
@@ -381,6 +443,11 @@ int main(void)
             rule = rules[i];
             each(expand, 2);
             each(grow, 2);
+            offer(0); /* for the rule that there is not, under which no open leaves one */
+            each(answer, 7);
+            each(session_answer, 8);
+            each(open_, 5);
+            each(session_open, 6);
         }
         each(shake128, 2);
         each(sha3_256, 2);

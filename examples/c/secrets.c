@@ -83,6 +83,11 @@ static void hide(size_t call)
         HIDE(lent.e2, x->e2);
         HIDE(lent.coins, x->coins);
     }
+    /* the seed in front is public */
+    if (call == OPEN || call == SESSION_OPEN)
+        HIDE(lent.open_random + x->seed, x->open_bytes - x->seed);
+    if (call == ANSWER || call == SESSION_ANSWER)
+        HIDE(lent.answer_random, x->answer_bytes);
     if (call == NOISE)
         HIDE(lent.bytes, x->s_bytes);
     if (call == SHAKE128 || call == SHA3_256)

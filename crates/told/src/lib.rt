@@ -9,7 +9,9 @@ ghost use Rattle.settings.specs.Calls.{readTold};
 ghost use Rattle.reply.specs.Reply.{replyTold};
 ghost use Rattle.finish.specs.Finish.{finishTold};
 ghost use Rattle.bench.specs.Bench.{benchTold};
+ghost use Rattle.exchange.specs.Open.{openTold};
 use bench::BenchAnswer;
+use exchange::OpenAnswer;
 use finish::FinishAnswer;
 use refusals::Answer;
 use refusals::Verdict;
@@ -74,6 +76,24 @@ pub fn tell_reply(
             *written = 0;
             *keyed = 0;
             *digested = 0;
+            tell_verdict(Verdict::Fail(why), place)
+        }
+    }
+}
+
+// The answer of open in numbers, with its two counts.
+pub fn tell_open(answer: OpenAnswer, place: &mut u64, opened: &mut u64, valued: &mut u64) -> u32
+    ensures { λ r. ⌜ record { number = r; place = left place; counts = record { opening = left opened; s = left valued } } ≡ openTold answer ⌝ }
+{
+    match answer {
+        OpenAnswer::Done(n) => {
+            *opened = n.opening as u64;
+            *valued = n.s as u64;
+            tell_verdict(Verdict::Pass, place)
+        }
+        OpenAnswer::Refused(why) => {
+            *opened = 0;
+            *valued = 0;
             tell_verdict(Verdict::Fail(why), place)
         }
     }

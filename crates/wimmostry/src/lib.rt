@@ -13,12 +13,13 @@ ghost use Rattle.offer.specs.Offer.{offer, offerResult};
 ghost use Rattle.reply.specs.Reply.{reply, replyRooms, replySeen, replyResult};
 ghost use Rattle.finish.specs.Finish.{finish, finishRooms, finishSeen, finishResult};
 ghost use Rattle.bench.specs.Bench.{bench, benchResult};
+ghost use Rattle.settings.specs.Settings.{setupOf};
+ghost use Rattle.settings.specs.Calls.{writeResult, readOf, readResult, readSeen};
 
+mod drawn;
 mod racks;
 mod sessions;
 
-ghost use Rattle.settings.specs.Settings.{setupOf};
-ghost use Rattle.settings.specs.Calls.{writeResult, readOf, readResult, readSeen};
 
 mod by_rows;
 

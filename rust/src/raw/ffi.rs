@@ -25,6 +25,9 @@ pub struct Sizes {
     pub margin: u64,
     pub row: usize,
     pub state: usize,
+    pub lent_a: usize,
+    pub open_bytes: usize,
+    pub answer_bytes: usize,
 }
 
 extern "C" {
@@ -83,6 +86,45 @@ extern "C" {
         digest_written: *mut u64,
         slack: *mut u64,
         slack_index: *mut u64,
+    ) -> u32;
+    pub fn wim_open(
+        scheme: u32,
+        rule: u32,
+        a: *const u32,
+        a_len: usize,
+        table: *const u64,
+        table_len: usize,
+        random: *const u8,
+        random_len: usize,
+        opening: *mut u8,
+        opening_len: usize,
+        s: *mut i32,
+        s_len: usize,
+        place: *mut u64,
+        opening_written: *mut u64,
+        s_written: *mut u64,
+    ) -> u32;
+    pub fn wim_answer(
+        scheme: u32,
+        rule: u32,
+        opening: *const u8,
+        opening_len: usize,
+        a: *const u32,
+        a_len: usize,
+        table: *const u64,
+        table_len: usize,
+        random: *const u8,
+        random_len: usize,
+        message: *mut u8,
+        message_len: usize,
+        key: *mut u8,
+        key_len: usize,
+        digest: *mut u8,
+        digest_len: usize,
+        place: *mut u64,
+        message_written: *mut u64,
+        key_written: *mut u64,
+        digest_written: *mut u64,
     ) -> u32;
     pub fn wim_noise(
         scheme: u32,
@@ -288,6 +330,49 @@ extern "C" {
         slack: *mut u64,
         slack_index: *mut u64,
     ) -> u32;
+    pub fn wim_session_open(
+        session: *mut u8,
+        session_len: usize,
+        scheme: u32,
+        rule: u32,
+        a: *const u32,
+        a_len: usize,
+        table: *const u64,
+        table_len: usize,
+        random: *const u8,
+        random_len: usize,
+        opening: *mut u8,
+        opening_len: usize,
+        s: *mut i32,
+        s_len: usize,
+        place: *mut u64,
+        opening_written: *mut u64,
+        s_written: *mut u64,
+    ) -> u32;
+    pub fn wim_session_answer(
+        session: *mut u8,
+        session_len: usize,
+        scheme: u32,
+        rule: u32,
+        opening: *const u8,
+        opening_len: usize,
+        a: *const u32,
+        a_len: usize,
+        table: *const u64,
+        table_len: usize,
+        random: *const u8,
+        random_len: usize,
+        message: *mut u8,
+        message_len: usize,
+        key: *mut u8,
+        key_len: usize,
+        digest: *mut u8,
+        digest_len: usize,
+        place: *mut u64,
+        message_written: *mut u64,
+        key_written: *mut u64,
+        digest_written: *mut u64,
+    ) -> u32;
     pub fn wim_session_close(session: *mut u8, session_len: usize) -> u32;
     pub fn wim_rack_offer(
         rack: *mut u8,
@@ -384,7 +469,7 @@ extern "C" {
     pub fn wim_same(a: *const c_void, b: *const c_void, count: usize) -> u32;
     pub fn wim_scrub();
     pub fn wim_scrub_depth(depth: usize);
-    pub static wim_version_0_3_0: [c_char; 6];
+    pub static wim_version_0_4_0: [c_char; 6];
     pub fn wim_version() -> *const c_char;
     pub fn wim_cpu() -> *const c_char;
     pub fn wim_refusal_text(refusal: u32) -> *const c_char;
