@@ -3,70 +3,48 @@
 //! Two boxes agree on a fresh key:
 //!
 //! ```text
-//! the initiator                                the replier
-//! Initiator::offer(a, s, e, seed)   opening -->
-//!                                  <-- reply   Replier::new(s', e', e'', coins).reply(opening, a)
-//! initiator.finish(reply)                      has the key and its digest
+//! the initiator                        the replier
+//! Initiator::open(random)   opening -->
+//!                          <-- reply   Replier::answer(opening, random)
+//! initiator.finish(reply)              has the key and its digest
 //! has the key and its digest
 //! ```
 //!
-//! Both know the public numbers a; NewHope's are [`grow`]n from the seed. The
-//! secrets s, e, s', e', e'' and the coins
-//! are drawn afresh for each exchange; [`Secret::noise`] makes them from random
-//! bytes, in BCNS by a table, [`BCNS_TABLE`]. A [`Secret`] is a lent buffer that is
-//! wiped when its owner is done with it; each call takes its secrets for good, so that one used twice does
-//! not compile. A [`Key`] is wiped likewise, and neither prints what it holds.
-//! The [`Digest`] beside a key is its SHA3-256, which can be shown. A [`Session`]
-//! keeps one end in step and holds its key, a [`Rack`] the sessions of eight studios.
+//! Both know the public numbers a; NewHope's grow from a seed, which travels in the
+//! opening. Secrets, noise and coins are made of random bytes, afresh for each exchange.
+//! A [`Secret`] is a lent buffer that is wiped when its owner is done with it; each call
+//! takes its secrets for good, so that one used twice does not compile. A [`Key`] is wiped
+//! likewise, and neither prints what it holds. The [`Digest`] beside a key is its SHA3-256,
+//! which can be shown. A [`Session`] keeps one end in step and holds its key, a [`Rack`] the
+//! sessions of eight studios.
+//!
+//! Both ends by NewHope, where `fill` fills a buffer with random bytes:
 //!
 //! ```
-//! use wimmostry::{grow, Initiator, Refusal, Replier, Rule, Scheme, Secret};
+//! use wimmostry::{fixed::NewHope, Initiator, Refusal, Replier, Rule};
 //!
 //! # fn main() -> Result<(), Refusal> {
 //! # let mut state = 1u64;
-//! # let mut draw = |bytes: &mut [u8]| for byte in bytes {
+//! # let mut fill = |bytes: &mut [u8]| for byte in bytes {
 //! #     state = state.wrapping_mul(6364136223846793005).wrapping_add(1442695040888963407);
 //! #     *byte = (state >> 56) as u8;
 //! # };
-//! let scheme = Scheme::NewHope;
-//! let sizes = scheme.sizes();
+//! let (rule, mut s, mut opening) = (Rule::LowBits, [0; 1024], [0; 1824]);
+//! let initiator = Initiator::open::<NewHope>(rule, |_| &[], &mut fill, &mut s, &mut opening)?;
 //!
-//! // Both grow the public numbers from one seed by one rule; `draw` fills a buffer with
-//! // random bytes.
-//! let (mut seed, mut a) = ([0; 32], [0; 1024]);
-//! draw(&mut seed);
-//! grow(Rule::LowBits, &seed, &mut a)?;
+//! let (mut reply, mut key) = ([0; 2048], [0; 32]);
+//! let replied = Replier::answer::<NewHope>(rule, &opening, &[], fill, &mut reply, &mut key)?;
 //!
-//! // The initiator's secrets and its opening, which has the seed at its end.
-//! let (mut bytes, mut s, mut e) = ([0; 4096], [0; 1024], [0; 1024]);
-//! draw(&mut bytes);
-//! let s = Secret::noise(scheme, Secret::new(&mut bytes), &[], &mut s)?;
-//! draw(&mut bytes);
-//! let e = Secret::noise(scheme, Secret::new(&mut bytes), &[], &mut e)?;
-//! let mut room = [0; 1824];
-//! let offered = Initiator::offer(scheme, &a, s, e, &seed, &mut room)?;
-//!
-//! // The replier's secrets, its message, its key and the key's digest.
-//! let (mut s1, mut e1, mut e2, mut coins) = ([0; 1024], [0; 1024], [0; 1024], [0; 32]);
-//! draw(&mut bytes);
-//! let s1 = Secret::noise(scheme, Secret::new(&mut bytes), &[], &mut s1)?;
-//! draw(&mut bytes);
-//! let e1 = Secret::noise(scheme, Secret::new(&mut bytes), &[], &mut e1)?;
-//! draw(&mut bytes);
-//! let e2 = Secret::noise(scheme, Secret::new(&mut bytes), &[], &mut e2)?;
-//! draw(&mut coins);
-//! let replier = Replier::new(scheme, s1, e1, e2, Secret::new(&mut coins));
-//! let (mut message, mut key) = ([0; 2048], [0; 32]);
-//! let replied = replier.reply(offered.opening, &a, &mut message, &mut key)?;
-//!
-//! // The initiator's key, which is equal to the replier's.
 //! let mut peer_key = [0; 32];
-//! let finished = offered.initiator.finish(replied.message, &mut peer_key)?;
+//! let finished = initiator.finish(replied.message, &mut peer_key)?;
 //! assert_eq!(finished.digest, replied.digest);
-//! assert_eq!(finished.key.bytes().len(), sizes.key);
 //! # Ok(())
 //! # }
 //! ```
+//!
+//! [`fixed`] has the arrays of each scheme. [`Initiator::offer`] and [`Replier::reply`] take
+//! secrets that the caller made, as by [`Secret::noise`], with the public numbers, as by
+//! [`grow`].
 //!
 //! Frodo's A need not be held: [`rows`] has Offer and Reply that take it row by
 //! row.
@@ -76,7 +54,8 @@
 //! with one [`Refusal`], given exactly when its condition holds.
 //!
 //! What a caller must see to is in `include/wimmostry.h`: fresh secrets, who
-//! the peer is, key confirmation, hashing the raw keys, and 169 KiB of stack.
+//! the peer is, key confirmation, hashing the raw keys, and 209 KiB of stack; [`fixed`]
+//! takes the random bytes on it besides, 76 KiB at most.
 //! That buffers do not overlap and pointers are valid, these functions see to;
 //! and after every call that was lent a secret, by rows at the end, they scrub the
 //! stack as deep as the call went.
@@ -99,6 +78,7 @@ pub mod raw;
 
 mod exchange;
 mod expand;
+pub mod fixed;
 mod hash;
 mod rack;
 mod refusal;
@@ -123,7 +103,7 @@ pub use settings::{Format, Label, Settings, LABEL, SETTINGS_TEXT};
 #[must_use]
 pub fn version() -> &'static str {
     // SAFETY: a constant text of the archive, which ends with a zero: digits and dots.
-    let text = unsafe { core::ffi::CStr::from_ptr(raw::ffi::wim_version_0_3_0.as_ptr()) };
+    let text = unsafe { core::ffi::CStr::from_ptr(raw::ffi::wim_version_0_4_0.as_ptr()) };
     text.to_str().unwrap_or_default()
 }
 

@@ -235,6 +235,73 @@ pub fn finish(
     Ok(Finished::of(written))
 }
 
+/// How many entries of its outputs an open took.
+#[derive(Clone, Copy, Debug, PartialEq, Eq, Hash)]
+#[non_exhaustive]
+pub struct Opened {
+    /// Bytes of the opening message.
+    pub opening: usize,
+    /// Values of s.
+    pub s: usize,
+}
+
+impl Opened {
+    fn of([opening, s]: [u64; 2]) -> Opened {
+        Opened {
+            opening: count(opening),
+            s: count(s),
+        }
+    }
+}
+
+/// Open: scheme, rule ([`Rule`](crate::Rule)), public a, a table, random bytes.
+/// Gives the opening message and the secret s: what [`offer`] gives on the seed, s
+/// and e that the random bytes make. In NewHope a is empty, and grown by the rule.
+///
+/// # Errors
+///
+/// Refuses with 1, 12, 2, 3, 18, 4, 7 and 17, in this order; of 3, the message's
+/// room is tested first.
+pub fn open(
+    scheme: u32,
+    rule: u32,
+    a: &[u32],
+    table: &[u64],
+    random: &[u8],
+    opening: &mut [u8],
+    s: &mut [i32],
+) -> Result<Opened, Refusal> {
+    let written = call!(wim_open(; scheme, rule; a, table, random; opening, s)
+        opening_written, s_written)?;
+    Ok(Opened::of(written))
+}
+
+/// Answer: scheme, rule, opening message, public a, a table, random bytes. Gives
+/// what [`reply`] gives on the s', e', e'' and coins that the random bytes make. In
+/// NewHope a is empty, and grown by the rule from the seed in the opening.
+///
+/// # Errors
+///
+/// Refuses with 1, 12, 2, 3, 18, 4, 5, 17 (the opening), 7 and 17 (the reply), in
+/// this order; of 3, the message's room is tested first and the digest's last.
+#[allow(clippy::too_many_arguments)]
+pub fn answer(
+    scheme: u32,
+    rule: u32,
+    opening: &[u8],
+    a: &[u32],
+    table: &[u64],
+    random: &[u8],
+    message: &mut [u8],
+    key: &mut [u8],
+    digest: &mut [u8],
+) -> Result<Replied, Refusal> {
+    let written = call!(
+        wim_answer(; scheme, rule; opening, a, table, random; message, key, digest)
+            message_written, key_written, digest_written)?;
+    Ok(Replied::of(written))
+}
+
 /// Noise: scheme, random bytes, a table. Gives as many values as the bytes make,
 /// which are those of s, e, s' or e' ([`s_bytes`](crate::Sizes::s_bytes)) or those
 /// of e'' ([`e2_bytes`](crate::Sizes::e2_bytes)).

@@ -66,6 +66,12 @@ pub struct Sizes {
     pub row: usize,
     /// Numbers of a running state by rows; 0 but in Frodo.
     pub state: usize,
+    /// Entries of a that the calls from random bytes are lent; 0 in NewHope.
+    pub lent_a: usize,
+    /// Random bytes for an opening.
+    pub open_bytes: usize,
+    /// Random bytes for an answer.
+    pub answer_bytes: usize,
 }
 
 impl Scheme {
@@ -119,6 +125,9 @@ impl Scheme {
                 margin: 1073741823,
                 row: 0,
                 state: 0,
+                lent_a: 1024,
+                open_bytes: 2 * 25 * 1024,
+                answer_bytes: 3 * 25 * 1024 + 256,
             },
             Scheme::NewHope => Sizes {
                 q: 12289,
@@ -137,6 +146,9 @@ impl Scheme {
                 margin: 0,
                 row: 0,
                 state: 0,
+                lent_a: 0,
+                open_bytes: 32 + 2 * 4096,
+                answer_bytes: 3 * 4096 + 32,
             },
             Scheme::FrodoChallenge => frodo(352, 2048, 3, 11, 8),
             Scheme::FrodoClassical => frodo(592, 4096, 4, 12, 16),
@@ -166,6 +178,9 @@ const fn frodo(n: usize, q: u32, noise: i32, width: usize, key: usize) -> Sizes 
         margin: (q >> (key / 8)) as u64 / 4,
         row: n,
         state: 16 * n + 67,
+        lent_a: n * n,
+        open_bytes: 16 + 2 * 16 * n,
+        answer_bytes: 2 * 16 * n + 128,
     }
 }
 
@@ -188,6 +203,9 @@ impl Sizes {
         margin: 1073741823,
         row: 864,
         state: 16 * 864 + 67,
+        lent_a: 864 * 864,
+        open_bytes: 2 * 25 * 1024,
+        answer_bytes: 3 * 25 * 1024 + 256,
     };
 }
 

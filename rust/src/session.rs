@@ -67,7 +67,9 @@ impl Stage {
 /// | call | allowed | leads to |
 /// |---|---|---|
 /// | [`offer`](Session::offer) | idle | offered with that scheme |
+/// | [`open`](Session::open) | idle | offered with that scheme |
 /// | [`reply`](Session::reply) | idle | keyed with that scheme, its key |
+/// | [`answer`](Session::answer) | idle | keyed with that scheme, its key |
 /// | [`finish`](Session::finish) | offered, with that scheme | keyed with that scheme, its key |
 /// | [`close`](Session::close) | always | idle, key zero |
 ///
@@ -99,7 +101,7 @@ impl Stage {
 /// ```
 #[must_use]
 pub struct Session<'b> {
-    bytes: &'b mut [u8; SESSION],
+    pub(crate) bytes: &'b mut [u8; SESSION],
     /// By a rack, and so not closed when it is dropped. It is told here and not by
     /// a type around the session, so that it stays with the bytes when two sessions
     /// are swapped.

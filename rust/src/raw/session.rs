@@ -5,7 +5,7 @@
 //! anything else is tested; so is a buffer that is in no stage. A refused call
 //! changes no byte of the session.
 
-use super::{count, ffi, scrub_depth, stack, Finished, Replied};
+use super::{count, ffi, scrub_depth, stack, Finished, Opened, Replied};
 use crate::Refusal;
 
 /// [`offer`](super::offer) when idle, which leads to offered with that scheme.
@@ -69,6 +69,53 @@ pub fn finish(
     let written = call!(wim_session_finish(session; scheme; reply, s; key, digest)
         key_written, digest_written, slack, slack_index)?;
     Ok(Finished::of(written))
+}
+
+/// [`open`](super::open) when idle, which leads to offered with that scheme.
+///
+/// # Errors
+///
+/// Refuses with 10, and then as [`open`](super::open) does.
+#[allow(clippy::too_many_arguments)]
+pub fn open(
+    session: &mut [u8],
+    scheme: u32,
+    rule: u32,
+    a: &[u32],
+    table: &[u64],
+    random: &[u8],
+    opening: &mut [u8],
+    s: &mut [i32],
+) -> Result<Opened, Refusal> {
+    let written = call!(wim_session_open(session; scheme, rule; a, table, random; opening, s)
+        opening_written, s_written)?;
+    Ok(Opened::of(written))
+}
+
+/// [`answer`](super::answer) when idle, which leads to keyed with that scheme and
+/// its key.
+///
+/// # Errors
+///
+/// Refuses with 10, and then as [`answer`](super::answer) does.
+#[allow(clippy::too_many_arguments)]
+pub fn answer(
+    session: &mut [u8],
+    scheme: u32,
+    rule: u32,
+    opening: &[u8],
+    a: &[u32],
+    table: &[u64],
+    random: &[u8],
+    message: &mut [u8],
+    key: &mut [u8],
+    digest: &mut [u8],
+) -> Result<Replied, Refusal> {
+    let written = call!(
+        wim_session_answer(
+            session; scheme, rule; opening, a, table, random; message, key, digest)
+            message_written, key_written, digest_written)?;
+    Ok(Replied::of(written))
 }
 
 /// Zeroes the session, whatever it holds and however long it is: it is idle.

@@ -17,6 +17,7 @@ mod standards;
 
 mod calls;
 mod damage;
+mod drawn;
 mod held;
 mod lent;
 mod links;

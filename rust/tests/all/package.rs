@@ -90,7 +90,7 @@ fn one_unsafe_block_for_all_calls() {
     let calls = lines
         .iter()
         .filter(|l| l.contains("ask!(wim_") || l.contains("call!("));
-    assert_eq!(calls.count(), 26);
+    assert_eq!(calls.count(), 30);
     let blocks = lines.iter().filter(|line| line.contains("unsafe {"));
     assert_eq!(blocks.count(), 10);
 }

@@ -37,6 +37,9 @@ fn expected(s: &Scheme) -> Vec<(&'static str, u64)> {
         ("MARGIN", margin(s)),
         ("ROW", by_rows(s, |s| s.n)),
         ("STATE", by_rows(s, second::rows::state_count)),
+        ("LENT_A", second::calls::lent_public(s) as u64),
+        ("OPEN_BYTES", second::calls::open_bytes(s) as u64),
+        ("ANSWER_BYTES", second::calls::answer_bytes(s) as u64),
     ]
 }
 
@@ -138,6 +141,9 @@ fn of_the_archive() {
             margin: told.margin,
             row: told.row,
             state: told.state,
+            lent_a: told.lent_a,
+            open_bytes: told.open_bytes,
+            answer_bytes: told.answer_bytes,
         };
         assert_eq!(sizes, scheme.sizes());
     }
@@ -178,6 +184,9 @@ fn of_this_package() {
             ("TABLE", sizes.table),
             ("ROW", sizes.row),
             ("STATE", sizes.state),
+            ("LENT_A", sizes.lent_a),
+            ("OPEN_BYTES", sizes.open_bytes),
+            ("ANSWER_BYTES", sizes.answer_bytes),
         ];
         for (name, count) in counts {
             assert_eq!(of(name), count as u64, "{prefix}_{name}");
