@@ -46,12 +46,20 @@ def constants():
     assert w.cpu() in ("x86-64", "x86-64-v3", "aarch64")
 
 
+def cut(random, *counts):
+    """Random bytes in parts, which are all of them."""
+    assert sum(counts) == len(random)
+    return [random[sum(counts[:k]):][:count] for k, count in enumerate(counts)]
+
+
 def exchange(scheme):
-    """Both ends, plain, by rows where there are rows, on a session and in a rack."""
+    """Both ends, plain, from random bytes, by rows where there are rows, on sessions, in a rack."""
     of = w.sizes(scheme)
-    seed, coins = os.urandom(of.seed), os.urandom(of.coins)
-    s, e, s1, e1 = (w.noise(scheme, os.urandom(of.s_bytes)) for _ in range(4))
-    e2 = w.noise(scheme, os.urandom(of.e2_bytes))
+    first, second = os.urandom(of.open_bytes), os.urandom(of.answer_bytes)
+    seed, *rest = cut(first, of.seed, of.s_bytes, of.s_bytes)
+    s, e = (w.noise(scheme, part) for part in rest)
+    *rest, coins = cut(second, of.s_bytes, of.s_bytes, of.e2_bytes, of.coins)
+    s1, e1, e2 = (w.noise(scheme, part) for part in rest)
     assert max(map(abs, [*s, *e, *s1, *e1, *e2])) <= of.noise
     if scheme == w.NEWHOPE:
         a = w.grow(w.RULE_WHOLE_WORD, seed)
@@ -69,6 +77,10 @@ def exchange(scheme):
     assert w.same(replied.digest, finished.digest) == agree
     assert len(opening) == of.opening and len(replied.message) == of.reply
     assert len(replied.key) == of.key and isinstance(replied.key, bytearray)
+    lent, rule = a[:of.lent_a], w.RULE_WHOLE_WORD
+    assert w.open(scheme, rule, lent, first) == (opening, s)
+    assert w.answer(scheme, rule, opening, lent, second) == replied
+    assert refused(12, w.open, scheme, 15, lent, first)
     # any sequence is taken
     assert w.offer(scheme, list(a), tuple(s), list(e), bytearray(seed)) == opening
 
@@ -94,6 +106,11 @@ def exchange(scheme):
     assert refused(10, w.session_offer, left, scheme, a, s, e, seed)
     w.session_close(left)
     assert not any(left)
+    assert w.session_open(left, scheme, rule, lent, first) == (opening, s)
+    assert refused(10, w.session_answer, left, scheme, rule, opening, lent, second)
+    w.session_close(right)
+    assert w.session_answer(right, scheme, rule, opening, lent, second) == replied
+    assert right[w.SESSION_KEY:][:of.key] == replied.key
 
     rack = bytearray(w.RACK)
     assert refused(10, w.rack_offer, rack, 3, scheme, a, s, e, seed)

@@ -6,16 +6,10 @@ of numbers are any sequence, and what comes back of them is an array; secrets an
 and bytearrays, which wipe() zeroes. Both ends of one exchange by NewHope, from random bytes:
 
 >>> import os
->>> n = sizes(NEWHOPE)
->>> def secret(count):
-...     return noise(NEWHOPE, os.urandom(count))
->>> seed = os.urandom(n.seed)
->>> a = grow(RULE_LOW_BITS, seed)                                       # at both ends
->>> s = secret(n.s_bytes)                                               # the initiator
->>> opening = offer(NEWHOPE, a, s, secret(n.s_bytes), seed)
->>> s1, e1, e2 = (secret(count) for count in (n.s_bytes, n.s_bytes, n.e2_bytes))
->>> replied = reply(NEWHOPE, opening, a, s1, e1, e2, os.urandom(n.coins))   # the replier
->>> finished = finish(NEWHOPE, replied.message, s)                      # the initiator's key
+>>> n, rule = sizes(NEWHOPE), RULE_LOW_BITS
+>>> opening, s = open(NEWHOPE, rule, (), os.urandom(n.open_bytes))              # the initiator
+>>> replied = answer(NEWHOPE, rule, opening, (), os.urandom(n.answer_bytes))    # the replier
+>>> finished = finish(NEWHOPE, replied.message, s)                              # the initiator
 >>> same(finished.digest, replied.digest)
 True
 >>> wipe(s)
@@ -36,7 +30,7 @@ import typing
 from array import array
 from typing import Iterable, NamedTuple, Optional, Sequence, Union
 
-VERSION = "0.3.0"
+VERSION = "0.4.0"
 
 BCNS, NEWHOPE, FRODO_CHALLENGE, FRODO_CLASSICAL, FRODO_RECOMMENDED, FRODO_PARANOID = range(6)
 RULE_LOW_BITS, RULE_WHOLE_WORD = 14, 16
@@ -54,6 +48,10 @@ reply            ; scheme; opening B, a I, s1 i, e1 i, e2 i, coins B; message B,
                  message_written, key_written, digest_written
 finish           ; scheme; reply B, s i; key B, digest B;
                  key_written, digest_written, slack, slack_index
+open             ; scheme, rule; a I, table Q, random B; opening B, s i;
+                 opening_written, s_written
+answer           ; scheme, rule; opening B, a I, table Q, random B; message B, key B, digest B;
+                 message_written, key_written, digest_written
 noise            ; scheme; bytes B, table Q; out i; written
 expand           ; rule; stream B; out I; written
 grow             ; rule; seed B; out I; written
@@ -74,6 +72,10 @@ session_reply    session B; scheme; opening B, a I, s1 i, e1 i, e2 i, coins B;
                  message B, key B, digest B; message_written, key_written, digest_written
 session_finish   session B; scheme; reply B, s i; key B, digest B;
                  key_written, digest_written, slack, slack_index
+session_open     session B; scheme, rule; a I, table Q, random B; opening B, s i;
+                 opening_written, s_written
+session_answer   session B; scheme, rule; opening B, a I, table Q, random B;
+                 message B, key B, digest B; message_written, key_written, digest_written
 session_close    session B; ; ; ;
 rack_offer       rack B; studio, scheme; a I, s i, e i, seed B; message B; written
 rack_reply       rack B; studio, scheme; opening B, a I, s1 i, e1 i, e2 i, coins B;
@@ -112,13 +114,17 @@ class Sizes(ctypes.Structure):
     margin: int
     row: int
     state: int
+    lent_a: int
+    open_bytes: int
+    answer_bytes: int
     _fields_ = [("name", ctypes.c_char_p), ("number", ctypes.c_uint32), ("q", ctypes.c_uint32),
                 ("noise", ctypes.c_int32), ("a", ctypes.c_size_t), ("s", ctypes.c_size_t),
                 ("e2", ctypes.c_size_t), ("seed", ctypes.c_size_t), ("coins", ctypes.c_size_t),
                 ("opening", ctypes.c_size_t), ("reply", ctypes.c_size_t), ("key", ctypes.c_size_t),
                 ("s_bytes", ctypes.c_size_t), ("e2_bytes", ctypes.c_size_t),
                 ("table", ctypes.c_size_t), ("margin", ctypes.c_uint64), ("row", ctypes.c_size_t),
-                ("state", ctypes.c_size_t)]
+                ("state", ctypes.c_size_t), ("lent_a", ctypes.c_size_t),
+                ("open_bytes", ctypes.c_size_t), ("answer_bytes", ctypes.c_size_t)]
 
 
 class Refused(Exception):
@@ -132,8 +138,14 @@ class Refused(Exception):
         self.newer = newer
 
 
+class Opened(NamedTuple):
+    """What an open gives."""
+    opening: bytes
+    s: "array[int]"
+
+
 class Replied(NamedTuple):
-    """What a reply gives."""
+    """What a reply or an answer gives."""
     message: bytes
     key: bytearray
     digest: bytes
@@ -294,11 +306,27 @@ def same(a: Bytes, b: Bytes) -> bool:
     return len(a) == len(b) and _library.wim_same(bytes(a), bytes(b), len(a)) == 1
 
 
+def open(scheme: int, rule: int, a: Numbers, random: Bytes,
+         table: Optional[Numbers] = None) -> Opened:
+    """The opening message and s, from sizes(scheme).open_bytes random bytes. a is empty in NewHope;
+    the table is BCNS's, bcns_table where none is given."""
+    of = _sizes(scheme)
+    return _opened(_calls["open"](scheme, rule, a, _table(of, table), random, of.opening, of.s))
+
+
+def answer(scheme: int, rule: int, opening: Bytes, a: Numbers, random: Bytes,
+           table: Optional[Numbers] = None) -> Replied:
+    """The reply message, the replier's key and its digest, from sizes(scheme).answer_bytes random
+    bytes; a and the table as in open."""
+    of = _sizes(scheme)
+    return _replied(_calls["answer"](scheme, rule, opening, a, _table(of, table), random, of.reply,
+                                     of.key, DIGEST))
+
+
 def noise(scheme: int, random: Bytes, table: Optional[Numbers] = None) -> "array[int]":
     """s, e, s' or e', or e'', from random bytes; in BCNS by bcns_table where none is given."""
     of = _sizes(scheme)
-    if table is None:
-        table = bcns_table[:of.table]
+    table = _table(of, table)
     count = {of.s_bytes: of.s, of.e2_bytes: of.e2}.get(len(random), 0)
     (out,), _ = _calls["noise"](scheme, random, table, count)
     return typing.cast("array[int]", out)
@@ -412,6 +440,22 @@ def session_finish(session: bytearray, scheme: int, message: Bytes, s: Numbers) 
     return _finished(_calls["session_finish"](session, scheme, message, s, key, DIGEST))
 
 
+def session_open(session: bytearray, scheme: int, rule: int, a: Numbers, random: Bytes,
+                 table: Optional[Numbers] = None) -> Opened:
+    """open on a session."""
+    of = _sizes(scheme)
+    return _opened(_calls["session_open"](session, scheme, rule, a, _table(of, table), random,
+                                          of.opening, of.s))
+
+
+def session_answer(session: bytearray, scheme: int, rule: int, opening: Bytes, a: Numbers,
+                   random: Bytes, table: Optional[Numbers] = None) -> Replied:
+    """answer on a session."""
+    of = _sizes(scheme)
+    return _replied(_calls["session_answer"](session, scheme, rule, opening, a, _table(of, table),
+                                             random, of.reply, of.key, DIGEST))
+
+
 def session_close(session: bytearray) -> None:
     """Zeroes the session."""
     _calls["session_close"](session)
@@ -459,6 +503,15 @@ def settings_write(scheme: int, rule: int, label: str = "") -> bytes:
     """The text of settings, in the oldest format that holds them."""
     (text,), (written,) = _calls["settings_write"](scheme, rule, label.encode(), SETTINGS_TEXT)
     return bytes(text[:written])
+
+
+def _table(of: Sizes, table: Optional[Numbers]) -> Numbers:
+    return bcns_table[:of.table] if table is None else table
+
+
+def _opened(answer: tuple[list[typing.Any], list[int]]) -> Opened:
+    opening, s = answer[0]
+    return Opened(bytes(opening), s)
 
 
 def _replied(answer: tuple[list[typing.Any], list[int]]) -> Replied:
