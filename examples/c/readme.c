@@ -1,54 +1,25 @@
-/* One exchange by NewHope, with both boxes in one program. */
+/* One exchange by NewHope, from random bytes to two digests, with both boxes in one program. */
 #include <stdio.h>
 #include <wimmostry.h>
-
-enum { N = WIM_NEWHOPE_S, NEWHOPE = WIM_NEWHOPE, RULE = WIM_RULE_LOW_BITS };
-static uint64_t place, n, key_n, digest_n; /* where a refusal is, and how long answers are */
-static uint64_t slack, slack_index;        /* how near to failing: in NewHope always 0 */
-
-/* s, e, s', e' or e'' from the system's random bytes. */
-static uint32_t draw(FILE *random, int32_t *out)
-{
-    uint8_t bytes[WIM_NEWHOPE_S_BYTES];
-
-    return fread(bytes, sizeof bytes, 1, random) != 1
-               ? WIM_LENGTH
-               : wim_noise(NEWHOPE, bytes, sizeof bytes, NULL, 0, out, N, &place, &n);
-}
-
+#define ROOM(X) X, sizeof X
+#define NONE NULL, 0 /* NewHope grows its public numbers, and has no table */
+enum { NEWHOPE = WIM_NEWHOPE, RULE = WIM_RULE_LOW_BITS, S = WIM_NEWHOPE_S };
 int main(void)
 {
-    static uint32_t a[N];
-    static int32_t s[N], e[N], s1[N], e1[N], e2[N];
-    static uint8_t seed[WIM_NEWHOPE_SEED], coins[WIM_NEWHOPE_COINS];
-    static uint8_t opening[WIM_NEWHOPE_OPENING], reply[WIM_NEWHOPE_REPLY];
-    static uint8_t key[WIM_NEWHOPE_KEY], digest[WIM_DIGEST], peer_digest[WIM_DIGEST];
+    static uint8_t first[WIM_NEWHOPE_OPEN_BYTES], second[WIM_NEWHOPE_ANSWER_BYTES];
+    static uint8_t opening[WIM_NEWHOPE_OPENING], reply[WIM_NEWHOPE_REPLY], key[WIM_NEWHOPE_KEY];
+    static uint8_t digest[WIM_DIGEST], peer[WIM_DIGEST];
+    static int32_t s[S];
+    uint64_t place, n, m, k, slack, at; /* where a refusal is, how long answers are, the slack */
     FILE *random = fopen("/dev/urandom", "rb");
-    uint32_t no;
-
-    if (random == NULL || fread(seed, sizeof seed, 1, random) != 1 ||
-        fread(coins, sizeof coins, 1, random) != 1)
-        return 1;
-    if (/* a, which both boxes grow from the seed; */
-        (no = wim_grow(RULE, seed, sizeof seed, a, N, &place, &n)) != WIM_DONE ||
-        /* the initiator's opening; */
-        (no = draw(random, s)) != WIM_DONE || (no = draw(random, e)) != WIM_DONE ||
-        (no = wim_offer(NEWHOPE, a, N, s, N, e, N, seed, sizeof seed, opening, sizeof opening,
-                        &place, &n)) != WIM_DONE ||
-        /* the replier's reply, key and digest; */
-        (no = draw(random, s1)) != WIM_DONE || (no = draw(random, e1)) != WIM_DONE ||
-        (no = draw(random, e2)) != WIM_DONE ||
-        (no = wim_reply(NEWHOPE, opening, sizeof opening, a, N, s1, N, e1, N, e2, N, coins,
-                        sizeof coins, reply, sizeof reply, key, sizeof key, digest, sizeof digest,
-                        &place, &n, &key_n, &digest_n)) != WIM_DONE ||
-        /* the initiator's, in the same room */
-        (no = wim_finish(NEWHOPE, reply, sizeof reply, s, N, key, sizeof key, peer_digest,
-                         sizeof peer_digest, &place, &key_n, &digest_n, &slack, &slack_index)) !=
-            WIM_DONE)
-        fprintf(stderr, "refused: %s\n", wim_refusal_text(no));
-    else
-        puts(wim_same(digest, peer_digest, WIM_DIGEST) ? "the keys agree" : "the keys differ");
-    wim_wipe(s, sizeof s); /* and so all other secrets, and the key once it was used */
-    wim_scrub();           /* what the calls left of secrets on the stack */
-    return no == WIM_DONE ? 0 : 1;
+    if (!random || fread(ROOM(first), 1, random) != 1 || fread(ROOM(second), 1, random) != 1 ||
+        wim_open(NEWHOPE, RULE, NONE, NONE, ROOM(first), ROOM(opening), s, S, &place, &n, &m) ||
+        wim_answer(NEWHOPE, RULE, ROOM(opening), NONE, NONE, ROOM(second), ROOM(reply), ROOM(key),
+                   ROOM(digest), &place, &n, &m, &k) ||
+        wim_finish(NEWHOPE, ROOM(reply), s, S, ROOM(key), ROOM(peer), &place, &n, &m, &slack, &at))
+        return 1; /* each call returns 0 or a refusal, of which wim_refusal_text tells */
+    puts(wim_same(digest, peer, WIM_DIGEST) ? "the keys agree" : "the keys differ");
+    wim_wipe(ROOM(s)); /* and so the random bytes, and the key once it was used */
+    wim_scrub();       /* what the calls left of secrets on the stack */
+    return 0;
 }
