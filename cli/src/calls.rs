@@ -263,6 +263,65 @@ pub fn session_finish(
     }))
 }
 
+/// What the calls from random bytes on a session are lent: the scheme's number, the
+/// rule's, the public numbers, which NewHope has none of, and the random bytes. BCNS's
+/// table is the archive's.
+pub struct Drawn<'a> {
+    pub scheme: u32,
+    pub rule: u32,
+    pub a: &'a [u32],
+    pub random: &'a [u8],
+}
+
+impl Drawn<'_> {
+    fn table(&self) -> &'static [u64] {
+        &wimmostry::BCNS_TABLE[..sizes(self.scheme).map_or(0, |sizes| sizes.table)]
+    }
+}
+
+/// The opening, and s.
+pub fn session_open(
+    session: &mut [u8],
+    lent: &Drawn,
+    opening: &mut Data,
+    s: &mut Data,
+) -> Result<Answer, Refused> {
+    let done = raw::session::open(
+        session,
+        lent.scheme,
+        lent.rule,
+        lent.a,
+        lent.table(),
+        lent.random,
+        opening.bytes_mut(),
+        s.values_mut(),
+    );
+    ended(done.map(|n| Answer::written(&[n.opening, n.s])))
+}
+
+/// The reply; the key stays in the session.
+pub fn session_answer(
+    session: &mut [u8],
+    lent: &Drawn,
+    opening: &Data,
+    reply: &mut Data,
+) -> Result<Answer, Refused> {
+    let (mut key, mut digest) = (Wiped::zeros(SESSION_KEY), Wiped::zeros(DIGEST));
+    let done = raw::session::answer(
+        session,
+        lent.scheme,
+        lent.rule,
+        opening.bytes(),
+        lent.a,
+        lent.table(),
+        lent.random,
+        reply.bytes_mut(),
+        &mut key,
+        &mut digest,
+    );
+    ended(done.map(|n| Answer::written(&[n.message])))
+}
+
 /// The key of a session that is keyed, and its digest.
 pub fn session_key(
     session: &mut [u8],

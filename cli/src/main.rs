@@ -10,7 +10,6 @@ mod escape;
 mod explain;
 mod files;
 mod fresh;
-mod from_random;
 mod guard;
 mod help;
 mod json;

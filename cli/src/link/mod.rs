@@ -8,14 +8,13 @@ mod told;
 
 pub use texts::*;
 
-use crate::calls::{self, Sizes, IDLE, KEYED, OFFERED};
-use crate::data::{Data, Kind};
+use crate::calls::{self, Drawn, Sizes, IDLE, KEYED, OFFERED};
+use crate::data::{Data, Kind, Wiped};
 use crate::draw::NEWHOPE;
 use crate::escape::shown;
 use crate::explain;
 use crate::files::{self, Named};
 use crate::fresh::Mode;
-use crate::from_random;
 use crate::outputs::{self, Answer};
 use crate::public;
 use crate::random;
@@ -65,18 +64,12 @@ fn path(word: &OsStr) -> Result<PathBuf, Fault> {
     }
 }
 
-/// What the calls from random bytes are lent: but in NewHope, where they grow
-/// themselves, the public numbers, which Frodo makes of the seed.
-fn lent<'a>(scheme: u32, rule: u32, sizes: &'a Sizes, seed: &[u8]) -> from_random::Lent<'a> {
-    let a = match scheme {
-        NEWHOPE => Data::zeros(Kind::Numbers, 0),
-        _ => Data::Numbers(public::numbers(scheme, sizes, seed)),
-    };
-    from_random::Lent {
-        scheme,
-        rule,
-        sizes,
-        a,
+/// The public numbers that the calls are lent, which Frodo makes of the seed; in NewHope
+/// none, since they grow inside.
+fn public(scheme: u32, sizes: &Sizes, seed: &[u8]) -> Wiped<u32> {
+    match scheme {
+        NEWHOPE => Wiped::zeros(0),
+        _ => public::numbers(scheme, sizes, seed),
     }
 }
 
@@ -98,9 +91,16 @@ pub fn open(given: &[OsString]) -> Done {
         }
         Stage::Keyed(_) => return Err(expected(KEYED, IDLE)),
     }
-    let random = random::bytes(from_random::open_bytes(&sizes))?;
-    let lent = lent(scheme, rule, &sizes, &random[..sizes.seed]);
-    let (opening, s) = from_random::open(&mut folder.session, &lent, &random)
+    let random = random::bytes(sizes.open_bytes)?;
+    let lent = Drawn {
+        scheme,
+        rule,
+        a: &public(scheme, &sizes, &random[..sizes.seed]),
+        random: &random,
+    };
+    let mut opening = Data::zeros(Kind::Bytes, sizes.opening);
+    let mut s = Data::zeros(Kind::Values, sizes.s);
+    calls::session_open(&mut folder.session, &lent, &mut opening, &mut s)
         .map_err(|x| tell::refused(x.number, x.place, None))?;
     let told = Told {
         end: End::Opener,
@@ -145,10 +145,16 @@ pub fn answer(given: &[OsString]) -> Done {
         Stage::Offered(_) => return Err(expected(OFFERED, IDLE)),
         Stage::Keyed(_) => return again(&folder, End::Replier, &opening, IDLE),
     }
-    let random = random::bytes(from_random::answer_bytes(&sizes))?;
-    let lent = lent(scheme, rule, &sizes, &opening.data.bytes()[..sizes.seed]);
-    let reply = from_random::answer(&mut folder.session, &lent, &opening.data, &random);
-    let reply = reply.map_err(|x| {
+    let random = random::bytes(sizes.answer_bytes)?;
+    let lent = Drawn {
+        scheme,
+        rule,
+        a: &public(scheme, &sizes, &opening.data.bytes()[..sizes.seed]),
+        random: &random,
+    };
+    let mut reply = Data::zeros(Kind::Bytes, sizes.reply);
+    let answered = calls::session_answer(&mut folder.session, &lent, &opening.data, &mut reply);
+    answered.map_err(|x| {
         let detail = explain::refusal(&REPLIES, scheme, x, std::slice::from_ref(&opening));
         tell::refused(x.number, x.place, detail)
     })?;
