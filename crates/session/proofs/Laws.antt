@@ -10,35 +10,27 @@
 --   offer-stops                     what a refusal ahead of Offer shows; so of the others
 --   offer-refused, offer-done       Offer: a refusal of the call beneath, and its answer; reply-given, finish-given: so of the others
 --   close-moves                     Close
-use mathlib.Core.Path.{_≡_, refl, _∙_, sym, ap}
-use mathlib.Core.Bool.{true, false}
+use mathlib.Core.{Path._≡_, Path.refl, Path._∙_, Path.sym, Path.ap, Bool.true, Bool.false}
 use mathlib.Core.List.{List, [], _++_}
 use Prim.Native.Nat.{ℕ, _-_, _≤_}
 use native.Mathlib.Omega.{arith}
 use native.Mathlib.Nat.{sub-zero}
-use lib.ListN.{length, take, drop, length-take}
-use lib.Seq.{length-take-le}
-use Rattle.schemes.specs.Schemes.{schemeOf}
-use Rattle.schemes.specs.declared.Named.{Named}
+use lib.{ListN.length, ListN.take, ListN.drop, ListN.length-take, Seq.length-take-le}
+use Rattle.schemes.specs.{Schemes.schemeOf, declared.Named.Named}
 use Rattle.schemes.specs.declared.Named.the-variants.{Known, Unknown}
 use Rattle.schemes.proofs.Sound.{sound}
 use Rattle.lists.proofs.Parts.{drop-same}
-use Rattle.refusals.specs.Refusals.{numberOf, numberIn}
-use Rattle.refusals.specs.declared.Answer.{Answer}
+use Rattle.refusals.specs.{Refusals.numberOf, Refusals.numberIn, declared.Answer.Answer}
 use Rattle.refusals.specs.Seen.{ifPassed, Output, output, written, answer, Seen, shown, told, seen}
-use Rattle.refusals.specs.declared.Refusal.{Refusal}
-use Rattle.refusals.specs.declared.Refusal.the-variants.{OutOfStage}
+use Rattle.refusals.specs.{declared.Refusal.Refusal, declared.Refusal.the-variants.OutOfStage}
 use Rattle.refusals.specs.declared.Verdict.{Verdict}
 use Rattle.refusals.specs.declared.Verdict.the-variants.{Pass, Fail}
-use Rattle.refusals.proofs.Laws.{some, number-zero}
-use Rattle.refusals.proofs.Seen.{written-answer}
+use Rattle.refusals.proofs.{Laws.some, Laws.number-zero, Seen.written-answer}
 use Rattle.offer.specs.Offer.{Offer, offerResult}
 use Rattle.reply.specs.Reply.{Reply, ReplyRooms, ReplySeen, replyKey, replyTold, replySeen, outputs, replyResult}
 use Rattle.finish.specs.Finish.{Finish, FinishRooms, FinishSeen, finishKey, finishOf, finishTold, finishSeen, finishShown, finishResult}
-use Rattle.reply.specs.declared.ReplyAnswer.{ReplyAnswer}
-use Rattle.reply.specs.declared.ReplyCounts.{ReplyCounts}
-use Rattle.finish.specs.declared.FinishCounts.{FinishCounts}
-use Rattle.finish.specs.declared.FinishAnswer.{FinishAnswer}
+use Rattle.reply.specs.{declared.ReplyAnswer.ReplyAnswer, declared.ReplyCounts.ReplyCounts}
+use Rattle.finish.specs.{declared.FinishCounts.FinishCounts, declared.FinishAnswer.FinishAnswer}
 use Rattle.reply.proofs.Replying.{key-length}
 use Rattle.finish.proofs.Finishing as finishes
 use Rattle.session.specs.declared.Session.{Session}

@@ -3,36 +3,28 @@
 --   open-stops, open-refused, open-done   open: 10, a refusal of the call beneath, and its answer
 --   answer-stops, answer-refused, answer-done   so of answer; answer-fits: its key has a place of 128 bytes
 --   opens, answers, kept                  the theorems of specs/Drawn
-use mathlib.Core.Path.{_≡_, refl, _∙_, sym, ap}
+use mathlib.Core.{Path._≡_, Path.refl, Path._∙_, Path.sym, Path.ap, List.List, List.[]}
 use mathlib.Core.Bool.{true, false, cond}
-use mathlib.Core.List.{List, []}
 use Prim.Native.Nat.{ℕ, _≤_}
 use native.Mathlib.Omega.{arith}
-use lib.ListN.{length, take}
-use lib.IntN.{ℤ}
-use Rattle.schemes.specs.Schemes.{schemeOf}
-use Rattle.schemes.specs.declared.Named.{Named}
+use lib.{ListN.length, ListN.take, IntN.ℤ}
+use Rattle.schemes.specs.{Schemes.schemeOf, declared.Named.Named}
 use Rattle.schemes.specs.declared.Named.the-variants.{Unknown}
-use Rattle.refusals.specs.Refusals.{numberIn}
-use Rattle.refusals.specs.Seen.{ifPassed, output, written, shown}
-use Rattle.refusals.specs.declared.Refusal.{Refusal}
-use Rattle.refusals.specs.declared.Refusal.the-variants.{OutOfStage}
+use Rattle.refusals.specs.{Refusals.numberIn, Seen.ifPassed, Seen.output, Seen.written, Seen.shown}
+use Rattle.refusals.specs.{declared.Refusal.Refusal, declared.Refusal.the-variants.OutOfStage}
 use Rattle.refusals.specs.declared.Verdict.{Verdict}
 use Rattle.refusals.specs.declared.Verdict.the-variants.{Pass, Fail}
 use Rattle.refusals.proofs.Laws.{differ, number-zero}
 use Rattle.noise.specs.declared.Ruled.{Ruled}
 use Rattle.reply.specs.Reply.{ReplyRooms, ReplySeen, replyKey, outputs, replyTold, replySeen}
-use Rattle.reply.specs.declared.ReplyAnswer.{ReplyAnswer}
-use Rattle.reply.specs.declared.ReplyCounts.{ReplyCounts}
+use Rattle.reply.specs.{declared.ReplyAnswer.ReplyAnswer, declared.ReplyCounts.ReplyCounts}
 use Rattle.exchange.specs.Open.{OpenLent, OpenRooms, OpenSeen, openTests, openShown, openResult, openLentOf, openTold, openSeen}
 use Rattle.exchange.specs.Answer.{AnswerLent, answerReply, answerTests, answerShown, answerResult}
 use Rattle.exchange.proofs.Shown.{open-offers, answer-replies}
-use Rattle.exchange.specs.declared.OpenCounts.{OpenCounts}
-use Rattle.exchange.specs.declared.OpenAnswer.{OpenAnswer}
+use Rattle.exchange.specs.{declared.OpenCounts.OpenCounts, declared.OpenAnswer.OpenAnswer}
 use Rattle.session.specs.declared.Stage.the-variants.{Idle, Offered, Keyed}
-use Rattle.session.specs.declared.Session.{Session}
+use Rattle.session.specs.{declared.Session.Session, Seen.shownBy, Seen.moved}
 use Rattle.session.specs.Table.{offered, keyed, row, outcome, step}
-use Rattle.session.specs.Seen.{shownBy, moved}
 use Rattle.session.proofs.Laws.{stays, reply-key-few, whole, placed}
 use Rattle.session_bytes.specs.declared.Found.{Found}
 use Rattle.session_bytes.specs.declared.Found.the-variants.{At, Nowhere}

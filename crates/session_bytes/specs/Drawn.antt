@@ -7,16 +7,12 @@
 --   Opens      an open that refuses nothing leaves the buffer and shows the message that Offer leaves and shows there, lent what open makes of the random bytes
 --   Answers    so of answer and Reply
 --   Stays      a refused open or answer leaves the buffer as it was
-use mathlib.Core.Path.{_≡_}
-use mathlib.Core.Bool.{Bool, false, cond}
-use mathlib.Core.List.{List}
+use mathlib.Core.{Path._≡_, Bool.Bool, Bool.false, Bool.cond, List.List}
 use Prim.Native.Nat.{ℕ}
 use Rattle.schemes.specs.Schemes.{schemeOf}
-use Rattle.lists.specs.Entries.{Below}
-use Rattle.refusals.specs.Seen.{ifPassed}
-use Rattle.refusals.specs.declared.Refusal.the-variants.{OutOfStage}
-use Rattle.refusals.specs.declared.Verdict.{Verdict}
-use Rattle.refusals.specs.declared.Verdict.the-variants.{Fail}
+use Rattle.lists.specs.Ranges.{Below}
+use Rattle.refusals.specs.{Seen.ifPassed, declared.Refusal.the-variants.OutOfStage}
+use Rattle.refusals.specs.{declared.Verdict.Verdict, declared.Verdict.the-variants.Fail}
 use Rattle.noise.specs.declared.Ruled.{Ruled}
 use Rattle.reply.specs.Reply.{ReplyRooms, ReplySeen, replyKey}
 use Rattle.exchange.specs.Open.{OpenLent, OpenRooms, OpenSeen, openOffer, openTests, openShown}

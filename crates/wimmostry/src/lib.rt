@@ -16,12 +16,10 @@ ghost use Rattle.bench.specs.Bench.{bench, benchResult};
 ghost use Rattle.settings.specs.Settings.{setupOf};
 ghost use Rattle.settings.specs.Calls.{writeResult, readOf, readResult, readSeen};
 
+mod by_rows;
 mod drawn;
 mod racks;
 mod sessions;
-
-
-mod by_rows;
 
 // Offer: the opening message, from the public numbers a, the secret s, the noise e and the seed.
 #[no_mangle]
