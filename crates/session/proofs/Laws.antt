@@ -1,6 +1,7 @@
 -- The promise of each call on a session, from what the call beneath promises.
 --   shown-number                    the number that a call shows is its verdict's
 --   stays                           what a call with a refusal does not change
+--   bars, allows                    what the code's test of the stage says of the row
 --   turned, refuses, accepts        any call: 10, another refusal, accepted
 --   reply-key-few, finish-key-few   a key has a place of 128 bytes
 --   kept-law                        so many bytes of an output, copied into zeros
@@ -10,12 +11,14 @@
 --   offer-stops                     what a refusal ahead of Offer shows; so of the others
 --   offer-refused, offer-done       Offer: a refusal of the call beneath, and its answer; reply-given, finish-given: so of the others
 --   close-moves                     Close
-use mathlib.Core.{Path._≡_, Path.refl, Path._∙_, Path.sym, Path.ap, Bool.true, Bool.false}
+use mathlib.Core.Path.{_≡_, refl, _∙_, sym, ap}
+use mathlib.Core.Bool.{Bool, true, false, not}
 use mathlib.Core.List.{List, [], _++_}
 use Prim.Native.Nat.{ℕ, _-_, _≤_}
 use native.Mathlib.Omega.{arith}
 use native.Mathlib.Nat.{sub-zero}
 use lib.{ListN.length, ListN.take, ListN.drop, ListN.length-take, Seq.length-take-le}
+use borrow.Author.Tests.{not-true, not-false}
 use Rattle.schemes.specs.{Schemes.schemeOf, declared.Named.Named}
 use Rattle.schemes.specs.declared.Named.the-variants.{Known, Unknown}
 use Rattle.schemes.proofs.Sound.{sound}
@@ -49,6 +52,12 @@ shown-number v closing = refl
 pub stays : {A : Type 0} (v : Verdict) (r : Refusal) (y z : A) → numberOf r ≡ numberIn v → y ≡ ifPassed v z y
 stays Pass r y z e = absurd (omega (arith, some r))
 stays (Fail q) r y z e = refl
+
+pub bars : {a b : Bool} → a ≡ b → not a ≡ true → b ≡ false
+bars e f = sym e ∙ not-true _ f
+
+pub allows : {a b : Bool} → a ≡ b → not a ≡ false → b ≡ true
+allows e f = sym e ∙ not-false _ f
 
 module _ (y : Session) (x : Call) {t : CallSeen} where
   pub turned : row x .allowed (y .stage) ≡ false → t ≡ shownBy (Fail OutOfStage) x → turn y t ≡ moved y x
