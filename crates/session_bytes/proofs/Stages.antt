@@ -58,26 +58,27 @@ pub staged-short : (bs : List ℕ) → (length bs ≡ 130 → ⊥) → Nowhere �
 unfolding staged
 staged-short bs h = rw (ne-eqb (length bs) 130 h)
 
-pub staged-none : (bs : List ℕ) → length bs ≡ 130 → stageIn (getD bs 0 0) (getD bs 1 0) ≡ Nowhere → Nowhere ≡ staged bs
+pub staged-none : (bs : List ℕ) {f : Found} → length bs ≡ 130 → f ≡ stageIn (getD bs 0 0) (getD bs 1 0) → f ≡ Nowhere
+    → Nowhere ≡ staged bs
 unfolding staged
-staged-none bs l e = rw (eq-eqb (length bs) 130 l, e)
+staged-none bs l i e = rw (eq-eqb (length bs) 130 l, sym i ∙ e)
 
-behind-key : (bs : List ℕ) (n from : ℕ) → length bs ≡ 130 → from ≡ 2 + n → n ≤ 128 → take (130 - from) (drop from bs) ≡ drop n (drop 2 bs)
-behind-key bs n from l e h =
-    take-all (130 - from) (drop from bs) (omega (arith, length-drop from bs, l)) ∙ ap (λ (m : ℕ). drop m bs) e ∙ sym (drop-drop n 2 bs)
+behind-key : (bs : List ℕ) (n : ℕ) → length bs ≡ 130 → n ≤ 128 → take (130 - (2 + n)) (drop (2 + n) bs) ≡ drop n (drop 2 bs)
+behind-key bs n l h =
+    take-all (130 - (2 + n)) (drop (2 + n) bs) (omega (arith, length-drop (2 + n) bs, l)) ∙ sym (drop-drop n 2 bs)
 
-module _ (bs : List ℕ) {st : Stage} {n from : ℕ} (l : length bs ≡ 130) (e : stageIn (getD bs 0 0) (getD bs 1 0) ≡ At st)
-    (d : (n ≡ keyLength st) × (n ≤ 128)) (f : from ≡ 2 + n) where
-  rest : blank (take (130 - from) (drop from bs)) ≡ blank (drop (keyLength st) (drop 2 bs))
-  rest = ap blank (behind-key bs n from l f (d .1) ∙ ap (λ (m : ℕ). drop m (drop 2 bs)) (d .0))
+module _ (bs : List ℕ) {st : Stage} {n : ℕ} {f : Found} (l : length bs ≡ 130) (i : f ≡ stageIn (getD bs 0 0) (getD bs 1 0)) (e : f ≡ At st)
+    (d : (n ≡ keyLength st) × (n ≤ 128)) where
+  rest : blank (take (130 - (2 + n)) (drop (2 + n) bs)) ≡ blank (drop (keyLength st) (drop 2 bs))
+  rest = ap blank (behind-key bs n l (d .1) ∙ ap (λ (m : ℕ). drop m (drop 2 bs)) (d .0))
 
-  pub staged-at : {b : Bool} → b ≡ blank (take (130 - from) (drop from bs)) → b ≡ true → At st ≡ staged bs
+  pub staged-at : {b : Bool} → b ≡ blank (take (130 - (2 + n)) (drop (2 + n) bs)) → b ≡ true → At st ≡ staged bs
   unfolding staged
-  staged-at g t = rw (eq-eqb (length bs) 130 l, e, sym rest ∙ sym g ∙ t)
+  staged-at g t = rw (eq-eqb (length bs) 130 l, sym i ∙ e, sym rest ∙ sym g ∙ t)
 
-  pub staged-behind : {b : Bool} → b ≡ blank (take (130 - from) (drop from bs)) → b ≡ false → Nowhere ≡ staged bs
+  pub staged-behind : {b : Bool} → b ≡ blank (take (130 - (2 + n)) (drop (2 + n) bs)) → b ≡ false → Nowhere ≡ staged bs
   unfolding staged
-  staged-behind g t = rw (eq-eqb (length bs) 130 l, e, sym rest ∙ sym g ∙ t)
+  staged-behind g t = rw (eq-eqb (length bs) 130 l, sym i ∙ e, sym rest ∙ sym g ∙ t)
 
 -- ---- and back
 

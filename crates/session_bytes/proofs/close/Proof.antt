@@ -3,11 +3,5 @@ use Rattle.session_bytes.proofs.{Calls.close-bytes, close.Statement.sta
 use borrow.Author.Needs.{needs}
 use Rattle.session_bytes.proofs.close.Tie as tie
 
-returns : tie.Need-returns
-returns c =
-    let z : tie.After-zero-bytes = search needs in
-    let s : tie.Start = search needs in
-    close-bytes (s .args .bytes .now) (z .zero-bytes .ensures)
-
 pub close-spec : {M : Type 1} → statement M
-close-spec = tie.close (tie.spec (λ c κs. search needs) (search needs) returns)
+close-spec = tie.close (tie.spec (λ c κs. search needs) (search needs) (λ c. search (needs, close-bytes)))
