@@ -2,12 +2,12 @@
 --   stopped         16, and 10
 --   served          any other
 --   threads         the session's call on the bytes behind the number
---   called          so as the code lends them
+--   ends, called    so as the code lends them
 --   close-stopped, closed   Close
 --   clear-not, clear-done   Clear; laid-empty   the numbers into zeros
 use mathlib.Core.{Path._≡_, Path._∙_, Path.sym, Path.ap, Path.ap₂, Bool.true, Bool.false}
 use mathlib.Core.List.{List, _∷_, _++_}
-use Prim.Native.Nat.{ℕ, suc, _+_, _*_, _<_}
+use Prim.Native.Nat.{ℕ, suc, _+_, _-_, _*_, _≤_, _<_}
 use native.Mathlib.Omega.{arith}
 use native.Mathlib.Numerals.{add-one}
 use lib.ListN.{length, set, take, drop, replicate}
@@ -23,9 +23,10 @@ use Rattle.rack.specs.Shown.{Threads}
 use Rattle.rack.proofs.Parts.{number-at, behind, around, wiped-slot, slot-rack, slot-number, slot-takes, part-long, inside-long}
 
 module _ (bs : List ℕ) (i : ℕ) (x : Call) where
-  pub stopped : {q : Refusal} {t : CallSeen} → slotTests bs i (closes x) ≡ Fail q → t ≡ shownBy (Fail q) x → turn bs t ≡ movedIn bs i x
+  pub stopped : {v : Verdict} {q : Refusal} {t : CallSeen} → v ≡ slotTests bs i (closes x) → v ≡ Fail q → t ≡ shownBy (Fail q) x
+      → turn bs t ≡ movedIn bs i x
   unfolding movedIn
-  stopped e g = rw e (ap (turn bs) g)
+  stopped e d g = rw (sym e ∙ d) (ap (turn bs) g)
 
   pub served : slotTests bs i (closes x) ≡ Pass → movedIn bs i x ≡ inRack bs i (movedBytes (inside bs i) x)
   unfolding movedIn
@@ -34,32 +35,42 @@ module _ (bs : List ℕ) (i : ℕ) (x : Call) where
 pub threads : Threads
 threads bs i x o = served bs i x (slot-takes bs i (closes x) o)
 
--- n and d are where the code's part begins and how long it is
-module _ (bs : List ℕ) (i n d : ℕ) (e : n ≡ 131 * i + 1) (f : d ≡ 130) (o : Owned bs i) where
-  starts : n ≡ suc (131 * i)
-  starts = e ∙ add-one (131 * i)
+-- n and d are where the code's part begins and how long it is, and v is what the tests of the slot gave
+module _ (bs : List ℕ) (i : ℕ) {v : Verdict} (e : v ≡ slotTests bs i false) (p : v ≡ Pass) where
+  abbrev n : ℕ
+  n = 131 * i + 1
 
-  within : 131 * i < length bs
-  within = let r = slot-rack bs i false o in omega (arith, r .0, r .1)
+  abbrev d : ℕ
+  d = 131 * i + 1 + 130 - (131 * i + 1)
+
+  d-is : d ≡ 130
+  d-is = omega arith
+
+  owned : Owned bs i
+  owned = sym e ∙ p
+
+  pub ends : 131 * i + 1 + 130 ≤ length bs
+  ends = let r = slot-rack bs i false owned in omega (arith, r .0, r .1)
 
   lent-is : take d (drop n bs) ≡ inside bs i
-  lent-is = ap₂ (λ (k m : ℕ). take k (drop m bs)) f starts ∙ behind (131 * i) bs within
+  lent-is = ap₂ (λ (k m : ℕ). take k (drop m bs)) d-is (add-one (131 * i)) ∙ behind (131 * i) bs (omega (arith, ends))
 
   back-is : (ps : List ℕ) → take n bs ++ (ps ++ drop d (drop n bs)) ≡ withSlot bs i (i ∷ ps)
   back-is ps =
-      ap₂ (λ (m k : ℕ). take m bs ++ (ps ++ drop k (drop m bs))) starts f ∙ around (131 * i) bs ps within
-      ∙ ap (λ (k : ℕ). withSlot bs i (k ∷ ps)) (number-at (131 * i) bs within ∙ slot-number bs i o)
+      let within : 131 * i < length bs = omega (arith, ends) in
+      ap₂ (λ (m k : ℕ). take m bs ++ (ps ++ drop k (drop m bs))) (add-one (131 * i)) d-is ∙ around (131 * i) bs ps within
+      ∙ ap (λ (k : ℕ). withSlot bs i (k ∷ ps)) (number-at (131 * i) bs within ∙ slot-number bs i owned)
 
   pub called : (x : Call) {t : CallSeen} {ps : List ℕ} → turn ps t ≡ movedBytes (take d (drop n bs)) x
       → turn (take n bs ++ (ps ++ drop d (drop n bs))) t ≡ movedIn bs i x
   called x {t} {ps} m =
       ap (λ (cs : List ℕ). turn cs t) (back-is ps) ∙ ap (inRack bs i) (m ∙ ap (λ (us : List ℕ). movedBytes us x) lent-is)
-      ∙ sym (threads bs i x o)
+      ∙ sym (threads bs i x owned)
 
 pub close-stopped : (bs : List ℕ) (i : ℕ) {v : Verdict} {q : Refusal} → v ≡ slotTests bs i true → v ≡ Fail q
     → turn bs (ofClose (toldBy v)) ≡ movedIn bs i closing
 unfolding shownBy
-close-stopped bs i e f = stopped bs i closing (sym e ∙ f) (ap (λ (u : Verdict). ofClose (toldBy u)) f)
+close-stopped bs i e f = stopped bs i closing e f (ap (λ (u : Verdict). ofClose (toldBy u)) f)
 
 pub closed : (bs : List ℕ) (i : ℕ) {d : ℕ} {ps : List ℕ} → slotTests bs i true ≡ Pass → d ≡ 131
     → ps ≡ replicate (length (take d (drop (131 * i) bs))) 0

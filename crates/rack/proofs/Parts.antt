@@ -1,6 +1,6 @@
 -- A slot in the bytes of a rack.
 --   number-at, behind, around, wiped-slot   the first byte, those behind it, what lies around them, and a slot that is zeroed and numbered again; a is its place
---   slot-none, slot-short, slot-closes, slot-own, slot-other   the tests of a slot, by what they find
+--   slot-none, slot-short, slot-closes, slot-own, slot-mine, slot-other   the tests of a slot, by what they find
 --   slot-rack, slot-number, slot-takes      what it says that they pass
 --   moved-long                              a call keeps the length of a session's bytes
 --   part-long, inside-long, front-long, slot-long   how long the parts are
@@ -76,10 +76,15 @@ module _ (bs : List ℕ) (i : ℕ) where
     unfolding slotTests rackIs _then_
     slot-own e = rw (lt-ltb i 8 h, eq-eqb (length bs) 1048 l, eq-eqb (getD (part bs i) 0 0) i e)
 
+    first : getD bs (131 * i) 0 ≡ getD (part bs i) 0 0
+    first = number-at (131 * i) bs (omega (arith, h, l))
+
+    pub slot-mine : getD bs (131 * i) 0 ≡ i → Owned bs i
+    slot-mine e = slot-own (sym first ∙ e)
+
     pub slot-other : (getD bs (131 * i) 0 ≡ i → ⊥) → slotTests bs i false ≡ Fail OutOfStage
     unfolding slotTests rackIs _then_
-    slot-other e =
-        rw (lt-ltb i 8 h, eq-eqb (length bs) 1048 l, ne-eqb (getD (part bs i) 0 0) i (λ f. e (number-at (131 * i) bs (omega (arith, h, l)) ∙ f)))
+    slot-other e = rw (lt-ltb i 8 h, eq-eqb (length bs) 1048 l, ne-eqb (getD (part bs i) 0 0) i (λ f. e (first ∙ f)))
 
   pub slot-none : (b : Bool) → 8 ≤ i → slotTests bs i b ≡ Fail NoStudio
   unfolding slotTests _then_

@@ -9,13 +9,6 @@ use borrow.Author.Needs.{needs}
 use Rattle.rack.proofs.close.Statement.{statement}
 use Rattle.rack.proofs.close.Tie as tie
 
-returns : tie.Need-returns
-returns c =
-    let e : tie.After-enum-told2 = search needs in
-    let v : tie.After-slot = search needs in
-    let s : tie.Start = search needs in
-    close-stopped (s .args .bytes .now) _ (v .slot .ensures) (e .enum-told2 .given .1)
-
 -- where the slot's tests have passed
 abbrev tested : tie.After-enum-told → tie.After-slot
 tested c = search needs
@@ -52,21 +45,6 @@ returns-2 c =
     closed (start p .args .bytes .now) i {d = 131 * i + 131 - 131 * i} (own p) (omega arith) (z .zero-bytes .ensures)
 
 pub close-spec : {M : Type 1} → statement M
-close-spec =
-    tie.close
-    (tie.spec
-    (λ c κs. search needs)
-    (search needs)
-    (search needs)
-    (search needs)
-    returns
-    (search needs)
-    (search needs)
-    (search needs)
-    (search needs)
-    part-zero-bytes-end
-    (λ c κs. search needs)
-    cast-bytes
-    slice-write-bytes
-    (λ c. search needs)
-    returns-2)
+close-spec = tie.close (tie.spec (λ c κs. search needs) (search needs) (search needs) (search needs)
+    (λ c. search (needs, close-stopped)) (search needs) (search needs) (search needs) (search needs)
+    part-zero-bytes-end (λ c κs. search needs) cast-bytes slice-write-bytes (λ c. search needs) returns-2)
