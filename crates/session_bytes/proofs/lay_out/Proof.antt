@@ -12,9 +12,6 @@ copy-bytes-requires c κs =
     let h : length (s .args .y .key) ≡ 128 = search needs in
     h ∙ sym (part-128 (s .args .bytes .now) (s .pre))
 
-slice-write-bytes-2 : tie.Need-slice-write-bytes-2
-slice-write-bytes-2 c = simp length-set (search needs)
-
 returns : tie.Need-returns
 unfolding bytesOf
 returns c =
@@ -26,18 +23,6 @@ returns c =
     rw (u .stage-byte .ensures, t .scheme-byte .ensures .0) (laid (s .args .bytes .now) (s .args .y .key) _ _ _ (s .pre) h (m .copy-bytes .ensures))
 
 pub lay-out-spec : {M : Type 1} → statement M
-lay-out-spec =
-    tie.close
-    (tie.spec
-    (λ c. search needs)
-    (search needs)
-    (search needs)
-    (search needs)
-    copy-bytes-requires
-    (λ c κs. search needs)
-    (search needs)
-    (λ c κs. search needs)
-    (search needs)
-    slice-write-bytes-2
-    (λ c. search needs)
-    returns)
+lay-out-spec = tie.close (tie.spec (λ c. search needs) (search needs) (search needs) (search needs)
+    copy-bytes-requires (λ c κs. search needs) (search needs) (λ c κs. search needs) (search needs)
+    (λ c. simp length-set (search needs)) (λ c. search needs) returns)

@@ -12,14 +12,5 @@ returns-3 : tie.Need-returns-3
 returns-3 c = let s : tie.After-stage2 = search needs in rw (s .stage2 .given .1, c .number2 .ensures) (refl, few-schemes (s .stage2 .given .0 .0))
 
 pub scheme-byte-spec : {M : Type 1} → statement M
-scheme-byte-spec =
-    tie.close
-    (tie.spec
-    (search needs)
-    (search needs)
-    (λ c κs. search needs)
-    (search needs)
-    (λ c κs. search needs)
-    (λ c. search needs)
-    returns-2
-    returns-3)
+scheme-byte-spec = tie.close (tie.spec (search needs) (search needs) (λ c κs. search needs) (search needs)
+    (λ c κs. search needs) (λ c. search needs) returns-2 returns-3)
