@@ -13,16 +13,7 @@ returns c =
     laid-empty (z .zero-bytes .ensures ∙ ap (λ (n : ℕ). replicate n 0) (s .pre))
 
 pub lay-empty-spec : {M : Type 1} → statement M
-lay-empty-spec =
-    tie.close
-    (tie.spec
-    (λ c κs. search needs)
-    (λ c. search needs)
-    (λ c. simp length-set (search needs))
-    (λ c. simp length-set (search needs))
-    (λ c. simp length-set (search needs))
-    (λ c. simp length-set (search needs))
-    (λ c. simp length-set (search needs))
-    (λ c. simp length-set (search needs))
-    (λ c. search needs)
-    returns)
+lay-empty-spec = tie.close (tie.spec (λ c κs. search needs) (λ c. search needs)
+    (λ c. simp length-set (search needs)) (λ c. simp length-set (search needs)) (λ c. simp length-set (search needs))
+    (λ c. simp length-set (search needs)) (λ c. simp length-set (search needs)) (λ c. simp length-set (search needs))
+    (λ c. search needs) returns)
