@@ -3,8 +3,6 @@ use borrow.Author.Needs.{needs}
 use Rattle.wimmostry.proofs.wim_expand.Statement.{statement}
 use Rattle.wimmostry.proofs.wim_expand.Tie as tie
 
-returns : tie.Need-returns
-returns c = let o : tie.After-expand = search needs in rw (c .tell .ensures) (o .expand .ensures)
-
 pub wim-expand-spec : {M : Type 1} → statement M
-wim-expand-spec = tie.close (tie.spec (λ c κs. search needs) (λ c κs. search needs) (search needs) returns)
+wim-expand-spec = tie.close (tie.spec (λ c κs. search needs) (λ c κs. search needs) (search needs)
+    (λ c. rw (c .tell .ensures) (search needs)))

@@ -3,8 +3,6 @@ use borrow.Author.Needs.{needs}
 use Rattle.wimmostry.proofs.wim_finish.Statement.{statement}
 use Rattle.wimmostry.proofs.wim_finish.Tie as tie
 
-returns : tie.Need-returns
-returns c = let o : tie.After-finish = search needs in rw (c .tell-finish .ensures) (o .finish .ensures)
-
 pub wim-finish-spec : {M : Type 1} → statement M
-wim-finish-spec = tie.close (tie.spec (λ c κs. search needs) (λ c κs. search needs) (search needs) (search needs) returns)
+wim-finish-spec = tie.close (tie.spec (λ c κs. search needs) (λ c κs. search needs) (search needs) (search needs)
+    (λ c. rw (c .tell-finish .ensures) (search needs)))

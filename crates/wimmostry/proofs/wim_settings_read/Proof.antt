@@ -3,8 +3,6 @@ use borrow.Author.Needs.{needs}
 use Rattle.wimmostry.proofs.wim_settings_read.Statement.{statement}
 use Rattle.wimmostry.proofs.wim_settings_read.Tie as tie
 
-returns : tie.Need-returns
-returns c = let o : tie.After-read-lent = search needs in rw (c .tell-settings .ensures) (o .read-lent .ensures)
-
 pub wim-settings-read-spec : {M : Type 1} → statement M
-wim-settings-read-spec = tie.close (tie.spec (λ c κs. search needs) (λ c κs. search needs) (search needs) returns)
+wim-settings-read-spec = tie.close (tie.spec (λ c κs. search needs) (λ c κs. search needs) (search needs)
+    (λ c. rw (c .tell-settings .ensures) (search needs)))

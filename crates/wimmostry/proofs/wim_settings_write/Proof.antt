@@ -3,8 +3,6 @@ use borrow.Author.Needs.{needs}
 use Rattle.wimmostry.proofs.wim_settings_write.Statement.{statement}
 use Rattle.wimmostry.proofs.wim_settings_write.Tie as tie
 
-returns : tie.Need-returns
-returns c = let o : tie.After-write = search needs in rw (c .tell .ensures) (o .write .ensures)
-
 pub wim-settings-write-spec : {M : Type 1} → statement M
-wim-settings-write-spec = tie.close (tie.spec (λ c κs. search needs) (λ c κs. search needs) (search needs) returns)
+wim-settings-write-spec = tie.close (tie.spec (λ c κs. search needs) (λ c κs. search needs) (search needs)
+    (λ c. rw (c .tell .ensures) (search needs)))

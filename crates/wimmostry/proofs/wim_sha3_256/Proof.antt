@@ -3,8 +3,6 @@ use borrow.Author.Needs.{needs}
 use Rattle.wimmostry.proofs.wim_sha3_256.Statement.{statement}
 use Rattle.wimmostry.proofs.wim_sha3_256.Tie as tie
 
-returns : tie.Need-returns
-returns c = let o : tie.After-sha3-256 = search needs in rw (c .tell .ensures) (o .sha3-256 .ensures)
-
 pub wim-sha3-256-spec : {M : Type 1} → statement M
-wim-sha3-256-spec = tie.close (tie.spec (λ c κs. search needs) (λ c κs. search needs) (search needs) returns)
+wim-sha3-256-spec = tie.close (tie.spec (λ c κs. search needs) (λ c κs. search needs) (search needs)
+    (λ c. rw (c .tell .ensures) (search needs)))

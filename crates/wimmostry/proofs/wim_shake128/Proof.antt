@@ -3,8 +3,6 @@ use borrow.Author.Needs.{needs}
 use Rattle.wimmostry.proofs.wim_shake128.Statement.{statement}
 use Rattle.wimmostry.proofs.wim_shake128.Tie as tie
 
-returns : tie.Need-returns
-returns c = let o : tie.After-shake128 = search needs in rw (c .tell .ensures) (o .shake128 .ensures)
-
 pub wim-shake128-spec : {M : Type 1} → statement M
-wim-shake128-spec = tie.close (tie.spec (λ c κs. search needs) (λ c κs. search needs) (search needs) returns)
+wim-shake128-spec = tie.close (tie.spec (λ c κs. search needs) (λ c κs. search needs) (search needs)
+    (λ c. rw (c .tell .ensures) (search needs)))

@@ -3,8 +3,6 @@ use borrow.Author.Needs.{needs}
 use Rattle.wimmostry.proofs.by_rows.wim_rows_offer_end.Statement.{statement}
 use Rattle.wimmostry.proofs.by_rows.wim_rows_offer_end.Tie as tie
 
-returns : tie.Need-returns
-returns c = let o : tie.After-offer-end = search needs in rw (c .tell .ensures) (o .offer-end .ensures)
-
 pub wim-rows-offer-end-spec : {M : Type 1} → statement M
-wim-rows-offer-end-spec = tie.close (tie.spec (λ c κs. search needs) (λ c κs. search needs) (search needs) (search needs) returns)
+wim-rows-offer-end-spec = tie.close (tie.spec (λ c κs. search needs) (λ c κs. search needs) (search needs) (search needs)
+    (λ c. rw (c .tell .ensures) (search needs)))

@@ -3,8 +3,6 @@ use borrow.Author.Needs.{needs}
 use Rattle.wimmostry.proofs.by_rows.wim_rows_reply_end.Statement.{statement}
 use Rattle.wimmostry.proofs.by_rows.wim_rows_reply_end.Tie as tie
 
-returns : tie.Need-returns
-returns c = let o : tie.After-reply-end = search needs in rw (c .tell-reply .ensures) (o .reply-end .ensures)
-
 pub wim-rows-reply-end-spec : {M : Type 1} → statement M
-wim-rows-reply-end-spec = tie.close (tie.spec (λ c κs. search needs) (λ c κs. search needs) (search needs) (search needs) (search needs) (search needs) returns)
+wim-rows-reply-end-spec = tie.close (tie.spec (λ c κs. search needs) (λ c κs. search needs) (search needs) (search needs) (search needs) (search needs)
+    (λ c. rw (c .tell-reply .ensures) (search needs)))

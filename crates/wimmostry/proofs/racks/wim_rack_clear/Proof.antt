@@ -3,8 +3,6 @@ use borrow.Author.Needs.{needs}
 use Rattle.wimmostry.proofs.racks.wim_rack_clear.Statement.{statement}
 use Rattle.wimmostry.proofs.racks.wim_rack_clear.Tie as tie
 
-returns : tie.Need-returns
-returns c = let o : tie.After-clear = search needs in rw (c .tell-verdict .ensures .0, c .tell-verdict .ensures .1) (o .clear .ensures)
-
 pub wim-rack-clear-spec : {M : Type 1} → statement M
-wim-rack-clear-spec = tie.close (tie.spec (λ c κs. search needs) (λ c κs. search needs) (search needs) returns)
+wim-rack-clear-spec = tie.close (tie.spec (λ c κs. search needs) (λ c κs. search needs) (search needs)
+    (λ c. rw (c .tell-verdict .ensures .0, c .tell-verdict .ensures .1) (search needs)))

@@ -3,8 +3,6 @@ use borrow.Author.Needs.{needs}
 use Rattle.wimmostry.proofs.racks.wim_rack_close.Statement.{statement}
 use Rattle.wimmostry.proofs.racks.wim_rack_close.Tie as tie
 
-returns : tie.Need-returns
-returns c = let o : tie.After-close = search needs in rw (c .tell-verdict .ensures .0, c .tell-verdict .ensures .1) (o .close .ensures)
-
 pub wim-rack-close-spec : {M : Type 1} → statement M
-wim-rack-close-spec = tie.close (tie.spec (λ c κs. search needs) (λ c κs. search needs) (search needs) returns)
+wim-rack-close-spec = tie.close (tie.spec (λ c κs. search needs) (λ c κs. search needs) (search needs)
+    (λ c. rw (c .tell-verdict .ensures .0, c .tell-verdict .ensures .1) (search needs)))
