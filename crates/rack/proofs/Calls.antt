@@ -7,7 +7,7 @@
 --   clear-not, clear-done   Clear; laid-empty   the numbers into zeros
 use mathlib.Core.{Path._≡_, Path._∙_, Path.sym, Path.ap, Path.ap₂, Bool.true, Bool.false}
 use mathlib.Core.List.{List, _∷_, _++_}
-use Prim.Native.Nat.{ℕ, suc, _+_, _-_, _*_, _≤_, _<_}
+use Prim.Native.Nat.{ℕ, _+_, _-_, _*_, _≤_, _<_}
 use native.Mathlib.Omega.{arith}
 use native.Mathlib.Numerals.{add-one}
 use lib.ListN.{length, set, take, drop, replicate}

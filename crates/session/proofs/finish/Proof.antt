@@ -1,6 +1,7 @@
 -- `session::finish` meets its contract: 10, a refusal of the call beneath, or its answer.
 use Rattle.session.specs.Table.{row}
-use Rattle.session.proofs.Laws.{bars, allows, turned, fits, keeps, finish-stops, finish-refused, finish-given}
+use Rattle.session.proofs.Laws.{bars, allows, turned, fits, keeps}
+use Rattle.session.proofs.Laws.{finish-stops, finish-refused, finish-given}
 use borrow.Author.Needs.{needs}
 use Rattle.session.proofs.finish.Statement.{statement}
 use Rattle.session.proofs.finish.Tie as tie

@@ -1,6 +1,7 @@
 -- `session::reply` meets its contract: 10, a refusal of the call beneath, or its answer.
 use Rattle.session.specs.Table.{row}
-use Rattle.session.proofs.Laws.{bars, allows, turned, fits, keeps, reply-stops, reply-refused, reply-given}
+use Rattle.session.proofs.Laws.{bars, allows, turned, fits, keeps}
+use Rattle.session.proofs.Laws.{reply-stops, reply-refused, reply-given}
 use borrow.Author.Needs.{needs}
 use Rattle.session.proofs.reply.Statement.{statement}
 use Rattle.session.proofs.reply.Tie as tie
