@@ -3,7 +3,7 @@
 --   one-fits, one            one product
 --   span-one, span-join, span-small   the products of some neighbouring entries: of one, of some and those behind them, and their size
 --   secret-small             the size of one secret
---   twice-fits, twice        two such sums of m products, one behind the other, added
+--   near-fits, far-fits, all-fits, all   four such sums of m products, one behind the other, added two by two
 --   first-none, first-fits, first-read, first-more   the sum of the first i products
 --   times-*, both-*          65536 times one sum, and another
 --   noise-*                  a sum and the noise
@@ -85,18 +85,45 @@ secret-small w s i p h =
     omega (arith, p .s-within .within i, p .room, k)
 
 -- two sums, one behind the other
-module _ (m : ℕ) {w s : List ℤ} (i : ℕ) (h : Pair w s × (i + (m + m) ≤ length w)) {x y : ℤ} (ex : x ≡ span m w s i) (ey : y ≡ span m w s (i + m)) where
-  twice-is : toZ w32 (ofZ w32 x) +ℤ toZ w32 (ofZ w32 y) ≡ span (m + m) w s i
-  twice-is =
-      ap₂ (λ (a b : ℤ). toZ w32 (ofZ w32 a) +ℤ toZ w32 (ofZ w32 b)) ex ey
-      ∙ ap₂ (λ (a b : ℤ). a +ℤ b) (toZ-ofZ (span-fits m w s i (h .0) (omega (arith, h .1)))) (toZ-ofZ (span-fits m w s (i + m) (h .0) (omega (arith, h .1))))
-      ∙ span-join m m w s i
+module _ (m : ℕ) (w s : List ℤ) (i : ℕ) (p : Pair w s) (h : i + (m + m) ≤ length w) {x y : ℤ} (ex : x ≡ span m w s i) (ey : y ≡ span m w s (i + m)) where
+  twice-is : x +ℤ y ≡ span (m + m) w s i
+  twice-is = ap₂ (λ (a b : ℤ). a +ℤ b) ex ey ∙ span-join m m w s i
 
-  pub twice-fits : SFits w32 (toZ w32 (ofZ w32 x) +ℤ toZ w32 (ofZ w32 y))
-  twice-fits = subst (SFits w32) (sym twice-is) (span-fits (m + m) w s i (h .0) (omega (arith, h .1)))
+  twice-fits : SFits w32 (x +ℤ y)
+  twice-fits = subst (SFits w32) (sym twice-is) (span-fits (m + m) w s i p (omega arith))
 
-  pub twice : toZ w32 (ofZ w32 (toZ w32 (ofZ w32 x) +ℤ toZ w32 (ofZ w32 y))) ≡ span (m + m) w s i
+  twice : toZ w32 (ofZ w32 (x +ℤ y)) ≡ span (m + m) w s i
   twice = toZ-ofZ twice-fits ∙ twice-is
+
+-- a number as 32 bits read it
+abbrev pub read32 : ℤ → ℤ
+read32 z = toZ w32 (ofZ w32 z)
+
+-- four sums that are promised, one behind the other: the nearer two, the farther two, and all
+module _ (m : ℕ) (w s : List ℤ) (i : ℕ) (h : Pair w s × (i + (m + m + (m + m)) ≤ length w)) where
+  read : {x : ℤ} (k : ℕ) → x ≡ span m w s k → read32 x ≡ span m w s k
+  read k e = ap read32 e ∙ toZ-ofZ (span-fits m w s k (h .0) (omega (arith, h .1)))
+
+  module _ {x y : ℤ} (ex : x ≡ span m w s i) (ey : y ≡ span m w s (i + m)) where
+    pub near-fits : SFits w32 (read32 x +ℤ read32 y)
+    near-fits = twice-fits m w s i (h .0) (omega (arith, h .1)) (read i ex) (read (i + m) ey)
+
+    near : read32 (read32 x +ℤ read32 y) ≡ span (m + m) w s i
+    near = twice m w s i (h .0) (omega (arith, h .1)) (read i ex) (read (i + m) ey)
+
+  module _ {x y : ℤ} (ex : x ≡ span m w s (i + (m + m))) (ey : y ≡ span m w s (i + (m + m) + m)) where
+    pub far-fits : SFits w32 (read32 x +ℤ read32 y)
+    far-fits = twice-fits m w s (i + (m + m)) (h .0) (omega (arith, h .1)) (read (i + (m + m)) ex) (read (i + (m + m) + m) ey)
+
+    far : read32 (read32 x +ℤ read32 y) ≡ span (m + m) w s (i + (m + m))
+    far = twice m w s (i + (m + m)) (h .0) (omega (arith, h .1)) (read (i + (m + m)) ex) (read (i + (m + m) + m) ey)
+
+  module _ {x y u v : ℤ} (ex : x ≡ span m w s i) (ey : y ≡ span m w s (i + m)) (eu : u ≡ span m w s (i + (m + m))) (ev : v ≡ span m w s (i + (m + m) + m)) where
+    pub all-fits : SFits w32 (read32 (read32 x +ℤ read32 y) +ℤ read32 (read32 u +ℤ read32 v))
+    all-fits = twice-fits (m + m) w s i (h .0) (h .1) (near ex ey) (far eu ev)
+
+    pub all : read32 (read32 (read32 x +ℤ read32 y) +ℤ read32 (read32 u +ℤ read32 v)) ≡ span (m + m + (m + m)) w s i
+    all = twice (m + m) w s i (h .0) (h .1) (near ex ey) (far eu ev)
 
 -- ---- the first i products
 

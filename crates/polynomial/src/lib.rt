@@ -30,46 +30,28 @@ fn product(w: &[i16], s: &[i16], i: usize) -> i32
     (w[i] as i32) * (s[i] as i32)
 }
 
-fn two(w: &[i16], s: &[i16], i: usize) -> i32
-    requires { ⌜ Pair (now w) (now s) × (i + 2 ≤ length (now w)) ⌝ }
-    ensures { λ r. ⌜ r ≡ span 2 (now (w .entry)) (now (s .entry)) i ⌝ }
-{
-    product(w, s, i) + product(w, s, i + 1)
-}
-
 fn four(w: &[i16], s: &[i16], i: usize) -> i32
     requires { ⌜ Pair (now w) (now s) × (i + 4 ≤ length (now w)) ⌝ }
     ensures { λ r. ⌜ r ≡ span 4 (now (w .entry)) (now (s .entry)) i ⌝ }
 {
-    two(w, s, i) + two(w, s, i + 2)
-}
-
-fn eight(w: &[i16], s: &[i16], i: usize) -> i32
-    requires { ⌜ Pair (now w) (now s) × (i + 8 ≤ length (now w)) ⌝ }
-    ensures { λ r. ⌜ r ≡ span 8 (now (w .entry)) (now (s .entry)) i ⌝ }
-{
-    four(w, s, i) + four(w, s, i + 4)
+    let j = i + 2;
+    (product(w, s, i) + product(w, s, i + 1)) + (product(w, s, j) + product(w, s, j + 1))
 }
 
 fn sixteen(w: &[i16], s: &[i16], i: usize) -> i32
     requires { ⌜ Pair (now w) (now s) × (i + 16 ≤ length (now w)) ⌝ }
     ensures { λ r. ⌜ r ≡ span 16 (now (w .entry)) (now (s .entry)) i ⌝ }
 {
-    eight(w, s, i) + eight(w, s, i + 8)
-}
-
-fn thirty_two(w: &[i16], s: &[i16], i: usize) -> i32
-    requires { ⌜ Pair (now w) (now s) × (i + 32 ≤ length (now w)) ⌝ }
-    ensures { λ r. ⌜ r ≡ span 32 (now (w .entry)) (now (s .entry)) i ⌝ }
-{
-    sixteen(w, s, i) + sixteen(w, s, i + 16)
+    let j = i + 8;
+    (four(w, s, i) + four(w, s, i + 4)) + (four(w, s, j) + four(w, s, j + 4))
 }
 
 fn sixty_four(w: &[i16], s: &[i16], i: usize) -> i32
     requires { ⌜ Pair (now w) (now s) × (i + 64 ≤ length (now w)) ⌝ }
     ensures { λ r. ⌜ r ≡ span 64 (now (w .entry)) (now (s .entry)) i ⌝ }
 {
-    thirty_two(w, s, i) + thirty_two(w, s, i + 32)
+    let j = i + 32;
+    (sixteen(w, s, i) + sixteen(w, s, i + 16)) + (sixteen(w, s, j) + sixteen(w, s, j + 16))
 }
 
 // The kernel: the sum of the products of the entries of two slices, sixty-four at a time where they come out even.
