@@ -1,5 +1,6 @@
 -- Expand.
---   sizes-failed         its verdict where a test of lengths fails
+--   passes               tests pass where the verdict on them does
+--   sizes-failed         what is seen where a test of lengths fails
 --   sizes-passed, room-enough   its verdict and the room where they pass
 --   ran-out, full        its verdict where too few are taken, and where all are
 --   enough-passed        how many are taken where it passes
@@ -7,7 +8,7 @@
 --   numbers-few          no more are taken than the answer has
 --   whole-part           numbers that fill their part
 --   expand-unknown, expand-named   what is seen where no rule is named, and under another name and room
-use mathlib.Core.{Path._≡_, Path.refl, Path._∙_, Path.ap, Bool.Bool, Bool.true, Bool.false}
+use mathlib.Core.{Path._≡_, Path.refl, Path._∙_, Path.sym, Path.ap, Bool.Bool, Bool.true, Bool.false}
 use mathlib.Core.List.{List, _++_, append-nil}
 use Prim.Native.Nat.{ℕ, _≤_, _<_}
 use native.Mathlib.Omega.{arith}
@@ -28,10 +29,14 @@ use Rattle.noise.proofs.Stream.{expanded-length}
 use Rattle.sampling.specs.Expand.{expandNumbers, enough, expandTests, expandResult}
 use Rattle.sampling.specs.Steps.{expandSizes}
 
+pub passes : {v t : Verdict} → v ≡ t → v ≡ Pass → t ≡ Pass
+passes e f = sym e ∙ f
+
 module _ (k : RuleName) (stream : List ℕ) (room : ℕ) where
-  pub sizes-failed : {v : Verdict} {r : Refusal} → v ≡ expandSizes stream room → v ≡ Fail r → expandTests (By k) stream room ≡ Fail r
+  pub sizes-failed : {v : Verdict} {r : Refusal} {out : List ℕ} → v ≡ expandSizes stream room → v ≡ Fail r → out ≡ replicate room 0
+      → seen (refused r 0) out ≡ expandResult (By k) stream room
   unfolding expandTests expandSizes
-  sizes-failed e f = failed _ e f
+  sizes-failed e f o = shown-failed _ _ _ (failed _ e f) o
 
   module _ (e : expandSizes stream room ≡ Pass) where
     pub sizes-passed : expandTests (By k) stream room ≡ enough (length (expandNumbers (By k) stream))

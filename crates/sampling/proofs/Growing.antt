@@ -1,5 +1,5 @@
 -- Grow.
---   sizes-failed         its verdict where a test of lengths fails
+--   sizes-failed         what is seen where a test of lengths fails
 --   first-numbers        where the first bytes give 1,024 numbers, these are those of all 24 blocks
 --   bytes-sized          where Grow's tests of lengths pass, so do Expand's of up to 24 blocks
 --   grown-all, grown-first   what is seen of it is then what is seen of Expand on all blocks, and on the first bytes where they are not refused
@@ -39,9 +39,10 @@ first-numbers k seed n few even many =
     ∙ unread (rule k) firsts more (omega (arith, shake-length seed n)) (omega (arith, expanded-counted (rule k) firsts))
 
 module _ (k : RuleName) (seed : List ℕ) (room : ℕ) where
-  pub sizes-failed : {v : Verdict} {r : Refusal} → v ≡ growSizes seed room → v ≡ Fail r → growTests (By k) seed room ≡ Fail r
+  pub sizes-failed : {v : Verdict} {r : Refusal} {out : List ℕ} → v ≡ growSizes seed room → v ≡ Fail r → out ≡ replicate room 0
+      → seen (refused r 0) out ≡ growResult (By k) seed room
   unfolding growTests growSizes
-  sizes-failed e f = failed _ e f
+  sizes-failed e f o = shown-failed _ _ _ (failed _ e f) o
 
   module _ (e : growSizes seed room ≡ Pass) where
     pub bytes-sized : (bytes : List ℕ) → length bytes ≤ 24 * 168 → expandSizes bytes room ≡ Pass
