@@ -13,10 +13,10 @@ use Rattle.halves.proofs.Part.{size-least, size-half, size-even, lent-l
 use Rattle.halves.proofs.halves.Reads as halves
 use Rattle.halves.proofs.halves.Kinds as halves-kinds
 use Rattle.halves.proofs.+halves.Lts-halves as lts
-use Rattle.halves.proofs.copy.Reads as copy-reads
-use Rattle.halves.proofs.join.Reads as join-reads
-use Rattle.halves.proofs.leaf.Reads as leaf-reads
-use Rattle.halves.proofs.spread.Reads as spread-reads
+use Rattle.halves.proofs.copy.Reads as copy
+use Rattle.halves.proofs.join.Reads as join
+use Rattle.halves.proofs.leaf.Reads as leaf
+use Rattle.halves.proofs.spread.Reads as spread
 
 abbrev μ-halves : Measures 1 halves-kinds.ps ℕ
 μ-halves κs a = a .1 .0
@@ -29,18 +29,7 @@ halves-below t = and 1 halves-kinds.ps (falls 1 halves-kinds.ps _<_ μ-halves t)
 
 -- what the calls ask and tell
 abbrev known : ℕ → lts.Claims
-known t = (
-  leaf-reads.Asked,
-  leaf-reads.Learnt,
-  spread-reads.Asked,
-  spread-reads.Learnt,
-  halves-below t,
-  halves.Post,
-  copy-reads.Asked,
-  copy-reads.Learnt,
-  join-reads.Asked,
-  join-reads.Learnt,
-)
+known t = (leaf.Asked, leaf.Learnt, spread.Asked, spread.Learnt, halves-below t, halves.Post, copy.Asked, copy.Learnt, join.Asked, join.Learnt)
 
 module _ (t : ℕ) where
   -- what is known at a place of the code
@@ -116,74 +105,44 @@ module _ (t : ℕ) where
   abbrev h₁ : Place lts.After-spread → ℕ
   h₁ c = h₀ (above₁ c)
 
-  abbrev w₁ : Place lts.After-spread → List ℕ
-  w₁ c = c .spread .last .0
-
-  room₁ : (c : Place lts.After-spread) → 12 * h₁ c ≤ length (w₁ c)
+  room₁ : (c : Place lts.After-spread) → 12 * h₁ c ≤ length (c .spread .last .0)
   room₁ c = omega (arith, c .spread .ensures .long, room₀ (above₁ c))
 
   abbrev h₂ : Place lts.After-halves → ℕ
   h₂ c = h₁ (at₂ c)
 
   abbrev w₂ : Place lts.After-halves → List ℕ
-  w₂ c = putMid (4 * h₂ c) (10 * h₂ c - 4 * h₂ c) (w₁ (at₂ c)) (c .halves .last .0)
+  w₂ c = putMid (4 * h₂ c) (10 * h₂ c - 4 * h₂ c) (at₂ c .spread .last .0) (c .halves .last .0)
 
-  made₂ : (c : Place lts.After-halves) → InPart (w₁ (at₂ c)) (4 * h₂ c) (h₂ c) (w₂ c)
+  made₂ : (c : Place lts.After-halves) → InPart (at₂ c .spread .last .0) (4 * h₂ c) (h₂ c) (w₂ c)
   made₂ c = part-product (omega arith) (omega (arith, room₁ (at₂ c))) (c .halves .ensures)
 
-  room₂ : (c : Place lts.After-halves) → 12 * h₂ c ≤ length (w₂ c)
-  room₂ c = omega (arith, made₂ c .long, room₁ (at₂ c))
-
-  abbrev h₃ : Place lts.After-copy → ℕ
-  h₃ c = h₂ (at₃ c)
-
-  abbrev w₃ : Place lts.After-copy → List ℕ
-  w₃ c = c .copy .last .0
-
-  room₃ : (c : Place lts.After-copy) → 12 * h₃ c ≤ length (w₃ c)
-  room₃ c = omega (arith, c .copy .ensures .long, room₂ (at₃ c))
+  room₃ : (c : Place lts.After-copy) → 12 * h₀ (above₃ c) ≤ length (c .copy .last .0)
+  room₃ c = omega (arith, c .copy .ensures .long, made₂ (at₃ c) .long, room₁ (at₂ (at₃ c)))
 
   abbrev h₄ : Place lts.After-halves2 → ℕ
-  h₄ c = h₃ (at₄ c)
+  h₄ c = h₀ (above₃ (at₄ c))
 
   abbrev w₄ : Place lts.After-halves2 → List ℕ
-  w₄ c = putMid (2 * h₄ c) (8 * h₄ c - 2 * h₄ c) (w₃ (at₄ c)) (c .halves2 .last .0)
+  w₄ c = putMid (2 * h₄ c) (8 * h₄ c - 2 * h₄ c) (at₄ c .copy .last .0) (c .halves2 .last .0)
 
-  made₄ : (c : Place lts.After-halves2) → InPart (w₃ (at₄ c)) (2 * h₄ c) (h₄ c) (w₄ c)
+  made₄ : (c : Place lts.After-halves2) → InPart (at₄ c .copy .last .0) (2 * h₄ c) (h₄ c) (w₄ c)
   made₄ c = part-product (omega arith) (omega (arith, room₃ (at₄ c))) (c .halves2 .ensures)
 
-  room₄ : (c : Place lts.After-halves2) → 12 * h₄ c ≤ length (w₄ c)
-  room₄ c = omega (arith, made₄ c .long, room₃ (at₄ c))
-
-  abbrev h₅ : Place lts.After-copy2 → ℕ
-  h₅ c = h₄ (at₅ c)
-
-  abbrev w₅ : Place lts.After-copy2 → List ℕ
-  w₅ c = c .copy2 .last .0
-
-  room₅ : (c : Place lts.After-copy2) → 12 * h₅ c ≤ length (w₅ c)
-  room₅ c = omega (arith, c .copy2 .ensures .long, room₄ (at₅ c))
+  room₅ : (c : Place lts.After-copy2) → 12 * h₀ (above₅ c) ≤ length (c .copy2 .last .0)
+  room₅ c = omega (arith, c .copy2 .ensures .long, made₄ (at₅ c) .long, room₃ (at₄ (at₅ c)))
 
   abbrev h₆ : Place lts.After-halves3 → ℕ
-  h₆ c = h₅ (at₆ c)
+  h₆ c = h₀ (above₅ (at₆ c))
 
   abbrev w₆ : Place lts.After-halves3 → List ℕ
-  w₆ c = putMid 0 (6 * h₆ c - 0) (w₅ (at₆ c)) (c .halves3 .last .0)
+  w₆ c = putMid 0 (6 * h₆ c - 0) (at₆ c .copy2 .last .0) (c .halves3 .last .0)
 
-  made₆ : (c : Place lts.After-halves3) → InPart (w₅ (at₆ c)) 0 (h₆ c) (w₆ c)
+  made₆ : (c : Place lts.After-halves3) → InPart (at₆ c .copy2 .last .0) 0 (h₆ c) (w₆ c)
   made₆ c = part-product {e = 6 * h₆ c} (omega arith) (omega (arith, room₅ (at₆ c))) (c .halves3 .ensures)
 
-  room₆ : (c : Place lts.After-halves3) → 12 * h₆ c ≤ length (w₆ c)
-  room₆ c = omega (arith, made₆ c .long, room₅ (at₆ c))
-
-  abbrev h₇ : Place lts.After-copy3 → ℕ
-  h₇ c = h₆ (at₇ c)
-
-  abbrev w₇ : Place lts.After-copy3 → List ℕ
-  w₇ c = c .copy3 .last .0
-
-  room₇ : (c : Place lts.After-copy3) → 12 * h₇ c ≤ length (w₇ c)
-  room₇ c = omega (arith, c .copy3 .ensures .long, room₆ (at₇ c))
+  room₇ : (c : Place lts.After-copy3) → 12 * h₀ (above₇ c) ≤ length (c .copy3 .last .0)
+  room₇ c = omega (arith, c .copy3 .ensures .long, made₆ (at₇ c) .long, room₅ (at₆ (at₇ c)))
 
   -- ---- the needs
 
@@ -191,34 +150,40 @@ module _ (t : ℕ) where
   halves-requires c κs =
       let p = c .before .before .before in
       let u = above₁ p in
-      (falling u, (lent-long (h₁ p) (4 * h₁ p) (10 * h₁ p) (w₁ p) (omega arith) (omega (arith, room₁ p)), half u))
+      (falling u, (lent-long (h₁ p) (4 * h₁ p) (10 * h₁ p) (p .spread .last .0) (omega arith) (omega (arith, room₁ p)), half u))
 
   copy-requires : lts.Need-copy-requires (known t) (halves-at t) halves.Post
   copy-requires c κs =
-      let r = room₂ (c .before .before .before) in
-      ((omega (arith, r), omega (arith, r)), record { ahead = λ i j p r e. omega arith })
+      let p = c .before .before .before in
+      let l = made₂ p .long in
+      let r = room₁ (at₂ p) in
+      ((omega (arith, l, r), omega (arith, l, r)), record { ahead = λ i j p r e. omega arith })
 
   halves-requires-2 : lts.Need-halves-requires-2 (known t) (halves-at t) halves.Post
   halves-requires-2 c κs =
       let p = c .before .before .before in
       let u = above₃ p in
-      (falling u, (lent-long (h₃ p) (2 * h₃ p) (8 * h₃ p) (w₃ p) (omega arith) (omega (arith, room₃ p)), half u))
+      (falling u, (lent-long (h₀ u) (2 * h₀ u) (8 * h₀ u) (p .copy .last .0) (omega arith) (omega (arith, room₃ p)), half u))
 
   copy-requires-2 : lts.Need-copy-requires-2 (known t) (halves-at t) halves.Post
   copy-requires-2 c κs =
-      let r = room₄ (c .before .before .before) in
-      ((omega (arith, r), omega (arith, r)), record { ahead = λ i j p r e. omega arith })
+      let p = c .before .before .before in
+      let l = made₄ p .long in
+      let r = room₃ (at₄ p) in
+      ((omega (arith, l, r), omega (arith, l, r)), record { ahead = λ i j p r e. omega arith })
 
   halves-requires-3 : lts.Need-halves-requires-3 (known t) (halves-at t) halves.Post
   halves-requires-3 c κs =
       let p = c .before .before .before in
       let u = above₅ p in
-      (falling u, (lent-long (h₅ p) 0 (6 * h₅ p) (w₅ p) (omega arith) (omega (arith, room₅ p)), half u))
+      (falling u, (lent-long (h₀ u) 0 (6 * h₀ u) (p .copy2 .last .0) (omega arith) (omega (arith, room₅ p)), half u))
 
   copy-requires-3 : lts.Need-copy-requires-3 (known t) (halves-at t) halves.Post
   copy-requires-3 c κs =
-      let r = room₆ (c .before .before .before) in
-      ((omega (arith, r), omega (arith, r)), record { ahead = λ i j p r e. omega arith })
+      let p = c .before .before .before in
+      let l = made₆ p .long in
+      let r = room₅ (at₆ p) in
+      ((omega (arith, l, r), omega (arith, l, r)), record { ahead = λ i j p r e. omega arith })
 
   returns : lts.Need-returns (known t) (halves-at t) halves.Post
   returns c =
