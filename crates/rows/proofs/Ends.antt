@@ -1,4 +1,6 @@
 -- What the ends of Offer and Reply by rows have in common with the whole calls.
+--   last-length              where tests of which the last is of a length pass, so do those before it, and the length is as it should be
+--   frodo-known              a number that names a known scheme of Frodo's names one of Frodo's
 --   not-refused              what is not refused has passed its tests, and left the state
 --   end-by                   what is seen of an end, by its verdict
 --   by-frodo                 what is meant in Frodo
@@ -10,7 +12,7 @@ use native.Mathlib.Omega.{arith}
 use lib.{IntN.ℤ, ListN.length, ListN.replicate}
 use Rattle.numbers.proofs.Congruence.{residue-lt}
 use Rattle.schemes.specs.Schemes.{byFamily, familyOf, schemeNumber}
-use Rattle.schemes.specs.{declared.Family.Family, declared.Named.the-variants.Known}
+use Rattle.schemes.specs.declared.{Family.Family, Named.Named, Named.the-variants.Known}
 use Rattle.schemes.specs.declared.Scheme.{Scheme}
 use Rattle.schemes.proofs.Laws.{by-number}
 use Rattle.lists.specs.Ranges.{Below}
@@ -19,9 +21,17 @@ use Rattle.matrix.specs.Words.{wordsOf, columnsOf}
 use Rattle.parts.specs.Parts.{wrap}
 use Rattle.refusals.specs.{Seen.ifPassed, declared.Verdict.Verdict}
 use Rattle.refusals.specs.declared.Verdict.the-variants.{Pass}
-use Rattle.refusals.proofs.Laws.{number-zero}
+use Rattle.refusals.specs.Refusals.{_then_, lengthIs}
+use Rattle.refusals.proofs.Laws.{number-zero, both, length-passed}
+use Rattle.rows_state.proofs.Tests.{frodo-named}
 use Rattle.rows_state.specs.{State.frodoIn, State.frodoOf, Part.stateShown}
 use Rattle.rows.specs.Offer.{EndSeen}
+
+pub last-length : (v : Verdict) (m n : ℕ) → v then lengthIs m n ≡ Pass → (v ≡ Pass) × (m ≡ n)
+last-length v m n t = let a = both v _ t in (a .0, length-passed m n (a .1))
+
+pub frodo-known : (k : ℕ) {r : Named} {c : Scheme} → r ≡ frodoOf k → r ≡ Known c → familyOf c ≡ Family.Frodo
+frodo-known k e u = frodo-named k _ (sym e ∙ u)
 
 -- a begin or a part that is not refused
 pub not-refused : {v : Verdict} (xs old : List ℕ) → stateShown v xs old .number ≡ 0 → (v ≡ Pass) × (stateShown v xs old .state ≡ xs)

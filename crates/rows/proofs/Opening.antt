@@ -1,6 +1,7 @@
 -- Offer's begin and end: what passed tests say, and their promises by their verdict.
+--   begin-sizes                  the sizes of begin, one test after the other
 --   OfferSized, begin-sized      what passed tests of begin say
---   begin-unknown                where the number names no scheme of Frodo's
+--   begin-unknown, begin-known   what is seen where the number names no scheme of Frodo's, and where it names one
 --   end-begun, end-roomy         what passed sizes of end say
 --   seed-bytes                   the seed, as a state keeps it
 --   message-long                 the opening is as long as the scheme says
@@ -10,23 +11,28 @@ use Prim.Native.Nat.{ℕ, _≤_}
 use native.Mathlib.Omega.{arith}
 use lib.ListN.{length, take, replicate, length-take}
 use Rattle.schemes.specs.{Schemes.familyOf, Schemes.fixedOf, declared.Family.Family}
-use Rattle.schemes.specs.{declared.Named.Named, declared.Scheme.Scheme}
+use Rattle.schemes.specs.declared.{Named.Named, Scheme.Scheme, Fixed.Fixed}
 use Rattle.schemes.specs.declared.Named.the-variants.{Known, Unknown}
 use Rattle.lists.specs.Ranges.{Below}
 use Rattle.refusals.specs.{Refusals.notBlank, Seen.told, Seen.seen, declared.Verdict.Verdict}
 use Rattle.refusals.specs.{declared.Answer.the-variants.Refused, declared.Refusal.Refusal}
 use Rattle.refusals.specs.declared.Verdict.the-variants.{Pass, Fail}
 use Rattle.refusals.specs.declared.Refusal.the-variants.{NoScheme, OutOfTurn}
-use Rattle.refusals.proofs.Laws.{both, length-passed, room-passed, turn-passed, failed, went-on}
+use Rattle.refusals.specs.Refusals.{_then_, lengthIs}
+use Rattle.refusals.proofs.Laws.{both, length-passed, room-passed, turn-passed, first, also, failed, went-on}
 use Rattle.refusals.proofs.Seen.{shown-failed}
 use Rattle.wire.proofs.Travel.{opening-length, numbers-long}
-use Rattle.rows_state.specs.State.{long, named, savedOf, begun}
-use Rattle.rows.specs.Offer.{OfferBegin, offerBeginTests, sentPart, offerEndTests, offerEndMessage, offerEndResult}
-use Rattle.rows.specs.Inside.{offerEndSizes}
+use Rattle.lists.proofs.Same.{zeros-long}
+use Rattle.rows_state.specs.State.{long, named, savedOf, begun, frodoOf}
+use Rattle.rows_state.specs.Part.{StateSeen, stateSeen}
+use Rattle.rows_state.proofs.Turns.{state-by}
+use Rattle.rows.specs.Offer.{OfferBegin, offerBeginTests, offerBeginResult, sentPart}
+use Rattle.rows.specs.Offer.{offerEndTests, offerEndMessage, offerEndResult}
+use Rattle.rows.specs.Inside.{offerBeginSizes, offerEndSizes}
 use Rattle.rows_state.specs.declared.Call.{Call}
 use Rattle.rows_state.proofs.Tests.{passed, all-below, started, completes, frodos}
 use Rattle.rows_state.proofs.Laying.{kept-long}
-use Rattle.rows.proofs.{Ends.end-by, Sending.sent-counted}
+use Rattle.rows.proofs.{Ends.last-length, Ends.end-by, Sending.sent-counted}
 
 -- ---- begin
 
@@ -36,18 +42,27 @@ pub record OfferSized (c : Scheme) (x : OfferBegin) (m : ℕ) : Type 0 where
   pub seed : length (x .seed) ≡ fixedOf c .seed
   pub state : m ≡ long (fixedOf c .n)
 
+pub begin-sizes : (c : Scheme) (x : OfferBegin) (m : ℕ) {f : Fixed} {u v w r : Verdict} → f ≡ fixedOf c → u ≡ Pass then lengthIs (length (x .s)) (f .secret)
+    → v ≡ u then lengthIs (length (x .e)) (f .noise) → w ≡ v then lengthIs (length (x .seed)) (f .seed) → r ≡ w then lengthIs m (long (f .n))
+    → r ≡ offerBeginSizes c x m
+unfolding offerBeginSizes
+begin-sizes c x m e a b d g = rw e at (also g (also d (also b (first a refl) refl) refl) refl)
+
 pub begin-sized : (c : Scheme) (x : OfferBegin) (m : ℕ) → offerBeginTests (Known c) x m ≡ Pass → OfferSized c x m
 unfolding offerBeginTests
 begin-sized c x m t =
-    let sizes = both _ _ (both _ _ t .0) .0 in
-    let state = both _ _ sizes in
-    let seed = both _ _ (state .0) in
-    let two = both _ _ (seed .0) in
-    record { secret = length-passed _ _ (two .0); noise = length-passed _ _ (two .1); seed = length-passed _ _ (seed .1); state = length-passed _ _ (state .1) }
+    let state = last-length _ _ _ (both _ _ (both _ _ t .0) .0) in
+    let seed = last-length _ _ _ (state .0) in
+    let noise = last-length _ _ _ (seed .0) in
+    record { secret = length-passed _ _ (noise .0); noise = noise .1; seed = seed .1; state = state .1 }
 
-pub begin-unknown : {c : Named} (x : OfferBegin) (m : ℕ) → c ≡ Unknown → offerBeginTests c x m ≡ Fail NoScheme
-unfolding offerBeginTests
-begin-unknown x m e = rw e
+module _ (k : ℕ) (x : OfferBegin) (m : ℕ) {r : Named} {st : List ℕ} (e : r ≡ frodoOf k) (z : st ≡ replicate m 0) where
+  pub begin-unknown : r ≡ Unknown → stateSeen (Fail NoScheme) st ≡ offerBeginResult (frodoOf k) x m
+  unfolding offerBeginTests
+  begin-unknown u = state-by _ _ (rw (sym e ∙ u)) z
+
+  pub begin-known : {c : Scheme} {t : StateSeen} → r ≡ Known c → t ≡ offerBeginResult (Known c) x (length st) → t ≡ offerBeginResult (frodoOf k) x m
+  begin-known u b = rw (sym e ∙ u, ← zeros-long m 0 z) b
 
 -- ---- end
 

@@ -2,6 +2,7 @@
 --   opened-tests         5 cannot arise in the unpack step: q is a power of 2, as wide as a packed number
 --   Sized, begin-sized   what passed sizes of begin say
 --   begin-apart, begin-failed, begin-decides   its tests in two parts, and its verdict by the test that decides
+--   begin-unknown, begin-known   what is seen of begin where the number names no scheme of Frodo's, and where it names one
 --   Roomy, end-roomy     what passed sizes of end say
 --   end-failed, end-decides, end-refused    its verdict by the test that decides, and what is seen after a refusal
 --   state-long, kept-counted   a state of Reply's, and V as it keeps it
@@ -25,14 +26,18 @@ use Rattle.wire.proofs.Travel.{reply-length, key-long}
 use Rattle.reply.specs.Reply.{ReplyRooms, replyTold, replySeen}
 use Rattle.reply.specs.declared.ReplyAnswer.the-variants.{Refused}
 use Rattle.reply.proofs.Replying.{reply-refused}
-use Rattle.rows_state.specs.State.{long, named, savedOf, begun}
+use Rattle.lists.proofs.Same.{zeros-long}
+use Rattle.rows_state.specs.State.{long, named, savedOf, begun, frodoOf}
+use Rattle.rows_state.specs.Part.{StateSeen, stateSeen}
+use Rattle.rows_state.proofs.Turns.{state-by}
 use Rattle.rows_state.specs.declared.Call.{Call}
 use Rattle.rows_state.proofs.Tests.{all-below, started, completes, frodos}
 use Rattle.rows_state.proofs.Laying.{kept-long}
 use Rattle.rows.specs.Offer.{sentPart}
-use Rattle.rows.specs.Reply.{ReplyBegin, replyBeginTests, replyEndTests, replyEndMessage, replyEndKey, replyEndResult}
+use Rattle.rows.specs.Reply.{ReplyBegin, replyBeginTests, replyBeginResult, replyEndTests}
+use Rattle.rows.specs.Reply.{replyEndMessage, replyEndKey, replyEndResult}
 use Rattle.rows.specs.Inside.{replyBeginSizes, replyBeginRest, replyEndSizes}
-use Rattle.rows.proofs.{Ends.end-by, Sending.sent-counted}
+use Rattle.rows.proofs.{Ends.last-length, Ends.end-by, Sending.sent-counted}
 
 pub opened-tests : (c : Scheme) → familyOf c ≡ Family.Frodo → (p : List ℕ) → receivedIn (fixedOf c .q) p (numbersIn c p) ≡ notBlank p
 unfolding receivedIn numbersIn
@@ -58,17 +63,11 @@ module _ (c : Scheme) (x : ReplyBegin) (m : ℕ) where
   pub begin-sized : replyBeginSizes c x m ≡ Pass → Sized c x m
   unfolding replyBeginSizes
   begin-sized t =
-      let state = both _ _ t in
-      let last = both _ _ (state .0) in
-      let noise = both _ _ (last .0) in
-      let first = both _ _ (noise .0) in
-      record {
-        opening-long = length-passed _ _ (first .0);
-        secret-long = length-passed _ _ (first .1);
-        noise-long = length-passed _ _ (noise .1);
-        last-long = length-passed _ _ (last .1);
-        state-long = length-passed _ _ (state .1);
-      }
+      let state = last-length _ _ _ t in
+      let last = last-length _ _ _ (state .0) in
+      let noise = last-length _ _ _ (last .0) in
+      let secret = last-length _ _ _ (noise .0) in
+      record { opening-long = length-passed _ _ (secret .0); secret-long = secret .1; noise-long = noise .1; last-long = last .1; state-long = state .1 }
 
   -- its tests in two parts: sizes, and what follows
   pub begin-apart : replyBeginTests (Known c) x m ≡ replyBeginSizes c x m then replyBeginRest c x
@@ -81,9 +80,13 @@ module _ (c : Scheme) (x : ReplyBegin) (m : ℕ) where
   pub begin-decides : {v : Verdict} → replyBeginSizes c x m ≡ Pass → v ≡ replyBeginRest c x → replyBeginTests (Known c) x m ≡ v
   begin-decides t e = begin-apart ∙ went-on _ refl t ∙ sym e
 
-pub begin-unknown : {c : Named} (x : ReplyBegin) (m : ℕ) → c ≡ Unknown → replyBeginTests c x m ≡ Fail NoScheme
-unfolding replyBeginTests
-begin-unknown x m e = rw e
+module _ (k : ℕ) (x : ReplyBegin) (m : ℕ) {r : Named} {st : List ℕ} (e : r ≡ frodoOf k) (z : st ≡ replicate m 0) where
+  pub begin-unknown : r ≡ Unknown → stateSeen (Fail NoScheme) st ≡ replyBeginResult (frodoOf k) x m
+  unfolding replyBeginTests
+  begin-unknown u = state-by _ _ (rw (sym e ∙ u)) z
+
+  pub begin-known : {c : Scheme} {t : StateSeen} → r ≡ Known c → t ≡ replyBeginResult (Known c) x (length st) → t ≡ replyBeginResult (frodoOf k) x m
+  begin-known u b = rw (sym e ∙ u, ← zeros-long m 0 z) b
 
 -- ---- end
 

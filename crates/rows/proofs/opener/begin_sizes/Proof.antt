@@ -1,39 +1,17 @@
 -- `rows::opener::begin_sizes` meets its contract: one test after the other.
-use mathlib.Core.Path.{refl, ap}
+use mathlib.Core.Path.{ap}
+use Prim.Native.Nat.{_≤_}
 use native.Mathlib.Omega.{arith}
 use borrow.Author.Needs.{needs}
 use Rattle.schemes.specs.declared.Fixed.{Fixed}
-use Rattle.refusals.proofs.Laws.{first, also}
-use Rattle.rows.specs.Inside.{offerBeginSizes}
-use Rattle.rows.proofs.opener.begin_sizes.Statement.{statement}
+use Rattle.rows.proofs.{Opening.begin-sizes, opener.begin_sizes.Statement.statement}
 use Rattle.rows.proofs.opener.begin_sizes.Tie as tie
 
-mul-length-is : tie.Need-mul-length-is
-mul-length-is c =
-    let s : tie.Start = search needs in
-    let f : tie.After-fixed = search needs in
-    record { fits = omega (arith, ap (λ (g : Fixed). g .n) (f .fixed .ensures), s .pre) }
-
-add-length-is : tie.Need-add-length-is
-add-length-is c =
-    let s : tie.Start = search needs in
-    let f : tie.After-fixed = search needs in
-    record { fits = omega (arith, ap (λ (g : Fixed). g .n) (f .fixed .ensures), s .pre) }
-
-returns : tie.Need-returns
-unfolding offerBeginSizes
-returns c =
-    let l3 : tie.After-length-is3 = search needs in
-    let l2 : tie.After-length-is2 = search needs in
-    let l1 : tie.After-length-is = search needs in
-    let f : tie.After-fixed = search needs in
-    rw (f .fixed .ensures) at
-    (also (c .length-is4 .ensures)
-    (also (l3 .length-is3 .ensures)
-    (also (l2 .length-is2 .ensures)
-    (first (l1 .length-is .ensures) refl) refl) refl) refl)
+few : (f : tie.After-fixed) → f .fixed .result .n ≤ 864
+few f = let s : tie.Start = search needs in omega (arith, ap (λ (g : Fixed). g .n) (f .fixed .ensures), s .pre)
 
 pub begin-sizes-spec : {M : Type 1} → statement M
 begin-sizes-spec =
     tie.close
-    (tie.spec (λ c κs. search needs) (λ c κs. search needs) (λ c κs. search needs) (λ c κs. search needs) mul-length-is add-length-is (λ c κs. search needs) returns)
+    (tie.spec (λ c κs. search needs) (λ c κs. search needs) (λ c κs. search needs) (λ c κs. search needs) (λ c. omega (arith, few (search needs)))
+    (λ c. omega (arith, few (search needs))) (λ c κs. search needs) (λ c. search (needs, begin-sizes)))
