@@ -8,8 +8,8 @@ mod raw {
         pub fn transform_forward(g: *mut [u32; 1024]);
         pub fn transform_inverse(g: *mut [u32; 1024]);
         pub fn transform_product(a: *mut [u32; 1024], b: *mut [u32; 1024]);
-        pub fn matrix_mix_right(q: u32, n: usize, r: usize, x: *const u32, xn: usize, s: *const i32, sn: usize, e: *const i32, en: usize, out: *mut u32, on: usize);
-        pub fn matrix_mix_left(q: u32, n: usize, c: usize, s: *const i32, sn: usize, y: *const u32, yn: usize, e: *const i32, en: usize, out: *mut u32, on: usize);
+        pub fn matrix_right(q: u32, n: usize, x: *const u32, xn: usize, s: *const i32, sn: usize, e: *const i32, en: usize, out: *mut u32, on: usize);
+        pub fn matrix_left(q: u32, n: usize, s: *const i32, sn: usize, y: *const u32, yn: usize, e: *const i32, en: usize, out: *mut u32, on: usize);
         pub fn matrix_multiply(q: u32, n: usize, u: *const u32, un: usize, s: *const i32, sn: usize, out: *mut u32, on: usize);
         pub fn numbers_fold(x: u64) -> u64;
         pub fn packing_pack(w: u32, xs: *const u32, xn: usize, out: *mut u8, on: usize);
@@ -66,16 +66,16 @@ fn fits(q: u32, n: usize, rows: usize, numbers: &[u32], s: &[i32]) -> bool {
     1 <= q && q <= 32768 && 65536 % q == 0 && 1 <= n && n <= 864 && 1 <= rows && rows <= 864 && numbers.len() == rows * n && s.len() == 8 * n && below(q, numbers) && within(6, s)
 }
 
-/// X s + e, X of r rows of n numbers, s of n rows of 8.
-pub fn matrix_mix_right(q: u32, n: usize, r: usize, x: &[u32], s: &[i32], e: &[i32], out: &mut [u32]) {
-    debug_assert!(fits(q, n, r, x, s) && e.len() == 8 * r && out.len() == 8 * r);
-    unsafe { raw::matrix_mix_right(q, n, r, x.as_ptr(), x.len(), s.as_ptr(), s.len(), e.as_ptr(), e.len(), out.as_mut_ptr(), out.len()) }
+/// X s + e, X of n rows of n numbers, s of n rows of 8.
+pub fn matrix_right(q: u32, n: usize, x: &[u32], s: &[i32], e: &[i32], out: &mut [u32]) {
+    debug_assert!(fits(q, n, n, x, s) && e.len() == 8 * n && out.len() == 8 * n);
+    unsafe { raw::matrix_right(q, n, x.as_ptr(), x.len(), s.as_ptr(), s.len(), e.as_ptr(), e.len(), out.as_mut_ptr(), out.len()) }
 }
 
-/// s Y + e, s of 8 rows of n, Y of n rows of c numbers.
-pub fn matrix_mix_left(q: u32, n: usize, c: usize, s: &[i32], y: &[u32], e: &[i32], out: &mut [u32]) {
-    debug_assert!(fits(q, n, c, y, s) && e.len() == 8 * c && out.len() == 8 * c);
-    unsafe { raw::matrix_mix_left(q, n, c, s.as_ptr(), s.len(), y.as_ptr(), y.len(), e.as_ptr(), e.len(), out.as_mut_ptr(), out.len()) }
+/// s Y + e, s of 8 rows of n, Y of n rows of n numbers.
+pub fn matrix_left(q: u32, n: usize, s: &[i32], y: &[u32], e: &[i32], out: &mut [u32]) {
+    debug_assert!(fits(q, n, n, y, s) && e.len() == 8 * n && out.len() == 8 * n);
+    unsafe { raw::matrix_left(q, n, s.as_ptr(), s.len(), y.as_ptr(), y.len(), e.as_ptr(), e.len(), out.as_mut_ptr(), out.len()) }
 }
 
 /// U s, U of 8 rows of n numbers.

@@ -126,17 +126,13 @@ fn products_of_other_lengths() {
 fn frodo(n: usize, q: u32, a: &[u32], s: &[i32], e: &[i32]) {
     let m = q.into();
     let mut out = vec![9; 8 * n];
-    kernels::matrix_mix_right(q, n, n, a, s, e, &mut out);
+    kernels::matrix_right(q, n, a, s, e, &mut out);
     assert_eq!(wide(&out), plus(matrix::a_s(&wide(a), &signed(s), n, m), e, m));
-    let right = out.clone();
 
-    kernels::matrix_mix_left(q, n, n, s, a, e, &mut out);
+    kernels::matrix_left(q, n, s, a, e, &mut out);
     assert_eq!(wide(&out), plus(matrix::s1_a(&signed(s), &wide(a), n, m), e, m));
 
     let mut few = [9; 64];
-    kernels::matrix_mix_left(q, n, 8, s, &right, &e[..64], &mut few);
-    assert_eq!(wide(&few), plus(matrix::s1_b(&signed(s), &wide(&right), n, m), &e[..64], m));
-
     kernels::matrix_multiply(q, n, &out, s, &mut few);
     assert_eq!(wide(&few), matrix::b1_s(&wide(&out), &signed(s), n, m));
 }

@@ -76,17 +76,17 @@ fn frodo(rows: &mut dyn Rows, n: usize, q: u32, largest: u32) {
     let (a, s, e) = (draw.numbers(n * n, q), draw.secrets(8 * n, largest), draw.secrets(8 * n, largest));
     let (a16, s16, e16) = (narrow(&a), wrapped(&s), wrapped(&e));
     let (mut x, mut y) = (vec![0; 8 * n], vec![0; 8 * n]);
-    kernels::matrix_mix_right(q, n, n, &a, &s, &e, &mut x);
+    kernels::matrix_right(q, n, &a, &s, &e, &mut x);
     matrix::mix_right(mask, n, &a16, &s16, &e16, &mut y);
     assert_eq!(narrow(&x), y, "the two give one A S + E");
-    kernels::matrix_mix_left(q, n, n, &s, &a, &e, &mut x);
+    kernels::matrix_left(q, n, &s, &a, &e, &mut x);
     matrix::mix_left(mask, n, n, &s16, &a16, &e16, &mut y);
     assert_eq!(narrow(&x), y, "the two give one S' A + E'");
 
     let loops = "16-bit loops";
-    let mut right = || kernels::matrix_mix_right(q, n, n, black_box(&a), &s, &e, &mut x);
+    let mut right = || kernels::matrix_right(q, n, black_box(&a), &s, &e, &mut x);
     rows.row(&format!("Frodo {n}, A S + E"), loops, &mut right, &mut || matrix::mix_right(mask, n, black_box(&a16), &s16, &e16, &mut y));
-    let mut left = || kernels::matrix_mix_left(q, n, n, &s, black_box(&a), &e, &mut x);
+    let mut left = || kernels::matrix_left(q, n, &s, black_box(&a), &e, &mut x);
     rows.row(&format!("Frodo {n}, S' A + E'"), loops, &mut left, &mut || matrix::mix_left(mask, n, n, &s16, black_box(&a16), &e16, &mut y));
 }
 

@@ -54,37 +54,21 @@ pub extern "C" fn transform_product(a: &mut [u32; 1024], b: &mut [u32; 1024])
 }
 
 #[no_mangle]
-pub extern "C" fn matrix_mix_right(
-    q: u32,
-    n: usize,
-    r: usize,
-    x: &[u32],
-    s: &[i32],
-    e: &[i32],
-    out: &mut [u32],
-)
-    requires { ⌜ matrix.Fit q n r (now x) (now s) × (length (now out) ≡ 8 * r) ⌝ }
-    requires { ⌜ length (now e) ≡ 8 * r ⌝ }
-    ensures { λ _. ⌜ left out ≡ matrices.rightMixed q r n 8 (was x) (was s) (was e) ⌝ }
+pub extern "C" fn matrix_right(q: u32, n: usize, x: &[u32], s: &[i32], e: &[i32], out: &mut [u32])
+    requires { ⌜ matrix.Fit q n n (now x) (now s) × (length (now out) ≡ 8 * n) ⌝ }
+    requires { ⌜ length (now e) ≡ 8 * n ⌝ }
+    ensures { λ _. ⌜ left out ≡ matrices.rightMixed q n n 8 (was x) (was s) (was e) ⌝ }
 {
-    matrix::mix_right(q, n, r, x, s, e, out);
+    matrix::mix_right(q, n, x, s, e, out);
 }
 
 #[no_mangle]
-pub extern "C" fn matrix_mix_left(
-    q: u32,
-    n: usize,
-    c: usize,
-    s: &[i32],
-    y: &[u32],
-    e: &[i32],
-    out: &mut [u32],
-)
-    requires { ⌜ matrix.Fit q n c (now y) (now s) × (length (now out) ≡ 8 * c) ⌝ }
-    requires { ⌜ length (now e) ≡ 8 * c ⌝ }
-    ensures { λ _. ⌜ left out ≡ matrices.leftMixed q n c 8 (was s) (was y) (was e) ⌝ }
+pub extern "C" fn matrix_left(q: u32, n: usize, s: &[i32], y: &[u32], e: &[i32], out: &mut [u32])
+    requires { ⌜ matrix.Fit q n n (now y) (now s) × (length (now out) ≡ 8 * n) ⌝ }
+    requires { ⌜ length (now e) ≡ 8 * n ⌝ }
+    ensures { λ _. ⌜ left out ≡ matrices.leftMixed q n n 8 (was s) (was y) (was e) ⌝ }
 {
-    matrix::mix_left(q, n, c, s, y, e, out);
+    matrix::mix_left(q, n, s, y, e, out);
 }
 
 #[no_mangle]

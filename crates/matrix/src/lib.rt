@@ -291,36 +291,25 @@ fn right_on(
     at
 }
 
-// XS + E, where X has r rows and n columns: AS + E. The answer is the place of the first number of X that is q or more, or X's length where none is. Here as
+// XS + E, where X has n rows and n columns: AS + E. The answer is the place of the first number of X that is q or more, or X's length where none is. Here as
 // below arrays have some words that nobody needs: with them those that matter start where 16 bytes do, and no vector lies in two lines of the cache, which is 7 to
 // 10 % of Frodo's products on an AMD EPYC. Which arrays these are was found by looking; no proof rests on it, and another compiler may lay them otherwise.
-pub fn mix_right(
-    q: u32,
-    n: usize,
-    r: usize,
-    x: &[u32],
-    s: &[i32],
-    e: &[i32],
-    out: &mut [u32],
-) -> usize
-    requires { ⌜ Shape q n r (now x) (now s) × (length (now out) ≡ 8 * r) ⌝ }
-    requires { ⌜ length (now e) ≡ 8 * r ⌝ }
-    ensures { λ at. ⌜ at ≡ firstOver q (was x) ⌝ }
-    ensures { λ _. ⌜ (Below q (was x) → left out ≡ rightMixed q r n 8 (was x) (was s) (was e)) ⌝ }
+pub fn mix_right(q: u32, n: usize, x: &[u32], s: &[i32], e: &[i32], out: &mut [u32]) -> usize
+    requires { ⌜ (Shape q n n (now x) (now s) × (length (now out) ≡ 8 * n)) × (length (now e) ≡ 8 * n) ⌝ }
+    ensures { λ at. ⌜ (at ≡ firstOver q (was x)) × (Below q (was x) → left out ≡ rightMixed q n n 8 (was x) (was s) (was e)) ⌝ }
 {
     let mut cols: [u16; 6920] = [0; 6920];
     let mut line: [u16; 864] = [0; 864];
     let mut sums: [u16; 6916] = [0; 6916];
-    let m = 8 * n;
-    let k = 8 * r;
+    let k = 8 * n;
     right_on(
         q,
         n,
-        r,
+        n,
         x,
         s,
         e,
-        &mut cols[..m],
+        &mut cols[..k],
         &mut line[..n],
         &mut sums[..k],
         out,
@@ -454,7 +443,6 @@ fn left_rows(
 fn left_on(
     q: u32,
     n: usize,
-    c: usize,
     s: &[i32],
     y: &[u32],
     e: &[i32],
@@ -463,48 +451,36 @@ fn left_on(
     sums: &mut [u16],
     out: &mut [u32],
 ) -> usize
-    requires { ⌜ Shape q n c (now y) (now s) × (length (now e) ≡ 8 * c) × (length (now out) ≡ 8 * c) ⌝ }
-    requires { ⌜ (length (now factors) ≡ 8 * n) × (4 * c ≤ length (now block)) × (length (now sums) ≡ 8 * c) ⌝ }
+    requires { ⌜ Shape q n n (now y) (now s) × (length (now e) ≡ 8 * n) × (length (now out) ≡ 8 * n) ⌝ }
+    requires { ⌜ (length (now factors) ≡ 8 * n) × (4 * n ≤ length (now block)) × (length (now sums) ≡ 8 * n) ⌝ }
     ensures { λ at. ⌜ at ≡ firstOver q (was y) ⌝ }
-    ensures { λ _. ⌜ (Below q (was y) → left out ≡ leftMixed q n c 8 (was s) (was y) (was e)) ⌝ }
+    ensures { λ _. ⌜ (Below q (was y) → left out ≡ leftMixed q n n 8 (was s) (was y) (was e)) ⌝ }
 {
     words(s, factors);
     words(e, sums);
-    let at = left_rows(q, n, c, factors, y, block, sums);
+    let at = left_rows(q, n, n, factors, y, block, sums);
     reduce(q, sums, out);
     at
 }
 
-// SY + E, where Y has n rows and c columns: S'A + E'. The answer is the place of the first number of Y that is q or more, or Y's length.
-pub fn mix_left(
-    q: u32,
-    n: usize,
-    c: usize,
-    s: &[i32],
-    y: &[u32],
-    e: &[i32],
-    out: &mut [u32],
-) -> usize
-    requires { ⌜ Shape q n c (now y) (now s) × (length (now out) ≡ 8 * c) ⌝ }
-    requires { ⌜ length (now e) ≡ 8 * c ⌝ }
-    ensures { λ at. ⌜ at ≡ firstOver q (was y) ⌝ }
-    ensures { λ _. ⌜ (Below q (was y) → left out ≡ leftMixed q n c 8 (was s) (was y) (was e)) ⌝ }
+// SY + E, where Y has n rows and n columns: S'A + E'. The answer is the place of the first number of Y that is q or more, or Y's length.
+pub fn mix_left(q: u32, n: usize, s: &[i32], y: &[u32], e: &[i32], out: &mut [u32]) -> usize
+    requires { ⌜ (Shape q n n (now y) (now s) × (length (now out) ≡ 8 * n)) × (length (now e) ≡ 8 * n) ⌝ }
+    ensures { λ at. ⌜ (at ≡ firstOver q (was y)) × (Below q (was y) → left out ≡ leftMixed q n n 8 (was s) (was y) (was e)) ⌝ }
 {
     let mut factors: [u16; 6912] = [0; 6912];
     let mut block: [u16; 3460] = [0; 3460];
     let mut sums: [u16; 6920] = [0; 6920];
     let k = 8 * n;
-    let m = 8 * c;
     left_on(
         q,
         n,
-        c,
         s,
         y,
         e,
         &mut factors[..k],
         &mut block,
-        &mut sums[..m],
+        &mut sums[..k],
         out,
     )
 }

@@ -80,7 +80,7 @@ pub fn offer(scheme: Scheme, a: &[u32], s: &[i32], e: &[i32], out: &mut [u32]) -
     match family {
         Family::Bcns => mix_bcns(f.q, a, s, e, out),
         Family::NewHope => mix_newhope(f.q, a, s, e, out),
-        Family::Frodo => matrix::mix_right(f.q, f.n, f.n, a, s, e, out),
+        Family::Frodo => matrix::mix_right(f.q, f.n, a, s, e, out),
     }
 }
 
@@ -112,7 +112,7 @@ pub fn reply(
         Family::NewHope => reply_newhope(f.q, a, s1, e1, e2, b, v),
         Family::Frodo => {
             matrix::mix_eight(f.q, f.n, s1, b, e2, v);
-            matrix::mix_left(f.q, f.n, f.n, s1, a, e1, b)
+            matrix::mix_left(f.q, f.n, s1, a, e1, b)
         }
     }
 }

@@ -14,14 +14,14 @@ slice-aggregate-right-on-2 : tie.Need-slice-aggregate-right-on-2
 slice-aggregate-right-on-2 c = let a : tie.Start = search needs in sym (buffer-long (a .args .n) 864 (a .pre .0 .0 .few))
 
 slice-aggregate-right-on-3 : tie.Need-slice-aggregate-right-on-3
-slice-aggregate-right-on-3 c = let a : tie.Start = search needs in sym (buffer-long (8 * a .args .r) 6916 (omega (arith, a .pre .0 .0 .rows-few)))
+slice-aggregate-right-on-3 c = let a : tie.Start = search needs in sym (buffer-long (8 * a .args .n) 6916 (omega (arith, a .pre .0 .0 .few)))
 
 right-on-requires : tie.Need-right-on-requires
 right-on-requires c κs =
     let a : tie.Start = search needs in
     let f = a .pre .0 .0 in (
       (f, a .pre .1, a .pre .0 .1),
-      (buffer-long (8 * a .args .n) 6920 (omega (arith, f .few)), buffer-long (a .args .n) 864 (f .few), buffer-long (8 * a .args .r) 6916 (omega (arith, f .rows-few))),
+      (buffer-long (8 * a .args .n) 6920 (omega (arith, f .few)), buffer-long (a .args .n) 864 (f .few), buffer-long (8 * a .args .n) 6916 (omega (arith, f .few))),
     )
 
 returns : tie.Need-returns
@@ -30,4 +30,4 @@ returns c = let o : tie.After-right-on = search needs in o .right-on .ensures
 pub mix-right-spec : {M : Type 1} → statement M
 mix-right-spec =
     tie.close
-    (tie.spec (search needs) (search needs) (search needs) slice-aggregate-right-on (search needs) slice-aggregate-right-on-2 (search needs) slice-aggregate-right-on-3 right-on-requires (search needs) returns)
+    (tie.spec (search needs) (search needs) slice-aggregate-right-on (search needs) slice-aggregate-right-on-2 (search needs) slice-aggregate-right-on-3 right-on-requires (search needs) returns)
