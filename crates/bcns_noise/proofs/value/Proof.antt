@@ -26,11 +26,17 @@ count-requires c κs =
       below = eight-below (x1 .three .ensures .1) (x2 .three2 .ensures .1) (x3 .three3 .ensures .1) (x4 .three4 .ensures .1) (x5 .three5 .ensures .1) (x6 .three6 .ensures .1) (x7 .three7 .ensures .1) (x8 .three8 .ensures .1);
     }
 
--- the places of the eight limbs lie too far back to be searched for
+-- the places of the eight limbs lie too far back to be searched for in one step
+abbrev eighth : tie.After-count → tie.After-three8
+eighth c = search needs
+
+abbrev start : tie.After-three → tie.Start
+start c = search needs
+
 returns : tie.Need-returns
 returns c =
     let n : tie.After-count = search needs in
-    let x8 = c .before .before .before .before in
+    let x8 = eighth n in
     let x7 = x8 .before in
     let x6 = x7 .before in
     let x5 = x6 .before in
@@ -38,7 +44,7 @@ returns c =
     let x3 = x4 .before in
     let x2 = x3 .before in
     let x1 = x2 .before in
-    let s = x1 .before .before .before .before in
+    let s = start x1 in
     toZ-ofZ (record { sfits = c .signed .ok })
     ∙ c .signed .ensures
     ∙ value-is (s .pre .0) (s .pre .1) (eight-below (x1 .three .ensures .1) (x2 .three2 .ensures .1) (x3 .three3 .ensures .1) (x4 .three4 .ensures .1) (x5 .three5 .ensures .1) (x6 .three6 .ensures .1) (x7 .three7 .ensures .1) (x8 .three8 .ensures .1)) (s .args .bytes .now) (s .args .k)
