@@ -1,71 +1,57 @@
 -- Where the public numbers come from.
---   bcns-lends, frodo-lends   they are lent; only-newhope: in NewHope alone they are grown
+--   Lends, lends              they are lent where some are lent; only-newhope: where none are, the scheme is NewHope, whose are grown
 --   no-publics                none are refused where none are lent
---   ran-out                   what Grow's refusal says
---   numbers-counted           the numbers that it makes where it does not refuse: all are there, below q
---   Grows, grows              what it leaves then
+--   numbers-counted           the numbers that Grow makes where it does not refuse: all are there, below q
+--   grow-failed, grow-passed  what `grow` gives, by Grow's answer
 --   public-counted            the public numbers of any scheme, lent or grown, where their tests have passed
-use mathlib.Core.{Path._≡_, Path.refl, Path._∙_, Path.ap, List.List, List.[]}
+use mathlib.Core.{Path._≡_, Path.refl, Path._∙_, Path.sym, Path.ap, List.List, List.[]}
 use Prim.Native.Nat.{ℕ, suc}
 use native.Mathlib.Nat.{le-refl}
 use native.Mathlib.Omega.{arith}
 use lib.ListN.{length}
-use Rattle.schemes.specs.Schemes.{fixedOf, familyOf, byFamily}
-use Rattle.schemes.specs.{declared.Family.Family, declared.Scheme.Scheme}
+use Rattle.schemes.specs.{Schemes.fixedOf, declared.Scheme.Scheme}
 use Rattle.schemes.specs.declared.Scheme.the-variants.{Bcns, NewHope, Challenge, Classical, Recommended, Paranoid}
 use Rattle.schemes.proofs.Sound.{sound}
 use Rattle.refusals.specs.{Refusals.publicsIn, Seen.told, Seen.shown, Seen.seen}
 use Rattle.refusals.specs.{declared.Answer.Answer, declared.Refusal.Refusal}
 use Rattle.refusals.specs.declared.Verdict.{Verdict}
 use Rattle.refusals.specs.declared.Verdict.the-variants.{Pass, Fail}
-use Rattle.refusals.proofs.Laws.{all-pass, length-passes, room-passes, publics-passed, below-passes, went-on}
+use Rattle.refusals.proofs.Laws.{differ, all-pass, length-passes, room-passes, publics-passed, below-passes, went-on}
 use Rattle.refusals.proofs.Seen.{seen-done}
-use Rattle.noise.specs.{declared.RuleName.RuleName, declared.Ruled.Ruled}
+use Rattle.noise.specs.declared.Ruled.{Ruled}
 use Rattle.noise.specs.declared.Ruled.the-variants.{By}
 use Rattle.noise.proofs.Stream.{by-name-below}
-use Rattle.sampling.specs.Expand.{expandNumbers, enough}
+use Rattle.sampling.specs.Expand.{expandNumbers}
 use Rattle.sampling.specs.Expand.{growNumbers, blocks, growTests, growResult}
 use Rattle.sampling.proofs.Expanding.{enough-passed, numbers-few}
 use Rattle.values.specs.Fit.{Counted}
 use Rattle.exchange.specs.Random.{publicLent, publicFrom, grown}
+use Rattle.exchange.specs.Inside.{ruledIn, Grows}
 use Rattle.exchange.proofs.Drawn.{seen-fails, seen-whole}
 
 pub record Lends (c : Scheme) (k : Ruled) (seed a : List ℕ) : Type 0 where
   pub from : publicFrom c k seed a ≡ a
   pub none : grown c k seed ≡ Pass
   pub long : publicLent c ≡ fixedOf c .public
+  pub some : publicLent c ≡ 0 → ⊥
 
-module _ (c : Scheme) (k : Ruled) (seed a : List ℕ) where
-  lends : (F : Family) → byFamily F a (growNumbers k seed) a ≡ a → byFamily F Pass (enough (length (growNumbers k seed))) Pass ≡ Pass
-      → byFamily F (fixedOf c .public) 0 (fixedOf c .public) ≡ fixedOf c .public → familyOf c ≡ F → Lends c k seed a
-  unfolding publicFrom grown
-  lends F f g h e =
-      record {
-        from = ap (λ (G : Family). byFamily G a (growNumbers k seed) a) e ∙ f;
-        none = ap (λ (G : Family). byFamily G Pass (enough (length (growNumbers k seed))) Pass) e ∙ g;
-        long = ap (λ (G : Family). byFamily G (fixedOf c .public) 0 (fixedOf c .public)) e ∙ h;
-      }
+never : (n : ℕ) → suc n ≡ 0 → ⊥
+never n e = omega arith
 
-  pub bcns-lends : familyOf c ≡ Family.Bcns → Lends c k seed a
-  bcns-lends = lends Family.Bcns refl refl refl
+either-way : {X : Type 0} (c : Scheme) (k : Ruled) (seed a : List ℕ) → (Lends c k seed a → X) → (c ≡ NewHope → X) → X
+unfolding publicFrom grown
+either-way Bcns k seed a f g = f (record { from = refl; none = refl; long = refl; some = never 1023 })
+either-way NewHope k seed a f g = g refl
+either-way Challenge k seed a f g = f (record { from = refl; none = refl; long = refl; some = never 123903 })
+either-way Classical k seed a f g = f (record { from = refl; none = refl; long = refl; some = never 350463 })
+either-way Recommended k seed a f g = f (record { from = refl; none = refl; long = refl; some = never 565503 })
+either-way Paranoid k seed a f g = f (record { from = refl; none = refl; long = refl; some = never 746495 })
 
-  pub frodo-lends : familyOf c ≡ Family.Frodo → Lends c k seed a
-  frodo-lends = lends Family.Frodo refl refl refl
+pub lends : (c : Scheme) (k : Ruled) (seed a : List ℕ) → (publicLent c ≡ 0 → ⊥) → Lends c k seed a
+lends c k seed a h = either-way c k seed a (λ L. L) (λ d. absurd (h (ap publicLent d)))
 
--- by a number for each family
-familyNumber : Family → ℕ
-familyNumber Family.Bcns = 0
-familyNumber Family.NewHope = 1
-familyNumber Family.Frodo = 2
-
-pub only-newhope : (c : Scheme) → familyOf c ≡ Family.NewHope → c ≡ NewHope
-unfolding familyNumber
-only-newhope Bcns e = let z : _≡_ {A = ℕ} 0 1 = ap familyNumber e in absurd (omega arith)
-only-newhope NewHope e = refl
-only-newhope Challenge e = let z : _≡_ {A = ℕ} 2 1 = ap familyNumber e in absurd (omega arith)
-only-newhope Classical e = let z : _≡_ {A = ℕ} 2 1 = ap familyNumber e in absurd (omega arith)
-only-newhope Recommended e = let z : _≡_ {A = ℕ} 2 1 = ap familyNumber e in absurd (omega arith)
-only-newhope Paranoid e = let z : _≡_ {A = ℕ} 2 1 = ap familyNumber e in absurd (omega arith)
+pub only-newhope : (c : Scheme) → publicLent c ≡ 0 → c ≡ NewHope
+only-newhope c e = either-way c Ruled.Unknown [] [] (λ L. absurd (L .some e)) (λ d. d)
 
 -- ---- Grow
 
@@ -73,54 +59,47 @@ pub no-publics : (q : ℕ) → publicsIn (suc q) [] ≡ Pass
 no-publics q = below-passes (record { below = λ i. omega arith })
 
 -- the numbers that it makes where it does not refuse
-pub numbers-counted : (k : RuleName) (seed : List ℕ) → grown NewHope (By k) seed ≡ Pass → Counted 1024 12289 (growNumbers (By k) seed)
+pub numbers-counted : (k : Ruled) (seed : List ℕ) → ruledIn k ≡ Pass → grown NewHope k seed ≡ Pass → Counted 1024 12289 (growNumbers k seed)
 unfolding grown expandNumbers
-numbers-counted k seed p =
-    let xs = growNumbers (By k) seed in
-    record { long = omega (arith, enough-passed (length xs) _ refl p, numbers-few k (blocks seed)); below = by-name-below k (blocks seed) }
+numbers-counted Ruled.Unknown seed u p = differ u
+numbers-counted (By r) seed u p =
+    let xs = growNumbers (By r) seed in
+    record { long = omega (arith, enough-passed (length xs) _ refl p, numbers-few r (blocks seed)); below = by-name-below r (blocks seed) }
 
-pub record Grows (k : RuleName) (seed a : List ℕ) : Type 0 where
-  pub passed : grown NewHope (By k) seed ≡ Pass
-  pub is : a ≡ growNumbers (By k) seed
-  pub counted : Counted 1024 12289 a
+grow-tests : (k : Ruled) (seed : List ℕ) → ruledIn k ≡ Pass → length seed ≡ 32 → growTests k seed 1024 ≡ grown NewHope k seed
+unfolding growTests grown
+grow-tests Ruled.Unknown seed u l = differ u
+grow-tests (By r) seed u l = went-on _ refl (all-pass (length-passes l) (room-passes (le-refl 1024)))
 
 -- with just the room that it takes, by what it has left in a
-module _ (k : RuleName) (seed : List ℕ) (l : length seed ≡ 32) {j : Ruled} (d : j ≡ By k) {room : ℕ} (r : room ≡ 1024) (v : Answer) (a : List ℕ)
-    (p : seen (told v) a ≡ growResult j seed room) where
-  tests : growTests (By k) seed 1024 ≡ grown NewHope (By k) seed
-  unfolding growTests grown
-  tests = went-on _ refl (all-pass (length-passes l) (room-passes (le-refl 1024)))
+module _ (k : Ruled) (seed : List ℕ) (u : ruledIn k ≡ Pass) (l : length seed ≡ 32) {room : ℕ} (r : room ≡ 1024) (v : Answer) (a : List ℕ)
+    (p : seen (told v) a ≡ growResult k seed room) where
+  given : seen (told v) a ≡ shown (grown NewHope k seed) (growNumbers k seed) 0 1024
+  given = rw r at p ∙ ap (λ (w : Verdict). shown w (growNumbers k seed) 0 1024) (grow-tests k seed u l)
 
-  given : seen (told v) a ≡ shown (grown NewHope (By k) seed) (growNumbers (By k) seed) 0 1024
-  given = rw (d, r) at p ∙ ap (λ (w : Verdict). shown w (growNumbers (By k) seed) 0 1024) tests
+  pub grow-failed : {t : Refusal} → v ≡ Answer.Refused t → Fail t ≡ grown NewHope k seed
+  grow-failed {t} f = sym (seen-fails (growNumbers k seed) 0 1024 (grown NewHope k seed) t 0 a (rw f at given))
 
-  pub ran-out : {t : Refusal} → v ≡ Answer.Refused t → grown NewHope (By k) seed ≡ Fail t
-  ran-out {t} f = seen-fails (growNumbers (By k) seed) 0 1024 (grown NewHope (By k) seed) t 0 a (rw f at given)
-
-  pub grows : {m : ℕ} → v ≡ Answer.Done m → Grows k seed a
-  grows {m} f =
-      let xs = growNumbers (By k) seed in
+  pub grow-passed : {m : ℕ} → v ≡ Answer.Done m → Grows k seed a
+  grow-passed {m} f =
+      let xs = growNumbers k seed in
       let g = rw f at given in
-      let passed = seen-done xs 0 1024 (grown NewHope (By k) seed) m a g in
-      let counted = numbers-counted k seed passed in
-      let is = seen-whole xs 0 1024 (grown NewHope (By k) seed) m a (counted .long) g in
+      let passed = seen-done xs 0 1024 (grown NewHope k seed) m a g in
+      let counted = numbers-counted k seed u passed in
+      let is = seen-whole xs 0 1024 (grown NewHope k seed) m a (counted .long) g in
       record { passed = passed; is = is; counted = rw is counted }
 
 -- ---- of any scheme
 
-module _ (c : Scheme) (k : RuleName) (seed a : List ℕ) (l : length a ≡ publicLent c) (p : publicsIn (fixedOf c .q) a ≡ Pass) (g : grown c (By k) seed ≡ Pass) where
-  as-lent : Lends c (By k) seed a → Counted (fixedOf c .public) (fixedOf c .q) (publicFrom c (By k) seed a)
-  as-lent L = rw (L .from) (record { long = l ∙ L .long; below = publics-passed (fixedOf c .q) a (omega (arith, sound c .some)) p })
-
-  as-grown : c ≡ NewHope → Counted (fixedOf c .public) (fixedOf c .q) (publicFrom c (By k) seed a)
+module _ (c : Scheme) (k : Ruled) (seed a : List ℕ) (u : ruledIn k ≡ Pass) (l : length a ≡ publicLent c) (p : publicsIn (fixedOf c .q) a ≡ Pass)
+    (g : grown c k seed ≡ Pass) where
+  as-grown : c ≡ NewHope → Counted (fixedOf c .public) (fixedOf c .q) (publicFrom c k seed a)
   unfolding publicFrom
-  as-grown e = rw e (numbers-counted k seed (rw e at g))
+  as-grown e = rw e (numbers-counted k seed u (rw e at g))
 
   -- they pass as public numbers, wherever they come from
-  pub public-counted : Counted (fixedOf c .public) (fixedOf c .q) (publicFrom c (By k) seed a)
-  public-counted = go (familyOf c) refl
-    where
-      go : (F : Family) → familyOf c ≡ F → Counted (fixedOf c .public) (fixedOf c .q) (publicFrom c (By k) seed a)
-      go Family.Bcns e = as-lent (bcns-lends c (By k) seed a e)
-      go Family.NewHope e = as-grown (only-newhope c e)
-      go Family.Frodo e = as-lent (frodo-lends c (By k) seed a e)
+  pub public-counted : Counted (fixedOf c .public) (fixedOf c .q) (publicFrom c k seed a)
+  public-counted =
+      either-way c k seed a
+      (λ L. rw (L .from) (record { long = l ∙ L .long; below = publics-passed (fixedOf c .q) a (omega (arith, sound c .some)) p }))
+      as-grown

@@ -10,12 +10,12 @@ use Rattle.schemes.specs.declared.Named.the-variants.{Known, Unknown}
 use Rattle.schemes.proofs.Laws.{tied}
 use Rattle.lists.specs.{Ranges.Below, First.firstOver}
 use Rattle.lists.proofs.Parts.{front-long, part-long}
-use Rattle.refusals.specs.Refusals.{numberIn, _then_, lengthIs, roomFor, publicsIn, messageIn, notBlank, tableIn}
+use Rattle.refusals.specs.Refusals.{numberIn, receivedIn, _then_, lengthIs, roomFor, publicsIn, messageIn, notBlank, tableIn}
 use Rattle.refusals.specs.{Seen.Told, declared.Verdict.Verdict, declared.Verdict.the-variants.Pass}
 use Rattle.refusals.proofs.Laws.{differ, some, both, all-pass, below-passes}
 use Rattle.refusals.proofs.Number.{and, lengths, rooms, publics, blanks}
 use Rattle.refusals.proofs.Same.{same-refusal}
-use Rattle.noise.specs.{declared.RuleName.RuleName, declared.Ruled.the-variants.By}
+use Rattle.noise.specs.declared.Ruled.the-variants.{By}
 use Rattle.noise.specs.declared.Ruled.{Ruled}
 use Rattle.sampling.specs.Expand.{enough}
 use Rattle.offer.specs.Offer.{offerTests}
@@ -23,7 +23,7 @@ use Rattle.reply.specs.Reply.{ReplyRooms, replyTests}
 use Rattle.exchange.specs.Random.{secretBytes, mixedBytes, tableOrder, grown}
 use Rattle.exchange.specs.Open.{OpenLent, OpenRooms, OpenSeen, openOffer, openTests, openSeen}
 use Rattle.exchange.specs.Answer.{AnswerLent, answerReply, answerTests}
-use Rattle.exchange.specs.Inside.{openRest, sendTests, Sends, answerSizes, answerRest, settleTests, Settles}
+use Rattle.exchange.specs.Inside.{ruledIn, openSizes, openRest, sendTests, Sends, answerSizes, answerRest, settleTests, Settles}
 use Rattle.exchange.specs.Shown.{NeverSix, OpenOffers, AnswerReplies, OpenSeenAll, OpenToldAll}
 use Rattle.exchange.specs.declared.OpenAnswer.the-variants.{Done, Refused}
 use Rattle.exchange.specs.declared.OpenCounts.{OpenCounts}
@@ -84,63 +84,34 @@ blank-other = blanks Other none (λ e. omega arith)
 also : (v w : Verdict) → Other (numberIn v) → Other (numberIn w) → Other (numberIn (v then w))
 also v w a b = and Other v w a (λ _. b)
 
-open-never : (c : Scheme) (r : RuleName) (x : OpenLent) (m : OpenRooms) → Other (numberIn (openTests (Known c) (By r) x m))
-unfolding openTests
-open-never c r x m =
-    also _ _
+ruled-other : (k : Ruled) → Other (numberIn (ruledIn k))
+ruled-other Ruled.Unknown e = omega arith
+ruled-other (By r) e = omega arith
+
+open-never : (c : Scheme) (k : Ruled) (x : OpenLent) (m : OpenRooms) → Other (numberIn (openTests (Known c) k x m))
+unfolding openSizes openRest sendTests
+open-never c k x m =
+    let e = open-apart c k x m in
+    rw e
+    (also _ _
+    (also _ _ (also _ _ (also _ _ (also _ _ (also _ _ (ruled-other k) (length-other _ _)) (length-other _ _)) (length-other _ _)) (room-other _ _)) (room-other _ _))
+    (also _ _ (table-other c (x .table)) (also _ _ (also _ _ (publics-other _ _) (grown-other c k _)) (blank-other _))))
+
+answer-never : (c : Scheme) (k : Ruled) (x : AnswerLent) (m : ReplyRooms) → Other (numberIn (answerTests (Known c) k x m))
+unfolding answerSizes answerRest settleTests receivedIn
+answer-never c k x m =
+    let e = answer-apart c k x m in
+    rw e
     (also _ _
     (also _ _
-    (also _ _ (also _ _ (also _ _ (also _ _ (also _ _ (length-other _ _) (length-other _ _)) (length-other _ _)) (room-other _ _)) (room-other _ _)) (table-other c (x .table)))
-    (publics-other _ _))
-    (grown-other c (By r) _))
-    (blank-other _)
-
--- ---- what passes
-
-open-offers-by : (c : Scheme) (r : RuleName) (x : OpenLent) (m : OpenRooms) → Below 256 (x .random) → openTests (Known c) (By r) x m ≡ Pass
-    → offerTests (Known c) (openOffer (Known c) (By r) x) (m .opening) ≡ Pass
-unfolding openRest sendTests openOffer
-open-offers-by c r x m b t =
-    let apart = both _ _ (sym (open-apart c x m r) ∙ t) in
-    let sends = both _ _ (both _ _ (apart .1) .1) in
-    let publics = both _ _ (sends .0) in
-    let z = open-sized c x m (apart .0) in
-    let k = secretBytes c in
-    let at = fixedOf c .seed in
-    let first : at + k ≤ length (x .random) = omega (arith, z .random-long) in
-    let second : at + k + k ≤ length (x .random) = omega (arith, z .random-long) in
-    let seed : at ≤ length (x .random) = omega (arith, z .random-long) in
-    let h : Sends c _ _ _ (m .opening) =
-    record {
-      secret = drawn-small (draws-secret c first (z .table-long) refl (sym (tied c .noise))) b;
-      noise = drawn-small (draws-secret c second (z .table-long) refl refl) b;
-      seed-long = front-long at (x .random) seed;
-      roomy = z .roomy;
-    } in
-    let a = public-counted c r _ (x .a) (z .public-long) (publics .0) (publics .1) in
-    offer-tests c h _ (a .long) ∙ all-pass (below-passes (a .below)) (sends .1)
-
-pub open-offers : OpenOffers
-unfolding openTests
-open-offers Unknown k x m b t = differ t
-open-offers (Known c) Ruled.Unknown x m b t = differ t
-open-offers (Known c) (By r) x m b t = open-offers-by c r x m b t
-
-answer-sizes : (c : Scheme) (x : AnswerLent) (m : ReplyRooms) → Other (numberIn (answerSizes c x m))
-unfolding answerSizes
-answer-sizes c x m =
-    also _ _
     (also _ _
-    (also _ _ (also _ _ (also _ _ (also _ _ (length-other _ _) (length-other _ _)) (length-other _ _)) (length-other _ _)) (room-other _ _))
+    (also _ _
+    (also _ _ (also _ _ (also _ _ (also _ _ (ruled-other k) (length-other _ _)) (length-other _ _)) (length-other _ _)) (length-other _ _))
     (room-other _ _))
-    (room-other _ _)
-
-answer-never : (c : Scheme) (r : RuleName) (x : AnswerLent) (m : ReplyRooms) → Other (numberIn (answerTests (Known c) (By r) x m))
-unfolding answerTests answerSizes
-answer-never c r x m =
-    also _ _
-    (also _ _ (also _ _ (also _ _ (also _ _ (also _ _ (answer-sizes c x m) (table-other c (x .table))) (publics-other _ _)) (message-other _ _)) (blank-other _)) (grown-other c (By r) _))
-    (blank-other _)
+    (room-other _ _))
+    (room-other _ _))
+    (also _ _ (table-other c (x .table))
+    (also _ _ (also _ _ (also _ _ (publics-other _ _) (also _ _ (message-other _ _) (blank-other _))) (grown-other c k _)) (blank-other _))))
 
 pub never-six : NeverSix
 unfolding openTests answerTests
@@ -148,48 +119,67 @@ never-six = (opens, answers)
   where
     opens : (c : Named) (k : Ruled) (x : OpenLent) (m : OpenRooms) → numberIn (openTests c k x m) ≡ 6 → ⊥
     opens Unknown k x m = λ e. omega arith
-    opens (Known c) Ruled.Unknown x m = λ e. omega arith
-    opens (Known c) (By r) x m = open-never c r x m
+    opens (Known c) k x m = open-never c k x m
 
     answers : (c : Named) (k : Ruled) (x : AnswerLent) (m : ReplyRooms) → numberIn (answerTests c k x m) ≡ 6 → ⊥
     answers Unknown k x m = λ e. omega arith
-    answers (Known c) Ruled.Unknown x m = λ e. omega arith
-    answers (Known c) (By r) x m = answer-never c r x m
+    answers (Known c) k x m = answer-never c k x m
 
-answer-replies-by : (c : Scheme) (r : RuleName) (x : AnswerLent) (m : ReplyRooms) → Below 256 (x .random) → answerTests (Known c) (By r) x m ≡ Pass
-    → replyTests (Known c) (answerReply (Known c) (By r) x) m ≡ Pass
-unfolding answerRest settleTests answerReply
-answer-replies-by c r x m b t =
-    let apart = both _ _ (sym (answer-apart c x m r) ∙ t) in
+-- ---- what passes
+
+pub open-offers : OpenOffers
+unfolding openTests openRest sendTests openOffer
+open-offers Unknown k x m b t = differ t
+open-offers (Known c) k x m b t =
+    let apart = both _ _ (sym (open-apart c k x m) ∙ t) in
+    let sends = both _ _ (both _ _ (apart .1) .1) in
+    let publics = both _ _ (sends .0) in
+    let z = open-sized c k x m (apart .0) in
+    let n = secretBytes c in
+    let at = fixedOf c .seed in
+    let first : at + n ≤ length (x .random) = omega (arith, z .random-long) in
+    let second : at + n + n ≤ length (x .random) = omega (arith, z .random-long) in
+    let seed : at ≤ length (x .random) = omega (arith, z .random-long) in
+    let h : Sends c k _ _ _ (m .opening) =
+    record {
+      ruled = z .ruled;
+      secret = drawn-small (draws-secret c first (z .table-long) refl (sym (tied c .noise))) b;
+      noise = drawn-small (draws-secret c second (z .table-long) refl refl) b;
+      seed-long = front-long at (x .random) seed;
+      roomy = z .roomy;
+    } in
+    let a = public-counted c k _ (x .a) (z .ruled) (z .public-long) (publics .0) (publics .1) in
+    offer-tests c h _ (a .long) ∙ all-pass (below-passes (a .below)) (sends .1)
+
+pub answer-replies : AnswerReplies
+unfolding answerTests answerRest settleTests answerReply
+answer-replies Unknown k x m b t = differ t
+answer-replies (Known c) k x m b t =
+    let apart = both _ _ (sym (answer-apart c k x m) ∙ t) in
     let settles = both _ _ (both _ _ (apart .1) .1) in
     let grows = both _ _ (settles .0) in
     let publics = both _ _ (grows .0) in
-    let z = answer-sized c x m (apart .0) in
-    let k = secretBytes c in
+    let z = answer-sized c k x m (apart .0) in
+    let n = secretBytes c in
     let l = mixedBytes c in
-    let first : 0 + k ≤ length (x .random) = omega (arith, z .random-long) in
-    let second : k + k ≤ length (x .random) = omega (arith, z .random-long) in
-    let third : k + k + l ≤ length (x .random) = omega (arith, z .random-long) in
-    let fourth : k + k + l + fixedOf c .coins ≤ length (x .random) = omega (arith, z .random-long) in
-    let h : Settles c (x .opening) _ _ _ _ m =
+    let first : 0 + n ≤ length (x .random) = omega (arith, z .random-long) in
+    let second : n + n ≤ length (x .random) = omega (arith, z .random-long) in
+    let third : n + n + l ≤ length (x .random) = omega (arith, z .random-long) in
+    let fourth : n + n + l + fixedOf c .coins ≤ length (x .random) = omega (arith, z .random-long) in
+    let h : Settles c k (x .opening) _ _ _ _ m =
     record {
+      ruled = z .ruled;
       opening-long = z .opening-long;
       secret = drawn-small (draws-secret c first (z .table-long) refl (sym (tied c .noise))) b;
       noise = drawn-small (draws-secret c second (z .table-long) refl refl) b;
       last = drawn-small (draws-mixed c third (z .table-long) refl refl) b;
-      coins-long = part-long (k + k + l) (fixedOf c .coins) (x .random) fourth;
+      coins-long = part-long (n + n + l) (fixedOf c .coins) (x .random) fourth;
       roomy = z .roomy;
       key-roomy = z .key-roomy;
       digest-roomy = z .digest-roomy;
     } in
-    let a = public-counted c r _ (x .a) (z .public-long) (publics .0) (grows .1) in
+    let a = public-counted c k _ (x .a) (z .ruled) (z .public-long) (publics .0) (grows .1) in
     reply-tests c h _ (a .long) ∙ all-pass (below-passes (a .below)) (all-pass (publics .1) (settles .1))
-
-pub answer-replies : AnswerReplies
-unfolding answerTests
-answer-replies Unknown k x m b t = differ t
-answer-replies (Known c) Ruled.Unknown x m b t = differ t
-answer-replies (Known c) (By r) x m b t = answer-replies-by c r x m b t
 
 -- ---- nothing is forgotten
 

@@ -7,29 +7,24 @@ ghost use Rattle.schemes.specs.Schemes.{fixedOf};
 ghost use Rattle.schemes.specs.declared.Named.the-variants.{Known};
 ghost use Rattle.schemes.specs.declared.Scheme.the-variants as variants;
 ghost use Rattle.lists.specs.Lent.{was, left};
-ghost use Rattle.refusals.specs.Refusals.{receivedIn};
+ghost use Rattle.refusals.specs.Refusals.{_then_};
 ghost use Rattle.refusals.specs.declared.Verdict.the-variants.{Pass};
 ghost use Rattle.noise.specs.Expand.{ruleOf};
-ghost use Rattle.noise.specs.declared.Ruled.the-variants.{By};
 ghost use Rattle.sampling.specs.Expand.{growNumbers};
-ghost use Rattle.wire.specs.Wire.{seedIn, openedIn, numbersIn};
+ghost use Rattle.wire.specs.Wire.{seedIn};
 ghost use Rattle.reply.specs.Reply.{replyOf, replyRooms, replyRoomsOf, replyTold, replySeen, replyShown};
-ghost use Rattle.exchange.specs.Random.{secretBytes, cut, publicLent, publicFrom};
+ghost use Rattle.exchange.specs.Random.{publicLent, publicFrom, grown};
 ghost use Rattle.exchange.specs.Answer.{answerLent, answerLentOf, answerResult};
-ghost use Rattle.exchange.specs.Inside.{Drew, answerSizes, settleTests, Settles};
-use noise::RuleName;
-use noise::Ruled;
-use refusals::Answer;
-use refusals::Refusal;
+ghost use Rattle.exchange.specs.Inside.{ruledIn, Grows, cameIn, answerSizes, settleTests, Settles};
 use refusals::Verdict;
 use reply::ReplyAnswer;
-use schemes::Family;
 use schemes::NewHope;
 use schemes::Scheme;
 
-// Lengths and rooms.
+// The rule, lengths and rooms.
 fn answer_sizes(
     scheme: Scheme,
+    rule: u32,
     opening: &[u8],
     a: &[u32],
     table: &[u64],
@@ -38,11 +33,11 @@ fn answer_sizes(
     keyroom: usize,
     digestroom: usize,
 ) -> Verdict
-    ensures { λ r. ⌜ r ≡ answerSizes scheme (answerLent opening a table random) (replyRoomsOf room keyroom digestroom) ⌝ }
+    ensures { λ r. ⌜ r ≡ answerSizes scheme (ruleOf rule) (answerLent opening a table random) (replyRoomsOf room keyroom digestroom) ⌝ }
 {
     let f = scheme.fixed();
     let l = crate::drawing::lengths(scheme);
-    let v = refusals::length_is(Verdict::Pass, opening.len(), f.opening);
+    let v = refusals::length_is(crate::drawing::ruled(rule), opening.len(), f.opening);
     let v = refusals::length_is(v, a.len(), l.public);
     let v = refusals::length_is(v, table.len(), l.table);
     let v = refusals::length_is(v, random.len(), l.secret + l.secret + l.mixed + f.coins);
@@ -51,9 +46,23 @@ fn answer_sizes(
     refusals::room_for(v, digestroom, 32)
 }
 
-// Reply in NewHope, with public numbers that are grown from the opening's seed.
+// NewHope's public numbers, grown from the opening's seed; the part that came is tested first.
+fn grow_opened(rule: u32, opening: &[u8], numbers: &mut [u32]) -> Verdict
+    requires { ⌜ (ruledIn (ruleOf rule) ≡ Pass) × (length (now opening) ≡ 1824) × (length (now numbers) ≡ 1024) ⌝ }
+    ensures { λ r. ⌜ r ≡ cameIn variants.NewHope (was opening) then grown variants.NewHope (ruleOf rule) (seedIn variants.NewHope (was opening)) ⌝ }
+    ensures { λ r. ⌜ (r ≡ Pass → Grows (ruleOf rule) (seedIn variants.NewHope (was opening)) (left numbers)) ⌝ }
+{
+    let at = NewHope::PACKED;
+    let v = wire::take_opening(Scheme::NewHope, opening, numbers);
+    match v {
+        Verdict::Fail(r) => Verdict::Fail(r),
+        Verdict::Pass => crate::drawing::grow(rule, &opening[at..], numbers),
+    }
+}
+
+// Reply by the numbers that are grown.
 fn settle_grown(
-    name: RuleName,
+    rule: u32,
     opening: &[u8],
     s1: &[i32],
     e1: &[i32],
@@ -64,67 +73,26 @@ fn settle_grown(
     key: &mut [u8],
     digest: &mut [u8],
 ) -> ReplyAnswer
-    requires { ⌜ Settles variants.NewHope (now opening) (now s1) (now e1) (now e2) (now coins) (replyRoomsOf (length (now message)) (length (now key)) (length (now digest))) ⌝ }
+    requires { ⌜ Settles variants.NewHope (ruleOf rule) (now opening) (now s1) (now e1) (now e2) (now coins) (replyRoomsOf (length (now message)) (length (now key)) (length (now digest))) ⌝ }
     requires { ⌜ (now message ≡ replicate (length (now message)) 0) × (now key ≡ replicate (length (now key)) 0) ⌝ }
     requires { ⌜ (now digest ≡ replicate (length (now digest)) 0) × (length (now numbers) ≡ 1024) ⌝ }
-    requires { ⌜ receivedIn (fixedOf variants.NewHope .q) (openedIn variants.NewHope (now opening)) (numbersIn variants.NewHope (openedIn variants.NewHope (now opening))) ≡ Pass ⌝ }
     ensures { λ r. ⌜
         replySeen (replyTold r) (left message) (left key) (left digest)
-        ≡ replyShown (settleTests variants.NewHope (By name) (was opening) [] (was s1) (was e1)) (Known variants.NewHope) (replyOf (was opening) (growNumbers (By name) (seedIn variants.NewHope (was opening))) (was s1) (was e1) (was e2) (was coins)) (replyRooms message key digest)
+        ≡ replyShown (settleTests variants.NewHope (ruleOf rule) (was opening) [] (was s1) (was e1)) (Known variants.NewHope) (replyOf (was opening) (growNumbers (ruleOf rule) (seedIn variants.NewHope (was opening))) (was s1) (was e1) (was e2) (was coins)) (replyRooms message key digest)
         ⌝ }
 {
-    let at = NewHope::PACKED;
-    let v = sampling::grow(crate::drawing::number(name), &opening[at..], numbers);
+    let v = grow_opened(rule, opening, numbers);
     match v {
-        Answer::Refused(r) => ReplyAnswer::Refused(r),
-        Answer::Done(_) => {
+        Verdict::Fail(r) => ReplyAnswer::Refused(r),
+        Verdict::Pass => {
             reply::reply(1, opening, numbers, s1, e1, e2, coins, message, key, digest)
         }
     }
 }
 
-// The part that came is tested first.
-fn settle_received(
-    name: RuleName,
-    opening: &[u8],
-    s1: &[i32],
-    e1: &[i32],
-    e2: &[i32],
-    coins: &[u8],
-    numbers: &mut [u32],
-    message: &mut [u8],
-    key: &mut [u8],
-    digest: &mut [u8],
-) -> ReplyAnswer
-    requires { ⌜ Settles variants.NewHope (now opening) (now s1) (now e1) (now e2) (now coins) (replyRoomsOf (length (now message)) (length (now key)) (length (now digest))) ⌝ }
-    requires { ⌜ (now message ≡ replicate (length (now message)) 0) × (now key ≡ replicate (length (now key)) 0) ⌝ }
-    requires { ⌜ (now digest ≡ replicate (length (now digest)) 0) × (length (now numbers) ≡ 1024) ⌝ }
-    ensures { λ r. ⌜
-        replySeen (replyTold r) (left message) (left key) (left digest)
-        ≡ replyShown (settleTests variants.NewHope (By name) (was opening) [] (was s1) (was e1)) (Known variants.NewHope) (replyOf (was opening) (growNumbers (By name) (seedIn variants.NewHope (was opening))) (was s1) (was e1) (was e2) (was coins)) (replyRooms message key digest)
-        ⌝ }
-{
-    let v = wire::take_opening(Scheme::NewHope, opening, numbers);
-    match v {
-        Verdict::Fail(r) => ReplyAnswer::Refused(r),
-        Verdict::Pass => settle_grown(
-            name,
-            opening,
-            s1,
-            e1,
-            e2,
-            coins,
-            numbers,
-            message,
-            key,
-            digest,
-        ),
-    }
-}
-
-// The same with room for the opening's numbers and then the public numbers.
+// Reply in NewHope, with room for the opening's numbers and then the public numbers.
 fn settle_newhope(
-    name: RuleName,
+    rule: u32,
     opening: &[u8],
     s1: &[i32],
     e1: &[i32],
@@ -134,17 +102,17 @@ fn settle_newhope(
     key: &mut [u8],
     digest: &mut [u8],
 ) -> ReplyAnswer
-    requires { ⌜ Settles variants.NewHope (now opening) (now s1) (now e1) (now e2) (now coins) (replyRoomsOf (length (now message)) (length (now key)) (length (now digest))) ⌝ }
+    requires { ⌜ Settles variants.NewHope (ruleOf rule) (now opening) (now s1) (now e1) (now e2) (now coins) (replyRoomsOf (length (now message)) (length (now key)) (length (now digest))) ⌝ }
     requires { ⌜ (now message ≡ replicate (length (now message)) 0) × (now key ≡ replicate (length (now key)) 0) ⌝ }
     requires { ⌜ now digest ≡ replicate (length (now digest)) 0 ⌝ }
     ensures { λ r. ⌜
         replySeen (replyTold r) (left message) (left key) (left digest)
-        ≡ replyShown (settleTests variants.NewHope (By name) (was opening) [] (was s1) (was e1)) (Known variants.NewHope) (replyOf (was opening) (growNumbers (By name) (seedIn variants.NewHope (was opening))) (was s1) (was e1) (was e2) (was coins)) (replyRooms message key digest)
+        ≡ replyShown (settleTests variants.NewHope (ruleOf rule) (was opening) [] (was s1) (was e1)) (Known variants.NewHope) (replyOf (was opening) (growNumbers (ruleOf rule) (seedIn variants.NewHope (was opening))) (was s1) (was e1) (was e2) (was coins)) (replyRooms message key digest)
         ⌝ }
 {
     let mut numbers = [0u32; NewHope::PUBLIC];
-    settle_received(
-        name,
+    settle_grown(
+        rule,
         opening,
         s1,
         e1,
@@ -157,10 +125,10 @@ fn settle_newhope(
     )
 }
 
-// Reply, with the public numbers that are lent or grown.
+// Reply, with the public numbers that are lent, or grown where none are lent.
 fn settle(
     scheme: Scheme,
-    name: RuleName,
+    rule: u32,
     opening: &[u8],
     a: &[u32],
     s1: &[i32],
@@ -171,91 +139,26 @@ fn settle(
     key: &mut [u8],
     digest: &mut [u8],
 ) -> ReplyAnswer
-    requires { ⌜ Settles scheme (now opening) (now s1) (now e1) (now e2) (now coins) (replyRoomsOf (length (now message)) (length (now key)) (length (now digest))) ⌝ }
+    requires { ⌜ Settles scheme (ruleOf rule) (now opening) (now s1) (now e1) (now e2) (now coins) (replyRoomsOf (length (now message)) (length (now key)) (length (now digest))) ⌝ }
     requires { ⌜ (now message ≡ replicate (length (now message)) 0) × (now key ≡ replicate (length (now key)) 0) ⌝ }
     requires { ⌜ (now digest ≡ replicate (length (now digest)) 0) × (length (now a) ≡ publicLent scheme) ⌝ }
     ensures { λ r. ⌜
         replySeen (replyTold r) (left message) (left key) (left digest)
-        ≡ replyShown (settleTests scheme (By name) (was opening) (was a) (was s1) (was e1)) (Known scheme) (replyOf (was opening) (publicFrom scheme (By name) (seedIn scheme (was opening)) (was a)) (was s1) (was e1) (was e2) (was coins)) (replyRooms message key digest)
+        ≡ replyShown (settleTests scheme (ruleOf rule) (was opening) (was a) (was s1) (was e1)) (Known scheme) (replyOf (was opening) (publicFrom scheme (ruleOf rule) (seedIn scheme (was opening)) (was a)) (was s1) (was e1) (was e2) (was coins)) (replyRooms message key digest)
         ⌝ }
 {
-    match scheme.family() {
-        Family::Bcns => reply::reply(
-            scheme.number(),
-            opening,
-            a,
-            s1,
-            e1,
-            e2,
-            coins,
-            message,
-            key,
-            digest,
-        ),
-        Family::NewHope => settle_newhope(name, opening, s1, e1, e2, coins, message, key, digest),
-        Family::Frodo => reply::reply(
-            scheme.number(),
-            opening,
-            a,
-            s1,
-            e1,
-            e2,
-            coins,
-            message,
-            key,
-            digest,
-        ),
+    if a.len() == 0 {
+        settle_newhope(rule, opening, s1, e1, e2, coins, message, key, digest)
+    } else {
+        let number = scheme.number();
+        reply::reply(number, opening, a, s1, e1, e2, coins, message, key, digest)
     }
 }
 
-// e'' and the coins, where s' and e' are there, then Reply.
-fn answer_mixed(
-    scheme: Scheme,
-    name: RuleName,
-    opening: &[u8],
-    a: &[u32],
-    table: &[u64],
-    random: &[u8],
-    s1: &[i32],
-    e1: &[i32],
-    e2: &mut [i32],
-    message: &mut [u8],
-    key: &mut [u8],
-    digest: &mut [u8],
-) -> ReplyAnswer
-    requires { ⌜ answerSizes scheme (answerLentOf (now opening) (now a) (now table) (now random)) (replyRoomsOf (length (now message)) (length (now key)) (length (now digest))) ≡ Pass ⌝ }
-    requires { ⌜ Drew scheme (now table) (cut 0 (secretBytes scheme) (now random)) (fixedOf scheme .secret) (now s1) ⌝ }
-    requires { ⌜ Drew scheme (now table) (cut (secretBytes scheme) (secretBytes scheme) (now random)) (fixedOf scheme .noise) (now e1) ⌝ }
-    requires { ⌜ (now message ≡ replicate (length (now message)) 0) × (now key ≡ replicate (length (now key)) 0) ⌝ }
-    requires { ⌜ (now digest ≡ replicate (length (now digest)) 0) × (length (now e2) ≡ fixedOf scheme .mixed) ⌝ }
-    ensures { λ r. ⌜ replySeen (replyTold r) (left message) (left key) (left digest) ≡ answerResult (Known scheme) (By name) (answerLent opening a table random) (replyRooms message key digest) ⌝ }
-{
-    let l = crate::drawing::lengths(scheme);
-    let at = l.secret + l.secret;
-    let end = at + l.mixed;
-    let v = crate::drawing::draw(scheme, l.mixed, at, random, table, e2);
-    match v {
-        Verdict::Fail(r) => ReplyAnswer::Refused(r),
-        Verdict::Pass => settle(
-            scheme,
-            name,
-            opening,
-            a,
-            s1,
-            e1,
-            e2,
-            &random[end..],
-            message,
-            key,
-            digest,
-        ),
-    }
-}
-
-// s' and e', then the others.
+// s', e' and e'', then Reply.
 fn answer_drawn(
     scheme: Scheme,
-    name: RuleName,
+    rule: u32,
     opening: &[u8],
     a: &[u32],
     table: &[u64],
@@ -267,36 +170,42 @@ fn answer_drawn(
     key: &mut [u8],
     digest: &mut [u8],
 ) -> ReplyAnswer
-    requires { ⌜ answerSizes scheme (answerLentOf (now opening) (now a) (now table) (now random)) (replyRoomsOf (length (now message)) (length (now key)) (length (now digest))) ≡ Pass ⌝ }
+    requires { ⌜ answerSizes scheme (ruleOf rule) (answerLentOf (now opening) (now a) (now table) (now random)) (replyRoomsOf (length (now message)) (length (now key)) (length (now digest))) ≡ Pass ⌝ }
     requires { ⌜ (length (now s1) ≡ fixedOf scheme .secret) × (length (now e1) ≡ fixedOf scheme .noise) × (length (now e2) ≡ fixedOf scheme .mixed) ⌝ }
     requires { ⌜ (now message ≡ replicate (length (now message)) 0) × (now key ≡ replicate (length (now key)) 0) ⌝ }
     requires { ⌜ now digest ≡ replicate (length (now digest)) 0 ⌝ }
-    ensures { λ r. ⌜ replySeen (replyTold r) (left message) (left key) (left digest) ≡ answerResult (Known scheme) (By name) (answerLent opening a table random) (replyRooms message key digest) ⌝ }
+    ensures { λ r. ⌜ replySeen (replyTold r) (left message) (left key) (left digest) ≡ answerResult (Known scheme) (ruleOf rule) (answerLent opening a table random) (replyRooms message key digest) ⌝ }
 {
-    let v = crate::drawing::draw_pair(scheme, 0, random, table, s1, e1);
+    let l = crate::drawing::lengths(scheme);
+    let at = l.secret + l.secret;
+    let end = at + l.mixed;
+    crate::drawing::draw_pair(scheme, 0, random, table, s1, e1);
+    let v = crate::drawing::draw(scheme, l.mixed, at, random, table, e2);
     match v {
         Verdict::Fail(r) => ReplyAnswer::Refused(r),
-        Verdict::Pass => answer_mixed(
-            scheme,
-            name,
-            opening,
-            a,
-            table,
-            random,
-            s1,
-            e1,
-            e2,
-            message,
-            key,
-            digest,
-        ),
+        Verdict::Pass => {
+            let coins = &random[end..];
+            settle(
+                scheme,
+                rule,
+                opening,
+                a,
+                s1,
+                e1,
+                e2,
+                coins,
+                message,
+                key,
+                digest,
+            )
+        }
     }
 }
 
 // The same with room for s' and e', of which no scheme has more than 6912 values, and for e'', of which none has more than 1024.
 fn answer_sized(
     scheme: Scheme,
-    name: RuleName,
+    rule: u32,
     opening: &[u8],
     a: &[u32],
     table: &[u64],
@@ -305,10 +214,10 @@ fn answer_sized(
     key: &mut [u8],
     digest: &mut [u8],
 ) -> ReplyAnswer
-    requires { ⌜ answerSizes scheme (answerLentOf (now opening) (now a) (now table) (now random)) (replyRoomsOf (length (now message)) (length (now key)) (length (now digest))) ≡ Pass ⌝ }
+    requires { ⌜ answerSizes scheme (ruleOf rule) (answerLentOf (now opening) (now a) (now table) (now random)) (replyRoomsOf (length (now message)) (length (now key)) (length (now digest))) ≡ Pass ⌝ }
     requires { ⌜ (now message ≡ replicate (length (now message)) 0) × (now key ≡ replicate (length (now key)) 0) ⌝ }
     requires { ⌜ now digest ≡ replicate (length (now digest)) 0 ⌝ }
-    ensures { λ r. ⌜ replySeen (replyTold r) (left message) (left key) (left digest) ≡ answerResult (Known scheme) (By name) (answerLent opening a table random) (replyRooms message key digest) ⌝ }
+    ensures { λ r. ⌜ replySeen (replyTold r) (left message) (left key) (left digest) ≡ answerResult (Known scheme) (ruleOf rule) (answerLent opening a table random) (replyRooms message key digest) ⌝ }
 {
     let f = scheme.fixed();
     let n = f.secret;
@@ -318,7 +227,7 @@ fn answer_sized(
     let mut e2 = [0i32; 1024];
     answer_drawn(
         scheme,
-        name,
+        rule,
         opening,
         a,
         table,
@@ -332,50 +241,8 @@ fn answer_sized(
     )
 }
 
-// By a known rule.
-fn answer_in(
-    scheme: Scheme,
-    name: RuleName,
-    opening: &[u8],
-    a: &[u32],
-    table: &[u64],
-    random: &[u8],
-    message: &mut [u8],
-    key: &mut [u8],
-    digest: &mut [u8],
-) -> ReplyAnswer
-    requires { ⌜ (now message ≡ replicate (length (now message)) 0) × (now key ≡ replicate (length (now key)) 0) ⌝ }
-    requires { ⌜ now digest ≡ replicate (length (now digest)) 0 ⌝ }
-    ensures { λ r. ⌜ replySeen (replyTold r) (left message) (left key) (left digest) ≡ answerResult (Known scheme) (By name) (answerLent opening a table random) (replyRooms message key digest) ⌝ }
-{
-    let v = answer_sizes(
-        scheme,
-        opening,
-        a,
-        table,
-        random,
-        message.len(),
-        key.len(),
-        digest.len(),
-    );
-    match v {
-        Verdict::Fail(r) => ReplyAnswer::Refused(r),
-        Verdict::Pass => answer_sized(
-            scheme,
-            name,
-            opening,
-            a,
-            table,
-            random,
-            message,
-            key,
-            digest,
-        ),
-    }
-}
-
 // In a known scheme.
-pub(crate) fn answer_by(
+pub(crate) fn answer_in(
     scheme: Scheme,
     rule: u32,
     opening: &[u8],
@@ -390,18 +257,29 @@ pub(crate) fn answer_by(
     requires { ⌜ now digest ≡ replicate (length (now digest)) 0 ⌝ }
     ensures { λ r. ⌜ replySeen (replyTold r) (left message) (left key) (left digest) ≡ answerResult (Known scheme) (ruleOf rule) (answerLent opening a table random) (replyRooms message key digest) ⌝ }
 {
-    let Ruled::By(name) = noise::rule_of(rule) else {
-        return ReplyAnswer::Refused(Refusal::NoRule);
-    };
-    answer_in(
+    let v = answer_sizes(
         scheme,
-        name,
+        rule,
         opening,
         a,
         table,
         random,
-        message,
-        key,
-        digest,
-    )
+        message.len(),
+        key.len(),
+        digest.len(),
+    );
+    match v {
+        Verdict::Fail(r) => ReplyAnswer::Refused(r),
+        Verdict::Pass => answer_sized(
+            scheme,
+            rule,
+            opening,
+            a,
+            table,
+            random,
+            message,
+            key,
+            digest,
+        ),
+    }
 }

@@ -1,17 +1,18 @@
-// What open and answer make of what they are lent: lengths by the scheme, noise values of random bytes, and the number of a rule.
+// What open and answer make of what they are lent: lengths by the scheme, noise values of random bytes, and numbers grown from a seed.
 ghost use mathlib.Core.Path.{_≡_};
 ghost use Prim.Native.Nat.{_+_, _≤_};
 ghost use lib.ListN.{length};
 ghost use Rattle.schemes.specs.Schemes.{fixedOf};
+ghost use Rattle.schemes.specs.declared.Scheme.the-variants as variants;
 ghost use Rattle.lists.specs.Lent.{was, left};
 ghost use Rattle.refusals.specs.declared.Verdict.the-variants.{Pass};
 ghost use Rattle.noise.specs.Expand.{ruleOf};
-ghost use Rattle.noise.specs.declared.Ruled.the-variants.{By};
 ghost use Rattle.sampling.specs.Noise.{tableWords};
-ghost use Rattle.exchange.specs.Random.{publicLent, secretBytes, mixedBytes, cut, tableOrder};
-ghost use Rattle.exchange.specs.Inside.{Draws, Drew};
-use noise::RuleName;
+ghost use Rattle.exchange.specs.Random.{publicLent, secretBytes, mixedBytes, cut, tableOrder, grown};
+ghost use Rattle.exchange.specs.Inside.{ruledIn, Grows, Draws, Drew};
+use noise::Ruled;
 use refusals::Answer;
+use refusals::Refusal;
 use refusals::Verdict;
 use schemes::Family;
 use schemes::Scheme;
@@ -52,13 +53,26 @@ pub(crate) fn lengths(scheme: Scheme) -> Takes
     }
 }
 
-// The number that names a rule.
-pub(crate) fn number(name: RuleName) -> u32
-    ensures { λ r. ⌜ ruleOf r ≡ By name ⌝ }
+// Whether the number names a rule: 12 if it does not.
+pub(crate) fn ruled(rule: u32) -> Verdict
+    ensures { λ r. ⌜ r ≡ ruledIn (ruleOf rule) ⌝ }
 {
-    match name {
-        RuleName::LowBits => 14,
-        RuleName::WholeWord => 16,
+    match noise::rule_of(rule) {
+        Ruled::Unknown => Verdict::Fail(Refusal::NoRule),
+        Ruled::By(_) => Verdict::Pass,
+    }
+}
+
+// NewHope's public numbers, grown from a seed.
+pub(crate) fn grow(rule: u32, seed: &[u8], numbers: &mut [u32]) -> Verdict
+    requires { ⌜ (ruledIn (ruleOf rule) ≡ Pass) × (length (now seed) ≡ 32) × (length (now numbers) ≡ 1024) ⌝ }
+    ensures { λ r. ⌜ r ≡ grown variants.NewHope (ruleOf rule) (was seed) ⌝ }
+    ensures { λ r. ⌜ (r ≡ Pass → Grows (ruleOf rule) (was seed) (left numbers)) ⌝ }
+{
+    let v = sampling::grow(rule, seed, numbers);
+    match v {
+        Answer::Refused(r) => Verdict::Fail(r),
+        Answer::Done(_) => Verdict::Pass,
     }
 }
 
@@ -73,7 +87,7 @@ pub(crate) fn draw(
 ) -> Verdict
     requires { ⌜ Draws scheme at k (now random) (now table) (length (now out)) ⌝ }
     ensures { λ r. ⌜ r ≡ tableOrder scheme (was table) ⌝ }
-    ensures { λ r. ⌜ (r ≡ Pass → Drew scheme (was table) (cut at k (was random)) (length (was out)) (left out)) ⌝ }
+    ensures { λ _. ⌜ (tableOrder scheme (was table) ≡ Pass → Drew scheme (was table) (cut at k (was random)) (length (was out)) (left out)) ⌝ }
 {
     let end = at + k;
     let v = sampling::noise(scheme.number(), &random[at..end], table, out);
@@ -95,14 +109,11 @@ pub(crate) fn draw_pair(
     requires { ⌜ (at + secretBytes scheme + secretBytes scheme ≤ length (now random)) × (length (now table) ≡ tableWords scheme) ⌝ }
     requires { ⌜ (length (now s) ≡ fixedOf scheme .secret) × (length (now e) ≡ fixedOf scheme .noise) ⌝ }
     ensures { λ r. ⌜ r ≡ tableOrder scheme (was table) ⌝ }
-    ensures { λ r. ⌜ (r ≡ Pass → Drew scheme (was table) (cut at (secretBytes scheme) (was random)) (fixedOf scheme .secret) (left s)) ⌝ }
-    ensures { λ r. ⌜ (r ≡ Pass → Drew scheme (was table) (cut (at + secretBytes scheme) (secretBytes scheme) (was random)) (fixedOf scheme .noise) (left e)) ⌝ }
+    ensures { λ _. ⌜ (tableOrder scheme (was table) ≡ Pass → Drew scheme (was table) (cut at (secretBytes scheme) (was random)) (fixedOf scheme .secret) (left s)) ⌝ }
+    ensures { λ _. ⌜ (tableOrder scheme (was table) ≡ Pass → Drew scheme (was table) (cut (at + secretBytes scheme) (secretBytes scheme) (was random)) (fixedOf scheme .noise) (left e)) ⌝ }
 {
     let l = lengths(scheme);
     let k = l.secret;
-    let v = draw(scheme, k, at, random, table, s);
-    match v {
-        Verdict::Fail(r) => Verdict::Fail(r),
-        Verdict::Pass => draw(scheme, k, at + k, random, table, e),
-    }
+    draw(scheme, k, at, random, table, s);
+    draw(scheme, k, at + k, random, table, e)
 }

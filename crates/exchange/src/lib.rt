@@ -44,7 +44,7 @@ pub fn open(
     let Named::Known(known) = refusals::named(scheme, opening) else {
         return OpenAnswer::Refused(Refusal::NoScheme);
     };
-    opener::open_by(known, rule, a, table, random, opening, s)
+    opener::open_in(known, rule, a, table, random, opening, s)
 }
 
 // Whatever they held.
@@ -75,5 +75,5 @@ pub fn answer(
     let Named::Known(known) = refusals::named(scheme, digest) else {
         return ReplyAnswer::Refused(Refusal::NoScheme);
     };
-    answerer::answer_by(known, rule, opening, a, table, random, message, key, digest)
+    answerer::answer_in(known, rule, opening, a, table, random, message, key, digest)
 }

@@ -9,7 +9,7 @@ use Rattle.exchange.proofs.open.Statement.{statement}
 use Rattle.exchange.proofs.open.Tie as tie
 
 -- the places, from the last to the first
-abbrev known : tie.After-open-by → tie.After-known
+abbrev known : tie.After-open-in → tie.After-known
 known c = search needs
 
 abbrev named : tie.After-known → tie.After-named
@@ -31,8 +31,8 @@ returns c =
     let e = n .named .ensures .0 in
     open-refused _ _ x m (open-unknown _ x m (sym (e .0) ∙ c .enum-told .given .1)) (e .1) (z .zero-values .ensures)
 
-open-by-requires : tie.Need-open-by-requires
-open-by-requires c κs =
+open-in-requires : tie.Need-open-in-requires
+open-in-requires c κs =
     let k : tie.After-known = search needs in
     let n = named k in
     let z = zeroed n in
@@ -40,7 +40,7 @@ open-by-requires c κs =
 
 returns-2 : tie.Need-returns-2
 returns-2 c =
-    let p : tie.After-open-by = search needs in
+    let p : tie.After-open-in = search needs in
     let k = known p in
     let n = named k in
     let z = zeroed n in
@@ -48,20 +48,10 @@ returns-2 c =
     let e = sym (n .named .ensures .0 .0) ∙ k .known .given .1 in
     let l = zeros-long (length (a .opening .now)) 0 (n .named .ensures .0 .1) in
     let m = zeros-long (length (a .s .now)) (pos 0) (z .zero-values .ensures) in
-    rw (e, ← l, ← m) (p .open-by .ensures)
+    rw (e, ← l, ← m) (p .open-in .ensures)
 
 pub open-spec : {M : Type 1} → statement M
 open-spec =
     tie.close
-    (tie.spec
-    (λ c κs. search needs)
-    (λ c κs. search needs)
-    (search needs)
-    (search needs)
-    (search needs)
-    (search needs)
-    returns
-    open-by-requires
-    (search needs)
-    (search needs)
-    returns-2)
+    (tie.spec (λ c κs. search needs) (λ c κs. search needs) (search needs) (search needs) (search needs)
+    (search needs) returns open-in-requires (search needs) (search needs) returns-2)

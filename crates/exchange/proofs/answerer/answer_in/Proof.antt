@@ -2,9 +2,10 @@
 use mathlib.Core.Path.{sym, _∙_}
 use lib.ListN.{length}
 use Rattle.reply.specs.Reply.{replyRoomsOf}
+use Rattle.refusals.proofs.Laws.{failed}
 use Rattle.reply.proofs.Replying.{reply-refused}
 use Rattle.exchange.specs.Answer.{answerLentOf}
-use Rattle.exchange.proofs.Answering.{answer-sizes-failed}
+use Rattle.exchange.proofs.Answering.{answer-apart}
 use borrow.Author.Needs.{needs}
 use Rattle.exchange.proofs.answerer.answer_in.Statement.{statement}
 use Rattle.exchange.proofs.answerer.answer_in.Tie as tie
@@ -26,18 +27,10 @@ returns c =
     let a = b .args in
     let x = answerLentOf (a .opening .now) (a .a .now) (a .table .now) (a .random .now) in
     let m = replyRoomsOf (length (a .message .now)) (length (a .key .now)) (length (a .digest .now)) in
-    reply-refused _ _ _ m (answer-sizes-failed (a .scheme) x m (a .name) (t .answer-sizes .ensures) (v .v .given .1)) (b .pre .0 .0) (b .pre .0 .1) (b .pre .1)
+    reply-refused _ _ _ m (answer-apart (a .scheme) _ x m ∙ failed _ (t .answer-sizes .ensures) (v .v .given .1)) (b .pre .0 .0) (b .pre .0 .1) (b .pre .1)
 
 pub answer-in-spec : {M : Type 1} → statement M
 answer-in-spec =
     tie.close
-    (tie.spec
-    (λ c κs. search needs)
-    (search needs)
-    (search needs)
-    answer-sized-requires
-    returns
-    (search needs)
-    (search needs)
-    (search needs)
-    (λ c. search needs))
+    (tie.spec (λ c κs. search needs) (search needs) (search needs) answer-sized-requires returns
+    (search needs) (search needs) (search needs) (λ c. search needs))

@@ -25,24 +25,6 @@ module _ (f : tie.After-fixed) where
   mixed-few : f .fixed .result .mixed ≤ 1024
   mixed-few = omega (arith, mixed-long, sound (start f .args .scheme) .values)
 
-array-borrow-prefix-s1 : tie.Need-array-borrow-prefix-s1
-array-borrow-prefix-s1 c = let f : tie.After-fixed = search needs in few f
-
-slice-aggregate-answer-drawn : tie.Need-slice-aggregate-answer-drawn
-slice-aggregate-answer-drawn c = let f : tie.After-fixed = search needs in sym (same-long _ 6912 _ (few f))
-
-array-borrow-prefix-e1 : tie.Need-array-borrow-prefix-e1
-array-borrow-prefix-e1 c = let f : tie.After-fixed = search needs in few f
-
-slice-aggregate-answer-drawn-2 : tie.Need-slice-aggregate-answer-drawn-2
-slice-aggregate-answer-drawn-2 c = let f : tie.After-fixed = search needs in sym (same-long _ 6912 _ (few f))
-
-array-borrow-prefix-e2 : tie.Need-array-borrow-prefix-e2
-array-borrow-prefix-e2 c = let f : tie.After-fixed = search needs in mixed-few f
-
-slice-aggregate-answer-drawn-3 : tie.Need-slice-aggregate-answer-drawn-3
-slice-aggregate-answer-drawn-3 c = let f : tie.After-fixed = search needs in sym (same-long _ 1024 _ (mixed-few f))
-
 answer-drawn-requires : tie.Need-answer-drawn-requires
 answer-drawn-requires c κs =
     let f : tie.After-fixed = search needs in
@@ -61,16 +43,10 @@ answer-drawn-requires c κs =
 pub answer-sized-spec : {M : Type 1} → statement M
 answer-sized-spec =
     tie.close
-    (tie.spec
-    (λ c κs. search needs)
-    array-borrow-prefix-s1
-    slice-aggregate-answer-drawn
-    array-borrow-prefix-e1
-    slice-aggregate-answer-drawn-2
-    array-borrow-prefix-e2
-    slice-aggregate-answer-drawn-3
-    answer-drawn-requires
-    (search needs)
-    (search needs)
-    (search needs)
-    (λ c. search needs))
+    (tie.spec (λ c κs. search needs) (λ c. let f : tie.After-fixed = search needs in few f)
+    (λ c. let f : tie.After-fixed = search needs in sym (same-long _ 6912 _ (few f)))
+    (λ c. let f : tie.After-fixed = search needs in few f)
+    (λ c. let f : tie.After-fixed = search needs in sym (same-long _ 6912 _ (few f)))
+    (λ c. let f : tie.After-fixed = search needs in mixed-few f)
+    (λ c. let f : tie.After-fixed = search needs in sym (same-long _ 1024 _ (mixed-few f)))
+    answer-drawn-requires (search needs) (search needs) (search needs) (λ c. search needs))

@@ -6,12 +6,15 @@ use lib.ListN.{length}
 use Rattle.schemes.specs.declared.Fixed.{Fixed}
 use Rattle.schemes.proofs.Sound.{sound}
 use Rattle.refusals.specs.Refusals.{lengthIs, roomFor}
-use Rattle.refusals.proofs.Laws.{first, also}
+use Rattle.refusals.proofs.Laws.{also}
 use Rattle.exchange.specs.{Random.secretBytes, Random.mixedBytes, Inside.answerSizes}
 use Rattle.exchange.proofs.Drawn.{secret-few, mixed-few}
 use borrow.Author.Needs.{needs}
 use Rattle.exchange.proofs.answerer.answer_sizes.Statement.{statement}
 use Rattle.exchange.proofs.answerer.answer_sizes.Tie as tie
+
+abbrev taken : tie.After-ruled → tie.After-lengths
+taken c = search needs
 
 abbrev fixing : tie.After-lengths → tie.After-fixed
 fixing c = search needs
@@ -51,7 +54,8 @@ returns c =
     let l3 : tie.After-length-is3 = search needs in
     let l2 : tie.After-length-is2 = search needs in
     let l1 : tie.After-length-is = search needs in
-    let l : tie.After-lengths = search needs in
+    let u : tie.After-ruled = search needs in
+    let l = taken u in
     let f = fixing l in
     let a = start f .args in
     let e = l .lengths .ensures in
@@ -65,7 +69,7 @@ returns c =
     (also (l4 .length-is4 .ensures)
     (also (l3 .length-is3 .ensures)
     (also (l2 .length-is2 .ensures)
-    (first (l1 .length-is .ensures) (ap (λ (g : Fixed). lengthIs (length (a .opening .now)) (g .opening)) (f .fixed .ensures)))
+    (also (l1 .length-is .ensures) (u .ruled .ensures) (ap (λ (g : Fixed). lengthIs (length (a .opening .now)) (g .opening)) (f .fixed .ensures)))
     (ap (lengthIs (length (a .a .now))) (e .0 .0)))
     (ap (lengthIs (length (a .table .now))) (e .0 .1)))
     (ap (lengthIs (length (a .random .now))) random))
@@ -76,17 +80,6 @@ returns c =
 pub answer-sizes-spec : {M : Type 1} → statement M
 answer-sizes-spec =
     tie.close
-    (tie.spec
-    (λ c κs. search needs)
-    (λ c κs. search needs)
-    (λ c κs. search needs)
-    (λ c κs. search needs)
-    (λ c κs. search needs)
-    add-length-is
-    add-length-is-2
-    add-length-is-3
-    (λ c κs. search needs)
-    (λ c κs. search needs)
-    (λ c κs. search needs)
-    (λ c κs. search needs)
-    returns)
+    (tie.spec (λ c κs. search needs) (λ c κs. search needs) (λ c κs. search needs) (λ c κs. search needs)
+    (λ c κs. search needs) (λ c κs. search needs) add-length-is add-length-is-2 add-length-is-3
+    (λ c κs. search needs) (λ c κs. search needs) (λ c κs. search needs) (λ c κs. search needs) returns)

@@ -1,66 +1,31 @@
--- `exchange::answerer::settle_grown` meets its contract: Grow's refusal, or Reply by the numbers that are grown.
-use native.Mathlib.Omega.{arith}
-use Rattle.exchange.proofs.Answering.{seed-taken, settle-ran-out, settle-grows}
+-- `exchange::answerer::settle_grown` meets its contract: the refusal of the opening or of Grow, or Reply by the numbers that are grown.
+use Rattle.exchange.proofs.Answering.{settle-refused, settle-grows}
 use borrow.Author.Needs.{needs}
 use Rattle.exchange.proofs.answerer.settle_grown.Statement.{statement}
 use Rattle.exchange.proofs.answerer.settle_grown.Tie as tie
 
--- the places, from the last to the first
-abbrev told : tie.After-reply → tie.After-enum-told
-told c = search needs
-
-abbrev made : tie.After-enum-told → tie.After-grow
-made c = search needs
-
-abbrev asked : tie.After-grow → tie.After-number
-asked c = search needs
-
-abbrev start : tie.After-number → tie.Start
+abbrev start : tie.After-grow-opened → tie.Start
 start c = search needs
-
-sub-grow : tie.Need-sub-grow
-sub-grow c = let b : tie.Start = search needs in omega (arith, b .pre .0 .opening-long)
-
-part-grow-start : tie.Need-part-grow-start
-part-grow-start c = let b : tie.Start = search needs in omega (arith, b .pre .0 .opening-long)
 
 returns : tie.Need-returns
 returns c =
     let v : tie.After-v = search needs in
-    let g : tie.After-grow = search needs in
-    let n = asked g in
-    let b = start n in
-    let h = b .pre in
-    settle-ran-out (b .args .name) (h .0) (h .1 .0 .0) (h .1 .0 .1) (h .1 .1 .0 .0) (h .1 .1 .1) (seed-taken (b .args .opening .now) (h .0 .opening-long)) (n .number .ensures) (h .1 .1 .0 .1)
-    (g .grow .result) _ (g .grow .ensures) (v .v .given .1)
+    let g : tie.After-grow-opened = search needs in
+    let h = start g .pre in
+    settle-refused (h .0) (g .grow-opened .ensures .0) (v .v .given .1) (h .1 .0 .0) (h .1 .0 .1) (h .1 .1 .0)
 
 returns-2 : tie.Need-returns-2
 returns-2 c =
     let p : tie.After-reply = search needs in
-    let o = told p in
-    let g = made o in
-    let n = asked g in
-    let b = start n in
-    let h = b .pre in
-    settle-grows (b .args .name) (h .0) (h .1 .0 .0) (h .1 .0 .1) (h .1 .1 .0 .0) (h .1 .1 .1) (seed-taken (b .args .opening .now) (h .0 .opening-long)) (n .number .ensures) (h .1 .1 .0 .1)
-    (g .grow .result) _ (g .grow .ensures) (o .enum-told .given .1) (p .reply .ensures)
+    let o : tie.After-enum-told = search needs in
+    let g : tie.After-grow-opened = search needs in
+    let e = o .enum-told .given .1 in
+    settle-grows (start g .pre .0) (g .grow-opened .ensures .0) e (g .grow-opened .ensures .1 e) (p .reply .ensures)
 
 pub settle-grown-spec : {M : Type 1} → statement M
 settle-grown-spec =
     tie.close
     (tie.spec
-    (λ c κs. search needs)
-    sub-grow
-    part-grow-start
-    (search needs)
-    (λ c κs. search needs)
-    (search needs)
-    (search needs)
-    (λ c κs. search needs)
-    (search needs)
-    returns
-    (search needs)
-    (search needs)
-    (search needs)
-    (search needs)
-    returns-2)
+    (λ c κs. let b : tie.Start = search needs in (b .pre .0 .ruled, b .pre .0 .opening-long, b .pre .1 .1 .1))
+    (search needs) (search needs) (λ c κs. search needs) (search needs) returns (search needs) (search needs)
+    (search needs) (search needs) returns-2)

@@ -4,16 +4,9 @@ use borrow.Author.Needs.{needs}
 use Rattle.exchange.proofs.answerer.settle_newhope.Statement.{statement}
 use Rattle.exchange.proofs.answerer.settle_newhope.Tie as tie
 
-settle-received-requires : tie.Need-settle-received-requires
-settle-received-requires c κs = let b : tie.Start = search needs in (b .pre .0, (b .pre .1 .0, (b .pre .1 .1, refl)))
-
 pub settle-newhope-spec : {M : Type 1} → statement M
 settle-newhope-spec =
     tie.close
-    (tie.spec
-    (search needs)
-    settle-received-requires
-    (search needs)
-    (search needs)
-    (search needs)
-    (λ c. search needs))
+    (tie.spec (search needs)
+    (λ c κs. let b : tie.Start = search needs in (b .pre .0, (b .pre .1 .0, (b .pre .1 .1, refl))))
+    (search needs) (search needs) (search needs) (λ c. search needs))

@@ -18,7 +18,8 @@ returns c =
     let b : tie.Start = search needs in
     let a = b .args in
     let e = ap schemeOf (n .number .ensures) ∙ by-number (a .scheme) in
-    (draw-failed (b .pre) e (sliced (a .at) (a .k) (a .random .now)) (p .noise .result) _ (p .noise .ensures) (v .v .given .1), λ h. differ h)
+    let f = draw-failed (b .pre) e (sliced (a .at) (a .k) (a .random .now)) (p .noise .result) _ (p .noise .ensures) (v .v .given .1) in
+    (f, λ h. differ (f ∙ h))
 
 returns-2 : tie.Need-returns-2
 returns-2 c =
@@ -36,16 +37,5 @@ returns-2 c =
 pub draw-spec : {M : Type 1} → statement M
 draw-spec =
     tie.close
-    (tie.spec
-    (search needs)
-    (λ c κs. search needs)
-    (search needs)
-    (search needs)
-    (search needs)
-    (λ c κs. search needs)
-    (search needs)
-    (search needs)
-    (search needs)
-    returns
-    (search needs)
-    returns-2)
+    (tie.spec (search needs) (λ c κs. search needs) (search needs) (search needs) (search needs)
+    (λ c κs. search needs) (search needs) (search needs) (search needs) returns (search needs) returns-2)

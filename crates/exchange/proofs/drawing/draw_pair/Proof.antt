@@ -3,7 +3,6 @@ use mathlib.Core.Path.{sym, ap, _∙_}
 use Prim.Native.Nat.{ℕ, _+_}
 use native.Mathlib.Omega.{arith}
 use Rattle.schemes.proofs.Laws.{tied}
-use Rattle.refusals.proofs.Laws.{differ}
 use Rattle.exchange.specs.Random.{cut}
 use Rattle.exchange.proofs.Drawn.{draws-secret, drew-as}
 use borrow.Author.Needs.{needs}
@@ -36,14 +35,7 @@ draw-requires-2 c κs =
 
 returns : tie.Need-returns
 returns c =
-    let v : tie.After-v = search needs in
-    let d : tie.After-draw = search needs in
-    (sym (v .v .given .1) ∙ d .draw .ensures .0, ((λ h. differ h), (λ h. differ h)))
-
-returns-2 : tie.Need-returns-2
-returns-2 c =
     let e : tie.After-draw2 = search needs in
-    let o : tie.After-enum-told = search needs in
     let d : tie.After-draw = search needs in
     let l = taken d in
     let b = start l in
@@ -52,7 +44,7 @@ returns-2 c =
     let k = l .lengths .ensures .1 .0 in (
       e .draw2 .ensures .0,
       (
-        (λ h. drew-as (ap (λ (j : ℕ). cut at j random) k) (b .pre .1 .0) (d .draw .ensures .1 (o .enum-told .given .1))),
+        (λ h. drew-as (ap (λ (j : ℕ). cut at j random) k) (b .pre .1 .0) (d .draw .ensures .1 h)),
         (λ h. drew-as (ap (λ (j : ℕ). cut (at + j) j random) k) (b .pre .1 .1) (e .draw2 .ensures .1 h)),
       ),
     )
@@ -60,15 +52,5 @@ returns-2 c =
 pub draw-pair-spec : {M : Type 1} → statement M
 draw-pair-spec =
     tie.close
-    (tie.spec
-    (λ c κs. search needs)
-    draw-requires
-    (search needs)
-    (search needs)
-    (search needs)
-    draw-requires-2
-    (search needs)
-    returns
-    (search needs)
-    (search needs)
-    returns-2)
+    (tie.spec (λ c κs. search needs) draw-requires (search needs) draw-requires-2 (search needs)
+    (search needs) returns)

@@ -13,24 +13,6 @@ module _ (f : tie.After-fixed) where
   sized : Sound (f .fixed .result)
   sized = rw (f .fixed .ensures) (sound (start f .args .scheme))
 
-mul-t5 : tie.Need-mul-t5
-mul-t5 c = let f : tie.After-fixed = search needs in record { fits = omega (arith, sized f .noises) }
-
-mul-t6 : tie.Need-mul-t6
-mul-t6 c = let f : tie.After-fixed = search needs in record { fits = omega (arith, sized f .values) }
-
-mul-t7 : tie.Need-mul-t7
-mul-t7 c = let f : tie.After-fixed = search needs in record { fits = omega (arith, sized f .noises) }
-
-mul-t8 : tie.Need-mul-t8
-mul-t8 c = let f : tie.After-fixed = search needs in record { fits = omega (arith, sized f .values) }
-
-mul-t9 : tie.Need-mul-t9
-mul-t9 c = let f : tie.After-fixed = search needs in record { fits = omega (arith, sized f .noises) }
-
-mul-t10 : tie.Need-mul-t10
-mul-t10 c = let f : tie.After-fixed = search needs in record { fits = omega (arith, sized f .values) }
-
 returns : tie.Need-returns
 returns c =
     let f : tie.After-fixed = search needs in
@@ -55,18 +37,13 @@ returns-3 c =
 pub lengths-spec : {M : Type 1} → statement M
 lengths-spec =
     tie.close
-    (tie.spec
-    (λ c κs. search needs)
-    (λ c κs. search needs)
+    (tie.spec (λ c κs. search needs) (λ c κs. search needs) (search needs)
+    (λ c. let f : tie.After-fixed = search needs in record { fits = omega (arith, sized f .noises) })
+    (λ c. let f : tie.After-fixed = search needs in record { fits = omega (arith, sized f .values) })
     (search needs)
-    mul-t5
-    mul-t6
+    (λ c. let f : tie.After-fixed = search needs in record { fits = omega (arith, sized f .noises) })
+    (λ c. let f : tie.After-fixed = search needs in record { fits = omega (arith, sized f .values) })
     (search needs)
-    mul-t7
-    mul-t8
-    (search needs)
-    mul-t9
-    mul-t10
-    returns
-    returns-2
-    returns-3)
+    (λ c. let f : tie.After-fixed = search needs in record { fits = omega (arith, sized f .noises) })
+    (λ c. let f : tie.After-fixed = search needs in record { fits = omega (arith, sized f .values) }) returns
+    returns-2 returns-3)

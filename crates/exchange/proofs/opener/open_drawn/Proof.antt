@@ -6,6 +6,7 @@ use lib.{IntN.ℤ, ListN.length, ListN.take}
 use Rattle.schemes.specs.{Schemes.fixedOf, declared.Fixed.Fixed}
 use Rattle.lists.proofs.Parts.{front-long}
 use Rattle.refusals.proofs.{Laws.differ, Seen.shown-failed}
+use Rattle.noise.specs.Expand.{ruleOf}
 use Rattle.exchange.specs.Random.{secretBytes, cut, valuesIn}
 use Rattle.exchange.specs.Open.{OpenLent, openLentOf, openRoomsOf, openOffer}
 use Rattle.exchange.proofs.Opening.{OpenSized, open-sized, open-unordered, open-sent}
@@ -33,8 +34,8 @@ abbrev drawnAt : tie.Start → ℕ → List ℤ
 drawnAt b j = let a = b .args in valuesIn (a .scheme) (a .table .now) (cut j (secretBytes (a .scheme)) (a .random .now))
 
 module _ (f : tie.After-fixed) where
-  sized : let a = start f .args in OpenSized (a .scheme) (lent (start f)) (openRoomsOf (length (a .opening .now)) (length (a .s .now)))
-  sized = open-sized _ _ _ (start f .pre .0)
+  sized : let a = start f .args in OpenSized (a .scheme) (ruleOf (a .rule)) (lent (start f)) (openRoomsOf (length (a .opening .now)) (length (a .s .now)))
+  sized = open-sized _ _ _ _ (start f .pre .0)
 
   at-is : f .fixed .result .seed ≡ fixedOf (start f .args .scheme) .seed
   at-is = ap (λ (g : Fixed). g .seed) (f .fixed .ensures)
@@ -64,9 +65,10 @@ send-requires c κs =
     let f = fixing d in
     let b = start f in
     let z = sized f in
-    let e = o .enum-told .given .1 in (
+    let e = sym (d .draw-pair .ensures .0) ∙ o .enum-told .given .1 in (
       (
         record {
+          ruled = z .ruled;
           secret = d .draw-pair .ensures .1 .0 e .small;
           noise = d .draw-pair .ensures .1 .1 e .small;
           seed-long = seed-long f ∙ at-is f;
@@ -82,7 +84,7 @@ returns c =
     let v : tie.After-v = search needs in
     let d : tie.After-draw-pair = search needs in
     let b = start (fixing d) in
-    let e = open-unordered (b .args .scheme) (b .args .name) (lent b) 0 (d .draw-pair .ensures .0) (v .v .given .1) in
+    let e = open-unordered (b .args .scheme) _ (lent b) 0 (d .draw-pair .ensures .0) (v .v .given .1) in
     (shown-failed _ 0 _ e (b .pre .1 .1), λ h. differ (sym e ∙ h))
 
 returns-2 : tie.Need-returns-2
@@ -94,10 +96,10 @@ returns-2 c =
     let f = fixing d in
     let b = start f in
     let a = b .args in
-    let e = o .enum-told .given .1 in
     let g = d .draw-pair .ensures in
+    let e = sym (g .0) ∙ o .enum-told .given .1 in
     let s = g .1 .0 e .values ∙ ap (drawnAt b) (at-is f) in (
-      open-sent (a .scheme) (a .name) (lent b) _ (g .0) e s (g .1 .1 e .values ∙ ap (λ (j : ℕ). drawnAt b (j + secretBytes (a .scheme))) (at-is f))
+      open-sent (a .scheme) _ (lent b) _ (g .0) (o .enum-told .given .1) s (g .1 .1 e .values ∙ ap (λ (j : ℕ). drawnAt b (j + secretBytes (a .scheme))) (at-is f))
           (ap (λ (j : ℕ). take j (a .random .now)) (at-is f)) (p .send .ensures),
       λ _. s,
     )
@@ -105,17 +107,5 @@ returns-2 c =
 pub open-drawn-spec : {M : Type 1} → statement M
 open-drawn-spec =
     tie.close
-    (tie.spec
-    (λ c κs. search needs)
-    draw-pair-requires
-    (search needs)
-    (search needs)
-    slice-aggregate-send
-    send-requires
-    (search needs)
-    (search needs)
-    returns
-    (search needs)
-    (search needs)
-    (search needs)
-    returns-2)
+    (tie.spec (λ c κs. search needs) draw-pair-requires (search needs) (search needs) slice-aggregate-send
+    send-requires (search needs) (search needs) returns (search needs) (search needs) (search needs) returns-2)

@@ -1,10 +1,9 @@
 -- `exchange::opener::open_in` meets its contract: the refusal of a length or room, or what follows.
 use lib.ListN.{length}
 use mathlib.Core.Path.{sym, _∙_}
-use Rattle.schemes.specs.declared.Named.the-variants.{Known}
-use Rattle.noise.specs.declared.Ruled.the-variants.{By}
+use Rattle.refusals.proofs.Laws.{failed}
 use Rattle.exchange.specs.Open.{openLentOf, openRoomsOf}
-use Rattle.exchange.proofs.Opening.{open-sizes-failed, open-refused}
+use Rattle.exchange.proofs.Opening.{open-apart, open-refused}
 use borrow.Author.Needs.{needs}
 use Rattle.exchange.proofs.opener.open_in.Statement.{statement}
 use Rattle.exchange.proofs.opener.open_in.Tie as tie
@@ -26,17 +25,10 @@ returns c =
     let a = b .args in
     let x = openLentOf (a .a .now) (a .table .now) (a .random .now) in
     let m = openRoomsOf (length (a .opening .now)) (length (a .s .now)) in
-    open-refused (Known (a .scheme)) (By (a .name)) x m (open-sizes-failed (a .scheme) x m (a .name) (t .open-sizes .ensures) (v .v .given .1)) (b .pre .0) (b .pre .1)
+    open-refused _ _ x m (open-apart (a .scheme) _ x m ∙ failed _ (t .open-sizes .ensures) (v .v .given .1)) (b .pre .0) (b .pre .1)
 
 pub open-in-spec : {M : Type 1} → statement M
 open-in-spec =
     tie.close
-    (tie.spec
-    (λ c κs. search needs)
-    (search needs)
-    (search needs)
-    open-sized-requires
-    returns
-    (search needs)
-    (search needs)
-    (λ c. search needs))
+    (tie.spec (λ c κs. search needs) (search needs) (search needs) open-sized-requires returns (search needs)
+    (search needs) (λ c. search needs))

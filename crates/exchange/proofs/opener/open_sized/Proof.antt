@@ -5,6 +5,7 @@ use native.Mathlib.Omega.{arith}
 use lib.{IntN.pos, ListN.length, ListN.replicate}
 use Rattle.schemes.specs.{Schemes.fixedOf, declared.Fixed.Fixed}
 use Rattle.lists.proofs.Parts.{front-long}
+use Rattle.noise.specs.Expand.{ruleOf}
 use Rattle.exchange.specs.Open.{OpenLent, openLentOf, OpenRooms, openRoomsOf}
 use Rattle.exchange.proofs.Opening.{OpenSized, open-sized, open-cut, open-rest-refused, open-rest-done}
 use borrow.Author.Needs.{needs}
@@ -31,8 +32,8 @@ abbrev rooms : tie.Start → OpenRooms
 rooms b = openRoomsOf (length (b .args .opening .now)) (length (b .args .s .now))
 
 module _ (f : tie.After-fixed) where
-  sized : OpenSized (start f .args .scheme) (lent (start f)) (rooms (start f))
-  sized = open-sized _ _ _ (start f .pre .0)
+  sized : OpenSized (start f .args .scheme) (ruleOf (start f .args .rule)) (lent (start f)) (rooms (start f))
+  sized = open-sized _ _ _ _ (start f .pre .0)
 
   long : f .fixed .result .secret ≡ fixedOf (start f .args .scheme) .secret
   long = ap (λ (g : Fixed). g .secret) (f .fixed .ensures)
@@ -40,18 +41,12 @@ module _ (f : tie.After-fixed) where
   roomy : f .fixed .result .secret ≤ length (start f .args .s .now)
   roomy = omega (arith, long, sized .s-roomy)
 
-slice-relend-prefix-open-with : tie.Need-slice-relend-prefix-open-with
-slice-relend-prefix-open-with c = let f : tie.After-fixed = search needs in roomy f
-
-slice-aggregate-open-with : tie.Need-slice-aggregate-open-with
-slice-aggregate-open-with c = let f : tie.After-fixed = search needs in sym (front-long _ (start f .args .s .now) (roomy f))
-
 open-with-requires : tie.Need-open-with-requires
 open-with-requires c κs =
     let f : tie.After-fixed = search needs in
     let b = start f in
     let l = front-long _ (b .args .s .now) (roomy f) ∙ long f in
-    (open-cut (b .args .scheme) (lent b) (rooms b) (b .pre .0) l, (l, b .pre .1 .0))
+    (open-cut (b .args .scheme) _ (lent b) (rooms b) (b .pre .0) l, (l, b .pre .1 .0))
 
 returns : tie.Need-returns
 returns c =
@@ -60,7 +55,7 @@ returns c =
     let v : tie.After-v = search needs in
     let p = made v in
     let b = start (fixing p) in
-    open-rest-refused (b .args .scheme) (b .args .name) (lent b) (rooms b) (b .pre .0) (p .open-with .result) _ (p .open-with .ensures .0) (v .v .given .1)
+    open-rest-refused (b .args .scheme) _ (lent b) (rooms b) (b .pre .0) (p .open-with .result) _ (p .open-with .ensures .0) (v .v .given .1)
     (z .zero-values .ensures ∙ ap (λ (k : ℕ). replicate k (pos 0)) (s .s .given .1))
 
 returns-2 : tie.Need-returns-2
@@ -69,23 +64,13 @@ returns-2 c =
     let p = ended v in
     let f = fixing p in
     let b = start f in
-    open-rest-done (b .args .scheme) (b .args .name) (lent b) (rooms b) (b .pre .0) (p .open-with .result) _ (p .open-with .ensures .0) (v .v2 .given .1) (p .open-with .ensures .1) (b .args .s .now)
+    open-rest-done (b .args .scheme) _ (lent b) (rooms b) (b .pre .0) (p .open-with .result) _ (p .open-with .ensures .0) (v .v2 .given .1) (p .open-with .ensures .1) (b .args .s .now)
     (long f) (b .pre .1 .1)
 
 pub open-sized-spec : {M : Type 1} → statement M
 open-sized-spec =
     tie.close
-    (tie.spec
-    (λ c κs. search needs)
-    slice-relend-prefix-open-with
-    slice-aggregate-open-with
-    open-with-requires
-    (search needs)
-    (λ c κs. search needs)
-    (search needs)
-    (search needs)
-    (search needs)
-    returns
-    (search needs)
-    (search needs)
-    returns-2)
+    (tie.spec (λ c κs. search needs) (λ c. let f : tie.After-fixed = search needs in roomy f)
+    (λ c. let f : tie.After-fixed = search needs in sym (front-long _ (start f .args .s .now) (roomy f)))
+    open-with-requires (search needs) (λ c κs. search needs) (search needs) (search needs) (search needs)
+    returns (search needs) (search needs) returns-2)

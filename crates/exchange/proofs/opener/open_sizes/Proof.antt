@@ -6,7 +6,7 @@ use lib.ListN.{length}
 use Rattle.schemes.specs.declared.Fixed.{Fixed}
 use Rattle.schemes.proofs.Sound.{sound}
 use Rattle.refusals.specs.Refusals.{lengthIs, roomFor}
-use Rattle.refusals.proofs.Laws.{first, also}
+use Rattle.refusals.proofs.Laws.{also}
 use Rattle.exchange.specs.Inside.{openSizes}
 use Rattle.exchange.proofs.{Drawn.secret-few, opener.open_sizes.Statement.statement}
 use borrow.Author.Needs.{needs}
@@ -14,6 +14,9 @@ use Rattle.exchange.proofs.opener.open_sizes.Tie as tie
 
 abbrev start : tie.After-fixed → tie.Start
 start c = search needs
+
+abbrev taken : tie.After-ruled → tie.After-lengths
+taken c = search needs
 
 abbrev fixing : tie.After-lengths → tie.After-fixed
 fixing c = search needs
@@ -39,7 +42,8 @@ returns c =
     let l3 : tie.After-length-is3 = search needs in
     let l2 : tie.After-length-is2 = search needs in
     let l1 : tie.After-length-is = search needs in
-    let l : tie.After-lengths = search needs in
+    let u : tie.After-ruled = search needs in
+    let l = taken u in
     let f = fixing l in
     let a = start f .args in
     let e = l .lengths .ensures in
@@ -49,7 +53,7 @@ returns c =
     (also (r .room-for .ensures)
     (also (l3 .length-is3 .ensures)
     (also (l2 .length-is2 .ensures)
-    (first (l1 .length-is .ensures) (ap (lengthIs (length (a .a .now))) (e .0 .0)))
+    (also (l1 .length-is .ensures) (u .ruled .ensures) (ap (lengthIs (length (a .a .now))) (e .0 .0)))
     (ap (lengthIs (length (a .table .now))) (e .0 .1)))
     (ap (lengthIs (length (a .random .now))) random))
     (ap (λ (g : Fixed). roomFor (a .room) (g .opening)) (f .fixed .ensures)))
@@ -58,14 +62,6 @@ returns c =
 pub open-sizes-spec : {M : Type 1} → statement M
 open-sizes-spec =
     tie.close
-    (tie.spec
-    (λ c κs. search needs)
-    (λ c κs. search needs)
-    (λ c κs. search needs)
-    (λ c κs. search needs)
-    add-length-is
-    add-length-is-2
-    (λ c κs. search needs)
-    (λ c κs. search needs)
-    (λ c κs. search needs)
-    returns)
+    (tie.spec (λ c κs. search needs) (λ c κs. search needs) (λ c κs. search needs) (λ c κs. search needs)
+    (λ c κs. search needs) add-length-is add-length-is-2 (λ c κs. search needs) (λ c κs. search needs)
+    (λ c κs. search needs) returns)

@@ -19,12 +19,6 @@ module _ (f : tie.After-fixed) where
   few : f .fixed .result .noise ≤ 6912
   few = omega (arith, long, sound (start f .args .scheme) .noises)
 
-array-borrow-prefix-e : tie.Need-array-borrow-prefix-e
-array-borrow-prefix-e c = let f : tie.After-fixed = search needs in few f
-
-slice-aggregate-open-drawn : tie.Need-slice-aggregate-open-drawn
-slice-aggregate-open-drawn c = let f : tie.After-fixed = search needs in sym (same-long _ 6912 _ (few f))
-
 open-drawn-requires : tie.Need-open-drawn-requires
 open-drawn-requires c κs =
     let f : tie.After-fixed = search needs in
@@ -34,11 +28,6 @@ open-drawn-requires c κs =
 pub open-with-spec : {M : Type 1} → statement M
 open-with-spec =
     tie.close
-    (tie.spec
-    (λ c κs. search needs)
-    array-borrow-prefix-e
-    slice-aggregate-open-drawn
-    open-drawn-requires
-    (search needs)
-    (search needs)
-    (λ c. search needs))
+    (tie.spec (λ c κs. search needs) (λ c. let f : tie.After-fixed = search needs in few f)
+    (λ c. let f : tie.After-fixed = search needs in sym (same-long _ 6912 _ (few f))) open-drawn-requires
+    (search needs) (search needs) (λ c. search needs))
