@@ -20,8 +20,7 @@ use lib.Seq.{take-at, drop-at, take-all, length-take-le}
 use borrow.Rule.Slice.PartMut.{putMid}
 use Rattle.lists.specs.Ranges.{Below}
 use Rattle.lists.proofs.Parts.{part-long, joined}
-use Rattle.schemes.specs.{Schemes.familyOf, Schemes.fixedOf, Schemes.byFamily, declared.Fixed.Fixed}
-use Rattle.schemes.specs.{declared.Family.Family, declared.Scheme.Scheme}
+use Rattle.schemes.specs.{Schemes.familyOf, Schemes.fixedOf, Schemes.byFamily, declared.Fixed.Fixed, declared.Family.Family, declared.Scheme.Scheme}
 use Rattle.schemes.proofs.{Laws.tied, Sound.sound}
 use Rattle.packing.specs.Packing.{packed, unpacked}
 use Rattle.refusals.specs.{Refusals.receivedIn, declared.Verdict.Verdict}

@@ -2,7 +2,7 @@
 --   numbers-long, key-long       the packed numbers of a message, and a key, are as long as the scheme says
 --   opening-length, reply-length   so are an opening and a reply
 --   numbers-back                 numbers come back from their packed part
---   numbers-blank                they are blank where their packed part is
+--   numbers-blank, told-blank    they are blank where their packed part is, and so says a verdict on them
 --   opened-part, opened-back, seed-back      the packed part of an opening, its numbers, and its seed
 --   replied-part, replied-back, hints-back   those of a reply, and its hints
 --   opening-back, reply-back, opening-again, reply-again   what is stated in specs/Again
@@ -74,6 +74,9 @@ module _ (c : Scheme) where
 
     pub numbers-blank : notBlank (packed (fixedOf c .width) xs) ≡ notBlank xs
     numbers-blank = as-blank (numbers c) h (sound c .q-room)
+
+    pub told-blank : {v w : Verdict} → v ≡ notBlank xs → v ≡ w → w ≡ notBlank (packed (fixedOf c .width) xs)
+    told-blank e f = sym f ∙ e ∙ sym numbers-blank
 
     -- ---- an opening
 
