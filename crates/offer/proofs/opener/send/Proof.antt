@@ -32,9 +32,6 @@ module _ (c : tie.After-fixed) where
   part-long : length (take (c .fixed .result .opening) (start c .args .message .now)) ≡ c .fixed .result .opening
   part-long = front-long _ (start c .args .message .now) roomy
 
-slice-relend-prefix-lay : tie.Need-slice-relend-prefix-lay
-slice-relend-prefix-lay c = roomy c
-
 slice-aggregate-lay : tie.Need-slice-aggregate-lay
 slice-aggregate-lay c = let f : tie.After-fixed = search needs in sym (part-long f)
 
@@ -72,7 +69,7 @@ send-spec =
     tie.close
     (tie.spec
     (λ c κs. search needs)
-    slice-relend-prefix-lay
+    (λ c. roomy c)
     slice-aggregate-lay
     lay-requires
     (search needs)
