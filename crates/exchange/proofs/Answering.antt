@@ -19,13 +19,11 @@ use Rattle.schemes.specs.declared.Named.the-variants.{Known, Unknown}
 use Rattle.schemes.specs.declared.Scheme.the-variants.{NewHope}
 use Rattle.lists.proofs.{Parts.part-long, Same.empty, Same.zeros, Same.zeros-long}
 use Rattle.refusals.specs.Refusals.{_then_, publicsIn, notBlank, receivedIn}
-use Rattle.refusals.specs.declared.Refusal.{Refusal}
-use Rattle.refusals.specs.declared.Refusal.the-variants.{NoScheme}
+use Rattle.refusals.specs.{declared.Refusal.Refusal, declared.Refusal.the-variants.NoScheme}
 use Rattle.refusals.specs.declared.Verdict.{Verdict}
 use Rattle.refusals.specs.declared.Verdict.the-variants.{Pass, Fail}
 use Rattle.refusals.proofs.Laws.{both, all-pass, length-passed, length-passes, room-passed, room-passes, within-passes, below-passes, last-passes, then-assoc, failed, went-on}
-use Rattle.noise.specs.declared.Ruled.{Ruled}
-use Rattle.noise.specs.declared.Ruled.the-variants.{By}
+use Rattle.noise.specs.{declared.Ruled.Ruled, declared.Ruled.the-variants.By}
 use Rattle.sampling.specs.{Noise.tableWords, Expand.growNumbers}
 use Rattle.wire.specs.{Wire.seedIn, Steps.replySecrets}
 use Rattle.reply.specs.Reply.{ReplyRooms, ReplySeen, replyOf, openedOf, repliedPart, replyTests, replyShown, replyResult, replyTold, replySeen}

@@ -18,8 +18,7 @@ use Rattle.refusals.specs.declared.Verdict.{Verdict}
 use Rattle.refusals.specs.declared.Verdict.the-variants.{Pass, Fail}
 use Rattle.refusals.proofs.Laws.{differ, all-pass, length-passes, room-passes, publics-passed, below-passes, went-on}
 use Rattle.refusals.proofs.Seen.{seen-done}
-use Rattle.noise.specs.declared.Ruled.{Ruled}
-use Rattle.noise.specs.declared.Ruled.the-variants.{By}
+use Rattle.noise.specs.{declared.Ruled.Ruled, declared.Ruled.the-variants.By}
 use Rattle.noise.proofs.Stream.{by-name-below}
 use Rattle.sampling.specs.Expand.{expandNumbers}
 use Rattle.sampling.specs.Expand.{growNumbers, blocks, growTests, growResult}

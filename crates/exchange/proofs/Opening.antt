@@ -20,13 +20,11 @@ use Rattle.lists.proofs.Same.{empty}
 use Rattle.refusals.specs.Refusals.{_then_, publicsIn, notBlank}
 use Rattle.refusals.specs.Seen.{output, written, refused, told, Seen, shown, seen}
 use Rattle.refusals.specs.{declared.Answer.Answer, declared.Refusal.Refusal}
-use Rattle.refusals.specs.declared.Refusal.the-variants.{NoScheme}
-use Rattle.refusals.specs.declared.Verdict.{Verdict}
+use Rattle.refusals.specs.{declared.Refusal.the-variants.NoScheme, declared.Verdict.Verdict}
 use Rattle.refusals.specs.declared.Verdict.the-variants.{Pass, Fail}
 use Rattle.refusals.proofs.Laws.{both, all-pass, length-passed, length-passes, room-passed, room-passes, within-passes, below-passes, before-pass, last-passes, failed, went-on}
 use Rattle.refusals.proofs.Seen.{written-passed, written-failed, shown-failed, seen-done, seen-refused}
-use Rattle.noise.specs.declared.Ruled.{Ruled}
-use Rattle.noise.specs.declared.Ruled.the-variants.{By}
+use Rattle.noise.specs.{declared.Ruled.Ruled, declared.Ruled.the-variants.By}
 use Rattle.sampling.specs.{Noise.tableWords, Expand.growNumbers}
 use Rattle.offer.specs.Offer.{offerOf, offeredPart, offerTests, offerMessage, offerResult}
 use Rattle.offer.specs.Inside.{offerLengths, offerAhead}

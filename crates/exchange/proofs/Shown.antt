@@ -15,8 +15,7 @@ use Rattle.refusals.specs.{Seen.Told, declared.Verdict.Verdict, declared.Verdic
 use Rattle.refusals.proofs.Laws.{differ, some, both, all-pass, below-passes}
 use Rattle.refusals.proofs.Number.{and, lengths, rooms, publics, blanks}
 use Rattle.refusals.proofs.Same.{same-refusal}
-use Rattle.noise.specs.declared.Ruled.the-variants.{By}
-use Rattle.noise.specs.declared.Ruled.{Ruled}
+use Rattle.noise.specs.{declared.Ruled.the-variants.By, declared.Ruled.Ruled}
 use Rattle.sampling.specs.Expand.{enough}
 use Rattle.offer.specs.Offer.{offerTests}
 use Rattle.reply.specs.Reply.{ReplyRooms, replyTests}

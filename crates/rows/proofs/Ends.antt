@@ -20,8 +20,7 @@ use Rattle.lists.proofs.{Entries.below-tab, Same.equal-all}
 use Rattle.matrix.specs.Words.{wordsOf, columnsOf}
 use Rattle.parts.specs.Parts.{wrap}
 use Rattle.refusals.specs.{Seen.ifPassed, declared.Verdict.Verdict}
-use Rattle.refusals.specs.declared.Verdict.the-variants.{Pass}
-use Rattle.refusals.specs.Refusals.{_then_, lengthIs}
+use Rattle.refusals.specs.{declared.Verdict.the-variants.Pass, Refusals._then_, Refusals.lengthIs}
 use Rattle.refusals.proofs.Laws.{number-zero, both, length-passed}
 use Rattle.rows_state.proofs.Tests.{frodo-named}
 use Rattle.rows_state.specs.{State.frodoIn, State.frodoOf, Part.stateShown}

@@ -24,14 +24,12 @@ use Rattle.refusals.proofs.Seen.{shown-failed}
 use Rattle.wire.proofs.Travel.{opening-length, numbers-long}
 use Rattle.lists.proofs.Same.{zeros-long}
 use Rattle.rows_state.specs.State.{long, named, savedOf, begun, frodoOf}
-use Rattle.rows_state.specs.Part.{StateSeen, stateSeen}
-use Rattle.rows_state.proofs.Turns.{state-by}
+use Rattle.rows_state.specs.{Part.StateSeen, Part.stateSeen, declared.Call.Call}
+use Rattle.rows_state.proofs.{Turns.state-by, Laying.kept-long}
 use Rattle.rows.specs.Offer.{OfferBegin, offerBeginTests, offerBeginResult, sentPart}
 use Rattle.rows.specs.Offer.{offerEndTests, offerEndMessage, offerEndResult}
 use Rattle.rows.specs.Inside.{offerBeginSizes, offerEndSizes}
-use Rattle.rows_state.specs.declared.Call.{Call}
 use Rattle.rows_state.proofs.Tests.{passed, all-below, started, completes, frodos}
-use Rattle.rows_state.proofs.Laying.{kept-long}
 use Rattle.rows.proofs.{Ends.last-length, Ends.end-by, Sending.sent-counted}
 
 -- ---- begin

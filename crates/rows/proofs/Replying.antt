@@ -28,11 +28,9 @@ use Rattle.reply.specs.declared.ReplyAnswer.the-variants.{Refused}
 use Rattle.reply.proofs.Replying.{reply-refused}
 use Rattle.lists.proofs.Same.{zeros-long}
 use Rattle.rows_state.specs.State.{long, named, savedOf, begun, frodoOf}
-use Rattle.rows_state.specs.Part.{StateSeen, stateSeen}
-use Rattle.rows_state.proofs.Turns.{state-by}
-use Rattle.rows_state.specs.declared.Call.{Call}
+use Rattle.rows_state.specs.{Part.StateSeen, Part.stateSeen, declared.Call.Call}
+use Rattle.rows_state.proofs.{Turns.state-by, Laying.kept-long}
 use Rattle.rows_state.proofs.Tests.{all-below, started, completes, frodos}
-use Rattle.rows_state.proofs.Laying.{kept-long}
 use Rattle.rows.specs.Offer.{sentPart}
 use Rattle.rows.specs.Reply.{ReplyBegin, replyBeginTests, replyBeginResult, replyEndTests}
 use Rattle.rows.specs.Reply.{replyEndMessage, replyEndKey, replyEndResult}

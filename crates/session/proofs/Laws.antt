@@ -11,9 +11,8 @@
 --   offer-stops                     what a refusal ahead of Offer shows; so of the others
 --   offer-refused, offer-done       Offer: a refusal of the call beneath, and its answer; reply-given, finish-given: so of the others
 --   close-moves                     Close
-use mathlib.Core.Path.{_≡_, refl, _∙_, sym, ap}
+use mathlib.Core.{Path._≡_, Path.refl, Path._∙_, Path.sym, Path.ap, List.List, List.[], List._++_}
 use mathlib.Core.Bool.{Bool, true, false, not}
-use mathlib.Core.List.{List, [], _++_}
 use Prim.Native.Nat.{ℕ, _-_, _≤_}
 use native.Mathlib.Omega.{arith}
 use native.Mathlib.Nat.{sub-zero}

@@ -5,9 +5,8 @@ use Rattle.reply.specs.Reply.{replyRoomsOf}
 use Rattle.refusals.proofs.Laws.{failed}
 use Rattle.reply.proofs.Replying.{reply-refused}
 use Rattle.exchange.specs.Answer.{answerLentOf}
-use Rattle.exchange.proofs.Answering.{answer-apart}
+use Rattle.exchange.proofs.{Answering.answer-apart, answerer.answer_in.Statement.statement}
 use borrow.Author.Needs.{needs}
-use Rattle.exchange.proofs.answerer.answer_in.Statement.{statement}
 use Rattle.exchange.proofs.answerer.answer_in.Tie as tie
 
 abbrev start : tie.After-answer-sizes → tie.Start

@@ -3,10 +3,9 @@ use mathlib.Core.Path.{ap, _∙_}
 use native.Mathlib.Omega.{arith}
 use Rattle.schemes.specs.Schemes.{schemeOf}
 use Rattle.schemes.proofs.Laws.{by-number}
-use Rattle.exchange.proofs.Grown.{lends, only-newhope}
+use Rattle.exchange.proofs.{Grown.lends, Grown.only-newhope, opener.send.Statement.statement}
 use Rattle.exchange.proofs.Opening.{send-lent, send-newhope, sends-newhope}
 use borrow.Author.Needs.{needs}
-use Rattle.exchange.proofs.opener.send.Statement.{statement}
 use Rattle.exchange.proofs.opener.send.Tie as tie
 
 send-grown-requires : tie.Need-send-grown-requires
