@@ -147,7 +147,7 @@ def script(both):
         os.makedirs(os.path.dirname(os.path.join(tree, name)), exist_ok=True)
         write(os.path.join(tree, name), text.encode())
         os.chmod(os.path.join(tree, name), 0o755)
-    for name in ("box", "native", "prove", "compile", "crates.txt"):
+    for name in ("box", "native", "prove", "memory", "compile", "crates.txt"):
         shutil.copy(os.path.join(root, name), tree)
     for name in ("c", "include", "data"):
         shutil.copytree(os.path.join(root, name), os.path.join(tree, name))
