@@ -11,27 +11,13 @@ use Rattle.rows_state.proofs.part.add_right_small.Tie as tie
 few : (s : tie.Start) → 8 * s .args .n ≤ 2820
 few s = omega (arith, s .pre .2)
 
-array-borrow-prefix-line : tie.Need-array-borrow-prefix-line
-array-borrow-prefix-line c = let s : tie.Start = search needs in s .pre .2
-
-slice-aggregate-put-right : tie.Need-slice-aggregate-put-right
-slice-aggregate-put-right c = let s : tie.Start = search needs in sym (buffer-long (s .args .n) 352 (s .pre .2))
-
-array-borrow-prefix-cols : tie.Need-array-borrow-prefix-cols
-array-borrow-prefix-cols c = let s : tie.Start = search needs in few s
-
-slice-aggregate-put-right-2 : tie.Need-slice-aggregate-put-right-2
-slice-aggregate-put-right-2 c = let s : tie.Start = search needs in sym (buffer-long (8 * s .args .n) 2820 (few s))
-
 put-right-requires : tie.Need-put-right-requires
 put-right-requires c κs =
     let s : tie.Start = search needs in
     (s .pre .0, s .pre .1, buffer-long (s .args .n) 352 (s .pre .2), buffer-long (8 * s .args .n) 2820 (few s), length-replicate {A = ℕ} 128 0)
 
-returns : tie.Need-returns
-returns c = let o : tie.After-put-right = search needs in o .put-right .ensures
-
 pub add-right-small-spec : {M : Type 1} → statement M
-add-right-small-spec =
-    tie.close
-    (tie.spec (search needs) array-borrow-prefix-line slice-aggregate-put-right array-borrow-prefix-cols slice-aggregate-put-right-2 (search needs) put-right-requires (search needs) returns)
+add-right-small-spec = tie.close (tie.spec (search needs) (λ c. let s : tie.Start = search needs in s .pre .2)
+    (λ c. let s : tie.Start = search needs in sym (buffer-long (s .args .n) 352 (s .pre .2))) (λ c. let s : tie.Start = search needs in few s)
+    (λ c. let s : tie.Start = search needs in sym (buffer-long (8 * s .args .n) 2820 (few s))) (search needs) put-right-requires (search needs)
+    (λ c. let o : tie.After-put-right = search needs in o .put-right .ensures))

@@ -23,6 +23,4 @@ returns-2 c =
     r .add-left .ensures ∙ ap (λ (k : Call). entered k (a .n) (a .row * a .n) (a .state .now)) (sym (t .enum-told2 .given .1))
 
 pub enter-spec : {M : Type 1} → statement M
-enter-spec =
-    tie.close
-    (tie.spec (search needs) (λ c κs. search needs) (search needs) (λ c κs. search needs) (search needs) returns (search needs) returns-2)
+enter-spec = tie.close (tie.spec (search needs) (λ c κs. search needs) (search needs) (λ c κs. search needs) (search needs) returns (search needs) returns-2)

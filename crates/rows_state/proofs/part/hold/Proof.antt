@@ -11,12 +11,6 @@ use Rattle.rows_state.proofs.part.hold.Tie as tie
 inside : (s : tie.Start) → s .args .at + length (s .args .p .now) ≤ 746496
 inside s = omega (arith, s .pre .0 .3, square (s .args .n) (s .pre .0 .0 .few))
 
-add-state : tie.Need-add-state
-add-state c = let s : tie.Start = search needs in record { fits = omega (arith, inside s) }
-
-cast-state : tie.Need-cast-state
-cast-state c = let s : tie.Start = search needs in record { fits = omega (arith, inside s) }
-
 same-length : tie.Need-same-length
 same-length c =
     let s : tie.Start = search needs in
@@ -32,6 +26,6 @@ returns c =
     hold-at (s .args .n) (s .args .state .now) (s .pre .0 .0) (s .args .p .now) (s .args .at) _ (s .pre .0 .1) (o .put-words .ensures)
 
 pub hold-spec : {M : Type 1} → statement M
-hold-spec =
-    tie.close
-    (tie.spec (search needs) (search needs) (search needs) (search needs) (search needs) (search needs) (search needs) (search needs) (λ c κs. search needs) add-state cast-state (search needs) same-length returns)
+hold-spec = tie.close (tie.spec (search needs) (search needs) (search needs) (search needs) (search needs) (search needs) (search needs) (search needs)
+    (λ c κs. search needs) (λ c. let s : tie.Start = search needs in record { fits = omega (arith, inside s) })
+    (λ c. let s : tie.Start = search needs in record { fits = omega (arith, inside s) }) (search needs) same-length returns)

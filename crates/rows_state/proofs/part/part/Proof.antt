@@ -28,6 +28,4 @@ returns-2 c =
     part-known (s .args .call) (s .args .state .now) (s .args .p .now) _ (sym (n .named .ensures) ∙ k .known .given .1) (p .part-in .ensures .0) (p .part-in .ensures .1)
 
 pub part-spec : {M : Type 1} → statement M
-part-spec =
-    tie.close
-    (tie.spec (λ c κs. search needs) (search needs) (search needs) (search needs) returns part-in-requires (search needs) returns-2)
+part-spec = tie.close (tie.spec (λ c κs. search needs) (search needs) (search needs) (search needs) returns part-in-requires (search needs) returns-2)

@@ -51,6 +51,5 @@ returns-2 c =
     )
 
 pub part-in-spec : {M : Type 1} → statement M
-part-in-spec =
-    tie.close
-    (tie.spec (λ c κs. search needs) may-take-requires (λ c κs. search needs) (search needs) (search needs) take-part-requires (search needs) returns (search needs) returns-2)
+part-in-spec = tie.close (tie.spec (λ c κs. search needs) may-take-requires (λ c κs. search needs) (search needs) (search needs) take-part-requires
+    (search needs) returns (search needs) returns-2)

@@ -11,6 +11,5 @@ returns c =
     back-left (s .args .n) (s .args .state .now) (s .pre .0) (s .args .row) (s .pre .1) _ _ (o .sums-left .ensures) (x .pair .ensures)
 
 pub put-left-spec : {M : Type 1} → statement M
-put-left-spec =
-    tie.close
-    (tie.spec (λ c κs. search needs) (search needs) (search needs) (search needs) (search needs) (search needs) (search needs) (search needs) (search needs) (λ c κs. search needs) (search needs) (search needs) (search needs) (search needs) returns)
+put-left-spec = tie.close (tie.spec (λ c κs. search needs) (search needs) (search needs) (search needs) (search needs) (search needs) (search needs)
+    (search needs) (search needs) (λ c κs. search needs) (search needs) (search needs) (search needs) (search needs) returns)

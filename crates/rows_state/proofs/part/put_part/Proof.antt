@@ -28,21 +28,6 @@ module _ (s : tie.Start) where
   in-block : taken st % (16 * s .args .n) + m ≤ 16 * s .args .n
   in-block = block-fits (s .args .n) (taken st) m (s .pre .0 .some) (fit .in-row)
 
-slice-read-at : tie.Need-slice-read-at
-slice-read-at c = let s : tie.Start = search needs in omega (arith, s .pre .0 .long)
-
-cast-at : tie.Need-cast-at
-cast-at c = let k : tie.After-slice-known = search needs in omega (arith, k .slice-known .given 2)
-
-add-e : tie.Need-add-e
-add-e c = let s : tie.Start = search needs in record { fits = omega (arith, inside s) }
-
-hold-requires : tie.Need-hold-requires
-hold-requires c κs = let s : tie.Start = search needs in ((s .pre .0, refl, in-block s, fit s .in-all), s .pre .2)
-
-fills-requires : tie.Need-fills-requires
-fills-requires c κs = let s : tie.Start = search needs in (s .pre .0 .some, s .pre .0 .few, fit s .in-all)
-
 sub-enter : tie.Need-sub-enter
 sub-enter c =
     let s : tie.Start = search needs in
@@ -102,6 +87,9 @@ returns-2 c =
     o .hold .ensures ∙ step-holds (s .args .n) (st s) (s .pre .0) (s .args .call) (s .args .p .now) (sym (f .fills .ensures) ∙ i .if1 .left)
 
 pub put-part-spec : {M : Type 1} → statement M
-put-part-spec =
-    tie.close
-    (tie.spec slice-read-at cast-at add-e hold-requires fills-requires (search needs) sub-enter enter-requires same-length returns same-length-2 returns-2)
+put-part-spec = tie.close (tie.spec (λ c. let s : tie.Start = search needs in omega (arith, s .pre .0 .long))
+    (λ c. let k : tie.After-slice-known = search needs in omega (arith, k .slice-known .given 2))
+    (λ c. let s : tie.Start = search needs in record { fits = omega (arith, inside s) })
+    (λ c κs. let s : tie.Start = search needs in ((s .pre .0, refl, in-block s, fit s .in-all), s .pre .2))
+    (λ c κs. let s : tie.Start = search needs in (s .pre .0 .some, s .pre .0 .few, fit s .in-all)) (search needs) sub-enter enter-requires same-length returns
+    same-length-2 returns-2)

@@ -14,6 +14,5 @@ returns c =
     (o .sums-right .ensures) (x .pair .ensures)
 
 pub put-right-spec : {M : Type 1} → statement M
-put-right-spec =
-    tie.close
-    (tie.spec (λ c κs. search needs) (search needs) (search needs) (search needs) (search needs) (search needs) (search needs) (search needs) (search needs) (search needs) (λ c κs. search needs) (search needs) (search needs) (search needs) (search needs) returns)
+put-right-spec = tie.close (tie.spec (λ c κs. search needs) (search needs) (search needs) (search needs) (search needs) (search needs) (search needs)
+    (search needs) (search needs) (search needs) (λ c κs. search needs) (search needs) (search needs) (search needs) (search needs) returns)

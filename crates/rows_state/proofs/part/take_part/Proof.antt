@@ -34,6 +34,4 @@ returns-2 c =
     (sym (t .enum-told .given .1) ∙ p .publics-in .ensures, l .put-part .ensures)
 
 pub take-part-spec : {M : Type 1} → statement M
-take-part-spec =
-    tie.close
-    (tie.spec (λ c κs. search needs) (search needs) (search needs) put-part-requires returns (search needs) returns-2)
+take-part-spec = tie.close (tie.spec (λ c κs. search needs) (search needs) (search needs) put-part-requires returns (search needs) returns-2)

@@ -8,10 +8,6 @@ use Rattle.rows_state.proofs.Tests.{stops, goes, square}
 use Rattle.rows_state.proofs.state.fills.Statement.{statement}
 use Rattle.rows_state.proofs.state.fills.Tie as tie
 
-returns : tie.Need-returns
-unfolding fills
-returns c = let s : tie.Start = search needs in stops _ (lt-leb 1 (s .args .m) (c .if1 .taken))
-
 add-result : tie.Need-add-result
 add-result c = let s : tie.Start = search needs in record { fits = omega (arith, square (s .args .n) (s .pre .1), s .pre .2) }
 
@@ -23,6 +19,5 @@ returns-2 c =
     goes (le-leb 1 (s .args .m) (omega (arith, i .if1 .left))) refl
 
 pub fills-spec : {M : Type 1} → statement M
-fills-spec =
-    tie.close
-    (tie.spec returns add-result (search needs) (search needs) returns-2)
+fills-spec = tie.close (tie.spec (λ c. unfold fills in let s : tie.Start = search needs in stops _ (lt-leb 1 (s .args .m) (c .if1 .taken))) add-result
+    (search needs) (search needs) returns-2)

@@ -10,9 +10,6 @@ use Rattle.rows_state.proofs.Tests.{stops, goes, square}
 use Rattle.rows_state.proofs.state.fits_in.Statement.{statement}
 use Rattle.rows_state.proofs.state.fits_in.Tie as tie
 
-sub-left : tie.Need-sub-left
-sub-left c = let s : tie.Start = search needs in omega (arith, mod-lt (s .args .at) (s .pre .0))
-
 returns : tie.Need-returns
 unfolding fitsIn
 returns c =
@@ -23,9 +20,6 @@ returns c =
 add-result : tie.Need-add-result
 add-result c = let s : tie.Start = search needs in record { fits = omega (arith, square (s .args .n) (s .pre .1), s .pre .1, s .pre .2, c .if1 .left) }
 
-mul-result : tie.Need-mul-result
-mul-result c = let s : tie.Start = search needs in record { fits = omega (arith, square (s .args .n) (s .pre .1)) }
-
 returns-2 : tie.Need-returns-2
 unfolding fitsIn
 returns-2 c =
@@ -35,6 +29,5 @@ returns-2 c =
     goes (le-leb _ _ h) refl
 
 pub fits-in-spec : {M : Type 1} → statement M
-fits-in-spec =
-    tie.close
-    (tie.spec (search needs) sub-left returns add-result mul-result returns-2)
+fits-in-spec = tie.close (tie.spec (search needs) (λ c. let s : tie.Start = search needs in omega (arith, mod-lt (s .args .at) (s .pre .0))) returns add-result
+    (λ c. let s : tie.Start = search needs in record { fits = omega (arith, square (s .args .n) (s .pre .1)) }) returns-2)

@@ -46,6 +46,5 @@ returns-4 c =
     by-family (s .args .no) _ Family.Frodo (sym (n .scheme-of .ensures) ∙ k .known .given .1) (sym (f .family .ensures) ∙ t .enum-told4 .given .1)
 
 pub frodo-of-spec : {M : Type 1} → statement M
-frodo-of-spec =
-    tie.close
-    (tie.spec (λ c κs. search needs) (search needs) (search needs) returns (λ c κs. search needs) (search needs) (search needs) (search needs) returns-2 returns-3 returns-4)
+frodo-of-spec = tie.close (tie.spec (λ c κs. search needs) (search needs) (search needs) returns (λ c κs. search needs) (search needs) (search needs)
+    (search needs) returns-2 returns-3 returns-4)

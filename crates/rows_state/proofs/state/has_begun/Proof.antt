@@ -9,22 +9,12 @@ use Rattle.rows_state.proofs.Tests.{stops, goes, square}
 use Rattle.rows_state.proofs.state.has_begun.Statement.{statement}
 use Rattle.rows_state.proofs.state.has_begun.Tie as tie
 
-returns : tie.Need-returns
-unfolding begun
-returns c = stops _ (ne-eqb _ _ (c .if1 .taken))
-
 returns-2 : tie.Need-returns-2
 unfolding begun
 returns-2 c =
     let i : tie.Else1 = search needs in
     let m : tie.After-tag = search needs in
     goes (eq-eqb _ _ (i .if1 .left)) (stops _ (ne-eqb _ _ (λ e. c .if2 .taken (e ∙ sym (m .tag .ensures)))))
-
-mul-if3 : tie.Need-mul-if3
-mul-if3 c = let s : tie.Start = search needs in record { fits = omega (arith, square (s .args .f .n) (s .pre)) }
-
-cast-if3 : tie.Need-cast-if3
-cast-if3 c = let k : tie.After-shared-slice-known = search needs in omega (arith, k .shared-slice-known .given 2)
 
 returns-3 : tie.Need-returns-3
 unfolding begun
@@ -50,6 +40,7 @@ returns-4 c =
     goes (eq-eqb _ _ (i .if1 .left)) (goes (eq-eqb _ _ (j .if2 .left ∙ m .tag .ensures)) (goes (le-leb _ _ (l .if3 .left)) (c .kept-in .ensures)))
 
 pub has-begun-spec : {M : Type 1} → statement M
-has-begun-spec =
-    tie.close
-    (tie.spec (search needs) (search needs) returns (search needs) (λ c κs. search needs) returns-2 mul-if3 (search needs) cast-if3 returns-3 (search needs) (search needs) (search needs) kept-in-requires returns-4)
+has-begun-spec = tie.close (tie.spec (search needs) (search needs) (λ c. unfold begun in stops _ (ne-eqb _ _ (c .if1 .taken))) (search needs)
+    (λ c κs. search needs) returns-2 (λ c. let s : tie.Start = search needs in record { fits = omega (arith, square (s .args .f .n) (s .pre)) }) (search needs)
+    (λ c. let k : tie.After-shared-slice-known = search needs in omega (arith, k .shared-slice-known .given 2)) returns-3 (search needs) (search needs)
+    (search needs) kept-in-requires returns-4)

@@ -15,20 +15,9 @@ returns : tie.Need-returns
 unfolding complete
 returns c = let b : tie.After-has-begun = search needs in stops _ (sym (b .has-begun .ensures) ∙ not-true _ (c .if1 .taken))
 
-shared-slice-read-result : tie.Need-shared-slice-read-result
-shared-slice-read-result c = let i : tie.Else1 = search needs in omega (arith, started _ _ _ (begins i) .is-long)
-
-cast-result : tie.Need-cast-result
-cast-result c = let k : tie.After-shared-slice-known = search needs in omega (arith, k .shared-slice-known .given 2)
-
-mul-result : tie.Need-mul-result
-mul-result c = let s : tie.Start = search needs in record { fits = omega (arith, square (s .args .f .n) (s .pre)) }
-
-returns-2 : tie.Need-returns-2
-unfolding complete
-returns-2 c = let i : tie.Else1 = search needs in goes (begins i) refl
-
 pub is-complete-spec : {M : Type 1} → statement M
-is-complete-spec =
-    tie.close
-    (tie.spec (λ c κs. search needs) returns shared-slice-read-result cast-result mul-result returns-2)
+is-complete-spec = tie.close (tie.spec (λ c κs. search needs) returns
+    (λ c. let i : tie.Else1 = search needs in omega (arith, started _ _ _ (begins i) .is-long))
+    (λ c. let k : tie.After-shared-slice-known = search needs in omega (arith, k .shared-slice-known .given 2))
+    (λ c. let s : tie.Start = search needs in record { fits = omega (arith, square (s .args .f .n) (s .pre)) })
+    (λ c. unfold complete in let i : tie.Else1 = search needs in goes (begins i) refl))

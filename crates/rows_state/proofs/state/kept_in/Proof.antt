@@ -18,6 +18,4 @@ returns-2 c =
     c .all-below .ensures ∙ ap (λ (k : Call). savedIn k (s .args .q) (s .args .kept .now)) (sym (t .enum-told2 .given .1))
 
 pub kept-in-spec : {M : Type 1} → statement M
-kept-in-spec =
-    tie.close
-    (tie.spec (search needs) (λ c κs. search needs) (search needs) (λ c κs. search needs) returns returns-2)
+kept-in-spec = tie.close (tie.spec (search needs) (λ c κs. search needs) (search needs) (λ c κs. search needs) returns returns-2)

@@ -12,9 +12,6 @@ use Rattle.rows_state.proofs.state.lay_pairs.Tie as tie
 out-long : (s : tie.Start) → length (s .args .out .now) ≡ 16 * s .args .n
 out-long s = zeros-long (16 * s .args .n) 0 (s .pre .3)
 
-slice-relend-prefix-pair : tie.Need-slice-relend-prefix-pair
-slice-relend-prefix-pair c = let s : tie.Start = search needs in omega (arith, out-long s)
-
 slice-aggregate-pair : tie.Need-slice-aggregate-pair
 slice-aggregate-pair c = let s : tie.Start = search needs in sym (front-long (4 * s .args .n) (s .args .out .now) (omega (arith, out-long s)))
 
@@ -57,6 +54,5 @@ returns c =
     pairs-laid (s .args .n) (s .args .secret .now) (s .args .noise .now) (s .args .out .now) _ _ (s .pre .1) (s .pre .3) (p .pair .ensures) (q .pair2 .ensures)
 
 pub lay-pairs-spec : {M : Type 1} → statement M
-lay-pairs-spec =
-    tie.close
-    (tie.spec (search needs) (search needs) (search needs) slice-relend-prefix-pair slice-aggregate-pair pair-requires (search needs) (search needs) (search needs) part-pair-end pair-requires-2 same-length returns)
+lay-pairs-spec = tie.close (tie.spec (search needs) (search needs) (search needs) (λ c. let s : tie.Start = search needs in omega (arith, out-long s))
+    slice-aggregate-pair pair-requires (search needs) (search needs) (search needs) part-pair-end pair-requires-2 same-length returns)

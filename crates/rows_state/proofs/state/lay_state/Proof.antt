@@ -23,9 +23,6 @@ tagged c = search needs
 abbrev start : tie.After-tag → tie.Start
 start c = search needs
 
-slice-write-state-2 : tie.Need-slice-write-state-2
-slice-write-state-2 c = let s : tie.Start = search needs in simp length-set (omega (arith, s .pre .0 .0 .long))
-
 -- what stands before the words are written
 module _ (m : tie.After-number) where
   abbrev s : tie.Start
@@ -36,12 +33,6 @@ module _ (m : tie.After-number) where
 
   before-long : length before ≡ long (s .args .n)
   before-long = headed-long (s .args .n) (s .args .state .now) (s .pre .0 .0 .long) (s .pre .0 .2) (tagged m .tag .result) (m .number .result)
-
-sub-lay-words : tie.Need-sub-lay-words
-sub-lay-words c = let m : tie.After-number = search needs in omega (arith, before-long m)
-
-part-lay-words-start : tie.Need-part-lay-words-start
-part-lay-words-start c = let m : tie.After-number = search needs in omega (arith, before-long m)
 
 lay-words-requires : tie.Need-lay-words-requires
 lay-words-requires c κs =
@@ -76,10 +67,9 @@ same-length c =
     ∙ ap long (sym (b .pre .0 .1))
     ∙ sym (b .pre .0 .0 .long)
 
-returns : tie.Need-returns
-returns c = let w : tie.After-lay-words = search needs in laid-is w (w .lay-words .ensures)
-
 pub lay-state-spec : {M : Type 1} → statement M
-lay-state-spec =
-    tie.close
-    (tie.spec (λ c κs. search needs) (search needs) (λ c κs. search needs) slice-write-state-2 sub-lay-words part-lay-words-start (search needs) lay-words-requires same-length returns)
+lay-state-spec = tie.close (tie.spec (λ c κs. search needs) (search needs) (λ c κs. search needs)
+    (λ c. let s : tie.Start = search needs in simp length-set (omega (arith, s .pre .0 .0 .long)))
+    (λ c. let m : tie.After-number = search needs in omega (arith, before-long m))
+    (λ c. let m : tie.After-number = search needs in omega (arith, before-long m)) (search needs) lay-words-requires same-length
+    (λ c. let w : tie.After-lay-words = search needs in laid-is w (w .lay-words .ensures)))

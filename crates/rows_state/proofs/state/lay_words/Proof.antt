@@ -10,27 +10,13 @@ use Rattle.rows_state.proofs.state.lay_words.Tie as tie
 few : (s : tie.Start) → 8 * s .args .n ≤ 6912
 few s = omega (arith, s .pre .1)
 
-array-borrow-prefix-secret : tie.Need-array-borrow-prefix-secret
-array-borrow-prefix-secret c = let s : tie.Start = search needs in few s
-
-slice-aggregate-words-on : tie.Need-slice-aggregate-words-on
-slice-aggregate-words-on c = let s : tie.Start = search needs in sym (buffer-long (8 * s .args .n) 6912 (few s))
-
-array-borrow-prefix-noise : tie.Need-array-borrow-prefix-noise
-array-borrow-prefix-noise c = let s : tie.Start = search needs in few s
-
-slice-aggregate-words-on-2 : tie.Need-slice-aggregate-words-on-2
-slice-aggregate-words-on-2 c = let s : tie.Start = search needs in sym (buffer-long (8 * s .args .n) 6912 (few s))
-
 words-on-requires : tie.Need-words-on-requires
 words-on-requires c κs =
     let s : tie.Start = search needs in
     (s .pre, (buffer-long (8 * s .args .n) 6912 (few s), buffer-long (8 * s .args .n) 6912 (few s)))
 
-returns : tie.Need-returns
-returns c = let o : tie.After-words-on = search needs in o .words-on .ensures
-
 pub lay-words-spec : {M : Type 1} → statement M
-lay-words-spec =
-    tie.close
-    (tie.spec (search needs) array-borrow-prefix-secret slice-aggregate-words-on array-borrow-prefix-noise slice-aggregate-words-on-2 words-on-requires (search needs) returns)
+lay-words-spec = tie.close (tie.spec (search needs) (λ c. let s : tie.Start = search needs in few s)
+    (λ c. let s : tie.Start = search needs in sym (buffer-long (8 * s .args .n) 6912 (few s))) (λ c. let s : tie.Start = search needs in few s)
+    (λ c. let s : tie.Start = search needs in sym (buffer-long (8 * s .args .n) 6912 (few s))) words-on-requires (search needs)
+    (λ c. let o : tie.After-words-on = search needs in o .words-on .ensures))

@@ -14,22 +14,13 @@ begins c = let b : tie.After-has-begun = search needs in sym (b .has-begun .ensu
 returns : tie.Need-returns
 returns c = let b : tie.After-has-begun = search needs in stops _ (sym (b .has-begun .ensures) ∙ not-true _ (c .if1 .taken))
 
-shared-slice-read-fits-in : tie.Need-shared-slice-read-fits-in
-shared-slice-read-fits-in c = let i : tie.Else1 = search needs in omega (arith, started _ _ _ (begins i) .is-long)
-
-cast-fits-in : tie.Need-cast-fits-in
-cast-fits-in c = let k : tie.After-shared-slice-known = search needs in omega (arith, k .shared-slice-known .given 2)
-
 fits-in-requires : tie.Need-fits-in-requires
 fits-in-requires c κs =
     let s : tie.Start = search needs in
     let i : tie.Else1 = search needs in
     (s .pre .0, s .pre .1, started _ _ _ (begins i) .at-most)
 
-returns-2 : tie.Need-returns-2
-returns-2 c = let i : tie.Else1 = search needs in goes (begins i) (c .fits-in .ensures)
-
 pub may-take-spec : {M : Type 1} → statement M
-may-take-spec =
-    tie.close
-    (tie.spec (λ c κs. search needs) returns shared-slice-read-fits-in cast-fits-in fits-in-requires returns-2)
+may-take-spec = tie.close (tie.spec (λ c κs. search needs) returns (λ c. let i : tie.Else1 = search needs in omega (arith, started _ _ _ (begins i) .is-long))
+    (λ c. let k : tie.After-shared-slice-known = search needs in omega (arith, k .shared-slice-known .given 2)) fits-in-requires
+    (λ c. let i : tie.Else1 = search needs in goes (begins i) (c .fits-in .ensures)))

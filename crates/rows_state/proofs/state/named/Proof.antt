@@ -10,10 +10,5 @@ use Rattle.rows_state.proofs.state.named.Tie as tie
 returns : tie.Need-returns
 returns c = let s : tie.Start = search needs in ap frodoOf (sym (List·getD-eq-default (s .args .state .now) 0 {n = 1} (omega arith)))
 
-returns-2 : tie.Need-returns-2
-returns-2 c = let f : tie.After-frodo-of = search needs in f .frodo-of .ensures
-
 pub named-spec : {M : Type 1} → statement M
-named-spec =
-    tie.close
-    (tie.spec returns (search needs) (λ c κs. search needs) returns-2)
+named-spec = tie.close (tie.spec returns (search needs) (λ c κs. search needs) (λ c. let f : tie.After-frodo-of = search needs in f .frodo-of .ensures))

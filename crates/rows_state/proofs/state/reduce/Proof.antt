@@ -10,21 +10,12 @@ use Rattle.rows_state.proofs.state.reduce.Tie as tie
 few : (s : tie.Start) → 8 * s .args .n ≤ 6912
 few s = omega (arith, s .pre .3)
 
-array-borrow-prefix-sums : tie.Need-array-borrow-prefix-sums
-array-borrow-prefix-sums c = let s : tie.Start = search needs in few s
-
-slice-aggregate-reduce-on : tie.Need-slice-aggregate-reduce-on
-slice-aggregate-reduce-on c = let s : tie.Start = search needs in sym (buffer-long (8 * s .args .n) 6912 (few s))
-
 reduce-on-requires : tie.Need-reduce-on-requires
 reduce-on-requires c κs =
     let s : tie.Start = search needs in
     (s .pre .0, s .pre .1, s .pre .2, s .pre .3, s .pre .4, buffer-long (8 * s .args .n) 6912 (few s), s .pre .5)
 
-returns : tie.Need-returns
-returns c = let o : tie.After-reduce-on = search needs in o .reduce-on .ensures
-
 pub reduce-spec : {M : Type 1} → statement M
-reduce-spec =
-    tie.close
-    (tie.spec (search needs) array-borrow-prefix-sums slice-aggregate-reduce-on reduce-on-requires (search needs) returns)
+reduce-spec = tie.close (tie.spec (search needs) (λ c. let s : tie.Start = search needs in few s)
+    (λ c. let s : tie.Start = search needs in sym (buffer-long (8 * s .args .n) 6912 (few s))) reduce-on-requires (search needs)
+    (λ c. let o : tie.After-reduce-on = search needs in o .reduce-on .ensures))

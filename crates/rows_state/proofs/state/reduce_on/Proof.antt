@@ -33,6 +33,5 @@ returns c =
     ∙ ap (reduced (s .args .q)) (u .unpair .ensures ∙ ap (λ (k : ℕ). words (take k (drop (67 + 4 * s .args .n) (s .args .state .now)))) e)
 
 pub reduce-on-spec : {M : Type 1} → statement M
-reduce-on-spec =
-    tie.close
-    (tie.spec (search needs) (search needs) (search needs) (search needs) (search needs) (search needs) (search needs) (search needs) unpair-requires reduce-requires (search needs) (search needs) returns)
+reduce-on-spec = tie.close (tie.spec (search needs) (search needs) (search needs) (search needs) (search needs) (search needs) (search needs) (search needs)
+    unpair-requires reduce-requires (search needs) (search needs) returns)

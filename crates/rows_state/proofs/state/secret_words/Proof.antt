@@ -20,6 +20,5 @@ returns-2 c =
     r .words .ensures ∙ ap (λ (k : Call). secretWords k (s .args .n) (s .args .s .now)) (sym (t .enum-told2 .given .1))
 
 pub secret-words-spec : {M : Type 1} → statement M
-secret-words-spec =
-    tie.close
-    (tie.spec (search needs) (λ c κs. search needs) (search needs) (λ c κs. search needs) (search needs) returns (search needs) returns-2)
+secret-words-spec = tie.close (tie.spec (search needs) (λ c κs. search needs) (search needs) (λ c κs. search needs) (search needs) returns (search needs)
+    returns-2)

@@ -8,9 +8,6 @@ use Rattle.rows_state.specs.State.{allBelow}
 use Rattle.rows_state.proofs.{Tests.stops, Tests.goes, state.seed_kept.Statement.statement}
 use Rattle.rows_state.proofs.state.seed_kept.Tie as tie
 
-slice-aggregate-all-below : tie.Need-slice-aggregate-all-below
-slice-aggregate-all-below c = let s : tie.Start = search needs in sym (front-long 16 (s .args .kept .now) (omega (arith, s .pre)))
-
 returns : tie.Need-returns
 returns c = let a : tie.After-all-below = search needs in stops _ (sym (a .all-below .ensures) ∙ not-true _ (c .if1 .taken))
 
@@ -22,6 +19,5 @@ returns-2 c =
     goes (sym (a .all-below .ensures) ∙ not-false _ (i .if1 .left)) (c .all-below2 .ensures ∙ ap (allBelow 1) (to-end (s .args .kept .now) 16))
 
 pub seed-kept-spec : {M : Type 1} → statement M
-seed-kept-spec =
-    tie.close
-    (tie.spec slice-aggregate-all-below (λ c κs. search needs) returns (search needs) (search needs) (search needs) (λ c κs. search needs) returns-2)
+seed-kept-spec = tie.close (tie.spec (λ c. let s : tie.Start = search needs in sym (front-long 16 (s .args .kept .now) (omega (arith, s .pre))))
+    (λ c κs. search needs) returns (search needs) (search needs) (search needs) (λ c κs. search needs) returns-2)

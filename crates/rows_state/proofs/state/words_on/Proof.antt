@@ -30,6 +30,4 @@ returns c =
     ∙ ap₂ (λ (u v : List ℕ). pairs u ++ (pairs v ++ replicate (8 * s .args .n) 0)) (o .secret-words .ensures) (w .words .ensures)
 
 pub words-on-spec : {M : Type 1} → statement M
-words-on-spec =
-    tie.close
-    (tie.spec (λ c κs. search needs) (λ c κs. search needs) lay-pairs-requires (search needs) (search needs) (search needs) returns)
+words-on-spec = tie.close (tie.spec (λ c κs. search needs) (λ c κs. search needs) lay-pairs-requires (search needs) (search needs) (search needs) returns)
