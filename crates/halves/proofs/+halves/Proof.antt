@@ -2,12 +2,12 @@
 use mathlib.Core.{Path._≡_, List.List}
 use Prim.Native.Nat.{ℕ, _+_, _*_, _-_, _/_, _<_, _≤_}
 use native.Mathlib.Omega.{arith}
-use lib.ListN.{length}
+use lib.ListN.{length, take, drop}
 use borrow.Author.Needs.{needs}
 use borrow.Rule.Slice.PartMut.{putMid}
 use borrow.Fn.Kinds.{In, Out}
 use borrow.Fn.PlainCycle.{Measures, is, falls, and}
-use Rattle.halves.specs.Steps.{Size, Product, InPart}
+use Rattle.halves.specs.Steps.{Size, Product, InPart, Ahead}
 use Rattle.halves.proofs.{Moves.level-law, +halves.statement, +halves.Tie.close}
 use Rattle.halves.proofs.Part.{size-least, size-half, size-even, lent-long, part-product, product-at}
 use Rattle.halves.proofs.halves.Reads as halves
@@ -30,6 +30,12 @@ halves-below t = and 1 halves-kinds.ps (falls 1 halves-kinds.ps _<_ μ-halves t)
 -- what the calls ask and tell
 abbrev known : ℕ → lts.Claims
 known t = (leaf.Asked, leaf.Learnt, spread.Asked, spread.Learnt, halves-below t, halves.Post, copy.Asked, copy.Learnt, join.Asked, join.Learnt)
+
+-- 2 h numbers of what a product left are copied from x to `to`
+moved :
+    {h at x to : ℕ} {w w′ : List ℕ} → InPart w at h w′ → 12 * h ≤ length w → x + 2 * h ≤ 12 * h → to + 2 * h ≤ 12 * h
+    → ((i j : ℕ) → j < i → i < 2 * h → (x + i ≡ to + j) → ⊥) → ((x + 2 * h ≤ length w′) × (to + 2 * h ≤ length w′)) × Ahead x to (2 * h)
+moved m r l k f = ((omega (arith, m .long), omega (arith, m .long)), record { ahead = f })
 
 module _ (t : ℕ) where
   -- what is known at a place of the code
@@ -146,44 +152,11 @@ module _ (t : ℕ) where
 
   -- ---- the needs
 
-  halves-requires : lts.Need-halves-requires (known t) (halves-at t) halves.Post
-  halves-requires c κs =
-      let p = c .before .before .before in
-      let u = above₁ p in
-      (falling u, (lent-long (h₁ p) (4 * h₁ p) (10 * h₁ p) (p .spread .last .0) (omega arith) (omega (arith, room₁ p)), half u))
-
-  copy-requires : lts.Need-copy-requires (known t) (halves-at t) halves.Post
-  copy-requires c κs =
-      let p = c .before .before .before in
-      let l = made₂ p .long in
-      let r = room₁ (at₂ p) in
-      ((omega (arith, l, r), omega (arith, l, r)), record { ahead = λ i j p r e. omega arith })
-
-  halves-requires-2 : lts.Need-halves-requires-2 (known t) (halves-at t) halves.Post
-  halves-requires-2 c κs =
-      let p = c .before .before .before in
-      let u = above₃ p in
-      (falling u, (lent-long (h₀ u) (2 * h₀ u) (8 * h₀ u) (p .copy .last .0) (omega arith) (omega (arith, room₃ p)), half u))
-
-  copy-requires-2 : lts.Need-copy-requires-2 (known t) (halves-at t) halves.Post
-  copy-requires-2 c κs =
-      let p = c .before .before .before in
-      let l = made₄ p .long in
-      let r = room₃ (at₄ p) in
-      ((omega (arith, l, r), omega (arith, l, r)), record { ahead = λ i j p r e. omega arith })
-
-  halves-requires-3 : lts.Need-halves-requires-3 (known t) (halves-at t) halves.Post
-  halves-requires-3 c κs =
-      let p = c .before .before .before in
-      let u = above₅ p in
-      (falling u, (lent-long (h₀ u) 0 (6 * h₀ u) (p .copy2 .last .0) (omega arith) (omega (arith, room₅ p)), half u))
-
-  copy-requires-3 : lts.Need-copy-requires-3 (known t) (halves-at t) halves.Post
-  copy-requires-3 c κs =
-      let p = c .before .before .before in
-      let l = made₆ p .long in
-      let r = room₅ (at₆ p) in
-      ((omega (arith, l, r), omega (arith, l, r)), record { ahead = λ i j p r e. omega arith })
+  -- a product is lent the part of 6 h numbers from `at` to e
+  lent :
+      (c : Above) (w : List ℕ) (at e : ℕ) → e ≡ at + 6 * h₀ c → 12 * h₀ c ≤ length w → e ≤ 12 * h₀ c
+      → (h₀ c < t) × ((6 * h₀ c ≤ length (take (e - at) (drop at w))) × Size (h₀ c))
+  lent c w at e f r l = (falling c, (lent-long (h₀ c) at e w f (omega arith), half c))
 
   returns : lts.Need-returns (known t) (halves-at t) halves.Post
   returns c =
@@ -221,19 +194,19 @@ pub +halves-spec : {M : Type 1} → statement M
     (λ c. omega (arith, room₁ t (c .before .before), few t (above₁ t (c .before .before))))
     (λ c. omega (arith, room₁ t (c .before .before), few t (above₁ t (c .before .before))))
     (λ c. omega (arith, room₁ t (c .before .before), few t (above₁ t (c .before .before))))
-    (halves-requires t)
-    (copy-requires t)
+    (λ c κs. let p = c .before .before .before in lent t (above₁ t p) _ (4 * h₁ t p) (10 * h₁ t p) (omega arith) (room₁ t p) (omega arith))
+    (λ c κs. let p = c .before .before .before in moved (made₂ t p) (room₁ t (at₂ t p)) (omega arith) (omega arith) (λ i j a b e. omega arith))
     (λ c. omega (arith, room₃ t (c .before .before), few t (above₃ t (c .before .before))))
     (λ c. omega (arith, room₃ t (c .before .before), few t (above₃ t (c .before .before))))
     (λ c. omega (arith, room₃ t (c .before .before), few t (above₃ t (c .before .before))))
     (λ c. omega (arith, room₃ t (c .before .before), few t (above₃ t (c .before .before))))
-    (halves-requires-2 t)
-    (copy-requires-2 t)
+    (λ c κs. let p = c .before .before .before in let h = h₀ t (above₃ t p) in lent t (above₃ t p) _ (2 * h) (8 * h) (omega arith) (room₃ t p) (omega arith))
+    (λ c κs. let p = c .before .before .before in moved (made₄ t p) (room₃ t (at₄ t p)) (omega arith) (omega arith) (λ i j a b e. omega arith))
     (λ c. omega (arith, room₅ t (c .before .before), few t (above₅ t (c .before .before))))
     (λ c. omega (arith, room₅ t (c .before .before), few t (above₅ t (c .before .before))))
     (λ c. omega (arith, room₅ t (c .before .before), few t (above₅ t (c .before .before))))
-    (halves-requires-3 t)
-    (copy-requires-3 t)
+    (λ c κs. let p = c .before .before .before in let h = h₀ t (above₅ t p) in lent t (above₅ t p) _ 0 (6 * h) (omega arith) (room₅ t p) (omega arith))
+    (λ c κs. let p = c .before .before .before in moved (made₆ t p) (room₅ t (at₆ t p)) (omega arith) (omega arith) (λ i j a b e. omega arith))
     (λ c κs. room₇ t (c .before .before .before))
     (λ c. c .before .before .leaf .ensures .long)
     (returns t)

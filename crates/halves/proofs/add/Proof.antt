@@ -32,6 +32,5 @@ returns c =
     rw e at (c .before .loop .inv .1)
 
 pub add-spec : {M : Type 1} → statement M
-add-spec = tie.close (tie.spec Inv-loop μ-loop (λ c. (omega arith, store-none _ _ _)) (omega arith) (omega arith)
-    (omega arith) (omega arith) (omega arith) (omega arith) (omega arith) (search needs) (omega arith) (omega arith)
-    (omega arith) (omega arith) loop-again (λ c. c .before .loop .inv .1 .long) returns)
+add-spec = tie.close (tie.spec Inv-loop μ-loop (λ c. (omega arith, store-none _ _ _)) (omega arith) (omega arith) (omega arith) (omega arith) (omega arith)
+    (omega arith) (omega arith) (search needs) (omega arith) (omega arith) (omega arith) (omega arith) loop-again (λ c. c .before .loop .inv .1 .long) returns)

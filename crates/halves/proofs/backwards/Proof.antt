@@ -27,6 +27,5 @@ returns c =
     rw e at (c .before .loop .inv .1)
 
 pub backwards-spec : {M : Type 1} → statement M
-backwards-spec = tie.close (tie.spec Inv-loop μ-loop (λ c. (omega arith, store-none _ _ _)) (omega arith) (omega arith)
-    (omega arith) (omega arith) (omega arith) (omega arith) (omega arith) (omega arith) loop-again
-    (λ c. c .before .loop .inv .1 .long) returns)
+backwards-spec = tie.close (tie.spec Inv-loop μ-loop (λ c. (omega arith, store-none _ _ _)) (omega arith) (omega arith) (omega arith) (omega arith)
+    (omega arith) (omega arith) (omega arith) (omega arith) loop-again (λ c. c .before .loop .inv .1 .long) returns)

@@ -12,6 +12,5 @@ returns c =
     c .dot .ensures ∙ dot-column (s .args .w .now) (s .args .k) _ _ (s .pre .0) (s .pre .1) (x .past .ensures) (y .past2 .ensures)
 
 pub coefficient-spec : {M : Type 1} → statement M
-coefficient-spec =
-    tie.close
-    (tie.spec (search needs) (search needs) (search needs) (search needs) (search needs) (search needs) (search needs) (search needs) (search needs) (search needs) (search needs) (search needs) (search needs) (search needs) (search needs) (search needs) returns)
+coefficient-spec = tie.close (tie.spec (search needs) (search needs) (search needs) (search needs) (search needs) (search needs) (search needs) (search needs)
+    (search needs) (search needs) (search needs) (search needs) (search needs) (search needs) (search needs) (search needs) returns)

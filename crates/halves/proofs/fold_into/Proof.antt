@@ -19,10 +19,7 @@ loop-again c =
     let l : tie.At-loop Inv-loop μ-loop = search needs in
     fill-next _ (l .loop .inv) (omega arith) (c .minus .ensures)
 
-returns : tie.Need-returns Inv-loop μ-loop
-returns c = fill-end (c .before .loop .inv) (omega arith)
-
 pub fold-into-spec : {M : Type 1} → statement M
-fold-into-spec = tie.close (tie.spec Inv-loop μ-loop (λ c. fill-start _ _) (omega arith) (omega arith) (omega arith)
-    (omega arith) (omega arith) (search needs) (omega arith) (omega arith) (omega arith)
-    (λ c. simp length-set (omega arith)) loop-again (λ c. c .before .loop .inv .long) returns)
+fold-into-spec = tie.close (tie.spec Inv-loop μ-loop (λ c. fill-start _ _) (omega arith) (omega arith) (omega arith) (omega arith) (omega arith) (search needs)
+    (omega arith) (omega arith) (omega arith) (λ c. simp length-set (omega arith)) loop-again (λ c. c .before .loop .inv .long)
+    (λ c. fill-end (c .before .loop .inv) (omega arith)))

@@ -20,6 +20,4 @@ halves-requires c κs =
     (omega (arith, s .pre .works), s .pre .size)
 
 pub multiply-spec : {M : Type 1} → statement M
-multiply-spec =
-    tie.close
-    (tie.spec (search needs) (search needs) halves-requires (search needs) (search needs) (search needs) returns)
+multiply-spec = tie.close (tie.spec (search needs) (search needs) halves-requires (search needs) (search needs) (search needs) returns)

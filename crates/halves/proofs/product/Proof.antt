@@ -20,6 +20,4 @@ returns c =
     product-cleared _ {l = length (p .product-in .last .1 .1 .1 .0)} (zeros-long (length (s .args .out .now)) 0 (z .zero-numbers .ensures)) (p .product-in .ensures) (w .zero-numbers2 .ensures) (search needs)
 
 pub product-spec : {M : Type 1} → statement M
-product-spec =
-    tie.close
-    (tie.spec (search needs) product-in-requires (search needs) (search needs) (search needs) returns)
+product-spec = tie.close (tie.spec (search needs) product-in-requires (search needs) (search needs) (search needs) returns)

@@ -44,6 +44,5 @@ returns-2 c =
     product-done (factorsOf (s .args .a .now) (s .args .b .now)) _ _ (v .product-tests .ensures) (s .args .out .now) (p .enum-told .given .1) (s .pre) (m .multiply .ensures)
 
 pub product-in-spec : {M : Type 1} → statement M
-product-in-spec =
-    tie.close
-    (tie.spec (search needs) (search needs) (search needs) slice-relend-prefix-multiply slice-aggregate-multiply multiply-requires returns (search needs) (search needs) returns-2)
+product-in-spec = tie.close (tie.spec (search needs) (search needs) (search needs) slice-relend-prefix-multiply slice-aggregate-multiply multiply-requires
+    returns (search needs) (search needs) returns-2)

@@ -35,6 +35,5 @@ returns-2 c =
     refl
 
 pub product-tests-spec : {M : Type 1} → statement M
-product-tests-spec =
-    tie.close
-    (tie.spec (search needs) (search needs) (search needs) returns (search needs) (search needs) mul-room-for (search needs) (search needs) (search needs) returns-2)
+product-tests-spec = tie.close (tie.spec (search needs) (search needs) (search needs) returns (search needs) (search needs) mul-room-for (search needs)
+    (search needs) (search needs) returns-2)
