@@ -51,19 +51,5 @@ returns-2 c =
     rw (e, ← l, ← m, ← o) (p .reply-in .ensures)
 
 pub reply-spec : {M : Type 1} → statement M
-reply-spec =
-    tie.close
-    (tie.spec
-    (λ c κs. search needs)
-    (λ c κs. search needs)
-    (search needs)
-    (search needs)
-    (search needs)
-    (search needs)
-    (search needs)
-    returns
-    reply-in-requires
-    (search needs)
-    (search needs)
-    (search needs)
-    returns-2)
+reply-spec = tie.close (tie.spec (λ c κs. search needs) (λ c κs. search needs) (search needs) (search needs) (search needs) (search needs) (search needs)
+    returns reply-in-requires (search needs) (search needs) (search needs) returns-2)

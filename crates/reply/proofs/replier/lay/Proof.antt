@@ -64,12 +64,6 @@ below t =
 value-long : (x : tie.After-fixed) → let a = start x .args in length (mixedValue (a .scheme) (a .b .now) (a .s1 .now) (a .e2 .now)) ≡ x .fixed .result .mixed
 value-long x = let a = start x .args in mixed-counted (a .scheme) (a .b .now) (a .s1 .now) (a .e2 .now) .long ∙ sym (long x)
 
-array-borrow-prefix-v : tie.Need-array-borrow-prefix-v
-array-borrow-prefix-v c = let x : tie.After-fixed = search needs in values x
-
-slice-aggregate-reply : tie.Need-slice-aggregate-reply
-slice-aggregate-reply c = let x : tie.After-fixed = search needs in sym (buffer-long _ 1024 (values x))
-
 reply-requires : tie.Need-reply-requires
 reply-requires c κs =
     let x : tie.After-fixed = search needs in
@@ -87,24 +81,6 @@ slice-aggregate-lay-values c =
     let t : tie.After-enum-told = search needs in
     let r = made (tested t) in
     sym (front-long _ _ (front-fits _ (r .reply .ensures .1 .1 (below t)) (value-long (fixing r)) _))
-
-array-borrow-prefix-tosses : tie.Need-array-borrow-prefix-tosses
-array-borrow-prefix-tosses c = let t : tie.After-enum-told = search needs in groups (fixing (made (tested t)))
-
-slice-aggregate-lay-values-2 : tie.Need-slice-aggregate-lay-values-2
-slice-aggregate-lay-values-2 c = let t : tie.After-enum-told = search needs in sym (buffer-long _ 1024 (groups (fixing (made (tested t)))))
-
-array-borrow-prefix-hints : tie.Need-array-borrow-prefix-hints
-array-borrow-prefix-hints c = let t : tie.After-enum-told = search needs in values (fixing (made (tested t)))
-
-slice-aggregate-lay-values-3 : tie.Need-slice-aggregate-lay-values-3
-slice-aggregate-lay-values-3 c = let t : tie.After-enum-told = search needs in sym (buffer-long _ 1024 (values (fixing (made (tested t)))))
-
-array-borrow-prefix-entries : tie.Need-array-borrow-prefix-entries
-array-borrow-prefix-entries c = let t : tie.After-enum-told = search needs in groups (fixing (made (tested t)))
-
-slice-aggregate-lay-values-4 : tie.Need-slice-aggregate-lay-values-4
-slice-aggregate-lay-values-4 c = let t : tie.After-enum-told = search needs in sym (buffer-long _ 1024 (groups (fixing (made (tested t)))))
 
 lay-values-requires : tie.Need-lay-values-requires
 lay-values-requires c κs =
@@ -148,28 +124,12 @@ returns-2 c =
     )
 
 pub lay-spec : {M : Type 1} → statement M
-lay-spec =
-    tie.close
-    (tie.spec
-    (λ c κs. search needs)
-    array-borrow-prefix-v
-    slice-aggregate-reply
-    reply-requires
-    (λ c κs. search needs)
-    (search needs)
-    (search needs)
-    array-share-prefix-v
-    slice-aggregate-lay-values
-    array-borrow-prefix-tosses
-    slice-aggregate-lay-values-2
-    array-borrow-prefix-hints
-    slice-aggregate-lay-values-3
-    array-borrow-prefix-entries
-    slice-aggregate-lay-values-4
-    lay-values-requires
-    (search needs)
-    returns
-    (search needs)
-    (search needs)
-    (search needs)
-    returns-2)
+lay-spec = tie.close (tie.spec (λ c κs. search needs) (λ c. let x : tie.After-fixed = search needs in values x)
+    (λ c. let x : tie.After-fixed = search needs in sym (buffer-long _ 1024 (values x))) reply-requires (λ c κs. search needs) (search needs) (search needs)
+    array-share-prefix-v slice-aggregate-lay-values (λ c. let t : tie.After-enum-told = search needs in groups (fixing (made (tested t))))
+    (λ c. let t : tie.After-enum-told = search needs in sym (buffer-long _ 1024 (groups (fixing (made (tested t))))))
+    (λ c. let t : tie.After-enum-told = search needs in values (fixing (made (tested t))))
+    (λ c. let t : tie.After-enum-told = search needs in sym (buffer-long _ 1024 (values (fixing (made (tested t))))))
+    (λ c. let t : tie.After-enum-told = search needs in groups (fixing (made (tested t))))
+    (λ c. let t : tie.After-enum-told = search needs in sym (buffer-long _ 1024 (groups (fixing (made (tested t)))))) lay-values-requires (search needs) returns
+    (search needs) (search needs) (search needs) returns-2)

@@ -20,15 +20,5 @@ returns c =
     reply-refused _ _ _ _ (reply-sizes-failed _ _ _ (t .reply-sizes .ensures) (v .v .given .1)) (b .pre .0 .0) (b .pre .0 .1) (b .pre .1)
 
 pub reply-in-spec : {M : Type 1} → statement M
-reply-in-spec =
-    tie.close
-    (tie.spec
-    (λ c κs. search needs)
-    (search needs)
-    (search needs)
-    reply-sized-requires
-    returns
-    (search needs)
-    (search needs)
-    (search needs)
-    (λ c. search needs))
+reply-in-spec = tie.close (tie.spec (λ c κs. search needs) (search needs) (search needs) reply-sized-requires returns (search needs) (search needs)
+    (search needs) (λ c. search needs))

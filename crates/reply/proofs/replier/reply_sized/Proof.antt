@@ -36,18 +36,6 @@ module _ (c : tie.After-fixed) where
   key-roomy : c .fixed .result .key ≤ length (start c .args .key .now)
   key-roomy = omega (arith, key-long, sized .key-roomy)
 
-slice-relend-prefix-with-opening : tie.Need-slice-relend-prefix-with-opening
-slice-relend-prefix-with-opening c = let f : tie.After-fixed = search needs in roomy f
-
-slice-aggregate-with-opening : tie.Need-slice-aggregate-with-opening
-slice-aggregate-with-opening c = let f : tie.After-fixed = search needs in sym (front-long _ (start f .args .message .now) (roomy f))
-
-slice-relend-prefix-with-opening-2 : tie.Need-slice-relend-prefix-with-opening-2
-slice-relend-prefix-with-opening-2 c = let f : tie.After-fixed = search needs in key-roomy f
-
-slice-aggregate-with-opening-2 : tie.Need-slice-aggregate-with-opening-2
-slice-aggregate-with-opening-2 c = let f : tie.After-fixed = search needs in sym (front-long _ (start f .args .key .now) (key-roomy f))
-
 with-opening-requires : tie.Need-with-opening-requires
 with-opening-requires c κs =
     let f : tie.After-fixed = search needs in
@@ -90,9 +78,6 @@ slice-aggregate-lay-digest c =
     let f : tie.After-fixed = search needs in
     simp length-take (omega (arith, o .key .given .1, key-roomy f))
 
-lay-digest-requires : tie.Need-lay-digest-requires
-lay-digest-requires c κs = let f : tie.After-fixed = search needs in sized f .digest-roomy
-
 returns-2 : tie.Need-returns-2
 unfolding replyMessage replyKey
 returns-2 c =
@@ -119,24 +104,9 @@ returns-2 c =
     (written-passed _ _ _ e (b .args .digest .now) (sha3-length _) (b .pre .1 .1) (digest-laid _ _ (b .args .digest .now) _ k l (d .lay-digest .ensures)))
 
 pub reply-sized-spec : {M : Type 1} → statement M
-reply-sized-spec =
-    tie.close
-    (tie.spec
-    (λ c κs. search needs)
-    slice-relend-prefix-with-opening
-    slice-aggregate-with-opening
-    slice-relend-prefix-with-opening-2
-    slice-aggregate-with-opening-2
-    with-opening-requires
-    (search needs)
-    (search needs)
-    slice-reshare-prefix-lay-digest
-    slice-aggregate-lay-digest
-    lay-digest-requires
-    (search needs)
-    (search needs)
-    returns
-    (search needs)
-    (search needs)
-    (search needs)
-    returns-2)
+reply-sized-spec = tie.close (tie.spec (λ c κs. search needs) (λ c. let f : tie.After-fixed = search needs in roomy f)
+    (λ c. let f : tie.After-fixed = search needs in sym (front-long _ (start f .args .message .now) (roomy f)))
+    (λ c. let f : tie.After-fixed = search needs in key-roomy f)
+    (λ c. let f : tie.After-fixed = search needs in sym (front-long _ (start f .args .key .now) (key-roomy f))) with-opening-requires (search needs)
+    (search needs) slice-reshare-prefix-lay-digest slice-aggregate-lay-digest (λ c κs. let f : tie.After-fixed = search needs in sized f .digest-roomy)
+    (search needs) (search needs) returns (search needs) (search needs) (search needs) returns-2)

@@ -52,15 +52,6 @@ module _ (x : tie.After-fixed) where
   unfolding numbersIn
   numbers-long = unpacked-length _ _ _ ∙ sym long
 
-array-borrow-prefix-b : tie.Need-array-borrow-prefix-b
-array-borrow-prefix-b c = let x : tie.After-fixed = search needs in few x
-
-slice-aggregate-take-opening : tie.Need-slice-aggregate-take-opening
-slice-aggregate-take-opening c = let x : tie.After-fixed = search needs in sym (buffer-long _ 6912 (few x))
-
-take-opening-requires : tie.Need-take-opening-requires
-take-opening-requires c κs = let x : tie.After-fixed = search needs in (start x .pre .1, buffer-long _ 6912 (few x) ∙ long x)
-
 array-borrow-prefix-b-2 : tie.Need-array-borrow-prefix-b-2
 array-borrow-prefix-b-2 c =
     let o : tie.After-enum-told = search needs in
@@ -126,23 +117,8 @@ returns-2 c =
     )
 
 pub with-opening-spec : {M : Type 1} → statement M
-with-opening-spec =
-    tie.close
-    (tie.spec
-    (λ c κs. search needs)
-    array-borrow-prefix-b
-    slice-aggregate-take-opening
-    take-opening-requires
-    (search needs)
-    (search needs)
-    (λ c κs. search needs)
-    (λ c κs. search needs)
-    (search needs)
-    (search needs)
-    returns
-    array-borrow-prefix-b-2
-    slice-aggregate-with-secrets
-    with-secrets-requires
-    (search needs)
-    (search needs)
-    returns-2)
+with-opening-spec = tie.close (tie.spec (λ c κs. search needs) (λ c. let x : tie.After-fixed = search needs in few x)
+    (λ c. let x : tie.After-fixed = search needs in sym (buffer-long _ 6912 (few x)))
+    (λ c κs. let x : tie.After-fixed = search needs in (start x .pre .1, buffer-long _ 6912 (few x) ∙ long x)) (search needs) (search needs)
+    (λ c κs. search needs) (λ c κs. search needs) (search needs) (search needs) returns array-borrow-prefix-b-2 slice-aggregate-with-secrets
+    with-secrets-requires (search needs) (search needs) returns-2)

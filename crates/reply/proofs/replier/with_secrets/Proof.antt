@@ -65,17 +65,5 @@ returns-2 c =
     )
 
 pub with-secrets-spec : {M : Type 1} → statement M
-with-secrets-spec =
-    tie.close
-    (tie.spec
-    (λ c κs. search needs)
-    (λ c κs. search needs)
-    (search needs)
-    (λ c κs. search needs)
-    (search needs)
-    lay-requires
-    returns
-    (search needs)
-    (search needs)
-    (search needs)
-    returns-2)
+with-secrets-spec = tie.close (tie.spec (λ c κs. search needs) (λ c κs. search needs) (search needs) (λ c κs. search needs) (search needs) lay-requires returns
+    (search needs) (search needs) (search needs) returns-2)
