@@ -26,10 +26,6 @@ loop-again c =
     let a : tie.At-loop Inv-loop μ-loop = search needs in
     passed-more notAllowed _ 0 (a .loop .i) (a .loop .inv) (omega arith) (sym (c .before .not-allowed .ensures) ∙ c .if1 .left)
 
-returns-2 : tie.Need-returns-2 Inv-loop μ-loop
-unfolding letters
-returns-2 c = missing notAllowed _ 0 (c .before .loop .i) (c .before .loop .inv) (c .loop-test .left)
-
 pub count-letters-spec : {M : Type 1} → statement M
-count-letters-spec = tie.close (tie.spec Inv-loop μ-loop (λ c. passed-none notAllowed _ 0) (omega arith)
-    (λ c κs. search needs) returns (omega arith) (omega arith) loop-again returns-2)
+count-letters-spec = tie.close (tie.spec Inv-loop μ-loop (λ c. passed-none notAllowed _ 0) (omega arith) (λ c κs. search needs) returns (omega arith)
+    (omega arith) loop-again (λ c. unfold letters in missing notAllowed _ 0 (c .before .loop .i) (c .before .loop .inv) (c .loop-test .left)))

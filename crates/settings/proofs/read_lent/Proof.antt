@@ -44,6 +44,5 @@ returns-2 c =
     (l .lent .ensures)
 
 pub read-lent-spec : {M : Type 1} → statement M
-read-lent-spec = tie.close (tie.spec (λ c κs. search needs) (λ c κs. search needs) (λ c κs. search needs) (search needs)
-    returns array-share-prefix-bytes slice-aggregate-copy-bytes (search needs) (λ c. sym (front-long _ _ (omega arith)))
-    copy-bytes-requires (λ c κs. search needs) (search needs) returns-2)
+read-lent-spec = tie.close (tie.spec (λ c κs. search needs) (λ c κs. search needs) (λ c κs. search needs) (search needs) returns array-share-prefix-bytes
+    slice-aggregate-copy-bytes (search needs) (λ c. sym (front-long _ _ (omega arith))) copy-bytes-requires (λ c κs. search needs) (search needs) returns-2)

@@ -9,12 +9,6 @@ use Rattle.settings.specs.declared.Ending.the-variants as ending
 use borrow.Author.Needs.{needs}
 use Rattle.settings.proofs.reader.found.Tie as tie
 
-slice-aggregate-copy-bytes : tie.Need-slice-aggregate-copy-bytes
-slice-aggregate-copy-bytes c = sym (length-take-le {A = ℕ} (length (c .before .before .args .label .now)) (replicate 16 0) (omega arith))
-
-copy-bytes-requires : tie.Need-copy-bytes-requires
-copy-bytes-requires c κs = sym (length-take-le {A = ℕ} (length (c .before .before .args .label .now)) (replicate 16 0) (omega arith))
-
 returns : tie.Need-returns
 returns c =
     let a : tie.Start = search needs in
@@ -26,4 +20,6 @@ returns c =
     (padded (a .args .label .now) (c .before .copy-bytes .ensures))
 
 pub found-spec : {M : Type 1} → statement M
-found-spec = tie.close (tie.spec (search needs) slice-aggregate-copy-bytes copy-bytes-requires returns)
+found-spec = tie.close (tie.spec (search needs)
+    (λ c. sym (length-take-le {A = ℕ} (length (c .before .before .args .label .now)) (replicate 16 0) (omega arith)))
+    (λ c κs. sym (length-take-le {A = ℕ} (length (c .before .before .args .label .now)) (replicate 16 0) (omega arith))) returns)

@@ -10,9 +10,6 @@ returns : tie.Need-returns
 returns c = let f : tie.After-format-of = search needs in
     rw (c .before .enum-told .given .1, f .format-of .ensures)
 
-returns-3 : tie.Need-returns-3
-returns-3 c = let o : tie.After-enum-told2 = search needs in rw (o .enum-told2 .given .1)
-
 pub lent-spec : {M : Type 1} → statement M
-lent-spec = tie.close (tie.spec enum-told (λ c κs. search needs) (search needs) (search needs) returns
-    (λ c. rw (c .before .e .given .1)) returns-3)
+lent-spec = tie.close (tie.spec enum-told (λ c κs. search needs) (search needs) (search needs) returns (λ c. rw (c .before .e .given .1))
+    (λ c. let o : tie.After-enum-told2 = search needs in rw (o .enum-told2 .given .1)))

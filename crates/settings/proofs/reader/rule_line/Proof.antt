@@ -6,25 +6,13 @@ use Rattle.settings.proofs.Steps.{rule-other, rule-read, rule-bad, with
 use borrow.Author.Needs.{needs}
 use Rattle.settings.proofs.reader.rule_line.Tie as tie
 
-enum-told : tie.Need-enum-told
-enum-told c = search needs
-
-returns : tie.Need-returns
-returns c = search (needs, rule-other)
-
 cast-tail : tie.Need-cast-tail
 cast-tail c =
     let k : tie.After-is-rule = search needs in
     let t : tie.Then1 = search needs in
     omega (arith, rule-small _ (sym (k .is-rule .ensures) ∙ t .if1 .taken))
 
-returns-2 : tie.Need-returns-2
-returns-2 c = search (needs, rule-read)
-
-returns-3 : tie.Need-returns-3
-returns-3 c = search (needs, rule-bad)
-
 pub rule-line-spec : {M : Type 1} → statement M
-rule-line-spec = tie.close (tie.spec (search needs) (λ c κs. search needs) (search needs) enum-told
-    (λ c κs. search needs) returns (λ c κs. search needs) cast-tail (λ c κs. search (needs, within))
-    (λ c κs. search needs) returns-2 returns-3)
+rule-line-spec = tie.close (tie.spec (search needs) (λ c κs. search needs) (search needs) (λ c. search needs) (λ c κs. search needs)
+    (λ c. search (needs, rule-other)) (λ c κs. search needs) cast-tail (λ c κs. search (needs, within)) (λ c κs. search needs) (λ c. search (needs, rule-read))
+    (λ c. search (needs, rule-bad)))

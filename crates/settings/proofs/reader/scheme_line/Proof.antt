@@ -6,25 +6,13 @@ use Rattle.settings.proofs.Steps.{scheme-other, scheme-read, scheme-bad
 use borrow.Author.Needs.{needs}
 use Rattle.settings.proofs.reader.scheme_line.Tie as tie
 
-enum-told : tie.Need-enum-told
-enum-told c = search needs
-
-returns : tie.Need-returns
-returns c = search (needs, scheme-other)
-
 cast-rule-line : tie.Need-cast-rule-line
 cast-rule-line c =
     let k : tie.After-is-scheme = search needs in
     let t : tie.Then1 = search needs in
     omega (arith, scheme-small _ (sym (k .is-scheme .ensures) ∙ t .if1 .taken))
 
-returns-2 : tie.Need-returns-2
-returns-2 c = search (needs, scheme-read)
-
-returns-3 : tie.Need-returns-3
-returns-3 c = search (needs, scheme-bad)
-
 pub scheme-line-spec : {M : Type 1} → statement M
-scheme-line-spec = tie.close (tie.spec (search needs) (λ c κs. search needs) (search needs) enum-told
-    (λ c κs. search needs) returns (λ c κs. search needs) cast-rule-line (λ c κs. search (needs, within))
-    (λ c κs. search needs) returns-2 returns-3)
+scheme-line-spec = tie.close (tie.spec (search needs) (λ c κs. search needs) (search needs) (λ c. search needs) (λ c κs. search needs)
+    (λ c. search (needs, scheme-other)) (λ c κs. search needs) cast-rule-line (λ c κs. search (needs, within)) (λ c κs. search needs)
+    (λ c. search (needs, scheme-read)) (λ c. search (needs, scheme-bad)))

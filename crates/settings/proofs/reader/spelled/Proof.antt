@@ -20,12 +20,6 @@ size c =
     let w : tie.After-well-spelled = search needs in
     spelled-size (s .args .s .now) (n .count-letters .ensures) (sym (c .if1 .taken) ∙ w .well-spelled .ensures)
 
-slice-aggregate-found : tie.Need-slice-aggregate-found
-slice-aggregate-found c = sym (length-take-le _ _ (size (c .before) .1))
-
-found-requires : tie.Need-found-requires
-found-requires c κs = simp length-take (omega (arith, size (c .before) .0))
-
 returns : tie.Need-returns
 returns c =
     let s : tie.Start = search needs in
@@ -44,5 +38,5 @@ returns-2 c =
     c .nothing .ensures ∙ ap answerOf (spelled-misfit (s .args .scheme) (s .args .rule) (s .args .s .now) (sym (t .if1 .left) ∙ w .well-spelled .ensures))
 
 pub spelled-spec : {M : Type 1} → statement M
-spelled-spec = tie.close (tie.spec (λ c κs. search needs) (λ c κs. search needs) slice-aggregate-found found-requires
-    (λ c κs. search needs) returns returns-2)
+spelled-spec = tie.close (tie.spec (λ c κs. search needs) (λ c κs. search needs) (λ c. sym (length-take-le _ _ (size (c .before) .1)))
+    (λ c κs. simp length-take (omega (arith, size (c .before) .0))) (λ c κs. search needs) returns returns-2)

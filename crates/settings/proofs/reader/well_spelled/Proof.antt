@@ -5,12 +5,7 @@ use borrow.Author.Needs.{needs}
 use Rattle.settings.proofs.reader.well_spelled.Statement.{statement}
 use Rattle.settings.proofs.reader.well_spelled.Tie as tie
 
-returns-3 : tie.Need-returns-3
-returns-3 c = unended _ (omega arith) (omega arith) (omega arith)
-
-returns-4 : tie.Need-returns-4
-returns-4 c = let a : tie.Start = search needs in rw (a .pre) (formed (a .args .s .now) (omega arith) (omega arith))
-
 pub well-spelled-spec : {M : Type 1} → statement M
-well-spelled-spec = tie.close (tie.spec (λ c. few _ (omega arith)) (λ c. many _ (omega arith) (omega arith)) returns-3
-    (search needs) (search needs) returns-4)
+well-spelled-spec = tie.close (tie.spec (λ c. few _ (omega arith)) (λ c. many _ (omega arith) (omega arith))
+    (λ c. unended _ (omega arith) (omega arith) (omega arith)) (search needs) (search needs)
+    (λ c. let a : tie.Start = search needs in rw (a .pre) (formed (a .args .s .now) (omega arith) (omega arith))))
