@@ -28,6 +28,4 @@ returns-2 c =
     noise-named _ (sym (n .scheme-of .ensures) ∙ s .s .given .1) (zeros-long _ (pos 0) (z .zero-values .ensures)) (p .noise-in .ensures)
 
 pub noise-spec : {M : Type 1} → statement M
-noise-spec =
-    tie.close
-    (tie.spec (search needs) (search needs) (search needs) (search needs) (search needs) returns noise-in-requires (search needs) returns-2)
+noise-spec = tie.close (tie.spec (search needs) (search needs) (search needs) (search needs) (search needs) returns noise-in-requires (search needs) returns-2)

@@ -5,7 +5,5 @@ use Rattle.sampling.proofs.sampler.expand_by.Statement.{statement}
 use Rattle.sampling.proofs.sampler.expand_by.Tie as tie
 
 pub expand-by-spec : {M : Type 1} → statement M
-expand-by-spec =
-    tie.close
-    (tie.spec (search needs) (search needs) (search needs) (λ c κs. search (needs, passes))
-    (λ c. search (needs, sizes-failed)) (search needs) (λ c. search needs))
+expand-by-spec = tie.close (tie.spec (search needs) (search needs) (search needs) (λ c κs. search (needs, passes)) (λ c. search (needs, sizes-failed))
+    (search needs) (λ c. search needs))

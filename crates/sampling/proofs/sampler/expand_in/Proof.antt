@@ -17,15 +17,6 @@ lent b = b .args .stream .now
 enough : (b : tie.Start) → 1024 ≤ length (b .args .out .now)
 enough b = room-enough (b .args .name) (lent b) _ (b .pre .0)
 
-slice-relend-prefix-expand : tie.Need-slice-relend-prefix-expand
-slice-relend-prefix-expand c = let b : tie.Start = search needs in enough b
-
-slice-aggregate-expand : tie.Need-slice-aggregate-expand
-slice-aggregate-expand c = let b : tie.Start = search needs in sym (length-take-le 1024 (b .args .out .now) (enough b))
-
-expand-requires : tie.Need-expand-requires
-expand-requires c κs = let b : tie.Start = search needs in length-take-le 1024 (b .args .out .now) (enough b)
-
 slice-relend-prefix-zero-numbers : tie.Need-slice-relend-prefix-zero-numbers
 slice-relend-prefix-zero-numbers c =
     let b : tie.Start = search needs in
@@ -63,16 +54,7 @@ returns-2 c =
     rw many (shown-passed _ _ _ e (b .args .out .now) long (b .pre .1) (ap (λ (ys : List ℕ). ys ++ drop 1024 (b .args .out .now)) w))
 
 pub expand-in-spec : {M : Type 1} → statement M
-expand-in-spec =
-    tie.close
-    (tie.spec
-    slice-relend-prefix-expand
-    slice-aggregate-expand
-    expand-requires
-    slice-relend-prefix-zero-numbers
-    slice-aggregate-zero-numbers
-    (search needs)
-    (search needs)
-    returns
-    (search needs)
-    returns-2)
+expand-in-spec = tie.close (tie.spec (λ c. let b : tie.Start = search needs in enough b)
+    (λ c. let b : tie.Start = search needs in sym (length-take-le 1024 (b .args .out .now) (enough b)))
+    (λ c κs. let b : tie.Start = search needs in length-take-le 1024 (b .args .out .now) (enough b)) slice-relend-prefix-zero-numbers
+    slice-aggregate-zero-numbers (search needs) (search needs) returns (search needs) returns-2)

@@ -5,7 +5,5 @@ use Rattle.sampling.proofs.sampler.grow_by.Statement.{statement}
 use Rattle.sampling.proofs.sampler.grow_by.Tie as tie
 
 pub grow-by-spec : {M : Type 1} → statement M
-grow-by-spec =
-    tie.close
-    (tie.spec (search needs) (search needs) (search needs) (λ c κs. search (needs, passes))
-    (λ c. search (needs, sizes-failed)) (search needs) (λ c. search needs))
+grow-by-spec = tie.close (tie.spec (search needs) (search needs) (search needs) (λ c κs. search (needs, passes)) (λ c. search (needs, sizes-failed))
+    (search needs) (λ c. search needs))

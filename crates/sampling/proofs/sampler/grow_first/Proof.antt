@@ -59,19 +59,5 @@ returns-2 c =
     (grown-all (b .args .name) (b .args .seed .now) _ e _ (omega (arith, y .bytes .given .1, b .pre .0 .1)) (y .bytes .given .1 ∙ b .pre .0 .1) (q .grow-from2 .ensures))
 
 pub grow-first-spec : {M : Type 1} → statement M
-grow-first-spec =
-    tie.close
-    (tie.spec
-    (λ c κs. search needs)
-    (search needs)
-    slice-aggregate-grow-from
-    grow-from-requires
-    (search needs)
-    (search needs)
-    (search needs)
-    (search needs)
-    returns
-    grow-from-requires-2
-    (search needs)
-    (search needs)
-    returns-2)
+grow-first-spec = tie.close (tie.spec (λ c κs. search needs) (search needs) slice-aggregate-grow-from grow-from-requires (search needs) (search needs)
+    (search needs) (search needs) returns grow-from-requires-2 (search needs) (search needs) returns-2)

@@ -6,9 +6,6 @@ use borrow.Author.Needs.{needs}
 use Rattle.sampling.proofs.sampler.grow_sizes.Statement.{statement}
 use Rattle.sampling.proofs.sampler.grow_sizes.Tie as tie
 
-returns : tie.Need-returns
-unfolding growSizes
-returns c = also (c .room-for .ensures) (first (c .before .length-is .ensures) refl) refl
-
 pub grow-sizes-spec : {M : Type 1} → statement M
-grow-sizes-spec = tie.close (tie.spec (search needs) (search needs) returns)
+grow-sizes-spec = tie.close (tie.spec (search needs) (search needs)
+    (λ c. unfold growSizes in also (c .room-for .ensures) (first (c .before .length-is .ensures) refl) refl))

@@ -24,5 +24,4 @@ returns-3 c =
     count-by (b .args .s) (length (b .args .bytes .now)) (sym (f .family .ensures) ∙ c .enum-told3 .given .1)
 
 pub noise-count-spec : {M : Type 1} → statement M
-noise-count-spec =
-    tie.close (tie.spec (search needs) (search needs) (search needs) (search needs) returns returns-2 returns-3)
+noise-count-spec = tie.close (tie.spec (search needs) (search needs) (search needs) (search needs) returns returns-2 returns-3)

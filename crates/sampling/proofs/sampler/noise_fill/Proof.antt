@@ -26,22 +26,13 @@ module _ (b : tie.Start) {t : Scheme} (e : b .args .s ≡ t) where
 
 pub noise-fill-spec : {M : Type 1} → statement M
 unfolding noiseValues
-noise-fill-spec =
-    tie.close
-    (tie.spec
-    (search needs)
-    (λ c κs. let b : tie.Start = search needs in let e = c .before .enum-told .given .1 in (words-of b e, bytes-of b e))
-    (search needs)
-    (λ c κs. let b : tie.Start = search needs in bytes-of b (c .before .enum-told2 .given .1))
-    (search needs)
-    (λ c κs. let b : tie.Start = search needs in bytes-of b (c .before .enum-told3 .given .1))
-    (search needs)
-    (λ c κs. let b : tie.Start = search needs in bytes-of b (c .before .enum-told4 .given .1))
-    (search needs)
-    (λ c κs. let b : tie.Start = search needs in bytes-of b (c .before .enum-told5 .given .1))
-    (search needs)
-    (λ c κs. let b : tie.Start = search needs in bytes-of b (c .before .enum-told6 .given .1))
-    (search needs)
+noise-fill-spec = tie.close (tie.spec (search needs)
+    (λ c κs. let b : tie.Start = search needs in let e = c .before .enum-told .given .1 in (words-of b e, bytes-of b e)) (search needs)
+    (λ c κs. let b : tie.Start = search needs in bytes-of b (c .before .enum-told2 .given .1)) (search needs)
+    (λ c κs. let b : tie.Start = search needs in bytes-of b (c .before .enum-told3 .given .1)) (search needs)
+    (λ c κs. let b : tie.Start = search needs in bytes-of b (c .before .enum-told4 .given .1)) (search needs)
+    (λ c κs. let b : tie.Start = search needs in bytes-of b (c .before .enum-told5 .given .1)) (search needs)
+    (λ c κs. let b : tie.Start = search needs in bytes-of b (c .before .enum-told6 .given .1)) (search needs)
     (λ c. let b : tie.Start = search needs in let t : tie.After-enum-told = search needs in values-of b (t .enum-told .given .1) (c .before .values .ensures))
     (search needs)
     (λ c. let b : tie.Start = search needs in let t : tie.After-enum-told2 = search needs in values-of b (t .enum-told2 .given .1) (c .before .newhope .ensures))

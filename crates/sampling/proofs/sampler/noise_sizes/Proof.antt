@@ -39,5 +39,4 @@ returns c =
     also (c .room-for .ensures) (also (w .length-is .ensures) (l .length-either .ensures ∙ g) refl) refl
 
 pub noise-sizes-spec : {M : Type 1} → statement M
-noise-sizes-spec =
-    tie.close (tie.spec (search needs) mul-length-either mul-length-either-2 (search needs) (search needs) (search needs) (search needs) returns)
+noise-sizes-spec = tie.close (tie.spec (search needs) mul-length-either mul-length-either-2 (search needs) (search needs) (search needs) (search needs) returns)

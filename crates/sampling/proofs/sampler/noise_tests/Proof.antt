@@ -28,6 +28,5 @@ returns-3 c =
     c .noise-sizes3 .ensures ∙ tests-by (b .args .s) _ _ (sym (f .family .ensures) ∙ t .enum-told3 .given .1)
 
 pub noise-tests-spec : {M : Type 1} → statement M
-noise-tests-spec =
-    tie.close
-    (tie.spec (search needs) (search needs) (search needs) (search needs) (search needs) (search needs) (search needs) (search needs) returns returns-2 returns-3)
+noise-tests-spec = tie.close (tie.spec (search needs) (search needs) (search needs) (search needs) (search needs) (search needs) (search needs) (search needs)
+    returns returns-2 returns-3)
