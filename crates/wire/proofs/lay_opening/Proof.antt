@@ -60,20 +60,5 @@ returns c =
     laid (b .args .scheme) (f .fixed .ensures) (a .opening-starts .ensures .0) (a .opening-starts .ensures .1) (b .args .out .now) (b .args .numbers .now) (b .args .seed .now) (p .pack .ensures) (k .copy-bytes .ensures) (b .pre .0) (b .pre .1 .0) (b .pre .1 .1)
 
 pub lay-opening-spec : {M : Type 1} → statement M
-lay-opening-spec =
-    tie.close
-    (tie.spec
-    (search needs)
-    (search needs)
-    add-end
-    (search needs)
-    (search needs)
-    part-pack-end
-    pack-requires
-    add-to
-    (search needs)
-    (search needs)
-    part-copy-bytes-end
-    copy-bytes-requires
-    (search needs)
-    returns)
+lay-opening-spec = tie.close (tie.spec (search needs) (search needs) add-end (search needs) (search needs) part-pack-end pack-requires add-to (search needs)
+    (search needs) part-copy-bytes-end copy-bytes-requires (search needs) returns)

@@ -51,6 +51,5 @@ returns c =
     joined-reply (b .args .scheme) (f .fixed .ensures) (b .args .out .now) (b .args .numbers .now) (b .args .hints .now) (p .pack .ensures) (q .pack2 .ensures) (b .pre .0) (b .pre .1 .0) (b .pre .1 .1)
 
 pub lay-reply-spec : {M : Type 1} → statement M
-lay-reply-spec =
-    tie.close
-    (tie.spec (search needs) slice-relend-prefix-pack slice-aggregate-pack pack-requires sub-pack sub-pack (search needs) pack-requires-2 (search needs) returns)
+lay-reply-spec = tie.close (tie.spec (search needs) slice-relend-prefix-pack slice-aggregate-pack pack-requires sub-pack sub-pack (search needs) pack-requires-2
+    (search needs) returns)

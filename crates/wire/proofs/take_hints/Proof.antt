@@ -34,5 +34,4 @@ returns c =
     u .unpack .ensures ∙ hints-of (b .args .scheme) (f .fixed .ensures) (b .pre .1) (b .args .reply .now) (b .pre .0)
 
 pub take-hints-spec : {M : Type 1} → statement M
-take-hints-spec =
-    tie.close (tie.spec (search needs) add-end (search needs) (search needs) part-unpack-end unpack-requires (search needs) returns)
+take-hints-spec = tie.close (tie.spec (search needs) add-end (search needs) (search needs) part-unpack-end unpack-requires (search needs) returns)

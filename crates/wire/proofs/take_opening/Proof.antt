@@ -38,6 +38,5 @@ returns c =
     taken s (f .fixed .ensures) (b .pre .1) (opened s (f .fixed .ensures) (a .opening-starts .ensures .0) (b .args .opening .now)) (t .take-message .ensures)
 
 pub take-opening-spec : {M : Type 1} → statement M
-take-opening-spec =
-    tie.close
-    (tie.spec (search needs) (search needs) add-end (search needs) (search needs) part-take-message-end take-message-requires (search needs) returns)
+take-opening-spec = tie.close (tie.spec (search needs) (search needs) add-end (search needs) (search needs) part-take-message-end take-message-requires
+    (search needs) returns)
