@@ -20,12 +20,6 @@ Inv-loop n h w s x block₀ sums₀ l t₀ block sums t =
 abbrev μ-loop : tie.MeasureT-loop
 μ-loop n h w s x block₀ sums₀ l t₀ block sums t = w - t
 
-mul-l : tie.Need-mul-l Inv-loop μ-loop
-mul-l c = let a : tie.Start Inv-loop μ-loop = search needs in omega (arith, a .pre .5, a .pre .1)
-
-loop-holds : tie.Need-loop-holds Inv-loop μ-loop
-loop-holds c = (omega arith, refl, refl, sym (gained-none 65536 _ _ (λ k. omega (arith, c .slice-known2 .given k))))
-
 module _ (c : tie.In-loop Inv-loop μ-loop) where
   abbrev at : tie.At-loop Inv-loop μ-loop
   at = c .before
@@ -76,9 +70,6 @@ loop-again c =
           (one-block 65536 (g .n) (g .h) (g .w) (t b) 4 (g .s .now) (g .x .now) (at b .loop .sums) (a b .pre .0) (a b .pre .1) (u .unpair .ensures) (d .add-left .ensures)),
     )
 
-same-length-2 : tie.Need-same-length-2 Inv-loop μ-loop
-same-length-2 c = ap length (c .before .loop .inv .3) ∙ gained-length _ _ _ _
-
 returns : tie.Need-returns Inv-loop μ-loop
 returns c =
     let s : tie.Start Inv-loop μ-loop = search needs in
@@ -88,7 +79,8 @@ returns c =
     l .inv .3 ∙ ap (λ (t : ℕ). gained 65536 t (partTerm (g .w) (g .n) 0 (g .s .now) (words (g .x .now))) (g .sums .now)) k
 
 pub add-left-spec : {M : Type 1} → statement M
-add-left-spec = tie.close (tie.spec Inv-loop μ-loop mul-l loop-holds (λ c. omega (arith, rows c))
-    (λ c. omega (arith, rows c)) (λ c. omega (arith, rows c)) (omega arith) (search needs) (λ c. rows c) unpair-requires
-    add-left-requires (λ c. let b : tie.In-loop Inv-loop μ-loop = search needs in omega (arith, inside b)) (omega arith)
-    loop-again (λ c. c .before .loop .inv .2) same-length-2 returns)
+add-left-spec = tie.close (tie.spec Inv-loop μ-loop (λ c. let a : tie.Start Inv-loop μ-loop = search needs in omega (arith, a .pre .5, a .pre .1))
+    (λ c. (omega arith, refl, refl, sym (gained-none 65536 _ _ (λ k. omega (arith, c .slice-known2 .given k))))) (λ c. omega (arith, rows c))
+    (λ c. omega (arith, rows c)) (λ c. omega (arith, rows c)) (omega arith) (search needs) (λ c. rows c) unpair-requires add-left-requires
+    (λ c. let b : tie.In-loop Inv-loop μ-loop = search needs in omega (arith, inside b)) (omega arith) loop-again (λ c. c .before .loop .inv .2)
+    (λ c. ap length (c .before .loop .inv .3) ∙ gained-length _ _ _ _) returns)

@@ -54,15 +54,6 @@ unpair-requires c κs =
     let g = a b .args in
     omega (arith, slice-long (i b * g .h) (g .h) (g .x .now) (in-x b), a b .pre .0, a b .pre .3, b .before .loop .inv .1)
 
-add-add-right : tie.Need-add-add-right Inv-loop μ-loop
-add-add-right c = let b : tie.In-loop Inv-loop μ-loop = search needs in omega (arith, row b)
-
-mul-add-right : tie.Need-mul-add-right Inv-loop μ-loop
-mul-add-right c = let b : tie.In-loop Inv-loop μ-loop = search needs in omega (arith, row b)
-
-part-add-right-end : tie.Need-part-add-right-end Inv-loop μ-loop
-part-add-right-end c = let b : tie.In-loop Inv-loop μ-loop = search needs in row b
-
 add-right-requires : tie.Need-add-right-requires Inv-loop μ-loop
 add-right-requires c κs =
     let b : tie.In-loop Inv-loop μ-loop = search needs in
@@ -94,8 +85,9 @@ returns c =
     fill-end (l .inv .2) (rw (k, s .pre .4) (omega arith))
 
 pub add-rows-spec : {M : Type 1} → statement M
-add-rows-spec = tie.close (tie.spec Inv-loop μ-loop (λ c. (omega arith, refl, rows-start _ _ 8))
-    (λ c. omega (arith, in-x c)) (λ c. omega (arith, row c)) (λ c. omega (arith, in-x c)) (λ c. omega (arith, in-x c))
-    (omega arith) (search needs) (λ c. in-x c) unpair-requires add-add-right mul-add-right (omega arith) (search needs)
-    part-add-right-end add-right-requires (omega arith) (omega arith) loop-again (λ c. c .before .loop .inv .1)
+add-rows-spec = tie.close (tie.spec Inv-loop μ-loop (λ c. (omega arith, refl, rows-start _ _ 8)) (λ c. omega (arith, in-x c)) (λ c. omega (arith, row c))
+    (λ c. omega (arith, in-x c)) (λ c. omega (arith, in-x c)) (omega arith) (search needs) (λ c. in-x c) unpair-requires
+    (λ c. let b : tie.In-loop Inv-loop μ-loop = search needs in omega (arith, row b))
+    (λ c. let b : tie.In-loop Inv-loop μ-loop = search needs in omega (arith, row b)) (omega arith) (search needs)
+    (λ c. let b : tie.In-loop Inv-loop μ-loop = search needs in row b) add-right-requires (omega arith) (omega arith) loop-again (λ c. c .before .loop .inv .1)
     (λ c. c .before .loop .inv .2 .long) returns)

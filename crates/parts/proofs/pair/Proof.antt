@@ -49,7 +49,6 @@ returns c =
     fill-end (c .before .loop .inv) (omega arith) ∙ ap (λ (n : ℕ). tab n (from (a .args .ws .now))) (omega (arith, a .pre))
 
 pub pair-spec : {M : Type 1} → statement M
-pair-spec = tie.close (tie.spec Inv-loop μ-loop (λ c. fill-start _ _) (search needs) (search needs) (search needs)
-    cast-out (search needs) (search needs) (search needs) (search needs) cast-out-2 mul-out-5 add-out-2 (search needs)
-    (search needs) (search needs) (λ c. simp length-set (omega arith)) loop-again (λ c. c .before .loop .inv .long)
-    returns)
+pair-spec = tie.close (tie.spec Inv-loop μ-loop (λ c. fill-start _ _) (search needs) (search needs) (search needs) cast-out (search needs) (search needs)
+    (search needs) (search needs) cast-out-2 mul-out-5 add-out-2 (search needs) (search needs) (search needs) (λ c. simp length-set (omega arith)) loop-again
+    (λ c. c .before .loop .inv .long) returns)

@@ -36,12 +36,6 @@ module _ (c : tie.In-loop Inv-loop μ-loop) where
   upper : y < 65536
   upper = a .pre .1 .below (2 * c .before .loop .i + 1)
 
-mul-out-5 : tie.Need-mul-out-5 Inv-loop μ-loop
-mul-out-5 c = let l : tie.In-loop Inv-loop μ-loop = search needs in record { fits = omega (arith, upper l) }
-
-add-out-2 : tie.Need-add-out-2 Inv-loop μ-loop
-add-out-2 c = let l : tie.In-loop Inv-loop μ-loop = search needs in record { fits = omega (arith, lower l, upper l) }
-
 loop-again : tie.Need-loop-again Inv-loop μ-loop
 loop-again c = let at-loop : tie.At-loop Inv-loop μ-loop = search needs in fill-next _ (at-loop .loop .inv) (omega arith) refl
 
@@ -52,7 +46,7 @@ returns c =
     fill-end (c .before .loop .inv) (omega arith) ∙ ap (λ (n : ℕ). tab n (from (a .args .xs .now))) (omega (arith, a .pre .0))
 
 pub pair-numbers-spec : {M : Type 1} → statement M
-pair-numbers-spec = tie.close (tie.spec Inv-loop μ-loop (λ c. fill-start _ _) (search needs) (search needs)
-    (search needs) (search needs) (search needs) (search needs) (search needs) mul-out-5 add-out-2 (search needs)
-    (search needs) (search needs) (λ c. simp length-set (omega arith)) loop-again (λ c. c .before .loop .inv .long)
-    returns)
+pair-numbers-spec = tie.close (tie.spec Inv-loop μ-loop (λ c. fill-start _ _) (search needs) (search needs) (search needs) (search needs) (search needs)
+    (search needs) (search needs) (λ c. let l : tie.In-loop Inv-loop μ-loop = search needs in record { fits = omega (arith, upper l) })
+    (λ c. let l : tie.In-loop Inv-loop μ-loop = search needs in record { fits = omega (arith, lower l, upper l) }) (search needs) (search needs) (search needs)
+    (λ c. simp length-set (omega arith)) loop-again (λ c. c .before .loop .inv .long) returns)

@@ -30,6 +30,5 @@ returns-2 c =
     set-upper (g .out .now) (g .k / 2) (g .w) ∙ ap (λ (k : ℕ). set (words (g .out .now)) k (g .w)) e
 
 pub put-word-spec : {M : Type 1} → statement M
-put-word-spec =
-    tie.close
-    (tie.spec (search needs) (search needs) mul-out add-out (search needs) (search needs) (search needs) (search needs) (search needs) (search needs) (search needs) returns (search needs) returns-2)
+put-word-spec = tie.close (tie.spec (search needs) (search needs) mul-out add-out (search needs) (search needs) (search needs) (search needs) (search needs)
+    (search needs) (search needs) returns (search needs) returns-2)

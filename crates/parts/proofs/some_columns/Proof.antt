@@ -21,9 +21,6 @@ Inv-loop h r c secret out₀ w k₀ out k = (k ≤ 8) × Filled (from h r c secr
 abbrev μ-loop : tie.MeasureT-loop
 μ-loop h r c secret out₀ w k₀ out k = 8 - k
 
-loop-holds : tie.Need-loop-holds Inv-loop μ-loop
-loop-holds c = let a : tie.Start Inv-loop μ-loop = search needs in (omega arith, rows-start _ _ (2 * a .args .c))
-
 module _ (c : tie.In-loop Inv-loop μ-loop) where
   abbrev a : tie.Start Inv-loop μ-loop
   a = search needs
@@ -44,9 +41,6 @@ module _ (c : tie.In-loop Inv-loop μ-loop) where
 
   row : k * w + w ≤ length (c .before .loop .out)
   row = rw (c .before .loop .inv .1 .long) first
-
-mul-w : tie.Need-mul-w Inv-loop μ-loop
-mul-w c = let a : tie.Start Inv-loop μ-loop = search needs in omega (arith, a .pre .3)
 
 unpair-requires : tie.Need-unpair-requires Inv-loop μ-loop
 unpair-requires c κs =
@@ -72,9 +66,8 @@ returns c =
     fill-whole (c .before .loop .inv .1) (s .pre .3) (rw e (omega arith))
 
 pub some-columns-spec : {M : Type 1} → statement M
-some-columns-spec = tie.close (tie.spec Inv-loop μ-loop mul-w loop-holds (λ c. omega (arith, in-secret c))
-    (λ c. omega (arith, in-secret c)) (λ c. omega (arith, row c)) (λ c. omega (arith, in-secret c))
-    (λ c. omega (arith, in-secret c)) (omega arith) (search needs) (λ c. in-secret c)
-    (λ c. omega (arith, row (c .before))) (λ c. omega (arith, row (c .before))) (omega arith) (search needs)
-    (λ c. row (c .before)) unpair-requires (omega arith) (omega arith) loop-again (λ c. c .before .loop .inv .1 .long)
-    returns)
+some-columns-spec = tie.close (tie.spec Inv-loop μ-loop (λ c. let a : tie.Start Inv-loop μ-loop = search needs in omega (arith, a .pre .3))
+    (λ c. let a : tie.Start Inv-loop μ-loop = search needs in (omega arith, rows-start _ _ (2 * a .args .c))) (λ c. omega (arith, in-secret c))
+    (λ c. omega (arith, in-secret c)) (λ c. omega (arith, row c)) (λ c. omega (arith, in-secret c)) (λ c. omega (arith, in-secret c)) (omega arith)
+    (search needs) (λ c. in-secret c) (λ c. omega (arith, row (c .before))) (λ c. omega (arith, row (c .before))) (omega arith) (search needs)
+    (λ c. row (c .before)) unpair-requires (omega arith) (omega arith) loop-again (λ c. c .before .loop .inv .1 .long) returns)

@@ -21,12 +21,6 @@ Inv-loop xs out₀ i₀ out i = (i ≤ length xs) × Filled (from xs) out₀ out
 abbrev μ-loop : tie.MeasureT-loop
 μ-loop xs out₀ i₀ out i = length xs - i
 
-slice-write-out : tie.Need-slice-write-out Inv-loop μ-loop
-slice-write-out c = omega (arith, c .before .before .loop .inv .1 .long)
-
-slice-write-out-2 : tie.Need-slice-write-out-2 Inv-loop μ-loop
-slice-write-out-2 c = simp length-set (omega (arith, c .before .before .loop .inv .1 .long))
-
 -- a number of 32 bits
 cast-out-2 : tie.Need-cast-out-2 Inv-loop μ-loop
 cast-out-2 c = record { fits = omega (arith, c .shared-slice-known .given (c .before .before .loop .i)) }
@@ -49,6 +43,7 @@ returns c =
     ∙ tab-getD (words (a .args .xs .now)) 0
 
 pub unpair-spec : {M : Type 1} → statement M
-unpair-spec = tie.close (tie.spec Inv-loop μ-loop (λ c. (omega arith, fill-start _ _)) (search needs) (search needs)
-    (search needs) (search needs) (search needs) slice-write-out cast-out-2 (search needs) (search needs) (search needs)
-    slice-write-out-2 (search needs) (search needs) loop-again (λ c. c .before .loop .inv .1 .long) returns)
+unpair-spec = tie.close (tie.spec Inv-loop μ-loop (λ c. (omega arith, fill-start _ _)) (search needs) (search needs) (search needs) (search needs)
+    (search needs) (λ c. omega (arith, c .before .before .loop .inv .1 .long)) cast-out-2 (search needs) (search needs) (search needs)
+    (λ c. simp length-set (omega (arith, c .before .before .loop .inv .1 .long))) (search needs) (search needs) loop-again (λ c. c .before .loop .inv .1 .long)
+    returns)
