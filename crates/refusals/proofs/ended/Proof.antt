@@ -5,9 +5,6 @@ use borrow.Author.Needs.{needs}
 use Rattle.refusals.proofs.ended.Statement.{statement}
 use Rattle.refusals.proofs.ended.Tie as tie
 
-returns : tie.Need-returns
-returns c = let o : tie.After-enum-told = search needs in sym (outcome-slack (o .enum-told .given .1) _)
-
 returns-2 : tie.Need-returns-2
 returns-2 c =
     let b : tie.Start = search needs in
@@ -15,4 +12,5 @@ returns-2 c =
     sym (outcome-refused (v .v .given .1) (b .args .slack))
 
 pub ended-spec : {M : Type 1} → statement M
-ended-spec = tie.close (tie.spec (search needs) (search needs) returns returns-2)
+ended-spec = tie.close (tie.spec (search needs) (search needs)
+    (λ c. let o : tie.After-enum-told = search needs in sym (outcome-slack (o .enum-told .given .1) _)) returns-2)

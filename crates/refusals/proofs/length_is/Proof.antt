@@ -5,16 +5,7 @@ use Rattle.refusals.proofs.{Laws.stays, Laws.goes-on, length_is.Stateme
 use borrow.Author.Needs.{needs}
 use Rattle.refusals.proofs.length_is.Tie as tie
 
-returns : tie.Need-returns
-returns c = stays _ (c .enum-told2 .given .1)
-
-returns-2 : tie.Need-returns-2
-unfolding lengthIs
-returns-2 c = goes-on (c .before .enum-told .given .1) (rw (eq-eqb _ _ (c .if1 .taken)))
-
-returns-3 : tie.Need-returns-3
-unfolding lengthIs
-returns-3 c = goes-on (c .before .enum-told .given .1) (rw (ne-eqb _ _ (c .if1 .left)))
-
 pub length-is-spec : {M : Type 1} → statement M
-length-is-spec = tie.close (tie.spec (search needs) (search needs) returns returns-2 returns-3)
+length-is-spec = tie.close (tie.spec (search needs) (search needs) (λ c. stays _ (c .enum-told2 .given .1))
+    (λ c. unfold lengthIs in goes-on (c .before .enum-told .given .1) (rw (eq-eqb _ _ (c .if1 .taken))))
+    (λ c. unfold lengthIs in goes-on (c .before .enum-told .given .1) (rw (ne-eqb _ _ (c .if1 .left)))))

@@ -5,9 +5,6 @@ use borrow.Author.Needs.{needs}
 use Rattle.refusals.proofs.publics_before.Statement.{statement}
 use Rattle.refusals.proofs.publics_before.Tie as tie
 
-returns : tie.Need-returns
-returns c = before-pass _ (c .enum-told2 .given .1)
-
 returns-2 : tie.Need-returns-2
 returns-2 c =
     let o : tie.After-enum-told = search needs in
@@ -25,4 +22,4 @@ returns-3 c =
     sym (went-on _ e refl) ∙ before-fail _ (o .enum-told .given .1)
 
 pub publics-before-spec : {M : Type 1} → statement M
-publics-before-spec = tie.close (tie.spec (search needs) (search needs) returns (search needs) returns-2 returns-3)
+publics-before-spec = tie.close (tie.spec (search needs) (search needs) (λ c. before-pass _ (c .enum-told2 .given .1)) (search needs) returns-2 returns-3)

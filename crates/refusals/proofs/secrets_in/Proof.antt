@@ -5,9 +5,6 @@ use Rattle.refusals.proofs.{Laws.stays, Laws.goes-on, secrets_in.Statem
 use borrow.Author.Needs.{needs}
 use Rattle.refusals.proofs.secrets_in.Tie as tie
 
-returns : tie.Need-returns
-returns c = stays _ (c .enum-told2 .given .1)
-
 returns-2 : tie.Need-returns-2
 unfolding secretsIn
 returns-2 c =
@@ -21,4 +18,4 @@ returns-3 c =
     goes-on (c .before .before .enum-told .given .1) (rw (le-ltb _ _ (rw e at (c .if1 .left))))
 
 pub secrets-in-spec : {M : Type 1} → statement M
-secrets-in-spec = tie.close (tie.spec (search needs) (search needs) returns (search needs) returns-2 returns-3)
+secrets-in-spec = tie.close (tie.spec (search needs) (search needs) (λ c. stays _ (c .enum-told2 .given .1)) (search needs) returns-2 returns-3)

@@ -5,16 +5,7 @@ use Rattle.refusals.proofs.{Laws.stays, Laws.goes-on, table_in.Statemen
 use borrow.Author.Needs.{needs}
 use Rattle.refusals.proofs.table_in.Tie as tie
 
-returns : tie.Need-returns
-returns c = stays _ (c .enum-told2 .given .1)
-
-returns-2 : tie.Need-returns-2
-unfolding tableIn
-returns-2 c = goes-on (c .before .enum-told .given .1) (rw (lt-ltb _ _ (c .if1 .taken)))
-
-returns-3 : tie.Need-returns-3
-unfolding tableIn
-returns-3 c = goes-on (c .before .enum-told .given .1) (rw (le-ltb _ _ (c .if1 .left)))
-
 pub table-in-spec : {M : Type 1} → statement M
-table-in-spec = tie.close (tie.spec (search needs) (search needs) returns returns-2 returns-3)
+table-in-spec = tie.close (tie.spec (search needs) (search needs) (λ c. stays _ (c .enum-told2 .given .1))
+    (λ c. unfold tableIn in goes-on (c .before .enum-told .given .1) (rw (lt-ltb _ _ (c .if1 .taken))))
+    (λ c. unfold tableIn in goes-on (c .before .enum-told .given .1) (rw (le-ltb _ _ (c .if1 .left)))))
