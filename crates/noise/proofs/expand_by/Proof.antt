@@ -25,20 +25,11 @@ one : (b : Bool) → boolByte b ≤ 1
 one true = omega arith
 one false = omega arith
 
-loop-holds : tie.Need-loop-holds Inv-loop μ-loop
-loop-holds c = (store-none _ _ _, omega arith)
-
-word-requires : tie.Need-word-requires Inv-loop μ-loop
-word-requires c κs = let u : tie.After-trimmed Inv-loop μ-loop = search needs in omega (arith, u .trimmed .ensures .within)
-
 slice-write-out : tie.Need-slice-write-out Inv-loop μ-loop
 slice-write-out c =
     let t : tie.Then1 Inv-loop μ-loop = search needs in
     let l : tie.At-loop Inv-loop μ-loop = search needs in
     omega (arith, room t, store-long (l .loop .inv .0))
-
-add-n : tie.Need-add-n Inv-loop μ-loop
-add-n c = let t : tie.Then1 Inv-loop μ-loop = search needs in omega (arith, room t, one (c .takes .result))
 
 loop-again : tie.Need-loop-again Inv-loop μ-loop
 loop-again c =
@@ -62,18 +53,12 @@ loop-again c =
       omega arith,
     )
 
-same-length : tie.Need-same-length Inv-loop μ-loop
-same-length c = let l : tie.At-loop Inv-loop μ-loop = search needs in store-long (l .loop .inv .0)
-
 returns : tie.Need-returns Inv-loop μ-loop
 returns c =
     let l : tie.At-loop Inv-loop μ-loop = search needs in
     let b : tie.Start Inv-loop μ-loop = search needs in
     let u : tie.After-trimmed Inv-loop μ-loop = search needs in
     store-end (l .loop .inv .0) (u .trimmed .ensures) (l .loop .inv .1) (b .pre) (inr (ltb-false _ _ (c .if1 .left)))
-
-same-length-2 : tie.Need-same-length-2 Inv-loop μ-loop
-same-length-2 c = let l : tie.At-loop Inv-loop μ-loop = search needs in store-long (l .loop .inv .0)
 
 returns-2 : tie.Need-returns-2 Inv-loop μ-loop
 returns-2 c =
@@ -83,6 +68,8 @@ returns-2 c =
     store-end (l .loop .inv .0) (u .trimmed .ensures) (l .loop .inv .1) (b .pre) (inl (c .loop-test .left))
 
 pub expand-by-spec : {M : Type 1} → statement M
-expand-by-spec =
-    tie.close
-    (tie.spec Inv-loop μ-loop (search needs) loop-holds word-requires (search needs) (λ c. omega arith) slice-write-out (search needs) (λ c. tt) add-n (λ c. omega arith) (λ c. omega arith) loop-again same-length returns same-length-2 returns-2)
+expand-by-spec = tie.close (tie.spec Inv-loop μ-loop (search needs) (λ c. (store-none _ _ _, omega arith))
+    (λ c κs. let u : tie.After-trimmed Inv-loop μ-loop = search needs in omega (arith, u .trimmed .ensures .within)) (search needs) (λ c. omega arith)
+    slice-write-out (search needs) (λ c. tt) (λ c. let t : tie.Then1 Inv-loop μ-loop = search needs in omega (arith, room t, one (c .takes .result)))
+    (λ c. omega arith) (λ c. omega arith) loop-again (λ c. let l : tie.At-loop Inv-loop μ-loop = search needs in store-long (l .loop .inv .0)) returns
+    (λ c. let l : tie.At-loop Inv-loop μ-loop = search needs in store-long (l .loop .inv .0)) returns-2)

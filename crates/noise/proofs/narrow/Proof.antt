@@ -31,13 +31,10 @@ loop-again c =
     )
 
 pub narrow-spec : {M : Type 1} → statement M
-narrow-spec =
-    tie.close
-    (tie.spec Inv-loop μ-loop (λ c. (omega arith, store-none _ _ _)) (λ c. omega arith)
+narrow-spec = tie.close (tie.spec Inv-loop μ-loop (λ c. (omega arith, store-none _ _ _)) (λ c. omega arith)
     (λ c κs. let b : tie.Start Inv-loop μ-loop = search needs in omega arith)
     (λ c κs. let b : tie.Start Inv-loop μ-loop = search needs in (b .pre .0, b .pre .1))
     (λ c. let b : tie.Start Inv-loop μ-loop = search needs in let l : tie.At-loop Inv-loop μ-loop = search needs in omega (arith, l .loop .inv .1 .long))
     (λ c. let b : tie.Start Inv-loop μ-loop = search needs in let l : tie.At-loop Inv-loop μ-loop = search needs in omega (arith, l .loop .inv .1 .long))
-    (λ c. omega arith) (λ c. omega arith) loop-again
-    (λ c. let l : tie.At-loop Inv-loop μ-loop = search needs in l .loop .inv .1 .long)
+    (λ c. omega arith) (λ c. omega arith) loop-again (λ c. let l : tie.At-loop Inv-loop μ-loop = search needs in l .loop .inv .1 .long)
     (λ c. let l : tie.At-loop Inv-loop μ-loop = search needs in stored-all (l .loop .inv .1) (omega arith)))

@@ -15,9 +15,6 @@ Inv-loop name stream words₀ k = (k ≤ length stream / 2) × (soFar (rule name
 abbrev μ-loop : tie.MeasureT-loop
 μ-loop name stream words₀ k = k
 
-loop-holds : tie.Need-loop-holds Inv-loop μ-loop
-loop-holds c = (omega arith, trim-none _ _)
-
 -- what the rule says of the last word that is left
 tested : (c : tie.After-takes Inv-loop μ-loop) → let l = c .before .before .before in let a = l .before .before .args in
     rule (a .name) .takes (wordAt (a .stream .now) (l .loop .words - 1)) ≡ c .takes .result
@@ -42,5 +39,5 @@ returns-2 c =
     record { within = l .loop .inv .0; all = l .loop .inv .1; last = λ i f. absurd (omega arith) }
 
 pub trimmed-spec : {M : Type 1} → statement M
-trimmed-spec =
-    tie.close (tie.spec Inv-loop μ-loop loop-holds (λ c. omega arith) (λ c κs. omega arith) (search needs) returns (λ c. omega arith) (λ c. omega arith) loop-again returns-2)
+trimmed-spec = tie.close (tie.spec Inv-loop μ-loop (λ c. (omega arith, trim-none _ _)) (λ c. omega arith) (λ c κs. omega arith) (search needs) returns
+    (λ c. omega arith) (λ c. omega arith) loop-again returns-2)

@@ -27,12 +27,9 @@ loop-again c =
     (omega arith, store-next (l .loop .inv .1) (omega arith) (wide (getD (b .args .v .now) (l .loop .k) (pos 0)) (record { sfits = c .out .given })))
 
 pub widen-spec : {M : Type 1} → statement M
-widen-spec =
-    tie.close
-    (tie.spec Inv-loop μ-loop (λ c. (omega arith, store-none _ _ _)) (λ c. let b : tie.Start Inv-loop μ-loop = search needs in omega arith)
+widen-spec = tie.close (tie.spec Inv-loop μ-loop (λ c. (omega arith, store-none _ _ _)) (λ c. let b : tie.Start Inv-loop μ-loop = search needs in omega arith)
     (λ c. let b : tie.Start Inv-loop μ-loop = search needs in omega arith) (λ c. let b : tie.Start Inv-loop μ-loop = search needs in omega arith) cast-out
     (λ c. let b : tie.Start Inv-loop μ-loop = search needs in let l : tie.At-loop Inv-loop μ-loop = search needs in omega (arith, l .loop .inv .1 .long))
     (λ c. let b : tie.Start Inv-loop μ-loop = search needs in let l : tie.At-loop Inv-loop μ-loop = search needs in omega (arith, l .loop .inv .1 .long))
-    (λ c. omega arith) (λ c. omega arith) loop-again
-    (λ c. let l : tie.At-loop Inv-loop μ-loop = search needs in l .loop .inv .1 .long)
+    (λ c. omega arith) (λ c. omega arith) loop-again (λ c. let l : tie.At-loop Inv-loop μ-loop = search needs in l .loop .inv .1 .long)
     (λ c. let l : tie.At-loop Inv-loop μ-loop = search needs in stored-all (l .loop .inv .1) (omega arith)))
