@@ -20,18 +20,12 @@ under-l a b = omega (arith, or-add-and a b, and-le-r a b)
 under-r : (a b : ℕ) → b ≤ bitOr a b
 under-r a b = omega (arith, or-add-and a b, and-le-l a b)
 
-loop-holds : tie.Need-loop-holds Inv-loop μ-loop
-loop-holds c = reached-none (λ x. x) 0 _
-
 loop-again : tie.Need-loop-again Inv-loop μ-loop
 loop-again c =
     let a : tie.At-loop Inv-loop μ-loop = search needs in
     let x = getD (a .before .args .xs .now) (a .loop .i) 0 in
     reached-more (λ x. x) 0 _ (a .loop .i) _ _ (a .loop .inv) (omega arith) (under-l (a .loop .bits) x) (under-r (a .loop .bits) x)
 
-returns : tie.Need-returns Inv-loop μ-loop
-returns c = reached-all (λ x. x) 0 _ _ _ (c .before .loop .inv) (omega arith)
-
 pub bits-of-spec : {M : Type 1} → statement M
-bits-of-spec = tie.close (tie.spec Inv-loop μ-loop loop-holds (omega arith) (omega arith) (omega arith) (omega arith)
-    loop-again returns)
+bits-of-spec = tie.close (tie.spec Inv-loop μ-loop (λ c. reached-none (λ x. x) 0 _) (omega arith) (omega arith) (omega arith) (omega arith) loop-again
+    (λ c. reached-all (λ x. x) 0 _ _ _ (c .before .loop .inv) (omega arith)))

@@ -29,9 +29,6 @@ Inv-loop q xs passed₀ still₀ i₀ passed still i = Looking (over q) xs 0 i p
 abbrev μ-loop : tie.MeasureT-loop
 μ-loop q xs passed₀ still₀ i₀ passed still i = length xs - i
 
-loop-holds : tie.Need-loop-holds Inv-loop μ-loop
-loop-holds c = (looking-none (over (c .args .q)) _ 0, omega arith)
-
 returns : tie.Need-returns Inv-loop μ-loop
 unfolding firstOver
 returns c =
@@ -46,12 +43,6 @@ kept c =
     let a = c .before .before .before .args in
     part (l .still) (ltb (getD (a .xs .now) (l .i) 0) (a .q))
 
-mul-still-2 : tie.Need-mul-still-2 Inv-loop μ-loop
-mul-still-2 c = record { fits = omega (arith, kept c) }
-
-add-passed : tie.Need-add-passed Inv-loop μ-loop
-add-passed c = record { fits = omega (arith, kept c, c .before .before .loop .inv .0 .few) }
-
 loop-again : tie.Need-loop-again Inv-loop μ-loop
 loop-again c =
     let start : tie.Start Inv-loop μ-loop = search needs in
@@ -63,18 +54,6 @@ loop-again c =
     )
 
 pub search-all-spec : {M : Type 1} → statement M
-search-all-spec =
-    tie.close
-    (tie.spec
-    Inv-loop
-    μ-loop
-    loop-holds
-    (omega arith)
-    (omega arith)
-    (λ c. tt)
-    mul-still-2
-    add-passed
-    (omega arith)
-    (omega arith)
-    loop-again
-    returns)
+search-all-spec = tie.close (tie.spec Inv-loop μ-loop (λ c. (looking-none (over (c .args .q)) _ 0, omega arith)) (omega arith) (omega arith) (λ c. tt)
+    (λ c. record { fits = omega (arith, kept c) }) (λ c. record { fits = omega (arith, kept c, c .before .before .loop .inv .0 .few) }) (omega arith)
+    (omega arith) loop-again returns)
