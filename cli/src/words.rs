@@ -35,8 +35,9 @@ pub fn command(words: &[OsString]) -> Result<Found<'_>, Fault> {
         }
     }
     let several = about(&words[..1])?;
-    let lasts = several.iter().filter_map(|c| c.name.split(' ').next_back());
-    let hint = words.get(1).map(|word| near::hint(word, lasts));
+    let hint = words
+        .get(1)
+        .map(|word| near::hint(word, last_words(&several)));
     let usages = several.iter().map(|c| format!("{} {}", c.name, c.usage()));
     let usages: Vec<String> = usages.map(|usage| usage.trim_end().to_string()).collect();
     Err(tell::words(format!(
@@ -45,6 +46,10 @@ pub fn command(words: &[OsString]) -> Result<Found<'_>, Fault> {
         hint.unwrap_or_default(),
         usages.join("; ")
     )))
+}
+
+fn last_words<'a>(several: &'a [&Command]) -> impl Iterator<Item = &'a str> {
+    several.iter().filter_map(|c| c.name.split(' ').next_back())
 }
 
 /// Words in the longest name of a command.
@@ -62,10 +67,14 @@ pub fn about(name: &[OsString]) -> Result<Vec<&'static Command>, Fault> {
     if found.is_empty() {
         let words: Vec<String> = name.iter().map(shown).collect();
         let firsts = COMMANDS.iter().filter_map(|c| c.name.split(' ').next());
+        let several: Vec<&Command> = COMMANDS.iter().filter(|c| c.begins(&name[..1])).collect();
+        let hint = match (name, &several[..]) {
+            ([_, word, ..], [_, ..]) => near::hint(word, last_words(&several)),
+            _ => near::hint(&name[0], firsts),
+        };
         return Err(tell::words(format!(
-            "there is no command '{}'{}; 'wimmostry help' lists them",
-            words.join(" "),
-            near::hint(&name[0], firsts)
+            "there is no command '{}'{hint}; 'wimmostry help' lists them",
+            words.join(" ")
         )));
     }
     Ok(found)
@@ -156,11 +165,14 @@ pub fn scheme(word: &OsStr) -> Result<Asked, Fault> {
         .position(|name| word.eq_ignore_ascii_case(name));
     let named = named.and_then(|no| u32::try_from(no).ok());
     named.or(number(word)).map(Asked::Number).ok_or_else(|| {
+        let hint = match near::hint(word, names.iter().map(String::as_str)) {
+            hint if hint.is_empty() => format!("; the names are {}", names.join(", ")),
+            hint => hint,
+        };
         tell::words(format!(
-            "SCHEME is a number from 0 to {} or a name, not '{}'{}",
+            "SCHEME is a number from 0 to {} or a name, not '{}'{hint}",
             SCHEMES - 1,
-            shown(word),
-            near::hint(word, names.iter().map(String::as_str))
+            shown(word)
         ))
     })
 }
