@@ -128,7 +128,11 @@ fn came(dir: &Path, input: &Input, word: &OsStr) -> Result<files::Lent, Fault> {
         place: &place,
         secret: false,
     };
-    folder::apart(dir, &[named], &[])?;
+    folder::apart(dir, &[named], &[]).map_err(|mut fault| {
+        let hint = "; keep what came outside the link's folder";
+        fault.lines.iter_mut().for_each(|line| line.push_str(hint));
+        fault
+    })?;
     files::read(input, &place)
 }
 

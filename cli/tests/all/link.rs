@@ -452,10 +452,9 @@ fn messages_come_from_elsewhere() {
     assert_eq!(done.status.code(), Some(0), "{done:?}");
     fs::copy(room.0.join("right/reply"), room.0.join("left/reply")).unwrap();
     let line = room.fails(2, "link finish left left/reply");
-    assert!(
-        line.contains("the output reply is the input REPLY"),
-        "{line}"
-    );
+    let told = "wimmostry: the output reply is the input REPLY: 'left/reply'; \
+                keep what came outside the link's folder\n";
+    assert_eq!(line, told);
     let done = room.fed("link finish left -", &room.read("right/reply"));
     assert_eq!(done.status.code(), Some(0), "{done:?}");
     assert_eq!(
