@@ -68,10 +68,20 @@ impl Exchange<'_> {
     /// Whether what was heard is what this end says, in either case, with the marks
     /// or without.
     pub fn heard(&self, key: &[u8], end: End, heard: &str) -> bool {
-        let plain = heard.bytes().filter(|&byte| byte != b'-');
-        let plain: Vec<u8> = plain.map(|byte| byte.to_ascii_lowercase()).collect();
-        same(&plain, self.digits(key, end).as_bytes())
+        same(&plain(heard), self.digits(key, end).as_bytes())
     }
+}
+
+/// What was heard in small letters and without the marks.
+fn plain(heard: &str) -> Vec<u8> {
+    let plain = heard.bytes().filter(|&byte| byte != b'-');
+    plain.map(|byte| byte.to_ascii_lowercase()).collect()
+}
+
+/// Whether what was heard is as many digits as an end says.
+pub fn whole(heard: &str) -> bool {
+    let plain = plain(heard);
+    plain.len() == SAID && plain.iter().all(u8::is_ascii_hexdigit)
 }
 
 /// Whether two texts are the same, in a time that depends on their lengths alone.

@@ -295,6 +295,11 @@ pub fn key(given: &[OsString]) -> Done {
     let raw = calls::key(&folder.session).unwrap_or_default();
     let heard = given[1].to_str().unwrap_or_default();
     if !exchange.heard(raw, told.end.other(), heard) {
+        if exchange.heard(raw, told.end, heard) {
+            tell::note("HEARD is what this end says: type what the peer said");
+        } else if !check::whole(heard) {
+            tell::note("HEARD is not 16 hexadecimal digits, with the marks - or without");
+        }
         return Err(Fault {
             status: tell::REFUSED,
             lines: vec!["heard=differs".to_string()],

@@ -42,9 +42,10 @@ pub const KEY_MORE: &str = "\
 Each end says what its command showed behind say=, over a way on which the peer is known, as by
 telephone, and types what the other said. Only where that is right do both have the same key, with
 nobody between them. It is then written: SHA3-256 of 'wimmostry key', scheme and rule, a byte each,
-raw key, opening and reply. Else it says heard=differs, and nothing is written. It may be given
-again for another file. The check, of which each end says a half, is SHA3-256 of 'wimmostry check',
-scheme, rule, digest, opening and reply.";
+raw key, opening and reply. Else it says heard=differs, and nothing is written; a line in front of
+that tells digits that this end says itself, or that are not sixteen. It may be given again for
+another file. The check, of which each end says a half, is SHA3-256 of 'wimmostry check', scheme,
+rule, digest, opening and reply.";
 
 pub const CLOSE_MORE: &str = "\
 Overwrites session and s in place, and removes the rest but settings and trace; wiped=N says how

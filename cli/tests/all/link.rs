@@ -125,10 +125,21 @@ fn the_key_is_of_all_that_both_know() {
 fn only_what_the_other_said_releases_a_key() {
     let room = Room::new("heard");
     let (left, right) = linked(&room, "newhope");
-    let cut = &right[..18];
-    for wrong in [&left[..], cut, "0000-0000-0000-0000", "x", "none"] {
+    // what was typed wrong is told apart from keys that differ
+    let own = "wimmostry: HEARD is what this end says: type what the peer said\n";
+    let short = "wimmostry: HEARD is not 16 hexadecimal digits, with the marks - or without\n";
+    for (wrong, told) in [
+        (&left[..], own),
+        (&left.to_uppercase(), own),
+        (&right[..18], short),
+        (&format!("{right}0"), short),
+        (&right.replace('-', ":"), short),
+        ("g000-0000-0000-0000", short),
+        ("none", short),
+        ("0000-0000-0000-0000", ""),
+    ] {
         let line = room.fails(1, &format!("link key left {wrong} key"));
-        assert_eq!(line, "heard=differs\n", "{wrong}");
+        assert_eq!(line, format!("{told}heard=differs\n"), "{wrong}");
         assert!(!room.exists("key"), "{wrong}");
     }
     room.done(&format!("link key left {} one", right.to_uppercase()));

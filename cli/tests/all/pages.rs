@@ -35,7 +35,7 @@ fn as_json() {
     );
     assert!(line.contains(",\"margin\":512,\"say\":\""), "{line}");
     assert_eq!(
-        of(1, "--json link key left 0 key"),
+        of(1, "--json link key left 0123456789abcdef key"),
         "{\"heard\":\"differs\"}\n"
     );
     room.put("slacks", "scheme=4\nslack=512\nscheme=1\nslack=0\n");
