@@ -33,7 +33,9 @@ fn man() -> String {
     );
     for command in COMMANDS {
         let (name, usage) = (roff(command.name), roff(&command.usage()));
-        let _ = writeln!(text, ".B wimmostry {name}\n{usage}\n.br");
+        let lines = format!(".B wimmostry {name}\n{usage}\n.br\n");
+        // a command without words would have an empty line, which the page then has too
+        text.push_str(&lines.replace("\n\n", "\n"));
     }
     let _ = write!(text, ".SH DESCRIPTION\n{}", plain(help::ABOUT));
     text.push_str(".SH OPTIONS\n");
@@ -309,6 +311,13 @@ mod tests {
                 "cli/share: make it anew by 'wimmostry page {name}'"
             );
         }
+    }
+
+    #[test]
+    fn the_synopsis_has_no_gap() {
+        let text = man();
+        let (before, _) = text.split_once(".SH DESCRIPTION").unwrap();
+        assert!(!before.contains("\n\n"), "{before}");
     }
 
     /// Every command and every option is in every page.
