@@ -10,6 +10,7 @@ ghost use Rattle.reply.specs.Reply.{replyTold};
 ghost use Rattle.finish.specs.Finish.{finishTold};
 ghost use Rattle.bench.specs.Bench.{benchTold};
 ghost use Rattle.exchange.specs.Open.{openTold};
+ghost use Rattle.told.specs.Numbers.{replyNumbers, finishNumbers};
 use bench::BenchAnswer;
 use exchange::OpenAnswer;
 use finish::FinishAnswer;
@@ -60,10 +61,7 @@ pub fn tell_reply(
     keyed: &mut u64,
     digested: &mut u64,
 ) -> u32
-    ensures { λ r. ⌜
-        record { number = r; place = left place; counts = record { message = left written; key = left keyed; digest = left digested } }
-        ≡ replyTold answer
-        ⌝ }
+    ensures { λ r. ⌜ replyNumbers r (left place) (left written) (left keyed) (left digested) ≡ replyTold answer ⌝ }
 {
     match answer {
         ReplyAnswer::Done(n) => {
@@ -108,13 +106,7 @@ pub fn tell_finish(
     slack: &mut u64,
     index: &mut u64,
 ) -> u32
-    ensures { λ r. ⌜
-        record {
-          number = r;
-          place = left place;
-          counts = record { key = left keyed; digest = left digested; slack = record { most = left slack; at = left index } };
-        } ≡ finishTold answer
-        ⌝ }
+    ensures { λ r. ⌜ finishNumbers r (left place) (left keyed) (left digested) (left slack) (left index) ≡ finishTold answer ⌝ }
 {
     match answer {
         FinishAnswer::Done(n) => {

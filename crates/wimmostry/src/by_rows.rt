@@ -8,6 +8,7 @@ ghost use Rattle.rows_state.specs.Part.{partResult};
 ghost use Rattle.rows.specs.Offer.{offerBegin, offerBeginResult, offerEndResult};
 ghost use Rattle.rows.specs.Reply.{replyBegin, replyBeginResult, replyEndResult};
 ghost use Rattle.rows_state.specs.declared.Call.{Call};
+ghost use Rattle.told.specs.Numbers.{replyNumbers};
 
 // Offer, begin: the secret s, the noise e and the seed into the state.
 #[no_mangle]
@@ -23,8 +24,7 @@ pub extern "C" fn wim_rows_offer_begin(
         record { number = r; place = left place; state = left state } ≡ offerBeginResult (frodoOf scheme) (offerBegin s e seed) (room state)
         ⌝ }
 {
-    let verdict = rows::offer_begin(scheme, s, e, seed, state);
-    told::tell_verdict(verdict, place)
+    told::tell_verdict(rows::offer_begin(scheme, s, e, seed, state), place)
 }
 
 // Offer, a part: some numbers of the current row of A.
@@ -32,8 +32,7 @@ pub extern "C" fn wim_rows_offer_begin(
 pub extern "C" fn wim_rows_offer_part(part: &[u32], state: &mut [u32], place: &mut u64) -> u32
     ensures { λ r. ⌜ record { number = r; place = left place; state = left state } ≡ partResult Call.Offer (was state) (was part) ⌝ }
 {
-    let verdict = rows::offer_part(part, state);
-    told::tell_verdict(verdict, place)
+    told::tell_verdict(rows::offer_part(part, state), place)
 }
 
 // Offer, end: the opening message.
@@ -48,8 +47,7 @@ pub extern "C" fn wim_rows_offer_end(
         record { answer = seen (record { number = r; place = left place; counts = left written }) (left message); state = left state } ≡ offerEndResult (was state) (room message)
         ⌝ }
 {
-    let answer = rows::offer_end(state, message);
-    told::tell(answer, place, written)
+    told::tell(rows::offer_end(state, message), place, written)
 }
 
 // Reply, begin: the opening message, the secret s' and the noise e' and e'' into the state.
@@ -67,8 +65,7 @@ pub extern "C" fn wim_rows_reply_begin(
         record { number = r; place = left place; state = left state } ≡ replyBeginResult (frodoOf scheme) (replyBegin opening s1 e1 e2) (room state)
         ⌝ }
 {
-    let verdict = rows::reply_begin(scheme, opening, s1, e1, e2, state);
-    told::tell_verdict(verdict, place)
+    told::tell_verdict(rows::reply_begin(scheme, opening, s1, e1, e2, state), place)
 }
 
 // Reply, a part: some numbers of the current row of A.
@@ -76,8 +73,7 @@ pub extern "C" fn wim_rows_reply_begin(
 pub extern "C" fn wim_rows_reply_part(part: &[u32], state: &mut [u32], place: &mut u64) -> u32
     ensures { λ r. ⌜ record { number = r; place = left place; state = left state } ≡ partResult Call.Reply (was state) (was part) ⌝ }
 {
-    let verdict = rows::reply_part(part, state);
-    told::tell_verdict(verdict, place)
+    told::tell_verdict(rows::reply_part(part, state), place)
 }
 
 // Reply, end: the reply message, the replier's key and its digest.
@@ -94,10 +90,7 @@ pub extern "C" fn wim_rows_reply_end(
 ) -> u32
     ensures { λ r. ⌜
         record {
-          answer =
-              replySeen
-              (record { number = r; place = left place; counts = record { message = left written; key = left keyed; digest = left digested } })
-              (left message) (left key) (left digest);
+          answer = replySeen (replyNumbers r (left place) (left written) (left keyed) (left digested)) (left message) (left key) (left digest);
           state = left state;
         } ≡ replyEndResult (was state) (replyRooms message key digest)
         ⌝ }

@@ -7,6 +7,7 @@ ghost use Rattle.reply.specs.Reply.{replyRooms, replySeen};
 ghost use Rattle.exchange.specs.Open.{openLent, openRooms, openSeen, openResult};
 ghost use Rattle.exchange.specs.Answer.{answerLent, answerResult};
 ghost use Rattle.session_bytes.specs.Drawn.{drawn, openMoved, answerMoved};
+ghost use Rattle.told.specs.Numbers.{replyNumbers};
 
 // Open: the opening message and the secret s, from the public numbers a, the table and random bytes.
 #[no_mangle]
@@ -50,9 +51,7 @@ pub extern "C" fn wim_answer(
     digested: &mut u64,
 ) -> u32
     ensures { λ r. ⌜
-        replySeen
-        (record { number = r; place = left place; counts = record { message = left written; key = left keyed; digest = left digested } })
-        (left message) (left key) (left digest)
+        replySeen (replyNumbers r (left place) (left written) (left keyed) (left digested)) (left message) (left key) (left digest)
         ≡ answerResult (schemeOf scheme) (ruleOf rule) (answerLent opening a table random) (replyRooms message key digest)
         ⌝ }
 {
@@ -115,10 +114,7 @@ pub extern "C" fn wim_session_answer(
     digested: &mut u64,
 ) -> u32
     ensures { λ r. ⌜
-        drawn (left session)
-        (replySeen
-        (record { number = r; place = left place; counts = record { message = left written; key = left keyed; digest = left digested } })
-        (left message) (left key) (left digest))
+        drawn (left session) (replySeen (replyNumbers r (left place) (left written) (left keyed) (left digested)) (left message) (left key) (left digest))
         ≡ answerMoved (was session) scheme (ruleOf rule) (answerLent opening a table random) (replyRooms message key digest)
         ⌝ }
 {

@@ -15,6 +15,7 @@ ghost use Rattle.finish.specs.Finish.{finish, finishRooms, finishSeen, finishRe
 ghost use Rattle.bench.specs.Bench.{bench, benchResult};
 ghost use Rattle.settings.specs.Settings.{setupOf};
 ghost use Rattle.settings.specs.Calls.{writeResult, readOf, readResult, readSeen};
+ghost use Rattle.told.specs.Numbers.{replyNumbers, finishNumbers};
 
 mod by_rows;
 mod drawn;
@@ -37,8 +38,7 @@ pub extern "C" fn wim_offer(
         seen (record { number = r; place = left place; counts = left written }) (left message) ≡ offerResult (schemeOf scheme) (offer a s e seed) (room message)
         ⌝ }
 {
-    let answer = offer::offer(scheme, a, s, e, seed, message);
-    told::tell(answer, place, written)
+    told::tell(offer::offer(scheme, a, s, e, seed, message), place, written)
 }
 
 // Reply: the reply message, the replier's key and its digest, from the opening message, the public numbers a, the secret s', the noise e' and e'' and the coins.
@@ -60,9 +60,8 @@ pub extern "C" fn wim_reply(
     digested: &mut u64,
 ) -> u32
     ensures { λ r. ⌜
-        replySeen
-        (record { number = r; place = left place; counts = record { message = left written; key = left keyed; digest = left digested } })
-        (left message) (left key) (left digest) ≡ replyResult (schemeOf scheme) (reply opening a s1 e1 e2 coins) (replyRooms message key digest)
+        replySeen (replyNumbers r (left place) (left written) (left keyed) (left digested)) (left message) (left key) (left digest)
+        ≡ replyResult (schemeOf scheme) (reply opening a s1 e1 e2 coins) (replyRooms message key digest)
         ⌝ }
 {
     let answer = reply::reply(scheme, opening, a, s1, e1, e2, coins, message, key, digest);
@@ -84,107 +83,12 @@ pub extern "C" fn wim_finish(
     index: &mut u64,
 ) -> u32
     ensures { λ r. ⌜
-        finishSeen
-        (record {
-          number = r;
-          place = left place;
-          counts = record { key = left keyed; digest = left digested; slack = record { most = left slack; at = left index } };
-        })
-        (left key) (left digest) ≡ finishResult (schemeOf scheme) (finish reply s) (finishRooms key digest)
+        finishSeen (finishNumbers r (left place) (left keyed) (left digested) (left slack) (left index)) (left key) (left digest)
+        ≡ finishResult (schemeOf scheme) (finish reply s) (finishRooms key digest)
         ⌝ }
 {
     let answer = finish::finish(scheme, reply, s, key, digest);
     told::tell_finish(answer, place, keyed, digested, slack, index)
-}
-
-// Noise: the values that the bytes give, in BCNS by the table.
-#[no_mangle]
-pub extern "C" fn wim_noise(
-    scheme: u32,
-    bytes: &[u8],
-    table: &[u64],
-    out: &mut [i32],
-    place: &mut u64,
-    written: &mut u64,
-) -> u32
-    ensures { λ r. ⌜ seen (record { number = r; place = left place; counts = left written }) (left out) ≡ noiseResult (schemeOf scheme) (noise bytes table) (room out) ⌝ }
-{
-    let answer = sampling::noise(scheme, bytes, table, out);
-    told::tell(answer, place, written)
-}
-
-// Expand: the first 1,024 numbers that the rule takes from the stream.
-#[no_mangle]
-pub extern "C" fn wim_expand(
-    rule: u32,
-    stream: &[u8],
-    out: &mut [u32],
-    place: &mut u64,
-    written: &mut u64,
-) -> u32
-    ensures { λ r. ⌜ seen (record { number = r; place = left place; counts = left written }) (left out) ≡ expandResult (ruleOf rule) (was stream) (room out) ⌝ }
-{
-    let answer = sampling::expand(rule, stream, out);
-    told::tell(answer, place, written)
-}
-
-// Grow: the first 1,024 numbers that the rule takes from the blocks of SHAKE-128 of the seed.
-#[no_mangle]
-pub extern "C" fn wim_grow(
-    rule: u32,
-    seed: &[u8],
-    out: &mut [u32],
-    place: &mut u64,
-    written: &mut u64,
-) -> u32
-    ensures { λ r. ⌜ seen (record { number = r; place = left place; counts = left written }) (left out) ≡ growResult (ruleOf rule) (was seed) (room out) ⌝ }
-{
-    let answer = sampling::grow(rule, seed, out);
-    told::tell(answer, place, written)
-}
-
-// SHAKE-128: it fills the output.
-#[no_mangle]
-pub extern "C" fn wim_shake128(
-    input: &[u8],
-    out: &mut [u8],
-    place: &mut u64,
-    written: &mut u64,
-) -> u32
-    ensures { λ r. ⌜ seen (record { number = r; place = left place; counts = left written }) (left out) ≡ shakeResult (was input) (room out) ⌝ }
-{
-    let answer = hashing::shake128(input, out);
-    told::tell(answer, place, written)
-}
-
-// SHA3-256: its 32 bytes.
-#[no_mangle]
-pub extern "C" fn wim_sha3_256(
-    input: &[u8],
-    out: &mut [u8],
-    place: &mut u64,
-    written: &mut u64,
-) -> u32
-    ensures { λ r. ⌜ seen (record { number = r; place = left place; counts = left written }) (left out) ≡ digestResult (was input) (room out) ⌝ }
-{
-    let answer = hashing::sha3_256(input, out);
-    told::tell(answer, place, written)
-}
-
-// Product: the product of two BCNS polynomials, by halves, on lent scratch space, which is zero afterwards.
-#[no_mangle]
-pub extern "C" fn wim_product(
-    a: &[u32],
-    b: &[u32],
-    out: &mut [u32],
-    scratch: &mut [u32],
-    place: &mut u64,
-    written: &mut u64,
-) -> u32
-    ensures { λ r. ⌜ productSeen (record { number = r; place = left place; counts = left written }) (left out) (left scratch) ≡ productResult (factors a b) (room out) (room scratch) ⌝ }
-{
-    let answer = halves::product(a, b, out, scratch);
-    told::tell(answer, place, written)
 }
 
 // Bench: both ends on lent secrets; the keys agree, or differ from a bit on; with the slack used.
@@ -251,6 +155,89 @@ pub extern "C" fn wim_settings_write(
 ) -> u32
     ensures { λ r. ⌜ seen (record { number = r; place = left place; counts = left written }) (left text) ≡ writeResult (setupOf scheme rule (was label)) (room text) ⌝ }
 {
-    let answer = settings::write(scheme, rule, label, text);
-    told::tell(answer, place, written)
+    told::tell(settings::write(scheme, rule, label, text), place, written)
+}
+
+// Product: the product of two BCNS polynomials, by halves, on lent scratch space, which is zero afterwards.
+#[no_mangle]
+pub extern "C" fn wim_product(
+    a: &[u32],
+    b: &[u32],
+    out: &mut [u32],
+    scratch: &mut [u32],
+    place: &mut u64,
+    written: &mut u64,
+) -> u32
+    ensures { λ r. ⌜ productSeen (record { number = r; place = left place; counts = left written }) (left out) (left scratch) ≡ productResult (factors a b) (room out) (room scratch) ⌝ }
+{
+    told::tell(halves::product(a, b, out, scratch), place, written)
+}
+
+// Noise: the values that the bytes give, in BCNS by the table.
+#[no_mangle]
+pub extern "C" fn wim_noise(
+    scheme: u32,
+    bytes: &[u8],
+    table: &[u64],
+    out: &mut [i32],
+    place: &mut u64,
+    written: &mut u64,
+) -> u32
+    ensures { λ r. ⌜ seen (record { number = r; place = left place; counts = left written }) (left out) ≡ noiseResult (schemeOf scheme) (noise bytes table) (room out) ⌝ }
+{
+    told::tell(sampling::noise(scheme, bytes, table, out), place, written)
+}
+
+// SHAKE-128: it fills the output.
+#[no_mangle]
+pub extern "C" fn wim_shake128(
+    input: &[u8],
+    out: &mut [u8],
+    place: &mut u64,
+    written: &mut u64,
+) -> u32
+    ensures { λ r. ⌜ seen (record { number = r; place = left place; counts = left written }) (left out) ≡ shakeResult (was input) (room out) ⌝ }
+{
+    told::tell(hashing::shake128(input, out), place, written)
+}
+
+// SHA3-256: its 32 bytes.
+#[no_mangle]
+pub extern "C" fn wim_sha3_256(
+    input: &[u8],
+    out: &mut [u8],
+    place: &mut u64,
+    written: &mut u64,
+) -> u32
+    ensures { λ r. ⌜ seen (record { number = r; place = left place; counts = left written }) (left out) ≡ digestResult (was input) (room out) ⌝ }
+{
+    told::tell(hashing::sha3_256(input, out), place, written)
+}
+
+// Expand: the first 1,024 numbers that the rule takes from the stream.
+#[no_mangle]
+pub extern "C" fn wim_expand(
+    rule: u32,
+    stream: &[u8],
+    out: &mut [u32],
+    place: &mut u64,
+    written: &mut u64,
+) -> u32
+    ensures { λ r. ⌜ seen (record { number = r; place = left place; counts = left written }) (left out) ≡ expandResult (ruleOf rule) (was stream) (room out) ⌝ }
+{
+    told::tell(sampling::expand(rule, stream, out), place, written)
+}
+
+// Grow: the first 1,024 numbers that the rule takes from the blocks of SHAKE-128 of the seed.
+#[no_mangle]
+pub extern "C" fn wim_grow(
+    rule: u32,
+    seed: &[u8],
+    out: &mut [u32],
+    place: &mut u64,
+    written: &mut u64,
+) -> u32
+    ensures { λ r. ⌜ seen (record { number = r; place = left place; counts = left written }) (left out) ≡ growResult (ruleOf rule) (was seed) (room out) ⌝ }
+{
+    told::tell(sampling::grow(rule, seed, out), place, written)
 }

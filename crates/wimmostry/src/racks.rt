@@ -9,6 +9,7 @@ ghost use Rattle.finish.specs.Finish.{finish, finishRooms, finishSeen};
 ghost use Rattle.session.specs.Table.{offering, replying, finishing, closing};
 ghost use Rattle.session.specs.Seen.{ofOffer, ofReply, ofFinish, ofClose, turn};
 ghost use Rattle.rack.specs.Slots.{movedIn, cleared};
+ghost use Rattle.told.specs.Numbers.{replyNumbers, finishNumbers};
 
 // Offer for a studio, in its own slot.
 #[no_mangle]
@@ -54,11 +55,8 @@ pub extern "C" fn wim_rack_reply(
     digested: &mut u64,
 ) -> u32
     ensures { λ r. ⌜
-        turn (left rack)
-        (ofReply
-        (replySeen
-        (record { number = r; place = left place; counts = record { message = left written; key = left keyed; digest = left digested } })
-        (left message) (left key) (left digest))) ≡ movedIn (was rack) studio (replying scheme (reply opening a s1 e1 e2 coins) (replyRooms message key digest))
+        turn (left rack) (ofReply (replySeen (replyNumbers r (left place) (left written) (left keyed) (left digested)) (left message) (left key) (left digest)))
+        ≡ movedIn (was rack) studio (replying scheme (reply opening a s1 e1 e2 coins) (replyRooms message key digest))
         ⌝ }
 {
     let answer = rack::reply(
@@ -95,15 +93,8 @@ pub extern "C" fn wim_rack_finish(
     index: &mut u64,
 ) -> u32
     ensures { λ r. ⌜
-        turn (left rack)
-        (ofFinish
-        (finishSeen
-        (record {
-          number = r;
-          place = left place;
-          counts = record { key = left keyed; digest = left digested; slack = record { most = left slack; at = left index } };
-        })
-        (left key) (left digest))) ≡ movedIn (was rack) studio (finishing scheme (finish reply s) (finishRooms key digest))
+        turn (left rack) (ofFinish (finishSeen (finishNumbers r (left place) (left keyed) (left digested) (left slack) (left index)) (left key) (left digest)))
+        ≡ movedIn (was rack) studio (finishing scheme (finish reply s) (finishRooms key digest))
         ⌝ }
 {
     let answer = rack::finish(rack, studio, scheme, reply, s, key, digest);
@@ -115,8 +106,7 @@ pub extern "C" fn wim_rack_finish(
 pub extern "C" fn wim_rack_close(rack: &mut [u8], studio: u32, place: &mut u64) -> u32
     ensures { λ r. ⌜ turn (left rack) (ofClose (record { number = r; place = left place; counts = 0 })) ≡ movedIn (was rack) studio closing ⌝ }
 {
-    let verdict = rack::close(rack, studio);
-    told::tell_verdict(verdict, place)
+    told::tell_verdict(rack::close(rack, studio), place)
 }
 
 // An empty rack: eight idle records with their numbers.
@@ -124,6 +114,5 @@ pub extern "C" fn wim_rack_close(rack: &mut [u8], studio: u32, place: &mut u64) 
 pub extern "C" fn wim_rack_clear(rack: &mut [u8], place: &mut u64) -> u32
     ensures { λ r. ⌜ record { number = r; place = left place; rack = left rack } ≡ cleared (was rack) ⌝ }
 {
-    let verdict = rack::clear(rack);
-    told::tell_verdict(verdict, place)
+    told::tell_verdict(rack::clear(rack), place)
 }

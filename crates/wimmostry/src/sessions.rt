@@ -8,6 +8,7 @@ ghost use Rattle.finish.specs.Finish.{finish, finishRooms, finishSeen};
 ghost use Rattle.session.specs.Table.{offering, replying, finishing, closing};
 ghost use Rattle.session.specs.Seen.{ofOffer, ofReply, ofFinish, ofClose, turn};
 ghost use Rattle.session_bytes.specs.Bytes.{movedBytes};
+ghost use Rattle.told.specs.Numbers.{replyNumbers, finishNumbers};
 
 // Offer on a session of 130 bytes: when idle.
 #[no_mangle]
@@ -51,11 +52,8 @@ pub extern "C" fn wim_session_reply(
     digested: &mut u64,
 ) -> u32
     ensures { λ r. ⌜
-        turn (left session)
-        (ofReply
-        (replySeen
-        (record { number = r; place = left place; counts = record { message = left written; key = left keyed; digest = left digested } })
-        (left message) (left key) (left digest))) ≡ movedBytes (was session) (replying scheme (reply opening a s1 e1 e2 coins) (replyRooms message key digest))
+        turn (left session) (ofReply (replySeen (replyNumbers r (left place) (left written) (left keyed) (left digested)) (left message) (left key) (left digest)))
+        ≡ movedBytes (was session) (replying scheme (reply opening a s1 e1 e2 coins) (replyRooms message key digest))
         ⌝ }
 {
     let answer = session_bytes::reply(
@@ -90,15 +88,8 @@ pub extern "C" fn wim_session_finish(
     index: &mut u64,
 ) -> u32
     ensures { λ r. ⌜
-        turn (left session)
-        (ofFinish
-        (finishSeen
-        (record {
-          number = r;
-          place = left place;
-          counts = record { key = left keyed; digest = left digested; slack = record { most = left slack; at = left index } };
-        })
-        (left key) (left digest))) ≡ movedBytes (was session) (finishing scheme (finish reply s) (finishRooms key digest))
+        turn (left session) (ofFinish (finishSeen (finishNumbers r (left place) (left keyed) (left digested) (left slack) (left index)) (left key) (left digest)))
+        ≡ movedBytes (was session) (finishing scheme (finish reply s) (finishRooms key digest))
         ⌝ }
 {
     let answer = session_bytes::finish(session, scheme, reply, s, key, digest);
