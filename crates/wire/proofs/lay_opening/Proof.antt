@@ -12,13 +12,6 @@ add-end c =
     let a : tie.After-opening-starts = search needs in
     omega (arith, packed-end (b .args .scheme) (f .fixed .ensures) (a .opening-starts .ensures .0) (b .pre .1 .1))
 
-part-pack-end : tie.Need-part-pack-end
-part-pack-end c =
-    let b : tie.Start = search needs in
-    let f : tie.After-fixed = search needs in
-    let a : tie.After-opening-starts = search needs in
-    packed-end (b .args .scheme) (f .fixed .ensures) (a .opening-starts .ensures .0) (b .pre .1 .1)
-
 pack-requires : tie.Need-pack-requires
 pack-requires c κs =
     let b : tie.Start = search needs in
@@ -42,14 +35,6 @@ part-copy-bytes-end c =
     let a : tie.After-opening-starts = search needs in
     omega (arith, o .out .given .1, seed-end (b .args .scheme) (f .fixed .ensures) (a .opening-starts .ensures .1) (b .pre .1 .1))
 
-copy-bytes-requires : tie.Need-copy-bytes-requires
-copy-bytes-requires c κs =
-    let b : tie.Start = search needs in
-    let f : tie.After-fixed = search needs in
-    let o : tie.After-out = search needs in
-    let a : tie.After-opening-starts = search needs in
-    seed-fit (b .args .scheme) (f .fixed .ensures) (a .opening-starts .ensures .1) _ (b .args .seed .now) (o .out .given .1) (b .pre .1 .1) (b .pre .1 .0)
-
 returns : tie.Need-returns
 returns c =
     let p : tie.After-pack = search needs in
@@ -60,5 +45,5 @@ returns c =
     laid (b .args .scheme) (f .fixed .ensures) (a .opening-starts .ensures .0) (a .opening-starts .ensures .1) (b .args .out .now) (b .args .numbers .now) (b .args .seed .now) (p .pack .ensures) (k .copy-bytes .ensures) (b .pre .0) (b .pre .1 .0) (b .pre .1 .1)
 
 pub lay-opening-spec : {M : Type 1} → statement M
-lay-opening-spec = tie.close (tie.spec (search needs) (search needs) add-end (search needs) (search needs) part-pack-end pack-requires add-to (search needs)
-    (search needs) part-copy-bytes-end copy-bytes-requires (search needs) returns)
+lay-opening-spec = tie.close (tie.spec (search needs) (search needs) add-end (search needs) (search needs) (λ c. search (needs, packed-end)) pack-requires
+    add-to (search needs) (search needs) part-copy-bytes-end (λ c κs. search (needs, seed-fit)) (search needs) returns)

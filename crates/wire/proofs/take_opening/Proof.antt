@@ -12,13 +12,6 @@ add-end c =
     let a : tie.After-opening-starts = search needs in
     omega (arith, packed-end (b .args .scheme) (f .fixed .ensures) (a .opening-starts .ensures .0) (b .pre .0))
 
-part-take-message-end : tie.Need-part-take-message-end
-part-take-message-end c =
-    let b : tie.Start = search needs in
-    let f : tie.After-fixed = search needs in
-    let a : tie.After-opening-starts = search needs in
-    packed-end (b .args .scheme) (f .fixed .ensures) (a .opening-starts .ensures .0) (b .pre .0)
-
 take-message-requires : tie.Need-take-message-requires
 take-message-requires c κs =
     let b : tie.Start = search needs in
@@ -38,5 +31,5 @@ returns c =
     taken s (f .fixed .ensures) (b .pre .1) (opened s (f .fixed .ensures) (a .opening-starts .ensures .0) (b .args .opening .now)) (t .take-message .ensures)
 
 pub take-opening-spec : {M : Type 1} → statement M
-take-opening-spec = tie.close (tie.spec (search needs) (search needs) add-end (search needs) (search needs) part-take-message-end take-message-requires
-    (search needs) returns)
+take-opening-spec = tie.close (tie.spec (search needs) (search needs) add-end (search needs) (search needs) (λ c. search (needs, packed-end))
+    take-message-requires (search needs) returns)
