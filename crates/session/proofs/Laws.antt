@@ -1,26 +1,23 @@
 -- The promise of each call on a session, from what the call beneath promises.
---   shown-number                    the number that a call shows is its verdict's
---   stays                           what a call with a refusal does not change
---   bars, allows                    what the code's test of the stage says of the row
---   turned, refuses, accepts        any call: 10, another refusal, accepted
---   reply-key-few, finish-key-few   a key has a place of 128 bytes
---   kept-law                        so many bytes of an output, copied into zeros
---   whole, placed                   of an output with so many bytes of an answer: its front is the answer, and has a place of 128
---   Given x c t n key               the call x refuses nothing, shows t, and says that it wrote n bytes of a key into a buffer, which then holds `key`
---   fits, keeps                     these bytes have a place of 128, and are the key of the session that x leads to
---   offer-stops                     what a refusal ahead of Offer shows; so of the others
---   offer-refused, offer-done       Offer: a refusal of the call beneath, and its answer; reply-given, finish-given: so of the others
---   close-moves                     Close
+--   padded-law                   so many bytes of an output, copied into zeros
+--   whole                        of an output with so many bytes of an answer: its front is the answer
+--   shown-number                 the number that a call shows is its verdict's
+--   stays                        what a call with a refusal does not change
+--   bars, allows                 what the code's test of the stage says of the row
+--   turned, refuses, accepts     any call: 10, another refusal, accepted
+--   keeps                        so accepted where n bytes of a key were written into a buffer, which then holds `key`
+--   offer-stops                  what a refusal ahead of Offer shows; so of the others
+--   offer-refused, offer-done    Offer: a refusal of the call beneath, and its answer; so of the others
+--   close-moves                  Close
 use mathlib.Core.{Path._≡_, Path.refl, Path._∙_, Path.sym, Path.ap, List.List, List.[], List._++_}
 use mathlib.Core.Bool.{Bool, true, false, not}
-use Prim.Native.Nat.{ℕ, _-_, _≤_}
+use Prim.Native.Nat.{ℕ, _-_, min}
 use native.Mathlib.Omega.{arith}
 use native.Mathlib.Nat.{sub-zero}
-use lib.{ListN.length, ListN.take, ListN.drop, ListN.length-take, Seq.length-take-le}
+use lib.{ListN.length, ListN.take, ListN.drop, ListN.length-take, Seq.take-all, Seq.take-take}
 use borrow.Author.Tests.{not-true, not-false}
 use Rattle.schemes.specs.{Schemes.schemeOf, declared.Named.Named}
-use Rattle.schemes.specs.declared.Named.the-variants.{Known, Unknown}
-use Rattle.schemes.proofs.Sound.{sound}
+use Rattle.schemes.specs.declared.Named.the-variants.{Unknown}
 use Rattle.lists.proofs.Parts.{drop-same}
 use Rattle.refusals.specs.{Refusals.numberOf, Refusals.numberIn, declared.Answer.Answer}
 use Rattle.refusals.specs.Seen.{ifPassed, Output, output, written, answer, Seen, shown, told, seen}
@@ -29,15 +26,30 @@ use Rattle.refusals.specs.declared.Verdict.{Verdict}
 use Rattle.refusals.specs.declared.Verdict.the-variants.{Pass, Fail}
 use Rattle.refusals.proofs.{Laws.some, Laws.number-zero, Seen.written-answer}
 use Rattle.offer.specs.Offer.{Offer, offerResult}
-use Rattle.reply.specs.Reply.{Reply, ReplyRooms, ReplySeen, replyKey, replyTold, replySeen, outputs, replyResult}
-use Rattle.finish.specs.Finish.{Finish, FinishRooms, FinishSeen, finishKey, finishOf, finishTold, finishSeen, finishShown, finishResult}
+use Rattle.reply.specs.Reply.{Reply, ReplyRooms, ReplySeen, replyTold, replySeen, outputs, replyResult}
+use Rattle.finish.specs.Finish.{Finish, FinishRooms, FinishSeen, finishOf, finishTold, finishSeen, finishShown, finishResult}
 use Rattle.reply.specs.{declared.ReplyAnswer.ReplyAnswer, declared.ReplyCounts.ReplyCounts}
 use Rattle.finish.specs.{declared.FinishCounts.FinishCounts, declared.FinishAnswer.FinishAnswer}
-use Rattle.reply.proofs.Replying.{key-length}
-use Rattle.finish.proofs.Finishing as finishes
 use Rattle.session.specs.declared.Session.{Session}
 use Rattle.session.specs.Table.{Call, offering, replying, finishing, closing, whenIdle, whenOffered, padded, noKey, idle, offered, keyed, row, outcome, step}
 use Rattle.session.specs.Seen.{CallSeen, ofOffer, ofReply, ofFinish, ofClose, number, shownBy, turn, moved}
+
+-- ---- the key in its place
+
+-- c bytes are copied
+pub padded-law : (key place copied : List ℕ) (n c : ℕ) {d : ℕ} → d ≡ min (length key) 128 → c ≡ min n d → place ≡ noKey → copied ≡ take (c - 0) key
+    → copied ++ drop (c - 0) place ≡ padded (take n key)
+unfolding padded noKey
+padded-law key place copied n c g h e f =
+    let l = length-take n key in
+    let few : 128 - c ≡ 128 - length (take n key) = omega (arith, g, h, l) in
+    let front : take c key ≡ take 128 (take n key) =
+    sym (take-take c n key (omega (arith, h))) ∙ sym (take-take c 128 (take n key) (omega (arith, g, h)))
+    ∙ take-all c (take 128 (take n key)) (omega (arith, g, h, l, length-take 128 (take n key))) in
+    rw (e, f, sub-zero c, drop-same {A = ℕ} c 128 0, few, front)
+
+pub whole : (own : List ℕ) (room : ℕ) {v : Verdict} {key : List ℕ} {n : ℕ} → v ≡ Pass → output n key ≡ written v own 0 room → take n key ≡ own
+whole own room p w = ap (λ (o : Output ℕ). answer o) w ∙ written-answer own 0 room p
 
 -- ---- over any call
 
@@ -74,55 +86,15 @@ module _ (y : Session) (x : Call) {t : CallSeen} where
     pub refuses : (r : Refusal) → number t ≡ numberOf r → turn y t ≡ moved y x
     refuses r e = goes (stays (row x .tests) r y (row x .leads) (sym e ∙ verdict))
 
+    passed : number t ≡ 0 → row x .tests ≡ Pass
+    passed e = number-zero (row x .tests) (sym e ∙ verdict)
+
     pub accepts : {z : Session} → number t ≡ 0 → z ≡ row x .leads → turn z t ≡ moved y x
-    accepts e f = goes (rw (number-zero (row x .tests) (sym e ∙ verdict)) f)
+    accepts e f = goes (rw (passed e) f)
 
--- ---- the key in its place
-
-pub reply-key-few : (c : Named) (x : Reply) → length (replyKey c x) ≤ 128
-unfolding replyKey
-reply-key-few Unknown x = omega arith
-reply-key-few (Known c) x = omega (arith, key-length c x, sound c .keys)
-
-pub finish-key-few : (c : Named) (x : Finish) → length (finishKey c x) ≤ 128
-unfolding finishKey
-finish-key-few Unknown x = omega arith
-finish-key-few (Known c) x = omega (arith, finishes.key-length c x, sound c .keys)
-
-pub kept-law : (key place copied : List ℕ) (n : ℕ) → n ≤ 128 → n ≤ length key → place ≡ noKey → copied ≡ take (n - 0) key
-    → copied ++ drop (n - 0) place ≡ padded (take n key)
-unfolding padded noKey
-kept-law key place copied n l m e f = rw (e, f, sub-zero n, drop-same {A = ℕ} n 128 0, length-take-le n key m)
-
-module _ (own : List ℕ) (room : ℕ) {v : Verdict} {key : List ℕ} {n : ℕ} (p : v ≡ Pass) (w : output n key ≡ written v own 0 room) where
-  pub whole : take n key ≡ own
-  whole = ap (λ (o : Output ℕ). answer o) w ∙ written-answer own 0 room p
-
-  count : n ≡ length own
-  unfolding written
-  count = ap (λ (o : Output ℕ). o .count) w ∙ rw p
-
-  pub placed : length own ≤ 128 → (n ≤ 128) × (n ≤ length key)
-  placed few = let l = ap length whole in (omega (arith, count, few), omega (arith, count, length-take n key, l))
-
-pub record Given (x : Call) (c : Named) (t : CallSeen) (n : ℕ) (key : List ℕ) : Type 0 where
-  pub own : List ℕ
-  pub few : length own ≤ 128
-  pub leads : row x .leads ≡ keyed c own
-  pub shows : t ≡ shownBy (row x .tests) x
-  pub accepted : number t ≡ 0
-  pub room : ℕ
-  pub wrote : output n key ≡ written (row x .tests) own 0 room
-
-module _ {x : Call} {c : Named} {t : CallSeen} {n : ℕ} {key : List ℕ} (g : Given x c t n key) where
-  passed : row x .tests ≡ Pass
-  passed = number-zero (row x .tests) (sym (g .accepted) ∙ ap number (g .shows) ∙ shown-number (row x .tests) x)
-
-  pub fits : (n ≤ 128) × (n ≤ length key)
-  fits = placed (g .own) (g .room) passed (g .wrote) (g .few)
-
-  pub keeps : (y : Session) {z : Session} → row x .allowed (y .stage) ≡ true → z ≡ keyed c (take n key) → turn z t ≡ moved y x
-  keeps y a e = accepts y x a (g .shows) (g .accepted) (e ∙ ap (keyed c) (whole (g .own) (g .room) passed (g .wrote)) ∙ sym (g .leads))
+    pub keeps : (c : Named) (own : List ℕ) (room : ℕ) {n : ℕ} {key : List ℕ} {z : Session} → number t ≡ 0 → row x .leads ≡ keyed c own
+        → output n key ≡ written (row x .tests) own 0 room → z ≡ keyed c (take n key) → turn z t ≡ moved y x
+    keeps c own room e l w f = accepts e (f ∙ ap (keyed c) (whole own room (passed e) w) ∙ sym l)
 
 -- ---- Offer
 
@@ -147,26 +119,17 @@ module _ (k : ℕ) (x : Reply) (m : ReplyRooms) where
   unfolding shownBy outputs written
   reply-stops q e = ap ofReply e
 
-  module _ (message key digest : List ℕ) (r : ReplyAnswer) (p : replySeen (replyTold r) message key digest ≡ replyResult (schemeOf k) x m) where
-    pub reply-refused : (y : Session) {q : Refusal} → whenIdle (y .stage) ≡ true → r ≡ ReplyAnswer.Refused q
-        → turn y (ofReply (replySeen (replyTold r) message key digest)) ≡ moved y (replying k x m)
-    unfolding row shownBy number replySeen
-    reply-refused y {q} a e = refuses y (replying k x m) a (ap ofReply p) q (rw e)
+  module _ (y : Session) (a : whenIdle (y .stage) ≡ true)
+      (message key digest : List ℕ) (r : ReplyAnswer) (p : replySeen (replyTold r) message key digest ≡ replyResult (schemeOf k) x m)
+    where
+      pub reply-refused : {q : Refusal} → r ≡ ReplyAnswer.Refused q → turn y (ofReply (replySeen (replyTold r) message key digest)) ≡ moved y (replying k x m)
+      unfolding row shownBy number replySeen
+      reply-refused {q} d = refuses y (replying k x m) a (ap ofReply p) q (rw d)
 
-    pub reply-given : {w : ReplyCounts} → r ≡ ReplyAnswer.Done w
-        → Given (replying k x m) (schemeOf k) (ofReply (replySeen (replyTold (ReplyAnswer.Done w)) message key digest)) (w .key) key
-    unfolding row shownBy number replySeen outputs
-    reply-given e =
-        let d = rw e at p in
-        record {
-          own = replyKey (schemeOf k) x;
-          few = reply-key-few (schemeOf k) x;
-          leads = refl;
-          shows = ap ofReply d;
-          accepted = refl;
-          room = m .key;
-          wrote = ap (λ (t : ReplySeen). t .key) d;
-        }
+      pub reply-done : {w : ReplyCounts} {z : Session} → r ≡ ReplyAnswer.Done w → z ≡ keyed (schemeOf k) (take (w .key) key)
+          → turn z (ofReply (replySeen (replyTold (ReplyAnswer.Done w)) message key digest)) ≡ moved y (replying k x m)
+      unfolding row shownBy number replySeen outputs
+      reply-done d e = let s = rw d at p in keeps y (replying k x m) a (ap ofReply s) (schemeOf k) _ (m .key) refl refl (ap (λ (t : ReplySeen). t .key) s) e
 
 -- ---- Finish
 
@@ -175,26 +138,17 @@ module _ (k : ℕ) (x : Finish) (m : FinishRooms) where
   unfolding shownBy finishShown written
   finish-stops q e = ap ofFinish e
 
-  module _ (key digest : List ℕ) (r : FinishAnswer) (p : finishSeen (finishTold r) key digest ≡ finishResult (schemeOf k) x m) where
-    pub finish-refused : (y : Session) {q : Refusal} → whenOffered k (y .stage) ≡ true → r ≡ FinishAnswer.Refused q
-        → turn y (ofFinish (finishSeen (finishTold r) key digest)) ≡ moved y (finishing k x m)
-    unfolding row shownBy number finishSeen
-    finish-refused y {q} a e = refuses y (finishing k x m) a (ap ofFinish p) q (rw e)
+  module _ (y : Session) (a : whenOffered k (y .stage) ≡ true)
+      (key digest : List ℕ) (r : FinishAnswer) (p : finishSeen (finishTold r) key digest ≡ finishResult (schemeOf k) x m)
+    where
+      pub finish-refused : {q : Refusal} → r ≡ FinishAnswer.Refused q → turn y (ofFinish (finishSeen (finishTold r) key digest)) ≡ moved y (finishing k x m)
+      unfolding row shownBy number finishSeen
+      finish-refused {q} d = refuses y (finishing k x m) a (ap ofFinish p) q (rw d)
 
-    pub finish-given : {w : FinishCounts} → r ≡ FinishAnswer.Done w
-        → Given (finishing k x m) (schemeOf k) (ofFinish (finishSeen (finishTold (FinishAnswer.Done w)) key digest)) (w .key) key
-    unfolding row shownBy number finishSeen finishShown
-    finish-given e =
-        let d = rw e at p in
-        record {
-          own = finishKey (schemeOf k) x;
-          few = finish-key-few (schemeOf k) x;
-          leads = refl;
-          shows = ap ofFinish d;
-          accepted = refl;
-          room = m .key;
-          wrote = ap (λ (t : FinishSeen). t .key) d;
-        }
+      pub finish-done : {w : FinishCounts} {z : Session} → r ≡ FinishAnswer.Done w → z ≡ keyed (schemeOf k) (take (w .key) key)
+          → turn z (ofFinish (finishSeen (finishTold (FinishAnswer.Done w)) key digest)) ≡ moved y (finishing k x m)
+      unfolding row shownBy number finishSeen finishShown
+      finish-done d e = let s = rw d at p in keeps y (finishing k x m) a (ap ofFinish s) (schemeOf k) _ (m .key) refl refl (ap (λ (t : FinishSeen). t .key) s) e
 
 -- ---- Close
 

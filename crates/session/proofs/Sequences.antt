@@ -1,5 +1,6 @@
 -- The theorems of specs/Sequences.
 --   followed, answered, accepted, kept, sounds
+--   kept-by       what a refusal does not change
 --   step-sound    one step
 use mathlib.Core.Path.{_≡_, refl, _∙_, sym, ap, ap₂}
 use mathlib.Core.{Bool.Bool, Bool.true, Bool.false, Bool.cond, List.List, List.[], List._∷_}
@@ -57,7 +58,7 @@ accepted y x e =
     go true a p = refl
     go false a p = let z : _≡_ {A = ℕ} 0 1 = cc in absurd (omega arith)
 
-kept-by : (v : Verdict) (y z : Session) → (numberIn v ≡ 0 → ⊥) → ifPassed v z y ≡ y
+pub kept-by : {A : Type 0} (v : Verdict) (y z : A) → (numberIn v ≡ 0 → ⊥) → ifPassed v z y ≡ y
 kept-by Pass y z n = absurd (n refl)
 kept-by (Fail r) y z n = refl
 

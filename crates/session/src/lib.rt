@@ -3,8 +3,8 @@
 // agreement nothing is used but what its calls promise.
 ghost use mathlib.Core.Path.{_≡_};
 ghost use mathlib.Core.List.{[]};
-ghost use Prim.Native.Nat.{_≤_};
-ghost use lib.ListN.{length, take};
+ghost use Prim.Native.Nat.{min};
+ghost use lib.ListN.{take};
 ghost use Rattle.schemes.specs.Schemes.{schemeOf};
 ghost use Rattle.lists.specs.Lent.{was, left, room};
 ghost use Rattle.schemes.specs.declared.Named.the-variants.{Unknown};
@@ -13,6 +13,7 @@ ghost use Rattle.refusals.specs.declared.Verdict.the-variants.{Fail};
 ghost use Rattle.offer.specs.Offer as offers;
 ghost use Rattle.reply.specs.Reply as replies;
 ghost use Rattle.finish.specs.Finish as finishes;
+ghost use Rattle.finish.specs.Finish.{finishOf, finishRooms, finishSeen, finishShown, finishTold};
 ghost use Rattle.session.specs.Table.{offering, replying, finishing, closing, whenIdle, whenOffered, padded, noKey};
 ghost use Rattle.session.specs.Table as table;
 ghost use Rattle.session.specs.Seen.{ofOffer, ofReply, ofFinish, ofClose, turn, moved};
@@ -104,19 +105,27 @@ pub fn offered(scheme: u32) -> Session
     }
 }
 
-// The first n bytes of an output in the key's place of 128.
-fn kept(key: &[u8], n: usize) -> [u8; 128]
-    requires { ⌜ (n ≤ 128) × (n ≤ length (now key)) ⌝ }
+fn smaller(a: usize, b: usize) -> usize
+    ensures { λ r. ⌜ r ≡ min a b ⌝ }
+{
+    if a < b {
+        return a;
+    }
+    b
+}
+
+// The first n bytes of an output in the key's place of 128, as far as there are so many and the place takes them.
+fn padded_key(key: &[u8], n: usize) -> [u8; 128]
     ensures { λ r. ⌜ r ≡ padded (take n (was key)) ⌝ }
 {
     let mut place = no_key();
-    lists::copy_bytes(&key[0..n], &mut place[0..n]);
+    let count = smaller(n, smaller(key.len(), 128));
+    lists::copy_bytes(&key[0..count], &mut place[0..count]);
     place
 }
 
 // The session after a Reply or a Finish that nothing refused, with the first n bytes that it wrote as its key.
 pub fn keyed(scheme: u32, key: &[u8], n: usize) -> Session
-    requires { ⌜ (n ≤ 128) × (n ≤ length (now key)) ⌝ }
     ensures { λ r. ⌜ r ≡ table.keyed (schemeOf scheme) (take n (was key)) ⌝ }
 {
     let Named::Known(known) = schemes::scheme_of(scheme) else {
@@ -124,7 +133,7 @@ pub fn keyed(scheme: u32, key: &[u8], n: usize) -> Session
     };
     Session {
         stage: Stage::Keyed(known),
-        key: kept(key, n),
+        key: padded_key(key, n),
     }
 }
 
@@ -157,8 +166,7 @@ pub fn stop_reply(
 // Of Finish, in which a refusal shows the same whatever the scheme and the inputs are.
 pub fn stop_finish(refusal: Refusal, key: &mut [u8], digest: &mut [u8]) -> FinishAnswer
     ensures { λ r. ⌜
-        finishes.finishSeen (finishes.finishTold r) (left key) (left digest)
-        ≡ finishes.finishShown (Fail refusal) Unknown (finishes.finishOf [] []) (finishes.finishRooms key digest)
+        finishSeen (finishTold r) (left key) (left digest) ≡ finishShown (Fail refusal) Unknown (finishOf [] []) (finishRooms key digest)
         ⌝ }
 {
     lists::zero_bytes(key);
@@ -239,8 +247,8 @@ pub fn finish(
     digest: &mut [u8],
 ) -> FinishMoved
     ensures { λ r. ⌜
-        turn (r .session) (ofFinish (finishes.finishSeen (finishes.finishTold (r .answer)) (left key) (left digest)))
-        ≡ moved session (finishing scheme (finishes.finish reply s) (finishes.finishRooms key digest))
+        turn (r .session) (ofFinish (finishSeen (finishTold (r .answer)) (left key) (left digest)))
+        ≡ moved session (finishing scheme (finishes.finish reply s) (finishRooms key digest))
         ⌝ }
 {
     let stage = session.stage;

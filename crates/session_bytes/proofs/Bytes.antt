@@ -7,7 +7,7 @@ use mathlib.Core.List.{List, [], _∷_, _++_}
 use Prim.Native.Nat.{ℕ, suc, _-_, _≤_}
 use native.Mathlib.Omega.{arith}
 use lib.ListN.{length, getD, take, drop, replicate, length-replicate, length-append, length-drop, take-append-drop}
-use lib.Seq.{drop-at, length-take-le}
+use lib.Seq.{drop-at, length-take-le, take-all}
 use borrow.Author.Tests.{eq-eqb}
 use Rattle.schemes.specs.Schemes.{fixedOf}
 use Rattle.schemes.specs.declared.Scheme.the-variants.{Bcns, NewHope, Challenge, Classical, Recommended, Paranoid}
@@ -38,19 +38,23 @@ none-shaped : (key : List ℕ) → key ≡ noKey → (length key ≡ 128) × (bl
 unfolding noKey
 none-shaped key e = (ap length e ∙ length-replicate {A = ℕ} 128 0, ap blank e ∙ blank-zeros 128)
 
-holds-shaped : (st : Stage) (key : List ℕ) → Holds st key → Shaped st key
+padded-few : (key : List ℕ) → length key ≤ 128 → padded key ≡ key ++ replicate (128 - length key) 0
 unfolding padded
+padded-few key h = ap (λ (ks : List ℕ). ks ++ replicate (128 - length key) 0) (take-all 128 key h)
+
+holds-shaped : (st : Stage) (key : List ℕ) → Holds st key → Shaped st key
 holds-shaped Idle key h = let s = none-shaped key h in record { long = s .0; behind = s .1 }
 holds-shaped (Offered c) key h = let s = none-shaped key h in record { long = s .0; behind = s .1 }
 holds-shaped (Keyed c) key (fits k l e) =
     let few = sound c .keys in
+    let p = e ∙ padded-few k (omega (arith, few, l)) in
     record {
-      long = ap length e ∙ length-append k (replicate (128 - length k) 0) ∙ omega (arith, length-replicate {A = ℕ} (128 - length k) 0, few, l);
-      behind = ap (λ (xs : List ℕ). blank (drop (fixedOf c .key) xs)) e ∙ ap blank (drop-at k (replicate (128 - length k) 0) (fixedOf c .key) l) ∙ blank-zeros (128 - length k);
+      long = ap length p ∙ length-append k (replicate (128 - length k) 0) ∙ omega (arith, length-replicate {A = ℕ} (128 - length k) 0, few, l);
+      behind = ap (λ (xs : List ℕ). blank (drop (fixedOf c .key) xs)) p ∙ ap blank (drop-at k (replicate (128 - length k) 0) (fixedOf c .key) l) ∙ blank-zeros (128 - length k);
     }
 
 shaped-holds : (st : Stage) (key : List ℕ) → Shaped st key → Holds st key
-unfolding noKey padded
+unfolding noKey
 shaped-holds Idle key s = zeros-blank key (s .behind) ∙ ap (λ (n : ℕ). replicate n 0) (s .long)
 shaped-holds (Offered c) key s = zeros-blank key (s .behind) ∙ ap (λ (n : ℕ). replicate n 0) (s .long)
 shaped-holds (Keyed c) key s =
@@ -59,7 +63,8 @@ shaped-holds (Keyed c) key s =
     let l : length (take n key) ≡ n = length-take-le n key few in
     let r : length (drop n key) ≡ 128 - length (take n key) = length-drop n key ∙ omega (arith, s .long, l) in
     fits (take n key) l
-    (sym (take-append-drop n key) ∙ ap (λ (xs : List ℕ). take n key ++ xs) (zeros-blank (drop n key) (s .behind) ∙ ap (λ (m : ℕ). replicate m 0) r))
+    (sym (take-append-drop n key) ∙ ap (λ (xs : List ℕ). take n key ++ xs) (zeros-blank (drop n key) (s .behind) ∙ ap (λ (m : ℕ). replicate m 0) r)
+    ∙ sym (padded-few (take n key) (omega (arith, sound c .keys, l))))
 
 -- ---- taken back
 

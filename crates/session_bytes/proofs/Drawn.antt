@@ -1,16 +1,16 @@
 -- Open and answer on a session in bytes, from what the calls beneath promise.
 --   idle-long                             an idle session has 130 bytes
 --   open-stops, open-refused, open-done   open: 10, a refusal of the call beneath, and its answer
---   answer-stops, answer-refused, answer-done   so of answer; answer-fits: its key has a place of 128 bytes
+--   answer-stops, answer-refused, answer-done   so of answer
 --   opens, answers, kept                  the theorems of specs/Drawn
 use mathlib.Core.{Path._≡_, Path.refl, Path._∙_, Path.sym, Path.ap, List.List, List.[]}
 use mathlib.Core.Bool.{true, false, cond}
-use Prim.Native.Nat.{ℕ, _≤_}
+use Prim.Native.Nat.{ℕ}
 use native.Mathlib.Omega.{arith}
 use lib.{ListN.length, ListN.take, IntN.ℤ}
-use Rattle.schemes.specs.{Schemes.schemeOf, declared.Named.Named}
+use Rattle.schemes.specs.Schemes.{schemeOf}
 use Rattle.schemes.specs.declared.Named.the-variants.{Unknown}
-use Rattle.refusals.specs.{Refusals.numberIn, Seen.ifPassed, Seen.output, Seen.written, Seen.shown}
+use Rattle.refusals.specs.{Seen.ifPassed, Seen.written, Seen.shown}
 use Rattle.refusals.specs.{declared.Refusal.Refusal, declared.Refusal.the-variants.OutOfStage}
 use Rattle.refusals.specs.declared.Verdict.{Verdict}
 use Rattle.refusals.specs.declared.Verdict.the-variants.{Pass, Fail}
@@ -25,7 +25,7 @@ use Rattle.exchange.specs.{declared.OpenCounts.OpenCounts, declared.OpenAnswer.
 use Rattle.session.specs.declared.Stage.the-variants.{Idle, Offered, Keyed}
 use Rattle.session.specs.{declared.Session.Session, Seen.shownBy, Seen.moved}
 use Rattle.session.specs.Table.{offered, keyed, row, outcome, step}
-use Rattle.session.proofs.Laws.{stays, reply-key-few, whole, placed}
+use Rattle.session.proofs.{Laws.stays, Laws.whole, Sequences.kept-by}
 use Rattle.session_bytes.specs.declared.Found.{Found}
 use Rattle.session_bytes.specs.declared.Found.the-variants.{At, Nowhere}
 use Rattle.session_bytes.specs.Bytes.{bytesOf, staged, movedBytes}
@@ -80,27 +80,6 @@ module _ (bs : List ℕ) (k : ℕ) (r : Ruled) (x : OpenLent) (m : OpenRooms) wh
 
 -- ---- answer
 
--- an answer that refuses nothing
-module _ (c : Named) (r : Ruled) (x : AnswerLent) (m : ReplyRooms) (message key digest : List ℕ) (w : ReplyAnswer) {n : ReplyCounts}
-    (p : replySeen (replyTold w) message key digest ≡ answerResult c r x m) (e : w ≡ ReplyAnswer.Done n)
-  where
-    told : replySeen (replyTold (ReplyAnswer.Done n)) message key digest ≡ answerResult c r x m
-    told = rw e at p
-
-    passed : answerTests c r x m ≡ Pass
-    unfolding replySeen outputs
-    passed = number-zero (answerTests c r x m) (ap (λ (t : ReplySeen). t .number) told)
-
-    wrote : output (n .key) key ≡ written (answerTests c r x m) (replyKey c (answerReply c r x)) 0 (m .key)
-    unfolding replySeen outputs
-    wrote = ap (λ (t : ReplySeen). t .key) told
-
-    pub answer-fits : (n .key ≤ 128) × (n .key ≤ length key)
-    answer-fits = placed (replyKey c (answerReply c r x)) (m .key) passed wrote (reply-key-few c (answerReply c r x))
-
-    own : take (n .key) key ≡ replyKey c (answerReply c r x)
-    own = whole (replyKey c (answerReply c r x)) (m .key) passed wrote
-
 module _ (bs : List ℕ) (k : ℕ) (r : Ruled) (x : AnswerLent) (m : ReplyRooms) where
   abbrev leads : List ℕ
   leads = bytesOf (keyed (schemeOf k) (replyKey (schemeOf k) (answerReply (schemeOf k) r x)))
@@ -124,12 +103,12 @@ module _ (bs : List ℕ) (k : ℕ) (r : Ruled) (x : AnswerLent) (m : ReplyRooms)
 
       pub answer-done : {n : ReplyCounts} {z : Session} {cs : List ℕ} → w ≡ ReplyAnswer.Done n → z ≡ keyed (schemeOf k) (take (n .key) key) → cs ≡ bytesOf z
           → drawn cs (replySeen (replyTold (ReplyAnswer.Done n)) message key digest) ≡ answerMoved bs k r x m
-      unfolding answerMoved
+      unfolding answerMoved replySeen outputs
       answer-done e f l =
-          let h = told (schemeOf k) r x m message key digest w p e in
-          let o = own (schemeOf k) r x m message key digest w p e in
-          let v = passed (schemeOf k) r x m message key digest w p e in
-          goes bs (answerTests (schemeOf k) r x m) leads shows a h (l ∙ ap bytesOf (f ∙ ap (keyed (schemeOf k)) o) ∙ rw v)
+          let h = rw e at p in
+          let v = number-zero (answerTests (schemeOf k) r x m) (ap (λ (t : ReplySeen). t .number) h) in
+          let own = whole (replyKey (schemeOf k) (answerReply (schemeOf k) r x)) (m .key) v (ap (λ (t : ReplySeen). t .key) h) in
+          goes bs (answerTests (schemeOf k) r x m) leads shows a h (l ∙ ap bytesOf (f ∙ ap (keyed (schemeOf k)) own) ∙ rw v)
 
 -- ---- in the rows of Offer and Reply
 
@@ -159,11 +138,7 @@ answers bs k r x m b z =
     let q = ahead-passed bs (answerTests (schemeOf k) r x m) p in
     rw (p, q .0, answer-replies (schemeOf k) r x m b (q .1))
 
-refused-stays : (v : Verdict) (bs cs : List ℕ) → (numberIn v ≡ 0 → ⊥) → ifPassed v cs bs ≡ bs
-refused-stays Pass bs cs n = absurd (n refl)
-refused-stays (Fail r) bs cs n = refl
-
 pub kept : Stays
 unfolding openMoved openShown answerMoved outputs
 kept bs k r =
-    (λ x m n. refused-stays (ahead bs (openTests (schemeOf k) r x m)) bs _ n, λ x m n. refused-stays (ahead bs (answerTests (schemeOf k) r x m)) bs _ n)
+    (λ x m n. kept-by (ahead bs (openTests (schemeOf k) r x m)) bs _ n, λ x m n. kept-by (ahead bs (answerTests (schemeOf k) r x m)) bs _ n)
