@@ -1,3 +1,3 @@
 pub mod Linked
 pub mod Meeting
-pub mod Drawn
+pub mod FromRandom

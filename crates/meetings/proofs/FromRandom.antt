@@ -1,7 +1,7 @@
--- The theorems of specs/Drawn: open and answer that refuse nothing have run Offer and Reply on what the random bytes make.
+-- The theorems of specs/FromRandom: open and answer that refuse nothing have run Offer and Reply on what the random bytes make.
 --   opening-is, secret-is, message-is, key-is, digest-is   what they wrote is Offer's and Reply's; peer-is, peer-digest: what Finish writes then
 --   sendable          what the random bytes make is sendable
---   drawn-finishes, drawn   as specs/Drawn states them
+--   drawn-finishes, drawn   as specs/FromRandom states them
 use mathlib.Core.{Path._≡_, Path._∙_, Path.sym, Path.ap, List.List}
 use Prim.Native.Nat.{ℕ, _≤_}
 use lib.ListN.{length}
@@ -26,7 +26,7 @@ use Rattle.sponge.specs.Sponge.{sha3}
 use Rattle.exchange.specs.{Random.publicFrom, Answer.answerReply, Answer.answerTests}
 use Rattle.exchange.specs.Open.{OpenSeen, openOffer, openTests, openShown}
 use Rattle.exchange.proofs.Shown.{open-offers, answer-replies}
-use Rattle.meetings.specs.Drawn.{Lendings, opening, answering, runOf, Opened, finishOn, Drawn, DrawnFinishes}
+use Rattle.meetings.specs.FromRandom.{Lendings, opening, answering, runOf, Opened, finishOn, Drawn, DrawnFinishes}
 
 module _ (c : Scheme) (k : Ruled) (x : Lendings) (t : Opened c k x) (b : Below 256 (x .random)) (b' : Below 256 (x .random')) where
   abbrev o : Offer
