@@ -1,14 +1,15 @@
 -- The theorems of specs/FromRandom: open and answer that refuse nothing have run Offer and Reply on what the random bytes make.
---   opening-is, secret-is, message-is, key-is, digest-is   what they wrote is Offer's and Reply's; peer-is, peer-digest: what Finish writes then
+--   opening-is, secret-is, message-is   what they wrote is Offer's and Reply's
 --   sendable          what the random bytes make is sendable
+--   replied-is, finished-is   with Finish they are the calls of an exchange
 --   drawn-finishes, drawn   as specs/FromRandom states them
-use mathlib.Core.{Path._≡_, Path._∙_, Path.sym, Path.ap, List.List}
-use Prim.Native.Nat.{ℕ, _≤_}
+use mathlib.Core.{Path._≡_, Path.refl, Path._∙_, Path.sym, Path.ap, List.List}
+use Prim.Native.Nat.{ℕ}
 use lib.ListN.{length}
 use Rattle.schemes.specs.{Schemes.fixedOf, declared.Named.the-variants.Known}
 use Rattle.schemes.specs.declared.Scheme.{Scheme}
 use Rattle.lists.specs.Ranges.{Below}
-use Rattle.refusals.specs.{Refusals.numberIn, Seen.answer, declared.Verdict.the-variants.Pass}
+use Rattle.refusals.specs.{Refusals.numberIn, Seen.answer, Seen.shown, declared.Verdict.the-variants.Pass}
 use Rattle.refusals.proofs.{Laws.number-zero, Laws.both, Seen.written-answer}
 use Rattle.noise.specs.declared.Ruled.{Ruled}
 use Rattle.values.proofs.Ranges.{offered-counted}
@@ -17,16 +18,17 @@ use Rattle.wire.proofs.Travel.{seed-back}
 use Rattle.offer.specs.Offer.{Offer, offerTests, offerMessage}
 use Rattle.offer.specs.Inside.{offerLengths, offerIn}
 use Rattle.offer.proofs.Offering.{offer-opens}
-use Rattle.reply.specs.Reply.{Reply, ReplySeen, replyOf, replyMessage, replyKey, replyDigest, outputs}
-use Rattle.finish.specs.Finish.{FinishRooms, FinishSeen, finishTests, finishKey, finishShown}
-use Rattle.agreement.specs.{Run.Run, Run.replying, Run.finishing, Exchange.Sendable}
-use Rattle.agreement.proofs.Meeting.{own-published, keys-meet}
+use Rattle.reply.specs.Reply.{Reply, ReplySeen, replyOf, replyTests, replyMessage, replyKey, replyDigest, outputs, replyResult}
+use Rattle.finish.specs.Finish.{FinishRooms, finishShown, finishResult}
+use Rattle.agreement.specs.{Run.Run, Run.replyTo, Run.replying, Run.finishWith, Agreement.Near}
+use Rattle.agreement.specs.Exchange.{Sendable, Rooms, offers}
 use Rattle.agreement.proofs.Tests.{sendable-by, finish-passes}
-use Rattle.sponge.specs.Sponge.{sha3}
 use Rattle.exchange.specs.{Random.publicFrom, Answer.answerReply, Answer.answerTests}
 use Rattle.exchange.specs.Open.{OpenSeen, openOffer, openTests, openShown}
 use Rattle.exchange.proofs.Shown.{open-offers, answer-replies}
 use Rattle.meetings.specs.FromRandom.{Lendings, opening, answering, runOf, Opened, finishOn, Drawn, DrawnFinishes}
+use Rattle.meetings.specs.Meeting.{Agreed}
+use Rattle.meetings.proofs.Linked.{agreed}
 
 module _ (c : Scheme) (k : Ruled) (x : Lendings) (t : Opened c k x) (b : Below 256 (x .random)) (b' : Below 256 (x .random')) where
   abbrev o : Offer
@@ -81,52 +83,37 @@ module _ (c : Scheme) (k : Ruled) (x : Lendings) (t : Opened c k x) (b : Below 2
   unfolding outputs
   message-is = ap (λ (s : ReplySeen). answer (s .message)) answered ∙ written-answer _ 0 _ answer-passed ∙ ap (replyMessage (Known c)) reply-is
 
-  key-is : answer (t .reply .key) ≡ replyKey (Known c) (replying c run)
-  unfolding outputs
-  key-is = ap (λ (s : ReplySeen). answer (s .key)) answered ∙ written-answer _ 0 _ answer-passed ∙ ap (replyKey (Known c)) reply-is
-
-  digest-is : answer (t .reply .digest) ≡ sha3 (replyKey (Known c) (replying c run))
-  unfolding outputs
-  digest-is = ap (λ (s : ReplySeen). answer (s .digest)) answered ∙ written-answer _ 0 _ answer-passed ∙ ap (replyDigest (Known c)) reply-is
+  reply-passed : replyTests (Known c) y (t .reply-rooms) ≡ Pass
+  reply-passed = answer-replies (Known c) k (answering x (offerMessage (Known c) o)) (t .reply-rooms) b' answer-passed
 
   sendable : Sendable c run
   unfolding runOf
-  sendable =
-      let r = answer-replies (Known c) k (answering x (offerMessage (Known c) o)) (t .reply-rooms) b' answer-passed in
-      sendable-by c run (t .open-rooms .opening) (t .reply-rooms) (offerMessage (Known c) o) offer-passed (rw reply-is at r)
+  sendable = sendable-by c run (t .open-rooms .opening) (t .reply-rooms) (offerMessage (Known c) o) offer-passed (rw reply-is at reply-passed)
 
   module _ (m : FinishRooms) where
-    finish-is : finishOn t m ≡ finishShown (finishTests (Known c) (finishing c run) m) (Known c) (finishing c run) m
+    abbrev rooms : Rooms
+    rooms = record { offer = t .open-rooms .opening; reply = t .reply-rooms; finish = m }
+
+    sent : answer (offers c run rooms .out) ≡ offerMessage (Known c) o
+    unfolding runOf shown
+    sent = written-answer _ 0 _ offer-passed
+
+    replied-is : t .reply ≡ replyResult (Known c) (replyTo run (answer (offers c run rooms .out))) (t .reply-rooms)
     unfolding runOf
-    finish-is = rw (message-is, secret-is)
+    replied-is = answered ∙ rw (answer-passed, sent, ← reply-is, reply-passed)
 
-    pub finishes : fixedOf c .key ≤ m .key → 32 ≤ m .digest → finishOn t m .number ≡ 0
-    unfolding finishShown
-    finishes h j = ap (λ (s : FinishSeen). s .number) finish-is ∙ ap numberIn (finish-passes c run sendable m h j)
+    finished-is : finishOn t m ≡ finishResult (Known c) (finishWith run (answer (t .reply .message))) m
+    unfolding runOf
+    finished-is = rw secret-is
 
-    -- where it refuses nothing
-    module _ (z : finishOn t m .number ≡ 0) where
-      finish-passed : finishTests (Known c) (finishing c run) m ≡ Pass
-      unfolding finishShown
-      finish-passed = number-zero _ (sym z ∙ ap (λ (s : FinishSeen). s .number) finish-is)
-
-      pub peer-is : answer (finishOn t m .key) ≡ finishKey (Known c) (finishing c run)
-      unfolding finishShown
-      peer-is = ap (λ (s : FinishSeen). answer (s .key)) finish-is ∙ written-answer _ 0 _ finish-passed
-
-      pub peer-digest : answer (finishOn t m .digest) ≡ sha3 (finishKey (Known c) (finishing c run))
-      unfolding finishShown
-      peer-digest = ap (λ (s : FinishSeen). answer (s .digest)) finish-is ∙ written-answer _ 0 _ finish-passed
+    pub same : finishOn t m .number ≡ 0 → Near c run → Agreed c run (t .reply) (finishOn t m)
+    unfolding runOf shown
+    same z near = agreed c run rooms refl replied-is finished-is (ap numberIn offer-passed) (t .reply-accepted) z near
 
 pub drawn-finishes : DrawnFinishes
-drawn-finishes c k x t m b b' h j = finishes c k x t b b' m h j
+unfolding finishShown runOf
+drawn-finishes c k x t m b b' h j =
+    rw (message-is c k x t b b', secret-is c k x t b b') (ap numberIn (finish-passes c (runOf c k x) (sendable c k x t b b') m h j))
 
 pub drawn : Drawn
-drawn c k x t m b b' z near =
-    let r = sendable c k x t b b' .ranged in
-    let meet = keys-meet c (runOf c k x) r near in
-    let own = key-is c k x t b b' in (
-      own ∙ meet ∙ sym (peer-is c k x t b b' m z),
-      own ∙ own-published c (runOf c k x) r,
-      digest-is c k x t b b' ∙ ap sha3 meet ∙ sym (peer-digest c k x t b b' m z),
-    )
+drawn c k x t m b b' z near = same c k x t b b' m z near

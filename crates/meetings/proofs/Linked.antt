@@ -1,6 +1,6 @@
 -- The theorems of specs/Linked, of sessions by value: two that refuse nothing have run an exchange.
 --   went, goes     a call that refuses nothing goes as the table says and shows what the call beneath promises; and back
---   replied, finished, exchanged   what is seen of three calls of which each takes what the one before wrote, and their exchange
+--   exchanged      three calls of which each takes what the one before wrote are an exchange; agreed: so that both boxes agree
 --   asked          what a link has asked of its sessions, rooms and inputs
 --   link           a link of two idle sessions
 --   linking, same-key   as specs/Linked states them
@@ -18,13 +18,14 @@ use Rattle.agreement.specs.Run.{Run}
 use Rattle.agreement.specs.Run as inputs
 use Rattle.agreement.specs.Exchange.{Sendable, Rooms, Enough, Exchange}
 use Rattle.agreement.specs.Exchange as exchange
-use Rattle.agreement.proofs.Accepted.{gave, none-refused}
+use Rattle.agreement.specs.Agreement.{Near}
+use Rattle.agreement.proofs.{Accepted.gave, Accepted.none-refused, Agreement.agreement}
 use Rattle.agreement.proofs.Meeting.{own-published, keys-meet}
 use Rattle.session.specs.{declared.Stage.Stage, declared.Session.Session, Sequences.beneath}
 use Rattle.session.specs.Table.{Call, offering, replying, finishing, whenIdle, row, keyed}
 use Rattle.session.specs.Seen.{CallSeen, ofOffer, ofReply, ofFinish, number, Turn, turn, moved}
 use Rattle.session.proofs.Sequences.{answered, accepted}
-use Rattle.meetings.specs.Linked.{Link, linkedBy, Linking, SameKey}
+use Rattle.meetings.specs.{Linked.Link, Linked.linkedBy, Linked.Linking, Linked.SameKey, Meeting.Agreed}
 
 -- ---- three calls
 
@@ -45,6 +46,12 @@ module _ (c : Scheme) (x : Run) (m : Rooms) {o : Seen ℕ} {r : ReplySeen} {f : 
         reply-accepted = sym (ap (λ (s : ReplySeen). s .number) replied) ∙ b;
         finish-accepted = sym (ap (λ (s : FinishSeen). s .number) finished) ∙ d;
       }
+
+  pub agreed : o .number ≡ 0 → r .number ≡ 0 → f .number ≡ 0 → Near c x → Agreed c x r f
+  unfolding exchanged
+  agreed a b d near =
+      let k = agreement c x (exchanged a b d) near in
+      rw (replied, finished) (record { same = k .same; published = k .published; digests = k .digests })
 
 -- ---- a call on a session
 

@@ -17,14 +17,14 @@ use Rattle.offer.specs.Offer.{offerOf, offerTests, offerMessage, offerResult}
 use Rattle.reply.specs.Reply.{ReplyRooms, ReplySeen, replyOf, replyTests, outputs, replyResult}
 use Rattle.agreement.specs.Run.{Run, offering, replyTo}
 use Rattle.agreement.specs.Exchange.{Exchange, offers, replies, finishes}
-use Rattle.agreement.proofs.{Accepted.accepted, Agreement.agreement}
+use Rattle.agreement.proofs.Accepted.{accepted}
 use Rattle.agreement.proofs.Tests.{offer-passes, reply-passes}
 use Rattle.rows.specs.{Offer.OfferBegin, Offer.offerBeginOf, Reply.ReplyBegin, Reply.replyBeginOf}
 use Rattle.rows.specs.Runs.{OfferRun, ReplyRun}
 use Rattle.rows.proofs.Offers.{same-offer, early-offer, offer-taken}
 use Rattle.rows.proofs.Replies.{same-reply, early-reply, reply-taken}
 use Rattle.meetings.specs.Meeting.{Meeting, ByRows, Reached, EveryCut}
-use Rattle.meetings.proofs.Linked.{replied, finished, exchanged}
+use Rattle.meetings.proofs.Linked.{exchanged, agreed}
 
 offer-early : (n : ℕ) {t : Seen ℕ} → t ≡ shown (Fail OutOfTurn) [] 0 n → t .number ≡ 11
 unfolding shown
@@ -67,22 +67,13 @@ module _ (c : Scheme) (frodo : familyOf c ≡ Family.Frodo) where
     offer-is : t .offer ≡ offers c x (t .rooms)
     offer-is = offer-by (t .offers)
 
-    reply-is : t .reply ≡ replies c x (t .rooms)
-    reply-is = replied c x (t .rooms) offer-is (reply-by (t .replies)) (t .finishes)
-
-    finish-is : t .finish ≡ finishes c x (t .rooms)
-    finish-is = finished c x (t .rooms) offer-is (reply-by (t .replies)) (t .finishes)
-
     exchange : Exchange c x
     exchange = exchanged c x (t .rooms) offer-is (reply-by (t .replies)) (t .finishes) (t .offer-accepted) (t .reply-accepted) (t .finish-accepted)
 
 pub by-rows : ByRows
-unfolding exchange exchanged
 by-rows c x frodo b none t near =
-    let k = agreement c x (exchange c frodo x b none t) near in
-    let r = reply-is c frodo x b none t in
-    let f = finish-is c frodo x b none t in
-    record { same = rw (r, f) (k .same); published = rw r (k .published); digests = rw (r, f) (k .digests) }
+    agreed c x (t .rooms) (offer-is c frodo x b none t) (reply-by c frodo x b none t (t .replies)) (t .finishes)
+    (t .offer-accepted) (t .reply-accepted) (t .finish-accepted) near
 
 meeting : {c : Scheme} {x : Run} → Exchange c x → Meeting c x
 meeting {c} {x} t =

@@ -4,8 +4,7 @@
 --   runOf c k x         the inputs that the random bytes make
 --   Opened c k x        open in the one box and answer in the other, on the opening as open wrote it, and none refused
 --   finishOn t m        Finish in the first, of the reply as answer wrote it and the s that open gave, in the rooms m
---   Drawn               the demand: where Finish refuses nothing either, and what the random bytes make is near, both keys are equal, and are the published bits;
---                       so are both digests
+--   Drawn               the demand: where Finish refuses nothing either, and what the random bytes make is near, both boxes agree
 --   DrawnFinishes       with enough room Finish then refuses nothing
 use mathlib.Core.{Path._≡_, List.List}
 use Prim.Native.Nat.{ℕ, _≤_}
@@ -17,9 +16,10 @@ use Rattle.noise.specs.declared.Ruled.{Ruled}
 use Rattle.offer.specs.Offer.{offerMessage}
 use Rattle.reply.specs.Reply.{ReplyRooms, ReplySeen}
 use Rattle.finish.specs.Finish.{FinishRooms, FinishSeen, finishOf, finishResult}
-use Rattle.agreement.specs.{Run.Run, Agreement.Near, Agreement.publishedKey}
+use Rattle.agreement.specs.{Run.Run, Agreement.Near}
 use Rattle.exchange.specs.Open.{OpenLent, OpenRooms, OpenSeen, openLentOf, openOffer, openResult}
 use Rattle.exchange.specs.Answer.{AnswerLent, answerLentOf, answerReply, answerResult}
+use Rattle.meetings.specs.Meeting.{Agreed}
 
 pub record Lendings : Type 0 where
   pub a : List ℕ
@@ -59,9 +59,7 @@ finishOn {c} t m = finishResult (Known c) (finishOf (answer (t .reply .message))
 abbrev pub Drawn : Type 0
 Drawn =
     (c : Scheme) (k : Ruled) (x : Lendings) (t : Opened c k x) (m : FinishRooms) → Below 256 (x .random) → Below 256 (x .random')
-    → finishOn t m .number ≡ 0 → Near c (runOf c k x)
-    → (answer (t .reply .key) ≡ answer (finishOn t m .key)) × (answer (t .reply .key) ≡ publishedKey c (runOf c k x))
-    × (answer (t .reply .digest) ≡ answer (finishOn t m .digest))
+    → finishOn t m .number ≡ 0 → Near c (runOf c k x) → Agreed c (runOf c k x) (t .reply) (finishOn t m)
 
 abbrev pub DrawnFinishes : Type 0
 DrawnFinishes =

@@ -1,6 +1,6 @@
 -- Demand 3 over the joined matrix: 02, request e. Of the two boxes of an exchange in Frodo each goes by whole matrix or by rows, all by what the calls promise.
 --   Meeting c x      as `Exchange` of crate `agreement`, with Offer and Reply each whole or by rows, where the accepted parts join into the a of x
---   Agreed t         both keys are equal, and are the published bits; so are both digests
+--   Agreed c x r f   of what is seen of Reply and Finish: both keys are equal, and are the published bits; so are both digests
 --   ByRows           the demand, of every one of Frodo's schemes
 --   Reached          the inputs of a meeting are sendable, and on any such there is a meeting
 --   EveryCut         on any such, in any parts that do not run past the end of their row and join into A, both boxes go by rows from begin to end and nothing is
@@ -39,16 +39,16 @@ pub record Meeting (c : Scheme) (x : Run) : Type 0 where
   pub finishes : finish ≡ finishResult (Known c) (finishWith x (answer (reply .message))) (rooms .finish)
   pub finish-accepted : finish .number ≡ 0
 
-pub record Agreed {c : Scheme} {x : Run} (t : Meeting c x) : Type 0 where
-  pub same : answer (t .reply .key) ≡ answer (t .finish .key)
-  pub published : answer (t .reply .key) ≡ publishedKey c x
-  pub digests : answer (t .reply .digest) ≡ answer (t .finish .digest)
+pub record Agreed (c : Scheme) (x : Run) (r : ReplySeen) (f : FinishSeen) : Type 0 where
+  pub same : answer (r .key) ≡ answer (f .key)
+  pub published : answer (r .key) ≡ publishedKey c x
+  pub digests : answer (r .digest) ≡ answer (f .digest)
 
 -- ---- what is shown; Frodo has no coins, and a seed is bytes
 
 abbrev pub ByRows : Type 0
 ByRows =
-    (c : Scheme) (x : Run) → familyOf c ≡ Family.Frodo → Below 256 (x .seed) → x .coins ≡ [] → (t : Meeting c x) → Near c x → Agreed t
+    (c : Scheme) (x : Run) → familyOf c ≡ Family.Frodo → Below 256 (x .seed) → x .coins ≡ [] → (t : Meeting c x) → Near c x → Agreed c x (t .reply) (t .finish)
 
 abbrev pub Reached : Type 0
 Reached = (c : Scheme) (x : Run) → familyOf c ≡ Family.Frodo → Below 256 (x .seed) → x .coins ≡ [] → Meeting c x ↔ Sendable c x
