@@ -2,35 +2,37 @@
 --   begin-sizes                  the sizes of begin, one test after the other
 --   OfferSized, begin-sized      what passed tests of begin say
 --   begin-unknown, begin-known   what is seen where the number names no scheme of Frodo's, and where it names one
---   end-begun, end-roomy         what passed sizes of end say
 --   seed-bytes                   the seed, as a state keeps it
 --   message-long                 the opening is as long as the scheme says
---   end-unknown, end-failed, end-decides, end-refused   its verdict by the test that decides, and its promise after a refusal
-use mathlib.Core.{Path._≡_, Path.refl, Path._∙_, Path.sym, Path.ap, Bool.true, List.List}
+--   end-unknown, end-failed, end-blank, end-done   what is seen of end besides the state, by the test that decides
+--   end-begun, end-roomy         what passed sizes of end say
+--   end-kept, end-cleared        and with the state
+use mathlib.Core.{Path._≡_, Path.refl, Path._∙_, Path.sym, Path.ap, Bool.true, List.List, List._++_}
 use Prim.Native.Nat.{ℕ, _≤_}
 use native.Mathlib.Omega.{arith}
-use lib.ListN.{length, take, replicate, length-take}
+use lib.ListN.{length, getD, take, drop, replicate, length-take}
 use Rattle.schemes.specs.{Schemes.familyOf, Schemes.fixedOf, declared.Family.Family}
 use Rattle.schemes.specs.declared.{Named.Named, Scheme.Scheme, Fixed.Fixed}
 use Rattle.schemes.specs.declared.Named.the-variants.{Known, Unknown}
 use Rattle.lists.specs.Ranges.{Below}
-use Rattle.refusals.specs.{Refusals.notBlank, Seen.told, Seen.seen, declared.Verdict.Verdict}
-use Rattle.refusals.specs.{declared.Answer.the-variants.Refused, declared.Refusal.Refusal}
+use Rattle.lists.proofs.Same.{zeros-long}
+use Rattle.refusals.specs.Refusals.{_then_, lengthIs, inTurn, roomFor, notBlank}
+use Rattle.refusals.specs.{Seen.ifPassed, Seen.Seen, Seen.told, Seen.seen, Seen.shown, declared.Verdict.Verdict}
+use Rattle.refusals.specs.declared.{Answer.Answer, Answer.the-variants.Done, Answer.the-variants.Refused, Refusal.Refusal}
 use Rattle.refusals.specs.declared.Verdict.the-variants.{Pass, Fail}
 use Rattle.refusals.specs.declared.Refusal.the-variants.{NoScheme, OutOfTurn}
-use Rattle.refusals.specs.Refusals.{_then_, lengthIs}
-use Rattle.refusals.proofs.Laws.{both, length-passed, room-passed, turn-passed, first, also, failed, went-on}
-use Rattle.refusals.proofs.Seen.{shown-failed}
+use Rattle.refusals.proofs.Laws.{some, both, length-passed, room-passed, turn-passed, first, also, failed, went-on}
+use Rattle.refusals.proofs.{Seen.shown-failed, Seen.shown-passed, Seen.seen-done, Steps.kept, Steps.laid-on}
 use Rattle.wire.proofs.Travel.{opening-length, numbers-long}
-use Rattle.lists.proofs.Same.{zeros-long}
-use Rattle.rows_state.specs.State.{long, named, savedOf, begun, frodoOf}
+use Rattle.rows_state.specs.State.{long, named, savedOf, begun, complete, frodoOf}
 use Rattle.rows_state.specs.{Part.StateSeen, Part.stateSeen, declared.Call.Call}
 use Rattle.rows_state.proofs.{Turns.state-by, Laying.kept-long}
+use Rattle.rows_state.proofs.Tests.{passed, all-below, started, completes, frodos}
 use Rattle.rows.specs.Offer.{OfferBegin, offerBeginTests, offerBeginResult, sentPart}
 use Rattle.rows.specs.Offer.{offerEndTests, offerEndMessage, offerEndResult}
 use Rattle.rows.specs.Inside.{offerBeginSizes, offerEndSizes}
-use Rattle.rows_state.proofs.Tests.{passed, all-below, started, completes, frodos}
-use Rattle.rows.proofs.{Ends.last-length, Ends.end-by, Sending.sent-counted}
+use Rattle.rows.proofs.Ends.{last-length, frodo-known, end-by}
+use Rattle.rows.proofs.{Running.kept-still, Sending.sent-counted}
 
 -- ---- begin
 
@@ -64,10 +66,6 @@ module _ (k : ℕ) (x : OfferBegin) (m : ℕ) {r : Named} {st : List ℕ} (e : r
 
 -- ---- end
 
-pub end-sized : (c : Scheme) (st : List ℕ) (n : ℕ) → offerEndSizes c st n ≡ Pass → (begun Call.Offer (fixedOf c) st ≡ true) × (fixedOf c .opening ≤ n)
-unfolding offerEndSizes
-end-sized c st n t = let a = both _ _ t in (completes Call.Offer (fixedOf c) st (turn-passed _ (a .0)) .0, room-passed _ _ (a .1))
-
 module _ (c : Scheme) (st : List ℕ) (b : begun Call.Offer (fixedOf c) st ≡ true) where
   pub state-long : length st ≡ long (fixedOf c .n)
   state-long = started Call.Offer (fixedOf c) st b .is-long
@@ -82,22 +80,57 @@ module _ (c : Scheme) (st : List ℕ) (b : begun Call.Offer (fixedOf c) st ≡ t
   unfolding offerEndMessage
   message-long e = opening-length c (take 16 (savedOf st)) _ (seed-long ∙ sym (frodos c e .seed)) (numbers-long c (sent-counted c st e state-long))
 
-module _ (c : Scheme) (st : List ℕ) (n : ℕ) (e : named st ≡ Known c) where
-  known : offerEndTests (named st) st n ≡ offerEndTests (Known c) st n
-  known = ap (λ (x : Named). offerEndTests x st n) e
+-- the state names r, and the output is zeroed
+module _ (st : List ℕ) (m : ℕ) {r : Named} {z : List ℕ} (e : r ≡ named st) (o : z ≡ replicate m 0) where
+  pub end-unknown : r ≡ Unknown → seen (told (Refused OutOfTurn)) z ≡ offerEndResult st m .answer
+  unfolding offerEndTests
+  end-unknown u = let t : offerEndTests (named st) st m ≡ Fail OutOfTurn = rw (sym e ∙ u) in shown-failed _ _ _ t o
 
-  pub end-failed : {v : Verdict} {r : Refusal} → v ≡ offerEndSizes c st n → v ≡ Fail r → offerEndTests (named st) st n ≡ Fail r
-  unfolding offerEndTests offerEndSizes
-  end-failed d f = known ∙ failed _ d f
+  module _ {c : Scheme} {v : Verdict} (u : r ≡ Known c) (d : v ≡ offerEndSizes c st (length z)) where
+    frodo : familyOf c ≡ Family.Frodo
+    frodo = frodo-known (getD st 1 0) e u
 
-  pub end-decides : {v : Verdict} → offerEndSizes c st n ≡ Pass → v ≡ notBlank (sentPart c st) → offerEndTests (named st) st n ≡ v
-  unfolding offerEndTests offerEndSizes
-  end-decides t d = known ∙ went-on _ refl t ∙ sym d
+    tests : offerEndTests (named st) st m ≡ v then notBlank (sentPart c st)
+    unfolding offerEndTests offerEndSizes
+    tests = rw (sym e ∙ u, d, zeros-long m 0 o)
 
-pub end-unknown : {c : Named} (st : List ℕ) (n : ℕ) → c ≡ Unknown → offerEndTests c st n ≡ Fail OutOfTurn
-unfolding offerEndTests
-end-unknown st n e = rw e
+    pub end-failed : {x : Refusal} → v ≡ Fail x → seen (told (Refused x)) z ≡ offerEndResult st m .answer
+    end-failed f = shown-failed _ _ _ (tests ∙ failed _ refl f) o
 
-pub end-refused : (st : List ℕ) (n : ℕ) {r : Refusal} {message : List ℕ} → offerEndTests (named st) st n ≡ Fail r → message ≡ replicate n 0
-    → record { answer = seen (told (Refused r)) message; state = st } ≡ offerEndResult st n
-end-refused st n e o = end-by st e (shown-failed _ _ _ e o) refl
+    module _ (p : v ≡ Pass) where
+      sizes : (inTurn (complete Call.Offer (fixedOf c) st) ≡ Pass) × (roomFor (length z) (fixedOf c .opening) ≡ Pass)
+      unfolding offerEndSizes
+      sizes = both _ _ (sym d ∙ p)
+
+      pub end-begun : begun Call.Offer (fixedOf c) st ≡ true
+      end-begun = completes Call.Offer (fixedOf c) st (turn-passed _ (sizes .0)) .0
+
+      pub end-roomy : fixedOf c .opening ≤ length z
+      end-roomy = room-passed _ _ (sizes .1)
+
+      module _ (k : ℕ) {w : Verdict} {part : List ℕ} (b : w ≡ notBlank (sentPart c st))
+          (l : part ≡ ifPassed w (offerEndMessage (Known c) st) (take k z)) where
+        decides : offerEndTests (named st) st m ≡ w
+        decides = tests ∙ went-on _ refl p ∙ sym b
+
+        pub end-blank : {x : Refusal} → w ≡ Fail x → seen (told (Refused x)) (part ++ drop k z) ≡ offerEndResult st m .answer
+        end-blank f = shown-failed _ _ _ (decides ∙ f) (kept _ k z f l ∙ o)
+
+        pub end-done : w ≡ Pass → k ≡ fixedOf c .opening → seen (told (Done k)) (part ++ drop k z) ≡ offerEndResult st m .answer
+        end-done f q =
+            let is : offerEndMessage (named st) st ≡ offerEndMessage (Known c) st = ap (λ x. offerEndMessage x st) (sym e ∙ u) in
+            shown-passed _ _ _ (decides ∙ f) z (ap length is ∙ message-long c st end-begun frodo ∙ sym q) o
+            (ap (λ (xs : List ℕ). xs ++ drop k z) (laid-on _ _ f l ∙ sym is))
+
+-- the state, by what is seen besides it
+module _ (st message : List ℕ) (m : ℕ) {a : Answer} (e : seen (told a) message ≡ offerEndResult st m .answer) where
+  pub end-kept : {r : Refusal} → a ≡ Refused r → record { answer = seen (told (Refused r)) message; state = st } ≡ offerEndResult st m
+  unfolding seen shown
+  end-kept {r} f =
+      let v = offerEndTests (named st) st m in
+      let d = rw f at e in
+      end-by {v = v} {r = v} st refl d (sym (kept-still v _ st (omega (arith, some r, ap (λ (s : Seen ℕ). s .number) d))))
+
+  pub end-cleared : {n : ℕ} {after : List ℕ} → a ≡ Done n → after ≡ replicate (length st) 0
+      → record { answer = seen (told (Done n)) message; state = after } ≡ offerEndResult st m
+  end-cleared {n} f z = let d = rw f at e in end-by st (seen-done _ 0 m _ n message d) d z

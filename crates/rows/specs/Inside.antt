@@ -2,16 +2,21 @@
 --   offerBeginSizes c x m, replyBeginSizes c x m   the first tests of begin: of lengths
 --   replyBeginRest c x        those of Reply's begin behind them: of the opening, and of the secrets
 --   offerEndSizes c st n, replyEndSizes c st m     the first tests of end: of its turn, and of rooms
-use mathlib.Core.List.{List}
+--   verdictOf r               the verdict of an answer
+--   Sent r st m message key   what Reply's end answers, and what it leaves of message and key, with the rooms m
+use mathlib.Core.{Path._≡_, List.List}
 use Prim.Native.Nat.{ℕ}
 use lib.ListN.{length}
 use Rattle.schemes.specs.{Schemes.fixedOf, declared.Scheme.Scheme}
 use Rattle.refusals.specs.Refusals.{_then_, lengthIs, roomFor, inTurn, notBlank}
-use Rattle.refusals.specs.declared.Verdict.{Verdict}
+use Rattle.refusals.specs.{Seen.ifPassed, Seen.output, Seen.written, declared.Verdict.Verdict}
+use Rattle.refusals.specs.declared.Verdict.the-variants.{Pass, Fail}
 use Rattle.wire.specs.{Wire.openedIn, Steps.replySecrets}
-use Rattle.reply.specs.Reply.{ReplyRooms}
-use Rattle.rows_state.specs.{State.long, State.complete, declared.Call.Call}
+use Rattle.reply.specs.{Reply.ReplyRooms, Reply.replyTold, declared.ReplyAnswer.ReplyAnswer}
+use Rattle.reply.specs.declared.ReplyAnswer.the-variants.{Done, Refused}
+use Rattle.rows_state.specs.{State.long, State.named, State.complete, declared.Call.Call}
 use Rattle.rows.specs.{Offer.OfferBegin, Reply.ReplyBegin}
+use Rattle.rows.specs.Reply.{replyEndTests, replyEndMessage, replyEndKey}
 
 unfoldable pub offerBeginSizes : Scheme → OfferBegin → ℕ → Verdict
 offerBeginSizes c x m =
@@ -33,3 +38,13 @@ unfoldable pub replyEndSizes : Scheme → List ℕ → ReplyRooms → Verdict
 replyEndSizes c st m =
     inTurn (complete Call.Reply (fixedOf c) st) then roomFor (m .message) (fixedOf c .reply) then roomFor (m .key) (fixedOf c .key)
     then roomFor (m .digest) 32
+
+abbrev pub verdictOf : ReplyAnswer → Verdict
+verdictOf (Done n) = Pass
+verdictOf (Refused r) = Fail r
+
+pub record Sent (r : ReplyAnswer) (st : List ℕ) (m : ReplyRooms) (message key : List ℕ) : Type 0 where
+  pub verdict : replyEndTests (named st) st m ≡ verdictOf r
+  pub message-is : output (replyTold r .counts .message) message ≡ written (verdictOf r) (replyEndMessage (named st) st) 0 (m .message)
+  pub key-is : output (replyTold r .counts .key) key ≡ written (verdictOf r) (replyEndKey (named st) st) 0 (m .key)
+  pub digest-is : replyTold r .counts .digest ≡ ifPassed (verdictOf r) 32 0

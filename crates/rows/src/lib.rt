@@ -42,11 +42,13 @@ pub fn offer_part(p: &[u32], state: &mut [u32]) -> Verdict
 pub fn offer_end(state: &mut [u32], message: &mut [u8]) -> Answer
     ensures { λ r. ⌜ record { answer = seen (told r) (left message); state = left state } ≡ offerEndResult (was state) (room message) ⌝ }
 {
-    lists::zero_bytes(message);
-    let Named::Known(known) = rows_state::state::named(state) else {
-        return Answer::Refused(Refusal::OutOfTurn);
-    };
-    opener::end_in(known, state, message)
+    match opener::send(state, message) {
+        Answer::Refused(r) => Answer::Refused(r),
+        Answer::Done(n) => {
+            lists::zero_numbers(state);
+            Answer::Done(n)
+        }
+    }
 }
 
 // Reply, begin: the opening message, the secret s' and the noise e' and e'' into the state, afresh.
@@ -83,9 +85,12 @@ pub fn reply_end(
 ) -> ReplyAnswer
     ensures { λ r. ⌜ record { answer = replySeen (replyTold r) (left message) (left key) (left digest); state = left state } ≡ replyEndResult (was state) (replyRooms message key digest) ⌝ }
 {
-    replier::zero_outputs(message, key, digest);
-    let Named::Known(known) = rows_state::state::named(state) else {
-        return ReplyAnswer::Refused(Refusal::OutOfTurn);
+    lists::zero_bytes(digest);
+    let a = replier::send(state, message, key, digest.len());
+    let ReplyAnswer::Done(n) = a else {
+        return a;
     };
-    replier::end_in(known, state, message, key, digest)
+    sponge::lay_digest(&key[..n.key], digest);
+    lists::zero_numbers(state);
+    ReplyAnswer::Done(n)
 }

@@ -12,14 +12,15 @@ ghost use Rattle.lists.specs.Ranges.{Below};
 ghost use Rattle.refusals.specs.Refusals.{notBlank};
 ghost use Rattle.refusals.specs.Seen.{told, seen};
 ghost use Rattle.refusals.specs.Steps.{Laid};
-ghost use Rattle.refusals.specs.declared.Verdict.the-variants.{Pass};
-ghost use Rattle.rows_state.specs.State.{named, begun};
+ghost use Rattle.rows_state.specs.State.{begun};
 ghost use Rattle.rows_state.specs.Part.{stateSeen};
 ghost use Rattle.rows.specs.Offer.{offerBegin, offerBeginTests, offerBeginResult, sentPart, offerEndMessage, offerEndResult};
 ghost use Rattle.rows.specs.Inside.{offerBeginSizes, offerEndSizes};
 use refusals::Answer;
+use refusals::Refusal;
 use refusals::Verdict;
 use rows_state::Call;
+use schemes::Named;
 use schemes::Scheme;
 
 fn begin_sizes(scheme: Scheme, s: &[i32], e: &[i32], seed: &[u8], room: usize) -> Verdict
@@ -121,31 +122,21 @@ fn end_tests(scheme: Scheme, state: &[u32], room: usize) -> Verdict
     refusals::room_for(v, room, f.opening)
 }
 
-// Where turn and room have passed: the message, and then zeros into the state.
-fn send(scheme: Scheme, state: &mut [u32], message: &mut [u8]) -> Answer
-    requires { ⌜ (familyOf scheme ≡ Family.Frodo) × (offerEndSizes scheme (now state) (length (now message)) ≡ Pass) ⌝ }
-    requires { ⌜ (named (now state) ≡ Known scheme) × (now message ≡ replicate (length (now message)) 0) ⌝ }
-    ensures { λ r. ⌜ record { answer = seen (told r) (left message); state = left state } ≡ offerEndResult (was state) (room message) ⌝ }
+// The message into the zeroed output, where turn, room and the part about to be sent pass.
+pub(crate) fn send(state: &[u32], message: &mut [u8]) -> Answer
+    ensures { λ r. ⌜ seen (told r) (left message) ≡ offerEndResult (was state) (room message) .answer ⌝ }
 {
+    lists::zero_bytes(message);
+    let Named::Known(scheme) = rows_state::state::named(state) else {
+        return Answer::Refused(Refusal::OutOfTurn);
+    };
     let f = scheme.fixed();
     let n = f.opening;
-    let v = lay(scheme, state, &mut message[..n]);
-    match v {
+    match end_tests(scheme, state, message.len()) {
         Verdict::Fail(r) => Answer::Refused(r),
-        Verdict::Pass => {
-            lists::zero_numbers(state);
-            Answer::Done(n)
-        }
-    }
-}
-
-pub(crate) fn end_in(scheme: Scheme, state: &mut [u32], message: &mut [u8]) -> Answer
-    requires { ⌜ (named (now state) ≡ Known scheme) × (now message ≡ replicate (length (now message)) 0) ⌝ }
-    ensures { λ r. ⌜ record { answer = seen (told r) (left message); state = left state } ≡ offerEndResult (was state) (room message) ⌝ }
-{
-    let v = end_tests(scheme, state, message.len());
-    match v {
-        Verdict::Fail(r) => Answer::Refused(r),
-        Verdict::Pass => send(scheme, state, message),
+        Verdict::Pass => match lay(scheme, state, &mut message[..n]) {
+            Verdict::Fail(r) => Answer::Refused(r),
+            Verdict::Pass => Answer::Done(n),
+        },
     }
 }

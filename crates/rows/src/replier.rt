@@ -14,16 +14,18 @@ ghost use Rattle.refusals.specs.Steps.{Laid};
 ghost use Rattle.refusals.specs.declared.Verdict.the-variants.{Pass};
 ghost use Rattle.values.specs.Fit.{Counted, Small};
 ghost use Rattle.values.specs.Values.{mixedValue};
-ghost use Rattle.reply.specs.Reply.{replyRoomsOf, replyRooms, replyTold, replySeen};
-ghost use Rattle.rows_state.specs.State.{long, laid, fresh, named, begun};
+ghost use Rattle.reply.specs.Reply.{replyRoomsOf};
+ghost use Rattle.rows_state.specs.State.{long, laid, fresh, begun};
 ghost use Rattle.rows_state.specs.Part.{stateSeen};
 ghost use Rattle.rows.specs.Offer.{sentPart};
-ghost use Rattle.rows.specs.Reply.{replyBeginOf, replyBegin, replyState, replyBeginResult, replyEndMessage, replyEndKey, replyEndResult};
-ghost use Rattle.rows.specs.Inside.{replyBeginSizes, replyBeginRest, replyEndSizes};
+ghost use Rattle.rows.specs.Reply.{replyBeginOf, replyBegin, replyState, replyBeginResult, replyEndMessage, replyEndKey};
+ghost use Rattle.rows.specs.Inside.{replyBeginSizes, replyBeginRest, replyEndSizes, Sent};
+use refusals::Refusal;
 use refusals::Verdict;
 use reply::ReplyAnswer;
 use reply::ReplyCounts;
 use rows_state::Call;
+use schemes::Named;
 use schemes::Scheme;
 
 fn begin_sizes(
@@ -162,64 +164,27 @@ fn end_sizes(
     refusals::room_for(v, digestroom, 32)
 }
 
-// Where turn and rooms have passed: message, key and digest, and then zeros into the state.
-fn send(
-    scheme: Scheme,
-    state: &mut [u32],
-    message: &mut [u8],
-    key: &mut [u8],
-    digest: &mut [u8],
-) -> ReplyAnswer
-    requires { ⌜ replyEndSizes scheme (now state) (replyRoomsOf (length (now message)) (length (now key)) (length (now digest))) ≡ Pass ⌝ }
-    requires { ⌜ (familyOf scheme ≡ Family.Frodo) × (named (now state) ≡ Known scheme) ⌝ }
-    requires { ⌜ (now message ≡ replicate (length (now message)) 0) × (now key ≡ replicate (length (now key)) 0) ⌝ }
-    requires { ⌜ now digest ≡ replicate (length (now digest)) 0 ⌝ }
-    ensures { λ r. ⌜ record { answer = replySeen (replyTold r) (left message) (left key) (left digest); state = left state } ≡ replyEndResult (was state) (replyRooms message key digest) ⌝ }
-{
-    let f = scheme.fixed();
-    let n = f.reply;
-    let k = f.key;
-    let v = lay(scheme, state, &mut message[..n], &mut key[..k]);
-    match v {
-        Verdict::Fail(r) => ReplyAnswer::Refused(r),
-        Verdict::Pass => {
-            sponge::lay_digest(&key[..k], digest);
-            lists::zero_numbers(state);
-            ReplyAnswer::Done(ReplyCounts {
-                message: n,
-                key: k,
-                digest: 32,
-            })
-        }
-    }
-}
-
-pub(crate) fn end_in(
-    scheme: Scheme,
-    state: &mut [u32],
-    message: &mut [u8],
-    key: &mut [u8],
-    digest: &mut [u8],
-) -> ReplyAnswer
-    requires { ⌜ (familyOf scheme ≡ Family.Frodo) × (named (now state) ≡ Known scheme) ⌝ }
-    requires { ⌜ (now message ≡ replicate (length (now message)) 0) × (now key ≡ replicate (length (now key)) 0) ⌝ }
-    requires { ⌜ now digest ≡ replicate (length (now digest)) 0 ⌝ }
-    ensures { λ r. ⌜ record { answer = replySeen (replyTold r) (left message) (left key) (left digest); state = left state } ≡ replyEndResult (was state) (replyRooms message key digest) ⌝ }
-{
-    let v = end_sizes(scheme, state, message.len(), key.len(), digest.len());
-    match v {
-        Verdict::Fail(r) => ReplyAnswer::Refused(r),
-        Verdict::Pass => send(scheme, state, message, key, digest),
-    }
-}
-
-// Zeroes the three outputs.
-pub(crate) fn zero_outputs(message: &mut [u8], key: &mut [u8], digest: &mut [u8])
-    ensures { λ _. ⌜ left message ≡ replicate (room message) 0 ⌝ }
-    ensures { λ _. ⌜ left key ≡ replicate (room key) 0 ⌝ }
-    ensures { λ _. ⌜ left digest ≡ replicate (room digest) 0 ⌝ }
+// Message and key into the zeroed outputs, where turn, rooms and the part about to be sent pass. The digest has room for m bytes.
+pub(crate) fn send(state: &[u32], message: &mut [u8], key: &mut [u8], m: usize) -> ReplyAnswer
+    ensures { λ r. ⌜ Sent r (was state) (replyRoomsOf (room message) (room key) m) (left message) (left key) ⌝ }
 {
     lists::zero_bytes(message);
     lists::zero_bytes(key);
-    lists::zero_bytes(digest);
+    let Named::Known(scheme) = rows_state::state::named(state) else {
+        return ReplyAnswer::Refused(Refusal::OutOfTurn);
+    };
+    let f = scheme.fixed();
+    let n = f.reply;
+    let k = f.key;
+    match end_sizes(scheme, state, message.len(), key.len(), m) {
+        Verdict::Fail(r) => ReplyAnswer::Refused(r),
+        Verdict::Pass => match lay(scheme, state, &mut message[..n], &mut key[..k]) {
+            Verdict::Fail(r) => ReplyAnswer::Refused(r),
+            Verdict::Pass => ReplyAnswer::Done(ReplyCounts {
+                message: n,
+                key: k,
+                digest: 32,
+            }),
+        },
+    }
 }
