@@ -3,11 +3,14 @@
 --   Holds g a m s xs    xs holds all of them modulo 12289, that of point i and offset o at i s + o, each in 16 bits
 --   holds-start, holds-level, holds-end   before, at each level, and after
 --   five-levels         half of the ten
+--   Placed g a m s u v xs   likewise, that of point i and offset o at o u + i v
+--   placed, placed-level, in-order   before the levels across, at each, and after
+--   first-across, last-across   the other half: the sixth level and two across, and two more
 use mathlib.Core.{Path._≡_, Path.refl, Path._∙_, Path.sym, Path.ap, Path.ap₂, List.List}
 use Prim.Native.Nat.{ℕ, _+_, _-_, _*_, _/_, _%_, _^_, _<_, _≤_}
 use native.Mathlib.Omega.{arith}
 use native.Mathlib.Decide.{decLt}
-use native.Mathlib.Nat.{mul-left-comm, mul-assoc, mul-le-mul-right}
+use native.Mathlib.Nat.{mul-left-comm, mul-assoc, mul-le-mul-right, mod-lt, div-add-mod', div-lt-iff-lt-mul}
 use lib.{Arith.digits-div, IntN.pos, ListN.getD, ListN.List·getD-eq-default, Pow.pow-add}
 use Rattle.numbers.specs.Sum.{sum, sumℕ}
 use Rattle.numbers.proofs.Sums.{natural, sum-ext, sum-mul, sum-double}
@@ -15,7 +18,7 @@ use Rattle.numbers.proofs.Congruence.{eq-≅, refl-≅, sym-≅, _⨾_, add-≅
 use Rattle.numbers.proofs.Modular.{more-≅, sumℕ-≅}
 use Rattle.lists.specs.Ranges.{Below}
 use Rattle.lists.proofs.Entries.{tab-ext}
-use Rattle.transform.specs.Level.{tight, factor, powered, low, high, Half, first, second, place, butterfly, entry, Butterflies, remainders, sums}
+use Rattle.transform.specs.Level.{tight, factor, powered, low, high, Half, first, second, place, butterfly, entry, beside, Butterflies, Powers, Crossed, remainders, sums}
 use Rattle.transform.proofs.Seven.{_≈_, seven-turn, seven-minus}
 use Rattle.transform.proofs.Words.{quotient-≤, tight-lt, powered-lt}
 
@@ -162,6 +165,88 @@ module _ (g src : List ℕ) (a m h : ℕ) (fit : m * h ≡ 512) (had : Holds g a
     pub holds-level : Holds g a (2 * m) h dst
     holds-level = record { small = record { below = all-lt }; holds = all-≅ }
 
+-- ---- a level across
+
+pub record Placed (g : List ℕ) (a m s u v : ℕ) (xs : List ℕ) : Type 0 where
+  pub small : Below 65536 xs
+  pub holds : (i o : ℕ) → i < m → o < s → getD xs (o * u + i * v) 0 ≈ part g a m s i o
+
+pub placed : {g xs : List ℕ} {a m s : ℕ} → Holds g a m s xs → Placed g a m s 1 s xs
+placed {g} {xs} {a} {m} {s} had =
+    record {
+      small = had .small;
+      holds =
+          λ i o p q.
+          let e : o * 1 + i * s ≡ i * s + o = omega arith in
+          eq-≅ (ap (λ (n : ℕ). pos (getD xs n 0)) e) ⨾ had .holds i o p q;
+    }
+
+module _ (g src ws fs dst : List ℕ) (a m h u v : ℕ) (fit : h * m ≡ 512) (had : Placed g a m (2 * h) u v src) (ps : Powers a h m ws fs) (new : Crossed src ws h m u v 512 dst) where
+  module _ (i o : ℕ) (hi : i < m) (ho : o < h) where
+    across-in : o * m + i < 512
+    across-in = omega (arith, mul-le-mul-right m ho)
+
+    across-w : getD ws i 0 ≈ 7 ^ (h * (a + 2 * i))
+    across-w = eq-≅ (ap pos (ps .power i hi)) ⨾ mod-≅ 12289 _
+
+    across-y : getD src (o * u + i * v + h * u) 0 ≈ part g a m (2 * h) i (o + h)
+    across-y =
+        let e : o * u + i * v + h * u ≡ (o + h) * u + i * v = omega arith in
+        eq-≅ (ap (λ (n : ℕ). pos (getD src n 0)) e) ⨾ had .holds i (o + h) hi (omega arith)
+
+    across : (c : Half) → butterfly c src (getD ws i 0) (o * u + i * v) (h * u) ≈ part g a (2 * m) h (block m c i) o
+    unfolding butterfly block
+    across first = step-low g a m h i o _ _ _ across-w (had .holds i o hi (omega arith)) across-y
+    across second =
+        step-high g a m h i o _ _ _ across-w (had .holds i o hi (omega arith)) across-y (had .small .below (o * u + i * v + h * u)) (omega arith)
+
+    across-at : (c : Half) → getD dst (o * (2 * m) + i + beside m c) 0 ≈ part g a (2 * m) h (block m c i) o
+    across-at c = eq-≅ (ap pos (new .made c o i hi across-in)) ⨾ across c
+
+    across-lt : (c : Half) → getD dst (o * (2 * m) + i + beside m c) 0 < 65536
+    across-lt c = rw (new .made c o i hi across-in) (butterfly-lt c src _ _ _ (had .small))
+
+  across-all : (j o : ℕ) → j < 2 * m → o < h → getD dst (o * (2 * m) + j * 1) 0 ≈ part g a (2 * m) h j o
+  unfolding block beside
+  across-all j o hj ho = go (decLt j m)
+    where
+      go : Dec (j < m) → getD dst (o * (2 * m) + j * 1) 0 ≈ part g a (2 * m) h j o
+      go (yes p) =
+          let e : o * (2 * m) + j * 1 ≡ o * (2 * m) + j + 0 = omega arith in
+          eq-≅ (ap (λ (n : ℕ). pos (getD dst n 0)) e) ⨾ across-at j o p ho first
+      go (no p) =
+          let e : o * (2 * m) + j * 1 ≡ o * (2 * m) + (j - m) + m = omega arith in
+          let f : m + (j - m) ≡ j = omega arith in
+          eq-≅ (ap (λ (n : ℕ). pos (getD dst n 0)) e)
+          ⨾ across-at (j - m) o (omega arith) ho second
+          ⨾ eq-≅ (ap (λ (n : ℕ). pos (part g a (2 * m) h n o)) f)
+
+  -- entry k is entry j of row o
+  row-lt : (k o j : ℕ) → j < 2 * m → o < h → k ≡ o * (2 * m) + j → getD dst k 0 < 65536
+  unfolding beside
+  row-lt k o j hj ho e = go (decLt j m)
+    where
+      go : Dec (j < m) → getD dst k 0 < 65536
+      go (yes p) =
+          let d : k ≡ o * (2 * m) + j + 0 = omega arith in
+          rw d (across-lt j o p ho first)
+      go (no p) =
+          let d : k ≡ o * (2 * m) + (j - m) + m = omega arith in
+          rw d (across-lt (j - m) o (omega arith) ho second)
+
+  across-small : 0 < m → (k : ℕ) → getD dst k 0 < 65536
+  across-small pos-m k = go (decLt k 1024)
+    where
+      go : Dec (k < 1024) → getD dst k 0 < 65536
+      go (yes p) =
+          let e : k ≡ k / (2 * m) * (2 * m) + k % (2 * m) = omega (arith, div-add-mod' k (2 * m)) in
+          let l : k < h * (2 * m) = omega arith in
+          row-lt k (k / (2 * m)) (k % (2 * m)) (mod-lt k (omega arith)) (div-lt-iff-lt-mul (omega arith) .1 l) e
+      go (no p) = rw (List·getD-eq-default dst 0 {n = k} (omega (arith, new .size))) (omega arith)
+
+  pub placed-level : 0 < m → Placed g a (2 * m) h (2 * m) 1 dst
+  placed-level p = record { small = record { below = across-small p }; holds = λ j o. across-all j o }
+
 -- ---- before the first level, and after the last
 
 -- a sum of length 1 is the entry itself
@@ -188,6 +273,33 @@ five-levels g a m h e had j1 j2 j3 j4 j5 =
   where
     next : (m h k n : ℕ) {x y : List ℕ} → m * h ≡ 512 → h ≡ 2 * k → 2 * m ≡ n → Holds g a m (2 * h) x → Butterflies x a h 512 y → Holds g a n (2 * k) y
     next m h k n f d w had j = rw (← d, ← w) (holds-level g _ a m h f had _ j)
+
+-- the sixth level and two across, and two more
+pub first-across :
+    {g x0 x1 x2 x3 w1 f1 w2 f2 : List ℕ} {a : ℕ} → Holds g a 32 32 x0 → Butterflies x0 a 16 512 x1 →
+    Powers a 8 64 w1 f1 → Crossed x1 w1 8 64 1 16 512 x2 → Powers a 4 128 w2 f2 → Crossed x2 w2 4 128 128 1 512 x3 → Placed g a 256 4 256 1 x3
+first-across {g} {x0} {x1} {x2} {x3} {w1} {f1} {w2} {f2} {a} had j0 p1 j1 p2 j2 =
+    let n0 : Holds g a 64 16 x1 = holds-level g _ a 32 16 refl had _ j0 in
+    let n1 : Placed g a 128 8 128 1 x2 = placed-level g x1 w1 f1 x2 a 64 8 1 16 refl (placed n0) p1 j1 (omega arith) in
+    placed-level g x2 w2 f2 x3 a 128 4 128 1 refl n1 p2 j2 (omega arith)
+
+pub last-across :
+    {g x0 x1 x2 w1 f1 w2 f2 : List ℕ} {a : ℕ} → Placed g a 256 4 256 1 x0 →
+    Powers a 2 256 w1 f1 → Crossed x0 w1 2 256 256 1 512 x1 → Powers a 1 512 w2 f2 → Crossed x1 w2 1 512 512 1 512 x2 → Placed g a 1024 1 1024 1 x2
+last-across {g} {x0} {x1} {x2} {w1} {f1} {w2} {f2} {a} had p1 j1 p2 j2 =
+    let n : Placed g a 512 2 512 1 x1 = placed-level g x0 w1 f1 x1 a 256 2 256 1 refl had p1 j1 (omega arith) in
+    placed-level g x1 w2 f2 x2 a 512 1 512 1 refl n p2 j2 (omega arith)
+
+-- where all entries are, they stand in their order
+pub in-order : {g xs : List ℕ} {a : ℕ} → Placed g a 1024 1 1024 1 xs → Holds g a 1024 1 xs
+in-order {g} {xs} had =
+    record {
+      small = had .small;
+      holds =
+          λ i o p q.
+          let e : i * 1 + o ≡ o * 1024 + i * 1 = omega arith in
+          eq-≅ (ap (λ (n : ℕ). pos (getD xs n 0)) e) ⨾ had .holds i o p q;
+    }
 
 -- a sum of length 1,024 is the whole
 pub holds-end : (g xs : List ℕ) (a : ℕ) → Holds g a 1024 1 xs → remainders xs ≡ sums a g

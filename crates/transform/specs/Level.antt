@@ -6,9 +6,12 @@
 --   low w x y, high w x y    x + w y and x - w y modulo 12289: not reduced, but small
 --   Half, place              the two halves of a level's entries, and where each starts
 --   butterfly c src w r h    an entry of half c, of the entries of src at r and r + h and the power w
---   stored src w r h k dst   the two of them, in entry k of each half of dst
+--   stored src w r h k e dst   the two of them, in the entries k and k + e of dst
 --   entry c src a h k        what entry k of half c is to be, where k / h is its block
 --   Butterflies src a h n dst   the first n entries of each half are so
+--   Powers a h m ws fs       ws has the powers of m blocks, and fs their factors (Factors)
+--   Crossed src ws h m u v n dst   the first n entries are so where entry o of block i is read at o u + i v, and written where
+--                            entry o of all blocks lies side by side, first that of the first half (beside)
 --   OneBlock h c k           c entries from k on lie in one block, and that in the half
 --   remainders f             the remainder of each entry
 --   sums a g                 what ten levels come to: entry i is the sum over j of g_j 7^(j (a + 2i))
@@ -46,8 +49,8 @@ unfoldable pub butterfly : Half → List ℕ → ℕ → ℕ → ℕ → ℕ
 butterfly first src w r h = low w (getD src r 0) (getD src (r + h) 0)
 butterfly second src w r h = high w (getD src r 0) (getD src (r + h) 0)
 
-unfoldable pub stored : List ℕ → ℕ → ℕ → ℕ → ℕ → List ℕ → List ℕ
-stored src w r h k dst = set (set dst k (butterfly first src w r h)) (k + 512) (butterfly second src w r h)
+unfoldable pub stored : List ℕ → ℕ → ℕ → ℕ → ℕ → ℕ → List ℕ → List ℕ
+stored src w r h k e dst = set (set dst k (butterfly first src w r h)) (k + e) (butterfly second src w r h)
 
 unfoldable pub entry : Half → List ℕ → ℕ → ℕ → ℕ → ℕ
 entry c src a h k = butterfly c src (7 ^ (h * (a + 2 * (k / h))) % 12289) (k + k / h * h) h
@@ -55,6 +58,25 @@ entry c src a h k = butterfly c src (7 ^ (h * (a + 2 * (k / h))) % 12289) (k + k
 pub record Butterflies (src : List ℕ) (a h n : ℕ) (dst : List ℕ) : Type 0 where
   pub size : length dst ≡ 1024
   pub made : (c : Half) (k : ℕ) → k < n → getD dst (k + place c) 0 ≡ entry c src a h k
+
+pub record Factors (m : ℕ) (ws fs : List ℕ) : Type 0 where
+  pub fits : m ≤ 512
+  pub long : length ws ≡ 512
+  pub also : length fs ≡ 512
+  pub word : (i : ℕ) → i < m → getD ws i 0 < 12289
+  pub told : (i : ℕ) → i < m → getD fs i 0 ≡ factor (getD ws i 0)
+
+pub record Powers (a h m : ℕ) (ws fs : List ℕ) : Type 0 where
+  pub power : (i : ℕ) → i < m → getD ws i 0 ≡ 7 ^ (h * (a + 2 * i)) % 12289
+  pub factors : Factors m ws fs
+
+unfoldable pub beside : ℕ → Half → ℕ
+beside m first = 0
+beside m second = m
+
+pub record Crossed (src ws : List ℕ) (h m u v n : ℕ) (dst : List ℕ) : Type 0 where
+  pub size : length dst ≡ 1024
+  pub made : (c : Half) (o i : ℕ) → i < m → o * m + i < n → getD dst (o * (2 * m) + i + beside m c) 0 ≡ butterfly c src (getD ws i 0) (o * u + i * v) (h * u)
 
 pub record OneBlock (h c k : ℕ) : Type 0 where
   pub block : k + c ≤ k / h * h + h

@@ -3,13 +3,14 @@
 // powers, that the two undo each other and that products go through the transform, are stated in `specs/Theorems.antt`.
 // The sums are made by Stockham's method, decimation in time (`specs/Level.antt`): ten levels between two buffers, all of whose powers stand below the table's
 // middle, so that no index is reduced. The buffers have 16 bits a number, so that eight are reckoned at a time, and nothing is reduced further than that asks.
+// In the last four levels a block has eight entries or fewer. There entry o of all blocks lies side by side, and each block has its power in a vector.
 ghost use mathlib.Core.Path.{_≡_};
-ghost use Prim.Native.Nat.{_+_, _%_, _<_};
+ghost use Prim.Native.Nat.{_+_, _*_, _%_, _<_, _≤_};
 ghost use lib.ListN.{length};
 ghost use Rattle.lists.specs.Ranges.{Below};
 ghost use Rattle.transform.specs.Transform.{transformed, inverted};
 ghost use Rattle.transform.specs.Theorems.{entrywise, multiplied, TableRule};
-ghost use Rattle.transform.specs.Level.{tight, factor, powered, stored, Butterflies, OneBlock, remainders, sums, scaled};
+ghost use Rattle.transform.specs.Level.{tight, factor, powered, stored, Butterflies, OneBlock, Factors, Powers, Crossed, remainders, sums, scaled};
 use schemes::NewHope;
 
 pub mod on_transforms;
@@ -34,20 +35,30 @@ fn powered(w: u16, f: u16, y: u16) -> u16
     std::num::wrapping_sub_u16((p % 65536) as u16, (h * NewHope::Q % 65536) as u16)
 }
 
-// Two entries of the level before make entry k of each half.
-fn join(src: &[u16; 1024], dst: &mut [u16; 1024], w: u16, f: u16, r: usize, h: usize, k: usize)
-    requires { ⌜ (f ≡ factor w) × (r + h < 1024) × (k < 512) ⌝ }
-    ensures { λ _. ⌜ now (dst .exit) ≡ stored (now (src .entry)) w r h k (now (dst .entry)) ⌝ }
+// Two entries of the level before, h apart, make two of the next, e apart.
+fn join(
+    src: &[u16; 1024],
+    dst: &mut [u16; 1024],
+    w: u16,
+    f: u16,
+    r: usize,
+    h: usize,
+    k: usize,
+    e: usize,
+)
+    requires { ⌜ (f ≡ factor w) × (r + h < 1024) × (k + e < 1024) ⌝ }
+    ensures { λ _. ⌜ now (dst .exit) ≡ stored (now (src .entry)) w r h k e (now (dst .entry)) ⌝ }
 {
     let r1 = r + h;
-    let k1 = k + 512;
+    let k1 = k + e;
     let x = tight(src[r]);
     let y = powered(w, f, src[r1]);
     dst[k] = x + y;
     dst[k1] = x + 24578 - y;
 }
 
-// c entries of one block, from k on: they share their power.
+// c entries of one block, from k on: they share their power. Its factor stands in an array, of which the compiler makes a vector of 16 bits a number; of one
+// factor it makes a vector of 32 bits a number, and multiplies twice.
 fn run(
     t: &[u32; 2048],
     src: &[u16; 1024],
@@ -57,7 +68,7 @@ fn run(
     c: usize,
     k: usize,
 )
-    requires { ⌜ (a < 2) × (0 < h) × OneBlock h c k ⌝ }
+    requires { ⌜ (a < 2) × (0 < h) × OneBlock h c k × (c ≤ 16) ⌝ }
     requires { ⌜ TableRule (now t) × Butterflies (now src) a h k (now dst) ⌝ }
     ensures { λ _. ⌜ Butterflies (now (src .entry)) a h (k + c) (now (dst .exit)) ⌝ }
 {
@@ -67,18 +78,18 @@ fn run(
     let v = t[e];
     let w = v as u16;
     let f = (65536 * v / NewHope::Q) as u16;
+    let fs = [f; 16];
     let mut j: usize = 0;
     while j < c {
-        join(src, dst, w, f, r + j, h, k + j);
+        join(src, dst, w, fs[j], r + j, h, k + j, 512);
         j += 1;
     }
 }
 
-// One level, in runs of c entries. It is small enough to be compiled anew into each of its ten calls, where h and c are constants and a run is laid out in
-// vectors: c is 32 where h allows it, which was the quickest. Two halvings a level would be a little quicker, but such a level is too large to be compiled into each
-// call, and the whole then takes twice as long.
+// One level, in runs of c entries, which lie side by side. It is small enough to be compiled anew into each of its six calls, where h and c are constants and a
+// run is laid out in vectors. With more than 16 factors it would be too large for that, as it would with two halvings a level.
 fn level(t: &[u32; 2048], src: &[u16; 1024], dst: &mut [u16; 1024], a: usize, h: usize, c: usize)
-    requires { ⌜ (a < 2) × (0 < h) × (512 % h ≡ 0) × (0 < c) × (h % c ≡ 0) ⌝ }
+    requires { ⌜ (a < 2) × (0 < h) × (512 % h ≡ 0) × (0 < c) × (h % c ≡ 0) × (c ≤ 16) ⌝ }
     requires { ⌜ TableRule (now t) × (length (now dst) ≡ 1024) ⌝ }
     ensures { λ _. ⌜ Butterflies (now (src .entry)) a h 512 (now (dst .exit)) ⌝ }
 {
@@ -86,6 +97,69 @@ fn level(t: &[u32; 2048], src: &[u16; 1024], dst: &mut [u16; 1024], a: usize, h:
     while k < 512 {
         run(t, src, dst, a, h, c, k);
         k += c;
+    }
+}
+
+// The powers of m blocks, and their factors.
+fn lay(t: &[u32; 2048], ws: &mut [u16; 512], fs: &mut [u16; 512], a: usize, h: usize, m: usize)
+    requires { ⌜ (a < 2) × (0 < h) × (h * m ≡ 512) ⌝ }
+    requires { ⌜ TableRule (now t) × (length (now ws) ≡ 512) × (length (now fs) ≡ 512) ⌝ }
+    ensures { λ _. ⌜ Powers a h m (now (ws .exit)) (now (fs .exit)) ⌝ }
+{
+    let mut i: usize = 0;
+    while i < m {
+        let v = t[h * (a + 2 * i)];
+        ws[i] = v as u16;
+        fs[i] = (65536 * v / NewHope::Q) as u16;
+        i += 1;
+    }
+}
+
+// Entry o of each of m blocks. They are written side by side, those of the first half before those of the second.
+fn row(
+    ws: &[u16; 512],
+    fs: &[u16; 512],
+    src: &[u16; 1024],
+    dst: &mut [u16; 1024],
+    h: usize,
+    m: usize,
+    u: usize,
+    v: usize,
+    o: usize,
+)
+    requires { ⌜ (o < h) × (0 < m) × (h * m ≡ 512) × (2 * (h * u) + m * v ≤ 1023 + u + v) × Factors m (now ws) (now fs) ⌝ }
+    requires { ⌜ Crossed (now src) (now ws) h m u v (o * m) (now dst) ⌝ }
+    ensures { λ _. ⌜ Crossed (now (src .entry)) (now (ws .entry)) h m u v (o * m + m) (now (dst .exit)) ⌝ }
+{
+    let d = h * u;
+    let r = o * u;
+    let k = o * (2 * m);
+    let mut i: usize = 0;
+    while i < m {
+        join(src, dst, ws[i], fs[i], r + i * v, d, k + i, m);
+        i += 1;
+    }
+}
+
+// One level, where entry o of block i is read at o u + i v.
+fn cross(
+    ws: &[u16; 512],
+    fs: &[u16; 512],
+    src: &[u16; 1024],
+    dst: &mut [u16; 1024],
+    h: usize,
+    m: usize,
+    u: usize,
+    v: usize,
+)
+    requires { ⌜ (0 < m) × (h * m ≡ 512) × (2 * (h * u) + m * v ≤ 1023 + u + v) × Factors m (now ws) (now fs) ⌝ }
+    requires { ⌜ length (now dst) ≡ 1024 ⌝ }
+    ensures { λ _. ⌜ Crossed (now (src .entry)) (now (ws .entry)) h m u v 512 (now (dst .exit)) ⌝ }
+{
+    let mut o: usize = 0;
+    while o < h {
+        row(ws, fs, src, dst, h, m, u, v, o);
+        o += 1;
     }
 }
 
@@ -120,17 +194,23 @@ fn sums(t: &[u32; 2048], g: &mut [u32; 1024], a: usize)
 {
     let mut p = [0u16; 1024];
     let mut s = [0u16; 1024];
+    let mut ws = [0u16; 512];
+    let mut fs = [0u16; 512];
     narrow(g, &mut p);
-    level(t, &p, &mut s, a, 512, 32);
-    level(t, &s, &mut p, a, 256, 32);
-    level(t, &p, &mut s, a, 128, 32);
-    level(t, &s, &mut p, a, 64, 32);
-    level(t, &p, &mut s, a, 32, 32);
+    level(t, &p, &mut s, a, 512, 16);
+    level(t, &s, &mut p, a, 256, 16);
+    level(t, &p, &mut s, a, 128, 16);
+    level(t, &s, &mut p, a, 64, 16);
+    level(t, &p, &mut s, a, 32, 16);
     level(t, &s, &mut p, a, 16, 16);
-    level(t, &p, &mut s, a, 8, 8);
-    level(t, &s, &mut p, a, 4, 4);
-    level(t, &p, &mut s, a, 2, 2);
-    level(t, &s, &mut p, a, 1, 1);
+    lay(t, &mut ws, &mut fs, a, 8, 64);
+    cross(&ws, &fs, &p, &mut s, 8, 64, 1, 16);
+    lay(t, &mut ws, &mut fs, a, 4, 128);
+    cross(&ws, &fs, &s, &mut p, 4, 128, 128, 1);
+    lay(t, &mut ws, &mut fs, a, 2, 256);
+    cross(&ws, &fs, &p, &mut s, 2, 256, 256, 1);
+    lay(t, &mut ws, &mut fs, a, 1, 512);
+    cross(&ws, &fs, &s, &mut p, 1, 512, 512, 1);
     reduce(&p, g);
 }
 

@@ -7,7 +7,7 @@ returns : tie.Need-returns
 returns c =
     let x : tie.After-tight = search needs in
     let y : tie.After-powered = search needs in
-    stored-is _ _ _ _ _ _ _ _ (x .tight .ensures .0) (y .powered .ensures .0)
+    stored-is _ _ _ _ _ _ _ _ _ (x .tight .ensures .0) (y .powered .ensures .0)
 
 pub join-spec : {M : Type 1} → statement M
 join-spec =

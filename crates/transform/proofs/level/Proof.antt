@@ -28,7 +28,7 @@ within c =
 run-requires : tie.Need-run-requires Inv-loop μ-loop
 run-requires c κs =
     let a : tie.Start Inv-loop μ-loop = search needs in
-    ((a .pre .0 .0, a .pre .0 .1, within (c .before)), (a .pre .1 .0, c .before .before .loop .inv .2))
+    ((a .pre .0 .0, a .pre .0 .1, within (c .before), a .pre .0 .5), (a .pre .1 .0, c .before .before .loop .inv .2))
 
 add-k : tie.Need-add-k Inv-loop μ-loop
 add-k c = omega (arith, within (c .before .before) .block, within (c .before .before) .half)

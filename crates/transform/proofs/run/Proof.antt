@@ -1,9 +1,9 @@
 -- `transform::run` meets its contract: each turn makes one more entry of each half.
-use mathlib.Core.Path.{_≡_, refl}
+use mathlib.Core.Path.{_≡_, refl, _∙_}
 use Prim.Native.Nat.{ℕ, _+_, _-_, _*_, _/_, _≤_, _<_}
 use native.Mathlib.Omega.{arith}
 use native.Mathlib.Nat.{add-zero, div-le-self, div-mul-le-self}
-use lib.ListN.{getD}
+use lib.ListN.{getD, getD-replicate}
 use Rattle.transform.specs.Level.{factor, Butterflies}
 use Rattle.transform.proofs.{Seven.power-lt, Joins.exponent-≤, Joins.run-more}
 use Rattle.transform.proofs.run.Statement.{statement}
@@ -11,10 +11,10 @@ use Rattle.transform.proofs.run.Tie as tie
 use borrow.Author.Needs.{needs}
 
 abbrev Inv-loop : tie.InvT-loop
-Inv-loop t src dst₀ a h c k i r e v w f j₀ dst j = (j ≤ c) × Butterflies src a h (k + j) dst
+Inv-loop t src dst₀ a h c k i r e v w f fs j₀ dst j = (j ≤ c) × Butterflies src a h (k + j) dst
 
 abbrev μ-loop : tie.MeasureT-loop
-μ-loop t src dst₀ a h c k i r e v w f j₀ dst j = c - j
+μ-loop t src dst₀ a h c k i r e v w f fs j₀ dst j = c - j
 
 -- the power that is read
 abbrev exponent : tie.Start Inv-loop μ-loop → ℕ
@@ -41,6 +41,13 @@ add-e c = omega (arith, div-le-self (c .args .k) (c .args .h))
 loop-holds : tie.Need-loop-holds Inv-loop μ-loop
 loop-holds c = (omega arith, rw add-zero (c .before .pre .1 .1))
 
+join-requires : tie.Need-join-requires Inv-loop μ-loop
+join-requires c κs =
+    let d : tie.Start Inv-loop μ-loop = search needs in
+    let l : tie.At-loop Inv-loop μ-loop = search needs in
+    let e : 65536 * getD (d .args .t .now) (exponent d) 0 / 12289 ≡ factor (getD (d .args .t .now) (exponent d) 0) = unfold factor in refl in
+    (getD-replicate 16 (l .loop .j) _ 0 (omega arith) ∙ e, omega arith, omega arith)
+
 loop-again : tie.Need-loop-again Inv-loop μ-loop
 loop-again c =
     let at-loop : tie.At-loop Inv-loop μ-loop = search needs in
@@ -61,6 +68,6 @@ returns c =
 pub run-spec : {M : Type 1} → statement M
 run-spec = tie.close (tie.spec Inv-loop μ-loop (omega arith) mul-r add-r mul-e add-e (λ c. omega (arith, below c))
     (λ c. omega (arith, below c)) (λ c. omega (arith, below c)) (λ c. omega (arith, small (c .before)))
-    (λ c. omega (arith, small (c .before))) (λ c. omega (arith, small (c .before))) loop-holds (omega arith)
-    (omega arith) (λ c κs. unfold factor in (refl, omega arith, omega arith)) (omega arith) (omega arith) loop-again
+    (λ c. omega (arith, small (c .before))) (λ c. omega (arith, small (c .before))) loop-holds (omega arith) (omega arith) (omega arith)
+    (omega arith) join-requires (omega arith) (omega arith) loop-again
     returns)

@@ -3,7 +3,7 @@ use mathlib.Core.Path.{refl, _∙_, ap}
 use native.Mathlib.Omega.{arith}
 use borrow.Author.Needs.{needs}
 use lib.ListN.{length}
-use Rattle.transform.proofs.Levels.{Holds, holds-start, five-levels, holds-end}
+use Rattle.transform.proofs.Levels.{Holds, Placed, holds-start, five-levels, first-across, last-across, in-order, holds-end}
 use Rattle.transform.proofs.sums.Statement.{statement}
 use Rattle.transform.proofs.sums.Tie as tie
 
@@ -11,7 +11,7 @@ use Rattle.transform.proofs.sums.Tie as tie
 abbrev start : tie.After-level5 → tie.Start
 start c = search needs
 
--- what five levels make of the numbers, and ten
+-- what five levels make of the numbers, eight and ten
 half : (c : tie.After-level5) → Holds (start c .args .g .now) (start c .args .a) 32 32 (c .level5 .last .1 .1 .0)
 half c =
     let n : tie.After-narrow = search needs in
@@ -22,60 +22,82 @@ half c =
     five-levels _ _ 1 32 refl (holds-start _ _ _ (n .narrow .ensures) (start c .pre .2))
     (l1 .level .ensures) (l2 .level2 .ensures) (l3 .level3 .ensures) (l4 .level4 .ensures) (c .level5 .ensures)
 
-whole : (c : tie.After-level10) → let s = start (search needs) in Holds (s .args .g .now) (s .args .a) 1024 1 (c .level10 .last .1 .1 .0)
+-- from levels across, those before
+abbrev five : tie.After-cross2 → tie.After-level5
+five c = search needs
+
+abbrev six : tie.After-cross2 → tie.After-level6
+six c = search needs
+
+abbrev powers : tie.After-cross → tie.After-lay
+powers c = search needs
+
+eight : (c : tie.After-cross2) → Placed (start (five c) .args .g .now) (start (five c) .args .a) 256 4 256 1 (c .cross2 .last .1 .1 .1 .0)
+eight c =
+    let p2 : tie.After-lay2 = search needs in
+    let j1 : tie.After-cross = search needs in
+    first-across (half (five c)) (six c .level6 .ensures) (powers j1 .lay .ensures) (j1 .cross .ensures) (p2 .lay2 .ensures) (c .cross2 .ensures)
+
+abbrev eighth : tie.After-cross4 → tie.After-cross2
+eighth c = search needs
+
+abbrev powers3 : tie.After-cross3 → tie.After-lay3
+powers3 c = search needs
+
+whole : (c : tie.After-cross4) → let s = start (five (eighth c)) in Placed (s .args .g .now) (s .args .a) 1024 1 1024 1 (c .cross4 .last .1 .1 .1 .0)
 whole c =
-    let l6 : tie.After-level6 = search needs in
-    let l7 : tie.After-level7 = search needs in
-    let l8 : tie.After-level8 = search needs in
-    let l9 : tie.After-level9 = search needs in
-    five-levels _ _ 32 1 refl (half (search needs))
-    (l6 .level6 .ensures) (l7 .level7 .ensures) (l8 .level8 .ensures) (l9 .level9 .ensures) (c .level10 .ensures)
+    let p4 : tie.After-lay4 = search needs in
+    let j3 : tie.After-cross3 = search needs in
+    last-across (eight (eighth c)) (powers3 j3 .lay3 .ensures) (j3 .cross3 .ensures) (p4 .lay4 .ensures) (c .cross4 .ensures)
 
 level-requires-2 : tie.Need-level-requires-2
 level-requires-2 c κs =
     let s : tie.Start = search needs in
     let n : tie.After-narrow = search needs in
-    ((s .pre .0, omega arith, refl, omega arith, refl), (s .pre .1, ap length (n .narrow .ensures) ∙ s .pre .3))
+    ((s .pre .0, omega arith, refl, omega arith, refl, omega arith), (s .pre .1, ap length (n .narrow .ensures) ∙ s .pre .3))
 
 level-requires-6 : tie.Need-level-requires-6
 level-requires-6 c κs =
     let m : tie.After-level5 = search needs in
     let l : tie.After-level4 = search needs in
-    ((start m .pre .0, omega arith, refl, omega arith, refl), (start m .pre .1, l .level4 .ensures .size))
+    ((start m .pre .0, omega arith, refl, omega arith, refl, omega arith), (start m .pre .1, l .level4 .ensures .size))
 
-level-requires-7 : tie.Need-level-requires-7
-level-requires-7 c κs =
+lay-requires : tie.Need-lay-requires
+lay-requires c κs =
     let m : tie.After-level5 = search needs in
-    ((start m .pre .0, omega arith, refl, omega arith, refl), (start m .pre .1, m .level5 .ensures .size))
+    ((start m .pre .0, omega arith, refl), (start m .pre .1, refl, refl))
 
-level-requires-8 : tie.Need-level-requires-8
-level-requires-8 c κs =
+lay-requires-2 : tie.Need-lay-requires-2
+lay-requires-2 c κs =
     let m : tie.After-level5 = search needs in
-    let l : tie.After-level6 = search needs in
-    ((start m .pre .0, omega arith, refl, omega arith, refl), (start m .pre .1, l .level6 .ensures .size))
+    let p : tie.After-lay = search needs in
+    ((start m .pre .0, omega arith, refl), (start m .pre .1, p .lay .ensures .factors .long, p .lay .ensures .factors .also))
 
-level-requires-9 : tie.Need-level-requires-9
-level-requires-9 c κs =
+lay-requires-3 : tie.Need-lay-requires-3
+lay-requires-3 c κs =
     let m : tie.After-level5 = search needs in
-    let l : tie.After-level7 = search needs in
-    ((start m .pre .0, omega arith, refl, omega arith, refl), (start m .pre .1, l .level7 .ensures .size))
+    let p : tie.After-lay2 = search needs in
+    ((start m .pre .0, omega arith, refl), (start m .pre .1, p .lay2 .ensures .factors .long, p .lay2 .ensures .factors .also))
 
-level-requires-10 : tie.Need-level-requires-10
-level-requires-10 c κs =
-    let m : tie.After-level5 = search needs in
-    let l : tie.After-level8 = search needs in
-    ((start m .pre .0, omega arith, refl, omega arith, refl), (start m .pre .1, l .level8 .ensures .size))
+lay-requires-4 : tie.Need-lay-requires-4
+lay-requires-4 c κs =
+    let l : tie.After-cross3 = search needs in
+    let m = five (search needs) in
+    ((start m .pre .0, omega arith, refl), (start m .pre .1, powers3 l .lay3 .ensures .factors .long, powers3 l .lay3 .ensures .factors .also))
 
 reduce-requires : tie.Need-reduce-requires
 reduce-requires c κs =
-    let m : tie.After-level5 = search needs in
-    let l : tie.After-level10 = search needs in
-    (whole l .small, start m .pre .3)
+    let l : tie.After-cross4 = search needs in
+    (whole l .small, start (five (eighth l)) .pre .3)
 
 returns : tie.Need-returns
-returns c = let l : tie.After-level10 = search needs in c .reduce .ensures ∙ holds-end _ _ _ (whole l)
+returns c = let l : tie.After-cross4 = search needs in c .reduce .ensures ∙ holds-end _ _ _ (in-order (whole l))
 
 pub sums-spec : {M : Type 1} → statement M
 sums-spec = tie.close (tie.spec (λ c κs. search needs) (λ c κs. search needs) level-requires-2 (λ c κs. search needs)
-    (λ c κs. search needs) (λ c κs. search needs) level-requires-6 level-requires-7 level-requires-8
-    level-requires-9 level-requires-10 reduce-requires returns)
+    (λ c κs. search needs) (λ c κs. search needs) level-requires-6
+    lay-requires (λ c κs. let p : tie.After-lay = search needs in let l : tie.After-level5 = search needs in ((omega arith, refl, omega arith, p .lay .ensures .factors), l .level5 .ensures .size))
+    lay-requires-2 (λ c κs. let p : tie.After-lay2 = search needs in let l : tie.After-level6 = search needs in ((omega arith, refl, omega arith, p .lay2 .ensures .factors), l .level6 .ensures .size))
+    lay-requires-3 (λ c κs. let p : tie.After-lay3 = search needs in let l : tie.After-cross = search needs in ((omega arith, refl, omega arith, p .lay3 .ensures .factors), l .cross .ensures .size))
+    lay-requires-4 (λ c κs. let p : tie.After-lay4 = search needs in let l : tie.After-cross2 = search needs in ((omega arith, refl, omega arith, p .lay4 .ensures .factors), l .cross2 .ensures .size))
+    reduce-requires returns)
