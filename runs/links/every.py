@@ -6,10 +6,22 @@ import subprocess
 from links.disk import Disk
 from on_files.common import counts, hold, read
 
+KILLED = -9
 # what changes a file or brings it to the disk; what is opened and made is seen at the next of them
 CHANGES = ("mkdir", "write", "fsync", "rename", "renameat2", "link", "linkat", "unlink",
            "fchmod")
 SEEN = CHANGES + ("openat", "close", "lseek", "renameat", "unlinkat")
+
+
+def struck(words, log, call, k):
+    """A command, killed at its k-th such call where it makes so many: its status, what it told on
+    both ways, and its calls. (strace itself ends by the signal, as the program does.)"""
+    done = subprocess.run(
+        ["strace", "-o", log, "-xx", "-s", "99999", "-e", "trace=" + ",".join(SEEN),
+         "-e", f"inject={call}:signal=SIGKILL:when={k}", *words],
+        stdin=subprocess.DEVNULL, capture_output=True, text=True)
+    with open(log) as f:
+        return done.returncode, done.stdout, done.stderr, f.read()
 
 
 class Link:
@@ -39,17 +51,6 @@ class Link:
     def run(self, step):
         return subprocess.run(self.words(step), capture_output=True, text=True)
 
-    def killed(self, step, call, k):
-        """The step, killed at its k-th such call; what it told, and the log, or nothing where it
-        was not killed. (strace itself ends by the signal, as the program does.)"""
-        log = self.room + ".log"
-        done = subprocess.run(
-            ["strace", "-o", log, "-xx", "-s", "99999", "-e", "trace=" + ",".join(SEEN),
-             "-e", f"inject={call}:signal=SIGKILL:when={k}", *self.words(step)],
-            capture_output=True, text=True)
-        with open(log) as f:
-            return (done.stdout, f.read()) if done.returncode == -9 else None
-
 
 STEPS = [("left", "open"), ("right", "answer"), ("left", "finish"), ("left", "key"),
          ("right", "key"), ("left", "close"), ("right", "close")]
@@ -74,11 +75,12 @@ def said(lines):
 
 def goes_on(link, i, told, what):
     """The step is given again and the link goes on to its end: what was told holds."""
-    end, action = STEPS[i]
-    if action == "key" and os.path.exists(link.name(end + ".key")):
-        key = link.name(end + ".key")
+    (end, action), key = STEPS[i], link.name(STEPS[i][0] + ".key")
+    if action == "key" and os.path.exists(key):
         hold("every", len(read(key)) == 32, f"{what}: half a key")
         os.remove(key)
+    elif action == "key":
+        hold("every", told == "", f"{what}: a key that was told is lost")
     done = link.run(STEPS[i])
     if action == "open" and done.returncode == 1:
         fine = "refusal=10 place=0 stage=offered" in done.stderr and "send=" in done.stdout
@@ -110,12 +112,16 @@ def run(program, folder):
             for k in range(1, 200):
                 restored(link, before, i)
                 disk = Disk(room)
-                killed = link.killed(step, call, k)
-                if killed is None:
-                    break
-                counts["kills by strace"] = counts.get("kills by strace", 0) + 1
-                told, log = killed
+                status, told, _, log = struck(link.words(step), room + ".log", call, k)
                 what = f"{step} killed at {call} {k}"
-                goes_on(link, i, told, what)
-                disk.replay(log).restore()
-                goes_on(link, i, told, what + ", not synced")
+                if status == KILLED:
+                    counts["kills by strace"] = counts.get("kills by strace", 0) + 1
+                    goes_on(link, i, told, what)
+                    disk.replay(log).restore()
+                    goes_on(link, i, told, what + ", not synced")
+                    continue
+                if call == CHANGES[0]:
+                    # it has told its lines, and then the power is cut
+                    disk.replay(log).restore()
+                    goes_on(link, i, told, f"{step} done, not synced")
+                break

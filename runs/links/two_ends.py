@@ -4,17 +4,19 @@ import re
 import subprocess
 import time
 
+from links.disk import Disk
+from links.every import CHANGES, KILLED, struck
 from on_files.common import counts, hold, read, write
 
 LONGEST = 40  # tries of one command, after which something is wrong
-KILLED = -9
 
 
 class End:
     """One end of a link, and all that its commands told of it."""
 
-    def __init__(self, program, folder, name, rand):
-        self.program, self.rand = program, rand
+    def __init__(self, program, folder, name, rand, cuts):
+        """Where there are power cuts, by strace, a command in eight has one."""
+        self.program, self.rand, self.room, self.cuts = program, rand, folder, cuts
         self.folder = os.path.join(folder, name)
         self.keys = os.path.join(folder, name + ".key")
         self.said, self.finished, self.tries = set(), 0, 0
@@ -30,8 +32,20 @@ class End:
         hold("random", False, f"{words} is killed again and again")
         return KILLED, "", ""
 
+    def cut(self, *words):
+        """The power is cut at one of the calls that change a file, or once the command has told its
+        lines: what was not brought to the disk is thrown away."""
+        disk = Disk(self.room)
+        call, k = self.rand.choice(CHANGES), self.rand.randint(1, 9)
+        *told, log = struck([self.program, "link", *words], self.room + ".log", call, k)
+        disk.replay(log).restore()
+        counts["power cuts"] = counts.get("power cuts", 0) + 1
+        return told
+
     def once(self, *words):
         self.tries += 1
+        if self.cuts and self.rand.random() < 0.125:
+            return self.cut(*words)
         program = subprocess.Popen([self.program, "link", *words], stdin=subprocess.DEVNULL,
                                    stdout=subprocess.PIPE, stderr=subprocess.PIPE, text=True)
         if self.rand.random() < 0.4:
@@ -159,9 +173,11 @@ def keyed(opener, replier):
     return both
 
 
-def run(program, folder, links, rand):
-    ends = [End(program, folder, name, rand) for name in ("left", "right")]
-    way, made = Way(folder, rand), 0
+def run(program, folder, links, rand, cuts):
+    room = os.path.join(folder, "room")
+    os.mkdir(room)
+    ends = [End(program, room, name, rand, cuts) for name in ("left", "right")]
+    way, made = Way(room, rand), 0
     while made < links:
         # either end may open; another scheme each time
         opener, replier = rand.sample(ends, 2)
