@@ -238,18 +238,21 @@ def whole(links):
 
 
 def full(both):
-    """A session is closed on a drive that is full, and with a second name that a killed run left;
-    so is a link. It takes a drive of its own, for those who may make one."""
+    """A session is closed on a drive that has no room, not for another name either, and with a second
+    name that a killed run left; so is a link. It takes a drive of its own, for those who may make
+    one."""
     folder, key = both.name("drive"), laid(2, 1, bytes(range(32)))
     os.mkdir(folder)
     write(both.name("keyed"), key)
     run([both.program, "link", "open", both.name("opened"), "1"])
     script = f"""set -e
-        mount -t tmpfs -o size=64k none {folder}
+        mount -t tmpfs -o size=64k,nr_inodes=32 none {folder}
         cp {both.name("keyed")} {folder}/link
         cp -a {both.name("opened")} {folder}
         cat /dev/zero >{folder}/fill 2>/dev/null || true
         ln {folder}/link {folder}/.wimmostry-0123456789abcdef
+        mkdir {folder}/many
+        n=0; while (: >{folder}/many/$n) 2>/dev/null; do n=$((n + 1)); done
         {both.program} session {folder}/link close 2>{both.name("said")}
         cat {folder}/link >{both.name("closed")}
         {both.program} link close {folder}/opened
@@ -258,8 +261,9 @@ def full(both):
     if status and b"unshare" in error or b"mount" in error:
         print(f"box: no drive of its own: a full one was not tried: {error!r}")
     else:
-        said = f"stage=idle\nstage=idle\nwiped=4226\n{folder}:\nfill\nlink\nopened\n{folder}/opened:\n"
-        fine = status == 0 and text == said.encode() + b"session\n"
+        said = f"stage=idle\nstage=idle\nwiped=4226\n{folder}:\nfill\nlink\nmany\nopened\n"
+        said += f"{folder}/opened:\nsession\n"
+        fine = status == 0 and text == said.encode()
         fine = fine and read(both.name("closed")) == bytes(BYTES)
         fine = fine and b"left by a run that was killed: wiped" in read(both.name("said"))
         hold("session", fine, f"close on a full drive: {status} {text!r} {error!r}")
