@@ -1,5 +1,5 @@
 -- Offer's begin and end: what passed tests say, and their promises by their verdict.
---   begin-sizes                  the sizes of begin, one test after the other
+--   begin-tests                  the tests of begin, one after the other
 --   OfferSized, begin-sized      what passed tests of begin say
 --   begin-unknown, begin-known   what is seen where the number names no scheme of Frodo's, and where it names one
 --   seed-bytes                   the seed, as a state keeps it
@@ -16,7 +16,7 @@ use Rattle.schemes.specs.declared.{Named.Named, Scheme.Scheme, Fixed.Fixed}
 use Rattle.schemes.specs.declared.Named.the-variants.{Known, Unknown}
 use Rattle.lists.specs.Ranges.{Below}
 use Rattle.lists.proofs.Same.{zeros-long}
-use Rattle.refusals.specs.Refusals.{_then_, lengthIs, inTurn, roomFor, notBlank}
+use Rattle.refusals.specs.Refusals.{_then_, lengthIs, inTurn, roomFor, notBlank, secretsIn}
 use Rattle.refusals.specs.{Seen.ifPassed, Seen.Seen, Seen.told, Seen.seen, Seen.shown, declared.Verdict.Verdict}
 use Rattle.refusals.specs.declared.{Answer.Answer, Answer.the-variants.Done, Answer.the-variants.Refused, Refusal.Refusal}
 use Rattle.refusals.specs.declared.Verdict.the-variants.{Pass, Fail}
@@ -30,7 +30,7 @@ use Rattle.rows_state.proofs.{Turns.state-by, Laying.kept-long}
 use Rattle.rows_state.proofs.Tests.{passed, all-below, started, completes, frodos}
 use Rattle.rows.specs.Offer.{OfferBegin, offerBeginTests, offerBeginResult, sentPart}
 use Rattle.rows.specs.Offer.{offerEndTests, offerEndMessage, offerEndResult}
-use Rattle.rows.specs.Inside.{offerBeginSizes, offerEndSizes}
+use Rattle.rows.specs.Inside.{offerEndSizes}
 use Rattle.rows.proofs.Ends.{last-length, frodo-known, end-by}
 use Rattle.rows.proofs.{Running.kept-still, Sending.sent-counted}
 
@@ -42,11 +42,11 @@ pub record OfferSized (c : Scheme) (x : OfferBegin) (m : ℕ) : Type 0 where
   pub seed : length (x .seed) ≡ fixedOf c .seed
   pub state : m ≡ long (fixedOf c .n)
 
-pub begin-sizes : (c : Scheme) (x : OfferBegin) (m : ℕ) {f : Fixed} {u v w r : Verdict} → f ≡ fixedOf c → u ≡ Pass then lengthIs (length (x .s)) (f .secret)
-    → v ≡ u then lengthIs (length (x .e)) (f .noise) → w ≡ v then lengthIs (length (x .seed)) (f .seed) → r ≡ w then lengthIs m (long (f .n))
-    → r ≡ offerBeginSizes c x m
-unfolding offerBeginSizes
-begin-sizes c x m e a b d g = rw e at (also g (also d (also b (first a refl) refl) refl) refl)
+pub begin-tests : (c : Scheme) (x : OfferBegin) (m : ℕ) {f : Fixed} {t u v w y r : Verdict} → f ≡ fixedOf c → u ≡ Pass then lengthIs (length (x .s)) (f .secret)
+    → v ≡ u then lengthIs (length (x .e)) (f .noise) → w ≡ v then lengthIs (length (x .seed)) (f .seed) → t ≡ w then lengthIs m (long (f .n))
+    → y ≡ t then secretsIn (f .largest) (x .s) → r ≡ y then secretsIn (f .largest) (x .e) → r ≡ offerBeginTests (Known c) x m
+unfolding offerBeginTests
+begin-tests c x m e a b d g h k = rw e at (also k (also h (also g (also d (also b (first a refl) refl) refl) refl) refl) refl)
 
 pub begin-sized : (c : Scheme) (x : OfferBegin) (m : ℕ) → offerBeginTests (Known c) x m ≡ Pass → OfferSized c x m
 unfolding offerBeginTests

@@ -1,6 +1,6 @@
 -- What the steps of begin and end ask of each other.
---   offerBeginSizes c x m, replyBeginSizes c x m   the first tests of begin: of lengths
---   replyBeginRest c x        those of Reply's begin behind them: of the opening, and of the secrets
+--   replyBeginSizes c x m     the first tests of Reply's begin: of lengths
+--   replyBeginRest c x        those behind them: of the opening, and of the secrets
 --   offerEndSizes c st n, replyEndSizes c st m     the first tests of end: of its turn, and of rooms
 --   verdictOf r               the verdict of an answer
 --   Sent r st m message key   what Reply's end answers, and what it leaves of message and key, with the rooms m
@@ -15,13 +15,7 @@ use Rattle.wire.specs.{Wire.openedIn, Steps.replySecrets}
 use Rattle.reply.specs.{Reply.ReplyRooms, Reply.replyTold, declared.ReplyAnswer.ReplyAnswer}
 use Rattle.reply.specs.declared.ReplyAnswer.the-variants.{Done, Refused}
 use Rattle.rows_state.specs.{State.long, State.named, State.complete, declared.Call.Call}
-use Rattle.rows.specs.{Offer.OfferBegin, Reply.ReplyBegin}
-use Rattle.rows.specs.Reply.{replyEndTests, replyEndMessage, replyEndKey}
-
-unfoldable pub offerBeginSizes : Scheme → OfferBegin → ℕ → Verdict
-offerBeginSizes c x m =
-    lengthIs (length (x .s)) (fixedOf c .secret) then lengthIs (length (x .e)) (fixedOf c .noise)
-    then lengthIs (length (x .seed)) (fixedOf c .seed) then lengthIs m (long (fixedOf c .n))
+use Rattle.rows.specs.Reply.{ReplyBegin, replyEndTests, replyEndMessage, replyEndKey}
 
 unfoldable pub replyBeginSizes : Scheme → ReplyBegin → ℕ → Verdict
 replyBeginSizes c x m =

@@ -15,7 +15,7 @@ ghost use Rattle.refusals.specs.Steps.{Laid};
 ghost use Rattle.rows_state.specs.State.{begun};
 ghost use Rattle.rows_state.specs.Part.{stateSeen};
 ghost use Rattle.rows.specs.Offer.{offerBegin, offerBeginTests, offerBeginResult, sentPart, offerEndMessage, offerEndResult};
-ghost use Rattle.rows.specs.Inside.{offerBeginSizes, offerEndSizes};
+ghost use Rattle.rows.specs.Inside.{offerEndSizes};
 use refusals::Answer;
 use refusals::Refusal;
 use refusals::Verdict;
@@ -23,23 +23,15 @@ use rows_state::Call;
 use schemes::Named;
 use schemes::Scheme;
 
-fn begin_sizes(scheme: Scheme, s: &[i32], e: &[i32], seed: &[u8], room: usize) -> Verdict
-    requires { ⌜ fixedOf scheme .n ≤ 864 ⌝ }
-    ensures { λ r. ⌜ r ≡ offerBeginSizes scheme (offerBegin s e seed) room ⌝ }
-{
-    let f = scheme.fixed();
-    let v = refusals::length_is(Verdict::Pass, s.len(), f.secret);
-    let v = refusals::length_is(v, e.len(), f.noise);
-    let v = refusals::length_is(v, seed.len(), f.seed);
-    refusals::length_is(v, room, 16 * f.n + 67)
-}
-
 fn begin_tests(scheme: Scheme, s: &[i32], e: &[i32], seed: &[u8], room: usize) -> Verdict
     requires { ⌜ fixedOf scheme .n ≤ 864 ⌝ }
     ensures { λ r. ⌜ r ≡ offerBeginTests (Known scheme) (offerBegin s e seed) room ⌝ }
 {
     let f = scheme.fixed();
-    let v = begin_sizes(scheme, s, e, seed, room);
+    let v = refusals::length_is(Verdict::Pass, s.len(), f.secret);
+    let v = refusals::length_is(v, e.len(), f.noise);
+    let v = refusals::length_is(v, seed.len(), f.seed);
+    let v = refusals::length_is(v, room, 16 * f.n + 67);
     let v = refusals::secrets_in(v, f.largest, s);
     refusals::secrets_in(v, f.largest, e)
 }

@@ -12,10 +12,8 @@ ghost use Rattle.refusals.specs.Refusals.{notBlank};
 ghost use Rattle.refusals.specs.Seen.{ifPassed};
 ghost use Rattle.refusals.specs.Steps.{Laid};
 ghost use Rattle.refusals.specs.declared.Verdict.the-variants.{Pass};
-ghost use Rattle.values.specs.Fit.{Counted, Small};
-ghost use Rattle.values.specs.Values.{mixedValue};
 ghost use Rattle.reply.specs.Reply.{replyRoomsOf};
-ghost use Rattle.rows_state.specs.State.{long, laid, fresh, begun};
+ghost use Rattle.rows_state.specs.State.{begun};
 ghost use Rattle.rows_state.specs.Part.{stateSeen};
 ghost use Rattle.rows.specs.Offer.{sentPart};
 ghost use Rattle.rows.specs.Reply.{replyBeginOf, replyBegin, replyState, replyBeginResult, replyEndMessage, replyEndKey};
@@ -47,28 +45,8 @@ fn begin_sizes(
     refusals::length_is(v, room, 16 * f.n + 67)
 }
 
-// The state, which is zeros. V needs only the opening, whose numbers are b, and is made here.
-fn lay_state(
-    scheme: Scheme,
-    n: usize,
-    b: &[u32],
-    s1: &[i32],
-    e1: &[i32],
-    e2: &[i32],
-    state: &mut [u32],
-)
-    requires { ⌜ (familyOf scheme ≡ Family.Frodo) × (n ≡ fixedOf scheme .n) ⌝ }
-    requires { ⌜ (length (now state) ≡ long n) × (now state ≡ replicate (length (now state)) 0) ⌝ }
-    requires { ⌜ Counted (fixedOf scheme .secret) (fixedOf scheme .q) (now b) × (length (now e1) ≡ fixedOf scheme .noise) ⌝ }
-    requires { ⌜ Small (fixedOf scheme .secret) (fixedOf scheme .largest) (now s1) × Small (fixedOf scheme .mixed) (fixedOf scheme .largest) (now e2) ⌝ }
-    ensures { λ _. ⌜ left state ≡ laid (fresh Call.Reply scheme (mixedValue scheme (was b) (was s1) (was e2)) (was s1) (was e1)) ⌝ }
-{
-    values::products::mix(scheme, b, s1, e2, &mut state[3..67]);
-    rows_state::state::lay_state(Call::Reply, scheme, n, s1, e1, state);
-}
-
-// Where the sizes have passed: the opening's numbers, of which no scheme has more than 6912, the rest of the tests, and the state. A refused opening ends the call
-// here.
+// Where the sizes have passed: the opening's numbers, of which no scheme has more than 6912, the rest of the tests, and the state. V needs only the opening, and is
+// made here. A refused opening ends the call.
 fn begin_sized(
     scheme: Scheme,
     opening: &[u8],
@@ -87,14 +65,14 @@ fn begin_sized(
     let mut b = [0u32; 6912];
     let v = wire::take_opening(scheme, opening, &mut b[..m]);
     let Verdict::Pass = v else {
-        lists::zero_numbers(state);
         return v;
     };
     let v = wire::steps::reply_secrets(scheme, s1, e1, e2);
     match v {
         Verdict::Fail(r) => Verdict::Fail(r),
         Verdict::Pass => {
-            lay_state(scheme, f.n, &b[..m], s1, e1, e2, state);
+            values::products::mix(scheme, &b[..m], s1, e2, &mut state[3..67]);
+            rows_state::state::lay_state(Call::Reply, scheme, f.n, s1, e1, state);
             Verdict::Pass
         }
     }

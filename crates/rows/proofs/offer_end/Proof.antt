@@ -23,4 +23,5 @@ returns-2 c =
 pub offer-end-spec : {M : Type 1} → statement M
 offer-end-spec =
     tie.close
-    (tie.spec (λ c κs. search needs) (search needs) (search needs) (λ c κs. search needs) (search needs) (search needs) returns (search needs) (search needs) returns-2)
+    (tie.spec (λ c κs. search needs) (search needs) (search needs) (λ c κs. search needs) (search needs) (search needs) returns (search needs) (search needs)
+    returns-2)

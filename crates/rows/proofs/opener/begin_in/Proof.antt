@@ -89,16 +89,5 @@ returns-2 c =
 pub begin-in-spec : {M : Type 1} → statement M
 begin-in-spec =
     tie.close
-    (tie.spec
-    (λ c κs. search needs)
-    begin-tests-requires
-    (search needs)
-    (search needs)
-    (search needs)
-    (search needs)
-    part-lay-seed-end
-    lay-seed-requires
-    lay-state-requires
-    returns
-    (search needs)
-    returns-2)
+    (tie.spec (λ c κs. search needs) begin-tests-requires (search needs) (search needs) (search needs) (search needs) part-lay-seed-end lay-seed-requires
+    lay-state-requires returns (search needs) returns-2)

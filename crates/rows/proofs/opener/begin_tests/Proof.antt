@@ -1,20 +1,17 @@
 -- `rows::opener::begin_tests` meets its contract: one test after the other.
-use mathlib.Core.Path.{refl}
+use mathlib.Core.Path.{ap}
+use Prim.Native.Nat.{_≤_}
+use native.Mathlib.Omega.{arith}
 use borrow.Author.Needs.{needs}
-use Rattle.refusals.proofs.Laws.{also}
-use Rattle.rows.specs.{Offer.offerBeginTests, Inside.offerBeginSizes}
-use Rattle.rows.proofs.opener.begin_tests.Statement.{statement}
+use Rattle.schemes.specs.declared.Fixed.{Fixed}
+use Rattle.rows.proofs.{Opening.begin-tests, opener.begin_tests.Statement.statement}
 use Rattle.rows.proofs.opener.begin_tests.Tie as tie
 
-returns : tie.Need-returns
-unfolding offerBeginTests offerBeginSizes
-returns c =
-    let s : tie.After-secrets-in = search needs in
-    let z : tie.After-begin-sizes = search needs in
-    let f : tie.After-fixed = search needs in
-    rw (f .fixed .ensures) at (also (c .secrets-in2 .ensures) (also (s .secrets-in .ensures) (z .begin-sizes .ensures) refl) refl)
+few : (f : tie.After-fixed) → f .fixed .result .n ≤ 864
+few f = let s : tie.Start = search needs in omega (arith, ap (λ (g : Fixed). g .n) (f .fixed .ensures), s .pre)
 
 pub begin-tests-spec : {M : Type 1} → statement M
 begin-tests-spec =
     tie.close
-    (tie.spec (λ c κs. search needs) (λ c κs. search needs) (λ c κs. search needs) (λ c κs. search needs) returns)
+    (tie.spec (λ c κs. search needs) (λ c κs. search needs) (λ c κs. search needs) (λ c κs. search needs) (λ c. omega (arith, few (search needs)))
+    (λ c. omega (arith, few (search needs))) (λ c κs. search needs) (λ c κs. search needs) (λ c κs. search needs) (λ c. search (needs, begin-tests)))

@@ -121,19 +121,5 @@ returns c =
 pub lay-spec : {M : Type 1} → statement M
 lay-spec =
     tie.close
-    (tie.spec
-    (λ c κs. search needs)
-    (search needs)
-    (search needs)
-    part-gather-end
-    (search needs)
-    gather-requires
-    array-borrow-prefix-b
-    slice-aggregate-reduce
-    reduce-requires
-    array-share-prefix-b
-    slice-aggregate-lay-numbers
-    (search needs)
-    lay-numbers-requires
-    (search needs)
-    returns)
+    (tie.spec (λ c κs. search needs) (search needs) (search needs) part-gather-end (search needs) gather-requires array-borrow-prefix-b
+    slice-aggregate-reduce reduce-requires array-share-prefix-b slice-aggregate-lay-numbers (search needs) lay-numbers-requires (search needs) returns)

@@ -41,11 +41,4 @@ returns-2 c =
 pub begin-in-spec : {M : Type 1} → statement M
 begin-in-spec =
     tie.close
-    (tie.spec
-    begin-sizes-requires
-    (search needs)
-    (search needs)
-    begin-sized-requires
-    returns
-    (search needs)
-    returns-2)
+    (tie.spec begin-sizes-requires (search needs) (search needs) begin-sized-requires returns (search needs) returns-2)

@@ -5,15 +5,18 @@ use native.Mathlib.Omega.{arith}
 use lib.ListN.{length}
 use Rattle.schemes.specs.{Schemes.fixedOf, declared.Fixed.Fixed, declared.Named.the-variants.Known}
 use Rattle.schemes.proofs.Sound.{sound}
-use Rattle.lists.proofs.Parts.{buffer-long, front-long}
+use Rattle.lists.proofs.Parts.{part-long, buffer-long, front-long}
 use Rattle.packing.proofs.Laws.{unpacked-length}
 use Rattle.refusals.specs.{Refusals.notBlank, Seen.ifPassed, declared.Verdict.Verdict}
 use Rattle.refusals.proofs.{Laws.failed, Laws.went-on, Steps.front-is, Steps.front-fits}
 use Rattle.values.specs.Values.{mixedValue}
+use Rattle.values.proofs.{Numbers.numbers-in, Ranges.mixed-counted}
 use Rattle.wire.specs.Wire.{openedIn, numbersIn}
 use Rattle.wire.proofs.Travel.{message-counted}
 use Rattle.reply.proofs.Replying.{secrets-small}
-use Rattle.rows_state.specs.{State.long, State.laid, State.fresh, declared.Call.Call}
+use Rattle.rows_state.specs.{State.laid, State.fresh, declared.Call.Call}
+use Rattle.rows_state.proofs.Tests.{frodos}
+use Rattle.rows_state.proofs.Laying.{keeping-long, keeping-kept, keeping-is}
 use Rattle.rows.specs.Reply.{ReplyBegin, replyBeginOf, valueOf, replyState}
 use Rattle.rows.specs.Inside.{replyBeginRest}
 use Rattle.rows.proofs.Replying.{Sized, begin-sized, opened-tests}
@@ -27,9 +30,6 @@ passing c = search needs
 
 abbrev opened : tie.After-enum-told → tie.After-take-opening
 opened c = search needs
-
-abbrev failing : tie.After-zero-numbers → tie.After-enum-told2
-failing c = search needs
 
 abbrev refused : tie.After-enum-told2 → tie.After-take-opening
 refused c = search needs
@@ -56,6 +56,11 @@ module _ (x : tie.After-fixed) where
   numbers-long : length (numbersIn (start x .args .scheme) (openedIn (start x .args .scheme) (start x .args .opening .now))) ≡ x .fixed .result .secret
   unfolding numbersIn
   numbers-long = unpacked-length _ _ _ ∙ sym many
+
+  value-long : (xs : List ℕ) → let a = start x .args in length (mixedValue (a .scheme) xs (a .s1 .now) (a .e2 .now)) ≡ 64
+  value-long xs =
+      let b = start x in
+      mixed-counted (b .args .scheme) xs (b .args .s1 .now) (b .args .e2 .now) .long ∙ numbers-in (b .args .scheme) (b .pre .0 .0) .mixed
 
 -- the unpack step's verdict, without the test that cannot fail
 unpacked : (t : tie.After-take-opening) → let a = start (fixing t) .args in t .take-opening .result ≡ notBlank (openedIn (a .scheme) (a .opening .now))
@@ -85,14 +90,19 @@ array-share-prefix-b c =
     let t = opened (passing s) in
     front-fits _ (t .take-opening .ensures .1) (numbers-long (fixing t)) _
 
-slice-aggregate-lay-state : tie.Need-slice-aggregate-lay-state
-slice-aggregate-lay-state c =
+slice-aggregate-mix : tie.Need-slice-aggregate-mix
+slice-aggregate-mix c =
     let s : tie.After-reply-secrets = search needs in
     let t = opened (passing s) in
     sym (front-long _ _ (front-fits _ (t .take-opening .ensures .1) (numbers-long (fixing t)) _))
 
-lay-state-requires : tie.Need-lay-state-requires
-lay-state-requires c κs =
+part-mix-end : tie.Need-part-mix-end
+part-mix-end c =
+    let s : tie.After-reply-secrets = search needs in
+    omega (arith, sized (fixing (opened (passing s))) .state-long)
+
+mix-requires : tie.Need-mix-requires
+mix-requires c κs =
     let g : tie.After-enum-told3 = search needs in
     let s : tie.After-reply-secrets = search needs in
     let o = passing s in
@@ -102,33 +112,48 @@ lay-state-requires c κs =
     let a = b .args in
     let z = sized x in
     let v = t .take-opening .ensures in
-    let n = ap (λ (f : Fixed). f .n) (x .fixed .ensures) in
     let w = secrets-small (a .scheme) (a .s1 .now) (a .e1 .now) (a .e2 .now) (sym (s .reply-secrets .ensures) ∙ g .enum-told3 .given .1) in (
-      (b .pre .0 .0, n),
       (
-        (z .state-long ∙ ap long (sym n), b .pre .0 .1),
-        (
-          (message-counted (a .scheme) (openedIn (a .scheme) (a .opening .now)) (front-is _ (v .1) (numbers-long x) _) (v .0) (o .enum-told .given .1), z .noise-long),
-          (record { long = z .secret-long; within = w .0 }, record { long = z .last-long; within = w .2 }),
-        ),
+        message-counted (a .scheme) (openedIn (a .scheme) (a .opening .now)) (front-is _ (v .1) (numbers-long x) _) (v .0) (o .enum-told .given .1),
+        part-long 3 64 (a .state .now) (omega (arith, z .state-long)) ∙ sym (numbers-in (a .scheme) (b .pre .0 .0) .mixed),
       ),
+      (record { long = z .secret-long; within = w .0 }, record { long = z .last-long; within = w .2 }),
+    )
+
+lay-state-requires : tie.Need-lay-state-requires
+lay-state-requires c κs =
+    let m : tie.After-mix = search needs in
+    let s : tie.After-reply-secrets = search needs in
+    let x = fixing (opened (passing s)) in
+    let b = start x in
+    let a = b .args in
+    let z = sized x in
+    let h = numbers-in (a .scheme) (b .pre .0 .0) in
+    let n = fixedOf (a .scheme) .n in
+    rw (x .fixed .ensures) (
+      (
+        record {
+          some = h .some;
+          few = h .few;
+          sixteens = frodos (a .scheme) (b .pre .0 .0) .sixteens;
+          long = keeping-long n (a .state .now) (z .state-long) (b .pre .0 .1) (m .mix .ensures) (value-long x _);
+        },
+        refl,
+        keeping-is n (a .state .now) (z .state-long) (b .pre .0 .1) (m .mix .ensures) (value-long x _),
+      ),
+      (z .secret-long ∙ h .secret, z .noise-long ∙ h .noise),
     )
 
 -- a refused opening
 returns : tie.Need-returns
 unfolding replyBeginRest
 returns c =
-    let z : tie.After-zero-numbers = search needs in
-    let o = failing z in
+    let o : tie.After-enum-told2 = search needs in
     let t = refused o in
     let x = fixing t in
     let b = start x in
-    let e = o .enum-told2 .given .1 in (
-      e ∙ sym (failed _ (unpacked t) e),
-      z .zero-numbers .ensures
-          ∙ sym (b .pre .0 .1)
-          ∙ ap (λ (v : Verdict). ifPassed v (replyState (Known (b .args .scheme)) (lent x)) (b .args .state .now)) (sym e),
-    )
+    let e = o .enum-told2 .given .1 in
+    (e ∙ sym (failed _ (unpacked t) e), ap (λ (v : Verdict). ifPassed v (replyState (Known (b .args .scheme)) (lent x)) (b .args .state .now)) (sym e))
 
 returns-2 : tie.Need-returns-2
 returns-2 c =
@@ -140,6 +165,7 @@ returns-3 : tie.Need-returns-3
 unfolding replyState valueOf
 returns-3 c =
     let l : tie.After-lay-state = search needs in
+    let m : tie.After-mix = search needs in
     let g : tie.After-enum-told3 = search needs in
     let s : tie.After-reply-secrets = search needs in
     let t = opened (passing s) in
@@ -147,29 +173,14 @@ returns-3 c =
     let a = start x .args in (
       sym (g .enum-told3 .given .1) ∙ tested s,
       l .lay-state .ensures
-          ∙ ap (λ (xs : List ℕ). laid (fresh Call.Reply (a .scheme) (mixedValue (a .scheme) xs (a .s1 .now) (a .e2 .now)) (a .s1 .now) (a .e1 .now)))
-          (front-is _ (t .take-opening .ensures .1) (numbers-long x) _),
+          ∙ ap (λ (v : List ℕ). laid (fresh Call.Reply (a .scheme) v (a .s1 .now) (a .e1 .now)))
+          (keeping-kept (fixedOf (a .scheme) .n) (a .state .now) (sized x .state-long) (start x .pre .0 .1) (m .mix .ensures) (value-long x _)
+          ∙ ap (λ (xs : List ℕ). mixedValue (a .scheme) xs (a .s1 .now) (a .e2 .now)) (front-is _ (t .take-opening .ensures .1) (numbers-long x) _)),
     )
 
 pub begin-sized-spec : {M : Type 1} → statement M
 begin-sized-spec =
     tie.close
-    (tie.spec
-    (λ c κs. search needs)
-    array-borrow-prefix-b
-    slice-aggregate-take-opening
-    take-opening-requires
-    (search needs)
-    (search needs)
-    (λ c κs. search needs)
-    (search needs)
-    returns
-    (λ c κs. search needs)
-    (search needs)
-    (search needs)
-    array-share-prefix-b
-    slice-aggregate-lay-state
-    lay-state-requires
-    returns-2
-    (search needs)
-    returns-3)
+    (tie.spec (λ c κs. search needs) array-borrow-prefix-b slice-aggregate-take-opening take-opening-requires (search needs) (search needs) returns
+    (λ c κs. search needs) (search needs) (search needs) array-share-prefix-b slice-aggregate-mix (search needs) (search needs) part-mix-end mix-requires
+    lay-state-requires returns-2 (search needs) returns-3)

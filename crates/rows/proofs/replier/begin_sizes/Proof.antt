@@ -33,4 +33,5 @@ returns c =
 pub begin-sizes-spec : {M : Type 1} → statement M
 begin-sizes-spec =
     tie.close
-    (tie.spec (λ c κs. search needs) (λ c κs. search needs) (λ c κs. search needs) (λ c κs. search needs) (λ c κs. search needs) mul-length-is add-length-is (λ c κs. search needs) returns)
+    (tie.spec (λ c κs. search needs) (λ c κs. search needs) (λ c κs. search needs) (λ c κs. search needs) (λ c κs. search needs) mul-length-is add-length-is
+    (λ c κs. search needs) returns)

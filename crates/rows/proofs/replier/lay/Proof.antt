@@ -111,21 +111,6 @@ returns c =
 pub lay-spec : {M : Type 1} → statement M
 lay-spec =
     tie.close
-    (tie.spec
-    (λ c κs. search needs)
-    array-borrow-prefix-u
-    slice-aggregate-reduce
-    reduce-requires
-    array-share-prefix-u
-    slice-aggregate-lay-values
-    (search needs)
-    (search needs)
-    part-lay-values-end
-    (search needs)
-    (search needs)
-    (search needs)
-    (search needs)
-    lay-values-requires
-    (search needs)
-    (search needs)
-    returns)
+    (tie.spec (λ c κs. search needs) array-borrow-prefix-u slice-aggregate-reduce reduce-requires array-share-prefix-u slice-aggregate-lay-values
+    (search needs) (search needs) part-lay-values-end (search needs) (search needs) (search needs) (search needs) lay-values-requires (search needs)
+    (search needs) returns)
