@@ -18,9 +18,10 @@ use Rattle.offer.specs.Offer.{Offer, offerTests, offerMessage, offerResult}
 use Rattle.reply.specs.Reply.{Reply, ReplyRooms, replyRoomsOf, replyTests, replyMessage, replyKey, replyDigest, outputs, replyResult}
 use Rattle.finish.specs.Finish.{Finish, FinishRooms, FinishSeen, finishRoomsOf, finishTests, finishKey, finishSlack, finishShown, finishResult}
 use Rattle.offer.proofs.Offering.{offer-unknown}
+use Rattle.finish.proofs.Finishing.{finish-passed}
 use Rattle.agreement.specs.Run.{Run, offering, replyTo, replying, finishWith, finishing}
-use Rattle.agreement.specs.Exchange.{Sendable, Rooms, Enough, offers, replies, finishes, Exchange, ownKey, peerKey, ownDigest, peerDigest, toldSlack, Accepted, Numbered, OneNumber}
-use Rattle.agreement.proofs.Tests.{sendable-by, offer-passes, reply-passes, finish-passes, offer-room, reply-rooms, finish-rooms}
+use Rattle.agreement.specs.Exchange.{Sendable, Rooms, Enough, offers, replies, finishes, Exchange, ownKey, peerKey, toldSlack, Accepted, Numbered, OneNumber}
+use Rattle.agreement.proofs.Tests.{sendable-by, offer-passes, reply-passes, finish-passes, offer-room, reply-rooms}
 
 -- ---- what a call gave
 
@@ -45,8 +46,8 @@ pub record Gave {c : Scheme} {x : Run} (t : Exchange c x) : Type 0 where
   pub message : answer (replies c x (t .rooms) .message) ≡ replyMessage (Known c) (replying c x)
   pub own : ownKey t ≡ replyKey (Known c) (replying c x)
   pub peer : peerKey t ≡ finishKey (Known c) (finishing c x)
-  pub own-digest : ownDigest t ≡ replyDigest (Known c) (replying c x)
-  pub peer-digest : peerDigest t ≡ sha3 (finishKey (Known c) (finishing c x))
+  pub own-digest : answer (replies c x (t .rooms) .digest) ≡ replyDigest (Known c) (replying c x)
+  pub peer-digest : answer (finishes c x (t .rooms) .digest) ≡ sha3 (finishKey (Known c) (finishing c x))
   pub slack : toldSlack t ≡ finishSlack (Known c) (finishing c x)
 
 pub gave : {c : Scheme} {x : Run} (t : Exchange c x) → Gave t
@@ -61,7 +62,6 @@ gave {c} {x} t =
     let finished = finish-gave c (finishing c x) (m .finish) f in
     let last : finishes c x m ≡ finishResult (Known c) (finishing c x) (m .finish) = rw (opening, replied .0) in
     let rooms = reply-rooms c _ _ r in
-    let last-rooms = finish-rooms c _ _ f in
     record {
       enough =
           record {
@@ -69,8 +69,7 @@ gave {c} {x} t =
             reply = rooms .0;
             key = rooms .1;
             digest = rooms .2;
-            peerKey = last-rooms .0;
-            peerDigest = last-rooms .1;
+            finish = finish-passed c _ _ f .1;
           };
       sendable = sendable-by c x _ _ _ o r;
       opening = opening;
@@ -90,7 +89,7 @@ unfolding shown outputs finishShown
 none-refused c x m h s =
     let o = offer-passes c x s (m .offer) (h .opening) in
     let r = reply-passes c x s (m .reply) (h .reply) (h .key) (h .digest) in
-    let f = finish-passes c x s (m .finish) (h .peerKey) (h .peerDigest) in
+    let f = finish-passes c x s (m .finish) (h .finish) in
     let opening = offer-gave c (offering x) (m .offer) o in
     let replied = reply-gave c (replying c x) (m .reply) r .0 in
     (ap numberIn o, rw opening (ap numberIn r), rw (opening, replied) (ap numberIn f))
@@ -103,7 +102,7 @@ fitting c =
 
 fit : (c : Scheme) → Enough c (fitting c)
 unfolding fitting
-fit c = record { opening = le-refl _; reply = le-refl _; key = le-refl _; digest = le-refl _; peerKey = le-refl _; peerDigest = le-refl _ }
+fit c = record { opening = le-refl _; reply = le-refl _; key = le-refl _; digest = le-refl _; finish = (le-refl _, le-refl _) }
 
 pub accepted : Accepted
 accepted c x = (

@@ -3,7 +3,7 @@
 --   opened-is, replied-is, hints-are   the numbers and the hints of the run's messages come back
 --   opening-received an opening that Offer has made passes the tests of a part that has come
 --   offer-passes, reply-passes, finish-passes   such inputs pass the tests of each call, in any rooms that are enough
---   offer-room, reply-rooms, finish-rooms       a call that passes its tests was lent such rooms
+--   offer-room, reply-rooms   a call that passes its tests was lent such rooms
 use mathlib.Core.{Path._≡_, Path.sym, Path._∙_, Bool.false, List.List}
 use Prim.Native.Nat.{ℕ, _≤_}
 use lib.ListN.{length}
@@ -21,10 +21,9 @@ use Rattle.offer.specs.Offer.{Offer, offeredPart, offerTests, offerMessage}
 use Rattle.offer.specs.Inside.{offerLengths, offerIn}
 use Rattle.reply.specs.Reply.{Reply, ReplyRooms, openedOf, replyValue, repliedPart, replyTests, replyMessage}
 use Rattle.reply.specs.Inside.{replyLast, replyRest}
-use Rattle.finish.specs.Finish.{Finish, FinishRooms, repliedOf, finishTests}
+use Rattle.finish.specs.{Finish.FinishRooms, Finish.repliedOf, Finish.finishTests, Shown.FinishEnough}
 use Rattle.offer.proofs.Offering.{opening-long, offer-opens}
 use Rattle.reply.proofs.Replying.{message-length, reply-sized, reply-apart, secrets-small}
-use Rattle.finish.proofs.Finishing.{finish-passed}
 use Rattle.agreement.specs.Run.{Run, offering, replyTo, replying, finishing}
 use Rattle.agreement.specs.Exchange.{Ranged, Sendable}
 
@@ -129,14 +128,14 @@ module _ (c : Scheme) (x : Run) where
           not-blank-passes _ (s .reply),
         )
 
-    pub finish-passes : (m : FinishRooms) → fixedOf c .key ≤ m .key → 32 ≤ m .digest → finishTests (Known c) (finishing c x) m ≡ Pass
+    pub finish-passes : (m : FinishRooms) → FinishEnough c m → finishTests (Known c) (finishing c x) m ≡ Pass
     unfolding finishTests _then_
-    finish-passes m k d =
+    finish-passes m r =
         rw (
           length-passes (message-length c (replying c x)),
           length-passes (h .secret .long),
-          room-passes k,
-          room-passes d,
+          room-passes (r .0),
+          room-passes (r .1),
           replied-is,
           message-passes (replied-counted c (x .a) (x .s') (x .e') .below),
           replied-part-is,
@@ -156,6 +155,3 @@ module _ (c : Scheme) where
   reply-rooms x m t =
       let s = reply-sized c x m (both _ _ (both _ _ (sym (reply-apart c x m) ∙ t) .0) .0) in
       (s .roomy, s .key-roomy, s .digest-roomy)
-
-  pub finish-rooms : (x : Finish) (m : FinishRooms) → finishTests (Known c) x m ≡ Pass → (fixedOf c .key ≤ m .key) × (32 ≤ m .digest)
-  finish-rooms x m t = let s = finish-passed c x m t in (s .1, s .2)

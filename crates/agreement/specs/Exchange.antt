@@ -7,7 +7,6 @@
 --   Exchange c x   these calls, and none of them refused
 --   ownKey t       the replier's key: the bytes that Reply says it wrote
 --   peerKey t      the initiator's key: those that Finish says it wrote
---   ownDigest, peerDigest t   the digests, likewise
 --   toldSlack t    the slack used and its first index, as Finish tells them
 --   Accepted       lengths, ranges and blank parts decide, nothing else: the inputs of an exchange are sendable, and on any such there is an exchange
 --   Numbered       a call that refuses nothing was given a scheme
@@ -26,6 +25,7 @@ use Rattle.blank.specs.Blank.{blank}
 use Rattle.offer.specs.Offer.{Offer, offeredPart, offerResult}
 use Rattle.reply.specs.Reply.{Reply, ReplyRooms, ReplySeen, repliedPart, replyTests, replyResult}
 use Rattle.finish.specs.Finish.{Finish, FinishRooms, FinishSeen, finishTests, finishResult}
+use Rattle.finish.specs.Shown.{FinishEnough}
 use Rattle.agreement.specs.Run.{Run, offering, replyTo, finishWith}
 
 pub record Ranged (c : Scheme) (x : Run) : Type 0 where
@@ -53,8 +53,7 @@ pub record Enough (c : Scheme) (m : Rooms) : Type 0 where
   pub reply : fixedOf c .reply ≤ m .reply .message
   pub key : fixedOf c .key ≤ m .reply .key
   pub digest : 32 ≤ m .reply .digest
-  pub peerKey : fixedOf c .key ≤ m .finish .key
-  pub peerDigest : 32 ≤ m .finish .digest
+  pub finish : FinishEnough c (m .finish)
 
 -- x has one list of public numbers, which both boxes take, and one secret s, which Offer and Finish take; each call takes the message as the one before wrote it
 module _ (c : Scheme) (x : Run) (m : Rooms) where
@@ -79,12 +78,6 @@ module _ {c : Scheme} {x : Run} (t : Exchange c x) where
 
   abbrev pub peerKey : List ℕ
   peerKey = answer (finishes c x (t .rooms) .key)
-
-  abbrev pub ownDigest : List ℕ
-  ownDigest = answer (replies c x (t .rooms) .digest)
-
-  abbrev pub peerDigest : List ℕ
-  peerDigest = answer (finishes c x (t .rooms) .digest)
 
   abbrev pub toldSlack : Peak
   toldSlack = finishes c x (t .rooms) .slack

@@ -162,7 +162,7 @@ module _ (c : Scheme) (x : Bench) {n : Named} (e : n ≡ Known c) {j : ℕ} (l :
 -- Finish refuses nothing there
 same-tests : (c : Scheme) (x : Bench) → testsFromOffer c x ≡ benchTests (Known c) x
 unfolding benchTests
-same-tests c x = without-last _ _ _ (λ o r. finish-passes c x (sendable-by c x _ _ _ o r) _ (le-refl _) (le-refl _))
+same-tests c x = without-last _ _ _ (λ o r. finish-passes c x (sendable-by c x _ _ _ o r) _ (le-refl _, le-refl _))
 
 answered : (c : Named) (x : Bench) (d : ℕ) {p : Peak} → benchTests c x ≡ Pass → d ≡ benchDiffers c x → p ≡ benchSlack c x
     → benchTold (comparison d p) ≡ benchResult c x

@@ -148,4 +148,4 @@ never-three-or-five c x = by-name c x
 
 pub finish-accepts : FinishPasses
 unfolding benchTests
-finish-accepts c x m e k d = let t = both _ _ e in finish-passes c x (sendable-by c x _ _ _ (t .0) (t .1)) m k d
+finish-accepts c x m e r = let t = both _ _ e in finish-passes c x (sendable-by c x _ _ _ (t .0) (t .1)) m r

@@ -15,7 +15,7 @@
 --   comparedResult     Bench's promise where the keys are compared in every scheme
 --   SameNumbers        it and the present promise are one, in every scheme
 use mathlib.Core.{Path._≡_, List.List, Logic._↔_}
-use Prim.Native.Nat.{_≤_, ℕ, _<_}
+use Prim.Native.Nat.{ℕ, _<_}
 use lib.ListN.{getD}
 use Rattle.schemes.specs.{Schemes.fixedOf, declared.Scheme.Scheme, declared.Named.Named}
 use Rattle.schemes.specs.declared.Named.the-variants.{Known, Unknown}
@@ -24,7 +24,7 @@ use Rattle.refusals.specs.{Refusals.receivedIn, declared.Verdict.the-variants.P
 use Rattle.wire.specs.Wire.{openedIn}
 use Rattle.offer.specs.Offer.{offerTests, offerMessage}
 use Rattle.reply.specs.Reply.{openedOf, replyKey}
-use Rattle.finish.specs.Finish.{FinishRooms, finishTests, finishSlack, finishKey}
+use Rattle.finish.specs.{Finish.FinishRooms, Finish.finishTests, Finish.finishSlack, Finish.finishKey, Shown.FinishEnough}
 use Rattle.agreement.specs.{Run.offering, Run.replying, Run.finishing, Agreement.Near}
 use Rattle.agreement.specs.Exchange.{Exchange, ownKey, peerKey, toldSlack}
 use Rattle.bench.specs.Bench.{Bench, benchTests, benchResult, benchTold, bcnsTold, bits, BenchSeen, keysDiffer, benchSlack, benchShown}
@@ -47,8 +47,7 @@ OpeningPasses =
 
 abbrev pub FinishPasses : Type 0
 FinishPasses =
-    (c : Scheme) (x : Bench) (m : FinishRooms) → benchTests (Known c) x ≡ Pass → fixedOf c .key ≤ m .key → 32 ≤ m .digest
-    → finishTests (Known c) (finishing c x) m ≡ Pass
+    (c : Scheme) (x : Bench) (m : FinishRooms) → benchTests (Known c) x ≡ Pass → FinishEnough c m → finishTests (Known c) (finishing c x) m ≡ Pass
 
 -- ---- beside the calls
 

@@ -25,7 +25,7 @@ use Rattle.values.proofs.{Ranges.bare-counted, Settling.peers-counted}
 use Rattle.wire.specs.Wire.{hintsIn}
 use Rattle.wire.proofs.Travel.{key-long}
 use Rattle.finish.specs.Finish.{Finish, FinishRooms, repliedOf, finishValue, finishTests, finishKey, finishSlack, finishShown, finishTold, finishSeen, finishResult}
-use Rattle.finish.specs.Inside.{finishSizes, finishRest, keyFrom, slackFrom}
+use Rattle.finish.specs.{Inside.finishSizes, Inside.finishRest, Inside.keyFrom, Inside.slackFrom, Shown.FinishEnough}
 use Rattle.finish.specs.declared.FinishCounts.{FinishCounts}
 use Rattle.finish.specs.declared.FinishAnswer.the-variants.{Done, Refused}
 
@@ -67,13 +67,12 @@ module _ (c : Scheme) (x : Finish) where
   unfolding finishTests finishSizes finishRest receivedIn
   finish-apart m e f = rw (f, e) (grouped _ _ _ _)
 
-  -- where all have passed: the lengths, and room for key and digest
-  pub finish-passed : (m : FinishRooms) → finishTests (Known c) x m ≡ Pass
-      → (length (x .reply) ≡ fixedOf c .reply) × (fixedOf c .key ≤ m .key) × (32 ≤ m .digest)
+  -- where all have passed: the reply's length, and the rooms
+  pub finish-passed : (m : FinishRooms) → finishTests (Known c) x m ≡ Pass → (length (x .reply) ≡ fixedOf c .reply) × FinishEnough c m
   finish-passed m t =
       let sizes = both _ _ (both _ _ (sym (finish-apart m refl refl) ∙ t) .0) in
       let s = finish-sized (m .key) (sizes .0) in
-      (s .0, s .2, room-passed _ _ (sizes .1))
+      (s .0, (s .2, room-passed _ _ (sizes .1)))
 
 pub finish-unknown : {c : Named} (x : Finish) (m : FinishRooms) → c ≡ Unknown → finishTests c x m ≡ Fail NoScheme
 unfolding finishTests

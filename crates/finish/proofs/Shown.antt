@@ -24,7 +24,7 @@ toldIn s =
 
 pub finish-seen-all : FinishSeenAll
 unfolding finishSeen toldIn
-finish-seen-all t t′ key key′ digest digest′ e = (
+finish-seen-all _ _ _ _ _ _ e = (
   ap toldIn e,
   ap (λ (s : FinishSeen). s .key .holds) e,
   ap (λ (s : FinishSeen). s .digest .holds) e,

@@ -1,6 +1,7 @@
 -- What is shown of Finish beside its promise.
 --   FinishSeenAll    `finishSeen` forgets nothing: from what is seen come all numbers of the answer and the two outputs
 --   FinishToldAll    `finishTold` forgets nothing: two answers with the same numbers are the same
+--   FinishEnough c m no room of m is shorter than its answer
 --   ReplyComesBack   demand 2: a reply that is accepted comes back the same when it is unpacked and packed again
 --   NoSlack          request f: NewHope gives slack 0 and index 0
 --   KeysFit          its key is as long as the scheme says, and at most 128 bytes
@@ -24,6 +25,9 @@ FinishSeenAll =
 
 abbrev pub FinishToldAll : Type 0
 FinishToldAll = (r r′ : FinishAnswer) → finishTold r ≡ finishTold r′ → r ≡ r′
+
+abbrev pub FinishEnough : Scheme → FinishRooms → Type 0
+FinishEnough c m = (fixedOf c .key ≤ m .key) × (32 ≤ m .digest)
 
 abbrev pub ReplyComesBack : Type 0
 ReplyComesBack =

@@ -112,8 +112,8 @@ module _ (c : Scheme) (k : Ruled) (x : Lendings) (t : Opened c k x) (b : Below 2
 
 pub drawn-finishes : DrawnFinishes
 unfolding finishShown runOf
-drawn-finishes c k x t m b b' h j =
-    rw (message-is c k x t b b', secret-is c k x t b b') (ap numberIn (finish-passes c (runOf c k x) (sendable c k x t b b') m h j))
+drawn-finishes c k x t m b b' h =
+    rw (message-is c k x t b b', secret-is c k x t b b') (ap numberIn (finish-passes c (runOf c k x) (sendable c k x t b b') m h))
 
 pub drawn : Drawn
 drawn c k x t m b b' z near = same c k x t b b' m z near

@@ -7,15 +7,15 @@
 --   Drawn               the demand: where Finish refuses nothing either, and what the random bytes make is near, both boxes agree
 --   DrawnFinishes       with enough room Finish then refuses nothing
 use mathlib.Core.{Path._≡_, List.List}
-use Prim.Native.Nat.{ℕ, _≤_}
-use Rattle.schemes.specs.{Schemes.fixedOf, declared.Named.the-variants.Known}
+use Prim.Native.Nat.{ℕ}
+use Rattle.schemes.specs.declared.Named.the-variants.{Known}
 use Rattle.schemes.specs.declared.Scheme.{Scheme}
 use Rattle.lists.specs.Ranges.{Below}
 use Rattle.refusals.specs.Seen.{answer}
 use Rattle.noise.specs.declared.Ruled.{Ruled}
 use Rattle.offer.specs.Offer.{offerMessage}
 use Rattle.reply.specs.Reply.{ReplyRooms, ReplySeen}
-use Rattle.finish.specs.Finish.{FinishRooms, FinishSeen, finishOf, finishResult}
+use Rattle.finish.specs.{Finish.FinishRooms, Finish.FinishSeen, Finish.finishOf, Finish.finishResult, Shown.FinishEnough}
 use Rattle.agreement.specs.{Run.Run, Agreement.Near}
 use Rattle.exchange.specs.Open.{OpenLent, OpenRooms, OpenSeen, openLentOf, openOffer, openResult}
 use Rattle.exchange.specs.Answer.{AnswerLent, answerLentOf, answerReply, answerResult}
@@ -64,4 +64,4 @@ Drawn =
 abbrev pub DrawnFinishes : Type 0
 DrawnFinishes =
     (c : Scheme) (k : Ruled) (x : Lendings) (t : Opened c k x) (m : FinishRooms) → Below 256 (x .random) → Below 256 (x .random')
-    → fixedOf c .key ≤ m .key → 32 ≤ m .digest → finishOn t m .number ≡ 0
+    → FinishEnough c m → finishOn t m .number ≡ 0
