@@ -3,16 +3,15 @@
 --   lengths-by                   how much is lent and taken, by the family of the scheme
 --   secret-few, mixed-few        no values take more bytes than these
 --   draws-secret, draws-mixed    what `draw` asks, of the bytes of s, e, s' or e', and of e''
---   sliced                       a part of the random bytes as the code lends it
 --   drawn-long, drawn-small      how many values they are, and that none lies beyond the largest noise
 --   draw-failed, draw-passed     what `draw` gives, by Noise's answer
---   drew-as                      the same under another name
-use mathlib.Core.{Path._≡_, Path.refl, Path._∙_, Path.sym, Path.ap, Path.ap₂, List.List}
+use mathlib.Core.{Path._≡_, Path.refl, Path._∙_, Path.sym, Path.ap, Path.ap₂, List.List, List._++_}
 use mathlib.Core.Bool.{Bool, true, false, cond}
 use Prim.Native.Nat.{ℕ, _+_, _-_, _*_, _/_, _≤_}
 use native.Mathlib.Nat.{le-of-eq, mul-le-mul}
 use native.Mathlib.Omega.{arith}
 use lib.{Dec.eqb, IntN.ℤ, IntN.pos, ListN.length, ListN.take, ListN.drop}
+use lib.Seq.{take-at}
 use borrow.Author.Tests.{eq-eqb}
 use Rattle.schemes.specs.{Schemes.fixedOf, Schemes.familyOf, Schemes.byFamily, declared.Fixed.Fixed}
 use Rattle.schemes.specs.{declared.Family.Family, declared.Named.Named, declared.Scheme.Scheme}
@@ -24,7 +23,7 @@ use Rattle.refusals.specs.{Refusals.numberOf, declared.Answer.Answer, declared.
 use Rattle.refusals.specs.Seen.{Output, done, refused, told, Seen, shown, seen}
 use Rattle.refusals.specs.declared.Verdict.{Verdict}
 use Rattle.refusals.specs.declared.Verdict.the-variants.{Pass, Fail}
-use Rattle.refusals.proofs.Laws.{some, all-pass, length-passes, room-passes, went-on}
+use Rattle.refusals.proofs.Laws.{differ, some, all-pass, length-passes, room-passes, went-on}
 use Rattle.refusals.proofs.{Same.same-refusal, Seen.written-whole, Seen.seen-done}
 use Rattle.sampling.specs.Noise.{noiseOf, lengthEither, bytesEach, tableWords, noiseTests, noiseResult}
 use Rattle.sampling.proofs.{Noising.count, Sampled.values-within}
@@ -81,9 +80,6 @@ either-second : (m x : ℕ) → lengthEither m x m ≡ Pass
 unfolding lengthEither
 either-second m x = rw (length-passes {m = m} {n = m} refl) (passes-both (eqb m x))
 
-pub sliced : {A : Type 0} (at k : ℕ) (l : List A) → take (at + k - at) (drop at l) ≡ take k (drop at l)
-sliced at k l = let e : at + k - at ≡ k = omega arith in rw e
-
 module _ (c : Scheme) where
   pub secret-few : secretBytes c ≤ 172800
   secret-few = mul-le-mul (each-few (familyOf c)) (sound c .noises)
@@ -91,8 +87,8 @@ module _ (c : Scheme) where
   pub mixed-few : mixedBytes c ≤ 25600
   mixed-few = mul-le-mul (each-few (familyOf c)) (sound c .values)
 
-  module _ {at k n : ℕ} {random table : List ℕ} (h : at + k ≤ length random) (t : length table ≡ tableWords c) where
-    pub draws-secret : k ≡ secretBytes c → n ≡ fixedOf c .noise → Draws c at k random table n
+  module _ {n k at : ℕ} {random table : List ℕ} (h : at + k ≤ length random) (t : length table ≡ tableWords c) where
+    pub draws-secret : k ≡ secretBytes c → n ≡ fixedOf c .noise → Draws c n k at random table
     draws-secret e l =
         record {
           inside = h;
@@ -101,7 +97,7 @@ module _ (c : Scheme) where
           many = rw (e, l) (each-back (familyOf c) (fixedOf c .noise));
         }
 
-    pub draws-mixed : k ≡ mixedBytes c → n ≡ fixedOf c .mixed → Draws c at k random table n
+    pub draws-mixed : k ≡ mixedBytes c → n ≡ fixedOf c .mixed → Draws c n k at random table
     draws-mixed e l =
         record {
           inside = h;
@@ -112,7 +108,7 @@ module _ (c : Scheme) where
 
 -- ---- what is drawn
 
-module _ {c : Scheme} {at k n : ℕ} {random table : List ℕ} (d : Draws c at k random table n) where
+module _ {c : Scheme} {n k at : ℕ} {random table : List ℕ} (d : Draws c n k at random table) where
   cut-long : length (cut at k random) ≡ k
   cut-long = part-long at k random (d .inside)
 
@@ -134,23 +130,25 @@ module _ {c : Scheme} {at k n : ℕ} {random table : List ℕ} (d : Draws c at k
         within = values-within c (noiseOf (cut at k random) table) (below-take (below-drop below at) k) (d .table-long);
       }
 
-  module _ {m : Named} (e : m ≡ Known c) {bytes : List ℕ} (b : bytes ≡ cut at k random) (v : Answer) (out : List ℤ)
-      (p : seen (told v) out ≡ noiseResult m (noiseOf bytes table) n) where
-    given : seen (told v) out ≡ shown (tableOrder c table) (valuesIn c table (cut at k random)) (pos 0) n
-    given = rw (b, e) at p ∙ ap (λ (u : Verdict). shown u (valuesIn c table (cut at k random)) (pos 0) n) draw-tests
+  -- by what Noise has left in the first n entries, which are part
+  module _ {m : Named} (e : m ≡ Known c) {j : ℕ} (l : j ≡ n) (v : Answer) (part : List ℤ)
+      (p : seen (told v) part ≡ noiseResult m (noiseOf (take (at + k - at) (drop at random)) table) j) where
+    given : seen (told v) part ≡ shown (tableOrder c table) (valuesIn c table (cut at k random)) (pos 0) n
+    given =
+        let s : at + k - at ≡ k = omega arith in
+        rw (s, e, l) at p ∙ ap (λ (u : Verdict). shown u (valuesIn c table (cut at k random)) (pos 0) n) draw-tests
 
-    pub draw-failed : {r : Refusal} → v ≡ Answer.Refused r → Fail r ≡ tableOrder c table
-    draw-failed {r} f = sym (seen-fails (valuesIn c table (cut at k random)) (pos 0) n (tableOrder c table) r 0 out (rw f at given))
+    pub draw-failed : {X : Type 0} {r : Refusal} → v ≡ Answer.Refused r → (Fail r ≡ tableOrder c table) × (tableOrder c table ≡ Pass → X)
+    draw-failed {r = r} f =
+        let g = seen-fails (valuesIn c table (cut at k random)) (pos 0) n (tableOrder c table) r 0 part (rw f at given) in
+        (sym g, λ h. differ (sym g ∙ h))
 
-    pub draw-passed : {j : ℕ} → v ≡ Answer.Done j → Below 256 random → (Pass ≡ tableOrder c table) × Drew c table (cut at k random) n out
-    draw-passed {j} f below =
+    pub draw-passed : {i : ℕ} (old : List ℤ) → v ≡ Answer.Done i
+        → (Pass ≡ tableOrder c table) × (tableOrder c table ≡ Pass → Drew c n table (cut at k random) old (part ++ drop n old))
+    draw-passed {i} old f =
         let xs = valuesIn c table (cut at k random) in
         let g = rw f at given in
-        let w = seen-whole xs (pos 0) n (tableOrder c table) j out drawn-long g in (
-          sym (seen-done xs (pos 0) n (tableOrder c table) j out g),
-          record { values = w; small = rw w (drawn-small below) },
+        let w = seen-whole xs (pos 0) n (tableOrder c table) i part drawn-long g in (
+          sym (seen-done xs (pos 0) n (tableOrder c table) i part g),
+          λ _. record { whole = ap (λ (q : List ℤ). q ++ drop n old) w; front = take-at part (drop n old) n (ap length w ∙ drawn-long) ∙ w },
         )
-
-pub drew-as : {c : Scheme} {table bytes bytes′ : List ℕ} {n n′ : ℕ} {out : List ℤ} → bytes ≡ bytes′ → n ≡ n′ → Drew c table bytes n out
-    → Drew c table bytes′ n′ out
-drew-as e f d = rw (← e, ← f) d

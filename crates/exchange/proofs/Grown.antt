@@ -1,9 +1,9 @@
 -- Where the public numbers come from.
 --   Lends, lends              they are lent where some are lent; only-newhope: where none are, the scheme is NewHope, whose are grown
---   no-publics                none are refused where none are lent
+--   no-publics, no-table      none are refused where none are lent; NewHope has no table
 --   numbers-counted           the numbers that Grow makes where it does not refuse: all are there, below q
 --   grow-failed, grow-passed  what `grow` gives, by Grow's answer
---   public-counted            the public numbers of any scheme, lent or grown, where their tests have passed
+--   Passes, public-passes     the public numbers of any scheme, lent or grown: all are there, and they pass where what is lent passes
 use mathlib.Core.{Path._≡_, Path.refl, Path._∙_, Path.sym, Path.ap, List.List, List.[]}
 use Prim.Native.Nat.{ℕ, suc}
 use native.Mathlib.Nat.{le-refl}
@@ -11,12 +11,12 @@ use native.Mathlib.Omega.{arith}
 use lib.ListN.{length}
 use Rattle.schemes.specs.{Schemes.fixedOf, declared.Scheme.Scheme}
 use Rattle.schemes.specs.declared.Scheme.the-variants.{Bcns, NewHope, Challenge, Classical, Recommended, Paranoid}
-use Rattle.schemes.proofs.Sound.{sound}
+use Rattle.lists.proofs.Same.{empty}
 use Rattle.refusals.specs.{Refusals.publicsIn, Seen.told, Seen.shown, Seen.seen}
 use Rattle.refusals.specs.{declared.Answer.Answer, declared.Refusal.Refusal}
 use Rattle.refusals.specs.declared.Verdict.{Verdict}
 use Rattle.refusals.specs.declared.Verdict.the-variants.{Pass, Fail}
-use Rattle.refusals.proofs.Laws.{differ, all-pass, length-passes, room-passes, publics-passed, below-passes, went-on}
+use Rattle.refusals.proofs.Laws.{differ, all-pass, length-passes, room-passes, below-passes, went-on}
 use Rattle.refusals.proofs.Seen.{seen-done}
 use Rattle.noise.specs.{declared.Ruled.Ruled, declared.Ruled.the-variants.By}
 use Rattle.noise.proofs.Stream.{by-name-below}
@@ -24,9 +24,14 @@ use Rattle.sampling.specs.Expand.{expandNumbers}
 use Rattle.sampling.specs.Expand.{growNumbers, blocks, growTests, growResult}
 use Rattle.sampling.proofs.Expanding.{enough-passed, numbers-few}
 use Rattle.values.specs.Fit.{Counted}
-use Rattle.exchange.specs.Random.{publicLent, publicFrom, grown}
+use Rattle.exchange.specs.Random.{publicLent, publicFrom, tableOrder, grown}
 use Rattle.exchange.specs.Inside.{ruledIn, Grows}
 use Rattle.exchange.proofs.Drawn.{seen-fails, seen-whole}
+
+-- the public numbers y, where a is lent
+pub record Passes (c : Scheme) (a y : List ℕ) : Type 0 where
+  pub long : length y ≡ fixedOf c .public
+  pub alike : publicsIn (fixedOf c .q) a ≡ publicsIn (fixedOf c .q) y
 
 pub record Lends (c : Scheme) (k : Ruled) (seed a : List ℕ) : Type 0 where
   pub from : publicFrom c k seed a ≡ a
@@ -57,6 +62,10 @@ only-newhope c e = either-way c Ruled.Unknown [] [] (λ L. absurd (L .some e)) (
 pub no-publics : (q : ℕ) → publicsIn (suc q) [] ≡ Pass
 no-publics q = below-passes (record { below = λ i. omega arith })
 
+pub no-table : (table : List ℕ) → tableOrder NewHope table ≡ Pass
+unfolding tableOrder
+no-table table = refl
+
 -- the numbers that it makes where it does not refuse
 pub numbers-counted : (k : Ruled) (seed : List ℕ) → ruledIn k ≡ Pass → grown NewHope k seed ≡ Pass → Counted 1024 12289 (growNumbers k seed)
 unfolding grown expandNumbers
@@ -86,19 +95,18 @@ module _ (k : Ruled) (seed : List ℕ) (u : ruledIn k ≡ Pass) (l : length seed
       let passed = seen-done xs 0 1024 (grown NewHope k seed) m a g in
       let counted = numbers-counted k seed u passed in
       let is = seen-whole xs 0 1024 (grown NewHope k seed) m a (counted .long) g in
-      record { passed = passed; is = is; counted = rw is counted }
+      record { passed = passed; is = is }
 
 -- ---- of any scheme
 
-module _ (c : Scheme) (k : Ruled) (seed a : List ℕ) (u : ruledIn k ≡ Pass) (l : length a ≡ publicLent c) (p : publicsIn (fixedOf c .q) a ≡ Pass)
-    (g : grown c k seed ≡ Pass) where
-  as-grown : c ≡ NewHope → Counted (fixedOf c .public) (fixedOf c .q) (publicFrom c k seed a)
+module _ (c : Scheme) (k : Ruled) (seed a : List ℕ) (u : ruledIn k ≡ Pass) (l : length a ≡ publicLent c) (g : grown c k seed ≡ Pass) where
+  as-grown : c ≡ NewHope → Passes c a (publicFrom c k seed a)
   unfolding publicFrom
-  as-grown e = rw e (numbers-counted k seed u (rw e at g))
+  as-grown e =
+      let n = numbers-counted k seed u (rw e at g) in
+      let none = empty a (l ∙ ap publicLent e) in
+      rw (e, none) (record { long = n .long; alike = no-publics 12288 ∙ sym (below-passes (n .below)) })
 
-  -- they pass as public numbers, wherever they come from
-  pub public-counted : Counted (fixedOf c .public) (fixedOf c .q) (publicFrom c k seed a)
-  public-counted =
-      either-way c k seed a
-      (λ L. rw (L .from) (record { long = l ∙ L .long; below = publics-passed (fixedOf c .q) a (omega (arith, sound c .some)) p }))
-      as-grown
+  -- wherever they come from
+  pub public-passes : Passes c a (publicFrom c k seed a)
+  public-passes = either-way c k seed a (λ L. rw (L .from) (record { long = l ∙ L .long; alike = refl })) as-grown

@@ -1,35 +1,29 @@
 -- What is stated in specs/Shown.
 use mathlib.Core.{Path._≡_, Path.refl, Path.sym, Path.ap, Path._∙_, List.List}
 use mathlib.Core.Bool.{Bool, true, false, cond}
-use Prim.Native.Nat.{ℕ, _+_, _≤_}
+use Prim.Native.Nat.{ℕ}
 use native.Mathlib.Omega.{arith}
 use lib.{Dec.leb, Dec.ltb, ListN.length}
 use Rattle.schemes.specs.{Schemes.fixedOf, Schemes.familyOf, Schemes.byFamily, declared.Named.Named}
 use Rattle.schemes.specs.{declared.Family.Family, declared.Scheme.Scheme}
 use Rattle.schemes.specs.declared.Named.the-variants.{Known, Unknown}
-use Rattle.schemes.proofs.Laws.{tied}
 use Rattle.lists.specs.{Ranges.Below, First.firstOver}
-use Rattle.lists.proofs.Parts.{front-long, part-long}
-use Rattle.refusals.specs.Refusals.{numberIn, receivedIn, _then_, lengthIs, roomFor, publicsIn, messageIn, notBlank, tableIn}
+use Rattle.refusals.specs.Refusals.{numberIn, _then_, lengthIs, roomFor, publicsIn, messageIn, notBlank, tableIn}
 use Rattle.refusals.specs.{Seen.Told, declared.Verdict.Verdict, declared.Verdict.the-variants.Pass}
-use Rattle.refusals.proofs.Laws.{differ, some, both, all-pass, below-passes}
+use Rattle.refusals.proofs.Laws.{differ, some, both}
 use Rattle.refusals.proofs.Number.{and, lengths, rooms, publics, blanks}
 use Rattle.refusals.proofs.Same.{same-refusal}
 use Rattle.noise.specs.{declared.Ruled.the-variants.By, declared.Ruled.Ruled}
 use Rattle.sampling.specs.Expand.{enough}
-use Rattle.offer.specs.Offer.{offerTests}
-use Rattle.reply.specs.Reply.{ReplyRooms, replyTests}
-use Rattle.exchange.specs.Random.{secretBytes, mixedBytes, tableOrder, grown}
-use Rattle.exchange.specs.Open.{OpenLent, OpenRooms, OpenSeen, openOffer, openTests, openSeen}
-use Rattle.exchange.specs.Answer.{AnswerLent, answerReply, answerTests}
-use Rattle.exchange.specs.Inside.{ruledIn, openSizes, openRest, sendTests, Sends, answerSizes, answerRest, settleTests, Settles}
+use Rattle.reply.specs.Reply.{ReplyRooms}
+use Rattle.exchange.specs.Random.{tableOrder, grown}
+use Rattle.exchange.specs.Open.{OpenLent, OpenRooms, OpenSeen, openTests, openSeen}
+use Rattle.exchange.specs.Answer.{AnswerLent, answerTests}
 use Rattle.exchange.specs.Shown.{NeverSix, OpenOffers, AnswerReplies, OpenSeenAll, OpenToldAll}
 use Rattle.exchange.specs.declared.OpenAnswer.the-variants.{Done, Refused}
 use Rattle.exchange.specs.declared.OpenCounts.{OpenCounts}
-use Rattle.exchange.proofs.Drawn.{draws-secret, draws-mixed, drawn-small}
-use Rattle.exchange.proofs.Grown.{public-counted}
-use Rattle.exchange.proofs.Opening.{open-sized, open-apart, offer-tests}
-use Rattle.exchange.proofs.Answering.{answer-sized, answer-apart, reply-tests}
+use Rattle.exchange.proofs.Opening.{open-sized, open-tests, open-decides}
+use Rattle.exchange.proofs.Answering.{answer-sized, answer-tests, answer-decides}
 
 -- ---- 6
 
@@ -83,34 +77,41 @@ blank-other = blanks Other none (λ e. omega arith)
 also : (v w : Verdict) → Other (numberIn v) → Other (numberIn w) → Other (numberIn (v then w))
 also v w a b = and Other v w a (λ _. b)
 
-ruled-other : (k : Ruled) → Other (numberIn (ruledIn k))
-ruled-other Ruled.Unknown e = omega arith
-ruled-other (By r) e = omega arith
-
 open-never : (c : Scheme) (k : Ruled) (x : OpenLent) (m : OpenRooms) → Other (numberIn (openTests (Known c) k x m))
-unfolding openSizes openRest sendTests
-open-never c k x m =
-    let e = open-apart c k x m in
-    rw e
+unfolding openTests
+open-never c Ruled.Unknown x m = λ e. omega arith
+open-never c (By r) x m =
+    also _ _
     (also _ _
-    (also _ _ (also _ _ (also _ _ (also _ _ (also _ _ (ruled-other k) (length-other _ _)) (length-other _ _)) (length-other _ _)) (room-other _ _)) (room-other _ _))
-    (also _ _ (table-other c (x .table)) (also _ _ (also _ _ (publics-other _ _) (grown-other c k _)) (blank-other _))))
+    (also _ _
+    (also _ _
+    (also _ _ (also _ _ (also _ _ (also _ _ (length-other _ _) (length-other _ _)) (length-other _ _)) (room-other _ _)) (room-other _ _))
+    (table-other c (x .table)))
+    (publics-other _ _))
+    (grown-other c (By r) _))
+    (blank-other _)
 
 answer-never : (c : Scheme) (k : Ruled) (x : AnswerLent) (m : ReplyRooms) → Other (numberIn (answerTests (Known c) k x m))
-unfolding answerSizes answerRest settleTests receivedIn
-answer-never c k x m =
-    let e = answer-apart c k x m in
-    rw e
+unfolding answerTests
+answer-never c Ruled.Unknown x m = λ e. omega arith
+answer-never c (By r) x m =
+    also _ _
     (also _ _
     (also _ _
     (also _ _
     (also _ _
-    (also _ _ (also _ _ (also _ _ (also _ _ (ruled-other k) (length-other _ _)) (length-other _ _)) (length-other _ _)) (length-other _ _))
+    (also _ _
+    (also _ _
+    (also _ _
+    (also _ _ (also _ _ (also _ _ (also _ _ (length-other _ _) (length-other _ _)) (length-other _ _)) (length-other _ _)) (room-other _ _))
     (room-other _ _))
     (room-other _ _))
-    (room-other _ _))
-    (also _ _ (table-other c (x .table))
-    (also _ _ (also _ _ (also _ _ (publics-other _ _) (also _ _ (message-other _ _) (blank-other _))) (grown-other c k _)) (blank-other _))))
+    (table-other c (x .table)))
+    (publics-other _ _))
+    (message-other _ _))
+    (blank-other _))
+    (grown-other c (By r) _))
+    (blank-other _)
 
 pub never-six : NeverSix
 unfolding openTests answerTests
@@ -127,58 +128,20 @@ never-six = (opens, answers)
 -- ---- what passes
 
 pub open-offers : OpenOffers
-unfolding openTests openRest sendTests openOffer
+unfolding openTests
 open-offers Unknown k x m b t = differ t
 open-offers (Known c) k x m b t =
-    let apart = both _ _ (sym (open-apart c k x m) ∙ t) in
-    let sends = both _ _ (both _ _ (apart .1) .1) in
-    let publics = both _ _ (sends .0) in
-    let z = open-sized c k x m (apart .0) in
-    let n = secretBytes c in
-    let at = fixedOf c .seed in
-    let first : at + n ≤ length (x .random) = omega (arith, z .random-long) in
-    let second : at + n + n ≤ length (x .random) = omega (arith, z .random-long) in
-    let seed : at ≤ length (x .random) = omega (arith, z .random-long) in
-    let h : Sends c k _ _ _ (m .opening) =
-    record {
-      ruled = z .ruled;
-      secret = drawn-small (draws-secret c first (z .table-long) refl (sym (tied c .noise))) b;
-      noise = drawn-small (draws-secret c second (z .table-long) refl refl) b;
-      seed-long = front-long at (x .random) seed;
-      roomy = z .roomy;
-    } in
-    let a = public-counted c k _ (x .a) (z .ruled) (z .public-long) (publics .0) (publics .1) in
-    offer-tests c h _ (a .long) ∙ all-pass (below-passes (a .below)) (sends .1)
+    let grows = both _ _ (both _ _ (sym (open-tests c k x m refl) ∙ t) .0) in
+    let sizes = both _ _ (both _ _ (grows .0) .0) .0 in
+    both _ _ (sym (open-decides (open-sized c k x m sizes b) (grows .1)) ∙ t) .1
 
 pub answer-replies : AnswerReplies
-unfolding answerTests answerRest settleTests answerReply
+unfolding answerTests
 answer-replies Unknown k x m b t = differ t
 answer-replies (Known c) k x m b t =
-    let apart = both _ _ (sym (answer-apart c k x m) ∙ t) in
-    let settles = both _ _ (both _ _ (apart .1) .1) in
-    let grows = both _ _ (settles .0) in
-    let publics = both _ _ (grows .0) in
-    let z = answer-sized c k x m (apart .0) in
-    let n = secretBytes c in
-    let l = mixedBytes c in
-    let first : 0 + n ≤ length (x .random) = omega (arith, z .random-long) in
-    let second : n + n ≤ length (x .random) = omega (arith, z .random-long) in
-    let third : n + n + l ≤ length (x .random) = omega (arith, z .random-long) in
-    let fourth : n + n + l + fixedOf c .coins ≤ length (x .random) = omega (arith, z .random-long) in
-    let h : Settles c k (x .opening) _ _ _ _ m =
-    record {
-      ruled = z .ruled;
-      opening-long = z .opening-long;
-      secret = drawn-small (draws-secret c first (z .table-long) refl (sym (tied c .noise))) b;
-      noise = drawn-small (draws-secret c second (z .table-long) refl refl) b;
-      last = drawn-small (draws-mixed c third (z .table-long) refl refl) b;
-      coins-long = part-long (n + n + l) (fixedOf c .coins) (x .random) fourth;
-      roomy = z .roomy;
-      key-roomy = z .key-roomy;
-      digest-roomy = z .digest-roomy;
-    } in
-    let a = public-counted c k _ (x .a) (z .ruled) (z .public-long) (publics .0) (grows .1) in
-    reply-tests c h _ (a .long) ∙ all-pass (below-passes (a .below)) (all-pass (publics .1) (settles .1))
+    let grows = both _ _ (both _ _ (sym (answer-tests c k x m refl) ∙ t) .0) in
+    let sizes = both _ _ (both _ _ (both _ _ (both _ _ (grows .0) .0) .0) .0) .0 in
+    both _ _ (sym (answer-decides (answer-sized c k x m sizes b) (grows .1)) ∙ t) .1
 
 -- ---- nothing is forgotten
 

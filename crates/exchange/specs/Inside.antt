@@ -1,46 +1,45 @@
 -- What the steps of open and answer ask of each other, where the tests before them have passed.
---   Draws c at k random table n   n noise values are asked, of k random bytes from the place at on: lengths are right
---   Drew c table bytes n out      they are those of the bytes, none beyond the largest noise
+--   Draws c n k at random table   n noise values are asked, of k random bytes from the place at on: lengths are right
+--   Drew c n table bytes old out  they are those of the bytes, at the front of out, and behind them stands what stood in old
 --   ruledIn k                     12, where no rule is named
---   Grows k seed a                the rule k grows NewHope's public numbers from the seed, and a is these numbers, all below q
+--   Grows k seed a                the rule k grows NewHope's public numbers from the seed, and a is these numbers
 --   openSizes c k x m, answerSizes c k x m   the first tests of `openTests` and `answerTests` behind the scheme's: of rule, lengths and rooms
---   sendTests c k a s e seed      the tests of open behind the table's; openRest c k x: with the table's
---   Sends c k s e seed n          the rule is known, Offer's inputs but the public numbers are in range, and there is room for the opening
---   settleTests c k opening a s' e'   the tests of answer behind the table's; answerRest c k x: with the table's
+--   OpenSized c k x m, AnswerSized c k x m   what they say where they have passed, of bytes
+--   drawnOffer c x, drawnReply c x   what Offer and Reply are lent where the public numbers are x's
+--   drawnOpens c x n, drawnAnswers c x m   what is seen of them behind the table's test
+--   openShows c k x m             what is seen of open's opening; OpenHolds c k x m old s: what s holds where nothing is refused, which held old
 --   cameIn c opening              the tests of the opening, which came
---   Settles c k opening s' e' e'' coins m   the rule is known, Reply's inputs but the public numbers and the opening's are in range, and there is room for its outputs
-use mathlib.Core.{Path._≡_, List.List}
+use mathlib.Core.{Path._≡_, List.List, List._++_}
 use Prim.Native.Nat.{ℕ, _+_, _/_, _≤_}
-use lib.{IntN.ℤ, ListN.length}
+use lib.{IntN.ℤ, ListN.length, ListN.take, ListN.drop}
 use Rattle.schemes.specs.{Schemes.fixedOf, declared.Scheme.Scheme}
 use Rattle.schemes.specs.declared.{Named.the-variants.Known, Scheme.the-variants.NewHope}
-use Rattle.refusals.specs.Refusals.{_then_, lengthIs, roomFor, publicsIn, notBlank, receivedIn}
+use Rattle.lists.specs.Ranges.{Below}
+use Rattle.refusals.specs.Refusals.{_then_, lengthIs, roomFor, receivedIn}
+use Rattle.refusals.specs.Seen.{Seen, shown}
 use Rattle.refusals.specs.{declared.Verdict.Verdict, declared.Verdict.the-variants.Pass}
 use Rattle.refusals.specs.declared.Refusal.{Refusal}
 use Rattle.noise.specs.declared.Ruled.{Ruled}
 use Rattle.sampling.specs.Noise.{lengthEither, bytesEach, tableWords}
 use Rattle.sampling.specs.Expand.{growNumbers}
-use Rattle.values.specs.Fit.{Small, Counted}
-use Rattle.wire.specs.Wire.{openedIn, seedIn, numbersIn}
-use Rattle.offer.specs.Offer.{offerOf, offeredPart}
-use Rattle.reply.specs.Reply.{ReplyRooms, repliedPart}
-use Rattle.exchange.specs.Random.{secretBytes, mixedBytes, openRandom, answerRandom, valuesIn, publicLent, publicFrom, tableOrder, grown}
-use Rattle.exchange.specs.Open.{OpenLent, OpenRooms, openOffer}
-use Rattle.exchange.specs.Answer.{AnswerLent, answerReply}
+use Rattle.wire.specs.Wire.{openedIn, numbersIn}
+use Rattle.offer.specs.Offer.{Offer, offerOf, offerTests, offerMessage}
+use Rattle.reply.specs.Reply.{Reply, ReplyRooms, ReplySeen, replyOf, replyTests, replyShown}
+use Rattle.exchange.specs.Random.{secretBytes, mixedBytes, openRandom, answerRandom, cut, valuesIn, publicLent, tableOrder, grown}
+use Rattle.exchange.specs.Open.{OpenLent, OpenRooms, openOffer, openTests}
+use Rattle.exchange.specs.Answer.{AnswerLent}
 
--- ---- noise values
+-- ---- noise values, rules and numbers
 
-pub record Draws (c : Scheme) (at k : ℕ) (random table : List ℕ) (n : ℕ) : Type 0 where
+pub record Draws (c : Scheme) (n k at : ℕ) (random table : List ℕ) : Type 0 where
   pub inside : at + k ≤ length random
   pub either : lengthEither k (secretBytes c) (mixedBytes c) ≡ Pass
   pub table-long : length table ≡ tableWords c
   pub many : n ≡ k / bytesEach c
 
-pub record Drew (c : Scheme) (table bytes : List ℕ) (n : ℕ) (out : List ℤ) : Type 0 where
-  pub values : out ≡ valuesIn c table bytes
-  pub small : Small n (fixedOf c .largest) out
-
--- ---- rules and numbers
+pub record Drew (c : Scheme) (n : ℕ) (table bytes : List ℕ) (old out : List ℤ) : Type 0 where
+  pub whole : out ≡ valuesIn c table bytes ++ drop n old
+  pub front : take n out ≡ valuesIn c table bytes
 
 abbrev pub ruledIn : Ruled → Verdict
 ruledIn Ruled.Unknown = Verdict.Fail Refusal.NoRule
@@ -49,7 +48,6 @@ ruledIn (Ruled.By r) = Pass
 pub record Grows (k : Ruled) (seed a : List ℕ) : Type 0 where
   pub passed : grown NewHope k seed ≡ Pass
   pub is : a ≡ growNumbers k seed
-  pub counted : Counted 1024 12289 a
 
 -- ---- open
 
@@ -62,19 +60,31 @@ openSizes c k x m =
     then roomFor (m .opening) (fixedOf c .opening)
     then roomFor (m .s) (fixedOf c .secret)
 
-unfoldable pub sendTests : Scheme → Ruled → List ℕ → List ℤ → List ℤ → List ℕ → Verdict
-sendTests c k a s e seed =
-    publicsIn (fixedOf c .q) a then grown c k seed then notBlank (offeredPart c (offerOf (publicFrom c k seed a) s e seed))
-
-unfoldable pub openRest : Scheme → Ruled → OpenLent → Verdict
-openRest c k x = let y = openOffer (Known c) k x in tableOrder c (x .table) then sendTests c k (x .a) (y .s) (y .e) (y .seed)
-
-pub record Sends (c : Scheme) (k : Ruled) (s e : List ℤ) (seed : List ℕ) (n : ℕ) : Type 0 where
+pub record OpenSized (c : Scheme) (k : Ruled) (x : OpenLent) (m : OpenRooms) : Type 0 where
+  pub sizes : openSizes c k x m ≡ Pass
   pub ruled : ruledIn k ≡ Pass
-  pub secret : Small (fixedOf c .secret) (fixedOf c .largest) s
-  pub noise : Small (fixedOf c .noise) (fixedOf c .largest) e
-  pub seed-long : length seed ≡ fixedOf c .seed
-  pub roomy : fixedOf c .opening ≤ n
+  pub public-long : length (x .a) ≡ publicLent c
+  pub table-long : length (x .table) ≡ tableWords c
+  pub random-long : length (x .random) ≡ openRandom c
+  pub roomy : fixedOf c .opening ≤ m .opening
+  pub s-roomy : fixedOf c .secret ≤ m .s
+  pub bytes : Below 256 (x .random)
+
+unfoldable pub drawnOffer : Scheme → OpenLent → Offer
+drawnOffer c x =
+    offerOf (x .a)
+    (valuesIn c (x .table) (cut (fixedOf c .seed) (secretBytes c) (x .random)))
+    (valuesIn c (x .table) (cut (fixedOf c .seed + secretBytes c) (secretBytes c) (x .random)))
+    (take (fixedOf c .seed) (x .random))
+
+abbrev pub drawnOpens : Scheme → OpenLent → ℕ → Seen ℕ
+drawnOpens c x n = let y = drawnOffer c x in shown (tableOrder c (x .table) then offerTests (Known c) y n) (offerMessage (Known c) y) 0 n
+
+abbrev pub openShows : Scheme → Ruled → OpenLent → OpenRooms → Seen ℕ
+openShows c k x m = shown (openTests (Known c) k x m) (offerMessage (Known c) (openOffer (Known c) k x)) 0 (m .opening)
+
+abbrev pub OpenHolds : Scheme → Ruled → OpenLent → OpenRooms → List ℤ → List ℤ → Type 0
+OpenHolds c k x m old s = openTests (Known c) k x m ≡ Pass → s ≡ openOffer (Known c) k x .s ++ drop (fixedOf c .secret) old
 
 -- ---- answer
 
@@ -89,26 +99,28 @@ answerSizes c k x m =
     then roomFor (m .key) (fixedOf c .key)
     then roomFor (m .digest) 32
 
-abbrev pub cameIn : Scheme → List ℕ → Verdict
-cameIn c opening = receivedIn (fixedOf c .q) (openedIn c opening) (numbersIn c (openedIn c opening))
-
-unfoldable pub settleTests : Scheme → Ruled → List ℕ → List ℕ → List ℤ → List ℤ → Verdict
-settleTests c k opening a s' e' =
-    publicsIn (fixedOf c .q) a
-    then cameIn c opening
-    then grown c k (seedIn c opening)
-    then notBlank (repliedPart c (publicFrom c k (seedIn c opening) a) s' e')
-
-unfoldable pub answerRest : Scheme → Ruled → AnswerLent → Verdict
-answerRest c k x = let y = answerReply (Known c) k x in tableOrder c (x .table) then settleTests c k (x .opening) (x .a) (y .s') (y .e')
-
-pub record Settles (c : Scheme) (k : Ruled) (opening : List ℕ) (s' e' e'' : List ℤ) (coins : List ℕ) (m : ReplyRooms) : Type 0 where
+pub record AnswerSized (c : Scheme) (k : Ruled) (x : AnswerLent) (m : ReplyRooms) : Type 0 where
+  pub sizes : answerSizes c k x m ≡ Pass
   pub ruled : ruledIn k ≡ Pass
-  pub opening-long : length opening ≡ fixedOf c .opening
-  pub secret : Small (fixedOf c .secret) (fixedOf c .largest) s'
-  pub noise : Small (fixedOf c .noise) (fixedOf c .largest) e'
-  pub last : Small (fixedOf c .mixed) (fixedOf c .largest) e''
-  pub coins-long : length coins ≡ fixedOf c .coins
+  pub opening-long : length (x .opening) ≡ fixedOf c .opening
+  pub public-long : length (x .a) ≡ publicLent c
+  pub table-long : length (x .table) ≡ tableWords c
+  pub random-long : length (x .random) ≡ answerRandom c
   pub roomy : fixedOf c .reply ≤ m .message
   pub key-roomy : fixedOf c .key ≤ m .key
   pub digest-roomy : 32 ≤ m .digest
+  pub bytes : Below 256 (x .random)
+
+unfoldable pub drawnReply : Scheme → AnswerLent → Reply
+drawnReply c x =
+    replyOf (x .opening) (x .a)
+    (valuesIn c (x .table) (cut 0 (secretBytes c) (x .random)))
+    (valuesIn c (x .table) (cut (secretBytes c) (secretBytes c) (x .random)))
+    (valuesIn c (x .table) (cut (secretBytes c + secretBytes c) (mixedBytes c) (x .random)))
+    (cut (secretBytes c + secretBytes c + mixedBytes c) (fixedOf c .coins) (x .random))
+
+abbrev pub drawnAnswers : Scheme → AnswerLent → ReplyRooms → ReplySeen
+drawnAnswers c x m = let y = drawnReply c x in replyShown (tableOrder c (x .table) then replyTests (Known c) y m) (Known c) y m
+
+abbrev pub cameIn : Scheme → List ℕ → Verdict
+cameIn c opening = receivedIn (fixedOf c .q) (openedIn c opening) (numbersIn c (openedIn c opening))

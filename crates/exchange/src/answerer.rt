@@ -1,21 +1,20 @@
-// answer, once the scheme is known and its outputs hold zeros: the rule, lengths and rooms, then s', e' and e'' of the random bytes, then Reply; in NewHope the
-// part that came is tested first, and then the public numbers are grown from its seed. s', e', e'' and grown public numbers stay inside.
+// answer, once the scheme is known and its outputs hold zeros: the rule, lengths and rooms, then the public numbers, in NewHope grown from the seed of the part that
+// came, which is tested first, then s', e' and e'' of the random bytes, and Reply. s', e', e'' and grown public numbers stay inside.
 ghost use mathlib.Core.Path.{_≡_};
 ghost use mathlib.Core.List.{[]};
 ghost use lib.ListN.{length, replicate};
-ghost use Rattle.schemes.specs.Schemes.{fixedOf};
 ghost use Rattle.schemes.specs.declared.Named.the-variants.{Known};
 ghost use Rattle.schemes.specs.declared.Scheme.the-variants as variants;
 ghost use Rattle.lists.specs.Lent.{was, left};
 ghost use Rattle.refusals.specs.Refusals.{_then_};
 ghost use Rattle.refusals.specs.declared.Verdict.the-variants.{Pass};
 ghost use Rattle.noise.specs.Expand.{ruleOf};
-ghost use Rattle.sampling.specs.Expand.{growNumbers};
+ghost use Rattle.sampling.specs.Noise.{tableWords};
 ghost use Rattle.wire.specs.Wire.{seedIn};
-ghost use Rattle.reply.specs.Reply.{replyOf, replyRooms, replyRoomsOf, replyTold, replySeen, replyShown};
-ghost use Rattle.exchange.specs.Random.{publicLent, publicFrom, grown};
+ghost use Rattle.reply.specs.Reply.{replyRooms, replyRoomsOf, replyTold, replySeen};
+ghost use Rattle.exchange.specs.Random.{answerRandom, grown};
 ghost use Rattle.exchange.specs.Answer.{answerLent, answerLentOf, answerResult};
-ghost use Rattle.exchange.specs.Inside.{ruledIn, Grows, cameIn, answerSizes, settleTests, Settles};
+ghost use Rattle.exchange.specs.Inside.{ruledIn, Grows, cameIn, answerSizes, AnswerSized, drawnAnswers};
 use refusals::Verdict;
 use reply::ReplyAnswer;
 use schemes::NewHope;
@@ -60,140 +59,47 @@ fn grow_opened(rule: u32, opening: &[u8], numbers: &mut [u32]) -> Verdict
     }
 }
 
-// Reply by the numbers that are grown.
-fn settle_grown(
-    rule: u32,
-    opening: &[u8],
-    s1: &[i32],
-    e1: &[i32],
-    e2: &[i32],
-    coins: &[u8],
-    numbers: &mut [u32],
-    message: &mut [u8],
-    key: &mut [u8],
-    digest: &mut [u8],
-) -> ReplyAnswer
-    requires { ⌜ Settles variants.NewHope (ruleOf rule) (now opening) (now s1) (now e1) (now e2) (now coins) (replyRoomsOf (length (now message)) (length (now key)) (length (now digest))) ⌝ }
-    requires { ⌜ (now message ≡ replicate (length (now message)) 0) × (now key ≡ replicate (length (now key)) 0) ⌝ }
-    requires { ⌜ (now digest ≡ replicate (length (now digest)) 0) × (length (now numbers) ≡ 1024) ⌝ }
-    ensures { λ r. ⌜
-        replySeen (replyTold r) (left message) (left key) (left digest)
-        ≡ replyShown (settleTests variants.NewHope (ruleOf rule) (was opening) [] (was s1) (was e1)) (Known variants.NewHope) (replyOf (was opening) (growNumbers (ruleOf rule) (seedIn variants.NewHope (was opening))) (was s1) (was e1) (was e2) (was coins)) (replyRooms message key digest)
-        ⌝ }
-{
-    let v = grow_opened(rule, opening, numbers);
-    match v {
-        Verdict::Fail(r) => ReplyAnswer::Refused(r),
-        Verdict::Pass => {
-            reply::reply(1, opening, numbers, s1, e1, e2, coins, message, key, digest)
-        }
-    }
-}
-
-// Reply in NewHope, with room for the opening's numbers and then the public numbers.
-fn settle_newhope(
-    rule: u32,
-    opening: &[u8],
-    s1: &[i32],
-    e1: &[i32],
-    e2: &[i32],
-    coins: &[u8],
-    message: &mut [u8],
-    key: &mut [u8],
-    digest: &mut [u8],
-) -> ReplyAnswer
-    requires { ⌜ Settles variants.NewHope (ruleOf rule) (now opening) (now s1) (now e1) (now e2) (now coins) (replyRoomsOf (length (now message)) (length (now key)) (length (now digest))) ⌝ }
-    requires { ⌜ (now message ≡ replicate (length (now message)) 0) × (now key ≡ replicate (length (now key)) 0) ⌝ }
-    requires { ⌜ now digest ≡ replicate (length (now digest)) 0 ⌝ }
-    ensures { λ r. ⌜
-        replySeen (replyTold r) (left message) (left key) (left digest)
-        ≡ replyShown (settleTests variants.NewHope (ruleOf rule) (was opening) [] (was s1) (was e1)) (Known variants.NewHope) (replyOf (was opening) (growNumbers (ruleOf rule) (seedIn variants.NewHope (was opening))) (was s1) (was e1) (was e2) (was coins)) (replyRooms message key digest)
-        ⌝ }
-{
-    let mut numbers = [0u32; NewHope::PUBLIC];
-    settle_grown(
-        rule,
-        opening,
-        s1,
-        e1,
-        e2,
-        coins,
-        &mut numbers,
-        message,
-        key,
-        digest,
-    )
-}
-
-// Reply, with the public numbers that are lent, or grown where none are lent.
-fn settle(
-    scheme: Scheme,
-    rule: u32,
-    opening: &[u8],
-    a: &[u32],
-    s1: &[i32],
-    e1: &[i32],
-    e2: &[i32],
-    coins: &[u8],
-    message: &mut [u8],
-    key: &mut [u8],
-    digest: &mut [u8],
-) -> ReplyAnswer
-    requires { ⌜ Settles scheme (ruleOf rule) (now opening) (now s1) (now e1) (now e2) (now coins) (replyRoomsOf (length (now message)) (length (now key)) (length (now digest))) ⌝ }
-    requires { ⌜ (now message ≡ replicate (length (now message)) 0) × (now key ≡ replicate (length (now key)) 0) ⌝ }
-    requires { ⌜ (now digest ≡ replicate (length (now digest)) 0) × (length (now a) ≡ publicLent scheme) ⌝ }
-    ensures { λ r. ⌜
-        replySeen (replyTold r) (left message) (left key) (left digest)
-        ≡ replyShown (settleTests scheme (ruleOf rule) (was opening) (was a) (was s1) (was e1)) (Known scheme) (replyOf (was opening) (publicFrom scheme (ruleOf rule) (seedIn scheme (was opening)) (was a)) (was s1) (was e1) (was e2) (was coins)) (replyRooms message key digest)
-        ⌝ }
-{
-    if a.len() == 0 {
-        settle_newhope(rule, opening, s1, e1, e2, coins, message, key, digest)
-    } else {
-        let number = scheme.number();
-        reply::reply(number, opening, a, s1, e1, e2, coins, message, key, digest)
-    }
-}
-
-// s', e' and e'', then Reply.
+// s', e' and e'', of which no scheme has more than 6912, 6912 and 1024 values, then Reply by these public numbers.
 fn answer_drawn(
     scheme: Scheme,
-    rule: u32,
     opening: &[u8],
-    a: &[u32],
+    public: &[u32],
     table: &[u64],
     random: &[u8],
-    s1: &mut [i32],
-    e1: &mut [i32],
-    e2: &mut [i32],
     message: &mut [u8],
     key: &mut [u8],
     digest: &mut [u8],
 ) -> ReplyAnswer
-    requires { ⌜ answerSizes scheme (ruleOf rule) (answerLentOf (now opening) (now a) (now table) (now random)) (replyRoomsOf (length (now message)) (length (now key)) (length (now digest))) ≡ Pass ⌝ }
-    requires { ⌜ (length (now s1) ≡ fixedOf scheme .secret) × (length (now e1) ≡ fixedOf scheme .noise) × (length (now e2) ≡ fixedOf scheme .mixed) ⌝ }
+    requires { ⌜ (length (now random) ≡ answerRandom scheme) × (length (now table) ≡ tableWords scheme) ⌝ }
     requires { ⌜ (now message ≡ replicate (length (now message)) 0) × (now key ≡ replicate (length (now key)) 0) ⌝ }
     requires { ⌜ now digest ≡ replicate (length (now digest)) 0 ⌝ }
-    ensures { λ r. ⌜ replySeen (replyTold r) (left message) (left key) (left digest) ≡ answerResult (Known scheme) (ruleOf rule) (answerLent opening a table random) (replyRooms message key digest) ⌝ }
+    ensures { λ r. ⌜ replySeen (replyTold r) (left message) (left key) (left digest) ≡ drawnAnswers scheme (answerLent opening public table random) (replyRooms message key digest) ⌝ }
 {
+    let f = scheme.fixed();
+    let n = f.noise;
+    let m = f.mixed;
     let l = crate::drawing::lengths(scheme);
-    let at = l.secret + l.secret;
+    let k = l.secret;
+    let at = k + k;
     let end = at + l.mixed;
-    crate::drawing::draw_pair(scheme, 0, random, table, s1, e1);
-    let v = crate::drawing::draw(scheme, l.mixed, at, random, table, e2);
+    let mut s1 = [0i32; 6912];
+    let mut e1 = [0i32; 6912];
+    let mut e2 = [0i32; 1024];
+    crate::drawing::draw(scheme, n, k, 0, random, table, &mut s1);
+    crate::drawing::draw(scheme, n, k, k, random, table, &mut e1);
+    let v = crate::drawing::draw(scheme, m, l.mixed, at, random, table, &mut e2);
     match v {
         Verdict::Fail(r) => ReplyAnswer::Refused(r),
         Verdict::Pass => {
-            let coins = &random[end..];
-            settle(
-                scheme,
-                rule,
+            let number = scheme.number();
+            reply::reply(
+                number,
                 opening,
-                a,
-                s1,
-                e1,
-                e2,
-                coins,
+                public,
+                &s1[..n],
+                &e1[..n],
+                &e2[..m],
+                &random[end..],
                 message,
                 key,
                 digest,
@@ -202,8 +108,43 @@ fn answer_drawn(
     }
 }
 
-// The same with room for s' and e', of which no scheme has more than 6912 values, and for e'', of which none has more than 1024.
-fn answer_sized(
+// In NewHope: the public numbers are grown from the opening's seed first, and stay inside.
+fn answer_grown(
+    rule: u32,
+    opening: &[u8],
+    table: &[u64],
+    random: &[u8],
+    message: &mut [u8],
+    key: &mut [u8],
+    digest: &mut [u8],
+) -> ReplyAnswer
+    requires { ⌜ AnswerSized variants.NewHope (ruleOf rule) (answerLentOf (now opening) [] (now table) (now random)) (replyRoomsOf (length (now message)) (length (now key)) (length (now digest))) ⌝ }
+    requires { ⌜ (now message ≡ replicate (length (now message)) 0) × (now key ≡ replicate (length (now key)) 0) ⌝ }
+    requires { ⌜ now digest ≡ replicate (length (now digest)) 0 ⌝ }
+    ensures { λ r. ⌜
+        replySeen (replyTold r) (left message) (left key) (left digest)
+        ≡ answerResult (Known variants.NewHope) (ruleOf rule) (answerLentOf (was opening) [] (was table) (was random)) (replyRooms message key digest)
+        ⌝ }
+{
+    let mut numbers = [0u32; NewHope::PUBLIC];
+    let v = grow_opened(rule, opening, &mut numbers);
+    match v {
+        Verdict::Fail(r) => ReplyAnswer::Refused(r),
+        Verdict::Pass => answer_drawn(
+            Scheme::NewHope,
+            opening,
+            &numbers,
+            table,
+            random,
+            message,
+            key,
+            digest,
+        ),
+    }
+}
+
+// By the public numbers that are lent, or grown where none are lent.
+fn answer_by(
     scheme: Scheme,
     rule: u32,
     opening: &[u8],
@@ -219,26 +160,11 @@ fn answer_sized(
     requires { ⌜ now digest ≡ replicate (length (now digest)) 0 ⌝ }
     ensures { λ r. ⌜ replySeen (replyTold r) (left message) (left key) (left digest) ≡ answerResult (Known scheme) (ruleOf rule) (answerLent opening a table random) (replyRooms message key digest) ⌝ }
 {
-    let f = scheme.fixed();
-    let n = f.secret;
-    let m = f.mixed;
-    let mut s1 = [0i32; 6912];
-    let mut e1 = [0i32; 6912];
-    let mut e2 = [0i32; 1024];
-    answer_drawn(
-        scheme,
-        rule,
-        opening,
-        a,
-        table,
-        random,
-        &mut s1[..n],
-        &mut e1[..n],
-        &mut e2[..m],
-        message,
-        key,
-        digest,
-    )
+    if a.len() == 0 {
+        answer_grown(rule, opening, table, random, message, key, digest)
+    } else {
+        answer_drawn(scheme, opening, a, table, random, message, key, digest)
+    }
 }
 
 // In a known scheme.
@@ -270,7 +196,7 @@ pub(crate) fn answer_in(
     );
     match v {
         Verdict::Fail(r) => ReplyAnswer::Refused(r),
-        Verdict::Pass => answer_sized(
+        Verdict::Pass => answer_by(
             scheme,
             rule,
             opening,

@@ -1,8 +1,7 @@
 // What open and answer make of what they are lent: lengths by the scheme, noise values of random bytes, and numbers grown from a seed.
 ghost use mathlib.Core.Path.{_≡_};
-ghost use Prim.Native.Nat.{_+_, _≤_};
+ghost use Prim.Native.Nat.{_≤_};
 ghost use lib.ListN.{length};
-ghost use Rattle.schemes.specs.Schemes.{fixedOf};
 ghost use Rattle.schemes.specs.declared.Scheme.the-variants as variants;
 ghost use Rattle.lists.specs.Lent.{was, left};
 ghost use Rattle.refusals.specs.declared.Verdict.the-variants.{Pass};
@@ -76,44 +75,24 @@ pub(crate) fn grow(rule: u32, seed: &[u8], numbers: &mut [u32]) -> Verdict
     }
 }
 
-// The noise values of k random bytes from the place at on. A table that is not in order leaves zeros.
+// n noise values, of k random bytes from the place at on, laid at the front of out. A table that is not in order leaves zeros there.
 pub(crate) fn draw(
     scheme: Scheme,
+    n: usize,
     k: usize,
     at: usize,
     random: &[u8],
     table: &[u64],
     out: &mut [i32],
 ) -> Verdict
-    requires { ⌜ Draws scheme at k (now random) (now table) (length (now out)) ⌝ }
+    requires { ⌜ Draws scheme n k at (now random) (now table) × (n ≤ length (now out)) ⌝ }
     ensures { λ r. ⌜ r ≡ tableOrder scheme (was table) ⌝ }
-    ensures { λ _. ⌜ (tableOrder scheme (was table) ≡ Pass → Drew scheme (was table) (cut at k (was random)) (length (was out)) (left out)) ⌝ }
+    ensures { λ _. ⌜ (tableOrder scheme (was table) ≡ Pass → Drew scheme n (was table) (cut at k (was random)) (was out) (left out)) ⌝ }
 {
     let end = at + k;
-    let v = sampling::noise(scheme.number(), &random[at..end], table, out);
+    let v = sampling::noise(scheme.number(), &random[at..end], table, &mut out[..n]);
     match v {
         Answer::Refused(r) => Verdict::Fail(r),
         Answer::Done(_) => Verdict::Pass,
     }
-}
-
-// A secret and its noise, of the random bytes from the place at on, one after the other.
-pub(crate) fn draw_pair(
-    scheme: Scheme,
-    at: usize,
-    random: &[u8],
-    table: &[u64],
-    s: &mut [i32],
-    e: &mut [i32],
-) -> Verdict
-    requires { ⌜ (at + secretBytes scheme + secretBytes scheme ≤ length (now random)) × (length (now table) ≡ tableWords scheme) ⌝ }
-    requires { ⌜ (length (now s) ≡ fixedOf scheme .secret) × (length (now e) ≡ fixedOf scheme .noise) ⌝ }
-    ensures { λ r. ⌜ r ≡ tableOrder scheme (was table) ⌝ }
-    ensures { λ _. ⌜ (tableOrder scheme (was table) ≡ Pass → Drew scheme (was table) (cut at (secretBytes scheme) (was random)) (fixedOf scheme .secret) (left s)) ⌝ }
-    ensures { λ _. ⌜ (tableOrder scheme (was table) ≡ Pass → Drew scheme (was table) (cut (at + secretBytes scheme) (secretBytes scheme) (was random)) (fixedOf scheme .noise) (left e)) ⌝ }
-{
-    let l = lengths(scheme);
-    let k = l.secret;
-    draw(scheme, k, at, random, table, s);
-    draw(scheme, k, at + k, random, table, e)
 }

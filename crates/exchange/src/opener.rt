@@ -1,21 +1,21 @@
-// open, once the scheme is known and its outputs hold zeros: the rule, lengths and rooms, then s and e of the random bytes, then the public numbers, grown in
-// NewHope, and Offer. e and grown public numbers stay inside. A refusal behind the lengths zeroes s again.
+// open, once the scheme is known and its outputs hold zeros: the rule, lengths and rooms, then the public numbers, grown in NewHope, then s and e of the random
+// bytes, and Offer. e and grown public numbers stay inside. A refusal behind the lengths zeroes s again.
 ghost use mathlib.Core.Path.{_≡_};
-ghost use mathlib.Core.List.{[]};
-ghost use lib.ListN.{length, replicate};
+ghost use mathlib.Core.List.{[], _++_};
+ghost use Prim.Native.Nat.{_≤_};
+ghost use lib.ListN.{length, replicate, drop};
 ghost use lib.IntN.{pos};
 ghost use Rattle.schemes.specs.Schemes.{fixedOf};
 ghost use Rattle.schemes.specs.declared.Named.the-variants.{Known};
 ghost use Rattle.schemes.specs.declared.Scheme.the-variants as variants;
 ghost use Rattle.lists.specs.Lent.{was, left, room};
-ghost use Rattle.refusals.specs.Seen.{told, seen, shown};
+ghost use Rattle.refusals.specs.Seen.{told, seen};
 ghost use Rattle.refusals.specs.declared.Verdict.the-variants.{Pass};
 ghost use Rattle.noise.specs.Expand.{ruleOf};
-ghost use Rattle.sampling.specs.Expand.{growNumbers};
-ghost use Rattle.offer.specs.Offer.{offerOf, offerMessage};
-ghost use Rattle.exchange.specs.Random.{publicLent, publicFrom};
-ghost use Rattle.exchange.specs.Open.{openLent, openLentOf, openRooms, openRoomsOf, openOffer, openTold, openSeen, openResult};
-ghost use Rattle.exchange.specs.Inside.{openSizes, openRest, sendTests, Sends};
+ghost use Rattle.sampling.specs.Noise.{tableWords};
+ghost use Rattle.exchange.specs.Random.{openRandom, tableOrder};
+ghost use Rattle.exchange.specs.Open.{openLent, openLentOf, openRooms, openRoomsOf, openTold, openSeen, openResult};
+ghost use Rattle.exchange.specs.Inside.{openSizes, OpenSized, drawnOffer, drawnOpens, openShows, OpenHolds};
 use crate::OpenAnswer;
 use crate::OpenCounts;
 use refusals::Answer;
@@ -44,97 +44,55 @@ fn open_sizes(
     refusals::room_for(v, sroom, f.secret)
 }
 
-// Offer in NewHope, with public numbers that are grown from the seed.
-fn send_by(
-    rule: u32,
-    s: &[i32],
-    e: &[i32],
-    seed: &[u8],
-    a: &mut [u32],
-    opening: &mut [u8],
-) -> Answer
-    requires { ⌜ Sends variants.NewHope (ruleOf rule) (now s) (now e) (now seed) (length (now opening)) × (length (now a) ≡ 1024) ⌝ }
-    requires { ⌜ now opening ≡ replicate (length (now opening)) 0 ⌝ }
-    ensures { λ r. ⌜
-        seen (told r) (left opening)
-        ≡ shown (sendTests variants.NewHope (ruleOf rule) [] (was s) (was e) (was seed)) (offerMessage (Known variants.NewHope) (offerOf (growNumbers (ruleOf rule) (was seed)) (was s) (was e) (was seed))) 0 (room opening)
-        ⌝ }
-{
-    let v = crate::drawing::grow(rule, seed, a);
-    match v {
-        Verdict::Fail(r) => Answer::Refused(r),
-        Verdict::Pass => offer::offer(1, a, s, e, seed, opening),
-    }
-}
-
-// The same with room for the public numbers.
-fn send_grown(rule: u32, s: &[i32], e: &[i32], seed: &[u8], opening: &mut [u8]) -> Answer
-    requires { ⌜ Sends variants.NewHope (ruleOf rule) (now s) (now e) (now seed) (length (now opening)) ⌝ }
-    requires { ⌜ now opening ≡ replicate (length (now opening)) 0 ⌝ }
-    ensures { λ r. ⌜
-        seen (told r) (left opening)
-        ≡ shown (sendTests variants.NewHope (ruleOf rule) [] (was s) (was e) (was seed)) (offerMessage (Known variants.NewHope) (offerOf (growNumbers (ruleOf rule) (was seed)) (was s) (was e) (was seed))) 0 (room opening)
-        ⌝ }
-{
-    let mut a = [0u32; NewHope::PUBLIC];
-    send_by(rule, s, e, seed, &mut a, opening)
-}
-
-// Offer, with the public numbers that are lent, or grown where none are lent.
-fn send(
-    scheme: Scheme,
-    rule: u32,
-    a: &[u32],
-    s: &[i32],
-    e: &[i32],
-    seed: &[u8],
-    opening: &mut [u8],
-) -> Answer
-    requires { ⌜ Sends scheme (ruleOf rule) (now s) (now e) (now seed) (length (now opening)) × (length (now a) ≡ publicLent scheme) ⌝ }
-    requires { ⌜ now opening ≡ replicate (length (now opening)) 0 ⌝ }
-    ensures { λ r. ⌜
-        seen (told r) (left opening)
-        ≡ shown (sendTests scheme (ruleOf rule) (was a) (was s) (was e) (was seed)) (offerMessage (Known scheme) (offerOf (publicFrom scheme (ruleOf rule) (was seed) (was a)) (was s) (was e) (was seed))) 0 (room opening)
-        ⌝ }
-{
-    if a.len() == 0 {
-        send_grown(rule, s, e, seed, opening)
-    } else {
-        offer::offer(scheme.number(), a, s, e, seed, opening)
-    }
-}
-
-// s and e, then Offer. Where nothing is refused s holds its values.
+// s and e, then Offer by these public numbers. Where the table is in order s holds its values.
 fn open_drawn(
     scheme: Scheme,
-    rule: u32,
-    a: &[u32],
+    public: &[u32],
     table: &[u64],
     random: &[u8],
     opening: &mut [u8],
     s: &mut [i32],
-    e: &mut [i32],
 ) -> Answer
-    requires { ⌜ openSizes scheme (ruleOf rule) (openLentOf (now a) (now table) (now random)) (openRoomsOf (length (now opening)) (length (now s))) ≡ Pass ⌝ }
-    requires { ⌜ (length (now s) ≡ fixedOf scheme .secret) × (length (now e) ≡ fixedOf scheme .noise) ⌝ }
+    requires { ⌜ (length (now random) ≡ openRandom scheme) × (length (now table) ≡ tableWords scheme) × (fixedOf scheme .secret ≤ length (now s)) ⌝ }
     requires { ⌜ now opening ≡ replicate (length (now opening)) 0 ⌝ }
-    ensures { λ r. ⌜
-        seen (told r) (left opening)
-        ≡ shown (openRest scheme (ruleOf rule) (openLent a table random)) (offerMessage (Known scheme) (openOffer (Known scheme) (ruleOf rule) (openLent a table random))) 0 (room opening)
-        ⌝ }
-    ensures { λ _. ⌜ (openRest scheme (ruleOf rule) (openLent a table random) ≡ Pass → left s ≡ openOffer (Known scheme) (ruleOf rule) (openLent a table random) .s) ⌝ }
+    ensures { λ r. ⌜ seen (told r) (left opening) ≡ drawnOpens scheme (openLent public table random) (room opening) ⌝ }
+    ensures { λ _. ⌜ (tableOrder scheme (was table) ≡ Pass → left s ≡ drawnOffer scheme (openLent public table random) .s ++ drop (fixedOf scheme .secret) (was s)) ⌝ }
 {
     let f = scheme.fixed();
+    let n = f.secret;
     let at = f.seed;
-    let v = crate::drawing::draw_pair(scheme, at, random, table, s, e);
+    let l = crate::drawing::lengths(scheme);
+    let k = l.secret;
+    let mut e = [0i32; 6912];
+    crate::drawing::draw(scheme, n, k, at, random, table, s);
+    let v = crate::drawing::draw(scheme, n, k, at + k, random, table, &mut e);
     match v {
         Verdict::Fail(r) => Answer::Refused(r),
-        Verdict::Pass => send(scheme, rule, a, s, e, &random[..at], opening),
+        Verdict::Pass => {
+            let number = scheme.number();
+            offer::offer(number, public, &s[..n], &e[..n], &random[..at], opening)
+        }
     }
 }
 
-// The same with room for e, of which no scheme has more than 6912 values.
-fn open_with(
+// In NewHope: the public numbers are grown from the seed first, and stay inside.
+fn open_grown(rule: u32, table: &[u64], random: &[u8], opening: &mut [u8], s: &mut [i32]) -> Answer
+    requires { ⌜ OpenSized variants.NewHope (ruleOf rule) (openLentOf [] (now table) (now random)) (openRoomsOf (length (now opening)) (length (now s))) ⌝ }
+    requires { ⌜ now opening ≡ replicate (length (now opening)) 0 ⌝ }
+    ensures { λ r. ⌜ seen (told r) (left opening) ≡ openShows variants.NewHope (ruleOf rule) (openLentOf [] (was table) (was random)) (openRooms opening s) ⌝ }
+    ensures { λ _. ⌜ OpenHolds variants.NewHope (ruleOf rule) (openLentOf [] (was table) (was random)) (openRooms opening s) (was s) (left s) ⌝ }
+{
+    let at = NewHope::SEED;
+    let mut numbers = [0u32; NewHope::PUBLIC];
+    let v = crate::drawing::grow(rule, &random[..at], &mut numbers);
+    match v {
+        Verdict::Fail(r) => Answer::Refused(r),
+        Verdict::Pass => open_drawn(Scheme::NewHope, &numbers, table, random, opening, s),
+    }
+}
+
+// By the public numbers that are lent, or grown where none are lent.
+fn open_by(
     scheme: Scheme,
     rule: u32,
     a: &[u32],
@@ -143,22 +101,19 @@ fn open_with(
     opening: &mut [u8],
     s: &mut [i32],
 ) -> Answer
-    requires { ⌜ openSizes scheme (ruleOf rule) (openLentOf (now a) (now table) (now random)) (openRoomsOf (length (now opening)) (length (now s))) ≡ Pass ⌝ }
-    requires { ⌜ length (now s) ≡ fixedOf scheme .secret ⌝ }
+    requires { ⌜ OpenSized scheme (ruleOf rule) (openLentOf (now a) (now table) (now random)) (openRoomsOf (length (now opening)) (length (now s))) ⌝ }
     requires { ⌜ now opening ≡ replicate (length (now opening)) 0 ⌝ }
-    ensures { λ r. ⌜
-        seen (told r) (left opening)
-        ≡ shown (openRest scheme (ruleOf rule) (openLent a table random)) (offerMessage (Known scheme) (openOffer (Known scheme) (ruleOf rule) (openLent a table random))) 0 (room opening)
-        ⌝ }
-    ensures { λ _. ⌜ (openRest scheme (ruleOf rule) (openLent a table random) ≡ Pass → left s ≡ openOffer (Known scheme) (ruleOf rule) (openLent a table random) .s) ⌝ }
+    ensures { λ r. ⌜ seen (told r) (left opening) ≡ openShows scheme (ruleOf rule) (openLent a table random) (openRooms opening s) ⌝ }
+    ensures { λ _. ⌜ OpenHolds scheme (ruleOf rule) (openLent a table random) (openRooms opening s) (was s) (left s) ⌝ }
 {
-    let f = scheme.fixed();
-    let n = f.noise;
-    let mut e = [0i32; 6912];
-    open_drawn(scheme, rule, a, table, random, opening, s, &mut e[..n])
+    if a.len() == 0 {
+        open_grown(rule, table, random, opening, s)
+    } else {
+        open_drawn(scheme, a, table, random, opening, s)
+    }
 }
 
-// Where lengths and rooms have passed.
+// Where lengths and rooms have passed. A refusal zeroes s again.
 fn open_sized(
     scheme: Scheme,
     rule: u32,
@@ -172,15 +127,17 @@ fn open_sized(
     requires { ⌜ (now opening ≡ replicate (length (now opening)) 0) × (now s ≡ replicate (length (now s)) (pos 0)) ⌝ }
     ensures { λ r. ⌜ openSeen (openTold r) (left opening) (left s) ≡ openResult (Known scheme) (ruleOf rule) (openLent a table random) (openRooms opening s) ⌝ }
 {
-    let f = scheme.fixed();
-    let n = f.secret;
-    let v = open_with(scheme, rule, a, table, random, opening, &mut s[..n]);
+    let v = open_by(scheme, rule, a, table, random, opening, s);
     match v {
         Answer::Refused(r) => {
             lists::zero_values(s);
             OpenAnswer::Refused(r)
         }
-        Answer::Done(m) => OpenAnswer::Done(OpenCounts { opening: m, s: n }),
+        Answer::Done(m) => {
+            let f = scheme.fixed();
+            let n = f.secret;
+            OpenAnswer::Done(OpenCounts { opening: m, s: n })
+        }
     }
 }
 

@@ -1,10 +1,7 @@
 -- `exchange::answer` meets its contract: the outputs are zeroed first, and then hold what the scheme by its name gives.
-use mathlib.Core.Path.{sym, _∙_}
 use lib.ListN.{length}
-use Rattle.reply.specs.Reply.{ReplyRooms, replyRoomsOf}
-use Rattle.reply.proofs.Replying.{reply-refused}
-use Rattle.exchange.proofs.Answering.{answer-unknown, all-zeros, rooms-kept}
-use Rattle.exchange.proofs.answer.Statement.{statement}
+use Rattle.lists.proofs.Same.{zeros}
+use Rattle.exchange.proofs.{Answering.answer-unknown, Answering.answer-known, answer.Statement.statement}
 use borrow.Author.Needs.{needs}
 use Rattle.exchange.proofs.answer.Tie as tie
 
@@ -18,33 +15,32 @@ named c = search needs
 abbrev zeroed : tie.After-named → tie.After-zero-outputs
 zeroed c = search needs
 
-abbrev rooms : tie.After-zero-outputs → ReplyRooms
-rooms z =
-    let s : tie.Start = search needs in
-    let a = s .args in
-    replyRoomsOf (length (a .message .now)) (length (a .key .now)) (length (a .digest .now))
+abbrev start : tie.After-zero-outputs → tie.Start
+start c = search needs
 
 returns : tie.Need-returns
 returns c =
     let n : tie.After-named = search needs in
     let m = n .named .ensures .0 in
     let z = zeroed n .zero-outputs .ensures in
-    reply-refused _ _ _ _ (answer-unknown _ _ _ (sym (m .0) ∙ c .enum-told .given .1)) (z .0) (z .1) (m .1)
+    answer-unknown _ _ _ (z .0) (z .1) (m .1) (m .0) (c .enum-told .given .1)
 
 answer-in-requires : tie.Need-answer-in-requires
 answer-in-requires c κs =
     let k : tie.After-known = search needs in
-    let z = zeroed (named k) in
-    all-zeros (rooms z) (z .zero-outputs .ensures .0) (z .zero-outputs .ensures .1) (named k .named .ensures .0 .1)
+    let n = named k in
+    let z = zeroed n in
+    let a = start z .args in
+    let e = z .zero-outputs .ensures in
+    ((zeros (length (a .message .now)) 0 (e .0), zeros (length (a .key .now)) 0 (e .1)), n .named .ensures .1)
 
 returns-2 : tie.Need-returns-2
 returns-2 c =
     let p : tie.After-answer-in = search needs in
     let k = known p in
     let n = named k .named .ensures .0 in
-    let z = zeroed (named k) in
-    let r = rooms-kept (rooms z) (z .zero-outputs .ensures .0) (z .zero-outputs .ensures .1) (n .1) in
-    rw (sym (n .0) ∙ k .known .given .1, ← r .0, ← r .1, ← r .2) (p .answer-in .ensures)
+    let z = zeroed (named k) .zero-outputs .ensures in
+    answer-known _ _ _ (z .0) (z .1) (n .1) (n .0) (k .known .given .1) (p .answer-in .ensures)
 
 pub answer-spec : {M : Type 1} → statement M
 answer-spec =

@@ -1,111 +1,138 @@
 -- `exchange::opener::open_drawn` meets its contract: the table's refusal, or what Offer shows of s and e.
-use mathlib.Core.{Path._≡_, Path.sym, Path.ap, Path._∙_, List.List}
-use Prim.Native.Nat.{ℕ, _+_, _≤_}
+use mathlib.Core.Path.{_≡_, sym, ap, _∙_}
+use Prim.Native.Nat.{_≤_}
 use native.Mathlib.Omega.{arith}
-use lib.{IntN.ℤ, ListN.length, ListN.take}
-use Rattle.schemes.specs.{Schemes.fixedOf, declared.Fixed.Fixed}
+use lib.ListN.{length}
+use Rattle.schemes.specs.{Schemes.fixedOf, Schemes.schemeOf, declared.Fixed.Fixed}
+use Rattle.schemes.proofs.{Laws.by-number, Laws.tied, Sound.sound}
 use Rattle.lists.proofs.Parts.{front-long}
-use Rattle.refusals.proofs.{Laws.differ, Seen.shown-failed}
-use Rattle.noise.specs.Expand.{ruleOf}
-use Rattle.exchange.specs.Random.{secretBytes, cut, valuesIn}
-use Rattle.exchange.specs.Open.{OpenLent, openLentOf, openRoomsOf, openOffer}
-use Rattle.exchange.proofs.Opening.{OpenSized, open-sized, open-unordered, open-sent}
+use Rattle.exchange.specs.Open.{OpenLent, openLentOf}
+use Rattle.exchange.proofs.{Drawn.secret-few, Drawn.draws-secret, Opening.open-unordered, Opening.open-drawn}
 use borrow.Author.Needs.{needs}
 use Rattle.exchange.proofs.opener.open_drawn.Statement.{statement}
 use Rattle.exchange.proofs.opener.open_drawn.Tie as tie
 
 -- the places, from the last to the first
-abbrev told : tie.After-send → tie.After-enum-told
+abbrev numbered : tie.After-offer → tie.After-number
+numbered c = search needs
+
+abbrev told : tie.After-number → tie.After-enum-told
 told c = search needs
 
-abbrev drawn : tie.After-enum-told → tie.After-draw-pair
+abbrev drawn2 : tie.After-enum-told → tie.After-draw2
+drawn2 c = search needs
+
+abbrev held : tie.After-draw2 → tie.After-s
+held c = search needs
+
+abbrev drawn : tie.After-s → tie.After-draw
 drawn c = search needs
 
-abbrev fixing : tie.After-draw-pair → tie.After-fixed
+abbrev taken : tie.After-draw → tie.After-lengths
+taken c = search needs
+
+abbrev fixing : tie.After-lengths → tie.After-fixed
 fixing c = search needs
 
 abbrev start : tie.After-fixed → tie.Start
 start c = search needs
 
 abbrev lent : tie.Start → OpenLent
-lent b = let a = b .args in openLentOf (a .a .now) (a .table .now) (a .random .now)
-
-abbrev drawnAt : tie.Start → ℕ → List ℤ
-drawnAt b j = let a = b .args in valuesIn (a .scheme) (a .table .now) (cut j (secretBytes (a .scheme)) (a .random .now))
+lent b = let a = b .args in openLentOf (a .public .now) (a .table .now) (a .random .now)
 
 module _ (f : tie.After-fixed) where
-  sized : let a = start f .args in OpenSized (a .scheme) (ruleOf (a .rule)) (lent (start f)) (openRoomsOf (length (a .opening .now)) (length (a .s .now)))
-  sized = open-sized _ _ _ _ (start f .pre .0)
+  long : f .fixed .result .secret ≡ fixedOf (start f .args .scheme) .secret
+  long = ap (λ (g : Fixed). g .secret) (f .fixed .ensures)
+
+  few : f .fixed .result .secret ≤ 6912
+  few = omega (arith, long, sound (start f .args .scheme) .secrets)
 
   at-is : f .fixed .result .seed ≡ fixedOf (start f .args .scheme) .seed
   at-is = ap (λ (g : Fixed). g .seed) (f .fixed .ensures)
 
+  roomy : f .fixed .result .secret ≤ length (start f .args .s .now)
+  roomy = omega (arith, long, start f .pre .0 .2)
+
   seed-in : f .fixed .result .seed ≤ length (start f .args .random .now)
-  seed-in = omega (arith, at-is, sized .random-long)
+  seed-in = omega (arith, at-is, start f .pre .0 .0)
 
-  seed-long : length (take (f .fixed .result .seed) (start f .args .random .now)) ≡ f .fixed .result .seed
-  seed-long = front-long _ _ seed-in
+draw-requires : tie.Need-draw-requires
+draw-requires c κs =
+    let l : tie.After-lengths = search needs in
+    let f = fixing l in
+    let h = start f .pre .0 in
+    let s = start f .args .scheme in
+    let k = l .lengths .ensures .1 .0 in
+    (draws-secret s (omega (arith, at-is f, k, h .0)) (h .1) k (long f ∙ sym (tied s .noise)), roomy f)
 
-draw-pair-requires : tie.Need-draw-pair-requires
-draw-pair-requires c κs =
-    let f : tie.After-fixed = search needs in
-    let b = start f in
-    let z = sized f in
-    ((omega (arith, at-is f, z .random-long), z .table-long), b .pre .1 .0)
+add-draw : tie.Need-add-draw
+add-draw c =
+    let l = taken (drawn c) in
+    let f = fixing l in
+    let s = start f .args .scheme in
+    record { fits = omega (arith, at-is f, sound s .seeds, l .lengths .ensures .1 .0, secret-few s) }
 
-slice-aggregate-send : tie.Need-slice-aggregate-send
-slice-aggregate-send c =
-    let o : tie.After-enum-told = search needs in
-    sym (seed-long (fixing (drawn o)))
+draw-requires-2 : tie.Need-draw-requires-2
+draw-requires-2 c κs =
+    let d : tie.After-draw = search needs in
+    let l = taken d in
+    let f = fixing l in
+    let h = start f .pre .0 in
+    let s = start f .args .scheme in
+    let k = l .lengths .ensures .1 .0 in
+    (draws-secret s (omega (arith, at-is f, k, h .0)) (h .1) k (long f ∙ sym (tied s .noise)), few f)
 
-send-requires : tie.Need-send-requires
-send-requires c κs =
-    let o : tie.After-enum-told = search needs in
-    let d = drawn o in
-    let f = fixing d in
-    let b = start f in
-    let z = sized f in
-    let e = sym (d .draw-pair .ensures .0) ∙ o .enum-told .given .1 in (
-      (
-        record {
-          ruled = z .ruled;
-          secret = d .draw-pair .ensures .1 .0 e .small;
-          noise = d .draw-pair .ensures .1 .1 e .small;
-          seed-long = seed-long f ∙ at-is f;
-          roomy = z .roomy;
-        },
-        z .public-long,
-      ),
-      b .pre .1 .1,
-    )
+slice-reshare-prefix-offer : tie.Need-slice-reshare-prefix-offer
+slice-reshare-prefix-offer c =
+    let n : tie.After-number = search needs in
+    let s = held (drawn2 (told n)) in
+    omega (arith, s .s .given, roomy (fixing (taken (drawn s))))
+
+slice-aggregate-offer : tie.Need-slice-aggregate-offer
+slice-aggregate-offer c =
+    let n : tie.After-number = search needs in
+    let s = held (drawn2 (told n)) in
+    sym (front-long _ _ (omega (arith, s .s .given, roomy (fixing (taken (drawn s))))))
+
+array-share-prefix-e : tie.Need-array-share-prefix-e
+array-share-prefix-e c =
+    let n : tie.After-number = search needs in
+    omega (arith, few (fixing (taken (drawn (held (drawn2 (told n)))))))
+
+slice-aggregate-offer-2 : tie.Need-slice-aggregate-offer-2
+slice-aggregate-offer-2 c =
+    let n : tie.After-number = search needs in
+    sym (front-long _ _ (omega (arith, few (fixing (taken (drawn (held (drawn2 (told n)))))))))
+
+slice-aggregate-offer-3 : tie.Need-slice-aggregate-offer-3
+slice-aggregate-offer-3 c =
+    let n : tie.After-number = search needs in
+    sym (front-long _ _ (seed-in (fixing (taken (drawn (held (drawn2 (told n))))))))
 
 returns : tie.Need-returns
 returns c =
     let v : tie.After-v = search needs in
-    let d : tie.After-draw-pair = search needs in
-    let b = start (fixing d) in
-    let e = open-unordered (b .args .scheme) _ (lent b) 0 (d .draw-pair .ensures .0) (v .v .given .1) in
-    (shown-failed _ 0 _ e (b .pre .1 .1), λ h. differ (sym e ∙ h))
+    let d : tie.After-draw2 = search needs in
+    let b = start (fixing (taken (drawn (held d)))) in
+    open-unordered (b .args .scheme) (lent b) _ (d .draw2 .ensures .0) (v .v .given .1) (b .pre .1)
 
 returns-2 : tie.Need-returns-2
-unfolding openOffer
 returns-2 c =
-    let p : tie.After-send = search needs in
-    let o = told p in
-    let d = drawn o in
-    let f = fixing d in
+    let p : tie.After-offer = search needs in
+    let n = numbered p in
+    let o = told n in
+    let e = drawn2 o in
+    let d = drawn (held e) in
+    let l = taken d in
+    let f = fixing l in
     let b = start f in
-    let a = b .args in
-    let g = d .draw-pair .ensures in
-    let e = sym (g .0) ∙ o .enum-told .given .1 in
-    let s = g .1 .0 e .values ∙ ap (drawnAt b) (at-is f) in (
-      open-sent (a .scheme) _ (lent b) _ (g .0) (o .enum-told .given .1) s (g .1 .1 e .values ∙ ap (λ (j : ℕ). drawnAt b (j + secretBytes (a .scheme))) (at-is f))
-          (ap (λ (j : ℕ). take j (a .random .now)) (at-is f)) (p .send .ensures),
-      λ _. s,
-    )
+    open-drawn (b .args .scheme) (lent b) _ (e .draw2 .ensures .0) (f .fixed .ensures) (l .lengths .ensures .1 .0) (d .draw .ensures .1) (e .draw2 .ensures .1)
+    (o .enum-told .given .1) (ap schemeOf (n .number .ensures) ∙ by-number (b .args .scheme)) (p .offer .ensures)
 
 pub open-drawn-spec : {M : Type 1} → statement M
 open-drawn-spec =
     tie.close
-    (tie.spec (λ c κs. search needs) draw-pair-requires (search needs) (search needs) slice-aggregate-send
-    send-requires (search needs) (search needs) returns (search needs) (search needs) (search needs) returns-2)
+    (tie.spec (λ c κs. search needs) (λ c κs. search needs) draw-requires add-draw (search needs)
+    draw-requires-2 (search needs) (search needs) (λ c κs. search needs) slice-reshare-prefix-offer
+    slice-aggregate-offer array-share-prefix-e slice-aggregate-offer-2 slice-aggregate-offer-3 (λ c κs. search needs) (search needs) returns
+    (search needs) (search needs) returns-2)
