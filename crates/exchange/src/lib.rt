@@ -47,7 +47,7 @@ pub fn open(
     opener::open_in(known, rule, a, table, random, opening, s)
 }
 
-// Whatever they held.
+// Both outputs become zeros, whatever they held.
 fn zero_outputs(message: &mut [u8], key: &mut [u8])
     ensures { λ _. ⌜ left message ≡ replicate (room message) 0 ⌝ }
     ensures { λ _. ⌜ left key ≡ replicate (room key) 0 ⌝ }

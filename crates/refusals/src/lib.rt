@@ -128,7 +128,7 @@ pub fn length_is(v: Verdict, m: usize, n: usize) -> Verdict
     }
 }
 
-// It is at most what is allowed.
+// An input's length is at most what is allowed.
 pub fn length_up_to(v: Verdict, m: usize, n: usize) -> Verdict
     ensures { λ r. ⌜ r ≡ v then lengthUpTo m n ⌝ }
 {
@@ -156,7 +156,7 @@ pub fn room_for(v: Verdict, room: usize, n: usize) -> Verdict
     }
 }
 
-// It is the turn of a part or an end.
+// A part or an end comes in its turn.
 pub fn in_turn(has: bool) -> Verdict
     ensures { λ r. ⌜ r ≡ inTurn has ⌝ }
 {

@@ -17,7 +17,7 @@ use crate::ReplyCounts;
 use refusals::Verdict;
 use schemes::Scheme;
 
-// Whatever they held.
+// Both outputs become zeros, whatever they held.
 pub(crate) fn zero_outputs(message: &mut [u8], key: &mut [u8])
     ensures { λ _. ⌜ left message ≡ replicate (room message) 0 ⌝ }
     ensures { λ _. ⌜ left key ≡ replicate (room key) 0 ⌝ }

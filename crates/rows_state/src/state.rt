@@ -29,7 +29,7 @@ pub fn frodo_of(no: u32) -> Named
     }
 }
 
-// That which a state names.
+// The scheme that a state names.
 pub fn named(state: &[u32]) -> Named
     ensures { λ r. ⌜ r ≡ named (was state) ⌝ }
 {
@@ -153,7 +153,7 @@ fn secret_words(call: Call, n: usize, s: &[i32], out: &mut [u16])
     }
 }
 
-// These and the words of the noise into zeros, with room for both.
+// The words of the secret and of the noise go into zeros, which have room for both.
 fn words_on(
     call: Call,
     n: usize,
