@@ -4,7 +4,10 @@
 --   Size n                n is 32 times a power of two
 --   from w o              the numbers of w from entry o on
 --   times w n x y         the full product, modulo q, of the n numbers at x with the n numbers at y
---   column w k            coefficient k of the full product of the 32 numbers at 0 with those at 32, which stand backwards at 64: a dot product of neighbours
+--   term w m u            what number u of the 32 at 0 gives to column m of their full product with the 32 at 32
+--   Cell s i l h          s, of i products, by the sums of their low 33 bits and of the others
+--   Rows w i lows highs   the 64 columns, of the first i numbers at 0
+--   Padded w b            the 32 numbers at 32, with a zero on either side
 --   Ahead x to n          the n numbers at x are read, in order, before those at `to` are written over
 --   Product w n w′        two factors of n numbers at the front of w have become their full product
 --   InPart w at h w′      two factors of h numbers at `at` have become their full product, in 6 h numbers, with all others as they were
@@ -16,6 +19,7 @@ use mathlib.Core.{Path._≡_, Bool.cond, List.List}
 use Prim.Native.Nat.{ℕ, suc, _+_, _-_, _*_, _%_, _<_, _≤_}
 use lib.{Dec.ltb, ListN.length, ListN.getD}
 use Rattle.numbers.specs.Sum.{sumℕ}
+use Rattle.lists.specs.Ranges.{Below}
 use Rattle.halves.specs.Halves.{q}
 
 unfoldable pub full : (ℕ → ℕ) → (ℕ → ℕ) → ℕ → ℕ
@@ -34,8 +38,24 @@ from w o k = getD w (o + k) 0
 unfoldable pub times : List ℕ → ℕ → ℕ → ℕ → ℕ → ℕ
 times w n x y k = full (cut n (from w x)) (cut n (from w y)) k % q
 
-unfoldable pub column : List ℕ → ℕ → ℕ
-column w k = sumℕ (32 - ((k - 31) + (31 - k))) (λ j. from w (k - 31) j * from w (64 + (31 - k)) j) % q
+unfoldable pub term : List ℕ → ℕ → ℕ → ℕ
+term w m u = from w 0 u * cond (ltb m u) 0 (cut 32 (from w 32) (m - u))
+
+pub record Cell (s i l h : ℕ) : Type 0 where
+  pub made : l + 8589934592 * h ≡ s
+  pub low : l ≤ 8589934592 * i
+  pub high : h ≤ 2147483648 * i
+
+pub record Rows (w : List ℕ) (i : ℕ) (lows highs : List ℕ) : Type 0 where
+  pub lows-long : length lows ≡ 64
+  pub highs-long : length highs ≡ 64
+  pub at : (m : ℕ) → m < 64 → Cell (sumℕ i (term w m)) i (getD lows m 0) (getD highs m 0)
+
+pub record Padded (w b : List ℕ) : Type 0 where
+  pub long : length b ≡ 34
+  pub at : (k : ℕ) → k < 33 → getD b (k + 1) 0 ≡ cut 32 (from w 32) k
+  pub first : getD b 0 0 ≡ 0
+  pub small : Below 4294967296 b
 
 pub record Ahead (x to n : ℕ) : Type 0 where
   pub ahead : (i j : ℕ) → j < i → i < n → (x + i ≡ to + j) → ⊥

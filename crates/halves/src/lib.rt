@@ -4,15 +4,14 @@
 // number in it is reduced, by 02b's remainder, so that no step takes a branch on a number and each is an equation of remainders. (A trial in C that only kept the
 // numbers below 2^32 was a sixth quicker.)
 ghost use mathlib.Core.Path.{_≡_};
-ghost use Prim.Native.Nat.{ℕ, _+_, _-_, _*_, _/_, _%_, _<_, _≤_};
+ghost use Prim.Native.Nat.{ℕ, _+_, _-_, _*_, _/_, _%_, _^_, _<_, _≤_};
 ghost use lib.ListN.{length, getD, replicate};
-ghost use Rattle.numbers.specs.Sum.{sumℕ};
 ghost use Rattle.lists.specs.Entries.{tab};
 ghost use Rattle.lists.specs.Lent.{was, left, room};
 ghost use Rattle.lists.specs.Ranges.{Stored};
 ghost use Rattle.refusals.specs.Seen.{told, shown, seen};
 ghost use Rattle.halves.specs.Halves.{q, sizeUpTo, sizeIn, factors, productTests, plain, productSeen, productResult};
-ghost use Rattle.halves.specs.Steps.{Size, from, column, Ahead, Product, Spread, Joined, Fit};
+ghost use Rattle.halves.specs.Steps.{Size, from, Ahead, Product, Padded, Rows, Spread, Joined, Fit};
 use refusals::Answer;
 use refusals::Refusal;
 use refusals::Verdict;
@@ -105,69 +104,64 @@ fn high(p: u64) -> u64
     p >> 33
 }
 
-// The kernel: the sum of the products of two slices. The low and the high bits of the products are summed apart, in two words that never pass 2^38, and since
-// 2^33 leaves 2 the remainder of the low sum and twice the high one is that of all. (Cut in the middle, at 32, a product would be made twice: a compiler takes
-// its upper half for an operation of its own; at 1,024 numbers that took 192 microseconds in place of 146.)
-fn dot(x: &[u32], y: &[u32]) -> u32
-    requires { ⌜ (length (now x) ≡ length (now y)) × (length (now x) ≤ 32) ⌝ }
-    ensures { λ r. ⌜ r ≡ sumℕ (room x) (λ (j : ℕ). getD (was x) j 0 * getD (was y) j 0) % q ⌝ }
-{
-    let mut lows: u64 = 0;
-    let mut highs: u64 = 0;
-    let mut j: usize = 0;
-    while j < x.len() {
-        let p = times(x[j], y[j]);
-        lows += low(p);
-        highs += high(p);
-        j += 1;
-    }
-    numbers::fold(lows + 2 * highs) as u32
-}
-
-// k - n, or 0
-fn past(k: usize, n: usize) -> usize
-    ensures { λ r. ⌜ r ≡ k - n ⌝ }
-{
-    if k < n { 0 } else { k - n }
-}
-
-// Coefficient k of the product of two factors of 32 numbers, of which the second also stands backwards behind both.
-fn coefficient(w: &[u32], k: usize) -> u32
-    requires { ⌜ (96 ≤ length (now w)) × (k < 64) ⌝ }
-    ensures { λ r. ⌜ r ≡ column (was w) k ⌝ }
-{
-    let x = past(k, 31);
-    let y = past(31, k);
-    let n = 32 - (x + y);
-    let z = 64 + y;
-    dot(&w[x..x + n], &w[z..z + n])
-}
-
-// All 64 of them.
-fn coefficients(w: &mut [u32])
-    requires { ⌜ 160 ≤ length (now w) ⌝ }
-    ensures { λ _. ⌜ Stored 0 (was w) 96 64 (column (was w)) (left w) ⌝ }
+// The second factor, with a zero on either side.
+fn lay_second(w: &[u32], b: &mut [u64])
+    requires { ⌜ (64 ≤ length (now w)) × (length (now b) ≡ 34) ⌝ }
+    requires { ⌜ ((k : ℕ) → getD (now b) k 0 ≡ 0) ⌝ }
+    ensures { λ _. ⌜ Padded (was w) (left b) ⌝ }
 {
     let mut k: usize = 0;
-    while k < 64 {
-        let t = coefficient(&w[..], k);
-        let to = 96 + k;
-        w[to] = t;
+    while k < 32 {
+        let s = 32 + k;
+        let t = 1 + k;
+        b[t] = w[s] as u64;
         k += 1;
     }
 }
 
-// The second factor of 32 numbers, laid backwards behind both.
-fn backwards(w: &mut [u32])
-    requires { ⌜ 96 ≤ length (now w) ⌝ }
-    ensures { λ _. ⌜ Stored 0 (was w) 64 32 (λ (j : ℕ). getD (was w) (63 - j) 0) (left w) ⌝ }
+// The kernel: two numbers of the first factor times the second, which reach 33 columns. The low and the high bits of the products are summed apart, in two
+// words that never pass 2^38, and since 2^33 leaves 2 the remainder of the low sum and twice the high one is that of all. (Cut in the middle, at 32, a product
+// would be made twice: a compiler takes its upper half for an operation of its own.)
+fn two_rows(w: &[u32], b: &[u64], lows: &mut [u64], highs: &mut [u64], i: usize)
+    requires { ⌜ Padded (now w) (now b) × Rows (now w) i (now lows) (now highs) ⌝ }
+    requires { ⌜ (64 ≤ length (now w)) × (i + 2 ≤ 32) ⌝ }
+    ensures { λ _. ⌜ Rows (was w) (i + 2) (left lows) (left highs) ⌝ }
 {
-    let mut j: usize = 0;
-    while j < 32 {
-        let s = 63 - j;
-        let t = 64 + j;
-        w[t] = w[s];
-        j += 1;
+    let x = w[i];
+    let y = w[i + 1];
+    let mut k: usize = 0;
+    while k < 33 {
+        let c = i + k;
+        let p = times(x, b[k + 1] as u32);
+        let r = times(y, b[k] as u32);
+        lows[c] = lows[c] + (low(p) + low(r));
+        highs[c] = highs[c] + (high(p) + high(r));
+        k += 1;
+    }
+}
+
+fn rows(w: &[u32], b: &[u64], lows: &mut [u64], highs: &mut [u64])
+    requires { ⌜ Padded (now w) (now b) × Rows (now w) 0 (now lows) (now highs) ⌝ }
+    requires { ⌜ 64 ≤ length (now w) ⌝ }
+    ensures { λ _. ⌜ Rows (was w) 32 (left lows) (left highs) ⌝ }
+{
+    let mut i: usize = 0;
+    while i < 32 {
+        two_rows(w, b, lows, highs, i);
+        i += 2;
+    }
+}
+
+// The columns, each reduced once.
+fn settle(lows: &[u64], highs: &[u64], w: &mut [u32])
+    requires { ⌜ (length (now lows) ≡ 64) × (length (now highs) ≡ 64) × (64 ≤ length (now w)) ⌝ }
+    requires { ⌜ ((k : ℕ) → k < 64 → (getD (now lows) k 0 < 2 ^ 40) × (getD (now highs) k 0 < 2 ^ 40)) ⌝ }
+    ensures { λ _. ⌜ Stored 0 (was w) 0 64 (λ (k : ℕ). (getD (was lows) k 0 + 2 * getD (was highs) k 0) % q) (left w) ⌝ }
+{
+    let mut k: usize = 0;
+    while k < 64 {
+        w[k] = numbers::fold(lows[k] + 2 * highs[k]) as u32;
+        k += 1;
     }
 }
 
@@ -176,9 +170,12 @@ fn leaf(w: &mut [u32])
     requires { ⌜ 160 ≤ length (now w) ⌝ }
     ensures { λ _. ⌜ Product (was w) 32 (left w) ⌝ }
 {
-    backwards(w);
-    coefficients(w);
-    copy(w, 96, 0, 64);
+    let mut b = [0u64; 34];
+    let mut lows = [0u64; 64];
+    let mut highs = [0u64; 64];
+    lay_second(&w[..], &mut b);
+    rows(&w[..], &b, &mut lows, &mut highs);
+    settle(&lows, &highs, w);
 }
 
 // Factors of 2 h numbers, lower and upper half each, become the pairs of lower halves, of upper halves and of sums.
