@@ -24,21 +24,5 @@ returns-2 c =
     rw (lt-leb (sumOf (a .h) (a .x)) 98312 l)
 
 pub bit-spec : {M : Type 1} → statement M
-bit-spec =
-    tie.close
-    (tie.spec
-    (search needs)
-    (search needs)
-    (λ c κs. search needs)
-    (search needs)
-    (search needs)
-    (λ c κs. search needs)
-    (search needs)
-    (search needs)
-    (λ c κs. search needs)
-    (λ c κs. search needs)
-    (search needs)
-    (search needs)
-    (search needs)
-    returns
-    returns-2)
+bit-spec = tie.close (tie.spec (search needs) (search needs) (λ c κs. search needs) (search needs) (search needs) (λ c κs. search needs) (search needs)
+    (search needs) (λ c κs. search needs) (λ c κs. search needs) (search needs) (search needs) (search needs) returns returns-2)

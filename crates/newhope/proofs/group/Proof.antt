@@ -13,7 +13,5 @@ returns c =
     group-at (s .args .xs .now) (s .args .i) (p0 .place .ensures .0) (p1 .place2 .ensures .0) (p2 .place3 .ensures .0) (p3 .place4 .ensures .0)
 
 pub group-spec : {M : Type 1} → statement M
-group-spec =
-    tie.close
-    (tie.spec (λ c κs. search needs) (λ c. search needs) (λ c. search needs) (λ c κs. search needs) (λ c. search needs) (λ c. search needs)
+group-spec = tie.close (tie.spec (λ c κs. search needs) (λ c. search needs) (λ c. search needs) (λ c κs. search needs) (λ c. search needs) (λ c. search needs)
     (λ c κs. search needs) (λ c. search needs) (λ c. search needs) (λ c κs. search needs) (λ c. search needs) (λ c. search needs) returns)

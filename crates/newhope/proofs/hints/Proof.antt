@@ -32,30 +32,7 @@ loop-again c =
     (p0 .place .ensures .0) (p1 .place2 .ensures .0) (p2 .place3 .ensures .0) (c .place4 .ensures .0)
 
 pub hints-spec : {M : Type 1} → statement M
-hints-spec =
-    tie.close
-    (tie.spec
-    Inv-loop
-    μ-loop
-    (λ c. spread-start _ _ (omega arith))
-    (omega arith)
-    (omega arith)
-    (λ c κs. search needs)
-    hint-requires
-    (λ c κs. omega arith)
-    (omega arith)
-    (omega arith)
-    (λ c κs. omega arith)
-    (omega arith)
-    (λ c. simp length-set (omega arith))
-    (λ c κs. omega arith)
-    (omega arith)
-    (λ c. simp length-set (omega arith))
-    (λ c κs. omega arith)
-    (omega arith)
-    (λ c. simp length-set (omega arith))
-    (omega arith)
-    (omega arith)
-    loop-again
-    (omega arith)
-    (λ c. hints-end _ _ (c .before .loop .inv) (omega arith)))
+hints-spec = tie.close (tie.spec Inv-loop μ-loop (λ c. spread-start _ _ (omega arith)) (omega arith) (omega arith) (λ c κs. search needs) hint-requires
+    (λ c κs. omega arith) (omega arith) (omega arith) (λ c κs. omega arith) (omega arith) (λ c. simp length-set (omega arith)) (λ c κs. omega arith)
+    (omega arith) (λ c. simp length-set (omega arith)) (λ c κs. omega arith) (omega arith) (λ c. simp length-set (omega arith)) (omega arith) (omega arith)
+    loop-again (omega arith) (λ c. hints-end _ _ (c .before .loop .inv) (omega arith)))

@@ -19,11 +19,5 @@ y-is c = toZ-pos w32 _ (omega (arith, c .pre .1))
 room : (c : tie.Start) → SFits w32 (pos (c .args .x) -ℤ pos (c .args .y))
 room c = fits-abs w32 (pos (c .args .x) -ℤ pos (c .args .y)) (omega (arith, abs-difference (c .args .x) (c .args .y), c .pre .0, c .pre .1))
 
-sub-result : tie.Need-sub-result
-sub-result c = rw (x-is c, y-is c) (room c)
-
-returns : tie.Need-returns
-returns c = rw (x-is c, y-is c) (toZ-ofZ (room c))
-
 pub minus-spec : {M : Type 1} → statement M
-minus-spec = tie.close (tie.spec (search needs) (search needs) sub-result returns)
+minus-spec = tie.close (tie.spec (search needs) (search needs) (λ c. rw (x-is c, y-is c) (room c)) (λ c. rw (x-is c, y-is c) (toZ-ofZ (room c))))

@@ -22,14 +22,5 @@ returns c =
     (e, omega (arith, e, off-half (a .b) (a .x)))
 
 pub off-spec : {M : Type 1} → statement M
-off-spec =
-    tie.close
-    (tie.spec
-    (λ c κs. search needs)
-    (search needs)
-    (search needs)
-    (search needs)
-    (search needs)
-    (λ c κs. search needs)
-    (λ c κs. search needs)
+off-spec = tie.close (tie.spec (λ c κs. search needs) (search needs) (search needs) (search needs) (search needs) (λ c κs. search needs) (λ c κs. search needs)
     returns)

@@ -35,19 +35,5 @@ returns c =
     ∙ ap (λ (n : ℕ). tab n (λ k. bitOf (groupOf (a .hints .now) k) (groupOf (a .w .now) k))) (omega arith)
 
 pub peers-spec : {M : Type 1} → statement M
-peers-spec =
-    tie.close
-    (tie.spec
-    Inv-loop
-    μ-loop
-    (λ c. fill-start _ _)
-    (λ c κs. search needs)
-    (λ c κs. search needs)
-    bit-requires
-    (omega arith)
-    (omega arith)
-    (omega arith)
-    (omega arith)
-    loop-again
-    (λ c. c .before .loop .inv .long)
-    returns)
+peers-spec = tie.close (tie.spec Inv-loop μ-loop (λ c. fill-start _ _) (λ c κs. search needs) (λ c κs. search needs) bit-requires (omega arith) (omega arith)
+    (omega arith) (omega arith) loop-again (λ c. c .before .loop .inv .long) returns)

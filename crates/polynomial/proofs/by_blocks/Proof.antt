@@ -19,9 +19,6 @@ abbrev μ-loop : tie.MeasureT-loop
 loop-holds : tie.Need-loop-holds Inv-loop μ-loop
 loop-holds c = (omega arith, omega arith, first-none (c .args .w .now) (c .args .s .now))
 
-sixty-four-requires : tie.Need-sixty-four-requires Inv-loop μ-loop
-sixty-four-requires c κs = (c .before .before .pre .0, omega arith)
-
 add-sum : tie.Need-add-sum Inv-loop μ-loop
 add-sum c = let l = c .before .before in
     let b = l .before in
@@ -39,4 +36,5 @@ returns c = let l = c .before in
     first-read (b .args .w .now) (b .args .s .now) (l .loop .i) _ (b .pre .0) (omega arith) (l .loop .inv .2) ∙ ap (λ (k : ℕ). span k (b .args .w .now) (b .args .s .now) 0) e
 
 pub by-blocks-spec : {M : Type 1} → statement M
-by-blocks-spec = tie.close (tie.spec Inv-loop μ-loop loop-holds sixty-four-requires add-sum (λ c. omega arith) (λ c. omega arith) loop-again returns)
+by-blocks-spec = tie.close (tie.spec Inv-loop μ-loop loop-holds (λ c κs. (c .before .before .pre .0, omega arith)) add-sum (λ c. omega arith) (λ c. omega arith)
+    loop-again returns)

@@ -17,9 +17,6 @@ Inv-loop t x o₀ to n k₀ o k = (k ≤ n) × Stored (pos 0) o₀ to k (slide n
 abbrev μ-loop : tie.MeasureT-loop
 μ-loop t x o₀ to n k₀ o k = n - k
 
-loop-holds : tie.Need-loop-holds Inv-loop μ-loop
-loop-holds c = (omega arith, store-none _ _ _)
-
 slice-aggregate-dot-product : tie.Need-slice-aggregate-dot-product Inv-loop μ-loop
 slice-aggregate-dot-product c = let s : tie.Start Inv-loop μ-loop = search needs in sym (front-long (s .args .n) (s .args .t .now) (s .pre .0 .front))
 
@@ -39,11 +36,10 @@ loop-again c = let s : tie.Start Inv-loop μ-loop = search needs in
       store-next o (omega arith) (wide (c .dot-product .result) (record { sfits = c .dot-product .ok }) ∙ c .dot-product .ensures ∙ dot-part (s .pre .0) (l .loop .k) (omega arith)),
     )
 
-same-length : tie.Need-same-length Inv-loop μ-loop
-same-length c = c .before .loop .inv .1 .long
-
 returns : tie.Need-returns Inv-loop μ-loop
 returns c = let s : tie.Start Inv-loop μ-loop = search needs in stored-all (c .before .loop .inv .1) (omega arith)
 
 pub dots-spec : {M : Type 1} → statement M
-dots-spec = tie.close (tie.spec Inv-loop μ-loop loop-holds (λ c. omega arith) (λ c. omega arith) (λ c. omega arith) (λ c. omega arith) (λ c. omega arith) (λ c. omega arith) (λ c. omega arith) slice-aggregate-dot-product dot-product-requires cast-o (λ c. omega arith) (λ c. omega arith) (λ c. omega arith) (λ c. omega arith) loop-again same-length returns)
+dots-spec = tie.close (tie.spec Inv-loop μ-loop (λ c. (omega arith, store-none _ _ _)) (λ c. omega arith) (λ c. omega arith) (λ c. omega arith)
+    (λ c. omega arith) (λ c. omega arith) (λ c. omega arith) (λ c. omega arith) slice-aggregate-dot-product dot-product-requires cast-o (λ c. omega arith)
+    (λ c. omega arith) (λ c. omega arith) (λ c. omega arith) loop-again (λ c. c .before .loop .inv .1 .long) returns)

@@ -49,10 +49,7 @@ loop-again c = let s : tie.Start Inv-loop μ-loop = search needs in
     let l : tie.At-loop Inv-loop μ-loop = search needs in
     fill-next _ (l .loop .inv) (omega arith) (c .reduce .ensures ∙ ap₂ (λ (x y : ℤ). residue (bcns .q) (x +ℤ y)) (sum-is (c .before)) (noise-is (c .before)))
 
-returns : tie.Need-returns Inv-loop μ-loop
-returns c = fill-end (c .before .loop .inv) (omega arith)
-
 pub entries-spec : {M : Type 1} → statement M
-entries-spec = tie.close (tie.spec Inv-loop μ-loop (λ c. fill-start _ _) (omega arith) (omega arith) (omega arith)
-    (omega arith) reduce-requires (omega arith) (omega arith) (omega arith) (λ c. simp length-set (omega arith))
-    loop-again (λ c. c .before .loop .inv .long) returns)
+entries-spec = tie.close (tie.spec Inv-loop μ-loop (λ c. fill-start _ _) (omega arith) (omega arith) (omega arith) (omega arith) reduce-requires (omega arith)
+    (omega arith) (omega arith) (λ c. simp length-set (omega arith)) loop-again (λ c. c .before .loop .inv .long)
+    (λ c. fill-end (c .before .loop .inv) (omega arith)))

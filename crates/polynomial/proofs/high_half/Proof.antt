@@ -7,15 +7,6 @@ use Rattle.polynomial.proofs.Halves.{less-fits, narrow-fits, narrow}
 use Rattle.polynomial.proofs.high_half.Statement.{statement}
 use Rattle.polynomial.proofs.high_half.Tie as tie
 
-sub-result : tie.Need-sub-result
-sub-result c = less-fits (c .args .y / 65536) (omega arith)
-
-cast-result-2 : tie.Need-cast-result-2
-cast-result-2 c = narrow-fits (c .args .y / 65536) (omega arith)
-
-returns : tie.Need-returns
-unfolding upper
-returns c = narrow (c .args .y / 65536) (omega arith)
-
 pub high-half-spec : {M : Type 1} → statement M
-high-half-spec = tie.close (tie.spec (search needs) sub-result cast-result-2 returns)
+high-half-spec = tie.close (tie.spec (search needs) (λ c. less-fits (c .args .y / 65536) (omega arith)) (λ c. narrow-fits (c .args .y / 65536) (omega arith))
+    (λ c. unfold upper in narrow (c .args .y / 65536) (omega arith)))

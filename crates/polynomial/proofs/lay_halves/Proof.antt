@@ -31,11 +31,7 @@ loop-again c = let s : tie.Start Inv-loop μ-loop = search needs in
           (toZ-ofZ (record { sfits = c .low-half .ok }) ∙ c .low-half .ensures ∙ ap lower y),
     )
 
-returns : tie.Need-returns Inv-loop μ-loop
-returns c = halving-all (c .before .loop .inv .1) (omega arith)
-
 pub lay-halves-spec : {M : Type 1} → statement M
-lay-halves-spec = tie.close (tie.spec Inv-loop μ-loop (λ c. (omega arith, halving-none)) (omega arith) (omega arith)
-    (omega arith) lifted-requires (omega arith) (omega arith) (omega arith) (search needs) (omega arith) (omega arith)
-    (search needs) (omega arith) (λ c. simp length-set (omega arith)) (omega arith) (omega arith) loop-again
-    (λ c. c .before .loop .inv .1 .long) returns)
+lay-halves-spec = tie.close (tie.spec Inv-loop μ-loop (λ c. (omega arith, halving-none)) (omega arith) (omega arith) (omega arith) lifted-requires (omega arith)
+    (omega arith) (omega arith) (search needs) (omega arith) (omega arith) (search needs) (omega arith) (λ c. simp length-set (omega arith)) (omega arith)
+    (omega arith) loop-again (λ c. c .before .loop .inv .1 .long) (λ c. halving-all (c .before .loop .inv .1) (omega arith)))

@@ -20,8 +20,5 @@ cast-result c =
     let a = c .before .args in
     record { fits = omega (arith, rest c, residue-lt (a .q) (negℤ (pos (a .x))) (omega (arith, c .before .pre))) }
 
-returns : tie.Need-returns
-returns c = rest c
-
 pub negative-spec : {M : Type 1} → statement M
-negative-spec = tie.close (tie.spec (search needs) negate64-requires cast-result returns)
+negative-spec = tie.close (tie.spec (search needs) negate64-requires cast-result (λ c. rest c))

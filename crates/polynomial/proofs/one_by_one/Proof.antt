@@ -20,9 +20,6 @@ abbrev μ-loop : tie.MeasureT-loop
 loop-holds : tie.Need-loop-holds Inv-loop μ-loop
 loop-holds c = (omega arith, first-none (c .args .w .now) (c .args .s .now))
 
-product-requires : tie.Need-product-requires Inv-loop μ-loop
-product-requires c κs = (c .before .before .pre, omega arith)
-
 add-sum : tie.Need-add-sum Inv-loop μ-loop
 add-sum c = let l : tie.At-loop Inv-loop μ-loop = search needs in
     let b = l .before in
@@ -40,5 +37,5 @@ returns c = let l = c .before in
     first-read (b .args .w .now) (b .args .s .now) (l .loop .i) _ (b .pre) (omega arith) (l .loop .inv .1) ∙ ap (λ (k : ℕ). span k (b .args .w .now) (b .args .s .now) 0) e
 
 pub one-by-one-spec : {M : Type 1} → statement M
-one-by-one-spec = tie.close (tie.spec Inv-loop μ-loop loop-holds product-requires add-sum (omega arith) (omega arith)
-    loop-again returns)
+one-by-one-spec = tie.close (tie.spec Inv-loop μ-loop loop-holds (λ c κs. (c .before .before .pre, omega arith)) add-sum (omega arith) (omega arith) loop-again
+    returns)

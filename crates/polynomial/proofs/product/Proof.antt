@@ -35,6 +35,4 @@ returns c =
     ∙ span-one (s .args .w .now) (s .args .s .now) (s .args .i)
 
 pub product-spec : {M : Type 1} → statement M
-product-spec =
-    tie.close
-    (tie.spec (search needs) (search needs) cast-result (search needs) (search needs) cast-result-2 mul-result-3 returns)
+product-spec = tie.close (tie.spec (search needs) (search needs) cast-result (search needs) (search needs) cast-result-2 mul-result-3 returns)

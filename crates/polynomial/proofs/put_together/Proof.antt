@@ -53,6 +53,5 @@ returns : tie.Need-returns Inv-loop μ-loop
 returns c = let s : tie.Start Inv-loop μ-loop = search needs in stored-all (c .before .loop .inv .1) (omega arith)
 
 pub put-together-spec : {M : Type 1} → statement M
-put-together-spec = tie.close (tie.spec Inv-loop μ-loop (λ c. (omega arith, store-none _ _ _)) (omega arith)
-    (omega arith) (omega arith) (omega arith) (omega arith) together-requires (omega arith) (omega arith) (omega arith)
-    (omega arith) loop-again (λ c. c .before .loop .inv .1 .long) returns)
+put-together-spec = tie.close (tie.spec Inv-loop μ-loop (λ c. (omega arith, store-none _ _ _)) (omega arith) (omega arith) (omega arith) (omega arith)
+    (omega arith) together-requires (omega arith) (omega arith) (omega arith) (omega arith) loop-again (λ c. c .before .loop .inv .1 .long) returns)

@@ -7,12 +7,6 @@ use Rattle.polynomial.proofs.Kernel.{noise-small, noise-fits, noise-rea
 use Rattle.polynomial.proofs.reduce.Statement.{statement}
 use Rattle.polynomial.proofs.reduce.Tie as tie
 
-cast-residue-folded : tie.Need-cast-residue-folded
-cast-residue-folded c = wide-fits _ (c .fits .e)
-
-add-residue-folded : tie.Need-add-residue-folded
-add-residue-folded c = noise-fits _ _ (c .fits .x) (c .fits .e) (c .pre)
-
 residue-folded-requires : tie.Need-residue-folded-requires
 residue-folded-requires c κs =
     rw (noise-read _ _ (c .fits .x) (c .fits .e) (c .pre)) (noise-small _ _ (c .fits .x) (c .fits .e) (c .pre))
@@ -21,4 +15,4 @@ returns : tie.Need-returns
 returns c = let s = c .before in c .residue-folded .ensures ∙ ap (residue (bcns .q)) (noise-read _ _ (s .fits .x) (s .fits .e) (s .pre))
 
 pub reduce-spec : {M : Type 1} → statement M
-reduce-spec = tie.close (tie.spec cast-residue-folded add-residue-folded residue-folded-requires returns)
+reduce-spec = tie.close (tie.spec (λ c. wide-fits _ (c .fits .e)) (λ c. noise-fits _ _ (c .fits .x) (c .fits .e) (c .pre)) residue-folded-requires returns)

@@ -15,8 +15,5 @@ mix-requires c κs =
     let f : tie.After-first-over = search needs in
     b .pre .1 (none-over _ (b .pre .0) (f .first-over .ensures) (search needs))
 
-returns-2 : tie.Need-returns-2
-returns-2 c = (search needs, λ h. search needs)
-
 pub mix-newhope-spec : {M : Type 1} → statement M
-mix-newhope-spec = tie.close (tie.spec (search needs) returns mix-requires (search needs) returns-2)
+mix-newhope-spec = tie.close (tie.spec (search needs) returns mix-requires (search needs) (λ c. (search needs, λ h. search needs)))

@@ -9,10 +9,9 @@ abbrev told : tie.After-family → Told Multiplying
 told m = let b : tie.Start = search needs in tell (b .args .scheme) _ _ (b .args .s .now) _ (m .before .fixed .ensures) (m .family .ensures) (b .pre)
 
 pub multiply-spec : {M : Type 1} → statement M
-multiply-spec =
-    tie.close (tie.spec (search needs) (search needs) (search needs) (λ c κs. multiply-asks Bcns (told (search needs)) (search needs))
-    (search needs) (λ c κs. multiply-asks NewHope (told (search needs)) (search needs))
-    (search needs) (λ c κs. multiply-asks Frodo (told (search needs)) (search needs))
-    (search needs) (λ c. multiply-made Bcns (told (search needs)) (search needs) (c .before .before .multiply .ensures))
-    (search needs) (λ c. multiply-made NewHope (told (search needs)) (search needs) (c .before .before .multiply2 .ensures))
-    (search needs) (λ c. multiply-made Frodo (told (search needs)) (search needs) (c .before .before .multiply3 .ensures)))
+multiply-spec = tie.close (tie.spec (search needs) (search needs) (search needs) (λ c κs. multiply-asks Bcns (told (search needs)) (search needs))
+    (search needs) (λ c κs. multiply-asks NewHope (told (search needs)) (search needs)) (search needs)
+    (λ c κs. multiply-asks Frodo (told (search needs)) (search needs)) (search needs)
+    (λ c. multiply-made Bcns (told (search needs)) (search needs) (c .before .before .multiply .ensures)) (search needs)
+    (λ c. multiply-made NewHope (told (search needs)) (search needs) (c .before .before .multiply2 .ensures)) (search needs)
+    (λ c. multiply-made Frodo (told (search needs)) (search needs) (c .before .before .multiply3 .ensures)))

@@ -9,10 +9,8 @@ abbrev told : tie.After-family → Told Travelling
 told m = let b : tie.Start = search needs in tell (b .args .scheme) (b .args .a .now) _ _ _ (m .before .fixed .ensures) (m .family .ensures) (b .pre)
 
 pub offer-spec : {M : Type 1} → statement M
-offer-spec =
-    tie.close (tie.spec (search needs) (search needs) (search needs) (λ c κs. travel-asks Bcns (told (search needs)) (search needs))
-    (search needs) (λ c κs. travel-asks NewHope (told (search needs)) (search needs))
-    (search needs) (λ c κs. travel-asks Frodo (told (search needs)) (search needs))
-    (search needs) (λ c. offer-made Bcns (told (search needs)) (search needs) (c .before .before .mix-bcns .ensures))
-    (search needs) (λ c. offer-made NewHope (told (search needs)) (search needs) (c .before .before .mix-newhope .ensures))
-    (search needs) (λ c. offer-made Frodo (told (search needs)) (search needs) (c .before .before .mix-right .ensures)))
+offer-spec = tie.close (tie.spec (search needs) (search needs) (search needs) (λ c κs. travel-asks Bcns (told (search needs)) (search needs)) (search needs)
+    (λ c κs. travel-asks NewHope (told (search needs)) (search needs)) (search needs) (λ c κs. travel-asks Frodo (told (search needs)) (search needs))
+    (search needs) (λ c. offer-made Bcns (told (search needs)) (search needs) (c .before .before .mix-bcns .ensures)) (search needs)
+    (λ c. offer-made NewHope (told (search needs)) (search needs) (c .before .before .mix-newhope .ensures)) (search needs)
+    (λ c. offer-made Frodo (told (search needs)) (search needs) (c .before .before .mix-right .ensures)))

@@ -62,25 +62,7 @@ returns-3 c =
     (r .0, (r .1, λ h. mix-made Frodo (kept m) (search needs) (v .mix-eight .ensures)))
 
 pub reply-spec : {M : Type 1} → statement M
-reply-spec =
-    tie.close
-    (tie.spec
-    (search needs)
-    (search needs)
-    (search needs)
-    (λ c κs. mix-asks Bcns (kept (search needs)) (search needs))
-    (λ c κs. travel-asks Bcns (sent (search needs)) (search needs))
-    (search needs)
-    reply-newhope-requires
-    (search needs)
-    (λ c κs. mix-asks Frodo (kept (search needs)) (search needs))
-    (λ c κs. travel-asks Frodo (sent (search needs)) (search needs))
-    (search needs)
-    (search needs)
-    returns
-    (search needs)
-    (search needs)
-    returns-2
-    (search needs)
-    (search needs)
-    returns-3)
+reply-spec = tie.close (tie.spec (search needs) (search needs) (search needs) (λ c κs. mix-asks Bcns (kept (search needs)) (search needs))
+    (λ c κs. travel-asks Bcns (sent (search needs)) (search needs)) (search needs) reply-newhope-requires (search needs)
+    (λ c κs. mix-asks Frodo (kept (search needs)) (search needs)) (λ c κs. travel-asks Frodo (sent (search needs)) (search needs)) (search needs) (search needs)
+    returns (search needs) (search needs) returns-2 (search needs) (search needs) returns-3)

@@ -15,8 +15,6 @@ reply-requires c κs =
     let f : tie.After-first-over = search needs in
     b .pre .1 (none-over _ (b .pre .0) (f .first-over .ensures) (search needs))
 
-returns-2 : tie.Need-returns-2
-returns-2 c = (search needs, (λ h. search needs, λ h. search needs))
-
 pub reply-newhope-spec : {M : Type 1} → statement M
-reply-newhope-spec = tie.close (tie.spec (search needs) returns reply-requires (search needs) (search needs) returns-2)
+reply-newhope-spec = tie.close (tie.spec (search needs) returns reply-requires (search needs) (search needs)
+    (λ c. (search needs, (λ h. search needs, λ h. search needs))))

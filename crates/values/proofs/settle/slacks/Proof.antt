@@ -12,9 +12,8 @@ abbrev known : tie.After-interval → Told Slacking
 known m = frodo (told (search needs)) (m .before .fixed .ensures) (m .interval .ensures)
 
 pub slacks-spec : {M : Type 1} → statement M
-slacks-spec = tie.close (tie.spec (search needs) (search needs) (λ c κs. slacks-asks Bcns (told (search needs)) (search needs))
-    (search needs) (λ c κs. search needs) (search needs) (search needs)
-    (search needs) (λ c κs. slacks-asks Frodo (known (search needs)) (search needs))
-    (search needs) (λ c. slacks-made Bcns (told (search needs)) (search needs) (c .before .before .slacks .ensures))
-    (search needs) (λ c. slacks-made NewHope (told (search needs)) (search needs) (c .before .before .zero-numbers .ensures))
-    (search needs) (λ c. slacks-made Frodo (known (search needs)) (search needs) (c .before .before .slacks2 .ensures)))
+slacks-spec = tie.close (tie.spec (search needs) (search needs) (λ c κs. slacks-asks Bcns (told (search needs)) (search needs)) (search needs)
+    (λ c κs. search needs) (search needs) (search needs) (search needs) (λ c κs. slacks-asks Frodo (known (search needs)) (search needs)) (search needs)
+    (λ c. slacks-made Bcns (told (search needs)) (search needs) (c .before .before .slacks .ensures)) (search needs)
+    (λ c. slacks-made NewHope (told (search needs)) (search needs) (c .before .before .zero-numbers .ensures)) (search needs)
+    (λ c. slacks-made Frodo (known (search needs)) (search needs) (c .before .before .slacks2 .ensures)))
