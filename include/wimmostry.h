@@ -318,7 +318,7 @@
  *     wim_offer 102              wim_reply 125              wim_finish 105
  *     wim_open 138               wim_answer 192             wim_noise 3
  *     wim_expand 1               wim_grow 6                 wim_shake128 2
- *     wim_sha3_256 2             wim_product 1              wim_bench 160
+ *     wim_sha3_256 2             wim_product 3              wim_bench 160
  *     wim_session_offer 103      wim_session_reply 126      wim_session_finish 105
  *     wim_session_open 138       wim_session_answer 192     wim_session_close 1
  *     wim_rack_offer 103         wim_rack_reply 126         wim_rack_finish 105
