@@ -13,7 +13,6 @@ use crate::lent::room_for;
 use crate::lent::values;
 use crate::lines;
 use bench::BenchAnswer;
-use finish::FinishAnswer;
 use refusals::Answer;
 use reply::ReplyAnswer;
 
@@ -121,20 +120,12 @@ fn keys(key: &[u8], n: usize, digest: &[u8], d: usize) {
     lines::text(b"\n");
 }
 
-fn finish_on(g: Setting, zs: &[i32], xs: &[u8], key: &mut [u8], digest: &mut [u8]) -> FinishAnswer {
-    finish::finish(
-        name(g, 6),
-        bytes(xs, lent::REPLY, length(g, Count::Reply)),
-        values(zs, lent::S, length(g, Count::Secret)),
-        key,
-        digest,
-    )
-}
-
 fn finish_line(g: Setting, zs: &[i32], xs: &[u8], key: &mut [u8], digest: &mut [u8]) {
     let n = room_for(g, Count::Key, key.len());
     let d = room(32, g.c, digest.len());
-    let answer = finish_on(g, zs, xs, &mut key[0..n], &mut digest[0..d]);
+    let reply = bytes(xs, lent::REPLY, length(g, Count::Reply));
+    let s = values(zs, lent::S, length(g, Count::Secret));
+    let answer = finish::finish(name(g, 6), reply, s, &mut key[0..n], &mut digest[0..d]);
     head(b"finish scheme=", g);
     lines::told_finish(answer);
     keys(key, n, digest, d);
