@@ -4,7 +4,7 @@
 --   answer-decides               its verdict where Grow has not refused: the table's, or Reply's
 --   answer-unordered, answer-drawn   what is seen of Reply by public numbers: where the table is refused, and where it is not
 --   seed-taken, seed-long        the seed of NewHope's opening, as the code lends it
---   answer-passed, answer-ran-out   what is seen of answer where Grow has not refused, and where the opening or Grow's bytes are
+--   answer-passed, answer-grows, answer-ran-out   what is seen of answer where Grow has not refused, and where the opening or Grow's bytes are
 --   answer-newhope, sized-newhope   the same of a scheme of which no public numbers are lent
 --   answer-unknown, answer-known, answer-failed   what is seen of answer where no scheme is named, where one is, and where lengths or rooms are refused
 use mathlib.Core.{Path._≡_, Path.refl, Path._∙_, Path.sym, Path.ap, List.List, List.[]}
@@ -32,7 +32,7 @@ use Rattle.reply.specs.declared.ReplyAnswer.{ReplyAnswer}
 use Rattle.reply.proofs.Replying.{reply-rest-decides, reply-refused}
 use Rattle.exchange.specs.Random.{secretBytes, mixedBytes, publicLent, publicFrom, cut, tableOrder, grown}
 use Rattle.exchange.specs.Answer.{AnswerLent, answerLentOf, answerReply, answerTests, answerResult}
-use Rattle.exchange.specs.Inside.{Drew, answerSizes, AnswerSized, drawnReply, drawnAnswers, cameIn}
+use Rattle.exchange.specs.Inside.{Drew, Grows, answerSizes, AnswerSized, drawnReply, drawnAnswers, cameIn}
 use Rattle.exchange.proofs.Drawn.{draws-secret, draws-mixed, drawn-small}
 use Rattle.exchange.proofs.Grown.{no-table, no-publics, public-passes, only-newhope}
 
@@ -168,6 +168,12 @@ pub answer-passed : {c : Scheme} {k : Ruled} {x : AnswerLent} {m : ReplyRooms} {
     → u ≡ drawnAnswers c (answerLentOf (x .opening) a (x .table) (x .random)) m → u ≡ answerResult (Known c) k x m
 unfolding drawnReply answerReply
 answer-passed z g e p = rw (answer-decides z g, ← e) p
+
+pub answer-grows : {k : Ruled} {x : AnswerLent} {m : ReplyRooms} {a : List ℕ} {v : Verdict} {u : ReplySeen} → AnswerSized NewHope k x m → v ≡ Pass
+    → (v ≡ Pass → Grows k (seedOf NewHope x) a) → u ≡ drawnAnswers NewHope (answerLentOf (x .opening) a (x .table) (x .random)) m
+    → u ≡ answerResult (Known NewHope) k x m
+unfolding publicFrom
+answer-grows z e g p = answer-passed z (g e .passed) (g e .is) p
 
 pub answer-ran-out : {k : Ruled} {x : AnswerLent} {m : ReplyRooms} {v : Verdict} {r : Refusal} {message key digest : List ℕ} → AnswerSized NewHope k x m
     → v ≡ cameIn NewHope (x .opening) then grown NewHope k (seedOf NewHope x) → v ≡ Fail r

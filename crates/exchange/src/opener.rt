@@ -70,7 +70,9 @@ fn open_drawn(
         Verdict::Fail(r) => Answer::Refused(r),
         Verdict::Pass => {
             let number = scheme.number();
-            offer::offer(number, public, &s[..n], &e[..n], &random[..at], opening)
+            let secret = &s[..n];
+            let noise = &e[..n];
+            offer::offer(number, public, secret, noise, &random[..at], opening)
         }
     }
 }

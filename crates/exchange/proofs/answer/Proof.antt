@@ -6,9 +6,6 @@ use borrow.Author.Needs.{needs}
 use Rattle.exchange.proofs.answer.Tie as tie
 
 -- the places, from the last to the first
-abbrev known : tie.After-answer-in → tie.After-known
-known c = search needs
-
 abbrev named : tie.After-known → tie.After-named
 named c = search needs
 
@@ -17,13 +14,6 @@ zeroed c = search needs
 
 abbrev start : tie.After-zero-outputs → tie.Start
 start c = search needs
-
-returns : tie.Need-returns
-returns c =
-    let n : tie.After-named = search needs in
-    let m = n .named .ensures .0 in
-    let z = zeroed n .zero-outputs .ensures in
-    answer-unknown _ _ _ (z .0) (z .1) (m .1) (m .0) (c .enum-told .given .1)
 
 answer-in-requires : tie.Need-answer-in-requires
 answer-in-requires c κs =
@@ -34,16 +24,9 @@ answer-in-requires c κs =
     let e = z .zero-outputs .ensures in
     ((zeros (length (a .message .now)) 0 (e .0), zeros (length (a .key .now)) 0 (e .1)), n .named .ensures .1)
 
-returns-2 : tie.Need-returns-2
-returns-2 c =
-    let p : tie.After-answer-in = search needs in
-    let k = known p in
-    let n = named k .named .ensures .0 in
-    let z = zeroed (named k) .zero-outputs .ensures in
-    answer-known _ _ _ (z .0) (z .1) (n .1) (n .0) (k .known .given .1) (p .answer-in .ensures)
-
 pub answer-spec : {M : Type 1} → statement M
 answer-spec =
     tie.close
     (tie.spec (λ c κs. search needs) (λ c κs. search needs) (search needs) (search needs) (search needs)
-    (search needs) (search needs) returns answer-in-requires (search needs) (search needs) (search needs) returns-2)
+    (search needs) (search needs) (λ c. search (needs, answer-unknown)) answer-in-requires (search needs)
+    (search needs) (search needs) (λ c. search (needs, answer-known)))

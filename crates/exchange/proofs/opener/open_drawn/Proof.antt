@@ -82,32 +82,12 @@ draw-requires-2 c κs =
     let k = l .lengths .ensures .1 .0 in
     (draws-secret s (omega (arith, at-is f, k, h .0)) (h .1) k (long f ∙ sym (tied s .noise)), few f)
 
-slice-reshare-prefix-offer : tie.Need-slice-reshare-prefix-offer
-slice-reshare-prefix-offer c =
-    let n : tie.After-number = search needs in
-    let s = held (drawn2 (told n)) in
-    omega (arith, s .s .given, roomy (fixing (taken (drawn s))))
+-- where Offer is called
+abbrev held-at : tie.After-number → tie.After-s
+held-at n = held (drawn2 (told n))
 
-slice-aggregate-offer : tie.Need-slice-aggregate-offer
-slice-aggregate-offer c =
-    let n : tie.After-number = search needs in
-    let s = held (drawn2 (told n)) in
-    sym (front-long _ _ (omega (arith, s .s .given, roomy (fixing (taken (drawn s))))))
-
-array-share-prefix-e : tie.Need-array-share-prefix-e
-array-share-prefix-e c =
-    let n : tie.After-number = search needs in
-    omega (arith, few (fixing (taken (drawn (held (drawn2 (told n)))))))
-
-slice-aggregate-offer-2 : tie.Need-slice-aggregate-offer-2
-slice-aggregate-offer-2 c =
-    let n : tie.After-number = search needs in
-    sym (front-long _ _ (omega (arith, few (fixing (taken (drawn (held (drawn2 (told n)))))))))
-
-slice-aggregate-offer-3 : tie.Need-slice-aggregate-offer-3
-slice-aggregate-offer-3 c =
-    let n : tie.After-number = search needs in
-    sym (front-long _ _ (seed-in (fixing (taken (drawn (held (drawn2 (told n))))))))
+abbrev fixed-at : tie.After-number → tie.After-fixed
+fixed-at n = fixing (taken (drawn (held-at n)))
 
 returns : tie.Need-returns
 returns c =
@@ -133,6 +113,10 @@ pub open-drawn-spec : {M : Type 1} → statement M
 open-drawn-spec =
     tie.close
     (tie.spec (λ c κs. search needs) (λ c κs. search needs) draw-requires add-draw (search needs)
-    draw-requires-2 (search needs) (search needs) (λ c κs. search needs) slice-reshare-prefix-offer
-    slice-aggregate-offer array-share-prefix-e slice-aggregate-offer-2 slice-aggregate-offer-3 (λ c κs. search needs) (search needs) returns
-    (search needs) (search needs) returns-2)
+    draw-requires-2 (search needs) (search needs) (λ c κs. search needs)
+    (λ c. let n : tie.After-number = search needs in omega (arith, held-at n .s .given, roomy (fixed-at n)))
+    (λ c. let n : tie.After-number = search needs in sym (front-long _ _ (omega (arith, held-at n .s .given, roomy (fixed-at n)))))
+    (λ c. let n : tie.After-number = search needs in omega (arith, few (fixed-at n)))
+    (λ c. let n : tie.After-number = search needs in sym (front-long _ _ (omega (arith, few (fixed-at n)))))
+    (λ c. let n : tie.After-number = search needs in sym (front-long _ _ (seed-in (fixed-at n)))) (λ c κs. search needs)
+    (search needs) returns (search needs) (search needs) returns-2)
