@@ -34,7 +34,7 @@ use Rattle.exchange.specs.Random.{secretBytes, mixedBytes, publicLent, p
 use Rattle.exchange.specs.Answer.{AnswerLent, answerLentOf, answerReply, answerTests, answerResult}
 use Rattle.exchange.specs.Inside.{Drew, Grows, answerSizes, AnswerSized, drawnReply, drawnAnswers, cameIn}
 use Rattle.exchange.proofs.Drawn.{draws-secret, draws-mixed, drawn-small}
-use Rattle.exchange.proofs.Grown.{no-table, no-publics, public-passes, only-newhope}
+use Rattle.exchange.proofs.Grown.{lengths-passed, no-table, no-publics, public-passes, only-newhope}
 
 -- ---- its tests
 
@@ -44,17 +44,15 @@ answer-sized c k x m t b =
     let digest = both _ _ t in
     let key = both _ _ (digest .0) in
     let message = both _ _ (key .0) in
-    let random = both _ _ (message .0) in
-    let table = both _ _ (random .0) in
-    let public = both _ _ (table .0) in
-    let opening = both _ _ (public .0) in
+    let l = lengths-passed _ (message .0) in
+    let opening = both _ _ (l .ahead) in
     record {
       sizes = t;
       ruled = opening .0;
       opening-long = length-passed _ _ (opening .1);
-      public-long = length-passed _ _ (public .1);
-      table-long = length-passed _ _ (table .1);
-      random-long = length-passed _ _ (random .1);
+      public-long = l .public-long;
+      table-long = l .table-long;
+      random-long = l .random-long;
       roomy = room-passed _ _ (message .1);
       key-roomy = room-passed _ _ (key .1);
       digest-roomy = room-passed _ _ (digest .1);

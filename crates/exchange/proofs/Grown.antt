@@ -1,5 +1,6 @@
 -- Where the public numbers come from.
 --   Lends, lends              they are lent where some are lent; only-newhope: where none are, the scheme is NewHope, whose are grown
+--   lengths-passed            the three lengths that open and answer test one after the other
 --   no-publics, no-table      none are refused where none are lent; NewHope has no table
 --   numbers-counted           the numbers that Grow makes where it does not refuse: all are there, below q
 --   grow-failed, grow-passed  what `grow` gives, by Grow's answer
@@ -12,11 +13,11 @@ use lib.ListN.{length}
 use Rattle.schemes.specs.{Schemes.fixedOf, declared.Scheme.Scheme}
 use Rattle.schemes.specs.declared.Scheme.the-variants.{Bcns, NewHope, Challenge, Classical, Recommended, Paranoid}
 use Rattle.lists.proofs.Same.{empty}
-use Rattle.refusals.specs.{Refusals.publicsIn, Seen.told, Seen.shown, Seen.seen}
+use Rattle.refusals.specs.{Refusals._then_, Refusals.lengthIs, Refusals.publicsIn, Seen.told, Seen.shown, Seen.seen}
 use Rattle.refusals.specs.{declared.Answer.Answer, declared.Refusal.Refusal}
 use Rattle.refusals.specs.declared.Verdict.{Verdict}
 use Rattle.refusals.specs.declared.Verdict.the-variants.{Pass, Fail}
-use Rattle.refusals.proofs.Laws.{differ, all-pass, length-passes, room-passes, below-passes, went-on}
+use Rattle.refusals.proofs.Laws.{differ, both, all-pass, length-passed, length-passes, room-passes, below-passes, went-on}
 use Rattle.refusals.proofs.Seen.{seen-done}
 use Rattle.noise.specs.{declared.Ruled.Ruled, declared.Ruled.the-variants.By}
 use Rattle.noise.proofs.Stream.{by-name-below}
@@ -27,6 +28,25 @@ use Rattle.values.specs.Fit.{Counted}
 use Rattle.exchange.specs.Random.{publicLent, publicFrom, tableOrder, grown}
 use Rattle.exchange.specs.Inside.{ruledIn, Grows}
 use Rattle.exchange.proofs.Drawn.{seen-fails, seen-whole}
+
+pub record Lengths (v : Verdict) (public table random p t r : ℕ) : Type 0 where
+  pub ahead : v ≡ Pass
+  pub public-long : public ≡ p
+  pub table-long : table ≡ t
+  pub random-long : random ≡ r
+
+pub lengths-passed : (v : Verdict) {public table random p t r : ℕ} → (v then lengthIs public p then lengthIs table t then lengthIs random r) ≡ Pass
+    → Lengths v public table random p t r
+lengths-passed v e =
+    let random = both _ _ e in
+    let table = both _ _ (random .0) in
+    let public = both _ _ (table .0) in
+    record {
+      ahead = public .0;
+      public-long = length-passed _ _ (public .1);
+      table-long = length-passed _ _ (table .1);
+      random-long = length-passed _ _ (random .1);
+    }
 
 -- the public numbers y, where a is lent
 pub record Passes (c : Scheme) (a y : List ℕ) : Type 0 where

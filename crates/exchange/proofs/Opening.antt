@@ -36,7 +36,7 @@ use Rattle.exchange.specs.Open.{OpenLent, openLentOf, OpenRooms, openOff
 use Rattle.exchange.specs.Inside.{Drew, openSizes, OpenSized, drawnOffer, drawnOpens, openShows, OpenHolds}
 use Rattle.exchange.specs.{declared.OpenAnswer.OpenAnswer, declared.OpenCounts.OpenCounts}
 use Rattle.exchange.proofs.Drawn.{seen-fails, draws-secret, drawn-long, drawn-small}
-use Rattle.exchange.proofs.Grown.{no-table, no-publics, public-passes, only-newhope}
+use Rattle.exchange.proofs.Grown.{lengths-passed, no-table, no-publics, public-passes, only-newhope}
 
 -- ---- its tests
 
@@ -46,15 +46,13 @@ module _ (c : Scheme) (k : Ruled) (x : OpenLent) (m : OpenRooms) where
   open-sized t b =
       let s = both _ _ t in
       let o = both _ _ (s .0) in
-      let random = both _ _ (o .0) in
-      let table = both _ _ (random .0) in
-      let public = both _ _ (table .0) in
+      let l = lengths-passed _ (o .0) in
       record {
         sizes = t;
-        ruled = public .0;
-        public-long = length-passed _ _ (public .1);
-        table-long = length-passed _ _ (table .1);
-        random-long = length-passed _ _ (random .1);
+        ruled = l .ahead;
+        public-long = l .public-long;
+        table-long = l .table-long;
+        random-long = l .random-long;
         roomy = room-passed _ _ (o .1);
         s-roomy = room-passed _ _ (s .1);
         bytes = b;
