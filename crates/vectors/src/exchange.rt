@@ -13,8 +13,6 @@ use crate::lent::room_for;
 use crate::lent::values;
 use crate::lines;
 use bench::BenchAnswer;
-use refusals::Answer;
-use reply::ReplyAnswer;
 
 fn head(call: &[u8], g: Setting) {
     lines::field(call, g.k);
@@ -27,21 +25,17 @@ fn keep(c: u32, message: &[u8], at: usize, xs: &mut [u8]) {
     }
 }
 
-fn offer_on(g: Setting, a: &[u32], zs: &[i32], xs: &[u8], message: &mut [u8]) -> Answer {
-    let n = length(g, Count::Secret);
-    offer::offer(
+fn offer_line(g: Setting, a: &[u32], zs: &[i32], xs: &mut [u8], message: &mut [u8]) {
+    let k = length(g, Count::Secret);
+    let n = room_for(g, Count::Opening, message.len());
+    let answer = offer::offer(
         name(g, 6),
         numbers(a, length(g, Count::Public)),
-        values(zs, lent::S, n),
-        values(zs, lent::E, n),
+        values(zs, lent::S, k),
+        values(zs, lent::E, k),
         bytes(xs, lent::SEED, length(g, Count::Seed)),
-        message,
-    )
-}
-
-fn offer_line(g: Setting, a: &[u32], zs: &[i32], xs: &mut [u8], message: &mut [u8]) {
-    let n = room_for(g, Count::Opening, message.len());
-    let answer = offer_on(g, a, zs, xs, &mut message[0..n]);
+        &mut message[0..n],
+    );
     head(b"offer scheme=", g);
     lines::told(answer);
     lines::summed(b" message=", message, n);
@@ -52,30 +46,6 @@ fn offer_line(g: Setting, a: &[u32], zs: &[i32], xs: &mut [u8], message: &mut [u
 pub fn offer_case(g: Setting, a: &[u32], zs: &[i32], xs: &mut [u8]) {
     let mut message = [165u8; 13008];
     offer_line(g, a, zs, xs, &mut message);
-}
-
-fn reply_on(
-    g: Setting,
-    a: &[u32],
-    zs: &[i32],
-    xs: &[u8],
-    message: &mut [u8],
-    key: &mut [u8],
-    digest: &mut [u8],
-) -> ReplyAnswer {
-    let n = length(g, Count::Secret);
-    reply::reply(
-        name(g, 6),
-        bytes(xs, lent::OPENING, length(g, Count::Opening)),
-        numbers(a, length(g, Count::Public)),
-        values(zs, lent::S1, n),
-        values(zs, lent::E1, n),
-        values(zs, lent::E2, length(g, Count::Mixed)),
-        bytes(xs, lent::COINS, length(g, Count::Coins)),
-        message,
-        key,
-        digest,
-    )
 }
 
 fn reply_line(
@@ -90,11 +60,15 @@ fn reply_line(
     let n = room_for(g, Count::Reply, message.len());
     let m = room_for(g, Count::Key, key.len());
     let d = room(32, g.c, digest.len());
-    let answer = reply_on(
-        g,
-        a,
-        zs,
-        xs,
+    let k = length(g, Count::Secret);
+    let answer = reply::reply(
+        name(g, 6),
+        bytes(xs, lent::OPENING, length(g, Count::Opening)),
+        numbers(a, length(g, Count::Public)),
+        values(zs, lent::S1, k),
+        values(zs, lent::E1, k),
+        values(zs, lent::E2, length(g, Count::Mixed)),
+        bytes(xs, lent::COINS, length(g, Count::Coins)),
         &mut message[0..n],
         &mut key[0..m],
         &mut digest[0..d],
