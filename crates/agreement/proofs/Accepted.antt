@@ -3,24 +3,20 @@
 --   Gave t, gave     an exchange: its rooms are enough, its inputs in range, and its messages, keys and slack are those of the run
 --   none-refused     and back: in any such rooms and on any such inputs no call refuses
 --   accepted, numbered, one-number   the theorems of specs/Exchange
-use mathlib.Core.Path.{_≡_, refl, sym, ap, _∙_}
-use Prim.Native.Nat.{ℕ}
-use native.Mathlib.Nat.{le-refl}
-use native.Mathlib.Omega.{arith}
-use Rattle.schemes.specs.{Schemes.fixedOf, declared.Scheme.Scheme}
-use Rattle.schemes.specs.declared.Named.the-variants.{Known, Unknown}
+use Rattle.lists.proofs.Kit.{_≡_, refl, sym, ap, _∙_, ℕ, le-refl, arith}
+use Rattle.schemes.specs.{Schemes.fixedOf, declared.Scheme.Scheme, declared.Named.the-variants.Known, declared.Named.the-variants.Unknown}
 use Rattle.schemes.proofs.Laws.{by-number, by-scheme}
 use Rattle.sponge.specs.Sponge.{sha3}
-use Rattle.refusals.specs.{Refusals.numberIn, Seen.answer, Seen.shown}
-use Rattle.refusals.specs.declared.Verdict.the-variants.{Pass}
+use Rattle.refusals.specs.{Refusals.numberIn, Seen.answer, Seen.shown, declared.Verdict.the-variants.Pass}
 use Rattle.refusals.proofs.{Laws.number-zero, Seen.written-answer}
 use Rattle.offer.specs.Offer.{Offer, offerTests, offerMessage, offerResult}
-use Rattle.reply.specs.Reply.{Reply, ReplyRooms, replyRoomsOf, replyTests, replyMessage, replyKey, replyDigest, outputs, replyResult}
-use Rattle.finish.specs.Finish.{Finish, FinishRooms, FinishSeen, finishRoomsOf, finishTests, finishKey, finishSlack, finishShown, finishResult}
 use Rattle.offer.proofs.Offering.{offer-unknown}
+use Rattle.finish.specs.Finish.{Finish, FinishRooms, FinishSeen, finishRoomsOf, finishTests, finishKey, finishSlack, finishShown, finishResult}
 use Rattle.finish.proofs.Finishing.{finish-passed}
+use Rattle.reply.specs.Reply.{Reply, ReplyRooms, replyRoomsOf, replyTests, replyMessage, replyKey, replyDigest, outputs, replyResult}
+use Rattle.agreement.specs.Exchange.{Sendable, Rooms, Enough, offers, replies, finishes, Exchange, ownKey, peerKey, toldSlack, Accepted, Numbered}
+use Rattle.agreement.specs.Exchange.{OneNumber}
 use Rattle.agreement.specs.Run.{Run, offering, replyTo, replying, finishWith, finishing}
-use Rattle.agreement.specs.Exchange.{Sendable, Rooms, Enough, offers, replies, finishes, Exchange, ownKey, peerKey, toldSlack, Accepted, Numbered, OneNumber}
 use Rattle.agreement.proofs.Tests.{sendable-by, offer-passes, reply-passes, finish-passes, offer-room, reply-rooms}
 
 -- ---- what a call gave

@@ -1,20 +1,13 @@
 -- What is stated in specs/Shown.
-use mathlib.Core.{Path._≡_, List.List}
-use Prim.Native.Nat.{ℕ, _^_, _≤_}
-use native.Mathlib.Nat.{lt-of-lt-of-le}
-use native.Mathlib.Omega.{arith}
-use lib.Dec.{lit≤}
-use Rattle.schemes.specs.{Schemes.familyOf, Schemes.fixedOf, declared.Family.Family}
-use Rattle.schemes.specs.declared.Scheme.{Scheme}
+use Rattle.lists.proofs.Kit.{_≡_, List, ℕ, _^_, _≤_, lt-of-lt-of-le, arith, lit≤}
 use Rattle.schemes.specs.declared.Scheme.the-variants.{Bcns, NewHope, Challenge, Classical, Recommended, Paranoid}
+use Rattle.schemes.specs.{Schemes.familyOf, Schemes.fixedOf, declared.Family.Family, declared.Scheme.Scheme}
 use Rattle.packing.proofs.Laws.{unpacked-below}
-use Rattle.refusals.specs.Refusals.{numberIn, _then_, messageIn}
-use Rattle.refusals.specs.{declared.Verdict.Verdict, declared.Verdict.the-variants.Pass}
-use Rattle.refusals.proofs.Laws.{message-passes}
-use Rattle.refusals.proofs.Number.{and, passes, lengths, rooms, publics, secrets, blanks}
+use Rattle.refusals.specs.{Refusals.numberIn, Refusals._then_, Refusals.messageIn, declared.Verdict.Verdict, declared.Verdict.the-variants.Pass}
+use Rattle.refusals.proofs.{Laws.message-passes, Number.and, Number.passes, Number.lengths, Number.rooms, Number.publics, Number.secrets, Number.blanks}
 use Rattle.wire.specs.Wire.{numbersIn}
-use Rattle.reply.specs.Reply.{replyTests, openedOf}
 use Rattle.finish.specs.Finish.{finishTests, repliedOf}
+use Rattle.reply.specs.Reply.{replyTests, openedOf}
 use Rattle.agreement.specs.Exchange.{NeverFive}
 
 -- Frodo's q is all that a packed number can hold

@@ -4,28 +4,22 @@
 --   opening-received an opening that Offer has made passes the tests of a part that has come
 --   offer-passes, reply-passes, finish-passes   such inputs pass the tests of each call, in any rooms that are enough
 --   offer-room, reply-rooms   a call that passes its tests was lent such rooms
-use mathlib.Core.{Path._≡_, Path.sym, Path._∙_, Bool.false, List.List}
-use Prim.Native.Nat.{ℕ, _≤_}
-use lib.ListN.{length}
-use Rattle.schemes.specs.{Schemes.fixedOf, declared.Named.the-variants.Known}
-use Rattle.schemes.specs.declared.Scheme.{Scheme}
+use Rattle.lists.proofs.Kit.{_≡_, sym, _∙_, false, List, ℕ, _≤_, length}
+use Rattle.schemes.specs.{Schemes.fixedOf, declared.Named.the-variants.Known, declared.Scheme.Scheme}
 use Rattle.blank.specs.Blank.{blank}
 use Rattle.refusals.specs.{Refusals._then_, Refusals.receivedIn, declared.Verdict.the-variants.Pass}
 use Rattle.refusals.proofs.Laws.{both, all-pass, length-passes, room-passes, below-passes, message-passes, within-passes, not-blank-passes, not-blank-passed}
 use Rattle.values.specs.{Keys.hints, Values.offered, Values.replied}
-use Rattle.values.proofs.Ranges.{offered-counted, replied-counted, mixed-counted}
-use Rattle.values.proofs.Settling.{hints-counted}
+use Rattle.values.proofs.{Ranges.offered-counted, Ranges.replied-counted, Ranges.mixed-counted, Settling.hints-counted}
 use Rattle.wire.specs.Wire.{openedIn, repliedIn, hintsIn, coinsIn}
 use Rattle.wire.proofs.Travel.{opened-part, opened-back, replied-part, replied-back, hints-back}
-use Rattle.offer.specs.Offer.{Offer, offeredPart, offerTests, offerMessage}
-use Rattle.offer.specs.Inside.{offerLengths, offerIn}
+use Rattle.offer.specs.{Offer.Offer, Offer.offeredPart, Offer.offerTests, Offer.offerMessage, Inside.offerLengths, Inside.offerIn}
+use Rattle.offer.proofs.Offering.{opening-long, offer-opens}
+use Rattle.finish.specs.{Finish.FinishRooms, Finish.repliedOf, Finish.finishTests, Shown.FinishEnough}
 use Rattle.reply.specs.Reply.{Reply, ReplyRooms, openedOf, replyValue, repliedPart, replyTests, replyMessage}
 use Rattle.reply.specs.Inside.{replyLast, replyRest}
-use Rattle.finish.specs.{Finish.FinishRooms, Finish.repliedOf, Finish.finishTests, Shown.FinishEnough}
-use Rattle.offer.proofs.Offering.{opening-long, offer-opens}
 use Rattle.reply.proofs.Replying.{message-length, reply-sized, reply-apart, secrets-small}
-use Rattle.agreement.specs.Run.{Run, offering, replyTo, replying, finishing}
-use Rattle.agreement.specs.Exchange.{Ranged, Sendable}
+use Rattle.agreement.specs.{Run.Run, Run.offering, Run.replyTo, Run.replying, Run.finishing, Exchange.Ranged, Exchange.Sendable}
 
 module _ (c : Scheme) (x : Run) where
   -- of any opening

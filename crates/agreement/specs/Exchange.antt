@@ -12,20 +12,16 @@
 --   Numbered       a call that refuses nothing was given a scheme
 --   OneNumber      which its number names, and no other number
 --   NeverFive      01: refusal 5 can't arise in Frodo
-use mathlib.Core.{Path._≡_, Bool.false, List.List, Logic._↔_}
-use Prim.Native.Nat.{ℕ, _≤_}
-use lib.ListN.{length}
+use Rattle.lists.specs.Kit.{_≡_, false, List, _↔_, ℕ, _≤_, length}
 use Rattle.schemes.specs.Schemes.{familyOf, fixedOf, schemeNumber, schemeOf}
-use Rattle.schemes.specs.{declared.Family.Family, declared.Named.Named, declared.Scheme.Scheme}
-use Rattle.schemes.specs.declared.Named.the-variants.{Known}
+use Rattle.schemes.specs.{declared.Family.Family, declared.Named.Named, declared.Scheme.Scheme, declared.Named.the-variants.Known}
 use Rattle.lists.specs.declared.Peak.{Peak}
+use Rattle.blank.specs.Blank.{blank}
 use Rattle.refusals.specs.{Refusals.numberIn, Seen.Seen, Seen.answer}
 use Rattle.values.specs.Fit.{Counted, Small}
-use Rattle.blank.specs.Blank.{blank}
 use Rattle.offer.specs.Offer.{Offer, offeredPart, offerResult}
+use Rattle.finish.specs.{Finish.Finish, Finish.FinishRooms, Finish.FinishSeen, Finish.finishTests, Finish.finishResult, Shown.FinishEnough}
 use Rattle.reply.specs.Reply.{Reply, ReplyRooms, ReplySeen, repliedPart, replyTests, replyResult}
-use Rattle.finish.specs.Finish.{Finish, FinishRooms, FinishSeen, finishTests, finishResult}
-use Rattle.finish.specs.Shown.{FinishEnough}
 use Rattle.agreement.specs.Run.{Run, offering, replyTo, finishWith}
 
 pub record Ranged (c : Scheme) (x : Run) : Type 0 where

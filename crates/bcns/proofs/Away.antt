@@ -3,19 +3,12 @@
 --   arc-first, arc-second, arc-third, arc-fourth   where 2w has the other hint, its region is a stretch of numbers without the given one, and both neighbours have it
 --   Case, case-of   the two cases, with the slack and the formula in each
 --   slack-apart, slack-least, slack-formula, slack-none, slack-bound
-use mathlib.Core.{Path._≡_, Path.refl, Path.sym, Path._∙_, Bool.Bool, Bool.true}
-use Prim.Native.Nat.{ℕ, _+_, _*_, _-_, _%_, _≤_, _<_, min}
-use native.Mathlib.Decide.{ℕ-discrete}
-use native.Mathlib.Nat.{le-refl}
-use native.Mathlib.Omega.{arith}
-use lib.Dec.{eqb}
-use borrow.Author.Tests.{eqb-true, eq-eqb}
+use Rattle.lists.proofs.Kit.{_≡_, refl, sym, _∙_, Bool, true, ℕ, _+_, _*_, _-_, _%_, _≤_, _<_, min, ℕ-discrete, le-refl, arith, eqb, eqb-true, eq-eqb}
 use Rattle.numbers.specs.{Residue.apart, Least.nearestTo, Least.gapTo}
-use Rattle.numbers.proofs.Natural.{rest-is}
 use Rattle.numbers.proofs.Circle.{apart-close, close-apart, close-swap, close-join, close-scale}
-use Rattle.numbers.proofs.Arc.{Arc, away-arc, away-at-most, away-none, nearest-least}
-use Rattle.bcns.specs.Rounding.{q, doubled, hintOf, slackOf}
+use Rattle.numbers.proofs.{Natural.rest-is, Arc.Arc, Arc.away-arc, Arc.away-at-most, Arc.away-none, Arc.nearest-least}
 use Rattle.bcns.specs.Slack.{mostSlack, SlackLeast, past, SlackFormula, SlackNone, SlackBound, SlackApart}
+use Rattle.bcns.specs.Rounding.{q, doubled, hintOf, slackOf}
 use Rattle.bcns.proofs.Regions.{hint-is, Region, first, second, third, fourth, region}
 use Rattle.bcns.proofs.Margin.{doubled-below, doubled-near}
 

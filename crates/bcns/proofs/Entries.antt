@@ -6,17 +6,13 @@
 --   slacks-length   as many slacks as there are values
 --   slacks-apart    under the replier's hints each is at most twice the distance of the two values, and one
 --   slacks-most     and under any hints at most the largest that a slack can be
-use mathlib.Core.{Path._≡_, Path._∙_, Path.sym, Path.ap, List.List}
-use Prim.Native.Nat.{ℕ, _+_, _*_, _≤_, _<_}
-use native.Mathlib.Omega.{arith}
-use lib.ListN.{length, getD}
+use Rattle.lists.proofs.Kit.{_≡_, _∙_, sym, ap, List, ℕ, _+_, _*_, _≤_, _<_, arith, length, getD}
 use Rattle.numbers.specs.Residue.{apart}
 use Rattle.lists.specs.{Entries.tab, Ranges.Below}
 use Rattle.lists.proofs.Entries.{tab-length, tab-at, tab-ext, below-tab}
 use Rattle.bcns.specs.Rounding.{q, doubled, hintOf, peerOf, hintsOf, keysOf, peersOf, slackOf, slacksOf}
 use Rattle.bcns.specs.{Agreement.EveryEntry, Slack.mostSlack}
-use Rattle.bcns.proofs.{Regions.hint-below, Regions.key-below, Formula.peer-below}
-use Rattle.bcns.proofs.{Margin.meet, Away.slack-apart, Away.slack-bound}
+use Rattle.bcns.proofs.{Regions.hint-below, Regions.key-below, Formula.peer-below, Margin.meet, Away.slack-apart, Away.slack-bound}
 
 module _ (cs vs : List ℕ) where
   pub hints-length : length (hintsOf cs vs) ≡ length vs

@@ -5,18 +5,12 @@
 --   Region, region     the four regions: (hint, key bit) is (0, 0), (1, 1), (0, 1), (1, 0)
 --   formula-is         the initiator's bit as a formula, by how many times 2147483648 goes into its sum
 --   near-same          2w is at most 1073741823 from z: the formula under z's hint is z's key bit
-use mathlib.Core.Path.{_≡_, _∙_, sym, ap}
-use Prim.Native.Nat.{ℕ, _+_, _*_, _/_, _%_, _≤_, _<_}
-use native.Mathlib.Decide.{decLt}
-use native.Mathlib.Omega.{arith}
-use native.Mathlib.Nat.{mod-lt}
-use lib.Dec.{leb}
-use borrow.Author.Tests.{le-leb, lt-leb}
+use Rattle.lists.proofs.Kit.{_≡_, _∙_, sym, ap, ℕ, _+_, _*_, _/_, _%_, _≤_, _<_, decLt, arith, mod-lt, leb, le-leb, lt-leb}
 use Rattle.numbers.specs.Congruence.{Close, direct, over, under}
-use Rattle.lists.specs.First.{both}
 use Rattle.numbers.proofs.Natural.{quotient-is}
-use Rattle.bcns.specs.{Rounding.q, Rounding.hintOf, Rounding.keyOf, Agreement.formulaOf}
+use Rattle.lists.specs.First.{both}
 use Rattle.lists.proofs.Table.{cond-all}
+use Rattle.bcns.specs.{Rounding.q, Rounding.hintOf, Rounding.keyOf, Agreement.formulaOf}
 
 -- the lowest bit of a quotient, from the multiples of d around s
 parity-is : (d s k : ℕ) → k * d ≤ s → s < (k + 1) * d → s / d % 2 ≡ k % 2

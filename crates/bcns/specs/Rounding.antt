@@ -6,11 +6,9 @@
 --   peerOf h w      the initiator's bit: 0 exactly if 2w lies, modulo 2q, within 1073741823 of some z with the hint h and the key bit 0
 --   slackOf h w     how far 2w lies, around a circle of 2q, from the nearest z with the hint h
 --   hintsOf, keysOf, peersOf, slacksOf   hint, key, peer's key and slack, entry by entry
-use mathlib.Core.{Bool.Bool, Bool.true, Bool.false, Bool.cond, List.List}
-use Prim.Native.Nat.{ℕ, zero, suc, _+_, _*_, _-_, _/_, _%_}
-use lib.{Dec.leb, Dec.eqb, IntN.ℤ, IntN.pos, IntN.negsuc, IntN._-ℤ_, ListN.length, ListN.getD}
-use Rattle.schemes.specs.{Schemes.fixedOf, declared.Scheme.the-variants.Bcns}
+use Rattle.lists.specs.Kit.{Bool, true, false, cond, List, ℕ, zero, suc, _+_, _*_, _-_, _/_, _%_, leb, eqb, ℤ, pos, negsuc, _-ℤ_, length, getD}
 use Rattle.numbers.specs.{Residue.residue, Residue.apart, Least.gapTo}
+use Rattle.schemes.specs.{Schemes.fixedOf, declared.Scheme.the-variants.Bcns}
 use Rattle.lists.specs.{Entries.tab, First.both}
 
 abbrev pub q : ℕ

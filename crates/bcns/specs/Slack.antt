@@ -4,8 +4,7 @@
 --   SlackNone                it is 0 exactly if 2w has the hint
 --   mostSlack, SlackBound    the largest that it can be, and that it is no more
 --   SlackApart               under the hint of the replier's z it is at most twice the distance of v and w, and one
-use mathlib.Core.{Path._≡_, Logic._↔_}
-use Prim.Native.Nat.{ℕ, _+_, _*_, _-_, _/_, _%_, _≤_, _<_, min}
+use Rattle.lists.specs.Kit.{_≡_, _↔_, ℕ, _+_, _*_, _-_, _/_, _%_, _≤_, _<_, min}
 use Rattle.numbers.specs.Residue.{apart}
 use Rattle.bcns.specs.Rounding.{q, doubled, hintOf, slackOf}
 

@@ -6,26 +6,17 @@
 --   compared-at, tally-next   the count: what each comparison asks, and one entry more
 --   eight-below, number-eight   the limbs of a value: each is small, and they are its 24 bytes
 --   value-is               a value from its parts, as the code forms them
-use mathlib.Core.Path.{_≡_, refl, _∙_, sym, ap, ap₂, subst}
-use mathlib.Core.{Bool.Bool, Bool.true, Bool.false, List.List, List.[], List._∷_}
-use Prim.Native.Nat.{ℕ, zero, suc, _+_, _*_, _-_, _/_, _%_, _^_, _<_, _≤_}
-use native.Mathlib.Numerals.{add-one}
-use native.Mathlib.Omega.{arith}
-use native.Mathlib.Decide.{decLt}
-use native.Mathlib.Nat.{mul-le-mul, le-refl, pow-suc, add-suc}
-use borrow.Author.Tests.{lt-ltb, le-ltb, le-leb, lt-leb, leb-true, leb-false}
-use lib.Dec.{leb, ltb}
-use lib.ListN.{length, getD, replicate, length-replicate, getD-replicate}
-use mir.Val.{boolByte}
+use Rattle.lists.proofs.Kit.{_≡_, refl, _∙_, sym, ap, ap₂, subst, Bool, true, false, List, [], _∷_, ℕ, zero, suc, _+_, _*_, _-_, _/_, _%_, _^_, _<_, _≤_}
+use Rattle.lists.proofs.Kit.{add-one, arith, decLt, mul-le-mul, le-refl, pow-suc, add-suc, lt-ltb, le-ltb, le-leb, lt-leb, leb-true, leb-false, leb, ltb}
+use Rattle.lists.proofs.Kit.{length, getD, replicate, length-replicate, getD-replicate, boolByte}
 use Rattle.numbers.proofs.Natural.{power-power}
 use Rattle.lists.specs.Ranges.{Below}
 use Rattle.lists.proofs.Entries.{tab-at, tab-const, below-tab}
 use Rattle.noise.specs.Noise.{atMost, withSign}
 use Rattle.noise.proofs.Noise.{Counted, counted-none, counted-all}
-use Rattle.bcns_noise.specs.Noise.{entryOf, entries, bigEndian, bcnsValue}
 use Rattle.bcns_noise.specs.Limbs.{byteOf, wordBytes, limbs, limbsOf, passes, tally, Row, Laid, Compared}
-use Rattle.bcns_noise.proofs.Words.{big-join, big-wide}
-use Rattle.bcns_noise.proofs.Table.{entries-long, byte-le, count-entry}
+use Rattle.bcns_noise.specs.Noise.{entryOf, entries, bigEndian, bcnsValue}
+use Rattle.bcns_noise.proofs.{Words.big-join, Words.big-wide, Table.entries-long, Table.byte-le, Table.count-entry}
 
 -- ---- the number of some limbs
 

@@ -1,13 +1,8 @@
 -- The sign as a factor, 1 - 2 b where b is its bit, as the machine forms it.
 --   double-fits, turn-fits, times-fits   no step leaves the 32 bits
 --   times                                the product is n with that sign
-use mathlib.Core.{Path._≡_, Path._∙_, Path.sym, Path.ap, Path.subst, Bool.cond}
-use Prim.Native.Nat.{ℕ, zero, suc, _*_, _^_, _<_}
-use native.Mathlib.Omega.{arith}
-use lib.{Dec.eqb, IntN.ℤ, IntN.pos, IntN.negsuc, IntN.negℤ, IntN._-ℤ_, IntN._*ℤ_}
-use mir.Syntax.{w32}
-use mir.Val.{SFits, toZ, ofZ}
-use mir.Facts.{toZ-ofZ}
+use Rattle.lists.proofs.Kit.{_≡_, _∙_, sym, ap, subst, cond, ℕ, zero, suc, _*_, _^_, _<_, arith, eqb, ℤ, pos, negsuc, negℤ, _-ℤ_, _*ℤ_, w32, SFits, toZ, ofZ}
+use Rattle.lists.proofs.Kit.{toZ-ofZ}
 use Rattle.numbers.proofs.Machine.{fits-abs, toZ-pos}
 use Rattle.noise.proofs.Noise.{sign-size}
 

@@ -6,17 +6,11 @@
 --   falls-behind             the test of an entry that has a forerunner
 --   Searched ..              the search: before, at each turn, where it finds one and where it ends
 --   ascends, each-place      what the place says
-use mathlib.Core.{Path._≡_, Path.refl, Path._∙_, Path.sym, Path.ap, List.List}
-use mathlib.Core.Bool.{Bool, true, false, cond}
-use Prim.Native.Nat.{ℕ, zero, suc, _+_, _*_, _-_, _/_, _%_, _<_, _≤_}
-use native.Mathlib.Omega.{arith}
-use native.Mathlib.Decide.{decLt}
-use borrow.Author.Tests.{lt-leb, leb-true, leb-false}
-use lib.{Dec.leb, Dec.eqb, ListN.length, ListN.getD, ListN.List·getD-eq-default}
-use mir.Val.{boolByte}
+use Rattle.lists.proofs.Kit.{_≡_, refl, _∙_, sym, ap, List, Bool, true, false, cond, ℕ, zero, suc, _+_, _*_, _-_, _/_, _%_, _<_, _≤_, arith, decLt, lt-leb}
+use Rattle.lists.proofs.Kit.{leb-true, leb-false, leb, eqb, length, getD, List·getD-eq-default, boolByte}
 use Rattle.lists.specs.{Entries.tab, First.firstWhere}
-use Rattle.lists.proofs.Entries.{tab-length, tab-at, within-tab}
 use Rattle.lists.proofs.First.{Passed, passed-none, passed-more, found, missing, none-before, none-passes, none-found, first-passes}
+use Rattle.lists.proofs.Entries.{tab-length, tab-at, within-tab}
 use Rattle.noise.specs.Noise.{atMost}
 use Rattle.noise.proofs.Noise.{at-most-le, sign-size, Counted, counted-more}
 use Rattle.bcns_noise.specs.Noise.{entryOf, entries, bigEndian, bcnsValue, bcnsNoise, falls, firstNotAbove}

@@ -3,14 +3,8 @@
 --   big-join      the number of some bytes and those behind them
 --   big-wide      24 bytes are three words
 --   big-three     three bytes
-use mathlib.Core.{Path._≡_, Path._∙_, Path.sym, Path.ap, Path.ap₂, Bool.Bool, Bool._&&_, Bool._||_}
-use mathlib.Core.List.{List}
-use Prim.Native.Nat.{ℕ, zero, suc, _+_, _*_, _^_, _<_, _≤_}
-use native.Mathlib.Omega.{arith}
-use native.Mathlib.Decide.{decLt, decLe, ℕ-discrete}
-use native.Mathlib.Nat.{add-suc, pow-suc, mul-le-mul, le-refl}
-use borrow.Author.Tests.{lt-ltb, le-ltb, le-leb, lt-leb, eq-eqb, ne-eqb}
-use lib.{Dec.leb, Dec.ltb, Dec.eqb, ListN.getD}
+use Rattle.lists.proofs.Kit.{_≡_, _∙_, sym, ap, ap₂, Bool, _&&_, _||_, List, ℕ, zero, suc, _+_, _*_, _^_, _<_, _≤_, arith, decLt, decLe, ℕ-discrete, add-suc}
+use Rattle.lists.proofs.Kit.{pow-suc, mul-le-mul, le-refl, lt-ltb, le-ltb, le-leb, lt-leb, eq-eqb, ne-eqb, leb, ltb, eqb, getD}
 use Rattle.bcns_noise.specs.Noise.{wide, bigEndian}
 
 -- ---- words

@@ -9,9 +9,7 @@
 --   Row table i t t′   row i of t is now limb i of each entry
 --   Laid table n t     the first n rows of t are the limbs of the table, and what stands behind its entries is above every number
 --   Compared t v k     what a comparison asks
-use mathlib.Core.{Path._≡_, Bool.Bool, Bool.true, List.List}
-use Prim.Native.Nat.{ℕ, zero, suc, _+_, _*_, _-_, _/_, _%_, _^_, _<_, _≤_}
-use lib.{Dec.ltb, ListN.length, ListN.getD}
+use Rattle.lists.specs.Kit.{_≡_, Bool, true, List, ℕ, zero, suc, _+_, _*_, _-_, _/_, _%_, _^_, _<_, _≤_, ltb, length, getD}
 use mir.Val.{boolByte}
 use Rattle.lists.specs.{Entries.tab, Ranges.Below, Ranges.Stored}
 use Rattle.bcns_noise.specs.Noise.{bigEndian}

@@ -11,9 +11,7 @@
 --   "18, a table not strictly ascending, place of the first entry not above its forerunner"
 --   falls table k         entry k has a forerunner and is not above it
 --   firstNotAbove table   the first such k, or the number of entries where there is none
-use mathlib.Core.{Bool.Bool, Bool.false, List.List}
-use Prim.Native.Nat.{ℕ, zero, suc, _+_, _*_, _/_, _^_}
-use lib.{Dec.leb, IntN.ℤ, ListN.length, ListN.getD}
+use Rattle.lists.specs.Kit.{Bool, false, List, ℕ, zero, suc, _+_, _*_, _/_, _^_, leb, ℤ, length, getD}
 use Rattle.lists.specs.{Entries.tab, First.firstWhere}
 use Rattle.noise.specs.Noise.{atMost, withSign}
 

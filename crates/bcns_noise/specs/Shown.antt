@@ -2,9 +2,7 @@
 --   Largest, Largest51    no value lies beyond the number of entries: none beyond 51, the largest noise, where there are 51
 --   Ascending, Ascends    `firstNotAbove` is the number of entries exactly where each entry is above its forerunner
 --   Place, EachPlace      else it is 1 or more, that entry is not above its forerunner, and those in front of it ascend
-use mathlib.Core.{Path._≡_, List.List, Logic._↔_}
-use Prim.Native.Nat.{ℕ, suc, _-_, _/_, _<_, _≤_}
-use lib.ListN.{length}
+use Rattle.lists.specs.Kit.{_≡_, List, _↔_, ℕ, suc, _-_, _/_, _<_, _≤_, length}
 use Rattle.lists.specs.Ranges.{Within}
 use Rattle.bcns_noise.specs.Noise.{entryOf, bcnsNoise, firstNotAbove}
 

@@ -4,42 +4,33 @@
 --   finish-done, reply-told, offer-told            and one whose call does not, by the step after it
 --   reply-sent, offer-sent                         and its message
 --   bench-refused, bench-told, bcns-answered, bench-unknown   Bench's promise, by what is handed on from Offer on; and where the number names no scheme
-use mathlib.Core.Path.{_≡_, refl, _∙_, sym, ap, ap₂}
-use mathlib.Core.List.{List, [], _++_, append-nil}
-use Prim.Native.Nat.{ℕ, zero, suc, _-_}
-use native.Mathlib.Nat.{le-refl, le-of-eq}
-use lib.{IntN.ℤ, ListN.length, ListN.take, ListN.drop, ListN.length-drop, ListN.drop-of-length-le}
-use lib.Seq.{take-at, drop-at}
-use borrow.Rule.Slice.PartMut.{putMid}
-use Rattle.schemes.specs.Schemes.{fixedOf, schemeOf, schemeNumber}
-use Rattle.schemes.specs.{declared.Named.Named, declared.Scheme.Scheme}
+use Rattle.lists.proofs.Kit.{_≡_, refl, _∙_, sym, ap, ap₂, List, [], _++_, append-nil, ℕ, zero, suc, _-_, le-refl, le-of-eq, ℤ, length, take, drop, length-drop}
+use Rattle.lists.proofs.Kit.{drop-of-length-le, take-at, drop-at, putMid}
 use Rattle.schemes.specs.declared.Named.the-variants.{Known, Unknown}
-use Rattle.schemes.specs.declared.Scheme.the-variants.{Bcns}
+use Rattle.schemes.specs.Schemes.{fixedOf, schemeOf, schemeNumber}
+use Rattle.schemes.specs.{declared.Named.Named, declared.Scheme.Scheme, declared.Scheme.the-variants.Bcns}
 use Rattle.schemes.proofs.Laws.{by-number}
 use Rattle.lists.specs.declared.Peak.{Peak}
-use Rattle.refusals.specs.{Refusals._then_, declared.Answer.Answer, declared.Outcome.Outcome}
 use Rattle.refusals.specs.Seen.{Output, output, written, Seen, told, seen, shown}
-use Rattle.refusals.specs.{declared.Refusal.Refusal, declared.Refusal.the-variants.NoScheme}
-use Rattle.refusals.specs.declared.Verdict.{Verdict}
 use Rattle.refusals.specs.declared.Verdict.the-variants.{Pass, Fail}
-use Rattle.refusals.proofs.Laws.{differ, number-zero, both, failed, went-on}
-use Rattle.refusals.proofs.{Same.same-verdict, Seen.written-whole}
+use Rattle.refusals.specs.declared.Refusal.the-variants.{NoScheme}
+use Rattle.refusals.specs.{Refusals._then_, declared.Answer.Answer, declared.Outcome.Outcome, declared.Refusal.Refusal, declared.Verdict.Verdict}
 use Rattle.refusals.proofs.Steps.{front-is, outcome-slack, outcome-refused, passed-by, failed-by}
-use Rattle.offer.specs.Offer.{offerTests, offerMessage, offerResult}
-use Rattle.offer.specs.Inside.{offerLengths, offerIn}
-use Rattle.reply.specs.Reply.{Reply, ReplySeen, replyOf, replyRoomsOf, replyMessage, replyKey, outputs, replyResult, replyTold, replySeen}
-use Rattle.finish.specs.Finish.{Finish, FinishSeen, finishOf, finishRoomsOf, finishKey, finishSlack, finishShown, finishResult, finishTold, finishSeen}
-use Rattle.reply.specs.{declared.ReplyAnswer.ReplyAnswer, declared.ReplyCounts.ReplyCounts}
-use Rattle.finish.specs.{declared.FinishAnswer.FinishAnswer, declared.FinishCounts.FinishCounts}
+use Rattle.refusals.proofs.{Laws.differ, Laws.number-zero, Laws.both, Laws.failed, Laws.went-on, Same.same-verdict, Seen.written-whole}
+use Rattle.offer.specs.{Offer.offerTests, Offer.offerMessage, Offer.offerResult, Inside.offerLengths, Inside.offerIn}
 use Rattle.offer.proofs.Offering.{offer-opens, opening-long}
-use Rattle.reply.proofs.Replying as reply
-use Rattle.finish.proofs.Finishing as finish
+use Rattle.finish.specs.Finish.{Finish, FinishSeen, finishOf, finishRoomsOf, finishKey, finishSlack, finishShown, finishResult, finishTold, finishSeen}
+use Rattle.finish.specs.{declared.FinishAnswer.FinishAnswer, declared.FinishCounts.FinishCounts}
+use Rattle.reply.specs.Reply.{Reply, ReplySeen, replyOf, replyRoomsOf, replyMessage, replyKey, outputs, replyResult, replyTold, replySeen}
+use Rattle.reply.specs.{declared.ReplyAnswer.ReplyAnswer, declared.ReplyCounts.ReplyCounts}
 use Rattle.agreement.specs.Run.{offering, replying, finishing}
 use Rattle.agreement.proofs.Tests.{sendable-by, finish-passes}
 use Rattle.bench.specs.Bench.{Bench, benchTests, keysDiffer, benchDiffers, benchSlack, differing, benchShown, benchResult, benchTold, bcnsTold}
+use Rattle.bench.specs.Bench.{BcnsAnswer, BenchAnswer}
 use Rattle.bench.specs.Inside.{testsFromFinish, testsFromReply, testsFromOffer, Keyed, FromFinish, FromReply, FromOffer, comparison, agreed}
-use Rattle.bench.specs.{declared.BcnsAnswer.BcnsAnswer, declared.BenchAnswer.BenchAnswer}
 use Rattle.bench.proofs.Lamp.{differs-is}
+use Rattle.reply.proofs.Replying as reply
+use Rattle.finish.proofs.Finishing as finish
 
 -- ---- by the verdict
 

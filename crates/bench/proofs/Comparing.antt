@@ -1,14 +1,9 @@
 -- Two keys bit by bit.
 --   told-apart, told-same   the answer of two keys that differ, and of two that do not
-use mathlib.Core.{Path._≡_, List.List}
-use Prim.Native.Nat.{ℕ, _*_, _≤_, _<_}
-use native.Mathlib.Omega.{arith}
-use lib.ListN.{length}
-use borrow.Author.Tests.{lt-ltb, le-ltb}
-use Rattle.packing.specs.Packing.{unpacked}
+use Rattle.lists.proofs.Kit.{_≡_, List, ℕ, _*_, _≤_, _<_, arith, length, lt-ltb, le-ltb}
 use Rattle.lists.specs.{First.firstApart, declared.Peak.Peak}
-use Rattle.bench.specs.{Bench.bits, Bench.differing, Inside.comparison}
-use Rattle.bench.specs.declared.BenchAnswer.the-variants.{Agree, Differ}
+use Rattle.packing.specs.Packing.{unpacked}
+use Rattle.bench.specs.{Bench.bits, Bench.differing, Bench.Agree, Bench.Differ, Inside.comparison}
 
 -- ---- two keys, by as many bits of each as x and y have room for
 

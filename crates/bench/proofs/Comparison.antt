@@ -2,34 +2,23 @@
 --   compared                  an answer without a refusal; told-agree, told-differ: by how two keys differ
 --   bench-sendable, bench-shows, bench-gave  where Bench refuses nothing, its inputs are sendable; and what it shows and answers of such inputs
 --   differ-few                the number that tells how the keys differ, whatever the scheme
-use mathlib.Core.{Path._≡_, Path.refl, Path._∙_, Path.sym, Path.ap, List.List, Logic._↔_}
-use mathlib.Core.Bool.{Bool, true, false, cond}
-use Prim.Native.Nat.{ℕ, zero, suc, _*_, _≤_}
-use native.Mathlib.Nat.{le-refl}
-use native.Mathlib.Omega.{arith}
-use lib.{Dec.ltb, ListN.length}
-use borrow.Author.Tests.{ltb-true}
-use Rattle.schemes.specs.{Schemes.byFamily, Schemes.familyOf, declared.Family.Family}
-use Rattle.schemes.specs.{declared.Scheme.Scheme, declared.Named.Named}
+use Rattle.lists.proofs.Kit.{_≡_, refl, _∙_, sym, ap, List, _↔_, Bool, true, false, cond, ℕ, zero, suc, _*_, _≤_, le-refl, arith, ltb, length, ltb-true}
 use Rattle.schemes.specs.declared.Named.the-variants.{Known, Unknown}
+use Rattle.schemes.specs.{Schemes.byFamily, Schemes.familyOf, declared.Family.Family, declared.Scheme.Scheme, declared.Named.Named}
 use Rattle.schemes.proofs.Sound.{sound}
 use Rattle.lists.specs.{Ranges.Below, First.firstApart, declared.Peak.Peak}
-use Rattle.refusals.specs.{Seen.ifPassed, declared.Verdict.Verdict}
-use Rattle.refusals.specs.declared.Verdict.the-variants.{Pass, Fail}
+use Rattle.refusals.specs.{Seen.ifPassed, declared.Verdict.Verdict, declared.Verdict.the-variants.Pass, declared.Verdict.the-variants.Fail}
 use Rattle.refusals.proofs.Laws.{both, number-zero, all-pass}
-use Rattle.reply.specs.Reply.{replyKey}
 use Rattle.finish.specs.Finish.{finishKey, finishSlack}
+use Rattle.reply.specs.Reply.{replyKey}
 use Rattle.reply.proofs.Replying.{key-length}
 use Rattle.agreement.specs.{Run.replying, Run.finishing, Exchange.Sendable}
-use Rattle.agreement.proofs.Tests.{sendable-by, offer-passes, reply-passes}
-use Rattle.agreement.proofs.{Accepted.gave, Accepted.accepted, Agreement.agreement}
+use Rattle.agreement.proofs.{Tests.sendable-by, Tests.offer-passes, Tests.reply-passes, Accepted.gave, Accepted.accepted, Agreement.agreement}
 use Rattle.bench.specs.Bench.{Bench, BenchSeen, bits, differing, benchTests, keysDiffer, benchDiffers, benchSlack, benchShown, benchResult, benchTold}
-use Rattle.bench.specs.{Inside.comparison, declared.BenchAnswer.BenchAnswer}
-use Rattle.bench.specs.declared.BenchAnswer.the-variants.{Agree, Differ}
-use Rattle.bench.proofs.Differing.{differing-none, differing-at}
+use Rattle.bench.specs.Bench.{BenchAnswer, Agree, Differ}
+use Rattle.bench.specs.{Inside.comparison, Shown.FirstBit, Shown.BenchAccepts, Shown.BenchTells, Shown.BenchAgrees}
 use Rattle.bench.proofs.Lamp.{same-long, own-bytes, peer-bytes, differs-is}
-use Rattle.bench.proofs.Shown.{bench-told-all}
-use Rattle.bench.specs.Shown.{FirstBit, BenchAccepts, BenchTells, BenchAgrees}
+use Rattle.bench.proofs.{Differing.differing-none, Differing.differing-at, Shown.bench-told-all}
 
 -- ---- without a refusal
 

@@ -2,14 +2,8 @@
 --   same-apart, apart-before, apart-there   of two lists: where they are the same, below the first difference, and at it
 --   differing-none     two keys differ at no bit exactly where they are the same
 --   differing-at       they differ first at i exactly where i is the first bit that differs
-use mathlib.Core.{Path._≡_, Path.refl, Path._∙_, Path.sym, Path.ap, Path.subst, Logic._↔_}
-use mathlib.Core.{Bool.Bool, Bool.true, Bool.false, Bool.cond, List.List, List.[], List._∷_}
-use Prim.Native.Nat.{ℕ, zero, suc, _*_, _≤_, _<_}
-use native.Mathlib.Decide.{decLt}
-use native.Mathlib.Nat.{not-suc-le-zero, le-of-suc-le-suc}
-use native.Mathlib.Omega.{arith}
-use lib.{Dec.eqb, ListN.length, ListN.getD, Seq.ext-getD}
-use borrow.Author.Tests.{eqb-true, eqb-false, eq-eqb, lt-ltb, le-ltb}
+use Rattle.lists.proofs.Kit.{_≡_, refl, _∙_, sym, ap, subst, _↔_, Bool, true, false, cond, List, [], _∷_, ℕ, zero, suc, _*_, _≤_, _<_, decLt, not-suc-le-zero}
+use Rattle.lists.proofs.Kit.{le-of-suc-le-suc, arith, eqb, length, getD, ext-getD, eqb-true, eqb-false, eq-eqb, lt-ltb, le-ltb}
 use Rattle.lists.specs.{Ranges.Below, First.firstApart}
 use Rattle.packing.specs.Packing.{packed}
 use Rattle.packing.proofs.Laws.{unpacked-length, pack-unpack}

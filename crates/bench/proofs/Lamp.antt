@@ -2,26 +2,22 @@
 --   same-long, own-bytes, peer-bytes   two keys of an exchange are of one length, and bytes
 --   never-differ                       those of BCNS are the same
 --   differs-is                         so comparing them says what Bench's definition says; same-numbers: and so do the two promises
-use mathlib.Core.Path.{_≡_, refl, _∙_, sym}
-use Prim.Native.Nat.{ℕ}
-use lib.ListN.{length}
-use Rattle.schemes.specs.{declared.Named.Named, declared.Scheme.Scheme}
-use Rattle.schemes.specs.declared.Named.the-variants.{Known, Unknown}
+use Rattle.lists.proofs.Kit.{_≡_, refl, _∙_, sym, ℕ, length}
 use Rattle.schemes.specs.declared.Scheme.the-variants.{Bcns, NewHope, Challenge, Classical, Recommended, Paranoid}
+use Rattle.schemes.specs.{declared.Named.Named, declared.Scheme.Scheme, declared.Named.the-variants.Known, declared.Named.the-variants.Unknown}
 use Rattle.lists.specs.{Ranges.Below, declared.Peak.Peak}
 use Rattle.packing.proofs.Laws.{packed-below}
-use Rattle.refusals.specs.declared.Verdict.{Verdict}
-use Rattle.refusals.specs.declared.Verdict.the-variants.{Pass, Fail}
+use Rattle.refusals.specs.{declared.Verdict.Verdict, declared.Verdict.the-variants.Pass, declared.Verdict.the-variants.Fail}
 use Rattle.refusals.proofs.Laws.{both}
-use Rattle.reply.specs.Reply.{replyKey}
 use Rattle.finish.specs.Finish.{finishKey}
-use Rattle.reply.proofs.Replying as reply
-use Rattle.finish.proofs.Finishing as finish
+use Rattle.reply.specs.Reply.{replyKey}
 use Rattle.agreement.specs.{Run.replying, Run.finishing, Agreement.Near}
 use Rattle.agreement.proofs.{Tests.sendable-by, Meeting.keys-meet}
 use Rattle.bench.specs.Bench.{Bench, benchTests, keysDiffer, benchDiffers, benchSlack, benchShown}
-use Rattle.bench.proofs.Differing.{differing-none}
 use Rattle.bench.specs.Shown.{NeverDiffer, differedBefore, SameNumbers}
+use Rattle.bench.proofs.Differing.{differing-none}
+use Rattle.reply.proofs.Replying as reply
+use Rattle.finish.proofs.Finishing as finish
 
 module _ (c : Scheme) (x : Bench) where
   pub same-long : length (replyKey (Known c) (replying c x)) ≡ length (finishKey (Known c) (finishing c x))

@@ -12,24 +12,19 @@
 --                         as d says and p is the slack
 --   bench, benchOf        what is lent, from the slices of a contract, and from lists
 --   benchTold r           the numbers of its answer r; bcnsTold: of an answer of the bench of BCNS
-use mathlib.Core.{Bool.cond, List.List, List.[]}
-use Prim.Native.Nat.{ℕ, suc, _*_}
-use lib.{Dec.ltb, IntN.ℤ, ListN.length}
-use Rattle.schemes.specs.{Schemes.byFamily, Schemes.familyOf, Schemes.fixedOf, declared.Named.Named}
-use Rattle.schemes.specs.declared.Scheme.{Scheme}
+use Rattle.lists.specs.Kit.{cond, List, [], ℕ, suc, _*_, ltb, ℤ, length}
 use Rattle.schemes.specs.declared.Named.the-variants.{Known, Unknown}
+use Rattle.schemes.specs.{Schemes.byFamily, Schemes.familyOf, Schemes.fixedOf, declared.Named.Named, declared.Scheme.Scheme}
 use Rattle.lists.specs.{First.firstApart, First.peakOf, Lent.Lent, Lent.was, declared.Peak.Peak}
 use Rattle.packing.specs.Packing.{unpacked}
 use Rattle.refusals.specs.Refusals.{numberOf, placeOf, numberIn, placeIn, _then_}
-use Rattle.refusals.specs.{Seen.ifPassed, Seen.unused, declared.Verdict.Verdict}
-use Rattle.refusals.specs.declared.Verdict.the-variants.{Fail}
-use Rattle.refusals.specs.declared.Refusal.the-variants.{NoScheme}
+use Rattle.refusals.specs.{Seen.ifPassed, Seen.unused, declared.Verdict.Verdict, declared.Verdict.the-variants.Fail, declared.Refusal.the-variants.NoScheme}
 use Rattle.offer.specs.Offer.{offerTests}
-use Rattle.reply.specs.Reply.{replyRoomsOf, replyTests, replyKey}
 use Rattle.finish.specs.Finish.{finishKey, finishSlack}
+use Rattle.reply.specs.Reply.{replyRoomsOf, replyTests, replyKey}
 use Rattle.agreement.specs.Run.{Run, offering, replying, finishing}
-use Rattle.bench.specs.{declared.BcnsAnswer.BcnsAnswer, declared.BenchAnswer.BenchAnswer}
-use Rattle.bench.specs.declared.BenchAnswer.the-variants.{Agree, Differ, Refused}
+pub use Rattle.bench.specs.declared.BenchAnswer.the-variants.{Agree, Differ, Refused}
+pub use Rattle.bench.specs.{declared.BcnsAnswer.BcnsAnswer, declared.BenchAnswer.BenchAnswer}
 
 abbrev pub Bench : Type 0
 Bench = Run

@@ -6,21 +6,15 @@
 --   FromOffer c x r keys        from Offer on
 --   agreed o                    what was handed on, as the BCNS bench's answer
 --   comparison d p              the answer without a refusal, where d says how the keys differ, and p is the slack
-use mathlib.Core.{Path._≡_, List.List}
-use Prim.Native.Nat.{ℕ, zero, suc}
-use lib.{IntN.ℤ, ListN.take, ListN.drop}
-use Rattle.schemes.specs.{Schemes.fixedOf, declared.Scheme.Scheme}
-use Rattle.schemes.specs.declared.Named.the-variants.{Known}
+use Rattle.lists.specs.Kit.{_≡_, List, ℕ, zero, suc, ℤ, take, drop}
+use Rattle.schemes.specs.{Schemes.fixedOf, declared.Scheme.Scheme, declared.Named.the-variants.Known}
 use Rattle.lists.specs.declared.Peak.{Peak}
-use Rattle.refusals.specs.{Refusals._then_, Steps.outcome, declared.Outcome.Outcome}
-use Rattle.refusals.specs.{declared.Verdict.Verdict, declared.Verdict.the-variants.Pass}
+use Rattle.refusals.specs.{Refusals._then_, Steps.outcome, declared.Outcome.Outcome, declared.Verdict.Verdict, declared.Verdict.the-variants.Pass}
 use Rattle.offer.specs.Offer.{offerTests}
-use Rattle.reply.specs.Reply.{Reply, replyRoomsOf, replyTests, replyMessage, replyKey}
 use Rattle.finish.specs.Finish.{Finish, finishOf, finishRoomsOf, finishTests, finishKey, finishSlack}
+use Rattle.reply.specs.Reply.{Reply, replyRoomsOf, replyTests, replyMessage, replyKey}
 use Rattle.agreement.specs.Run.{offering, replying, finishing}
-use Rattle.bench.specs.{Bench.Bench, declared.BcnsAnswer.BcnsAnswer}
-use Rattle.bench.specs.declared.BenchAnswer.{BenchAnswer}
-use Rattle.bench.specs.declared.BenchAnswer.the-variants.{Agree, Differ}
+use Rattle.bench.specs.Bench.{Bench, BcnsAnswer, BenchAnswer, Agree, Differ}
 
 abbrev pub testsFromFinish : Scheme → Finish → Verdict
 testsFromFinish c x = finishTests (Known c) x (finishRoomsOf (fixedOf c .key) 32)

@@ -14,22 +14,17 @@
 --   NeverDiffer        where Bench refuses nothing in BCNS, the two keys are the same
 --   comparedResult     Bench's promise where the keys are compared in every scheme
 --   SameNumbers        it and the present promise are one, in every scheme
-use mathlib.Core.{Path._≡_, List.List, Logic._↔_}
-use Prim.Native.Nat.{ℕ, _<_}
-use lib.ListN.{getD}
-use Rattle.schemes.specs.{Schemes.fixedOf, declared.Scheme.Scheme, declared.Named.Named}
+use Rattle.lists.specs.Kit.{_≡_, List, _↔_, ℕ, _<_, getD}
 use Rattle.schemes.specs.declared.Named.the-variants.{Known, Unknown}
-use Rattle.schemes.specs.declared.Scheme.the-variants.{Bcns}
+use Rattle.schemes.specs.{Schemes.fixedOf, declared.Scheme.Scheme, declared.Named.Named, declared.Scheme.the-variants.Bcns}
 use Rattle.refusals.specs.{Refusals.receivedIn, declared.Verdict.the-variants.Pass}
 use Rattle.wire.specs.Wire.{openedIn}
 use Rattle.offer.specs.Offer.{offerTests, offerMessage}
-use Rattle.reply.specs.Reply.{openedOf, replyKey}
 use Rattle.finish.specs.{Finish.FinishRooms, Finish.finishTests, Finish.finishSlack, Finish.finishKey, Shown.FinishEnough}
-use Rattle.agreement.specs.{Run.offering, Run.replying, Run.finishing, Agreement.Near}
-use Rattle.agreement.specs.Exchange.{Exchange, ownKey, peerKey, toldSlack}
-use Rattle.bench.specs.Bench.{Bench, benchTests, benchResult, benchTold, bcnsTold, bits, BenchSeen, keysDiffer, benchSlack, benchShown}
-use Rattle.bench.specs.{declared.BcnsAnswer.BcnsAnswer, declared.BenchAnswer.BenchAnswer}
-use Rattle.bench.specs.declared.BenchAnswer.the-variants.{Agree, Differ}
+use Rattle.reply.specs.Reply.{openedOf, replyKey}
+use Rattle.agreement.specs.{Run.offering, Run.replying, Run.finishing, Agreement.Near, Exchange.Exchange, Exchange.ownKey, Exchange.peerKey, Exchange.toldSlack}
+use Rattle.bench.specs.Bench.{Bench, benchTests, benchResult, benchTold, bcnsTold, bits, BenchSeen, keysDiffer, benchSlack, benchShown, BcnsAnswer}
+use Rattle.bench.specs.Bench.{BenchAnswer, Agree, Differ}
 
 abbrev pub BenchToldAll : Type 0
 BenchToldAll = (r r′ : BenchAnswer) → benchTold r ≡ benchTold r′ → r ≡ r′

@@ -1,13 +1,8 @@
 -- Zero bytes are zero numbers, at every width: a list of zeros has the number 0, whose digits are zeros, and packing and unpacking undo each other.
 --   blank-packed, blank-unpacked   as specs/Blank states them
 --   blank-zeros, zeros-blank       a blank list is one of zeros
-use mathlib.Core.{Path._≡_, Path.refl, Path.sym, Path.ap₂, List.List, List.[], List._∷_}
-use mathlib.Core.Bool.{Bool, true, false, cond}
-use Prim.Native.Nat.{ℕ, zero, suc, _*_, _/_, _^_}
-use native.Mathlib.Nat.{zero-div, zero-mod}
-use native.Mathlib.Omega.{arith}
-use lib.{Dec.eqb, ListN.length, ListN.replicate}
-use borrow.Author.Tests.{eqb-true}
+use Rattle.lists.proofs.Kit.{_≡_, refl, sym, ap₂, List, [], _∷_, Bool, true, false, cond, ℕ, zero, suc, _*_, _/_, _^_, zero-div, zero-mod, arith, eqb, length}
+use Rattle.lists.proofs.Kit.{replicate, eqb-true}
 use Rattle.packing.specs.Packing.{value, digits, packed, unpacked}
 use Rattle.packing.proofs.Laws.{unpack-pack, pack-unpack}
 use Rattle.blank.specs.Blank.{blank, BlankPacked, BlankUnpacked}

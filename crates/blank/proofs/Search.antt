@@ -1,13 +1,8 @@
 -- The search for a number that is not 0: before it lie zeros alone.
 --   Zeros, zeros-none, zeros-more   the loop, before it and at a zero
 --   zeros-found, zeros-all          what it finds: another number, or none
-use mathlib.Core.{Path._≡_, Path.refl, Path._∙_, Path.sym, Path.ap, List.List}
-use mathlib.Core.Bool.{true, false, cond}
-use Prim.Native.Nat.{ℕ, _+_, _<_, _≤_}
-use native.Mathlib.Numerals.{add-one}
-use native.Mathlib.Omega.{arith}
-use lib.{Dec.eqb, ListN.length, ListN.getD, ListN.drop, ListN.drop-of-length-le, Seq.drop-cons}
-use borrow.Author.Tests.{eq-eqb, ne-eqb}
+use Rattle.lists.proofs.Kit.{_≡_, refl, _∙_, sym, ap, List, true, false, cond, ℕ, _+_, _<_, _≤_, add-one, arith, eqb, length, getD, drop, drop-of-length-le}
+use Rattle.lists.proofs.Kit.{drop-cons, eq-eqb, ne-eqb}
 use Rattle.blank.specs.Blank.{blank}
 
 pub record Zeros (xs : List ℕ) (i : ℕ) : Type 0 where

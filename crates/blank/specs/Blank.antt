@@ -3,10 +3,7 @@
 -- What is shown of it, once over the width: zero bytes are zero numbers, so that either may be tested for the other.
 --   BlankPacked      of numbers that are packed into whole bytes
 --   BlankUnpacked    of bytes that whole numbers fill
-use mathlib.Core.{Path._≡_, Bool.Bool, Bool.true, Bool.false, Bool.cond}
-use mathlib.Core.List.{List, [], _∷_}
-use Prim.Native.Nat.{ℕ, _*_, _^_}
-use lib.{Dec.eqb, ListN.length}
+use Rattle.lists.specs.Kit.{_≡_, Bool, true, false, cond, List, [], _∷_, ℕ, _*_, _^_, eqb, length}
 use Rattle.lists.specs.Ranges.{Below}
 use Rattle.packing.specs.Packing.{packed, unpacked}
 

@@ -1,22 +1,20 @@
 -- The table of bench cards holds, by one computed test. The initiator's rules are searches, and are computed by their formulas.
-use mathlib.Core.{Path._≡_, Path.refl, Path._∙_, Path.ap, Bool.Bool, Bool.true, Bool.false}
-use mathlib.Core.List.{List, [], _∷_}
-use Prim.Native.Nat.{_*_, _^_}
-use lib.{Count.ones, Dec.T, Dec.eqb, Dec.ltb, Dec.eqb→eq, Dec.ltb→lt, Dec.lit<}
-use lib.IntN.{ℤ, pos, negsuc}
+use Rattle.lists.proofs.Kit.{_≡_, refl, _∙_, ap, Bool, true, false, List, [], _∷_, _*_, _^_, T, eqb, ltb, eqb→eq, ℤ, pos, negsuc}
+use lib.{Count.ones, Dec.ltb→lt, Dec.lit<}
 use Rattle.numbers.specs.Residue.{residue, nearest, distance, apart}
 use Rattle.lists.specs.{Entries.tab, First.both}
 use Rattle.lists.proofs.Table.{both-T}
+use Rattle.newhope.specs.declared.Four.{Four}
+use Rattle.cards.specs.Table.{Card, bcns-value, bcns-peer, frodo-value, frodo-peer, newhope-group, newhope-noise, frodo-noise, four, I, B, Says, All}
+use Rattle.cards.specs.Table.{table, Shown}
 use Rattle.bcns.specs.Rounding as bcns
 use Rattle.bcns.specs.Agreement as bcns-agreement
 use Rattle.frodo.specs.Rounding as frodo
 use Rattle.frodo.specs.Agreement as frodo-agreement
 use Rattle.newhope.specs.Group as newhope
-use Rattle.newhope.specs.declared.Four.{Four}
 use Rattle.noise.specs.Noise as noise
 use Rattle.bcns.proofs.Formula as bcnsFormula
 use Rattle.frodo.proofs.Rule as frodoRule
-use Rattle.cards.specs.Table.{Card, bcns-value, bcns-peer, frodo-value, frodo-peer, newhope-group, newhope-noise, frodo-noise, four, I, B, Says, All, table, Shown}
 
 -- two tests at once, as one name that stays put
 and : Bool → Bool → Bool

@@ -3,15 +3,13 @@
 --   Says    what a card says of the definitions
 --   table   the cards, in 01's order
 --   Shown   all of them hold
-use mathlib.Core.{Path._≡_, List.List, List.[], List._∷_}
-use Prim.Native.Nat.{ℕ}
-use lib.IntN.{ℤ, pos, negsuc}
+use Rattle.lists.specs.Kit.{_≡_, List, [], _∷_, ℕ, ℤ, pos, negsuc}
 use Rattle.schemes.specs.{declared.Scheme.the-variants.Recommended, Schemes.fixedOf}
+use Rattle.noise.specs.Noise.{newHopeNoise, thresholdOf, d3}
+use Rattle.newhope.specs.declared.Four.{Four}
 use Rattle.bcns.specs.Rounding as bcns
 use Rattle.frodo.specs.Rounding as frodo
 use Rattle.newhope.specs.Group as newhope
-use Rattle.newhope.specs.declared.Four.{Four}
-use Rattle.noise.specs.Noise.{newHopeNoise, thresholdOf, d3}
 
 pub data Card : Type 0 where
   -- BCNS: v, coin; hint, bit. And w, hint; bit

@@ -7,34 +7,28 @@
 --   answer-passed, answer-grows, answer-ran-out   what is seen of answer where Grow has not refused, and where the opening or Grow's bytes are
 --   answer-newhope, sized-newhope   the same of a scheme of which no public numbers are lent
 --   answer-unknown, answer-known, answer-failed   what is seen of answer where no scheme is named, where one is, and where lengths or rooms are refused
-use mathlib.Core.{Path._≡_, Path.refl, Path._∙_, Path.sym, Path.ap, List.List, List.[]}
-use Prim.Native.Nat.{ℕ, _+_, _-_, _≤_}
-use native.Mathlib.Omega.{arith}
-use lib.{IntN.ℤ, ListN.length, ListN.replicate, ListN.take, ListN.drop}
-use Rattle.schemes.specs.{Schemes.fixedOf, declared.Named.Named, declared.Scheme.Scheme}
-use Rattle.schemes.specs.declared.Fixed.{Fixed}
+use Rattle.lists.proofs.Kit.{_≡_, refl, _∙_, sym, ap, List, [], ℕ, _+_, _-_, _≤_, arith, ℤ, length, replicate, take, drop}
 use Rattle.schemes.specs.declared.Named.the-variants.{Known, Unknown}
-use Rattle.schemes.specs.declared.Scheme.the-variants.{NewHope}
+use Rattle.schemes.specs.{Schemes.fixedOf, declared.Named.Named, declared.Scheme.Scheme, declared.Fixed.Fixed, declared.Scheme.the-variants.NewHope}
 use Rattle.schemes.proofs.Laws.{tied}
 use Rattle.lists.specs.Ranges.{Below}
 use Rattle.lists.proofs.{Parts.part-long, Same.empty, Same.zeros-long}
-use Rattle.refusals.specs.Refusals.{_then_, publicsIn, notBlank, receivedIn, messageIn}
-use Rattle.refusals.specs.{declared.Refusal.Refusal, declared.Refusal.the-variants.NoScheme}
-use Rattle.refusals.specs.declared.Verdict.{Verdict}
-use Rattle.refusals.specs.declared.Verdict.the-variants.{Pass, Fail}
-use Rattle.refusals.proofs.Laws.{both, all-pass, length-passed, length-passes, room-passed, room-passes, within-passes, last-passes, failed, went-on}
 use Rattle.noise.specs.{declared.Ruled.Ruled, declared.Ruled.the-variants.By}
+use Rattle.refusals.specs.Refusals.{_then_, publicsIn, notBlank, receivedIn, messageIn}
+use Rattle.refusals.specs.declared.Verdict.the-variants.{Pass, Fail}
+use Rattle.refusals.specs.{declared.Refusal.Refusal, declared.Refusal.the-variants.NoScheme, declared.Verdict.Verdict}
+use Rattle.refusals.proofs.Laws.{both, all-pass, length-passed, length-passes, room-passed, room-passes, within-passes, last-passes, failed, went-on}
 use Rattle.values.specs.Fit.{Small}
 use Rattle.wire.specs.{Wire.openedIn, Wire.seedIn, Steps.replySecrets}
-use Rattle.reply.specs.Reply.{Reply, ReplyRooms, replyRoomsOf, ReplySeen, replyOf, openedOf, repliedPart, replyTests, replyShown, replyResult, replyTold, replySeen}
-use Rattle.reply.specs.Inside.{replyLengths, replyLast, replyRest}
-use Rattle.reply.specs.declared.ReplyAnswer.{ReplyAnswer}
+use Rattle.reply.specs.Reply.{Reply, ReplyRooms, replyRoomsOf, ReplySeen, replyOf, openedOf, repliedPart, replyTests, replyShown, replyResult, replyTold}
+use Rattle.reply.specs.Reply.{replySeen}
+use Rattle.reply.specs.{Inside.replyLengths, Inside.replyLast, Inside.replyRest, declared.ReplyAnswer.ReplyAnswer}
 use Rattle.reply.proofs.Replying.{reply-rest-decides, reply-refused}
 use Rattle.exchange.specs.Random.{secretBytes, mixedBytes, publicLent, publicFrom, cut, tableOrder, grown}
-use Rattle.exchange.specs.Answer.{AnswerLent, answerLentOf, answerReply, answerTests, answerResult}
 use Rattle.exchange.specs.Inside.{Drew, Grows, answerSizes, AnswerSized, drawnReply, drawnAnswers, cameIn}
-use Rattle.exchange.proofs.Drawn.{draws-secret, draws-mixed, drawn-small}
+use Rattle.exchange.specs.Answer.{AnswerLent, answerLentOf, answerReply, answerTests, answerResult}
 use Rattle.exchange.proofs.Grown.{lengths-passed, no-table, no-publics, public-passes, only-newhope}
+use Rattle.exchange.proofs.Drawn.{draws-secret, draws-mixed, drawn-small}
 
 -- ---- its tests
 

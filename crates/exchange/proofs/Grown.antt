@@ -5,28 +5,21 @@
 --   numbers-counted           the numbers that Grow makes where it does not refuse: all are there, below q
 --   grow-failed, grow-passed  what `grow` gives, by Grow's answer
 --   Passes, public-passes     the public numbers of any scheme, lent or grown: all are there, and they pass where what is lent passes
-use mathlib.Core.{Path._≡_, Path.refl, Path._∙_, Path.sym, Path.ap, List.List, List.[]}
-use Prim.Native.Nat.{ℕ, suc}
-use native.Mathlib.Nat.{le-refl}
-use native.Mathlib.Omega.{arith}
-use lib.ListN.{length}
-use Rattle.schemes.specs.{Schemes.fixedOf, declared.Scheme.Scheme}
+use Rattle.lists.proofs.Kit.{_≡_, refl, _∙_, sym, ap, List, [], ℕ, suc, le-refl, arith, length}
 use Rattle.schemes.specs.declared.Scheme.the-variants.{Bcns, NewHope, Challenge, Classical, Recommended, Paranoid}
+use Rattle.schemes.specs.{Schemes.fixedOf, declared.Scheme.Scheme}
 use Rattle.lists.proofs.Same.{empty}
-use Rattle.refusals.specs.{Refusals._then_, Refusals.lengthIs, Refusals.publicsIn, Seen.told, Seen.shown, Seen.seen}
-use Rattle.refusals.specs.{declared.Answer.Answer, declared.Refusal.Refusal}
-use Rattle.refusals.specs.declared.Verdict.{Verdict}
-use Rattle.refusals.specs.declared.Verdict.the-variants.{Pass, Fail}
-use Rattle.refusals.proofs.Laws.{differ, both, all-pass, length-passed, length-passes, room-passes, below-passes, went-on}
-use Rattle.refusals.proofs.Seen.{seen-done}
 use Rattle.noise.specs.{declared.Ruled.Ruled, declared.Ruled.the-variants.By}
 use Rattle.noise.proofs.Stream.{by-name-below}
-use Rattle.sampling.specs.Expand.{expandNumbers}
-use Rattle.sampling.specs.Expand.{growNumbers, blocks, growTests, growResult}
-use Rattle.sampling.proofs.Expanding.{enough-passed, numbers-few}
+use Rattle.refusals.specs.declared.Verdict.the-variants.{Pass, Fail}
+use Rattle.refusals.specs.Refusals.{_then_, lengthIs, publicsIn}
+use Rattle.refusals.specs.{Seen.told, Seen.shown, Seen.seen, declared.Answer.Answer, declared.Refusal.Refusal, declared.Verdict.Verdict}
+use Rattle.refusals.proofs.Laws.{differ, both, all-pass, length-passed, length-passes, room-passes, below-passes, went-on}
+use Rattle.refusals.proofs.Seen.{seen-done}
 use Rattle.values.specs.Fit.{Counted}
-use Rattle.exchange.specs.Random.{publicLent, publicFrom, tableOrder, grown}
-use Rattle.exchange.specs.Inside.{ruledIn, Grows}
+use Rattle.sampling.specs.Expand.{expandNumbers, growNumbers, blocks, growTests, growResult}
+use Rattle.sampling.proofs.Expanding.{enough-passed, numbers-few}
+use Rattle.exchange.specs.{Random.publicLent, Random.publicFrom, Random.tableOrder, Random.grown, Inside.ruledIn, Inside.Grows}
 use Rattle.exchange.proofs.Drawn.{seen-fails, seen-whole}
 
 pub record Lengths (v : Verdict) (public table random p t r : ℕ) : Type 0 where

@@ -7,36 +7,29 @@
 --   open-newhope, sized-newhope  the same of a scheme of which no public numbers are lent
 --   open-unknown, open-failed    what is seen of open where no scheme is named, and where lengths or rooms are refused
 --   open-refused, open-done      what is seen of open behind lengths and rooms, by what is seen of its opening
-use mathlib.Core.Path.{_≡_, refl, _∙_, sym, ap}
-use mathlib.Core.List.{List, [], _++_}
-use Prim.Native.Nat.{ℕ, _+_, _≤_}
-use native.Mathlib.Omega.{arith}
-use lib.{IntN.ℤ, IntN.pos, ListN.length, ListN.replicate, ListN.take, ListN.drop}
-use Rattle.schemes.specs.{Schemes.fixedOf, declared.Named.Named, declared.Scheme.Scheme}
-use Rattle.schemes.specs.declared.Fixed.{Fixed}
+use Rattle.lists.proofs.Kit.{_≡_, refl, _∙_, sym, ap, List, [], _++_, ℕ, _+_, _≤_, arith, ℤ, pos, length, replicate, take, drop}
 use Rattle.schemes.specs.declared.Named.the-variants.{Known, Unknown}
-use Rattle.schemes.specs.declared.Scheme.the-variants.{NewHope}
+use Rattle.schemes.specs.{Schemes.fixedOf, declared.Named.Named, declared.Scheme.Scheme, declared.Fixed.Fixed, declared.Scheme.the-variants.NewHope}
 use Rattle.schemes.proofs.Laws.{tied}
 use Rattle.lists.specs.Ranges.{Below}
 use Rattle.lists.proofs.{Parts.front-long, Same.empty, Same.zeros-long}
-use Rattle.refusals.specs.Refusals.{_then_, publicsIn, notBlank}
-use Rattle.refusals.specs.Seen.{output, written, refused, told, Seen, shown, seen}
-use Rattle.refusals.specs.{declared.Answer.Answer, declared.Refusal.Refusal}
-use Rattle.refusals.specs.{declared.Refusal.the-variants.NoScheme, declared.Verdict.Verdict}
-use Rattle.refusals.specs.declared.Verdict.the-variants.{Pass, Fail}
-use Rattle.refusals.proofs.Laws.{differ, both, all-pass, length-passed, length-passes, room-passed, room-passes, within-passes, before-pass, last-passes, then-assoc, failed, went-on}
-use Rattle.refusals.proofs.Seen.{written-passed, written-failed, shown-failed, seen-done, seen-refused}
 use Rattle.noise.specs.{declared.Ruled.Ruled, declared.Ruled.the-variants.By}
-use Rattle.offer.specs.Offer.{offerOf, offeredPart, offerTests, offerMessage, offerResult}
-use Rattle.offer.specs.Inside.{offerLengths, offerAhead}
-use Rattle.offer.proofs.Offering.{offer-last-decides}
+use Rattle.refusals.specs.Seen.{output, written, refused, told, Seen, shown, seen}
+use Rattle.refusals.specs.declared.Verdict.the-variants.{Pass, Fail}
+use Rattle.refusals.specs.Refusals.{_then_, publicsIn, notBlank}
+use Rattle.refusals.specs.{declared.Answer.Answer, declared.Refusal.Refusal, declared.Refusal.the-variants.NoScheme, declared.Verdict.Verdict}
+use Rattle.refusals.proofs.Laws.{differ, both, all-pass, length-passed, length-passes, room-passed, room-passes, within-passes, before-pass, last-passes}
+use Rattle.refusals.proofs.Laws.{then-assoc, failed, went-on}
+use Rattle.refusals.proofs.Seen.{written-passed, written-failed, shown-failed, seen-done, seen-refused}
 use Rattle.values.specs.Fit.{Small}
-use Rattle.exchange.specs.Random.{secretBytes, publicLent, publicFrom, cut, tableOrder, grown}
+use Rattle.offer.specs.{Offer.offerOf, Offer.offeredPart, Offer.offerTests, Offer.offerMessage, Offer.offerResult, Inside.offerLengths, Inside.offerAhead}
+use Rattle.offer.proofs.Offering.{offer-last-decides}
 use Rattle.exchange.specs.Open.{OpenLent, openLentOf, OpenRooms, openOffer, openTests, openShown, openTold, OpenSeen, openSeen, openResult, openRoomsOf}
+use Rattle.exchange.specs.Open.{OpenAnswer, OpenCounts}
 use Rattle.exchange.specs.Inside.{Drew, openSizes, OpenSized, drawnOffer, drawnOpens, openShows, OpenHolds}
-use Rattle.exchange.specs.{declared.OpenAnswer.OpenAnswer, declared.OpenCounts.OpenCounts}
-use Rattle.exchange.proofs.Drawn.{seen-fails, draws-secret, drawn-long, drawn-small}
+use Rattle.exchange.specs.Random.{secretBytes, publicLent, publicFrom, cut, tableOrder, grown}
 use Rattle.exchange.proofs.Grown.{lengths-passed, no-table, no-publics, public-passes, only-newhope}
+use Rattle.exchange.proofs.Drawn.{seen-fails, draws-secret, drawn-long, drawn-small}
 
 -- ---- its tests
 

@@ -1,29 +1,20 @@
 -- What is stated in specs/Shown.
-use mathlib.Core.{Path._≡_, Path.refl, Path.sym, Path.ap, Path._∙_, List.List}
-use mathlib.Core.Bool.{Bool, true, false, cond}
-use Prim.Native.Nat.{ℕ}
-use native.Mathlib.Omega.{arith}
-use lib.{Dec.leb, Dec.ltb, ListN.length}
-use Rattle.schemes.specs.{Schemes.fixedOf, Schemes.familyOf, Schemes.byFamily, declared.Named.Named}
-use Rattle.schemes.specs.{declared.Family.Family, declared.Scheme.Scheme}
+use Rattle.lists.proofs.Kit.{_≡_, refl, sym, ap, _∙_, List, Bool, true, false, cond, ℕ, arith, leb, ltb, length}
 use Rattle.schemes.specs.declared.Named.the-variants.{Known, Unknown}
+use Rattle.schemes.specs.{Schemes.fixedOf, Schemes.familyOf, Schemes.byFamily, declared.Named.Named, declared.Family.Family, declared.Scheme.Scheme}
 use Rattle.lists.specs.{Ranges.Below, First.firstOver}
+use Rattle.noise.specs.{declared.Ruled.the-variants.By, declared.Ruled.Ruled}
 use Rattle.refusals.specs.Refusals.{numberIn, _then_, lengthIs, roomFor, publicsIn, messageIn, notBlank, tableIn}
 use Rattle.refusals.specs.{Seen.Told, declared.Verdict.Verdict, declared.Verdict.the-variants.Pass}
-use Rattle.refusals.proofs.Laws.{differ, some, both}
-use Rattle.refusals.proofs.Number.{and, lengths, rooms, publics, blanks}
-use Rattle.refusals.proofs.Same.{same-refusal}
-use Rattle.noise.specs.{declared.Ruled.the-variants.By, declared.Ruled.Ruled}
+use Rattle.refusals.proofs.{Laws.differ, Laws.some, Laws.both, Number.and, Number.lengths, Number.rooms, Number.publics, Number.blanks, Same.same-refusal}
 use Rattle.sampling.specs.Expand.{enough}
 use Rattle.reply.specs.Reply.{ReplyRooms}
-use Rattle.exchange.specs.Random.{tableOrder, grown}
-use Rattle.exchange.specs.Open.{OpenLent, OpenRooms, OpenSeen, openTests, openSeen}
-use Rattle.exchange.specs.Answer.{AnswerLent, answerTests}
+use Rattle.exchange.specs.Open.{OpenLent, OpenRooms, OpenSeen, openTests, openSeen, OpenCounts}
 use Rattle.exchange.specs.Shown.{NeverSix, OpenOffers, AnswerReplies, OpenSeenAll, OpenToldAll}
 use Rattle.exchange.specs.declared.OpenAnswer.the-variants.{Done, Refused}
-use Rattle.exchange.specs.declared.OpenCounts.{OpenCounts}
-use Rattle.exchange.proofs.Opening.{open-sized, open-tests, open-decides}
+use Rattle.exchange.specs.{Random.tableOrder, Random.grown, Answer.AnswerLent, Answer.answerTests}
 use Rattle.exchange.proofs.Answering.{answer-sized, answer-tests, answer-decides}
+use Rattle.exchange.proofs.Opening.{open-sized, open-tests, open-decides}
 
 -- ---- 6
 

@@ -4,14 +4,12 @@
 --   answerTests c k x m     its tests in 01's order: 1, 12, 2, 3, 18, 4, 5, 17 of the part that came, 7, 17 of the part about to be sent
 --   answerResult c k x m    its promise: what is seen, as a function of what is lent; answerShown v: by the verdict v of any tests
 --   answerLent, answerLentOf   what is lent, from the slices of a contract, and from lists
-use mathlib.Core.List.{List, []}
-use Prim.Native.Nat.{ℕ, _+_}
-use lib.ListN.{length}
+use Rattle.lists.specs.Kit.{List, [], ℕ, _+_, length}
 use Rattle.schemes.specs.{Schemes.fixedOf, declared.Named.Named}
 use Rattle.lists.specs.Lent.{Lent, was}
+use Rattle.noise.specs.declared.Ruled.{Ruled}
 use Rattle.refusals.specs.Refusals.{_then_, lengthIs, roomFor, publicsIn, messageIn, notBlank}
 use Rattle.refusals.specs.{declared.Verdict.Verdict, declared.Refusal.Refusal}
-use Rattle.noise.specs.declared.Ruled.{Ruled}
 use Rattle.sampling.specs.Noise.{tableWords}
 use Rattle.wire.specs.Wire.{openedIn, seedIn}
 use Rattle.reply.specs.Reply.{Reply, ReplyRooms, ReplySeen, replyOf, openedOf, repliedPart, replyShown}

@@ -9,25 +9,18 @@
 --   drawnOpens c x n, drawnAnswers c x m   what is seen of them behind the table's test
 --   openShows c k x m             what is seen of open's opening; OpenHolds c k x m old s: what s holds where nothing is refused, which held old
 --   cameIn c opening              the tests of the opening, which came
-use mathlib.Core.{Path._≡_, List.List, List._++_}
-use Prim.Native.Nat.{ℕ, _+_, _/_, _≤_}
-use lib.{IntN.ℤ, ListN.length, ListN.take, ListN.drop}
-use Rattle.schemes.specs.{Schemes.fixedOf, declared.Scheme.Scheme}
-use Rattle.schemes.specs.declared.{Named.the-variants.Known, Scheme.the-variants.NewHope}
+use Rattle.lists.specs.Kit.{_≡_, List, _++_, ℕ, _+_, _/_, _≤_, ℤ, length, take, drop}
+use Rattle.schemes.specs.{Schemes.fixedOf, declared.Scheme.Scheme, declared.Named.the-variants.Known, declared.Scheme.the-variants.NewHope}
 use Rattle.lists.specs.Ranges.{Below}
-use Rattle.refusals.specs.Refusals.{_then_, lengthIs, roomFor, receivedIn}
-use Rattle.refusals.specs.Seen.{Seen, shown}
-use Rattle.refusals.specs.{declared.Verdict.Verdict, declared.Verdict.the-variants.Pass}
-use Rattle.refusals.specs.declared.Refusal.{Refusal}
 use Rattle.noise.specs.declared.Ruled.{Ruled}
-use Rattle.sampling.specs.Noise.{lengthEither, bytesEach, tableWords}
-use Rattle.sampling.specs.Expand.{growNumbers}
+use Rattle.refusals.specs.Refusals.{_then_, lengthIs, roomFor, receivedIn}
+use Rattle.refusals.specs.{Seen.Seen, Seen.shown, declared.Verdict.Verdict, declared.Verdict.the-variants.Pass, declared.Refusal.Refusal}
+use Rattle.sampling.specs.{Noise.lengthEither, Noise.bytesEach, Noise.tableWords, Expand.growNumbers}
 use Rattle.wire.specs.Wire.{openedIn, numbersIn}
 use Rattle.offer.specs.Offer.{Offer, offerOf, offerTests, offerMessage}
 use Rattle.reply.specs.Reply.{Reply, ReplyRooms, ReplySeen, replyOf, replyTests, replyShown}
 use Rattle.exchange.specs.Random.{secretBytes, mixedBytes, openRandom, answerRandom, cut, valuesIn, publicLent, tableOrder, grown}
-use Rattle.exchange.specs.Open.{OpenLent, OpenRooms, openOffer, openTests}
-use Rattle.exchange.specs.Answer.{AnswerLent}
+use Rattle.exchange.specs.{Open.OpenLent, Open.OpenRooms, Open.openOffer, Open.openTests, Answer.AnswerLent}
 
 -- ---- noise values, rules and numbers
 

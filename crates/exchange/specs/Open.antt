@@ -7,19 +7,16 @@
 --   openLent, openRooms    what is lent, from the slices of a contract; openLentOf, openRoomsOf: from lists and numbers
 --   openTold r             the numbers of its answer r
 --   openSeen t opening s   what is seen where open tells t and leaves these outputs
-use mathlib.Core.List.{List, []}
-use Prim.Native.Nat.{ℕ, _+_}
-use lib.{IntN.ℤ, IntN.pos, ListN.length, ListN.take}
+use Rattle.lists.specs.Kit.{List, [], ℕ, _+_, ℤ, pos, length, take}
 use Rattle.schemes.specs.{Schemes.fixedOf, declared.Named.Named}
 use Rattle.lists.specs.Lent.{Lent, was, room}
-use Rattle.refusals.specs.Refusals.{numberIn, placeIn, _then_, lengthIs, roomFor, publicsIn, notBlank}
-use Rattle.refusals.specs.Seen.{Output, output, written, Told, done, refused}
-use Rattle.refusals.specs.{declared.Verdict.Verdict, declared.Refusal.Refusal}
 use Rattle.noise.specs.declared.Ruled.{Ruled}
+use Rattle.refusals.specs.Refusals.{numberIn, placeIn, _then_, lengthIs, roomFor, publicsIn, notBlank}
+use Rattle.refusals.specs.{Seen.Output, Seen.output, Seen.written, Seen.Told, Seen.done, Seen.refused, declared.Verdict.Verdict, declared.Refusal.Refusal}
 use Rattle.sampling.specs.Noise.{tableWords}
 use Rattle.offer.specs.Offer.{Offer, offerOf, offeredPart, offerMessage}
 use Rattle.exchange.specs.Random.{secretBytes, openRandom, cut, valuesIn, publicLent, publicFrom, tableOrder, grown}
-use Rattle.exchange.specs.{declared.OpenCounts.OpenCounts, declared.OpenAnswer.OpenAnswer}
+pub use Rattle.exchange.specs.{declared.OpenCounts.OpenCounts, declared.OpenAnswer.OpenAnswer}
 
 pub record OpenLent : Type 0 where
   pub a : List ℕ

@@ -7,17 +7,12 @@
 --   publicFrom c k seed a         the public numbers: in NewHope those that the rule k grows from the seed, else a as it is lent
 --   tableOrder c table            18, in BCNS alone
 --   grown c k seed                7, in NewHope alone
-use mathlib.Core.List.{List}
-use Prim.Native.Nat.{ℕ, _+_, _*_}
-use lib.{IntN.ℤ, ListN.length, ListN.take, ListN.drop}
-use Rattle.schemes.specs.Schemes.{fixedOf, familyOf, byFamily}
-use Rattle.schemes.specs.{declared.Scheme.Scheme, declared.Named.the-variants.Known}
-use Rattle.refusals.specs.{Refusals.tableIn, declared.Verdict.Verdict}
-use Rattle.refusals.specs.declared.Verdict.the-variants.{Pass}
+use Rattle.lists.specs.Kit.{List, ℕ, _+_, _*_, ℤ, length, take, drop}
+use Rattle.schemes.specs.{Schemes.fixedOf, Schemes.familyOf, Schemes.byFamily, declared.Scheme.Scheme, declared.Named.the-variants.Known}
 use Rattle.noise.specs.declared.Ruled.{Ruled}
 use Rattle.bcns_noise.specs.Noise.{firstNotAbove}
-use Rattle.sampling.specs.{Noise.noiseOf, Noise.bytesEach, Noise.noiseValues, Expand.enough}
-use Rattle.sampling.specs.Expand.{growNumbers}
+use Rattle.refusals.specs.{Refusals.tableIn, declared.Verdict.Verdict, declared.Verdict.the-variants.Pass}
+use Rattle.sampling.specs.{Noise.noiseOf, Noise.bytesEach, Noise.noiseValues, Expand.enough, Expand.growNumbers}
 
 abbrev pub secretBytes : Scheme → ℕ
 secretBytes c = bytesEach c * fixedOf c .noise

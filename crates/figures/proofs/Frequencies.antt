@@ -4,16 +4,10 @@
 --   any-table       for any ascending thresholds
 --   table-one       for D1 to D4
 --   frequencies     all of it
-use mathlib.Core.Path.{_≡_, refl, _∙_, sym, ap, ap₂}
-use mathlib.Core.{Bool.Bool, Bool.true, Bool.false, Bool.cond, List.List, List.[], List._∷_}
-use Prim.Native.Nat.{ℕ, zero, suc, _+_, _*_, _-_, _/_, _%_, _^_, _<_, _≤_}
-use native.Mathlib.Numerals.{add-one}
-use native.Mathlib.Omega.{arith}
-use native.Mathlib.Decide.{decLe}
-use native.Mathlib.Nat.{mod-eq-of-lt, pow-suc}
-use borrow.Author.Tests.{leb-true, lt-ltb, le-ltb, le-leb, lt-leb, eq-eqb, ne-eqb}
-use lib.Dec.{leb, ltb, eqb, leb·suc-zero, leb·suc-suc, eqb·zero-suc, eqb·suc-zero, eqb·suc-suc}
-use lib.{IntN.ℤ, IntN.pos, IntN.negsuc, IntN.negℤ, ListN.getD}
+use Rattle.lists.proofs.Kit.{_≡_, refl, _∙_, sym, ap, ap₂, Bool, true, false, cond, List, [], _∷_, ℕ, zero, suc, _+_, _*_, _-_, _/_, _%_, _^_, _<_, _≤_}
+use Rattle.lists.proofs.Kit.{add-one, arith, decLe, mod-eq-of-lt, pow-suc, leb-true, lt-ltb, le-ltb, le-leb, lt-leb, eq-eqb, ne-eqb, leb, ltb, eqb}
+use Rattle.lists.proofs.Kit.{eqb·zero-suc, eqb·suc-zero, eqb·suc-suc, ℤ, pos, negsuc, negℤ, getD}
+use lib.Dec.{leb·suc-zero, leb·suc-suc}
 use Rattle.numbers.specs.Sum.{sum, sumℕ}
 use Rattle.numbers.proofs.Sums.{natural, sum-ext, sum-add, sum-none, sum-double}
 use Rattle.lists.proofs.Table.{both-true}

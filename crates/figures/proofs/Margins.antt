@@ -1,19 +1,16 @@
 -- The margins: what `specs/Margins.antt` states, of the agreement and the sharpness that each family shows.
 --   margins   all of it
-use mathlib.Core.Path.{refl, subst}
-use Prim.Native.Nat.{ℕ, _<_}
-use native.Mathlib.Omega.{arith}
-use lib.Dec.{lit≤}
-use Rattle.schemes.specs.{Schemes.fixedOf, declared.Scheme.Scheme}
+use Rattle.lists.proofs.Kit.{refl, subst, ℕ, _<_, arith, lit≤}
 use Rattle.schemes.specs.declared.Scheme.the-variants.{Bcns, NewHope, Challenge, Classical, Recommended, Paranoid}
+use Rattle.schemes.specs.{Schemes.fixedOf, declared.Scheme.Scheme}
+use Rattle.frodo.specs.Rounding.{interval}
+use Rattle.frodo.proofs.Schemes.{each-scheme}
+use Rattle.figures.specs.Margins.{FrodoFrom, AnyInterval, EachSet, BcnsFrom, NewHopeFrom, Margins}
 use Rattle.bcns.proofs.Margin as bcns
 use Rattle.newhope.proofs.Margin as newhope
 use Rattle.newhope.proofs.Edge as edge
-use Rattle.frodo.specs.Rounding.{interval}
 use Rattle.frodo.proofs.Rule as frodo
 use Rattle.frodo.proofs.Edge as frodo-edge
-use Rattle.frodo.proofs.Schemes.{each-scheme}
-use Rattle.figures.specs.Margins.{FrodoFrom, AnyInterval, EachSet, BcnsFrom, NewHopeFrom, Margins}
 
 any-interval : AnyInterval
 any-interval I B o e b =

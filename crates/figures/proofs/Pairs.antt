@@ -3,16 +3,9 @@
 --   ones-count     k ones in choose n k of the words of n bits
 --   pair-count     k ones in choose (n + m) k of the pairs of words of n and m bits
 --   binomial       for words of n bits
-use mathlib.Core.Path.{_≡_, refl, _∙_, sym, ap, ap₂}
-use mathlib.Core.Bool.{Bool, true, false, cond}
-use Prim.Native.Nat.{ℕ, zero, suc, _+_, _*_, _-_, _/_, _%_, _^_}
-use native.Mathlib.Omega.{arith}
-use native.Mathlib.Decide.{ℕ-discrete}
-use native.Mathlib.Nat.{pow-suc, add-zero, add-suc}
-use borrow.Author.Tests.{eqb-true, eq-eqb, ne-eqb}
+use Rattle.lists.proofs.Kit.{_≡_, refl, _∙_, sym, ap, ap₂, Bool, true, false, cond, ℕ, zero, suc, _+_, _*_, _-_, _/_, _%_, _^_, arith, ℕ-discrete, pow-suc}
+use Rattle.lists.proofs.Kit.{add-zero, add-suc, eqb-true, eq-eqb, ne-eqb, eqb, eqb·zero-suc, eqb·suc-zero, eqb·suc-suc, ℤ, pos, negsuc, _-ℤ_}
 use lib.Count.{ones, onesIn, ones-step, ones-le}
-use lib.Dec.{eqb, eqb·zero-suc, eqb·suc-zero, eqb·suc-suc}
-use lib.IntN.{ℤ, pos, negsuc, _-ℤ_}
 use Rattle.numbers.specs.Sum.{sum, sumℕ}
 use Rattle.numbers.proofs.Difference.{diff, pos-sub, diff-≡, diff-inj}
 use Rattle.numbers.proofs.Sums.{natural, sum-ext, sum-add, sum-none, sum-double}

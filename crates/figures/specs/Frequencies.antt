@@ -14,10 +14,7 @@
 --   pairs n z               how many pairs of words of n bits the sampler, `onesLessOf`, turns into z
 --   Binomial n              k - n comes out as often as there are sets of k out of 2n, and what lies below -n never; NewHope's words have 16 bits
 --   Frequencies             all of this
-use mathlib.Core.{Path._≡_, Bool.Bool, Bool.true, Bool.false, Bool.cond}
-use mathlib.Core.List.{List, [], _∷_}
-use Prim.Native.Nat.{ℕ, zero, suc, _+_, _*_, _-_, _^_, _<_}
-use lib.{Dec.leb, Dec.eqb, IntN.ℤ, IntN.pos, IntN.negsuc, IntN._-ℤ_, ListN.getD}
+use Rattle.lists.specs.Kit.{_≡_, Bool, true, false, cond, List, [], _∷_, ℕ, zero, suc, _+_, _*_, _-_, _^_, _<_, leb, eqb, ℤ, pos, negsuc, _-ℤ_, getD}
 use Rattle.numbers.specs.Sum.{sumℕ}
 use Rattle.lists.specs.First.{both}
 use Rattle.noise.specs.Noise.{onesLessOf, thresholdOf, d1, d2, d3, d4}

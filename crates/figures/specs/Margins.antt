@@ -11,15 +11,13 @@
 -- Beyond the request, NewHope, where the distance is the sum of a group's four:
 --   NewHopeFrom           v and w of entries below q, a coin below 2
 --   Margins               all of this
-use mathlib.Core.Path.{_≡_}
-use Prim.Native.Nat.{ℕ, _+_, _*_, _/_, _%_, _^_, _<_}
-use Rattle.schemes.specs.{Schemes.familyOf, Schemes.fixedOf, declared.Family.Family}
-use Rattle.schemes.specs.declared.Scheme.{Scheme}
-use Rattle.schemes.specs.declared.Scheme.the-variants.{Challenge, Classical, Recommended, Paranoid}
+use Rattle.lists.specs.Kit.{_≡_, ℕ, _+_, _*_, _/_, _%_, _^_, _<_}
 use Rattle.numbers.specs.Residue.{apart}
+use Rattle.schemes.specs.declared.Scheme.the-variants.{Challenge, Classical, Recommended, Paranoid}
+use Rattle.schemes.specs.{Schemes.familyOf, Schemes.fixedOf, declared.Family.Family, declared.Scheme.Scheme}
+use Rattle.newhope.specs.{Agreement.BelowQ, Agreement.apartOf, declared.Four.Four}
 use Rattle.bcns.specs.Rounding as bcns
 use Rattle.newhope.specs.Group as newhope
-use Rattle.newhope.specs.{Agreement.BelowQ, Agreement.apartOf, declared.Four.Four}
 use Rattle.frodo.specs.Rounding as frodo
 
 pub record Pair : Type 0 where

@@ -6,28 +6,20 @@
 --   laid-front, held, held-fits, held-hashed   an output of which a step was lent the front
 --   finish-unknown      its tests where the number names no scheme
 --   finish-refused, finish-done   what is seen after a refusal, and where nothing is refused
-use mathlib.Core.{Path._≡_, Path.refl, Path._∙_, Path.sym, Path.ap, List.List, List._++_}
-use Prim.Native.Nat.{ℕ, _≤_}
-use native.Mathlib.Omega.{arith}
-use lib.ListN.{length, take, drop, replicate, length-append, take-append-drop}
-use lib.Seq.{take-at}
-use Rattle.schemes.specs.{Schemes.fixedOf, declared.Named.Named, declared.Scheme.Scheme}
-use Rattle.schemes.specs.declared.Named.the-variants.{Known, Unknown}
-use Rattle.refusals.specs.Refusals.{_then_, roomFor, receivedIn}
-use Rattle.refusals.specs.{Seen.output, Seen.written, Seen.ifPassed, declared.Verdict.Verdict}
-use Rattle.refusals.specs.declared.Verdict.the-variants.{Pass, Fail}
-use Rattle.refusals.specs.{declared.Refusal.Refusal, declared.Refusal.the-variants.NoScheme}
-use Rattle.refusals.proofs.{Laws.both, Laws.length-passed, Laws.room-passed, Seen.written-failed}
-use Rattle.refusals.proofs.Steps.{laid-on}
+use Rattle.lists.proofs.Kit.{_≡_, refl, _∙_, sym, ap, List, _++_, ℕ, _≤_, arith, length, take, drop, replicate, length-append, take-append-drop, take-at}
+use Rattle.schemes.specs.{Schemes.fixedOf, declared.Named.Named, declared.Scheme.Scheme, declared.Named.the-variants.Known, declared.Named.the-variants.Unknown}
 use Rattle.sponge.specs.Sponge.{sha3}
+use Rattle.refusals.specs.declared.Verdict.the-variants.{Pass, Fail}
+use Rattle.refusals.specs.Refusals.{_then_, roomFor, receivedIn}
+use Rattle.refusals.specs.{Seen.output, Seen.written, Seen.ifPassed, declared.Verdict.Verdict, declared.Refusal.Refusal, declared.Refusal.the-variants.NoScheme}
+use Rattle.refusals.proofs.{Laws.both, Laws.length-passed, Laws.room-passed, Seen.written-failed, Steps.laid-on}
 use Rattle.values.specs.Values.{bareValue}
 use Rattle.values.proofs.{Ranges.bare-counted, Settling.peers-counted}
 use Rattle.wire.specs.Wire.{hintsIn}
 use Rattle.wire.proofs.Travel.{key-long}
-use Rattle.finish.specs.Finish.{Finish, FinishRooms, repliedOf, finishValue, finishTests, finishKey, finishSlack, finishShown, finishTold, finishSeen, finishResult}
+use Rattle.finish.specs.Finish.{Finish, FinishRooms, repliedOf, finishValue, finishTests, finishKey, finishSlack, finishShown, finishTold, finishSeen}
+use Rattle.finish.specs.Finish.{finishResult, FinishCounts, Done, Refused}
 use Rattle.finish.specs.{Inside.finishSizes, Inside.finishRest, Inside.keyFrom, Inside.slackFrom, Shown.FinishEnough}
-use Rattle.finish.specs.declared.FinishCounts.{FinishCounts}
-use Rattle.finish.specs.declared.FinishAnswer.the-variants.{Done, Refused}
 
 grouped : (p m b s : Verdict) → p then m then b then s ≡ p then (m then b then s)
 unfolding _then_

@@ -1,16 +1,13 @@
 -- What is stated in specs/Shown.
-use mathlib.Core.Path.{sym, ap}
-use lib.ListN.{length}
+use Rattle.lists.proofs.Kit.{sym, ap, length}
 use Rattle.schemes.proofs.Sound.{sound}
 use Rattle.lists.proofs.Top.{peak-zeros}
 use Rattle.refusals.specs.Seen.{Told}
 use Rattle.refusals.proofs.Seen.{same-counts, same-refused, never-both}
 use Rattle.values.specs.Keys.{slacks}
 use Rattle.wire.proofs.Travel.{reply-again}
-use Rattle.finish.specs.Finish.{FinishSeen, repliedOf, finishValue, finishSlack, finishSeen}
+use Rattle.finish.specs.Finish.{FinishSeen, repliedOf, finishValue, finishSlack, finishSeen, Done, Refused, FinishCounts}
 use Rattle.finish.specs.Shown.{FinishSeenAll, FinishToldAll, ReplyComesBack, NoSlack, KeysFit}
-use Rattle.finish.specs.declared.FinishAnswer.the-variants.{Done, Refused}
-use Rattle.finish.specs.declared.FinishCounts.{FinishCounts}
 use Rattle.finish.proofs.Finishing.{key-length, finish-passed}
 
 -- the numbers of the answer, from what is seen

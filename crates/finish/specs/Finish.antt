@@ -11,23 +11,18 @@
 --   finish, finishRooms       what is lent, from the slices of a contract; finishOf, finishRoomsOf: from lists and numbers
 --   finishTold r              the numbers of its answer r
 --   finishSeen t key digest   what is seen where Finish tells t and leaves these outputs
-use mathlib.Core.List.{List, []}
-use Prim.Native.Nat.{ℕ}
-use lib.{IntN.ℤ, ListN.length}
-use Rattle.schemes.specs.{Schemes.fixedOf, declared.Scheme.Scheme, declared.Named.Named}
-use Rattle.schemes.specs.declared.Named.the-variants.{Known, Unknown}
+use Rattle.lists.specs.Kit.{List, [], ℕ, ℤ, length}
+use Rattle.schemes.specs.{Schemes.fixedOf, declared.Scheme.Scheme, declared.Named.Named, declared.Named.the-variants.Known, declared.Named.the-variants.Unknown}
 use Rattle.lists.specs.{Lent.Lent, Lent.was, Lent.room, First.peakOf, declared.Peak.Peak}
 use Rattle.packing.specs.Packing.{packed}
+use Rattle.sponge.specs.Sponge.{sha3}
 use Rattle.refusals.specs.Refusals.{numberIn, placeIn, _then_, lengthIs, roomFor, messageIn, notBlank, secretsIn}
 use Rattle.refusals.specs.Seen.{Output, output, written, ifPassed, unused, Told, done, refused}
-use Rattle.refusals.specs.{declared.Verdict.Verdict, declared.Verdict.the-variants.Fail}
-use Rattle.refusals.specs.declared.Refusal.the-variants.{NoScheme}
-use Rattle.sponge.specs.Sponge.{sha3}
+use Rattle.refusals.specs.{declared.Verdict.Verdict, declared.Verdict.the-variants.Fail, declared.Refusal.the-variants.NoScheme}
 use Rattle.values.specs.{Values.bareValue, Keys.peers, Keys.slacks}
 use Rattle.wire.specs.Wire.{repliedIn, numbersIn, hintsIn}
-use Rattle.finish.specs.declared.FinishCounts.{FinishCounts}
-use Rattle.finish.specs.declared.FinishAnswer.{FinishAnswer}
-use Rattle.finish.specs.declared.FinishAnswer.the-variants.{Done, Refused}
+pub use Rattle.finish.specs.declared.FinishAnswer.the-variants.{Done, Refused}
+pub use Rattle.finish.specs.{declared.FinishCounts.FinishCounts, declared.FinishAnswer.FinishAnswer}
 
 pub record Finish : Type 0 where
   pub reply : List ℕ

@@ -5,18 +5,13 @@
 --   ReplyComesBack   demand 2: a reply that is accepted comes back the same when it is unpacked and packed again
 --   NoSlack          request f: NewHope gives slack 0 and index 0
 --   KeysFit          its key is as long as the scheme says, and at most 128 bytes
-use mathlib.Core.{Path._≡_, List.List, List._++_}
-use Prim.Native.Nat.{ℕ, _≤_}
-use lib.ListN.{length}
-use Rattle.schemes.specs.{Schemes.familyOf, Schemes.fixedOf, declared.Family.Family}
-use Rattle.schemes.specs.{declared.Named.the-variants.Known, declared.Scheme.Scheme}
+use Rattle.lists.specs.Kit.{_≡_, List, _++_, ℕ, _≤_, length}
+use Rattle.schemes.specs.{Schemes.familyOf, Schemes.fixedOf, declared.Family.Family, declared.Named.the-variants.Known, declared.Scheme.Scheme}
 use Rattle.lists.specs.Ranges.{Below}
 use Rattle.packing.specs.Packing.{packed}
 use Rattle.refusals.specs.{Seen.Told, declared.Verdict.the-variants.Pass}
 use Rattle.wire.specs.Wire.{hintsIn}
-use Rattle.finish.specs.Finish.{Finish, FinishRooms, repliedOf, finishTests, finishKey, finishSlack, finishTold, finishSeen}
-use Rattle.finish.specs.declared.FinishAnswer.{FinishAnswer}
-use Rattle.finish.specs.declared.FinishCounts.{FinishCounts}
+use Rattle.finish.specs.Finish.{Finish, FinishRooms, repliedOf, finishTests, finishKey, finishSlack, finishTold, finishSeen, FinishAnswer, FinishCounts}
 
 abbrev pub FinishSeenAll : Type 0
 FinishSeenAll =

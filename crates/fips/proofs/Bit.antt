@@ -2,13 +2,10 @@
 --   bit-lt                     it is 0 or 1
 --   bit-suc, bit-low           of a half, and of the low part
 --   bit-xor, bit-and, bit-flip, bit-rot   of two lanes added, of two multiplied, of one flipped, and of one turned
-use mathlib.Core.{Path._≡_, Path.refl, Path.sym, Path.ap, Path.ap₂, Path._∙_, Logic.⊎-elim}
-use Prim.Native.Nat.{ℕ, zero, suc, _+_, _-_, _*_, _/_, _%_, _^_, _≤_, _<_, min}
-use native.Mathlib.Nat.{mod-lt, mod-eq-of-lt, mul-mod-left, add-zero, pow-suc, div-one, eq-zero-or-pos}
-use native.Mathlib.Omega.{arith}
-use lib.Arith.{digits-mod}
-use lib.Bits.{bitXor, bitAnd, bitOr, differ, xor-step, xor-shr, and-step, and-shr, or-shifted}
-use lib.Pow.{shr-shr, shr-lt, shl-shr, mod-pow-add, mod-mod-pow, high, low, field}
+use Rattle.lists.proofs.Kit.{_≡_, refl, sym, ap, ap₂, _∙_, ⊎-elim, ℕ, zero, suc, _+_, _-_, _*_, _/_, _%_, _^_, _≤_, _<_, min, mod-lt, mod-eq-of-lt}
+use Rattle.lists.proofs.Kit.{mul-mod-left, add-zero, pow-suc, div-one, arith, digits-mod, bitXor, bitAnd, bitOr, shr-shr, shr-lt, shl-shr, mod-pow-add, field}
+use native.Mathlib.Nat.{eq-zero-or-pos}
+use lib.{Bits.differ, Bits.xor-step, Bits.xor-shr, Bits.and-step, Bits.and-shr, Bits.or-shifted, Pow.mod-mod-pow, Pow.high, Pow.low}
 use Rattle.keccak.specs.Keccak.{rot, flip}
 use Rattle.fips.specs.Steps.{bit}
 

@@ -2,11 +2,10 @@
 --   theta-keeps, rho-keeps, pi-keeps, chi-keeps, iota-keeps   through each step
 --   xor-keeps                                                 through a sum
 --   keccak-keeps                                              and through all rounds
-use mathlib.Core.{Path.refl, List.List, List.[], List._∷_}
-use Prim.Native.Nat.{ℕ, zero, suc, _+_, _-_, _*_, _/_, _%_, _^_, _<_}
-use native.Mathlib.Nat.{mod-lt, le-of-eq, lt-of-le-of-lt, div-le-self}
-use native.Mathlib.Omega.{arith}
-use lib.{Bits.bitXor, Bits.xor-lt, Bits.or-lt, Bits.and-le-r, ListN.set}
+use Rattle.lists.proofs.Kit.{refl, List, [], _∷_, ℕ, zero, suc, _+_, _-_, _*_, _/_, _%_, _^_, _<_, mod-lt, le-of-eq, div-le-self, arith, bitXor, xor-lt}
+use Rattle.lists.proofs.Kit.{and-le-r, set}
+use native.Mathlib.Nat.{lt-of-le-of-lt}
+use lib.Bits.{or-lt}
 use Rattle.lists.specs.{Ranges.Below, First.firstOver, First.firstWhere}
 use Rattle.lists.proofs.{Entries.below-tab, Entries.below-set, First.all-below, Parts.below-tail}
 use Rattle.keccak.specs.Keccak.{state, lane, rot, flip, offsets, theta, rho, pi, chi, iota, round, rounds, constants, keccakF}

@@ -1,13 +1,8 @@
 -- The padding in bytes is the padding in bits, once over suffix and rate.
 --   string-append, string-length  the string of bytes in two parts, and its length
 --   shake-padding, sha3-padding   and so for SHAKE and for SHA-3
-use mathlib.Core.Path.{_≡_, refl, sym, ap, _∙_}
-use mathlib.Core.List.{List, [], _∷_, _++_, append-assoc}
-use Prim.Native.Nat.{ℕ, zero, suc, _+_, _-_, _*_, _/_, _%_, _≤_, _<_}
-use native.Mathlib.Nat.{mod-eq-of-lt, mod-lt, div-add-mod'}
-use native.Mathlib.Omega.{arith}
-use lib.Arith.{digits-mod}
-use lib.ListN.{length, replicate, length-append, replicate-append-replicate}
+use Rattle.lists.proofs.Kit.{_≡_, refl, sym, ap, _∙_, List, [], _∷_, _++_, append-assoc, ℕ, zero, suc, _+_, _-_, _*_, _/_, _%_, _≤_, _<_, mod-eq-of-lt, mod-lt}
+use Rattle.lists.proofs.Kit.{div-add-mod', arith, digits-mod, length, replicate, length-append, replicate-append-replicate}
 use Rattle.packing.specs.Packing.{digits}
 use Rattle.sponge.specs.Sponge.{padded, ending}
 use Rattle.fips.specs.Strings.{string, pad, PaddedIs, ShakePadding, Sha3Padding}

@@ -1,17 +1,13 @@
 -- The rounds on lanes are the standard's on bits: each step reads of an array only the bits that it has, so that one may follow the other.
 --   keccak-on   arrays with the same bits have the same bits after all rounds
 --   keccak-is   all rounds, one after the other
-use mathlib.Core.{Path._≡_, Path.refl, Path.ap₂, Path._∙_, List.List, List.[], List._∷_}
-use Prim.Native.Nat.{ℕ, zero, suc, _+_, _-_, _*_, _%_, _^_, _<_}
-use native.Mathlib.Nat.{mod-lt}
-use native.Mathlib.Omega.{arith}
-use lib.ListN.{length}
+use Rattle.lists.proofs.Kit.{_≡_, refl, ap₂, _∙_, List, [], _∷_, ℕ, zero, suc, _+_, _-_, _*_, _%_, _^_, _<_, mod-lt, arith, length}
 use Rattle.lists.specs.Ranges.{Below}
 use Rattle.lists.proofs.{Entries.tab-length, Parts.below-tail}
 use Rattle.keccak.specs.Keccak.{constants, theta, rho, pi, chi, round, rounds, keccakF}
 use Rattle.fips.specs.Steps.{Array, column, θ, ρ, π, χ, ι, rnd, rnds, keccakP, bitAt, Lanes, Same, KeccakIs}
-use Rattle.fips.proofs.Steps.{theta-is, rho-is, pi-is, chi-is, iota-is}
 use Rattle.fips.proofs.Kept.{theta-keeps, rho-keeps, pi-keeps, round-keeps, constants-below}
+use Rattle.fips.proofs.Steps.{theta-is, rho-is, pi-is, chi-is, iota-is}
 
 five : (n : ℕ) → n % 5 < 5
 five n = mod-lt n (omega arith)

@@ -1,26 +1,19 @@
 -- The sponge on bytes is the standard's on bits.
 --   shake-is, sha3-is    SHAKE-128 and SHA3-256
-use mathlib.Core.Path.{_≡_, refl, sym, ap, ap₂, _∙_}
-use mathlib.Core.List.{List, [], _∷_, _++_}
-use Prim.Native.Nat.{ℕ, zero, suc, _+_, _-_, _*_, _/_, _%_, _^_, _≤_, _<_}
-use native.Mathlib.Nat.{mod-lt, mod-eq-of-lt, zero-div, div-one, div-add-mod'}
-use native.Mathlib.Omega.{arith}
-use lib.{Arith.digits-div, Arith.digits-mod, Bits.bitXor, Pow.shr-shr}
-use lib.ListN.{length, getD, take, drop, replicate}
-use lib.Seq.{ext-getD, take-nil, drop-nil}
+use Rattle.lists.proofs.Kit.{_≡_, refl, sym, ap, ap₂, _∙_, List, [], _∷_, _++_, ℕ, zero, suc, _+_, _-_, _*_, _/_, _%_, _^_, _≤_, _<_, mod-lt, mod-eq-of-lt}
+use Rattle.lists.proofs.Kit.{zero-div, div-one, div-add-mod', arith, digits-div, digits-mod, bitXor, shr-shr, length, getD, take, drop, replicate, ext-getD}
+use Rattle.lists.proofs.Kit.{take-nil, drop-nil}
 use Rattle.lists.specs.{Entries.tab, Ranges.Below}
 use Rattle.lists.proofs.Entries.{tab-length, tab-at, tab-ext, below-tab, below-zeros}
 use Rattle.lists.proofs.Parts.{part-at, below-take, below-drop, below-tail}
+use Rattle.keccak.specs.Keccak.{keccakF}
 use Rattle.packing.specs.Packing.{value, digits}
 use Rattle.packing.proofs.Laws.{value-take-below}
-use Rattle.keccak.specs.Keccak.{keccakF}
 use Rattle.sponge.specs.Sponge.{laneAt, byteAt, over, ending, padded, after, absorbed, turned, squeezed, sponge, shake128, sha3}
-use Rattle.fips.specs.Steps.{bit, bitAt, Lanes, Same}
 use Rattle.fips.specs.Strings.{string, PaddedIs, array, permuted, xored, absorbing, turning, squeezing, spongeOf, ShakeIs, Sha3Is}
-use Rattle.fips.proofs.Bit.{bit-xor, bit-suc, bit-low}
-use Rattle.fips.proofs.Kept.{xor-keeps, keccak-keeps}
-use Rattle.fips.proofs.Rounds.{keccak-on, keccak-is}
+use Rattle.fips.specs.Steps.{bit, bitAt, Lanes, Same}
 use Rattle.fips.proofs.Padding.{string-length, shake-padding, sha3-padding}
+use Rattle.fips.proofs.{Bit.bit-xor, Bit.bit-suc, Bit.bit-low, Kept.xor-keeps, Kept.keccak-keeps, Rounds.keccak-on, Rounds.keccak-is}
 
 bit-zero : (z : ℕ) → bit z 0 ≡ 0
 bit-zero z = ap (λ (k : ℕ). k % 2) (zero-div (2 ^ z))

@@ -2,11 +2,9 @@
 --   lane-state                                  a state has the lanes that it is made of
 --   lane-below, parity-below, offset-below      lanes and parities have 64 bits; offsets are below 64, by one computed test
 --   theta-is, rho-is, pi-is, chi-is, iota-is    each step
-use mathlib.Core.{Path._≡_, Path.refl, Path.sym, Path.ap, Path.ap₂, Path._∙_, Logic._≢_, List.List}
-use Prim.Native.Nat.{ℕ, zero, suc, _+_, _-_, _*_, _/_, _%_, _^_, _<_}
-use native.Mathlib.Nat.{mod-eq-of-lt, mod-mod, le-of-eq}
-use native.Mathlib.Omega.{arith}
-use lib.{Bits.bitXor, Bits.bitAnd, Bits.xor-lt, ListN.getD, Seq.getD-set-same, Seq.getD-set-other}
+use Rattle.lists.proofs.Kit.{_≡_, refl, sym, ap, ap₂, _∙_, _≢_, List, ℕ, zero, suc, _+_, _-_, _*_, _/_, _%_, _^_, _<_, mod-eq-of-lt, le-of-eq, arith, bitXor}
+use Rattle.lists.proofs.Kit.{bitAnd, xor-lt, getD, getD-set-same, getD-set-other}
+use native.Mathlib.Nat.{mod-mod}
 use Rattle.lists.specs.{Ranges.Below, First.firstOver, First.firstWhere}
 use Rattle.lists.proofs.{Entries.tab-at, First.all-below}
 use Rattle.keccak.specs.Keccak.{state, lane, rot, flip, parity, offsets, theta, rho, pi, chi, iota}

@@ -1,11 +1,7 @@
 -- Lanes and bytes as strings of bits.
 --   lane-is, bytes-is   the lane that bytes make, and the bytes of a lane
-use mathlib.Core.Path.{_≡_, refl, sym, ap, ap₂, _∙_}
-use mathlib.Core.List.{List, [], _∷_, _++_}
-use Prim.Native.Nat.{ℕ, zero, suc, _+_, _*_, _/_, _%_, _^_, _<_}
-use native.Mathlib.Nat.{div-one, mod-lt}
-use native.Mathlib.Omega.{arith}
-use lib.{Pow.shr-shr, ListN.length}
+use Rattle.lists.proofs.Kit.{_≡_, refl, sym, ap, ap₂, _∙_, List, [], _∷_, _++_, ℕ, zero, suc, _+_, _*_, _/_, _%_, _^_, _<_, div-one, mod-lt, arith, shr-shr}
+use Rattle.lists.proofs.Kit.{length}
 use Rattle.lists.specs.Entries.{tab}
 use Rattle.lists.proofs.{Entries.tab-ext, Parts.below-tail}
 use Rattle.packing.specs.Packing.{value, digits}

@@ -15,9 +15,7 @@
 --   ThetaIs, RhoIs, PiIs, ChiIs, IotaIs   the steps on lanes are the standard's
 --   KeccakIs               so are all rounds, one after the other
 --   KeccakKeeps            lanes of 64 bits stay such through all rounds
-use mathlib.Core.{Path._≡_, List.List, List.[], List._∷_}
-use Prim.Native.Nat.{ℕ, zero, suc, _+_, _-_, _*_, _/_, _%_, _^_, _<_}
-use lib.ListN.{length}
+use Rattle.lists.specs.Kit.{_≡_, List, [], _∷_, ℕ, zero, suc, _+_, _-_, _*_, _/_, _%_, _^_, _<_, length}
 use Rattle.lists.specs.Ranges.{Below}
 use Rattle.keccak.specs.Keccak.{lane, offsets, constants, theta, rho, pi, chi, iota, keccakF}
 

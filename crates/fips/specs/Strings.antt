@@ -14,9 +14,7 @@
 --   spongeOf r n d      algorithm 8 with pad10*1: P = N ‖ pad10*1(r, len N) is absorbed, and d bits are squeezed out
 --   ShakeIs             6.2: SHAKE128(M, d) is SPONGE with the rate 1344 of M ‖ 1111
 --   Sha3Is              6.1: SHA3-256(M) is SPONGE with the rate 1088 of M ‖ 01, 256 bits of it
-use mathlib.Core.{Path._≡_, List.List, List.[], List._∷_, List._++_}
-use Prim.Native.Nat.{ℕ, zero, suc, _+_, _-_, _*_, _/_, _%_, _^_}
-use lib.ListN.{length, getD, take, drop, replicate}
+use Rattle.lists.specs.Kit.{_≡_, List, [], _∷_, _++_, ℕ, zero, suc, _+_, _-_, _*_, _/_, _%_, _^_, length, getD, take, drop, replicate}
 use Rattle.lists.specs.{Entries.tab, Ranges.Below}
 use Rattle.packing.specs.Packing.{value, digits}
 use Rattle.sponge.specs.Sponge.{padded, shake128, sha3}

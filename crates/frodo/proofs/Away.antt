@@ -3,19 +3,13 @@
 --   in-half    there the formula's remainder is the place of w in that half; elsewhere it is behind it
 --   Case, case-of   the two cases, with the slack and the formula in each
 --   slack-apart, slack-least, slack-formula, slack-none, slack-bound
-use mathlib.Core.{Path._≡_, Path.refl, Path.ap, Path._∙_, Bool.Bool, Bool.true}
-use Prim.Native.Nat.{ℕ, zero, suc, _+_, _*_, _-_, _/_, _%_, _^_, _≤_, _<_, min}
-use native.Mathlib.Decide.{ℕ-discrete, decLt}
-use native.Mathlib.Nat.{mul-le-mul-right}
-use native.Mathlib.Omega.{arith}
-use lib.{Dec.eqb, Pow.pow-pos}
-use borrow.Author.Tests.{eqb-true, eq-eqb}
+use Rattle.lists.proofs.Kit.{_≡_, refl, ap, _∙_, Bool, true, ℕ, zero, suc, _+_, _*_, _-_, _/_, _%_, _^_, _≤_, _<_, min, ℕ-discrete, decLt, mul-le-mul-right}
+use Rattle.lists.proofs.Kit.{arith, eqb, pow-pos, eqb-true, eq-eqb}
 use Rattle.numbers.specs.Least.{gapTo}
 use Rattle.numbers.proofs.{Natural.rest-is, Arc.Arc, Arc.away-arc, Arc.away-at-most, Arc.away-none}
-use Rattle.frodo.specs.Rounding.{hintOf, slackOf}
 use Rattle.frodo.specs.Slack.{mostSlack, LeastApart, SlackLeast, past, SlackFormula, SlackNone, SlackBound, SlackApart}
-use Rattle.frodo.proofs.Margin.{Half, half-of, hint-half}
-use Rattle.frodo.proofs.Rule.{inner, chosen, chosen-nearest, quarter}
+use Rattle.frodo.specs.Rounding.{hintOf, slackOf}
+use Rattle.frodo.proofs.{Margin.Half, Margin.half-of, Margin.hint-half, Rule.inner, Rule.chosen, Rule.chosen-nearest, Rule.quarter}
 
 pub slack-apart : SlackApart
 unfolding slackOf

@@ -6,11 +6,7 @@
 --   slacks-length                             as many slacks as there are values
 --   slacks-apart                              under the replier's hints each is at most the distance of the two values
 --   slacks-most                               and under any hints at most the largest that a slack can be
-use mathlib.Core.{Path._≡_, Path.ap, Path._∙_, List.List}
-use Prim.Native.Nat.{ℕ, _*_, _^_, _≤_, _<_}
-use native.Mathlib.Nat.{mod-lt}
-use native.Mathlib.Omega.{arith}
-use lib.{ListN.length, ListN.getD, Pow.pow-pos}
+use Rattle.lists.proofs.Kit.{_≡_, ap, _∙_, List, ℕ, _*_, _^_, _≤_, _<_, mod-lt, arith, length, getD, pow-pos}
 use Rattle.numbers.specs.Residue.{apart}
 use Rattle.lists.specs.{Entries.tab, Ranges.Below}
 use Rattle.lists.proofs.Entries.{tab-length, tab-at, tab-ext, below-tab}

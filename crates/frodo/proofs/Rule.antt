@@ -6,18 +6,13 @@
 --   chosen-nearest, peer-is   the search finds a nearest one, so the initiator's key is the formula's
 --   quarter      I = 4 * t, over which all this is stated
 --   no-tie, formula, agreement
-use mathlib.Core.Path.{_≡_, sym, ap, _∙_}
-use Prim.Native.Nat.{ℕ, zero, suc, _+_, _*_, _-_, _/_, _%_, _^_, _≤_, _<_}
-use native.Mathlib.Decide.{ℕ-discrete, decLt}
-use native.Mathlib.Nat.{le-trans, mul-le-mul-right, lt-of-mul-lt-mul-right}
-use native.Mathlib.Omega.{arith}
-use lib.{Dec.eqb, Pow.pow-pos}
-use borrow.Author.Tests.{eqb-true, eq-eqb}
-use Rattle.numbers.specs.Congruence.{Close, direct, over, under}
-use Rattle.numbers.specs.Least.{nearestTo}
+use Rattle.lists.proofs.Kit.{_≡_, sym, ap, _∙_, ℕ, zero, suc, _+_, _*_, _-_, _/_, _%_, _^_, _≤_, _<_, ℕ-discrete, decLt, le-trans, mul-le-mul-right, arith, eqb}
+use Rattle.lists.proofs.Kit.{pow-pos, eqb-true, eq-eqb}
+use native.Mathlib.Nat.{lt-of-mul-lt-mul-right}
+use Rattle.numbers.specs.{Congruence.Close, Congruence.direct, Congruence.over, Congruence.under, Least.nearestTo}
 use Rattle.numbers.proofs.{Circle.apart-close, Circle.close-apart, Arc.nearest-least}
-use Rattle.frodo.specs.Rounding.{hintOf, keyOf, peerOf}
 use Rattle.frodo.specs.Agreement.{Nearest, NoTie, formulaOf, Formula, Agreement}
+use Rattle.frodo.specs.Rounding.{hintOf, keyOf, peerOf}
 use Rattle.frodo.proofs.Margin.{Half, half-of, hint-half, margin}
 
 pub hint-below : (I v : ℕ) → hintOf I v < 2

@@ -1,9 +1,6 @@
 -- The four schemes' intervals: what `specs/Agreement.antt` states of them, by tests that the checker computes.
 --   each-scheme   of every scheme of the family
-use mathlib.Core.Path.{_≡_, refl}
-use Prim.Native.Nat.{ℕ}
-use native.Mathlib.Omega.{arith}
-use lib.Dec.{lit≤}
+use Rattle.lists.proofs.Kit.{_≡_, refl, ℕ, arith, lit≤}
 use Rattle.schemes.specs.declared.Scheme.the-variants.{Bcns, NewHope, Challenge, Classical, Recommended, Paranoid}
 use Rattle.frodo.specs.Agreement.{EachScheme}
 

@@ -5,11 +5,9 @@
 --   peerOf I B h w    the initiator's key: that of the z nearest to w, around the circle, among those with the hint h
 --   slackOf I B h w   how far w lies, around the circle, from the nearest value with the hint h
 --   hintsOf, keysOf, peersOf, slacksOf   hint, key, peer's key and slack, entry by entry
-use mathlib.Core.List.{List}
-use Prim.Native.Nat.{ℕ, _+_, _*_, _/_, _%_, _^_}
-use lib.{Dec.eqb, ListN.length, ListN.getD}
-use Rattle.schemes.specs.declared.Fixed.{Fixed}
+use Rattle.lists.specs.Kit.{List, ℕ, _+_, _*_, _/_, _%_, _^_, eqb, length, getD}
 use Rattle.numbers.specs.Least.{nearestTo, gapTo}
+use Rattle.schemes.specs.declared.Fixed.{Fixed}
 use Rattle.lists.specs.Entries.{tab}
 
 abbrev pub interval : Fixed → ℕ

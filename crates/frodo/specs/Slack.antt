@@ -4,8 +4,7 @@
 --   SlackNone                it is 0 exactly if w has the hint
 --   mostSlack, SlackBound    the largest that it can be, a quarter of the interval, and that it is no more
 --   SlackApart               under the hint of v it is at most the distance of v and w
-use mathlib.Core.{Path._≡_, Logic._↔_}
-use Prim.Native.Nat.{ℕ, _+_, _*_, _-_, _/_, _%_, _^_, _≤_, _<_, min}
+use Rattle.lists.specs.Kit.{_≡_, _↔_, ℕ, _+_, _*_, _-_, _/_, _%_, _^_, _≤_, _<_, min}
 use Rattle.numbers.specs.Residue.{apart}
 use Rattle.frodo.specs.Rounding.{hintOf, slackOf}
 

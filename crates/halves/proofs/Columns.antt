@@ -7,22 +7,12 @@
 --   doing-small        a column has room for two products more
 --   column-small       the sums are small enough to be put together
 --   leaf-law           what the steps of a leaf come to
-use mathlib.Core.{Path._≡_, Path.refl, Path._∙_, Path.sym, Path.ap, Path.ap₂, Path.subst, List.List, Bool.Bool, Bool.cond}
-use Prim.Native.Nat.{ℕ, suc, _+_, _*_, _-_, _/_, _%_, _^_, _<_, _≤_}
-use native.Mathlib.Omega.{arith}
-use native.Mathlib.Nat.{mul-zero, zero-mul, zero-add, div-add-mod, mod-lt}
-use native.Mathlib.Numerals.{add-one}
-use native.Mathlib.Decide.{decLt}
-use borrow.Author.Tests.{lt-ltb, le-ltb}
-use lib.Dec.{ltb}
-use lib.ListN.{length, getD, set, length-set}
-use lib.Seq.{getD-set-same, getD-set-other}
+use Rattle.lists.proofs.Kit.{_≡_, refl, _∙_, sym, ap, ap₂, subst, List, Bool, cond, ℕ, suc, _+_, _*_, _-_, _/_, _%_, _^_, _<_, _≤_, arith, mul-zero, zero-mul}
+use Rattle.lists.proofs.Kit.{zero-add, div-add-mod, mod-lt, add-one, decLt, lt-ltb, le-ltb, ltb, length, getD, set, length-set, getD-set-same, getD-set-other}
 use Rattle.numbers.specs.Sum.{sum, sumℕ}
-use Rattle.numbers.proofs.Sums.{natural, sum-ext, sum-split, sum-none}
-use Rattle.numbers.proofs.Congruence.{multiples-≅, same-mod}
-use Rattle.halves.specs.Halves.{q}
+use Rattle.numbers.proofs.{Sums.natural, Sums.sum-ext, Sums.sum-split, Sums.sum-none, Congruence.multiples-≅, Congruence.same-mod}
 use Rattle.lists.specs.Ranges.{Below, Stored}
-use Rattle.halves.specs.Steps.{full, cut, from, times, term, Cell, Rows, Padded, Product}
+use Rattle.halves.specs.{Halves.q, Steps.full, Steps.cut, Steps.from, Steps.times, Steps.term, Steps.Cell, Steps.Rows, Steps.Padded, Steps.Product}
 use Rattle.halves.proofs.{Full.cut-in, Full.cut-out, Moves.same}
 
 -- ---- what a row gives

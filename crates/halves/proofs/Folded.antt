@@ -1,13 +1,8 @@
 -- The full product, folded, is the product of 01's rule: here the natural numbers of the code meet the whole numbers of the rule. Once over n.
 --   product-folded    modulo X^n + 1: what passes X^(n - 1) comes round with a minus
-use mathlib.Core.Path.{_≡_, _∙_, sym, ap, ap₂}
-use Prim.Native.Nat.{ℕ, suc, _+_, _*_, _-_, _<_}
-use native.Mathlib.Omega.{arith}
-use native.Mathlib.Nat.{mul-zero, zero-mul}
-use lib.IntN.{ℤ, pos, negℤ, _+ℤ_, _-ℤ_, _*ℤ_}
+use Rattle.lists.proofs.Kit.{_≡_, _∙_, sym, ap, ap₂, ℕ, suc, _+_, _*_, _-_, _<_, arith, mul-zero, zero-mul, ℤ, pos, negℤ, _+ℤ_, _-ℤ_, _*ℤ_}
 use Rattle.numbers.specs.Sum.{sumℕ, sumℤ}
-use Rattle.numbers.proofs.Ring.{mul-neg}
-use Rattle.numbers.proofs.Sums.{natural, whole, sum-ext, sum-split, sum-none, sum-neg, pos-sum}
+use Rattle.numbers.proofs.{Ring.mul-neg, Sums.natural, Sums.whole, Sums.sum-ext, Sums.sum-split, Sums.sum-none, Sums.sum-neg, Sums.pos-sum}
 use Rattle.polynomial.specs.Product.{turn, product}
 use Rattle.polynomial.proofs.Turn.{turn-in, turn-over}
 use Rattle.halves.specs.Steps.{full, cut}

@@ -5,16 +5,10 @@
 --   full-ext, full-≅             by its factors: equal ones, congruent ones
 --   full-add-left, full-add-right, full-shift-left, full-shift-right
 --   full-none                    beyond the last coefficient of both
-use mathlib.Core.{Path._≡_, Path._∙_, Path.sym, Path.ap, Path.ap₂, Bool.cond}
-use Prim.Native.Nat.{ℕ, suc, _+_, _*_, _-_, _<_, _≤_}
-use native.Mathlib.Omega.{arith}
-use native.Mathlib.Nat.{mul-zero, zero-mul}
-use native.Mathlib.Decide.{decLe, decLt}
-use borrow.Author.Tests.{le-leb, lt-leb, lt-ltb, le-ltb}
-use lib.{Dec.leb, IntN.pos}
+use Rattle.lists.proofs.Kit.{_≡_, _∙_, sym, ap, ap₂, cond, ℕ, suc, _+_, _*_, _-_, _<_, _≤_, arith, mul-zero, zero-mul, decLe, decLt, le-leb, lt-leb, lt-ltb}
+use Rattle.lists.proofs.Kit.{le-ltb, leb, pos}
 use Rattle.numbers.specs.{Sum.sumℕ, Congruence._≅⟨_⟩_}
-use Rattle.numbers.proofs.Sums.{natural, sum-ext, sum-add, sum-split, sum-none}
-use Rattle.numbers.proofs.{Congruence.mul-≅, Modular.sumℕ-≅}
+use Rattle.numbers.proofs.{Sums.natural, Sums.sum-ext, Sums.sum-add, Sums.sum-split, Sums.sum-none, Congruence.mul-≅, Modular.sumℕ-≅}
 use Rattle.halves.specs.Steps.{full, cut}
 
 unfoldable pub shift : ℕ → (ℕ → ℕ) → ℕ → ℕ

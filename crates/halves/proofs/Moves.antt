@@ -3,17 +3,10 @@
 --   times-ext       the full product of equal factors
 --   spread-law, join-law   what the steps before and behind the products do
 --   level-law       all of one level
-use mathlib.Core.{Path._≡_, Path._∙_, Path.sym, Path.ap, Path.ap₂, List.List}
-use Prim.Native.Nat.{ℕ, _+_, _*_, _-_, _%_, _<_}
-use native.Mathlib.Omega.{arith}
-use native.Mathlib.Nat.{zero-add}
-use native.Mathlib.Decide.{decLt}
-use lib.ListN.{getD}
-use Rattle.halves.specs.Halves.{q}
+use Rattle.lists.proofs.Kit.{_≡_, _∙_, sym, ap, ap₂, List, ℕ, _+_, _*_, _-_, _%_, _<_, arith, zero-add, decLt, getD}
 use Rattle.lists.specs.Ranges.{Stored}
-use Rattle.halves.specs.Steps.{full, cut, from, times, Product, InPart, Spread, middle, Joined}
-use Rattle.halves.proofs.Full.{cut-ext, full-ext}
-use Rattle.halves.proofs.Step.{step-low, step-mid-low, step-mid-high, step-high}
+use Rattle.halves.specs.{Halves.q, Steps.full, Steps.cut, Steps.from, Steps.times, Steps.Product, Steps.InPart, Steps.Spread, Steps.middle, Steps.Joined}
+use Rattle.halves.proofs.{Full.cut-ext, Full.full-ext, Step.step-low, Step.step-mid-low, Step.step-mid-high, Step.step-high}
 
 pub same : (w : List ℕ) {i j : ℕ} → i ≡ j → getD w i 0 ≡ getD w j 0
 same w e = ap (λ (n : ℕ). getD w n 0) e

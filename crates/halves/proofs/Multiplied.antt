@@ -6,27 +6,20 @@
 --   product-refused, product-done   what is seen of the output, where a test fails and where the front of the zeros is written over
 --   product-cleared    what is seen of the call, once the scratch is zeroed
 --   product-seen-all   `productSeen` forgets nothing
-use mathlib.Core.{Path._≡_, Path.refl, Path._∙_, Path.sym, Path.ap, Path.ap₂, List.List, List._++_}
-use mathlib.Core.Bool.{Bool, true, false, cond}
-use Prim.Native.Nat.{ℕ, _+_, _*_, _-_, _%_, _<_, _≤_}
-use native.Mathlib.Nat.{mod-lt}
-use native.Mathlib.Omega.{arith}
-use lib.ListN.{length, getD, drop, replicate}
+use Rattle.lists.proofs.Kit.{_≡_, refl, _∙_, sym, ap, ap₂, List, _++_, Bool, true, false, cond, ℕ, _+_, _*_, _-_, _%_, _<_, _≤_, mod-lt, arith, length, getD}
+use Rattle.lists.proofs.Kit.{drop, replicate}
 use Rattle.numbers.specs.Residue.{residue}
 use Rattle.numbers.proofs.Congruence.{eq-≅, _⨾_, sub-≅, mod-≅, residue-is}
 use Rattle.lists.specs.{Entries.tab, Entries.nums, Ranges.Stored}
 use Rattle.lists.proofs.Entries.{tab-length, tab-ext}
 use Rattle.polynomial.specs.Product.{product}
-use Rattle.refusals.specs.Seen.{done, refused, Seen, shown, seen}
-use Rattle.refusals.specs.{declared.Refusal.Refusal, declared.Refusal.the-variants.BadLength}
-use Rattle.refusals.specs.declared.Verdict.{Verdict}
 use Rattle.refusals.specs.declared.Verdict.the-variants.{Pass, Fail}
-use Rattle.refusals.proofs.Laws.{differ, both, failed, length-passed, room-passed}
-use Rattle.refusals.proofs.Seen.{shown-passed, shown-failed}
+use Rattle.refusals.specs.Seen.{done, refused, Seen, shown, seen}
+use Rattle.refusals.specs.{declared.Refusal.Refusal, declared.Refusal.the-variants.BadLength, declared.Verdict.Verdict}
+use Rattle.refusals.proofs.{Laws.differ, Laws.both, Laws.failed, Laws.length-passed, Laws.room-passed, Seen.shown-passed, Seen.shown-failed}
 use Rattle.halves.specs.Halves.{q, sizeUpTo, sizeIn, Factors, factorsOf, productTests, plain, ProductSeen, withScratch, productResult, ProductSeenAll}
 use Rattle.halves.specs.Steps.{full, cut, from, times, Product, Fit}
-use Rattle.halves.proofs.{Full.cut-ext, Full.full-ext, Folded.product-folded, Part.size-upto}
-use Rattle.halves.proofs.Step.{rest-≅, less-≅}
+use Rattle.halves.proofs.{Full.cut-ext, Full.full-ext, Folded.product-folded, Part.size-upto, Step.rest-≅, Step.less-≅}
 
 -- ---- lengths
 

@@ -4,18 +4,12 @@
 --   size-upto, size-most   a length that passes it is one of those, and at most the largest
 --   lent-long              it is as long as the product asks
 --   part-product           what the product in a lent part means in the whole
-use mathlib.Core.{Path._≡_, Path.refl, Path._∙_, Path.sym, Path.ap, Path.subst, Logic._≢_}
-use mathlib.Core.{Bool.Bool, Bool.true, Bool.false, List.List}
-use Prim.Native.Nat.{ℕ, zero, suc, _+_, _*_, _-_, _/_, _^_, _<_, _≤_}
-use native.Mathlib.Nat.{pow-suc}
-use native.Mathlib.Omega.{arith}
-use lib.{Dec.eqb, ListN.length, ListN.getD, ListN.take, ListN.drop, ListN.List·getD-append}
-use lib.Seq.{getD-take, getD-drop, getD-append-add, length-take-le}
-use borrow.Author.Tests.{eqb-true, eq-eqb, ne-eqb}
-use borrow.Rule.Slice.PartMut.{putMid, same-len-mid, drop-put}
+use Rattle.lists.proofs.Kit.{_≡_, refl, _∙_, sym, ap, subst, _≢_, Bool, true, false, List, ℕ, zero, suc, _+_, _*_, _-_, _/_, _^_, _<_, _≤_, pow-suc, arith, eqb}
+use Rattle.lists.proofs.Kit.{length, getD, take, drop, List·getD-append, getD-take, getD-drop, getD-append-add, length-take-le, eqb-true, eq-eqb, ne-eqb}
+use Rattle.lists.proofs.Kit.{putMid, same-len-mid}
+use borrow.Rule.Slice.PartMut.{drop-put}
 use Rattle.lists.proofs.Parts.{part-long, part-at}
-use Rattle.halves.specs.{Halves.sizeUpTo, Steps.Size, Steps.Product, Steps.InPart}
-use Rattle.halves.specs.Steps.Size.{least, twice}
+use Rattle.halves.specs.{Halves.sizeUpTo, Steps.Size, Steps.Product, Steps.InPart, Steps.Size.least, Steps.Size.twice}
 use Rattle.halves.proofs.Moves.{same, times-ext}
 
 pub size-least : {n : ℕ} → Size n → 32 ≤ n

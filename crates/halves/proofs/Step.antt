@@ -2,17 +2,13 @@
 --   rest-≅                 a remainder is congruent
 --   less-≅                 q - y for -y
 --   step-low, step-mid-low, step-mid-high, step-high   the four quarters of the whole product, from the lower one, the upper one and the middle
-use mathlib.Core.Path.{_≡_, _∙_, sym, ap, ap₂}
-use Prim.Native.Nat.{ℕ, _+_, _*_, _-_, _%_, _<_, _≤_}
-use native.Mathlib.Omega.{arith}
-use native.Mathlib.Nat.{mod-lt}
-use native.Mathlib.Decide.{decLt}
-use lib.IntN.{ℤ, pos, negsuc, _+ℤ_, _-ℤ_}
+use Rattle.lists.proofs.Kit.{_≡_, _∙_, sym, ap, ap₂, ℕ, _+_, _*_, _-_, _%_, _<_, _≤_, arith, mod-lt, decLt, ℤ, pos, negsuc, _+ℤ_, _-ℤ_}
 use Rattle.numbers.specs.Congruence.{_≅⟨_⟩_}
-use Rattle.numbers.proofs.Difference.{as-diff, diff-≡, diffs, pos-sub}
 use Rattle.numbers.proofs.Congruence.{eq-≅, refl-≅, sym-≅, _⨾_, add-≅, sub-≅, mod-≅, same-mod}
+use Rattle.numbers.proofs.Difference.{as-diff, diff-≡, diffs, pos-sub}
 use Rattle.halves.specs.Steps.{full, cut}
-use Rattle.halves.proofs.Full.{shift, shift-in, shift-out, cut-in, cut-out, cut-split, full-ext, full-≅, full-add-left, full-add-right, full-shift-left, full-shift-right, full-none}
+use Rattle.halves.proofs.Full.{shift, shift-in, shift-out, cut-in, cut-out, cut-split, full-ext, full-≅, full-add-left, full-add-right, full-shift-left}
+use Rattle.halves.proofs.Full.{full-shift-right, full-none}
 
 pub rest-≅ : {q x n : ℕ} → x ≡ n % q → pos x ≅⟨ q ⟩ pos n
 rest-≅ {q} {x} {n} e = eq-≅ (ap pos e) ⨾ mod-≅ q n

@@ -1,10 +1,6 @@
 -- What is not yet written is as it was.
 --   read-ahead   where it is read ahead of what is written
-use mathlib.Core.{Path._≡_, List.List}
-use Prim.Native.Nat.{ℕ, _+_, _-_, _<_}
-use native.Mathlib.Omega.{arith}
-use native.Mathlib.Decide.{decLt}
-use lib.ListN.{getD}
+use Rattle.lists.proofs.Kit.{_≡_, List, ℕ, _+_, _-_, _<_, arith, decLt, getD}
 use Rattle.lists.specs.Ranges.{Stored}
 use Rattle.halves.specs.Steps.{Ahead}
 

@@ -11,17 +11,14 @@
 --   productSeen t out scratch   what is seen where the call tells t and leaves out and scratch
 --   productResult x n m      what the call shows: a scratch of zeros, refused or not
 --   ProductSeenAll           `productSeen` forgets nothing
-use mathlib.Core.{Path._≡_, Bool.Bool, Bool.true, Bool.cond, List.List}
-use Prim.Native.Nat.{ℕ, zero, suc, _*_, _^_}
-use lib.{Dec.eqb, ListN.length, ListN.replicate}
-use Rattle.schemes.specs.{Schemes.fixedOf, declared.Scheme.the-variants.Bcns}
+use Rattle.lists.specs.Kit.{_≡_, Bool, true, cond, List, ℕ, zero, suc, _*_, _^_, eqb, length, replicate}
 use Rattle.numbers.specs.Residue.{residue}
+use Rattle.schemes.specs.{Schemes.fixedOf, declared.Scheme.the-variants.Bcns}
 use Rattle.lists.specs.{Entries.tab, Entries.nums, Lent.Lent, Lent.was}
 use Rattle.polynomial.specs.Product.{product}
 use Rattle.refusals.specs.Refusals.{_then_, lengthIs, roomFor, publicsIn}
-use Rattle.refusals.specs.Seen.{Output, Told, Seen, shown, seen}
-use Rattle.refusals.specs.{declared.Refusal.the-variants.BadLength, declared.Verdict.Verdict}
 use Rattle.refusals.specs.declared.Verdict.the-variants.{Pass, Fail}
+use Rattle.refusals.specs.{Seen.Output, Seen.Told, Seen.Seen, Seen.shown, Seen.seen, declared.Refusal.the-variants.BadLength, declared.Verdict.Verdict}
 
 abbrev pub q : ℕ
 q = fixedOf Bcns .q

@@ -15,9 +15,7 @@
 --   middle w h            the product of the sums less the two others
 --   Joined w h w′         the three products of 2 h numbers have become one of 4 h
 --   Fit n a b m           n numbers in each factor, and a scratch of m numbers that is large enough
-use mathlib.Core.{Path._≡_, Bool.cond, List.List}
-use Prim.Native.Nat.{ℕ, suc, _+_, _-_, _*_, _%_, _<_, _≤_}
-use lib.{Dec.ltb, ListN.length, ListN.getD}
+use Rattle.lists.specs.Kit.{_≡_, cond, List, ℕ, suc, _+_, _-_, _*_, _%_, _<_, _≤_, ltb, length, getD}
 use Rattle.numbers.specs.Sum.{sumℕ}
 use Rattle.lists.specs.Ranges.{Below}
 use Rattle.halves.specs.Halves.{q}

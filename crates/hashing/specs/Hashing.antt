@@ -3,12 +3,9 @@
 --   digestTests input n      the tests of SHA3-256 in 01's order, with room for n bytes
 --   shakeResult input n      what SHAKE-128 shows, with room for n bytes
 --   digestResult input n     what SHA3-256 shows
-use mathlib.Core.List.{List}
-use Prim.Native.Nat.{ℕ}
-use lib.ListN.{length}
-use Rattle.refusals.specs.Refusals.{_then_, lengthUpTo, roomFor}
-use Rattle.refusals.specs.{Seen.Seen, Seen.shown, declared.Verdict.Verdict}
+use Rattle.lists.specs.Kit.{List, ℕ, length}
 use Rattle.sponge.specs.Sponge.{shake128, sha3}
+use Rattle.refusals.specs.{Refusals._then_, Refusals.lengthUpTo, Refusals.roomFor, Seen.Seen, Seen.shown, declared.Verdict.Verdict}
 
 unfoldable pub shakeTests : List ℕ → Verdict
 shakeTests input = lengthUpTo (length input) 65536

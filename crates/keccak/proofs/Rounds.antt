@@ -1,9 +1,6 @@
 -- The rounds of the permutation, one after the other.
 --   round-next   the rounds from the i-th on are the i-th and those from the next on
-use mathlib.Core.{Path._≡_, Path.sym, Path.ap, Path._∙_, List.List}
-use Prim.Native.Nat.{ℕ, _+_, _<_}
-use native.Mathlib.Numerals.{add-one}
-use lib.{ListN.getD, ListN.drop, Seq.drop-cons}
+use Rattle.lists.proofs.Kit.{_≡_, sym, ap, _∙_, List, ℕ, _+_, _<_, add-one, getD, drop, drop-cons}
 use Rattle.keccak.specs.Keccak.{round, rounds, constants}
 
 pub round-next : (s : List ℕ) (i : ℕ) → i < 24 → rounds (drop i constants) s ≡ rounds (drop (i + 1) constants) (round (getD constants i 0) s)

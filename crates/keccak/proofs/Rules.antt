@@ -1,5 +1,5 @@
 -- The two tables are what the standard's rules give, each by one computed test.
-use mathlib.Core.Path.{refl}
+use Rattle.lists.proofs.Kit.{refl}
 use Rattle.lists.specs.Entries.{tab}
 use Rattle.keccak.specs.Tables.{OffsetsRule, ConstantsRule}
 

@@ -6,9 +6,8 @@
 --   round, rounds        3.3: a round, and one after the other by their constants
 --   keccakF a            3.4: the 24 rounds of Keccak-f[1600]
 --   offsets, constants   the tables of rho and iota
-use mathlib.Core.List.{List, [], _∷_}
-use Prim.Native.Nat.{ℕ, zero, suc, _+_, _-_, _*_, _/_, _%_, _^_}
-use lib.{Bits.bitAnd, Bits.bitOr, Bits.bitXor, ListN.getD, ListN.set}
+use Rattle.lists.specs.Kit.{List, [], _∷_, ℕ, zero, suc, _+_, _-_, _*_, _/_, _%_, _^_, bitXor, getD, set}
+use lib.Bits.{bitAnd, bitOr}
 use Rattle.lists.specs.Entries.{tab}
 
 abbrev pub rot : ℕ → ℕ → ℕ

@@ -1,9 +1,7 @@
 -- What gives the tables of Keccak-f[1600]: FIPS 202, section 3.
 --   OffsetsRule     rho's table is what algorithm 2 gives
 --   ConstantsRule   and iota's what algorithms 5 and 6 give
-use mathlib.Core.{Path._≡_, List.List}
-use Prim.Native.Nat.{ℕ, zero, suc, _+_, _*_, _/_, _%_, _^_}
-use lib.{Bits.bitXor, ListN.set}
+use Rattle.lists.specs.Kit.{_≡_, List, ℕ, zero, suc, _+_, _*_, _/_, _%_, _^_, bitXor, set}
 use Rattle.lists.specs.Entries.{tab}
 use Rattle.keccak.specs.Keccak.{offsets, constants}
 

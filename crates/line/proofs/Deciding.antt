@@ -7,30 +7,21 @@
 --   beyond                   a number of more than 32 bits names no scheme
 --   unnamed, in-family       the answers, by the scheme
 --   other-text, some-behind, nothing-behind   the answers, by what was read of the lines
-use mathlib.Core.Path.{_≡_, refl, _∙_, sym, ap, ap₂}
-use mathlib.Core.Bool.{Bool, true, false, cond, _||_}
-use mathlib.Core.List.{List, [], _∷_, _++_}
-use Prim.Native.Nat.{ℕ, _*_, _^_, _≤_, _<_}
-use native.Mathlib.Nat.{pow-le-pow-right}
-use native.Mathlib.Omega.{arith}
-use lib.{Dec.eqb, Dec.leb, Dec.ltb, ListN.length, ListN.drop, ListN.drop-of-length-le}
-use lib.Seq.{drop-cons}
-use borrow.Author.Tests.{ltb-true, ltb-false, leb-true, leb-false, lt-ltb, le-ltb, ne-eqb}
-use Rattle.schemes.specs.{declared.Family.Family, declared.Fixed.Fixed, declared.Named.Named}
+use Rattle.lists.proofs.Kit.{_≡_, refl, _∙_, sym, ap, ap₂, Bool, true, false, cond, _||_, List, [], _∷_, _++_, ℕ, _*_, _^_, _≤_, _<_, pow-le-pow-right, arith}
+use Rattle.lists.proofs.Kit.{eqb, leb, ltb, length, drop, drop-of-length-le, drop-cons, ltb-true, ltb-false, leb-true, leb-false, lt-ltb, le-ltb, ne-eqb}
 use Rattle.schemes.specs.declared.Named.the-variants.{Known, Unknown}
-use Rattle.schemes.specs.declared.Scheme.{Scheme}
 use Rattle.schemes.specs.Schemes.{byFamily, familyOf, fixedOf, schemeOf}
+use Rattle.schemes.specs.{declared.Family.Family, declared.Fixed.Fixed, declared.Named.Named, declared.Scheme.Scheme}
 use Rattle.lists.specs.First.{both}
+use Rattle.text.specs.{Text.schemeName, Text.Read, Text.number, Text.other, Text.fieldIn, Steps.labelIn}
+use Rattle.frodo.specs.Agreement.{Round}
+use Rattle.frodo.proofs.Schemes.{each-scheme}
+use Rattle.line.specs.Line.{coinName, vName, wName, Asked, numbers, text, endIn, wIn, vIn, coinIn, asked, refusal, bcnsShown, frodoShown, bcnsAnswer}
+use Rattle.line.specs.Line.{frodoAnswer, settledIn, settled, answerTo, answered}
+use Rattle.line.specs.Steps.{Part, four, none, partOf, Stands, shifted, moved, linesOf, tested, Lines}
 use Rattle.bcns.specs.Rounding as bcns
 use Rattle.frodo.specs.Rounding as frodo
-use Rattle.frodo.specs.Agreement.{Round}
 use Rattle.frodo.proofs.Entries as frodo-entries
-use Rattle.frodo.proofs.Schemes.{each-scheme}
-use Rattle.text.specs.Text.{schemeName, Read, number, other, fieldIn}
-use Rattle.text.specs.Steps.{labelIn}
-use Rattle.line.specs.Line.{coinName, vName, wName, Asked, numbers, text, endIn, wIn, vIn, coinIn, asked, refusal, bcnsShown, frodoShown, bcnsAnswer, frodoAnswer, settledIn, settled, answerTo, answered}
-use Rattle.line.specs.Steps.{Part, four, none, partOf, Stands, shifted, moved, linesOf, tested}
-use Rattle.line.specs.declared.Lines.{Lines}
 use Rattle.line.specs.declared.Lines.the-variants as lines
 
 -- ---- the tests

@@ -1,12 +1,8 @@
 -- A question is exactly its four lines (`specs/Exactly.antt`), a line at a time.
 --   exactly                     a question is read as its numbers, and no other text is
 --   question-short, enough      a question has at most 60 bytes, so the first 61 of a text tell
-use mathlib.Core.Path.{_≡_, refl, _∙_, sym, ap, ap₂}
-use mathlib.Core.List.{List, [], _∷_, _++_, append-assoc, append-nil}
-use Prim.Native.Nat.{ℕ, _^_, _≤_, _<_}
-use native.Mathlib.Decide.{decLe}
-use native.Mathlib.Omega.{arith}
-use lib.{ListN.length, ListN.take, ListN.length-append, ListN.length-take, Seq.take-all}
+use Rattle.lists.proofs.Kit.{_≡_, refl, _∙_, sym, ap, ap₂, List, [], _∷_, _++_, append-assoc, append-nil, ℕ, _^_, _≤_, _<_, decLe, arith, length, take}
+use Rattle.lists.proofs.Kit.{length-append, length-take, take-all}
 use Rattle.text.specs.Text.{schemeName, decimal, line, Read, number, other, fieldIn}
 use Rattle.text.proofs.{Numeral.decimal-length, Lines.line-forth, Lines.line-back}
 use Rattle.line.specs.Line.{coinName, vName, wName, question, Asked, numbers, text, endIn, wIn, vIn, coinIn, asked, answerTo, answered}

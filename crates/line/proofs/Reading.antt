@@ -1,14 +1,9 @@
 -- Reading: what the functions that take a question apart rest on.
 --   next-room, next-other, next-read, all-four   one line more, and all four
-use mathlib.Core.Path.{_≡_, _∙_, sym, ap, subst}
-use mathlib.Core.List.{List, [], _∷_, _++_}
-use Prim.Native.Nat.{ℕ, _≤_}
-use native.Mathlib.Omega.{arith}
-use lib.ListN.{length, drop}
-use Rattle.text.specs.{Text.schemeName, Steps.readOf, Steps.behind, Steps.Reads, Steps.labelIn}
-use Rattle.line.specs.{Line.coinName, Line.vName, Line.wName, declared.Lines.Lines}
-use Rattle.line.specs.Steps.{four, partOf, reached, Stands, shifted, moved, linesOf}
-use Rattle.text.specs.declared.Found.{Found}
+use Rattle.lists.proofs.Kit.{_≡_, _∙_, sym, ap, subst, List, [], _∷_, _++_, ℕ, _≤_, arith, length, drop}
+use Rattle.text.specs.{Text.schemeName, Steps.readOf, Steps.behind, Steps.Reads, Steps.labelIn, declared.Found.Found}
+use Rattle.line.specs.Steps.{Lines, four, partOf, reached, Stands, shifted, moved, linesOf}
+use Rattle.line.specs.Line.{coinName, vName, wName}
 use Rattle.text.specs.declared.Found.the-variants as found
 use Rattle.line.specs.declared.Lines.the-variants as lines
 

@@ -1,22 +1,20 @@
 -- An answer has at most 22 bytes (`specs/Exactly.antt`).
-use mathlib.Core.{Path.ap, Bool.Bool, Bool.cond, List.List}
-use Prim.Native.Nat.{ℕ, _≤_, _<_}
-use native.Mathlib.Omega.{arith}
-use lib.{Dec.ltb, ListN.length, ListN.length-append}
-use Rattle.schemes.specs.{declared.Family.Family, declared.Fixed.Fixed, declared.Named.Named}
+use Rattle.lists.proofs.Kit.{ap, Bool, cond, List, ℕ, _≤_, _<_, arith, ltb, length, length-append}
 use Rattle.schemes.specs.declared.Named.the-variants.{Known, Unknown}
 use Rattle.schemes.specs.Schemes.{byFamily, familyOf, fixedOf, schemeOf}
+use Rattle.schemes.specs.{declared.Family.Family, declared.Fixed.Fixed, declared.Named.Named}
 use Rattle.schemes.proofs.Sound.{sound}
 use Rattle.lists.specs.First.{both}
 use Rattle.lists.proofs.Table.{cond-all}
-use Rattle.bcns.specs.Rounding as bcns
-use Rattle.bcns.proofs.{Regions.hint-below, Regions.key-below, Formula.peer-below}
-use Rattle.frodo.specs.Rounding as frodo
-use Rattle.frodo.proofs.Rule as rule
 use Rattle.text.proofs.{Numeral.decimal-length, Writing.one-digit, Writing.line-length}
-use Rattle.line.specs.Line.{Asked, numbers, text, asked, refusal, shown, bcnsShown, frodoShown, bcnsAnswer, frodoAnswer, settledIn, settled, answerTo, answered}
+use Rattle.bcns.proofs.{Regions.hint-below, Regions.key-below, Formula.peer-below}
+use Rattle.line.specs.Line.{Asked, numbers, text, asked, refusal, shown, bcnsShown, frodoShown, bcnsAnswer, frodoAnswer, settledIn, settled, answerTo}
+use Rattle.line.specs.Line.{answered}
 use Rattle.line.specs.Exactly.{Short}
 use Rattle.line.proofs.Deciding.{key-small, peer-small}
+use Rattle.bcns.specs.Rounding as bcns
+use Rattle.frodo.specs.Rounding as frodo
+use Rattle.frodo.proofs.Rule as rule
 
 record Fits (xs : List ℕ) : Type 0 where
   fits : length xs ≤ 22

@@ -1,11 +1,7 @@
 -- Writing what is shown: three lines, one after the other.
 --   shown-left     all three are still to come
 --   shown-short    an answer fits 32 bytes
-use mathlib.Core.Path.{_≡_, ap}
-use mathlib.Core.List.{List, [], _∷_, _++_, append-assoc, append-nil}
-use Prim.Native.Nat.{ℕ, _≤_}
-use native.Mathlib.Omega.{arith}
-use lib.ListN.{length}
+use Rattle.lists.proofs.Kit.{_≡_, ap, List, [], _∷_, _++_, append-assoc, append-nil, ℕ, _≤_, arith, length}
 use Rattle.text.specs.{Text.line, Steps.labelled}
 use Rattle.text.proofs.Writing.{joined, Left, left-all}
 use Rattle.line.specs.Line.{hintName, keyName, peerName, shown, answered}

@@ -3,17 +3,13 @@
 --   asked xs           the four numbers of a question, or that xs is other text
 --   settled a b c d    the answer's text: hint, key and the peer's key; or a refusal: 1, 9, 4, in that order
 --   answered xs        the output of every input: 8 for other text
-use mathlib.Core.{Bool.cond, List.List, List.[], List._∷_, List._++_}
-use Prim.Native.Nat.{ℕ}
-use lib.Dec.{ltb}
-use Rattle.schemes.specs.{declared.Fixed.Fixed, declared.Named.Named}
+use Rattle.lists.specs.Kit.{cond, List, [], _∷_, _++_, ℕ, ltb}
 use Rattle.schemes.specs.declared.Named.the-variants.{Known, Unknown}
-use Rattle.schemes.specs.Schemes.{byFamily, familyOf, fixedOf, schemeOf}
+use Rattle.schemes.specs.{declared.Fixed.Fixed, declared.Named.Named, Schemes.byFamily, Schemes.familyOf, Schemes.fixedOf, Schemes.schemeOf}
 use Rattle.lists.specs.First.{both}
+use Rattle.text.specs.{Text.schemeName, Text.line, Text.Read, Text.number, Text.other, Text.fieldIn, Answer.refusalName}
 use Rattle.bcns.specs.Rounding as bcns
 use Rattle.frodo.specs.Rounding as frodo
-use Rattle.text.specs.Text.{schemeName, line, Read, number, other, fieldIn}
-use Rattle.text.specs.Answer.{refusalName}
 
 -- the names, in bytes
 abbrev pub coinName : List ℕ

@@ -5,13 +5,11 @@
 --   firstOf a x b y           x where the test a fails, else y where b fails, else 0
 --   tested most q coin v w    0, or the refusal of a coin over most (9), of v or w of q or more (4), in that order
 --   textOf r                  the text of a verdict
-use mathlib.Core.{Path._≡_, Bool.Bool, Bool.cond, List.List, List.[], List._∷_, List._++_}
-use Prim.Native.Nat.{ℕ, _≤_}
-use lib.{Dec.ltb, ListN.length, ListN.drop}
+use Rattle.lists.specs.Kit.{_≡_, Bool, cond, List, [], _∷_, _++_, ℕ, _≤_, ltb, length, drop}
 use Rattle.lists.specs.First.{both}
 use Rattle.text.specs.{Text.schemeName, Text.Read, Text.number, Text.other, Steps.labelIn}
 use Rattle.line.specs.Line.{coinName, vName, wName, shown, refusal}
-use Rattle.line.specs.{declared.Lines.Lines, declared.Verdict.Verdict}
+pub use Rattle.line.specs.{declared.Lines.Lines, declared.Verdict.Verdict}
 use Rattle.line.specs.declared.Lines.the-variants as lines
 use Rattle.line.specs.declared.Verdict.the-variants as verdict
 

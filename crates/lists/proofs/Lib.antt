@@ -1,3 +1,4 @@
+pub mod Kit
 pub mod Entries
 pub mod Parts
 pub mod Same

@@ -3,11 +3,7 @@
 --   not-yet                  what is not yet written is as it was
 --   stored-all               at the end, by another count
 --   store-front, front-not-yet, front-at   a turn, what is not yet written and what is, at the front of a list
-use mathlib.Core.{Path._≡_, Path.refl, Path._∙_, Path.sym, Path.ap, Path.subst, List.List}
-use Prim.Native.Nat.{ℕ, _+_, _<_}
-use native.Mathlib.Omega.{arith}
-use lib.ListN.{length, getD, set, length-set}
-use lib.Seq.{getD-set-same, getD-set-other}
+use Rattle.lists.proofs.Kit.{_≡_, refl, _∙_, sym, ap, subst, List, ℕ, _+_, _<_, arith, length, getD, set, length-set, getD-set-same, getD-set-other}
 use borrow.Author.Count.{below-more}
 use Rattle.lists.specs.Ranges.{Stored}
 

@@ -6,14 +6,8 @@
 --   peak-at      it stands where it is said to stand
 --   peak-below   and nowhere before
 --   peak-inside  which is in the list, if it has an entry
-use mathlib.Core.{Path._≡_, Path.refl, Path.sym, Path.ap, Path.ap₂, Path._∙_, Bool.Bool, Bool.cond}
-use mathlib.Core.List.{List, [], _∷_}
-use Prim.Native.Nat.{ℕ, zero, suc, _-_, _≤_, _<_}
-use native.Mathlib.Decide.{decLt, ℕ-discrete}
-use native.Mathlib.Nat.{le-refl}
-use native.Mathlib.Omega.{arith}
-use lib.{Dec.eqb, Dec.leb, ListN.length, ListN.getD, ListN.replicate}
-use borrow.Author.Tests.{eqb-true, eqb-false, eq-eqb, ne-eqb, le-leb, lt-leb}
+use Rattle.lists.proofs.Kit.{_≡_, refl, sym, ap, ap₂, _∙_, Bool, cond, List, [], _∷_, ℕ, zero, suc, _-_, _≤_, _<_, decLt, ℕ-discrete, le-refl, arith}
+use Rattle.lists.proofs.Kit.{eqb, leb, length, getD, replicate, eqb-true, eqb-false, eq-eqb, ne-eqb, le-leb, lt-leb}
 use Rattle.lists.specs.First.{firstWhere, firstOver, largestBy, peakOf}
 use Rattle.lists.proofs.First.{none-before, none-passes, first-passes}
 

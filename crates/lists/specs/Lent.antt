@@ -2,11 +2,8 @@
 --   Lent X           a slice or a number behind `&` or `&mut`, as it stands at entry and at exit
 --   was x, left x    what stands there at entry, and what at exit
 --   room x           how many entries a slice has
-use mathlib.Core.List.{List}
-use Prim.Native.Nat.{ℕ}
-use lib.ListN.{length}
-use denote.Ref.{RefT, now}
-use denote.Triple.Both.{Both}
+use Rattle.lists.specs.Kit.{List, ℕ, length}
+use denote.{Ref.RefT, Ref.now, Triple.Both.Both}
 
 abbrev pub Lent : Type 0 → Type 0
 Lent X = Both (RefT X) (RefT X)

@@ -1,3 +1,4 @@
+pub mod Kit
 pub mod Lent
 pub mod Entries
 pub mod First

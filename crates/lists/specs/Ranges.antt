@@ -2,9 +2,7 @@
 --   Below q xs             every number is below q
 --   Within B xs            no secret or noise value lies further than B from 0
 --   Stored z w to n f w′   the n entries at `to` are now f 0, .., f (n - 1), and the others as they were
-use mathlib.Core.{Path._≡_, List.List}
-use Prim.Native.Nat.{ℕ, _+_, _<_, _≤_}
-use lib.{IntN.ℤ, IntN.pos, IntN.natAbs, ListN.length, ListN.getD}
+use Rattle.lists.specs.Kit.{_≡_, List, ℕ, _+_, _<_, _≤_, ℤ, pos, natAbs, length, getD}
 
 pub record Below (q : ℕ) (xs : List ℕ) : Type 0 where
   pub below : (k : ℕ) → getD xs k 0 < q

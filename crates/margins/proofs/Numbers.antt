@@ -1,10 +1,7 @@
 -- What the runs ask of the fixed numbers of a scheme.
 --   in-buffer    a list that fits a new buffer of zeros
 --   quarter-lt   a quarter of the interval, and one more, are small
-use Prim.Native.Nat.{ℕ, _+_, _/_, _^_, _≤_, _<_}
-use native.Mathlib.Nat.{div-le-self}
-use native.Mathlib.Omega.{arith}
-use lib.ListN.{length, replicate, length-replicate}
+use Rattle.lists.proofs.Kit.{ℕ, _+_, _/_, _^_, _≤_, _<_, div-le-self, arith, length, replicate, length-replicate}
 
 pub in-buffer : {n : ℕ} (room : ℕ) → n ≤ room → n ≤ length {A = ℕ} (replicate room 0)
 in-buffer room h = rw length-replicate h

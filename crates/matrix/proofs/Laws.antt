@@ -3,13 +3,10 @@
 --   times-add-left, times-add-right   it distributes over sums
 --   times-assoc       (a b) c = a (b c)
 --   times-size        an entry, by bounds on those of its factors
-use mathlib.Core.Path.{_≡_, _∙_, sym}
-use Prim.Native.Nat.{ℕ, _*_, _<_, _≤_}
-use lib.IntN.{ℤ, natAbs, _+ℤ_, _*ℤ_}
+use Rattle.lists.proofs.Kit.{_≡_, _∙_, sym, ℕ, _*_, _<_, _≤_, ℤ, natAbs, _+ℤ_, _*ℤ_}
 use Rattle.numbers.specs.Congruence.{_≅⟨_⟩_}
-use Rattle.numbers.proofs.{Ring.add-mul, Ring.mul-add, Ring.mul-assoc, Size.abs-mul-≤, Size.abs-sum}
 use Rattle.numbers.proofs.Sums.{whole, sum-ext, sum-add, sum-mul, sum-mul-right, sum-swap}
-use Rattle.numbers.proofs.Congruence.{mul-≅, sum-≅}
+use Rattle.numbers.proofs.{Ring.add-mul, Ring.mul-add, Ring.mul-assoc, Size.abs-mul-≤, Size.abs-sum, Congruence.mul-≅, Congruence.sum-≅}
 use Rattle.matrix.specs.Matrix.{times}
 
 pub times-≅ :

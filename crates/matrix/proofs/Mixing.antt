@@ -4,17 +4,14 @@
 --   identity            the identity, of what the two ends compute
 --   apart-difference    how far V and W are apart is how far D is from a multiple of q
 --   difference-size     D is at most 2 n B B + B in size, where secrets and noise are at most B in size
-use mathlib.Core.{Path._≡_, Path.refl, Path._∙_, Path.ap, List.List}
-use Prim.Native.Nat.{ℕ, _+_, _*_, _<_, _≤_}
-use lib.{ListN.getD, IntN.ℤ, IntN.natAbs, IntN._+ℤ_, IntN._-ℤ_}
+use Rattle.lists.proofs.Kit.{_≡_, refl, _∙_, ap, List, ℕ, _+_, _*_, _<_, _≤_, getD, ℤ, natAbs, _+ℤ_, _-ℤ_}
 use Rattle.numbers.specs.{Residue.distance, Residue.apart, Congruence._≅⟨_⟩_}
-use Rattle.numbers.proofs.{Ring.cancel, Size.abs-three, Nearest.distance-same}
 use Rattle.numbers.proofs.Congruence.{eq-≅, _⨾_, add-≅, sub-≅, residue-≅}
+use Rattle.numbers.proofs.{Ring.cancel, Size.abs-three, Nearest.distance-same}
 use Rattle.lists.specs.{Entries.nums, Entries.ints, Ranges.Within}
 use Rattle.matrix.specs.Matrix.{times, numsAt, intsAt, rightMixed, leftMixed, bare}
 use Rattle.matrix.specs.Difference.{difference, Identity}
-use Rattle.matrix.proofs.Laws.{times-≅, times-add-left, times-add-right, times-assoc, times-size}
-use Rattle.matrix.proofs.Rows.{nums-rows}
+use Rattle.matrix.proofs.{Laws.times-≅, Laws.times-add-left, Laws.times-add-right, Laws.times-assoc, Laws.times-size, Rows.nums-rows}
 
 -- of any b and u, v and w that are what they should be modulo q
 pub meet :

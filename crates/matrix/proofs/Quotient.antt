@@ -2,11 +2,9 @@
 --   kept        so it is with k modulo 65536, as a word has it
 --   back        and q times that, by 65536, is the remainder
 --   kept-fits, back-fits   both fit
-use mathlib.Core.Path.{_≡_, _∙_, sym, ap}
-use Prim.Native.Nat.{ℕ, suc, _+_, _*_, _/_, _%_, _<_, _≤_}
-use native.Mathlib.Omega.{arith}
-use native.Mathlib.Nat.{div-add-mod', add-mul-mod-self-right, mod-lt, mul-div-cancel, mul-le-mul-right, le-div-iff-mul-le}
-use lib.Arith.{digits-mod}
+use Rattle.lists.proofs.Kit.{_≡_, _∙_, sym, ap, ℕ, suc, _+_, _*_, _/_, _%_, _<_, _≤_, arith, div-add-mod', mod-lt, mul-div-cancel, mul-le-mul-right}
+use Rattle.lists.proofs.Kit.{le-div-iff-mul-le, digits-mod}
+use native.Mathlib.Nat.{add-mul-mod-self-right}
 
 module _ (q c u : ℕ) (some : 0 < q) (few : q < 65536) (whole : 65536 % q ≡ 0) (is : c ≡ 65536 / q % 65536) where
   abbrev k : ℕ

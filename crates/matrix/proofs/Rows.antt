@@ -1,10 +1,6 @@
 -- A matrix as a list, row after row.
 --   rows-length, rows-at, nums-rows, rows-below   its length, its entries, and that they are below q
-use mathlib.Core.Path.{_≡_, _∙_, ap, ap₂}
-use Prim.Native.Nat.{ℕ, suc, _+_, _*_, _<_, _≤_}
-use native.Mathlib.Omega.{arith}
-use native.Mathlib.Nat.{mul-le-mul-right}
-use lib.{Arith.digits-div, Arith.digits-mod, ListN.length, ListN.getD, IntN.pos}
+use Rattle.lists.proofs.Kit.{_≡_, _∙_, ap, ap₂, ℕ, suc, _+_, _*_, _<_, _≤_, arith, mul-le-mul-right, digits-div, digits-mod, length, getD, pos}
 use Rattle.lists.specs.{Entries.nums, Ranges.Below}
 use Rattle.lists.proofs.Entries.{tab-length, tab-at, below-tab}
 use Rattle.matrix.specs.Matrix.{rows, numsAt}

@@ -4,14 +4,8 @@
 --   all-clear, below-wider    where all are below q, without parts; and they are below what is no less than q
 --   clear-part, part-below    after a part that has none, whose numbers are below q
 --   part-place, part-full     the place in the list of the one that a part has; there is none where all are below q
-use mathlib.Core.{Path._≡_, Path.refl, Path._∙_, Path.sym, Path.ap, Path.subst, Bool.false}
-use mathlib.Core.List.{List}
-use Prim.Native.Nat.{ℕ, _+_, _*_, _-_, _≤_, _<_}
-use native.Mathlib.Decide.{decLt}
-use native.Mathlib.Nat.{zero-mul}
-use native.Mathlib.Omega.{arith}
-use lib.{Dec.leb, ListN.length, ListN.getD, ListN.take, ListN.drop}
-use borrow.Author.Tests.{lt-leb}
+use Rattle.lists.proofs.Kit.{_≡_, refl, _∙_, sym, ap, subst, false, List, ℕ, _+_, _*_, _-_, _≤_, _<_, decLt, zero-mul, arith, leb, length, getD, take, drop}
+use Rattle.lists.proofs.Kit.{lt-leb}
 use Rattle.lists.specs.{Ranges.Below, First.firstOver}
 use Rattle.lists.proofs.First.{Passed, passed-none, found, missing, none-before, first-passes, none-found, all-below}
 use Rattle.lists.proofs.Parts.{slice-long, slice-at, slice-below}

@@ -5,21 +5,14 @@
 --   on-zeros, on-copy, known   sums that start as zeros and are added at the end; what is made of a copy; the products of a row whose length is known
 --   reduced-gained, steps-are  from the noise to the remainders, by place; in three steps
 --   mixed                      they are those of the whole sums, by row and column
-use mathlib.Core.{Path._≡_, Path.refl, Path._∙_, Path.sym, Path.ap, List.List}
-use Prim.Native.Nat.{ℕ, _+_, _*_, _/_, _%_, _<_}
-use native.Mathlib.Omega.{arith}
-use native.Mathlib.Nat.{mod-add-mod, mod-eq-of-lt, div-add-mod'}
-use native.Mathlib.Numerals.{add-one}
-use lib.ListN.{length, getD, replicate, length-replicate}
-use lib.IntN.{ℤ, pos, _+ℤ_, _*ℤ_, +ℤ-comm}
+use Rattle.lists.proofs.Kit.{_≡_, refl, _∙_, sym, ap, List, ℕ, _+_, _*_, _/_, _%_, _<_, arith, mod-add-mod, mod-eq-of-lt, div-add-mod', add-one, length, getD}
+use Rattle.lists.proofs.Kit.{replicate, length-replicate, ℤ, pos, _+ℤ_, _*ℤ_, +ℤ-comm}
 use Rattle.numbers.specs.{Sum.sum, Sum.sumℕ, Sum.sumℤ, Residue.residue, Congruence._≅⟨_⟩_}
-use Rattle.numbers.proofs.Sums.{natural, sum-split, pos-sum}
 use Rattle.numbers.proofs.Congruence.{finer-≅, eq-≅, _⨾_, add-≅, sum-≅, mod-≅, residue-≅, same-residue}
+use Rattle.numbers.proofs.Sums.{natural, sum-split, pos-sum}
 use Rattle.lists.specs.Entries.{tab, ints}
-use Rattle.lists.proofs.Entries.{tab-length, tab-at, tab-ext, tab-getD}
-use Rattle.lists.proofs.Same.{equal-all}
-use Rattle.matrix.specs.{Matrix.times, Matrix.rows, Matrix.intsAt, Steps.dotTerm}
-use Rattle.matrix.specs.Words.{wordsOf, gained, reduced}
+use Rattle.lists.proofs.{Entries.tab-length, Entries.tab-at, Entries.tab-ext, Entries.tab-getD, Same.equal-all}
+use Rattle.matrix.specs.{Matrix.times, Matrix.rows, Matrix.intsAt, Steps.dotTerm, Words.wordsOf, Words.gained, Words.reduced}
 
 pub words-length : (m : ℕ) (zs : List ℤ) → length (wordsOf m zs) ≡ length zs
 unfolding wordsOf

@@ -6,19 +6,13 @@
 --   right-sums             row i of the sums of XS
 --   in-s, block-long, block-row   a block of rows of Y and their words, for row i of SY
 --   in-y, part-terms       a block as it lies in Y
-use mathlib.Core.{Path._≡_, Path._∙_, Path.sym, Path.ap, Path.ap₂, List.List}
-use Prim.Native.Nat.{ℕ, suc, _+_, _*_, _-_, _/_, _%_, _<_, _≤_}
-use native.Mathlib.Omega.{arith}
-use native.Mathlib.Nat.{mul-le-mul-right, mul-comm, mod-lt}
-use lib.Arith.{digits-div, digits-mod, digits-lt}
-use lib.ListN.{length, getD, take, drop}
+use Rattle.lists.proofs.Kit.{_≡_, _∙_, sym, ap, ap₂, List, ℕ, suc, _+_, _*_, _-_, _/_, _%_, _<_, _≤_, arith, mul-le-mul-right, mul-comm, mod-lt, digits-div}
+use Rattle.lists.proofs.Kit.{digits-mod, digits-lt, length, getD, take, drop}
 use Rattle.numbers.specs.Sum.{sumℕ}
 use Rattle.numbers.proofs.Sums.{natural, sum-ext}
 use Rattle.lists.specs.Entries.{tab}
-use Rattle.lists.proofs.{Entries.tab-at, Entries.tab-ext, Parts.slice-long, Parts.slice-at}
-use Rattle.matrix.specs.Steps.{turned, dotTerm, blockTerm, partTerm, blockGained}
-use Rattle.matrix.specs.Words.{gained, rightTerm, leftTerm}
-use Rattle.lists.proofs.Fill.{Filled, fill-rest}
+use Rattle.lists.proofs.{Entries.tab-at, Entries.tab-ext, Parts.slice-long, Parts.slice-at, Fill.Filled, Fill.fill-rest}
+use Rattle.matrix.specs.{Steps.turned, Steps.dotTerm, Steps.blockTerm, Steps.partTerm, Steps.blockGained, Words.gained, Words.rightTerm, Words.leftTerm}
 
 pub row-in : (r n i : ℕ) → i < r → i * n + n ≤ r * n
 row-in r n i h = let m : suc i * n ≤ r * n = mul-le-mul-right n h in omega arith

@@ -3,20 +3,14 @@
 --   shape, fit             what fits has the shape; what has it fits where its numbers are below q
 --   right-any, left-any    words of any modulus m that is a multiple of q: XS + E by rows of X and columns of S; SY + E by rows of Y
 --   right-is, left-is, bare-is   so of what the code has made; US as XS + E without noise
-use mathlib.Core.{Path._≡_, Path.refl, Path._∙_, Path.ap, Path.ap₂, List.List}
-use Prim.Native.Nat.{ℕ, _+_, _*_, _/_, _%_, _<_}
-use native.Mathlib.Omega.{arith}
-use native.Mathlib.Nat.{mod-lt, div-lt-iff-lt-mul}
-use lib.Arith.{digits-div, digits-mod, digits-lt}
-use lib.ListN.{length, getD, replicate}
-use lib.IntN.{ℤ, pos, _+ℤ_, _*ℤ_, +ℤ-idr, *ℤ-comm}
+use Rattle.lists.proofs.Kit.{_≡_, refl, _∙_, ap, ap₂, List, ℕ, _+_, _*_, _/_, _%_, _<_, arith, mod-lt, div-lt-iff-lt-mul, digits-div, digits-mod, digits-lt}
+use Rattle.lists.proofs.Kit.{length, getD, replicate, ℤ, pos, _+ℤ_, _*ℤ_, +ℤ-idr, *ℤ-comm}
 use Rattle.numbers.specs.{Residue.residue, Congruence._≅⟨_⟩_}
 use Rattle.numbers.proofs.Congruence.{eq-≅, refl-≅, _⨾_, mul-≅, residue-≅}
 use Rattle.lists.specs.{Entries.nums, Entries.ints, Ranges.Below}
 use Rattle.lists.proofs.{Entries.tab-length, Entries.tab-at, Entries.tab-ext, Same.equal-all}
 use Rattle.matrix.specs.Matrix.{times, rows, numsAt, intsAt, rightMixed, leftMixed, bare}
-use Rattle.matrix.specs.Fit.{Fit, Shape}
-use Rattle.matrix.specs.Words.{wordsOf, gained, reduced, columnsOf, rightTerm, leftTerm}
+use Rattle.matrix.specs.{Fit.Fit, Fit.Shape, Words.wordsOf, Words.gained, Words.reduced, Words.columnsOf, Words.rightTerm, Words.leftTerm}
 use Rattle.matrix.proofs.Steps.{words-at, mixed, steps-are}
 
 pub column-at : (m n : ℕ) (s : List ℤ) (j t : ℕ) → j < 8 → t < n → getD (columnsOf m n s) (j * n + t) 0 ≡ residue m (ints s (t * 8 + j))

@@ -1,9 +1,7 @@
 -- How far apart the two ends of an exchange of matrices modulo q end; the shapes are those of `Matrix.antt`.
 --   difference n m s e s' e' e'' i j   the entry of D = S'E + E'' - E'S, before any remainder (demand 3)
 --   Identity   the replier's V less the initiator's W is D modulo q, whatever n, m and q
-use mathlib.Core.List.{List}
-use Prim.Native.Nat.{ℕ, _<_}
-use lib.IntN.{ℤ, _+ℤ_, _-ℤ_}
+use Rattle.lists.specs.Kit.{List, ℕ, _<_, ℤ, _+ℤ_, _-ℤ_}
 use Rattle.numbers.specs.Congruence.{_≅⟨_⟩_}
 use Rattle.matrix.specs.Matrix.{times, numsAt, intsAt, rightMixed, leftMixed, bare}
 

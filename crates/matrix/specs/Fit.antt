@@ -1,7 +1,5 @@
 -- What the products ask of their inputs. The code works in words, which wrap at 65536: a multiple of q.
-use mathlib.Core.{Path._≡_, List.List}
-use Prim.Native.Nat.{ℕ, _*_, _%_, _<_, _≤_}
-use lib.{ListN.length, IntN.ℤ}
+use Rattle.lists.specs.Kit.{_≡_, List, ℕ, _*_, _%_, _<_, _≤_, length, ℤ}
 use Rattle.lists.specs.Ranges.{Below, Within}
 
 -- r rows of n numbers, or n rows of r; and 8 n secrets of which none is larger than Frodo's largest noise

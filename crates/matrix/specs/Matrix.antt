@@ -7,9 +7,7 @@
 --   rightMixed q r n m x s e   XS + E, X of r rows and n columns: the opener's B = AS + E
 --   leftMixed q n c m s y e    SY + E, Y of n rows and c columns: the replier's B' = S'A + E' and V = S'B + E''
 --   bare q n m u s             US: the initiator's W = B'S
-use mathlib.Core.List.{List}
-use Prim.Native.Nat.{ℕ, _+_, _*_, _/_, _%_}
-use lib.IntN.{ℤ, _+ℤ_, _*ℤ_}
+use Rattle.lists.specs.Kit.{List, ℕ, _+_, _*_, _/_, _%_, ℤ, _+ℤ_, _*ℤ_}
 use Rattle.numbers.specs.{Sum.sumℤ, Residue.residue}
 use Rattle.lists.specs.Entries.{tab, nums, ints}
 

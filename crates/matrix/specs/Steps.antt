@@ -5,9 +5,7 @@
 --   blockTerm, partTerm   the products of a block y of rows of Y, each with its word of w, at column j; of the block that starts at row t, with the words of S,
 --                       for the entry k of SY
 --   blockGained w y ws  the sums ws, a row of them, with the products of the block
-use mathlib.Core.List.{List}
-use Prim.Native.Nat.{ℕ, _+_, _*_, _/_, _%_}
-use lib.ListN.{length, getD}
+use Rattle.lists.specs.Kit.{List, ℕ, _+_, _*_, _/_, _%_, length, getD}
 use Rattle.lists.specs.Entries.{tab}
 use Rattle.matrix.specs.Words.{gained}
 

@@ -4,9 +4,7 @@
 --   reduced q ws        the remainders of the sums in 0 .. q - 1
 --   columnsOf m n s     the 8 columns of S, one after the other, as words
 --   rightTerm, leftTerm the products for the entry k of XS, and for the entry k of SY
-use mathlib.Core.List.{List}
-use Prim.Native.Nat.{ℕ, _+_, _*_, _/_, _%_}
-use lib.{ListN.length, ListN.getD, IntN.ℤ}
+use Rattle.lists.specs.Kit.{List, ℕ, _+_, _*_, _/_, _%_, length, getD, ℤ}
 use Rattle.numbers.specs.{Sum.sumℕ, Residue.residue}
 use Rattle.lists.specs.Entries.{tab, ints}
 

@@ -3,20 +3,15 @@
 --   ByValue t, by-values   that link
 --   laid-link              and back: a link of sessions, laid out
 --   linking-bytes, same-key-bytes   as specs/Linked states them
-use mathlib.Core.{Path._≡_, Path.refl, Path._∙_, Path.sym, Path.ap, Path.subst, Bool.false}
-use mathlib.Core.List.{List}
-use Prim.Native.Nat.{ℕ}
+use Rattle.lists.proofs.Kit.{_≡_, refl, _∙_, sym, ap, subst, false, List, ℕ}
 use Rattle.schemes.specs.declared.Scheme.{Scheme}
 use Rattle.refusals.specs.Seen.{answer}
 use Rattle.agreement.specs.{Run.Run, Exchange.Rooms}
-use Rattle.session.specs.{declared.Stage.Stage, declared.Session.Session, Table.Call, Table.step}
 use Rattle.session.specs.Seen.{CallSeen, number, Turn, turn, moved}
-use Rattle.session.specs.Sequences.{Sound}
+use Rattle.session.specs.{declared.Stage.Stage, declared.Session.Session, Table.Call, Table.step, Sequences.Sound}
 use Rattle.session.proofs.Sequences.{step-sound}
-use Rattle.session_bytes.specs.Bytes.{bytesOf, staged, sessionIn, closes, laidOut, movedBytes}
-use Rattle.session_bytes.specs.declared.Found.the-variants.{At}
-use Rattle.session_bytes.proofs.Stages.{parts}
-use Rattle.session_bytes.proofs.Bytes.{taken-back, laid-back, moved-bytes, held-by}
+use Rattle.session_bytes.specs.{Bytes.bytesOf, Bytes.staged, Bytes.sessionIn, Bytes.closes, Bytes.laidOut, Bytes.movedBytes, declared.Found.the-variants.At}
+use Rattle.session_bytes.proofs.{Stages.parts, Bytes.taken-back, Bytes.laid-back, Bytes.moved-bytes, Bytes.held-by}
 use Rattle.meetings.specs.Linked.{Link, LinkBytes, linkedBy, LinkingBytes, SameKeyBytes}
 use Rattle.meetings.proofs.Linked.{first, second, third, linking, same-key}
 

@@ -3,28 +3,22 @@
 --   sendable          what the random bytes make is sendable
 --   replied-is, finished-is   with Finish they are the calls of an exchange
 --   drawn-finishes, drawn   as specs/FromRandom states them
-use mathlib.Core.{Path._≡_, Path.refl, Path._∙_, Path.sym, Path.ap, List.List}
-use Prim.Native.Nat.{ℕ}
-use lib.ListN.{length}
-use Rattle.schemes.specs.{Schemes.fixedOf, declared.Named.the-variants.Known}
-use Rattle.schemes.specs.declared.Scheme.{Scheme}
+use Rattle.lists.proofs.Kit.{_≡_, refl, _∙_, sym, ap, List, ℕ, length}
+use Rattle.schemes.specs.{Schemes.fixedOf, declared.Named.the-variants.Known, declared.Scheme.Scheme}
 use Rattle.lists.specs.Ranges.{Below}
+use Rattle.noise.specs.declared.Ruled.{Ruled}
 use Rattle.refusals.specs.{Refusals.numberIn, Seen.answer, Seen.shown, declared.Verdict.the-variants.Pass}
 use Rattle.refusals.proofs.{Laws.number-zero, Laws.both, Seen.written-answer}
-use Rattle.noise.specs.declared.Ruled.{Ruled}
 use Rattle.values.proofs.Ranges.{offered-counted}
 use Rattle.wire.specs.Wire.{seedIn}
 use Rattle.wire.proofs.Travel.{seed-back}
-use Rattle.offer.specs.Offer.{Offer, offerTests, offerMessage}
-use Rattle.offer.specs.Inside.{offerLengths, offerIn}
+use Rattle.offer.specs.{Offer.Offer, Offer.offerTests, Offer.offerMessage, Inside.offerLengths, Inside.offerIn}
 use Rattle.offer.proofs.Offering.{offer-opens}
-use Rattle.reply.specs.Reply.{Reply, ReplySeen, replyOf, replyTests, replyMessage, replyKey, replyDigest, outputs, replyResult}
 use Rattle.finish.specs.Finish.{FinishRooms, finishShown, finishResult}
-use Rattle.agreement.specs.{Run.Run, Run.replyTo, Run.replying, Run.finishWith, Agreement.Near}
-use Rattle.agreement.specs.Exchange.{Sendable, Rooms, offers}
+use Rattle.reply.specs.Reply.{Reply, ReplySeen, replyOf, replyTests, replyMessage, replyKey, replyDigest, outputs, replyResult}
+use Rattle.agreement.specs.{Run.Run, Run.replyTo, Run.replying, Run.finishWith, Agreement.Near, Exchange.Sendable, Exchange.Rooms, Exchange.offers}
 use Rattle.agreement.proofs.Tests.{sendable-by, finish-passes}
-use Rattle.exchange.specs.{Random.publicFrom, Answer.answerReply, Answer.answerTests}
-use Rattle.exchange.specs.Open.{OpenSeen, openOffer, openTests, openShown}
+use Rattle.exchange.specs.{Random.publicFrom, Answer.answerReply, Answer.answerTests, Open.OpenSeen, Open.openOffer, Open.openTests, Open.openShown}
 use Rattle.exchange.proofs.Shown.{open-offers, answer-replies}
 use Rattle.meetings.specs.FromRandom.{Lendings, opening, answering, runOf, Opened, finishOn, Drawn, DrawnFinishes}
 use Rattle.meetings.specs.Meeting.{Agreed}

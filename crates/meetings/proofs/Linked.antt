@@ -4,28 +4,22 @@
 --   asked          what a link has asked of its sessions, rooms and inputs
 --   link           a link of two idle sessions
 --   linking, same-key   as specs/Linked states them
-use mathlib.Core.{Path._≡_, Path.refl, Path._∙_, Path.sym, Path.ap, Path.ap₂, Bool.true, List.List}
-use Prim.Native.Nat.{ℕ}
-use borrow.Author.Tests.{eq-eqb}
-use Rattle.schemes.specs.{Schemes.schemeOf, Schemes.schemeNumber, declared.Named.the-variants.Known}
-use Rattle.schemes.specs.declared.Scheme.{Scheme}
+use Rattle.lists.proofs.Kit.{_≡_, refl, _∙_, sym, ap, ap₂, true, List, ℕ, eq-eqb}
+use Rattle.schemes.specs.{Schemes.schemeOf, Schemes.schemeNumber, declared.Named.the-variants.Known, declared.Scheme.Scheme}
 use Rattle.schemes.proofs.Laws.{by-number}
 use Rattle.refusals.specs.Seen.{Seen, answer}
 use Rattle.offer.specs.Offer.{offerResult}
-use Rattle.reply.specs.Reply.{ReplySeen, replyKey, replyResult}
 use Rattle.finish.specs.Finish.{FinishSeen, finishKey, finishResult}
-use Rattle.agreement.specs.Run.{Run}
-use Rattle.agreement.specs.Run as inputs
-use Rattle.agreement.specs.Exchange.{Sendable, Rooms, Enough, Exchange}
-use Rattle.agreement.specs.Exchange as exchange
-use Rattle.agreement.specs.Agreement.{Near}
-use Rattle.agreement.proofs.{Accepted.gave, Accepted.none-refused, Agreement.agreement}
-use Rattle.agreement.proofs.Meeting.{own-published, keys-meet}
-use Rattle.session.specs.{declared.Stage.Stage, declared.Session.Session, Sequences.beneath}
-use Rattle.session.specs.Table.{Call, offering, replying, finishing, whenIdle, row, keyed}
+use Rattle.reply.specs.Reply.{ReplySeen, replyKey, replyResult}
+use Rattle.agreement.specs.{Run.Run, Exchange.Sendable, Exchange.Rooms, Exchange.Enough, Exchange.Exchange, Agreement.Near}
+use Rattle.agreement.proofs.{Accepted.gave, Accepted.none-refused, Agreement.agreement, Meeting.own-published, Meeting.keys-meet}
 use Rattle.session.specs.Seen.{CallSeen, ofOffer, ofReply, ofFinish, number, Turn, turn, moved}
+use Rattle.session.specs.Table.{Call, offering, replying, finishing, whenIdle, row, keyed}
+use Rattle.session.specs.{declared.Stage.Stage, declared.Session.Session, Sequences.beneath}
 use Rattle.session.proofs.Sequences.{answered, accepted}
 use Rattle.meetings.specs.{Linked.Link, Linked.linkedBy, Linked.Linking, Linked.SameKey, Meeting.Agreed}
+use Rattle.agreement.specs.Run as inputs
+use Rattle.agreement.specs.Exchange as exchange
 
 -- ---- three calls
 

@@ -1,28 +1,17 @@
 -- A meeting is an exchange of the whole-matrix calls.
 --   whole-offer, whole-reply   where an end is not refused, the parts have filled the rows, and it shows what the whole call shows
 --   by-rows, reached, every-cut   what is shown
-use mathlib.Core.{Path._≡_, Path.refl, Path.sym, Path.ap, Path.subst, List.List, List.[]}
-use mathlib.Core.Logic.{_⊎_, inl, inr}
-use Prim.Native.Nat.{ℕ}
-use native.Mathlib.Omega.{arith}
-use native.Mathlib.Decide.{ℕ-discrete}
-use lib.ListN.{length}
-use Rattle.schemes.specs.{Schemes.familyOf, Schemes.fixedOf, declared.Family.Family}
-use Rattle.schemes.specs.{declared.Named.the-variants.Known, declared.Scheme.Scheme}
+use Rattle.lists.proofs.Kit.{_≡_, refl, sym, ap, subst, List, [], _⊎_, inl, inr, ℕ, arith, ℕ-discrete, length}
+use Rattle.schemes.specs.{Schemes.familyOf, Schemes.fixedOf, declared.Family.Family, declared.Named.the-variants.Known, declared.Scheme.Scheme}
 use Rattle.lists.specs.Ranges.{Below}
-use Rattle.refusals.specs.Seen.{Seen, answer, shown}
-use Rattle.refusals.specs.declared.Refusal.the-variants.{OutOfTurn}
 use Rattle.refusals.specs.declared.Verdict.the-variants.{Pass, Fail}
+use Rattle.refusals.specs.{Seen.Seen, Seen.answer, Seen.shown, declared.Refusal.the-variants.OutOfTurn}
 use Rattle.offer.specs.Offer.{offerOf, offerTests, offerMessage, offerResult}
 use Rattle.reply.specs.Reply.{ReplyRooms, ReplySeen, replyOf, replyTests, outputs, replyResult}
-use Rattle.agreement.specs.Run.{Run, offering, replyTo}
-use Rattle.agreement.specs.Exchange.{Exchange, offers, replies, finishes}
-use Rattle.agreement.proofs.Accepted.{accepted}
-use Rattle.agreement.proofs.Tests.{offer-passes, reply-passes}
-use Rattle.rows.specs.{Offer.OfferBegin, Offer.offerBeginOf, Reply.ReplyBegin, Reply.replyBeginOf}
-use Rattle.rows.specs.Runs.{OfferRun, ReplyRun}
-use Rattle.rows.proofs.Offers.{same-offer, early-offer, offer-taken}
-use Rattle.rows.proofs.Replies.{same-reply, early-reply, reply-taken}
+use Rattle.agreement.specs.{Run.Run, Run.offering, Run.replyTo, Exchange.Exchange, Exchange.offers, Exchange.replies, Exchange.finishes}
+use Rattle.agreement.proofs.{Accepted.accepted, Tests.offer-passes, Tests.reply-passes}
+use Rattle.rows.specs.{Offer.OfferBegin, Offer.offerBeginOf, Reply.ReplyBegin, Reply.replyBeginOf, Runs.OfferRun, Runs.ReplyRun}
+use Rattle.rows.proofs.{Offers.same-offer, Offers.early-offer, Offers.offer-taken, Replies.same-reply, Replies.early-reply, Replies.reply-taken}
 use Rattle.meetings.specs.Meeting.{Meeting, ByRows, Reached, EveryCut}
 use Rattle.meetings.proofs.Linked.{exchanged, agreed}
 

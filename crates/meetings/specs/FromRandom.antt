@@ -6,16 +6,14 @@
 --   finishOn t m        Finish in the first, of the reply as answer wrote it and the s that open gave, in the rooms m
 --   Drawn               the demand: where Finish refuses nothing either, and what the random bytes make is near, both boxes agree
 --   DrawnFinishes       with enough room Finish then refuses nothing
-use mathlib.Core.{Path._≡_, List.List}
-use Prim.Native.Nat.{ℕ}
-use Rattle.schemes.specs.declared.Named.the-variants.{Known}
-use Rattle.schemes.specs.declared.Scheme.{Scheme}
+use Rattle.lists.specs.Kit.{_≡_, List, ℕ}
+use Rattle.schemes.specs.{declared.Named.the-variants.Known, declared.Scheme.Scheme}
 use Rattle.lists.specs.Ranges.{Below}
-use Rattle.refusals.specs.Seen.{answer}
 use Rattle.noise.specs.declared.Ruled.{Ruled}
+use Rattle.refusals.specs.Seen.{answer}
 use Rattle.offer.specs.Offer.{offerMessage}
-use Rattle.reply.specs.Reply.{ReplyRooms, ReplySeen}
 use Rattle.finish.specs.{Finish.FinishRooms, Finish.FinishSeen, Finish.finishOf, Finish.finishResult, Shown.FinishEnough}
+use Rattle.reply.specs.Reply.{ReplyRooms, ReplySeen}
 use Rattle.agreement.specs.{Run.Run, Agreement.Near}
 use Rattle.exchange.specs.Open.{OpenLent, OpenRooms, OpenSeen, openLentOf, openOffer, openResult}
 use Rattle.exchange.specs.Answer.{AnswerLent, answerLentOf, answerReply, answerResult}

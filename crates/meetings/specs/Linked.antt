@@ -9,22 +9,17 @@
 --   SameKey          under demand 3's premise both sessions are then linkedBy c x, and so hold the same key
 --   LinkingBytes     there is a link of two buffers exactly where both are idle sessions, the rooms are enough and the inputs are sendable
 --   SameKeyBytes     under demand 3's premise both buffers are then the same 130 bytes, linkedBy c x laid out
-use mathlib.Core.{Path._≡_, List.List, Logic._↔_}
-use Prim.Native.Nat.{ℕ}
-use lib.ListN.{length}
+use Rattle.lists.specs.Kit.{_≡_, List, _↔_, ℕ, length}
 use Rattle.schemes.specs.{Schemes.schemeNumber, declared.Scheme.Scheme}
 use Rattle.refusals.specs.Seen.{Seen, answer}
-use Rattle.reply.specs.Reply.{ReplySeen}
 use Rattle.finish.specs.Finish.{FinishSeen}
-use Rattle.agreement.specs.{Run.Run, Exchange.Sendable, Exchange.Rooms, Exchange.Enough}
-use Rattle.agreement.specs.Run as inputs
-use Rattle.agreement.specs.Agreement.{Near, publishedKey}
-use Rattle.session.specs.declared.Session.{Session}
-use Rattle.session.specs.declared.Stage.the-variants.{Idle, Keyed}
-use Rattle.session.specs.Table.{Call, offering, replying, finishing, padded}
+use Rattle.reply.specs.Reply.{ReplySeen}
+use Rattle.agreement.specs.{Run.Run, Exchange.Sendable, Exchange.Rooms, Exchange.Enough, Agreement.Near, Agreement.publishedKey}
 use Rattle.session.specs.Seen.{ofOffer, ofReply, ofFinish, Turn, turn, moved}
-use Rattle.session_bytes.specs.declared.Found.the-variants.{At}
-use Rattle.session_bytes.specs.Bytes.{bytesOf, staged, movedBytes}
+use Rattle.session.specs.Table.{Call, offering, replying, finishing, padded}
+use Rattle.session.specs.{declared.Session.Session, declared.Stage.the-variants.Idle, declared.Stage.the-variants.Keyed}
+use Rattle.session_bytes.specs.{declared.Found.the-variants.At, Bytes.bytesOf, Bytes.staged, Bytes.movedBytes}
+use Rattle.agreement.specs.Run as inputs
 
 -- x has one list of public numbers, which both sessions take, and one secret s, which Offer and Finish take
 pub record LinkBy {S : Type 0} (move : S → Call → Turn S) (c : Scheme) (x : Run) (y z : S) (m : Rooms) : Type 0 where

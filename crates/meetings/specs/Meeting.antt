@@ -5,20 +5,17 @@
 --   Reached          the inputs of a meeting are sendable, and on any such there is a meeting
 --   EveryCut         on any such, in any parts that do not run past the end of their row and join into A, both boxes go by rows from begin to end and nothing is
 --                    refused; the two boxes need not cut A alike
-use mathlib.Core.{Path._≡_, Logic._↔_, Logic._⊎_, List.List, List.[]}
-use Prim.Native.Nat.{ℕ, _≤_}
-use Rattle.schemes.specs.{Schemes.familyOf, Schemes.fixedOf, declared.Family.Family}
-use Rattle.schemes.specs.{declared.Named.the-variants.Known, declared.Scheme.Scheme}
+use Rattle.lists.specs.Kit.{_≡_, _↔_, List, [], ℕ, _≤_}
+use mathlib.Core.Logic.{_⊎_}
+use Rattle.schemes.specs.{Schemes.familyOf, Schemes.fixedOf, declared.Family.Family, declared.Named.the-variants.Known, declared.Scheme.Scheme}
 use Rattle.lists.specs.Ranges.{Below}
 use Rattle.refusals.specs.Seen.{Seen, answer}
 use Rattle.offer.specs.Offer.{offerMessage, offerResult}
-use Rattle.reply.specs.Reply.{ReplyRooms, ReplySeen, replyResult}
 use Rattle.finish.specs.Finish.{FinishSeen, finishResult}
-use Rattle.agreement.specs.Run.{Run, offering, replyTo, finishWith}
-use Rattle.agreement.specs.Exchange.{Sendable, Rooms}
-use Rattle.agreement.specs.Agreement.{Near, publishedKey}
-use Rattle.rows.specs.{Offer.offerBeginOf, Reply.replyBeginOf}
+use Rattle.reply.specs.Reply.{ReplyRooms, ReplySeen, replyResult}
+use Rattle.agreement.specs.{Run.Run, Run.offering, Run.replyTo, Run.finishWith, Exchange.Sendable, Exchange.Rooms, Agreement.Near, Agreement.publishedKey}
 use Rattle.rows.specs.Runs.{joined, WithinRows, OfferRun, ReplyRun, OfferAccepted, ReplyAccepted}
+use Rattle.rows.specs.{Offer.offerBeginOf, Reply.replyBeginOf}
 
 pub record Meeting (c : Scheme) (x : Run) : Type 0 where
   pub rooms : Rooms

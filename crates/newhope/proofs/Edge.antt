@@ -1,6 +1,5 @@
 -- The margin is sharp: at 9215 the bits can differ.
-use mathlib.Core.Path.{refl}
-use native.Mathlib.Omega.{arith}
+use Rattle.lists.proofs.Kit.{refl, arith}
 use Rattle.numbers.specs.Residue.{residue, nearest, distance, apart}
 use Rattle.newhope.specs.Group.{upOf, downOf, offOf, offsOf, kOf, pOf, lessOf, lastOf, hintOf, termOf, sumOf, bitOf}
 use Rattle.newhope.specs.Agreement.{apartOf, Sharp}

@@ -5,18 +5,13 @@
 --   opposite         the terms of c and of c + 4 sum to half of the circle at least
 --   own-up, own-down   the replier's own term: at most 2 |2X - qP| + 4b where k is 0, q - 2 |2X - qP| + 4b where it is 1
 --   off-half, up-five, down-five   |2X - qP| is at most half of q; P and Q are below 5
-use mathlib.Core.Path.{_≡_, refl, _∙_, ap}
-use Prim.Native.Nat.{ℕ, _+_, _*_, _-_, _/_, _%_, _<_, _≤_}
-use native.Mathlib.Omega.{arith}
-use native.Mathlib.Decide.{decLt}
-use lib.IntN.{ℤ, pos, negℤ, _+ℤ_, _-ℤ_, _*ℤ_, -ℤ-+ℤ-cancel}
-use Rattle.numbers.specs.Residue.{residue, nearest, distance, apart}
-use Rattle.numbers.specs.Congruence.{_≅⟨_⟩_}
-use Rattle.numbers.proofs.Difference.{as-diff, diff-≡, diffs}
+use Rattle.lists.proofs.Kit.{_≡_, refl, _∙_, ap, ℕ, _+_, _*_, _-_, _/_, _%_, _<_, _≤_, arith, decLt, ℤ, pos, negℤ, _+ℤ_, _-ℤ_, _*ℤ_}
+use lib.{IntN.-ℤ-+ℤ-cancel}
+use Rattle.numbers.specs.{Residue.residue, Residue.nearest, Residue.distance, Residue.apart, Congruence._≅⟨_⟩_}
 use Rattle.numbers.proofs.Congruence.{refl-≅, eq-≅, _⨾_, add-≅, sub-≅, scale-≅, residue-≅, same-mod, multiples-≅}
 use Rattle.numbers.proofs.Nearest.{distance-≤, distance-same, distance-neg, distance-add, distance-scale}
+use Rattle.numbers.proofs.{Difference.as-diff, Difference.diff-≡, Difference.diffs, Size.abs-difference}
 use Rattle.newhope.specs.Group.{q, upOf, downOf, offOf, termOf}
-use Rattle.numbers.proofs.Size.{abs-difference}
 
 -- ---- the hint
 

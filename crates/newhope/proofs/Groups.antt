@@ -7,18 +7,13 @@
 --   hint-at, at-place    the hint at k, by its group and its place there
 --   group-at             a group read at its four places
 --   hints-next, hints-end   the loop that writes the hints, at each turn and after
-use mathlib.Core.{Path._≡_, Path.refl, Path._∙_, Path.sym, Path.ap, Path.ap₂, Path.subst, List.List}
-use mathlib.Core.Bool.{Bool, true, false, cond}
-use Prim.Native.Nat.{ℕ, zero, suc, _+_, _*_, _/_, _%_, _<_, _≤_}
-use native.Mathlib.Omega.{arith}
-use lib.{Dec.leb, ListN.length, ListN.getD, ListN.set}
+use Rattle.lists.proofs.Kit.{_≡_, refl, _∙_, sym, ap, ap₂, subst, List, Bool, true, false, cond, ℕ, zero, suc, _+_, _*_, _/_, _%_, _<_, _≤_, arith, leb, length}
+use Rattle.lists.proofs.Kit.{getD, set}
 use Rattle.lists.specs.Ranges.{Below}
 use Rattle.lists.proofs.Entries.{tab-length, tab-at, tab-ext, below-tab}
-use Rattle.newhope.specs.declared.Four.{Four}
-use Rattle.newhope.specs.Group.{q, groups, hintOf, sumOf, bitOf, groupOf, entryOf, hintsOf, keysOf, peersOf}
+use Rattle.newhope.specs.Group.{Four, q, groups, hintOf, sumOf, bitOf, groupOf, entryOf, hintsOf, keysOf, peersOf}
 use Rattle.newhope.specs.Agreement.{BelowQ, Hint, EveryGroup}
-use Rattle.newhope.proofs.{Margin.agreement, Parts.hint-small}
-use Rattle.newhope.proofs.Spread.{Spread, spread-next, spread-end}
+use Rattle.newhope.proofs.{Margin.agreement, Parts.hint-small, Spread.Spread, Spread.spread-next, Spread.spread-end}
 
 -- ---- ranges
 

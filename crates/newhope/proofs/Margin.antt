@@ -2,17 +2,13 @@
 --   margin       8 times the distance and the replier's own 2q + 16 within 8q: the bit is 0 exactly where p3 is 2 or 3
 --   agreement    so both ends compute the same bit
 --   published    which is the published one
-use mathlib.Core.Path.{_≡_, refl, _∙_, sym, ap}
-use mathlib.Core.Bool.{Bool, true, false, cond}
-use Prim.Native.Nat.{ℕ, zero, suc, _+_, _*_, _-_, _/_, _%_, _<_, _≤_}
-use native.Mathlib.Omega.{arith}
-use lib.{Dec.ltb, IntN.pos, IntN._-ℤ_, IntN.+ℤ-invr}
-use borrow.Author.Tests.{ltb-true, ltb-false, le-leb, lt-leb}
+use Rattle.lists.proofs.Kit.{_≡_, refl, _∙_, sym, ap, Bool, true, false, cond, ℕ, zero, suc, _+_, _*_, _-_, _/_, _%_, _<_, _≤_, arith, ltb, pos, _-ℤ_, ltb-true}
+use Rattle.lists.proofs.Kit.{ltb-false, le-leb, lt-leb}
+use lib.IntN.{+ℤ-invr}
 use Rattle.numbers.specs.Residue.{residue, apart}
-use Rattle.newhope.specs.declared.Four.{Four}
-use Rattle.newhope.specs.Group.{q, upOf, downOf, offsOf, kOf, pOf, lessOf, lastOf, hintOf, termOf, sumOf, bitOf}
-use Rattle.newhope.specs.Agreement.{apartOf, Agreement, Published}
 use Rattle.numbers.proofs.Circle.{apart-self}
+use Rattle.newhope.specs.Group.{Four, q, upOf, downOf, offsOf, kOf, pOf, lessOf, lastOf, hintOf, termOf, sumOf, bitOf}
+use Rattle.newhope.specs.Agreement.{apartOf, Agreement, Published}
 use Rattle.newhope.proofs.Entry.{term-same, named, moved, opposite, own-up, own-down, up-five, down-five}
 
 module _ (b : ℕ) (v : Four) where

@@ -2,14 +2,11 @@
 --   hint-small   its entries are below 4
 --   hint-is      the parts, as the code computes them one after the other, are together the hint
 --   ranged       what equals the hint has its range
-use mathlib.Core.{Path._≡_, Path._∙_, Path.sym, Path.ap, Path.ap₂, Path.subst, Bool.cond}
-use Prim.Native.Nat.{ℕ, _+_, _*_, _%_, _<_}
-use native.Mathlib.Omega.{arith}
-use lib.{Dec.ltb, IntN.pos, IntN._-ℤ_}
+use Rattle.lists.proofs.Kit.{_≡_, _∙_, sym, ap, ap₂, subst, cond, ℕ, _+_, _*_, _%_, _<_, arith, ltb, pos, _-ℤ_}
 use Rattle.numbers.specs.Residue.{residue}
 use Rattle.numbers.proofs.Congruence.{residue-lt}
-use Rattle.newhope.specs.{declared.Four.Four, Agreement.Hint}
-use Rattle.newhope.specs.Group.{q, upOf, downOf, offsOf, kOf, pOf, lessOf, lastOf, hintOf}
+use Rattle.newhope.specs.Group.{Four, q, upOf, downOf, offsOf, kOf, pOf, lessOf, lastOf, hintOf}
+use Rattle.newhope.specs.Agreement.{Hint}
 
 pub hint-small : (b : ℕ) (v : Four) → Hint (hintOf b v)
 unfolding hintOf lessOf lastOf

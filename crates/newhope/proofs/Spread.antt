@@ -1,10 +1,7 @@
 -- A loop over 256 groups that writes at each turn the four places of a group: i, i + 256, i + 512 and i + 768.
 --   Spread f out i   what holds when i groups are written: f k at each of their places k
 --   spread-start, spread-next, spread-end   before, at each turn, and after
-use mathlib.Core.{Path._≡_, Path._∙_, Path.sym, Path.ap, List.List}
-use Prim.Native.Nat.{ℕ, _+_, _%_, _<_, _≤_}
-use native.Mathlib.Omega.{arith}
-use lib.ListN.{length, getD, set, length-set}
+use Rattle.lists.proofs.Kit.{_≡_, _∙_, sym, ap, List, ℕ, _+_, _%_, _<_, _≤_, arith, length, getD, set, length-set}
 use Rattle.lists.specs.Entries.{tab}
 use Rattle.lists.proofs.Entries.{tab-ext, tab-getD, entry-set}
 

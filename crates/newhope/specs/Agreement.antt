@@ -7,12 +7,10 @@
 --   Published    and the replier's is the published one
 --   Sharp        one more, and the bits can differ
 --   EveryGroup   both ends have the same bits where the margin holds in each of the 256 groups
-use mathlib.Core.{Path._≡_, List.List, Logic._↔_}
-use Prim.Native.Nat.{ℕ, _+_, _≤_, _<_}
-use Rattle.lists.specs.Ranges.{Below}
+use Rattle.lists.specs.Kit.{_≡_, List, _↔_, ℕ, _+_, _≤_, _<_}
 use Rattle.numbers.specs.Residue.{apart}
-use Rattle.newhope.specs.declared.Four.{Four}
-use Rattle.newhope.specs.Group.{q, groups, pOf, hintOf, bitOf, groupOf, hintsOf, keysOf, peersOf}
+use Rattle.lists.specs.Ranges.{Below}
+use Rattle.newhope.specs.Group.{Four, q, groups, pOf, hintOf, bitOf, groupOf, hintsOf, keysOf, peersOf}
 
 pub record BelowQ (v : Four) : Type 0 where
   pub s0 : v .e0 < q

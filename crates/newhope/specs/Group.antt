@@ -8,13 +8,11 @@
 --   bitOf h x              1 (near) if the four sum to at most 8q, else 0 (far): both ends' bit
 --   groupOf xs i           group i of a list of 1,024 numbers
 --   hintsOf, keysOf, peersOf   over all 256 groups: hint j of group i stands at i + 256 j
-use mathlib.Core.{Bool.cond, List.List}
-use Prim.Native.Nat.{ℕ, zero, suc, _+_, _*_, _/_, _%_}
-use lib.{Dec.ltb, Dec.leb, IntN.pos, IntN.natAbs, IntN._-ℤ_, ListN.getD}
-use Rattle.schemes.specs.{Schemes.fixedOf, declared.Scheme.the-variants.NewHope}
+use Rattle.lists.specs.Kit.{cond, List, ℕ, zero, suc, _+_, _*_, _/_, _%_, ltb, leb, pos, natAbs, _-ℤ_, getD}
 use Rattle.numbers.specs.Residue.{residue, apart}
+use Rattle.schemes.specs.{Schemes.fixedOf, declared.Scheme.the-variants.NewHope}
 use Rattle.lists.specs.Entries.{tab}
-use Rattle.newhope.specs.declared.Four.{Four}
+pub use Rattle.newhope.specs.declared.Four.{Four}
 
 abbrev pub q : ℕ
 q = fixedOf NewHope .q

@@ -3,14 +3,7 @@
 --   stored-more   some at the front, and then those behind them
 --   stored-tab    all of them
 --   wide-fits, wide   a number of 16 bits in 32
-use mathlib.Core.{Path._≡_, Path._∙_, Path.sym, Path.ap, List.List}
-use Prim.Native.Nat.{ℕ, _+_, _-_, _<_, _≤_}
-use native.Mathlib.Omega.{arith}
-use native.Mathlib.Decide.{decLt}
-use lib.{IntN.ℤ, ListN.length, ListN.getD}
-use mir.Facts.{toZ-ofZ, sfits-widen}
-use mir.Syntax.{w16, w32}
-use mir.Val.{SFits, toZ, ofZ}
+use Rattle.lists.proofs.Kit.{_≡_, _∙_, sym, ap, List, ℕ, _+_, _-_, _<_, _≤_, arith, decLt, ℤ, length, getD, toZ-ofZ, sfits-widen, w16, w32, SFits, toZ, ofZ}
 use Rattle.lists.specs.{Entries.tab, Ranges.Stored}
 use Rattle.lists.proofs.{Entries.tab-getD, Entries.tab-ext, Stored.front-at}
 

@@ -1,8 +1,6 @@
 -- What the code's own steps promise to each other.
 --   Trimmed r bs k    the first k words of the stream hold all that are taken, and the last of them is one
-use mathlib.Core.{Path._≡_, Bool.true, List.List}
-use Prim.Native.Nat.{ℕ, _+_, _/_, _≤_}
-use lib.ListN.{length, take}
+use Rattle.lists.specs.Kit.{_≡_, true, List, ℕ, _+_, _/_, _≤_, length, take}
 use Rattle.noise.specs.{Noise.wordAt, Expand.words, Expand.Rule, Expand.taken}
 
 pub record Trimmed (r : Rule) (bs : List ℕ) (k : ℕ) : Type 0 where

@@ -4,15 +4,11 @@
 --   away-none       it is 0 where x has the mark
 --   Arc             x stands in a stretch lo .. hi - 1 of numbers without the mark, and both neighbours of the stretch have it
 --   away-arc        then it is the way to the nearer end
-use mathlib.Core.{Path._≡_, Bool.Bool, Bool.true}
+use mathlib.{Core.Path._≡_, Core.Bool.Bool, Core.Bool.true}
 use Prim.Native.Nat.{ℕ, _+_, _-_, _≤_, _<_, min}
-use native.Mathlib.Decide.{decLt, decLe, ℕ-discrete}
-use native.Mathlib.Nat.{le-refl, le-trans}
-use native.Mathlib.Omega.{arith}
-use Rattle.numbers.specs.{Residue.apart, Least.nearestTo, Least.gapTo}
-use Rattle.numbers.specs.Congruence.{Close, direct, over, under}
-use Rattle.numbers.proofs.Circle.{apart-close, close-apart, apart-self}
-use Rattle.numbers.proofs.Least.{Least, least-below}
+use native.{Mathlib.Decide.decLt, Mathlib.Decide.decLe, Mathlib.Decide.ℕ-discrete, Mathlib.Nat.le-refl, Mathlib.Nat.le-trans, Mathlib.Omega.arith}
+use Rattle.numbers.specs.{Residue.apart, Least.nearestTo, Least.gapTo, Congruence.Close, Congruence.direct, Congruence.over, Congruence.under}
+use Rattle.numbers.proofs.{Circle.apart-close, Circle.close-apart, Circle.apart-self, Least.Least, Least.least-below}
 
 module _ (m : ℕ) (p : ℕ → Bool) (x : ℕ) where
   pub nearest-least : Least (λ z. apart m z x) p m (nearestTo m p x)

@@ -3,11 +3,9 @@
 --   halves-rest       its remainder is that of x
 --   once-le, twice-le   how large it is, and that of it
 --   taken-le, folded  twice, and 2^32 - 1 itself turned into 0: the remainder
-use mathlib.Core.Path.{_≡_, refl, _∙_, sym, ap}
-use mathlib.Core.Bool.{Bool, true, false}
+use mathlib.{Core.Path._≡_, Core.Path.refl, Core.Path._∙_, Core.Path.sym, Core.Path.ap, Core.Bool.Bool, Core.Bool.true, Core.Bool.false}
 use Prim.Native.Nat.{ℕ, _+_, _*_, _-_, _/_, _%_, _^_, _≤_, _<_}
-use native.Mathlib.Omega.{arith}
-use native.Mathlib.Nat.{div-add-mod, add-mul-mod-self-left, mod-eq-of-lt}
+use native.{Mathlib.Omega.arith, Mathlib.Nat.div-add-mod, Mathlib.Nat.add-mul-mod-self-left, Mathlib.Nat.mod-eq-of-lt}
 use lib.Dec.{leb}
 use mir.Val.{boolByte}
 use borrow.Author.Tests.{leb-true, leb-false}

@@ -1,14 +1,11 @@
 -- The search of `specs/Least.antt` finds a least number among those with the mark.
 --   Least f p n z   z is at most n and has the mark where it is below n; where a number below n has the mark, z is below n, and f is no less there than at z
 --   least-below     `leastBelow f p n` is such a z
-use mathlib.Core.{Path._≡_, Path.refl, Bool.Bool, Bool.true, Bool.false}
+use mathlib.{Core.Path._≡_, Core.Path.refl, Core.Bool.Bool, Core.Bool.true, Core.Bool.false}
 use Prim.Native.Nat.{ℕ, zero, suc, _≤_, _<_}
-use native.Mathlib.Nat.{not-suc-le-zero}
-use native.Mathlib.Numerals.{add-one}
-use native.Mathlib.Omega.{arith}
+use native.{Mathlib.Nat.not-suc-le-zero, Mathlib.Numerals.add-one, Mathlib.Omega.arith}
 use lib.Dec.{eqb, ltb}
-use borrow.Author.Count.{below-more}
-use borrow.Author.Tests.{ltb-true, ltb-false, eqb-true, eqb-false}
+use borrow.{Author.Count.below-more, Author.Tests.ltb-true, Author.Tests.ltb-false, Author.Tests.eqb-true, Author.Tests.eqb-false}
 use Rattle.numbers.specs.Least.{choose, leastBelow}
 
 pub record Least (f : ℕ → ℕ) (p : ℕ → Bool) (n z : ℕ) : Type 0 where

@@ -4,15 +4,12 @@
 --   sum-rest             it has the remainder of x
 use mathlib.Core.Path.{_≡_, refl, _∙_, sym, ap, subst}
 use Prim.Native.Nat.{ℕ, suc, _+_, _*_, _-_, _/_, _%_, _^_, _≤_, _<_}
-use native.Mathlib.Omega.{arith}
-use native.Mathlib.Nat.{mod-lt}
+use native.{Mathlib.Omega.arith, Mathlib.Nat.mod-lt}
 use lib.{Dec.T, IntN.ℤ, IntN.pos, IntN.negsuc, IntN.natAbs, IntN._+ℤ_, Signed.nonNeg}
-use mir.Syntax.{w64}
-use mir.Val.{Fits, SFits, toZ, ofZ}
-use mir.Facts.{toZ-ofZ}
+use mir.{Syntax.w64, Val.Fits, Val.SFits, Val.toZ, Val.ofZ, Facts.toZ-ofZ}
 use Rattle.numbers.specs.{Residue.residue, Congruence._≅⟨_⟩_}
-use Rattle.numbers.proofs.{Difference.diff-ge, Difference.negsuc-add, Machine.pos-cast}
 use Rattle.numbers.proofs.Congruence.{eq-≅, _⨾_, mod-≅, residue-is}
+use Rattle.numbers.proofs.{Difference.diff-ge, Difference.negsuc-add, Machine.pos-cast}
 
 abbrev above : ℕ
 above = 1073741824 * 4294967295

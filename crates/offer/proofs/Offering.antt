@@ -4,23 +4,18 @@
 --   offer-failed, offer-last-decides   its verdict by the test that decides
 --   opening-long     an opening is as long as the scheme says
 --   offer-unknown    its tests where the number names no scheme
-use mathlib.Core.Path.{_≡_, sym, ap, _∙_}
-use Prim.Native.Nat.{ℕ, _≤_}
-use native.Mathlib.Omega.{arith}
-use lib.ListN.{length}
-use Rattle.schemes.specs.{Schemes.fixedOf, declared.Named.Named, declared.Scheme.Scheme}
-use Rattle.schemes.specs.declared.Named.the-variants.{Known, Unknown}
+use Rattle.lists.proofs.Kit.{_≡_, sym, ap, _∙_, ℕ, _≤_, arith, length}
+use Rattle.schemes.specs.{Schemes.fixedOf, declared.Named.Named, declared.Scheme.Scheme, declared.Named.the-variants.Known, declared.Named.the-variants.Unknown}
 use Rattle.schemes.proofs.Sound.{sound}
 use Rattle.refusals.specs.Refusals.{_then_, publicsIn, notBlank, secretsIn}
-use Rattle.refusals.specs.{declared.Verdict.Verdict, declared.Refusal.Refusal}
 use Rattle.refusals.specs.declared.Verdict.the-variants.{Pass, Fail}
-use Rattle.refusals.specs.declared.Refusal.the-variants.{NoScheme}
+use Rattle.refusals.specs.{declared.Verdict.Verdict, declared.Refusal.Refusal, declared.Refusal.the-variants.NoScheme}
 use Rattle.refusals.proofs.Laws.{both, all-pass, length-passed, room-passed, publics-passed, secrets-passed, then-assoc, failed, before-failed, before-passed}
 use Rattle.values.specs.Fit.{Counted, Small}
 use Rattle.values.proofs.Ranges.{offered-counted}
 use Rattle.wire.proofs.Travel.{opening-length, numbers-long}
-use Rattle.offer.specs.Offer.{Offer, offeredPart, offerTests, offerMessage}
 use Rattle.offer.specs.Inside.{offerLengths, offerSizes, offerIn, offerAhead, Opens}
+use Rattle.offer.specs.Offer.{Offer, offeredPart, offerTests, offerMessage}
 
 -- the inputs of which all tests have passed
 pub record Ranges (c : Scheme) (x : Offer) : Type 0 where

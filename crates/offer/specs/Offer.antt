@@ -5,17 +5,12 @@
 --   offerMessage c x    the opening message: the seed and b's part
 --   offerResult c x n   its promise: what is seen, as a function of what is lent, in the scheme c with room for n bytes
 --   offer, offerOf      what is lent, from the slices of a contract, and from lists
-use mathlib.Core.List.{List, []}
-use Prim.Native.Nat.{ℕ}
-use lib.{IntN.ℤ, ListN.length}
-use Rattle.schemes.specs.{Schemes.fixedOf, declared.Scheme.Scheme, declared.Named.Named}
-use Rattle.schemes.specs.declared.Named.the-variants.{Known, Unknown}
+use Rattle.lists.specs.Kit.{List, [], ℕ, ℤ, length}
+use Rattle.schemes.specs.{Schemes.fixedOf, declared.Scheme.Scheme, declared.Named.Named, declared.Named.the-variants.Known, declared.Named.the-variants.Unknown}
 use Rattle.lists.specs.Lent.{Lent, was}
 use Rattle.packing.specs.Packing.{packed}
 use Rattle.refusals.specs.Refusals.{_then_, lengthIs, roomFor, publicsIn, notBlank, secretsIn}
-use Rattle.refusals.specs.{Seen.Seen, Seen.shown, declared.Verdict.Verdict}
-use Rattle.refusals.specs.declared.Verdict.the-variants.{Fail}
-use Rattle.refusals.specs.declared.Refusal.the-variants.{NoScheme}
+use Rattle.refusals.specs.{Seen.Seen, Seen.shown, declared.Verdict.Verdict, declared.Verdict.the-variants.Fail, declared.Refusal.the-variants.NoScheme}
 use Rattle.values.specs.Values.{offered}
 use Rattle.wire.specs.Wire.{opening}
 

@@ -7,17 +7,11 @@
 --   take-in, emit         it holds after k digits are taken in, and after k are written; where it starts, `resume` of Groups says
 --   fits, room            what is held fits the accumulator; what is held and written has room
 --   all-in, all-out       once all is taken in, the digits of what is held complete `out`; once all is written, it is complete
-use mathlib.Core.Path.{_≡_, sym, ap, _∙_}
-use mathlib.Core.List.{List, _++_, append-assoc, append-nil}
-use Prim.Native.Nat.{ℕ, _+_, _*_, _-_, _/_, _%_, _^_, _≤_, _<_}
-use native.Mathlib.Nat.{add-mul-div-left, lt-of-lt-of-le, mul-le-mul-left, one-le-pow}
-use native.Mathlib.Numerals.{add-one}
-use native.Mathlib.Omega.{arith}
-use mir.Syntax.{w64}
-use mir.Val.{Fits}
-use lib.ListN.{length, take, drop, set, length-append, length-drop, drop-of-length-le}
-use lib.Seq.{append-snoc, drop-drop, length-take-le, set-split, take-all, take-at}
-use lib.{Pow.pow-add, Pow.pow-mono, Pow.pow-pos, Pow.shl-exact, Pow.shr-lt, Arith.digits-lt}
+use Rattle.lists.proofs.Kit.{_≡_, sym, ap, _∙_, List, _++_, append-assoc, append-nil, ℕ, _+_, _*_, _-_, _/_, _%_, _^_, _≤_, _<_, add-mul-div-left}
+use Rattle.lists.proofs.Kit.{lt-of-lt-of-le, mul-le-mul-left, one-le-pow, add-one, arith, w64, Fits, length, take, drop, set, length-append, length-drop}
+use Rattle.lists.proofs.Kit.{drop-of-length-le, drop-drop, length-take-le, set-split, take-all, take-at, pow-add, pow-mono, pow-pos, shl-exact, shr-lt}
+use Rattle.lists.proofs.Kit.{digits-lt}
+use lib.Seq.{append-snoc}
 use Rattle.numbers.proofs.Natural.{power-power}
 use Rattle.packing.specs.Packing.{value, digits}
 use Rattle.packing.proofs.Laws.{value-split, digits-append, digits-length, digits-low}

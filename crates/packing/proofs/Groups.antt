@@ -15,22 +15,18 @@
 --   words-on      a number of 32 bits more is packed
 --   fewer         of the first n digits, the first m
 --   resume        `Flow` with nothing held, where the first j digits are there
-use mathlib.Core.Path.{_≡_, sym, ap, _∙_}
-use mathlib.Core.List.{List, _++_, append-assoc, append-nil}
-use Prim.Native.Nat.{ℕ, suc, _+_, _*_, _-_, _/_, _%_, _^_, _≤_, _<_}
-use native.Mathlib.Nat.{add-assoc, add-mul-mod-self-left, lt-of-lt-of-le, mod-lt, mul-assoc, mul-comm, mul-le-mul, mul-mod-left, mul-zero, add-zero, one-mul, zero-add}
-use native.Mathlib.Omega.{arith}
-use lib.ListN.{length, getD, take, drop, set, length-append, take-append-drop}
-use lib.Seq.{drop-at, drop-drop, length-take-le, take-at, take-take}
-use lib.Pow.{field, mod-pow-add, pow-add, pow-mono, pow-pos, shl-exact, shl-shr, shr-shr, split}
-use lib.Pow as Pow
-use lib.Arith.{digits-lt}
+use Rattle.lists.proofs.Kit.{_≡_, sym, ap, _∙_, List, _++_, append-assoc, append-nil, ℕ, suc, _+_, _*_, _-_, _/_, _%_, _^_, _≤_, _<_, add-assoc}
+use Rattle.lists.proofs.Kit.{add-mul-mod-self-left, lt-of-lt-of-le, mod-lt, mul-assoc, mul-comm, mul-le-mul, mul-mod-left, mul-zero, add-zero, one-mul}
+use Rattle.lists.proofs.Kit.{zero-add, arith, length, getD, take, drop, set, length-append, take-append-drop, drop-at, drop-drop, length-take-le, take-at}
+use Rattle.lists.proofs.Kit.{take-take, field, mod-pow-add, pow-add, pow-mono, pow-pos, shl-exact, shl-shr, shr-shr, digits-lt}
+use lib.Pow.{split}
 use Rattle.numbers.proofs.Natural.{power-power}
 use Rattle.lists.specs.Ranges.{Below}
 use Rattle.lists.proofs.Parts.{below-drop}
 use Rattle.packing.specs.Packing.{value, digits}
 use Rattle.packing.proofs.Laws.{value-split, value-parts, value-next, value-one, value-take-below, value-drop, digits-append, digits-length, digits-low}
 use Rattle.packing.proofs.Flow.{Flow, one, written, written-length}
+use lib.Pow as Pow
 
 pub based : (w : ℕ) → w ≤ 32 → 1 * 2 ^ w % 2 ^ 64 ≡ 2 ^ w
 based w h = shl-exact 1 w 64 (omega arith) (omega arith) ∙ one-mul (2 ^ w)

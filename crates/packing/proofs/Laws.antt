@@ -19,14 +19,12 @@
 --   unpacked-below    each of w bits
 --   no-bits           numbers of no bits are zeros
 --   unpack-pack, pack-unpack   packing and unpacking undo each other
-use mathlib.Core.Path.{_≡_, refl, sym, ap, _∙_}
-use mathlib.Core.List.{List, [], _∷_, _++_}
-use Prim.Native.Nat.{ℕ, zero, suc, _+_, _*_, _/_, _^_, _≤_, _<_}
-use native.Mathlib.Nat.{mod-lt, div-add-mod', div-lt-iff-lt-mul, div-div-eq-div-mul, add-mul-div-left, add-mul-mod-self-left, one-le-pow, pow-zero, pow-suc, pow-succ', mul-assoc, add-assoc, add-zero, zero-add, suc-add, div-one, mod-one}
-use native.Mathlib.Omega.{arith}
-use lib.{ListN.length, ListN.getD, ListN.take, ListN.drop, ListN.replicate, Pow.pow-pos}
-use lib.Seq.{getD-drop, drop-drop, take-all, take-nil}
-use lib.Arith.{digits-div, digits-mod, digits-lt, lt-one}
+use Rattle.lists.proofs.Kit.{_≡_, refl, sym, ap, _∙_, List, [], _∷_, _++_, ℕ, zero, suc, _+_, _*_, _/_, _^_, _≤_, _<_, mod-lt, div-add-mod', div-lt-iff-lt-mul}
+use Rattle.lists.proofs.Kit.{div-div-eq-div-mul, add-mul-div-left, add-mul-mod-self-left, one-le-pow, pow-suc, pow-succ', mul-assoc, add-assoc, add-zero}
+use Rattle.lists.proofs.Kit.{zero-add, suc-add, div-one, arith, length, getD, take, drop, replicate, pow-pos, getD-drop, drop-drop, take-all, take-nil}
+use Rattle.lists.proofs.Kit.{digits-div, digits-mod, digits-lt}
+use native.Mathlib.Nat.{pow-zero, mod-one}
+use lib.Arith.{lt-one}
 use Rattle.numbers.proofs.Natural.{power-power}
 use Rattle.lists.specs.Ranges.{Below}
 use Rattle.lists.proofs.Parts.{below-tail}

@@ -4,24 +4,18 @@
 --   columns-row, columns-met   of S' only the columns that they meet
 --   right-put, right-back   Offer: the 8 r sums of these rows are exchanged, and no other; as they lie, two in each number
 --   left-is         Reply: of all rows of A it is these that meet something
-use mathlib.Core.{Path._≡_, Path._∙_, Path.sym, Path.ap, Path.ap₂, List.List, List._++_}
-use Prim.Native.Nat.{ℕ, _+_, _*_, _-_, _/_, _%_, _<_, _≤_}
-use native.Mathlib.Omega.{arith}
-use native.Mathlib.Nat.{mul-le-mul-right, mod-eq-of-lt, mod-lt, mul-add-div-right, mul-add-mod-self-right, div-lt-iff-lt-mul, le-div-iff-mul-le}
-use lib.ListN.{length, getD, take, drop}
+use Rattle.lists.proofs.Kit.{_≡_, _∙_, sym, ap, ap₂, List, _++_, ℕ, _+_, _*_, _-_, _/_, _%_, _<_, _≤_, arith, mul-le-mul-right, mod-eq-of-lt, mod-lt}
+use Rattle.lists.proofs.Kit.{div-lt-iff-lt-mul, le-div-iff-mul-le, length, getD, take, drop, digits-lt, digits-div, digits-mod}
+use native.Mathlib.Nat.{mul-add-div-right, mul-add-mod-self-right}
 use Rattle.numbers.specs.Sum.{sumℕ}
 use Rattle.numbers.proofs.Sums.{natural, sum-ext, sum-none, sum-split}
 use Rattle.lists.specs.{Entries.tab, Ranges.Below}
-use Rattle.lists.proofs.Entries.{tab-ext, tab-at, tab-getD, below-tab}
-use lib.Arith.{digits-lt, digits-div, digits-mod}
-use Rattle.lists.proofs.Parts.{part-long, part-at, slice-long, slice-at}
-use Rattle.matrix.specs.Steps.{partTerm, columnsFrom}
-use Rattle.matrix.specs.Words.{gained, rightTerm, leftTerm}
+use Rattle.lists.proofs.{Entries.tab-ext, Entries.tab-at, Entries.tab-getD, Entries.below-tab, Parts.part-long, Parts.part-at, Parts.slice-long, Parts.slice-at}
+use Rattle.matrix.specs.{Steps.partTerm, Steps.columnsFrom, Words.gained, Words.rightTerm, Words.leftTerm}
 use Rattle.matrix.proofs.Steps.{gained-length, gained-at}
 use Rattle.parts.specs.Parts.{wrap, words, pairs, placed}
-use Rattle.parts.proofs.Joining.{placed-before, placed-in, placed-after}
-use Rattle.parts.proofs.Put.{put-tab}
 use Rattle.parts.proofs.Words.{words-long, words-append, words-take, words-drop, words-below, slice-words-long, slice-words-at, pairs-words, words-pairs}
+use Rattle.parts.proofs.{Joining.placed-before, Joining.placed-in, Joining.placed-after, Put.put-tab}
 
 -- ---- sums
 

@@ -4,22 +4,15 @@
 --   right-linear, left-linear   the products of Offer and of Reply add up where the matrices do
 --   both-gained          the sums of y, then those of z, are those of x = y + z
 --   joined, so-far, nothing, whole-right, whole-left   what is shown
-use mathlib.Core.Path.{_≡_, refl, _∙_, sym, ap}
-use mathlib.Core.List.{List, [], _∷_, _++_, append-assoc, append-nil}
-use Prim.Native.Nat.{ℕ, zero, suc, _+_, _*_, _/_, _%_, _<_, _≤_}
-use native.Mathlib.Omega.{arith}
-use native.Mathlib.Nat.{mod-eq-of-lt}
-use lib.ListN.{length, getD, replicate, length-replicate, length-append, List·getD-eq-default}
-use lib.Seq.{getD-append-add}
+use Rattle.lists.proofs.Kit.{_≡_, refl, _∙_, sym, ap, List, [], _∷_, _++_, append-assoc, append-nil, ℕ, zero, suc, _+_, _*_, _/_, _%_, _<_, _≤_, arith}
+use Rattle.lists.proofs.Kit.{mod-eq-of-lt, length, getD, replicate, length-replicate, length-append, List·getD-eq-default, getD-append-add}
 use Rattle.numbers.specs.Sum.{sumℕ}
 use Rattle.numbers.proofs.Sums.{natural, sum-ext, sum-add, sum-none}
 use Rattle.lists.specs.Entries.{tab}
 use Rattle.lists.proofs.{Entries.tab-ext, Entries.tab-getD, Same.equal-all}
 use Rattle.matrix.specs.Words.{gained, rightTerm, leftTerm}
-use Rattle.matrix.proofs.Steps.{gained-length, gained-at, wrapped}
-use Rattle.matrix.proofs.Whole.{right-any, left-any}
-use Rattle.parts.specs.Parts.{placed}
-use Rattle.parts.specs.Joining.{Linear, Joined, SoFar, Nothing, WholeRight, WholeLeft}
+use Rattle.matrix.proofs.{Steps.gained-length, Steps.gained-at, Steps.wrapped, Whole.right-any, Whole.left-any}
+use Rattle.parts.specs.{Parts.placed, Joining.Linear, Joining.Joined, Joining.SoFar, Joining.Nothing, Joining.WholeRight, Joining.WholeLeft}
 
 -- ---- entries
 

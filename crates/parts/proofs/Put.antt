@@ -1,11 +1,7 @@
 -- m entries of a list from entry a on, exchanged.
 --   put-tab   the list is then a table, where what stands before, in and behind them is its entries
-use mathlib.Core.{Path._≡_, Path._∙_, Path.sym, Path.ap, List.List, List._++_}
-use Prim.Native.Nat.{ℕ, _+_, _-_, _<_, _≤_}
-use native.Mathlib.Omega.{arith}
-use native.Mathlib.Decide.{decLt}
-use lib.ListN.{length, getD, take, drop, length-take, length-drop, length-append, List·getD-append}
-use lib.Seq.{ext-getD, getD-take, getD-drop, getD-append-add, length-take-le}
+use Rattle.lists.proofs.Kit.{_≡_, _∙_, sym, ap, List, _++_, ℕ, _+_, _-_, _<_, _≤_, arith, decLt, length, getD, take, drop, length-take, length-drop}
+use Rattle.lists.proofs.Kit.{length-append, List·getD-append, ext-getD, getD-take, getD-drop, getD-append-add, length-take-le}
 use Rattle.lists.specs.Entries.{tab}
 use Rattle.lists.proofs.Entries.{tab-at, tab-length}
 

@@ -7,15 +7,10 @@
 --   pairs-long, pairs-words, words-pairs   there and back
 --   set-lower, set-upper   a number with one of its words exchanged
 --   put-whole          words in the middle that start and end on whole numbers
-use mathlib.Core.Path.{_≡_, refl, _∙_, sym, ap, ap₂}
-use mathlib.Core.List.{List, [], _∷_, _++_}
-use Prim.Native.Nat.{ℕ, zero, suc, _+_, _*_, _-_, _/_, _%_, _<_, _≤_}
-use native.Mathlib.Omega.{arith}
-use native.Mathlib.Nat.{mod-lt}
-use lib.{ListN.length, ListN.getD, ListN.set, ListN.take, ListN.drop, Seq.ext-getD, Seq.drop-drop}
+use Rattle.lists.proofs.Kit.{_≡_, refl, _∙_, sym, ap, ap₂, List, [], _∷_, _++_, ℕ, zero, suc, _+_, _*_, _-_, _/_, _%_, _<_, _≤_, arith, mod-lt, length, getD}
+use Rattle.lists.proofs.Kit.{set, take, drop, ext-getD, drop-drop}
 use Rattle.lists.specs.{Entries.tab, Ranges.Below}
-use Rattle.lists.proofs.Entries.{tab-at, tab-length, tab-ext, tab-getD}
-use Rattle.lists.proofs.{Parts.slice-long, Parts.part-at, Same.append-all}
+use Rattle.lists.proofs.{Entries.tab-at, Entries.tab-length, Entries.tab-ext, Entries.tab-getD, Parts.slice-long, Parts.part-at, Same.append-all}
 use Rattle.parts.specs.Parts.{wrap, words, pairs}
 
 pub words-long : (xs : List ℕ) → length (words xs) ≡ 2 * length xs

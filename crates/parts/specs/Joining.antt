@@ -4,12 +4,9 @@
 --   SoFar        the sums of the numbers xs that have come, then the part p behind them, are those of xs ++ p
 --   Nothing      an empty part changes nothing
 --   WholeRight, WholeLeft   once all of A has come, the remainders of the sums are AS + E, and S'A + E'
-use mathlib.Core.{Path._≡_, List.List, List.[], List._++_}
-use Prim.Native.Nat.{ℕ, _+_, _*_, _%_, _<_}
-use lib.{ListN.length, ListN.getD, IntN.ℤ}
+use Rattle.lists.specs.Kit.{_≡_, List, [], _++_, ℕ, _+_, _*_, _%_, _<_, length, getD, ℤ}
 use Rattle.lists.specs.Ranges.{Below}
-use Rattle.matrix.specs.Matrix.{rightMixed, leftMixed}
-use Rattle.matrix.specs.Words.{wordsOf, columnsOf, gained, reduced, rightTerm, leftTerm}
+use Rattle.matrix.specs.{Matrix.rightMixed, Matrix.leftMixed, Words.wordsOf, Words.columnsOf, Words.gained, Words.reduced, Words.rightTerm, Words.leftTerm}
 use Rattle.parts.specs.Parts.{placed}
 
 pub record Linear (T : List ℕ → ℕ → ℕ → ℕ) : Type 0 where

@@ -4,9 +4,7 @@
 --   words xs      the words of numbers: of each the lower one, and then the upper one
 --   pairs ws      words, two in each number
 --   placed at p   the matrix that holds the numbers p from entry `at` on, and zeros elsewhere: a list reads 0 past its end
-use mathlib.Core.List.{List, [], _∷_, _++_}
-use Prim.Native.Nat.{ℕ, _+_, _*_, _/_, _%_}
-use lib.ListN.{length, getD, replicate}
+use Rattle.lists.specs.Kit.{List, [], _∷_, _++_, ℕ, _+_, _*_, _/_, _%_, length, getD, replicate}
 use Rattle.lists.specs.Entries.{tab}
 
 abbrev pub wrap : ℕ

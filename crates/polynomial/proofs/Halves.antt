@@ -4,21 +4,12 @@
 --   halves-≅                   65536 upper + lower is the number modulo q
 --   minus-is                   x - y modulo q, with q added once where y is above x
 --   less-fits, narrow-fits, narrow   a half in the machine: from 16 unsigned bits by way of an i32 to an i16
-use mathlib.Core.Bool.{Bool, true, false}
-use mathlib.Core.Path.{_≡_, refl, _∙_, sym, ap, ap₂, subst}
-use Prim.Native.Nat.{ℕ, _+_, _*_, _-_, _/_, _%_, _^_, _≤_, _<_}
-use native.Mathlib.Omega.{arith}
-use lib.{Dec.ltb, IntN.ℤ, IntN.pos, IntN.natAbs, IntN._+ℤ_, IntN._-ℤ_, IntN._*ℤ_}
-use native.Mathlib.Decide.{decLt}
-use native.Mathlib.Nat.{div-add-mod}
-use borrow.Author.Tests.{ltb-true, ltb-false, lt-ltb, le-ltb}
-use mir.Syntax.{w16, w32}
-use mir.Val.{SFits, toZ, ofZ, boolByte}
-use mir.Facts.{toZ-ofZ, sfits-widen}
+use Rattle.lists.proofs.Kit.{Bool, true, false, _≡_, refl, _∙_, sym, ap, ap₂, subst, ℕ, _+_, _*_, _-_, _/_, _%_, _^_, _≤_, _<_, arith, ltb, ℤ, pos, natAbs}
+use Rattle.lists.proofs.Kit.{_+ℤ_, _-ℤ_, _*ℤ_, decLt, div-add-mod, ltb-true, ltb-false, lt-ltb, le-ltb, w16, w32, SFits, toZ, ofZ, boolByte, toZ-ofZ}
+use Rattle.lists.proofs.Kit.{sfits-widen}
 use Rattle.numbers.specs.{Residue.residue, Congruence._≅⟨_⟩_}
 use Rattle.numbers.proofs.Difference.{diff, pos-diff, pos-sub, diff-≡, diff-ge, diff-lt, diffs, diff-add}
-use Rattle.numbers.proofs.{Size.abs-difference, Machine.toZ-pos}
-use Rattle.numbers.proofs.Congruence.{eq-≅, _⨾_, sym-≅, residue-is}
+use Rattle.numbers.proofs.{Size.abs-difference, Machine.toZ-pos, Congruence.eq-≅, Congruence._⨾_, Congruence.sym-≅, Congruence.residue-is}
 use Rattle.polynomial.specs.Window.{lift, upper, lower}
 
 pub upper-small : (y : ℕ) → y < 2 ^ 32 → natAbs (upper y) ≤ 32768

@@ -8,19 +8,11 @@
 --   times-*, both-*          65536 times one sum, and another
 --   noise-*                  a sum and the noise
 --   plus-*                   two numbers of one type
-use mathlib.Core.{Path._≡_, Path.refl, Path.sym, Path.ap, Path.ap₂, Path._∙_, Path.subst, List.List}
-use Prim.Native.Nat.{ℕ, _+_, _*_, _^_, _≤_, _<_}
-use native.Mathlib.Omega.{arith}
-use native.Mathlib.Nat.{mul-le-mul, le-refl}
-use lib.{ListN.getD, ListN.length, IntN.ℤ, IntN.pos, IntN.natAbs, IntN._+ℤ_, IntN._*ℤ_, IntN.+ℤ-idl}
-use lib.Signed.{natAbs-le}
-use mir.Syntax.{Width, w16, w32, w64}
-use mir.Val.{SFits, toZ, ofZ, hbits}
-use mir.Facts.{toZ-ofZ, sfits-widen}
+use Rattle.lists.proofs.Kit.{_≡_, refl, sym, ap, ap₂, _∙_, subst, List, ℕ, _+_, _*_, _^_, _≤_, _<_, arith, mul-le-mul, le-refl, getD, length, ℤ, pos, natAbs}
+use Rattle.lists.proofs.Kit.{_+ℤ_, _*ℤ_, +ℤ-idl, natAbs-le, Width, w16, w32, w64, SFits, toZ, ofZ, hbits, toZ-ofZ, sfits-widen}
 use Rattle.numbers.specs.Sum.{sum}
 use Rattle.numbers.proofs.Size.{abs-add, abs-mul, abs-mul-≤, abs-sum}
-use Rattle.numbers.proofs.Sums.{whole, sum-ext, sum-split}
-use Rattle.numbers.proofs.Machine.{fits-abs, widened, wide}
+use Rattle.numbers.proofs.{Sums.whole, Sums.sum-ext, Sums.sum-split, Machine.fits-abs, Machine.widened, Machine.wide}
 use Rattle.lists.specs.Entries.{ints}
 use Rattle.polynomial.specs.Window.{dot, span, Pair}
 

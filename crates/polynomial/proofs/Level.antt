@@ -11,31 +11,21 @@
 --   low-*, high-*, middle-* what these three are lent, and what they make
 --   few-size                where there are many secrets, none is large
 --   ready-at, made-at       by another count
-use mathlib.Core.{Path._≡_, Path.refl, Path._∙_, Path.sym, Path.ap, Path.ap₂, Path.subst, List.List}
-use Prim.Native.Nat.{ℕ, _+_, _-_, _*_, _^_, _<_, _≤_}
-use native.Mathlib.Omega.{arith}
-use native.Mathlib.Decide.{decLt}
-use native.Mathlib.Nat.{mul-le-mul, le-refl}
-use lib.ListN.{length, getD, set, take, drop, length-set}
-use lib.Seq.{getD-take, getD-drop, getD-set-same, getD-set-other}
-use mir.Syntax.{Width}
-use mir.Val.{SFits, toZ, ofZ, hbits}
-use lib.IntN.{ℤ, pos, natAbs, _+ℤ_, _-ℤ_, _*ℤ_}
+use Rattle.lists.proofs.Kit.{_≡_, refl, _∙_, sym, ap, ap₂, subst, List, ℕ, _+_, _-_, _*_, _^_, _<_, _≤_, arith, decLt, mul-le-mul, le-refl, length, getD, set}
+use Rattle.lists.proofs.Kit.{take, drop, length-set, getD-take, getD-drop, getD-set-same, getD-set-other, Width, SFits, toZ, ofZ, hbits, ℤ, pos, natAbs, _+ℤ_}
+use Rattle.lists.proofs.Kit.{_-ℤ_, _*ℤ_}
 use borrow.Author.Count.{below-more}
 use Rattle.numbers.specs.{Residue.residue, Congruence._≅⟨_⟩_}
 use Rattle.numbers.proofs.Congruence.{eq-≅, _⨾_, add-≅, residue-lt, residue-≅}
-use Rattle.numbers.proofs.Difference.{as-diff, diff-≡, diffs}
-use Rattle.numbers.proofs.Size.{abs-add, abs-mul, abs-mul-≤, abs-sum}
 use Rattle.numbers.proofs.Sums.{whole, sum-ext, sum-add, sum-mul-right}
+use Rattle.numbers.proofs.{Difference.as-diff, Difference.diff-≡, Difference.diffs, Size.abs-add, Size.abs-mul, Size.abs-mul-≤, Size.abs-sum}
 use Rattle.lists.specs.{Entries.nums, Entries.ints, Ranges.Stored}
-use Rattle.lists.proofs.Parts.{slice-long, slice-at, front-long, part}
+use Rattle.lists.proofs.{Parts.slice-long, Parts.slice-at, Parts.front-long, Parts.part, Stored.store-next, Stored.not-yet, Stored.front-at}
 use Rattle.polynomial.specs.Window.{lift, upper, lower, dot, span, slide, Pair}
 use Rattle.polynomial.specs.Steps.{Few, Ready, Prepared, Halved, Made, Joined}
-use Rattle.polynomial.proofs.Halves.{upper-small, lower-small, lift-lt, halves-≅}
 use Rattle.polynomial.proofs.Three.{slide-≅, three-low, three-high, few-low, few-high, few-middle, few-ext}
-use Rattle.polynomial.proofs.Kernel.{plus-fits, plus-read}
-use Rattle.lists.proofs.Stored.{store-next, not-yet, front-at}
-use Rattle.polynomial.proofs.Stores.{ints-is, part-entry, take-within}
+use Rattle.polynomial.proofs.Halves.{upper-small, lower-small, lift-lt, halves-≅}
+use Rattle.polynomial.proofs.{Kernel.plus-fits, Kernel.plus-read, Stores.ints-is, Stores.part-entry, Stores.take-within}
 
 -- (x s) c + y s = (x c + y) s
 regroup : (x y s c : ℤ) → (x *ℤ s) *ℤ c +ℤ y *ℤ s ≡ (x *ℤ c +ℤ y) *ℤ s

@@ -3,14 +3,9 @@
 --   rest-long, part-entry    the part from entry a on: how long, and which entries
 --   put-long, put-below, put-inside   what was lent from entry a on is put back
 --   take-within              the first m entries, where each of them is small
-use mathlib.Core.{Path._≡_, Path.refl, Path._∙_, Path.sym, Path.ap, List.List}
-use Prim.Native.Nat.{ℕ, _+_, _-_, _<_, _≤_}
-use native.Mathlib.Omega.{arith}
-use native.Mathlib.Decide.{decLt}
-use lib.ListN.{length, getD, take, drop, length-take, length-drop, List·getD-append, List·getD-eq-default}
-use lib.Seq.{getD-take, getD-drop, getD-append-add, length-take-le}
-use lib.IntN.{ℤ, pos, natAbs}
-use borrow.Rule.Slice.PartMut.{putMid, same-len-mid}
+use Rattle.lists.proofs.Kit.{_≡_, refl, _∙_, sym, ap, List, ℕ, _+_, _-_, _<_, _≤_, arith, decLt, length, getD, take, drop, length-take, length-drop}
+use Rattle.lists.proofs.Kit.{List·getD-append, List·getD-eq-default, getD-take, getD-drop, getD-append-add, length-take-le, ℤ, pos, natAbs, putMid}
+use Rattle.lists.proofs.Kit.{same-len-mid}
 use Rattle.lists.specs.{Entries.ints, Ranges.Within}
 use Rattle.lists.proofs.Parts.{to-end}
 

@@ -2,14 +2,10 @@
 --   slide-≅                 the sums of numbers that are congruent, and of the same secrets
 --   three-low, three-high   the middle window times both halves of the secrets added, and a difference of two windows times one half
 --   few-low, few-high, few-middle, few-ext   the sizes keep their bound: half as many products of secrets twice as large
-use mathlib.Core.Path.{_≡_, _∙_, sym, ap, ap₂}
-use Prim.Native.Nat.{ℕ, _+_, _<_}
-use native.Mathlib.Omega.{arith}
-use lib.IntN.{ℤ, _+ℤ_, _-ℤ_, _*ℤ_, +ℤ-comm}
+use Rattle.lists.proofs.Kit.{_≡_, _∙_, sym, ap, ap₂, ℕ, _+_, _<_, arith, ℤ, _+ℤ_, _-ℤ_, _*ℤ_, +ℤ-comm}
 use Rattle.numbers.specs.Congruence.{_≅⟨_⟩_}
-use Rattle.numbers.proofs.{Congruence.mul-≅, Congruence.sum-≅, Congruence.eq-≅, Size.abs-add}
 use Rattle.numbers.proofs.Difference.{as-diff, diff-≡, diffs}
-use Rattle.numbers.proofs.Sums.{whole, sum-ext, sum-add, sum-split}
+use Rattle.numbers.proofs.{Congruence.mul-≅, Congruence.sum-≅, Congruence.eq-≅, Size.abs-add, Sums.whole, Sums.sum-ext, Sums.sum-add, Sums.sum-split}
 use Rattle.polynomial.specs.{Window.dot, Window.slide, Steps.Few}
 
 pub slide-≅ :

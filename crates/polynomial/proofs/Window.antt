@@ -4,24 +4,16 @@
 --   all-ready          with the secret, backwards, it is what the sums ask
 --   mixed-made         and these sums, reduced with the noise, are as + e
 --   mixed-bare         and us, where the noise is 0
-use mathlib.Core.{Path._≡_, Path._∙_, Path.sym, Path.ap, Path.subst, List.List}
-use Prim.Native.Nat.{ℕ, suc, _+_, _-_, _<_, _≤_}
-use native.Mathlib.Omega.{arith}
-use native.Mathlib.Decide.{decLe, decLt}
-use borrow.Author.Tests.{lt-ltb, le-ltb}
-use lib.ListN.{length, getD}
-use lib.IntN.{ℤ, pos, negℤ, natAbs, _+ℤ_, _*ℤ_, *ℤ-comm, +ℤ-idr}
+use Rattle.lists.proofs.Kit.{_≡_, _∙_, sym, ap, subst, List, ℕ, suc, _+_, _-_, _<_, _≤_, arith, decLe, decLt, lt-ltb, le-ltb, length, getD, ℤ, pos, negℤ}
+use Rattle.lists.proofs.Kit.{natAbs, _+ℤ_, _*ℤ_, *ℤ-comm, +ℤ-idr}
 use Rattle.numbers.specs.{Residue.residue, Congruence._≅⟨_⟩_}
-use Rattle.numbers.proofs.{Sums.whole, Sums.sum-ext, Sums.sum-reverse, Size.abs-zero}
 use Rattle.numbers.proofs.Congruence.{eq-≅, refl-≅, _⨾_, add-≅, same-residue, residue-lt, residue-≅}
-use Rattle.lists.specs.Entries.{tab, nums, ints}
-use Rattle.lists.specs.Ranges.{Below, Within, Stored}
+use Rattle.numbers.proofs.{Sums.whole, Sums.sum-ext, Sums.sum-reverse, Size.abs-zero}
+use Rattle.lists.specs.{Entries.tab, Entries.nums, Entries.ints, Ranges.Below, Ranges.Within, Ranges.Stored}
 use Rattle.lists.proofs.{Entries.tab-ext, Stored.front-at}
 use Rattle.polynomial.specs.Product.{turn, product, mixed, bare}
-use Rattle.polynomial.specs.{Fit.Fit, Window.both, Window.dot, Window.slide}
-use Rattle.polynomial.specs.Steps.{Ready, Made, Windowed}
-use Rattle.polynomial.proofs.{Turn.turn-in, Turn.turn-over, Laws.product-comm, Three.slide-≅}
-use Rattle.polynomial.proofs.Stores.{ints-is}
+use Rattle.polynomial.specs.{Fit.Fit, Window.both, Window.dot, Window.slide, Steps.Ready, Steps.Made, Steps.Windowed}
+use Rattle.polynomial.proofs.{Turn.turn-in, Turn.turn-over, Laws.product-comm, Three.slide-≅, Stores.ints-is}
 
 -- [-a | a]
 both-low : (n : ℕ) (a : ℕ → ℤ) (i : ℕ) → i < n → both n a i ≡ negℤ (a i)

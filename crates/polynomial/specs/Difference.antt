@@ -2,9 +2,7 @@
 --   difference n s e s' e' e'' k   entry k of d = s'e + e'' - e's, before any remainder (demand 3)
 --   Identity   the replier's v less the initiator's w is d modulo q, whatever n and q
 --   Largest    BCNS: with secrets and noise from -51 to 51, d is at most 5,326,899 in size
-use mathlib.Core.List.{List}
-use Prim.Native.Nat.{ℕ, _<_, _≤_}
-use lib.IntN.{ℤ, natAbs, _+ℤ_, _-ℤ_}
+use Rattle.lists.specs.Kit.{List, ℕ, _<_, _≤_, ℤ, natAbs, _+ℤ_, _-ℤ_}
 use Rattle.numbers.specs.Congruence.{_≅⟨_⟩_}
 use Rattle.lists.specs.{Entries.nums, Entries.ints, Ranges.Within}
 use Rattle.polynomial.specs.Product.{product, mixed, bare}

@@ -7,9 +7,7 @@
 --   Made q n w s o         o has the n sums of the window w and the secrets s, modulo q, and they fit
 --   Joined m o o′          the sums of the whole from those of its three products: both halves, and what is added to either
 --   Windowed q n a d       [-a | a] without its first entry
-use mathlib.Core.{Path._≡_, List.List}
-use Prim.Native.Nat.{ℕ, _+_, _*_, _^_, _<_, _≤_}
-use lib.{ListN.length, ListN.getD, IntN.ℤ, IntN.natAbs, IntN._+ℤ_}
+use Rattle.lists.specs.Kit.{_≡_, List, ℕ, _+_, _*_, _^_, _<_, _≤_, length, getD, ℤ, natAbs, _+ℤ_}
 use Rattle.numbers.specs.Congruence.{_≅⟨_⟩_}
 use Rattle.lists.specs.Entries.{nums, ints}
 use Rattle.polynomial.specs.Window.{both, lift, upper, lower, slide}

@@ -5,22 +5,16 @@
 --   ends, called    so as the code lends them
 --   close-stopped, closed   Close
 --   clear-not, clear-done   Clear; laid-empty   the numbers into zeros
-use mathlib.Core.{Path._≡_, Path._∙_, Path.sym, Path.ap, Path.ap₂, Bool.true, Bool.false}
-use mathlib.Core.List.{List, _∷_, _++_}
-use Prim.Native.Nat.{ℕ, _+_, _-_, _*_, _≤_, _<_}
-use native.Mathlib.Omega.{arith}
-use native.Mathlib.Numerals.{add-one}
-use lib.ListN.{length, set, take, drop, replicate}
-use borrow.Author.Tests.{eq-eqb, ne-eqb}
-use Rattle.refusals.specs.{Seen.done, declared.Refusal.Refusal, declared.Verdict.Verdict}
+use Rattle.lists.proofs.Kit.{_≡_, _∙_, sym, ap, ap₂, true, false, List, _∷_, _++_, ℕ, _+_, _-_, _*_, _≤_, _<_, arith, add-one, length, set, take, drop}
+use Rattle.lists.proofs.Kit.{replicate, eq-eqb, ne-eqb}
 use Rattle.refusals.specs.declared.Verdict.the-variants.{Pass, Fail}
-use Rattle.session.specs.Table.{Call, closing}
-use Rattle.session.specs.Seen.{CallSeen, ofClose, toldBy, shownBy, turn}
+use Rattle.refusals.specs.{Seen.done, declared.Refusal.Refusal, declared.Verdict.Verdict}
+use Rattle.session.specs.{Table.Call, Table.closing, Seen.CallSeen, Seen.ofClose, Seen.toldBy, Seen.shownBy, Seen.turn}
 use Rattle.session_bytes.specs.Bytes.{closes, movedBytes}
-use Rattle.session_bytes.proofs.Bytes as sessions
 use Rattle.rack.specs.Slots.{inside, withSlot, rackIs, slotTests, Owned, inRack, movedIn, emptyFrom, emptyRack, cleared}
 use Rattle.rack.specs.Shown.{Threads}
 use Rattle.rack.proofs.Parts.{number-at, behind, around, wiped-slot, slot-rack, slot-number, slot-takes, part-long, inside-long}
+use Rattle.session_bytes.proofs.Bytes as sessions
 
 module _ (bs : List ℕ) (i : ℕ) (x : Call) where
   pub stopped : {v : Verdict} {q : Refusal} {t : CallSeen} → v ≡ slotTests bs i (closes x) → v ≡ Fail q → t ≡ shownBy (Fail q) x

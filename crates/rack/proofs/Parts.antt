@@ -5,28 +5,20 @@
 --   moved-long                              a call keeps the length of a session's bytes
 --   part-long, inside-long, front-long, slot-long   how long the parts are
 --   part-placed, part-other                 a slot that was written, and another
-use mathlib.Core.Path.{_≡_, refl, _∙_, sym, ap}
-use mathlib.Core.Bool.{Bool, true, false, cond}
-use mathlib.Core.List.{List, [], _∷_, _++_}
-use Prim.Native.Nat.{ℕ, zero, suc, _+_, _-_, _*_, _≤_, _<_}
-use native.Mathlib.Omega.{arith}
-use native.Mathlib.Decide.{decLt}
-use lib.ListN.{length, getD, set, take, drop, replicate, length-replicate, length-drop, length-append, take-append-drop}
-use lib.Seq.{take-append-le, drop-append-le, drop-drop, length-take-le, drop-at, take-at}
-use borrow.Author.Tests.{eqb-true, ltb-true, eq-eqb, ne-eqb, lt-ltb, le-ltb}
-use Rattle.lists.proofs.Parts as parts
-use Rattle.refusals.specs.{Refusals._then_, declared.Refusal.Refusal}
+use Rattle.lists.proofs.Kit.{_≡_, refl, _∙_, sym, ap, Bool, true, false, cond, List, [], _∷_, _++_, ℕ, zero, suc, _+_, _-_, _*_, _≤_, _<_, arith, decLt, length}
+use Rattle.lists.proofs.Kit.{getD, set, take, drop, replicate, length-replicate, length-drop, length-append, take-append-drop, take-append-le, drop-append-le}
+use Rattle.lists.proofs.Kit.{drop-drop, length-take-le, drop-at, take-at, eqb-true, ltb-true, eq-eqb, ne-eqb, lt-ltb, le-ltb}
 use Rattle.refusals.specs.declared.Refusal.the-variants.{OutOfStage, NoStudio}
-use Rattle.refusals.specs.declared.Verdict.the-variants.{Pass, Fail}
+use Rattle.refusals.specs.{Refusals._then_, declared.Refusal.Refusal, declared.Verdict.the-variants.Pass, declared.Verdict.the-variants.Fail}
 use Rattle.refusals.proofs.Laws.{differ, both}
 use Rattle.session.specs.{Table.Call, Table.step, Seen.CallSeen, Seen.turn, Seen.moved}
 use Rattle.session.proofs.Sequences.{step-sound}
-use Rattle.session_bytes.specs.declared.Found.{Found}
-use Rattle.session_bytes.specs.declared.Found.the-variants.{At, Nowhere}
 use Rattle.session_bytes.specs.Bytes.{bytesOf, staged, sessionIn, closes, movedAt, movedBytes}
-use Rattle.session_bytes.proofs.Stages as stages
+use Rattle.session_bytes.specs.{declared.Found.Found, declared.Found.the-variants.At, declared.Found.the-variants.Nowhere}
 use Rattle.session_bytes.proofs.Bytes.{taken-back, laid-back}
 use Rattle.rack.specs.Slots.{part, inside, withSlot, rackIs, slotTests, Owned}
+use Rattle.lists.proofs.Parts as parts
+use Rattle.session_bytes.proofs.Stages as stages
 
 -- ---- one slot, at its place
 

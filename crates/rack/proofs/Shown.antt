@@ -1,21 +1,16 @@
 -- The theorems of specs/Shown.
 --   turned, numbered, slotwise, untouched, blind, wiped, alone, run-rack, emptied; threads is in Calls
-use mathlib.Core.Path.{_≡_, refl, _∙_, sym, ap, subst}
-use mathlib.Core.{Bool.Bool, Bool.true, Bool.false, Bool.cond, List.List, List.[], List._∷_}
-use Prim.Native.Nat.{ℕ, zero, suc, _<_}
-use native.Mathlib.Omega.{arith}
-use lib.{Dec.eqb, ListN.length, ListN.getD, ListN.drop, ListN.replicate}
-use borrow.Author.Tests.{eqb-true, eqb-false}
-use Rattle.refusals.specs.{Seen.ifPassed, Seen.done, declared.Verdict.Verdict}
-use Rattle.refusals.specs.declared.Verdict.the-variants.{Pass, Fail}
-use Rattle.session.specs.{Table.Call, Table.closing, Table.noKey, Sequences.RanBy}
-use Rattle.session.specs.Table as table
-use Rattle.session.specs.Seen.{CallSeen, ofClose, shownBy, Turn, turn}
+use Rattle.lists.proofs.Kit.{_≡_, refl, _∙_, sym, ap, subst, Bool, true, false, cond, List, [], _∷_, ℕ, zero, suc, _<_, arith, eqb, length, getD, drop}
+use Rattle.lists.proofs.Kit.{replicate, eqb-true, eqb-false}
+use Rattle.refusals.specs.{Seen.ifPassed, Seen.done, declared.Verdict.Verdict, declared.Verdict.the-variants.Pass, declared.Verdict.the-variants.Fail}
+use Rattle.session.specs.{Table.Call, Table.closing, Table.noKey, Sequences.RanBy, Seen.CallSeen, Seen.ofClose, Seen.shownBy, Seen.Turn, Seen.turn}
 use Rattle.session_bytes.specs.{Bytes.bytesOf, Bytes.closes, Bytes.movedBytes, Shown.RanBytes}
-use Rattle.session_bytes.proofs.Bytes as sessions
-use Rattle.rack.specs.Slots.{part, inside, rackIs, slotTests, Owned, movedBy, movedIn, emptyFrom, emptyRack}
 use Rattle.rack.specs.Shown.{own, views, Turned, Numbered, Slotwise, Untouched, Blind, Wiped, Alone, RunRack, Emptied}
-use Rattle.rack.proofs.Parts.{slot-none, slot-closes, slot-own, slot-rack, slot-number, slot-takes, part-long, inside-long, slot-long, part-placed, part-other, placed-long}
+use Rattle.rack.specs.Slots.{part, inside, rackIs, slotTests, Owned, movedBy, movedIn, emptyFrom, emptyRack}
+use Rattle.rack.proofs.Parts.{slot-none, slot-closes, slot-own, slot-rack, slot-number, slot-takes, part-long, inside-long, slot-long, part-placed}
+use Rattle.rack.proofs.Parts.{part-other, placed-long}
+use Rattle.session.specs.Table as table
+use Rattle.session_bytes.proofs.Bytes as sessions
 
 pub turned : Turned
 unfolding movedIn

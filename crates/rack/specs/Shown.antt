@@ -14,17 +14,13 @@
 --   Alone           over any sequence: the bytes of studio j's slot and all that it sees are those of its own 130 bytes under its own calls, the only ones
 --   RunRack         over any sequence: a record that held a session holds the run of request a's table under the studio's own calls
 --   Emptied         clear leaves eight idle sessions behind their numbers
-use mathlib.Core.{Path._≡_, Bool.cond, List.List, List.[], List._∷_}
-use Prim.Native.Nat.{ℕ, _≤_, _<_}
-use lib.{Dec.eqb, ListN.length, ListN.replicate}
-use Rattle.refusals.specs.{Seen.done, declared.Refusal.the-variants.NoStudio}
-use Rattle.refusals.specs.declared.Verdict.the-variants.{Fail}
-use Rattle.session.specs.{declared.Session.Session, Table.Call, Table.closing, Table.run}
-use Rattle.session.specs.Table as table
+use Rattle.lists.specs.Kit.{_≡_, cond, List, [], _∷_, ℕ, _≤_, _<_, eqb, length, replicate}
+use Rattle.refusals.specs.{Seen.done, declared.Refusal.the-variants.NoStudio, declared.Verdict.the-variants.Fail}
 use Rattle.session.specs.Seen.{CallSeen, ofClose, shownBy, turn}
-use Rattle.session.specs.Sequences.{RanBy, Ran, Sound}
+use Rattle.session.specs.{declared.Session.Session, Table.Call, Table.closing, Table.run, Sequences.RanBy, Sequences.Ran, Sequences.Sound}
 use Rattle.session_bytes.specs.{Bytes.bytesOf, Bytes.movedBytes, Shown.RanBytes}
 use Rattle.rack.specs.Slots.{part, inside, Owned, inRack, movedIn, emptyRack}
+use Rattle.session.specs.Table as table
 
 pub record Asked : Type 0 where
   pub by : ℕ

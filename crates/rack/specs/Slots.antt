@@ -9,14 +9,10 @@
 --   movedIn bs i x     the promise of every call of a studio: its slot's tests, and then what the call on the session's bytes leads to and shows
 --   emptyRack          eight idle records with their numbers
 --   ClearSeen, cleared bs   what is seen of clear, and its promise
-use mathlib.Core.{Path._≡_, Bool.Bool, Bool.true, Bool.false, Bool.cond}
-use mathlib.Core.List.{List, [], _∷_, _++_}
-use Prim.Native.Nat.{ℕ, zero, suc, _*_}
-use lib.{Dec.eqb, Dec.ltb, ListN.length, ListN.getD, ListN.take, ListN.drop, ListN.replicate}
-use Rattle.refusals.specs.{Refusals.numberIn, Refusals.placeIn, Refusals._then_, Seen.ifPassed}
+use Rattle.lists.specs.Kit.{_≡_, Bool, true, false, cond, List, [], _∷_, _++_, ℕ, zero, suc, _*_, eqb, ltb, length, getD, take, drop, replicate}
 use Rattle.refusals.specs.declared.Refusal.the-variants.{OutOfStage, NoStudio}
-use Rattle.refusals.specs.declared.Verdict.{Verdict}
 use Rattle.refusals.specs.declared.Verdict.the-variants.{Pass, Fail}
+use Rattle.refusals.specs.{Refusals.numberIn, Refusals.placeIn, Refusals._then_, Seen.ifPassed, declared.Verdict.Verdict}
 use Rattle.session.specs.{Table.Call, Seen.shownBy, Seen.Turn, Seen.turn}
 use Rattle.session_bytes.specs.Bytes.{closes, movedBytes}
 

@@ -14,21 +14,17 @@
 --   then-assoc, failed, went-on   a sequence in two parts: the first fails, or the second decides
 --   before-pass, before-fail      a test that is made only where the later one fails
 --   before-failed, before-passed  a sequence in which the middle is left for last: where it fails, and where it passes
-use mathlib.Core.{Path._≡_, Path.refl, Path.sym, Path.ap₂, Path._∙_, List.List}
-use mathlib.Core.Bool.{Bool, true, false, cond}
-use Prim.Native.Nat.{ℕ, _-_, _*_, _^_, _≤_, _<_}
-use native.Mathlib.Omega.{arith}
-use lib.{Dec.leb, Dec.ltb, ListN.length, IntN.ℤ, IntN.pos, IntN.natAbs}
-use borrow.Author.Tests.{eqb-true, leb-true, ltb-false, lt-ltb, le-ltb, le-leb, lt-leb, eq-eqb}
+use Rattle.lists.proofs.Kit.{_≡_, refl, sym, ap₂, _∙_, List, Bool, true, false, cond, ℕ, _-_, _*_, _^_, _≤_, _<_, arith, leb, ltb, length, ℤ, pos, natAbs}
+use Rattle.lists.proofs.Kit.{eqb-true, leb-true, ltb-false, lt-ltb, le-ltb, le-leb, lt-leb, eq-eqb}
 use Rattle.lists.specs.{Ranges.Below, Ranges.Within, First.firstOver, First.firstBeyond}
 use Rattle.lists.proofs.First.{all-below, all-within, none-found}
 use Rattle.packing.specs.Packing.{packed}
 use Rattle.blank.specs.Blank.{blank}
 use Rattle.blank.proofs.Laws.{blank-packed}
 use Rattle.refusals.specs.Refusals.{numberOf, numberIn, _then_, lengthIs, lengthUpTo, roomFor, inTurn, tableIn, publicsIn, messageIn, notBlank, secretsIn}
-use Rattle.refusals.specs.{Steps._before_, declared.Refusal.Refusal, declared.Verdict.Verdict}
-use Rattle.refusals.specs.declared.Refusal.the-variants.{NoScheme, BadLength, Short, PublicOver, MessageOver, SecretBeyond, RanOut, Misfit, OutOfStage, OutOfTurn, NoRule, NewerFormat, NoStudio, Blank, NotAscending}
-use Rattle.refusals.specs.declared.Verdict.the-variants.{Pass, Fail}
+use Rattle.refusals.specs.Refusals.{Refusal, Verdict, NoScheme, BadLength, Short, PublicOver, MessageOver, SecretBeyond, RanOut, Misfit, OutOfStage}
+use Rattle.refusals.specs.Refusals.{OutOfTurn, NoRule, NewerFormat, NoStudio, Blank, NotAscending, Pass, Fail}
+use Rattle.refusals.specs.Steps.{_before_}
 
 pub differ : {X : Type 0} {r : Refusal} → Fail r ≡ Pass → X
 differ e = let z : _≡_ {A = ℕ} 0 1 = cc in absurd (omega arith)

@@ -1,14 +1,10 @@
 -- What holds of the number of a chain of tests, if it holds of each test's: which refusals cannot arise.
 --   and, passes                           a test and those after it; a test that passes
 --   lengths, rooms, publics, secrets, blanks   each kind of test
-use mathlib.Core.{Path._≡_, Path.refl, Bool.Bool, Bool.true, Bool.false, Bool.cond, List.List}
-use Prim.Native.Nat.{ℕ}
-use lib.{Dec.eqb, Dec.leb, Dec.ltb, IntN.ℤ, ListN.length}
+use Rattle.lists.proofs.Kit.{_≡_, refl, Bool, true, false, cond, List, ℕ, eqb, leb, ltb, ℤ, length}
 use Rattle.lists.specs.First.{firstOver, firstBeyond}
 use Rattle.blank.specs.Blank.{blank}
-use Rattle.refusals.specs.Refusals.{_then_, lengthIs, roomFor, publicsIn, notBlank, secretsIn, numberIn}
-use Rattle.refusals.specs.declared.Verdict.{Verdict}
-use Rattle.refusals.specs.declared.Verdict.the-variants.{Pass, Fail}
+use Rattle.refusals.specs.Refusals.{_then_, lengthIs, roomFor, publicsIn, notBlank, secretsIn, numberIn, Verdict, Pass, Fail}
 
 module _ (P : ℕ → Type 0) where
   pub and : (v w : Verdict) → P (numberIn v) → (v ≡ Pass → P (numberIn w)) → P (numberIn (v then w))

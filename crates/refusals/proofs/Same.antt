@@ -1,13 +1,8 @@
 -- A refusal and a verdict back from their number and their place.
 --   same-refusal, same-verdict   two refusals with the same number and place are the same; so are two verdicts
-use mathlib.Core.{Path._≡_, Path.refl, Path.ap, Bool.cond}
-use Prim.Native.Nat.{ℕ}
-use native.Mathlib.Omega.{arith}
-use lib.Dec.{eqb}
-use Rattle.refusals.specs.Refusals.{numberOf, placeOf, numberIn, placeIn}
-use Rattle.refusals.specs.{declared.Refusal.Refusal, declared.Verdict.Verdict}
-use Rattle.refusals.specs.declared.Refusal.the-variants.{NoScheme, BadLength, Short, PublicOver, MessageOver, SecretBeyond, RanOut, Misfit, OutOfStage, OutOfTurn, NoRule, NewerFormat, NoStudio, Blank, NotAscending}
-use Rattle.refusals.specs.declared.Verdict.the-variants.{Pass, Fail}
+use Rattle.lists.proofs.Kit.{_≡_, refl, ap, cond, ℕ, arith, eqb}
+use Rattle.refusals.specs.Refusals.{numberOf, placeOf, numberIn, placeIn, Refusal, Verdict, NoScheme, BadLength, Short, PublicOver, MessageOver}
+use Rattle.refusals.specs.Refusals.{SecretBeyond, RanOut, Misfit, OutOfStage, OutOfTurn, NoRule, NewerFormat, NoStudio, Blank, NotAscending, Pass, Fail}
 use Rattle.refusals.proofs.Laws.{some}
 
 refusalBy : ℕ → ℕ → Refusal

@@ -8,19 +8,11 @@
 --   seen-done, seen-refused           what is seen without a refusal says that the tests have passed; what is seen of a refusal, that the output is zero
 --   same-counts, same-refused, never-both   what an answer's numbers say: of two without a refusal, of two refusals, and of one of each
 --   one, seen-all, told-all           what follows
-use mathlib.Core.Path.{_≡_, refl, sym, _∙_, ap}
-use mathlib.Core.List.{List, _++_, append-nil}
-use Prim.Native.Nat.{ℕ, zero, suc, _-_, _≤_}
-use native.Mathlib.Nat.{sub-zero, zero-sub, suc-sub-suc}
-use native.Mathlib.Omega.{arith}
-use lib.ListN.{length, take, drop, replicate, getD, length-replicate, length-append}
-use lib.Seq.{take-append-seam}
+use Rattle.lists.proofs.Kit.{_≡_, refl, sym, _∙_, ap, List, _++_, append-nil, ℕ, zero, suc, _-_, _≤_, sub-zero, zero-sub, suc-sub-suc, arith, length, take}
+use Rattle.lists.proofs.Kit.{drop, replicate, getD, length-replicate, length-append, take-append-seam}
 use Rattle.lists.proofs.Same.{restored, append-all, equal-all}
-use Rattle.refusals.specs.{Refusals.numberOf, declared.Refusal.Refusal}
-use Rattle.refusals.specs.Seen.{output, written, answer, Told, done, refused, Seen, shown, seen, One, SeenAll, ToldAll}
-use Rattle.refusals.specs.declared.Answer.the-variants.{Done, Refused}
-use Rattle.refusals.specs.declared.Verdict.{Verdict}
-use Rattle.refusals.specs.declared.Verdict.the-variants.{Pass, Fail}
+use Rattle.refusals.specs.Seen.{output, written, answer, Told, done, refused, Seen, shown, seen, One, SeenAll, ToldAll, Done, Refused}
+use Rattle.refusals.specs.Refusals.{numberOf, Refusal, Verdict, Pass, Fail}
 use Rattle.refusals.proofs.{Laws.some, Laws.number-zero, Same.same-refusal}
 
 drop-zeros : {A : Type 0} (z : A) (m n : ℕ) → drop m (replicate n z) ≡ replicate (n - m) z

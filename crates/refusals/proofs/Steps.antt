@@ -4,17 +4,10 @@
 --   kept                             a part that a step has left as it was, where it refused
 --   laid-on, put-kept                what a step has left of the part that it is lent: where it refused nothing; and where tests fail, whatever is made ahead of them
 --   outcome-slack, outcome-refused   what a step hands on, by its verdict; passed-by, failed-by: and back
-use mathlib.Core.{Path._≡_, Path.refl, Path._∙_, Path.ap, List.List, List._++_}
-use Prim.Native.Nat.{ℕ, _≤_}
-use native.Mathlib.Omega.{arith}
-use lib.ListN.{length, take, drop, replicate, length-append, take-append-drop}
-use lib.Seq.{take-at}
+use Rattle.lists.proofs.Kit.{_≡_, refl, _∙_, ap, List, _++_, ℕ, _≤_, arith, length, take, drop, replicate, length-append, take-append-drop, take-at}
 use Rattle.lists.specs.declared.Peak.{Peak}
 use Rattle.lists.proofs.Same.{take-same}
-use Rattle.refusals.specs.{Refusals._then_, Seen.ifPassed, Steps.outcome}
-use Rattle.refusals.specs.{declared.Outcome.Outcome, declared.Refusal.Refusal}
-use Rattle.refusals.specs.declared.Verdict.{Verdict}
-use Rattle.refusals.specs.declared.Verdict.the-variants.{Pass, Fail}
+use Rattle.refusals.specs.{Refusals._then_, Refusals.Refusal, Refusals.Verdict, Refusals.Pass, Refusals.Fail, Seen.ifPassed, Steps.outcome, Steps.Outcome}
 
 pub blank-front : {A : Type 0} (n : ℕ) (z : A) (l : List A) → n ≤ length l → l ≡ replicate (length l) z → take n l ≡ replicate n z
 blank-front n z l h e = ap (take n) e ∙ take-same n (length l) z h

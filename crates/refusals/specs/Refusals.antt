@@ -12,14 +12,12 @@
 --   notBlank part           17: a packed part is blank
 --   receivedIn q part xs    the tests of a part that has come, with the numbers xs: 5, then 17
 --   secretsIn B xs          6: a secret or noise value lies beyond the largest noise
-use mathlib.Core.{Bool.Bool, Bool.cond, List.List}
-use Prim.Native.Nat.{ℕ}
-use lib.{Dec.eqb, Dec.leb, Dec.ltb, IntN.ℤ, ListN.length}
+use Rattle.lists.specs.Kit.{Bool, cond, List, ℕ, eqb, leb, ltb, ℤ, length}
 use Rattle.lists.specs.First.{firstOver, firstBeyond}
 use Rattle.blank.specs.Blank.{blank}
-use Rattle.refusals.specs.{declared.Refusal.Refusal, declared.Verdict.Verdict}
-use Rattle.refusals.specs.declared.Refusal.the-variants.{NoScheme, BadLength, Short, PublicOver, MessageOver, SecretBeyond, RanOut, Misfit, OutOfStage, OutOfTurn, NoRule, NewerFormat, NoStudio, Blank, NotAscending}
-use Rattle.refusals.specs.declared.Verdict.the-variants.{Pass, Fail}
+pub use Rattle.refusals.specs.declared.Refusal.the-variants.{NoScheme, BadLength, Short, PublicOver, MessageOver, SecretBeyond, RanOut, Misfit}
+pub use Rattle.refusals.specs.declared.Refusal.the-variants.{OutOfStage, OutOfTurn, NoRule, NewerFormat, NoStudio, Blank, NotAscending}
+pub use Rattle.refusals.specs.{declared.Refusal.Refusal, declared.Verdict.Verdict, declared.Verdict.the-variants.Pass, declared.Verdict.the-variants.Fail}
 
 abbrev pub numberOf : Refusal → ℕ
 numberOf NoScheme = 1

@@ -16,15 +16,10 @@
 --   One                 no two results satisfy one promise, whatever the call
 --   SeenAll             `seen` forgets nothing: from what is seen come the number, the place, the count and the output
 --   ToldAll             `told` forgets nothing: two answers with the same numbers are the same
-use mathlib.Core.{Path._≡_, List.List, List._++_}
-use Prim.Native.Nat.{ℕ, _-_}
-use lib.ListN.{length, replicate, take}
+use Rattle.lists.specs.Kit.{_≡_, List, _++_, ℕ, _-_, length, replicate, take}
 use Rattle.lists.specs.declared.Peak.{Peak}
-use Rattle.refusals.specs.Refusals.{numberOf, placeOf, numberIn, placeIn}
-use Rattle.refusals.specs.{declared.Answer.Answer, declared.Refusal.Refusal}
-use Rattle.refusals.specs.declared.Answer.the-variants.{Done, Refused}
-use Rattle.refusals.specs.declared.Verdict.{Verdict}
-use Rattle.refusals.specs.declared.Verdict.the-variants.{Pass, Fail}
+use Rattle.refusals.specs.Refusals.{numberOf, placeOf, numberIn, placeIn, Refusal, Verdict, Pass, Fail}
+pub use Rattle.refusals.specs.{declared.Answer.Answer, declared.Answer.the-variants.Done, declared.Answer.the-variants.Refused}
 
 abbrev pub ifPassed : {A : Type 0} → Verdict → A → A → A
 ifPassed Pass a z = a

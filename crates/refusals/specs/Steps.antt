@@ -2,13 +2,10 @@
 --   v before w      v then w, where v is not looked at unless w fails: of tests that all passed it says only that w has
 --   Laid v xs out   a step that is lent a part of an output leaves xs there, and after a refusal what was there
 --   outcome v p     what a step hands on: p, or the refusal
-use mathlib.Core.{Path._≡_, List.List}
-use Prim.Native.Nat.{ℕ}
+use Rattle.lists.specs.Kit.{_≡_, List, ℕ}
 use Rattle.lists.specs.{Lent.Lent, Lent.was, Lent.left, declared.Peak.Peak}
-use Rattle.refusals.specs.{Refusals._then_, Seen.ifPassed, declared.Outcome.Outcome}
-use Rattle.refusals.specs.declared.Outcome.the-variants.{Slack, Refused}
-use Rattle.refusals.specs.declared.Verdict.{Verdict}
-use Rattle.refusals.specs.declared.Verdict.the-variants.{Pass, Fail}
+use Rattle.refusals.specs.{Refusals._then_, Refusals.Verdict, Refusals.Pass, Refusals.Fail, Seen.ifPassed}
+pub use Rattle.refusals.specs.{declared.Outcome.Outcome, declared.Outcome.the-variants.Slack, declared.Outcome.the-variants.Refused}
 
 infixl 20 _before_
 unfoldable pub _before_ : Verdict → Verdict → Verdict

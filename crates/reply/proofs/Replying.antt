@@ -6,27 +6,21 @@
 --   reply-rooms-failed, reply-rest-decides   its verdict by the test that decides
 --   reply-unknown                its tests where the number names no scheme
 --   reply-refused, reply-done    what is seen after a refusal, and where nothing is refused
-use mathlib.Core.{Path._≡_, Path.refl, Path._∙_, Path.sym, List.List}
-use Prim.Native.Nat.{ℕ, _≤_}
-use lib.{IntN.ℤ, ListN.length, ListN.replicate}
+use Rattle.lists.proofs.Kit.{_≡_, refl, _∙_, sym, List, ℕ, _≤_, ℤ, length, replicate}
+use Rattle.schemes.specs.{Schemes.fixedOf, declared.Named.Named, declared.Scheme.Scheme, declared.Named.the-variants.Known, declared.Named.the-variants.Unknown}
 use Rattle.lists.specs.Ranges.{Within}
-use Rattle.schemes.specs.{Schemes.fixedOf, declared.Named.Named, declared.Scheme.Scheme}
-use Rattle.schemes.specs.declared.Named.the-variants.{Known, Unknown}
-use Rattle.refusals.specs.Refusals.{_then_, publicsIn, receivedIn}
-use Rattle.refusals.specs.{Seen.output, Seen.written, declared.Verdict.Verdict}
 use Rattle.refusals.specs.declared.Verdict.the-variants.{Pass, Fail}
-use Rattle.refusals.specs.{declared.Refusal.Refusal, declared.Refusal.the-variants.NoScheme}
+use Rattle.refusals.specs.Refusals.{_then_, publicsIn, receivedIn}
+use Rattle.refusals.specs.{Seen.output, Seen.written, declared.Verdict.Verdict, declared.Refusal.Refusal, declared.Refusal.the-variants.NoScheme}
 use Rattle.refusals.proofs.Laws.{both, length-passed, room-passed, secrets-passed, then-assoc, failed, went-on}
 use Rattle.refusals.proofs.Seen.{written-failed}
 use Rattle.values.specs.Values.{mixedValue}
-use Rattle.values.proofs.Ranges.{replied-counted, mixed-counted}
-use Rattle.values.proofs.Settling.{hints-counted, keys-counted}
+use Rattle.values.proofs.{Ranges.replied-counted, Ranges.mixed-counted, Settling.hints-counted, Settling.keys-counted}
 use Rattle.wire.specs.{Wire.coinsIn, Steps.replySecrets}
 use Rattle.wire.proofs.Travel.{key-long, reply-length}
-use Rattle.reply.specs.Reply.{Reply, ReplyRooms, openedOf, replyValue, replyTests, replyMessage, replyKey, outputs, replyTold, replySeen}
+use Rattle.reply.specs.Reply.{Reply, ReplyRooms, openedOf, replyValue, replyTests, replyMessage, replyKey, outputs, replyTold, replySeen, ReplyCounts}
+use Rattle.reply.specs.Reply.{Done, Refused}
 use Rattle.reply.specs.Inside.{replyLengths, replySizes, replyLast, replyRest, messageFrom, keyFrom}
-use Rattle.reply.specs.declared.ReplyCounts.{ReplyCounts}
-use Rattle.reply.specs.declared.ReplyAnswer.the-variants.{Done, Refused}
 
 module _ (c : Scheme) (b : List ℕ) (s' e'' : List ℤ) (coins : List ℕ) where
   pub key-from-length : length (keyFrom c b s' e'' coins) ≡ fixedOf c .key

@@ -1,13 +1,11 @@
 -- What is stated in specs/Shown.
-use mathlib.Core.Path.{sym, ap, _∙_}
+use Rattle.lists.proofs.Kit.{sym, ap, _∙_}
 use Rattle.schemes.proofs.Sound.{sound}
 use Rattle.refusals.specs.Seen.{Told}
 use Rattle.refusals.proofs.{Laws.both, Seen.same-counts, Seen.same-refused, Seen.never-both}
 use Rattle.wire.proofs.Travel.{opening-again}
-use Rattle.reply.specs.Reply.{ReplySeen, openedOf, replySeen}
+use Rattle.reply.specs.Reply.{ReplySeen, openedOf, replySeen, Done, Refused, ReplyCounts}
 use Rattle.reply.specs.Shown.{ReplySeenAll, ReplyToldAll, OpeningComesBack, KeysFit}
-use Rattle.reply.specs.declared.ReplyAnswer.the-variants.{Done, Refused}
-use Rattle.reply.specs.declared.ReplyCounts.{ReplyCounts}
 use Rattle.reply.proofs.Replying.{key-length, reply-sized, reply-apart}
 
 -- the numbers of the answer, from what is seen

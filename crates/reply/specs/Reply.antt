@@ -12,22 +12,18 @@
 --   reply, replyRooms         what is lent, from the slices of a contract; replyOf, replyRoomsOf: from lists and numbers
 --   replyTold r               the numbers of its answer r
 --   replySeen t message key digest   what is seen where Reply tells t and leaves these outputs
-use mathlib.Core.List.{List, [], _++_}
-use Prim.Native.Nat.{ℕ}
-use lib.{IntN.ℤ, ListN.length}
-use Rattle.schemes.specs.{Schemes.fixedOf, declared.Scheme.Scheme, declared.Named.Named}
-use Rattle.schemes.specs.declared.Named.the-variants.{Known, Unknown}
+use Rattle.lists.specs.Kit.{List, [], _++_, ℕ, ℤ, length}
+use Rattle.schemes.specs.{Schemes.fixedOf, declared.Scheme.Scheme, declared.Named.Named, declared.Named.the-variants.Known, declared.Named.the-variants.Unknown}
 use Rattle.lists.specs.Lent.{Lent, was, room}
 use Rattle.packing.specs.Packing.{packed}
+use Rattle.sponge.specs.Sponge.{sha3}
 use Rattle.refusals.specs.Refusals.{numberIn, placeIn, _then_, lengthIs, roomFor, publicsIn, messageIn, notBlank, secretsIn}
 use Rattle.refusals.specs.Seen.{Output, output, written, Told, done, refused}
-use Rattle.refusals.specs.{declared.Verdict.Verdict, declared.Verdict.the-variants.Fail}
-use Rattle.refusals.specs.declared.Refusal.the-variants.{NoScheme}
-use Rattle.sponge.specs.Sponge.{sha3}
+use Rattle.refusals.specs.{declared.Verdict.Verdict, declared.Verdict.the-variants.Fail, declared.Refusal.the-variants.NoScheme}
 use Rattle.values.specs.{Values.replied, Values.mixedValue, Keys.hints, Keys.keys}
 use Rattle.wire.specs.Wire.{openedIn, numbersIn, coinsIn}
-use Rattle.reply.specs.{declared.ReplyCounts.ReplyCounts, declared.ReplyAnswer.ReplyAnswer}
-use Rattle.reply.specs.declared.ReplyAnswer.the-variants.{Done, Refused}
+pub use Rattle.reply.specs.declared.ReplyAnswer.the-variants.{Done, Refused}
+pub use Rattle.reply.specs.{declared.ReplyCounts.ReplyCounts, declared.ReplyAnswer.ReplyAnswer}
 
 pub record Reply : Type 0 where
   pub opening : List ℕ

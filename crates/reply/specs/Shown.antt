@@ -3,17 +3,13 @@
 --   ReplyToldAll       `replyTold` forgets nothing: two answers with the same numbers are the same
 --   OpeningComesBack   demand 2: an opening that is accepted comes back the same when it is unpacked and packed again
 --   KeysFit            its key is as long as the scheme says, and at most 128 bytes
-use mathlib.Core.{Path._≡_, List.List}
-use Prim.Native.Nat.{ℕ, _≤_}
-use lib.ListN.{length}
-use Rattle.schemes.specs.{Schemes.fixedOf, declared.Named.the-variants.Known}
-use Rattle.schemes.specs.declared.Scheme.{Scheme}
+use Rattle.lists.specs.Kit.{_≡_, List, ℕ, _≤_, length}
+use Rattle.schemes.specs.{Schemes.fixedOf, declared.Named.the-variants.Known, declared.Scheme.Scheme}
 use Rattle.lists.specs.Ranges.{Below}
 use Rattle.packing.specs.Packing.{packed}
 use Rattle.refusals.specs.{Seen.Told, declared.Verdict.the-variants.Pass}
 use Rattle.wire.specs.Wire.{opening, seedIn}
-use Rattle.reply.specs.Reply.{Reply, ReplyRooms, openedOf, replyTests, replyKey, replyTold, replySeen}
-use Rattle.reply.specs.{declared.ReplyAnswer.ReplyAnswer, declared.ReplyCounts.ReplyCounts}
+use Rattle.reply.specs.Reply.{Reply, ReplyRooms, openedOf, replyTests, replyKey, replyTold, replySeen, ReplyAnswer, ReplyCounts}
 
 abbrev pub ReplySeenAll : Type 0
 ReplySeenAll =

@@ -6,24 +6,19 @@
 --   by-frodo                 what is meant in Frodo
 --   number-names             the number of a scheme of Frodo's names it
 --   words-below, columns-below, zeros-below   secrets, noise and zeros are words
-use mathlib.Core.{Path._≡_, Path.sym, Path._∙_, Path.ap, List.List}
-use Prim.Native.Nat.{ℕ, _*_, _<_}
-use native.Mathlib.Omega.{arith}
-use lib.{IntN.ℤ, ListN.length, ListN.replicate}
+use Rattle.lists.proofs.Kit.{_≡_, sym, _∙_, ap, List, ℕ, _*_, _<_, arith, ℤ, length, replicate}
 use Rattle.numbers.proofs.Congruence.{residue-lt}
 use Rattle.schemes.specs.Schemes.{byFamily, familyOf, schemeNumber}
-use Rattle.schemes.specs.declared.{Family.Family, Named.Named, Named.the-variants.Known}
-use Rattle.schemes.specs.declared.Scheme.{Scheme}
+use Rattle.schemes.specs.{declared.Family.Family, declared.Named.Named, declared.Named.the-variants.Known, declared.Scheme.Scheme}
 use Rattle.schemes.proofs.Laws.{by-number}
 use Rattle.lists.specs.Ranges.{Below}
 use Rattle.lists.proofs.{Entries.below-tab, Same.equal-all}
 use Rattle.matrix.specs.Words.{wordsOf, columnsOf}
 use Rattle.parts.specs.Parts.{wrap}
-use Rattle.refusals.specs.{Seen.ifPassed, declared.Verdict.Verdict}
-use Rattle.refusals.specs.{declared.Verdict.the-variants.Pass, Refusals._then_, Refusals.lengthIs}
+use Rattle.refusals.specs.{Seen.ifPassed, declared.Verdict.Verdict, declared.Verdict.the-variants.Pass, Refusals._then_, Refusals.lengthIs}
 use Rattle.refusals.proofs.Laws.{number-zero, both, length-passed}
-use Rattle.rows_state.proofs.Tests.{frodo-named}
 use Rattle.rows_state.specs.{State.frodoIn, State.frodoOf, Part.stateShown}
+use Rattle.rows_state.proofs.Tests.{frodo-named}
 use Rattle.rows.specs.Offer.{EndSeen}
 
 pub last-length : (v : Verdict) (m n : ℕ) → v then lengthIs m n ≡ Pass → (v ≡ Pass) × (m ≡ n)

@@ -5,31 +5,26 @@
 --   Left, left          such a state after any parts: what it names, counts and keeps, that its call has begun, and what its sums are
 --   fill                parts that join into A are accepted
 --   in-turn, too-early, has-all   whether all of A has come
-use mathlib.Core.{Path._≡_, Path.refl, Path._∙_, Path.sym, Path.ap, Path.ap₂, Path.subst, Logic._≢_}
-use mathlib.Core.{Bool.Bool, Bool.true, Bool.false, List.List, List.[]}
-use Prim.Native.Nat.{ℕ, _*_, _%_, _<_}
-use native.Mathlib.Omega.{arith}
-use lib.{IntN.ℤ, ListN.length, ListN.getD, ListN.replicate, ListN.length-replicate}
+use Rattle.lists.proofs.Kit.{_≡_, refl, _∙_, sym, ap, ap₂, subst, _≢_, Bool, true, false, List, [], ℕ, _*_, _%_, _<_, arith, ℤ, length, getD, replicate}
+use Rattle.lists.proofs.Kit.{length-replicate}
 use Rattle.schemes.specs.Schemes.{familyOf, fixedOf, schemeNumber}
-use Rattle.schemes.specs.{declared.Family.Family, declared.Named.the-variants.Known}
-use Rattle.schemes.specs.declared.Scheme.{Scheme}
+use Rattle.schemes.specs.{declared.Family.Family, declared.Named.the-variants.Known, declared.Scheme.Scheme}
 use Rattle.lists.specs.Ranges.{Below}
 use Rattle.matrix.specs.Words.{wordsOf, gained, reduced}
 use Rattle.matrix.proofs.Steps.{words-length}
 use Rattle.parts.specs.Parts.{wrap}
 use Rattle.parts.proofs.{Joining.whole-right, Joining.whole-left, Words.words-pairs}
-use Rattle.refusals.specs.{Refusals.inTurn, declared.Refusal.the-variants.OutOfTurn}
-use Rattle.refusals.specs.declared.Verdict.the-variants.{Pass, Fail}
+use Rattle.refusals.specs.{Refusals.inTurn, declared.Refusal.the-variants.OutOfTurn, declared.Verdict.the-variants.Pass, declared.Verdict.the-variants.Fail}
 use Rattle.refusals.proofs.Laws.{turn-passes}
 use Rattle.values.proofs.Numbers.{numbers-in}
-use Rattle.rows_state.specs.State.{tagOf, frodoOf, long, named, taken, savedOf, secretOf, sumsOf, heldOf, Layout, laid, secretWords, fresh, savedIn, begun, complete, terms}
-use Rattle.rows.specs.Runs.{Parts, joined, Took, steps, WithinRows}
-use Rattle.rows.specs.Shown.{mixed, Once}
+use Rattle.rows_state.specs.State.{tagOf, frodoOf, long, named, taken, savedOf, secretOf, sumsOf, heldOf, Layout, laid, secretWords, fresh, savedIn, begun}
+use Rattle.rows_state.specs.State.{complete, terms}
 use Rattle.rows_state.specs.declared.Call.{Call}
-use Rattle.rows_state.proofs.Tests.{starts, completes, complete-so, frodos}
 use Rattle.rows_state.proofs.Laying.{secret-words-long, held-words, laid-long, laid-kept, laid-secret, laid-sums, laid-held}
-use Rattle.rows.proofs.Ends.{number-names, words-below, columns-below, zeros-below}
+use Rattle.rows_state.proofs.Tests.{starts, completes, complete-so, frodos}
+use Rattle.rows.specs.{Runs.Parts, Runs.joined, Runs.Took, Runs.steps, Runs.WithinRows, Shown.mixed, Shown.Once}
 use Rattle.rows.proofs.Running.{whole-front, after-kept, after-sums, after-long, Walked, walked}
+use Rattle.rows.proofs.Ends.{number-names, words-below, columns-below, zeros-below}
 use Rattle.rows.proofs.Shown.{without, takes, Cut, took-cut, cut-words}
 
 -- ---- over any n

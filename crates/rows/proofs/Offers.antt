@@ -1,34 +1,25 @@
 -- Offer by rows is Offer on the joined matrix: what is stated of it in specs/Shown.
 --   offer-try, same-offer, early-offer, offer-taken   what is shown
-use mathlib.Core.{Path._≡_, Path.refl, Path._∙_, Path.sym, Path.ap, Path.ap₂, Logic._≢_, Bool.true}
-use mathlib.Core.List.{List, _++_}
-use Prim.Native.Nat.{ℕ}
-use native.Mathlib.Omega.{arith}
-use lib.{ListN.length, ListN.take, ListN.replicate, Seq.take-at, Seq.drop-at}
-use Rattle.schemes.specs.{Schemes.familyOf, Schemes.fixedOf, declared.Family.Family}
-use Rattle.schemes.specs.{declared.Named.the-variants.Known, declared.Scheme.Scheme}
+use Rattle.lists.proofs.Kit.{_≡_, refl, _∙_, sym, ap, ap₂, _≢_, true, List, _++_, ℕ, arith, length, take, replicate, take-at, drop-at}
+use Rattle.schemes.specs.{Schemes.familyOf, Schemes.fixedOf, declared.Family.Family, declared.Named.the-variants.Known, declared.Scheme.Scheme}
 use Rattle.lists.specs.Ranges.{Below}
 use Rattle.lists.proofs.Entries.{below-zeros}
 use Rattle.packing.specs.Packing.{packed}
 use Rattle.refusals.specs.Refusals.{numberIn, _then_, notBlank, secretsIn}
-use Rattle.refusals.specs.{Seen.shown, Seen.written, declared.Verdict.Verdict}
 use Rattle.refusals.specs.declared.Verdict.the-variants.{Pass, Fail}
-use Rattle.refusals.specs.declared.Refusal.the-variants.{OutOfTurn}
+use Rattle.refusals.specs.{Seen.shown, Seen.written, declared.Verdict.Verdict, declared.Refusal.the-variants.OutOfTurn}
 use Rattle.refusals.proofs.Laws.{number-zero, both, failed, length-passes, turn-passed, below-passes, within-passes, all-pass}
 use Rattle.values.specs.Values.{offered}
 use Rattle.wire.specs.Wire.{opening}
-use Rattle.offer.specs.Offer.{Offer, offerOf, offerTests, offeredPart, offerMessage}
-use Rattle.offer.specs.Inside.{offerLengths, offerIn}
+use Rattle.offer.specs.{Offer.Offer, Offer.offerOf, Offer.offerTests, Offer.offeredPart, Offer.offerMessage, Inside.offerLengths, Inside.offerIn}
 use Rattle.offer.proofs.Offering.{Ranges, offer-opens}
-use Rattle.rows_state.specs.State.{long, named, savedOf, allBelow, savedIn}
-use Rattle.rows_state.specs.{Part.stateShown, declared.Call.Call}
+use Rattle.rows_state.specs.{State.long, State.named, State.savedOf, State.allBelow, State.savedIn, Part.stateShown, declared.Call.Call}
 use Rattle.rows_state.proofs.{Tests.goes, Tests.below-all, Tests.frodos, Laying.seed-kept-long}
 use Rattle.rows.specs.Offer.{OfferBegin, offerBeginTests, offerState, offerBeginResult, sentPart, offerEndTests, offerEndMessage}
 use Rattle.rows.specs.Runs.{Refused, Parts, joined, WithinRows, OfferAccepted}
 use Rattle.rows.specs.Shown.{OfferTry, SameOffer, EarlyOffer, OfferTaken}
-use Rattle.rows.proofs.{Running.unchanged, Opening.OfferSized, Opening.begin-sized}
-use Rattle.rows.proofs.{Ends.not-refused, Ends.by-frodo, Shown.took-parts}
 use Rattle.rows.proofs.Fresh.{Starts, Left, left, fill, in-turn, has-all, too-early}
+use Rattle.rows.proofs.{Running.unchanged, Opening.OfferSized, Opening.begin-sized, Ends.not-refused, Ends.by-frodo, Shown.took-parts}
 
 -- turn, room and blank part; and of the whole call lengths, room, numbers, secrets and blank part
 chain : (i r b l p s e b' : Verdict) → i ≡ Pass → l ≡ Pass → p ≡ Pass → s ≡ Pass → e ≡ Pass → b ≡ b'

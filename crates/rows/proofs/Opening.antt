@@ -7,32 +7,26 @@
 --   end-unknown, end-failed, end-blank, end-done   what is seen of end besides the state, by the test that decides
 --   end-begun, end-roomy         what passed sizes of end say
 --   end-kept, end-cleared        and with the state
-use mathlib.Core.{Path._≡_, Path.refl, Path._∙_, Path.sym, Path.ap, Bool.true, List.List, List._++_}
-use Prim.Native.Nat.{ℕ, _≤_}
-use native.Mathlib.Omega.{arith}
-use lib.ListN.{length, getD, take, drop, replicate, length-take}
-use Rattle.schemes.specs.{Schemes.familyOf, Schemes.fixedOf, declared.Family.Family}
-use Rattle.schemes.specs.declared.{Named.Named, Scheme.Scheme, Fixed.Fixed}
+use Rattle.lists.proofs.Kit.{_≡_, refl, _∙_, sym, ap, true, List, _++_, ℕ, _≤_, arith, length, getD, take, drop, replicate, length-take}
 use Rattle.schemes.specs.declared.Named.the-variants.{Known, Unknown}
+use Rattle.schemes.specs.{Schemes.familyOf, Schemes.fixedOf, declared.Family.Family, declared.Named.Named, declared.Scheme.Scheme, declared.Fixed.Fixed}
 use Rattle.lists.specs.Ranges.{Below}
 use Rattle.lists.proofs.Same.{zeros-long}
 use Rattle.refusals.specs.Refusals.{_then_, lengthIs, inTurn, roomFor, notBlank, secretsIn}
-use Rattle.refusals.specs.{Seen.ifPassed, Seen.Seen, Seen.told, Seen.seen, Seen.shown, declared.Verdict.Verdict}
-use Rattle.refusals.specs.declared.{Answer.Answer, Answer.the-variants.Done, Answer.the-variants.Refused, Refusal.Refusal}
-use Rattle.refusals.specs.declared.Verdict.the-variants.{Pass, Fail}
 use Rattle.refusals.specs.declared.Refusal.the-variants.{NoScheme, OutOfTurn}
+use Rattle.refusals.specs.declared.Answer.the-variants.{Done, Refused}
+use Rattle.refusals.specs.declared.Verdict.the-variants.{Pass, Fail}
+use Rattle.refusals.specs.Seen.{ifPassed, Seen, told, seen, shown}
+use Rattle.refusals.specs.{declared.Verdict.Verdict, declared.Answer.Answer, declared.Refusal.Refusal}
 use Rattle.refusals.proofs.Laws.{some, both, length-passed, room-passed, turn-passed, first, also, failed, went-on}
 use Rattle.refusals.proofs.{Seen.shown-failed, Seen.shown-passed, Seen.seen-done, Steps.kept, Steps.laid-on}
 use Rattle.wire.proofs.Travel.{opening-length, numbers-long}
 use Rattle.rows_state.specs.State.{long, named, savedOf, begun, complete, frodoOf}
 use Rattle.rows_state.specs.{Part.StateSeen, Part.stateSeen, declared.Call.Call}
-use Rattle.rows_state.proofs.{Turns.state-by, Laying.kept-long}
-use Rattle.rows_state.proofs.Tests.{passed, all-below, started, completes, frodos}
-use Rattle.rows.specs.Offer.{OfferBegin, offerBeginTests, offerBeginResult, sentPart}
-use Rattle.rows.specs.Offer.{offerEndTests, offerEndMessage, offerEndResult}
+use Rattle.rows_state.proofs.{Turns.state-by, Laying.kept-long, Tests.passed, Tests.all-below, Tests.started, Tests.completes, Tests.frodos}
+use Rattle.rows.specs.Offer.{OfferBegin, offerBeginTests, offerBeginResult, sentPart, offerEndTests, offerEndMessage, offerEndResult}
 use Rattle.rows.specs.Inside.{offerEndSizes}
-use Rattle.rows.proofs.Ends.{last-length, frodo-known, end-by}
-use Rattle.rows.proofs.{Running.kept-still, Sending.sent-counted}
+use Rattle.rows.proofs.{Ends.last-length, Ends.frodo-known, Ends.end-by, Running.kept-still, Sending.sent-counted}
 
 -- ---- begin
 

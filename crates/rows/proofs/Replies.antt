@@ -1,16 +1,12 @@
 -- Reply by rows is Reply on the joined matrix: what is stated of it in specs/Shown.
 --   reply-try, same-reply, early-reply, reply-taken   what is shown
-use mathlib.Core.{Path._≡_, Path.refl, Path._∙_, Path.sym, Path.ap, Path.ap₂, Logic._≢_}
-use mathlib.Core.List.{List, [], _++_}
-use Prim.Native.Nat.{ℕ}
-use lib.ListN.{length, replicate}
-use Rattle.schemes.specs.{Schemes.familyOf, Schemes.fixedOf, declared.Family.Family}
-use Rattle.schemes.specs.{declared.Named.the-variants.Known, declared.Scheme.Scheme}
+use Rattle.lists.proofs.Kit.{_≡_, refl, _∙_, sym, ap, ap₂, _≢_, List, [], _++_, ℕ, length, replicate}
+use Rattle.schemes.specs.{Schemes.familyOf, Schemes.fixedOf, declared.Family.Family, declared.Named.the-variants.Known, declared.Scheme.Scheme}
 use Rattle.packing.specs.Packing.{packed}
 use Rattle.sponge.specs.Sponge.{sha3}
-use Rattle.refusals.specs.{Refusals.numberIn, Refusals._then_, Refusals.notBlank, Seen.written}
-use Rattle.refusals.specs.{declared.Verdict.Verdict, declared.Refusal.the-variants.OutOfTurn}
 use Rattle.refusals.specs.declared.Verdict.the-variants.{Pass, Fail}
+use Rattle.refusals.specs.Refusals.{numberIn, _then_, notBlank}
+use Rattle.refusals.specs.{Seen.written, declared.Verdict.Verdict, declared.Refusal.the-variants.OutOfTurn}
 use Rattle.refusals.proofs.Laws.{number-zero, both, failed, then-assoc, length-passes, publics-passed, turn-passed, below-passes, all-pass}
 use Rattle.values.specs.{Fit.Counted, Keys.hints, Values.replied}
 use Rattle.values.proofs.{Numbers.numbers-in, Ranges.mixed-counted}
@@ -20,14 +16,13 @@ use Rattle.reply.specs.Inside.{replyLengths, replyLast, replyRest}
 use Rattle.reply.proofs.Replying.{Sized, reply-sized, reply-apart}
 use Rattle.rows_state.specs.{State.long, State.named, Part.stateShown, declared.Call.Call}
 use Rattle.rows_state.proofs.Tests.{below-all, frodos}
-use Rattle.rows.specs.{Offer.sentPart, Inside.replyBeginSizes, Inside.replyBeginRest}
 use Rattle.rows.specs.Reply.{ReplyBegin, replyBeginTests, valueOf, replyState, replyBeginResult, replyEndTests, replyEndMessage, replyEndKey}
 use Rattle.rows.specs.Runs.{Refused, Parts, joined, WithinRows, ReplyAccepted}
-use Rattle.rows.specs.Shown.{ReplyTry, SameReply, EarlyReply, ReplyTaken}
-use Rattle.rows.proofs.{Running.unchanged, Ends.not-refused, Ends.by-frodo, Shown.took-parts}
+use Rattle.rows.specs.{Offer.sentPart, Inside.replyBeginSizes, Inside.replyBeginRest, Shown.ReplyTry, Shown.SameReply, Shown.EarlyReply, Shown.ReplyTaken}
 use Rattle.rows.proofs.Fresh.{Starts, Left, left, fill, in-turn, has-all, too-early}
-use Rattle.rows.proofs.Replying as rows
 use Rattle.rows.proofs.Replying.{begin-sized, begin-apart, opened-tests}
+use Rattle.rows.proofs.{Running.unchanged, Ends.not-refused, Ends.by-frodo, Shown.took-parts}
+use Rattle.rows.proofs.Replying as rows
 
 -- ---- verdicts and outputs
 

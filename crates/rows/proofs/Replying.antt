@@ -9,40 +9,30 @@
 --   Roomy, end-roomy     what passed sizes of end say
 --   key-fits, digest-fits   a good end's key lies in its output, and the digest has room
 --   end-kept, end-cleared   what is seen of end
-use mathlib.Core.{Path._≡_, Path.refl, Path._∙_, Path.sym, Path.ap, Bool.true, List.List, List.[], List._++_}
-use Prim.Native.Nat.{ℕ, _-_, _≤_}
-use native.Mathlib.Omega.{arith}
-use lib.ListN.{length, getD, take, drop, replicate, length-append}
-use Rattle.schemes.specs.{Schemes.familyOf, Schemes.fixedOf, declared.Family.Family}
-use Rattle.schemes.specs.{declared.Named.Named, declared.Scheme.Scheme}
+use Rattle.lists.proofs.Kit.{_≡_, refl, _∙_, sym, ap, true, List, [], _++_, ℕ, _-_, _≤_, arith, length, getD, take, drop, replicate, length-append}
 use Rattle.schemes.specs.declared.Named.the-variants.{Known, Unknown}
+use Rattle.schemes.specs.{Schemes.familyOf, Schemes.fixedOf, declared.Family.Family, declared.Named.Named, declared.Scheme.Scheme}
 use Rattle.lists.proofs.Same.{zeros-long}
 use Rattle.packing.proofs.Laws.{unpacked-below}
 use Rattle.sponge.specs.Sponge.{sha3}
 use Rattle.sponge.proofs.Output.{sha3-length}
-use Rattle.refusals.specs.Refusals.{_then_, notBlank, receivedIn}
-use Rattle.refusals.specs.Seen.{ifPassed, Output, output, written, answer}
-use Rattle.refusals.specs.{declared.Verdict.Verdict, declared.Refusal.Refusal}
-use Rattle.refusals.specs.declared.Verdict.the-variants.{Pass, Fail}
 use Rattle.refusals.specs.declared.Refusal.the-variants.{NoScheme, OutOfTurn}
+use Rattle.refusals.specs.declared.Verdict.the-variants.{Pass, Fail}
+use Rattle.refusals.specs.Seen.{ifPassed, Output, output, written, answer}
+use Rattle.refusals.specs.{Refusals._then_, Refusals.notBlank, Refusals.receivedIn, declared.Verdict.Verdict, declared.Refusal.Refusal}
 use Rattle.refusals.proofs.Laws.{differ, both, length-passed, room-passed, turn-passed, message-passes, failed, went-on}
-use Rattle.refusals.proofs.Seen.{written-passed, written-failed, written-answer}
-use Rattle.refusals.proofs.Steps.{kept, laid-on}
+use Rattle.refusals.proofs.{Seen.written-passed, Seen.written-failed, Seen.written-answer, Steps.kept, Steps.laid-on}
 use Rattle.values.specs.Fit.{Counted}
 use Rattle.values.proofs.{Numbers.numbers-in, Settling.hints-counted, Settling.keys-counted}
 use Rattle.wire.specs.{Wire.coinsIn, Wire.numbersIn, Steps.replySecrets}
 use Rattle.wire.proofs.Travel.{reply-length, key-long}
 use Rattle.reply.specs.Reply.{ReplyRooms, replyRoomsOf, outputs, replyTold, replySeen}
-use Rattle.reply.specs.declared.{ReplyCounts.ReplyCounts, ReplyAnswer.ReplyAnswer}
 use Rattle.reply.specs.declared.ReplyAnswer.the-variants.{Done, Refused}
-use Rattle.rows_state.specs.State.{long, named, savedOf, begun, frodoOf}
-use Rattle.rows_state.specs.{Part.StateSeen, Part.stateSeen, declared.Call.Call}
-use Rattle.rows_state.proofs.{Turns.state-by, Laying.kept-long}
-use Rattle.rows_state.proofs.Tests.{all-below, started, completes, frodos}
-use Rattle.rows.specs.Offer.{sentPart}
-use Rattle.rows.specs.Reply.{ReplyBegin, replyBeginTests, replyBeginResult, replyEndTests}
-use Rattle.rows.specs.Reply.{replyEndMessage, replyEndKey, replyEndResult}
-use Rattle.rows.specs.Inside.{replyBeginSizes, replyBeginRest, replyEndSizes, Sent}
+use Rattle.reply.specs.{declared.ReplyCounts.ReplyCounts, declared.ReplyAnswer.ReplyAnswer}
+use Rattle.rows_state.specs.{State.long, State.named, State.savedOf, State.begun, State.frodoOf, Part.StateSeen, Part.stateSeen, declared.Call.Call}
+use Rattle.rows_state.proofs.{Turns.state-by, Laying.kept-long, Tests.all-below, Tests.started, Tests.completes, Tests.frodos}
+use Rattle.rows.specs.Reply.{ReplyBegin, replyBeginTests, replyBeginResult, replyEndTests, replyEndMessage, replyEndKey, replyEndResult}
+use Rattle.rows.specs.{Offer.sentPart, Inside.replyBeginSizes, Inside.replyBeginRest, Inside.replyEndSizes, Inside.Sent}
 use Rattle.rows.proofs.{Ends.last-length, Ends.frodo-known, Ends.end-by, Sending.sent-counted}
 
 pub opened-tests : (c : Scheme) → familyOf c ≡ Family.Frodo → (p : List ℕ) → receivedIn (fixedOf c .q) p (numbersIn c p) ≡ notBlank p

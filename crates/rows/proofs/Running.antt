@@ -8,31 +8,25 @@
 --   Stepped, stepped-after   a part behind the numbers xs that have come
 --   below-front, below-behind   of two lists joined
 --   Walked, walked   what any parts leave: the state after the numbers that they join into
-use mathlib.Core.Path.{_≡_, refl, _∙_, sym, ap, ap₂, subst}
-use mathlib.Core.Bool.{Bool, true, false, cond}
-use mathlib.Core.List.{List, [], _∷_, _++_, append-assoc, append-nil}
-use Prim.Native.Nat.{ℕ, _+_, _*_, _-_, _/_, _%_, _≤_, _<_}
-use native.Mathlib.Omega.{arith}
-use native.Mathlib.Nat.{zero-mod, div-mul-le-self}
-use lib.ListN.{length, take, drop, length-append, length-take, length-drop, take-append-drop, drop-of-length-le}
-use lib.Seq.{take-at, take-all, take-nil, drop-nil, take-append-le, drop-append-le, length-take-le}
+use Rattle.lists.proofs.Kit.{_≡_, refl, _∙_, sym, ap, ap₂, subst, Bool, true, false, cond, List, [], _∷_, _++_, append-assoc, append-nil, ℕ, _+_, _*_, _-_, _/_}
+use Rattle.lists.proofs.Kit.{_%_, _≤_, _<_, arith, zero-mod, div-mul-le-self, length, take, drop, length-append, length-take, length-drop, take-append-drop}
+use Rattle.lists.proofs.Kit.{drop-of-length-le, take-at, take-all, take-nil, drop-nil, take-append-le, drop-append-le, length-take-le}
 use Rattle.lists.specs.Ranges.{Below}
 use Rattle.lists.proofs.Parts.{below-drop, below-take}
 use Rattle.matrix.specs.Words.{gained}
 use Rattle.matrix.proofs.Steps.{gained-length}
 use Rattle.parts.specs.Parts.{wrap, words, pairs, placed}
-use Rattle.parts.proofs.Joining.{append-at, placed-in, so-far, nothing}
-use Rattle.parts.proofs.Words.{append-below}
-use Rattle.refusals.specs.{Refusals.numberIn, Seen.ifPassed, Seen.shown, declared.Verdict.Verdict}
+use Rattle.parts.proofs.{Joining.append-at, Joining.placed-in, Joining.so-far, Joining.nothing, Words.append-below}
 use Rattle.refusals.specs.declared.Verdict.the-variants.{Pass, Fail}
+use Rattle.refusals.specs.{Refusals.numberIn, Seen.ifPassed, Seen.shown, declared.Verdict.Verdict}
 use Rattle.reply.specs.Reply.{outputs}
 use Rattle.rows_state.specs.State.{long, named, taken, savedOf, secretOf, sumsOf, heldOf, laid, onward, terms, fills, heldWith, sumsWith, stepped}
 use Rattle.rows_state.specs.{Part.stateShown, Part.partTests, declared.Call.Call}
-use Rattle.rows.specs.{Offer.offerEndTests, Reply.replyEndTests, Shown.blocks}
-use Rattle.rows.specs.Runs.{Refused, joined, steps, WithinRows}
+use Rattle.rows_state.proofs.Laying.{apart, kept-long, secret-long, sums-long, held-long, again-words, made-words, held-words, laid-long, laid-kept}
+use Rattle.rows_state.proofs.Laying.{laid-secret, laid-sums, laid-held, laid-ext}
 use Rattle.rows_state.proofs.Filling.{fills-up, holds-back, held-div, held-mod, filled-div, filled-mod, start-is, whole-blocks}
-use Rattle.rows_state.proofs.Laying.{apart, kept-long, secret-long, sums-long, held-long, again-words, made-words, held-words, laid-long, laid-kept, laid-secret, laid-sums, laid-held, laid-ext}
 use Rattle.rows_state.proofs.Taking.{linear}
+use Rattle.rows.specs.{Offer.offerEndTests, Reply.replyEndTests, Shown.blocks, Runs.Refused, Runs.joined, Runs.steps, Runs.WithinRows}
 
 pub kept-still : {A : Type 0} (v : Verdict) (x old : A) → 0 < numberIn v → ifPassed v x old ≡ old
 kept-still Pass x old h = absurd (omega arith)

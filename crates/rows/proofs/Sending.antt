@@ -2,12 +2,8 @@
 --   sent-counted   they are as many as the secret, and below q
 --   sent-is        they are what the code makes
 --   sent-blank     they are tested for their bytes
-use mathlib.Core.{Path._≡_, Path._∙_, Path.sym, Path.ap, List.List}
-use Prim.Native.Nat.{ℕ}
-use native.Mathlib.Nat.{mod-lt}
-use lib.ListN.{length}
-use Rattle.schemes.specs.{Schemes.familyOf, Schemes.fixedOf, declared.Family.Family}
-use Rattle.schemes.specs.{declared.Fixed.Fixed, declared.Scheme.Scheme}
+use Rattle.lists.proofs.Kit.{_≡_, _∙_, sym, ap, List, ℕ, mod-lt, length}
+use Rattle.schemes.specs.{Schemes.familyOf, Schemes.fixedOf, declared.Family.Family, declared.Fixed.Fixed, declared.Scheme.Scheme}
 use Rattle.lists.proofs.Entries.{tab-length, below-tab}
 use Rattle.matrix.specs.Words.{reduced}
 use Rattle.refusals.specs.Refusals.{notBlank}
@@ -15,8 +11,8 @@ use Rattle.values.specs.Fit.{Counted}
 use Rattle.values.proofs.Numbers.{numbers-in}
 use Rattle.wire.proofs.Travel.{numbers-blank}
 use Rattle.rows_state.specs.State.{long, sumsOf}
-use Rattle.rows.specs.Offer.{sentNumbers, sentPart}
 use Rattle.rows_state.proofs.Laying.{sums-long}
+use Rattle.rows.specs.Offer.{sentNumbers, sentPart}
 
 module _ (c : Scheme) (st : List ℕ) (frodo : familyOf c ≡ Family.Frodo) (l : length st ≡ long (fixedOf c .n)) where
   pub sent-counted : Counted (fixedOf c .secret) (fixedOf c .q) (sentNumbers c st)

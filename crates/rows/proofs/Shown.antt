@@ -4,18 +4,11 @@
 --   without          the run without what was refused
 --   Cut, took-cut    accepted parts: what they leave, and that none runs past the end of its row or past the last row
 --   frodos-are, allowed, joining, empty-part, again, running   what is shown
-use mathlib.Core.Path.{_≡_, refl, _∙_, sym, ap, ap₂, subst}
-use mathlib.Core.Bool.{Bool, true, false, cond}
-use mathlib.Core.List.{List, [], _∷_, _++_, append-assoc, append-nil}
-use Prim.Native.Nat.{ℕ, zero, suc, _+_, _*_, _-_, _%_, _≤_, _<_}
-use native.Mathlib.Omega.{arith}
-use native.Mathlib.Nat.{mod-lt, mod-eq-of-lt, mod-add-mod}
-use borrow.Author.Tests.{lt-leb, le-leb}
-use lib.{Dec.eqb, Seq.take-at, Seq.drop-at, Seq.drop-drop}
-use lib.ListN.{length, getD, take, drop, length-append, length-take, length-drop, take-append-drop}
-use Rattle.schemes.specs.{Schemes.familyOf, Schemes.fixedOf, Schemes.schemeOf, declared.Named.Named}
-use Rattle.schemes.specs.{declared.Family.Family, declared.Scheme.Scheme}
+use Rattle.lists.proofs.Kit.{_≡_, refl, _∙_, sym, ap, ap₂, subst, Bool, true, false, cond, List, [], _∷_, _++_, append-assoc, append-nil, ℕ, zero, suc, _+_}
+use Rattle.lists.proofs.Kit.{_*_, _-_, _%_, _≤_, _<_, arith, mod-lt, mod-eq-of-lt, mod-add-mod, lt-leb, le-leb, eqb, take-at, drop-at, drop-drop, length, getD}
+use Rattle.lists.proofs.Kit.{take, drop, length-append, length-take, length-drop, take-append-drop}
 use Rattle.schemes.specs.declared.Named.the-variants.{Known, Unknown}
+use Rattle.schemes.specs.{Schemes.familyOf, Schemes.fixedOf, Schemes.schemeOf, declared.Named.Named, declared.Family.Family, declared.Scheme.Scheme}
 use Rattle.schemes.proofs.Sound.{sound}
 use Rattle.lists.specs.Ranges.{Below}
 use Rattle.lists.proofs.Parts.{below-drop, below-take}
@@ -23,21 +16,20 @@ use Rattle.matrix.specs.Words.{gained}
 use Rattle.matrix.proofs.Steps.{gained-length}
 use Rattle.parts.specs.Parts.{wrap, words, pairs, placed}
 use Rattle.parts.proofs.Words.{words-below, append-below}
-use Rattle.values.proofs.Numbers.{numbers-in}
-use Rattle.refusals.specs.{Refusals.numberIn, Seen.ifPassed, declared.Verdict.Verdict}
-use Rattle.refusals.specs.declared.Verdict.the-variants.{Pass, Fail}
+use Rattle.refusals.specs.{Refusals.numberIn, Seen.ifPassed, declared.Verdict.Verdict, declared.Verdict.the-variants.Pass, declared.Verdict.the-variants.Fail}
 use Rattle.refusals.proofs.Laws.{differ, both, turn-passed, publics-passed, turn-passes, below-passes, all-pass}
-use Rattle.rows_state.specs.State.{frodoIn, named, taken, savedOf, secretOf, sumsOf, heldOf, Layout, laid, onward, _and_, savedIn, begun, terms, fills, heldWith, sumsWith, stepped}
-use Rattle.rows_state.specs.Part.{StateSeen, stateShown, stateSeen, partTests, partState, partResult}
+use Rattle.values.proofs.Numbers.{numbers-in}
+use Rattle.rows_state.specs.State.{frodoIn, named, taken, savedOf, secretOf, sumsOf, heldOf, Layout, laid, onward, _and_, savedIn, begun, terms, fills}
+use Rattle.rows_state.specs.State.{heldWith, sumsWith, stepped}
+use Rattle.rows_state.specs.{Part.StateSeen, Part.stateShown, Part.stateSeen, Part.partTests, Part.partState, Part.partResult, declared.Call.Call}
+use Rattle.rows_state.proofs.Laying.{apart, kept-long, secret-long, sums-long, held-long, again-words, made-words, held-words, with-below, laid-long, laid-kept}
+use Rattle.rows_state.proofs.Laying.{laid-secret, laid-sums, laid-held, laid-ext}
+use Rattle.rows_state.proofs.Tests.{stops, goes, passed, started, starts, Fits, fits, fits-so, frodo-in, frodo-named}
+use Rattle.rows_state.proofs.{Filling.block-fits, Filling.fills-up, Filling.held-mod, Turns.part-known}
 use Rattle.rows.specs.Runs.{Accepts, next, Refused, Parts, joined, Took, Good, steps, WithinRows}
 use Rattle.rows.specs.Shown.{Frodos, Allowed, Joining, Empty, Again, Running}
-use Rattle.rows_state.specs.declared.Call.{Call}
-use Rattle.rows_state.proofs.Tests.{stops, goes, passed, started, starts, Fits, fits, fits-so, frodo-in, frodo-named}
-use Rattle.rows_state.proofs.Filling.{block-fits, fills-up, held-mod}
-use Rattle.rows_state.proofs.Laying.{apart, kept-long, secret-long, sums-long, held-long, again-words, made-words, held-words, with-below, laid-long, laid-kept, laid-secret, laid-sums, laid-held, laid-ext}
-use Rattle.rows_state.proofs.Turns.{part-known}
-use Rattle.rows.proofs.Ends.{not-refused, by-frodo}
 use Rattle.rows.proofs.Running.{unchanged, below-front, below-behind, after-sums, after-held, Walked, walked}
+use Rattle.rows.proofs.Ends.{not-refused, by-frodo}
 
 -- ---- the state
 

@@ -4,16 +4,14 @@
 --   offerEndSizes c st n, replyEndSizes c st m     the first tests of end: of its turn, and of rooms
 --   verdictOf r               the verdict of an answer
 --   Sent r st m message key   what Reply's end answers, and what it leaves of message and key, with the rooms m
-use mathlib.Core.{Path._≡_, List.List}
-use Prim.Native.Nat.{ℕ}
-use lib.ListN.{length}
+use Rattle.lists.specs.Kit.{_≡_, List, ℕ, length}
 use Rattle.schemes.specs.{Schemes.fixedOf, declared.Scheme.Scheme}
 use Rattle.refusals.specs.Refusals.{_then_, lengthIs, roomFor, inTurn, notBlank}
-use Rattle.refusals.specs.{Seen.ifPassed, Seen.output, Seen.written, declared.Verdict.Verdict}
 use Rattle.refusals.specs.declared.Verdict.the-variants.{Pass, Fail}
+use Rattle.refusals.specs.{Seen.ifPassed, Seen.output, Seen.written, declared.Verdict.Verdict}
 use Rattle.wire.specs.{Wire.openedIn, Steps.replySecrets}
-use Rattle.reply.specs.{Reply.ReplyRooms, Reply.replyTold, declared.ReplyAnswer.ReplyAnswer}
 use Rattle.reply.specs.declared.ReplyAnswer.the-variants.{Done, Refused}
+use Rattle.reply.specs.{Reply.ReplyRooms, Reply.replyTold, declared.ReplyAnswer.ReplyAnswer}
 use Rattle.rows_state.specs.{State.long, State.named, State.complete, declared.Call.Call}
 use Rattle.rows.specs.Reply.{ReplyBegin, replyEndTests, replyEndMessage, replyEndKey}
 

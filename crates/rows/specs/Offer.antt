@@ -9,18 +9,14 @@
 --   offerEndMessage c st      the opening message: the seed and that part
 --   offerEndResult st n       its promise, likewise: the state is zeros; refused, it stays as it was
 --   offerBegin, offerBeginOf  what is lent, from the slices of a contract, and from lists
-use mathlib.Core.List.{List, [], _++_}
-use Prim.Native.Nat.{ℕ}
-use lib.{IntN.ℤ, ListN.length, ListN.take, ListN.replicate}
-use Rattle.schemes.specs.{Schemes.fixedOf, declared.Named.Named, declared.Scheme.Scheme}
-use Rattle.schemes.specs.declared.Named.the-variants.{Known, Unknown}
+use Rattle.lists.specs.Kit.{List, [], _++_, ℕ, ℤ, length, take, replicate}
+use Rattle.schemes.specs.{Schemes.fixedOf, declared.Named.Named, declared.Scheme.Scheme, declared.Named.the-variants.Known, declared.Named.the-variants.Unknown}
 use Rattle.lists.specs.Lent.{Lent, was}
 use Rattle.packing.specs.Packing.{packed}
 use Rattle.matrix.specs.Words.{reduced}
 use Rattle.refusals.specs.Refusals.{_then_, lengthIs, roomFor, inTurn, notBlank, secretsIn}
-use Rattle.refusals.specs.{Seen.ifPassed, Seen.Seen, Seen.shown, declared.Verdict.Verdict}
-use Rattle.refusals.specs.declared.Verdict.the-variants.{Fail}
 use Rattle.refusals.specs.declared.Refusal.the-variants.{NoScheme, OutOfTurn}
+use Rattle.refusals.specs.{Seen.ifPassed, Seen.Seen, Seen.shown, declared.Verdict.Verdict, declared.Verdict.the-variants.Fail}
 use Rattle.wire.specs.Wire.{opening}
 use Rattle.rows_state.specs.State.{long, named, savedOf, sumsOf, laid, fresh, complete}
 use Rattle.rows_state.specs.{Part.StateSeen, Part.stateShown, declared.Call.Call}

@@ -8,18 +8,14 @@
 --   replyEndMessage, replyEndKey   message and key: that part and the hints of V; the published bits of V
 --   replyEndResult st m       its promise, likewise: the state is zeros; refused, it stays as it was
 --   replyBegin, replyBeginOf  what is lent, from the slices of a contract, and from lists
-use mathlib.Core.List.{List, [], _++_}
-use Prim.Native.Nat.{ℕ}
-use lib.{IntN.ℤ, ListN.length, ListN.replicate}
-use Rattle.schemes.specs.{Schemes.fixedOf, declared.Named.Named, declared.Scheme.Scheme}
-use Rattle.schemes.specs.declared.Named.the-variants.{Known, Unknown}
+use Rattle.lists.specs.Kit.{List, [], _++_, ℕ, ℤ, length, replicate}
+use Rattle.schemes.specs.{Schemes.fixedOf, declared.Named.Named, declared.Scheme.Scheme, declared.Named.the-variants.Known, declared.Named.the-variants.Unknown}
 use Rattle.lists.specs.Lent.{Lent, was}
 use Rattle.packing.specs.Packing.{packed}
 use Rattle.sponge.specs.Sponge.{sha3}
 use Rattle.refusals.specs.Refusals.{_then_, lengthIs, roomFor, inTurn, notBlank, secretsIn}
-use Rattle.refusals.specs.{Seen.ifPassed, declared.Verdict.Verdict}
-use Rattle.refusals.specs.declared.Verdict.the-variants.{Fail}
 use Rattle.refusals.specs.declared.Refusal.the-variants.{NoScheme, OutOfTurn}
+use Rattle.refusals.specs.{Seen.ifPassed, declared.Verdict.Verdict, declared.Verdict.the-variants.Fail}
 use Rattle.values.specs.{Values.mixedValue, Keys.hints, Keys.keys}
 use Rattle.wire.specs.Wire.{openedIn, numbersIn, coinsIn}
 use Rattle.reply.specs.Reply.{ReplyRooms, ReplySeen, outputs}

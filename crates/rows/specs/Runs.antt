@@ -12,16 +12,12 @@
 --                          them, and an end, with room for n bytes or the rooms m, of which t is seen besides the state
 --   OfferAccepted, ReplyAccepted   a begin of the scheme c on the inputs x with a state of its fixed length, the parts ps and an end with such rooms, and none
 --                          of them refused
-use mathlib.Core.{Path._≡_, List.List, List.[], List._∷_, List._++_}
-use Prim.Native.Nat.{ℕ, _+_, _%_, _≤_, _<_}
-use lib.ListN.{length}
-use Rattle.schemes.specs.{Schemes.fixedOf, declared.Named.the-variants.Known}
-use Rattle.schemes.specs.declared.Scheme.{Scheme}
+use Rattle.lists.specs.Kit.{_≡_, List, [], _∷_, _++_, ℕ, _+_, _%_, _≤_, _<_, length}
+use Rattle.schemes.specs.{Schemes.fixedOf, declared.Named.the-variants.Known, declared.Scheme.Scheme}
 use Rattle.refusals.specs.Seen.{Seen}
 use Rattle.reply.specs.Reply.{ReplyRooms, ReplySeen}
 use Rattle.rows_state.specs.{State.long, State.stepped, Part.partResult, declared.Call.Call}
-use Rattle.rows.specs.Offer.{OfferBegin, offerBeginResult, offerEndResult}
-use Rattle.rows.specs.Reply.{ReplyBegin, replyBeginResult, replyEndResult}
+use Rattle.rows.specs.{Offer.OfferBegin, Offer.offerBeginResult, Offer.offerEndResult, Reply.ReplyBegin, Reply.replyBeginResult, Reply.replyEndResult}
 
 abbrev pub Accepts : Call → List ℕ → List ℕ → Type 0
 Accepts k st p = partResult k st p .number ≡ 0

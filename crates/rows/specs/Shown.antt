@@ -16,25 +16,21 @@
 --   EarlyOffer, EarlyReply   where the parts do not fill the rows, it gives 11, and zeros
 --   OfferTaken, ReplyTaken   of parts that do not run past the end of their row, begin, all parts and end are accepted exactly if the whole-matrix call accepts the
 --                     joined matrix
-use mathlib.Core.{Path._≡_, Logic._↔_, Logic._≢_, Bool.true, List.List, List.[], List._++_}
-use Prim.Native.Nat.{ℕ, _+_, _*_, _/_, _%_, _≤_, _<_}
-use lib.{IntN.ℤ, ListN.length, ListN.take, ListN.drop}
+use Rattle.lists.specs.Kit.{_≡_, _↔_, true, List, [], _++_, ℕ, _+_, _*_, _/_, _%_, _≤_, _<_, ℤ, length, take, drop}
+use mathlib.Core.Logic.{_≢_}
 use Rattle.schemes.specs.Schemes.{familyOf, fixedOf, schemeOf}
-use Rattle.schemes.specs.{declared.Family.Family, declared.Named.the-variants.Known}
-use Rattle.schemes.specs.declared.Scheme.{Scheme}
+use Rattle.schemes.specs.{declared.Family.Family, declared.Named.the-variants.Known, declared.Scheme.Scheme}
 use Rattle.lists.specs.Ranges.{Below}
-use Rattle.matrix.specs.Matrix.{rightMixed, leftMixed}
-use Rattle.matrix.specs.Words.{wordsOf, gained, reduced}
+use Rattle.matrix.specs.{Matrix.rightMixed, Matrix.leftMixed, Words.wordsOf, Words.gained, Words.reduced}
 use Rattle.parts.specs.Parts.{wrap}
-use Rattle.refusals.specs.{Seen.Seen, Seen.shown, declared.Refusal.the-variants.OutOfTurn}
 use Rattle.refusals.specs.declared.Verdict.the-variants.{Pass, Fail}
+use Rattle.refusals.specs.{Seen.Seen, Seen.shown, declared.Refusal.the-variants.OutOfTurn}
 use Rattle.offer.specs.Offer.{offerOf, offerTests, offerResult}
 use Rattle.reply.specs.Reply.{ReplyRooms, ReplySeen, replyOf, replyTests, outputs, replyResult}
 use Rattle.rows_state.specs.State.{frodoOf, long, named, taken, secretOf, sumsOf, heldOf, laid, secretWords, begun, terms}
 use Rattle.rows_state.specs.{Part.partResult, declared.Call.Call}
-use Rattle.rows.specs.Offer.{OfferBegin, offerEndResult}
-use Rattle.rows.specs.Reply.{ReplyBegin, replyEndResult}
 use Rattle.rows.specs.Runs.{Accepts, next, Parts, Good, joined, steps, WithinRows, OfferRun, ReplyRun, OfferAccepted, ReplyAccepted}
+use Rattle.rows.specs.{Offer.OfferBegin, Offer.offerEndResult, Reply.ReplyBegin, Reply.replyEndResult}
 
 -- ---- the state
 

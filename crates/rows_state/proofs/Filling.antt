@@ -5,14 +5,10 @@
 --   row-is, row-fits, row-sixteenth   the first of the sixteen rows that it ends: its place, and that it is a multiple of 16
 --   halves            which can be halved
 --   whole-blocks      n is a multiple of 16, so that at the end nothing is held back
-use mathlib.Core.Path.{_≡_, _∙_, sym, ap}
-use mathlib.Core.Bool.{Bool, true, false, cond}
-use Prim.Native.Nat.{ℕ, _+_, _*_, _-_, _/_, _%_, _<_, _≤_}
-use native.Mathlib.Omega.{arith}
-use native.Mathlib.Nat.{mul-le-mul-right, mod-lt, mod-eq-of-lt, mod-self, mod-add-mod, mod-mod-of-dvd, div-add-mod', div-lt-iff-lt-mul, div-eq-of-eq-mul-left, mul-mod-left, dvd-of-mod-eq-zero, mul-div-cancel, div-le-of-le-mul}
-use native.Mathlib.Decide.{decLt}
-use borrow.Author.Tests.{leb-true, eqb-true, le-leb, eq-eqb}
-use lib.Arith.{digits-div, digits-mod}
+use Rattle.lists.proofs.Kit.{_≡_, _∙_, sym, ap, Bool, true, false, cond, ℕ, _+_, _*_, _-_, _/_, _%_, _<_, _≤_, arith, mul-le-mul-right, mod-lt, mod-eq-of-lt}
+use Rattle.lists.proofs.Kit.{mod-add-mod, div-add-mod', div-lt-iff-lt-mul, mul-mod-left, mul-div-cancel, decLt, leb-true, eqb-true, le-leb, eq-eqb, digits-div}
+use Rattle.lists.proofs.Kit.{digits-mod}
+use native.Mathlib.Nat.{mod-self, mod-mod-of-dvd, div-eq-of-eq-mul-left, dvd-of-mod-eq-zero, div-le-of-le-mul}
 use Rattle.rows_state.specs.State.{fills}
 use Rattle.rows_state.proofs.Tests.{goes, passed}
 

@@ -10,25 +10,18 @@
 --   kept-zeros, keeping-long, keeping-kept, keeping-is   what is kept, written into zeros
 --   headed, headed-long, behind-zeros, lay-is   two numbers ahead of it, and then all words behind it
 --   secret-words-long, fresh-long   how many words a secret has; how long a state is as begin leaves it
-use mathlib.Core.Path.{_≡_, refl, _∙_, sym, ap, ap₂}
-use mathlib.Core.List.{List, [], _∷_, _++_, append-nil}
-use Prim.Native.Nat.{ℕ, zero, suc, _+_, _*_, _-_, _%_, _≤_}
-use native.Mathlib.Omega.{arith}
-use lib.{IntN.ℤ, Seq.take-at, Seq.drop-at, Seq.drop-drop, Seq.take-add}
-use lib.ListN.{length, getD, take, drop, set, replicate, length-append, length-take, length-drop, length-replicate, length-set, take-append-drop, drop-of-length-le}
-use native.Mathlib.Nat.{suc-add}
-use borrow.Rule.Slice.PartMut.{putMid}
+use Rattle.lists.proofs.Kit.{_≡_, refl, _∙_, sym, ap, ap₂, List, [], _∷_, _++_, append-nil, ℕ, zero, suc, _+_, _*_, _-_, _%_, _≤_, arith, ℤ, take-at, drop-at}
+use Rattle.lists.proofs.Kit.{drop-drop, take-add, length, getD, take, drop, set, replicate, length-append, length-take, length-drop, length-replicate}
+use Rattle.lists.proofs.Kit.{length-set, take-append-drop, drop-of-length-le, suc-add, putMid}
+use Rattle.schemes.specs.{Schemes.fixedOf, declared.Scheme.Scheme}
 use Rattle.lists.specs.Ranges.{Below}
-use Rattle.lists.proofs.{Parts.drop-same, Parts.below-drop, Parts.below-take, Same.take-same}
-use Rattle.lists.proofs.Entries.{tab-length}
+use Rattle.lists.proofs.{Parts.drop-same, Parts.below-drop, Parts.below-take, Same.take-same, Entries.tab-length}
 use Rattle.matrix.specs.Words.{columnsOf, gained}
 use Rattle.matrix.proofs.Steps.{gained-length, words-length}
 use Rattle.parts.specs.Parts.{wrap, words, pairs}
-use Rattle.parts.proofs.Words.{words-long, words-below, append-below, pairs-long, pairs-words, words-pairs}
-use Rattle.parts.proofs.Blocks.{gained-below}
-use Rattle.schemes.specs.{Schemes.fixedOf, declared.Scheme.Scheme}
-use Rattle.rows_state.specs.State.{long, taken, savedOf, secretOf, sumsOf, heldOf, Layout, laid, onward, secretWords, fresh, heldWith}
-use Rattle.rows_state.specs.{Inside.keeping, declared.Call.Call}
+use Rattle.parts.proofs.{Words.words-long, Words.words-below, Words.append-below, Words.pairs-long, Words.pairs-words, Words.words-pairs, Blocks.gained-below}
+use Rattle.rows_state.specs.State.{long, taken, savedOf, secretOf, sumsOf, heldOf, Layout, laid, onward, secretWords, fresh, heldWith, Call}
+use Rattle.rows_state.specs.Inside.{keeping}
 
 pub three : (st : List ℕ) → 3 ≤ length st → st ≡ getD st 0 0 ∷ getD st 1 0 ∷ getD st 2 0 ∷ drop 3 st
 three [] h = absurd (omega arith)

@@ -7,26 +7,20 @@
 --   back-right, back-left     they are written in their place
 --   entered-wide              the state stays as long
 --   step-holds, step-enters   so the part is in the state, whether it ends a block or not
-use mathlib.Core.{Path._≡_, Path.refl, Path._∙_, Path.sym, Path.ap, Path.ap₂, Bool.true, Bool.false}
-use mathlib.Core.List.{List, [], _∷_, _++_, append-assoc, append-nil}
-use Prim.Native.Nat.{ℕ, _+_, _*_, _-_, _/_, _%_, _≤_}
-use native.Mathlib.Omega.{arith}
-use lib.ListN.{length, getD, take, drop, set, length-append, length-take, length-drop, take-append-drop, drop-of-length-le}
-use borrow.Rule.Slice.PartMut.{putMid}
-use lib.Seq.{take-add, take-take, take-append-le, drop-append-le, drop-drop}
+use Rattle.lists.proofs.Kit.{_≡_, refl, _∙_, sym, ap, ap₂, true, false, List, [], _∷_, _++_, append-assoc, append-nil, ℕ, _+_, _*_, _-_, _/_, _%_, _≤_, arith}
+use Rattle.lists.proofs.Kit.{length, getD, take, drop, set, length-append, length-take, length-drop, take-append-drop, drop-of-length-le, putMid, take-add}
+use Rattle.lists.proofs.Kit.{take-take, take-append-le, drop-append-le, drop-drop}
 use Rattle.lists.specs.Ranges.{Below}
 use Rattle.lists.proofs.Parts.{below-drop, below-take, to-end}
 use Rattle.matrix.specs.{Steps.partTerm, Steps.columnsFrom, Words.gained, Words.rightTerm}
 use Rattle.matrix.proofs.Steps.{gained-length}
 use Rattle.parts.specs.{Parts.wrap, Parts.words, Parts.pairs, Parts.placed, Joining.Linear}
-use Rattle.parts.proofs.Joining.{right-linear, left-linear}
-use Rattle.parts.proofs.Words.{pairs-long, pairs-words}
-use Rattle.parts.proofs.Blocks.{right-back, columns-met, left-is}
-use Rattle.rows_state.specs.State.{long, taken, savedOf, secretOf, sumsOf, heldOf, Layout, laid, onward, terms, fills, heldWith, sumsWith, stepped}
+use Rattle.parts.proofs.{Joining.right-linear, Joining.left-linear, Words.pairs-long, Words.pairs-words, Blocks.right-back, Blocks.columns-met, Blocks.left-is}
+use Rattle.rows_state.specs.State.{long, taken, savedOf, secretOf, sumsOf, heldOf, Layout, laid, onward, terms, fills, heldWith, sumsWith, stepped, Call}
 use Rattle.rows_state.specs.Inside.{holding, sumsEntered, entered, Sized}
-use Rattle.rows_state.specs.declared.Call.{Call}
+use Rattle.rows_state.proofs.Laying.{held-at, front, kept-long, secret-long, sums-long, held-long, again-words, laid-long, laid-kept, laid-secret}
+use Rattle.rows_state.proofs.Laying.{laid-sums, laid-behind, laid-held}
 use Rattle.rows_state.proofs.Filling.{halves}
-use Rattle.rows_state.proofs.Laying.{held-at, front, kept-long, secret-long, sums-long, held-long, again-words, laid-long, laid-kept, laid-secret, laid-sums, laid-behind, laid-held}
 
 pub linear : (k : Call) (n : ℕ) (s : List ℕ) → Linear (terms k n s)
 linear Call.Offer n s = right-linear n s

@@ -6,23 +6,17 @@
 --   completes, complete-so   all of A has come, likewise
 --   Frodos, frodos, frodo-named   what Frodo's schemes have in common; a state names none but these
 --   square                   n n is small
-use mathlib.Core.{Path._≡_, Path.refl, Path.sym, Path.ap, Bool.Bool, Bool.true, Bool.false}
-use mathlib.Core.List.{List}
-use Prim.Native.Nat.{ℕ, _+_, _*_, _%_, _^_, _<_, _≤_}
-use native.Mathlib.Omega.{arith}
-use native.Mathlib.Nat.{le-of-eq, mul-le-mul}
-use borrow.Author.Tests.{leb-true, eqb-true, eq-eqb, le-leb, lt-leb}
-use lib.{Dec.leb, ListN.length, ListN.getD}
-use Rattle.schemes.specs.{Schemes.familyOf, Schemes.fixedOf, Schemes.schemeOf, declared.Fixed.Fixed}
-use Rattle.schemes.specs.{declared.Family.Family, declared.Named.Named, declared.Scheme.Scheme}
-use Rattle.schemes.specs.declared.Named.the-variants.{Known, Unknown}
+use Rattle.lists.proofs.Kit.{_≡_, refl, sym, ap, Bool, true, false, List, ℕ, _+_, _*_, _%_, _^_, _<_, _≤_, arith, le-of-eq, mul-le-mul, leb-true, eqb-true}
+use Rattle.lists.proofs.Kit.{eq-eqb, le-leb, lt-leb, leb, length, getD}
 use Rattle.schemes.specs.declared.Scheme.the-variants.{Bcns, NewHope, Challenge, Classical, Recommended, Paranoid}
+use Rattle.schemes.specs.declared.Named.the-variants.{Known, Unknown}
+use Rattle.schemes.specs.Schemes.{familyOf, fixedOf, schemeOf}
+use Rattle.schemes.specs.{declared.Fixed.Fixed, declared.Family.Family, declared.Named.Named, declared.Scheme.Scheme}
 use Rattle.lists.specs.{Ranges.Below, First.firstOver}
 use Rattle.lists.proofs.{First.none-found, Table.both-true}
-use Rattle.lists.proofs.First as first
 use Rattle.values.proofs.Numbers.{Frodo}
-use Rattle.rows_state.specs.State.{frodoIn, frodoOf, tagOf, long, taken, savedOf, _and_, allBelow, savedIn, begun, fitsIn, complete}
-use Rattle.rows_state.specs.declared.Call.{Call}
+use Rattle.rows_state.specs.State.{frodoIn, frodoOf, tagOf, long, taken, savedOf, _and_, allBelow, savedIn, begun, fitsIn, complete, Call}
+use Rattle.lists.proofs.First as first
 
 pub stops : {t : Bool} (b : Bool) → t ≡ false → false ≡ t and b
 unfolding _and_

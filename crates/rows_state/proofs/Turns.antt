@@ -2,20 +2,15 @@
 --   turn-begins, turn-fails, turn-goes   its turn passed, and what that says; failed; and what follows decides
 --   state-by, state-seen-all   what is seen of a call that leaves a state, by its verdict; and that this is all
 --   part-unknown, part-known   the promise of a part, by the scheme that the state names
-use mathlib.Core.{Path._≡_, Path.refl, Path._∙_, Path.sym, Path.ap, Bool.Bool, Bool.true, List.List}
-use Prim.Native.Nat.{ℕ}
-use lib.ListN.{length}
-use Rattle.schemes.specs.{Schemes.fixedOf, declared.Fixed.Fixed, declared.Named.Named}
+use Rattle.lists.proofs.Kit.{_≡_, refl, _∙_, sym, ap, Bool, true, List, ℕ, length}
 use Rattle.schemes.specs.declared.Named.the-variants.{Known, Unknown}
-use Rattle.schemes.specs.declared.Scheme.{Scheme}
-use Rattle.refusals.specs.{Refusals.inTurn, Refusals.publicsIn, Seen.ifPassed}
-use Rattle.refusals.specs.{declared.Verdict.Verdict, declared.Refusal.Refusal}
+use Rattle.schemes.specs.{Schemes.fixedOf, declared.Fixed.Fixed, declared.Named.Named, declared.Scheme.Scheme}
 use Rattle.refusals.specs.declared.Verdict.the-variants.{Pass, Fail}
 use Rattle.refusals.specs.declared.Refusal.the-variants.{OutOfTurn}
+use Rattle.refusals.specs.{Refusals.inTurn, Refusals.publicsIn, Seen.ifPassed, declared.Verdict.Verdict, declared.Refusal.Refusal}
 use Rattle.refusals.proofs.{Laws.turn-passed, Laws.failed, Laws.went-on, Same.same-verdict}
-use Rattle.rows_state.specs.State.{named, taken, _and_, begun, fitsIn, stepped}
 use Rattle.rows_state.specs.Part.{StateSeen, stateShown, stateSeen, partTests, partState, partResult, StateSeenAll}
-use Rattle.rows_state.specs.declared.Call.{Call}
+use Rattle.rows_state.specs.State.{named, taken, _and_, begun, fitsIn, stepped, Call}
 use Rattle.rows_state.proofs.Tests.{passed}
 
 module _ (k : Call) (c : Scheme) (st p : List ℕ) {f : Fixed} {b : Bool} {v : Verdict} (e : f ≡ fixedOf c)

@@ -4,13 +4,10 @@
 --   entered k n at st   the state with these sums
 --   keeping n kept      a state of zeros but for what is kept for the end
 --   Sized n st          the length of a state, and numbers that the code can count with
-use mathlib.Core.{Path._≡_, List.List, List._∷_, List._++_}
-use Prim.Native.Nat.{ℕ, _+_, _*_, _%_, _<_, _≤_}
-use lib.ListN.{length, take, drop, replicate}
+use Rattle.lists.specs.Kit.{_≡_, List, _∷_, _++_, ℕ, _+_, _*_, _%_, _<_, _≤_, length, take, drop, replicate}
 use Rattle.matrix.specs.Words.{gained}
 use Rattle.parts.specs.Parts.{wrap, pairs, placed}
-use Rattle.rows_state.specs.State.{long, taken, secretOf, sumsOf, heldOf, laid, onward, terms, heldWith}
-use Rattle.rows_state.specs.declared.Call.{Call}
+use Rattle.rows_state.specs.State.{long, taken, secretOf, sumsOf, heldOf, laid, onward, terms, heldWith, Call}
 
 unfoldable pub holding : ℕ → List ℕ → List ℕ → List ℕ
 holding n st p = laid (onward n st (taken st + length p) (sumsOf n st) (heldWith n st p))

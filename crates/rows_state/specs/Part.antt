@@ -7,17 +7,11 @@
 --   partState k c st p    the state with the part
 --   partResult k st p     its promise: what is seen, as a function of what is lent; refused, the state stays as it was
 --   StateSeenAll          `stateSeen` forgets nothing: from what is seen come the verdict and the state
-use mathlib.Core.{Path._≡_, List.List}
-use Prim.Native.Nat.{ℕ}
-use lib.ListN.{length}
-use Rattle.schemes.specs.{Schemes.fixedOf, declared.Named.Named}
-use Rattle.schemes.specs.declared.Named.the-variants.{Known, Unknown}
+use Rattle.lists.specs.Kit.{_≡_, List, ℕ, length}
+use Rattle.schemes.specs.{Schemes.fixedOf, declared.Named.Named, declared.Named.the-variants.Known, declared.Named.the-variants.Unknown}
 use Rattle.refusals.specs.Refusals.{numberIn, placeIn, _then_, inTurn, publicsIn}
-use Rattle.refusals.specs.{Seen.ifPassed, declared.Verdict.Verdict}
-use Rattle.refusals.specs.declared.Verdict.the-variants.{Fail}
-use Rattle.refusals.specs.declared.Refusal.the-variants.{OutOfTurn}
-use Rattle.rows_state.specs.State.{named, taken, _and_, begun, fitsIn, stepped}
-use Rattle.rows_state.specs.declared.Call.{Call}
+use Rattle.refusals.specs.{Seen.ifPassed, declared.Verdict.Verdict, declared.Verdict.the-variants.Fail, declared.Refusal.the-variants.OutOfTurn}
+use Rattle.rows_state.specs.State.{named, taken, _and_, begun, fitsIn, stepped, Call}
 
 pub record StateSeen : Type 0 where
   pub number : ℕ

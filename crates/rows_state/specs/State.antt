@@ -26,17 +26,14 @@
 --   heldWith n st p      the numbers that are held back, with the part p behind them
 --   sumsWith k n st p    the sums with the part p, which sixteen rows enter where it fills them
 --   stepped k n st p     the state with the part p
-use mathlib.Core.{Bool.Bool, Bool.cond, List.List, List._∷_, List._++_}
-use Prim.Native.Nat.{ℕ, _+_, _*_, _-_, _%_}
-use lib.{Dec.eqb, Dec.leb, IntN.ℤ}
-use lib.ListN.{length, getD, take, drop, replicate}
-use Rattle.lists.specs.First.{firstOver, both}
+use Rattle.lists.specs.Kit.{Bool, cond, List, _∷_, _++_, ℕ, _+_, _*_, _-_, _%_, eqb, leb, ℤ, length, getD, take, drop, replicate}
 use Rattle.schemes.specs.Schemes.{byFamily, familyOf, fixedOf, schemeNumber, schemeOf}
-use Rattle.schemes.specs.{declared.Fixed.Fixed, declared.Named.Named, declared.Scheme.Scheme}
 use Rattle.schemes.specs.declared.Named.the-variants.{Known, Unknown}
+use Rattle.schemes.specs.{declared.Fixed.Fixed, declared.Named.Named, declared.Scheme.Scheme}
+use Rattle.lists.specs.First.{firstOver, both}
 use Rattle.matrix.specs.Words.{wordsOf, columnsOf, gained, rightTerm, leftTerm}
 use Rattle.parts.specs.Parts.{wrap, words, pairs, placed}
-use Rattle.rows_state.specs.declared.Call.{Call}
+pub use Rattle.rows_state.specs.declared.Call.{Call}
 
 -- 1 reads here: the scheme is not 2 to 5
 abbrev pub frodoIn : Named → Named

@@ -8,26 +8,17 @@
 --   numbers-few          no more are taken than the answer has
 --   whole-part           numbers that fill their part
 --   expand-unknown, expand-named   what is seen where no rule is named, and under another name and room
-use mathlib.Core.{Path._≡_, Path.refl, Path._∙_, Path.sym, Path.ap, Bool.Bool, Bool.true, Bool.false}
-use mathlib.Core.List.{List, _++_, append-nil}
-use Prim.Native.Nat.{ℕ, _≤_, _<_}
-use native.Mathlib.Omega.{arith}
-use lib.Dec.{leb}
-use lib.ListN.{length, take, drop, replicate, length-take, drop-of-length-le}
-use borrow.Author.Tests.{leb-true, le-leb, lt-leb}
-use Rattle.refusals.specs.{Seen.refused, Seen.Seen, Seen.told, Seen.seen, declared.Answer.Answer}
+use Rattle.lists.proofs.Kit.{_≡_, refl, _∙_, sym, ap, Bool, true, false, List, _++_, append-nil, ℕ, _≤_, _<_, arith, leb, length, take, drop, replicate}
+use Rattle.lists.proofs.Kit.{length-take, drop-of-length-le, leb-true, le-leb, lt-leb}
 use Rattle.lists.proofs.Same.{zeros-long}
-use Rattle.refusals.specs.{declared.Answer.the-variants.Refused, declared.Refusal.Refusal}
-use Rattle.refusals.specs.declared.Refusal.the-variants.{RanOut, NoRule}
-use Rattle.refusals.specs.declared.Verdict.{Verdict}
-use Rattle.refusals.specs.declared.Verdict.the-variants.{Pass, Fail}
-use Rattle.refusals.proofs.Laws.{differ, both, room-passed, failed, went-on}
-use Rattle.refusals.proofs.Seen.{shown-failed, seen-refused}
-use Rattle.noise.specs.{Expand.rule, declared.RuleName.RuleName, declared.Ruled.Ruled}
-use Rattle.noise.specs.declared.Ruled.the-variants.{By, Unknown}
+use Rattle.noise.specs.{Expand.rule, declared.RuleName.RuleName, declared.Ruled.Ruled, declared.Ruled.the-variants.By, declared.Ruled.the-variants.Unknown}
 use Rattle.noise.proofs.Stream.{expanded-length}
-use Rattle.sampling.specs.Expand.{expandNumbers, enough, expandTests, expandResult}
-use Rattle.sampling.specs.Steps.{expandSizes}
+use Rattle.refusals.specs.declared.Refusal.the-variants.{RanOut, NoRule}
+use Rattle.refusals.specs.declared.Verdict.the-variants.{Pass, Fail}
+use Rattle.refusals.specs.Seen.{refused, Seen, told, seen}
+use Rattle.refusals.specs.{declared.Answer.Answer, declared.Answer.the-variants.Refused, declared.Refusal.Refusal, declared.Verdict.Verdict}
+use Rattle.refusals.proofs.{Laws.differ, Laws.both, Laws.room-passed, Laws.failed, Laws.went-on, Seen.shown-failed, Seen.seen-refused}
+use Rattle.sampling.specs.{Expand.expandNumbers, Expand.enough, Expand.expandTests, Expand.expandResult, Steps.expandSizes}
 
 pub passes : {v t : Verdict} → v ≡ t → v ≡ Pass → t ≡ Pass
 passes e f = sym e ∙ f

@@ -4,24 +4,19 @@
 --   bytes-sized          where Grow's tests of lengths pass, so do Expand's of up to 24 blocks
 --   grown-all, grown-first   what is seen of it is then what is seen of Expand on all blocks, and on the first bytes where they are not refused
 --   grow-unknown, grow-named   what is seen where no rule is named, and under another name and room
-use mathlib.Core.{Path._≡_, Path.refl, Path._∙_, Path.sym, Path.ap, Path.ap₂, List.List, List._++_}
-use Prim.Native.Nat.{ℕ, _+_, _-_, _*_, _%_, _≤_}
-use native.Mathlib.Omega.{arith}
-use lib.ListN.{length, take, drop, replicate, take-append-drop}
-use Rattle.refusals.specs.Seen.{refused, Seen, shown, told, seen}
+use Rattle.lists.proofs.Kit.{_≡_, refl, _∙_, sym, ap, ap₂, List, _++_, ℕ, _+_, _-_, _*_, _%_, _≤_, arith, length, take, drop, replicate, take-append-drop}
 use Rattle.lists.proofs.Same.{zeros-long}
-use Rattle.refusals.specs.{declared.Answer.Answer, declared.Answer.the-variants.Done}
-use Rattle.refusals.specs.{declared.Refusal.Refusal, declared.Refusal.the-variants.NoRule}
-use Rattle.refusals.specs.declared.Verdict.{Verdict}
-use Rattle.refusals.specs.declared.Verdict.the-variants.{Pass, Fail}
-use Rattle.refusals.proofs.Laws.{both, all-pass, room-passed, up-to-passes, room-passes, failed, went-on}
-use Rattle.refusals.proofs.Seen.{shown-failed, seen-done}
-use Rattle.noise.specs.{Expand.expanded, Expand.rule, declared.RuleName.RuleName}
-use Rattle.noise.specs.declared.Ruled.{Ruled}
 use Rattle.noise.specs.declared.Ruled.the-variants.{By, Unknown}
+use Rattle.noise.specs.{Expand.expanded, Expand.rule, declared.RuleName.RuleName, declared.Ruled.Ruled}
 use Rattle.noise.proofs.Stream.{expanded-counted, unread}
 use Rattle.sponge.specs.Sponge.{shake128}
 use Rattle.sponge.proofs.Output.{shake-length, longer}
+use Rattle.refusals.specs.declared.Verdict.the-variants.{Pass, Fail}
+use Rattle.refusals.specs.Seen.{refused, Seen, shown, told, seen}
+use Rattle.refusals.specs.declared.Refusal.the-variants.{NoRule}
+use Rattle.refusals.specs.{declared.Answer.Answer, declared.Answer.the-variants.Done, declared.Refusal.Refusal, declared.Verdict.Verdict}
+use Rattle.refusals.proofs.Laws.{both, all-pass, room-passed, up-to-passes, room-passes, failed, went-on}
+use Rattle.refusals.proofs.Seen.{shown-failed, seen-done}
 use Rattle.sampling.specs.Expand.{expandNumbers, enough, expandTests, expandResult, blocks, growNumbers, growTests, growResult}
 use Rattle.sampling.specs.Steps.{expandSizes, growSizes}
 use Rattle.sampling.proofs.Expanding.{sizes-passed, enough-passed}

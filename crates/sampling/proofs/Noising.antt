@@ -4,25 +4,17 @@
 --   Fits, sizes-passed, tests-passed   what passed tests say of the lengths
 --   takes, words, filled   the bytes, the table and the values of a scheme that is known by its name
 --   noise-unknown, noise-named   what is seen where no scheme is named, and under another name and room
-use mathlib.Core.{Path._≡_, Path.refl, Path._∙_, Path.sym, Path.ap, List.List}
-use mathlib.Core.Bool.{Bool, true, false}
-use Prim.Native.Nat.{ℕ, _*_, _/_, _≤_}
-use native.Mathlib.Omega.{arith}
-use lib.{Dec.eqb, IntN.ℤ, IntN.pos, ListN.length, ListN.replicate}
-use borrow.Author.Tests.{eqb-true}
-use Rattle.schemes.specs.{Schemes.fixedOf, Schemes.familyOf, Schemes.byFamily, declared.Named.Named}
-use Rattle.schemes.specs.{declared.Family.Family, declared.Scheme.Scheme}
+use Rattle.lists.proofs.Kit.{_≡_, refl, _∙_, sym, ap, List, Bool, true, false, ℕ, _*_, _/_, _≤_, arith, eqb, ℤ, pos, length, replicate, eqb-true}
 use Rattle.schemes.specs.declared.Scheme.the-variants.{Bcns, NewHope, Challenge, Classical, Recommended, Paranoid}
 use Rattle.schemes.specs.declared.Named.the-variants.{Known, Unknown}
-use Rattle.refusals.specs.{Refusals._then_, Refusals.tableIn, declared.Verdict.Verdict}
-use Rattle.refusals.specs.{declared.Verdict.the-variants.Pass, Seen.refused, Seen.Seen, Seen.seen}
-use Rattle.refusals.specs.declared.Refusal.the-variants.{NoScheme}
-use Rattle.refusals.proofs.Laws.{both, last-passes, length-passed, room-passed}
-use Rattle.refusals.proofs.Seen.{shown-failed}
+use Rattle.schemes.specs.{Schemes.fixedOf, Schemes.familyOf, Schemes.byFamily, declared.Named.Named, declared.Family.Family, declared.Scheme.Scheme}
 use Rattle.noise.specs.Noise.{d1, d2, d3, d4}
 use Rattle.noise.proofs.Noise.{newhope-length, frodo-length}
 use Rattle.bcns_noise.specs.Noise.{firstNotAbove}
 use Rattle.bcns_noise.proofs.Table.{noise-long}
+use Rattle.refusals.specs.declared.Refusal.the-variants.{NoScheme}
+use Rattle.refusals.specs.{Refusals._then_, Refusals.tableIn, declared.Verdict.Verdict, declared.Verdict.the-variants.Pass, Seen.refused, Seen.Seen, Seen.seen}
+use Rattle.refusals.proofs.{Laws.both, Laws.last-passes, Laws.length-passed, Laws.room-passed, Seen.shown-failed}
 use Rattle.sampling.specs.Noise.{Noise, lengthEither, bytesEach, tableWords, noiseTests, noiseValues, noiseResult}
 use Rattle.sampling.specs.Steps.{noiseSizes}
 

@@ -5,32 +5,23 @@
 --   grow-below, grow-passes         so of Grow
 --   never-eighteen, eighteen-says   where Noise is refused with 18, and what its place says
 --   same-grown                      two boxes grow the same numbers
-use mathlib.Core.{Path._≡_, Path.refl, Path._∙_, Path.sym, Bool.Bool, Bool.true, Bool.false}
-use mathlib.Core.List.{List}
-use Prim.Native.Nat.{ℕ, _*_, _/_, _<_, _≤_}
-use native.Mathlib.Omega.{arith}
-use lib.{Dec.eqb, Dec.ltb, IntN.pos, IntN.natAbs, ListN.length, ListN.take, Seq.take-at}
-use Rattle.schemes.specs.Schemes.{fixedOf, familyOf, byFamily, newHope}
-use Rattle.schemes.specs.{declared.Scheme.Scheme, declared.Named.the-variants.Known}
+use Rattle.lists.proofs.Kit.{_≡_, refl, _∙_, sym, Bool, true, false, List, ℕ, _*_, _/_, _<_, _≤_, arith, eqb, ltb, pos, natAbs, length, take, take-at, ltb-true}
 use Rattle.schemes.specs.declared.Scheme.the-variants.{Bcns, NewHope, Challenge, Classical, Recommended, Paranoid}
+use Rattle.schemes.specs.{Schemes.fixedOf, Schemes.familyOf, Schemes.byFamily, Schemes.newHope, declared.Scheme.Scheme, declared.Named.the-variants.Known}
 use Rattle.lists.specs.Ranges.{Below, Within}
 use Rattle.lists.proofs.Parts.{below-take, below-drop, part-within}
-use borrow.Author.Tests.{ltb-true}
-use Rattle.refusals.specs.Refusals.{numberIn, placeIn, _then_, lengthIs, tableIn}
-use Rattle.refusals.specs.{Seen.written, Seen.shown, declared.Verdict.Verdict}
-use Rattle.refusals.specs.declared.Verdict.the-variants.{Pass, Fail}
-use Rattle.refusals.proofs.{Number.and, Number.lengths, Number.rooms, Seen.written-all}
-use Rattle.refusals.proofs.Laws.{differ, both, number-zero, within-passes, below-passes}
-use Rattle.noise.specs.{Noise.d1, Noise.d2, Noise.d3, Noise.d4, declared.Ruled.Ruled}
+use Rattle.noise.specs.{Noise.d1, Noise.d2, Noise.d3, Noise.d4, declared.Ruled.Ruled, declared.Ruled.the-variants.By, declared.Ruled.the-variants.Unknown}
 use Rattle.noise.proofs.{Noise.newhope-within, Noise.frodo-within, Stream.by-name-below}
-use Rattle.bcns_noise.proofs.Table.{largest-51, each-place}
 use Rattle.bcns_noise.specs.Noise.{firstNotAbove}
-use Rattle.noise.specs.declared.Ruled.the-variants.{By, Unknown}
-use Rattle.sampling.specs.Noise.{Noise, lengthEither, noiseTests, noiseValues, noiseResult, NoisePasses, NeverEighteen, EighteenSays}
+use Rattle.bcns_noise.proofs.Table.{largest-51, each-place}
+use Rattle.refusals.specs.Refusals.{numberIn, placeIn, _then_, lengthIs, tableIn}
+use Rattle.refusals.specs.{Seen.written, Seen.shown, declared.Verdict.Verdict, declared.Verdict.the-variants.Pass, declared.Verdict.the-variants.Fail}
+use Rattle.refusals.proofs.Laws.{differ, both, number-zero, within-passes, below-passes}
+use Rattle.refusals.proofs.{Number.and, Number.lengths, Number.rooms, Seen.written-all}
 use Rattle.sampling.specs.Expand.{expandNumbers, expandResult, ExpandPasses, blocks, growNumbers, growTests, growResult, SameGrown, GrowPasses}
+use Rattle.sampling.specs.Noise.{Noise, lengthEither, noiseTests, noiseValues, noiseResult, NoisePasses, NeverEighteen, EighteenSays}
 use Rattle.sampling.specs.Steps.{noiseSizes}
-use Rattle.sampling.proofs.Noising.{sizes-passed, tests-passed}
-use Rattle.sampling.proofs.Expanding.{enough-passed, numbers-few}
+use Rattle.sampling.proofs.{Noising.sizes-passed, Noising.tests-passed, Expanding.enough-passed, Expanding.numbers-few}
 
 -- ---- what is written is not refused later
 

@@ -9,17 +9,13 @@
 --   growTests, growResult k seed n   Grow's tests, and what it shows
 --   ExpandPasses, GrowPasses   no part of what either writes is refused as public numbers of NewHope
 --   SameGrown                two boxes that grow from one rule and seed hold the same numbers, whatever room they lend
-use mathlib.Core.{Path._≡_, Bool.cond, List.List, List.[]}
-use Prim.Native.Nat.{ℕ, _*_}
-use lib.{Dec.leb, ListN.length, ListN.take, ListN.drop}
+use Rattle.lists.specs.Kit.{_≡_, cond, List, [], ℕ, _*_, leb, length, take, drop}
 use Rattle.schemes.specs.Schemes.{newHope}
-use Rattle.refusals.specs.Refusals.{_then_, lengthIs, lengthUpTo, roomFor, publicsIn}
-use Rattle.refusals.specs.{Seen.Seen, Seen.shown, declared.Verdict.Verdict}
-use Rattle.refusals.specs.declared.Verdict.the-variants.{Pass, Fail}
-use Rattle.refusals.specs.declared.Refusal.the-variants.{RanOut, NoRule}
-use Rattle.noise.specs.{Expand.expanded, Expand.rule, declared.Ruled.Ruled}
-use Rattle.noise.specs.declared.Ruled.the-variants.{By, Unknown}
+use Rattle.noise.specs.{Expand.expanded, Expand.rule, declared.Ruled.Ruled, declared.Ruled.the-variants.By, declared.Ruled.the-variants.Unknown}
 use Rattle.sponge.specs.Sponge.{shake128}
+use Rattle.refusals.specs.Refusals.{_then_, lengthIs, lengthUpTo, roomFor, publicsIn}
+use Rattle.refusals.specs.declared.Refusal.the-variants.{RanOut, NoRule}
+use Rattle.refusals.specs.{Seen.Seen, Seen.shown, declared.Verdict.Verdict, declared.Verdict.the-variants.Pass, declared.Verdict.the-variants.Fail}
 
 unfoldable pub expandNumbers : Ruled → List ℕ → List ℕ
 expandNumbers Unknown stream = []

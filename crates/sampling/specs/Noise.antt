@@ -9,20 +9,16 @@
 --   NoisePasses                  no part of what Noise writes is refused as a secret or as noise
 --   NeverEighteen                18 cannot arise in the other schemes
 --   EighteenSays                 in BCNS its place is "the first entry not above its forerunner", 1 to 50
-use mathlib.Core.{Path._≡_, Bool.cond, List.List, List.[]}
-use Prim.Native.Nat.{ℕ, _*_, _/_, _<_}
-use lib.{Dec.eqb, IntN.ℤ, IntN.pos, ListN.length, ListN.take, ListN.drop}
-use Rattle.schemes.specs.{Schemes.fixedOf, Schemes.familyOf, Schemes.byFamily, declared.Named.Named}
-use Rattle.schemes.specs.declared.Scheme.{Scheme}
+use Rattle.lists.specs.Kit.{_≡_, cond, List, [], ℕ, _*_, _/_, _<_, eqb, ℤ, pos, length, take, drop}
 use Rattle.schemes.specs.declared.Scheme.the-variants.{Bcns, NewHope, Challenge, Classical, Recommended, Paranoid}
 use Rattle.schemes.specs.declared.Named.the-variants.{Known, Unknown}
+use Rattle.schemes.specs.{Schemes.fixedOf, Schemes.familyOf, Schemes.byFamily, declared.Named.Named, declared.Scheme.Scheme}
 use Rattle.lists.specs.{Ranges.Below, Lent.Lent, Lent.was}
-use Rattle.refusals.specs.Refusals.{numberIn, placeIn, _then_, lengthIs, roomFor, tableIn, secretsIn}
-use Rattle.refusals.specs.{Seen.Seen, Seen.shown, declared.Verdict.Verdict}
-use Rattle.refusals.specs.declared.Verdict.the-variants.{Pass, Fail}
-use Rattle.refusals.specs.declared.Refusal.the-variants.{NoScheme}
 use Rattle.noise.specs.Noise.{newHopeNoise, frodoNoise, d1, d2, d3, d4}
 use Rattle.bcns_noise.specs.{Noise.bcnsNoise, Noise.firstNotAbove, Shown.Place}
+use Rattle.refusals.specs.Refusals.{numberIn, placeIn, _then_, lengthIs, roomFor, tableIn, secretsIn}
+use Rattle.refusals.specs.declared.Verdict.the-variants.{Pass, Fail}
+use Rattle.refusals.specs.{Seen.Seen, Seen.shown, declared.Verdict.Verdict, declared.Refusal.the-variants.NoScheme}
 
 pub record Noise : Type 0 where
   pub bytes : List ℕ

@@ -2,12 +2,9 @@
 --   noiseSizes c each words x n   Noise's, where a value takes so many bytes and the table has so many words, with room for n values
 --   expandSizes stream n          Expand's, with room for n numbers
 --   growSizes seed n              Grow's
-use mathlib.Core.List.{List}
-use Prim.Native.Nat.{ℕ, _*_, _/_}
-use lib.ListN.{length}
+use Rattle.lists.specs.Kit.{List, ℕ, _*_, _/_, length}
 use Rattle.schemes.specs.{Schemes.fixedOf, Schemes.newHope, declared.Scheme.Scheme}
-use Rattle.refusals.specs.Refusals.{_then_, lengthIs, lengthUpTo, roomFor}
-use Rattle.refusals.specs.declared.Verdict.{Verdict}
+use Rattle.refusals.specs.{Refusals._then_, Refusals.lengthIs, Refusals.lengthUpTo, Refusals.roomFor, declared.Verdict.Verdict}
 use Rattle.sampling.specs.Noise.{Noise, lengthEither}
 
 unfoldable pub noiseSizes : Scheme → ℕ → ℕ → Noise → ℕ → Verdict

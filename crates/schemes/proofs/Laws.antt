@@ -2,15 +2,13 @@
 --   Tied f, tied     how the lengths of a scheme hang together
 --   by-number, by-scheme   a scheme's own number names it, and no other does
 --   few-schemes      which is at most 5
-use mathlib.Core.{Path._≡_, Path.refl, Path._∙_, Bool.Bool, Bool.true, Bool.false, Bool.cond}
+use mathlib.{Core.Path._≡_, Core.Path.refl, Core.Path._∙_, Core.Bool.Bool, Core.Bool.true, Core.Bool.false, Core.Bool.cond}
 use Prim.Native.Nat.{ℕ, _+_, _*_, _≤_}
 use native.Mathlib.Omega.{arith}
 use lib.Dec.{eqb}
 use borrow.Author.Tests.{eqb-true}
-use Rattle.schemes.specs.{declared.Fixed.Fixed, declared.Scheme.Scheme, declared.Named.Named}
-use Rattle.schemes.specs.declared.Scheme.the-variants.{Bcns, NewHope, Challenge, Classical, Recommended, Paranoid}
-use Rattle.schemes.specs.declared.Named.the-variants.{Known, Unknown}
-use Rattle.schemes.specs.Schemes.{fixedOf, schemeNumber, schemeOf}
+use Rattle.schemes.specs.Schemes.{Fixed, Scheme, Named, Bcns, NewHope, Challenge, Classical, Recommended, Paranoid, Known, Unknown, fixedOf, schemeNumber}
+use Rattle.schemes.specs.Schemes.{schemeOf}
 
 -- 01, "Bytes on the wire": every total fills whole bytes, and a message is the sum of its parts
 pub record Tied (f : Fixed) : Type 0 where

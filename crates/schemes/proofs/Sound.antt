@@ -1,11 +1,10 @@
 -- How large the fixed numbers of any scheme are, by tests that are computed over all six.
 --   Sound, sound   moduli, widths, bounds and counts of a scheme, and the largest of each
-use mathlib.Core.{Path._≡_, Path.refl, Bool.Bool, Bool.true, Bool._&&_, Bool.and-eq-true-iff}
+use mathlib.{Core.Path._≡_, Core.Path.refl, Core.Bool.Bool, Core.Bool.true, Core.Bool._&&_, Core.Bool.and-eq-true-iff}
 use Prim.Native.Nat.{ℕ, suc, _^_, _≤_, _<_}
 use lib.Dec.{leb}
 use borrow.Author.Tests.{leb-true}
-use Rattle.schemes.specs.{declared.Fixed.Fixed, declared.Scheme.Scheme, Schemes.fixedOf}
-use Rattle.schemes.specs.declared.Scheme.the-variants.{Bcns, NewHope, Challenge, Classical, Recommended, Paranoid}
+use Rattle.schemes.specs.Schemes.{Fixed, Scheme, fixedOf, Bcns, NewHope, Challenge, Classical, Recommended, Paranoid}
 
 pub record Sound (f : Fixed) : Type 0 where
   pub some : 1 < f .q

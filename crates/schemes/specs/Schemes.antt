@@ -9,10 +9,9 @@
 use Prim.Native.Nat.{ℕ, _+_, _*_}
 use mathlib.Core.Bool.{cond}
 use lib.Dec.{eqb}
-use Rattle.schemes.specs.{declared.Fixed.Fixed, declared.Family.Family, declared.Named.Named}
-use Rattle.schemes.specs.declared.Scheme.{Scheme}
-use Rattle.schemes.specs.declared.Scheme.the-variants.{Bcns, NewHope, Challenge, Classical, Recommended, Paranoid}
-use Rattle.schemes.specs.declared.Named.the-variants.{Known, Unknown}
+pub use Rattle.schemes.specs.declared.Scheme.the-variants.{Bcns, NewHope, Challenge, Classical, Recommended, Paranoid}
+pub use Rattle.schemes.specs.declared.Named.the-variants.{Known, Unknown}
+pub use Rattle.schemes.specs.{declared.Fixed.Fixed, declared.Family.Family, declared.Named.Named, declared.Scheme.Scheme}
 
 -- 01, "The three families and their numbers", "The calls" and "Bytes on the wire"
 abbrev pub bcns : Fixed

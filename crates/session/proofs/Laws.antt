@@ -9,29 +9,22 @@
 --   offer-stops                  what a refusal ahead of Offer shows; so of the others
 --   offer-refused, offer-done    Offer: a refusal of the call beneath, and its answer; so of the others
 --   close-moves                  Close
-use mathlib.Core.{Path._≡_, Path.refl, Path._∙_, Path.sym, Path.ap, List.List, List.[], List._++_}
-use mathlib.Core.Bool.{Bool, true, false, not}
-use Prim.Native.Nat.{ℕ, _-_, min}
-use native.Mathlib.Omega.{arith}
-use native.Mathlib.Nat.{sub-zero}
-use lib.{ListN.length, ListN.take, ListN.drop, ListN.length-take, Seq.take-all, Seq.take-take}
-use borrow.Author.Tests.{not-true, not-false}
-use Rattle.schemes.specs.{Schemes.schemeOf, declared.Named.Named}
-use Rattle.schemes.specs.declared.Named.the-variants.{Unknown}
+use Rattle.lists.proofs.Kit.{_≡_, refl, _∙_, sym, ap, List, [], _++_, Bool, true, false, not, ℕ, _-_, min, arith, sub-zero, length, take, drop, length-take}
+use Rattle.lists.proofs.Kit.{take-all, take-take, not-true, not-false}
+use Rattle.schemes.specs.{Schemes.schemeOf, declared.Named.Named, declared.Named.the-variants.Unknown}
 use Rattle.lists.proofs.Parts.{drop-same}
-use Rattle.refusals.specs.{Refusals.numberOf, Refusals.numberIn, declared.Answer.Answer}
 use Rattle.refusals.specs.Seen.{ifPassed, Output, output, written, answer, Seen, shown, told, seen}
-use Rattle.refusals.specs.{declared.Refusal.Refusal, declared.Refusal.the-variants.OutOfStage}
-use Rattle.refusals.specs.declared.Verdict.{Verdict}
 use Rattle.refusals.specs.declared.Verdict.the-variants.{Pass, Fail}
+use Rattle.refusals.specs.declared.Refusal.the-variants.{OutOfStage}
+use Rattle.refusals.specs.{Refusals.numberOf, Refusals.numberIn, declared.Answer.Answer, declared.Refusal.Refusal, declared.Verdict.Verdict}
 use Rattle.refusals.proofs.{Laws.some, Laws.number-zero, Seen.written-answer}
 use Rattle.offer.specs.Offer.{Offer, offerResult}
-use Rattle.reply.specs.Reply.{Reply, ReplyRooms, ReplySeen, replyTold, replySeen, outputs, replyResult}
 use Rattle.finish.specs.Finish.{Finish, FinishRooms, FinishSeen, finishOf, finishTold, finishSeen, finishShown, finishResult}
-use Rattle.reply.specs.{declared.ReplyAnswer.ReplyAnswer, declared.ReplyCounts.ReplyCounts}
 use Rattle.finish.specs.{declared.FinishCounts.FinishCounts, declared.FinishAnswer.FinishAnswer}
-use Rattle.session.specs.declared.Session.{Session}
-use Rattle.session.specs.Table.{Call, offering, replying, finishing, closing, whenIdle, whenOffered, padded, noKey, idle, offered, keyed, row, outcome, step}
+use Rattle.reply.specs.Reply.{Reply, ReplyRooms, ReplySeen, replyTold, replySeen, outputs, replyResult}
+use Rattle.reply.specs.{declared.ReplyAnswer.ReplyAnswer, declared.ReplyCounts.ReplyCounts}
+use Rattle.session.specs.Table.{Session, Call, offering, replying, finishing, closing, whenIdle, whenOffered, padded, noKey, idle, offered, keyed, row}
+use Rattle.session.specs.Table.{outcome, step}
 use Rattle.session.specs.Seen.{CallSeen, ofOffer, ofReply, ofFinish, ofClose, number, shownBy, turn, moved}
 
 -- ---- the key in its place

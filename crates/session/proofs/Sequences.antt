@@ -2,25 +2,19 @@
 --   followed, answered, accepted, kept, sounds
 --   kept-by       what a refusal does not change
 --   step-sound    one step
-use mathlib.Core.Path.{_≡_, refl, _∙_, sym, ap, ap₂}
-use mathlib.Core.{Bool.Bool, Bool.true, Bool.false, Bool.cond, List.List, List.[], List._∷_}
-use Prim.Native.Nat.{ℕ}
-use native.Mathlib.Omega.{arith}
-use Rattle.schemes.specs.{Schemes.schemeOf, declared.Named.Named}
-use Rattle.schemes.specs.declared.Named.the-variants.{Known, Unknown}
-use Rattle.refusals.specs.{Refusals.numberIn, Seen.ifPassed, declared.Verdict.Verdict}
-use Rattle.refusals.specs.declared.Refusal.the-variants.{OutOfStage}
+use Rattle.lists.proofs.Kit.{_≡_, refl, _∙_, sym, ap, ap₂, Bool, true, false, cond, List, [], _∷_, ℕ, arith}
+use Rattle.schemes.specs.{Schemes.schemeOf, declared.Named.Named, declared.Named.the-variants.Known, declared.Named.the-variants.Unknown}
 use Rattle.refusals.specs.declared.Verdict.the-variants.{Pass, Fail}
+use Rattle.refusals.specs.{Refusals.numberIn, Seen.ifPassed, declared.Verdict.Verdict, declared.Refusal.the-variants.OutOfStage}
 use Rattle.refusals.proofs.Laws.{number-zero}
+use Rattle.finish.specs.Finish.{Finish, finishKey}
 use Rattle.reply.specs.Reply.{Reply, replyKey}
 use Rattle.reply.proofs.Replying.{key-length}
-use Rattle.finish.specs.Finish.{Finish, finishKey}
-use Rattle.finish.proofs.Finishing as finishes
-use Rattle.session.specs.declared.Session.{Session}
-use Rattle.session.specs.Table.{Call, offering, replying, finishing, closing, row, outcome, step, run, offered, keyed}
-use Rattle.session.specs.Seen.{number, shownBy, Turn, moved}
 use Rattle.session.specs.Sequences.{RanBy, seenOf, beneath, fits, Sound, Followed, Answered, Accepted, Kept, Sounds}
+use Rattle.session.specs.Table.{Session, Call, offering, replying, finishing, closing, row, outcome, step, run, offered, keyed}
+use Rattle.session.specs.Seen.{number, shownBy, Turn, moved}
 use Rattle.session.proofs.Laws.{shown-number}
+use Rattle.finish.proofs.Finishing as finishes
 
 pub followed : Followed
 unfolding run seenOf moved

@@ -4,15 +4,13 @@
 --   shownBy v x      what the call x shows by the verdict v: what the call beneath shows by it
 --   Turn, turn z t   the session z after a call, by value or in bytes, and what is seen of the call
 --   moved y x        the promise: what the call x on the session y leads to and shows
-use Prim.Native.Nat.{ℕ}
+use Rattle.lists.specs.Kit.{ℕ}
 use Rattle.schemes.specs.Schemes.{schemeOf}
-use Rattle.refusals.specs.{Refusals.numberIn, Refusals.placeIn, Seen.Told, Seen.Seen, Seen.shown}
-use Rattle.refusals.specs.declared.Verdict.{Verdict}
+use Rattle.refusals.specs.{Refusals.numberIn, Refusals.placeIn, Seen.Told, Seen.Seen, Seen.shown, declared.Verdict.Verdict}
 use Rattle.offer.specs.Offer.{offerMessage}
-use Rattle.reply.specs.Reply.{ReplySeen, replyShown}
 use Rattle.finish.specs.Finish.{FinishSeen, finishShown}
-use Rattle.session.specs.declared.Session.{Session}
-use Rattle.session.specs.Table.{Call, offering, replying, finishing, closing, outcome, step}
+use Rattle.reply.specs.Reply.{ReplySeen, replyShown}
+use Rattle.session.specs.Table.{Session, Call, offering, replying, finishing, closing, outcome, step}
 
 pub data CallSeen : Type 0 where
   ofOffer : Seen ℕ → CallSeen

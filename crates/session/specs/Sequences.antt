@@ -10,18 +10,13 @@
 --   Accepted         a call that refuses nothing was allowed, leads where the table says, and shows what the call beneath promises
 --   Kept             a refused call, with 10 or any other number, changes no stage and no key byte
 --   Sounds           the idle session is sound, and every sequence leaves a sound one sound
-use mathlib.Core.{Path._≡_, Bool.true, Bool.false, List.List, List.[], List._∷_}
-use Prim.Native.Nat.{ℕ}
-use lib.ListN.{length}
+use Rattle.lists.specs.Kit.{_≡_, true, false, List, [], _∷_, ℕ, length}
 use Rattle.schemes.specs.Schemes.{schemeOf, fixedOf}
-use Rattle.refusals.specs.declared.Refusal.the-variants.{OutOfStage}
-use Rattle.refusals.specs.declared.Verdict.the-variants.{Pass, Fail}
+use Rattle.refusals.specs.{declared.Refusal.the-variants.OutOfStage, declared.Verdict.the-variants.Pass, declared.Verdict.the-variants.Fail}
 use Rattle.offer.specs.Offer.{offerResult}
-use Rattle.reply.specs.Reply.{replyResult}
 use Rattle.finish.specs.Finish.{finishResult}
-use Rattle.session.specs.{declared.Stage.Stage, declared.Session.Session}
-use Rattle.session.specs.declared.Stage.the-variants.{Idle, Offered, Keyed}
-use Rattle.session.specs.Table.{Call, offering, replying, finishing, closing, row, padded, noKey, idle, step, run}
+use Rattle.reply.specs.Reply.{replyResult}
+use Rattle.session.specs.Table.{Stage, Session, Idle, Offered, Keyed, Call, offering, replying, finishing, closing, row, padded, noKey, idle, step, run}
 use Rattle.session.specs.Seen.{CallSeen, ofOffer, ofReply, ofFinish, ofClose, number, toldBy, shownBy, Turn, turn, moved}
 
 pub data RanBy {S C : Type 0} (move : S → C → Turn S) : S → List C → S → List CallSeen → Type 0 where

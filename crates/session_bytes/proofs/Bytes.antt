@@ -2,30 +2,22 @@
 --   taken-back, laid-back, fresh, closed, untouched, run-bytes
 --   moved-bytes   a call on the bytes of a session is the call by value
 --   held-by       a buffer on which a call other than close refuses nothing is a session
-use mathlib.Core.{Path._≡_, Path.refl, Path._∙_, Path.sym, Path.ap, Bool.true, Bool.false}
-use mathlib.Core.List.{List, [], _∷_, _++_}
-use Prim.Native.Nat.{ℕ, suc, _-_, _≤_}
-use native.Mathlib.Omega.{arith}
-use lib.ListN.{length, getD, take, drop, replicate, length-replicate, length-append, length-drop, take-append-drop}
-use lib.Seq.{drop-at, length-take-le, take-all}
-use borrow.Author.Tests.{eq-eqb}
-use Rattle.schemes.specs.Schemes.{fixedOf}
+use Rattle.lists.proofs.Kit.{_≡_, refl, _∙_, sym, ap, true, false, List, [], _∷_, _++_, ℕ, suc, _-_, _≤_, arith, length, getD, take, drop, replicate}
+use Rattle.lists.proofs.Kit.{length-replicate, length-append, length-drop, take-append-drop, drop-at, length-take-le, take-all, eq-eqb}
 use Rattle.schemes.specs.declared.Scheme.the-variants.{Bcns, NewHope, Challenge, Classical, Recommended, Paranoid}
+use Rattle.schemes.specs.Schemes.{fixedOf}
 use Rattle.schemes.proofs.Sound.{sound}
 use Rattle.blank.specs.Blank.{blank}
 use Rattle.blank.proofs.Laws.{blank-zeros, zeros-blank}
-use Rattle.refusals.specs.{Seen.done, declared.Refusal.the-variants.OutOfStage}
-use Rattle.refusals.specs.declared.Verdict.the-variants.{Fail}
-use Rattle.session.specs.{declared.Stage.Stage, declared.Session.Session}
+use Rattle.refusals.specs.{Seen.done, declared.Refusal.the-variants.OutOfStage, declared.Verdict.the-variants.Fail}
 use Rattle.session.specs.declared.Stage.the-variants.{Idle, Offered, Keyed}
 use Rattle.session.specs.Table.{Call, closing, row, outcome, step, run, noKey, padded}
 use Rattle.session.specs.Seen.{CallSeen, ofClose, number, shownBy, Turn, turn, moved}
-use Rattle.session.specs.Sequences.{RanBy, Ran, Sound, Holds, fits}
+use Rattle.session.specs.{declared.Stage.Stage, declared.Session.Session, Sequences.RanBy, Sequences.Ran, Sequences.Sound, Sequences.Holds, Sequences.fits}
 use Rattle.session.proofs.{Laws.shown-number, Sequences.step-sound}
-use Rattle.session_bytes.specs.Bytes.{stageByte, schemeByte, bytesOf, stageIn, keyLength, staged, sessionIn, closes, laidOut, movedAt, movedBytes}
+use Rattle.session_bytes.specs.Bytes.{stageByte, schemeByte, bytesOf, stageIn, keyLength, staged, sessionIn, closes, laidOut, movedAt, movedBytes, Found}
+use Rattle.session_bytes.specs.Bytes.{At, Nowhere}
 use Rattle.session_bytes.specs.Shown.{TakenBack, LaidBack, Fresh, Closed, Untouched, RanBytes, RunBytes}
-use Rattle.session_bytes.specs.declared.Found.{Found}
-use Rattle.session_bytes.specs.declared.Found.the-variants.{At, Nowhere}
 use Rattle.session_bytes.proofs.Stages.{parts}
 
 -- ---- a key in its place

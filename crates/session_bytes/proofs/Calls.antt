@@ -4,19 +4,12 @@
 --   long           one that is in a stage has 130 bytes
 --   found          one that is a session: it is taken apart, the call made, and the session after it laid out
 --   close-bytes    Close
-use mathlib.Core.{Path._≡_, Path._∙_, Path.sym, Path.ap, Bool.false}
-use mathlib.Core.List.{List, [], _∷_, _++_, append-nil}
-use Prim.Native.Nat.{ℕ, _≤_}
-use native.Mathlib.Omega.{arith}
-use lib.ListN.{length, take, drop, replicate, set, length-drop, drop-of-length-le}
-use lib.Seq.{take-all, length-take-le}
-use Rattle.refusals.specs.{Seen.done, declared.Refusal.the-variants.OutOfStage}
-use Rattle.refusals.specs.declared.Verdict.the-variants.{Fail}
-use Rattle.session.specs.{declared.Stage.Stage, declared.Session.Session, Table.Call, Table.closing}
+use Rattle.lists.proofs.Kit.{_≡_, _∙_, sym, ap, false, List, [], _∷_, _++_, append-nil, ℕ, _≤_, arith, length, take, drop, replicate, set, length-drop}
+use Rattle.lists.proofs.Kit.{drop-of-length-le, take-all, length-take-le}
+use Rattle.refusals.specs.{Seen.done, declared.Refusal.the-variants.OutOfStage, declared.Verdict.the-variants.Fail}
 use Rattle.session.specs.Seen.{CallSeen, ofClose, shownBy, turn, moved}
-use Rattle.session_bytes.specs.Bytes.{bytesOf, staged, closes, laidOut, movedBytes}
-use Rattle.session_bytes.specs.declared.Found.{Found}
-use Rattle.session_bytes.specs.declared.Found.the-variants.{At, Nowhere}
+use Rattle.session.specs.{declared.Stage.Stage, declared.Session.Session, Table.Call, Table.closing}
+use Rattle.session_bytes.specs.Bytes.{bytesOf, staged, closes, laidOut, movedBytes, Found, At, Nowhere}
 use Rattle.session_bytes.proofs.{Stages.parts, Bytes.closed, Bytes.untouched}
 
 pub part-128 : (bs : List ℕ) → length bs ≡ 130 → length (take 128 (drop 2 bs)) ≡ 128

@@ -3,33 +3,24 @@
 --   open-stops, open-refused, open-done   open: 10, a refusal of the call beneath, and its answer
 --   answer-stops, answer-refused, answer-done   so of answer
 --   opens, answers, kept                  the theorems of specs/Drawn
-use mathlib.Core.{Path._≡_, Path.refl, Path._∙_, Path.sym, Path.ap, List.List, List.[]}
-use mathlib.Core.Bool.{true, false, cond}
-use Prim.Native.Nat.{ℕ}
-use native.Mathlib.Omega.{arith}
-use lib.{ListN.length, ListN.take, IntN.ℤ}
-use Rattle.schemes.specs.Schemes.{schemeOf}
-use Rattle.schemes.specs.declared.Named.the-variants.{Unknown}
-use Rattle.refusals.specs.{Seen.ifPassed, Seen.written, Seen.shown}
-use Rattle.refusals.specs.{declared.Refusal.Refusal, declared.Refusal.the-variants.OutOfStage}
-use Rattle.refusals.specs.declared.Verdict.{Verdict}
-use Rattle.refusals.specs.declared.Verdict.the-variants.{Pass, Fail}
-use Rattle.refusals.proofs.Laws.{differ, number-zero}
+use Rattle.lists.proofs.Kit.{_≡_, refl, _∙_, sym, ap, List, [], true, false, cond, ℕ, arith, length, take, ℤ}
+use Rattle.schemes.specs.{Schemes.schemeOf, declared.Named.the-variants.Unknown}
 use Rattle.noise.specs.declared.Ruled.{Ruled}
+use Rattle.refusals.specs.declared.Verdict.the-variants.{Pass, Fail}
+use Rattle.refusals.specs.declared.Refusal.the-variants.{OutOfStage}
+use Rattle.refusals.specs.{Seen.ifPassed, Seen.written, Seen.shown, declared.Refusal.Refusal, declared.Verdict.Verdict}
+use Rattle.refusals.proofs.Laws.{differ, number-zero}
 use Rattle.reply.specs.Reply.{ReplyRooms, ReplySeen, replyKey, outputs, replyTold, replySeen}
 use Rattle.reply.specs.{declared.ReplyAnswer.ReplyAnswer, declared.ReplyCounts.ReplyCounts}
 use Rattle.exchange.specs.Open.{OpenLent, OpenRooms, OpenSeen, openTests, openShown, openResult, openLentOf, openTold, openSeen}
 use Rattle.exchange.specs.Answer.{AnswerLent, answerReply, answerTests, answerShown, answerResult}
-use Rattle.exchange.proofs.Shown.{open-offers, answer-replies}
 use Rattle.exchange.specs.{declared.OpenCounts.OpenCounts, declared.OpenAnswer.OpenAnswer}
+use Rattle.exchange.proofs.Shown.{open-offers, answer-replies}
 use Rattle.session.specs.declared.Stage.the-variants.{Idle, Offered, Keyed}
-use Rattle.session.specs.{declared.Session.Session, Seen.shownBy, Seen.moved}
-use Rattle.session.specs.Table.{offered, keyed, row, outcome, step}
+use Rattle.session.specs.{declared.Session.Session, Seen.shownBy, Seen.moved, Table.offered, Table.keyed, Table.row, Table.outcome, Table.step}
 use Rattle.session.proofs.{Laws.stays, Laws.whole, Sequences.kept-by}
-use Rattle.session_bytes.specs.declared.Found.{Found}
-use Rattle.session_bytes.specs.declared.Found.the-variants.{At, Nowhere}
-use Rattle.session_bytes.specs.Bytes.{bytesOf, staged, movedBytes}
 use Rattle.session_bytes.specs.Drawn.{idleAt, ahead, Drawn, drawn, openMoved, answerMoved, Opens, Answers, Stays}
+use Rattle.session_bytes.specs.Bytes.{Found, At, Nowhere, bytesOf, staged, movedBytes}
 use Rattle.session_bytes.proofs.Stages.{parts}
 
 pub idle-long : (bs : List ℕ) → idleAt (staged bs) ≡ true → length bs ≡ 130

@@ -3,22 +3,14 @@
 --   numbers-back     and back: the bytes of the stage that they name
 --   staged-short, staged-none, staged-at, staged-behind   the whole buffer, by the tests of the code
 --   Parts, parts     what a buffer that is a session holds
-use mathlib.Core.{Path._≡_, Path.refl, Path._∙_, Path.sym, Path.ap, List.List}
-use mathlib.Core.Bool.{Bool, true, false, cond}
-use Prim.Native.Nat.{ℕ, _+_, _-_, _≤_}
-use native.Mathlib.Omega.{arith}
-use lib.{Dec.eqb, ListN.length, ListN.getD, ListN.take, ListN.drop, ListN.length-drop}
-use lib.Seq.{take-all, drop-drop}
-use borrow.Author.Tests.{eq-eqb, ne-eqb, eqb-true}
-use Rattle.schemes.specs.{Schemes.schemeOf, declared.Scheme.Scheme, declared.Named.Named}
+use Rattle.lists.proofs.Kit.{_≡_, refl, _∙_, sym, ap, List, Bool, true, false, cond, ℕ, _+_, _-_, _≤_, arith, eqb, length, getD, take, drop, length-drop}
+use Rattle.lists.proofs.Kit.{take-all, drop-drop, eq-eqb, ne-eqb, eqb-true}
 use Rattle.schemes.specs.declared.Named.the-variants.{Known, Unknown}
+use Rattle.schemes.specs.{Schemes.schemeOf, declared.Scheme.Scheme, declared.Named.Named}
 use Rattle.schemes.proofs.Laws.{by-scheme}
 use Rattle.blank.specs.Blank.{blank}
-use Rattle.session.specs.declared.Stage.{Stage}
-use Rattle.session.specs.declared.Stage.the-variants.{Idle, Offered, Keyed}
-use Rattle.session_bytes.specs.Bytes.{stageByte, schemeByte, offeredAt, keyedAt, stageIn, keyLength, checked, staged}
-use Rattle.session_bytes.specs.declared.Found.{Found}
-use Rattle.session_bytes.specs.declared.Found.the-variants.{At, Nowhere}
+use Rattle.session.specs.{declared.Stage.Stage, declared.Stage.the-variants.Idle, declared.Stage.the-variants.Offered, declared.Stage.the-variants.Keyed}
+use Rattle.session_bytes.specs.Bytes.{stageByte, schemeByte, offeredAt, keyedAt, stageIn, keyLength, checked, staged, Found, At, Nowhere}
 
 -- ---- by the tests of the code
 

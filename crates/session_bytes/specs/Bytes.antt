@@ -6,21 +6,15 @@
 --   sessionIn st bs  then the session
 --   movedBytes bs x  the promise of each call on bytes: what the call x by value leads to and shows, laid out; a buffer that is in no stage gives 10 and stays as
 --                    it is, but close zeroes it, however long it is
-use mathlib.Core.{Bool.Bool, Bool.true, Bool.false, Bool.cond, List.List, List._∷_}
-use Prim.Native.Nat.{ℕ}
-use lib.{Dec.eqb, ListN.length, ListN.getD, ListN.drop, ListN.replicate}
-use Rattle.schemes.specs.Schemes.{schemeOf, schemeNumber, fixedOf}
-use Rattle.schemes.specs.declared.Named.{Named}
+use Rattle.lists.specs.Kit.{Bool, true, false, cond, List, _∷_, ℕ, eqb, length, getD, drop, replicate}
 use Rattle.schemes.specs.declared.Named.the-variants.{Known, Unknown}
+use Rattle.schemes.specs.{Schemes.schemeOf, Schemes.schemeNumber, Schemes.fixedOf, declared.Named.Named}
 use Rattle.blank.specs.Blank.{blank}
-use Rattle.refusals.specs.declared.Refusal.the-variants.{OutOfStage}
-use Rattle.refusals.specs.declared.Verdict.the-variants.{Pass, Fail}
-use Rattle.session.specs.{declared.Stage.Stage, declared.Session.Session}
+use Rattle.refusals.specs.{declared.Refusal.the-variants.OutOfStage, declared.Verdict.the-variants.Pass, declared.Verdict.the-variants.Fail}
 use Rattle.session.specs.declared.Stage.the-variants.{Idle, Offered, Keyed}
 use Rattle.session.specs.Table.{Call, offering, replying, finishing, closing}
-use Rattle.session.specs.Seen.{shownBy, Turn, turn, moved}
-use Rattle.session_bytes.specs.declared.Found.{Found}
-use Rattle.session_bytes.specs.declared.Found.the-variants.{At, Nowhere}
+use Rattle.session.specs.{declared.Stage.Stage, declared.Session.Session, Seen.shownBy, Seen.Turn, Seen.turn, Seen.moved}
+pub use Rattle.session_bytes.specs.{declared.Found.Found, declared.Found.the-variants.At, declared.Found.the-variants.Nowhere}
 
 -- ---- laid out
 

@@ -7,21 +7,16 @@
 --   Opens      an open that refuses nothing leaves the buffer and shows the message that Offer leaves and shows there, lent what open makes of the random bytes
 --   Answers    so of answer and Reply
 --   Stays      a refused open or answer leaves the buffer as it was
-use mathlib.Core.{Path._≡_, Bool.Bool, Bool.false, Bool.cond, List.List}
-use Prim.Native.Nat.{ℕ}
+use Rattle.lists.specs.Kit.{_≡_, Bool, false, cond, List, ℕ}
 use Rattle.schemes.specs.Schemes.{schemeOf}
 use Rattle.lists.specs.Ranges.{Below}
-use Rattle.refusals.specs.{Seen.ifPassed, declared.Refusal.the-variants.OutOfStage}
-use Rattle.refusals.specs.{declared.Verdict.Verdict, declared.Verdict.the-variants.Fail}
 use Rattle.noise.specs.declared.Ruled.{Ruled}
+use Rattle.refusals.specs.{Seen.ifPassed, declared.Refusal.the-variants.OutOfStage, declared.Verdict.Verdict, declared.Verdict.the-variants.Fail}
 use Rattle.reply.specs.Reply.{ReplyRooms, ReplySeen, replyKey}
 use Rattle.exchange.specs.Open.{OpenLent, OpenRooms, OpenSeen, openOffer, openTests, openShown}
 use Rattle.exchange.specs.Answer.{AnswerLent, answerReply, answerTests, answerShown}
-use Rattle.session.specs.Table.{offering, replying, whenIdle, offered, keyed}
-use Rattle.session.specs.Seen.{ofOffer, ofReply, turn}
-use Rattle.session_bytes.specs.declared.Found.{Found}
-use Rattle.session_bytes.specs.declared.Found.the-variants.{At, Nowhere}
-use Rattle.session_bytes.specs.Bytes.{bytesOf, staged, movedBytes}
+use Rattle.session.specs.{Table.offering, Table.replying, Table.whenIdle, Table.offered, Table.keyed, Seen.ofOffer, Seen.ofReply, Seen.turn}
+use Rattle.session_bytes.specs.Bytes.{Found, At, Nowhere, bytesOf, staged, movedBytes}
 
 abbrev pub idleAt : Found → Bool
 idleAt (At st) = whenIdle st

@@ -6,18 +6,13 @@
 --   Untouched     a buffer that is in no stage gives 10 to every other call, and stays as it is
 --   RanBytes      a sequence of calls on bytes, each as its function promises
 --   RunBytes      over any sequence the bytes are those of the table's run, and the caller sees what the calls by value show
-use mathlib.Core.{Path._≡_, Bool.false, List.List}
-use Prim.Native.Nat.{ℕ}
-use lib.ListN.{length, replicate}
-use Rattle.refusals.specs.{Seen.done, declared.Refusal.the-variants.OutOfStage}
-use Rattle.refusals.specs.declared.Verdict.the-variants.{Fail}
-use Rattle.session.specs.{declared.Stage.Stage, declared.Stage.the-variants.Idle}
-use Rattle.session.specs.{declared.Session.Session, Table.Call, Table.closing, Table.run}
-use Rattle.session.specs.Table as table
+use Rattle.lists.specs.Kit.{_≡_, false, List, ℕ, length, replicate}
+use Rattle.refusals.specs.{Seen.done, declared.Refusal.the-variants.OutOfStage, declared.Verdict.the-variants.Fail}
 use Rattle.session.specs.Seen.{CallSeen, ofClose, shownBy, turn}
 use Rattle.session.specs.Sequences.{RanBy, Ran, Sound}
-use Rattle.session_bytes.specs.declared.Found.the-variants.{At, Nowhere}
-use Rattle.session_bytes.specs.Bytes.{bytesOf, staged, sessionIn, closes, movedBytes}
+use Rattle.session.specs.{declared.Stage.Stage, declared.Stage.the-variants.Idle, declared.Session.Session, Table.Call, Table.closing, Table.run}
+use Rattle.session_bytes.specs.Bytes.{At, Nowhere, bytesOf, staged, sessionIn, closes, movedBytes}
+use Rattle.session.specs.Table as table
 
 abbrev pub TakenBack : Type 0
 TakenBack = (y : Session) → Sound y → (staged (bytesOf y) ≡ At (y .stage)) × (sessionIn (y .stage) (bytesOf y) ≡ y)

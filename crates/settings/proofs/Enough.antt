@@ -1,19 +1,13 @@
 -- The first 50 bytes of a text tell what is read (`specs/Shown.antt`): settings have at most 49, and the line of a newer format at most 18.
-use mathlib.Core.Path.{_≡_, refl, _∙_, sym, ap}
-use mathlib.Core.List.{List, _++_, append-assoc}
-use Prim.Native.Nat.{ℕ, _+_, _-_, _^_, _≤_, _<_}
-use native.Mathlib.Decide.{decLe}
-use native.Mathlib.Omega.{arith}
-use lib.{Dec.eqb, ListN.length, ListN.take, ListN.drop, ListN.length-take, ListN.take-append-drop}
-use lib.Seq.{take-all, take-append-add}
+use Rattle.lists.proofs.Kit.{_≡_, refl, _∙_, sym, ap, List, _++_, append-assoc, ℕ, _+_, _-_, _^_, _≤_, _<_, decLe, arith, eqb, length, take, drop, length-take}
+use Rattle.lists.proofs.Kit.{take-append-drop, take-all}
+use lib.Seq.{take-append-add}
 use Rattle.lists.proofs.Table.{cond-all}
 use Rattle.text.specs.Text.{line}
-use Rattle.text.proofs.{Numeral.decimal-length, Lines.line-forth, Lines.line-back}
-use Rattle.text.proofs.Writing.{line-length}
+use Rattle.text.proofs.{Numeral.decimal-length, Lines.line-forth, Lines.line-back, Writing.line-length}
 use Rattle.settings.specs.Settings.{Setup, formatName, Reading, setup, newer, misfit, reads}
 use Rattle.settings.specs.{Steps.sizeOf, Shown.Is, Shown.Enough}
-use Rattle.settings.proofs.Inverse.{no-other, newer-told, newer-only}
-use Rattle.settings.proofs.Store.{size-is}
+use Rattle.settings.proofs.{Inverse.no-other, Inverse.newer-told, Inverse.newer-only, Store.size-is}
 
 text-short : {reader : ℕ} {xs : List ℕ} {x : Setup} → Is reader xs x → length xs ≤ 49
 text-short {reader} {xs} {x} h =

@@ -2,21 +2,15 @@
 --   text-read, no-other        the text of settings is read as them, and no other text is
 --   newer-told, newer-only     a newer format is told exactly where the first line says so
 --   back, same-bytes, same-reading, older-tells, upgraded   what follows
-use mathlib.Core.Path.{_≡_, refl, _∙_, sym, ap, ap₂, subst}
-use mathlib.Core.Bool.{Bool, true, false, cond}
-use mathlib.Core.List.{List, [], _∷_, _++_}
-use Prim.Native.Nat.{ℕ, zero, suc, _≤_}
-use native.Mathlib.Omega.{arith}
-use lib.Dec.{eqb, ltb}
-use lib.ListN.{length, getD, take, drop, length-append, drop-of-length-le}
-use lib.Seq.{take-append-seam, getD-append-seam, split-at, length-take-le}
-use borrow.Author.Tests.{leb-true, ltb-true, ltb-false, eqb-true, le-leb, lt-ltb, le-ltb, eq-eqb}
+use Rattle.lists.proofs.Kit.{_≡_, refl, _∙_, sym, ap, ap₂, subst, Bool, true, false, cond, List, [], _∷_, _++_, ℕ, zero, suc, _≤_, arith, eqb, ltb, length}
+use Rattle.lists.proofs.Kit.{getD, take, drop, length-append, drop-of-length-le, take-append-seam, getD-append-seam, split-at, length-take-le, leb-true}
+use Rattle.lists.proofs.Kit.{ltb-true, ltb-false, eqb-true, le-leb, lt-ltb, le-ltb, eq-eqb}
 use Rattle.lists.specs.First.{firstWhere}
 use Rattle.lists.proofs.Table.{both-true, cond-all}
 use Rattle.text.specs.Text.{LF, schemeName, line, Read, number, other, isDigit, begins, fieldIn}
-use Rattle.text.proofs.{Reading.begins-is, Runs.run-all, Runs.run-take}
-use Rattle.text.proofs.Lines.{begins-front, line-forth, line-back}
-use Rattle.settings.specs.Settings.{Setup, setupOf, formatName, ruleName, labelName, formatOf, labelLine, textOf, isScheme, isRule, notAllowed, letters, Reading, setup, newer, misfit, wellSpelled, spelledIn, lastIn, endIn, tailIn, ruleIn, schemeIn, formatIn, reads}
+use Rattle.text.proofs.{Reading.begins-is, Runs.run-all, Runs.run-take, Lines.begins-front, Lines.line-forth, Lines.line-back}
+use Rattle.settings.specs.Settings.{Setup, setupOf, formatName, ruleName, labelName, formatOf, labelLine, textOf, isScheme, isRule, notAllowed, letters}
+use Rattle.settings.specs.Settings.{Reading, setup, newer, misfit, wellSpelled, spelledIn, lastIn, endIn, tailIn, ruleIn, schemeIn, formatIn, reads}
 use Rattle.settings.specs.Shown.{Valid, Newer, TextRead, NoOther, NewerTold, NewerOnly, Back, SameBytes, SameReading, OlderTells, Upgraded}
 use Rattle.settings.proofs.Known.{scheme-small, rule-small, format-some}
 

@@ -3,12 +3,8 @@
 --   scheme-small, rule-is, rule-small   and which they are
 --   format-none, format-some   the format, by the label's length
 --   not-allowed                a byte that is no digit and no capital letter
-use mathlib.Core.{Path._≡_, Path.refl, Path._∙_, Logic._⊎_, Logic.inl, Logic.inr}
-use mathlib.Core.Bool.{Bool, true, false, cond, not, _||_, _&&_}
-use Prim.Native.Nat.{ℕ, zero, suc, _≤_, _<_}
-use native.Mathlib.Omega.{arith}
-use lib.Dec.{eqb, leb, ltb}
-use borrow.Author.Tests.{leb-true, eqb-true, eqb-false, le-leb, lt-leb}
+use Rattle.lists.proofs.Kit.{_≡_, refl, _∙_, _⊎_, inl, inr, Bool, true, false, cond, not, _||_, _&&_, ℕ, zero, suc, _≤_, _<_, arith, eqb, leb, ltb, leb-true}
+use Rattle.lists.proofs.Kit.{eqb-true, eqb-false, le-leb, lt-leb}
 use Rattle.lists.specs.First.{both}
 use Rattle.text.specs.Text.{isDigit}
 use Rattle.text.proofs.Reading.{less}

@@ -3,23 +3,16 @@
 --   read-short   what is seen where the room is shorter than that label
 --   read-laid    and where it was laid at the front of the zeros
 --   read-seen-all, read-told-all   `readSeen` and `readTold` forget nothing
-use mathlib.Core.{Path._≡_, Path.refl, Path._∙_, Path.ap, List.List, List._++_}
-use Prim.Native.Nat.{ℕ, _≤_, _<_}
-use native.Mathlib.Omega.{arith}
-use lib.ListN.{length, take, drop, replicate, length-append}
-use lib.Seq.{take-append-seam}
-use borrow.Author.Tests.{lt-leb}
+use Rattle.lists.proofs.Kit.{_≡_, refl, _∙_, ap, List, _++_, ℕ, _≤_, _<_, arith, length, take, drop, replicate, length-append, take-append-seam, lt-leb}
 use Rattle.lists.proofs.Same.{zeros-long}
-use Rattle.refusals.specs.{Refusals.roomFor, Seen.written, Seen.Told, Seen.done, Seen.refused}
-use Rattle.refusals.specs.declared.Refusal.{Refusal}
 use Rattle.refusals.specs.declared.Refusal.the-variants.{Short, Misfit, NewerFormat}
 use Rattle.refusals.specs.declared.Verdict.the-variants.{Pass, Fail}
-use Rattle.refusals.proofs.Laws.{room-passes, failed, went-on}
-use Rattle.refusals.proofs.Seen.{written-passed, told-all}
+use Rattle.refusals.specs.{Refusals.roomFor, Seen.written, Seen.Told, Seen.done, Seen.refused, declared.Refusal.Refusal}
+use Rattle.refusals.proofs.{Laws.room-passes, Laws.failed, Laws.went-on, Seen.written-passed, Seen.told-all}
+use Rattle.settings.specs.Calls.{answerOf, Read, readingOf, readTests, formatTold, ReadSeen, ReadCounts, readShown, readResult, readTold, readSeen}
+use Rattle.settings.specs.Calls.{ReadSeenAll, ReadToldAll, ReadAnswer, LentAnswer}
 use Rattle.settings.specs.Settings.{Setup, formatOf, Reading, setup, newer, misfit, reads}
-use Rattle.settings.specs.Calls.{answerOf, Read, readingOf, readTests, formatTold, ReadSeen, ReadCounts, readShown, readResult, readTold, readSeen, ReadSeenAll, ReadToldAll}
-use Rattle.settings.specs.{Steps.lentOf, Steps.shortOf, declared.ReadAnswer.ReadAnswer}
-use Rattle.settings.specs.declared.LentAnswer.{LentAnswer}
+use Rattle.settings.specs.Steps.{lentOf, shortOf}
 
 pub label-fits : (reader : ℕ) (xs : List ℕ) {a : ReadAnswer} → a ≡ answerOf (reads reader xs) → a .settings .count ≤ length (a .settings .label)
 label-fits reader xs e = rw e (go (reads reader xs))

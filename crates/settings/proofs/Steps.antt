@@ -5,23 +5,17 @@
 --   tail-two, tail-none, tail-more, tail-end, end-short   what stands behind the rule
 --   within                                 a number that was read ends within the text
 --   rule-other, rule-read, rule-bad, scheme-.., format-..   the lines, where they are other text, read, or bad
-use mathlib.Core.Path.{_≡_, refl, _∙_, sym, ap, subst}
-use mathlib.Core.Bool.{Bool, true, false, _&&_}
-use mathlib.Core.List.{List, [], _∷_, _++_}
-use Prim.Native.Nat.{ℕ, suc, _+_, _-_, _≤_, _<_}
-use native.Mathlib.Numerals.{add-one}
-use native.Mathlib.Omega.{arith}
-use lib.{Dec.eqb, Dec.leb, Seq.drop-cons}
-use lib.ListN.{length, getD, take, drop, replicate, length-append, length-drop, drop-of-length-le}
-use borrow.Author.Tests.{leb-true, eqb-true, le-leb, lt-leb, lt-ltb, le-ltb, ne-eqb}
+use Rattle.lists.proofs.Kit.{_≡_, refl, _∙_, sym, ap, subst, Bool, true, false, _&&_, List, [], _∷_, _++_, ℕ, suc, _+_, _-_, _≤_, _<_, add-one, arith, eqb, leb}
+use Rattle.lists.proofs.Kit.{drop-cons, length, getD, take, drop, replicate, length-append, length-drop, drop-of-length-le, leb-true, eqb-true, le-leb, lt-leb}
+use Rattle.lists.proofs.Kit.{lt-ltb, le-ltb, ne-eqb}
 use Rattle.lists.specs.First.{both}
 use Rattle.lists.proofs.{Table.both-true, Parts.part, Parts.to-end, Parts.drop-same}
-use Rattle.text.specs.Text.{LF, schemeName, begins, fieldIn, Read}
-use Rattle.text.specs.{Steps.Reads, Steps.labelIn, Steps.behind, declared.Found.Found}
-use Rattle.text.specs.declared.Found.the-variants as found
+use Rattle.text.specs.{Text.LF, Text.schemeName, Text.begins, Text.fieldIn, Text.Read, Steps.Reads, Steps.labelIn, Steps.behind, declared.Found.Found}
 use Rattle.text.proofs.{Reading.begins-is, Lines.told-number, Lines.told-other}
-use Rattle.settings.specs.Settings.{setupOf, formatName, ruleName, labelName, isScheme, isRule, letters, setup, newer, misfit, wellSpelled, spelledIn, lastIn, endIn, tailIn, ruleIn, schemeIn, formatIn, reads}
-use Rattle.settings.specs.{Calls.answerOf, declared.ReadAnswer.ReadAnswer}
+use Rattle.settings.specs.Settings.{setupOf, formatName, ruleName, labelName, isScheme, isRule, letters, setup, newer, misfit, wellSpelled, spelledIn}
+use Rattle.settings.specs.Settings.{lastIn, endIn, tailIn, ruleIn, schemeIn, formatIn, reads}
+use Rattle.settings.specs.Calls.{answerOf, ReadAnswer}
+use Rattle.text.specs.declared.Found.the-variants as found
 
 -- ---- a label
 

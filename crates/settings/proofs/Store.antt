@@ -7,29 +7,21 @@
 --   label-none, label-left, lines-left   a label's line, and all lines, in parts
 --   write-refused, write-done      what is seen where a test fails, and where the lines were written over zeros
 --   stored-back                    what the output holds is read as what was written
-use mathlib.Core.{Path._≡_, Path.refl, Path._∙_, Path.sym, Path.ap, Logic._⊎_, Logic.inl, Logic.inr}
-use mathlib.Core.Bool.{Bool, true, false, cond}
-use mathlib.Core.List.{List, [], _∷_, _++_, append-nil}
-use Prim.Native.Nat.{ℕ, zero, suc, _+_, _≤_, _<_}
-use native.Mathlib.Omega.{arith}
-use lib.ListN.{length, replicate, length-append}
-use borrow.Author.Tests.{leb-true, le-leb, lt-leb, ne-eqb}
-use Rattle.refusals.specs.Refusals.{_then_, lengthUpTo, roomFor}
-use Rattle.refusals.specs.Seen.{written, done, refused, shown, seen}
-use Rattle.refusals.specs.{declared.Refusal.Refusal, declared.Verdict.Verdict}
-use Rattle.refusals.specs.declared.Refusal.the-variants.{NoScheme, NoRule, Misfit}
-use Rattle.refusals.specs.declared.Verdict.the-variants.{Pass, Fail}
-use Rattle.refusals.proofs.Laws.{both, number-zero, differ, stays, goes-on, also, up-to-passed, room-passed}
-use Rattle.refusals.proofs.Seen.{shown-failed, written-answer}
-use Rattle.text.specs.Text.{LF, digitsUpTo, decimal, schemeName, line}
-use Rattle.text.specs.Steps.{labelled, Written}
+use Rattle.lists.proofs.Kit.{_≡_, refl, _∙_, sym, ap, _⊎_, inl, inr, Bool, true, false, cond, List, [], _∷_, _++_, append-nil, ℕ, zero, suc, _+_, _≤_, _<_}
+use Rattle.lists.proofs.Kit.{arith, length, replicate, length-append, leb-true, le-leb, lt-leb, ne-eqb}
+use Rattle.text.specs.{Text.LF, Text.digitsUpTo, Text.decimal, Text.schemeName, Text.line, Steps.labelled, Steps.Written}
 use Rattle.text.proofs.Writing.{joined, Left, left-all, written-none, one-digit, line-length}
 use Rattle.text.proofs.{Answer.answers, Runs.run-within}
+use Rattle.refusals.specs.declared.Refusal.the-variants.{NoScheme, NoRule, Misfit}
+use Rattle.refusals.specs.declared.Verdict.the-variants.{Pass, Fail}
+use Rattle.refusals.specs.Seen.{written, done, refused, shown, seen}
+use Rattle.refusals.specs.{Refusals._then_, Refusals.lengthUpTo, Refusals.roomFor, declared.Refusal.Refusal, declared.Verdict.Verdict}
+use Rattle.refusals.proofs.Laws.{both, number-zero, differ, stays, goes-on, also, up-to-passed, room-passed}
+use Rattle.refusals.proofs.Seen.{shown-failed, written-answer}
 use Rattle.settings.specs.Settings.{Setup, formatName, ruleName, formatOf, labelLine, textOf, isScheme, isRule, notAllowed, letters}
-use Rattle.settings.specs.{Shown.Valid, Shown.StoredBack, Steps.sizeOf}
 use Rattle.settings.specs.Calls.{schemeKnown, ruleKnown, allowed, writeTests, writeResult}
-use Rattle.settings.proofs.{Known.scheme-small, Known.rule-is, Inverse.back}
-use Rattle.settings.proofs.Steps.{label=, rule=, scheme=, format=}
+use Rattle.settings.specs.{Shown.Valid, Shown.StoredBack, Steps.sizeOf}
+use Rattle.settings.proofs.{Known.scheme-small, Known.rule-is, Inverse.back, Steps.label=, Steps.rule=, Steps.scheme=, Steps.format=}
 
 -- ---- how long
 

@@ -19,18 +19,14 @@
 --   readTold a                   the numbers of its answer
 --   readSeen t label             what is seen of it where it tells t and leaves label
 --   ReadSeenAll, ReadToldAll     `readSeen` and `readTold` forget nothing
-use mathlib.Core.{Path._≡_, Bool.cond, List.List, List.[], List._++_}
-use Prim.Native.Nat.{ℕ, _-_}
-use lib.{Dec.leb, ListN.length, ListN.replicate}
-use Rattle.refusals.specs.Refusals.{numberIn, placeIn, _then_, lengthUpTo, roomFor}
-use Rattle.refusals.specs.Seen.{ifPassed, Output, output, written, Told, Seen, shown, told}
+use Rattle.lists.specs.Kit.{_≡_, cond, List, [], _++_, ℕ, _-_, leb, length, replicate}
 use Rattle.refusals.specs.declared.Refusal.the-variants.{NoScheme, NoRule, Misfit, NewerFormat}
-use Rattle.refusals.specs.declared.Verdict.{Verdict}
-use Rattle.refusals.specs.declared.Verdict.the-variants.{Pass, Fail}
+use Rattle.refusals.specs.Seen.{ifPassed, Output, output, written, Told, Seen, shown, told}
+use Rattle.refusals.specs.Refusals.{numberIn, placeIn, _then_, lengthUpTo, roomFor}
+use Rattle.refusals.specs.{declared.Verdict.Verdict, declared.Verdict.the-variants.Pass, declared.Verdict.the-variants.Fail}
 use Rattle.settings.specs.Settings.{Setup, setupOf, formatOf, textOf, isScheme, isRule, letters, Reading, setup, newer, misfit, reads}
-use Rattle.settings.specs.{declared.Ending.Ending, declared.Settings.Settings}
+pub use Rattle.settings.specs.{declared.Ending.Ending, declared.Settings.Settings, declared.ReadAnswer.ReadAnswer, declared.LentAnswer.LentAnswer}
 use Rattle.settings.specs.declared.Ending.the-variants as ending
-use Rattle.settings.specs.{declared.ReadAnswer.ReadAnswer, declared.LentAnswer.LentAnswer}
 
 -- ---- writing
 

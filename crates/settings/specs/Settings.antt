@@ -7,16 +7,13 @@
 --   letters xs          how many capital letters and digits xs begins with
 --   Reading             what a reader makes of a text: a setup, a newer format by its number, or a misfit
 --   reads reader xs     that of the text xs, by a reader of the formats up to its own
-use mathlib.Core.Bool.{Bool, true, false, cond}
-use mathlib.Core.List.{List, [], _∷_, _++_}
-use Prim.Native.Nat.{ℕ, zero, suc}
-use lib.{Dec.eqb, Dec.leb, Dec.ltb, ListN.length, ListN.getD, ListN.take, ListN.drop}
-use Rattle.lists.specs.First.{firstWhere, both}
+use Rattle.lists.specs.Kit.{Bool, true, false, cond, List, [], _∷_, _++_, ℕ, zero, suc, eqb, leb, ltb, length, getD, take, drop}
 use Rattle.schemes.specs.{Schemes.schemeOf, declared.Named.Named}
-use Rattle.schemes.specs.declared.Named.the-variants as named
-use Rattle.noise.specs.{Expand.ruleOf, declared.Ruled.Ruled}
-use Rattle.noise.specs.declared.Ruled.the-variants as ruled
+use Rattle.lists.specs.First.{firstWhere, both}
 use Rattle.text.specs.Text.{LF, schemeName, line, Read, number, other, isDigit, begins, fieldIn}
+use Rattle.noise.specs.{Expand.ruleOf, declared.Ruled.Ruled}
+use Rattle.schemes.specs.declared.Named.the-variants as named
+use Rattle.noise.specs.declared.Ruled.the-variants as ruled
 
 pub record Setup : Type 0 where
   pub scheme : ℕ

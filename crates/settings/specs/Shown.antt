@@ -12,11 +12,9 @@
 --   Upgraded            hence what the format 1 reader reads, the format 2 reader reads as the same settings
 --   OlderTells          of settings with a label the format 1 reader says that they are in format 2
 --   Enough              50 bytes tell, of which settings have at most 49
-use mathlib.Core.{Path._≡_, Bool.true, List.List}
-use Prim.Native.Nat.{ℕ, _≤_, _<_}
-use lib.ListN.{length, take}
-use Rattle.refusals.specs.Seen.{answer}
+use Rattle.lists.specs.Kit.{_≡_, true, List, ℕ, _≤_, _<_, length, take}
 use Rattle.text.specs.Text.{number, fieldIn}
+use Rattle.refusals.specs.Seen.{answer}
 use Rattle.settings.specs.Settings.{Setup, formatName, formatOf, textOf, isScheme, isRule, letters, setup, newer, reads}
 use Rattle.settings.specs.Calls.{writeResult}
 

@@ -2,14 +2,11 @@
 --   lentOf e s   the answer that ended with e and s, in numbers, for a caller that lends the label's room
 --   shortOf      that caller's answer where the room is shorter than the label that was read
 --   sizeOf n     how long the text with a label of n bytes is
-use mathlib.Core.Bool.{cond}
-use Prim.Native.Nat.{ℕ, _+_}
-use lib.Dec.{eqb}
-use Rattle.refusals.specs.declared.Answer.the-variants.{Done, Refused}
+use Rattle.lists.specs.Kit.{cond, ℕ, _+_, eqb}
 use Rattle.refusals.specs.declared.Refusal.the-variants.{Short, Misfit, NewerFormat}
-use Rattle.settings.specs.{Settings.formatOf, declared.Ending.Ending}
+use Rattle.refusals.specs.declared.Answer.the-variants.{Done, Refused}
+use Rattle.settings.specs.{Settings.formatOf, Calls.Ending, Calls.Settings, Calls.LentAnswer}
 use Rattle.settings.specs.declared.Ending.the-variants as ending
-use Rattle.settings.specs.{declared.Settings.Settings, declared.LentAnswer.LentAnswer}
 
 abbrev pub lentOf : Ending → Settings → LentAnswer
 lentOf ending.Read s = record { answer = Done (s .count); format = formatOf (s .count); scheme = s .scheme; rule = s .rule }

@@ -2,11 +2,7 @@
 --   answers      what was written over zeros is one
 --   within       it lies in that room
 --   one-answer   a promise has one result
-use mathlib.Core.{Path._≡_, Path._∙_, Path.sym, Path.ap, List.List, List._++_}
-use Prim.Native.Nat.{ℕ, _-_, _≤_}
-use native.Mathlib.Nat.{zero-add}
-use native.Mathlib.Omega.{arith}
-use lib.ListN.{length, replicate, length-append}
+use Rattle.lists.proofs.Kit.{_≡_, _∙_, sym, ap, List, _++_, ℕ, _-_, _≤_, zero-add, arith, length, replicate, length-append}
 use Rattle.lists.proofs.Parts.{drop-same}
 use Rattle.text.specs.{Steps.put, Steps.Written, Answer.Answers, Answer.OneAnswer}
 

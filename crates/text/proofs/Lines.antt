@@ -3,24 +3,16 @@
 --   begins-front                a text that a label stands before begins with it
 --   line-forth, line-back       the text of a line is read as its number, and nothing else is
 --   told-number, told-within, told-other   what was found at a position
-use mathlib.Core.Path.{_≡_, refl, _∙_, sym, ap, ap₂, subst}
-use mathlib.Core.Bool.{Bool, true, false, cond}
-use mathlib.Core.List.{List, [], _∷_, _++_, append-assoc}
-use Prim.Native.Nat.{ℕ, suc, _^_, _≤_, _<_}
-use native.Mathlib.Nat.{pow-le-pow-right}
-use native.Mathlib.Numerals.{add-one}
-use native.Mathlib.Omega.{arith}
-use lib.Dec.{eqb}
-use lib.ListN.{length, getD, take, drop, length-append, length-take}
-use lib.Seq.{take-append-seam, drop-append-add, drop-at, getD-append-seam, split-at}
-use borrow.Author.Tests.{eqb-true, eq-eqb, le-leb}
+use Rattle.lists.proofs.Kit.{_≡_, refl, _∙_, sym, ap, ap₂, subst, Bool, true, false, cond, List, [], _∷_, _++_, append-assoc, ℕ, suc, _^_, _≤_, _<_}
+use Rattle.lists.proofs.Kit.{pow-le-pow-right, add-one, arith, eqb, length, getD, take, drop, length-append, length-take, take-append-seam, drop-at}
+use Rattle.lists.proofs.Kit.{getD-append-seam, split-at, eqb-true, eq-eqb, le-leb}
+use lib.Seq.{drop-append-add}
 use Rattle.lists.specs.First.{firstWhere, both}
 use Rattle.text.specs.Text.{LF, digitsUpTo, decimal, line, number, other, isDigit, notDigit, run, valueOf, wellFormed, numberIn, begins, fieldIn}
-use Rattle.text.specs.Steps.{readOf, behind, Reads, labelIn}
-use Rattle.text.specs.declared.Found.{Found}
-use Rattle.text.specs.declared.Found.the-variants as found
-use Rattle.text.proofs.Reading.{Formed, formed-is, formed-room, begins-is}
+use Rattle.text.specs.Steps.{readOf, behind, Reads, labelIn, Found}
 use Rattle.text.proofs.Numeral.{Numeral, made, made-length, only, enough, value, small, some, runs, front, taken}
+use Rattle.text.proofs.Reading.{Formed, formed-is, formed-room, begins-is}
+use Rattle.text.specs.declared.Found.the-variants as found
 
 -- ---- a number
 

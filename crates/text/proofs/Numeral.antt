@@ -7,16 +7,9 @@
 --   small           k digits make a number below 10^k
 --   some, runs, front   at least one; a text that begins with them begins with no more; a leading zero stands alone
 --   taken           the digits that a well-formed text begins with
-use mathlib.Core.Path.{_≡_, refl, _∙_, ap, subst}
-use mathlib.Core.Bool.{Bool, true, false, cond}
-use mathlib.Core.List.{List, [], _∷_, _++_, append-assoc, append-nil}
-use Prim.Native.Nat.{ℕ, zero, suc, _+_, _*_, _-_, _/_, _%_, _^_, _≤_, _<_}
-use native.Mathlib.Decide.{decLt}
-use native.Mathlib.Nat.{not-suc-le-zero, pow-succ', zero-add}
-use native.Mathlib.Numerals.{add-one}
-use native.Mathlib.Omega.{arith}
-use lib.{Dec.leb, Dec.ltb, ListN.length, ListN.getD, ListN.take, ListN.length-append}
-use borrow.Author.Tests.{leb-true, lt-ltb, le-ltb, le-leb}
+use Rattle.lists.proofs.Kit.{_≡_, refl, _∙_, ap, subst, Bool, true, false, cond, List, [], _∷_, _++_, append-assoc, append-nil, ℕ, zero, suc, _+_, _*_, _-_}
+use Rattle.lists.proofs.Kit.{_/_, _%_, _^_, _≤_, _<_, decLt, not-suc-le-zero, pow-succ', zero-add, add-one, arith, leb, ltb, length, getD, take, length-append}
+use Rattle.lists.proofs.Kit.{leb-true, lt-ltb, le-ltb, le-leb}
 use Rattle.lists.specs.First.{firstWhere, both}
 use Rattle.text.specs.Text.{digitsUpTo, decimal, isDigit, notDigit, run, valueOf}
 use Rattle.text.proofs.Reading.{Formed}

@@ -8,21 +8,14 @@
 --   begins-is               a text that begins with a label is the label and the rest
 --   number-size, number-found, number-other   the number at a position, or other text
 --   label-room, label-found, label-other   the number of a line with its label at a position, or other text
-use mathlib.Core.Path.{_≡_, refl, _∙_, sym, ap}
-use mathlib.Core.Bool.{Bool, true, false, cond, not, _||_, _&&_}
-use mathlib.Core.List.{List, [], _∷_, _++_}
-use Prim.Native.Nat.{ℕ, suc, _+_, _*_, _-_, _^_, _≤_, _<_}
-use native.Mathlib.Decide.{decLt}
-use native.Mathlib.Nat.{pow-succ', pow-le-pow-right}
-use native.Mathlib.Numerals.{add-one}
-use native.Mathlib.Omega.{arith}
-use lib.{Dec.eqb, Dec.leb, Dec.ltb, Seq.drop-cons, Seq.drop-drop}
-use lib.ListN.{length, getD, take, drop, drop-of-length-le, length-append, length-drop, List·getD-eq-default}
-use borrow.Author.Tests.{leb-true, leb-false, eqb-true, lt-ltb, le-ltb, le-leb, lt-leb, eq-eqb, ne-eqb}
+use Rattle.lists.proofs.Kit.{_≡_, refl, _∙_, sym, ap, Bool, true, false, cond, not, _||_, _&&_, List, [], _∷_, _++_, ℕ, suc, _+_, _*_, _-_, _^_, _≤_, _<_}
+use Rattle.lists.proofs.Kit.{decLt, pow-succ', pow-le-pow-right, add-one, arith, eqb, leb, ltb, drop-cons, drop-drop, length, getD, take, drop}
+use Rattle.lists.proofs.Kit.{drop-of-length-le, length-append, length-drop, List·getD-eq-default, leb-true, leb-false, eqb-true, lt-ltb, le-ltb, le-leb, lt-leb}
+use Rattle.lists.proofs.Kit.{eq-eqb, ne-eqb}
 use Rattle.lists.specs.First.{both}
 use Rattle.lists.proofs.{Table.both-true, Parts.part, Parts.to-end}
 use Rattle.text.specs.Text.{LF, number, isDigit, notDigit, run, valueOf, wellFormed, numberIn, begins}
-use Rattle.text.specs.{Steps.Reads, Steps.labelIn, declared.Found.Found}
+use Rattle.text.specs.Steps.{Reads, labelIn, Found}
 use Rattle.text.specs.declared.Found.the-variants as found
 
 -- ---- digits

@@ -2,11 +2,7 @@
 --   run-all      a list that fails it from end to end, before an entry that passes
 --   run-take     the run itself fails it from end to end
 --   run-within   it is no longer than the list
-use mathlib.Core.{Path._≡_, Path.refl, Path.ap, Bool.Bool, Bool.true, Bool.false, Bool.cond}
-use mathlib.Core.List.{List, [], _∷_, _++_}
-use Prim.Native.Nat.{zero, suc, _≤_}
-use native.Mathlib.Omega.{arith}
-use lib.ListN.{length, take}
+use Rattle.lists.proofs.Kit.{_≡_, refl, ap, Bool, true, false, cond, List, [], _∷_, _++_, zero, suc, _≤_, arith, length, take}
 use Rattle.lists.specs.First.{firstWhere}
 
 module _ {A : Type 0} (p : A → Bool) where

@@ -7,18 +7,10 @@
 --   one-digit, last-digit  the text of a number, by its last digit
 --   one-room, one-written, more-room, Ending, ending   writing it so
 --   line-length, line-room, number-room, Lined, lined   a line: its label, a number, LF
-use mathlib.Core.Path.{_≡_, refl, _∙_, sym, ap, ap₂}
-use mathlib.Core.List.{List, [], _∷_, _++_, append-assoc, append-nil}
-use Prim.Native.Nat.{ℕ, _+_, _-_, _/_, _%_, _^_, _≤_, _<_}
-use native.Mathlib.Nat.{add-zero}
-use native.Mathlib.Numerals.{add-one}
-use native.Mathlib.Omega.{arith}
-use lib.ListN.{length, set, take, drop, length-append, length-drop, take-append-drop}
-use lib.Seq.{length-take-le, take-at, drop-at, drop-drop, set-split}
-use borrow.Author.Tests.{lt-ltb, le-ltb}
-use borrow.Rule.Slice.PartMut.{putMid}
-use Rattle.text.specs.Text.{LF, digitsUpTo, decimal, line}
-use Rattle.text.specs.Steps.{labelled, put, Written}
+use Rattle.lists.proofs.Kit.{_≡_, refl, _∙_, sym, ap, ap₂, List, [], _∷_, _++_, append-assoc, append-nil, ℕ, _+_, _-_, _/_, _%_, _^_, _≤_, _<_, add-zero}
+use Rattle.lists.proofs.Kit.{add-one, arith, length, set, take, drop, length-append, length-drop, take-append-drop, length-take-le, take-at, drop-at, drop-drop}
+use Rattle.lists.proofs.Kit.{set-split, lt-ltb, le-ltb, putMid}
+use Rattle.text.specs.{Text.LF, Text.digitsUpTo, Text.decimal, Text.line, Steps.labelled, Steps.put, Steps.Written}
 use Rattle.text.proofs.Numeral.{enough}
 
 written-byte : (d : List ℕ) (i x : ℕ) → i < length d → Written i (x ∷ []) d (set d i x) (i + 1)

@@ -2,9 +2,7 @@
 --   refusalName             the name of the line that tells a refusal
 --   Answers room xs r out   out, of that many bytes, holds the text xs and zeros behind it, and r is how many bytes xs has
 --   OneAnswer               no two results satisfy it
-use mathlib.Core.{Path._≡_, List.List, List.[], List._∷_, List._++_}
-use Prim.Native.Nat.{ℕ, _-_}
-use lib.ListN.{length, replicate}
+use Rattle.lists.specs.Kit.{_≡_, List, [], _∷_, _++_, ℕ, _-_, length, replicate}
 
 abbrev pub refusalName : List ℕ
 refusalName = 114 ∷ 101 ∷ 102 ∷ 117 ∷ 115 ∷ 97 ∷ 108 ∷ []

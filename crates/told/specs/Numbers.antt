@@ -1,9 +1,9 @@
 -- The numbers that a call leaves with a program in C: what it returns, and what then stands behind the pointers.
 --   replyNumbers, finishNumbers   those of Reply and of Finish
-use Prim.Native.Nat.{ℕ}
+use Rattle.lists.specs.Kit.{ℕ}
 use Rattle.refusals.specs.Seen.{Told}
-use Rattle.reply.specs.declared.ReplyCounts.{ReplyCounts}
 use Rattle.finish.specs.declared.FinishCounts.{FinishCounts}
+use Rattle.reply.specs.declared.ReplyCounts.{ReplyCounts}
 
 abbrev pub replyNumbers : ℕ → ℕ → ℕ → ℕ → ℕ → Told ReplyCounts
 replyNumbers number place written keyed digested =

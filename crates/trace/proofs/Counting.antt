@@ -1,16 +1,12 @@
 -- The loop over a trace.
 --   Going, going-none, going-more, going-many, going-other, going-all   before, at each turn, and at its three ends
 --   pair-known   what two lines gave: scheme 0 to 5, a slack of ten digits
-use mathlib.Core.Path.{_≡_, refl, _∙_, sym, ap, subst}
-use mathlib.Core.List.{List, [], _∷_}
-use Prim.Native.Nat.{ℕ, zero, suc, _+_, _-_, _≤_, _<_}
-use native.Mathlib.Omega.{arith}
-use lib.ListN.{length, drop, drop-of-length-le, length-drop}
-use Rattle.trace.specs.{Trace.two, Trace.neither, Trace.twoIn, declared.Tally.Tally}
-use Rattle.trace.specs.Steps.{twoOf, endOf, Reads, zeros, added, counted, lost, run, Held}
-use Rattle.trace.specs.declared.Pair.{Pair}
-use Rattle.trace.specs.declared.Pair.the-variants as pair
+use Rattle.lists.proofs.Kit.{_≡_, refl, _∙_, sym, ap, subst, List, [], _∷_, ℕ, zero, suc, _+_, _-_, _≤_, _<_, arith, length, drop, drop-of-length-le}
+use Rattle.lists.proofs.Kit.{length-drop}
+use Rattle.trace.specs.Steps.{Tally, twoOf, endOf, Reads, zeros, added, counted, lost, run, Held, Pair}
+use Rattle.trace.specs.Trace.{two, neither, twoIn}
 use Rattle.trace.proofs.{Reading.two-back, Tallying.held-none}
+use Rattle.trace.specs.declared.Pair.the-variants as pair
 
 run-end : (k : ℕ) (t : Tally) → run k [] t ≡ counted t
 unfolding run

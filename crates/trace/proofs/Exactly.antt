@@ -1,14 +1,11 @@
 -- A trace is exactly its lines (`specs/Exactly.antt`).
 --   no-other, exactly   a trace is read as its exchanges, and no other text is
 --   empty               an empty trace prints nothing
-use mathlib.Core.Path.{_≡_, refl, _∙_, ap, subst}
-use mathlib.Core.List.{List, [], _∷_, _++_}
-use Prim.Native.Nat.{ℕ, zero, suc, _≤_, _<_}
-use native.Mathlib.Omega.{arith}
-use lib.ListN.{length, length-append}
+use Rattle.lists.proofs.Kit.{_≡_, refl, _∙_, ap, subst, List, [], _∷_, _++_, ℕ, zero, suc, _≤_, _<_, arith, length, length-append}
 use Rattle.text.specs.Text.{schemeName, line}
 use Rattle.text.proofs.Writing.{line-length}
-use Rattle.trace.specs.Trace.{slackName, Exchange, traced, Two, two, neither, twoIn, Trace, recorded, unread, more, behind, recordedIn, slacksOf, block, blockOf, summary, answerTo, answered}
+use Rattle.trace.specs.Trace.{slackName, Exchange, traced, Two, two, neither, twoIn, Trace, recorded, unread, more, behind, recordedIn, slacksOf, block}
+use Rattle.trace.specs.Trace.{blockOf, summary, answerTo, answered}
 use Rattle.trace.specs.Exactly.{Valid, none, some, Is, Exactly, Empty}
 use Rattle.trace.proofs.Reading.{two-forth, two-back}
 

@@ -1,19 +1,12 @@
 -- Two lines of a trace: what the functions that read them rest on, and both ways.
 --   slack-other, slack-read, two-other, two-bad, two-read   what they find
 --   two-forth, two-back                                     two lines are read as their numbers, and nothing else is
-use mathlib.Core.{Path._≡_, Path.refl, Path._∙_, Path.ap₂, List.List, List.[], List._∷_, List._++_}
-use mathlib.Core.Bool.{Bool, true, false, cond}
-use Prim.Native.Nat.{ℕ, _≤_, _<_, _^_}
-use native.Mathlib.Omega.{arith}
-use lib.{Dec.leb, ListN.drop}
-use borrow.Author.Tests.{leb-true, le-leb, lt-leb}
-use Rattle.text.specs.Text.{schemeName, line, Read, number, other, fieldIn}
-use Rattle.text.specs.Steps as text
-use Rattle.text.specs.declared.Found.{Found}
-use Rattle.text.specs.declared.Found.the-variants as found
+use Rattle.lists.proofs.Kit.{_≡_, refl, _∙_, ap₂, List, [], _∷_, _++_, Bool, true, false, cond, ℕ, _≤_, _<_, _^_, arith, leb, drop, leb-true, le-leb, lt-leb}
+use Rattle.text.specs.{Text.schemeName, Text.line, Text.Read, Text.number, Text.other, Text.fieldIn, declared.Found.Found}
 use Rattle.text.proofs.Lines.{line-forth, line-back, told-number, told-within, told-other}
-use Rattle.trace.specs.Trace.{slackName, two, neither, slackIn, schemeIn, twoIn}
-use Rattle.trace.specs.{Steps.Reads, declared.Pair.Pair}
+use Rattle.trace.specs.{Trace.slackName, Trace.two, Trace.neither, Trace.slackIn, Trace.schemeIn, Trace.twoIn, Steps.Reads, Steps.Pair}
+use Rattle.text.specs.Steps as text
+use Rattle.text.specs.declared.Found.the-variants as found
 use Rattle.trace.specs.declared.Pair.the-variants as pair
 
 abbrev pub slack= : List ℕ

@@ -1,17 +1,13 @@
 -- How long texts are (`specs/Exactly.antt`).
 --   answered-short   an answer has at most 372 bytes: 2,048 exchanges, slacks below 10^10, sums below 10^14
 --   enough           a trace has at most 53,248 bytes, so the first 53,249 of a text tell
-use mathlib.Core.Path.{_≡_, refl, _∙_, sym, ap}
-use mathlib.Core.Bool.{Bool, true, false, cond}
-use mathlib.Core.List.{List, [], _∷_, _++_}
-use Prim.Native.Nat.{ℕ, suc, _*_, _^_, _≤_, _<_}
-use native.Mathlib.Decide.{decLe}
-use native.Mathlib.Omega.{arith}
-use lib.{Dec.eqb, ListN.length, ListN.take, ListN.length-append, ListN.length-take, Seq.take-all}
+use Rattle.lists.proofs.Kit.{_≡_, refl, _∙_, sym, ap, Bool, true, false, cond, List, [], _∷_, _++_, ℕ, suc, _*_, _^_, _≤_, _<_, decLe, arith, eqb, length, take}
+use Rattle.lists.proofs.Kit.{length-append, length-take, take-all}
 use Rattle.lists.specs.First.{largestBy}
 use Rattle.text.specs.Text.{schemeName, line}
 use Rattle.text.proofs.{Numeral.decimal-length, Writing.line-length}
-use Rattle.trace.specs.Trace.{exchangesName, sumName, largestName, Exchange, traced, Trace, recorded, unread, recordedIn, slacksOf, total, block, blockOf, summary, answerTo, answered}
+use Rattle.trace.specs.Trace.{exchangesName, sumName, largestName, Exchange, traced, Trace, recorded, unread, recordedIn, slacksOf, total, block, blockOf}
+use Rattle.trace.specs.Trace.{summary, answerTo, answered}
 use Rattle.trace.specs.Exactly.{Valid, none, some, Short, bytes, Enough}
 use Rattle.trace.proofs.Exactly.{no-other}
 

@@ -1,18 +1,14 @@
 -- The counters after a trace are those of its exchanges.
 --   answer-is                the text by the counters is the answer
 --   held-none, made-is       how large they are: before, and after one exchange more
-use mathlib.Core.Path.{_≡_, refl, _∙_, sym, ap, subst}
-use mathlib.Core.{Bool.Bool, Bool.true, Bool.false, Bool.cond, List.List, List.[], List._∷_}
-use Prim.Native.Nat.{ℕ, zero, suc, _+_, _*_, _≤_, _<_, max}
-use native.Mathlib.Omega.{arith}
-use lib.{Dec.eqb, ListN.length, ListN.getD, ListN.set, ListN.replicate, ListN.length-set}
-use lib.Seq.{getD-set-same, getD-set-other}
-use borrow.Author.Tests.{eqb-true, eqb-false}
+use Rattle.lists.proofs.Kit.{_≡_, refl, _∙_, sym, ap, subst, Bool, true, false, cond, List, [], _∷_, ℕ, zero, suc, _+_, _*_, _≤_, _<_, max, arith, eqb, length}
+use Rattle.lists.proofs.Kit.{getD, set, replicate, length-set, getD-set-same, getD-set-other, eqb-true, eqb-false}
 use Rattle.lists.specs.First.{largestBy}
 use Rattle.lists.proofs.{Table.cond-all, Entries.below-zeros}
-use Rattle.trace.specs.Trace.{Exchange, Two, two, neither, twoIn, Trace, recorded, unread, more, behind, recordedIn, slacksOf, total, blockOf, summary, answerTo, answered}
-use Rattle.trace.specs.Steps.{zeros, added, Ran, counted, lost, runOn, run, Held, blockAt, summaryOf, textOf}
-use Rattle.trace.specs.{Exactly.Valid, Exactly.none, Exactly.some, declared.Tally.Tally}
+use Rattle.trace.specs.Trace.{Exchange, Two, two, neither, twoIn, Trace, recorded, unread, more, behind, recordedIn, slacksOf, total, blockOf, summary}
+use Rattle.trace.specs.Trace.{answerTo, answered}
+use Rattle.trace.specs.Steps.{zeros, added, Ran, counted, lost, runOn, run, Held, blockAt, summaryOf, textOf, Tally}
+use Rattle.trace.specs.Exactly.{Valid, none, some}
 use Rattle.trace.proofs.Exactly.{no-other}
 
 -- ---- all exchanges, one after the other

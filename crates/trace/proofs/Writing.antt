@@ -2,20 +2,12 @@
 --   block-none, block-left     a scheme's lines: none, or in parts
 --   Blocks, blocks-none, blocks-room, blocks-more, blocks-all   a loop over the schemes: before, at each turn, after
 --   text-whole, text-lost      the text, by whether the whole trace was read
-use mathlib.Core.Path.{_≡_, refl, sym, ap, subst}
-use mathlib.Core.Bool.{Bool, true, false}
-use mathlib.Core.List.{List, [], _∷_, _++_, append-nil}
-use Prim.Native.Nat.{ℕ, zero, suc, _+_, _≤_, _<_}
-use native.Mathlib.Numerals.{add-one}
-use native.Mathlib.Omega.{arith}
-use lib.ListN.{length, drop}
-use borrow.Author.Tests.{eq-eqb, ne-eqb}
-use Rattle.text.specs.{Text.schemeName, Text.line, Answer.refusalName}
-use Rattle.text.specs.Steps.{labelled, Written}
+use Rattle.lists.proofs.Kit.{_≡_, refl, sym, ap, subst, Bool, true, false, List, [], _∷_, _++_, append-nil, ℕ, zero, suc, _+_, _≤_, _<_, add-one, arith, length}
+use Rattle.lists.proofs.Kit.{drop, eq-eqb, ne-eqb}
+use Rattle.text.specs.{Text.schemeName, Text.line, Answer.refusalName, Steps.labelled, Steps.Written}
 use Rattle.text.proofs.Writing.{joined, Left, left-all, left-room, left-next, left-none, written-none}
+use Rattle.trace.specs.Steps.{blockAt, summaryOf, ranBy, ranOf, textOf, Tally, Counted}
 use Rattle.trace.specs.Trace.{exchangesName, sumName, largestName, block}
-use Rattle.trace.specs.Steps.{blockAt, summaryOf, ranBy, ranOf, textOf}
-use Rattle.trace.specs.{declared.Tally.Tally, declared.Counted.Counted}
 
 abbrev label : List ℕ → List ℕ
 label name = name ++ 61 ∷ []

@@ -4,9 +4,7 @@
 --   Empty                  an empty trace prints nothing
 --   Short                  an answer has at most 372 bytes
 --   bytes, Enough          the first 53,249 bytes of a text tell its answer
-use mathlib.Core.{Path._≡_, List.List, List.[], List._∷_}
-use Prim.Native.Nat.{ℕ, _^_, _≤_, _<_}
-use lib.ListN.{length, take}
+use Rattle.lists.specs.Kit.{_≡_, List, [], _∷_, ℕ, _^_, _≤_, _<_, length, take}
 use Rattle.trace.specs.Trace.{Exchange, traced, recorded, recordedIn, answered}
 
 pub data Valid : List Exchange → Type 0 where

@@ -5,13 +5,10 @@
 --   Held n t              the counters of n exchanges: six of each, and how large they are
 --   summaryOf t           the summary, by the counters
 --   ranOf c, textOf r     what a `Counted` means, and its text
-use mathlib.Core.{Path._≡_, Bool.Bool, Bool.true, Bool.false}
-use mathlib.Core.List.{List, [], _∷_, _++_}
-use Prim.Native.Nat.{ℕ, zero, suc, _+_, _*_, _≤_, max}
-use lib.ListN.{length, getD, set, drop, replicate}
+use Rattle.lists.specs.Kit.{_≡_, Bool, true, false, List, [], _∷_, _++_, ℕ, zero, suc, _+_, _*_, _≤_, max, length, getD, set, drop, replicate}
 use Rattle.text.specs.{Text.line, Answer.refusalName}
 use Rattle.trace.specs.Trace.{Two, two, neither, twoIn, block}
-use Rattle.trace.specs.{declared.Pair.Pair, declared.Tally.Tally, declared.Counted.Counted}
+pub use Rattle.trace.specs.{declared.Pair.Pair, declared.Tally.Tally, declared.Counted.Counted}
 use Rattle.trace.specs.declared.Pair.the-variants as pair
 
 abbrev pub twoOf : List ℕ → Pair → Two

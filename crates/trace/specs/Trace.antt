@@ -4,12 +4,9 @@
 --   slacksOf s ys      the slacks of the exchanges of scheme s
 --   summary ys         for each scheme present, lowest first, the lines `scheme=`, `exchanges=`, `sum=`, `largest=`
 --   answered xs        the output of every input: refusal 8 for other text, a missing slack line or more than 4,096 lines
-use mathlib.Core.{Bool.cond, List.List, List.[], List._∷_, List._++_}
-use Prim.Native.Nat.{ℕ, zero, suc, _+_}
-use lib.{Dec.eqb, Dec.leb, ListN.length}
+use Rattle.lists.specs.Kit.{cond, List, [], _∷_, _++_, ℕ, zero, suc, _+_, eqb, leb, length}
 use Rattle.lists.specs.First.{largestBy}
-use Rattle.text.specs.Text.{schemeName, line, Read, number, other, fieldIn}
-use Rattle.text.specs.Answer.{refusalName}
+use Rattle.text.specs.{Text.schemeName, Text.line, Text.Read, Text.number, Text.other, Text.fieldIn, Answer.refusalName}
 
 -- the names, in bytes
 abbrev pub slackName : List ℕ

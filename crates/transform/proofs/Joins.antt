@@ -6,15 +6,13 @@
 --   reads-in, block-≤          what a row reads stands within the list, and its powers within the table
 --   product-fits, exponent-≤   the products, and the power that a run reads
 --   next-run                   a run ends within its block
-use mathlib.Core.{Path._≡_, Path._∙_, Path.sym, Path.ap, Path.ap₂, List.List, Logic._≢_}
-use Prim.Native.Nat.{ℕ, zero, suc, _+_, _-_, _*_, _/_, _%_, _^_, _<_, _≤_}
-use native.Mathlib.Omega.{arith}
-use native.Mathlib.Nat.{add-assoc, not-suc-le-zero, mod-lt, mul-div-le, mul-le-mul, mul-le-mul-left, mul-le-mul-right, div-mul-le-self, div-add-mod, div-add-mod', div-lt-iff-lt-mul, mul-div-mul-left, lt-div-mul-add, div-eq-of-lt-le}
-use native.Mathlib.Decide.{decLt}
+use Rattle.lists.proofs.Kit.{_≡_, _∙_, sym, ap, ap₂, List, _≢_, ℕ, zero, suc, _+_, _-_, _*_, _/_, _%_, _^_, _<_, _≤_, arith, add-assoc, not-suc-le-zero, mod-lt}
+use Rattle.lists.proofs.Kit.{mul-le-mul, mul-le-mul-left, mul-le-mul-right, div-mul-le-self, div-add-mod, div-add-mod', div-lt-iff-lt-mul, lt-div-mul-add}
+use Rattle.lists.proofs.Kit.{decLt, length, getD, set, length-set, getD-set-same, getD-set-other}
+use native.Mathlib.Nat.{mul-div-le, mul-div-mul-left, div-eq-of-lt-le}
 use borrow.Author.Count.{below-more}
-use lib.ListN.{length, getD, set, length-set}
-use lib.Seq.{getD-set-same, getD-set-other}
-use Rattle.transform.specs.Level.{tight, powered, low, high, Half, first, second, place, butterfly, stored, entry, factor, beside, Butterflies, Powers, Crossed, OneBlock}
+use Rattle.transform.specs.Level.{tight, powered, low, high, Half, first, second, place, butterfly, stored, entry, factor, beside, Butterflies, Powers}
+use Rattle.transform.specs.Level.{Crossed, OneBlock}
 
 pub butterflies-none : (src : List ℕ) (a h : ℕ) (dst : List ℕ) → length dst ≡ 1024 → Butterflies src a h 0 dst
 butterflies-none src a h dst e = record { size = e; made = λ c k p. absurd (not-suc-le-zero p) }

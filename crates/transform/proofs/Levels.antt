@@ -6,21 +6,17 @@
 --   Placed g a m s u v xs   likewise, that of point i and offset o at o u + i v
 --   placed, placed-level, in-order   before the levels across, at each, and after
 --   first-across, last-across   the other half: the sixth level and two across, and two more
-use mathlib.Core.{Path._≡_, Path.refl, Path._∙_, Path.sym, Path.ap, Path.ap₂, List.List}
-use Prim.Native.Nat.{ℕ, _+_, _-_, _*_, _/_, _%_, _^_, _<_, _≤_}
-use native.Mathlib.Omega.{arith}
-use native.Mathlib.Decide.{decLt}
-use native.Mathlib.Nat.{mul-left-comm, mul-assoc, mul-le-mul-right, mod-lt, div-add-mod', div-lt-iff-lt-mul}
-use lib.{Arith.digits-div, IntN.pos, ListN.getD, ListN.List·getD-eq-default, Pow.pow-add}
+use Rattle.lists.proofs.Kit.{_≡_, refl, _∙_, sym, ap, ap₂, List, ℕ, _+_, _-_, _*_, _/_, _%_, _^_, _<_, _≤_, arith, decLt, mul-assoc, mul-le-mul-right, mod-lt}
+use Rattle.lists.proofs.Kit.{div-add-mod', div-lt-iff-lt-mul, digits-div, pos, getD, List·getD-eq-default, pow-add}
+use native.Mathlib.Nat.{mul-left-comm}
 use Rattle.numbers.specs.Sum.{sum, sumℕ}
-use Rattle.numbers.proofs.Sums.{natural, sum-ext, sum-mul, sum-double}
 use Rattle.numbers.proofs.Congruence.{eq-≅, refl-≅, sym-≅, _⨾_, add-≅, mul-≅, mod-≅, same-mod}
-use Rattle.numbers.proofs.Modular.{more-≅, sumℕ-≅}
+use Rattle.numbers.proofs.{Sums.natural, Sums.sum-ext, Sums.sum-mul, Sums.sum-double, Modular.more-≅, Modular.sumℕ-≅}
 use Rattle.lists.specs.Ranges.{Below}
 use Rattle.lists.proofs.Entries.{tab-ext}
-use Rattle.transform.specs.Level.{tight, factor, powered, low, high, Half, first, second, place, butterfly, entry, beside, Butterflies, Powers, Crossed, remainders, sums}
-use Rattle.transform.proofs.Seven.{_≈_, seven-turn, seven-minus}
-use Rattle.transform.proofs.Words.{quotient-≤, tight-lt, powered-lt}
+use Rattle.transform.specs.Level.{tight, factor, powered, low, high, Half, first, second, place, butterfly, entry, beside, Butterflies, Powers, Crossed}
+use Rattle.transform.specs.Level.{remainders, sums}
+use Rattle.transform.proofs.{Seven._≈_, Seven.seven-turn, Seven.seven-minus, Words.quotient-≤, Words.tight-lt, Words.powered-lt}
 
 pub part : List ℕ → ℕ → ℕ → ℕ → ℕ → ℕ → ℕ
 part g a m s i o = sumℕ m (λ j. getD g (o + j * s) 0 * 7 ^ (s * j * (a + 2 * i)))

@@ -5,13 +5,8 @@
 --   forty-nine, seven-back, forty-nine-back   49, 8778 and 1254 as powers of 7
 --   table-rule        where the test passes over a table of 2,048 entries, each entry is its power of 7
 --   power-lt          an entry of the table is below 12289
-use mathlib.Core.{Path._≡_, Path.sym, Path.ap, Bool.Bool, List.List}
-use Prim.Native.Nat.{ℕ, _+_, _*_, _%_, _^_, _<_}
-use native.Mathlib.Nat.{mul-one, mod-lt}
-use native.Mathlib.Omega.{arith}
-use native.Mathlib.Decide.{decLt}
-use lib.{IntN.pos, Pow.pow-add, Dec.T, Dec.eqb, Dec.eqb→eq}
-use lib.ListN.{length, getD, List·getD-eq-default}
+use Rattle.lists.proofs.Kit.{_≡_, sym, ap, Bool, List, ℕ, _+_, _*_, _%_, _^_, _<_, mul-one, mod-lt, arith, decLt, pos, pow-add, T, eqb, eqb→eq, length, getD}
+use Rattle.lists.proofs.Kit.{List·getD-eq-default}
 use Rattle.numbers.specs.Congruence.{_≅⟨_⟩_}
 use Rattle.numbers.proofs.Congruence.{eq-≅, refl-≅, sym-≅, _⨾_, mul-≅, mod-≅}
 use Rattle.numbers.proofs.{Natural.one-pow, Natural.power-power, Modular.pow-≅}

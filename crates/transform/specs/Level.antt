@@ -17,9 +17,7 @@
 --   sums a g                 what ten levels come to: entry i is the sum over j of g_j 7^(j (a + 2i))
 --   scaled f                 entry k is entry 1024 - k of f times 12 7^(1024 - k)
 --   reduced s                secrets or noise, each reduced to 0 .. q - 1
-use mathlib.Core.{Path._≡_, List.List}
-use Prim.Native.Nat.{ℕ, _+_, _-_, _*_, _/_, _%_, _^_, _<_, _≤_}
-use lib.{ListN.length, ListN.getD, ListN.set, IntN.ℤ}
+use Rattle.lists.specs.Kit.{_≡_, List, ℕ, _+_, _-_, _*_, _/_, _%_, _^_, _<_, _≤_, length, getD, set, ℤ}
 use Rattle.numbers.specs.{Sum.sumℕ, Residue.residue}
 use Rattle.lists.specs.Entries.{tab, ints}
 

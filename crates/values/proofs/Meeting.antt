@@ -1,24 +1,19 @@
 -- How far the values of the two ends lie apart, by the scheme: d = s'e + e'' - e's, of any a, lent as it is.
 --   differenceOf c s e s' e' e'' k   entry k of d, before any remainder
 --   values-apart                     the values are as far apart as d is from a multiple of q
-use mathlib.Core.{Path._≡_, Path.subst, List.List}
-use Prim.Native.Nat.{ℕ, _/_, _%_, _<_}
-use native.Mathlib.Nat.{div-add-mod'}
-use native.Mathlib.Omega.{arith}
-use lib.{IntN.ℤ, ListN.getD}
-use Rattle.schemes.specs.{Schemes.byFamily, Schemes.familyOf, Schemes.fixedOf, declared.Fixed.Fixed}
-use Rattle.schemes.specs.{declared.Family.Family, declared.Scheme.Scheme}
+use Rattle.lists.proofs.Kit.{_≡_, subst, List, ℕ, _/_, _%_, _<_, div-add-mod', arith, ℤ, getD}
 use Rattle.numbers.specs.Residue.{distance, apart}
+use Rattle.schemes.specs.{Schemes.byFamily, Schemes.familyOf, Schemes.fixedOf, declared.Fixed.Fixed, declared.Family.Family, declared.Scheme.Scheme}
+use Rattle.transform.specs.Transform.{transformed, inverted}
+use Rattle.transform.proofs.Mixing.{apart-through}
+use Rattle.values.specs.Values.{offered, replied, mixedValue, bareValue}
+use Rattle.values.proofs.Numbers.{Numbers, numbers-of}
 use Rattle.polynomial.specs.Product as polynomial
 use Rattle.polynomial.specs.Difference as polynomials-apart
 use Rattle.polynomial.proofs.Mixing as polynomial-laws
-use Rattle.transform.specs.Transform.{transformed, inverted}
-use Rattle.transform.proofs.Mixing.{apart-through}
 use Rattle.matrix.specs.Matrix as matrix
 use Rattle.matrix.specs.Difference as matrices-apart
 use Rattle.matrix.proofs.Mixing as matrix-laws
-use Rattle.values.specs.Values.{offered, replied, mixedValue, bareValue}
-use Rattle.values.proofs.Numbers.{Numbers, numbers-of}
 
 -- by the family and the numbers
 abbrev between : Family → Fixed → List ℤ → List ℤ → List ℤ → List ℤ → List ℤ → ℕ → ℤ

@@ -9,11 +9,7 @@
 --   in-arm, arm-asks       in an arm of a match over the family: what is made there is what is meant, and what is asked there
 --   key-bits               an entry's key has fewer than 32 bits
 --   packed-below           a number below q fits the width of a packed number
-use mathlib.Core.{Path._≡_, Path.refl, Path._∙_, Path.sym, Path.subst, List.List}
-use Prim.Native.Nat.{ℕ, _*_, _/_, _%_, _^_, _≤_, _<_}
-use native.Mathlib.Nat.{lt-of-lt-of-le}
-use native.Mathlib.Omega.{arith}
-use lib.Dec.{T, leb, lit≤}
+use Rattle.lists.proofs.Kit.{_≡_, refl, _∙_, sym, subst, List, ℕ, _*_, _/_, _%_, _^_, _≤_, _<_, lt-of-lt-of-le, arith, T, leb, lit≤}
 use Rattle.schemes.specs.Schemes.{byFamily, familyOf, fixedOf, bcns, newHope, frodo}
 use Rattle.schemes.specs.{declared.Family.Family, declared.Fixed.Fixed, declared.Scheme.Scheme}
 use Rattle.schemes.proofs.Sound.{sound}

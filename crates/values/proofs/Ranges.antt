@@ -1,25 +1,18 @@
 -- The values of both ends: as many as the scheme has, each below q, of whatever they are computed.
 --   offered-counted, replied-counted   b and u, as they travel
 --   mixed-counted, bare-counted        v and w
-use mathlib.Core.{Path._≡_, Path._∙_, Path.sym, List.List}
-use Prim.Native.Nat.{ℕ, _*_, _<_}
-use native.Mathlib.Nat.{mul-comm}
-use native.Mathlib.Omega.{arith}
-use lib.IntN.{ℤ}
-use Rattle.schemes.specs.{Schemes.familyOf, Schemes.fixedOf, declared.Fixed.Fixed}
-use Rattle.schemes.specs.declared.Scheme.{Scheme}
+use Rattle.lists.proofs.Kit.{_≡_, _∙_, sym, List, ℕ, _*_, _<_, mul-comm, arith, ℤ}
 use Rattle.numbers.specs.Residue.{residue}
 use Rattle.numbers.proofs.Congruence.{residue-lt}
-use Rattle.polynomial.specs.Product as polynomial-spec
-use Rattle.polynomial.proofs.Mixing as polynomial
-use Rattle.transform.specs.Transform.{transformed}
-use Rattle.transform.proofs.Sizes.{transformed-length, transformed-below}
+use Rattle.schemes.specs.{Schemes.familyOf, Schemes.fixedOf, declared.Fixed.Fixed, declared.Scheme.Scheme}
 use Rattle.matrix.specs.Matrix.{rows, rightMixed, leftMixed, bare}
 use Rattle.matrix.proofs.Rows.{rows-length, rows-below}
-use Rattle.values.specs.Fit.{Counted}
-use Rattle.values.specs.Values.{offered, replied, mixedValue, bareValue}
-use Rattle.values.proofs.Numbers.{NewHope, Frodo, numbers-of, in-each}
-use Rattle.values.proofs.Settling.{counted}
+use Rattle.transform.specs.Transform.{transformed}
+use Rattle.transform.proofs.Sizes.{transformed-length, transformed-below}
+use Rattle.values.specs.{Fit.Counted, Values.offered, Values.replied, Values.mixedValue, Values.bareValue}
+use Rattle.values.proofs.{Numbers.NewHope, Numbers.Frodo, Numbers.numbers-of, Numbers.in-each, Settling.counted}
+use Rattle.polynomial.specs.Product as polynomial-spec
+use Rattle.polynomial.proofs.Mixing as polynomial
 
 -- as + e and us of polynomials, in BCNS and NewHope
 module _ {q n m : ℕ} {r : ℕ} (d : q ≡ r) (p : n ≡ m) (a : List ℕ) (s : List ℤ) where

@@ -5,12 +5,11 @@
 --   Told X, tell     what a function knows in an arm: what it is given, what `scheme.family()` returned, and the interval and the key bits
 --   frodo            what it knows in Frodo's arm, where the interval and the key bits are what the arm computed
 --   hints-asks, hints-made, keys-asks, keys-made, peers-asks, peers-made, slacks-asks, slacks-made   in the arms; NewHope's keys are the bits of its own hints
-use mathlib.Core.{Path._≡_, Path.refl, Path._∙_, Path.sym, Path.ap, Path.subst, List.List}
-use Prim.Native.Nat.{ℕ, _*_, _^_}
-use lib.ListN.{length, replicate, length-replicate}
-use Rattle.schemes.specs.{Schemes.byFamily, Schemes.familyOf, Schemes.fixedOf, declared.Fixed.Fixed}
-use Rattle.schemes.specs.{declared.Family.Family, declared.Scheme.Scheme}
+use Rattle.lists.proofs.Kit.{_≡_, refl, _∙_, sym, ap, subst, List, ℕ, _*_, _^_, length, replicate, length-replicate}
+use Rattle.schemes.specs.{Schemes.byFamily, Schemes.familyOf, Schemes.fixedOf, declared.Fixed.Fixed, declared.Family.Family, declared.Scheme.Scheme}
 use Rattle.lists.specs.Ranges.{Below}
+use Rattle.values.specs.{Fit.Counted, Keys.interval, Keys.hints, Keys.keys, Keys.peers, Keys.slacks}
+use Rattle.values.proofs.Numbers.{Bcns, NewHope, Frodo, numbers-of, in-each, Each, in-arm, arm-asks}
 use Rattle.bcns.specs.Rounding as bcns-spec
 use Rattle.newhope.specs.Group as newhope-spec
 use Rattle.frodo.specs.Rounding as frodo-spec
@@ -18,9 +17,6 @@ use Rattle.frodo.specs.Agreement as frodo-shown
 use Rattle.bcns.proofs.Entries as bcns
 use Rattle.newhope.proofs.Groups as newhope
 use Rattle.frodo.proofs.Entries as frodo-laws
-use Rattle.values.specs.Fit.{Counted}
-use Rattle.values.specs.Keys.{interval, hints, keys, peers, slacks}
-use Rattle.values.proofs.Numbers.{Bcns, NewHope, Frodo, numbers-of, in-each, Each, in-arm, arm-asks}
 
 pub counted : {m n q r : ℕ} {xs : List ℕ} → m ≡ n → q ≡ r → Counted m q xs → Counted n r xs
 counted {xs = xs} d e h = record { long = h .long ∙ d; below = subst (λ (q : ℕ). Below q xs) e (h .below) }

@@ -6,26 +6,19 @@
 --   offer-made, reply-made     and what they are where none is
 --   mix-asks, mix-made         the replier's value
 --   multiply-asks, multiply-made   the initiator's value
-use mathlib.Core.{Path._≡_, Path.refl, Path._∙_, Path.sym, Path.ap, List.List}
-use Prim.Native.Nat.{ℕ, _*_, _<_, _≤_}
-use native.Mathlib.Nat.{le-trans}
-use native.Mathlib.Omega.{arith}
-use lib.{Dec.leb, Dec.lit≤, ListN.length, IntN.ℤ}
-use borrow.Author.Tests.{lt-leb}
+use Rattle.lists.proofs.Kit.{_≡_, refl, _∙_, sym, ap, List, ℕ, _*_, _<_, _≤_, le-trans, arith, leb, lit≤, length, ℤ, lt-leb}
 use Rattle.schemes.specs.Schemes.{bcns, byFamily, familyOf, fixedOf}
 use Rattle.schemes.specs.{declared.Family.Family, declared.Fixed.Fixed, declared.Scheme.Scheme}
 use Rattle.schemes.proofs.Sound.{sound}
 use Rattle.lists.specs.{Ranges.Below, Ranges.Within, First.firstOver}
 use Rattle.lists.proofs.First.{none-found, all-below}
+use Rattle.transform.specs.Transform.{transformed, inverted}
+use Rattle.values.specs.{Fit.Counted, Fit.Small, Fit.NewHopeAsks, Values.offered, Values.replied, Values.mixedValue, Values.bareValue}
+use Rattle.values.proofs.{Numbers.Bcns, Numbers.NewHope, Numbers.Frodo, Numbers.Each, Numbers.in-arm, Numbers.arm-asks, Settling.counted}
 use Rattle.polynomial.specs.Fit as polynomial-fit
 use Rattle.polynomial.specs.Product as polynomial
-use Rattle.transform.specs.Transform.{transformed, inverted}
 use Rattle.matrix.specs.Fit as matrix-fit
 use Rattle.matrix.specs.Matrix as matrix
-use Rattle.values.specs.Fit.{Counted, Small, NewHopeAsks}
-use Rattle.values.specs.Values.{offered, replied, mixedValue, bareValue}
-use Rattle.values.proofs.Numbers.{Bcns, NewHope, Frodo, Each, in-arm, arm-asks}
-use Rattle.values.proofs.Settling.{counted}
 
 -- m numbers, secrets, room for n numbers
 abbrev Bare : Fixed → ℕ → ℕ → List ℕ → List ℤ → ℕ → Type 0

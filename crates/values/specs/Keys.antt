@@ -4,11 +4,8 @@
 --   keys c cs v     the key entries of the replier's value
 --   peers c hs w    those of the initiator's value w under the hints
 --   slacks c hs w   the slack that each entry of w uses under the hints: 02, request f; none in NewHope
-use mathlib.Core.List.{List}
-use Prim.Native.Nat.{ℕ}
-use lib.ListN.{length, replicate}
-use Rattle.schemes.specs.Schemes.{byFamily, familyOf, fixedOf}
-use Rattle.schemes.specs.declared.Scheme.{Scheme}
+use Rattle.lists.specs.Kit.{List, ℕ, length, replicate}
+use Rattle.schemes.specs.{Schemes.byFamily, Schemes.familyOf, Schemes.fixedOf, declared.Scheme.Scheme}
 use Rattle.bcns.specs.Rounding as bcns
 use Rattle.newhope.specs.Group as newhope
 use Rattle.frodo.specs.Rounding as frodo

@@ -5,13 +5,10 @@
 --   replied c a s' e'       u, as it travels
 --   mixedValue c b s' e''   the replier's value v, of the b that travelled
 --   bareValue c u s         the initiator's value w, of the u that travelled
-use mathlib.Core.List.{List}
-use Prim.Native.Nat.{ℕ}
-use lib.IntN.{ℤ}
-use Rattle.schemes.specs.Schemes.{byFamily, familyOf, fixedOf}
-use Rattle.schemes.specs.declared.Scheme.{Scheme}
-use Rattle.polynomial.specs.Product as polynomial
+use Rattle.lists.specs.Kit.{List, ℕ, ℤ}
+use Rattle.schemes.specs.{Schemes.byFamily, Schemes.familyOf, Schemes.fixedOf, declared.Scheme.Scheme}
 use Rattle.transform.specs.Transform.{transformed, inverted}
+use Rattle.polynomial.specs.Product as polynomial
 use Rattle.matrix.specs.Matrix as matrix
 
 unfoldable pub offered : Scheme → List ℕ → List ℤ → List ℤ → List ℕ

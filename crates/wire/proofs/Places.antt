@@ -10,18 +10,12 @@
 --   numbers-hold, taken          a packed part: what the unpack step asks, and what it gives
 --   replied, reply-split, reply-front       the packed part of a reply, which lies within it, and what is left for its hints
 --   hints-hold, hints-of, coins-hold, coins-of   hints and coins: what `unpack` asks, and what it gives
-use mathlib.Core.Path.{_≡_, sym, ap, ap₂, _∙_}
-use mathlib.Core.List.{List, _++_, append-nil}
-use Prim.Native.Nat.{ℕ, _+_, _-_, _*_, _^_, _≤_, _<_}
-use native.Mathlib.Nat.{le-refl}
-use native.Mathlib.Omega.{arith}
-use lib.ListN.{length, take, drop, length-drop, drop-of-length-le}
-use lib.Seq.{take-at, drop-at, take-all, length-take-le}
-use borrow.Rule.Slice.PartMut.{putMid}
-use Rattle.lists.specs.Ranges.{Below}
-use Rattle.lists.proofs.Parts.{part-long, joined}
+use Rattle.lists.proofs.Kit.{_≡_, sym, ap, ap₂, _∙_, List, _++_, append-nil, ℕ, _+_, _-_, _*_, _^_, _≤_, _<_, le-refl, arith, length, take, drop, length-drop}
+use Rattle.lists.proofs.Kit.{drop-of-length-le, take-at, drop-at, take-all, length-take-le, putMid}
 use Rattle.schemes.specs.{Schemes.familyOf, Schemes.fixedOf, Schemes.byFamily, declared.Fixed.Fixed, declared.Family.Family, declared.Scheme.Scheme}
 use Rattle.schemes.proofs.{Laws.tied, Sound.sound}
+use Rattle.lists.specs.Ranges.{Below}
+use Rattle.lists.proofs.Parts.{part-long, joined}
 use Rattle.packing.specs.Packing.{packed, unpacked}
 use Rattle.refusals.specs.{Refusals.receivedIn, declared.Verdict.Verdict}
 use Rattle.values.specs.Fit.{Counted}

@@ -8,21 +8,15 @@
 --   opening-back, reply-back, opening-again, reply-again   what is stated in specs/Again
 --   hints-given, coins-given     hints and coins are as many as the scheme has, each within its bits
 --   message-counted              numbers that are not refused are as many as the scheme has, each below q
-use mathlib.Core.{Path._≡_, Path.sym, Path.ap, Path.ap₂, Path._∙_, List.List, List._++_}
-use Prim.Native.Nat.{ℕ, _+_, _^_}
-use native.Mathlib.Nat.{le-refl}
-use native.Mathlib.Omega.{arith}
-use lib.ListN.{length, take, drop, length-append, length-drop, take-append-drop}
-use lib.Seq.{take-at, drop-at, take-all}
+use Rattle.lists.proofs.Kit.{_≡_, sym, ap, ap₂, _∙_, List, _++_, ℕ, _+_, _^_, le-refl, arith, length, take, drop, length-append, length-drop, take-append-drop}
+use Rattle.lists.proofs.Kit.{take-at, drop-at, take-all}
+use Rattle.schemes.specs.{Schemes.familyOf, Schemes.fixedOf, Schemes.byFamily, declared.Family.Family, declared.Scheme.Scheme}
+use Rattle.schemes.proofs.{Laws.tied, Sound.sound}
 use Rattle.lists.specs.Ranges.{Below}
 use Rattle.lists.proofs.Parts.{below-take, below-drop}
-use Rattle.schemes.specs.Schemes.{familyOf, fixedOf, byFamily}
-use Rattle.schemes.specs.{declared.Family.Family, declared.Scheme.Scheme}
-use Rattle.schemes.proofs.{Laws.tied, Sound.sound}
 use Rattle.packing.specs.Packing.{packed, unpacked}
 use Rattle.packing.proofs.Laws.{unpacked-length, unpacked-below}
-use Rattle.refusals.specs.{Refusals.notBlank, Refusals.receivedIn, declared.Verdict.Verdict}
-use Rattle.refusals.specs.declared.Verdict.the-variants.{Pass}
+use Rattle.refusals.specs.{Refusals.notBlank, Refusals.receivedIn, declared.Verdict.Verdict, declared.Verdict.the-variants.Pass}
 use Rattle.refusals.proofs.Laws.{both, message-passed}
 use Rattle.values.specs.Fit.{Counted}
 use Rattle.wire.specs.Wire.{opening, packedAt, openedIn, repliedIn, numbersIn, hintsIn, coinsIn, seedIn}

@@ -7,14 +7,10 @@
 --   back           numbers packed and unpacked are the same
 --   as-blank       they are blank where their bytes are
 --   again          bytes unpacked and packed are the same
-use mathlib.Core.{Path._≡_, Path.sym, Path.ap, Path._∙_, List.List}
-use Prim.Native.Nat.{ℕ, _*_, _^_, _≤_, _<_}
-use native.Mathlib.Nat.{lt-of-lt-of-le}
-use native.Mathlib.Omega.{arith}
-use lib.ListN.{length}
-use Rattle.lists.specs.Ranges.{Below}
+use Rattle.lists.proofs.Kit.{_≡_, sym, ap, _∙_, List, ℕ, _*_, _^_, _≤_, _<_, lt-of-lt-of-le, arith, length}
 use Rattle.schemes.specs.{Schemes.fixedOf, declared.Scheme.Scheme}
 use Rattle.schemes.proofs.{Laws.tied, Sound.sound}
+use Rattle.lists.specs.Ranges.{Below}
 use Rattle.packing.specs.Packing.{packed, unpacked}
 use Rattle.packing.proofs.Laws.{packed-length, unpack-pack, pack-unpack}
 use Rattle.refusals.specs.Refusals.{notBlank}

@@ -2,11 +2,9 @@
 --   OpeningAgain, ReplyAgain   a message of the scheme's length comes back the same when it is unpacked and packed again
 --   OpeningBack                the numbers and the seed that an opening was put together from come back
 --   ReplyBack                  so do the numbers and the hints of a reply
-use mathlib.Core.{Path._≡_, List.List, List._++_}
-use Prim.Native.Nat.{ℕ, _^_}
-use lib.ListN.{length}
-use Rattle.lists.specs.Ranges.{Below}
+use Rattle.lists.specs.Kit.{_≡_, List, _++_, ℕ, _^_, length}
 use Rattle.schemes.specs.{Schemes.fixedOf, declared.Scheme.Scheme}
+use Rattle.lists.specs.Ranges.{Below}
 use Rattle.packing.specs.Packing.{packed}
 use Rattle.values.specs.Fit.{Counted}
 use Rattle.wire.specs.Wire.{opening, openedIn, repliedIn, numbersIn, hintsIn, seedIn}

@@ -2,9 +2,7 @@
 --   replySecrets c s' e' e''       the tests of the replier's secrets
 --   messageBy c u v coins, keyBy c v coins   the reply message and the key, of u and v
 --   Rooms c tosses hints entries   there is room for the coins as numbers, the hints and the entries of the key
-use mathlib.Core.{Path._≡_, List.List, List._++_}
-use Prim.Native.Nat.{ℕ}
-use lib.{IntN.ℤ, ListN.length}
+use Rattle.lists.specs.Kit.{_≡_, List, _++_, ℕ, ℤ, length}
 use Rattle.schemes.specs.{Schemes.fixedOf, declared.Scheme.Scheme}
 use Rattle.packing.specs.Packing.{packed}
 use Rattle.refusals.specs.{Refusals._then_, Refusals.secretsIn, declared.Verdict.Verdict}

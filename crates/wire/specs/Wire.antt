@@ -6,11 +6,8 @@
 --   numbersIn c p           the numbers of a packed part
 --   hintsIn c m             the hints of a reply
 --   coinsIn c coins         the coins of all groups
-use mathlib.Core.List.{List, _++_}
-use Prim.Native.Nat.{ℕ}
-use lib.ListN.{take, drop}
-use Rattle.schemes.specs.Schemes.{familyOf, fixedOf, byFamily}
-use Rattle.schemes.specs.declared.Scheme.{Scheme}
+use Rattle.lists.specs.Kit.{List, _++_, ℕ, take, drop}
+use Rattle.schemes.specs.{Schemes.familyOf, Schemes.fixedOf, Schemes.byFamily, declared.Scheme.Scheme}
 use Rattle.packing.specs.Packing.{unpacked}
 
 unfoldable pub opening : Scheme → List ℕ → List ℕ → List ℕ

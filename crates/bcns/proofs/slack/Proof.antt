@@ -1,7 +1,5 @@
 -- `bcns::slack` meets its contract: the code is the formula.
-use mathlib.Core.Path.{sym, _∙_, ap}
-use Prim.Native.Nat.{ℕ, _+_, _-_, min}
-use borrow.Author.Needs.{needs}
+use Rattle.lists.proofs.Kit.{sym, _∙_, ap, ℕ, _+_, _-_, min, needs}
 use Rattle.bcns.proofs.{Away.slack-formula, slack.Statement.statement}
 use Rattle.bcns.proofs.slack.Tie as tie
 

@@ -1,7 +1,5 @@
 -- `bcns_noise::byte` meets its contract: a shift divides, and a word has 64 bits.
-use mathlib.Core.Path.{refl}
-use native.Mathlib.Omega.{arith}
-use borrow.Author.Needs.{needs}
+use Rattle.lists.proofs.Kit.{refl, arith, needs}
 use Rattle.bcns_noise.specs.Limbs.{byteOf}
 use Rattle.bcns_noise.proofs.byte.Statement.{statement}
 use Rattle.bcns_noise.proofs.byte.Tie as tie

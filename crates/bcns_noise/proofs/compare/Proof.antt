@@ -1,5 +1,5 @@
 -- `bcns_noise::compare` meets its contract: below the lowest limb there is none, and so all of them pass.
-use borrow.Author.Needs.{needs}
+use Rattle.lists.proofs.Kit.{needs}
 use Rattle.bcns_noise.specs.Limbs.{passes}
 use Rattle.bcns_noise.proofs.compare.Statement.{statement}
 use Rattle.bcns_noise.proofs.compare.Tie as tie

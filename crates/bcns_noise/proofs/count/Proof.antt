@@ -1,8 +1,5 @@
 -- `bcns_noise::count` meets its contract.
-use mathlib.Core.Path.{_≡_, _∙_, refl, ap}
-use Prim.Native.Nat.{ℕ, _-_, _≤_}
-use native.Mathlib.Omega.{arith}
-use borrow.Author.Needs.{needs}
+use Rattle.lists.proofs.Kit.{_≡_, _∙_, refl, ap, ℕ, _-_, _≤_, arith, needs}
 use Rattle.bcns_noise.specs.Limbs.{limbs, limbsOf, passes, tally}
 use Rattle.bcns_noise.proofs.{Limbs.compared-at, Limbs.tally-next, count.Statement.statement}
 use Rattle.bcns_noise.proofs.count.Tie as tie

@@ -1,5 +1,5 @@
 -- `bcns_noise::entry_not_above` meets its contract.
-use borrow.Author.Needs.{needs}
+use Rattle.lists.proofs.Kit.{needs}
 use Rattle.bcns_noise.specs.Noise.{entryOf}
 use Rattle.bcns_noise.proofs.entry_not_above.Statement.{statement}
 use Rattle.bcns_noise.proofs.entry_not_above.Tie as tie

@@ -1,5 +1,5 @@
 -- `bcns_noise::falls_at` meets its contract.
-use borrow.Author.Needs.{needs}
+use Rattle.lists.proofs.Kit.{needs}
 use Rattle.bcns_noise.specs.Noise.{entryOf, falls}
 use Rattle.bcns_noise.proofs.{Table.falls-behind, falls_at.Statement.statement}
 use Rattle.bcns_noise.proofs.falls_at.Tie as tie

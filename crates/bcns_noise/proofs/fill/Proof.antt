@@ -1,10 +1,5 @@
 -- `bcns_noise::fill` meets its contract: it fills with the values of the bytes.
-use mathlib.Core.Path.{_≡_, _∙_}
-use Prim.Native.Nat.{_-_, _/_}
-use native.Mathlib.Omega.{arith}
-use borrow.Author.Needs.{needs}
-use lib.ListN.{length, length-set}
-use mir.Facts.{toZ-ofZ}
+use Rattle.lists.proofs.Kit.{_≡_, _∙_, _-_, _/_, arith, needs, length, length-set, toZ-ofZ}
 use Rattle.lists.proofs.Fill.{Filled, fill-start, fill-next, fill-end}
 use Rattle.bcns_noise.specs.Noise.{bcnsValue, bcnsNoise}
 use Rattle.bcns_noise.proofs.fill.Statement.{statement}

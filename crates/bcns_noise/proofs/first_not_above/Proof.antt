@@ -1,9 +1,5 @@
 -- `bcns_noise::first_not_above` meets its contract.
-use mathlib.Core.Path.{_∙_, sym}
-use Prim.Native.Nat.{_-_, _/_}
-use native.Mathlib.Omega.{arith}
-use borrow.Author.Needs.{needs}
-use lib.ListN.{length}
+use Rattle.lists.proofs.Kit.{_∙_, sym, _-_, _/_, arith, needs, length}
 use Rattle.bcns_noise.proofs.Table.{Searched, search-start, search-next, search-found, search-end}
 use Rattle.bcns_noise.proofs.first_not_above.Statement.{statement}
 use Rattle.bcns_noise.proofs.first_not_above.Tie as tie

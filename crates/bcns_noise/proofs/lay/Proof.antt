@@ -1,9 +1,5 @@
 -- `bcns_noise::lay` meets its contract: row by row.
-use mathlib.Core.Path.{_≡_, _∙_, refl, sym, ap, subst}
-use Prim.Native.Nat.{ℕ, _-_, _≤_}
-use native.Mathlib.Omega.{arith}
-use borrow.Author.Needs.{needs}
-use lib.ListN.{length, length-replicate}
+use Rattle.lists.proofs.Kit.{_≡_, _∙_, refl, sym, ap, subst, ℕ, _-_, _≤_, arith, needs, length, length-replicate}
 use Rattle.bcns_noise.specs.Limbs.{Laid}
 use Rattle.bcns_noise.proofs.{Limbs.laid-none, Limbs.laid-next, lay.Statement.statement}
 use Rattle.bcns_noise.proofs.lay.Tie as tie

@@ -1,7 +1,5 @@
 -- `bcns_noise::lay_row` meets its contract.
-use Prim.Native.Nat.{ℕ, _+_, _*_, _-_, _^_, _<_, _≤_}
-use native.Mathlib.Omega.{arith}
-use borrow.Author.Needs.{needs}
+use Rattle.lists.proofs.Kit.{ℕ, _+_, _*_, _-_, _^_, _<_, _≤_, arith, needs}
 use Rattle.lists.specs.Ranges.{Below, Stored}
 use Rattle.lists.proofs.Stored.{store-none, store-next, stored-all}
 use Rattle.bcns_noise.specs.{Noise.bigEndian, Limbs.wordBytes}

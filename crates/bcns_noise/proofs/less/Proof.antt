@@ -1,10 +1,5 @@
 -- `bcns_noise::less` meets its contract: numbers so small are the same with a sign.
-use mathlib.Core.Path.{_≡_, ap₂}
-use native.Mathlib.Omega.{arith}
-use borrow.Author.Needs.{needs}
-use lib.{Dec.ltb, IntN.ℤ, Signed.ltZ}
-use mir.Syntax.{w32}
-use mir.Val.{toZ, boolByte}
+use Rattle.lists.proofs.Kit.{_≡_, ap₂, arith, needs, ltb, ℤ, ltZ, w32, toZ, boolByte}
 use Rattle.numbers.proofs.Machine.{toZ-pos}
 use Rattle.bcns_noise.proofs.{Table.byte-le, less.Statement.statement}
 use Rattle.bcns_noise.proofs.less.Tie as tie

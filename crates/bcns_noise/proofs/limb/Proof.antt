@@ -1,6 +1,5 @@
 -- `bcns_noise::limb` meets its contract.
-use native.Mathlib.Omega.{arith}
-use borrow.Author.Needs.{needs}
+use Rattle.lists.proofs.Kit.{arith, needs}
 use Rattle.bcns_noise.proofs.{Limbs.table-limb, limb.Statement.statement}
 use Rattle.bcns_noise.proofs.limb.Tie as tie
 

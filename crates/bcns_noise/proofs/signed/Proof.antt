@@ -1,9 +1,6 @@
 -- `bcns_noise::signed` meets its contract: the factor is 1 or -1.
-use Prim.Native.Nat.{_%_}
-use native.Mathlib.Omega.{arith}
-use borrow.Author.Needs.{needs}
-use Rattle.bcns_noise.proofs.Sign.{double-fits, turn-fits, times-fits, times}
-use Rattle.bcns_noise.proofs.signed.Statement.{statement}
+use Rattle.lists.proofs.Kit.{_%_, arith, needs}
+use Rattle.bcns_noise.proofs.{Sign.double-fits, Sign.turn-fits, Sign.times-fits, Sign.times, signed.Statement.statement}
 use Rattle.bcns_noise.proofs.signed.Tie as tie
 
 mul-result : tie.Need-mul-result

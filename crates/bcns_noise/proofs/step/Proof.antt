@@ -1,8 +1,5 @@
 -- `bcns_noise::step` meets its contract.
-use mathlib.Core.Path.{_∙_}
-use Prim.Native.Nat.{_+_, _*_}
-use native.Mathlib.Omega.{arith}
-use borrow.Author.Needs.{needs}
+use Rattle.lists.proofs.Kit.{_∙_, _+_, _*_, arith, needs}
 use Rattle.bcns_noise.specs.Limbs.{limbs, limbsOf}
 use Rattle.bcns_noise.proofs.{Limbs.pass-next, step.Statement.statement}
 use Rattle.bcns_noise.proofs.step.Tie as tie

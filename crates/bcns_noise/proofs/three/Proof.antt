@@ -1,7 +1,5 @@
 -- `bcns_noise::three` meets its contract: a byte is below 256.
-use Prim.Native.Nat.{_+_}
-use native.Mathlib.Omega.{arith}
-use borrow.Author.Needs.{needs}
+use Rattle.lists.proofs.Kit.{_+_, arith, needs}
 use Rattle.bcns_noise.proofs.{Words.big-three, three.Statement.statement}
 use Rattle.bcns_noise.proofs.three.Tie as tie
 

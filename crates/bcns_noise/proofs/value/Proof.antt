@@ -1,10 +1,6 @@
 -- `bcns_noise::value` meets its contract: eight limbs of three bytes, a count and a sign.
-use mathlib.Core.Path.{_∙_, refl}
-use native.Mathlib.Omega.{arith}
-use borrow.Author.Needs.{needs}
-use mir.Facts.{toZ-ofZ}
-use Rattle.bcns_noise.proofs.Limbs.{eight-below, number-eight, value-is}
-use Rattle.bcns_noise.proofs.value.Statement.{statement}
+use Rattle.lists.proofs.Kit.{_∙_, refl, arith, needs, toZ-ofZ}
+use Rattle.bcns_noise.proofs.{Limbs.eight-below, Limbs.number-eight, Limbs.value-is, value.Statement.statement}
 use Rattle.bcns_noise.proofs.value.Tie as tie
 
 count-requires : tie.Need-count-requires

@@ -1,7 +1,6 @@
 -- `bench::agreed` meets its contract, in either arm.
-use mathlib.Core.Path.{sym, ap}
+use Rattle.lists.proofs.Kit.{sym, ap, needs}
 use Rattle.bench.specs.Inside.{agreed}
-use borrow.Author.Needs.{needs}
 use Rattle.bench.proofs.agreed.Statement.{statement}
 use Rattle.bench.proofs.agreed.Tie as tie
 

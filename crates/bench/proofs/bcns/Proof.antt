@@ -1,7 +1,7 @@
 -- `bench::bcns` meets its contract: whatever is not refused agrees.
+use Rattle.lists.proofs.Kit.{needs}
 use Rattle.bench.specs.Bench.{benchOf}
 use Rattle.bench.proofs.{Answering.bcns-answered, bcns.Statement.statement}
-use borrow.Author.Needs.{needs}
 use Rattle.bench.proofs.bcns.Tie as tie
 
 abbrev ran : tie.After-agreed → tie.After-from-offer

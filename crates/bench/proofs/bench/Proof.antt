@@ -1,8 +1,7 @@
 -- `bench::bench` meets its contract: what the scheme by its name gives.
-use mathlib.Core.Path.{sym, _∙_}
+use Rattle.lists.proofs.Kit.{sym, _∙_, needs}
 use Rattle.bench.specs.Bench.{benchOf}
 use Rattle.bench.proofs.{Answering.bench-unknown, bench.Statement.statement}
-use borrow.Author.Needs.{needs}
 use Rattle.bench.proofs.bench.Tie as tie
 
 returns : tie.Need-returns

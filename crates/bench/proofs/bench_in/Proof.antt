@@ -1,11 +1,8 @@
 -- `bench::bench_in` meets its contract: it lends two keys just the room that they take.
-use mathlib.Core.Path.{_≡_, sym, ap, ap₂, _∙_}
-use Prim.Native.Nat.{ℕ, _+_, _≤_}
-use native.Mathlib.Omega.{arith}
+use Rattle.lists.proofs.Kit.{_≡_, sym, ap, ap₂, _∙_, ℕ, _+_, _≤_, arith, needs}
 use Rattle.schemes.specs.{Schemes.fixedOf, declared.Fixed.Fixed}
 use Rattle.schemes.proofs.Sound.{sound}
 use Rattle.lists.proofs.Parts.{buffer-long}
-use borrow.Author.Needs.{needs}
 use Rattle.bench.proofs.bench_in.Statement.{statement}
 use Rattle.bench.proofs.bench_in.Tie as tie
 

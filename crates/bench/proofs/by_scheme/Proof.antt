@@ -1,6 +1,5 @@
 -- `bench::by_scheme` meets its contract: BCNS's answer, or that of the bench that compares.
-use mathlib.Core.Path.{_∙_}
-use borrow.Author.Needs.{needs}
+use Rattle.lists.proofs.Kit.{_∙_, needs}
 use Rattle.bench.proofs.by_scheme.Statement.{statement}
 use Rattle.bench.proofs.by_scheme.Tie as tie
 

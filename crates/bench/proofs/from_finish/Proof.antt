@@ -1,8 +1,7 @@
 -- `bench::from_finish` meets its contract: Finish's refusal, or the slack that it used and its key.
+use Rattle.lists.proofs.Kit.{needs}
 use Rattle.finish.specs.Finish.{finishOf}
-use Rattle.bench.proofs.Answering.{named, finish-refused, finish-done}
-use borrow.Author.Needs.{needs}
-use Rattle.bench.proofs.from_finish.Statement.{statement}
+use Rattle.bench.proofs.{Answering.named, Answering.finish-refused, Answering.finish-done, from_finish.Statement.statement}
 use Rattle.bench.proofs.from_finish.Tie as tie
 
 -- the places, from the last to the first

@@ -1,16 +1,11 @@
 -- `bench::from_offer` meets its contract: it lends room for the opening; Offer's refusal, or what follows from Reply on.
-use mathlib.Core.Path.{_≡_, sym, ap, _∙_}
-use Prim.Native.Nat.{ℕ, _≤_}
-use native.Mathlib.Omega.{arith}
-use lib.ListN.{length, take, replicate}
+use Rattle.lists.proofs.Kit.{_≡_, sym, ap, _∙_, ℕ, _≤_, arith, length, take, replicate, needs}
 use Rattle.schemes.specs.{Schemes.fixedOf, declared.Fixed.Fixed}
 use Rattle.schemes.proofs.Sound.{sound}
 use Rattle.lists.proofs.Parts.{buffer-long, front-long}
 use Rattle.refusals.proofs.Steps.{front-fits}
 use Rattle.bench.specs.Bench.{Bench, benchOf}
-use Rattle.bench.proofs.Answering.{named, offer-refused, offer-sent, offer-told}
-use borrow.Author.Needs.{needs}
-use Rattle.bench.proofs.from_offer.Statement.{statement}
+use Rattle.bench.proofs.{Answering.named, Answering.offer-refused, Answering.offer-sent, Answering.offer-told, from_offer.Statement.statement}
 use Rattle.bench.proofs.from_offer.Tie as tie
 
 -- the places, from the last to the first

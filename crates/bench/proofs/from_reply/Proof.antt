@@ -1,17 +1,12 @@
 -- `bench::from_reply` meets its contract: it lends room for the reply; Reply's refusal, or what follows from Finish on.
-use mathlib.Core.Path.{_≡_, sym, ap, _∙_}
-use Prim.Native.Nat.{ℕ, _≤_}
-use native.Mathlib.Omega.{arith}
-use lib.ListN.{length, take, replicate, length-take, length-drop}
+use Rattle.lists.proofs.Kit.{_≡_, sym, ap, _∙_, ℕ, _≤_, arith, length, take, replicate, length-take, length-drop, needs}
 use Rattle.schemes.specs.{Schemes.fixedOf, declared.Fixed.Fixed}
 use Rattle.schemes.proofs.Sound.{sound}
 use Rattle.lists.proofs.Parts.{buffer-long, front-long}
 use Rattle.refusals.proofs.Steps.{front-fits}
 use Rattle.reply.specs.Reply.{Reply, replyOf}
+use Rattle.bench.proofs.{Answering.named, Answering.reply-refused, Answering.reply-sent, Answering.reply-told, from_reply.Statement.statement}
 use Rattle.reply.proofs.Replying as reply
-use Rattle.bench.proofs.Answering.{named, reply-refused, reply-sent, reply-told}
-use borrow.Author.Needs.{needs}
-use Rattle.bench.proofs.from_reply.Statement.{statement}
 use Rattle.bench.proofs.from_reply.Tie as tie
 
 -- the places, from the last to the first

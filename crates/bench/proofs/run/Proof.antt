@@ -1,12 +1,9 @@
 -- `bench::run` meets its contract: the refusal, or the two keys compared.
-use mathlib.Core.Path.{_≡_, ap}
-use native.Mathlib.Omega.{arith}
+use Rattle.lists.proofs.Kit.{_≡_, ap, arith, needs}
 use Rattle.schemes.specs.{Schemes.fixedOf, declared.Fixed.Fixed}
 use Rattle.schemes.proofs.Sound.{sound}
 use Rattle.bench.specs.Bench.{Bench, benchOf}
-use Rattle.bench.proofs.Answering.{bench-refused, bench-told}
-use borrow.Author.Needs.{needs}
-use Rattle.bench.proofs.run.Statement.{statement}
+use Rattle.bench.proofs.{Answering.bench-refused, Answering.bench-told, run.Statement.statement}
 use Rattle.bench.proofs.run.Tie as tie
 
 abbrev fixed : tie.After-from-offer → tie.After-fixed

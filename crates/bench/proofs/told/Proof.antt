@@ -1,7 +1,6 @@
 -- `bench::told` meets its contract, in either arm.
-use mathlib.Core.Path.{sym, ap}
+use Rattle.lists.proofs.Kit.{sym, ap, needs}
 use Rattle.bench.specs.Bench.{bcnsTold}
-use borrow.Author.Needs.{needs}
 use Rattle.bench.proofs.told.Statement.{statement}
 use Rattle.bench.proofs.told.Tie as tie
 

@@ -1,10 +1,6 @@
 -- `blank::numbers` meets its contract.
-use Prim.Native.Nat.{_-_}
-use native.Mathlib.Omega.{arith}
-use borrow.Author.Needs.{needs}
-use lib.ListN.{length}
-use Rattle.blank.proofs.Search.{Zeros, zeros-none, zeros-more, zeros-found, zeros-all}
-use Rattle.blank.proofs.numbers.Statement.{statement}
+use Rattle.lists.proofs.Kit.{_-_, arith, needs, length}
+use Rattle.blank.proofs.{Search.Zeros, Search.zeros-none, Search.zeros-more, Search.zeros-found, Search.zeros-all, numbers.Statement.statement}
 use Rattle.blank.proofs.numbers.Tie as tie
 
 abbrev Inv-loop : tie.InvT-loop

@@ -1,6 +1,5 @@
 -- `cards::list` is safe and ends: the measure is what is left of the numbers.
-use Prim.Native.Nat.{_≤_, _-_}
-use borrow.Author.Needs.{needs}
+use Rattle.lists.proofs.Kit.{_≤_, _-_, needs}
 use Rattle.cards.proofs.list.Statement.{statement}
 use Rattle.cards.proofs.list.Tie as tie
 

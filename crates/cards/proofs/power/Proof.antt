@@ -1,8 +1,5 @@
 -- `cards::power` meets its contract: zeros and a 1.
-use Prim.Native.Nat.{ℕ}
-use native.Mathlib.Omega.{arith}
-use lib.ListN.{replicate, length-replicate}
-use borrow.Author.Needs.{needs}
+use Rattle.lists.proofs.Kit.{ℕ, arith, replicate, length-replicate, needs}
 use Rattle.lists.proofs.Entries.{below-set, below-zeros}
 use Rattle.cards.proofs.power.Statement.{statement}
 use Rattle.cards.proofs.power.Tie as tie

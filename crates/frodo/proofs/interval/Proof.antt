@@ -1,7 +1,5 @@
 -- `frodo::interval` meets its contract: a shift by the key bits divides by their power of two.
-use mathlib.Core.Path.{ap}
-use native.Mathlib.Omega.{arith}
-use borrow.Author.Needs.{needs}
+use Rattle.lists.proofs.Kit.{ap, arith, needs}
 use Rattle.schemes.proofs.Sound.{sound}
 use Rattle.frodo.specs.Rounding.{interval}
 use Rattle.frodo.proofs.interval.Statement.{statement}

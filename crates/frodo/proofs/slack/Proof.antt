@@ -1,9 +1,5 @@
 -- `frodo::slack` meets its contract: the body is the formula of the least distance.
-use mathlib.Core.Path.{sym, _∙_}
-use Prim.Native.Nat.{_*_, _-_, _/_, _+_, _≤_}
-use native.Mathlib.Nat.{mul-le-mul, mod-lt}
-use native.Mathlib.Omega.{arith}
-use borrow.Author.Needs.{needs}
+use Rattle.lists.proofs.Kit.{sym, _∙_, _*_, _-_, _/_, _+_, _≤_, mul-le-mul, mod-lt, arith, needs}
 use Rattle.frodo.proofs.{Room.interval-room, Away.slack-formula, slack.Statement.statement}
 use Rattle.frodo.proofs.slack.Tie as tie
 

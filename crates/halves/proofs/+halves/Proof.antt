@@ -1,15 +1,9 @@
 -- `halves::halves` meets its contract: the length falls at each call of itself. At a place of its code, `hₙ` is half the length and `wₙ` what w holds.
-use mathlib.Core.{Path._≡_, List.List}
-use Prim.Native.Nat.{ℕ, _+_, _*_, _-_, _/_, _<_, _≤_}
-use native.Mathlib.Omega.{arith}
-use lib.ListN.{length, take, drop}
-use borrow.Author.Needs.{needs}
-use borrow.Rule.Slice.PartMut.{putMid}
-use borrow.Fn.Kinds.{In, Out}
-use borrow.Fn.PlainCycle.{Measures, is, falls, and}
+use Rattle.lists.proofs.Kit.{_≡_, List, ℕ, _+_, _*_, _-_, _/_, _<_, _≤_, arith, length, take, drop, needs, putMid}
+use borrow.{Fn.Kinds.In, Fn.Kinds.Out, Fn.PlainCycle.Measures, Fn.PlainCycle.is, Fn.PlainCycle.falls, Fn.PlainCycle.and}
 use Rattle.halves.specs.Steps.{Size, Product, InPart, Ahead}
-use Rattle.halves.proofs.{Moves.level-law, +halves.statement, +halves.Tie.close}
 use Rattle.halves.proofs.Part.{size-least, size-half, size-even, lent-long, part-product, product-at}
+use Rattle.halves.proofs.{Moves.level-law, +halves.statement, +halves.Tie.close}
 use Rattle.halves.proofs.halves.Reads as halves
 use Rattle.halves.proofs.halves.Kinds as halves-kinds
 use Rattle.halves.proofs.+halves.Lts-halves as lts

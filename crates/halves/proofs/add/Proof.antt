@@ -1,11 +1,8 @@
 -- `halves::add` meets its contract.
-use mathlib.Core.Path.{_≡_, _∙_, ap₂}
-use Prim.Native.Nat.{ℕ, _+_, _-_, _%_, _≤_}
-use native.Mathlib.Omega.{arith}
-use borrow.Author.Needs.{needs}
-use Rattle.halves.specs.{Halves.q, Steps.from}
+use Rattle.lists.proofs.Kit.{_≡_, _∙_, ap₂, ℕ, _+_, _-_, _%_, _≤_, arith, needs}
 use Rattle.lists.specs.Ranges.{Stored}
 use Rattle.lists.proofs.Stored.{store-none, store-next}
+use Rattle.halves.specs.{Halves.q, Steps.from}
 use Rattle.halves.proofs.{Stores.read-ahead, add.Statement.statement}
 use Rattle.halves.proofs.add.Tie as tie
 

@@ -1,11 +1,8 @@
 -- `halves::copy` meets its contract.
-use mathlib.Core.Path.{_≡_}
-use Prim.Native.Nat.{_-_, _≤_}
-use native.Mathlib.Omega.{arith}
-use borrow.Author.Needs.{needs}
+use Rattle.lists.proofs.Kit.{_≡_, _-_, _≤_, arith, needs}
 use Rattle.lists.specs.Ranges.{Stored}
-use Rattle.halves.specs.Steps.{from}
 use Rattle.lists.proofs.Stored.{store-none, store-next}
+use Rattle.halves.specs.Steps.{from}
 use Rattle.halves.proofs.{Stores.read-ahead, copy.Statement.statement}
 use Rattle.halves.proofs.copy.Tie as tie
 

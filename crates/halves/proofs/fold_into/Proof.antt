@@ -1,8 +1,5 @@
 -- `halves::fold_into` meets its contract: it fills with the folded numbers.
-use Prim.Native.Nat.{_+_, _-_, _%_}
-use native.Mathlib.Omega.{arith}
-use borrow.Author.Needs.{needs}
-use lib.ListN.{length, getD, length-set}
+use Rattle.lists.proofs.Kit.{_+_, _-_, _%_, arith, needs, length, getD, length-set}
 use Rattle.lists.proofs.Fill.{Filled, fill-start, fill-next, fill-end}
 use Rattle.halves.specs.Halves.{q}
 use Rattle.halves.proofs.fold_into.Statement.{statement}

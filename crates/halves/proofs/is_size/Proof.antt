@@ -1,6 +1,5 @@
 -- `halves::is_size` meets its contract.
-use borrow.Author.Needs.{needs}
-use mathlib.Core.Path.{refl}
+use Rattle.lists.proofs.Kit.{needs, refl}
 use Rattle.halves.specs.Halves.{sizeUpTo}
 use Rattle.halves.proofs.{Part.upto-here, Part.upto-next, is_size.Statement.statement}
 use Rattle.halves.proofs.is_size.Tie as tie

@@ -1,5 +1,5 @@
 -- `halves::join` meets its contract.
-use borrow.Author.Needs.{needs}
+use Rattle.lists.proofs.Kit.{needs}
 use Rattle.halves.proofs.{Moves.join-law, join.Statement.statement}
 use Rattle.halves.proofs.join.Tie as tie
 

@@ -1,8 +1,5 @@
 -- `halves::lay_second` meets its contract.
-use mathlib.Core.Path.{_≡_, refl}
-use Prim.Native.Nat.{_+_, _-_, _≤_}
-use native.Mathlib.Omega.{arith}
-use borrow.Author.Needs.{needs}
+use Rattle.lists.proofs.Kit.{_≡_, refl, _+_, _-_, _≤_, arith, needs}
 use Rattle.lists.specs.Ranges.{Below, Stored}
 use Rattle.lists.proofs.{Entries.below-set, Stored.store-none, Stored.store-next}
 use Rattle.halves.specs.Steps.{from}

@@ -1,9 +1,5 @@
 -- `halves::leaf` meets its contract.
-use mathlib.Core.Path.{_≡_}
-use Prim.Native.Nat.{ℕ}
-use native.Mathlib.Omega.{arith}
-use lib.ListN.{getD, replicate, length-replicate}
-use borrow.Author.Needs.{needs}
+use Rattle.lists.proofs.Kit.{_≡_, ℕ, arith, getD, replicate, length-replicate, needs}
 use Rattle.lists.proofs.Entries.{below-zeros}
 use Rattle.halves.proofs.{Columns.cells-none, Columns.column-small, Columns.leaf-law, leaf.Statement.statement}
 use Rattle.halves.proofs.leaf.Tie as tie

@@ -1,9 +1,5 @@
 -- `halves::load` meets its contract.
-use mathlib.Core.Path.{_≡_, refl}
-use Prim.Native.Nat.{_-_, _≤_}
-use native.Mathlib.Omega.{arith}
-use borrow.Author.Needs.{needs}
-use lib.ListN.{length, getD}
+use Rattle.lists.proofs.Kit.{_≡_, refl, _-_, _≤_, arith, needs, length, getD}
 use Rattle.lists.specs.Ranges.{Stored}
 use Rattle.lists.proofs.Stored.{store-none, store-next}
 use Rattle.halves.proofs.load.Statement.{statement}

@@ -1,5 +1,5 @@
 -- `halves::low` meets its contract.
-use lib.Bits.{and-mask}
+use Rattle.lists.proofs.Kit.{and-mask}
 use Rattle.halves.proofs.low.Statement.{statement}
 use Rattle.halves.proofs.low.Tie as tie
 

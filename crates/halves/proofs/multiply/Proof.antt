@@ -1,7 +1,5 @@
 -- `halves::multiply` meets its contract.
-use native.Mathlib.Omega.{arith}
-use lib.ListN.{length}
-use borrow.Author.Needs.{needs}
+use Rattle.lists.proofs.Kit.{arith, length, needs}
 use Rattle.halves.proofs.{Multiplied.plain-law, multiply.Statement.statement}
 use Rattle.halves.proofs.multiply.Tie as tie
 

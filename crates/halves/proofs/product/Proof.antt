@@ -1,6 +1,5 @@
 -- `halves::product` meets its contract.
-use lib.ListN.{length}
-use borrow.Author.Needs.{needs}
+use Rattle.lists.proofs.Kit.{length, needs}
 use Rattle.lists.proofs.Same.{zeros, zeros-long}
 use Rattle.halves.proofs.{Multiplied.product-cleared, product.Statement.statement}
 use Rattle.halves.proofs.product.Tie as tie

@@ -1,11 +1,8 @@
 -- `halves::product_in` meets its contract.
-use mathlib.Core.Path.{sym}
-use lib.ListN.{length}
-use borrow.Author.Needs.{needs}
+use Rattle.lists.proofs.Kit.{sym, length, needs}
 use Rattle.lists.proofs.Parts.{front-long}
 use Rattle.halves.specs.Halves.{factorsOf}
-use Rattle.halves.proofs.Multiplied.{fitting, product-refused, product-done}
-use Rattle.halves.proofs.product_in.Statement.{statement}
+use Rattle.halves.proofs.{Multiplied.fitting, Multiplied.product-refused, Multiplied.product-done, product_in.Statement.statement}
 use Rattle.halves.proofs.product_in.Tie as tie
 
 slice-relend-prefix-multiply : tie.Need-slice-relend-prefix-multiply

@@ -1,12 +1,8 @@
 -- `halves::product_tests` meets its contract.
-use mathlib.Core.Path.{refl, sym, _∙_}
-use native.Mathlib.Omega.{arith}
-use borrow.Author.Needs.{needs}
-use lib.ListN.{length}
+use Rattle.lists.proofs.Kit.{refl, sym, _∙_, arith, needs, length}
 use Rattle.refusals.proofs.Laws.{also}
 use Rattle.halves.specs.Halves.{productTests, factorsOf}
-use Rattle.halves.proofs.{Part.size-most, Multiplied.size-passed, Multiplied.tests-stop}
-use Rattle.halves.proofs.product_tests.Statement.{statement}
+use Rattle.halves.proofs.{Part.size-most, Multiplied.size-passed, Multiplied.tests-stop, product_tests.Statement.statement}
 use Rattle.halves.proofs.product_tests.Tie as tie
 
 returns : tie.Need-returns

@@ -1,8 +1,5 @@
 -- `halves::rows` meets its contract.
-use mathlib.Core.Path.{_≡_, _∙_, sym}
-use Prim.Native.Nat.{_-_, _%_, _≤_}
-use native.Mathlib.Omega.{arith}
-use borrow.Author.Needs.{needs}
+use Rattle.lists.proofs.Kit.{_≡_, _∙_, sym, _-_, _%_, _≤_, arith, needs}
 use Rattle.halves.specs.Steps.{Rows}
 use Rattle.halves.proofs.rows.Statement.{statement}
 use Rattle.halves.proofs.rows.Tie as tie

@@ -1,9 +1,5 @@
 -- `halves::settle` meets its contract.
-use mathlib.Core.Path.{_≡_}
-use Prim.Native.Nat.{ℕ, _+_, _-_, _*_, _%_, _≤_}
-use native.Mathlib.Omega.{arith}
-use borrow.Author.Needs.{needs}
-use lib.ListN.{getD}
+use Rattle.lists.proofs.Kit.{_≡_, ℕ, _+_, _-_, _*_, _%_, _≤_, arith, needs, getD}
 use Rattle.lists.specs.Ranges.{Stored}
 use Rattle.lists.proofs.Stored.{store-none, store-front}
 use Rattle.halves.specs.Halves.{q}

@@ -1,7 +1,6 @@
 -- `halves::size_in` meets its contract.
-use borrow.Author.Needs.{needs}
-use Rattle.halves.proofs.Multiplied.{size-passes, size-fails}
-use Rattle.halves.proofs.size_in.Statement.{statement}
+use Rattle.lists.proofs.Kit.{needs}
+use Rattle.halves.proofs.{Multiplied.size-passes, Multiplied.size-fails, size_in.Statement.statement}
 use Rattle.halves.proofs.size_in.Tie as tie
 
 pub size-in-spec : {M : Type 1} → statement M

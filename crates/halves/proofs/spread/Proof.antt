@@ -1,5 +1,5 @@
 -- `halves::spread` meets its contract.
-use borrow.Author.Needs.{needs}
+use Rattle.lists.proofs.Kit.{needs}
 use Rattle.halves.proofs.{Moves.spread-law, spread.Statement.statement}
 use Rattle.halves.proofs.spread.Tie as tie
 

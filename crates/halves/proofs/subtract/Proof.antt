@@ -1,12 +1,8 @@
 -- `halves::subtract` meets its contract.
-use mathlib.Core.Path.{_≡_, _∙_, ap, ap₂}
-use Prim.Native.Nat.{ℕ, _+_, _-_, _%_, _≤_}
-use native.Mathlib.Omega.{arith}
-use borrow.Author.Needs.{needs}
-use lib.ListN.{getD}
-use Rattle.halves.specs.{Halves.q, Steps.from}
+use Rattle.lists.proofs.Kit.{_≡_, _∙_, ap, ap₂, ℕ, _+_, _-_, _%_, _≤_, arith, needs, getD}
 use Rattle.lists.specs.Ranges.{Stored}
 use Rattle.lists.proofs.Stored.{store-none, store-next, not-yet}
+use Rattle.halves.specs.{Halves.q, Steps.from}
 use Rattle.halves.proofs.{Stores.read-ahead, subtract.Statement.statement}
 use Rattle.halves.proofs.subtract.Tie as tie
 

@@ -1,8 +1,5 @@
 -- `halves::times` meets its contract.
-use native.Mathlib.Omega.{arith}
-use native.Mathlib.Nat.{mul-le-mul}
-use borrow.Author.Needs.{needs}
-use Prim.Native.Nat.{ℕ, _*_, _≤_}
+use Rattle.lists.proofs.Kit.{arith, mul-le-mul, needs, ℕ, _*_, _≤_}
 use Rattle.halves.proofs.times.Statement.{statement}
 use Rattle.halves.proofs.times.Tie as tie
 

@@ -1,11 +1,6 @@
 -- `halves::two_rows` meets its contract: k of the 33 columns have the two rows.
-use mathlib.Core.Path.{_≡_, refl, _∙_, sym}
-use Prim.Native.Nat.{_+_, _-_, _≤_}
-use native.Mathlib.Omega.{arith}
-use borrow.Author.Needs.{needs}
-use lib.ListN.{getD}
-use Rattle.halves.proofs.Columns.{Doing, doing-none, doing-next, doing-all, doing-small}
-use Rattle.halves.proofs.two_rows.Statement.{statement}
+use Rattle.lists.proofs.Kit.{_≡_, refl, _∙_, sym, _+_, _-_, _≤_, arith, needs, getD}
+use Rattle.halves.proofs.{Columns.Doing, Columns.doing-none, Columns.doing-next, Columns.doing-all, Columns.doing-small, two_rows.Statement.statement}
 use Rattle.halves.proofs.two_rows.Tie as tie
 
 abbrev Inv-loop : tie.InvT-loop

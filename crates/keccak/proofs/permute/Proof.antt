@@ -1,9 +1,5 @@
 -- `keccak::permute` meets its contract: what the rounds that are left make of the state is what all of them make of the first.
-use mathlib.Core.Path.{_≡_, refl, sym, ap, _∙_}
-use Prim.Native.Nat.{ℕ, _≤_, _+_, _-_}
-use native.Mathlib.Omega.{arith}
-use lib.ListN.{drop}
-use borrow.Author.Needs.{needs}
+use Rattle.lists.proofs.Kit.{_≡_, refl, sym, ap, _∙_, ℕ, _≤_, _+_, _-_, arith, drop, needs}
 use Rattle.keccak.specs.Keccak.{rounds, keccakF, constants}
 use Rattle.keccak.proofs.{Rounds.round-next, permute.Statement.statement}
 use Rattle.keccak.proofs.permute.Tie as tie

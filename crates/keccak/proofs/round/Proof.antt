@@ -1,7 +1,5 @@
 -- `keccak::round` meets its contract.
-use mathlib.Core.{Path.ap, Path._∙_, List.List}
-use Prim.Native.Nat.{ℕ}
-use borrow.Author.Needs.{needs}
+use Rattle.lists.proofs.Kit.{ap, _∙_, List, ℕ, needs}
 use Rattle.keccak.specs.Keccak.{round, chi, iota}
 use Rattle.keccak.proofs.round.Statement.{statement}
 use Rattle.keccak.proofs.round.Tie as tie

@@ -1,5 +1,5 @@
 -- `line::answer` meets its contract.
-use borrow.Author.Needs.{needs}
+use Rattle.lists.proofs.Kit.{needs}
 use Rattle.text.proofs.Answer.{answers}
 use Rattle.line.proofs.{Showing.shown-short, answer.Statement.statement}
 use Rattle.line.proofs.answer.Tie as tie

@@ -1,6 +1,5 @@
 -- `line::named` meets its contract: a number of more than 32 bits names no scheme.
-use native.Mathlib.Omega.{arith}
-use borrow.Author.Needs.{needs}
+use Rattle.lists.proofs.Kit.{arith, needs}
 use Rattle.line.proofs.{Deciding.beyond, named.Statement.statement}
 use Rattle.line.proofs.named.Tie as tie
 

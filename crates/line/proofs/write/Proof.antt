@@ -1,11 +1,8 @@
 -- `line::write` meets its contract.
-use mathlib.Core.Path.{ap}
-use native.Mathlib.Omega.{arith}
-use lib.ListN.{length}
+use Rattle.lists.proofs.Kit.{ap, arith, length, needs}
 use Rattle.text.specs.{Text.line, Steps.labelled}
-use Rattle.line.specs.{Line.refusal, Steps.textOf}
 use Rattle.text.proofs.Writing.{written-as}
-use borrow.Author.Needs.{needs}
+use Rattle.line.specs.{Line.refusal, Steps.textOf}
 use Rattle.line.proofs.write.Statement.{statement}
 use Rattle.line.proofs.write.Tie as tie
 

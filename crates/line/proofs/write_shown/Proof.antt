@@ -1,5 +1,5 @@
 -- `line::write_shown` meets its contract.
-use borrow.Author.Needs.{needs}
+use Rattle.lists.proofs.Kit.{needs}
 use Rattle.text.proofs.Writing.{left-room, left-next, left-none}
 use Rattle.line.proofs.{Showing.shown-left, write_shown.Statement.statement}
 use Rattle.line.proofs.write_shown.Tie as tie

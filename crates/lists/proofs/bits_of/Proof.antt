@@ -1,10 +1,6 @@
 -- `lists::bits_of` meets its contract.
-use borrow.Author.Needs.{needs}
-use Prim.Native.Nat.{ℕ, _-_, _≤_}
-use native.Mathlib.Omega.{arith}
-use lib.{Bits.bitOr, Bits.and-le-l, Bits.and-le-r, Bits.or-add-and, ListN.length, ListN.getD}
-use Rattle.lists.proofs.First.{Reached, reached-none, reached-more, reached-all}
-use Rattle.lists.proofs.bits_of.Statement.{statement}
+use Rattle.lists.proofs.Kit.{needs, ℕ, _-_, _≤_, arith, bitOr, and-le-l, and-le-r, or-add-and, length, getD}
+use Rattle.lists.proofs.{First.Reached, First.reached-none, First.reached-more, First.reached-all, bits_of.Statement.statement}
 use Rattle.lists.proofs.bits_of.Tie as tie
 
 abbrev Inv-loop : tie.InvT-loop

@@ -1,10 +1,6 @@
 -- `lists::first_apart` meets its contract.
-use Prim.Native.Nat.{_-_}
-use native.Mathlib.Omega.{arith}
-use borrow.Author.Needs.{needs}
-use lib.ListN.{length}
-use Rattle.lists.proofs.First.{Tried, tried-none, differ, along, parted, met}
-use Rattle.lists.proofs.first_apart.Statement.{statement}
+use Rattle.lists.proofs.Kit.{_-_, arith, needs, length}
+use Rattle.lists.proofs.{First.Tried, First.tried-none, First.differ, First.along, First.parted, First.met, first_apart.Statement.statement}
 use Rattle.lists.proofs.first_apart.Tie as tie
 
 abbrev Inv-loop : tie.InvT-loop

@@ -1,5 +1,5 @@
 -- `lists::peak_of` meets its contract.
-use borrow.Author.Needs.{needs}
+use Rattle.lists.proofs.Kit.{needs}
 use Rattle.lists.proofs.{Top.peak-is, peak_of.Statement.statement}
 use Rattle.lists.proofs.peak_of.Tie as tie
 

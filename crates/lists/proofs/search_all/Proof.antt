@@ -1,15 +1,8 @@
 -- `lists::search_all` meets its contract: each test is a factor 0 or 1.
-use borrow.Author.Needs.{needs}
-use mathlib.Core.{Path._≡_, Path.refl, Bool.Bool, Bool.true, Bool.false}
-use mathlib.Core.Logic.{_⊎_, inl, inr}
-use Prim.Native.Nat.{ℕ, _*_, _-_, _≤_}
-use native.Mathlib.Omega.{arith}
-use lib.{Dec.leb, Dec.ltb, ListN.length, ListN.getD}
-use mir.Val.{boolByte}
-use borrow.Author.Tests.{le-leb, lt-leb, ltb-true, ltb-false}
+use Rattle.lists.proofs.Kit.{needs, _≡_, refl, Bool, true, false, _⊎_, inl, inr, ℕ, _*_, _-_, _≤_, arith, leb, ltb, length, getD, boolByte, le-leb}
+use Rattle.lists.proofs.Kit.{lt-leb, ltb-true, ltb-false}
 use Rattle.lists.specs.First.{firstOver}
-use Rattle.lists.proofs.First.{Looking, looking-none, looking-more, looking-all}
-use Rattle.lists.proofs.search_all.Statement.{statement}
+use Rattle.lists.proofs.{First.Looking, First.looking-none, First.looking-more, First.looking-all, search_all.Statement.statement}
 use Rattle.lists.proofs.search_all.Tie as tie
 
 abbrev over : ℕ → ℕ → Bool

@@ -1,6 +1,5 @@
 -- `margins::frodo` is safe: the fixed numbers of every scheme are what a run asks for.
-use native.Mathlib.Omega.{arith}
-use borrow.Author.Needs.{needs}
+use Rattle.lists.proofs.Kit.{arith, needs}
 use Rattle.schemes.specs.Schemes.{fixedOf}
 use Rattle.schemes.proofs.Sound.{sound}
 use Rattle.margins.proofs.{Numbers.quarter-lt, frodo.Statement.statement}

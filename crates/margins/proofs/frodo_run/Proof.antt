@@ -1,8 +1,5 @@
 -- `margins::frodo_run` is safe: the lists of every scheme fit the buffers.
-use mathlib.Core.Path.{_≡_, sym}
-use Prim.Native.Nat.{ℕ}
-use lib.{ListN.length, ListN.take, ListN.replicate, IntN.ℤ, IntN.pos}
-use borrow.Author.Needs.{needs}
+use Rattle.lists.proofs.Kit.{_≡_, sym, ℕ, length, take, replicate, ℤ, pos, needs}
 use Rattle.lists.proofs.Parts.{same-long}
 use Rattle.margins.proofs.{Numbers.in-buffer, frodo_run.Statement.statement}
 use Rattle.margins.proofs.frodo_run.Tie as tie

@@ -1,7 +1,5 @@
 -- `margins::less` is safe: the difference of two numbers below 2^31 fits an i32.
-use native.Mathlib.Omega.{arith}
-use mir.Syntax.{w32}
-use borrow.Author.Needs.{needs}
+use Rattle.lists.proofs.Kit.{arith, w32, needs}
 use Rattle.numbers.proofs.{Machine.fits-abs, Machine.toZ-pos, Size.abs-difference}
 use Rattle.margins.proofs.less.Statement.{statement}
 use Rattle.margins.proofs.less.Tie as tie

@@ -1,7 +1,5 @@
 -- `margins::part` meets its contract: the products are small.
-use native.Mathlib.Omega.{arith}
-use native.Mathlib.Nat.{mul-le-mul}
-use borrow.Author.Needs.{needs}
+use Rattle.lists.proofs.Kit.{arith, mul-le-mul, needs}
 use Rattle.margins.proofs.part.Statement.{statement}
 use Rattle.margins.proofs.part.Tie as tie
 

@@ -1,10 +1,5 @@
 -- `margins::public_numbers` is safe and ends: the number to be written stays below q.
-use mathlib.Core.Path.{_≡_}
-use Prim.Native.Nat.{_-_, _<_}
-use native.Mathlib.Omega.{arith}
-use native.Mathlib.Nat.{mod-lt}
-use lib.ListN.{length, length-set}
-use borrow.Author.Needs.{needs}
+use Rattle.lists.proofs.Kit.{_≡_, _-_, _<_, arith, mod-lt, length, length-set, needs}
 use Rattle.margins.proofs.public_numbers.Statement.{statement}
 use Rattle.margins.proofs.public_numbers.Tie as tie
 

@@ -1,9 +1,6 @@
 -- `margins::secrets` is safe: t's digits are below b, and there are no more terms than t.
-use Prim.Native.Nat.{ℕ, _/_, _%_, _^_, _<_}
-use native.Mathlib.Nat.{lt-trans, mod-lt, div-le-self}
-use native.Mathlib.Omega.{arith}
-use lib.Dec.{lit≤}
-use borrow.Author.Needs.{needs}
+use Rattle.lists.proofs.Kit.{ℕ, _/_, _%_, _^_, _<_, mod-lt, div-le-self, arith, lit≤, needs}
+use native.Mathlib.Nat.{lt-trans}
 use Rattle.margins.proofs.secrets.Statement.{statement}
 use Rattle.margins.proofs.secrets.Tie as tie
 

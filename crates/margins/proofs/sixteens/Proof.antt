@@ -1,8 +1,5 @@
 -- `margins::sixteens` is safe and ends: the measure is what is left of the 32 entries.
-use mathlib.Core.Path.{_≡_}
-use Prim.Native.Nat.{_-_}
-use lib.ListN.{length}
-use borrow.Author.Needs.{needs}
+use Rattle.lists.proofs.Kit.{_≡_, _-_, length, needs}
 use Rattle.margins.proofs.sixteens.Statement.{statement}
 use Rattle.margins.proofs.sixteens.Tie as tie
 

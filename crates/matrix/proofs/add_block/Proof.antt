@@ -1,8 +1,5 @@
 -- `matrix::add_block` meets its contract: the four words that it lends are all.
-use mathlib.Core.Path.{_≡_}
-use native.Mathlib.Omega.{arith}
-use borrow.Author.Needs.{needs}
-use lib.{ListN.take, Seq.take-all}
+use Rattle.lists.proofs.Kit.{_≡_, arith, needs, take, take-all}
 use Rattle.matrix.proofs.add_block.Statement.{statement}
 use Rattle.matrix.proofs.add_block.Tie as tie
 

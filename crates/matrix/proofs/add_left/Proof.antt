@@ -1,14 +1,9 @@
 -- `matrix::add_left` meets its contract: it fills a row of sums at a time.
-use mathlib.Core.{Path._≡_, List.List}
-use Prim.Native.Nat.{ℕ, _+_, _*_, _-_, _%_, _≤_}
-use native.Mathlib.Omega.{arith}
-use borrow.Author.Needs.{needs}
-use lib.ListN.{length, getD}
+use Rattle.lists.proofs.Kit.{_≡_, List, ℕ, _+_, _*_, _-_, _%_, _≤_, arith, needs, length, getD}
 use Rattle.numbers.specs.Sum.{sumℕ}
 use Rattle.lists.proofs.Fill.{Filled, fill-end, rows-start, rows-next}
 use Rattle.matrix.specs.{Steps.partTerm, Words.gained}
-use Rattle.matrix.proofs.Terms.{in-s, block-long, block-row, Row, row-of}
-use Rattle.matrix.proofs.add_left.Statement.{statement}
+use Rattle.matrix.proofs.{Terms.in-s, Terms.block-long, Terms.block-row, Terms.Row, Terms.row-of, add_left.Statement.statement}
 use Rattle.matrix.proofs.add_left.Tie as tie
 
 abbrev from : ℕ → ℕ → ℕ → ℕ → List ℕ → List ℕ → List ℕ → ℕ → ℕ

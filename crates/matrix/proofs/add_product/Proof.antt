@@ -1,8 +1,5 @@
 -- `matrix::add_product` meets its contract.
-use Prim.Native.Nat.{_*_, _≤_}
-use native.Mathlib.Omega.{arith}
-use native.Mathlib.Nat.{mul-le-mul}
-use borrow.Author.Needs.{needs}
+use Rattle.lists.proofs.Kit.{_*_, _≤_, arith, mul-le-mul, needs}
 use Rattle.matrix.proofs.add_product.Statement.{statement}
 use Rattle.matrix.proofs.add_product.Tie as tie
 

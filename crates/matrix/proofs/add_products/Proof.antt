@@ -1,9 +1,5 @@
 -- `matrix::add_products` meets its contract: it fills with each sum and its product.
-use mathlib.Core.{Path._∙_, Path.ap, List.List}
-use Prim.Native.Nat.{ℕ, _+_, _*_, _-_, _%_, _<_}
-use native.Mathlib.Omega.{arith}
-use borrow.Author.Needs.{needs}
-use lib.{Arith.digits-lt, ListN.getD}
+use Rattle.lists.proofs.Kit.{_∙_, ap, List, ℕ, _+_, _*_, _-_, _%_, _<_, arith, needs, digits-lt, getD}
 use Rattle.lists.specs.Entries.{tab}
 use Rattle.lists.proofs.Fill.{Filled, fill-start, fill-next, fill-end, fill-old}
 use Rattle.matrix.proofs.add_products.Statement.{statement}

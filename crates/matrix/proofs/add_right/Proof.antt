@@ -1,15 +1,9 @@
 -- `matrix::add_right` meets its contract: it fills a row of sums at a time.
-use mathlib.Core.{Path._≡_, List.List}
-use Prim.Native.Nat.{ℕ, _+_, _*_, _-_, _%_, _≤_}
-use native.Mathlib.Omega.{arith}
-use borrow.Author.Needs.{needs}
-use lib.ListN.{length, getD}
+use Rattle.lists.proofs.Kit.{_≡_, List, ℕ, _+_, _*_, _-_, _%_, _≤_, arith, needs, length, getD}
 use Rattle.numbers.specs.Sum.{sumℕ}
-use Rattle.lists.proofs.Fill.{Filled, fill-end, rows-start, rows-next}
-use Rattle.lists.proofs.Parts.{slice-long}
+use Rattle.lists.proofs.{Fill.Filled, Fill.fill-end, Fill.rows-start, Fill.rows-next, Parts.slice-long}
 use Rattle.matrix.specs.Words.{gained, rightTerm}
-use Rattle.matrix.proofs.Terms.{row-in, right-sums, Row, row-of}
-use Rattle.matrix.proofs.add_right.Statement.{statement}
+use Rattle.matrix.proofs.{Terms.row-in, Terms.right-sums, Terms.Row, Terms.row-of, add_right.Statement.statement}
 use Rattle.matrix.proofs.add_right.Tie as tie
 
 abbrev from : ℕ → List ℕ → List ℕ → List ℕ → ℕ → ℕ

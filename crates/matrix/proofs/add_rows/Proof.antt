@@ -1,9 +1,5 @@
 -- `matrix::add_rows` meets its contract: it fills with each sum and its products.
-use borrow.Author.Needs.{needs}
-use mathlib.Core.List.{List}
-use Prim.Native.Nat.{ℕ, _+_, _-_, _%_}
-use native.Mathlib.Omega.{arith}
-use lib.ListN.{length, getD}
+use Rattle.lists.proofs.Kit.{needs, List, ℕ, _+_, _-_, _%_, arith, length, getD}
 use Rattle.numbers.specs.Sum.{sumℕ}
 use Rattle.lists.proofs.Fill.{Filled, fill-start, fill-next, fill-end, fill-old}
 use Rattle.matrix.specs.{Steps.blockTerm, Steps.blockGained, Words.gained}

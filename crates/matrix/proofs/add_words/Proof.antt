@@ -1,10 +1,5 @@
 -- `matrix::add_words` meets its contract: it fills with each sum and its word.
-use mathlib.Core.{Path._∙_, Path.ap, List.List}
-use Prim.Native.Nat.{ℕ, _+_, _-_, _%_}
-use native.Mathlib.Omega.{arith}
-use native.Mathlib.Nat.{mul-one}
-use borrow.Author.Needs.{needs}
-use lib.ListN.{length, getD, length-set}
+use Rattle.lists.proofs.Kit.{_∙_, ap, List, ℕ, _+_, _-_, _%_, arith, mul-one, needs, length, getD, length-set}
 use Rattle.lists.proofs.Fill.{Filled, fill-start, fill-next, fill-end, fill-old}
 use Rattle.matrix.proofs.add_words.Statement.{statement}
 use Rattle.matrix.proofs.add_words.Tie as tie

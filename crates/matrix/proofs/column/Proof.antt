@@ -1,10 +1,5 @@
 -- `matrix::column` meets its contract: it fills with the words of every eighth value.
-use mathlib.Core.List.{List}
-use Prim.Native.Nat.{ℕ, _+_, _*_, _-_}
-use native.Mathlib.Omega.{arith}
-use borrow.Author.Needs.{needs}
-use lib.{ListN.length, ListN.length-set, IntN.ℤ}
-use mir.Facts.{toZ-ofZ}
+use Rattle.lists.proofs.Kit.{List, ℕ, _+_, _*_, _-_, arith, needs, length, length-set, ℤ, toZ-ofZ}
 use Rattle.numbers.specs.Residue.{residue}
 use Rattle.lists.specs.Entries.{ints}
 use Rattle.lists.proofs.Fill.{Filled, fill-start, fill-next, fill-end}

@@ -1,13 +1,8 @@
 -- `matrix::columns` meets its contract: it fills a column at a time.
-use mathlib.Core.{Path._≡_, Path._∙_, Path.ap, List.List}
-use Prim.Native.Nat.{ℕ, _+_, _*_, _-_, _/_, _%_, _≤_}
-use native.Mathlib.Omega.{arith}
-use borrow.Author.Needs.{needs}
-use lib.{ListN.length, IntN.ℤ}
+use Rattle.lists.proofs.Kit.{_≡_, _∙_, ap, List, ℕ, _+_, _*_, _-_, _/_, _%_, _≤_, arith, needs, length, ℤ}
 use Rattle.numbers.specs.Residue.{residue}
 use Rattle.lists.specs.Entries.{tab, ints}
-use Rattle.lists.proofs.Fill.{Filled, fill-end, rows-start, rows-next}
-use Rattle.lists.proofs.Parts.{slice-long}
+use Rattle.lists.proofs.{Fill.Filled, Fill.fill-end, Fill.rows-start, Fill.rows-next, Parts.slice-long}
 use Rattle.matrix.specs.Words.{columnsOf}
 use Rattle.matrix.proofs.{Terms.row-in, Terms.column-row, columns.Statement.statement}
 use Rattle.matrix.proofs.columns.Tie as tie

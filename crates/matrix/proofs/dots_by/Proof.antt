@@ -1,6 +1,5 @@
 -- `matrix::dots_by` meets its contract: each n that it names is n.
-use native.Mathlib.Omega.{arith}
-use borrow.Author.Needs.{needs}
+use Rattle.lists.proofs.Kit.{arith, needs}
 use Rattle.matrix.proofs.{Steps.known, dots_by.Statement.statement}
 use Rattle.matrix.proofs.dots_by.Tie as tie
 

@@ -1,12 +1,7 @@
 -- `matrix::dots_on` meets its contract: after t numbers of the row each sum has gained t products.
-use mathlib.Core.Path.{_≡_, _∙_, sym, ap}
-use Prim.Native.Nat.{ℕ, _-_, _≤_}
-use native.Mathlib.Omega.{arith}
-use borrow.Author.Needs.{needs}
-use lib.ListN.{length}
+use Rattle.lists.proofs.Kit.{_≡_, _∙_, sym, ap, ℕ, _-_, _≤_, arith, needs, length}
 use Rattle.matrix.specs.{Steps.dotTerm, Words.gained}
-use Rattle.matrix.proofs.Steps.{gained-length, gained-none, gained-next}
-use Rattle.matrix.proofs.dots_on.Statement.{statement}
+use Rattle.matrix.proofs.{Steps.gained-length, Steps.gained-none, Steps.gained-next, dots_on.Statement.statement}
 use Rattle.matrix.proofs.dots_on.Tie as tie
 
 abbrev Inv-loop : tie.InvT-loop

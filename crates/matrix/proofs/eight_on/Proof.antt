@@ -1,10 +1,6 @@
 -- `matrix::eight_on` meets its contract.
-use mathlib.Core.Path.{_∙_, sym, ap}
-use native.Mathlib.Omega.{arith}
-use borrow.Author.Needs.{needs}
-use lib.ListN.{length}
-use Rattle.matrix.proofs.{Search.below-wider, Steps.words-length, Steps.gained-length}
-use Rattle.matrix.proofs.{Terms.eight-terms, Whole.left-is, eight_on.Statement.statement}
+use Rattle.lists.proofs.Kit.{_∙_, sym, ap, arith, needs, length}
+use Rattle.matrix.proofs.{Search.below-wider, Steps.words-length, Steps.gained-length, Terms.eight-terms, Whole.left-is, eight_on.Statement.statement}
 use Rattle.matrix.proofs.eight_on.Tie as tie
 
 turn-requires : tie.Need-turn-requires

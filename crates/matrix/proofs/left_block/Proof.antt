@@ -1,7 +1,5 @@
 -- `matrix::left_block` meets its contract: the block is made narrow, and then serves all 8 rows of sums.
-use mathlib.Core.List.{List}
-use Prim.Native.Nat.{ℕ}
-use borrow.Author.Needs.{needs}
+use Rattle.lists.proofs.Kit.{List, ℕ, needs}
 use Rattle.matrix.specs.{Steps.partTerm, Words.gained}
 use Rattle.matrix.proofs.{Steps.on-copy, left_block.Statement.statement}
 use Rattle.matrix.proofs.left_block.Tie as tie

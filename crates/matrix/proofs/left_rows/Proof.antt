@@ -1,15 +1,9 @@
 -- `matrix::left_rows` meets its contract: after t rows each sum has gained t products, and none of their numbers is q or more.
-use mathlib.Core.{Path._≡_, Path.refl, Path._∙_, Path.sym, Path.ap, List.List}
-use Prim.Native.Nat.{ℕ, _+_, _*_, _-_, _≤_}
-use native.Mathlib.Omega.{arith}
-use native.Mathlib.Nat.{mul-comm, mul-le-mul-right}
-use borrow.Author.Needs.{needs}
-use lib.{ListN.length, ListN.take, Seq.length-take-le}
+use Rattle.lists.proofs.Kit.{_≡_, refl, _∙_, sym, ap, List, ℕ, _+_, _*_, _-_, _≤_, arith, mul-comm, mul-le-mul-right, needs, length, take, length-take-le}
 use Rattle.lists.proofs.Parts.{slice-long}
 use Rattle.matrix.specs.Words.{gained, leftTerm}
 use Rattle.matrix.proofs.Search.{Clear, clear-start, clear-part, clear-all, part-below, part-place, part-full}
-use Rattle.matrix.proofs.Steps.{gained-length, gained-none, gained-more}
-use Rattle.matrix.proofs.{Terms.in-y, Terms.part-terms, left_rows.Statement.statement}
+use Rattle.matrix.proofs.{Steps.gained-length, Steps.gained-none, Steps.gained-more, Terms.in-y, Terms.part-terms, left_rows.Statement.statement}
 use Rattle.matrix.proofs.left_rows.Tie as tie
 
 abbrev Inv-loop : tie.InvT-loop

@@ -1,8 +1,5 @@
 -- `matrix::multiply` meets its contract: XS + E where the noise is zeros.
-use mathlib.Core.Path.{refl, sym}
-use Prim.Native.Nat.{_*_}
-use native.Mathlib.Omega.{arith}
-use borrow.Author.Needs.{needs}
+use Rattle.lists.proofs.Kit.{refl, sym, _*_, arith, needs}
 use Rattle.lists.proofs.Parts.{buffer-long}
 use Rattle.matrix.proofs.{Whole.shape, Whole.bare-is, multiply.Statement.statement}
 use Rattle.matrix.proofs.multiply.Tie as tie

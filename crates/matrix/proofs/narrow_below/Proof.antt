@@ -1,8 +1,6 @@
 -- `matrix::narrow_below` meets its contract.
-use native.Mathlib.Omega.{arith}
-use borrow.Author.Needs.{needs}
-use Rattle.matrix.proofs.Search.{all-clear, below-wider}
-use Rattle.matrix.proofs.narrow_below.Statement.{statement}
+use Rattle.lists.proofs.Kit.{arith, needs}
+use Rattle.matrix.proofs.{Search.all-clear, Search.below-wider, narrow_below.Statement.statement}
 use Rattle.matrix.proofs.narrow_below.Tie as tie
 
 returns : tie.Need-returns

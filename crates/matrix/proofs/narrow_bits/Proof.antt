@@ -1,15 +1,9 @@
 -- `matrix::narrow_bits` meets its contract: it fills with the numbers where they fit, and none that was passed is over the bits.
-use mathlib.Core.Path.{_≡_, refl, _∙_, ap}
-use Prim.Native.Nat.{ℕ, _-_, _≤_, _<_}
-use native.Mathlib.Omega.{arith}
-use native.Mathlib.Nat.{not-suc-le-zero}
+use Rattle.lists.proofs.Kit.{_≡_, refl, _∙_, ap, ℕ, _-_, _≤_, _<_, arith, not-suc-le-zero, needs, bitOr, and-le-l, and-le-r, or-add-and, length, getD}
+use Rattle.lists.proofs.Kit.{length-set}
 use borrow.Author.Count.{below-more}
-use borrow.Author.Needs.{needs}
-use lib.Bits.{bitOr, and-le-l, and-le-r, or-add-and}
-use lib.ListN.{length, getD, length-set}
 use Rattle.lists.specs.{Entries.tab, Ranges.Below}
-use Rattle.lists.proofs.Entries.{tab-getD}
-use Rattle.lists.proofs.Fill.{Filled, fill-start, fill-next, fill-end}
+use Rattle.lists.proofs.{Entries.tab-getD, Fill.Filled, Fill.fill-start, Fill.fill-next, Fill.fill-end}
 use Rattle.matrix.proofs.narrow_bits.Statement.{statement}
 use Rattle.matrix.proofs.narrow_bits.Tie as tie
 

@@ -1,5 +1,5 @@
 -- `matrix::number_at` meets its contract.
-use borrow.Author.Needs.{needs}
+use Rattle.lists.proofs.Kit.{needs}
 use Rattle.lists.proofs.Parts.{slice-at}
 use Rattle.matrix.proofs.number_at.Statement.{statement}
 use Rattle.matrix.proofs.number_at.Tie as tie

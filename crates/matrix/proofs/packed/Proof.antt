@@ -1,14 +1,5 @@
 -- `matrix::packed` meets its contract: a number that fits meets neither bound.
-use mathlib.Core.{Path._≡_, Path._∙_, Path.ap, Bool.true, Bool.false, Logic.⊎-elim}
-use Prim.Native.Nat.{ℕ, _<_}
-use native.Mathlib.Omega.{arith}
-use native.Mathlib.Nat.{mod-eq-of-lt}
-use borrow.Author.Needs.{needs}
-use borrow.Author.Tests.{ltb-true}
-use lib.{Dec.ltb, IntN.ℤ, IntN.pos, Signed.ltZ}
-use mir.Syntax.{w32}
-use mir.Val.{toZ, ofZ}
-use mir.Facts.{toZ-ofZ}
+use Rattle.lists.proofs.Kit.{_≡_, _∙_, ap, true, false, ⊎-elim, ℕ, _<_, arith, mod-eq-of-lt, needs, ltb-true, ltb, ℤ, pos, ltZ, w32, toZ, ofZ, toZ-ofZ}
 use Rattle.numbers.specs.Residue.{residue}
 use Rattle.matrix.proofs.packed.Statement.{statement}
 use Rattle.matrix.proofs.packed.Tie as tie

@@ -1,10 +1,5 @@
 -- `matrix::reduce` meets its contract: it fills with the remainders of the sums.
-use mathlib.Core.{Path.refl, Path._∙_, Path.ap, List.List}
-use Prim.Native.Nat.{ℕ, _-_, _/_, _%_}
-use native.Mathlib.Omega.{arith}
-use native.Mathlib.Nat.{mod-lt}
-use borrow.Author.Needs.{needs}
-use lib.ListN.{length, length-set, getD}
+use Rattle.lists.proofs.Kit.{refl, _∙_, ap, List, ℕ, _-_, _/_, _%_, arith, mod-lt, needs, length, length-set, getD}
 use Rattle.lists.specs.Entries.{tab}
 use Rattle.lists.proofs.Fill.{Filled, fill-start, fill-next, fill-end}
 use Rattle.matrix.specs.Words.{reduced}

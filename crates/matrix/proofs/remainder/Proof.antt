@@ -1,8 +1,5 @@
 -- `matrix::remainder` meets its contract.
-use Prim.Native.Nat.{_*_, _%_, _<_, _≤_}
-use native.Mathlib.Omega.{arith}
-use native.Mathlib.Nat.{mul-le-mul, mod-lt}
-use borrow.Author.Needs.{needs}
+use Rattle.lists.proofs.Kit.{_*_, _%_, _<_, _≤_, arith, mul-le-mul, mod-lt, needs}
 use Rattle.matrix.proofs.{Quotient.back, Quotient.back-fits, remainder.Statement.statement}
 use Rattle.matrix.proofs.remainder.Tie as tie
 

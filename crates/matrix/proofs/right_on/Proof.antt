@@ -1,6 +1,5 @@
 -- `matrix::right_on` meets its contract.
-use native.Mathlib.Omega.{arith}
-use borrow.Author.Needs.{needs}
+use Rattle.lists.proofs.Kit.{arith, needs}
 use Rattle.matrix.proofs.{Whole.fit, Whole.right-is, right_on.Statement.statement}
 use Rattle.matrix.proofs.right_on.Tie as tie
 

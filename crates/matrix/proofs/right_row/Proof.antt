@@ -1,7 +1,5 @@
 -- `matrix::right_row` meets its contract: the row is made words, and then serves all 8 columns.
-use mathlib.Core.List.{List}
-use Prim.Native.Nat.{ℕ}
-use borrow.Author.Needs.{needs}
+use Rattle.lists.proofs.Kit.{List, ℕ, needs}
 use Rattle.matrix.specs.{Steps.dotTerm, Words.gained}
 use Rattle.matrix.proofs.{Steps.on-copy, right_row.Statement.statement}
 use Rattle.matrix.proofs.right_row.Tie as tie

@@ -1,16 +1,10 @@
 -- `matrix::right_rows` meets its contract: it fills a row at a time, and no number of the rows before is q or more.
-use mathlib.Core.{Path._≡_, Path.refl, Path._∙_, Path.sym, Path.ap, List.List}
-use Prim.Native.Nat.{ℕ, _+_, _*_, _-_, _%_, _≤_}
-use native.Mathlib.Omega.{arith}
-use borrow.Author.Needs.{needs}
-use lib.ListN.{length, getD}
+use Rattle.lists.proofs.Kit.{_≡_, refl, _∙_, sym, ap, List, ℕ, _+_, _*_, _-_, _%_, _≤_, arith, needs, length, getD}
 use Rattle.numbers.specs.Sum.{sumℕ}
-use Rattle.lists.proofs.Fill.{Filled, fill-end, rows-start, rows-next}
-use Rattle.lists.proofs.Parts.{slice-long}
+use Rattle.lists.proofs.{Fill.Filled, Fill.fill-end, Fill.rows-start, Fill.rows-next, Parts.slice-long}
 use Rattle.matrix.specs.Words.{gained, rightTerm}
 use Rattle.matrix.proofs.Search.{Clear, clear-start, clear-part, clear-all, part-below, part-place, part-full}
-use Rattle.matrix.proofs.Terms.{row-in, right-sums, Row, row-of}
-use Rattle.matrix.proofs.right_rows.Statement.{statement}
+use Rattle.matrix.proofs.{Terms.row-in, Terms.right-sums, Terms.Row, Terms.row-of, right_rows.Statement.statement}
 use Rattle.matrix.proofs.right_rows.Tie as tie
 
 abbrev from : ℕ → List ℕ → List ℕ → List ℕ → ℕ → ℕ

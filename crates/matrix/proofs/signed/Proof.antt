@@ -1,12 +1,5 @@
 -- `matrix::signed` meets its contract.
-use mathlib.Core.Path.{_≡_}
-use Prim.Native.Nat.{ℕ, zero, suc, _-_, _<_}
-use native.Mathlib.Omega.{arith}
-use borrow.Author.Needs.{needs}
-use lib.IntN.{pos, negsuc, _-ℤ_}
-use mir.Syntax.{w32}
-use mir.Val.{toZ, SFits}
-use mir.Facts.{toZ-ofZ}
+use Rattle.lists.proofs.Kit.{_≡_, ℕ, zero, suc, _-_, _<_, arith, needs, pos, negsuc, _-ℤ_, w32, toZ, SFits, toZ-ofZ}
 use Rattle.matrix.proofs.signed.Statement.{statement}
 use Rattle.matrix.proofs.signed.Tie as tie
 

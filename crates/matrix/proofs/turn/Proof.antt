@@ -1,15 +1,9 @@
 -- `matrix::turn` meets its contract: it fills a column at a time.
-use mathlib.Core.{Path._≡_, Path._∙_, Path.ap, List.List}
-use Prim.Native.Nat.{ℕ, _+_, _*_, _-_, _/_, _%_, _≤_}
-use native.Mathlib.Omega.{arith}
-use borrow.Author.Needs.{needs}
-use lib.ListN.{getD}
+use Rattle.lists.proofs.Kit.{_≡_, _∙_, ap, List, ℕ, _+_, _*_, _-_, _/_, _%_, _≤_, arith, needs, getD}
 use Rattle.lists.specs.Entries.{tab}
-use Rattle.lists.proofs.Fill.{Filled, fill-end, rows-start, rows-next}
-use Rattle.lists.proofs.Parts.{slice-long}
+use Rattle.lists.proofs.{Fill.Filled, Fill.fill-end, Fill.rows-start, Fill.rows-next, Parts.slice-long}
 use Rattle.matrix.specs.Steps.{turned}
-use Rattle.matrix.proofs.Terms.{Row, row-of, column-row}
-use Rattle.matrix.proofs.turn.Statement.{statement}
+use Rattle.matrix.proofs.{Terms.Row, Terms.row-of, Terms.column-row, turn.Statement.statement}
 use Rattle.matrix.proofs.turn.Tie as tie
 
 abbrev from : ℕ → List ℕ → ℕ → ℕ

@@ -1,10 +1,5 @@
 -- `matrix::turn_column` meets its contract: it fills with every eighth number.
-use mathlib.Core.{List.List, Path.refl}
-use Prim.Native.Nat.{ℕ, _+_, _*_, _-_}
-use native.Mathlib.Omega.{arith}
-use native.Mathlib.Nat.{lt-of-lt-of-le}
-use borrow.Author.Needs.{needs}
-use lib.ListN.{length, getD, length-set}
+use Rattle.lists.proofs.Kit.{List, refl, ℕ, _+_, _*_, _-_, arith, lt-of-lt-of-le, needs, length, getD, length-set}
 use Rattle.lists.proofs.Fill.{Filled, fill-start, fill-next, fill-end}
 use Rattle.matrix.proofs.turn_column.Statement.{statement}
 use Rattle.matrix.proofs.turn_column.Tie as tie

@@ -1,10 +1,5 @@
 -- `matrix::weigh` meets its contract: after u rows the sum has gained u products.
-use mathlib.Core.Path.{_≡_, _∙_, ap, ap₂}
-use Prim.Native.Nat.{ℕ, _+_, _*_, _-_, _%_, _≤_}
-use native.Mathlib.Omega.{arith}
-use native.Mathlib.Nat.{mul-le-mul-right}
-use borrow.Author.Needs.{needs}
-use lib.ListN.{length, getD}
+use Rattle.lists.proofs.Kit.{_≡_, _∙_, ap, ap₂, ℕ, _+_, _*_, _-_, _%_, _≤_, arith, mul-le-mul-right, needs, length, getD}
 use Rattle.numbers.specs.Sum.{sum, sumℕ}
 use Rattle.matrix.specs.Steps.{blockTerm}
 use Rattle.matrix.proofs.{Steps.gain-next, weigh.Statement.statement}

@@ -1,7 +1,5 @@
 -- `matrix::word` meets its contract.
-use native.Mathlib.Omega.{arith}
-use borrow.Author.Needs.{needs}
-use mir.Facts.{toZ-ofZ}
+use Rattle.lists.proofs.Kit.{arith, needs, toZ-ofZ}
 use Rattle.numbers.proofs.Congruence.{residue-lt}
 use Rattle.matrix.proofs.word.Statement.{statement}
 use Rattle.matrix.proofs.word.Tie as tie

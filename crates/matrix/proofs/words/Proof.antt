@@ -1,10 +1,5 @@
 -- `matrix::words` meets its contract: it fills with the words of the values.
-use mathlib.Core.{Path._∙_, Path.ap, List.List}
-use Prim.Native.Nat.{ℕ, _-_}
-use native.Mathlib.Omega.{arith}
-use borrow.Author.Needs.{needs}
-use lib.{ListN.length, ListN.length-set, IntN.ℤ}
-use mir.Facts.{toZ-ofZ}
+use Rattle.lists.proofs.Kit.{_∙_, ap, List, ℕ, _-_, arith, needs, length, length-set, ℤ, toZ-ofZ}
 use Rattle.numbers.specs.Residue.{residue}
 use Rattle.lists.specs.Entries.{tab, ints}
 use Rattle.lists.proofs.Fill.{Filled, fill-start, fill-next, fill-end}

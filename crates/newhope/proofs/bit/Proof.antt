@@ -1,8 +1,5 @@
 -- `newhope::bit` meets its contract.
-use Prim.Native.Nat.{_<_, _≤_}
-use native.Mathlib.Omega.{arith}
-use borrow.Author.Needs.{needs}
-use borrow.Author.Tests.{le-leb, lt-leb}
+use Rattle.lists.proofs.Kit.{_<_, _≤_, arith, needs, le-leb, lt-leb}
 use Rattle.newhope.specs.Group.{sumOf, bitOf}
 use Rattle.newhope.proofs.bit.Statement.{statement}
 use Rattle.newhope.proofs.bit.Tie as tie

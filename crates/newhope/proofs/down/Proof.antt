@@ -1,6 +1,5 @@
 -- `newhope::down` meets its contract.
-use mathlib.Core.Path.{refl}
-use borrow.Author.Needs.{needs}
+use Rattle.lists.proofs.Kit.{refl, needs}
 use Rattle.newhope.specs.Group.{downOf}
 use Rattle.newhope.proofs.{Entry.down-five, down.Statement.statement}
 use Rattle.newhope.proofs.down.Tie as tie

@@ -1,5 +1,5 @@
 -- `newhope::group` meets its contract.
-use borrow.Author.Needs.{needs}
+use Rattle.lists.proofs.Kit.{needs}
 use Rattle.newhope.proofs.{Groups.group-at, group.Statement.statement}
 use Rattle.newhope.proofs.group.Tie as tie
 

@@ -1,5 +1,5 @@
 -- `newhope::hint` meets its contract.
-use borrow.Author.Needs.{needs}
+use Rattle.lists.proofs.Kit.{needs}
 use Rattle.newhope.proofs.{Parts.hint-is, Parts.ranged, hint.Statement.statement}
 use Rattle.newhope.proofs.hint.Tie as tie
 

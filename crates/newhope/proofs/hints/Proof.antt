@@ -1,11 +1,8 @@
 -- `newhope::hints` meets its contract: it writes the four places of each group.
-use Prim.Native.Nat.{_-_}
-use native.Mathlib.Omega.{arith}
-use borrow.Author.Needs.{needs}
-use lib.ListN.{length-set}
+use Rattle.lists.proofs.Kit.{_-_, arith, needs, length-set}
 use Rattle.newhope.specs.Group.{groups}
-use Rattle.newhope.proofs.{Spread.Spread, Spread.spread-start, hints.Statement.statement}
 use Rattle.newhope.proofs.Groups.{small-group, hint-at, hints-next, hints-end}
+use Rattle.newhope.proofs.{Spread.Spread, Spread.spread-start, hints.Statement.statement}
 use Rattle.newhope.proofs.hints.Tie as tie
 
 abbrev Inv-loop : tie.InvT-loop

@@ -1,8 +1,5 @@
 -- `newhope::less` meets its contract.
-use mathlib.Core.Path.{_∙_, ap}
-use native.Mathlib.Omega.{arith}
-use borrow.Author.Needs.{needs}
-use mir.Syntax.{w32}
+use Rattle.lists.proofs.Kit.{_∙_, ap, arith, needs, w32}
 use Rattle.numbers.specs.Residue.{residue}
 use Rattle.numbers.proofs.Machine.{difference-handed}
 use Rattle.newhope.proofs.less.Statement.{statement}

@@ -1,11 +1,5 @@
 -- `newhope::minus` meets its contract: a difference of numbers below 2^30 fits.
-use mathlib.Core.Path.{_≡_}
-use native.Mathlib.Omega.{arith}
-use borrow.Author.Needs.{needs}
-use lib.IntN.{pos, _-ℤ_}
-use mir.Syntax.{w32}
-use mir.Val.{SFits, toZ}
-use mir.Facts.{toZ-ofZ}
+use Rattle.lists.proofs.Kit.{_≡_, arith, needs, pos, _-ℤ_, w32, SFits, toZ, toZ-ofZ}
 use Rattle.numbers.proofs.{Machine.fits-abs, Machine.toZ-pos, Size.abs-difference}
 use Rattle.newhope.proofs.minus.Statement.{statement}
 use Rattle.newhope.proofs.minus.Tie as tie

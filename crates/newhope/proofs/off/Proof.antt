@@ -1,12 +1,7 @@
 -- `newhope::off` meets its contract.
-use mathlib.Core.Path.{_∙_, ap}
-use Prim.Native.Nat.{ℕ, _+_, _*_}
-use native.Mathlib.Omega.{arith}
-use borrow.Author.Needs.{needs}
-use lib.IntN.{pos, natAbs, _-ℤ_}
-use mir.Syntax.{w32}
-use Rattle.newhope.specs.Group.{offOf}
+use Rattle.lists.proofs.Kit.{_∙_, ap, ℕ, _+_, _*_, arith, needs, pos, natAbs, _-ℤ_, w32}
 use Rattle.numbers.proofs.Machine.{difference-handed}
+use Rattle.newhope.specs.Group.{offOf}
 use Rattle.newhope.proofs.{Entry.off-half, off.Statement.statement}
 use Rattle.newhope.proofs.off.Tie as tie
 

@@ -1,6 +1,5 @@
 -- `newhope::offs` meets its contract.
-use native.Mathlib.Omega.{arith}
-use borrow.Author.Needs.{needs}
+use Rattle.lists.proofs.Kit.{arith, needs}
 use Rattle.newhope.specs.Group.{offsOf}
 use Rattle.newhope.proofs.offs.Statement.{statement}
 use Rattle.newhope.proofs.offs.Tie as tie

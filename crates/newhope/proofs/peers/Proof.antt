@@ -1,8 +1,5 @@
 -- `newhope::peers` meets its contract: it fills with the bits of the groups.
-use mathlib.Core.Path.{_∙_, ap, ap₂}
-use Prim.Native.Nat.{ℕ, _-_}
-use native.Mathlib.Omega.{arith}
-use borrow.Author.Needs.{needs}
+use Rattle.lists.proofs.Kit.{_∙_, ap, ap₂, ℕ, _-_, arith, needs}
 use Rattle.lists.specs.Entries.{tab}
 use Rattle.lists.proofs.Fill.{Filled, fill-start, fill-next, fill-end}
 use Rattle.newhope.specs.Group.{bitOf, groupOf, peersOf}

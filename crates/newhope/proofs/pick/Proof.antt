@@ -1,6 +1,5 @@
 -- `newhope::pick` meets its contract.
-use borrow.Author.Needs.{needs}
-use borrow.Author.Tests.{lt-ltb, le-ltb}
+use Rattle.lists.proofs.Kit.{needs, lt-ltb, le-ltb}
 use Rattle.newhope.proofs.pick.Statement.{statement}
 use Rattle.newhope.proofs.pick.Tie as tie
 

@@ -1,7 +1,5 @@
 -- `newhope::place` meets its contract.
-use mathlib.Core.Path.{refl}
-use native.Mathlib.Omega.{arith}
-use borrow.Author.Needs.{needs}
+use Rattle.lists.proofs.Kit.{refl, arith, needs}
 use Rattle.newhope.proofs.place.Statement.{statement}
 use Rattle.newhope.proofs.place.Tie as tie
 

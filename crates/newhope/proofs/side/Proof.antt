@@ -1,7 +1,5 @@
 -- `newhope::side` meets its contract.
-use mathlib.Core.Path.{refl}
-use native.Mathlib.Omega.{arith}
-use borrow.Author.Tests.{lt-ltb, le-ltb}
+use Rattle.lists.proofs.Kit.{refl, arith, lt-ltb, le-ltb}
 use Rattle.newhope.proofs.side.Statement.{statement}
 use Rattle.newhope.proofs.side.Tie as tie
 

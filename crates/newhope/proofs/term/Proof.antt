@@ -1,10 +1,5 @@
 -- `newhope::term` meets its contract.
-use mathlib.Core.Path.{_∙_, ap}
-use Prim.Native.Nat.{_*_}
-use native.Mathlib.Omega.{arith}
-use borrow.Author.Needs.{needs}
-use lib.IntN.{pos, _-ℤ_}
-use mir.Syntax.{w32}
+use Rattle.lists.proofs.Kit.{_∙_, ap, _*_, arith, needs, pos, _-ℤ_, w32}
 use Rattle.numbers.specs.Residue.{distance, apart}
 use Rattle.numbers.proofs.{Nearest.distance-half, Machine.difference-handed}
 use Rattle.newhope.specs.Group.{termOf}

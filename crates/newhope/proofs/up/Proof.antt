@@ -1,6 +1,5 @@
 -- `newhope::up` meets its contract.
-use mathlib.Core.Path.{refl}
-use borrow.Author.Needs.{needs}
+use Rattle.lists.proofs.Kit.{refl, needs}
 use Rattle.newhope.specs.Group.{upOf}
 use Rattle.newhope.proofs.{Entry.up-five, up.Statement.statement}
 use Rattle.newhope.proofs.up.Tie as tie

@@ -1,14 +1,7 @@
 -- `noise::expand_by` meets its contract: its loop stores each word's number, and counts those that the rule takes.
-use mathlib.Core.{Path._∙_, Path.sym, Path.ap, Bool.Bool, Bool.true, Bool.false}
-use mathlib.Core.Logic.{inl, inr}
-use Prim.Native.Nat.{_-_, _<_, _≤_}
-use native.Mathlib.Omega.{arith}
-use borrow.Author.Needs.{needs}
-use borrow.Author.Tests.{ltb-true, ltb-false}
-use mir.Val.{boolByte}
+use Rattle.lists.proofs.Kit.{_∙_, sym, ap, Bool, true, false, inl, inr, _-_, _<_, _≤_, arith, needs, ltb-true, ltb-false, boolByte}
 use Rattle.noise.specs.Expand.{rule}
-use Rattle.noise.proofs.Stream.{Storing, store-none, store-long, store-more, store-end}
-use Rattle.noise.proofs.expand_by.Statement.{statement}
+use Rattle.noise.proofs.{Stream.Storing, Stream.store-none, Stream.store-long, Stream.store-more, Stream.store-end, expand_by.Statement.statement}
 use Rattle.noise.proofs.expand_by.Tie as tie
 
 abbrev Inv-loop : tie.InvT-loop

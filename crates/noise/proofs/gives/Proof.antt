@@ -1,5 +1,5 @@
 -- `noise::gives` meets its contract: by the rule's name.
-use borrow.Author.Needs.{needs}
+use Rattle.lists.proofs.Kit.{needs}
 use Rattle.noise.proofs.gives.Statement.{statement}
 use Rattle.noise.proofs.gives.Tie as tie
 

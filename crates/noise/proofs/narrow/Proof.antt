@@ -1,10 +1,5 @@
 -- `noise::narrow` meets its contract.
-use mathlib.Core.Path.{_∙_, ap}
-use Prim.Native.Nat.{ℕ, _+_, _-_, _≤_}
-use native.Mathlib.Omega.{arith}
-use borrow.Author.Needs.{needs}
-use lib.IntN.{pos}
-use mir.Facts.{toZ-ofZ}
+use Rattle.lists.proofs.Kit.{_∙_, ap, ℕ, _+_, _-_, _≤_, arith, needs, pos, toZ-ofZ}
 use Rattle.lists.specs.Ranges.{Stored}
 use Rattle.lists.proofs.Stored.{store-none, store-front, stored-all}
 use Rattle.noise.specs.Noise.{wordAt, thresholdOf}

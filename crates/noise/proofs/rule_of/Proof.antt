@@ -1,5 +1,5 @@
 -- `noise::rule_of` meets its contract.
-use borrow.Author.Tests.{ne-eqb}
+use Rattle.lists.proofs.Kit.{ne-eqb}
 use Rattle.noise.proofs.rule_of.Statement.{statement}
 use Rattle.noise.proofs.rule_of.Tie as tie
 

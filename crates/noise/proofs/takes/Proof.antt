@@ -1,5 +1,5 @@
 -- `noise::takes` meets its contract: by the rule's name.
-use borrow.Author.Needs.{needs}
+use Rattle.lists.proofs.Kit.{needs}
 use Rattle.noise.proofs.takes.Statement.{statement}
 use Rattle.noise.proofs.takes.Tie as tie
 

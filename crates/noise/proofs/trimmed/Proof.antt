@@ -1,12 +1,7 @@
 -- `noise::trimmed` meets its contract: a word that is not taken is left out from the end, until one is.
-use mathlib.Core.Path.{_≡_, _∙_, sym, ap}
-use Prim.Native.Nat.{_-_, _/_, _≤_}
-use native.Mathlib.Omega.{arith}
-use borrow.Author.Needs.{needs}
-use lib.ListN.{length}
+use Rattle.lists.proofs.Kit.{_≡_, _∙_, sym, ap, _-_, _/_, _≤_, arith, needs, length}
 use Rattle.noise.specs.{Noise.wordAt, Expand.rule, Expand.words, Expand.taken}
-use Rattle.noise.proofs.Stream.{soFar, trim-none, trim-less, trim-end}
-use Rattle.noise.proofs.trimmed.Statement.{statement}
+use Rattle.noise.proofs.{Stream.soFar, Stream.trim-none, Stream.trim-less, Stream.trim-end, trimmed.Statement.statement}
 use Rattle.noise.proofs.trimmed.Tie as tie
 
 abbrev Inv-loop : tie.InvT-loop

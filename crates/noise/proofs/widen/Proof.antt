@@ -1,8 +1,5 @@
 -- `noise::widen` meets its contract.
-use Prim.Native.Nat.{ℕ, _-_, _≤_}
-use native.Mathlib.Omega.{arith}
-use borrow.Author.Needs.{needs}
-use lib.{IntN.pos, ListN.getD}
+use Rattle.lists.proofs.Kit.{ℕ, _-_, _≤_, arith, needs, pos, getD}
 use Rattle.lists.specs.Ranges.{Stored}
 use Rattle.lists.proofs.Stored.{store-none, store-next, stored-all}
 use Rattle.noise.proofs.{Blocks.wide-fits, Blocks.wide, widen.Statement.statement}

@@ -1,8 +1,7 @@
 -- `numbers::residue_folded` meets its contract.
 use mathlib.Core.Path.{_∙_}
 use borrow.Author.Needs.{needs}
-use Rattle.numbers.proofs.Lifted.{sum-fits, sum-high, sum-rest}
-use Rattle.numbers.proofs.residue_folded.Statement.{statement}
+use Rattle.numbers.proofs.{Lifted.sum-fits, Lifted.sum-high, Lifted.sum-rest, residue_folded.Statement.statement}
 use Rattle.numbers.proofs.residue_folded.Tie as tie
 
 returns : tie.Need-returns

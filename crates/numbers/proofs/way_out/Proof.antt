@@ -1,11 +1,10 @@
 -- `numbers::way_out` meets its contract: each test is a factor 0 or 1.
-use mathlib.Core.{Path._≡_, Path.refl, Path._∙_, Path.ap, Bool.Bool, Bool.true, Bool.false}
+use mathlib.{Core.Path._≡_, Core.Path.refl, Core.Path._∙_, Core.Path.ap, Core.Bool.Bool, Core.Bool.true, Core.Bool.false}
 use Prim.Native.Nat.{ℕ, _+_, _*_, _-_, _≤_, min}
 use native.Mathlib.Omega.{arith}
 use lib.Dec.{ltb}
 use mir.Val.{boolByte}
-use borrow.Author.Needs.{needs}
-use borrow.Author.Tests.{ltb-true, ltb-false}
+use borrow.{Author.Needs.needs, Author.Tests.ltb-true, Author.Tests.ltb-false}
 use Rattle.numbers.proofs.way_out.Statement.{statement}
 use Rattle.numbers.proofs.way_out.Tie as tie
 

@@ -1,7 +1,5 @@
 -- `packing::byte` meets its contract: past its end a list reads 0.
-use mathlib.Core.Path.{sym}
-use borrow.Author.Needs.{needs}
-use lib.ListN.{List·getD-eq-default}
+use Rattle.lists.proofs.Kit.{sym, needs, List·getD-eq-default}
 use Rattle.packing.proofs.byte.Statement.{statement}
 use Rattle.packing.proofs.byte.Tie as tie
 

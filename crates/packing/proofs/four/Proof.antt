@@ -1,5 +1,5 @@
 -- `packing::four` meets its contract: the number of four digits, one after the other.
-use borrow.Author.Needs.{needs}
+use Rattle.lists.proofs.Kit.{needs}
 use Rattle.packing.proofs.{Laws.value-four, four.Statement.statement}
 use Rattle.packing.proofs.four.Tie as tie
 

@@ -1,14 +1,8 @@
 -- `packing::number` meets its contract: the number's bits lie within the eight bytes.
-use mathlib.Core.Path.{_≡_}
-use Prim.Native.Nat.{_+_, _*_, _/_}
-use native.Mathlib.Nat.{mod-lt, lt-of-lt-of-le}
-use native.Mathlib.Omega.{arith}
-use borrow.Author.Needs.{needs}
-use lib.{ListN.take, ListN.drop, Seq.drop-drop, Pow.pow-mono, Pow.pow-pos}
+use Rattle.lists.proofs.Kit.{_≡_, _+_, _*_, _/_, mod-lt, lt-of-lt-of-le, arith, needs, take, drop, drop-drop, pow-mono, pow-pos}
 use Rattle.lists.specs.Ranges.{Below}
 use Rattle.packing.specs.Packing.{value}
-use Rattle.packing.proofs.{Laws.value-parts, Groups.based, Groups.bits-at}
-use Rattle.packing.proofs.number.Statement.{statement}
+use Rattle.packing.proofs.{Laws.value-parts, Groups.based, Groups.bits-at, number.Statement.statement}
 use Rattle.packing.proofs.number.Tie as tie
 
 rem-result : tie.Need-rem-result

@@ -1,13 +1,7 @@
 -- `packing::pack_groups` meets its contract: after g groups the first w g bytes are there.
-use mathlib.Core.Path.{_≡_, refl, _∙_}
-use Prim.Native.Nat.{_+_, _*_, _-_, _^_, _≤_}
-use native.Mathlib.Nat.{le-of-mul-le-mul-left, mul-zero}
-use native.Mathlib.Omega.{arith}
-use borrow.Author.Needs.{needs}
-use lib.ListN.{length, take}
+use Rattle.lists.proofs.Kit.{_≡_, refl, _∙_, _+_, _*_, _-_, _^_, _≤_, le-of-mul-le-mul-left, mul-zero, arith, needs, length, take}
 use Rattle.packing.specs.Packing.{value, digits}
-use Rattle.packing.proofs.Groups.{packed-on, quad-below, two-quads}
-use Rattle.packing.proofs.pack_groups.Statement.{statement}
+use Rattle.packing.proofs.{Groups.packed-on, Groups.quad-below, Groups.two-quads, pack_groups.Statement.statement}
 use Rattle.packing.proofs.pack_groups.Tie as tie
 
 abbrev Inv-loop : tie.InvT-loop

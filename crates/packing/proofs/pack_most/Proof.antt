@@ -1,10 +1,5 @@
 -- `packing::pack_most` meets its contract: each arm is the groups at its width.
-use mathlib.Core.Path.{_≡_}
-use Prim.Native.Nat.{ℕ, _*_, _^_, _<_}
-use native.Mathlib.Nat.{mul-zero}
-use native.Mathlib.Omega.{arith}
-use borrow.Author.Needs.{needs}
-use lib.ListN.{length}
+use Rattle.lists.proofs.Kit.{_≡_, ℕ, _*_, _^_, _<_, mul-zero, arith, needs, length}
 use Rattle.lists.specs.Ranges.{Below}
 use Rattle.packing.specs.Packing.{digits}
 use Rattle.packing.proofs.pack_most.Statement.{statement}

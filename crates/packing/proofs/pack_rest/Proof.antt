@@ -1,13 +1,8 @@
 -- `packing::pack_rest` meets its contract: the invariant is `Flow` at 8 bits out, with fewer than 32 bits held.
-use mathlib.Core.Path.{_≡_, refl, sym, _∙_}
-use Prim.Native.Nat.{_+_, _*_, _-_, _/_, _%_, _^_, _≤_, _<_}
-use native.Mathlib.Nat.{mul-one, le-of-mul-le-mul-left}
-use native.Mathlib.Omega.{arith}
-use borrow.Author.Needs.{needs}
-use lib.ListN.{length, getD}
+use Rattle.lists.proofs.Kit.{_≡_, refl, sym, _∙_, _+_, _*_, _-_, _/_, _%_, _^_, _≤_, _<_, mul-one, le-of-mul-le-mul-left, arith, needs, length, getD}
 use Rattle.packing.specs.Packing.{packed}
-use Rattle.packing.proofs.{Laws.value-one, Groups.resume, pack_rest.Statement.statement}
 use Rattle.packing.proofs.Flow.{Flow, take-in, emit, fits, room, all-in}
+use Rattle.packing.proofs.{Laws.value-one, Groups.resume, pack_rest.Statement.statement}
 use Rattle.packing.proofs.pack_rest.Tie as tie
 
 abbrev Inv-loop : tie.InvT-loop

@@ -1,9 +1,5 @@
 -- `packing::pack_words` meets its contract: after j turns the first 4 j bytes are there.
-use borrow.Author.Needs.{needs}
-use mathlib.Core.Path.{_≡_, refl, _∙_}
-use Prim.Native.Nat.{_*_, _-_, _/_, _≤_}
-use native.Mathlib.Omega.{arith}
-use lib.ListN.{length, take}
+use Rattle.lists.proofs.Kit.{needs, _≡_, refl, _∙_, _*_, _-_, _/_, _≤_, arith, length, take}
 use Rattle.packing.specs.Packing.{value, digits}
 use Rattle.packing.proofs.{Groups.words-on, Groups.fewer, pack_words.Statement.statement}
 use Rattle.packing.proofs.pack_words.Tie as tie

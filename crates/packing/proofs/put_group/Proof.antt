@@ -1,10 +1,6 @@
 -- `packing::put_group` meets its contract: sixteen bytes of one number, of which a word holds each half.
-use mathlib.Core.Path.{_≡_, _∙_}
-use Prim.Native.Nat.{_+_, _*_, _-_, _^_}
-use native.Mathlib.Omega.{arith}
-use borrow.Author.Needs.{needs}
-use Rattle.packing.proofs.Groups.{shifted-fits, shifted-low, shifted-high, sixteen}
-use Rattle.packing.proofs.put_group.Statement.{statement}
+use Rattle.lists.proofs.Kit.{_≡_, _∙_, _+_, _*_, _-_, _^_, arith, needs}
+use Rattle.packing.proofs.{Groups.shifted-fits, Groups.shifted-low, Groups.shifted-high, Groups.sixteen, put_group.Statement.statement}
 use Rattle.packing.proofs.put_group.Tie as tie
 
 -- the two shifts are a word

@@ -1,11 +1,6 @@
 -- `packing::put_rest` meets its contract: what the digits that are left would complete stays the same from turn to turn.
-use mathlib.Core.Path.{_≡_, refl, sym, _∙_}
-use Prim.Native.Nat.{_-_, _≤_}
-use native.Mathlib.Nat.{add-zero, mul-zero}
-use native.Mathlib.Omega.{arith}
-use lib.ListN.{length, length-set}
-use Rattle.packing.proofs.Flow.{filled, fill, one, full}
-use Rattle.packing.proofs.put_rest.Statement.{statement}
+use Rattle.lists.proofs.Kit.{_≡_, refl, sym, _∙_, _-_, _≤_, add-zero, mul-zero, arith, length, length-set}
+use Rattle.packing.proofs.{Flow.filled, Flow.fill, Flow.one, Flow.full, put_rest.Statement.statement}
 use Rattle.packing.proofs.put_rest.Tie as tie
 
 abbrev Inv-loop : tie.InvT-loop

@@ -1,11 +1,7 @@
 -- `packing::put_word` meets its contract: four stores side by side are one part of the list.
-use mathlib.Core.List.{[], _∷_}
-use Prim.Native.Nat.{_/_, _%_}
-use native.Mathlib.Nat.{div-div-eq-div-mul}
-use native.Mathlib.Numerals.{add-one, add-two, add-three}
-use native.Mathlib.Omega.{arith}
-use lib.{ListN.length-set, Seq.sets-eq}
-use borrow.Author.Needs.{needs}
+use Rattle.lists.proofs.Kit.{[], _∷_, _/_, _%_, div-div-eq-div-mul, add-one, arith, length-set, needs}
+use native.Mathlib.Numerals.{add-two, add-three}
+use lib.Seq.{sets-eq}
 use Rattle.packing.specs.Packing.{digits}
 use Rattle.packing.proofs.put_word.Statement.{statement}
 use Rattle.packing.proofs.put_word.Tie as tie

@@ -1,10 +1,5 @@
 -- `packing::quad` meets its contract: a number more at each turn, from the last to the first.
-use borrow.Author.Needs.{needs}
-use mathlib.Core.Path.{_≡_, refl, _∙_}
-use Prim.Native.Nat.{suc, _+_, _*_, _-_, _^_, _≤_}
-use native.Mathlib.Nat.{add-zero, sub-zero}
-use native.Mathlib.Omega.{arith}
-use lib.ListN.{getD, take, drop}
+use Rattle.lists.proofs.Kit.{needs, _≡_, refl, _∙_, suc, _+_, _*_, _-_, _^_, _≤_, add-zero, sub-zero, arith, getD, take, drop}
 use Rattle.packing.specs.Packing.{value}
 use Rattle.packing.proofs.{Groups.few, Groups.one-more, quad.Statement.statement}
 use Rattle.packing.proofs.quad.Tie as tie

@@ -1,13 +1,7 @@
 -- `packing::unpack_group` meets its contract: after k turns k numbers are written.
-use borrow.Author.Needs.{needs}
-use mathlib.Core.Path.{_≡_, refl}
-use Prim.Native.Nat.{_*_, _-_, _^_, _≤_}
-use native.Mathlib.Nat.{mul-le-mul-right}
-use native.Mathlib.Omega.{arith}
-use lib.ListN.{length, drop, length-set}
+use Rattle.lists.proofs.Kit.{needs, _≡_, refl, _*_, _-_, _^_, _≤_, mul-le-mul-right, arith, length, drop, length-set}
 use Rattle.packing.specs.Packing.{value}
-use Rattle.packing.proofs.{Flow.written, Groups.written-none, Groups.stored}
-use Rattle.packing.proofs.unpack_group.Statement.{statement}
+use Rattle.packing.proofs.{Flow.written, Groups.written-none, Groups.stored, unpack_group.Statement.statement}
 use Rattle.packing.proofs.unpack_group.Tie as tie
 
 abbrev Inv-loop : tie.InvT-loop

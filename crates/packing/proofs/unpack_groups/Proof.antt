@@ -1,10 +1,5 @@
 -- `packing::unpack_groups` meets its contract: after g groups the first 8 g numbers are there.
-use mathlib.Core.Path.{_≡_, refl, _∙_}
-use Prim.Native.Nat.{_+_, _*_, _-_, _^_, _≤_}
-use native.Mathlib.Nat.{le-of-mul-le-mul-left}
-use native.Mathlib.Omega.{arith}
-use borrow.Author.Needs.{needs}
-use lib.ListN.{length, take}
+use Rattle.lists.proofs.Kit.{_≡_, refl, _∙_, _+_, _*_, _-_, _^_, _≤_, le-of-mul-le-mul-left, arith, needs, length, take}
 use Rattle.lists.specs.Ranges.{Below}
 use Rattle.packing.specs.Packing.{value, digits}
 use Rattle.packing.proofs.{Groups.unpacked-on, unpack_groups.Statement.statement}

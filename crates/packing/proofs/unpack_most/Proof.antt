@@ -1,7 +1,5 @@
 -- `packing::unpack_most` meets its contract: each arm is the groups at its width.
-use mathlib.Core.Path.{refl}
-use native.Mathlib.Omega.{arith}
-use borrow.Author.Needs.{needs}
+use Rattle.lists.proofs.Kit.{refl, arith, needs}
 use Rattle.packing.specs.Packing.{digits}
 use Rattle.packing.proofs.unpack_most.Statement.{statement}
 use Rattle.packing.proofs.unpack_most.Tie as tie

@@ -1,16 +1,11 @@
 -- `packing::unpack_rest` meets its contract: the invariant is `Flow` at 8 bits in, with fewer than 32 bits held.
-use mathlib.Core.{Path.refl, Logic.⊎-elim}
-use Prim.Native.Nat.{_+_, _*_, _-_, _%_, _^_, _≤_, _<_}
-use native.Mathlib.Nat.{mod-lt, mul-one, mul-le-mul-left, le-of-mul-le-mul-left, lt-of-lt-of-le}
-use native.Mathlib.Omega.{arith}
-use borrow.Author.Needs.{needs}
-use lib.{ListN.length, Pow.pow-mono, Pow.pow-pos}
+use Rattle.lists.proofs.Kit.{refl, ⊎-elim, _+_, _*_, _-_, _%_, _^_, _≤_, _<_, mod-lt, mul-one, mul-le-mul-left, le-of-mul-le-mul-left, lt-of-lt-of-le, arith}
+use Rattle.lists.proofs.Kit.{needs, length, pow-mono, pow-pos}
 use Rattle.lists.specs.Ranges.{Below}
 use Rattle.lists.proofs.Parts.{below-drop}
 use Rattle.packing.specs.Packing.{unpacked}
-use Rattle.packing.proofs.{Laws.value-take-below, Groups.based, Groups.resume}
 use Rattle.packing.proofs.Flow.{Flow, take-in, emit, one, fits, all-out}
-use Rattle.packing.proofs.unpack_rest.Statement.{statement}
+use Rattle.packing.proofs.{Laws.value-take-below, Groups.based, Groups.resume, unpack_rest.Statement.statement}
 use Rattle.packing.proofs.unpack_rest.Tie as tie
 
 abbrev Inv-loop : tie.InvT-loop

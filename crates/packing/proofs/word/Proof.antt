@@ -1,5 +1,5 @@
 -- `packing::word` meets its contract: past the end a byte reads 0.
-use borrow.Author.Needs.{needs}
+use Rattle.lists.proofs.Kit.{needs}
 use Rattle.packing.proofs.{Laws.value-four, word.Statement.statement}
 use Rattle.packing.proofs.word.Tie as tie
 

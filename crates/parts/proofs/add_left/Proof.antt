@@ -1,16 +1,10 @@
 -- `parts::add_left` meets its contract: after t rows each sum has gained t products.
-use mathlib.Core.{Path._≡_, Path.refl, Path._∙_, Path.sym, Path.ap, List.List}
-use Prim.Native.Nat.{ℕ, _+_, _*_, _-_, _%_, _≤_}
-use native.Mathlib.Omega.{arith}
-use native.Mathlib.Nat.{mul-le-mul-right}
-use borrow.Author.Needs.{needs}
-use lib.ListN.{length, take, drop}
+use Rattle.lists.proofs.Kit.{_≡_, refl, _∙_, sym, ap, List, ℕ, _+_, _*_, _-_, _%_, _≤_, arith, mul-le-mul-right, needs, length, take, drop}
 use Rattle.lists.proofs.Parts.{slice-long}
 use Rattle.matrix.specs.{Steps.partTerm, Words.gained}
 use Rattle.matrix.proofs.Steps.{gained-length, gained-none, gained-more}
 use Rattle.parts.specs.Parts.{words}
-use Rattle.parts.proofs.{Words.slice-words-long, Blocks.one-block}
-use Rattle.parts.proofs.add_left.Statement.{statement}
+use Rattle.parts.proofs.{Words.slice-words-long, Blocks.one-block, add_left.Statement.statement}
 use Rattle.parts.proofs.add_left.Tie as tie
 
 abbrev Inv-loop : tie.InvT-loop

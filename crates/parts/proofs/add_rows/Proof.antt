@@ -1,17 +1,11 @@
 -- `parts::add_rows` meets its contract: it fills a row of sums at a time.
-use mathlib.Core.{Path._≡_, Path.refl, Path._∙_, Path.sym, Path.ap, List.List}
-use Prim.Native.Nat.{ℕ, _+_, _*_, _-_, _%_, _≤_}
-use native.Mathlib.Omega.{arith}
-use borrow.Author.Needs.{needs}
-use lib.ListN.{length, getD, take, drop}
+use Rattle.lists.proofs.Kit.{_≡_, refl, _∙_, sym, ap, List, ℕ, _+_, _*_, _-_, _%_, _≤_, arith, needs, length, getD, take, drop}
 use Rattle.numbers.specs.Sum.{sumℕ}
-use Rattle.lists.proofs.Fill.{Filled, fill-end, rows-start, rows-next, fill-rest}
-use Rattle.lists.proofs.Parts.{slice-long}
+use Rattle.lists.proofs.{Fill.Filled, Fill.fill-end, Fill.rows-start, Fill.rows-next, Fill.fill-rest, Parts.slice-long}
 use Rattle.matrix.specs.Words.{gained, rightTerm}
 use Rattle.matrix.proofs.Terms.{row-in}
 use Rattle.parts.specs.Parts.{words}
-use Rattle.parts.proofs.{Words.slice-words-long, Blocks.one-row}
-use Rattle.parts.proofs.add_rows.Statement.{statement}
+use Rattle.parts.proofs.{Words.slice-words-long, Blocks.one-row, add_rows.Statement.statement}
 use Rattle.parts.proofs.add_rows.Tie as tie
 
 abbrev from : ℕ → List ℕ → List ℕ → List ℕ → ℕ → ℕ

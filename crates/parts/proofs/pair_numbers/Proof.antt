@@ -1,9 +1,5 @@
 -- `parts::pair_numbers` meets its contract: it fills with numbers of two words each.
-use mathlib.Core.{Path.refl, Path._∙_, Path.ap, List.List}
-use Prim.Native.Nat.{ℕ, _+_, _*_, _-_, _<_}
-use native.Mathlib.Omega.{arith}
-use borrow.Author.Needs.{needs}
-use lib.ListN.{length, getD, length-set}
+use Rattle.lists.proofs.Kit.{refl, _∙_, ap, List, ℕ, _+_, _*_, _-_, _<_, arith, needs, length, getD, length-set}
 use Rattle.lists.specs.Entries.{tab}
 use Rattle.lists.proofs.Fill.{Filled, fill-start, fill-next, fill-end}
 use Rattle.parts.specs.Parts.{pairs}

@@ -1,12 +1,7 @@
 -- `parts::put_each` meets its contract: after k turns k words are laid.
-use mathlib.Core.Path.{_≡_, refl, _∙_, sym, ap}
-use mathlib.Core.List.{List, _++_, append-assoc}
-use Prim.Native.Nat.{ℕ, _+_, _-_, _<_, _≤_}
-use native.Mathlib.Numerals.{add-one}
-use native.Mathlib.Omega.{arith}
-use borrow.Author.Needs.{needs}
-use lib.ListN.{length, getD, set, take, drop}
-use lib.Seq.{paste, paste-zero, paste-suc, length-paste, take-all}
+use Rattle.lists.proofs.Kit.{_≡_, refl, _∙_, sym, ap, List, _++_, append-assoc, ℕ, _+_, _-_, _<_, _≤_, add-one, arith, needs, length, getD, set, take, drop}
+use Rattle.lists.proofs.Kit.{take-all}
+use lib.Seq.{paste, paste-zero, paste-suc, length-paste}
 use Rattle.parts.specs.Parts.{words, pairs}
 use Rattle.parts.proofs.{Words.words-long, Words.pairs-words, put_each.Statement.statement}
 use Rattle.parts.proofs.put_each.Tie as tie

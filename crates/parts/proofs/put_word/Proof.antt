@@ -1,9 +1,5 @@
 -- `parts::put_word` meets its contract: the other word of the number stays.
-use mathlib.Core.Path.{_≡_, _∙_, ap}
-use Prim.Native.Nat.{ℕ, _+_, _*_, _/_}
-use native.Mathlib.Omega.{arith}
-use borrow.Author.Needs.{needs}
-use lib.ListN.{set}
+use Rattle.lists.proofs.Kit.{_≡_, _∙_, ap, ℕ, _+_, _*_, _/_, arith, needs, set}
 use Rattle.parts.specs.Parts.{words}
 use Rattle.parts.proofs.{Words.set-lower, Words.set-upper, put_word.Statement.statement}
 use Rattle.parts.proofs.put_word.Tie as tie

@@ -1,14 +1,9 @@
 -- `parts::some_columns` meets its contract: it fills with the words of one row of S' at a time.
-use mathlib.Core.{Path._≡_, Path._∙_, Path.sym, Path.ap, List.List}
-use Prim.Native.Nat.{ℕ, _+_, _*_, _-_, _/_, _%_, _≤_}
-use native.Mathlib.Omega.{arith}
-use borrow.Author.Needs.{needs}
-use lib.ListN.{length, getD}
-use Rattle.lists.proofs.Fill.{Filled, fill-whole, rows-start, rows-next}
-use Rattle.lists.proofs.Parts.{slice-long}
+use Rattle.lists.proofs.Kit.{_≡_, _∙_, sym, ap, List, ℕ, _+_, _*_, _-_, _/_, _%_, _≤_, arith, needs, length, getD}
+use Rattle.lists.proofs.{Fill.Filled, Fill.fill-whole, Fill.rows-start, Fill.rows-next, Parts.slice-long}
+use Rattle.matrix.specs.Steps.{columnsFrom}
 use Rattle.matrix.proofs.Terms.{row-in}
 use Rattle.parts.specs.Parts.{words}
-use Rattle.matrix.specs.Steps.{columnsFrom}
 use Rattle.parts.proofs.{Blocks.columns-row, some_columns.Statement.statement}
 use Rattle.parts.proofs.some_columns.Tie as tie
 

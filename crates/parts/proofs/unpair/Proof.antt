@@ -1,15 +1,9 @@
 -- `parts::unpair` meets its contract: it fills with the words, two at a time.
-use mathlib.Core.{Path._≡_, Path._∙_, Path.sym, Path.ap, List.List}
-use Prim.Native.Nat.{ℕ, _+_, _*_, _-_, _≤_}
-use native.Mathlib.Omega.{arith}
-use borrow.Author.Needs.{needs}
-use lib.ListN.{length, getD, length-set}
+use Rattle.lists.proofs.Kit.{_≡_, _∙_, sym, ap, List, ℕ, _+_, _*_, _-_, _≤_, arith, needs, length, getD, length-set}
 use Rattle.lists.specs.Entries.{tab}
-use Rattle.lists.proofs.Entries.{tab-getD}
-use Rattle.lists.proofs.Fill.{Filled, fill-start, fill-next, fill-end}
+use Rattle.lists.proofs.{Entries.tab-getD, Fill.Filled, Fill.fill-start, Fill.fill-next, Fill.fill-end}
 use Rattle.parts.specs.Parts.{words}
-use Rattle.parts.proofs.Words.{words-long, words-even, words-odd}
-use Rattle.parts.proofs.unpair.Statement.{statement}
+use Rattle.parts.proofs.{Words.words-long, Words.words-even, Words.words-odd, unpair.Statement.statement}
 use Rattle.parts.proofs.unpair.Tie as tie
 
 abbrev from : List ℕ → ℕ → ℕ

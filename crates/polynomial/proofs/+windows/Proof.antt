@@ -1,16 +1,11 @@
 -- `polynomial::windows` meets its contract: the length falls at each call of itself.
-use mathlib.Core.{Path._≡_, Path._∙_, Path.sym, List.List}
-use Prim.Native.Nat.{ℕ, _+_, _*_, _-_, _<_, _≤_}
-use native.Mathlib.Omega.{arith}
-use lib.{ListN.length, ListN.getD, IntN.ℤ, IntN.pos, IntN.natAbs, IntN._+ℤ_, IntN._-ℤ_}
-use borrow.Author.Needs.{needs}
-use borrow.Rule.Slice.PartMut.{putMid}
-use borrow.Fn.Kinds.{In, Out}
-use borrow.Fn.PlainCycle.{Measures, is, falls, and}
+use Rattle.lists.proofs.Kit.{_≡_, _∙_, sym, List, ℕ, _+_, _*_, _-_, _<_, _≤_, arith, length, getD, ℤ, pos, natAbs, _+ℤ_, _-ℤ_, needs, putMid}
+use borrow.{Fn.Kinds.In, Fn.Kinds.Out, Fn.PlainCycle.Measures, Fn.PlainCycle.is, Fn.PlainCycle.falls, Fn.PlainCycle.and}
 use Rattle.lists.specs.Entries.{nums, ints}
 use Rattle.polynomial.specs.Steps.{Ready, Made}
-use Rattle.polynomial.proofs.Stores.{rest-long, put-long, put-below, put-inside}
-use Rattle.polynomial.proofs.Level.{low-ready, low-made, high-ready, high-made, middle-ready, middle-made, three-small, level-made, ready-at, made-at, few-size}
+use Rattle.polynomial.proofs.Level.{low-ready, low-made, high-ready, high-made, middle-ready, middle-made, three-small, level-made, ready-at, made-at}
+use Rattle.polynomial.proofs.Level.{few-size}
+use Rattle.polynomial.proofs.{Stores.rest-long, Stores.put-long, Stores.put-below, Stores.put-inside, +windows.statement, +windows.Tie.close}
 use Rattle.polynomial.proofs.windows.Reads as windows
 use Rattle.polynomial.proofs.windows.Kinds as windows-kinds
 use Rattle.polynomial.proofs.+windows.Lts-windows as lts
@@ -20,7 +15,6 @@ use Rattle.polynomial.proofs.half.Reads as half-reads
 use Rattle.polynomial.proofs.join.Reads as join-reads
 use Rattle.polynomial.proofs.leaf.Reads as leaf-reads
 use Rattle.polynomial.proofs.subtract.Reads as subtract-reads
-use Rattle.polynomial.proofs.{+windows.statement, +windows.Tie.close}
 
 abbrev μ-windows : Measures 3 windows-kinds.ps ℕ
 μ-windows κs a = a .1 .1 .1 .1 .0

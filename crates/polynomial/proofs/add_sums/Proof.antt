@@ -1,9 +1,5 @@
 -- `polynomial::add_sums` meets its contract.
-use Prim.Native.Nat.{_+_, _-_, _^_, _≤_}
-use native.Mathlib.Omega.{arith}
-use lib.{Dec.lit≤, IntN.pos, IntN._+ℤ_}
-use mir.Syntax.{w64}
-use borrow.Author.Needs.{needs}
+use Rattle.lists.proofs.Kit.{_+_, _-_, _^_, _≤_, arith, lit≤, pos, _+ℤ_, w64, needs}
 use Rattle.lists.specs.{Entries.ints, Ranges.Stored}
 use Rattle.lists.proofs.Stored.{store-none, stored-all}
 use Rattle.polynomial.proofs.{Level.add-fits, Level.add-next, add_sums.Statement.statement}

@@ -1,10 +1,5 @@
 -- `polynomial::copy` meets its contract.
-use mathlib.Core.Path.{_∙_}
-use Prim.Native.Nat.{_-_, _≤_}
-use native.Mathlib.Omega.{arith}
-use lib.{ListN.getD, IntN.pos}
-use mir.Facts.{toZ-ofZ}
-use borrow.Author.Needs.{needs}
+use Rattle.lists.proofs.Kit.{_∙_, _-_, _≤_, arith, getD, pos, toZ-ofZ, needs}
 use Rattle.lists.specs.{Entries.ints, Ranges.Stored}
 use Rattle.lists.proofs.Stored.{store-none, store-next, stored-all}
 use Rattle.polynomial.proofs.copy.Statement.{statement}

@@ -1,9 +1,5 @@
 -- `polynomial::dots` meets its contract.
-use mathlib.Core.Path.{_∙_, sym}
-use Prim.Native.Nat.{_+_, _-_, _≤_}
-use native.Mathlib.Omega.{arith}
-use lib.IntN.{pos}
-use borrow.Author.Needs.{needs}
+use Rattle.lists.proofs.Kit.{_∙_, sym, _+_, _-_, _≤_, arith, pos, needs}
 use Rattle.numbers.proofs.Machine.{wide, wide-fits}
 use Rattle.lists.specs.{Entries.ints, Ranges.Stored}
 use Rattle.lists.proofs.{Parts.front-long, Stored.store-none, Stored.store-next, Stored.stored-all}

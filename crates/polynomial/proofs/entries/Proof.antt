@@ -1,14 +1,8 @@
 -- `polynomial::entries` meets its contract: it fills with the sums, reduced.
-use mathlib.Core.{Path._≡_, Path._∙_, Path.sym, Path.ap₂, Path.subst, List.List}
-use Prim.Native.Nat.{ℕ, _-_, _^_, _≤_}
-use native.Mathlib.Omega.{arith}
-use lib.{ListN.length, ListN.getD, ListN.length-set, IntN.ℤ, IntN.pos, IntN.natAbs, IntN._+ℤ_}
-use mir.Syntax.{w32, w64}
-use mir.Val.{toZ, ofZ}
-use mir.Facts.{toZ-ofZ}
-use borrow.Author.Needs.{needs}
-use Rattle.schemes.specs.Schemes.{bcns}
+use Rattle.lists.proofs.Kit.{_≡_, _∙_, sym, ap₂, subst, List, ℕ, _-_, _^_, _≤_, arith, length, getD, length-set, ℤ, pos, natAbs, _+ℤ_, w32, w64, toZ, ofZ}
+use Rattle.lists.proofs.Kit.{toZ-ofZ, needs}
 use Rattle.numbers.specs.Residue.{residue}
+use Rattle.schemes.specs.Schemes.{bcns}
 use Rattle.lists.specs.Entries.{ints}
 use Rattle.lists.proofs.Fill.{Filled, fill-start, fill-next, fill-end}
 use Rattle.polynomial.proofs.entries.Statement.{statement}

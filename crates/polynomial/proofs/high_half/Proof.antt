@@ -1,10 +1,7 @@
 -- `polynomial::high_half` meets its contract.
-use Prim.Native.Nat.{_/_}
-use native.Mathlib.Omega.{arith}
-use borrow.Author.Needs.{needs}
+use Rattle.lists.proofs.Kit.{_/_, arith, needs}
 use Rattle.polynomial.specs.Window.{upper}
-use Rattle.polynomial.proofs.Halves.{less-fits, narrow-fits, narrow}
-use Rattle.polynomial.proofs.high_half.Statement.{statement}
+use Rattle.polynomial.proofs.{Halves.less-fits, Halves.narrow-fits, Halves.narrow, high_half.Statement.statement}
 use Rattle.polynomial.proofs.high_half.Tie as tie
 
 pub high-half-spec : {M : Type 1} → statement M

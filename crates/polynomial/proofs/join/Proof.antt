@@ -1,6 +1,5 @@
 -- `polynomial::join` meets its contract.
-use native.Mathlib.Omega.{arith}
-use borrow.Author.Needs.{needs}
+use Rattle.lists.proofs.Kit.{arith, needs}
 use Rattle.polynomial.proofs.{Level.added-small, Level.joined, join.Statement.statement}
 use Rattle.polynomial.proofs.join.Tie as tie
 

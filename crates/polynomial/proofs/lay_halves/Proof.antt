@@ -1,13 +1,7 @@
 -- `polynomial::lay_halves` meets its contract.
-use mathlib.Core.Path.{_∙_, ap}
-use Prim.Native.Nat.{_+_, _*_, _-_, _≤_}
-use native.Mathlib.Omega.{arith}
-use lib.ListN.{length-set}
-use mir.Facts.{toZ-ofZ}
-use borrow.Author.Needs.{needs}
+use Rattle.lists.proofs.Kit.{_∙_, ap, _+_, _*_, _-_, _≤_, arith, length-set, toZ-ofZ, needs}
 use Rattle.polynomial.specs.Window.{upper, lower}
-use Rattle.polynomial.proofs.Level.{Halving, halving-none, halving-next, halving-all}
-use Rattle.polynomial.proofs.lay_halves.Statement.{statement}
+use Rattle.polynomial.proofs.{Level.Halving, Level.halving-none, Level.halving-next, Level.halving-all, lay_halves.Statement.statement}
 use Rattle.polynomial.proofs.lay_halves.Tie as tie
 
 abbrev Inv-loop : tie.InvT-loop

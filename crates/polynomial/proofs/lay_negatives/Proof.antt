@@ -1,8 +1,5 @@
 -- `polynomial::lay_negatives` meets its contract.
-use Prim.Native.Nat.{_+_, _-_, _≤_}
-use native.Mathlib.Omega.{arith}
-use lib.{ListN.length, IntN.negℤ}
-use borrow.Author.Needs.{needs}
+use Rattle.lists.proofs.Kit.{_+_, _-_, _≤_, arith, length, negℤ, needs}
 use Rattle.numbers.specs.Residue.{residue}
 use Rattle.lists.specs.{Entries.nums, Ranges.Stored}
 use Rattle.lists.proofs.Stored.{store-none, store-front, stored-all}

@@ -1,9 +1,5 @@
 -- `polynomial::lay_numbers` meets its contract.
-use mathlib.Core.Path.{refl}
-use Prim.Native.Nat.{_-_, _≤_}
-use native.Mathlib.Omega.{arith}
-use lib.ListN.{length, getD}
-use borrow.Author.Needs.{needs}
+use Rattle.lists.proofs.Kit.{refl, _-_, _≤_, arith, length, getD, needs}
 use Rattle.lists.specs.Ranges.{Stored}
 use Rattle.lists.proofs.Stored.{store-none, store-next, stored-all}
 use Rattle.polynomial.proofs.lay_numbers.Statement.{statement}

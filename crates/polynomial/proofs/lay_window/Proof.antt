@@ -1,6 +1,5 @@
 -- `polynomial::lay_window` meets its contract.
-use native.Mathlib.Omega.{arith}
-use borrow.Author.Needs.{needs}
+use Rattle.lists.proofs.Kit.{arith, needs}
 use Rattle.polynomial.proofs.{Window.laid-window, lay_window.Statement.statement}
 use Rattle.polynomial.proofs.lay_window.Tie as tie
 

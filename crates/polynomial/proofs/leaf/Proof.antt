@@ -1,8 +1,6 @@
 -- `polynomial::leaf` meets its contract.
-use native.Mathlib.Omega.{arith}
-use borrow.Author.Needs.{needs}
-use Rattle.polynomial.proofs.Level.{laid-high, laid-low, sums-small, leaf-made}
-use Rattle.polynomial.proofs.leaf.Statement.{statement}
+use Rattle.lists.proofs.Kit.{arith, needs}
+use Rattle.polynomial.proofs.{Level.laid-high, Level.laid-low, Level.sums-small, Level.leaf-made, leaf.Statement.statement}
 use Rattle.polynomial.proofs.leaf.Tie as tie
 
 dots-requires : tie.Need-dots-requires

@@ -1,6 +1,5 @@
 -- `polynomial::lifted` meets its contract.
-use mathlib.Core.Path.{sym}
-use borrow.Author.Needs.{needs}
+use Rattle.lists.proofs.Kit.{sym, needs}
 use Rattle.polynomial.proofs.{Halves.lift-low, Halves.lift-high, lifted.Statement.statement}
 use Rattle.polynomial.proofs.lifted.Tie as tie
 

@@ -1,10 +1,7 @@
 -- `polynomial::low_half` meets its contract.
-use Prim.Native.Nat.{_%_}
-use native.Mathlib.Omega.{arith}
-use borrow.Author.Needs.{needs}
+use Rattle.lists.proofs.Kit.{_%_, arith, needs}
 use Rattle.polynomial.specs.Window.{lower}
-use Rattle.polynomial.proofs.Halves.{less-fits, narrow-fits, narrow}
-use Rattle.polynomial.proofs.low_half.Statement.{statement}
+use Rattle.polynomial.proofs.{Halves.less-fits, Halves.narrow-fits, Halves.narrow, low_half.Statement.statement}
 use Rattle.polynomial.proofs.low_half.Tie as tie
 
 pub low-half-spec : {M : Type 1} → statement M

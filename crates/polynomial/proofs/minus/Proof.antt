@@ -1,7 +1,5 @@
 -- `polynomial::minus` meets its contract.
-use native.Mathlib.Omega.{arith}
-use borrow.Author.Needs.{needs}
-use lib.IntN.{pos, _-ℤ_}
+use Rattle.lists.proofs.Kit.{arith, needs, pos, _-ℤ_}
 use Rattle.numbers.proofs.Congruence.{residue-lt}
 use Rattle.polynomial.proofs.{Halves.minus-is, minus.Statement.statement}
 use Rattle.polynomial.proofs.minus.Tie as tie

@@ -1,7 +1,5 @@
 -- `polynomial::mix` meets its contract: the three lists that it lends are as long as `mix_lent` asks, and zeros are below q.
-use lib.{ListN.length-replicate, IntN.pos}
-use Prim.Native.Nat.{ℕ}
-use borrow.Author.Needs.{needs}
+use Rattle.lists.proofs.Kit.{length-replicate, pos, ℕ, needs}
 use Rattle.lists.proofs.Entries.{below-zeros}
 use Rattle.polynomial.proofs.mix.Statement.{statement}
 use Rattle.polynomial.proofs.mix.Tie as tie

@@ -1,9 +1,6 @@
 -- `polynomial::mix_lent` meets its contract.
-use mathlib.Core.Path.{_∙_}
-use native.Mathlib.Omega.{arith}
-use borrow.Author.Needs.{needs}
-use Rattle.polynomial.proofs.Window.{all-ready, mixed-made}
-use Rattle.polynomial.proofs.mix_lent.Statement.{statement}
+use Rattle.lists.proofs.Kit.{_∙_, arith, needs}
+use Rattle.polynomial.proofs.{Window.all-ready, Window.mixed-made, mix_lent.Statement.statement}
 use Rattle.polynomial.proofs.mix_lent.Tie as tie
 
 abbrev after : tie.After-entries → tie.After-windows

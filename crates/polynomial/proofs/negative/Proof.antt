@@ -1,9 +1,5 @@
 -- `polynomial::negative` meets its contract.
-use mathlib.Core.Path.{_≡_, _∙_, ap}
-use native.Mathlib.Omega.{arith}
-use borrow.Author.Needs.{needs}
-use lib.IntN.{ℤ, pos, negℤ}
-use mir.Syntax.{w64}
+use Rattle.lists.proofs.Kit.{_≡_, _∙_, ap, arith, needs, ℤ, pos, negℤ, w64}
 use Rattle.numbers.specs.Residue.{residue}
 use Rattle.numbers.proofs.{Congruence.residue-lt, Machine.toZ-pos}
 use Rattle.polynomial.proofs.negative.Statement.{statement}

@@ -1,9 +1,6 @@
 -- `polynomial::product` meets its contract.
-use mathlib.Core.Path.{_∙_}
-use lib.{ListN.getD, IntN.ℤ, IntN.pos}
-use borrow.Author.Needs.{needs}
-use Rattle.polynomial.proofs.Kernel.{widen-fits, one-fits, one, span-one, secret-small}
-use Rattle.polynomial.proofs.product.Statement.{statement}
+use Rattle.lists.proofs.Kit.{_∙_, getD, ℤ, pos, needs}
+use Rattle.polynomial.proofs.{Kernel.widen-fits, Kernel.one-fits, Kernel.one, Kernel.span-one, Kernel.secret-small, product.Statement.statement}
 use Rattle.polynomial.proofs.product.Tie as tie
 
 -- the two entries, which fit 16 bits

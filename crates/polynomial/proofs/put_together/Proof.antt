@@ -1,12 +1,5 @@
 -- `polynomial::put_together` meets its contract.
-use mathlib.Core.Path.{_≡_, _∙_, sym, ap₂, subst}
-use Prim.Native.Nat.{_+_, _-_, _^_, _≤_}
-use native.Mathlib.Omega.{arith}
-use lib.{ListN.getD, IntN.ℤ, IntN.pos, IntN.natAbs, IntN._+ℤ_, IntN._*ℤ_}
-use mir.Syntax.{w64}
-use mir.Val.{toZ, ofZ}
-use mir.Facts.{toZ-ofZ}
-use borrow.Author.Needs.{needs}
+use Rattle.lists.proofs.Kit.{_≡_, _∙_, sym, ap₂, subst, _+_, _-_, _^_, _≤_, arith, getD, ℤ, pos, natAbs, _+ℤ_, _*ℤ_, w64, toZ, ofZ, toZ-ofZ, needs}
 use Rattle.lists.specs.{Entries.ints, Ranges.Stored}
 use Rattle.lists.proofs.Stored.{store-none, store-front, front-not-yet, stored-all}
 use Rattle.polynomial.proofs.put_together.Statement.{statement}

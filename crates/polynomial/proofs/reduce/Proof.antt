@@ -1,10 +1,9 @@
 -- `polynomial::reduce` meets its contract.
-use mathlib.Core.Path.{_∙_, ap}
-use Rattle.schemes.specs.Schemes.{bcns}
+use Rattle.lists.proofs.Kit.{_∙_, ap}
 use Rattle.numbers.specs.Residue.{residue}
 use Rattle.numbers.proofs.Machine.{wide-fits}
-use Rattle.polynomial.proofs.Kernel.{noise-small, noise-fits, noise-read}
-use Rattle.polynomial.proofs.reduce.Statement.{statement}
+use Rattle.schemes.specs.Schemes.{bcns}
+use Rattle.polynomial.proofs.{Kernel.noise-small, Kernel.noise-fits, Kernel.noise-read, reduce.Statement.statement}
 use Rattle.polynomial.proofs.reduce.Tie as tie
 
 residue-folded-requires : tie.Need-residue-folded-requires

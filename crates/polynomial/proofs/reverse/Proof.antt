@@ -1,12 +1,8 @@
 -- `polynomial::reverse` meets its contract: it writes the entries of the secret, the last one first.
-use mathlib.Core.{Path._∙_, Path.ap, List.List}
-use Prim.Native.Nat.{ℕ, _+_, _-_, _≤_}
-use native.Mathlib.Omega.{arith}
-use lib.{ListN.length, ListN.getD, IntN.ℤ, IntN.pos}
-use borrow.Author.Needs.{needs}
+use Rattle.lists.proofs.Kit.{_∙_, ap, List, ℕ, _+_, _-_, _≤_, arith, length, getD, ℤ, pos, needs}
 use Rattle.lists.specs.{Entries.ints, Ranges.Stored}
-use Rattle.polynomial.proofs.{Kernel.secret-fits, Kernel.secret, reverse.Statement.statement}
 use Rattle.lists.proofs.Stored.{store-none, store-front, stored-all}
+use Rattle.polynomial.proofs.{Kernel.secret-fits, Kernel.secret, reverse.Statement.statement}
 use Rattle.polynomial.proofs.reverse.Tie as tie
 
 -- the entry that the code reads

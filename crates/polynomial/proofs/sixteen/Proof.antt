@@ -1,7 +1,6 @@
 -- `polynomial::sixteen` meets its contract.
-use borrow.Author.Needs.{needs}
-use Rattle.polynomial.proofs.Kernel.{near-fits, far-fits, all-fits, all}
-use Rattle.polynomial.proofs.sixteen.Statement.{statement}
+use Rattle.lists.proofs.Kit.{needs}
+use Rattle.polynomial.proofs.{Kernel.near-fits, Kernel.far-fits, Kernel.all-fits, Kernel.all, sixteen.Statement.statement}
 use Rattle.polynomial.proofs.sixteen.Tie as tie
 
 pub sixteen-spec : {M : Type 1} → statement M

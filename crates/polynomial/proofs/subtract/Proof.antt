@@ -1,9 +1,5 @@
 -- `polynomial::subtract` meets its contract.
-use mathlib.Core.Path.{_∙_, ap₂}
-use Prim.Native.Nat.{ℕ, _+_, _-_, _≤_}
-use native.Mathlib.Omega.{arith}
-use lib.IntN.{pos, _-ℤ_}
-use borrow.Author.Needs.{needs}
+use Rattle.lists.proofs.Kit.{_∙_, ap₂, ℕ, _+_, _-_, _≤_, arith, pos, _-ℤ_, needs}
 use Rattle.numbers.specs.Residue.{residue}
 use Rattle.lists.specs.{Entries.nums, Ranges.Stored}
 use Rattle.lists.proofs.Stored.{store-none, store-next, stored-all}

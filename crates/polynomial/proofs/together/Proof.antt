@@ -1,6 +1,5 @@
 -- `polynomial::together` meets its contract.
-use Rattle.polynomial.proofs.Kernel.{times-fits, both-fits, both-read}
-use Rattle.polynomial.proofs.together.Statement.{statement}
+use Rattle.polynomial.proofs.{Kernel.times-fits, Kernel.both-fits, Kernel.both-read, together.Statement.statement}
 use Rattle.polynomial.proofs.together.Tie as tie
 
 mul-result : tie.Need-mul-result

@@ -1,6 +1,6 @@
 -- `rack::clear` meets its contract.
+use Rattle.lists.proofs.Kit.{needs}
 use Rattle.rack.proofs.{Calls.clear-not, Calls.clear-done, clear.Statement.statement}
-use borrow.Author.Needs.{needs}
 use Rattle.rack.proofs.clear.Tie as tie
 
 pub clear-spec : {M : Type 1} → statement M

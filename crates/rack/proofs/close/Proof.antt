@@ -1,12 +1,8 @@
 -- `rack::close` meets its contract: 16, 10, or the slot's number and zeros.
-use mathlib.Core.{Path._≡_, Path._∙_, Path.sym, Bool.true}
-use Prim.Native.Nat.{_+_, _-_, _*_}
-use native.Mathlib.Omega.{arith}
+use Rattle.lists.proofs.Kit.{_≡_, _∙_, sym, true, _+_, _-_, _*_, arith, needs}
 use Rattle.refusals.specs.declared.Verdict.the-variants.{Pass}
 use Rattle.rack.specs.Slots.{slotTests}
-use Rattle.rack.proofs.{Parts.slot-rack, Calls.close-stopped, Calls.closed}
-use borrow.Author.Needs.{needs}
-use Rattle.rack.proofs.close.Statement.{statement}
+use Rattle.rack.proofs.{Parts.slot-rack, Calls.close-stopped, Calls.closed, close.Statement.statement}
 use Rattle.rack.proofs.close.Tie as tie
 
 -- where the slot's tests have passed

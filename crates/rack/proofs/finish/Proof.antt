@@ -1,7 +1,7 @@
 -- `rack::finish` meets its contract: 16, 10, or the session's call on the bytes behind the slot's number.
+use Rattle.lists.proofs.Kit.{needs}
 use Rattle.session.proofs.Laws.{finish-stops}
 use Rattle.rack.proofs.{Calls.stopped, Calls.ends, Calls.called, finish.Statement.statement}
-use borrow.Author.Needs.{needs}
 use Rattle.rack.proofs.finish.Tie as tie
 
 pub finish-spec : {M : Type 1} → statement M

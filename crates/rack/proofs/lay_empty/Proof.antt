@@ -1,9 +1,6 @@
 -- `rack::lay_empty` meets its contract.
-use mathlib.Core.Path.{_∙_, ap}
-use Prim.Native.Nat.{ℕ}
-use lib.ListN.{replicate, length-set}
+use Rattle.lists.proofs.Kit.{_∙_, ap, ℕ, replicate, length-set, needs}
 use Rattle.rack.proofs.{Calls.laid-empty, lay_empty.Statement.statement}
-use borrow.Author.Needs.{needs}
 use Rattle.rack.proofs.lay_empty.Tie as tie
 
 returns : tie.Need-returns

@@ -1,7 +1,7 @@
 -- `rack::reply` meets its contract: 16, 10, or the session's call on the bytes behind the slot's number.
+use Rattle.lists.proofs.Kit.{needs}
 use Rattle.session.proofs.Laws.{reply-stops}
 use Rattle.rack.proofs.{Calls.stopped, Calls.ends, Calls.called, reply.Statement.statement}
-use borrow.Author.Needs.{needs}
 use Rattle.rack.proofs.reply.Tie as tie
 
 pub reply-spec : {M : Type 1} → statement M

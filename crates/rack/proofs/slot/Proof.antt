@@ -1,10 +1,6 @@
 -- `rack::slot` meets its contract.
-use mathlib.Core.Path.{sym}
-use Prim.Native.Nat.{_*_}
-use native.Mathlib.Omega.{arith}
-use Rattle.rack.proofs.Parts.{slot-none, slot-short, slot-closes, slot-mine, slot-other}
-use borrow.Author.Needs.{needs}
-use Rattle.rack.proofs.slot.Statement.{statement}
+use Rattle.lists.proofs.Kit.{sym, _*_, arith, needs}
+use Rattle.rack.proofs.{Parts.slot-none, Parts.slot-short, Parts.slot-closes, Parts.slot-mine, Parts.slot-other, slot.Statement.statement}
 use Rattle.rack.proofs.slot.Tie as tie
 
 cast-if4 : tie.Need-cast-if4

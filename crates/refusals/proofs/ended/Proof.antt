@@ -1,8 +1,6 @@
 -- `refusals::ended` meets its contract, in either arm.
-use mathlib.Core.Path.{sym}
-use Rattle.refusals.proofs.Steps.{outcome-slack, outcome-refused}
-use borrow.Author.Needs.{needs}
-use Rattle.refusals.proofs.ended.Statement.{statement}
+use Rattle.lists.proofs.Kit.{sym, needs}
+use Rattle.refusals.proofs.{Steps.outcome-slack, Steps.outcome-refused, ended.Statement.statement}
 use Rattle.refusals.proofs.ended.Tie as tie
 
 returns-2 : tie.Need-returns-2

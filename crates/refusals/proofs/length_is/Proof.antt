@@ -1,8 +1,7 @@
 -- `refusals::length_is` meets its contract.
-use borrow.Author.Tests.{eq-eqb, ne-eqb}
+use Rattle.lists.proofs.Kit.{eq-eqb, ne-eqb, needs}
 use Rattle.refusals.specs.Refusals.{lengthIs}
 use Rattle.refusals.proofs.{Laws.stays, Laws.goes-on, length_is.Statement.statement}
-use borrow.Author.Needs.{needs}
 use Rattle.refusals.proofs.length_is.Tie as tie
 
 pub length-is-spec : {M : Type 1} → statement M

@@ -1,8 +1,7 @@
 -- `refusals::length_up_to` meets its contract.
-use borrow.Author.Tests.{le-leb, lt-leb}
+use Rattle.lists.proofs.Kit.{le-leb, lt-leb, needs}
 use Rattle.refusals.specs.Refusals.{lengthUpTo}
 use Rattle.refusals.proofs.{Laws.stays, Laws.goes-on, length_up_to.Statement.statement}
-use borrow.Author.Needs.{needs}
 use Rattle.refusals.proofs.length_up_to.Tie as tie
 
 pub length-up-to-spec : {M : Type 1} → statement M

@@ -1,9 +1,7 @@
 -- `refusals::not_blank` meets its contract.
-use mathlib.Core.Path.{sym, _∙_}
-use Rattle.refusals.proofs.Laws.{blank-fails, not-blank-passes}
-use Rattle.refusals.proofs.not_blank.Statement.{statement}
+use Rattle.lists.proofs.Kit.{sym, _∙_, needs}
+use Rattle.refusals.proofs.{Laws.blank-fails, Laws.not-blank-passes, not_blank.Statement.statement}
 use Rattle.refusals.proofs.not_blank.Tie as tie
-use borrow.Author.Needs.{needs}
 
 returns : tie.Need-returns
 returns c =

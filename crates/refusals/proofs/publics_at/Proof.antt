@@ -1,6 +1,5 @@
 -- `refusals::publics_at` meets its contract.
-use Rattle.refusals.proofs.Laws.{publics-over, publics-under}
-use Rattle.refusals.proofs.publics_at.Statement.{statement}
+use Rattle.refusals.proofs.{Laws.publics-over, Laws.publics-under, publics_at.Statement.statement}
 use Rattle.refusals.proofs.publics_at.Tie as tie
 
 pub publics-at-spec : {M : Type 1} → statement M

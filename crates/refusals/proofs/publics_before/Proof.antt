@@ -1,7 +1,6 @@
 -- `refusals::publics_before` meets its contract.
-use mathlib.Core.Path.{refl, sym, _∙_}
+use Rattle.lists.proofs.Kit.{refl, sym, _∙_, needs}
 use Rattle.refusals.proofs.Laws.{publics-over, publics-under, before-pass, before-fail, failed, went-on}
-use borrow.Author.Needs.{needs}
 use Rattle.refusals.proofs.publics_before.Statement.{statement}
 use Rattle.refusals.proofs.publics_before.Tie as tie
 

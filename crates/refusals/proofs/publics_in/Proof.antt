@@ -1,6 +1,6 @@
 -- `refusals::publics_in` meets its contract.
+use Rattle.lists.proofs.Kit.{needs}
 use Rattle.refusals.proofs.{Laws.stays, Laws.goes-on, publics_in.Statement.statement}
-use borrow.Author.Needs.{needs}
 use Rattle.refusals.proofs.publics_in.Tie as tie
 
 returns-2 : tie.Need-returns-2

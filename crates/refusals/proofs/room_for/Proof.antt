@@ -1,8 +1,7 @@
 -- `refusals::room_for` meets its contract.
-use borrow.Author.Tests.{le-leb, lt-leb}
+use Rattle.lists.proofs.Kit.{le-leb, lt-leb, needs}
 use Rattle.refusals.specs.Refusals.{roomFor}
 use Rattle.refusals.proofs.{Laws.stays, Laws.goes-on, room_for.Statement.statement}
-use borrow.Author.Needs.{needs}
 use Rattle.refusals.proofs.room_for.Tie as tie
 
 pub room-for-spec : {M : Type 1} → statement M

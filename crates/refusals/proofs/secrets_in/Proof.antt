@@ -1,8 +1,7 @@
 -- `refusals::secrets_in` meets its contract.
-use borrow.Author.Tests.{lt-ltb, le-ltb}
+use Rattle.lists.proofs.Kit.{lt-ltb, le-ltb, needs}
 use Rattle.refusals.specs.Refusals.{secretsIn}
 use Rattle.refusals.proofs.{Laws.stays, Laws.goes-on, secrets_in.Statement.statement}
-use borrow.Author.Needs.{needs}
 use Rattle.refusals.proofs.secrets_in.Tie as tie
 
 returns-2 : tie.Need-returns-2

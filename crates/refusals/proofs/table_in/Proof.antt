@@ -1,8 +1,7 @@
 -- `refusals::table_in` meets its contract.
-use borrow.Author.Tests.{lt-ltb, le-ltb}
+use Rattle.lists.proofs.Kit.{lt-ltb, le-ltb, needs}
 use Rattle.refusals.specs.Refusals.{tableIn}
 use Rattle.refusals.proofs.{Laws.stays, Laws.goes-on, table_in.Statement.statement}
-use borrow.Author.Needs.{needs}
 use Rattle.refusals.proofs.table_in.Tie as tie
 
 pub table-in-spec : {M : Type 1} → statement M

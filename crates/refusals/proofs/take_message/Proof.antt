@@ -1,9 +1,7 @@
 -- `refusals::take_message` meets its contract.
-use mathlib.Core.Path.{refl, sym, ap, _∙_}
-use borrow.Author.Needs.{needs}
+use Rattle.lists.proofs.Kit.{refl, sym, ap, _∙_, needs}
 use Rattle.refusals.specs.Refusals.{messageIn, receivedIn}
-use Rattle.refusals.proofs.Laws.{over, under, failed, went-on}
-use Rattle.refusals.proofs.take_message.Statement.{statement}
+use Rattle.refusals.proofs.{Laws.over, Laws.under, Laws.failed, Laws.went-on, take_message.Statement.statement}
 use Rattle.refusals.proofs.take_message.Tie as tie
 
 returns : tie.Need-returns

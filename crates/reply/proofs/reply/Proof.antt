@@ -1,10 +1,7 @@
 -- `reply::reply` meets its contract: the outputs are zeroed first, and then hold what the scheme by its name gives.
-use mathlib.Core.Path.{sym, _∙_}
-use lib.ListN.{length}
+use Rattle.lists.proofs.Kit.{sym, _∙_, length, needs}
 use Rattle.lists.proofs.Same.{zeros, zeros-long}
-use Rattle.reply.proofs.Replying.{reply-unknown, reply-refused}
-use borrow.Author.Needs.{needs}
-use Rattle.reply.proofs.reply.Statement.{statement}
+use Rattle.reply.proofs.{Replying.reply-unknown, Replying.reply-refused, reply.Statement.statement}
 use Rattle.reply.proofs.reply.Tie as tie
 
 -- the places, from the last to the first

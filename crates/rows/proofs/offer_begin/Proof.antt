@@ -1,8 +1,7 @@
 -- `rows::offer_begin` meets its contract: the state is zeroed first, and then holds what the scheme by its number gives.
-use borrow.Author.Needs.{needs}
+use Rattle.lists.proofs.Kit.{needs}
 use Rattle.lists.proofs.Same.{zeros}
-use Rattle.rows.proofs.{Ends.frodo-known, Opening.begin-unknown, Opening.begin-known}
-use Rattle.rows.proofs.offer_begin.Statement.{statement}
+use Rattle.rows.proofs.{Ends.frodo-known, Opening.begin-unknown, Opening.begin-known, offer_begin.Statement.statement}
 use Rattle.rows.proofs.offer_begin.Tie as tie
 
 pub offer-begin-spec : {M : Type 1} → statement M

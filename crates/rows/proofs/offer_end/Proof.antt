@@ -1,8 +1,6 @@
 -- `rows::offer_end` meets its contract: the message, and then zeros into the state, where nothing is refused.
-use lib.ListN.{length}
-use Rattle.rows.proofs.Opening.{end-kept, end-cleared}
-use borrow.Author.Needs.{needs}
-use Rattle.rows.proofs.offer_end.Statement.{statement}
+use Rattle.lists.proofs.Kit.{length, needs}
+use Rattle.rows.proofs.{Opening.end-kept, Opening.end-cleared, offer_end.Statement.statement}
 use Rattle.rows.proofs.offer_end.Tie as tie
 
 returns : tie.Need-returns

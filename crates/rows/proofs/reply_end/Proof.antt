@@ -1,12 +1,8 @@
 -- `rows::reply_end` meets its contract: message and key, and where nothing is refused the key's digest, and then zeros into the state.
-use mathlib.Core.{Path.sym, List.List}
-use Prim.Native.Nat.{ℕ}
-use lib.ListN.{length}
+use Rattle.lists.proofs.Kit.{sym, List, ℕ, length, needs}
 use Rattle.lists.proofs.Parts.{front-long}
 use Rattle.reply.specs.Reply.{ReplyRooms, replyRoomsOf}
-use Rattle.rows.proofs.Replying.{end-kept, key-fits, digest-fits, end-cleared}
-use borrow.Author.Needs.{needs}
-use Rattle.rows.proofs.reply_end.Statement.{statement}
+use Rattle.rows.proofs.{Replying.end-kept, Replying.key-fits, Replying.digest-fits, Replying.end-cleared, reply_end.Statement.statement}
 use Rattle.rows.proofs.reply_end.Tie as tie
 
 abbrev zeroed : tie.After-send → tie.After-zero-bytes

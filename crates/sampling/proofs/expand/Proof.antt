@@ -1,7 +1,6 @@
 -- `sampling::expand` meets its contract: the output is zeroed first, and then holds what the rule by its name gives.
-use Rattle.sampling.proofs.Expanding.{expand-unknown, expand-named}
-use borrow.Author.Needs.{needs}
-use Rattle.sampling.proofs.expand.Statement.{statement}
+use Rattle.lists.proofs.Kit.{needs}
+use Rattle.sampling.proofs.{Expanding.expand-unknown, Expanding.expand-named, expand.Statement.statement}
 use Rattle.sampling.proofs.expand.Tie as tie
 
 returns : tie.Need-returns

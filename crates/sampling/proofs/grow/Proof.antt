@@ -1,7 +1,6 @@
 -- `sampling::grow` meets its contract: the output is zeroed first, and then holds what the rule by its name gives.
-use Rattle.sampling.proofs.Growing.{grow-unknown, grow-named}
-use borrow.Author.Needs.{needs}
-use Rattle.sampling.proofs.grow.Statement.{statement}
+use Rattle.lists.proofs.Kit.{needs}
+use Rattle.sampling.proofs.{Growing.grow-unknown, Growing.grow-named, grow.Statement.statement}
 use Rattle.sampling.proofs.grow.Tie as tie
 
 returns : tie.Need-returns

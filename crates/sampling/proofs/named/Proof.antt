@@ -1,7 +1,6 @@
 -- `sampling::named` meets its contract.
-use lib.ListN.{length}
+use Rattle.lists.proofs.Kit.{length, needs}
 use Rattle.lists.proofs.Same.{zeros}
-use borrow.Author.Needs.{needs}
 use Rattle.sampling.proofs.named.Statement.{statement}
 use Rattle.sampling.proofs.named.Tie as tie
 

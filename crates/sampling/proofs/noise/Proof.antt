@@ -1,10 +1,7 @@
 -- `sampling::noise` meets its contract: the output is zeroed first, and then holds what the scheme by its name gives.
-use mathlib.Core.Path.{sym, _∙_}
-use lib.{IntN.pos, ListN.length}
+use Rattle.lists.proofs.Kit.{sym, _∙_, pos, length, needs}
 use Rattle.lists.proofs.Same.{zeros, zeros-long}
-use Rattle.sampling.proofs.Noising.{noise-unknown, noise-named}
-use borrow.Author.Needs.{needs}
-use Rattle.sampling.proofs.noise.Statement.{statement}
+use Rattle.sampling.proofs.{Noising.noise-unknown, Noising.noise-named, noise.Statement.statement}
 use Rattle.sampling.proofs.noise.Tie as tie
 
 returns : tie.Need-returns

@@ -1,7 +1,6 @@
 -- `schemes::frodo` meets its contract: no length is too long to be one.
 use Prim.Native.Nat.{_*_, _≤_}
-use native.Mathlib.Nat.{mul-le-mul}
-use native.Mathlib.Omega.{arith}
+use native.{Mathlib.Nat.mul-le-mul, Mathlib.Omega.arith}
 use borrow.Author.Needs.{needs}
 use Rattle.schemes.proofs.frodo.Statement.{statement}
 use Rattle.schemes.proofs.frodo.Tie as tie

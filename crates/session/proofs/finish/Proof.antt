@@ -1,8 +1,7 @@
 -- `session::finish` meets its contract: 10, a refusal of the call beneath, or its answer.
+use Rattle.lists.proofs.Kit.{needs}
 use Rattle.session.specs.Table.{row}
-use Rattle.session.proofs.Laws.{bars, allows, turned, finish-stops, finish-refused, finish-done}
-use borrow.Author.Needs.{needs}
-use Rattle.session.proofs.finish.Statement.{statement}
+use Rattle.session.proofs.{Laws.bars, Laws.allows, Laws.turned, Laws.finish-stops, Laws.finish-refused, Laws.finish-done, finish.Statement.statement}
 use Rattle.session.proofs.finish.Tie as tie
 
 pub finish-spec : {M : Type 1} → statement M

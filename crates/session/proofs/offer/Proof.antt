@@ -1,8 +1,7 @@
 -- `session::offer` meets its contract: 10, a refusal of the call beneath, or its answer.
+use Rattle.lists.proofs.Kit.{needs}
 use Rattle.session.specs.Table.{row}
-use Rattle.session.proofs.Laws.{bars, allows, turned, offer-stops, offer-refused, offer-done}
-use borrow.Author.Needs.{needs}
-use Rattle.session.proofs.offer.Statement.{statement}
+use Rattle.session.proofs.{Laws.bars, Laws.allows, Laws.turned, Laws.offer-stops, Laws.offer-refused, Laws.offer-done, offer.Statement.statement}
 use Rattle.session.proofs.offer.Tie as tie
 
 pub offer-spec : {M : Type 1} → statement M

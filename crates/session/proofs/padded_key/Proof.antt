@@ -1,6 +1,6 @@
 -- `session::padded_key` meets its contract.
+use Rattle.lists.proofs.Kit.{needs}
 use Rattle.session.proofs.{Laws.padded-law, padded_key.Statement.statement}
-use borrow.Author.Needs.{needs}
 use Rattle.session.proofs.padded_key.Tie as tie
 
 pub padded-key-spec : {M : Type 1} → statement M

@@ -1,8 +1,7 @@
 -- `session::reply` meets its contract: 10, a refusal of the call beneath, or its answer.
+use Rattle.lists.proofs.Kit.{needs}
 use Rattle.session.specs.Table.{row}
-use Rattle.session.proofs.Laws.{bars, allows, turned, reply-stops, reply-refused, reply-done}
-use borrow.Author.Needs.{needs}
-use Rattle.session.proofs.reply.Statement.{statement}
+use Rattle.session.proofs.{Laws.bars, Laws.allows, Laws.turned, Laws.reply-stops, Laws.reply-refused, Laws.reply-done, reply.Statement.statement}
 use Rattle.session.proofs.reply.Tie as tie
 
 pub reply-spec : {M : Type 1} → statement M

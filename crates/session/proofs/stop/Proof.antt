@@ -1,6 +1,6 @@
 -- `session::stop` meets its contract.
+use Rattle.lists.proofs.Kit.{needs}
 use Rattle.refusals.proofs.Seen.{shown-failed}
-use borrow.Author.Needs.{needs}
 use Rattle.session.proofs.stop.Statement.{statement}
 use Rattle.session.proofs.stop.Tie as tie
 

@@ -1,7 +1,7 @@
 -- `session::stop_finish` meets its contract.
+use Rattle.lists.proofs.Kit.{needs}
 use Rattle.refusals.specs.Seen.{written}
 use Rattle.finish.specs.Finish.{finishShown, finishSeen}
-use borrow.Author.Needs.{needs}
 use Rattle.session.proofs.stop_finish.Statement.{statement}
 use Rattle.session.proofs.stop_finish.Tie as tie
 

@@ -1,7 +1,7 @@
 -- `session::stop_reply` meets its contract.
+use Rattle.lists.proofs.Kit.{needs}
 use Rattle.refusals.specs.Seen.{written}
 use Rattle.reply.specs.Reply.{outputs, replySeen}
-use borrow.Author.Needs.{needs}
 use Rattle.session.proofs.stop_reply.Statement.{statement}
 use Rattle.session.proofs.stop_reply.Tie as tie
 

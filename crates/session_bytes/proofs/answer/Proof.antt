@@ -1,8 +1,7 @@
 -- `session_bytes::answer` meets its contract: 10, a refusal of the call beneath, or its answer.
+use Rattle.lists.proofs.Kit.{needs}
 use Rattle.session.proofs.Laws.{bars, allows}
-use Rattle.session_bytes.proofs.Drawn.{idle-long, answer-stops, answer-refused, answer-done}
-use borrow.Author.Needs.{needs}
-use Rattle.session_bytes.proofs.answer.Statement.{statement}
+use Rattle.session_bytes.proofs.{Drawn.idle-long, Drawn.answer-stops, Drawn.answer-refused, Drawn.answer-done, answer.Statement.statement}
 use Rattle.session_bytes.proofs.answer.Tie as tie
 
 returns-3 : tie.Need-returns-3

@@ -1,6 +1,6 @@
 -- `session_bytes::close` meets its contract.
+use Rattle.lists.proofs.Kit.{needs}
 use Rattle.session_bytes.proofs.{Calls.close-bytes, close.Statement.statement}
-use borrow.Author.Needs.{needs}
 use Rattle.session_bytes.proofs.close.Tie as tie
 
 pub close-spec : {M : Type 1} → statement M

@@ -1,8 +1,7 @@
 -- `session_bytes::finish` meets its contract: a buffer in no stage, or the call by value.
+use Rattle.lists.proofs.Kit.{needs}
 use Rattle.session.proofs.Laws.{finish-stops}
-use Rattle.session_bytes.proofs.Calls.{long, stopped, found}
-use borrow.Author.Needs.{needs}
-use Rattle.session_bytes.proofs.finish.Statement.{statement}
+use Rattle.session_bytes.proofs.{Calls.long, Calls.stopped, Calls.found, finish.Statement.statement}
 use Rattle.session_bytes.proofs.finish.Tie as tie
 
 pub finish-spec : {M : Type 1} → statement M

@@ -1,7 +1,6 @@
 -- `session_bytes::key_length` meets its contract.
-use mathlib.Core.Path.{refl}
+use Rattle.lists.proofs.Kit.{refl, needs}
 use Rattle.schemes.proofs.Sound.{sound}
-use borrow.Author.Needs.{needs}
 use Rattle.session_bytes.proofs.key_length.Statement.{statement}
 use Rattle.session_bytes.proofs.key_length.Tie as tie
 

@@ -1,7 +1,6 @@
 -- `session_bytes::key_of` meets its contract.
-use mathlib.Core.Path.{_∙_}
+use Rattle.lists.proofs.Kit.{_∙_, needs}
 use Rattle.session_bytes.proofs.{Calls.part-key, key_of.Statement.statement}
-use borrow.Author.Needs.{needs}
 use Rattle.session_bytes.proofs.key_of.Tie as tie
 
 returns : tie.Need-returns

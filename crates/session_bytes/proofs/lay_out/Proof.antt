@@ -1,9 +1,7 @@
 -- `session_bytes::lay_out` meets its contract.
-use mathlib.Core.Path.{_≡_, _∙_, sym}
-use lib.ListN.{length, length-set}
+use Rattle.lists.proofs.Kit.{_≡_, _∙_, sym, length, length-set, needs}
 use Rattle.session_bytes.specs.Bytes.{bytesOf}
 use Rattle.session_bytes.proofs.{Calls.part-128, Calls.laid, lay_out.Statement.statement}
-use borrow.Author.Needs.{needs}
 use Rattle.session_bytes.proofs.lay_out.Tie as tie
 
 copy-bytes-requires : tie.Need-copy-bytes-requires

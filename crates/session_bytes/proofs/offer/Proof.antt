@@ -1,8 +1,7 @@
 -- `session_bytes::offer` meets its contract: a buffer in no stage, or the call by value.
+use Rattle.lists.proofs.Kit.{needs}
 use Rattle.session.proofs.Laws.{offer-stops}
-use Rattle.session_bytes.proofs.Calls.{long, stopped, found}
-use borrow.Author.Needs.{needs}
-use Rattle.session_bytes.proofs.offer.Statement.{statement}
+use Rattle.session_bytes.proofs.{Calls.long, Calls.stopped, Calls.found, offer.Statement.statement}
 use Rattle.session_bytes.proofs.offer.Tie as tie
 
 pub offer-spec : {M : Type 1} → statement M

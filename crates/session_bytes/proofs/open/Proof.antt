@@ -1,8 +1,7 @@
 -- `session_bytes::open` meets its contract: 10, a refusal of the call beneath, or its answer.
+use Rattle.lists.proofs.Kit.{needs}
 use Rattle.session.proofs.Laws.{bars, allows}
-use Rattle.session_bytes.proofs.Drawn.{idle-long, open-stops, open-refused, open-done}
-use borrow.Author.Needs.{needs}
-use Rattle.session_bytes.proofs.open.Statement.{statement}
+use Rattle.session_bytes.proofs.{Drawn.idle-long, Drawn.open-stops, Drawn.open-refused, Drawn.open-done, open.Statement.statement}
 use Rattle.session_bytes.proofs.open.Tie as tie
 
 returns-3 : tie.Need-returns-3

@@ -1,7 +1,6 @@
 -- `session_bytes::scheme_byte` meets its contract.
-use mathlib.Core.Path.{refl}
+use Rattle.lists.proofs.Kit.{refl, needs}
 use Rattle.schemes.proofs.Laws.{few-schemes}
-use borrow.Author.Needs.{needs}
 use Rattle.session_bytes.proofs.scheme_byte.Statement.{statement}
 use Rattle.session_bytes.proofs.scheme_byte.Tie as tie
 

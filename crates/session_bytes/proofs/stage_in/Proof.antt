@@ -1,7 +1,6 @@
 -- `session_bytes::stage_in` meets its contract.
-use Rattle.session_bytes.proofs.Stages.{stage-idle, stage-no-idle, stage-unknown}
-use Rattle.session_bytes.proofs.Stages.{stage-offered, stage-keyed, stage-other}
-use borrow.Author.Needs.{needs}
+use Rattle.lists.proofs.Kit.{needs}
+use Rattle.session_bytes.proofs.Stages.{stage-idle, stage-no-idle, stage-unknown, stage-offered, stage-keyed, stage-other}
 use Rattle.session_bytes.proofs.stage_in.Statement.{statement}
 use Rattle.session_bytes.proofs.stage_in.Tie as tie
 

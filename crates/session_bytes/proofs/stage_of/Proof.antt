@@ -1,7 +1,6 @@
 -- `session_bytes::stage_of` meets its contract.
-use Rattle.session_bytes.proofs.Stages.{staged-short, staged-none, staged-at, staged-behind}
-use borrow.Author.Needs.{needs}
-use Rattle.session_bytes.proofs.stage_of.Statement.{statement}
+use Rattle.lists.proofs.Kit.{needs}
+use Rattle.session_bytes.proofs.{Stages.staged-short, Stages.staged-none, Stages.staged-at, Stages.staged-behind, stage_of.Statement.statement}
 use Rattle.session_bytes.proofs.stage_of.Tie as tie
 
 pub stage-of-spec : {M : Type 1} → statement M

@@ -1,7 +1,7 @@
 -- `session_bytes::stop_open` meets its contract.
+use Rattle.lists.proofs.Kit.{needs}
 use Rattle.refusals.specs.Seen.{written}
 use Rattle.exchange.specs.Open.{openShown, openSeen}
-use borrow.Author.Needs.{needs}
 use Rattle.session_bytes.proofs.stop_open.Statement.{statement}
 use Rattle.session_bytes.proofs.stop_open.Tie as tie
 

@@ -1,7 +1,6 @@
 -- `session_bytes::takes` meets its contract.
-use mathlib.Core.Path.{_∙_, sym, ap}
+use Rattle.lists.proofs.Kit.{_∙_, sym, ap, needs}
 use Rattle.session_bytes.specs.Drawn.{idleAt}
-use borrow.Author.Needs.{needs}
 use Rattle.session_bytes.proofs.takes.Statement.{statement}
 use Rattle.session_bytes.proofs.takes.Tie as tie
 

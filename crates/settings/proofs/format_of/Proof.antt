@@ -1,6 +1,5 @@
 -- `settings::format_of` meets its contract.
-use Rattle.settings.proofs.Known.{format-none, format-some}
-use Rattle.settings.proofs.format_of.Statement.{statement}
+use Rattle.settings.proofs.{Known.format-none, Known.format-some, format_of.Statement.statement}
 use Rattle.settings.proofs.format_of.Tie as tie
 
 pub format-of-spec : {M : Type 1} → statement M

@@ -1,10 +1,8 @@
 -- `settings::read` meets its contract.
-use mathlib.Core.Path.{_∙_, ap}
+use Rattle.lists.proofs.Kit.{_∙_, ap, needs}
 use Rattle.text.proofs.Lines.{told-within}
 use Rattle.settings.specs.{Settings.formatName, Calls.answerOf}
-use Rattle.settings.proofs.Steps.{format-other, format-newer, format-read}
-use borrow.Author.Needs.{needs}
-use Rattle.settings.proofs.read.Statement.{statement}
+use Rattle.settings.proofs.{Steps.format-other, Steps.format-newer, Steps.format-read, read.Statement.statement}
 use Rattle.settings.proofs.read.Tie as tie
 
 enum-told : tie.Need-enum-told

@@ -1,11 +1,8 @@
 -- `settings::read_lent` meets its contract: the label is zeroed first, and written where there is room for the one that was read.
-use mathlib.Core.Path.{_∙_, sym}
-use native.Mathlib.Omega.{arith}
+use Rattle.lists.proofs.Kit.{_∙_, sym, arith, needs}
 use Rattle.lists.proofs.Parts.{front-long}
 use Rattle.settings.specs.Calls.{readOf}
-use Rattle.settings.proofs.Lending.{label-fits, read-short, read-laid}
-use borrow.Author.Needs.{needs}
-use Rattle.settings.proofs.read_lent.Statement.{statement}
+use Rattle.settings.proofs.{Lending.label-fits, Lending.read-short, Lending.read-laid, read_lent.Statement.statement}
 use Rattle.settings.proofs.read_lent.Tie as tie
 
 returns : tie.Need-returns

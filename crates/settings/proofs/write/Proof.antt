@@ -1,11 +1,8 @@
 -- `settings::write` meets its contract: the output is zeroed first, and the lines written over zeros where nothing is refused.
-use mathlib.Core.Path.{_∙_, sym}
-use lib.ListN.{length}
+use Rattle.lists.proofs.Kit.{_∙_, sym, length, needs}
 use Rattle.lists.proofs.Same.{zeros-long}
 use Rattle.settings.specs.Settings.{setupOf}
-use Rattle.settings.proofs.Store.{accepted, write-refused, write-done}
-use borrow.Author.Needs.{needs}
-use Rattle.settings.proofs.write.Statement.{statement}
+use Rattle.settings.proofs.{Store.accepted, Store.write-refused, Store.write-done, write.Statement.statement}
 use Rattle.settings.proofs.write.Tie as tie
 
 enum-told : tie.Need-enum-told

@@ -1,15 +1,11 @@
 -- `text::write_number` meets its contract: the number falls at each call of itself.
-use native.Mathlib.Omega.{arith}
-use lib.ListN.{length-set}
-use Prim.Native.Nat.{ℕ, _<_}
-use borrow.Author.Needs.{needs}
-use borrow.Fn.Kinds.{In}
-use borrow.Fn.PlainCycle.{Measures, is, falls, and}
+use Rattle.lists.proofs.Kit.{arith, length-set, ℕ, _<_, needs}
+use borrow.{Fn.Kinds.In, Fn.PlainCycle.Measures, Fn.PlainCycle.is, Fn.PlainCycle.falls, Fn.PlainCycle.and}
 use Rattle.text.proofs.Writing.{one-room, one-written, more-room, Ending, ending}
+use Rattle.text.proofs.{+write_number.statement, +write_number.Tie.close}
 use Rattle.text.proofs.write_number.Reads as write-number
 use Rattle.text.proofs.write_number.Kinds as kinds
 use Rattle.text.proofs.+write_number.Lts-write_number as lts
-use Rattle.text.proofs.{+write_number.statement, +write_number.Tie.close}
 
 abbrev μ-write-number : Measures 1 kinds.ps ℕ
 μ-write-number κs a = a .0

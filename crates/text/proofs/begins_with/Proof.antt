@@ -1,8 +1,5 @@
 -- `text::begins_with` meets its contract.
-use borrow.Author.Needs.{needs}
-use Prim.Native.Nat.{_-_}
-use native.Mathlib.Omega.{arith}
-use lib.ListN.{length}
+use Rattle.lists.proofs.Kit.{needs, _-_, arith, length}
 use Rattle.text.proofs.Reading.{Begun, begun-none, begun-more, begun-differs, begun-short, begun-all}
 use Rattle.text.proofs.begins_with.Statement.{statement}
 use Rattle.text.proofs.begins_with.Tie as tie

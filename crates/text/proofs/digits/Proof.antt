@@ -1,9 +1,5 @@
 -- `text::digits` meets its contract: it searches for the first byte that is no digit.
-use mathlib.Core.Path.{_∙_, sym}
-use Prim.Native.Nat.{_-_}
-use native.Mathlib.Omega.{arith}
-use borrow.Author.Needs.{needs}
-use lib.ListN.{length}
+use Rattle.lists.proofs.Kit.{_∙_, sym, _-_, arith, needs, length}
 use Rattle.lists.proofs.First.{Passed, passed-none, passed-more, found, missing}
 use Rattle.text.specs.Text.{notDigit, run}
 use Rattle.text.proofs.digits.Statement.{statement}

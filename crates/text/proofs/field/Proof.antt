@@ -1,8 +1,6 @@
 -- `text::field` meets its contract.
-use mathlib.Core.Path.{sym, _∙_}
-use borrow.Author.Needs.{needs}
-use Rattle.text.proofs.Reading.{label-room, label-found, label-other}
-use Rattle.text.proofs.field.Statement.{statement}
+use Rattle.lists.proofs.Kit.{sym, _∙_, needs}
+use Rattle.text.proofs.{Reading.label-room, Reading.label-found, Reading.label-other, field.Statement.statement}
 use Rattle.text.proofs.field.Tie as tie
 
 number-requires : tie.Need-number-requires

@@ -1,12 +1,7 @@
 -- `text::number` meets its contract.
-use mathlib.Core.Path.{sym, _∙_}
-use native.Mathlib.Omega.{arith}
-use borrow.Author.Needs.{needs}
-use lib.{ListN.length, ListN.length-take, Seq.length-take-le}
-use Prim.Native.Nat.{_+_, _≤_, _<_}
+use Rattle.lists.proofs.Kit.{sym, _∙_, arith, needs, length, length-take, length-take-le, _+_, _≤_, _<_}
 use Rattle.lists.proofs.Parts.{part}
-use Rattle.text.proofs.Reading.{number-size, number-found, number-other}
-use Rattle.text.proofs.number.Statement.{statement}
+use Rattle.text.proofs.{Reading.number-size, Reading.number-found, Reading.number-other, number.Statement.statement}
 use Rattle.text.proofs.number.Tie as tie
 
 -- the digits and the LF behind them lie within the input

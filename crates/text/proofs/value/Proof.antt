@@ -1,10 +1,6 @@
 -- `text::value` meets its contract.
-use Prim.Native.Nat.{_-_}
-use native.Mathlib.Omega.{arith}
-use borrow.Author.Needs.{needs}
-use lib.ListN.{length}
-use Rattle.text.proofs.Reading.{Valued, valued-none, valued-more, valued-all, valued-room}
-use Rattle.text.proofs.value.Statement.{statement}
+use Rattle.lists.proofs.Kit.{_-_, arith, needs, length}
+use Rattle.text.proofs.{Reading.Valued, Reading.valued-none, Reading.valued-more, Reading.valued-all, Reading.valued-room, value.Statement.statement}
 use Rattle.text.proofs.value.Tie as tie
 
 abbrev Inv-loop : tie.InvT-loop

@@ -1,8 +1,6 @@
 -- `text::well_formed` meets its contract: the tests one by one.
-use native.Mathlib.Omega.{arith}
-use borrow.Author.Needs.{needs}
-use Rattle.text.proofs.Reading.{few, many, ended, formed}
-use Rattle.text.proofs.well_formed.Statement.{statement}
+use Rattle.lists.proofs.Kit.{arith, needs}
+use Rattle.text.proofs.{Reading.few, Reading.many, Reading.ended, Reading.formed, well_formed.Statement.statement}
 use Rattle.text.proofs.well_formed.Tie as tie
 
 returns : tie.Need-returns

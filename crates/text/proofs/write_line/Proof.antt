@@ -1,9 +1,6 @@
 -- `text::write_line` meets its contract.
-use lib.ListN.{length-set}
-use native.Mathlib.Omega.{arith}
-use borrow.Author.Needs.{needs}
-use Rattle.text.proofs.Writing.{line-room, number-room, Lined, lined}
-use Rattle.text.proofs.write_line.Statement.{statement}
+use Rattle.lists.proofs.Kit.{length-set, arith, needs}
+use Rattle.text.proofs.{Writing.line-room, Writing.number-room, Writing.Lined, Writing.lined, write_line.Statement.statement}
 use Rattle.text.proofs.write_line.Tie as tie
 
 write-text-requires : tie.Need-write-text-requires

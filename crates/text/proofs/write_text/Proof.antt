@@ -1,6 +1,6 @@
 -- `text::write_text` meets its contract.
+use Rattle.lists.proofs.Kit.{needs}
 use Rattle.text.proofs.{Writing.written-copy, write_text.Statement.statement}
-use borrow.Author.Needs.{needs}
 use Rattle.text.proofs.write_text.Tie as tie
 
 returns : tie.Need-returns

@@ -1,7 +1,5 @@
 -- `told::tell_bench` meets its contract, by the answer's case: a bit below 1,024 has a successor.
-use native.Mathlib.Numerals.{add-one}
-use native.Mathlib.Omega.{arith}
-use borrow.Author.Needs.{needs}
+use Rattle.lists.proofs.Kit.{add-one, arith, needs}
 use Rattle.told.proofs.tell_bench.Statement.{statement}
 use Rattle.told.proofs.tell_bench.Tie as tie
 

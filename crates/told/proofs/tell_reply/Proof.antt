@@ -1,5 +1,5 @@
 -- `told::tell_reply` meets its contract, by the answer's case.
-use borrow.Author.Needs.{needs}
+use Rattle.lists.proofs.Kit.{needs}
 use Rattle.told.proofs.tell_reply.Statement.{statement}
 use Rattle.told.proofs.tell_reply.Tie as tie
 

@@ -1,9 +1,7 @@
 -- `told::tell_settings` meets its contract: the answer's numbers are those of `tell`.
-use mathlib.Core.Path.{ap}
-use Prim.Native.Nat.{ℕ}
+use Rattle.lists.proofs.Kit.{ap, ℕ, needs}
 use Rattle.refusals.specs.Seen.{Told}
 use Rattle.settings.specs.Calls.{ReadCounts}
-use borrow.Author.Needs.{needs}
 use Rattle.told.proofs.tell_settings.Statement.{statement}
 use Rattle.told.proofs.tell_settings.Tie as tie
 

@@ -1,6 +1,5 @@
 -- `trace::add` meets its contract.
-use native.Mathlib.Omega.{arith}
-use borrow.Author.Needs.{needs}
+use Rattle.lists.proofs.Kit.{arith, needs}
 use Rattle.trace.proofs.{Tallying.made-is, add.Statement.statement}
 use Rattle.trace.proofs.add.Tie as tie
 

@@ -1,12 +1,8 @@
 -- `trace::answer` meets its contract.
-use mathlib.Core.Path.{_∙_, ap}
-use native.Mathlib.Omega.{arith}
-use lib.ListN.{length}
-use borrow.Author.Needs.{needs}
+use Rattle.lists.proofs.Kit.{_∙_, ap, arith, length, needs}
 use Rattle.text.proofs.Answer.{answers}
 use Rattle.trace.specs.Steps.{textOf}
-use Rattle.trace.proofs.{Short.answered-short, Tallying.answer-is}
-use Rattle.trace.proofs.answer.Statement.{statement}
+use Rattle.trace.proofs.{Short.answered-short, Tallying.answer-is, answer.Statement.statement}
 use Rattle.trace.proofs.answer.Tie as tie
 
 write-requires : tie.Need-write-requires

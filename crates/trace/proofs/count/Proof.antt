@@ -1,7 +1,5 @@
 -- `trace::count` meets its contract.
-use Prim.Native.Nat.{_-_}
-use native.Mathlib.Omega.{arith}
-use borrow.Author.Needs.{needs}
+use Rattle.lists.proofs.Kit.{_-_, arith, needs}
 use Rattle.trace.proofs.Counting.{Going, going-none, going-more, going-many, going-other, going-all, pair-known}
 use Rattle.trace.proofs.count.Statement.{statement}
 use Rattle.trace.proofs.count.Tie as tie

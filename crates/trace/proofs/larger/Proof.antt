@@ -1,5 +1,5 @@
 -- `trace::larger` meets its contract.
-use native.Mathlib.Omega.{arith}
+use Rattle.lists.proofs.Kit.{arith}
 use Rattle.trace.proofs.larger.Statement.{statement}
 use Rattle.trace.proofs.larger.Tie as tie
 

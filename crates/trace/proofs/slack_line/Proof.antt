@@ -1,7 +1,6 @@
 -- `trace::slack_line` meets its contract.
-use borrow.Author.Needs.{needs}
-use Rattle.trace.proofs.Reading.{slack-other, slack-read}
-use Rattle.trace.proofs.slack_line.Statement.{statement}
+use Rattle.lists.proofs.Kit.{needs}
+use Rattle.trace.proofs.{Reading.slack-other, Reading.slack-read, slack_line.Statement.statement}
 use Rattle.trace.proofs.slack_line.Tie as tie
 
 returns : tie.Need-returns

@@ -1,10 +1,8 @@
 -- `trace::two_lines` meets its contract.
-use native.Mathlib.Omega.{arith}
-use borrow.Author.Needs.{needs}
+use Rattle.lists.proofs.Kit.{arith, needs}
 use Rattle.text.specs.Text.{schemeName}
 use Rattle.text.proofs.Lines.{told-within}
-use Rattle.trace.proofs.Reading.{two-other, two-bad, two-read}
-use Rattle.trace.proofs.two_lines.Statement.{statement}
+use Rattle.trace.proofs.{Reading.two-other, Reading.two-bad, Reading.two-read, two_lines.Statement.statement}
 use Rattle.trace.proofs.two_lines.Tie as tie
 
 returns : tie.Need-returns

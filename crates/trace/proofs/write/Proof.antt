@@ -1,8 +1,5 @@
 -- `trace::write` meets its contract.
-use mathlib.Core.Path.{ap}
-use native.Mathlib.Omega.{arith}
-use lib.ListN.{length}
-use borrow.Author.Needs.{needs}
+use Rattle.lists.proofs.Kit.{ap, arith, length, needs}
 use Rattle.text.proofs.Writing.{written-as}
 use Rattle.trace.proofs.{Writing.text-whole, Writing.text-lost, write.Statement.statement}
 use Rattle.trace.proofs.write.Tie as tie

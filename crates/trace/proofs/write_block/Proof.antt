@@ -1,9 +1,7 @@
 -- `trace::write_block` meets its contract.
-use native.Mathlib.Omega.{arith}
-use borrow.Author.Needs.{needs}
+use Rattle.lists.proofs.Kit.{arith, needs}
 use Rattle.text.proofs.Writing.{left-room, left-next, left-none}
-use Rattle.trace.proofs.Writing.{block-none, block-left}
-use Rattle.trace.proofs.write_block.Statement.{statement}
+use Rattle.trace.proofs.{Writing.block-none, Writing.block-left, write_block.Statement.statement}
 use Rattle.trace.proofs.write_block.Tie as tie
 
 returns : tie.Need-returns

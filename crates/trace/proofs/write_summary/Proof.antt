@@ -1,7 +1,5 @@
 -- `trace::write_summary` meets its contract.
-use Prim.Native.Nat.{_-_}
-use native.Mathlib.Omega.{arith}
-use borrow.Author.Needs.{needs}
+use Rattle.lists.proofs.Kit.{_-_, arith, needs}
 use Rattle.trace.proofs.Writing.{Blocks, blocks-none, blocks-room, blocks-more, blocks-all}
 use Rattle.trace.proofs.write_summary.Statement.{statement}
 use Rattle.trace.proofs.write_summary.Tie as tie

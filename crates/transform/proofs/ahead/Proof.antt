@@ -1,6 +1,5 @@
 -- `transform::ahead` meets its contract.
-use mathlib.Core.Path.{_∙_, sym}
-use borrow.Author.Needs.{needs}
+use Rattle.lists.proofs.Kit.{_∙_, sym, needs}
 use Rattle.transform.proofs.{Inverses.transformed-sums, ahead.Statement.statement}
 use Rattle.transform.proofs.ahead.Tie as tie
 

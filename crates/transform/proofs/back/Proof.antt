@@ -1,10 +1,7 @@
 -- `transform::back` meets its contract.
-use mathlib.Core.Path.{_∙_, sym, ap}
-use borrow.Author.Needs.{needs}
-use lib.ListN.{length}
+use Rattle.lists.proofs.Kit.{_∙_, sym, ap, needs, length}
 use Rattle.transform.specs.Level.{scaled}
-use Rattle.transform.proofs.{Sizes.sums-length, Sizes.sums-below, Inverses.inverted-scaled}
-use Rattle.transform.proofs.back.Statement.{statement}
+use Rattle.transform.proofs.{Sizes.sums-length, Sizes.sums-below, Inverses.inverted-scaled, back.Statement.statement}
 use Rattle.transform.proofs.back.Tie as tie
 
 scale-requires : tie.Need-scale-requires

@@ -1,11 +1,8 @@
 -- `transform::cross` meets its contract, row after row.
-use mathlib.Core.Path.{_≡_, refl, _∙_, ap}
-use Prim.Native.Nat.{ℕ, _+_, _-_, _*_, _≤_, _<_}
-use native.Mathlib.Omega.{arith}
+use Rattle.lists.proofs.Kit.{_≡_, refl, _∙_, ap, ℕ, _+_, _-_, _*_, _≤_, _<_, arith, needs}
 use Rattle.transform.specs.Level.{Crossed}
 use Rattle.transform.proofs.{Joins.crossed-none, cross.Statement.statement}
 use Rattle.transform.proofs.cross.Tie as tie
-use borrow.Author.Needs.{needs}
 
 abbrev Inv-loop : tie.InvT-loop
 Inv-loop ws fs src dst₀ h m u v o₀ dst o = (o ≤ h) × Crossed src ws h m u v (o * m) dst

@@ -1,5 +1,5 @@
 -- `transform::join` meets its contract.
-use borrow.Author.Needs.{needs}
+use Rattle.lists.proofs.Kit.{needs}
 use Rattle.transform.proofs.{Joins.stored-is, join.Statement.statement}
 use Rattle.transform.proofs.join.Tie as tie
 

@@ -1,14 +1,8 @@
 -- `transform::lay` meets its contract: each turn lays one more power and its factor.
-use mathlib.Core.Path.{_≡_, refl}
-use Prim.Native.Nat.{ℕ, _+_, _-_, _*_, _/_, _≤_, _<_}
-use native.Mathlib.Omega.{arith}
-use native.Mathlib.Nat.{mul-le-mul-right}
-use lib.ListN.{getD}
+use Rattle.lists.proofs.Kit.{_≡_, refl, ℕ, _+_, _-_, _*_, _/_, _≤_, _<_, arith, mul-le-mul-right, getD, needs}
 use Rattle.transform.specs.Level.{factor, Factors, Powers}
-use Rattle.transform.proofs.{Seven.power-lt, Joins.block-≤, Joins.powers-none, Joins.powers-more}
-use Rattle.transform.proofs.lay.Statement.{statement}
+use Rattle.transform.proofs.{Seven.power-lt, Joins.block-≤, Joins.powers-none, Joins.powers-more, lay.Statement.statement}
 use Rattle.transform.proofs.lay.Tie as tie
-use borrow.Author.Needs.{needs}
 
 abbrev Inv-loop : tie.InvT-loop
 Inv-loop t ws₀ fs₀ a h m i₀ ws fs i = (i ≤ m) × Powers a h i ws fs

@@ -1,13 +1,8 @@
 -- `transform::level` meets its contract, run after run.
-use mathlib.Core.Path.{_≡_, _∙_}
-use Prim.Native.Nat.{_-_, _%_, _≤_}
-use native.Mathlib.Omega.{arith}
-use native.Mathlib.Nat.{add-mod-right, zero-mod}
+use Rattle.lists.proofs.Kit.{_≡_, _∙_, _-_, _%_, _≤_, arith, add-mod-right, zero-mod, needs}
 use Rattle.transform.specs.Level.{Butterflies, OneBlock}
-use Rattle.transform.proofs.Joins.{butterflies-none, next-run}
-use Rattle.transform.proofs.level.Statement.{statement}
+use Rattle.transform.proofs.{Joins.butterflies-none, Joins.next-run, level.Statement.statement}
 use Rattle.transform.proofs.level.Tie as tie
-use borrow.Author.Needs.{needs}
 
 abbrev Inv-loop : tie.InvT-loop
 Inv-loop t src dst₀ a h c k₀ dst k = (k ≤ 512) × (k % c ≡ 0) × Butterflies src a h k dst

@@ -1,12 +1,8 @@
 -- `transform::row` meets its contract: each turn makes one more entry of each half.
-use mathlib.Core.Path.{_≡_, refl}
-use Prim.Native.Nat.{ℕ, _+_, _-_, _*_, _≤_, _<_}
-use native.Mathlib.Omega.{arith}
-use native.Mathlib.Nat.{add-zero, mul-le-mul-right}
+use Rattle.lists.proofs.Kit.{_≡_, refl, ℕ, _+_, _-_, _*_, _≤_, _<_, arith, add-zero, mul-le-mul-right, needs}
 use Rattle.transform.specs.Level.{factor, Crossed}
 use Rattle.transform.proofs.{Joins.reads-in, Joins.crossed-more, row.Statement.statement}
 use Rattle.transform.proofs.row.Tie as tie
-use borrow.Author.Needs.{needs}
 
 abbrev Inv-loop : tie.InvT-loop
 Inv-loop ws fs src dst₀ h m u v o d r k i₀ dst i = (i ≤ m) × Crossed src ws h m u v (o * m + i) dst

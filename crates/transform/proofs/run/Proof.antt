@@ -1,14 +1,8 @@
 -- `transform::run` meets its contract: each turn makes one more entry of each half.
-use mathlib.Core.Path.{_≡_, refl, _∙_}
-use Prim.Native.Nat.{ℕ, _+_, _-_, _*_, _/_, _≤_, _<_}
-use native.Mathlib.Omega.{arith}
-use native.Mathlib.Nat.{add-zero, div-le-self, div-mul-le-self}
-use lib.ListN.{getD, getD-replicate}
+use Rattle.lists.proofs.Kit.{_≡_, refl, _∙_, ℕ, _+_, _-_, _*_, _/_, _≤_, _<_, arith, add-zero, div-le-self, div-mul-le-self, getD, getD-replicate, needs}
 use Rattle.transform.specs.Level.{factor, Butterflies}
-use Rattle.transform.proofs.{Seven.power-lt, Joins.exponent-≤, Joins.run-more}
-use Rattle.transform.proofs.run.Statement.{statement}
+use Rattle.transform.proofs.{Seven.power-lt, Joins.exponent-≤, Joins.run-more, run.Statement.statement}
 use Rattle.transform.proofs.run.Tie as tie
-use borrow.Author.Needs.{needs}
 
 abbrev Inv-loop : tie.InvT-loop
 Inv-loop t src dst₀ a h c k i r e v w f fs j₀ dst j = (j ≤ c) × Butterflies src a h (k + j) dst

@@ -1,10 +1,5 @@
 -- `transform::scale` meets its contract: it fills with the entries of the inverse.
-use borrow.Author.Needs.{needs}
-use mathlib.Core.{Path._≡_, Path._∙_, Path.sym, Path.ap, Path.ap₂, List.List}
-use Prim.Native.Nat.{ℕ, _-_, _*_, _%_, _^_, _<_}
-use native.Mathlib.Omega.{arith}
-use native.Mathlib.Nat.{mod-eq-of-lt}
-use lib.ListN.{length, getD, length-set}
+use Rattle.lists.proofs.Kit.{needs, _≡_, _∙_, sym, ap, ap₂, List, ℕ, _-_, _*_, _%_, _^_, _<_, arith, mod-eq-of-lt, length, getD, length-set}
 use Rattle.lists.specs.Entries.{tab}
 use Rattle.lists.proofs.Fill.{Filled, fill-next, fill-end, fill-first}
 use Rattle.transform.specs.Level.{scaled}

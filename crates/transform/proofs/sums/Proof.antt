@@ -1,8 +1,5 @@
 -- `transform::sums` meets its contract: ten levels, each of which makes its sums twice as long, and the remainders.
-use mathlib.Core.Path.{refl, _∙_, ap}
-use native.Mathlib.Omega.{arith}
-use borrow.Author.Needs.{needs}
-use lib.ListN.{length}
+use Rattle.lists.proofs.Kit.{refl, _∙_, ap, arith, needs, length}
 use Rattle.transform.proofs.Levels.{Holds, Placed, holds-start, five-levels, first-across, last-across, in-order, holds-end}
 use Rattle.transform.proofs.sums.Statement.{statement}
 use Rattle.transform.proofs.sums.Tie as tie

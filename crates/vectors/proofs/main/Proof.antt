@@ -1,7 +1,5 @@
 -- `vectors::main` is safe. `search` does not count so long an array.
-use mathlib.Core.Path.{sym}
-use Prim.Native.Nat.{ℕ}
-use lib.ListN.{length-replicate}
+use Rattle.lists.proofs.Kit.{sym, ℕ, length-replicate}
 use Rattle.vectors.proofs.main.Statement.{statement}
 use Rattle.vectors.proofs.main.Tie as tie
 

@@ -1,6 +1,6 @@
 -- `wimmostry::wim_bench` meets its contract: its numbers are the answer's.
+use Rattle.lists.proofs.Kit.{needs}
 use Rattle.bench.proofs.Comparison.{differ-few}
-use borrow.Author.Needs.{needs}
 use Rattle.wimmostry.proofs.wim_bench.Statement.{statement}
 use Rattle.wimmostry.proofs.wim_bench.Tie as tie
 

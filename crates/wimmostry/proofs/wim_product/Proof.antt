@@ -1,5 +1,5 @@
 -- `wimmostry::wim_product` meets its contract: its numbers are the answer's.
-use borrow.Author.Needs.{needs}
+use Rattle.lists.proofs.Kit.{needs}
 use Rattle.wimmostry.proofs.wim_product.Statement.{statement}
 use Rattle.wimmostry.proofs.wim_product.Tie as tie
 

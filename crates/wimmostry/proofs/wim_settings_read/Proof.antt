@@ -1,5 +1,5 @@
 -- `wimmostry::wim_settings_read` meets its contract: its numbers are the answer's.
-use borrow.Author.Needs.{needs}
+use Rattle.lists.proofs.Kit.{needs}
 use Rattle.wimmostry.proofs.wim_settings_read.Statement.{statement}
 use Rattle.wimmostry.proofs.wim_settings_read.Tie as tie
 

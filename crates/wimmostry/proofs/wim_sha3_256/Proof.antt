@@ -1,5 +1,5 @@
 -- `wimmostry::wim_sha3_256` meets its contract: its numbers are the answer's.
-use borrow.Author.Needs.{needs}
+use Rattle.lists.proofs.Kit.{needs}
 use Rattle.wimmostry.proofs.wim_sha3_256.Statement.{statement}
 use Rattle.wimmostry.proofs.wim_sha3_256.Tie as tie
 

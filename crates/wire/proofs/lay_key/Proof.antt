@@ -1,9 +1,8 @@
 -- `wire::lay_key` meets its contract.
-use mathlib.Core.Path.{ap, _∙_}
+use Rattle.lists.proofs.Kit.{ap, _∙_, needs}
 use Rattle.schemes.specs.declared.Fixed.{Fixed}
 use Rattle.packing.specs.Packing.{packed}
 use Rattle.wire.proofs.{Places.entries-fit, lay_key.Statement.statement}
-use borrow.Author.Needs.{needs}
 use Rattle.wire.proofs.lay_key.Tie as tie
 
 pack-requires : tie.Need-pack-requires

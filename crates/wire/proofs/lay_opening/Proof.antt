@@ -1,7 +1,6 @@
 -- `wire::lay_opening` meets its contract: the numbers in their part, then the seed in its own.
-use native.Mathlib.Omega.{arith}
+use Rattle.lists.proofs.Kit.{arith, needs}
 use Rattle.wire.proofs.Places.{packed-end, packed-part, seed-end, seed-fit, numbers-fit, laid}
-use borrow.Author.Needs.{needs}
 use Rattle.wire.proofs.lay_opening.Statement.{statement}
 use Rattle.wire.proofs.lay_opening.Tie as tie
 

@@ -1,11 +1,7 @@
 -- `wire::lay_reply` meets its contract: the numbers at the front, the hints behind them.
-use mathlib.Core.Path.{sym, _∙_}
-use native.Mathlib.Omega.{arith}
-use lib.ListN.{length-take, length-drop}
+use Rattle.lists.proofs.Kit.{sym, _∙_, arith, length-take, length-drop, needs}
 use Rattle.lists.proofs.Parts.{front-long}
-use Rattle.wire.proofs.Places.{numbers-fit, hints-fit, reply-front, reply-split, joined-reply}
-use borrow.Author.Needs.{needs}
-use Rattle.wire.proofs.lay_reply.Statement.{statement}
+use Rattle.wire.proofs.{Places.numbers-fit, Places.hints-fit, Places.reply-front, Places.reply-split, Places.joined-reply, lay_reply.Statement.statement}
 use Rattle.wire.proofs.lay_reply.Tie as tie
 
 slice-relend-prefix-pack : tie.Need-slice-relend-prefix-pack

@@ -1,12 +1,8 @@
 -- `wire::take_coins` meets its contract: numbers of no bits are zeros.
-use mathlib.Core.Path.{sym, ap, _∙_}
-use Prim.Native.Nat.{ℕ}
-use native.Mathlib.Omega.{arith}
-use lib.ListN.{length}
+use Rattle.lists.proofs.Kit.{sym, ap, _∙_, ℕ, arith, length, needs}
 use Rattle.packing.specs.Packing.{unpacked}
 use Rattle.packing.proofs.Laws.{no-bits}
 use Rattle.wire.proofs.{Places.coins-hold, Places.coins-of, take_coins.Statement.statement}
-use borrow.Author.Needs.{needs}
 use Rattle.wire.proofs.take_coins.Tie as tie
 
 unpack-requires : tie.Need-unpack-requires

@@ -1,10 +1,6 @@
 -- `wire::take_hints` meets its contract.
-use mathlib.Core.Path.{_∙_}
-use native.Mathlib.Omega.{arith}
-use lib.ListN.{length-take, length-drop}
-use Rattle.wire.proofs.Places.{reply-split, hints-hold, hints-of}
-use borrow.Author.Needs.{needs}
-use Rattle.wire.proofs.take_hints.Statement.{statement}
+use Rattle.lists.proofs.Kit.{_∙_, arith, length-take, length-drop, needs}
+use Rattle.wire.proofs.{Places.reply-split, Places.hints-hold, Places.hints-of, take_hints.Statement.statement}
 use Rattle.wire.proofs.take_hints.Tie as tie
 
 add-end : tie.Need-add-end

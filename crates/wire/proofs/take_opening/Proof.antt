@@ -1,8 +1,6 @@
 -- `wire::take_opening` meets its contract.
-use native.Mathlib.Omega.{arith}
-use Rattle.wire.proofs.Places.{packed-end, opened, opened-long, numbers-hold, taken}
-use borrow.Author.Needs.{needs}
-use Rattle.wire.proofs.take_opening.Statement.{statement}
+use Rattle.lists.proofs.Kit.{arith, needs}
+use Rattle.wire.proofs.{Places.packed-end, Places.opened, Places.opened-long, Places.numbers-hold, Places.taken, take_opening.Statement.statement}
 use Rattle.wire.proofs.take_opening.Tie as tie
 
 add-end : tie.Need-add-end

@@ -1,9 +1,7 @@
 -- `wire::take_reply` meets its contract.
-use mathlib.Core.Path.{sym}
+use Rattle.lists.proofs.Kit.{sym, needs}
 use Rattle.lists.proofs.Parts.{front-long}
-use Rattle.wire.proofs.Places.{reply-front, replied, replied-long, numbers-hold, taken}
-use borrow.Author.Needs.{needs}
-use Rattle.wire.proofs.take_reply.Statement.{statement}
+use Rattle.wire.proofs.{Places.reply-front, Places.replied, Places.replied-long, Places.numbers-hold, Places.taken, take_reply.Statement.statement}
 use Rattle.wire.proofs.take_reply.Tie as tie
 
 slice-aggregate-take-message : tie.Need-slice-aggregate-take-message

@@ -1,11 +1,7 @@
 -- `bench::compare::both` meets its contract: it cuts the keys apart, and lends room for the bits.
-use mathlib.Core.{Path._≡_, Path.sym, Path.ap, Path._∙_, List.List}
-use Prim.Native.Nat.{ℕ, _-_, _*_, _≤_}
-use native.Mathlib.Omega.{arith}
-use lib.ListN.{length, take, drop, length-take, length-drop}
+use Rattle.lists.proofs.Kit.{_≡_, sym, ap, _∙_, List, ℕ, _-_, _*_, _≤_, arith, length, take, drop, length-take, length-drop, needs}
 use Rattle.lists.proofs.Parts.{buffer-long, front-long, to-end}
 use Rattle.bench.specs.{Bench.differing, Inside.comparison}
-use borrow.Author.Needs.{needs}
 use Rattle.bench.proofs.compare.both.Statement.{statement}
 use Rattle.bench.proofs.compare.both.Tie as tie
 

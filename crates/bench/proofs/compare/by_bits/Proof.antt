@@ -1,12 +1,8 @@
 -- `bench::compare::by_bits` meets its contract: the bits of each key, and where they differ first.
-use mathlib.Core.Path.{_∙_, ap, ap₂}
-use native.Mathlib.Omega.{arith}
-use lib.ListN.{length}
-use borrow.Author.Needs.{needs}
-use Rattle.packing.proofs.Laws.{unpacked-length}
+use Rattle.lists.proofs.Kit.{_∙_, ap, ap₂, arith, length, needs}
 use Rattle.lists.specs.First.{firstApart}
-use Rattle.bench.proofs.Comparing.{told-apart, told-same}
-use Rattle.bench.proofs.compare.by_bits.Statement.{statement}
+use Rattle.packing.proofs.Laws.{unpacked-length}
+use Rattle.bench.proofs.{Comparing.told-apart, Comparing.told-same, compare.by_bits.Statement.statement}
 use Rattle.bench.proofs.compare.by_bits.Tie as tie
 
 -- the places, from the last to the first

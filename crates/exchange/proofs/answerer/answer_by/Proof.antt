@@ -1,13 +1,10 @@
 -- `exchange::answerer::answer_by` meets its contract: by public numbers that are grown, or lent.
-use mathlib.Core.Path.{sym}
-use native.Mathlib.Omega.{arith}
-use lib.ListN.{length}
+use Rattle.lists.proofs.Kit.{sym, arith, length, needs}
 use Rattle.noise.specs.Expand.{ruleOf}
 use Rattle.reply.specs.Reply.{replyRoomsOf}
 use Rattle.exchange.specs.{Answer.answerLentOf, Inside.AnswerSized}
-use Rattle.exchange.proofs.{Grown.lends, answerer.answer_by.Statement.statement}
 use Rattle.exchange.proofs.Answering.{answer-sized, answer-passed, answer-newhope, sized-newhope}
-use borrow.Author.Needs.{needs}
+use Rattle.exchange.proofs.{Grown.lends, answerer.answer_by.Statement.statement}
 use Rattle.exchange.proofs.answerer.answer_by.Tie as tie
 
 abbrev start : tie.After-shared-slice-known4 → tie.Start

@@ -1,16 +1,11 @@
 -- `exchange::answerer::answer_sizes` meets its contract: one test after the other.
-use mathlib.Core.Path.{refl, ap, ap₂, _∙_}
-use Prim.Native.Nat.{ℕ, _+_}
-use native.Mathlib.Omega.{arith}
-use lib.ListN.{length}
+use Rattle.lists.proofs.Kit.{refl, ap, ap₂, _∙_, ℕ, _+_, arith, length, needs}
 use Rattle.schemes.specs.declared.Fixed.{Fixed}
 use Rattle.schemes.proofs.Sound.{sound}
 use Rattle.refusals.specs.Refusals.{lengthIs, roomFor}
 use Rattle.refusals.proofs.Laws.{also}
 use Rattle.exchange.specs.{Random.secretBytes, Random.mixedBytes, Inside.answerSizes}
-use Rattle.exchange.proofs.Drawn.{secret-few, mixed-few}
-use borrow.Author.Needs.{needs}
-use Rattle.exchange.proofs.answerer.answer_sizes.Statement.{statement}
+use Rattle.exchange.proofs.{Drawn.secret-few, Drawn.mixed-few, answerer.answer_sizes.Statement.statement}
 use Rattle.exchange.proofs.answerer.answer_sizes.Tie as tie
 
 abbrev taken : tie.After-ruled → tie.After-lengths

@@ -1,8 +1,7 @@
 -- `exchange::drawing::grow` meets its contract: Grow's answer.
-use mathlib.Core.Path.{sym}
+use Rattle.lists.proofs.Kit.{sym, needs}
 use Rattle.refusals.proofs.Laws.{differ}
 use Rattle.exchange.proofs.{Grown.grow-failed, Grown.grow-passed, drawing.grow.Statement.statement}
-use borrow.Author.Needs.{needs}
 use Rattle.exchange.proofs.drawing.grow.Tie as tie
 
 returns : tie.Need-returns

@@ -1,7 +1,6 @@
 -- `exchange::drawing::ruled` meets its contract, in either arm.
-use mathlib.Core.Path.{sym, ap, _∙_}
+use Rattle.lists.proofs.Kit.{sym, ap, _∙_, needs}
 use Rattle.exchange.specs.Inside.{ruledIn}
-use borrow.Author.Needs.{needs}
 use Rattle.exchange.proofs.drawing.ruled.Statement.{statement}
 use Rattle.exchange.proofs.drawing.ruled.Tie as tie
 

@@ -1,9 +1,6 @@
 -- `exchange::opener::open_by` meets its contract: by public numbers that are grown, or lent.
-use mathlib.Core.Path.{sym}
-use native.Mathlib.Omega.{arith}
-use Rattle.exchange.proofs.{Grown.lends, opener.open_by.Statement.statement}
-use Rattle.exchange.proofs.Opening.{open-passed, open-newhope, sized-newhope}
-use borrow.Author.Needs.{needs}
+use Rattle.lists.proofs.Kit.{sym, arith, needs}
+use Rattle.exchange.proofs.{Grown.lends, opener.open_by.Statement.statement, Opening.open-passed, Opening.open-newhope, Opening.sized-newhope}
 use Rattle.exchange.proofs.opener.open_by.Tie as tie
 
 returns : tie.Need-returns

@@ -1,11 +1,8 @@
 -- `exchange::opener::open_grown` meets its contract: Grow's refusal, or open by the numbers that are grown.
-use mathlib.Core.Path.{_≡_, refl, sym}
-use native.Mathlib.Omega.{arith}
-use lib.ListN.{length, take}
+use Rattle.lists.proofs.Kit.{_≡_, refl, sym, arith, length, take, needs}
 use Rattle.lists.proofs.Parts.{front-long}
 use Rattle.exchange.specs.Random.{publicFrom}
 use Rattle.exchange.proofs.{Opening.open-passed, Opening.open-ran-out, opener.open_grown.Statement.statement}
-use borrow.Author.Needs.{needs}
 use Rattle.exchange.proofs.opener.open_grown.Tie as tie
 
 abbrev start : tie.After-grow → tie.Start

@@ -1,15 +1,11 @@
 -- `exchange::opener::open_sizes` meets its contract: one test after the other.
-use mathlib.Core.Path.{ap, ap₂}
-use Prim.Native.Nat.{ℕ, _+_}
-use native.Mathlib.Omega.{arith}
-use lib.ListN.{length}
+use Rattle.lists.proofs.Kit.{ap, ap₂, ℕ, _+_, arith, length, needs}
 use Rattle.schemes.specs.declared.Fixed.{Fixed}
 use Rattle.schemes.proofs.Sound.{sound}
 use Rattle.refusals.specs.Refusals.{lengthIs, roomFor}
 use Rattle.refusals.proofs.Laws.{also}
 use Rattle.exchange.specs.Inside.{openSizes}
 use Rattle.exchange.proofs.{Drawn.secret-few, opener.open_sizes.Statement.statement}
-use borrow.Author.Needs.{needs}
 use Rattle.exchange.proofs.opener.open_sizes.Tie as tie
 
 abbrev start : tie.After-fixed → tie.Start

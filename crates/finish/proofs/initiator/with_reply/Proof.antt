@@ -1,22 +1,15 @@
 -- `finish::initiator::with_reply` meets its contract: it lends room for the reply's numbers; a refused message ends the call, and otherwise the secret's test decides.
-use mathlib.Core.{Path._≡_, Path.sym, Path.ap₂, Path._∙_, List.List}
-use Prim.Native.Nat.{ℕ, _≤_}
-use native.Mathlib.Omega.{arith}
-use lib.ListN.{length}
+use Rattle.lists.proofs.Kit.{_≡_, sym, ap₂, _∙_, List, ℕ, _≤_, arith, length, needs}
 use Rattle.schemes.specs.{Schemes.fixedOf, declared.Named.the-variants.Known}
 use Rattle.schemes.proofs.Sound.{sound}
 use Rattle.lists.proofs.{Same.zeros, Parts.buffer-long, Parts.front-long}
 use Rattle.packing.proofs.Laws.{unpacked-length}
 use Rattle.refusals.specs.{Seen.ifPassed, Steps.outcome, declared.Verdict.Verdict}
-use Rattle.refusals.proofs.Laws.{failed, went-on}
-use Rattle.refusals.proofs.Steps.{front-is, front-fits, outcome-refused}
+use Rattle.refusals.proofs.{Laws.failed, Laws.went-on, Steps.front-is, Steps.front-fits, Steps.outcome-refused}
 use Rattle.wire.specs.Wire.{repliedIn, numbersIn}
 use Rattle.wire.proofs.Travel.{message-counted}
-use Rattle.finish.specs.Finish.{finishOf, repliedOf, finishSlack}
-use Rattle.finish.specs.Inside.{finishRest}
-use Rattle.finish.proofs.Finishing.{key-taken, slack-taken}
-use borrow.Author.Needs.{needs}
-use Rattle.finish.proofs.initiator.with_reply.Statement.{statement}
+use Rattle.finish.specs.{Finish.finishOf, Finish.repliedOf, Finish.finishSlack, Inside.finishRest}
+use Rattle.finish.proofs.{Finishing.key-taken, Finishing.slack-taken, initiator.with_reply.Statement.statement}
 use Rattle.finish.proofs.initiator.with_reply.Tie as tie
 
 few : (b : tie.Start) → b .args .n ≤ 6912

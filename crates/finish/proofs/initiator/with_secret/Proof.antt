@@ -1,12 +1,10 @@
 -- `finish::initiator::with_secret` meets its contract: the secret's test decides.
-use mathlib.Core.Path.{refl, sym, ap, _∙_}
+use Rattle.lists.proofs.Kit.{refl, sym, ap, _∙_, needs}
 use Rattle.schemes.specs.{Schemes.fixedOf, declared.Fixed.Fixed}
 use Rattle.lists.proofs.Same.{zeros-long}
-use Rattle.finish.specs.{Finish.finishOf, Inside.slackFrom}
 use Rattle.refusals.specs.declared.Outcome.the-variants.{Slack}
-use Rattle.refusals.proofs.Laws.{first, secrets-passed}
-use Rattle.refusals.proofs.Steps.{outcome-slack, outcome-refused}
-use borrow.Author.Needs.{needs}
+use Rattle.refusals.proofs.{Laws.first, Laws.secrets-passed, Steps.outcome-slack, Steps.outcome-refused}
+use Rattle.finish.specs.{Finish.finishOf, Inside.slackFrom}
 use Rattle.finish.proofs.initiator.with_secret.Statement.{statement}
 use Rattle.finish.proofs.initiator.with_secret.Tie as tie
 

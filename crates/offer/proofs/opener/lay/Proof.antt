@@ -1,21 +1,16 @@
 -- `offer::opener::lay` meets its contract: the product with the test of the public numbers, then, where that has passed, its bytes.
-use mathlib.Core.{Path._≡_, Path.refl, Path.sym, Path.ap, Path._∙_, List.List}
-use Prim.Native.Nat.{ℕ, _≤_}
-use native.Mathlib.Omega.{arith}
+use Rattle.lists.proofs.Kit.{_≡_, refl, sym, ap, _∙_, List, ℕ, _≤_, arith, length, needs}
 use Rattle.schemes.specs.Schemes.{fixedOf}
 use Rattle.schemes.proofs.Sound.{sound}
-use lib.ListN.{length}
 use Rattle.lists.specs.Ranges.{Below}
 use Rattle.lists.proofs.Parts.{buffer-long, front-long}
 use Rattle.packing.specs.Packing.{packed}
 use Rattle.refusals.specs.{Refusals.publicsIn, Refusals.notBlank, Seen.ifPassed}
-use Rattle.refusals.proofs.Steps.{front-is, front-fits}
-use Rattle.refusals.proofs.Laws.{publics-passed, failed, went-on}
+use Rattle.refusals.proofs.{Steps.front-is, Steps.front-fits, Laws.publics-passed, Laws.failed, Laws.went-on}
 use Rattle.values.specs.Values.{offered}
 use Rattle.values.proofs.Ranges.{offered-counted}
 use Rattle.wire.specs.Wire.{opening}
 use Rattle.offer.specs.Offer.{offerMessage}
-use borrow.Author.Needs.{needs}
 use Rattle.offer.proofs.opener.lay.Statement.{statement}
 use Rattle.offer.proofs.opener.lay.Tie as tie
 

@@ -1,15 +1,10 @@
 -- `offer::opener::send` meets its contract: what the output holds, by the verdict on the public numbers and on the part about to be sent.
-use mathlib.Core.{Path._≡_, Path.sym, Path.ap, Path._∙_, List.List, List._++_}
-use Prim.Native.Nat.{ℕ, _≤_}
-use native.Mathlib.Omega.{arith}
-use lib.ListN.{length, take, drop}
+use Rattle.lists.proofs.Kit.{_≡_, sym, ap, _∙_, List, _++_, ℕ, _≤_, arith, length, take, drop, needs}
 use Rattle.schemes.specs.{Schemes.fixedOf, declared.Fixed.Fixed}
 use Rattle.lists.proofs.Parts.{front-long}
 use Rattle.refusals.proofs.{Seen.shown-passed, Seen.shown-failed, Steps.kept}
 use Rattle.offer.specs.{Offer.Offer, Offer.offerOf, Offer.offerMessage, Inside.Opens}
-use Rattle.offer.proofs.Offering.{ahead-opens, opening-long, offer-last-decides}
-use borrow.Author.Needs.{needs}
-use Rattle.offer.proofs.opener.send.Statement.{statement}
+use Rattle.offer.proofs.{Offering.ahead-opens, Offering.opening-long, Offering.offer-last-decides, opener.send.Statement.statement}
 use Rattle.offer.proofs.opener.send.Tie as tie
 
 abbrev start : tie.After-fixed → tie.Start

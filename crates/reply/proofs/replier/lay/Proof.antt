@@ -1,24 +1,19 @@
 -- `reply::replier::lay` meets its contract: the products with the test of the public numbers, then, where that has passed, message and key; with room for what lies
 -- between.
-use mathlib.Core.{Path._≡_, Path.refl, Path.sym, Path.ap, Path.ap₂, Path._∙_, List.List}
-use Prim.Native.Nat.{ℕ, _≤_}
-use native.Mathlib.Omega.{arith}
-use lib.ListN.{length}
+use Rattle.lists.proofs.Kit.{_≡_, refl, sym, ap, ap₂, _∙_, List, ℕ, _≤_, arith, length, needs}
 use Rattle.schemes.specs.{Schemes.fixedOf, declared.Fixed.Fixed}
 use Rattle.schemes.proofs.Sound.{sound}
 use Rattle.lists.specs.Ranges.{Below}
 use Rattle.lists.proofs.Parts.{buffer-long, front-long}
 use Rattle.packing.specs.Packing.{packed}
 use Rattle.refusals.specs.{Refusals.publicsIn, Refusals.notBlank, Seen.ifPassed}
-use Rattle.refusals.proofs.Laws.{publics-passed, failed, went-on}
-use Rattle.refusals.proofs.Steps.{front-is, front-fits}
+use Rattle.refusals.proofs.{Laws.publics-passed, Laws.failed, Laws.went-on, Steps.front-is, Steps.front-fits}
 use Rattle.values.specs.Values.{mixedValue}
 use Rattle.values.proofs.Ranges.{replied-counted, mixed-counted}
+use Rattle.wire.specs.Steps.{messageBy, keyBy}
 use Rattle.reply.specs.Inside.{messageFrom, keyFrom}
-use borrow.Author.Needs.{needs}
 use Rattle.reply.proofs.replier.lay.Statement.{statement}
 use Rattle.reply.proofs.replier.lay.Tie as tie
-use Rattle.wire.specs.Steps.{messageBy, keyBy}
 
 -- the places, from the last to the first
 abbrev told : tie.After-lay-values → tie.After-enum-told

@@ -1,8 +1,6 @@
 -- `reply::replier::reply_in` meets its contract: lengths and rooms, then the rest of the tests.
-use mathlib.Core.Path.{sym, _∙_}
-use Rattle.reply.proofs.Replying.{reply-sizes-failed, reply-refused}
-use borrow.Author.Needs.{needs}
-use Rattle.reply.proofs.replier.reply_in.Statement.{statement}
+use Rattle.lists.proofs.Kit.{sym, _∙_, needs}
+use Rattle.reply.proofs.{Replying.reply-sizes-failed, Replying.reply-refused, replier.reply_in.Statement.statement}
 use Rattle.reply.proofs.replier.reply_in.Tie as tie
 
 reply-sized-requires : tie.Need-reply-sized-requires

@@ -1,15 +1,11 @@
 -- `reply::replier::reply_sized` meets its contract: what the outputs hold, by the verdict of the tests after the sizes.
-use mathlib.Core.{Path._≡_, Path.sym, Path.ap, Path._∙_, List.List, List._++_}
-use Prim.Native.Nat.{ℕ, _≤_}
-use native.Mathlib.Omega.{arith}
-use lib.ListN.{length, drop, replicate, length-take}
+use Rattle.lists.proofs.Kit.{_≡_, sym, ap, _∙_, List, _++_, ℕ, _≤_, arith, length, drop, replicate, length-take, needs}
 use Rattle.schemes.specs.{Schemes.fixedOf, declared.Fixed.Fixed}
 use Rattle.lists.proofs.Parts.{front-long}
 use Rattle.sponge.proofs.{Output.sha3-length, Digest.digest-laid}
 use Rattle.refusals.proofs.{Seen.written-passed, Steps.blank-front, Steps.kept}
 use Rattle.reply.specs.Reply.{Reply, replyOf, replyRoomsOf, replyMessage, replyKey}
 use Rattle.reply.proofs.Replying.{message-length, key-length, Sized, reply-sized, reply-rest-decides, reply-refused, reply-done}
-use borrow.Author.Needs.{needs}
 use Rattle.reply.proofs.replier.reply_sized.Statement.{statement}
 use Rattle.reply.proofs.replier.reply_sized.Tie as tie
 

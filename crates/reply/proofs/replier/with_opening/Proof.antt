@@ -1,22 +1,15 @@
 -- `reply::replier::with_opening` meets its contract: it lends room for the opening's numbers; a refused message ends the call, and otherwise the secrets' tests decide.
-use mathlib.Core.{Path._≡_, Path.sym, Path.ap, Path._∙_, List.List}
-use Prim.Native.Nat.{ℕ, _≤_}
-use native.Mathlib.Omega.{arith}
-use lib.ListN.{length}
+use Rattle.lists.proofs.Kit.{_≡_, sym, ap, _∙_, List, ℕ, _≤_, arith, length, needs}
 use Rattle.schemes.specs.{Schemes.fixedOf, declared.Fixed.Fixed}
 use Rattle.schemes.proofs.Sound.{sound}
 use Rattle.lists.proofs.{Same.zeros, Parts.buffer-long, Parts.front-long}
 use Rattle.packing.proofs.Laws.{unpacked-length}
-use Rattle.refusals.specs.{Refusals._then_, Refusals.publicsIn, Seen.ifPassed}
-use Rattle.refusals.specs.declared.Verdict.{Verdict}
-use Rattle.refusals.proofs.Laws.{failed, went-on, before-fail}
-use Rattle.refusals.proofs.Steps.{front-is, front-fits, put-kept}
+use Rattle.refusals.specs.{Refusals._then_, Refusals.publicsIn, Seen.ifPassed, declared.Verdict.Verdict}
+use Rattle.refusals.proofs.{Laws.failed, Laws.went-on, Laws.before-fail, Steps.front-is, Steps.front-fits, Steps.put-kept}
 use Rattle.wire.specs.Wire.{openedIn, numbersIn}
 use Rattle.wire.proofs.Travel.{message-counted}
 use Rattle.reply.specs.{Reply.replyOf, Reply.openedOf, Inside.replyRest}
-use Rattle.reply.proofs.Replying.{message-taken, key-taken}
-use borrow.Author.Needs.{needs}
-use Rattle.reply.proofs.replier.with_opening.Statement.{statement}
+use Rattle.reply.proofs.{Replying.message-taken, Replying.key-taken, replier.with_opening.Statement.statement}
 use Rattle.reply.proofs.replier.with_opening.Tie as tie
 
 -- the places, from the last to the first

@@ -1,5 +1,5 @@
 -- `reply::replier::with_secrets` meets its contract: the secrets' tests, behind that of the public numbers where one fails, then that of the part about to be sent.
-use mathlib.Core.Path.{sym, ap, _∙_}
+use Rattle.lists.proofs.Kit.{sym, ap, _∙_, needs}
 use Rattle.schemes.specs.Schemes.{fixedOf}
 use Rattle.lists.proofs.Same.{zeros-long}
 use Rattle.refusals.specs.{Refusals._then_, Refusals.publicsIn, declared.Verdict.Verdict}
@@ -7,7 +7,6 @@ use Rattle.refusals.proofs.{Laws.failed, Laws.went-on, Laws.before-fail, Steps.
 use Rattle.values.specs.Fit.{Small}
 use Rattle.reply.specs.Inside.{replyLast}
 use Rattle.reply.proofs.{Replying.secrets-small, replier.with_secrets.Statement.statement}
-use borrow.Author.Needs.{needs}
 use Rattle.reply.proofs.replier.with_secrets.Tie as tie
 
 lay-requires : tie.Need-lay-requires

@@ -1,18 +1,13 @@
 -- `rows::opener::begin_in` meets its contract: by the verdict of its tests.
-use mathlib.Core.{Path._≡_, Path.refl, Path._∙_, Path.sym, Path.ap, List.List, List._++_}
-use Prim.Native.Nat.{ℕ}
-use native.Mathlib.Omega.{arith}
-use borrow.Author.Needs.{needs}
-use lib.ListN.{length, replicate}
+use Rattle.lists.proofs.Kit.{_≡_, refl, _∙_, sym, ap, List, _++_, ℕ, arith, needs, length, replicate}
 use Rattle.schemes.specs.{Schemes.fixedOf, declared.Named.the-variants.Known}
-use Rattle.values.proofs.Numbers.{numbers-in}
 use Rattle.refusals.specs.declared.Verdict.the-variants.{Pass}
+use Rattle.values.proofs.Numbers.{numbers-in}
 use Rattle.rows_state.specs.{State.laid, State.fresh, declared.Call.Call}
-use Rattle.rows_state.proofs.{Tests.frodos, Turns.state-by}
 use Rattle.rows_state.proofs.Laying.{seed-kept-long, kept-zeros, keeping-long, keeping-kept, keeping-is}
+use Rattle.rows_state.proofs.{Tests.frodos, Turns.state-by}
 use Rattle.rows.specs.Offer.{offerBeginOf, offerBeginTests, offerState}
-use Rattle.rows.proofs.Opening.{OfferSized, begin-sized}
-use Rattle.rows.proofs.opener.begin_in.Statement.{statement}
+use Rattle.rows.proofs.{Opening.OfferSized, Opening.begin-sized, opener.begin_in.Statement.statement}
 use Rattle.rows.proofs.opener.begin_in.Tie as tie
 
 begin-tests-requires : tie.Need-begin-tests-requires

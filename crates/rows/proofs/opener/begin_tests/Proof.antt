@@ -1,8 +1,5 @@
 -- `rows::opener::begin_tests` meets its contract: one test after the other.
-use mathlib.Core.Path.{ap}
-use Prim.Native.Nat.{_≤_}
-use native.Mathlib.Omega.{arith}
-use borrow.Author.Needs.{needs}
+use Rattle.lists.proofs.Kit.{ap, _≤_, arith, needs}
 use Rattle.schemes.specs.declared.Fixed.{Fixed}
 use Rattle.rows.proofs.{Opening.begin-tests, opener.begin_tests.Statement.statement}
 use Rattle.rows.proofs.opener.begin_tests.Tie as tie

@@ -1,6 +1,5 @@
 -- `rows::opener::end_tests` meets its contract: its turn, then the room.
-use mathlib.Core.Path.{refl, _∙_, ap}
-use borrow.Author.Needs.{needs}
+use Rattle.lists.proofs.Kit.{refl, _∙_, ap, needs}
 use Rattle.refusals.specs.Refusals.{inTurn}
 use Rattle.refusals.proofs.Laws.{also}
 use Rattle.rows.specs.Inside.{offerEndSizes}

@@ -1,9 +1,5 @@
 -- `rows::opener::lay` meets its contract: the seed and the numbers, then, where these are not blank, the bytes; with room for what lies between.
-use mathlib.Core.{Path._≡_, Path.sym, Path.ap, Path.ap₂, Path._∙_, List.List}
-use Prim.Native.Nat.{ℕ, _≤_}
-use native.Mathlib.Omega.{arith}
-use borrow.Author.Needs.{needs}
-use lib.ListN.{length, drop}
+use Rattle.lists.proofs.Kit.{_≡_, sym, ap, ap₂, _∙_, List, ℕ, _≤_, arith, needs, length, drop}
 use Rattle.schemes.specs.{Schemes.fixedOf, declared.Fixed.Fixed}
 use Rattle.schemes.proofs.Sound.{sound}
 use Rattle.lists.proofs.Parts.{buffer-long, front-long}
@@ -16,9 +12,7 @@ use Rattle.wire.specs.Wire.{opening}
 use Rattle.rows_state.specs.State.{long}
 use Rattle.rows_state.proofs.{Tests.frodos, Laying.take-less}
 use Rattle.rows.specs.Offer.{sentNumbers, offerEndMessage}
-use Rattle.rows.proofs.Sending.{sent-counted, sent-is}
-use Rattle.rows.proofs.Opening.{state-long, seed-bytes, seed-long}
-use Rattle.rows.proofs.opener.lay.Statement.{statement}
+use Rattle.rows.proofs.{Sending.sent-counted, Sending.sent-is, Opening.state-long, Opening.seed-bytes, Opening.seed-long, opener.lay.Statement.statement}
 use Rattle.rows.proofs.opener.lay.Tie as tie
 
 -- the places, from the last to the first

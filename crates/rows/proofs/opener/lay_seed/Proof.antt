@@ -1,9 +1,5 @@
 -- `rows::opener::lay_seed` meets its contract: zeros, of which 16 are written.
-use mathlib.Core.{Path._∙_, Path.sym, Path.ap₂, List.List, List._++_}
-use Prim.Native.Nat.{ℕ}
-use native.Mathlib.Omega.{arith}
-use borrow.Author.Needs.{needs}
-use lib.ListN.{drop}
+use Rattle.lists.proofs.Kit.{_∙_, sym, ap₂, List, _++_, ℕ, arith, needs, drop}
 use Rattle.lists.proofs.{Parts.front-long, Same.zeros-long}
 use Rattle.rows.proofs.opener.lay_seed.Statement.{statement}
 use Rattle.rows.proofs.opener.lay_seed.Tie as tie

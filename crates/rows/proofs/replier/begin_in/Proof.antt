@@ -1,14 +1,11 @@
 -- `rows::replier::begin_in` meets its contract: the sizes, then the rest of the tests.
-use mathlib.Core.{Path.sym, Path.ap, Path._∙_, List.List}
-use Prim.Native.Nat.{ℕ}
+use Rattle.lists.proofs.Kit.{sym, ap, _∙_, List, ℕ, needs}
 use Rattle.schemes.specs.declared.Named.the-variants.{Known}
 use Rattle.refusals.specs.Seen.{ifPassed}
 use Rattle.values.proofs.Numbers.{numbers-in}
 use Rattle.rows_state.proofs.Turns.{state-by}
 use Rattle.rows.specs.Reply.{replyBeginOf, replyState}
-use Rattle.rows.proofs.Replying.{begin-failed, begin-decides}
-use borrow.Author.Needs.{needs}
-use Rattle.rows.proofs.replier.begin_in.Statement.{statement}
+use Rattle.rows.proofs.{Replying.begin-failed, Replying.begin-decides, replier.begin_in.Statement.statement}
 use Rattle.rows.proofs.replier.begin_in.Tie as tie
 
 begin-sizes-requires : tie.Need-begin-sizes-requires

@@ -1,8 +1,5 @@
 -- `rows::replier::begin_sized` meets its contract: it lends room for the opening's numbers; a refused opening ends the call; then the secrets, and then the state.
-use mathlib.Core.{Path._≡_, Path.refl, Path._∙_, Path.sym, Path.ap, List.List}
-use Prim.Native.Nat.{ℕ, _≤_}
-use native.Mathlib.Omega.{arith}
-use lib.ListN.{length}
+use Rattle.lists.proofs.Kit.{_≡_, refl, _∙_, sym, ap, List, ℕ, _≤_, arith, length, needs}
 use Rattle.schemes.specs.{Schemes.fixedOf, declared.Fixed.Fixed, declared.Named.the-variants.Known}
 use Rattle.schemes.proofs.Sound.{sound}
 use Rattle.lists.proofs.Parts.{part-long, buffer-long, front-long}
@@ -15,13 +12,9 @@ use Rattle.wire.specs.Wire.{openedIn, numbersIn}
 use Rattle.wire.proofs.Travel.{message-counted}
 use Rattle.reply.proofs.Replying.{secrets-small}
 use Rattle.rows_state.specs.{State.laid, State.fresh, declared.Call.Call}
-use Rattle.rows_state.proofs.Tests.{frodos}
-use Rattle.rows_state.proofs.Laying.{keeping-long, keeping-kept, keeping-is}
-use Rattle.rows.specs.Reply.{ReplyBegin, replyBeginOf, valueOf, replyState}
-use Rattle.rows.specs.Inside.{replyBeginRest}
-use Rattle.rows.proofs.Replying.{Sized, begin-sized, opened-tests}
-use borrow.Author.Needs.{needs}
-use Rattle.rows.proofs.replier.begin_sized.Statement.{statement}
+use Rattle.rows_state.proofs.{Tests.frodos, Laying.keeping-long, Laying.keeping-kept, Laying.keeping-is}
+use Rattle.rows.specs.{Reply.ReplyBegin, Reply.replyBeginOf, Reply.valueOf, Reply.replyState, Inside.replyBeginRest}
+use Rattle.rows.proofs.{Replying.Sized, Replying.begin-sized, Replying.opened-tests, replier.begin_sized.Statement.statement}
 use Rattle.rows.proofs.replier.begin_sized.Tie as tie
 
 -- the places, from the last to the first

@@ -1,11 +1,8 @@
 -- `rows::replier::begin_sizes` meets its contract: one test after the other.
-use mathlib.Core.Path.{refl, ap}
-use Prim.Native.Nat.{_≤_}
-use native.Mathlib.Omega.{arith}
+use Rattle.lists.proofs.Kit.{refl, ap, _≤_, arith, needs}
 use Rattle.schemes.specs.declared.Fixed.{Fixed}
 use Rattle.refusals.proofs.Laws.{first, also}
 use Rattle.rows.specs.Inside.{replyBeginSizes}
-use borrow.Author.Needs.{needs}
 use Rattle.rows.proofs.replier.begin_sizes.Statement.{statement}
 use Rattle.rows.proofs.replier.begin_sizes.Tie as tie
 

@@ -1,11 +1,9 @@
 -- `rows::replier::end_sizes` meets its contract: one test after the other.
-use mathlib.Core.Path.{refl, _∙_, ap}
-use native.Mathlib.Omega.{arith}
+use Rattle.lists.proofs.Kit.{refl, _∙_, ap, arith, needs}
 use Rattle.schemes.specs.declared.Fixed.{Fixed}
 use Rattle.refusals.specs.Refusals.{inTurn}
 use Rattle.refusals.proofs.Laws.{also}
 use Rattle.rows.specs.Inside.{replyEndSizes}
-use borrow.Author.Needs.{needs}
 use Rattle.rows.proofs.replier.end_sizes.Statement.{statement}
 use Rattle.rows.proofs.replier.end_sizes.Tie as tie
 

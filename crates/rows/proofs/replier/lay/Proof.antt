@@ -1,9 +1,5 @@
 -- `rows::replier::lay` meets its contract: the numbers, then, where they are not blank, message and key; with room for what lies between.
-use mathlib.Core.{Path._≡_, Path.sym, Path.ap, Path._∙_, List.List, List.[]}
-use Prim.Native.Nat.{ℕ, _≤_}
-use native.Mathlib.Omega.{arith}
-use borrow.Author.Needs.{needs}
-use lib.ListN.{length}
+use Rattle.lists.proofs.Kit.{_≡_, sym, ap, _∙_, List, [], ℕ, _≤_, arith, needs, length}
 use Rattle.schemes.specs.{Schemes.fixedOf, declared.Fixed.Fixed}
 use Rattle.schemes.proofs.Sound.{sound}
 use Rattle.lists.proofs.Parts.{buffer-long, front-long}
@@ -16,9 +12,7 @@ use Rattle.wire.specs.Steps.{messageBy}
 use Rattle.rows_state.specs.State.{long, savedOf}
 use Rattle.rows_state.proofs.Tests.{frodos}
 use Rattle.rows.specs.{Offer.sentNumbers, Reply.replyEndMessage, Reply.replyEndKey}
-use Rattle.rows.proofs.Sending.{sent-counted, sent-is}
-use Rattle.rows.proofs.Replying.{state-long, kept-counted}
-use Rattle.rows.proofs.replier.lay.Statement.{statement}
+use Rattle.rows.proofs.{Sending.sent-counted, Sending.sent-is, Replying.state-long, Replying.kept-counted, replier.lay.Statement.statement}
 use Rattle.rows.proofs.replier.lay.Tie as tie
 
 -- the places, from the last to the first

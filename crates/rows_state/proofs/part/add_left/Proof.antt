@@ -1,9 +1,5 @@
 -- `rows_state::part::add_left` meets its contract: it lends room for the words.
-use mathlib.Core.Path.{sym}
-use Prim.Native.Nat.{ℕ, _*_, _≤_}
-use native.Mathlib.Omega.{arith}
-use borrow.Author.Needs.{needs}
-use lib.ListN.{length-replicate}
+use Rattle.lists.proofs.Kit.{sym, ℕ, _*_, _≤_, arith, needs, length-replicate}
 use Rattle.lists.proofs.Parts.{buffer-long}
 use Rattle.rows_state.proofs.part.add_left.Statement.{statement}
 use Rattle.rows_state.proofs.part.add_left.Tie as tie

@@ -1,10 +1,6 @@
 -- `rows_state::part::add_right` meets its contract: it lends room for the words.
-use mathlib.Core.Path.{sym}
-use Prim.Native.{Nat._*_, Nat._≤_, Nat.ℕ}
-use native.Mathlib.Omega.{arith}
-use borrow.Author.Needs.{needs}
+use Rattle.lists.proofs.Kit.{sym, _*_, _≤_, ℕ, arith, needs, length-replicate}
 use Rattle.lists.proofs.Parts.{buffer-long}
-use lib.ListN.{length-replicate}
 use Rattle.rows_state.proofs.part.add_right.Statement.{statement}
 use Rattle.rows_state.proofs.part.add_right.Tie as tie
 

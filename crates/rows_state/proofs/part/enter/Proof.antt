@@ -1,8 +1,6 @@
 -- `rows_state::part::enter` meets its contract: by the call.
-use mathlib.Core.Path.{_∙_, sym, ap}
-use Prim.Native.Nat.{_*_}
-use borrow.Author.Needs.{needs}
-use Rattle.rows_state.specs.{Inside.entered, declared.Call.Call}
+use Rattle.lists.proofs.Kit.{_∙_, sym, ap, _*_, needs}
+use Rattle.rows_state.specs.{Inside.entered, State.Call}
 use Rattle.rows_state.proofs.part.enter.Statement.{statement}
 use Rattle.rows_state.proofs.part.enter.Tie as tie
 

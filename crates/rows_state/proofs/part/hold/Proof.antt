@@ -1,11 +1,6 @@
 -- `rows_state::part::hold` meets its contract: the words, then the count.
-use mathlib.Core.Path.{_∙_, sym, ap}
-use Prim.Native.Nat.{_+_, _≤_}
-use native.Mathlib.Omega.{arith}
-use borrow.Author.Needs.{needs}
-use lib.ListN.{length}
-use Rattle.rows_state.proofs.{Tests.square, Taking.hold-at, Taking.sized-holding}
-use Rattle.rows_state.proofs.part.hold.Statement.{statement}
+use Rattle.lists.proofs.Kit.{_∙_, sym, ap, _+_, _≤_, arith, needs, length}
+use Rattle.rows_state.proofs.{Tests.square, Taking.hold-at, Taking.sized-holding, part.hold.Statement.statement}
 use Rattle.rows_state.proofs.part.hold.Tie as tie
 
 inside : (s : tie.Start) → s .args .at + length (s .args .p .now) ≤ 746496

@@ -1,9 +1,6 @@
 -- `rows_state::part::part` meets its contract: by the scheme that the state names.
-use mathlib.Core.Path.{_∙_, sym}
-use borrow.Author.Needs.{needs}
-use lib.ListN.{getD}
-use Rattle.rows_state.proofs.{Tests.frodo-named, Turns.part-unknown, Turns.part-known}
-use Rattle.rows_state.proofs.part.part.Statement.{statement}
+use Rattle.lists.proofs.Kit.{_∙_, sym, needs, getD}
+use Rattle.rows_state.proofs.{Tests.frodo-named, Turns.part-unknown, Turns.part-known, part.part.Statement.statement}
 use Rattle.rows_state.proofs.part.part.Tie as tie
 
 returns : tie.Need-returns

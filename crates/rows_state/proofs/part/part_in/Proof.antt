@@ -1,12 +1,10 @@
 -- `rows_state::part::part_in` meets its contract: by its turn, then by its numbers.
-use mathlib.Core.Path.{refl, _∙_, ap}
-use borrow.Author.Needs.{needs}
+use Rattle.lists.proofs.Kit.{refl, _∙_, ap, needs}
 use Rattle.schemes.specs.{Schemes.fixedOf, declared.Fixed.Fixed}
-use Rattle.values.proofs.Numbers.{numbers-in, Frodo}
 use Rattle.refusals.specs.Seen.{ifPassed}
+use Rattle.values.proofs.Numbers.{numbers-in, Frodo}
 use Rattle.rows_state.specs.State.{stepped}
-use Rattle.rows_state.proofs.{Tests.started, Tests.frodos, part.part_in.Statement.statement}
-use Rattle.rows_state.proofs.Turns.{turn-fails, turn-goes, turn-begins}
+use Rattle.rows_state.proofs.{Tests.started, Tests.frodos, part.part_in.Statement.statement, Turns.turn-fails, Turns.turn-goes, Turns.turn-begins}
 use Rattle.rows_state.proofs.part.part_in.Tie as tie
 
 frodo : (s : tie.Start) → Frodo (fixedOf (s .args .scheme))

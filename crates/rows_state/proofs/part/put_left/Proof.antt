@@ -1,5 +1,5 @@
 -- `rows_state::part::put_left` meets its contract: the sums, back in their place.
-use borrow.Author.Needs.{needs}
+use Rattle.lists.proofs.Kit.{needs}
 use Rattle.rows_state.proofs.{Taking.back-left, part.put_left.Statement.statement}
 use Rattle.rows_state.proofs.part.put_left.Tie as tie
 

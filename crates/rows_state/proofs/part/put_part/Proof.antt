@@ -1,15 +1,9 @@
 -- `rows_state::part::put_part` meets its contract: the part, then the rows that it ends.
-use mathlib.Core.{Path.refl, Path._∙_, Path.sym, Path.ap, List.List}
-use Prim.Native.Nat.{ℕ, _+_, _*_, _-_, _/_, _%_, _≤_}
-use native.Mathlib.Omega.{arith}
-use borrow.Author.Needs.{needs}
-use lib.ListN.{length}
+use Rattle.lists.proofs.Kit.{refl, _∙_, sym, ap, List, ℕ, _+_, _*_, _-_, _/_, _%_, _≤_, arith, needs, length}
 use Rattle.rows_state.specs.{State.taken, Inside.entered}
-use Rattle.rows_state.proofs.Tests.{Fits, fits, square}
-use Rattle.rows_state.proofs.Filling.{block-fits, row-some, row-is, row-fits, row-sixteenth}
-use Rattle.rows_state.proofs.Laying.{held-words, with-below}
 use Rattle.rows_state.proofs.Taking.{with-long, sized-held, entered-wide, step-holds, step-enters}
-use Rattle.rows_state.proofs.part.put_part.Statement.{statement}
+use Rattle.rows_state.proofs.Filling.{block-fits, row-some, row-is, row-fits, row-sixteenth}
+use Rattle.rows_state.proofs.{Tests.Fits, Tests.fits, Tests.square, Laying.held-words, Laying.with-below, part.put_part.Statement.statement}
 use Rattle.rows_state.proofs.part.put_part.Tie as tie
 
 module _ (s : tie.Start) where

@@ -1,6 +1,5 @@
 -- `rows_state::part::put_right` meets its contract: the sums, back in their place.
-use native.Mathlib.Omega.{arith}
-use borrow.Author.Needs.{needs}
+use Rattle.lists.proofs.Kit.{arith, needs}
 use Rattle.rows_state.proofs.{Taking.back-right, part.put_right.Statement.statement}
 use Rattle.rows_state.proofs.part.put_right.Tie as tie
 

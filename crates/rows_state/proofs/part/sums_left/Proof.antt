@@ -1,5 +1,5 @@
 -- `rows_state::part::sums_left` meets its contract: words, then the products.
-use borrow.Author.Needs.{needs}
+use Rattle.lists.proofs.Kit.{needs}
 use Rattle.rows_state.proofs.{Taking.left-made, part.sums_left.Statement.statement}
 use Rattle.rows_state.proofs.part.sums_left.Tie as tie
 

@@ -1,5 +1,5 @@
 -- `rows_state::part::sums_right` meets its contract: words, then the products.
-use borrow.Author.Needs.{needs}
+use Rattle.lists.proofs.Kit.{needs}
 use Rattle.rows_state.proofs.{Taking.right-made, part.sums_right.Statement.statement}
 use Rattle.rows_state.proofs.part.sums_right.Tie as tie
 

@@ -1,10 +1,8 @@
 -- `rows_state::part::take_part` meets its contract: its numbers, then the state. Where none is too large they are words.
-use mathlib.Core.Path.{refl, _∙_, sym}
-use native.Mathlib.Omega.{arith}
-use borrow.Author.Needs.{needs}
+use Rattle.lists.proofs.Kit.{refl, _∙_, sym, arith, needs}
+use Rattle.matrix.proofs.Search.{below-wider}
 use Rattle.refusals.specs.Refusals.{_then_}
 use Rattle.refusals.proofs.Laws.{publics-passed}
-use Rattle.matrix.proofs.Search.{below-wider}
 use Rattle.rows_state.proofs.part.take_part.Statement.{statement}
 use Rattle.rows_state.proofs.part.take_part.Tie as tie
 

@@ -1,5 +1,5 @@
 -- `rows_state::state::all_below` meets its contract: it finds none.
-use borrow.Author.Needs.{needs}
+use Rattle.lists.proofs.Kit.{needs}
 use Rattle.rows_state.specs.State.{allBelow}
 use Rattle.rows_state.proofs.state.all_below.Statement.{statement}
 use Rattle.rows_state.proofs.state.all_below.Tie as tie

@@ -1,11 +1,7 @@
 -- `rows_state::state::fills` meets its contract: one test after the other.
-use mathlib.Core.Path.{refl}
-use native.Mathlib.Omega.{arith}
-use borrow.Author.Needs.{needs}
-use borrow.Author.Tests.{le-leb, lt-leb}
+use Rattle.lists.proofs.Kit.{refl, arith, needs, le-leb, lt-leb}
 use Rattle.rows_state.specs.State.{fills}
-use Rattle.rows_state.proofs.Tests.{stops, goes, square}
-use Rattle.rows_state.proofs.state.fills.Statement.{statement}
+use Rattle.rows_state.proofs.{Tests.stops, Tests.goes, Tests.square, state.fills.Statement.statement}
 use Rattle.rows_state.proofs.state.fills.Tie as tie
 
 add-result : tie.Need-add-result

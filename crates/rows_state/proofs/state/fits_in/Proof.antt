@@ -1,13 +1,7 @@
 -- `rows_state::state::fits_in` meets its contract: one test after the other.
-use mathlib.Core.Path.{refl}
-use Prim.Native.Nat.{_+_, _%_, _<_, _≤_}
-use native.Mathlib.Omega.{arith}
-use native.Mathlib.Nat.{mod-lt}
-use borrow.Author.Needs.{needs}
-use borrow.Author.Tests.{le-leb, lt-leb}
+use Rattle.lists.proofs.Kit.{refl, _+_, _%_, _<_, _≤_, arith, mod-lt, needs, le-leb, lt-leb}
 use Rattle.rows_state.specs.State.{fitsIn}
-use Rattle.rows_state.proofs.Tests.{stops, goes, square}
-use Rattle.rows_state.proofs.state.fits_in.Statement.{statement}
+use Rattle.rows_state.proofs.{Tests.stops, Tests.goes, Tests.square, state.fits_in.Statement.statement}
 use Rattle.rows_state.proofs.state.fits_in.Tie as tie
 
 returns : tie.Need-returns

@@ -1,10 +1,7 @@
 -- `rows_state::state::frodo_of` meets its contract: by the family.
-use mathlib.Core.Path.{_≡_, _∙_, sym, ap}
-use Prim.Native.Nat.{ℕ}
-use borrow.Author.Needs.{needs}
-use Rattle.schemes.specs.Schemes.{byFamily, familyOf, schemeOf}
-use Rattle.schemes.specs.{declared.Family.Family, declared.Scheme.Scheme}
+use Rattle.lists.proofs.Kit.{_≡_, _∙_, sym, ap, ℕ, needs}
 use Rattle.schemes.specs.declared.Named.the-variants.{Known, Unknown}
+use Rattle.schemes.specs.{Schemes.byFamily, Schemes.familyOf, Schemes.schemeOf, declared.Family.Family, declared.Scheme.Scheme}
 use Rattle.rows_state.specs.State.{frodoIn, frodoOf}
 use Rattle.rows_state.proofs.state.frodo_of.Statement.{statement}
 use Rattle.rows_state.proofs.state.frodo_of.Tie as tie

@@ -1,12 +1,8 @@
 -- `rows_state::state::has_begun` meets its contract: one test after the other.
-use mathlib.Core.Path.{_∙_, sym}
-use native.Mathlib.Omega.{arith}
-use borrow.Author.Needs.{needs}
-use borrow.Author.Tests.{eq-eqb, ne-eqb, le-leb, lt-leb}
+use Rattle.lists.proofs.Kit.{_∙_, sym, arith, needs, eq-eqb, ne-eqb, le-leb, lt-leb}
 use Rattle.lists.proofs.Parts.{slice-long}
 use Rattle.rows_state.specs.State.{begun}
-use Rattle.rows_state.proofs.Tests.{stops, goes, square}
-use Rattle.rows_state.proofs.state.has_begun.Statement.{statement}
+use Rattle.rows_state.proofs.{Tests.stops, Tests.goes, Tests.square, state.has_begun.Statement.statement}
 use Rattle.rows_state.proofs.state.has_begun.Tie as tie
 
 returns-2 : tie.Need-returns-2

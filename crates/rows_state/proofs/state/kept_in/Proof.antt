@@ -1,7 +1,6 @@
 -- `rows_state::state::kept_in` meets its contract: by the call.
-use mathlib.Core.Path.{_∙_, sym, ap}
-use borrow.Author.Needs.{needs}
-use Rattle.rows_state.specs.{State.savedIn, declared.Call.Call}
+use Rattle.lists.proofs.Kit.{_∙_, sym, ap, needs}
+use Rattle.rows_state.specs.State.{savedIn, Call}
 use Rattle.rows_state.proofs.state.kept_in.Statement.{statement}
 use Rattle.rows_state.proofs.state.kept_in.Tie as tie
 

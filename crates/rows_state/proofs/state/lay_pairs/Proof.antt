@@ -1,9 +1,5 @@
 -- `rows_state::state::lay_pairs` meets its contract: one behind the other.
-use mathlib.Core.Path.{_≡_, _∙_, sym, ap}
-use Prim.Native.Nat.{_*_}
-use native.Mathlib.Omega.{arith}
-use borrow.Author.Needs.{needs}
-use lib.ListN.{length, length-append, length-drop, length-take}
+use Rattle.lists.proofs.Kit.{_≡_, _∙_, sym, ap, _*_, arith, needs, length, length-append, length-drop, length-take}
 use Rattle.lists.proofs.{Parts.front-long, Same.zeros-long}
 use Rattle.parts.proofs.Words.{pairs-long}
 use Rattle.rows_state.proofs.{Laying.pairs-laid, state.lay_pairs.Statement.statement}

@@ -1,11 +1,6 @@
 -- `rows_state::state::lay_state` meets its contract: two numbers, then the words.
-use mathlib.Core.{Path._≡_, Path._∙_, Path.sym, Path.ap, Path.ap₂, List.List, List._++_}
-use Prim.Native.Nat.{ℕ, _-_, _*_}
+use Rattle.lists.proofs.Kit.{_≡_, _∙_, sym, ap, ap₂, List, _++_, ℕ, _-_, _*_, arith, needs, putMid, length, replicate, length-set}
 use Rattle.schemes.specs.Schemes.{schemeNumber}
-use native.Mathlib.Omega.{arith}
-use borrow.Author.Needs.{needs}
-use borrow.Rule.Slice.PartMut.{putMid}
-use lib.ListN.{length, replicate, length-set}
 use Rattle.matrix.specs.Words.{wordsOf}
 use Rattle.parts.specs.Parts.{wrap, pairs}
 use Rattle.rows_state.specs.State.{tagOf, long, savedOf, laid, secretWords, fresh}

@@ -1,8 +1,5 @@
 -- `rows_state::state::named` meets its contract: past its end a list reads 0, which names none.
-use mathlib.Core.Path.{sym, ap}
-use native.Mathlib.Omega.{arith}
-use borrow.Author.Needs.{needs}
-use lib.ListN.{List·getD-eq-default}
+use Rattle.lists.proofs.Kit.{sym, ap, arith, needs, List·getD-eq-default}
 use Rattle.rows_state.specs.State.{frodoOf}
 use Rattle.rows_state.proofs.state.named.Statement.{statement}
 use Rattle.rows_state.proofs.state.named.Tie as tie

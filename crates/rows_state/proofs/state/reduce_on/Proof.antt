@@ -1,13 +1,9 @@
 -- `rows_state::state::reduce_on` meets its contract: the words of the sums, then their remainders.
-use mathlib.Core.Path.{_≡_, _∙_, sym, ap}
-use Prim.Native.Nat.{ℕ, _+_, _*_, _-_}
-use native.Mathlib.Omega.{arith}
-use borrow.Author.Needs.{needs}
-use lib.ListN.{length, take, drop}
+use Rattle.lists.proofs.Kit.{_≡_, _∙_, sym, ap, ℕ, _+_, _*_, _-_, arith, needs, length, take, drop}
+use Rattle.lists.proofs.Parts.{slice-long}
 use Rattle.matrix.specs.Words.{reduced}
 use Rattle.parts.specs.Parts.{words}
 use Rattle.parts.proofs.Words.{words-long}
-use Rattle.lists.proofs.Parts.{slice-long}
 use Rattle.rows_state.proofs.state.reduce_on.Statement.{statement}
 use Rattle.rows_state.proofs.state.reduce_on.Tie as tie
 

@@ -1,7 +1,6 @@
 -- `rows_state::state::secret_words` meets its contract: by the call.
-use mathlib.Core.Path.{_∙_, sym, ap}
-use borrow.Author.Needs.{needs}
-use Rattle.rows_state.specs.{State.secretWords, declared.Call.Call}
+use Rattle.lists.proofs.Kit.{_∙_, sym, ap, needs}
+use Rattle.rows_state.specs.State.{secretWords, Call}
 use Rattle.rows_state.proofs.state.secret_words.Statement.{statement}
 use Rattle.rows_state.proofs.state.secret_words.Tie as tie
 

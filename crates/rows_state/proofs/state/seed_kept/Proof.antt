@@ -1,8 +1,5 @@
 -- `rows_state::state::seed_kept` meets its contract: one test after the other.
-use mathlib.Core.Path.{_∙_, sym, ap}
-use native.Mathlib.Omega.{arith}
-use borrow.Author.Needs.{needs}
-use borrow.Author.Tests.{not-true, not-false}
+use Rattle.lists.proofs.Kit.{_∙_, sym, ap, arith, needs, not-true, not-false}
 use Rattle.lists.proofs.Parts.{front-long, to-end}
 use Rattle.rows_state.specs.State.{allBelow}
 use Rattle.rows_state.proofs.{Tests.stops, Tests.goes, state.seed_kept.Statement.statement}

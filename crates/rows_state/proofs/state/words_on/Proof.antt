@@ -1,8 +1,5 @@
 -- `rows_state::state::words_on` meets its contract: the words of both, then the state.
-use mathlib.Core.{Path._∙_, Path.ap, Path.ap₂, List.List, List._++_}
-use Prim.Native.Nat.{ℕ, _*_}
-use borrow.Author.Needs.{needs}
-use lib.ListN.{length, replicate}
+use Rattle.lists.proofs.Kit.{_∙_, ap, ap₂, List, _++_, ℕ, _*_, needs, length, replicate}
 use Rattle.matrix.proofs.Steps.{words-length}
 use Rattle.parts.specs.Parts.{wrap, pairs}
 use Rattle.rows_state.proofs.{Laying.secret-words-long, state.words_on.Statement.statement}

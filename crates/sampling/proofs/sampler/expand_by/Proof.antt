@@ -1,7 +1,6 @@
 -- `sampling::sampler::expand_by` meets its contract: zeros stay where a test fails.
-use borrow.Author.Needs.{needs}
-use Rattle.sampling.proofs.{Expanding.passes, Expanding.sizes-failed}
-use Rattle.sampling.proofs.sampler.expand_by.Statement.{statement}
+use Rattle.lists.proofs.Kit.{needs}
+use Rattle.sampling.proofs.{Expanding.passes, Expanding.sizes-failed, sampler.expand_by.Statement.statement}
 use Rattle.sampling.proofs.sampler.expand_by.Tie as tie
 
 pub expand-by-spec : {M : Type 1} → statement M

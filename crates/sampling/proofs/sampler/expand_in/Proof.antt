@@ -1,13 +1,9 @@
 -- `sampling::sampler::expand_in` meets its contract: the part that was lent is filled, or is zero again.
-use mathlib.Core.{Path._≡_, Path._∙_, Path.sym, Path.ap, List.List, List._++_}
-use Prim.Native.Nat.{ℕ, _≤_}
-use native.Mathlib.Omega.{arith}
-use lib.{ListN.length, ListN.drop, ListN.length-take, Seq.length-take-le}
-use Rattle.refusals.proofs.Seen.{shown-passed, shown-restored}
+use Rattle.lists.proofs.Kit.{_≡_, _∙_, sym, ap, List, _++_, ℕ, _≤_, arith, length, drop, length-take, length-take-le, needs}
 use Rattle.noise.specs.declared.Ruled.the-variants.{By}
+use Rattle.refusals.proofs.Seen.{shown-passed, shown-restored}
 use Rattle.sampling.specs.Expand.{expandNumbers}
 use Rattle.sampling.proofs.Expanding.{room-enough, ran-out, full, numbers-few, whole-part}
-use borrow.Author.Needs.{needs}
 use Rattle.sampling.proofs.sampler.expand_in.Statement.{statement}
 use Rattle.sampling.proofs.sampler.expand_in.Tie as tie
 

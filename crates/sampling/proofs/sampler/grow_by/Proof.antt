@@ -1,7 +1,6 @@
 -- `sampling::sampler::grow_by` meets its contract: zeros stay where a test fails.
-use borrow.Author.Needs.{needs}
-use Rattle.sampling.proofs.{Expanding.passes, Growing.sizes-failed}
-use Rattle.sampling.proofs.sampler.grow_by.Statement.{statement}
+use Rattle.lists.proofs.Kit.{needs}
+use Rattle.sampling.proofs.{Expanding.passes, Growing.sizes-failed, sampler.grow_by.Statement.statement}
 use Rattle.sampling.proofs.sampler.grow_by.Tie as tie
 
 pub grow-by-spec : {M : Type 1} → statement M

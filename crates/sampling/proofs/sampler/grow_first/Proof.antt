@@ -1,13 +1,8 @@
 -- `sampling::sampler::grow_first` meets its contract: by the first bytes where they are enough, and by all after their refusal, which has left zeros.
-use mathlib.Core.Path.{_≡_, refl, _∙_, sym, ap}
-use Prim.Native.Nat.{ℕ, _*_, _≤_}
-use native.Mathlib.Omega.{arith}
-use lib.{ListN.length, ListN.take, Seq.length-take-le}
+use Rattle.lists.proofs.Kit.{_≡_, refl, _∙_, sym, ap, ℕ, _*_, _≤_, arith, length, take, length-take-le, needs}
 use Rattle.lists.proofs.Same.{zeros, zeros-long}
 use Rattle.sampling.specs.Steps.{growSizes}
-use Rattle.sampling.proofs.{Expanding.refused-zeros, sampler.grow_first.Statement.statement}
-use Rattle.sampling.proofs.Growing.{grown-all, grown-first, grow-named}
-use borrow.Author.Needs.{needs}
+use Rattle.sampling.proofs.{Expanding.refused-zeros, sampler.grow_first.Statement.statement, Growing.grown-all, Growing.grown-first, Growing.grow-named}
 use Rattle.sampling.proofs.sampler.grow_first.Tie as tie
 
 -- how many bytes are lent for the first

@@ -1,10 +1,7 @@
 -- `sampling::sampler::grow_from` meets its contract: what Expand promises of the bytes.
-use mathlib.Core.Path.{_∙_, ap}
-use native.Mathlib.Omega.{arith}
-use lib.ListN.{length}
+use Rattle.lists.proofs.Kit.{_∙_, ap, arith, length, needs}
 use Rattle.sponge.proofs.Output.{shake-length}
 use Rattle.sampling.proofs.{Growing.bytes-sized, sampler.grow_from.Statement.statement}
-use borrow.Author.Needs.{needs}
 use Rattle.sampling.proofs.sampler.grow_from.Tie as tie
 
 expand-in-requires : tie.Need-expand-in-requires

@@ -1,8 +1,7 @@
 -- `sampling::sampler::grow_sizes` meets its contract.
-use mathlib.Core.Path.{refl}
+use Rattle.lists.proofs.Kit.{refl, needs}
 use Rattle.refusals.proofs.Laws.{first, also}
 use Rattle.sampling.specs.Steps.{growSizes}
-use borrow.Author.Needs.{needs}
 use Rattle.sampling.proofs.sampler.grow_sizes.Statement.{statement}
 use Rattle.sampling.proofs.sampler.grow_sizes.Tie as tie
 

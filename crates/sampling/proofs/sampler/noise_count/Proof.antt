@@ -1,8 +1,6 @@
 -- `sampling::sampler::noise_count` meets its contract: by the family.
-use mathlib.Core.Path.{_∙_, sym}
-use lib.ListN.{length}
+use Rattle.lists.proofs.Kit.{_∙_, sym, length, needs}
 use Rattle.sampling.proofs.{Noising.count-by, sampler.noise_count.Statement.statement}
-use borrow.Author.Needs.{needs}
 use Rattle.sampling.proofs.sampler.noise_count.Tie as tie
 
 returns : tie.Need-returns

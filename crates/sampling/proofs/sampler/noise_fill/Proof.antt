@@ -1,13 +1,8 @@
 -- `sampling::sampler::noise_fill` meets its contract: each name has its sampler.
-use mathlib.Core.{Path._≡_, List.List}
-use Prim.Native.Nat.{_*_}
-use lib.{IntN.ℤ, ListN.length}
-use Rattle.schemes.specs.{Schemes.familyOf, Schemes.byFamily, declared.Scheme.Scheme}
-use Rattle.schemes.specs.declared.Named.the-variants.{Known}
+use Rattle.lists.proofs.Kit.{_≡_, List, _*_, ℤ, length, needs}
+use Rattle.schemes.specs.{Schemes.familyOf, Schemes.byFamily, declared.Scheme.Scheme, declared.Named.the-variants.Known}
 use Rattle.sampling.specs.Noise.{Noise, noiseOf, noiseValues}
-use Rattle.sampling.proofs.Noising.{takes, words, filled}
-use borrow.Author.Needs.{needs}
-use Rattle.sampling.proofs.sampler.noise_fill.Statement.{statement}
+use Rattle.sampling.proofs.{Noising.takes, Noising.words, Noising.filled, sampler.noise_fill.Statement.statement}
 use Rattle.sampling.proofs.sampler.noise_fill.Tie as tie
 
 -- in every arm, where s is t: the bytes are those of so many values, the words are those of its table, and the values of t are those of s

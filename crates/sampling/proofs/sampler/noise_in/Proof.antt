@@ -1,7 +1,6 @@
 -- `sampling::sampler::noise_in` meets its contract: zeros stay where a test fails, and are written over where none does.
-use mathlib.Core.Path.{_∙_, sym}
+use Rattle.lists.proofs.Kit.{_∙_, sym, needs}
 use Rattle.refusals.proofs.Seen.{shown-passed, shown-failed}
-use borrow.Author.Needs.{needs}
 use Rattle.sampling.proofs.sampler.noise_in.Statement.{statement}
 use Rattle.sampling.proofs.sampler.noise_in.Tie as tie
 

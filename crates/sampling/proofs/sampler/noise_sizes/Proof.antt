@@ -1,14 +1,9 @@
 -- `sampling::sampler::noise_sizes` meets its contract.
-use mathlib.Core.Path.{refl, _∙_, ap}
-use Prim.Native.Nat.{_*_}
-use native.Mathlib.Omega.{arith}
-use native.Mathlib.Nat.{mul-le-mul}
-use lib.ListN.{length}
+use Rattle.lists.proofs.Kit.{refl, _∙_, ap, _*_, arith, mul-le-mul, length, needs}
 use Rattle.schemes.specs.declared.Fixed.{Fixed}
 use Rattle.schemes.proofs.Sound.{Sound, sound}
 use Rattle.refusals.proofs.Laws.{also}
 use Rattle.sampling.specs.{Noise.lengthEither, Steps.noiseSizes}
-use borrow.Author.Needs.{needs}
 use Rattle.sampling.proofs.sampler.noise_sizes.Statement.{statement}
 use Rattle.sampling.proofs.sampler.noise_sizes.Tie as tie
 

@@ -1,8 +1,7 @@
 -- `sampling::sampler::noise_tests` meets its contract: by the family.
-use mathlib.Core.Path.{refl, _∙_, sym}
+use Rattle.lists.proofs.Kit.{refl, _∙_, sym, needs}
 use Rattle.refusals.proofs.Laws.{also}
 use Rattle.sampling.proofs.{Noising.tests-by, sampler.noise_tests.Statement.statement}
-use borrow.Author.Needs.{needs}
 use Rattle.sampling.proofs.sampler.noise_tests.Tie as tie
 
 returns : tie.Need-returns

@@ -1,9 +1,7 @@
 -- `sampling::sampler::table_ascends` meets its contract.
-use mathlib.Core.Path.{ap}
-use Prim.Native.Nat.{ℕ}
+use Rattle.lists.proofs.Kit.{ap, ℕ, needs}
 use Rattle.refusals.specs.Refusals.{tableIn}
 use Rattle.refusals.proofs.Laws.{stays, goes-on, first}
-use borrow.Author.Needs.{needs}
 use Rattle.sampling.proofs.sampler.table_ascends.Statement.{statement}
 use Rattle.sampling.proofs.sampler.table_ascends.Tie as tie
 

@@ -1,12 +1,8 @@
 -- `settings::reader::found` meets its contract.
-use mathlib.Core.{Path.sym, Path.ap, List.List}
-use native.Mathlib.Omega.{arith}
-use Prim.Native.Nat.{ℕ}
-use lib.{ListN.length, ListN.replicate, Seq.length-take-le}
+use Rattle.lists.proofs.Kit.{sym, ap, List, arith, ℕ, length, replicate, length-take-le, needs}
+use Rattle.settings.specs.Calls.{ReadAnswer}
 use Rattle.settings.proofs.{Steps.padded, reader.found.Statement.statement}
-use Rattle.settings.specs.declared.ReadAnswer.{ReadAnswer}
 use Rattle.settings.specs.declared.Ending.the-variants as ending
-use borrow.Author.Needs.{needs}
 use Rattle.settings.proofs.reader.found.Tie as tie
 
 returns : tie.Need-returns

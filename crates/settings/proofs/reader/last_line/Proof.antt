@@ -1,9 +1,7 @@
 -- `settings::reader::last_line` meets its contract.
-use mathlib.Core.Path.{_∙_, sym, ap}
+use Rattle.lists.proofs.Kit.{_∙_, sym, ap, needs}
 use Rattle.settings.specs.Calls.{answerOf}
-use Rattle.settings.proofs.Steps.{last-room, last-spelled, last-misfit}
-use borrow.Author.Needs.{needs}
-use Rattle.settings.proofs.reader.last_line.Statement.{statement}
+use Rattle.settings.proofs.{Steps.last-room, Steps.last-spelled, Steps.last-misfit, reader.last_line.Statement.statement}
 use Rattle.settings.proofs.reader.last_line.Tie as tie
 
 sub-spelled : tie.Need-sub-spelled

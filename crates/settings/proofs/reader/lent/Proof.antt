@@ -1,5 +1,5 @@
 -- `settings::reader::lent` meets its contract.
-use borrow.Author.Needs.{needs}
+use Rattle.lists.proofs.Kit.{needs}
 use Rattle.settings.proofs.reader.lent.Statement.{statement}
 use Rattle.settings.proofs.reader.lent.Tie as tie
 

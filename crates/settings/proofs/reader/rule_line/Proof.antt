@@ -1,9 +1,6 @@
 -- `settings::reader::rule_line` meets its contract.
-use mathlib.Core.Path.{_∙_, sym}
-use native.Mathlib.Omega.{arith}
-use Rattle.settings.proofs.{Known.rule-small, reader.rule_line.Statement.statement}
-use Rattle.settings.proofs.Steps.{rule-other, rule-read, rule-bad, within}
-use borrow.Author.Needs.{needs}
+use Rattle.lists.proofs.Kit.{_∙_, sym, arith, needs}
+use Rattle.settings.proofs.{Known.rule-small, reader.rule_line.Statement.statement, Steps.rule-other, Steps.rule-read, Steps.rule-bad, Steps.within}
 use Rattle.settings.proofs.reader.rule_line.Tie as tie
 
 cast-tail : tie.Need-cast-tail

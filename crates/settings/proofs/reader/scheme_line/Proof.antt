@@ -1,9 +1,7 @@
 -- `settings::reader::scheme_line` meets its contract.
-use mathlib.Core.Path.{_∙_, sym}
-use native.Mathlib.Omega.{arith}
-use Rattle.settings.proofs.{Known.scheme-small, reader.scheme_line.Statement.statement}
+use Rattle.lists.proofs.Kit.{_∙_, sym, arith, needs}
 use Rattle.settings.proofs.Steps.{scheme-other, scheme-read, scheme-bad, within}
-use borrow.Author.Needs.{needs}
+use Rattle.settings.proofs.{Known.scheme-small, reader.scheme_line.Statement.statement}
 use Rattle.settings.proofs.reader.scheme_line.Tie as tie
 
 cast-rule-line : tie.Need-cast-rule-line

@@ -1,12 +1,7 @@
 -- `settings::reader::spelled` meets its contract.
-use mathlib.Core.Path.{_∙_, sym, ap}
-use native.Mathlib.Omega.{arith}
-use Prim.Native.Nat.{_≤_}
-use lib.{ListN.length, ListN.length-take, Seq.length-take-le}
+use Rattle.lists.proofs.Kit.{_∙_, sym, ap, arith, _≤_, length, length-take, length-take-le, needs}
 use Rattle.settings.specs.Calls.{answerOf}
-use Rattle.settings.proofs.Steps.{spelled-size, spelled-setup, spelled-misfit}
-use borrow.Author.Needs.{needs}
-use Rattle.settings.proofs.reader.spelled.Statement.{statement}
+use Rattle.settings.proofs.{Steps.spelled-size, Steps.spelled-setup, Steps.spelled-misfit, reader.spelled.Statement.statement}
 use Rattle.settings.proofs.reader.spelled.Tie as tie
 
 -- the letters lie within the text

@@ -1,10 +1,7 @@
 -- `settings::reader::tail` meets its contract.
-use mathlib.Core.Path.{_∙_, ap}
-use native.Mathlib.Omega.{arith}
+use Rattle.lists.proofs.Kit.{_∙_, ap, arith, needs}
 use Rattle.settings.specs.Calls.{answerOf}
-use Rattle.settings.proofs.Steps.{tail-two, tail-none, tail-more, tail-end, end-short}
-use borrow.Author.Needs.{needs}
-use Rattle.settings.proofs.reader.tail.Statement.{statement}
+use Rattle.settings.proofs.{Steps.tail-two, Steps.tail-none, Steps.tail-more, Steps.tail-end, Steps.end-short, reader.tail.Statement.statement}
 use Rattle.settings.proofs.reader.tail.Tie as tie
 
 returns : tie.Need-returns

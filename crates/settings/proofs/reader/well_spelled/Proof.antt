@@ -1,8 +1,6 @@
 -- `settings::reader::well_spelled` meets its contract.
-use native.Mathlib.Omega.{arith}
-use Rattle.settings.proofs.Steps.{few, many, unended, formed}
-use borrow.Author.Needs.{needs}
-use Rattle.settings.proofs.reader.well_spelled.Statement.{statement}
+use Rattle.lists.proofs.Kit.{arith, needs}
+use Rattle.settings.proofs.{Steps.few, Steps.many, Steps.unended, Steps.formed, reader.well_spelled.Statement.statement}
 use Rattle.settings.proofs.reader.well_spelled.Tie as tie
 
 pub well-spelled-spec : {M : Type 1} → statement M

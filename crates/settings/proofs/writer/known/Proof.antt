@@ -1,8 +1,6 @@
 -- `settings::writer::known` meets its contract.
-use mathlib.Core.Path.{_∙_, sym}
-use Rattle.settings.proofs.Store.{known-no-scheme, known-no-rule, known-both}
-use borrow.Author.Needs.{needs}
-use Rattle.settings.proofs.writer.known.Statement.{statement}
+use Rattle.lists.proofs.Kit.{_∙_, sym, needs}
+use Rattle.settings.proofs.{Store.known-no-scheme, Store.known-no-rule, Store.known-both, writer.known.Statement.statement}
 use Rattle.settings.proofs.writer.known.Tie as tie
 
 returns : tie.Need-returns

@@ -1,9 +1,8 @@
 -- `settings::writer::label_in` meets its contract.
+use Rattle.lists.proofs.Kit.{needs}
 use Rattle.refusals.proofs.Laws.{stays}
 use Rattle.settings.specs.Calls.{allowed}
-use Rattle.settings.proofs.Store.{letter-fails, letters-pass}
-use borrow.Author.Needs.{needs}
-use Rattle.settings.proofs.writer.label_in.Statement.{statement}
+use Rattle.settings.proofs.{Store.letter-fails, Store.letters-pass, writer.label_in.Statement.statement}
 use Rattle.settings.proofs.writer.label_in.Tie as tie
 
 enum-told : tie.Need-enum-told

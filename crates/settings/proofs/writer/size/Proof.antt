@@ -1,6 +1,5 @@
 -- `settings::writer::size` meets its contract.
-use borrow.Author.Tests.{eq-eqb, ne-eqb}
-use borrow.Author.Needs.{needs}
+use Rattle.lists.proofs.Kit.{eq-eqb, ne-eqb, needs}
 use Rattle.settings.proofs.writer.size.Statement.{statement}
 use Rattle.settings.proofs.writer.size.Tie as tie
 

@@ -1,9 +1,7 @@
 -- `settings::writer::write_label` meets its contract.
-use native.Mathlib.Omega.{arith}
+use Rattle.lists.proofs.Kit.{arith, needs}
 use Rattle.text.proofs.Writing.{left-room, left-next, left-none}
-use Rattle.settings.proofs.Store.{label-none, label-left}
-use borrow.Author.Needs.{needs}
-use Rattle.settings.proofs.writer.write_label.Statement.{statement}
+use Rattle.settings.proofs.{Store.label-none, Store.label-left, writer.write_label.Statement.statement}
 use Rattle.settings.proofs.writer.write_label.Tie as tie
 
 returns : tie.Need-returns

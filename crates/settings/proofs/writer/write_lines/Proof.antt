@@ -1,8 +1,8 @@
 -- `settings::writer::write_lines` meets its contract.
+use Rattle.lists.proofs.Kit.{needs}
 use Rattle.text.proofs.Writing.{left-room, left-next, left-none}
 use Rattle.settings.specs.Settings.{setupOf}
 use Rattle.settings.proofs.{Store.lines-left, writer.write_lines.Statement.statement}
-use borrow.Author.Needs.{needs}
 use Rattle.settings.proofs.writer.write_lines.Tie as tie
 
 write-line-requires : tie.Need-write-line-requires

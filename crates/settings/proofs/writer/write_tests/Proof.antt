@@ -1,8 +1,7 @@
 -- `settings::writer::write_tests` meets its contract.
+use Rattle.lists.proofs.Kit.{needs}
 use Rattle.settings.specs.Settings.{setupOf}
-use Rattle.settings.proofs.Store.{tests-failed, label-short, tests-go-on}
-use borrow.Author.Needs.{needs}
-use Rattle.settings.proofs.writer.write_tests.Statement.{statement}
+use Rattle.settings.proofs.{Store.tests-failed, Store.label-short, Store.tests-go-on, writer.write_tests.Statement.statement}
 use Rattle.settings.proofs.writer.write_tests.Tie as tie
 
 enum-told : tie.Need-enum-told

@@ -1,8 +1,7 @@
 -- `values::products::mix` meets its contract: in each arm by what is asked and what is made there.
-use borrow.Author.Needs.{needs}
+use Rattle.lists.proofs.Kit.{needs}
 use Rattle.schemes.specs.declared.Family.the-variants.{Bcns, NewHope, Frodo}
-use Rattle.values.proofs.Valuing.{Told, tell, Mixing, mix-asks, mix-made}
-use Rattle.values.proofs.products.mix.Statement.{statement}
+use Rattle.values.proofs.{Valuing.Told, Valuing.tell, Valuing.Mixing, Valuing.mix-asks, Valuing.mix-made, products.mix.Statement.statement}
 use Rattle.values.proofs.products.mix.Tie as tie
 
 abbrev told : tie.After-family → Told Mixing

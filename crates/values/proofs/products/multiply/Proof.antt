@@ -1,5 +1,5 @@
 -- `values::products::multiply` meets its contract: in each arm by what is asked and what is made there.
-use borrow.Author.Needs.{needs}
+use Rattle.lists.proofs.Kit.{needs}
 use Rattle.schemes.specs.declared.Family.the-variants.{Bcns, NewHope, Frodo}
 use Rattle.values.proofs.Valuing.{Told, tell, Multiplying, multiply-asks, multiply-made}
 use Rattle.values.proofs.products.multiply.Statement.{statement}

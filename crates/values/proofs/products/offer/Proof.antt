@@ -1,8 +1,7 @@
 -- `values::products::offer` meets its contract: in each arm by what is asked and what is made there.
-use borrow.Author.Needs.{needs}
+use Rattle.lists.proofs.Kit.{needs}
 use Rattle.schemes.specs.declared.Family.the-variants.{Bcns, NewHope, Frodo}
-use Rattle.values.proofs.Valuing.{Told, tell, Travelling, travel-asks, offer-made}
-use Rattle.values.proofs.products.offer.Statement.{statement}
+use Rattle.values.proofs.{Valuing.Told, Valuing.tell, Valuing.Travelling, Valuing.travel-asks, Valuing.offer-made, products.offer.Statement.statement}
 use Rattle.values.proofs.products.offer.Tie as tie
 
 abbrev told : tie.After-family → Told Travelling

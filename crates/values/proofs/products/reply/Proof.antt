@@ -1,6 +1,5 @@
 -- `values::products::reply` meets its contract: in each arm by what is asked and what is made there.
-use lib.ListN.{length}
-use borrow.Author.Needs.{needs}
+use Rattle.lists.proofs.Kit.{length, needs}
 use Rattle.schemes.specs.declared.Family.the-variants.{Bcns, NewHope, Frodo}
 use Rattle.values.proofs.Valuing.{Told, tell, Travelling, Mixing, travel-asks, mix-asks, publics-below, reply-made, mix-made}
 use Rattle.values.proofs.products.reply.Statement.{statement}

@@ -1,8 +1,5 @@
 -- `vectors::draw::below` meets its contract.
-use Prim.Native.Nat.{_*_}
-use native.Mathlib.Nat.{mod-lt}
-use native.Mathlib.Omega.{arith}
-use borrow.Author.Needs.{needs}
+use Rattle.lists.proofs.Kit.{_*_, mod-lt, arith, needs}
 use Rattle.vectors.proofs.draw.below.Statement.{statement}
 use Rattle.vectors.proofs.draw.below.Tie as tie
 

@@ -1,8 +1,5 @@
 -- `vectors::draw::check_bytes` is safe and ends.
-use Prim.Native.Nat.{_≤_, _-_}
-use native.Mathlib.Omega.{arith}
-use lib.ListN.{length}
-use borrow.Author.Needs.{needs}
+use Rattle.lists.proofs.Kit.{_≤_, _-_, arith, length, needs}
 use Rattle.vectors.proofs.draw.check_bytes.Statement.{statement}
 use Rattle.vectors.proofs.draw.check_bytes.Tie as tie
 

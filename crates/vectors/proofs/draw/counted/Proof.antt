@@ -1,8 +1,5 @@
 -- `vectors::draw::counted` is safe: a remainder is below its modulus.
-use mathlib.Core.Path.{_∙_, ap}
-use native.Mathlib.Omega.{arith}
-use borrow.Author.Needs.{needs}
-use lib.Signed.{natAbs-le}
+use Rattle.lists.proofs.Kit.{_∙_, ap, arith, needs, natAbs-le}
 use Rattle.numbers.specs.Residue.{residue}
 use Rattle.numbers.proofs.{Congruence.residue-lt, Machine.wide-fits, Machine.wide}
 use Rattle.vectors.proofs.draw.counted.Statement.{statement}

@@ -1,7 +1,5 @@
 -- `vectors::draw::within` is safe: both numbers are below 2^31, and so their difference fits.
-use native.Mathlib.Omega.{arith}
-use borrow.Author.Needs.{needs}
-use mir.Syntax.{w32}
+use Rattle.lists.proofs.Kit.{arith, needs, w32}
 use Rattle.numbers.proofs.Machine.{less-fits}
 use Rattle.vectors.proofs.draw.within.Statement.{statement}
 use Rattle.vectors.proofs.draw.within.Tie as tie

@@ -1,9 +1,5 @@
 -- `vectors::faults::put_bytes` is safe and ends.
-use mathlib.Core.Path.{_≡_}
-use Prim.Native.Nat.{_≤_, _-_}
-use native.Mathlib.Omega.{arith}
-use lib.ListN.{length}
-use borrow.Author.Needs.{needs}
+use Rattle.lists.proofs.Kit.{_≡_, _≤_, _-_, arith, length, needs}
 use Rattle.vectors.proofs.faults.put_bytes.Statement.{statement}
 use Rattle.vectors.proofs.faults.put_bytes.Tie as tie
 

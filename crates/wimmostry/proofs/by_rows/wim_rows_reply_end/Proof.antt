@@ -1,5 +1,5 @@
 -- `wimmostry::by_rows::wim_rows_reply_end` meets its contract: its numbers are the answer's.
-use borrow.Author.Needs.{needs}
+use Rattle.lists.proofs.Kit.{needs}
 use Rattle.wimmostry.proofs.by_rows.wim_rows_reply_end.Statement.{statement}
 use Rattle.wimmostry.proofs.by_rows.wim_rows_reply_end.Tie as tie
 

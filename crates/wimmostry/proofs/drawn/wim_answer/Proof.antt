@@ -1,5 +1,5 @@
 -- `wimmostry::drawn::wim_answer` meets its contract: its numbers are the answer's.
-use borrow.Author.Needs.{needs}
+use Rattle.lists.proofs.Kit.{needs}
 use Rattle.wimmostry.proofs.drawn.wim_answer.Statement.{statement}
 use Rattle.wimmostry.proofs.drawn.wim_answer.Tie as tie
 

@@ -1,5 +1,5 @@
 -- `wimmostry::racks::wim_rack_offer` meets its contract: its numbers are the answer's.
-use borrow.Author.Needs.{needs}
+use Rattle.lists.proofs.Kit.{needs}
 use Rattle.wimmostry.proofs.racks.wim_rack_offer.Statement.{statement}
 use Rattle.wimmostry.proofs.racks.wim_rack_offer.Tie as tie
 
