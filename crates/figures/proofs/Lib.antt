@@ -1,3 +1,4 @@
+pub mod Edge
 pub mod Margins
 pub mod Pairs
 pub mod Frequencies

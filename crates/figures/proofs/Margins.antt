@@ -1,27 +1,19 @@
--- The margins: what `specs/Margins.antt` states, of the agreement and the sharpness that each family shows.
+-- The margins: what `specs/Margins.antt` states, of the agreement that each family shows and one case beyond it.
 --   margins   all of it
 use Rattle.lists.proofs.Kit.{refl, subst, ℕ, _<_, arith, lit≤}
 use Rattle.schemes.specs.declared.Scheme.the-variants.{Bcns, NewHope, Challenge, Classical, Recommended, Paranoid}
 use Rattle.schemes.specs.{Schemes.fixedOf, declared.Scheme.Scheme}
+use Rattle.numbers.specs.Residue.{residue, nearest, distance, apart}
+use Rattle.newhope.specs.Group.{upOf, downOf, offOf, offsOf, kOf, pOf, lessOf, lastOf, hintOf, termOf, sumOf, bitOf}
+use Rattle.newhope.specs.Agreement.{apartOf}
+use Rattle.bcns.proofs.Formula.{formula}
 use Rattle.frodo.specs.Rounding.{interval}
 use Rattle.frodo.proofs.Schemes.{each-scheme}
-use Rattle.figures.specs.Margins.{FrodoFrom, AnyInterval, EachSet, BcnsFrom, NewHopeFrom, Margins}
-use Rattle.bcns.proofs.Margin as bcns
-use Rattle.newhope.proofs.Margin as newhope
-use Rattle.newhope.proofs.Edge as edge
-use Rattle.frodo.proofs.Rule as frodo
-use Rattle.frodo.proofs.Edge as frodo-edge
-
-any-interval : AnyInterval
-any-interval I B o e b =
-    let s = frodo-edge.sharp I B o e b in
-    record {
-      witness = record { v = s .v; w = s .w };
-      may = (s .v-below, s .w-below);
-      there = s .one-more;
-      differ = s .differ;
-      below = λ x m l. frodo.agreement I B (x .v) (x .w) o e (m .0) (m .1) (omega arith);
-    }
+use Rattle.figures.specs.Margins.{FrodoFrom, EachSet, BcnsFrom, NewHopeFrom, Margins}
+use Rattle.figures.proofs.Edge.{any-interval}
+use Rattle.bcns.specs.Rounding as bcns
+use Rattle.bcns.proofs.Margin as bcns-margin
+use Rattle.newhope.proofs.Margin as newhope-margin
 
 some-bits : (s : Scheme) → 0 < fixedOf s .keybits
 some-bits Bcns = lit≤ tt
@@ -39,25 +31,29 @@ each-set s e =
     subst (λ (q : ℕ). FrodoFrom q I B) (r .whole) (any-interval I B (r .round .some) (r .round .quarters) (some-bits s))
 
 bcns-from : BcnsFrom
+unfolding bcns.coinOf bcns.doubled bcns.hintOf bcns.keyOf residue nearest distance apart
 bcns-from =
-    let s = bcns.sharp in
     record {
-      witness = record { coin = s .c; v = s .v; w = s .w };
-      may = (s .coin, s .v-below, s .w-below);
-      there = s .one-more;
-      differ = s .differ;
-      below = λ x m l. bcns.agreement (x .coin) (x .v) (x .w) (m .0) (m .1) (m .2) (omega arith);
+      witness = record { coin = 2; v = 1073741824; w = 1610612736 };
+      may = (omega arith, omega arith, omega arith);
+      there = refl;
+      differ = λ e. omega (arith, e, formula 0 1610612736 (omega arith) (omega arith));
+      below = λ x m l. bcns-margin.agreement (x .coin) (x .v) (x .w) (m .0) (m .1) (m .2) (omega arith);
     }
 
 newhope-from : NewHopeFrom
+unfolding upOf downOf offOf offsOf kOf pOf lessOf lastOf hintOf termOf sumOf bitOf apartOf residue nearest distance apart
 newhope-from =
-    let s = edge.sharp in
     record {
-      witness = record { coin = 1; v = s .v; w = s .w };
-      may = (omega arith, s .v-small, s .w-small);
-      there = s .one-more;
-      differ = s .differ;
-      below = λ x m l. newhope.agreement (x .coin) (x .v) (x .w) (m .0) (m .1) (m .2) (omega arith);
+      witness = record { coin = 1; v = record { e0 = 765; e1 = 767; e2 = 6914; e3 = 3841 }; w = record { e0 = 10748; e1 = 10753; e2 = 4611; e3 = 1538 } };
+      may = (
+        omega arith,
+        record { s0 = omega arith; s1 = omega arith; s2 = omega arith; s3 = omega arith },
+        record { s0 = omega arith; s1 = omega arith; s2 = omega arith; s3 = omega arith },
+      );
+      there = refl;
+      differ = λ e. omega arith;
+      below = λ x m l. newhope-margin.agreement (x .coin) (x .v) (x .w) (m .0) (m .1) (m .2) (omega arith);
     }
 
 pub margins : Margins

@@ -1,6 +1,5 @@
 pub mod Margin
 pub mod Rule
-pub mod Edge
 pub mod Away
 pub mod Entries
 pub mod Room

@@ -1,4 +1,4 @@
--- The initiator's rule, for every interval that is a multiple of 4: what `specs/Agreement.antt` states, but that the margin is sharp (`Edge.antt`).
+-- The initiator's rule, for every interval that is a multiple of 4: what `specs/Agreement.antt` states.
 --   hint-below   a hint is 0 or 1
 --   inner        how many half intervals there are
 --   reach        under either hint some z is at most a quarter of the interval from w

@@ -1,6 +1,5 @@
 pub mod Entry
 pub mod Margin
-pub mod Edge
 pub mod Parts
 pub mod Spread
 pub mod Groups

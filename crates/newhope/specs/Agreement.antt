@@ -5,7 +5,6 @@
 --   margin       how large the four distances between v and w may be together
 --   Agreement    up to there both ends compute the same bit
 --   Published    and the replier's is the published one
---   Sharp        one more, and the bits can differ
 --   EveryGroup   both ends have the same bits where the margin holds in each of the 256 groups
 use Rattle.lists.specs.Kit.{_≡_, List, _↔_, ℕ, _+_, _≤_, _<_}
 use Rattle.numbers.specs.Residue.{apart}
@@ -36,14 +35,6 @@ Agreement = (b : ℕ) (v w : Four) → b < 2 → BelowQ v → BelowQ w → apart
 -- 0 (far) exactly if p3 is 2 or 3
 abbrev pub Published : Type 0
 Published = (b : ℕ) (v : Four) → b < 2 → BelowQ v → (bitOf (hintOf b v) v ≡ 0) ↔ ((2 ≤ pOf b v (v .e3)) × (pOf b v (v .e3) ≤ 3))
-
-pub record Sharp : Type 0 where
-  pub v : Four
-  pub w : Four
-  pub v-small : BelowQ v
-  pub w-small : BelowQ w
-  pub one-more : apartOf v w ≡ margin + 1
-  pub differ : bitOf (hintOf 1 v) w ≡ bitOf (hintOf 1 v) v → ⊥
 
 abbrev pub EveryGroup : Type 0
 EveryGroup =
