@@ -57,4 +57,4 @@ newhope-from =
     }
 
 pub margins : Margins
-margins = record { any-interval = any-interval; each-set = each-set; quarters = (refl, refl, refl, refl); bcns = bcns-from; newhope = newhope-from }
+margins = record { any-interval = any-interval; each-set = each-set; bcns = bcns-from; newhope = newhope-from }

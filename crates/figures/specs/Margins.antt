@@ -5,7 +5,6 @@
 --   FrodoFrom q I B       v and w below q, over the interval I and the bits B of an entry's key
 --   AnyInterval           once over the interval, any multiple of 4, and the bits: q is I * 2^B
 --   EachSet               each Frodo set
---   Quarters              the four figures
 -- "for BCNS there are v, coin and w at distance 536,870,912 whose bits differ, and none below"
 --   BcnsFrom              v and w below q, a coin below 4
 -- Beyond the request, NewHope, where the distance is the sum of a group's four:
@@ -13,7 +12,6 @@
 --   Margins               all of this
 use Rattle.lists.specs.Kit.{_≡_, ℕ, _+_, _*_, _/_, _%_, _^_, _<_}
 use Rattle.numbers.specs.Residue.{apart}
-use Rattle.schemes.specs.declared.Scheme.the-variants.{Challenge, Classical, Recommended, Paranoid}
 use Rattle.schemes.specs.{Schemes.familyOf, Schemes.fixedOf, declared.Family.Family, declared.Scheme.Scheme}
 use Rattle.newhope.specs.{Agreement.BelowQ, Agreement.apartOf, declared.Four.Four}
 use Rattle.bcns.specs.Rounding as bcns
@@ -51,13 +49,6 @@ AnyInterval = (I B : ℕ) → 0 < I → I % 4 ≡ 0 → 0 < B → FrodoFrom (I *
 abbrev pub EachSet : Type 0
 EachSet = (s : Scheme) → familyOf s ≡ Family.Frodo → FrodoFrom (fixedOf s .q) (frodo.interval (fixedOf s)) (fixedOf s .keybits)
 
-abbrev pub Quarters : Type 0
-Quarters =
-    (frodo.interval (fixedOf Challenge) / 4 ≡ 256)
-    × (frodo.interval (fixedOf Classical) / 4 ≡ 256)
-    × (frodo.interval (fixedOf Recommended) / 4 ≡ 512)
-    × (frodo.interval (fixedOf Paranoid) / 4 ≡ 512)
-
 abbrev pub BcnsFrom : Type 0
 BcnsFrom =
     FailsFrom (Tossed ℕ)
@@ -77,6 +68,5 @@ NewHopeFrom =
 pub record Margins : Type 0 where
   pub any-interval : AnyInterval
   pub each-set : EachSet
-  pub quarters : Quarters
   pub bcns : BcnsFrom
   pub newhope : NewHopeFrom

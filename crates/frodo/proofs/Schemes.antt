@@ -1,8 +1,11 @@
 -- The four schemes' intervals: what `specs/Agreement.antt` states of them, by tests that the checker computes.
---   each-scheme   of every scheme of the family
+--   quarters, each-scheme
 use Rattle.lists.proofs.Kit.{_≡_, refl, ℕ, arith, lit≤}
 use Rattle.schemes.specs.declared.Scheme.the-variants.{Bcns, NewHope, Challenge, Classical, Recommended, Paranoid}
-use Rattle.frodo.specs.Agreement.{EachScheme}
+use Rattle.frodo.specs.Agreement.{Quarters, EachScheme}
+
+pub quarters : Quarters
+quarters = (refl, refl, refl, refl)
 
 pub each-scheme : EachScheme
 each-scheme Bcns e = let z : _≡_ {A = ℕ} 0 1 = cc in absurd (omega arith)
