@@ -6,7 +6,7 @@
 use Rattle.lists.proofs.Kit.{_≡_, refl, sym, _∙_, Bool, true, ℕ, _+_, _*_, _-_, _%_, _≤_, _<_, min, ℕ-discrete, le-refl, arith, eqb, eqb-true, eq-eqb}
 use Rattle.numbers.specs.{Residue.apart, Least.nearestTo, Least.gapTo}
 use Rattle.numbers.proofs.Circle.{apart-close, close-apart, close-swap, close-join, close-scale}
-use Rattle.numbers.proofs.{Natural.rest-is, Arc.Arc, Arc.away-arc, Arc.away-at-most, Arc.away-none, Arc.nearest-least}
+use Rattle.numbers.proofs.{Natural.rest-is, Arc.Arc, Arc.away-arc, Arc.away-at-most, Arc.away-none, Arc.nearest-of}
 use Rattle.bcns.specs.Slack.{mostSlack, SlackLeast, past, SlackFormula, SlackNone, SlackBound, SlackApart}
 use Rattle.bcns.specs.Rounding.{q, doubled, hintOf, slackOf}
 use Rattle.bcns.proofs.Regions.{hint-is, Region, first, second, third, fourth, region}
@@ -146,19 +146,10 @@ slack-none h w hw l = (none-at w hw h (case-of w hw h l), there w hw h)
 pub slack-bound : SlackBound
 slack-bound h w hw l = bound-at w hw h l (case-of w hw h l)
 
--- a z with either hint
-some : (h : ℕ) → h < 2 → mark h (h * 2147483648) ≡ true
-some h l = marked h (h * 2147483648) h (omega arith) (omega arith) (omega arith)
-
 pub slack-least : SlackLeast
-unfolding slackOf gapTo mark
+unfolding slackOf gapTo
 slack-least h w hw l =
-    let m = nearest-least (2 * q) (λ z. eqb (hintOf z) h) (2 * w) in
-    let b = m .least (h * 2147483648) (omega arith) (some h l) .0 in
-    record {
-      z = nearestTo (2 * q) (λ z. eqb (hintOf z) h) (2 * w);
-      below = b;
-      hinted = eqb-true _ _ (m .marked b);
-      reached = refl;
-      least = λ y i e. m .least y i (eq-eqb _ _ e) .1;
-    }
+    -- a z with either hint
+    let z = h * 2147483648 in
+    let e : hintOf z ≡ h = hint-is z h (omega arith) (omega arith) ∙ omega arith in
+    record { z = nearestTo (2 * q) (λ z. eqb (hintOf z) h) (2 * w); found = nearest-of (2 * q) hintOf h (2 * w) z (omega arith) e; reached = refl }

@@ -1,25 +1,18 @@
 -- What is shown of BCNS's slack used: 02f.
---   LeastApart, SlackLeast   some z with the hint is that far from 2w, and none is nearer
+--   SlackLeast               some z with the hint is that far from 2w, and none is nearer
 --   past, SlackFormula       the slack as the code computes it
 --   SlackNone                it is 0 exactly if 2w has the hint
 --   mostSlack, SlackBound    the largest that it can be, and that it is no more
 --   SlackApart               under the hint of the replier's z it is at most twice the distance of v and w, and one
 use Rattle.lists.specs.Kit.{_≡_, _↔_, ℕ, _+_, _*_, _-_, _/_, _%_, _≤_, _<_, min}
-use Rattle.numbers.specs.Residue.{apart}
+use Rattle.numbers.specs.{Residue.apart, Least.LeastGap}
 use Rattle.bcns.specs.Rounding.{q, doubled, hintOf, slackOf}
 
 abbrev pub mostSlack : ℕ
 mostSlack = 1073741824
 
-pub record LeastApart (h w : ℕ) : Type 0 where
-  pub z : ℕ
-  pub below : z < 2 * q
-  pub hinted : hintOf z ≡ h
-  pub reached : apart (2 * q) z (2 * w) ≡ slackOf h w
-  pub least : (y : ℕ) → y < 2 * q → hintOf y ≡ h → slackOf h w ≤ apart (2 * q) y (2 * w)
-
 abbrev pub SlackLeast : Type 0
-SlackLeast = (h w : ℕ) → w < q → h < 2 → LeastApart h w
+SlackLeast = (h w : ℕ) → w < q → h < 2 → LeastGap (2 * q) (λ z. hintOf z ≡ h) (2 * w) (slackOf h w)
 
 -- how far 2w stands behind the start of a row of z with the other hint, modulo q: hints repeat after q
 abbrev pub past : ℕ → ℕ → ℕ

@@ -5,9 +5,9 @@
 --   slack-apart, slack-least, slack-formula, slack-none, slack-bound
 use Rattle.lists.proofs.Kit.{_≡_, refl, ap, _∙_, Bool, true, ℕ, zero, suc, _+_, _*_, _-_, _/_, _%_, _^_, _≤_, _<_, min, ℕ-discrete, decLt, mul-le-mul-right}
 use Rattle.lists.proofs.Kit.{arith, eqb, pow-pos, eqb-true, eq-eqb}
-use Rattle.numbers.specs.Least.{gapTo}
+use Rattle.numbers.specs.Least.{gapTo, LeastGap}
 use Rattle.numbers.proofs.{Natural.rest-is, Arc.Arc, Arc.away-arc, Arc.away-at-most, Arc.away-none}
-use Rattle.frodo.specs.Slack.{mostSlack, LeastApart, SlackLeast, past, SlackFormula, SlackNone, SlackBound, SlackApart}
+use Rattle.frodo.specs.Slack.{mostSlack, SlackLeast, past, SlackFormula, SlackNone, SlackBound, SlackApart}
 use Rattle.frodo.specs.Rounding.{hintOf, slackOf}
 use Rattle.frodo.proofs.{Margin.Half, Margin.half-of, Margin.hint-half, Rule.inner, Rule.chosen, Rule.chosen-nearest, Rule.quarter}
 
@@ -111,11 +111,9 @@ module _ (t : ℕ) (p : 0 < t) (B w : ℕ) (hw : w < 4 * t * 2 ^ B) where
   bound-at h (has e z y) = omega arith
   bound-at h (lacks d r i z y) = omega arith
 
-  least-at : (h : ℕ) → h < 2 → LeastApart (4 * t) B h w
+  least-at : (h : ℕ) → h < 2 → LeastGap (4 * t * 2 ^ B) (λ z. hintOf (4 * t) z ≡ h) w (slackOf (4 * t) B h w)
   unfolding slackOf gapTo chosen
-  least-at h l =
-      let n = chosen-nearest t p B w hw h l in
-      record { z = chosen t p B w hw h; below = n .below; hinted = n .hinted; reached = refl; least = n .nearest }
+  least-at h l = record { z = chosen t p B w hw h; found = chosen-nearest t p B w hw h l; reached = refl }
 
 -- ---- for every interval that is a multiple of 4
 

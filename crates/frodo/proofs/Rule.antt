@@ -7,11 +7,11 @@
 --   quarter      I = 4 * t, over which all this is stated
 --   no-tie, formula, agreement
 use Rattle.lists.proofs.Kit.{_≡_, sym, ap, _∙_, ℕ, zero, suc, _+_, _*_, _-_, _/_, _%_, _^_, _≤_, _<_, ℕ-discrete, decLt, le-trans, mul-le-mul-right, arith, eqb}
-use Rattle.lists.proofs.Kit.{pow-pos, eqb-true, eq-eqb}
+use Rattle.lists.proofs.Kit.{pow-pos}
 use native.Mathlib.Nat.{lt-of-mul-lt-mul-right}
-use Rattle.numbers.specs.{Congruence.Close, Congruence.direct, Congruence.over, Congruence.under, Least.nearestTo}
-use Rattle.numbers.proofs.{Circle.apart-close, Circle.close-apart, Arc.nearest-least}
-use Rattle.frodo.specs.Agreement.{Nearest, NoTie, formulaOf, Formula, Agreement}
+use Rattle.numbers.specs.{Congruence.Close, Congruence.direct, Congruence.over, Congruence.under, Least.nearestTo, Least.Nearest}
+use Rattle.numbers.proofs.{Circle.apart-close, Circle.close-apart, Arc.nearest-of}
+use Rattle.frodo.specs.Agreement.{NoTie, formulaOf, Formula, Agreement}
 use Rattle.frodo.specs.Rounding.{hintOf, keyOf, peerOf}
 use Rattle.frodo.proofs.Margin.{Half, half-of, hint-half, margin}
 
@@ -69,23 +69,20 @@ module _ (t : ℕ) (p : 0 < t) (B w : ℕ) (hw : w < 4 * t * 2 ^ B) where
       go (no d) = let c = half-of t p w in other _ _ h c (omega (arith, hint-half t p c))
 
   -- whichever z is nearest, its key is the formula's
-  key-near : (h z : ℕ) → h < 2 → Nearest (4 * t) B h w z → keyOf (4 * t) B z ≡ formulaOf (4 * t) B h w
+  key-near : (h z : ℕ) → h < 2 → Nearest (4 * t * 2 ^ B) (λ y. hintOf (4 * t) y ≡ h) w z → keyOf (4 * t) B z ≡ formulaOf (4 * t) B h w
   key-near h z l n =
       let c = reach h l in
       let d = le-trans (n .nearest (c .z) (c .below) (c .hinted)) (close-apart _ _ _ (c .below) hw (c .near)) in
-      sym (margin t p B z w (n .below) hw (apart-close _ _ _ (n .below) hw d)) ∙ ap (λ (g : ℕ). formulaOf (4 * t) B g w) (n .hinted)
+      sym (margin t p B z w (n .below) hw (apart-close _ _ _ (n .below) hw d)) ∙ ap (λ (g : ℕ). formulaOf (4 * t) B g w) (n .marked)
 
   -- the search finds a nearest one
   unfoldable pub chosen : (h : ℕ) → ℕ
   chosen h = nearestTo (4 * t * 2 ^ B) (λ z. eqb (hintOf (4 * t) z) h) w
 
-  pub chosen-nearest : (h : ℕ) → h < 2 → Nearest (4 * t) B h w (chosen h)
+  pub chosen-nearest : (h : ℕ) → h < 2 → Nearest (4 * t * 2 ^ B) (λ z. hintOf (4 * t) z ≡ h) w (chosen h)
   unfolding chosen
   chosen-nearest h l =
-      let c = reach h l in
-      let m = nearest-least (4 * t * 2 ^ B) (λ z. eqb (hintOf (4 * t) z) h) w in
-      let b = m .least (c .z) (c .below) (eq-eqb _ _ (c .hinted)) .0 in
-      record { below = b; hinted = eqb-true _ _ (m .marked b); nearest = λ y i e. m .least y i (eq-eqb _ _ e) .1 }
+      let c = reach h l in nearest-of (4 * t * 2 ^ B) (hintOf (4 * t)) h w (c .z) (c .below) (c .hinted)
 
   pub peer-is : (h : ℕ) → h < 2 → peerOf (4 * t) B h w ≡ formulaOf (4 * t) B h w
   unfolding peerOf chosen

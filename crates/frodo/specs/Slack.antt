@@ -1,25 +1,18 @@
 -- What is shown of Frodo's slack used: 02f, once over I and B as in `Rounding.antt`.
---   LeastApart, SlackLeast   some value with the hint is that far from w, and none is nearer
+--   SlackLeast               some value with the hint is that far from w, and none is nearer
 --   past, SlackFormula       the slack as the code computes it
 --   SlackNone                it is 0 exactly if w has the hint
 --   mostSlack, SlackBound    the largest that it can be, a quarter of the interval, and that it is no more
 --   SlackApart               under the hint of v it is at most the distance of v and w
 use Rattle.lists.specs.Kit.{_≡_, _↔_, ℕ, _+_, _*_, _-_, _/_, _%_, _^_, _≤_, _<_, min}
-use Rattle.numbers.specs.Residue.{apart}
+use Rattle.numbers.specs.{Residue.apart, Least.LeastGap}
 use Rattle.frodo.specs.Rounding.{hintOf, slackOf}
 
 abbrev pub mostSlack : ℕ → ℕ
 mostSlack I = I / 4
 
-pub record LeastApart (I B h w : ℕ) : Type 0 where
-  pub z : ℕ
-  pub below : z < I * 2 ^ B
-  pub hinted : hintOf I z ≡ h
-  pub reached : apart (I * 2 ^ B) z w ≡ slackOf I B h w
-  pub least : (y : ℕ) → y < I * 2 ^ B → hintOf I y ≡ h → slackOf I B h w ≤ apart (I * 2 ^ B) y w
-
 abbrev pub SlackLeast : Type 0
-SlackLeast = (I B h w : ℕ) → 0 < I → I % 4 ≡ 0 → w < I * 2 ^ B → h < 2 → LeastApart I B h w
+SlackLeast = (I B h w : ℕ) → 0 < I → I % 4 ≡ 0 → w < I * 2 ^ B → h < 2 → LeastGap (I * 2 ^ B) (λ z. hintOf I z ≡ h) w (slackOf I B h w)
 
 -- how far w stands behind the start of a half interval with the other hint, modulo I
 abbrev pub past : ℕ → ℕ → ℕ → ℕ

@@ -1,5 +1,6 @@
 -- How far x lies, around a circle of m numbers, from the nearest one that has a mark.
 --   nearest-least   the search finds a nearest one
+--   nearest-of      as the rule has it, where the mark says that f is h and some number has it
 --   away-at-most    so it is at most the distance of any that has it
 --   away-none       it is 0 where x has the mark
 --   Arc             x stands in a stretch lo .. hi - 1 of numbers without the mark, and both neighbours of the stretch have it
@@ -7,7 +8,10 @@
 use mathlib.{Core.Path._≡_, Core.Bool.Bool, Core.Bool.true}
 use Prim.Native.Nat.{ℕ, _+_, _-_, _≤_, _<_, min}
 use native.{Mathlib.Decide.decLt, Mathlib.Decide.decLe, Mathlib.Decide.ℕ-discrete, Mathlib.Nat.le-refl, Mathlib.Nat.le-trans, Mathlib.Omega.arith}
-use Rattle.numbers.specs.{Residue.apart, Least.nearestTo, Least.gapTo, Congruence.Close, Congruence.direct, Congruence.over, Congruence.under}
+use lib.Dec.{eqb}
+use borrow.Author.Tests.{eq-eqb, eqb-true}
+use Rattle.numbers.specs.{Residue.apart, Congruence.Close, Congruence.direct, Congruence.over, Congruence.under}
+use Rattle.numbers.specs.Least.{nearestTo, gapTo, Nearest}
 use Rattle.numbers.proofs.{Circle.apart-close, Circle.close-apart, Circle.apart-self, Least.Least, Least.least-below}
 
 module _ (m : ℕ) (p : ℕ → Bool) (x : ℕ) where
@@ -82,3 +86,9 @@ module _ (m : ℕ) (p : ℕ → Bool) (x : ℕ) where
 
     pub away-arc : gapTo m p x ≡ min (x + 1 - lo) (hi - x)
     away-arc = let f = found-far in let g = to-hi in let h = to-lo in omega arith
+
+pub nearest-of : (m : ℕ) (f : ℕ → ℕ) (h x y : ℕ) → y < m → f y ≡ h → Nearest m (λ z. f z ≡ h) x (nearestTo m (λ z. eqb (f z) h) x)
+nearest-of m f h x y l e =
+    let n = nearest-least m (λ z. eqb (f z) h) x in
+    let b = n .least y l (eq-eqb _ _ e) .0 in
+    record { below = b; marked = eqb-true _ _ (n .marked b); nearest = λ z i g. n .least z i (eq-eqb _ _ g) .1 }
