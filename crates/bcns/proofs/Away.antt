@@ -1,4 +1,4 @@
--- The slack used: what `specs/Slack.antt` states.
+-- The slack used: what `specs/Shown.antt` states.
 --   marked, bare   a z that has the hint, and one that has not
 --   arc-first, arc-second, arc-third, arc-fourth   where 2w has the other hint, its region is a stretch of numbers without the given one, and both neighbours have it
 --   Case, case-of   the two cases, with the slack and the formula in each
@@ -7,7 +7,7 @@ use Rattle.lists.proofs.Kit.{_≡_, refl, sym, _∙_, Bool, true, ℕ, _+_, _*_
 use Rattle.numbers.specs.{Residue.apart, Least.nearestTo, Least.gapTo}
 use Rattle.numbers.proofs.Circle.{apart-close, close-apart, close-swap, close-join, close-scale}
 use Rattle.numbers.proofs.{Natural.rest-is, Arc.Arc, Arc.away-arc, Arc.away-at-most, Arc.away-none, Arc.nearest-of}
-use Rattle.bcns.specs.Slack.{mostSlack, SlackLeast, past, SlackFormula, SlackNone, SlackBound, SlackApart}
+use Rattle.bcns.specs.Shown.{mostSlack, SlackLeast, past, SlackFormula, SlackNone, SlackBound, SlackApart}
 use Rattle.bcns.specs.Rounding.{q, doubled, hintOf, slackOf}
 use Rattle.bcns.proofs.Regions.{hint-is, Region, first, second, third, fourth, region}
 use Rattle.bcns.proofs.Margin.{doubled-below, doubled-near}

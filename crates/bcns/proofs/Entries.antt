@@ -11,7 +11,7 @@ use Rattle.numbers.specs.Residue.{apart}
 use Rattle.lists.specs.{Entries.tab, Ranges.Below}
 use Rattle.lists.proofs.Entries.{tab-length, tab-at, tab-ext, below-tab}
 use Rattle.bcns.specs.Rounding.{q, doubled, hintOf, peerOf, hintsOf, keysOf, peersOf, slackOf, slacksOf}
-use Rattle.bcns.specs.{Agreement.EveryEntry, Slack.mostSlack}
+use Rattle.bcns.specs.{Shown.EveryEntry, Shown.mostSlack}
 use Rattle.bcns.proofs.{Regions.hint-below, Regions.key-below, Formula.peer-below, Margin.meet, Away.slack-apart, Away.slack-bound}
 
 module _ (cs vs : List ℕ) where

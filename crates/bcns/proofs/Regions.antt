@@ -10,7 +10,7 @@ use Rattle.numbers.specs.Congruence.{Close, direct, over, under}
 use Rattle.numbers.proofs.Natural.{quotient-is}
 use Rattle.lists.specs.First.{both}
 use Rattle.lists.proofs.Table.{cond-all}
-use Rattle.bcns.specs.{Rounding.q, Rounding.hintOf, Rounding.keyOf, Agreement.formulaOf}
+use Rattle.bcns.specs.{Rounding.q, Rounding.hintOf, Rounding.keyOf, Shown.formulaOf}
 
 -- the lowest bit of a quotient, from the multiples of d around s
 parity-is : (d s k : ℕ) → k * d ≤ s → s < (k + 1) * d → s / d % 2 ≡ k % 2

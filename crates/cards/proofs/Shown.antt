@@ -8,9 +8,9 @@ use Rattle.newhope.specs.declared.Four.{Four}
 use Rattle.cards.specs.Table.{Card, bcns-value, bcns-peer, frodo-value, frodo-peer, newhope-group, newhope-noise, frodo-noise, four, I, B, Says, All}
 use Rattle.cards.specs.Table.{table, Shown}
 use Rattle.bcns.specs.Rounding as bcns
-use Rattle.bcns.specs.Agreement as bcns-agreement
+use Rattle.bcns.specs.Shown as bcns-shown
 use Rattle.frodo.specs.Rounding as frodo
-use Rattle.frodo.specs.Agreement as frodo-agreement
+use Rattle.frodo.specs.Shown as frodo-shown
 use Rattle.newhope.specs.Group as newhope
 use Rattle.noise.specs.Noise as noise
 use Rattle.bcns.proofs.Formula as bcnsFormula
@@ -56,9 +56,9 @@ sameℤ-≡ (negsuc a) (negsuc b) t = ap negsuc (eqb→eq a b t)
 -- a card, tested
 right : Card → Bool
 right (bcns-value v coin hint bit) = and (eqb (bcns.hintOf (bcns.doubled coin v)) hint) (eqb (bcns.keyOf (bcns.doubled coin v)) bit)
-right (bcns-peer w hint bit) = and (ltb w bcns.q) (and (ltb hint 2) (eqb (bcns-agreement.formulaOf hint w) bit))
+right (bcns-peer w hint bit) = and (ltb w bcns.q) (and (ltb hint 2) (eqb (bcns-shown.formulaOf hint w) bit))
 right (frodo-value v hint key) = and (eqb (frodo.hintOf I v) hint) (eqb (frodo.keyOf I B v) key)
-right (frodo-peer w hint key) = and (ltb w (I * 2 ^ B)) (and (ltb hint 2) (eqb (frodo-agreement.formulaOf I B hint w) key))
+right (frodo-peer w hint key) = and (ltb w (I * 2 ^ B)) (and (ltb hint 2) (eqb (frodo-shown.formulaOf I B hint w) key))
 right (newhope-group coin a b c d h0 h1 h2 h3 bit) =
     and (same (newhope.hintOf coin (four a b c d)) (four h0 h1 h2 h3)) (eqb (newhope.bitOf (four h0 h1 h2 h3) (four a b c d)) bit)
 right (newhope-noise a b c d z) = sameℤ (noise.onesLess (a ∷ b ∷ c ∷ d ∷ []) 0) z
@@ -91,5 +91,5 @@ all (c ∷ cs) t = let u = parts _ _ t in (sound c (u .0), all cs (u .1))
 
 -- the one statement
 pub shown : Shown
-unfolding frodo-agreement.formulaOf and every right same sameℤ table bcns.doubled bcns.coinOf bcns.hintOf bcns.keyOf frodo.hintOf frodo.keyOf newhope.upOf newhope.downOf newhope.offOf newhope.offsOf newhope.kOf newhope.pOf newhope.lessOf newhope.lastOf newhope.hintOf newhope.termOf newhope.sumOf newhope.bitOf residue nearest distance apart noise.wordAt noise.onesLess noise.atMost noise.thresholdOf ones
+unfolding frodo-shown.formulaOf and every right same sameℤ table bcns.doubled bcns.coinOf bcns.hintOf bcns.keyOf frodo.hintOf frodo.keyOf newhope.upOf newhope.downOf newhope.offOf newhope.offsOf newhope.kOf newhope.pOf newhope.lessOf newhope.lastOf newhope.hintOf newhope.termOf newhope.sumOf newhope.bitOf residue nearest distance apart noise.wordAt noise.onesLess noise.atMost noise.thresholdOf ones
 shown = all table tt

@@ -5,7 +5,7 @@ use Rattle.schemes.specs.declared.Scheme.the-variants.{Bcns, NewHope, Challenge
 use Rattle.schemes.specs.{Schemes.fixedOf, declared.Scheme.Scheme}
 use Rattle.numbers.specs.Residue.{residue, nearest, distance, apart}
 use Rattle.newhope.specs.Group.{upOf, downOf, offOf, offsOf, kOf, pOf, lessOf, lastOf, hintOf, termOf, sumOf, bitOf}
-use Rattle.newhope.specs.Agreement.{apartOf}
+use Rattle.newhope.specs.Shown.{apartOf}
 use Rattle.bcns.proofs.Formula.{formula}
 use Rattle.frodo.specs.Rounding.{interval}
 use Rattle.frodo.proofs.Schemes.{each-scheme}

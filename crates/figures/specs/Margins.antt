@@ -13,7 +13,7 @@
 use Rattle.lists.specs.Kit.{_≡_, ℕ, _+_, _*_, _/_, _%_, _^_, _<_}
 use Rattle.numbers.specs.Residue.{apart}
 use Rattle.schemes.specs.{Schemes.familyOf, Schemes.fixedOf, declared.Family.Family, declared.Scheme.Scheme}
-use Rattle.newhope.specs.{Agreement.BelowQ, Agreement.apartOf, declared.Four.Four}
+use Rattle.newhope.specs.{Shown.BelowQ, Shown.apartOf, declared.Four.Four}
 use Rattle.bcns.specs.Rounding as bcns
 use Rattle.newhope.specs.Group as newhope
 use Rattle.frodo.specs.Rounding as frodo

@@ -1,4 +1,4 @@
--- The slack used: what `specs/Slack.antt` states.
+-- The slack used: what `specs/Shown.antt` states.
 --   arc        where w has the other hint, it stands in a half interval of numbers without the given one, and both neighbours have it
 --   in-half    there the formula's remainder is the place of w in that half; elsewhere it is behind it
 --   Case, case-of   the two cases, with the slack and the formula in each
@@ -7,7 +7,7 @@ use Rattle.lists.proofs.Kit.{_≡_, refl, ap, _∙_, Bool, true, ℕ, zero, suc
 use Rattle.lists.proofs.Kit.{arith, eqb, pow-pos, eqb-true, eq-eqb}
 use Rattle.numbers.specs.Least.{gapTo, LeastGap}
 use Rattle.numbers.proofs.{Natural.rest-is, Arc.Arc, Arc.away-arc, Arc.away-at-most, Arc.away-none}
-use Rattle.frodo.specs.Slack.{mostSlack, SlackLeast, past, SlackFormula, SlackNone, SlackBound, SlackApart}
+use Rattle.frodo.specs.Shown.{margin, SlackLeast, past, SlackFormula, SlackNone, SlackBound, SlackApart}
 use Rattle.frodo.specs.Rounding.{hintOf, slackOf}
 use Rattle.frodo.proofs.{Margin.Half, Margin.half-of, Margin.hint-half, Rule.inner, Rule.chosen, Rule.chosen-nearest, Rule.quarter}
 
@@ -107,7 +107,7 @@ module _ (t : ℕ) (p : 0 < t) (B w : ℕ) (hw : w < 4 * t * 2 ^ B) where
   none-at h (has e z y) o = e
   none-at h (lacks d r i z y) o = absurd (omega arith)
 
-  bound-at : (h : ℕ) → Case h → slackOf (4 * t) B h w ≤ mostSlack (4 * t)
+  bound-at : (h : ℕ) → Case h → slackOf (4 * t) B h w ≤ margin (4 * t)
   bound-at h (has e z y) = omega arith
   bound-at h (lacks d r i z y) = omega arith
 

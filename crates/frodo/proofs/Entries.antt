@@ -11,7 +11,7 @@ use Rattle.numbers.specs.Residue.{apart}
 use Rattle.lists.specs.{Entries.tab, Ranges.Below}
 use Rattle.lists.proofs.Entries.{tab-length, tab-at, tab-ext, below-tab}
 use Rattle.frodo.specs.Rounding.{hintOf, keyOf, peerOf, hintsOf, keysOf, peersOf, slackOf, slacksOf}
-use Rattle.frodo.specs.{Agreement.Round, Agreement.EveryEntry, Slack.mostSlack}
+use Rattle.frodo.specs.{Shown.Round, Shown.EveryEntry, Shown.margin}
 use Rattle.frodo.proofs.{Rule.hint-below, Rule.agreement, Away.slack-apart, Away.slack-bound}
 
 pub hints-length : (I : ℕ) (vs : List ℕ) → length (hintsOf I vs) ≡ length vs
@@ -69,6 +69,6 @@ slacks-apart I B vs ws b n k l =
     (slack-apart I B (getD vs k 0) (getD ws k 0) (b .below k))
 
 pub slacks-most :
-    (I B : ℕ) (hs ws : List ℕ) → Round I B → Below 2 hs → Below (I * 2 ^ B) ws → (k : ℕ) → k < length ws → getD (slacksOf I B hs ws) k 0 ≤ mostSlack I
+    (I B : ℕ) (hs ws : List ℕ) → Round I B → Below 2 hs → Below (I * 2 ^ B) ws → (k : ℕ) → k < length ws → getD (slacksOf I B hs ws) k 0 ≤ margin I
 slacks-most I B hs ws r bh bw k l =
     rw (slacks-at I B hs ws k l) (slack-bound I B (getD hs k 0) (getD ws k 0) (r .some) (r .quarters) (bw .below k) (bh .below k))

@@ -1,4 +1,4 @@
--- The initiator's rule, for every interval that is a multiple of 4: what `specs/Agreement.antt` states.
+-- The initiator's rule, for every interval that is a multiple of 4: what `specs/Shown.antt` states.
 --   hint-below   a hint is 0 or 1
 --   inner        how many half intervals there are
 --   reach        under either hint some z is at most a quarter of the interval from w
@@ -11,7 +11,7 @@ use Rattle.lists.proofs.Kit.{pow-pos}
 use native.Mathlib.Nat.{lt-of-mul-lt-mul-right}
 use Rattle.numbers.specs.{Congruence.Close, Congruence.direct, Congruence.over, Congruence.under, Least.nearestTo, Least.Nearest}
 use Rattle.numbers.proofs.{Circle.apart-close, Circle.close-apart, Arc.nearest-of}
-use Rattle.frodo.specs.Agreement.{NoTie, formulaOf, Formula, Agreement}
+use Rattle.frodo.specs.Shown.{NoTie, formulaOf, Formula, Agreement}
 use Rattle.frodo.specs.Rounding.{hintOf, keyOf, peerOf}
 use Rattle.frodo.proofs.Margin.{Half, half-of, hint-half, margin}
 

@@ -1,8 +1,8 @@
--- The four schemes' intervals: what `specs/Agreement.antt` states of them, by tests that the checker computes.
+-- The four schemes' intervals: what `specs/Shown.antt` states of them, by tests that the checker computes.
 --   quarters, each-scheme
 use Rattle.lists.proofs.Kit.{_≡_, refl, ℕ, arith, lit≤}
 use Rattle.schemes.specs.declared.Scheme.the-variants.{Bcns, NewHope, Challenge, Classical, Recommended, Paranoid}
-use Rattle.frodo.specs.Agreement.{Quarters, EachScheme}
+use Rattle.frodo.specs.Shown.{Quarters, EachScheme}
 
 pub quarters : Quarters
 quarters = (refl, refl, refl, refl)

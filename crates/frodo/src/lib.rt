@@ -7,7 +7,7 @@ ghost use lib.ListN.{length};
 ghost use Rattle.schemes.specs.Schemes.{fixedOf};
 ghost use Rattle.lists.specs.Ranges.{Below};
 ghost use Rattle.frodo.specs.Rounding.{interval, hintOf, keyOf, peerOf, hintsOf, keysOf, peersOf, slackOf, slacksOf};
-ghost use Rattle.frodo.specs.Agreement.{Round};
+ghost use Rattle.frodo.specs.Shown.{Round};
 use schemes::Scheme;
 
 // The interval of a scheme.
@@ -42,7 +42,7 @@ pub fn key(i: u32, b: u32, v: u32) -> u32
     (2 * v + i) / (2 * i) % values(b)
 }
 
-// The initiator's key of w under the hint h: in place of a search for the nearest z its formula, which `Agreement.antt` states.
+// The initiator's key of w under the hint h: in place of a search for the nearest z its formula, which `Shown.antt` states.
 pub fn peer(i: u32, b: u32, h: u32, w: u32) -> u32
     requires { ⌜ Round i b × (h < 2) × (w < i * 2 ^ b) ⌝ }
     ensures { λ r. ⌜ r ≡ peerOf i b h w ⌝ }

@@ -14,7 +14,7 @@ use Rattle.schemes.specs.Schemes.{byFamily, familyOf, fixedOf, schemeOf}
 use Rattle.schemes.specs.{declared.Family.Family, declared.Fixed.Fixed, declared.Named.Named, declared.Scheme.Scheme}
 use Rattle.lists.specs.First.{both}
 use Rattle.text.specs.{Text.schemeName, Text.Read, Text.number, Text.other, Text.fieldIn, Steps.labelIn}
-use Rattle.frodo.specs.Agreement.{Round}
+use Rattle.frodo.specs.Shown.{Round}
 use Rattle.frodo.proofs.Schemes.{each-scheme}
 use Rattle.line.specs.Line.{coinName, vName, wName, Asked, numbers, text, endIn, wIn, vIn, coinIn, asked, refusal, bcnsShown, frodoShown, bcnsAnswer}
 use Rattle.line.specs.Line.{frodoAnswer, settledIn, settled, answerTo, answered}

@@ -6,7 +6,7 @@ ghost use Prim.Native.Nat.{_*_, _^_, _≤_, _<_};
 ghost use lib.ListN.{length};
 ghost use Rattle.schemes.specs.declared.Family.{Family};
 ghost use Rattle.schemes.specs.Schemes.{bcns, familyOf, fixedOf, schemeOf};
-ghost use Rattle.frodo.specs.Agreement.{Round};
+ghost use Rattle.frodo.specs.Shown.{Round};
 ghost use Rattle.text.specs.Answer.{Answers};
 ghost use Rattle.text.specs.Steps.{Written};
 ghost use Rattle.line.specs.Line.{shown, bcnsShown, frodoShown, bcnsAnswer, frodoAnswer, settled, answered};

@@ -12,7 +12,7 @@ use Rattle.lists.proofs.Kit.{getD, set}
 use Rattle.lists.specs.Ranges.{Below}
 use Rattle.lists.proofs.Entries.{tab-length, tab-at, tab-ext, below-tab}
 use Rattle.newhope.specs.Group.{Four, q, groups, hintOf, sumOf, bitOf, groupOf, entryOf, hintsOf, keysOf, peersOf}
-use Rattle.newhope.specs.Agreement.{BelowQ, Hint, EveryGroup}
+use Rattle.newhope.specs.Shown.{BelowQ, Hint, EveryGroup}
 use Rattle.newhope.proofs.{Margin.agreement, Parts.hint-small, Spread.Spread, Spread.spread-next, Spread.spread-end}
 
 -- ---- ranges

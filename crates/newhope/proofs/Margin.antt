@@ -8,7 +8,7 @@ use lib.IntN.{+ℤ-invr}
 use Rattle.numbers.specs.Residue.{residue, apart}
 use Rattle.numbers.proofs.Circle.{apart-self}
 use Rattle.newhope.specs.Group.{Four, q, upOf, downOf, offsOf, kOf, pOf, lessOf, lastOf, hintOf, termOf, sumOf, bitOf}
-use Rattle.newhope.specs.Agreement.{apartOf, Agreement, Published}
+use Rattle.newhope.specs.Shown.{apartOf, Agreement, Published}
 use Rattle.newhope.proofs.Entry.{term-same, named, moved, opposite, own-up, own-down, up-five, down-five}
 
 module _ (b : ℕ) (v : Four) where

@@ -6,7 +6,7 @@ use Rattle.lists.proofs.Kit.{_≡_, _∙_, sym, ap, ap₂, subst, cond, ℕ, _+
 use Rattle.numbers.specs.Residue.{residue}
 use Rattle.numbers.proofs.Congruence.{residue-lt}
 use Rattle.newhope.specs.Group.{Four, q, upOf, downOf, offsOf, kOf, pOf, lessOf, lastOf, hintOf}
-use Rattle.newhope.specs.Agreement.{Hint}
+use Rattle.newhope.specs.Shown.{Hint}
 
 pub hint-small : (b : ℕ) (v : Four) → Hint (hintOf b v)
 unfolding hintOf lessOf lastOf

@@ -9,7 +9,7 @@ ghost use lib.ListN.{length};
 ghost use Rattle.numbers.specs.Residue.{residue};
 ghost use Rattle.lists.specs.Ranges.{Below};
 ghost use Rattle.newhope.specs.Group.{q, size, groups, upOf, downOf, offOf, offsOf, termOf, hintOf, bitOf, groupOf, hintsOf, peersOf};
-ghost use Rattle.newhope.specs.Agreement.{BelowQ, Hint};
+ghost use Rattle.newhope.specs.Shown.{BelowQ, Hint};
 
 // q, 2q and 8q, and the number of groups.
 const Q: u32 = schemes::NewHope::Q;

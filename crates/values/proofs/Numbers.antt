@@ -14,7 +14,7 @@ use Rattle.schemes.specs.Schemes.{byFamily, familyOf, fixedOf, bcns, newHope, f
 use Rattle.schemes.specs.{declared.Family.Family, declared.Fixed.Fixed, declared.Scheme.Scheme}
 use Rattle.schemes.proofs.Sound.{sound}
 use Rattle.lists.specs.Ranges.{Below}
-use Rattle.frodo.specs.Agreement.{Round}
+use Rattle.frodo.specs.Shown.{Round}
 
 -- the rounding interval, `interval` of the scheme
 abbrev wide : Fixed → ℕ

@@ -13,7 +13,7 @@ use Rattle.values.proofs.Numbers.{Bcns, NewHope, Frodo, numbers-of, in-
 use Rattle.bcns.specs.Rounding as bcns-spec
 use Rattle.newhope.specs.Group as newhope-spec
 use Rattle.frodo.specs.Rounding as frodo-spec
-use Rattle.frodo.specs.Agreement as frodo-shown
+use Rattle.frodo.specs.Shown as frodo-shown
 use Rattle.bcns.proofs.Entries as bcns
 use Rattle.newhope.proofs.Groups as newhope
 use Rattle.frodo.proofs.Entries as frodo-laws
