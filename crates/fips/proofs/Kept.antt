@@ -9,7 +9,7 @@ use lib.Bits.{or-lt}
 use Rattle.lists.specs.{Ranges.Below, First.firstOver, First.firstWhere}
 use Rattle.lists.proofs.{Entries.below-tab, Entries.below-set, First.all-below, Parts.below-tail}
 use Rattle.keccak.specs.Keccak.{state, lane, rot, flip, offsets, theta, rho, pi, chi, iota, round, rounds, constants, keccakF}
-use Rattle.fips.specs.Steps.{Lanes, KeccakKeeps}
+use Rattle.fips.specs.Steps.{Lanes}
 use Rattle.fips.proofs.Steps.{lane-below, parity-below}
 
 pub xor-keeps : {a b : ℕ} → a < 2 ^ 64 → b < 2 ^ 64 → bitXor a b < 2 ^ 64
@@ -64,6 +64,6 @@ pub constants-below : Below (2 ^ 64) constants
 unfolding firstOver firstWhere
 constants-below = all-below (2 ^ 64) constants (omega arith) (le-of-eq refl)
 
-pub keccak-keeps : KeccakKeeps
+pub keccak-keeps : (a : List ℕ) → Lanes a → Lanes (keccakF a)
 unfolding keccakF
 keccak-keeps a h = rounds-keep constants a constants-below h

@@ -1,11 +1,11 @@
 -- The padding in bytes is the padding in bits, once over suffix and rate.
 --   string-append, string-length  the string of bytes in two parts, and its length
---   shake-padding, sha3-padding   and so for SHAKE and for SHA-3
+--   padded-is                     the padded bytes are the string M ‖ suffix ‖ pad10*1
 use Rattle.lists.proofs.Kit.{_≡_, refl, sym, ap, _∙_, List, [], _∷_, _++_, append-assoc, ℕ, zero, suc, _+_, _-_, _*_, _/_, _%_, _≤_, _<_, mod-eq-of-lt, mod-lt}
 use Rattle.lists.proofs.Kit.{div-add-mod', arith, digits-mod, length, replicate, length-append, replicate-append-replicate}
 use Rattle.packing.specs.Packing.{digits}
 use Rattle.sponge.specs.Sponge.{padded, ending}
-use Rattle.fips.specs.Strings.{string, pad, PaddedIs, ShakePadding, Sha3Padding}
+use Rattle.fips.specs.Strings.{string, pad}
 
 abbrev zeros : ℕ → List ℕ
 zeros n = replicate n 0
@@ -60,7 +60,7 @@ module _ (d l : ℕ) (suffix : List ℕ) (el : length suffix ≡ l) (hl : l ≤ 
       ∙ ap (λ (x : List ℕ). suffix ++ 1 ∷ (zeros (7 - l) ++ x)) last
       ∙ ap (λ (x : List ℕ). suffix ++ 1 ∷ x) (joined (7 - l) (8 * n + 7) (1 ∷ []) ∙ ap (λ (k : ℕ). zeros k ++ 1 ∷ []) e)
 
-  padded-is : (rate : ℕ) → 0 < rate → PaddedIs rate d suffix
+  pub padded-is : (rate : ℕ) → 0 < rate → (m : List ℕ) → string (padded rate d m) ≡ (string m ++ suffix) ++ pad (8 * rate) (length (string m ++ suffix))
   unfolding padded pad
   padded-is rate hr m =
       let q = length m / rate in
@@ -78,11 +78,3 @@ module _ (d l : ℕ) (suffix : List ℕ) (el : length suffix ≡ l) (hl : l ≤ 
       ∙ ap (λ (x : List ℕ). string m ++ x)
       (ap (λ (x : ℕ). string (ending x d)) ek ∙ end k ∙ ap (λ (x : ℕ). suffix ++ 1 ∷ (zeros x ++ 1 ∷ [])) (sym j))
       ∙ sym (append-assoc (string m) suffix (1 ∷ (zeros zs ++ 1 ∷ [])))
-
-pub shake-padding : ShakePadding
-unfolding digits
-shake-padding = padded-is 31 4 (1 ∷ 1 ∷ 1 ∷ 1 ∷ []) refl (omega arith) refl refl 168 (omega arith)
-
-pub sha3-padding : Sha3Padding
-unfolding digits
-sha3-padding = padded-is 6 2 (0 ∷ 1 ∷ []) refl (omega arith) refl refl 136 (omega arith)

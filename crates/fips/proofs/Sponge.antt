@@ -10,9 +10,9 @@ use Rattle.keccak.specs.Keccak.{keccakF}
 use Rattle.packing.specs.Packing.{value, digits}
 use Rattle.packing.proofs.Laws.{value-take-below}
 use Rattle.sponge.specs.Sponge.{laneAt, byteAt, over, ending, padded, after, absorbed, turned, squeezed, sponge, shake128, sha3}
-use Rattle.fips.specs.Strings.{string, PaddedIs, array, permuted, xored, absorbing, turning, squeezing, spongeOf, ShakeIs, Sha3Is}
+use Rattle.fips.specs.Strings.{string, pad, array, permuted, xored, absorbing, turning, squeezing, spongeOf, ShakeIs, Sha3Is}
 use Rattle.fips.specs.Steps.{bit, bitAt, Lanes, Same}
-use Rattle.fips.proofs.Padding.{string-length, shake-padding, sha3-padding}
+use Rattle.fips.proofs.Padding.{string-length, padded-is}
 use Rattle.fips.proofs.{Bit.bit-xor, Bit.bit-suc, Bit.bit-low, Kept.xor-keeps, Kept.keccak-keeps, Rounds.keccak-on, Rounds.keccak-is}
 
 bit-zero : (z : ℕ) → bit z 0 ≡ 0
@@ -244,10 +244,11 @@ padded-below : (rate d : ℕ) (m : List ℕ) → d < 128 → Below 256 m → Bel
 unfolding padded
 padded-below rate d m o h = append-below m (ending (rate - length m % rate) d) h (ending-below (rate - length m % rate) d o)
 
-sponge-is : (rate d : ℕ) (suffix : List ℕ) → 0 < rate → rate ≤ 200 → d < 128 → PaddedIs rate d suffix → (m : List ℕ) (n : ℕ) → Below 256 m
+sponge-is : (rate d : ℕ) (suffix : List ℕ) → 0 < rate → rate ≤ 200 → d < 128 → (m : List ℕ) (n : ℕ) → Below 256 m
+    → string (padded rate d m) ≡ (string m ++ suffix) ++ pad (8 * rate) (length (string m ++ suffix))
     → string (sponge rate d m n) ≡ spongeOf (8 * rate) (string m ++ suffix) (8 * n)
 unfolding absorbed spongeOf
-sponge-is rate d suffix hr ho hd is m n h =
+sponge-is rate d suffix hr ho hd m n h is =
     let p = padded rate d m in
     let b : Below 256 p = padded-below rate d m hd h in
     let e : length (string p) ≡ 8 * length p + 0 = string-length p ∙ omega arith in
@@ -256,12 +257,14 @@ sponge-is rate d suffix hr ho hd is m n h =
     ∙ ap (λ (s : List ℕ). squeezing (8 * rate) s (8 * n))
     (absorb-is rate p b (length p / rate)
     ∙ ap (absorbing (8 * rate) (string p)) (sym c)
-    ∙ ap (λ (q : List ℕ). absorbing (8 * rate) q (length q / (8 * rate))) (is m))
+    ∙ ap (λ (q : List ℕ). absorbing (8 * rate) q (length q / (8 * rate))) is)
 
 pub shake-is : ShakeIs
-unfolding shake128
-shake-is m n h = sponge-is 168 31 (1 ∷ 1 ∷ 1 ∷ 1 ∷ []) (omega arith) (omega arith) (omega arith) shake-padding m n h
+unfolding shake128 digits
+shake-is m n h =
+    sponge-is 168 31 (1 ∷ 1 ∷ 1 ∷ 1 ∷ []) (omega arith) (omega arith) (omega arith) m n h (padded-is 31 4 _ refl (omega arith) refl refl 168 (omega arith) m)
 
 pub sha3-is : Sha3Is
-unfolding sha3
-sha3-is m h = sponge-is 136 6 (0 ∷ 1 ∷ []) (omega arith) (omega arith) (omega arith) sha3-padding m 32 h
+unfolding sha3 digits
+sha3-is m h =
+    sponge-is 136 6 (0 ∷ 1 ∷ []) (omega arith) (omega arith) (omega arith) m 32 h (padded-is 6 2 _ refl (omega arith) refl refl 136 (omega arith) m)

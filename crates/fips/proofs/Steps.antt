@@ -3,12 +3,12 @@
 --   lane-below, parity-below, offset-below      lanes and parities have 64 bits; offsets are below 64, by one computed test
 --   theta-is, rho-is, pi-is, chi-is, iota-is    each step
 use Rattle.lists.proofs.Kit.{_≡_, refl, sym, ap, ap₂, _∙_, _≢_, List, ℕ, zero, suc, _+_, _-_, _*_, _/_, _%_, _^_, _<_, mod-eq-of-lt, le-of-eq, arith, bitXor}
-use Rattle.lists.proofs.Kit.{bitAnd, xor-lt, getD, getD-set-same, getD-set-other}
+use Rattle.lists.proofs.Kit.{bitAnd, xor-lt, length, getD, getD-set-same, getD-set-other}
 use native.Mathlib.Nat.{mod-mod}
 use Rattle.lists.specs.{Ranges.Below, First.firstOver, First.firstWhere}
 use Rattle.lists.proofs.{Entries.tab-at, First.all-below}
 use Rattle.keccak.specs.Keccak.{state, lane, rot, flip, parity, offsets, theta, rho, pi, chi, iota}
-use Rattle.fips.specs.Steps.{bit, bitAt, column, θ, ρ, π, χ, ι, Lanes, ThetaIs, RhoIs, PiIs, ChiIs, IotaIs}
+use Rattle.fips.specs.Steps.{bit, bitAt, column, θ, ρ, π, χ, ι, Lanes, Same, Everywhere}
 use Rattle.fips.proofs.Bit.{bit-xor, bit-and, bit-flip, bit-rot}
 
 pub lane-state : (f : ℕ → ℕ → ℕ) (x y : ℕ) → x < 5 → y < 5 → lane (state f) x y ≡ f x y
@@ -65,7 +65,7 @@ bit-parity a x z =
     ∙ ap (λ (k : ℕ). k % 2) e
     ∙ column-mod a x z
 
-pub theta-is : ThetaIs
+pub theta-is : Everywhere theta θ
 unfolding theta θ
 theta-is a h x y z hx hy hz =
     let c = parity a (x + 4) in
@@ -88,17 +88,17 @@ pub offset-below : Below 64 offsets
 unfolding firstOver firstWhere
 offset-below = all-below 64 offsets (omega arith) (le-of-eq refl)
 
-pub rho-is : RhoIs
+pub rho-is : Everywhere rho ρ
 unfolding rho ρ
 rho-is a h x y z hx hy hz =
     ap (bit z) (lane-state (λ x y. rot (lane offsets x y) (lane a x y)) x y hx hy)
     ∙ bit-rot (lane offsets x y) z (lane a x y) (offset-below .below (x % 5 + 5 * (y % 5))) hz (lane-below h x y)
 
-pub pi-is : PiIs
+pub pi-is : Everywhere pi π
 unfolding pi π
 pi-is a h x y z hx hy hz = ap (bit z) (lane-state (λ x y. lane a (x + 3 * y) x) x y hx hy) ∙ bit-mod a (x + 3 * y) x z
 
-pub chi-is : ChiIs
+pub chi-is : Everywhere chi χ
 unfolding chi χ
 chi-is a h x y z hx hy hz =
     let b = flip (lane a (x + 1) y) in
@@ -112,7 +112,7 @@ iota-other : (rc : ℕ) (a : List ℕ) (x y z : ℕ) → x < 5 → y < 5 → x +
 unfolding iota
 iota-other rc a x y z hx hy h = ap (bit z) (getD-set-other a 0 (x % 5 + 5 * (y % 5)) (bitXor (lane a 0 0) rc) 0 (λ e. h (omega arith)))
 
-pub iota-is : IotaIs
+pub iota-is : (rc : ℕ) (a : List ℕ) → length a ≡ 25 → Same (bitAt (iota rc a)) (ι rc (bitAt a))
 unfolding iota ι
 iota-is rc a l zero zero z hx hy hz = ap (bit z) (getD-set-same a 0 (bitXor (lane a 0 0) rc) 0 (omega arith)) ∙ bit-xor z (lane a 0 0) rc
 iota-is rc a l zero (suc y) z hx hy hz = iota-other rc a 0 (suc y) z hx hy (λ e. omega arith)

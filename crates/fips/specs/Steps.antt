@@ -12,12 +12,10 @@
 --   Lanes a                every lane has 64 bits
 --   Same A B               two arrays have the same bits
 --   Everywhere step f      the array after a step on lanes is f of the array before
---   ThetaIs, RhoIs, PiIs, ChiIs, IotaIs   the steps on lanes are the standard's
---   KeccakIs               so are all rounds, one after the other
---   KeccakKeeps            lanes of 64 bits stay such through all rounds
-use Rattle.lists.specs.Kit.{_≡_, List, [], _∷_, ℕ, zero, suc, _+_, _-_, _*_, _/_, _%_, _^_, _<_, length}
+--   KeccakIs               all rounds on lanes, one after the other, are the standard's
+use Rattle.lists.specs.Kit.{_≡_, List, [], _∷_, ℕ, zero, suc, _+_, _-_, _*_, _/_, _%_, _^_, _<_}
 use Rattle.lists.specs.Ranges.{Below}
-use Rattle.keccak.specs.Keccak.{lane, offsets, constants, theta, rho, pi, chi, iota, keccakF}
+use Rattle.keccak.specs.Keccak.{lane, offsets, constants, keccakF}
 
 -- ---- the standard's
 
@@ -71,23 +69,5 @@ Same A B = (x y z : ℕ) → x < 5 → y < 5 → z < 64 → A x y z ≡ B x y z
 abbrev pub Everywhere : (List ℕ → List ℕ) → (Array → Array) → Type 0
 Everywhere step f = (a : List ℕ) → Lanes a → Same (bitAt (step a)) (f (bitAt a))
 
-abbrev pub ThetaIs : Type 0
-ThetaIs = Everywhere theta θ
-
-abbrev pub RhoIs : Type 0
-RhoIs = Everywhere rho ρ
-
-abbrev pub PiIs : Type 0
-PiIs = Everywhere pi π
-
-abbrev pub ChiIs : Type 0
-ChiIs = Everywhere chi χ
-
-abbrev pub IotaIs : Type 0
-IotaIs = (rc : ℕ) (a : List ℕ) → length a ≡ 25 → Same (bitAt (iota rc a)) (ι rc (bitAt a))
-
 abbrev pub KeccakIs : Type 0
 KeccakIs = Everywhere keccakF keccakP
-
-abbrev pub KeccakKeeps : Type 0
-KeccakKeeps = (a : List ℕ) → Lanes a → Lanes (keccakF a)
