@@ -5,7 +5,7 @@ ghost use lib.ListN.{length};
 ghost use Rattle.schemes.specs.Schemes.{bcns};
 ghost use Rattle.lists.specs.Lent.{was, left, room};
 ghost use Rattle.lists.specs.Ranges.{Below};
-ghost use Rattle.polynomial.specs.Fit as polynomial;
+ghost use Rattle.polynomial.specs.Steps as polynomial;
 ghost use Rattle.polynomial.specs.Product as polynomials;
 ghost use Rattle.transform.specs.Transform.{transformed, inverted};
 ghost use Rattle.transform.specs.Theorems.{multiplied};

@@ -10,7 +10,7 @@ use Rattle.lists.proofs.Kit.{sfits-widen}
 use Rattle.numbers.specs.{Residue.residue, Congruence._≅⟨_⟩_}
 use Rattle.numbers.proofs.Difference.{diff, pos-diff, pos-sub, diff-≡, diff-ge, diff-lt, diffs, diff-add}
 use Rattle.numbers.proofs.{Size.abs-difference, Machine.toZ-pos, Congruence.eq-≅, Congruence._⨾_, Congruence.sym-≅, Congruence.residue-is}
-use Rattle.polynomial.specs.Window.{lift, upper, lower}
+use Rattle.polynomial.specs.Steps.{lift, upper, lower}
 
 pub upper-small : (y : ℕ) → y < 2 ^ 32 → natAbs (upper y) ≤ 32768
 unfolding upper

@@ -14,7 +14,7 @@ use Rattle.numbers.specs.Sum.{sum}
 use Rattle.numbers.proofs.Size.{abs-add, abs-mul, abs-mul-≤, abs-sum}
 use Rattle.numbers.proofs.{Sums.whole, Sums.sum-ext, Sums.sum-split, Machine.fits-abs, Machine.widened, Machine.wide}
 use Rattle.lists.specs.Entries.{ints}
-use Rattle.polynomial.specs.Window.{dot, span, Pair}
+use Rattle.polynomial.specs.Steps.{dot, span, Pair}
 
 -- ---- one product
 

@@ -21,8 +21,7 @@ use Rattle.numbers.proofs.Sums.{whole, sum-ext, sum-add, sum-mul-right}
 use Rattle.numbers.proofs.{Difference.as-diff, Difference.diff-≡, Difference.diffs, Size.abs-add, Size.abs-mul, Size.abs-mul-≤, Size.abs-sum}
 use Rattle.lists.specs.{Entries.nums, Entries.ints, Ranges.Stored}
 use Rattle.lists.proofs.{Parts.slice-long, Parts.slice-at, Parts.front-long, Parts.part, Stored.store-next, Stored.not-yet, Stored.front-at}
-use Rattle.polynomial.specs.Window.{lift, upper, lower, dot, span, slide, Pair}
-use Rattle.polynomial.specs.Steps.{Few, Ready, Prepared, Halved, Made, Joined}
+use Rattle.polynomial.specs.Steps.{lift, upper, lower, dot, span, slide, Pair, Few, Ready, Prepared, Halved, Made, Joined}
 use Rattle.polynomial.proofs.Three.{slide-≅, three-low, three-high, few-low, few-high, few-middle, few-ext}
 use Rattle.polynomial.proofs.Halves.{upper-small, lower-small, lift-lt, halves-≅}
 use Rattle.polynomial.proofs.{Kernel.plus-fits, Kernel.plus-read, Stores.ints-is, Stores.part-entry, Stores.take-within}

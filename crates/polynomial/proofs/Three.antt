@@ -6,7 +6,7 @@ use Rattle.lists.proofs.Kit.{_≡_, _∙_, sym, ap, ap₂, ℕ, _+_, _<_, arith
 use Rattle.numbers.specs.Congruence.{_≅⟨_⟩_}
 use Rattle.numbers.proofs.Difference.{as-diff, diff-≡, diffs}
 use Rattle.numbers.proofs.{Congruence.mul-≅, Congruence.sum-≅, Congruence.eq-≅, Size.abs-add, Sums.whole, Sums.sum-ext, Sums.sum-add, Sums.sum-split}
-use Rattle.polynomial.specs.{Window.dot, Window.slide, Steps.Few}
+use Rattle.polynomial.specs.Steps.{dot, slide, Few}
 
 pub slide-≅ :
     {q : ℕ} (n : ℕ) (w v s t : ℕ → ℤ) (k : ℕ) → k < n → ((i : ℕ) → i + 1 < n + n → w i ≅⟨ q ⟩ v i) → ((j : ℕ) → j < n → s j ≡ t j) → slide n w s k ≅⟨ q ⟩ slide n v t k

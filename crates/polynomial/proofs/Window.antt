@@ -12,7 +12,7 @@ use Rattle.numbers.proofs.{Sums.whole, Sums.sum-ext, Sums.sum-reverse, Size.abs
 use Rattle.lists.specs.{Entries.tab, Entries.nums, Entries.ints, Ranges.Below, Ranges.Within, Ranges.Stored}
 use Rattle.lists.proofs.{Entries.tab-ext, Stored.front-at}
 use Rattle.polynomial.specs.Product.{turn, product, mixed, bare}
-use Rattle.polynomial.specs.{Fit.Fit, Window.both, Window.dot, Window.slide, Steps.Ready, Steps.Made, Steps.Windowed}
+use Rattle.polynomial.specs.Steps.{Fit, both, dot, slide, Ready, Made, Windowed}
 use Rattle.polynomial.proofs.{Turn.turn-in, Turn.turn-over, Laws.product-comm, Three.slide-≅, Stores.ints-is}
 
 -- [-a | a]

@@ -17,9 +17,7 @@ ghost use Rattle.lists.specs.Entries.{tab, nums, ints};
 ghost use Rattle.lists.specs.Ranges.{Below, Within, Stored};
 ghost use Rattle.lists.specs.Lent.{was, left, room};
 ghost use Rattle.polynomial.specs.Product.{mixed, bare};
-ghost use Rattle.polynomial.specs.Fit.{Fit};
-ghost use Rattle.polynomial.specs.Window.{lift, upper, lower, span, slide, Pair};
-ghost use Rattle.polynomial.specs.Steps.{Ready, Prepared, Halved, Made, Joined, Windowed};
+ghost use Rattle.polynomial.specs.Steps.{Fit, lift, upper, lower, span, slide, Pair, Ready, Prepared, Halved, Made, Joined, Windowed};
 use schemes::Bcns;
 
 // One product. The functions below it are a tree of sums.

@@ -15,7 +15,7 @@ use Rattle.lists.proofs.First.{none-found, all-below}
 use Rattle.transform.specs.Transform.{transformed, inverted}
 use Rattle.values.specs.{Fit.Counted, Fit.Small, Fit.NewHopeAsks, Values.offered, Values.replied, Values.mixedValue, Values.bareValue}
 use Rattle.values.proofs.{Numbers.Bcns, Numbers.NewHope, Numbers.Frodo, Numbers.Each, Numbers.in-arm, Numbers.arm-asks, Settling.counted}
-use Rattle.polynomial.specs.Fit as polynomial-fit
+use Rattle.polynomial.specs.Steps as polynomial-fit
 use Rattle.polynomial.specs.Product as polynomial
 use Rattle.matrix.specs.Fit as matrix-fit
 use Rattle.matrix.specs.Matrix as matrix

@@ -6,7 +6,7 @@ ghost use Rattle.schemes.specs.Schemes.{bcns, fixedOf};
 ghost use Rattle.lists.specs.Lent.{was, left, room};
 ghost use Rattle.lists.specs.Ranges.{Below, Within};
 ghost use Rattle.lists.specs.First.{firstOver};
-ghost use Rattle.polynomial.specs.Fit.{Fit};
+ghost use Rattle.polynomial.specs.Steps.{Fit};
 ghost use Rattle.polynomial.specs.Product.{mixed};
 ghost use Rattle.transform.specs.Transform.{transformed, inverted};
 ghost use Rattle.values.specs.Fit.{Counted, Small, NewHopeAsks, NewHopeReplies, NewHopeSecrets};

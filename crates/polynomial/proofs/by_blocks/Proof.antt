@@ -1,6 +1,6 @@
 -- `polynomial::by_blocks` meets its contract. The invariant: the sum is that of the first i products.
 use Rattle.lists.proofs.Kit.{_≡_, _∙_, ap, ℕ, _-_, _%_, _≤_, arith, length, w32, ofZ}
-use Rattle.polynomial.specs.Window.{span}
+use Rattle.polynomial.specs.Steps.{span}
 use Rattle.polynomial.proofs.{Kernel.first-none, Kernel.first-fits, Kernel.first-read, Kernel.first-more, by_blocks.Statement.statement}
 use Rattle.polynomial.proofs.by_blocks.Tie as tie
 

@@ -3,7 +3,7 @@ use Rattle.lists.proofs.Kit.{_∙_, sym, _+_, _-_, _≤_, arith, pos, needs}
 use Rattle.numbers.proofs.Machine.{wide, wide-fits}
 use Rattle.lists.specs.{Entries.ints, Ranges.Stored}
 use Rattle.lists.proofs.{Parts.front-long, Stored.store-none, Stored.store-next, Stored.stored-all}
-use Rattle.polynomial.specs.Window.{slide}
+use Rattle.polynomial.specs.Steps.{slide}
 use Rattle.polynomial.proofs.{Level.dot-pair, Level.dot-part, dots.Statement.statement}
 use Rattle.polynomial.proofs.dots.Tie as tie
 

@@ -1,6 +1,6 @@
 -- `polynomial::high_half` meets its contract.
 use Rattle.lists.proofs.Kit.{_/_, arith, needs}
-use Rattle.polynomial.specs.Window.{upper}
+use Rattle.polynomial.specs.Steps.{upper}
 use Rattle.polynomial.proofs.{Halves.less-fits, Halves.narrow-fits, Halves.narrow, high_half.Statement.statement}
 use Rattle.polynomial.proofs.high_half.Tie as tie
 

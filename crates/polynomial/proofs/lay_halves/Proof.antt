@@ -1,6 +1,6 @@
 -- `polynomial::lay_halves` meets its contract.
 use Rattle.lists.proofs.Kit.{_∙_, ap, _+_, _*_, _-_, _≤_, arith, length-set, toZ-ofZ, needs}
-use Rattle.polynomial.specs.Window.{upper, lower}
+use Rattle.polynomial.specs.Steps.{upper, lower}
 use Rattle.polynomial.proofs.{Level.Halving, Level.halving-none, Level.halving-next, Level.halving-all, lay_halves.Statement.statement}
 use Rattle.polynomial.proofs.lay_halves.Tie as tie
 

@@ -1,6 +1,6 @@
 -- `polynomial::low_half` meets its contract.
 use Rattle.lists.proofs.Kit.{_%_, arith, needs}
-use Rattle.polynomial.specs.Window.{lower}
+use Rattle.polynomial.specs.Steps.{lower}
 use Rattle.polynomial.proofs.{Halves.less-fits, Halves.narrow-fits, Halves.narrow, low_half.Statement.statement}
 use Rattle.polynomial.proofs.low_half.Tie as tie
 

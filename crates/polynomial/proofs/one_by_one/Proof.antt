@@ -1,6 +1,6 @@
 -- `polynomial::one_by_one` meets its contract. The invariant: the sum is that of the first i products.
 use Rattle.lists.proofs.Kit.{needs, _≡_, _∙_, ap, ℕ, _-_, _≤_, arith, length, w32, ofZ}
-use Rattle.polynomial.specs.Window.{span}
+use Rattle.polynomial.specs.Steps.{span}
 use Rattle.polynomial.proofs.{Kernel.first-none, Kernel.first-fits, Kernel.first-read, Kernel.first-more, one_by_one.Statement.statement}
 use Rattle.polynomial.proofs.one_by_one.Tie as tie
 
