@@ -9,7 +9,7 @@ ghost use Rattle.polynomial.specs.Steps as polynomial;
 ghost use Rattle.polynomial.specs.Product as polynomials;
 ghost use Rattle.transform.specs.Transform.{transformed, inverted};
 ghost use Rattle.transform.specs.Theorems.{multiplied};
-ghost use Rattle.matrix.specs.Fit as matrix;
+ghost use Rattle.matrix.specs.Steps as matrix;
 ghost use Rattle.matrix.specs.Matrix as matrices;
 
 #[no_mangle]

@@ -1,16 +1,15 @@
 -- What the code makes of whole matrices is what the definitions say.
 --   column-at, columns-length   an entry of the columns of S, and how many there are
---   shape, fit             what fits has the shape; what has it fits where its numbers are below q
 --   right-any, left-any    words of any modulus m that is a multiple of q: XS + E by rows of X and columns of S; SY + E by rows of Y
 --   right-is, left-is, bare-is   so of what the code has made; US as XS + E without noise
 use Rattle.lists.proofs.Kit.{_≡_, refl, _∙_, ap, ap₂, List, ℕ, _+_, _*_, _/_, _%_, _<_, arith, mod-lt, div-lt-iff-lt-mul, digits-div, digits-mod, digits-lt}
 use Rattle.lists.proofs.Kit.{length, getD, replicate, ℤ, pos, _+ℤ_, _*ℤ_, +ℤ-idr, *ℤ-comm}
 use Rattle.numbers.specs.{Residue.residue, Congruence._≅⟨_⟩_}
 use Rattle.numbers.proofs.Congruence.{eq-≅, refl-≅, _⨾_, mul-≅, residue-≅}
-use Rattle.lists.specs.{Entries.nums, Entries.ints, Ranges.Below}
+use Rattle.lists.specs.Entries.{nums, ints}
 use Rattle.lists.proofs.{Entries.tab-length, Entries.tab-at, Entries.tab-ext, Same.equal-all}
 use Rattle.matrix.specs.Matrix.{times, rows, numsAt, intsAt, rightMixed, leftMixed, bare}
-use Rattle.matrix.specs.{Fit.Fit, Fit.Shape, Words.wordsOf, Words.gained, Words.reduced, Words.columnsOf, Words.rightTerm, Words.leftTerm}
+use Rattle.matrix.specs.{Steps.Shape, Words.wordsOf, Words.gained, Words.reduced, Words.columnsOf, Words.rightTerm, Words.leftTerm}
 use Rattle.matrix.proofs.Steps.{words-at, mixed, steps-are}
 
 pub column-at : (m n : ℕ) (s : List ℤ) (j t : ℕ) → j < 8 → t < n → getD (columnsOf m n s) (j * n + t) 0 ≡ residue m (ints s (t * 8 + j))
@@ -21,38 +20,6 @@ column-at m n s j t p l =
 pub columns-length : (m n : ℕ) (s : List ℤ) → length (columnsOf m n s) ≡ 8 * n
 unfolding columnsOf
 columns-length m n s = tab-length (8 * n) _
-
-module _ {q n r : ℕ} {x : List ℕ} {s : List ℤ} where
-  pub shape : Fit q n r x s → Shape q n r x s
-  shape f =
-      record {
-        some = f .some;
-        room = f .room;
-        whole = f .whole;
-        many = f .many;
-        few = f .few;
-        rows-many = f .rows-many;
-        rows-few = f .rows-few;
-        xs-long = f .xs-long;
-        s-long = f .s-long;
-        s-within = f .s-within;
-      }
-
-  pub fit : Shape q n r x s → Below q x → Fit q n r x s
-  fit f b =
-      record {
-        some = f .some;
-        room = f .room;
-        whole = f .whole;
-        many = f .many;
-        few = f .few;
-        rows-many = f .rows-many;
-        rows-few = f .rows-few;
-        xs-long = f .xs-long;
-        s-long = f .s-long;
-        xs-below = b;
-        s-within = f .s-within;
-      }
 
 -- a number times a word that is a secret modulo m
 product-≅ : (m : ℕ) → 0 < m → (x w : ℕ) (z : ℤ) → w ≡ residue m z → pos (x * w) ≅⟨ m ⟩ pos x *ℤ z
@@ -66,7 +33,7 @@ right-any m q n r x s e some w some-q h =
     (λ k t p b. product-≅ m some (getD x (k / 8 * n + t) 0) _ _ (column-at m n s (k % 8) t (mod-lt k (omega arith)) b))
 
 pub right-is :
-    (m : ℕ) {q n r : ℕ} {x : List ℕ} {s : List ℤ} → 0 < m → m % q ≡ 0 → (e : List ℤ) {l u v out : List ℕ} → Fit q n r x s → l ≡ columnsOf m n s → length e ≡ 8 * r →
+    (m : ℕ) {q n r : ℕ} {x : List ℕ} {s : List ℤ} → 0 < m → m % q ≡ 0 → (e : List ℤ) {l u v out : List ℕ} → Shape q n r x s → l ≡ columnsOf m n s → length e ≡ 8 * r →
     u ≡ wordsOf m e → v ≡ gained m n (rightTerm n x l) u → out ≡ reduced q v → out ≡ rightMixed q r n 8 x s e
 right-is m {q} {n} {r} {x} {s} some w e f d h i g o = steps-are m q n _ e i g o ∙ rw d (right-any m q n r x s e some w (f .some) h)
 
@@ -81,7 +48,7 @@ left-any m q n c s y e some w some-q some-c long h =
     ⨾ eq-≅ (*ℤ-comm (pos (getD y (t * c + k % c) 0)) (ints s (k / c * n + t))))
 
 pub left-is :
-    (m : ℕ) {q n c : ℕ} {s : List ℤ} {y : List ℕ} → 0 < m → m % q ≡ 0 → (e : List ℤ) {l u v out : List ℕ} → Fit q n c y s → l ≡ wordsOf m s → length e ≡ 8 * c →
+    (m : ℕ) {q n c : ℕ} {s : List ℤ} {y : List ℕ} → 0 < m → m % q ≡ 0 → (e : List ℤ) {l u v out : List ℕ} → Shape q n c y s → l ≡ wordsOf m s → length e ≡ 8 * c →
     u ≡ wordsOf m e → v ≡ gained m n (leftTerm n c l y) u → out ≡ reduced q v → out ≡ leftMixed q n c 8 s y e
 left-is m {q} {n} {c} {s} {y} some w e f d h i g o =
     steps-are m q n _ e i g o ∙ rw d (left-any m q n c s y e some w (f .some) (f .rows-many) (f .s-long) h)

@@ -16,8 +16,7 @@ ghost use Rattle.lists.specs.First.{firstOver};
 ghost use Rattle.lists.specs.Entries.{tab, ints};
 ghost use Rattle.lists.specs.Ranges.{Below};
 ghost use Rattle.matrix.specs.Matrix.{rightMixed, leftMixed, bare};
-ghost use Rattle.matrix.specs.Fit.{Fit, Shape};
-ghost use Rattle.matrix.specs.Steps.{turned, dotTerm, blockTerm, partTerm, blockGained};
+ghost use Rattle.matrix.specs.Steps.{Shape, Fit, turned, dotTerm, blockTerm, partTerm, blockGained};
 ghost use Rattle.matrix.specs.Words.{wordsOf, gained, reduced, columnsOf, rightTerm, leftTerm};
 
 // One product more. A sum of words is below 2^32, so nothing is lost before it wraps; the compiler makes one multiplication of 16 bits of it.

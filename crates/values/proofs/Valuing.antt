@@ -17,7 +17,7 @@ use Rattle.values.specs.{Fit.Counted, Fit.Small, Fit.NewHopeAsks, Values
 use Rattle.values.proofs.{Numbers.Bcns, Numbers.NewHope, Numbers.Frodo, Numbers.Each, Numbers.in-arm, Numbers.arm-asks, Settling.counted}
 use Rattle.polynomial.specs.Steps as polynomial-fit
 use Rattle.polynomial.specs.Product as polynomial
-use Rattle.matrix.specs.Fit as matrix-fit
+use Rattle.matrix.specs.Steps as matrix-fit
 use Rattle.matrix.specs.Matrix as matrix
 
 -- m numbers, secrets, room for n numbers
@@ -121,22 +121,7 @@ frodo-fit : {f : Fixed} {a : List ℕ} {s : List ℤ} {l m n : ℕ} → Bare f m
     → matrix-fit.Fit (f .q) (f .n) 8 a s × (l ≡ 64)
 frodo-fit {a = a} {s = s} h k p t =
     let x = frodo-shape {a = a} {s = s} (h .0 .0 .long) (h .0 .1) (h .1) 8 k (lit≤ tt) (lit≤ tt) p t in
-    let y = x .0 in (
-      record {
-        some = y .some;
-        room = y .room;
-        whole = y .whole;
-        many = y .many;
-        few = y .few;
-        rows-many = y .rows-many;
-        rows-few = y .rows-few;
-        xs-long = y .xs-long;
-        s-long = y .s-long;
-        xs-below = h .0 .0 .below;
-        s-within = y .s-within;
-      },
-      x .1,
-    )
+    (record { shape = x .0; xs-below = h .0 .0 .below }, x .1)
 
 bcns-noise-fit : {f : Fixed} {a : List ℕ} {s e : List ℤ} {l m n k : ℕ} → Noised f m n k a s e l → Bcns f → m ≡ 1024 → n ≡ 1024 → k ≡ 1024
     → polynomial-fit.Fit (bcns .q) l a s × (length e ≡ l)

@@ -6,8 +6,8 @@ use Rattle.matrix.proofs.eight_on.Tie as tie
 turn-requires : tie.Need-turn-requires
 turn-requires c κs =
     let a : tie.Start = search needs in
-    let f = a .pre .0 .0 in
-    (f .many, f .xs-long, a .pre .1 .1, below-wider (f .room) (f .xs-below))
+    let f = a .pre .0 .0 .shape in
+    (f .many, f .xs-long, a .pre .1 .1, below-wider (f .room) (a .pre .0 .0 .xs-below))
 
 -- the places, from the end
 module _ (r : tie.After-add-right) where
@@ -26,7 +26,7 @@ module _ (r : tie.After-add-right) where
 reduce-requires : tie.Need-reduce-requires
 reduce-requires c κs =
     let r : tie.After-add-right = search needs in
-    let f = a r .pre .0 .0 in
+    let f = a r .pre .0 .0 .shape in
     (f .some, f .room, f .whole, a r .pre .0 .2 ∙ sym (ap length (r .add-right .ensures) ∙ gained-length _ _ _ _ ∙ ap length (e r .words2 .ensures) ∙ words-length _ _ ∙ a r .pre .0 .1))
 
 returns : tie.Need-returns
@@ -34,7 +34,7 @@ returns c =
     let d : tie.After-reduce = search needs in
     let r : tie.After-add-right = search needs in
     let g = a r .args in
-    let f = a r .pre .0 .0 in
+    let f = a r .pre .0 .0 .shape in
     left-is 65536 (omega arith) (f .whole) (g .e .now) f (s r .words .ensures) (a r .pre .0 .1)
     (e r .words2 .ensures)
     (eight-terms 65536 (g .n) _ (g .y .now) _ (t r .turn .ensures) (r .add-right .ensures))

@@ -1,6 +1,6 @@
 -- `matrix::left_on` meets its contract.
 use Rattle.lists.proofs.Kit.{arith, needs}
-use Rattle.matrix.proofs.{Whole.fit, Whole.left-is, left_on.Statement.statement}
+use Rattle.matrix.proofs.{Whole.left-is, left_on.Statement.statement}
 use Rattle.matrix.proofs.left_on.Tie as tie
 
 returns : tie.Need-returns
@@ -10,7 +10,7 @@ returns c =
     let s : tie.After-words = search needs in
     let a : tie.Start = search needs in (
       g .left-rows .ensures .0,
-      λ b. left-is 65536 (omega arith) (a .pre .0 .0 .whole) (a .args .e .now) (fit (a .pre .0 .0) b)
+      λ b. left-is 65536 (omega arith) (a .pre .0 .0 .whole) (a .args .e .now) (a .pre .0 .0)
           (s .words .ensures) (a .pre .0 .1) (e .words2 .ensures) (g .left-rows .ensures .1 b) (c .before .before .reduce .ensures),
     )
 

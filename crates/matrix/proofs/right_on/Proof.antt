@@ -1,6 +1,6 @@
 -- `matrix::right_on` meets its contract.
 use Rattle.lists.proofs.Kit.{arith, needs}
-use Rattle.matrix.proofs.{Whole.fit, Whole.right-is, right_on.Statement.statement}
+use Rattle.matrix.proofs.{Whole.right-is, right_on.Statement.statement}
 use Rattle.matrix.proofs.right_on.Tie as tie
 
 returns : tie.Need-returns
@@ -10,7 +10,7 @@ returns c =
     let k : tie.After-columns = search needs in
     let a : tie.Start = search needs in (
       g .right-rows .ensures .0,
-      λ b. right-is 65536 (omega arith) (a .pre .0 .0 .whole) (a .args .e .now) (fit (a .pre .0 .0) b)
+      λ b. right-is 65536 (omega arith) (a .pre .0 .0 .whole) (a .args .e .now) (a .pre .0 .0)
           (k .columns .ensures) (a .pre .0 .1) (w .words .ensures) (g .right-rows .ensures .1 b) (c .before .before .reduce .ensures),
     )
 
