@@ -5,7 +5,8 @@
 --   numbers-blank, told-blank    they are blank where their packed part is, and so says a verdict on them
 --   opened-part, opened-back, seed-back      the packed part of an opening, its numbers, and its seed
 --   replied-part, replied-back, hints-back   those of a reply, and its hints
---   opening-back, reply-back, opening-again, reply-again   what is stated in specs/Again
+--   opening-back, reply-back     what is stated in specs/Again
+--   opening-again, reply-again   a message of the scheme's length comes back the same when it is unpacked and packed again
 --   hints-given, coins-given     hints and coins are as many as the scheme has, each within its bits
 --   message-counted              numbers that are not refused are as many as the scheme has, each below q
 use Rattle.lists.proofs.Kit.{_≡_, sym, ap, ap₂, _∙_, List, _++_, ℕ, _+_, _^_, le-refl, arith, length, take, drop, length-append, length-drop, take-append-drop}
@@ -20,7 +21,7 @@ use Rattle.refusals.specs.{Refusals.notBlank, Refusals.receivedIn, declared.Ver
 use Rattle.refusals.proofs.Laws.{both, message-passed}
 use Rattle.values.specs.Fit.{Counted}
 use Rattle.wire.specs.Wire.{opening, packedAt, openedIn, repliedIn, numbersIn, hintsIn, coinsIn, seedIn}
-use Rattle.wire.specs.Again.{OpeningAgain, ReplyAgain, OpeningBack, ReplyBack}
+use Rattle.wire.specs.Again.{OpeningBack, ReplyBack}
 use Rattle.wire.proofs.Whole.{numbers, hints, keys, long, back, as-blank, again}
 use Rattle.wire.proofs.Places.{opened-long, replied-long, hints-long}
 
@@ -143,13 +144,15 @@ part-again : (c : Scheme) {p : List ℕ} → Below 256 p → length p ≡ fixedO
 unfolding numbersIn
 part-again c b l = again (numbers c) b l
 
-pub opening-again : OpeningAgain
+pub opening-again : (c : Scheme) (m : List ℕ) → length m ≡ fixedOf c .opening → Below 256 m
+    → opening c (seedIn c m) (packed (fixedOf c .width) (numbersIn c (openedIn c m))) ≡ m
 unfolding opening seedIn openedIn
 opening-again c m l b =
     let p = part-again c (below-take (below-drop b (packedAt c)) (fixedOf c .packed)) (opened-long c m l) in
     ap (opening c (seedIn c m)) p ∙ laid-again (fixedOf c .packed) (fixedOf c .seed) m (l ∙ tied c .opening) (familyOf c)
 
-pub reply-again : ReplyAgain
+pub reply-again : (c : Scheme) (m : List ℕ) → length m ≡ fixedOf c .reply → Below 256 m
+    → packed (fixedOf c .width) (numbersIn c (repliedIn c m)) ++ packed (fixedOf c .hintbits) (hintsIn c m) ≡ m
 unfolding repliedIn hintsIn
 reply-again c m l b =
     ap₂ _++_ (part-again c (below-take b (fixedOf c .packed)) (replied-long c m l)) (again (hints c) (below-drop b (fixedOf c .packed)) (hints-long c m l))

@@ -1,23 +1,11 @@
 -- Messages there and back.
---   OpeningAgain, ReplyAgain   a message of the scheme's length comes back the same when it is unpacked and packed again
---   OpeningBack                the numbers and the seed that an opening was put together from come back
---   ReplyBack                  so do the numbers and the hints of a reply
+--   OpeningBack   the numbers and the seed that an opening was put together from come back
+--   ReplyBack     so do the numbers and the hints of a reply
 use Rattle.lists.specs.Kit.{_≡_, List, _++_, ℕ, _^_, length}
 use Rattle.schemes.specs.{Schemes.fixedOf, declared.Scheme.Scheme}
-use Rattle.lists.specs.Ranges.{Below}
 use Rattle.packing.specs.Packing.{packed}
 use Rattle.values.specs.Fit.{Counted}
 use Rattle.wire.specs.Wire.{opening, openedIn, repliedIn, numbersIn, hintsIn, seedIn}
-
-abbrev pub OpeningAgain : Type 0
-OpeningAgain =
-    (c : Scheme) (m : List ℕ) → length m ≡ fixedOf c .opening → Below 256 m
-    → opening c (seedIn c m) (packed (fixedOf c .width) (numbersIn c (openedIn c m))) ≡ m
-
-abbrev pub ReplyAgain : Type 0
-ReplyAgain =
-    (c : Scheme) (m : List ℕ) → length m ≡ fixedOf c .reply → Below 256 m
-    → packed (fixedOf c .width) (numbersIn c (repliedIn c m)) ++ packed (fixedOf c .hintbits) (hintsIn c m) ≡ m
 
 abbrev pub OpeningBack : Type 0
 OpeningBack =
