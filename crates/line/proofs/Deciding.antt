@@ -7,13 +7,13 @@
 --   beyond                   a number of more than 32 bits names no scheme
 --   unnamed, in-family       the answers, by the scheme
 --   other-text, some-behind, nothing-behind   the answers, by what was read of the lines
-use Rattle.lists.proofs.Kit.{_≡_, refl, _∙_, sym, ap, ap₂, Bool, true, false, cond, _||_, List, [], _∷_, _++_, ℕ, _*_, _^_, _≤_, _<_, pow-le-pow-right, arith}
+use Rattle.lists.proofs.Kit.{_≡_, refl, _∙_, sym, ap, ap₂, Bool, true, false, cond, _||_, List, [], _∷_, ℕ, _*_, _^_, _≤_, _<_, pow-le-pow-right, arith}
 use Rattle.lists.proofs.Kit.{eqb, leb, ltb, length, drop, drop-of-length-le, drop-cons, ltb-true, ltb-false, leb-true, leb-false, lt-ltb, le-ltb, ne-eqb}
 use Rattle.schemes.specs.declared.Named.the-variants.{Known, Unknown}
 use Rattle.schemes.specs.Schemes.{byFamily, familyOf, fixedOf, schemeOf}
 use Rattle.schemes.specs.{declared.Family.Family, declared.Fixed.Fixed, declared.Named.Named, declared.Scheme.Scheme}
 use Rattle.lists.specs.First.{both}
-use Rattle.text.specs.{Text.schemeName, Text.Read, Text.number, Text.other, Text.fieldIn, Steps.labelIn}
+use Rattle.text.specs.Text.{schemeName, Read, number, other, fieldIn}
 use Rattle.frodo.specs.Shown.{Round}
 use Rattle.frodo.proofs.Schemes.{each-scheme}
 use Rattle.line.specs.Line.{coinName, vName, wName, Asked, numbers, text, endIn, wIn, vIn, coinIn, asked, refusal, bcnsShown, frodoShown, bcnsAnswer}
@@ -140,38 +140,29 @@ askedIn (four a b c d []) = numbers a b c d
 askedIn (four a b c d (x ∷ xs)) = text
 askedIn none = text
 
-abbrev w= : List ℕ
-w= = wName ++ 61 ∷ []
-
-abbrev v= : List ℕ
-v= = vName ++ 61 ∷ []
-
-abbrev coin= : List ℕ
-coin= = coinName ++ 61 ∷ []
-
 fourth : (a b c : ℕ) (r : Read) → askedIn (shifted a b c r) ≡ endIn a b c r
 unfolding endIn
 fourth a b c (number d []) = refl
 fourth a b c (number d (x ∷ xs)) = refl
 fourth a b c other = refl
 
-third : (a b : ℕ) (r : Read) → askedIn (moved w= (shifted 0 a b r)) ≡ wIn a b r
-unfolding wIn labelIn fieldIn
+third : (a b : ℕ) (r : Read) → askedIn (moved wName (shifted 0 a b r)) ≡ wIn a b r
+unfolding wIn
 third a b (number c xs) = fourth a b c (fieldIn wName xs)
 third a b other = refl
 
-second : (a : ℕ) (r : Read) → askedIn (moved w= (moved v= (shifted 0 0 a r))) ≡ vIn a r
-unfolding vIn labelIn fieldIn
+second : (a : ℕ) (r : Read) → askedIn (moved wName (moved vName (shifted 0 0 a r))) ≡ vIn a r
+unfolding vIn
 second a (number b xs) = third a b (fieldIn vName xs)
 second a other = refl
 
-first : (r : Read) → askedIn (moved w= (moved v= (moved coin= (shifted 0 0 0 r)))) ≡ coinIn r
-unfolding coinIn labelIn fieldIn
+first : (r : Read) → askedIn (moved wName (moved vName (moved coinName (shifted 0 0 0 r)))) ≡ coinIn r
+unfolding coinIn
 first (number a xs) = second a (fieldIn coinName xs)
 first other = refl
 
 lines-asked : (xs : List ℕ) → askedIn (linesOf xs) ≡ asked xs
-unfolding linesOf asked labelIn fieldIn
+unfolding linesOf asked
 lines-asked xs = first (fieldIn schemeName xs)
 
 -- the answer, by what was read of the lines

@@ -1,7 +1,7 @@
 -- Reading: what the functions that take a question apart rest on.
 --   next-room, next-other, next-read, all-four   one line more, and all four
-use Rattle.lists.proofs.Kit.{_≡_, _∙_, sym, ap, subst, List, [], _∷_, _++_, ℕ, _≤_, arith, length, drop}
-use Rattle.text.specs.{Text.schemeName, Steps.readOf, Steps.behind, Steps.Reads, Steps.labelIn, declared.Found.Found}
+use Rattle.lists.proofs.Kit.{_≡_, _∙_, sym, ap, subst, List, ℕ, _≤_, arith, length, drop}
+use Rattle.text.specs.{Text.schemeName, Text.fieldIn, Steps.readOf, Steps.behind, Steps.Reads, declared.Found.Found}
 use Rattle.line.specs.Steps.{Lines, four, partOf, reached, Stands, shifted, moved, linesOf}
 use Rattle.line.specs.Line.{coinName, vName, wName}
 use Rattle.text.specs.declared.Found.the-variants as found
@@ -12,7 +12,7 @@ module _ (label s : List ℕ) {l : Lines} {a b c d at : ℕ} (e : l ≡ lines.Re
   pub next-room : reached l ≤ length s → at ≤ length s
   next-room h = subst (λ (r : Lines). reached r ≤ length s) e h
 
-  module _ {f : Found} (r : Reads s f (labelIn label (drop at s))) where
+  module _ {f : Found} (r : Reads s f (fieldIn label (drop at s))) where
     moved-is : moved label (partOf s l) ≡ shifted b c d (readOf s f)
     moved-is = ap (λ (r : Lines). moved label (partOf s r)) e ∙ sym (ap (shifted b c d) (r .means))
 
@@ -26,8 +26,8 @@ module _ (label s : List ℕ) {l : Lines} {a b c d at : ℕ} (e : l ≡ lines.Re
           within = subst (λ (g : Found). behind g ≤ length s) o (r .within);
         }
 
-pub all-four : (s : List ℕ) {p q r t : Lines} → Stands s p (moved (schemeName ++ 61 ∷ []) (four 0 0 0 0 s))
-    → Stands s q (moved (coinName ++ 61 ∷ []) (partOf s p)) → Stands s r (moved (vName ++ 61 ∷ []) (partOf s q))
-    → Stands s t (moved (wName ++ 61 ∷ []) (partOf s r)) → Stands s t (linesOf s)
+pub all-four : (s : List ℕ) {p q r t : Lines} → Stands s p (moved schemeName (four 0 0 0 0 s))
+    → Stands s q (moved coinName (partOf s p)) → Stands s r (moved vName (partOf s q))
+    → Stands s t (moved wName (partOf s r)) → Stands s t (linesOf s)
 unfolding linesOf
 all-four s a b c d = record { means = rw (← a .means, ← b .means, ← c .means) (d .means); within = d .within }

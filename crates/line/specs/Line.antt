@@ -11,24 +11,24 @@ use Rattle.text.specs.{Text.schemeName, Text.line, Text.Read, Text.number, Text
 use Rattle.bcns.specs.Rounding as bcns
 use Rattle.frodo.specs.Rounding as frodo
 
--- the names, in bytes
+-- the names, each with its '=', in bytes
 abbrev pub coinName : List ℕ
-coinName = 99 ∷ 111 ∷ 105 ∷ 110 ∷ []
+coinName = 99 ∷ 111 ∷ 105 ∷ 110 ∷ 61 ∷ []
 
 abbrev pub vName : List ℕ
-vName = 118 ∷ []
+vName = 118 ∷ 61 ∷ []
 
 abbrev pub wName : List ℕ
-wName = 119 ∷ []
+wName = 119 ∷ 61 ∷ []
 
 abbrev pub hintName : List ℕ
-hintName = 104 ∷ 105 ∷ 110 ∷ 116 ∷ []
+hintName = 104 ∷ 105 ∷ 110 ∷ 116 ∷ 61 ∷ []
 
 abbrev pub keyName : List ℕ
-keyName = 107 ∷ 101 ∷ 121 ∷ []
+keyName = 107 ∷ 101 ∷ 121 ∷ 61 ∷ []
 
 abbrev pub peerName : List ℕ
-peerName = 112 ∷ 101 ∷ 101 ∷ 114 ∷ []
+peerName = 112 ∷ 101 ∷ 101 ∷ 114 ∷ 61 ∷ []
 
 unfoldable pub question : ℕ → ℕ → ℕ → ℕ → List ℕ
 question a b c d = line schemeName a ++ line coinName b ++ line vName c ++ line wName d

@@ -1,13 +1,13 @@
 -- What the code's steps do, in the terms of `Text` and `Line`; no promise to a caller stands here.
 --   Part, partOf, reached     what the lines read so far mean: the last four numbers, and what stands behind
---   moved label p             one line more
+--   moved name p              one line more
 --   linesOf xs                all four
 --   firstOf a x b y           x where the test a fails, else y where b fails, else 0
 --   tested most q coin v w    0, or the refusal of a coin over most (9), of v or w of q or more (4), in that order
 --   textOf r                  the text of a verdict
-use Rattle.lists.specs.Kit.{_≡_, Bool, cond, List, [], _∷_, _++_, ℕ, _≤_, ltb, length, drop}
+use Rattle.lists.specs.Kit.{_≡_, Bool, cond, List, ℕ, _≤_, ltb, length, drop}
 use Rattle.lists.specs.First.{both}
-use Rattle.text.specs.{Text.schemeName, Text.Read, Text.number, Text.other, Steps.labelIn}
+use Rattle.text.specs.Text.{schemeName, Read, number, other, fieldIn}
 use Rattle.line.specs.Line.{coinName, vName, wName, shown, refusal}
 pub use Rattle.line.specs.{declared.Lines.Lines, declared.Verdict.Verdict}
 use Rattle.line.specs.declared.Lines.the-variants as lines
@@ -36,12 +36,11 @@ shifted b c d (number x xs) = four b c d x xs
 shifted b c d other = none
 
 abbrev pub moved : List ℕ → Part → Part
-moved label (four a b c d xs) = shifted b c d (labelIn label xs)
-moved label none = none
+moved name (four a b c d xs) = shifted b c d (fieldIn name xs)
+moved name none = none
 
 unfoldable pub linesOf : List ℕ → Part
-linesOf xs =
-    moved (wName ++ 61 ∷ []) (moved (vName ++ 61 ∷ []) (moved (coinName ++ 61 ∷ []) (moved (schemeName ++ 61 ∷ []) (four 0 0 0 0 xs))))
+linesOf xs = moved wName (moved vName (moved coinName (moved schemeName (four 0 0 0 0 xs))))
 
 -- ---- the decision
 

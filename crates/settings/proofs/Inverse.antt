@@ -46,7 +46,7 @@ module _ (l : List ℕ) (some : 1 ≤ length l) (short : length l ≤ 16) (bytes
 tail-forth : (a b : ℕ) (l : List ℕ) → length l ≤ 16 → letters l ≡ length l → tailIn (formatOf (length l)) a b (labelLine l) ≡ setup (setupOf a b l)
 unfolding tailIn formatOf labelLine endIn lastIn
 tail-forth a b [] s h = refl
-tail-forth a b (x ∷ l) s h = rw (begins-front (labelName ++ 61 ∷ []) ((x ∷ l) ++ LF ∷ [])) (spelled-forth (x ∷ l) (omega arith) s h a b)
+tail-forth a b (x ∷ l) s h = rw (begins-front labelName ((x ∷ l) ++ LF ∷ [])) (spelled-forth (x ∷ l) (omega arith) s h a b)
 
 format-small : (n : ℕ) → formatOf n ≤ 2
 unfolding formatOf
@@ -79,7 +79,7 @@ record Spelled (l xs : List ℕ) : Type 0 where
   short : length l ≤ 16
   bytes : letters l ≡ length l
 
-line-some : (l : List ℕ) → 1 ≤ length l → labelLine l ≡ (labelName ++ 61 ∷ []) ++ (l ++ LF ∷ [])
+line-some : (l : List ℕ) → 1 ≤ length l → labelLine l ≡ labelName ++ (l ++ LF ∷ [])
 unfolding labelLine
 line-some [] h = absurd (omega arith)
 line-some (x ∷ l) h = refl
@@ -130,9 +130,9 @@ module _ {x : Setup} where
 
   last-back : (a b : ℕ) (xs : List ℕ) → lastIn a b xs ≡ setup x → (a ≡ x .scheme) × (b ≡ x .rule) × Tail 2 xs (x .label)
   unfolding lastIn
-  last-back a b xs = go (begins (labelName ++ 61 ∷ []) xs) refl
+  last-back a b xs = go (begins labelName xs) refl
     where
-      go : (t : Bool) → begins (labelName ++ 61 ∷ []) xs ≡ t → cond t (spelledIn a b (drop 6 xs)) misfit ≡ setup x
+      go : (t : Bool) → begins labelName xs ≡ t → cond t (spelledIn a b (drop 6 xs)) misfit ≡ setup x
           → (a ≡ x .scheme) × (b ≡ x .rule) × Tail 2 xs (x .label)
       go true w e =
           let o = spelled-back a b (drop 6 xs) e in
@@ -141,7 +141,7 @@ module _ {x : Setup} where
             o .0,
             o .1,
             record {
-              text = begins-is (labelName ++ 61 ∷ []) xs w ∙ ap (λ (t : List ℕ). (labelName ++ 61 ∷ []) ++ t) (s .text) ∙ sym (line-some l (s .some));
+              text = begins-is labelName xs w ∙ ap (λ (t : List ℕ). labelName ++ t) (s .text) ∙ sym (line-some l (s .some));
               format = format-some (length l) (λ z. omega (arith, s .some));
               short = s .short;
               bytes = s .bytes;
@@ -240,7 +240,7 @@ end-quiet a b (x ∷ xs) = quiet-misfit
 last-quiet : (a b : ℕ) (xs : List ℕ) → Quiet (lastIn a b xs)
 unfolding lastIn spelledIn
 last-quiet a b xs =
-    cond-all Quiet (begins (labelName ++ 61 ∷ []) xs)
+    cond-all Quiet (begins labelName xs)
     (cond-all Quiet (wellSpelled (drop 6 xs)) (quiet-setup (setupOf a b (take (letters (drop 6 xs)) (drop 6 xs)))) quiet-misfit) quiet-misfit
 
 rule-quiet : (f a : ℕ) (r : Read) → Quiet (ruleIn f a r)

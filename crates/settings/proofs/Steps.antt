@@ -5,12 +5,12 @@
 --   tail-two, tail-none, tail-more, tail-end, end-short   what stands behind the rule
 --   within                                 a number that was read ends within the text
 --   rule-other, rule-read, rule-bad, scheme-.., format-..   the lines, where they are other text, read, or bad
-use Rattle.lists.proofs.Kit.{_≡_, refl, _∙_, sym, ap, subst, Bool, true, false, _&&_, List, [], _∷_, _++_, ℕ, suc, _+_, _-_, _≤_, _<_, add-one, arith, eqb, leb}
+use Rattle.lists.proofs.Kit.{_≡_, refl, _∙_, sym, ap, subst, Bool, true, false, _&&_, List, _++_, ℕ, suc, _+_, _-_, _≤_, _<_, add-one, arith, eqb, leb}
 use Rattle.lists.proofs.Kit.{drop-cons, length, getD, take, drop, replicate, length-append, length-drop, drop-of-length-le, leb-true, eqb-true, le-leb, lt-leb}
 use Rattle.lists.proofs.Kit.{lt-ltb, le-ltb, ne-eqb}
 use Rattle.lists.specs.First.{both}
 use Rattle.lists.proofs.{Table.both-true, Parts.part, Parts.to-end, Parts.drop-same}
-use Rattle.text.specs.{Text.LF, Text.schemeName, Text.begins, Text.fieldIn, Text.Read, Steps.Reads, Steps.labelIn, Steps.behind, declared.Found.Found}
+use Rattle.text.specs.{Text.LF, Text.schemeName, Text.begins, Text.fieldIn, Text.Read, Steps.Reads, Steps.behind, declared.Found.Found}
 use Rattle.text.proofs.{Reading.begins-is, Lines.told-number, Lines.told-other}
 use Rattle.settings.specs.Settings.{setupOf, formatName, ruleName, labelName, isScheme, isRule, letters, setup, newer, misfit, wellSpelled, spelledIn}
 use Rattle.settings.specs.Settings.{lastIn, endIn, tailIn, ruleIn, schemeIn, formatIn, reads}
@@ -67,23 +67,20 @@ pub spelled-misfit : (a b : ℕ) (xs : List ℕ) → false ≡ wellSpelled xs �
 unfolding spelledIn
 spelled-misfit a b xs w = rw (← w)
 
-abbrev pub label= : List ℕ
-label= = labelName ++ 61 ∷ []
-
 module _ (a b : ℕ) (s : List ℕ) (at : ℕ) where
-  pub last-room : true ≡ begins label= (part s at) → 6 ≤ length (part s at)
-  last-room w = omega (arith, ap length (begins-is label= (part s at) (sym w)) ∙ length-append label= (drop 6 (part s at)))
+  pub last-room : true ≡ begins labelName (part s at) → 6 ≤ length (part s at)
+  last-room w = omega (arith, ap length (begins-is labelName (part s at) (sym w)) ∙ length-append labelName (drop 6 (part s at)))
 
-  pub last-spelled : true ≡ begins label= (part s at) → spelledIn a b (part (part s at) 6) ≡ lastIn a b (drop at s)
+  pub last-spelled : true ≡ begins labelName (part s at) → spelledIn a b (part (part s at) 6) ≡ lastIn a b (drop at s)
   unfolding lastIn
   last-spelled w =
-      let v : true ≡ begins label= (drop at s) = rw (to-end s at) at w in
+      let v : true ≡ begins labelName (drop at s) = rw (to-end s at) at w in
       rw (to-end (part s at) 6, to-end s at, ← v)
 
-  pub last-misfit : false ≡ begins label= (part s at) → misfit ≡ lastIn a b (drop at s)
+  pub last-misfit : false ≡ begins labelName (part s at) → misfit ≡ lastIn a b (drop at s)
   unfolding lastIn
   last-misfit w =
-      let v : false ≡ begins label= (drop at s) = rw (to-end s at) at w in
+      let v : false ≡ begins labelName (drop at s) = rw (to-end s at) at w in
       rw (← v)
 
 -- ---- what stands behind the rule
@@ -113,16 +110,7 @@ end-short s at l = omega (arith, ap length (to-end s at), length-drop at s)
 pub within : {s : List ℕ} {g : Found} {x : Read} {n k : ℕ} → Reads s g x → g ≡ found.Number n k → k ≤ length s
 within {s} r e = subst (λ (g : Found). behind g ≤ length s) e (r .within)
 
-abbrev pub rule= : List ℕ
-rule= = ruleName ++ 61 ∷ []
-
-abbrev pub scheme= : List ℕ
-scheme= = schemeName ++ 61 ∷ []
-
-abbrev pub format= : List ℕ
-format= = formatName ++ 61 ∷ []
-
-module _ (f a : ℕ) (s : List ℕ) (at : ℕ) {g : Found} (r : Reads s g (labelIn rule= (drop at s))) {o : ReadAnswer} where
+module _ (f a : ℕ) (s : List ℕ) (at : ℕ) {g : Found} (r : Reads s g (fieldIn ruleName (drop at s))) {o : ReadAnswer} where
   pub rule-other : g ≡ found.Other → o ≡ answerOf misfit → o ≡ answerOf (ruleIn f a (fieldIn ruleName (drop at s)))
   unfolding ruleIn
   rule-other e d = rw (told-other ruleName s at r e) d
@@ -136,7 +124,7 @@ module _ (f a : ℕ) (s : List ℕ) (at : ℕ) {g : Found} (r : Reads s g (label
     unfolding ruleIn
     rule-bad z d = rw (told-number ruleName s at r e, ← w, z) d
 
-module _ (f : ℕ) (s : List ℕ) (at : ℕ) {g : Found} (r : Reads s g (labelIn scheme= (drop at s))) {o : ReadAnswer} where
+module _ (f : ℕ) (s : List ℕ) (at : ℕ) {g : Found} (r : Reads s g (fieldIn schemeName (drop at s))) {o : ReadAnswer} where
   pub scheme-other : g ≡ found.Other → o ≡ answerOf misfit → o ≡ answerOf (schemeIn f (fieldIn schemeName (drop at s)))
   unfolding schemeIn
   scheme-other e d = rw (told-other schemeName s at r e) d
@@ -150,7 +138,7 @@ module _ (f : ℕ) (s : List ℕ) (at : ℕ) {g : Found} (r : Reads s g (labelIn
     unfolding schemeIn
     scheme-bad z d = rw (told-number schemeName s at r e, ← w, z) d
 
-module _ (reader : ℕ) (s : List ℕ) {g : Found} (r : Reads s g (labelIn format= (drop 0 s))) where
+module _ (reader : ℕ) (s : List ℕ) {g : Found} (r : Reads s g (fieldIn formatName (drop 0 s))) where
   pub format-other : g ≡ found.Other → misfit ≡ reads reader s
   unfolding reads formatIn
   format-other e = rw (told-other formatName s 0 r e)

@@ -9,7 +9,7 @@
 --   stored-back                    what the output holds is read as what was written
 use Rattle.lists.proofs.Kit.{_≡_, refl, _∙_, sym, ap, _⊎_, inl, inr, Bool, true, false, cond, List, [], _∷_, _++_, append-nil, ℕ, zero, suc, _+_, _≤_, _<_}
 use Rattle.lists.proofs.Kit.{arith, length, replicate, length-append, leb-true, le-leb, lt-leb, ne-eqb}
-use Rattle.text.specs.{Text.LF, Text.digitsUpTo, Text.decimal, Text.schemeName, Text.line, Steps.labelled, Steps.Written}
+use Rattle.text.specs.{Text.LF, Text.digitsUpTo, Text.decimal, Text.schemeName, Text.line, Steps.Written}
 use Rattle.text.proofs.Writing.{joined, Left, left-all, written-none, one-digit, line-length}
 use Rattle.text.proofs.{Answer.answers, Runs.run-within}
 use Rattle.refusals.specs.declared.Refusal.the-variants.{NoScheme, NoRule, Misfit}
@@ -18,10 +18,10 @@ use Rattle.refusals.specs.Seen.{written, done, refused, shown, seen}
 use Rattle.refusals.specs.{Refusals._then_, Refusals.lengthUpTo, Refusals.roomFor, declared.Refusal.Refusal, declared.Verdict.Verdict}
 use Rattle.refusals.proofs.Laws.{both, number-zero, differ, stays, goes-on, also, up-to-passed, room-passed}
 use Rattle.refusals.proofs.Seen.{shown-failed, written-answer}
-use Rattle.settings.specs.Settings.{Setup, formatName, ruleName, formatOf, labelLine, textOf, isScheme, isRule, notAllowed, letters}
+use Rattle.settings.specs.Settings.{Setup, formatName, ruleName, labelName, formatOf, labelLine, textOf, isScheme, isRule, notAllowed, letters}
 use Rattle.settings.specs.Calls.{schemeKnown, ruleKnown, allowed, writeTests, writeResult}
 use Rattle.settings.specs.{Shown.Valid, Shown.StoredBack, Steps.sizeOf}
-use Rattle.settings.proofs.{Known.scheme-small, Known.rule-is, Inverse.back, Steps.label=, Steps.rule=, Steps.scheme=, Steps.format=}
+use Rattle.settings.proofs.{Known.scheme-small, Known.rule-is, Inverse.back}
 
 -- ---- how long
 
@@ -154,21 +154,21 @@ unfolding labelLine
 label-none [] d at e = written-none d at
 label-none (x ∷ l) d at e = absurd (omega arith)
 
-label-parts : (l : List ℕ) → (length l ≡ 0 → ⊥) → labelLine l ≡ joined (label= ∷ l ∷ (LF ∷ []) ∷ [])
+label-parts : (l : List ℕ) → (length l ≡ 0 → ⊥) → labelLine l ≡ joined (labelName ∷ l ∷ (LF ∷ []) ∷ [])
 unfolding labelLine joined
 label-parts [] n = absurd (n refl)
 label-parts (x ∷ l) n = refl
 
 pub label-left : (l d : List ℕ) (at : ℕ) → (length l ≡ 0 → ⊥) → at + length (labelLine l) ≤ length d
-    → Left at (labelLine l) d (label= ∷ l ∷ (LF ∷ []) ∷ []) d at
-label-left l d at n h = left-all at (label= ∷ l ∷ (LF ∷ []) ∷ []) d (label-parts l n) h
+    → Left at (labelLine l) d (labelName ∷ l ∷ (LF ∷ []) ∷ []) d at
+label-left l d at n h = left-all at (labelName ∷ l ∷ (LF ∷ []) ∷ []) d (label-parts l n) h
 
 -- with f the format's number
 abbrev parts : ℕ → Setup → List (List ℕ)
-parts f x = labelled format= f ∷ labelled scheme= (x .scheme) ∷ labelled rule= (x .rule) ∷ labelLine (x .label) ∷ []
+parts f x = line formatName f ∷ line schemeName (x .scheme) ∷ line ruleName (x .rule) ∷ labelLine (x .label) ∷ []
 
 lines-are : (f : ℕ) (x : Setup) → f ≡ formatOf (length (x .label)) → textOf x ≡ joined (parts f x)
-unfolding textOf line labelled joined
+unfolding textOf joined
 lines-are f x e =
     ap (λ (k : ℕ). line formatName k ++ (line schemeName (x .scheme) ++ (line ruleName (x .rule) ++ labelLine (x .label)))) (sym e)
     ∙ ap (λ (t : List ℕ). line formatName f ++ (line schemeName (x .scheme) ++ (line ruleName (x .rule) ++ t))) (sym (append-nil (labelLine (x .label))))

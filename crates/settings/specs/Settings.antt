@@ -25,15 +25,15 @@ setupOf a b l = record { scheme = a; rule = b; label = l }
 
 -- ---- the text of settings
 
--- `format`, `rule`, `label` in bytes
+-- `format=`, `rule=`, `label=` in bytes
 abbrev pub formatName : List ℕ
-formatName = 102 ∷ 111 ∷ 114 ∷ 109 ∷ 97 ∷ 116 ∷ []
+formatName = 102 ∷ 111 ∷ 114 ∷ 109 ∷ 97 ∷ 116 ∷ 61 ∷ []
 
 abbrev pub ruleName : List ℕ
-ruleName = 114 ∷ 117 ∷ 108 ∷ 101 ∷ []
+ruleName = 114 ∷ 117 ∷ 108 ∷ 101 ∷ 61 ∷ []
 
 abbrev pub labelName : List ℕ
-labelName = 108 ∷ 97 ∷ 98 ∷ 101 ∷ 108 ∷ []
+labelName = 108 ∷ 97 ∷ 98 ∷ 101 ∷ 108 ∷ 61 ∷ []
 
 unfoldable pub formatOf : ℕ → ℕ
 formatOf zero = 1
@@ -42,7 +42,7 @@ formatOf (suc n) = 2
 -- the last line of format 2, and none in format 1
 unfoldable pub labelLine : List ℕ → List ℕ
 labelLine [] = []
-labelLine (x ∷ l) = (labelName ++ 61 ∷ []) ++ ((x ∷ l) ++ LF ∷ [])
+labelLine (x ∷ l) = labelName ++ ((x ∷ l) ++ LF ∷ [])
 
 unfoldable pub textOf : Setup → List ℕ
 textOf x = line formatName (formatOf (length (x .label))) ++ (line schemeName (x .scheme) ++ (line ruleName (x .rule) ++ labelLine (x .label)))
@@ -90,7 +90,7 @@ spelledIn a b xs = cond (wellSpelled xs) (setup (setupOf a b (take (letters xs) 
 
 -- behind the rule in format 2: the label's line
 unfoldable pub lastIn : ℕ → ℕ → List ℕ → Reading
-lastIn a b xs = cond (begins (labelName ++ 61 ∷ []) xs) (spelledIn a b (drop 6 xs)) misfit
+lastIn a b xs = cond (begins labelName xs) (spelledIn a b (drop 6 xs)) misfit
 
 -- and in format 1: nothing
 unfoldable pub endIn : ℕ → ℕ → List ℕ → Reading

@@ -4,12 +4,12 @@
 --   line-forth, line-back       the text of a line is read as its number, and nothing else is
 --   told-number, told-within, told-other   what was found at a position
 use Rattle.lists.proofs.Kit.{_≡_, refl, _∙_, sym, ap, ap₂, subst, Bool, true, false, cond, List, [], _∷_, _++_, append-assoc, ℕ, suc, _^_, _≤_, _<_}
-use Rattle.lists.proofs.Kit.{pow-le-pow-right, add-one, arith, eqb, length, getD, take, drop, length-append, length-take, take-append-seam, drop-at}
+use Rattle.lists.proofs.Kit.{pow-le-pow-right, add-one, arith, eqb, length, getD, take, drop, length-take, take-append-seam, drop-at}
 use Rattle.lists.proofs.Kit.{getD-append-seam, split-at, eqb-true, eq-eqb, le-leb}
 use lib.Seq.{drop-append-add}
 use Rattle.lists.specs.First.{firstWhere, both}
 use Rattle.text.specs.Text.{LF, digitsUpTo, decimal, line, number, other, isDigit, notDigit, run, valueOf, wellFormed, numberIn, begins, fieldIn}
-use Rattle.text.specs.Steps.{readOf, behind, Reads, labelIn, Found}
+use Rattle.text.specs.Steps.{readOf, behind, Reads, Found}
 use Rattle.text.proofs.Numeral.{Numeral, made, made-length, only, enough, value, small, some, runs, front, taken}
 use Rattle.text.proofs.Reading.{Formed, formed-is, formed-room, begins-is}
 use Rattle.text.specs.declared.Found.the-variants as found
@@ -73,10 +73,7 @@ unfolding begins
 begins-front [] zs = refl
 begins-front (c ∷ cs) zs = rw (eq-eqb c c refl) (begins-front cs zs)
 
-label-length : (name : List ℕ) → length (name ++ 61 ∷ []) ≡ suc (length name)
-label-length name = rw length-append (omega arith)
-
-line-is : (name : List ℕ) (n : ℕ) (ys : List ℕ) → line name n ++ ys ≡ (name ++ 61 ∷ []) ++ (decimal n ++ LF ∷ ys)
+line-is : (name : List ℕ) (n : ℕ) (ys : List ℕ) → line name n ++ ys ≡ name ++ (decimal n ++ LF ∷ ys)
 unfolding line
 line-is name n ys = simp append-assoc
 
@@ -84,38 +81,26 @@ pub line-forth : (name : List ℕ) (n : ℕ) (ys : List ℕ) → n < 10 ^ 10 →
 unfolding fieldIn
 line-forth name n ys h =
     let zs = decimal n ++ LF ∷ ys in
-    rw (line-is name n ys, begins-front (name ++ 61 ∷ []) zs, drop-at (name ++ 61 ∷ []) zs (suc (length name)) (label-length name)) (number-forth n ys h)
+    rw (line-is name n ys, begins-front name zs, drop-at name zs (length name) refl) (number-forth n ys h)
 
 pub line-back : {n : ℕ} {ys : List ℕ} (name xs : List ℕ) → fieldIn name xs ≡ number n ys → (xs ≡ line name n ++ ys) × (n < 10 ^ 10)
 unfolding fieldIn
-line-back {n} {ys} name xs = go (begins (name ++ 61 ∷ []) xs) refl
+line-back {n} {ys} name xs = go (begins name xs) refl
   where
-    go : (t : Bool) → begins (name ++ 61 ∷ []) xs ≡ t → cond t (numberIn (drop (suc (length name)) xs)) other ≡ number n ys
-        → (xs ≡ line name n ++ ys) × (n < 10 ^ 10)
+    go : (t : Bool) → begins name xs ≡ t → cond t (numberIn (drop (length name) xs)) other ≡ number n ys → (xs ≡ line name n ++ ys) × (n < 10 ^ 10)
     go true b e =
-        let r = number-back (drop (suc (length name)) xs) e in (
-          begins-is (name ++ 61 ∷ []) xs b
-              ∙ ap (λ (t : List ℕ). (name ++ 61 ∷ []) ++ t) (ap (λ (k : ℕ). drop k xs) (label-length name) ∙ r .0)
-              ∙ sym (line-is name n ys),
-          r .1,
-        )
+        let r = number-back (drop (length name) xs) e in
+        (begins-is name xs b ∙ ap (λ (t : List ℕ). name ++ t) (r .0) ∙ sym (line-is name n ys), r .1)
     go false b e = let z : _≡_ {A = ℕ} 0 1 = cc in absurd (omega arith)
 
 -- ---- what was found at a position, in the terms of `fieldIn`
 
-field-is : (name xs : List ℕ) → labelIn (name ++ 61 ∷ []) xs ≡ fieldIn name xs
-unfolding labelIn fieldIn
-field-is name xs = rw (label-length name)
-
-module _ (name s : List ℕ) (at : ℕ) {f : Found} (r : Reads s f (labelIn (name ++ 61 ∷ []) (drop at s))) where
-  told : fieldIn name (drop at s) ≡ readOf s f
-  told = sym (field-is name (drop at s)) ∙ sym (r .means)
-
+module _ (name s : List ℕ) (at : ℕ) {f : Found} (r : Reads s f (fieldIn name (drop at s))) where
   pub told-number : {n k : ℕ} → f ≡ found.Number n k → fieldIn name (drop at s) ≡ number n (drop k s)
-  told-number e = told ∙ ap (readOf s) e
+  told-number e = sym (r .means) ∙ ap (readOf s) e
 
   pub told-within : {n k : ℕ} → f ≡ found.Number n k → k ≤ length s
   told-within e = subst (λ (g : Found). behind g ≤ length s) e (r .within)
 
   pub told-other : f ≡ found.Other → fieldIn name (drop at s) ≡ other
-  told-other e = told ∙ ap (readOf s) e
+  told-other e = sym (r .means) ∙ ap (readOf s) e

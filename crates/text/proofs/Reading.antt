@@ -14,8 +14,8 @@ use Rattle.lists.proofs.Kit.{drop-of-length-le, length-append, length-drop, Lis
 use Rattle.lists.proofs.Kit.{eq-eqb, ne-eqb}
 use Rattle.lists.specs.First.{both}
 use Rattle.lists.proofs.{Table.both-true, Parts.part, Parts.to-end}
-use Rattle.text.specs.Text.{LF, number, isDigit, notDigit, run, valueOf, wellFormed, numberIn, begins}
-use Rattle.text.specs.Steps.{Reads, labelIn, Found}
+use Rattle.text.specs.Text.{LF, number, isDigit, notDigit, run, valueOf, wellFormed, numberIn, begins, fieldIn}
+use Rattle.text.specs.Steps.{Reads, Found}
 use Rattle.text.specs.declared.Found.the-variants as found
 
 -- ---- digits
@@ -189,10 +189,10 @@ module _ (label s : List ℕ) (at : ℕ) (h : at ≤ length s) where
       omega
       (arith, ap length (begins-is label (part s at) (sym b)) ∙ length-append label (drop (length label) (part s at)), ap length (to-end s at), length-drop at s)
 
-  pub label-found : {r : Found} → true ≡ begins label (part s at) → Reads s r (numberIn (drop (at + length label) s)) → Reads s r (labelIn label (drop at s))
-  unfolding labelIn
+  pub label-found : {r : Found} → true ≡ begins label (part s at) → Reads s r (numberIn (drop (at + length label) s)) → Reads s r (fieldIn label (drop at s))
+  unfolding fieldIn
   label-found b f = record { means = f .means ∙ rw (← to-end s at, ← b, to-end s at, drop-drop (length label) at s); within = f .within }
 
-  pub label-other : false ≡ begins label (part s at) → Reads s found.Other (labelIn label (drop at s))
-  unfolding labelIn
+  pub label-other : false ≡ begins label (part s at) → Reads s found.Other (fieldIn label (drop at s))
+  unfolding fieldIn
   label-other b = record { means = rw (← to-end s at, ← b); within = omega arith }

@@ -10,7 +10,7 @@
 use Rattle.lists.proofs.Kit.{_≡_, refl, _∙_, sym, ap, ap₂, List, [], _∷_, _++_, append-assoc, append-nil, ℕ, _+_, _-_, _/_, _%_, _^_, _≤_, _<_, add-zero}
 use Rattle.lists.proofs.Kit.{add-one, arith, length, set, take, drop, length-append, length-drop, take-append-drop, length-take-le, take-at, drop-at, drop-drop}
 use Rattle.lists.proofs.Kit.{set-split, lt-ltb, le-ltb, putMid}
-use Rattle.text.specs.{Text.LF, Text.digitsUpTo, Text.decimal, Text.line, Steps.labelled, Steps.put, Steps.Written}
+use Rattle.text.specs.{Text.LF, Text.digitsUpTo, Text.decimal, Text.line, Steps.put, Steps.Written}
 use Rattle.text.proofs.Numeral.{enough}
 
 written-byte : (d : List ℕ) (i x : ℕ) → i < length d → Written i (x ∷ []) d (set d i x) (i + 1)
@@ -136,23 +136,22 @@ module _ (n : ℕ) (d : List ℕ) (at : ℕ) (h : at + length (decimal n) ≤ le
 pub record Lined (label : List ℕ) (n : ℕ) (d : List ℕ) (at : ℕ) (f : List ℕ) (k : ℕ) : Type 0 where
   pub room : k < length f
   pub long : length f ≡ length d
-  pub done : Written at (labelled label n) d (set f k LF) (k + 1)
+  pub done : Written at (line label n) d (set f k LF) (k + 1)
 
-pub line-length : (name : List ℕ) (n : ℕ) → length (line name n) ≡ length name + length (decimal n) + 2
+pub line-length : (name : List ℕ) (n : ℕ) → length (line name n) ≡ length name + length (decimal n) + 1
 unfolding line
-line-length name n = simp length-append (omega arith)
+line-length name n = simp length-append
 
-module _ (label : List ℕ) (n : ℕ) (d : List ℕ) (at : ℕ) (h : at + length (labelled label n) ≤ length d) where
+module _ (label : List ℕ) (n : ℕ) (d : List ℕ) (at : ℕ) (h : at + length (line label n) ≤ length d) where
   pub line-room : at + length label + length (decimal n) + 1 ≤ length d
-  unfolding labelled
-  line-room = let l : length (labelled label n) ≡ length label + length (decimal n) + 1 = simp length-append in omega (arith, l)
+  line-room = omega (arith, line-length label n)
 
   module _ {e : List ℕ} {j : ℕ} (v : Written at label d e j) where
     pub number-room : j + length (decimal n) ≤ length e
     number-room = omega (arith, v .count, line-room, written-length v (omega (arith, v .count, line-room)))
 
     pub lined : {f : List ℕ} {k : ℕ} → Written j (decimal n) e f k → Lined label n d at f k
-    unfolding labelled
+    unfolding line
     lined {f} {k} w =
         let s : Written at (label ++ decimal n) d f k = written-then v (omega (arith, v .count, line-room)) w in
         let c : k + 1 ≤ length d = omega (arith, v .count, w .count, line-room) in

@@ -1,11 +1,11 @@
 -- A program's answer, as it stands in the room that it is lent.
---   refusalName             the name of the line that tells a refusal
+--   refusalName             the name of the line that tells a refusal, with its '='
 --   Answers room xs r out   out, of that many bytes, holds the text xs and zeros behind it, and r is how many bytes xs has
 --   OneAnswer               no two results satisfy it
 use Rattle.lists.specs.Kit.{_≡_, List, [], _∷_, _++_, ℕ, _-_, length, replicate}
 
 abbrev pub refusalName : List ℕ
-refusalName = 114 ∷ 101 ∷ 102 ∷ 117 ∷ 115 ∷ 97 ∷ 108 ∷ []
+refusalName = 114 ∷ 101 ∷ 102 ∷ 117 ∷ 115 ∷ 97 ∷ 108 ∷ 61 ∷ []
 
 pub record Answers (room : ℕ) (xs : List ℕ) (r : ℕ) (out : List ℕ) : Type 0 where
   pub count : r ≡ length xs

@@ -3,8 +3,8 @@
 ghost use mathlib.Core.Path.{_≡_};
 ghost use Prim.Native.Nat.{_+_, _-_, _≤_};
 ghost use lib.ListN.{length, drop};
-ghost use Rattle.text.specs.Text.{notDigit, run, valueOf, wellFormed, begins, numberIn, decimal};
-ghost use Rattle.text.specs.Steps.{Reads, labelIn, labelled, Written};
+ghost use Rattle.text.specs.Text.{notDigit, run, valueOf, wellFormed, begins, numberIn, fieldIn, decimal, line};
+ghost use Rattle.text.specs.Steps.{Reads, Written};
 
 // What reading a number finds: the number and the position behind its line, or other text.
 pub enum Found {
@@ -109,7 +109,7 @@ pub fn begins_with(label: &[u8], s: &[u8]) -> bool
 // The number of the line at a position, where it has that name.
 pub fn field(label: &[u8], s: &[u8], at: usize) -> Found
     requires { ⌜ at ≤ length (now s) ⌝ }
-    ensures { λ r. ⌜ Reads (now (s .entry)) r (labelIn (now (label .entry)) (drop at (now (s .entry)))) ⌝ }
+    ensures { λ r. ⌜ Reads (now (s .entry)) r (fieldIn (now (label .entry)) (drop at (now (s .entry)))) ⌝ }
 {
     if begins_with(label, &s[at..]) {
         number(s, at + label.len())
@@ -146,8 +146,8 @@ pub fn write_text(text: &[u8], out: &mut [u8], at: usize) -> usize
 
 // A line: its label, a number, LF.
 pub fn write_line(label: &[u8], n: u64, out: &mut [u8], at: usize) -> usize
-    requires { ⌜ at + length (labelled (now label) n) ≤ length (now out) ⌝ }
-    ensures { λ r. ⌜ Written at (labelled (now (label .entry)) n) (now (out .entry)) (now (out .exit)) r ⌝ }
+    requires { ⌜ at + length (line (now label) n) ≤ length (now out) ⌝ }
+    ensures { λ r. ⌜ Written at (line (now (label .entry)) n) (now (out .entry)) (now (out .exit)) r ⌝ }
 {
     let k = write_text(label, out, at);
     let end = write_number(n, out, k);

@@ -1,7 +1,7 @@
 -- Two lines of a trace: what the functions that read them rest on, and both ways.
 --   slack-other, slack-read, two-other, two-bad, two-read   what they find
 --   two-forth, two-back                                     two lines are read as their numbers, and nothing else is
-use Rattle.lists.proofs.Kit.{_≡_, refl, _∙_, ap₂, List, [], _∷_, _++_, Bool, true, false, cond, ℕ, _≤_, _<_, _^_, arith, leb, drop, leb-true, le-leb, lt-leb}
+use Rattle.lists.proofs.Kit.{_≡_, refl, _∙_, ap₂, List, _++_, Bool, true, false, cond, ℕ, _≤_, _<_, _^_, arith, leb, drop, leb-true, le-leb, lt-leb}
 use Rattle.text.specs.{Text.schemeName, Text.line, Text.Read, Text.number, Text.other, Text.fieldIn, declared.Found.Found}
 use Rattle.text.proofs.Lines.{line-forth, line-back, told-number, told-within, told-other}
 use Rattle.trace.specs.{Trace.slackName, Trace.two, Trace.neither, Trace.slackIn, Trace.schemeIn, Trace.twoIn, Steps.Reads, Steps.Pair}
@@ -9,13 +9,7 @@ use Rattle.text.specs.Steps as text
 use Rattle.text.specs.declared.Found.the-variants as found
 use Rattle.trace.specs.declared.Pair.the-variants as pair
 
-abbrev pub slack= : List ℕ
-slack= = slackName ++ 61 ∷ []
-
-abbrev pub scheme= : List ℕ
-scheme= = schemeName ++ 61 ∷ []
-
-module _ (a : ℕ) (s : List ℕ) (at : ℕ) {g : Found} (r : text.Reads s g (text.labelIn slack= (drop at s))) where
+module _ (a : ℕ) (s : List ℕ) (at : ℕ) {g : Found} (r : text.Reads s g (fieldIn slackName (drop at s))) where
   pub slack-other : g ≡ found.Other → Reads s pair.Other (slackIn a (fieldIn slackName (drop at s)))
   unfolding slackIn
   slack-other e = record { means = rw (told-other slackName s at r e); within = omega arith }
@@ -24,7 +18,7 @@ module _ (a : ℕ) (s : List ℕ) (at : ℕ) {g : Found} (r : text.Reads s g (te
   unfolding slackIn
   slack-read e = record { means = rw (told-number slackName s at r e); within = told-within slackName s at r e }
 
-module _ (s : List ℕ) (at : ℕ) {g : Found} (r : text.Reads s g (text.labelIn scheme= (drop at s))) where
+module _ (s : List ℕ) (at : ℕ) {g : Found} (r : text.Reads s g (fieldIn schemeName (drop at s))) where
   pub two-other : g ≡ found.Other → Reads s pair.Other (twoIn (drop at s))
   unfolding twoIn schemeIn
   two-other e = record { means = rw (told-other schemeName s at r e); within = omega arith }

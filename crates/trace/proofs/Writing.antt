@@ -4,23 +4,20 @@
 --   text-whole, text-lost      the text, by whether the whole trace was read
 use Rattle.lists.proofs.Kit.{_≡_, refl, sym, ap, subst, Bool, true, false, List, [], _∷_, _++_, append-nil, ℕ, zero, suc, _+_, _≤_, _<_, add-one, arith, length}
 use Rattle.lists.proofs.Kit.{drop, eq-eqb, ne-eqb}
-use Rattle.text.specs.{Text.schemeName, Text.line, Answer.refusalName, Steps.labelled, Steps.Written}
+use Rattle.text.specs.{Text.schemeName, Text.line, Answer.refusalName, Steps.Written}
 use Rattle.text.proofs.Writing.{joined, Left, left-all, left-room, left-next, left-none, written-none}
 use Rattle.trace.specs.Steps.{blockAt, summaryOf, ranBy, ranOf, textOf, Tally, Counted}
 use Rattle.trace.specs.Trace.{exchangesName, sumName, largestName, block}
 
-abbrev label : List ℕ → List ℕ
-label name = name ++ 61 ∷ []
-
 abbrev parts : ℕ → ℕ → ℕ → ℕ → List (List ℕ)
-parts s n m g = labelled (label schemeName) s ∷ labelled (label exchangesName) n ∷ labelled (label sumName) m ∷ labelled (label largestName) g ∷ []
+parts s n m g = line schemeName s ∷ line exchangesName n ∷ line sumName m ∷ line largestName g ∷ []
 
 pub block-none : (s : ℕ) {n : ℕ} (m g : ℕ) (d : List ℕ) (at : ℕ) → n ≡ 0 → Written at (block s n m g) d d at
 unfolding block
 block-none s {n} m g d at e = rw (eq-eqb n 0 e) (written-none d at)
 
 block-parts : (s n m g : ℕ) → (n ≡ 0 → ⊥) → block s n m g ≡ joined (parts s n m g)
-unfolding block line labelled joined
+unfolding block joined
 block-parts s n m g e =
     rw (ne-eqb n 0 e)
     (ap (λ (t : List ℕ). line schemeName s ++ (line exchangesName n ++ (line sumName m ++ t))) (sym (append-nil (line largestName g))))
@@ -77,6 +74,6 @@ pub text-whole : (c : Counted) → c .whole ≡ true → textOf (ranOf c) ≡ su
 unfolding textOf
 text-whole c e = ap (λ (b : Bool). textOf (ranBy b (c .tally))) e
 
-pub text-lost : (c : Counted) → c .whole ≡ false → textOf (ranOf c) ≡ labelled (label refusalName) 8
-unfolding textOf line labelled
+pub text-lost : (c : Counted) → c .whole ≡ false → textOf (ranOf c) ≡ line refusalName 8
+unfolding textOf
 text-lost c e = ap (λ (b : Bool). textOf (ranBy b (c .tally))) e

@@ -8,18 +8,18 @@ use Rattle.lists.specs.Kit.{cond, List, [], _∷_, _++_, ℕ, zero, suc, _+_, e
 use Rattle.lists.specs.First.{largestBy}
 use Rattle.text.specs.{Text.schemeName, Text.line, Text.Read, Text.number, Text.other, Text.fieldIn, Answer.refusalName}
 
--- the names, in bytes
+-- the names, each with its '=', in bytes
 abbrev pub slackName : List ℕ
-slackName = 115 ∷ 108 ∷ 97 ∷ 99 ∷ 107 ∷ []
+slackName = 115 ∷ 108 ∷ 97 ∷ 99 ∷ 107 ∷ 61 ∷ []
 
 abbrev pub exchangesName : List ℕ
-exchangesName = 101 ∷ 120 ∷ 99 ∷ 104 ∷ 97 ∷ 110 ∷ 103 ∷ 101 ∷ 115 ∷ []
+exchangesName = 101 ∷ 120 ∷ 99 ∷ 104 ∷ 97 ∷ 110 ∷ 103 ∷ 101 ∷ 115 ∷ 61 ∷ []
 
 abbrev pub sumName : List ℕ
-sumName = 115 ∷ 117 ∷ 109 ∷ []
+sumName = 115 ∷ 117 ∷ 109 ∷ 61 ∷ []
 
 abbrev pub largestName : List ℕ
-largestName = 108 ∷ 97 ∷ 114 ∷ 103 ∷ 101 ∷ 115 ∷ 116 ∷ []
+largestName = 108 ∷ 97 ∷ 114 ∷ 103 ∷ 101 ∷ 115 ∷ 116 ∷ 61 ∷ []
 
 pub record Exchange : Type 0 where
   pub scheme : ℕ

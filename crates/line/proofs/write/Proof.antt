@@ -1,6 +1,5 @@
 -- `line::write` meets its contract.
 use Rattle.lists.proofs.Kit.{ap, arith, length, needs}
-use Rattle.text.specs.{Text.line, Steps.labelled}
 use Rattle.text.proofs.Writing.{written-as}
 use Rattle.line.specs.{Line.refusal, Steps.textOf}
 use Rattle.line.proofs.write.Statement.{statement}
@@ -13,7 +12,7 @@ write-shown-requires c κs =
     omega (arith, s .pre, ap (λ r. length (textOf r)) (v .v .given .1))
 
 write-line-requires : tie.Need-write-line-requires
-unfolding refusal line labelled
+unfolding refusal
 write-line-requires c κs =
     let s : tie.Start = search needs in
     let v : tie.After-v2 = search needs in
@@ -26,7 +25,7 @@ returns c =
     written-as (ap textOf (v .v .given .1)) (w .write-shown .ensures)
 
 returns-2 : tie.Need-returns-2
-unfolding refusal line labelled
+unfolding refusal
 returns-2 c =
     let v : tie.After-v2 = search needs in
     let w : tie.After-write-line = search needs in
