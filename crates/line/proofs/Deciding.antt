@@ -7,18 +7,17 @@
 --   beyond                   a number of more than 32 bits names no scheme
 --   unnamed, in-family       the answers, by the scheme
 --   other-text, some-behind, nothing-behind   the answers, by what was read of the lines
-use Rattle.lists.proofs.Kit.{_≡_, refl, _∙_, sym, ap, ap₂, Bool, true, false, cond, _||_, List, [], _∷_, ℕ, _*_, _^_, _≤_, _<_, pow-le-pow-right, arith}
+use Rattle.lists.proofs.Kit.{_≡_, refl, _∙_, sym, ap, ap₂, Bool, true, false, cond, _||_, List, ℕ, _*_, _^_, _≤_, _<_, pow-le-pow-right, arith}
 use Rattle.lists.proofs.Kit.{eqb, leb, ltb, length, drop, drop-of-length-le, drop-cons, ltb-true, ltb-false, leb-true, leb-false, lt-ltb, le-ltb, ne-eqb}
 use Rattle.schemes.specs.declared.Named.the-variants.{Known, Unknown}
 use Rattle.schemes.specs.Schemes.{byFamily, familyOf, fixedOf, schemeOf}
 use Rattle.schemes.specs.{declared.Family.Family, declared.Fixed.Fixed, declared.Named.Named, declared.Scheme.Scheme}
 use Rattle.lists.specs.First.{both}
-use Rattle.text.specs.Text.{schemeName, Read, number, other, fieldIn}
 use Rattle.frodo.specs.Shown.{Round}
 use Rattle.frodo.proofs.Schemes.{each-scheme}
-use Rattle.line.specs.Line.{coinName, vName, wName, Asked, numbers, text, endIn, wIn, vIn, coinIn, asked, refusal, bcnsShown, frodoShown, bcnsAnswer}
+use Rattle.line.specs.Line.{numbers, asked, refusal, bcnsShown, frodoShown, bcnsAnswer}
 use Rattle.line.specs.Line.{frodoAnswer, settledIn, settled, answerTo, answered}
-use Rattle.line.specs.Steps.{Part, four, none, partOf, Stands, shifted, moved, linesOf, tested, Lines}
+use Rattle.line.specs.Steps.{partOf, Stands, tested, Lines}
 use Rattle.bcns.specs.Rounding as bcns
 use Rattle.frodo.specs.Rounding as frodo
 use Rattle.frodo.proofs.Entries as frodo-entries
@@ -133,50 +132,19 @@ module _ (k coin v w : ℕ) {r : Named} (e : r ≡ schemeOf k) where
       ap (λ (F : Family). byFamily F (bcnsAnswer coin v w) (refusal 1) (frodoAnswer (fixedOf s) coin v w)) f
       ∙ ap (λ (m : Named). settledIn m coin v w) (sym g ∙ e)
 
--- ---- the lines
+-- ---- the answer, by what was read of the lines
 
-abbrev askedIn : Part → Asked
-askedIn (four a b c d []) = numbers a b c d
-askedIn (four a b c d (x ∷ xs)) = text
-askedIn none = text
-
-fourth : (a b c : ℕ) (r : Read) → askedIn (shifted a b c r) ≡ endIn a b c r
-unfolding endIn
-fourth a b c (number d []) = refl
-fourth a b c (number d (x ∷ xs)) = refl
-fourth a b c other = refl
-
-third : (a b : ℕ) (r : Read) → askedIn (moved wName (shifted 0 a b r)) ≡ wIn a b r
-unfolding wIn
-third a b (number c xs) = fourth a b c (fieldIn wName xs)
-third a b other = refl
-
-second : (a : ℕ) (r : Read) → askedIn (moved wName (moved vName (shifted 0 0 a r))) ≡ vIn a r
-unfolding vIn
-second a (number b xs) = third a b (fieldIn vName xs)
-second a other = refl
-
-first : (r : Read) → askedIn (moved wName (moved vName (moved coinName (shifted 0 0 0 r)))) ≡ coinIn r
-unfolding coinIn
-first (number a xs) = second a (fieldIn coinName xs)
-first other = refl
-
-lines-asked : (xs : List ℕ) → askedIn (linesOf xs) ≡ asked xs
-unfolding linesOf asked
-lines-asked xs = first (fieldIn schemeName xs)
-
--- the answer, by what was read of the lines
-module _ {s : List ℕ} {l : Lines} (h : Stands s l (linesOf s)) where
-  answered-is : answerTo (askedIn (partOf s l)) ≡ answered s
+module _ {s : List ℕ} {l : Lines} (h : Stands s l (asked s)) where
+  answered-is : answerTo (partOf s l) ≡ answered s
   unfolding answered
-  answered-is = ap (λ (p : Part). answerTo (askedIn p)) (h .means) ∙ ap answerTo (lines-asked s)
+  answered-is = ap answerTo (h .means)
 
   pub other-text : l ≡ lines.Other → refusal 8 ≡ answered s
   unfolding answerTo
   other-text e = rw e at answered-is
 
   module _ {a b c d at : ℕ} (e : l ≡ lines.Read a b c d at) where
-    read-is : answerTo (askedIn (four a b c d (drop at s))) ≡ answered s
+    read-is : answerTo (numbers a b c d (drop at s)) ≡ answered s
     read-is = rw e at answered-is
 
     pub some-behind : at < length s → refusal 8 ≡ answered s

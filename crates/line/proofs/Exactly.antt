@@ -1,11 +1,11 @@
 -- A question is exactly its four lines (`specs/Exactly.antt`), a line at a time.
 --   exactly                     a question is read as its numbers, and no other text is
 --   question-short, enough      a question has at most 60 bytes, so the first 61 of a text tell
-use Rattle.lists.proofs.Kit.{_≡_, refl, _∙_, sym, ap, ap₂, List, [], _∷_, _++_, append-assoc, append-nil, ℕ, _^_, _≤_, _<_, decLe, arith, length, take}
+use Rattle.lists.proofs.Kit.{_≡_, refl, _∙_, sym, ap, List, [], _∷_, _++_, append-assoc, append-nil, ℕ, _^_, _≤_, _<_, decLe, arith, length, take}
 use Rattle.lists.proofs.Kit.{length-append, length-take, take-all}
 use Rattle.text.specs.Text.{schemeName, decimal, line, Read, number, other, fieldIn}
 use Rattle.text.proofs.{Numeral.decimal-length, Lines.line-forth, Lines.line-back}
-use Rattle.line.specs.Line.{coinName, vName, wName, question, Asked, numbers, text, endIn, wIn, vIn, coinIn, asked, answerTo, answered}
+use Rattle.line.specs.Line.{coinName, vName, wName, question, Asked, numbers, text, shifted, moved, asked, refusal, answerTo, answered}
 use Rattle.line.specs.Exactly.{Is, Exactly, bytes, Enough}
 
 abbrev lines-of : ℕ → ℕ → ℕ → ℕ → List ℕ
@@ -15,8 +15,8 @@ question-lines : (a b c d : ℕ) → question a b c d ≡ lines-of a b c d
 unfolding question
 question-lines a b c d = simp (append-assoc, append-nil)
 
-question-read : (xs : List ℕ) (a b c d : ℕ) → Is xs a b c d → asked xs ≡ numbers a b c d
-unfolding asked coinIn vIn wIn endIn
+question-read : (xs : List ℕ) (a b c d : ℕ) → Is xs a b c d → asked xs ≡ numbers a b c d []
+unfolding asked
 question-read xs a b c d h =
     rw (
       h .text,
@@ -27,45 +27,36 @@ question-read xs a b c d h =
       line-forth wName d [] (h .w),
     )
 
-module _ {a b c d : ℕ} where
-  end-back : (x y z : ℕ) (r : Read) → endIn x y z r ≡ numbers a b c d → (x ≡ a) × (y ≡ b) × (z ≡ c) × (r ≡ number d [])
-  unfolding endIn
-  end-back x y z (number u []) e = (cc, cc, cc, cc)
-  end-back x y z (number u (k ∷ ks)) e = (cc, cc, cc, cc)
-  end-back x y z other e = (cc, cc, cc, cc)
+-- what was read before a line, where it was read
+record Before (name : List ℕ) (p : Asked) (b c d x : ℕ) (ys : List ℕ) : Type 0 where
+  first : ℕ
+  whole : p ≡ numbers first b c d (line name x ++ ys)
+  small : x < 10 ^ 10
 
-  w-back : (x y : ℕ) (r : Read) → wIn x y r ≡ numbers a b c d → (x ≡ a) × (y ≡ b) × (r ≡ number c (line wName d ++ [])) × (d < 10 ^ 10)
-  unfolding wIn
-  w-back x y (number z xs) e =
-      let o = end-back x y z (fieldIn wName xs) e in
-      let l = line-back wName xs (o .3) in
-      (o .0, o .1, ap₂ number (o .2) (l .0), l .1)
-  w-back x y other e = let z : _≡_ {A = ℕ} 0 1 = cc in absurd (omega arith)
+moved-back : {b c d x : ℕ} {ys : List ℕ} (name : List ℕ) (p : Asked) → moved name p ≡ numbers b c d x ys → Before name p b c d x ys
+moved-back name text = λ e. let z : _≡_ {A = ℕ} 0 1 = cc in absurd (omega arith)
+moved-back {b} {c} {d} {x} {ys} name (numbers a k l m xs) = go (fieldIn name xs) refl
+  where
+    go : (r : Read) → fieldIn name xs ≡ r → shifted k l m r ≡ numbers b c d x ys → Before name (numbers a k l m xs) b c d x ys
+    go (number y zs) f e =
+        let o = line-back {n = x} {ys = ys} name xs (f ∙ cc) in
+        record { first = a; whole = ap (numbers a k l m) (o .0) ∙ cc; small = o .1 }
+    go other f e = let z : _≡_ {A = ℕ} 0 1 = cc in absurd (omega arith)
 
-  v-back : (x : ℕ) (r : Read) → vIn x r ≡ numbers a b c d
-      → (x ≡ a) × (r ≡ number b (line vName c ++ (line wName d ++ []))) × (c < 10 ^ 10) × (d < 10 ^ 10)
-  unfolding vIn
-  v-back x (number y xs) e =
-      let o = w-back x y (fieldIn vName xs) e in
-      let l = line-back vName xs (o .2) in
-      (o .0, ap₂ number (o .1) (l .0), l .1, o .3)
-  v-back x other e = let z : _≡_ {A = ℕ} 0 1 = cc in absurd (omega arith)
+behind : {a b c d k l m n : ℕ} {xs ys : List ℕ} → numbers a b c d xs ≡ numbers k l m n ys → xs ≡ ys
+behind e = cc
 
-  coin-back : (r : Read) → coinIn r ≡ numbers a b c d
-      → (r ≡ number a (line coinName b ++ (line vName c ++ (line wName d ++ [])))) × (b < 10 ^ 10) × (c < 10 ^ 10) × (d < 10 ^ 10)
-  unfolding coinIn
-  coin-back (number x xs) e =
-      let o = v-back x (fieldIn coinName xs) e in
-      let l = line-back coinName xs (o .1) in
-      (ap₂ number (o .0) (l .0), l .1, o .2, o .3)
-  coin-back other e = let z : _≡_ {A = ℕ} 0 1 = cc in absurd (omega arith)
-
-no-other : (xs : List ℕ) (a b c d : ℕ) → asked xs ≡ numbers a b c d → Is xs a b c d
+no-other : (xs : List ℕ) (a b c d : ℕ) → asked xs ≡ numbers a b c d [] → Is xs a b c d
 unfolding asked
 no-other xs a b c d e =
-    let o = coin-back (fieldIn schemeName xs) e in
-    let l = line-back schemeName xs (o .0) in
-    record { text = l .0 ∙ sym (question-lines a b c d); scheme = l .1; coin = o .1; v = o .2; w = o .3 }
+    let p = numbers 0 0 0 0 xs in
+    let q = moved schemeName p in
+    let r = moved coinName q in
+    let h = moved-back wName (moved vName r) e in
+    let i = moved-back vName r (h .whole) in
+    let j = moved-back coinName q (i .whole) in
+    let k = moved-back schemeName p (j .whole) in
+    record { text = behind (k .whole) ∙ sym (question-lines a b c d); scheme = k .small; coin = j .small; v = i .small; w = h .small }
 
 pub exactly : Exactly
 exactly = record { question-read = question-read; no-other = no-other }
@@ -76,17 +67,18 @@ question-short {xs} {a} {b} {c} {d} h =
     let few : (n : ℕ) → n < 10 ^ 10 → length (decimal n) ≤ 10 = λ n l. decimal-length 9 n l (omega arith) in
     rw (h .text) (simp length-append (omega (arith, few a (h .scheme), few b (h .coin), few c (h .v), few d (h .w))))
 
-long : (xs : List ℕ) → 60 < length xs → asked xs ≡ text
+long : (xs : List ℕ) → 60 < length xs → answered xs ≡ refusal 8
+unfolding answered answerTo
 long xs h = go (asked xs) refl
   where
-    go : (r : Asked) → asked xs ≡ r → r ≡ text
-    go (numbers a b c d) e = absurd (omega (arith, question-short (no-other xs a b c d e)))
+    go : (r : Asked) → asked xs ≡ r → answerTo r ≡ refusal 8
+    go (numbers a b c d []) e = absurd (omega (arith, question-short (no-other xs a b c d e)))
+    go (numbers a b c d (y ∷ ys)) e = refl
     go text e = refl
 
 pub enough : Enough
-unfolding answered
 enough xs = go (decLe (length xs) bytes)
   where
     go : Dec (length xs ≤ bytes) → answered (take bytes xs) ≡ answered xs
     go (yes l) = ap answered (take-all bytes xs l)
-    go (no l) = ap answerTo (long (take bytes xs) (rw length-take (omega arith)) ∙ sym (long xs (omega arith)))
+    go (no l) = long (take bytes xs) (rw length-take (omega arith)) ∙ sym (long xs (omega arith))

@@ -2,8 +2,8 @@
 --   next-room, next-other, next-read, all-four   one line more, and all four
 use Rattle.lists.proofs.Kit.{_≡_, _∙_, sym, ap, subst, List, ℕ, _≤_, arith, length, drop}
 use Rattle.text.specs.{Text.schemeName, Text.fieldIn, Steps.readOf, Steps.behind, Steps.Reads, declared.Found.Found}
-use Rattle.line.specs.Steps.{Lines, four, partOf, reached, Stands, shifted, moved, linesOf}
-use Rattle.line.specs.Line.{coinName, vName, wName}
+use Rattle.line.specs.Steps.{Lines, partOf, reached, Stands}
+use Rattle.line.specs.Line.{coinName, vName, wName, numbers, shifted, moved, asked}
 use Rattle.text.specs.declared.Found.the-variants as found
 use Rattle.line.specs.declared.Lines.the-variants as lines
 
@@ -26,8 +26,8 @@ module _ (label s : List ℕ) {l : Lines} {a b c d at : ℕ} (e : l ≡ lines.Re
           within = subst (λ (g : Found). behind g ≤ length s) o (r .within);
         }
 
-pub all-four : (s : List ℕ) {p q r t : Lines} → Stands s p (moved schemeName (four 0 0 0 0 s))
+pub all-four : (s : List ℕ) {p q r t : Lines} → Stands s p (moved schemeName (numbers 0 0 0 0 s))
     → Stands s q (moved coinName (partOf s p)) → Stands s r (moved vName (partOf s q))
-    → Stands s t (moved wName (partOf s r)) → Stands s t (linesOf s)
-unfolding linesOf
+    → Stands s t (moved wName (partOf s r)) → Stands s t (asked s)
+unfolding asked
 all-four s a b c d = record { means = rw (← a .means, ← b .means, ← c .means) (d .means); within = d .within }

@@ -1,5 +1,5 @@
 -- An answer has at most 22 bytes (`specs/Exactly.antt`).
-use Rattle.lists.proofs.Kit.{ap, Bool, cond, List, ℕ, _≤_, _<_, arith, ltb, length, length-append}
+use Rattle.lists.proofs.Kit.{ap, Bool, cond, List, [], _∷_, ℕ, _≤_, _<_, arith, ltb, length, length-append}
 use Rattle.schemes.specs.declared.Named.the-variants.{Known, Unknown}
 use Rattle.schemes.specs.Schemes.{byFamily, familyOf, fixedOf, schemeOf}
 use Rattle.schemes.specs.{declared.Family.Family, declared.Fixed.Fixed, declared.Named.Named}
@@ -63,7 +63,8 @@ settled-fits Unknown coin v w = refusal-fits (omega arith)
 
 answer-fits : (r : Asked) → Fits (answerTo r)
 unfolding answerTo settled
-answer-fits (numbers a b c d) = settled-fits (schemeOf a) b c d
+answer-fits (numbers a b c d []) = settled-fits (schemeOf a) b c d
+answer-fits (numbers a b c d (x ∷ xs)) = refusal-fits (omega arith)
 answer-fits text = refusal-fits (omega arith)
 
 pub answered-short : Short

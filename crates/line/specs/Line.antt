@@ -1,8 +1,8 @@
 -- The line program, from the input's bytes to the output's: 01, "The line program".
 --   question a b c d   the text of a question: four lines
---   asked xs           the four numbers of a question, or that xs is other text
+--   asked xs           the four numbers that xs begins with and what stands behind them, or that xs is other text
 --   settled a b c d    the answer's text: hint, key and the peer's key; or a refusal: 1, 9, 4, in that order
---   answered xs        the output of every input: 8 for other text
+--   answered xs        the output of every input: 8 for other text, and where anything stands behind the four lines
 use Rattle.lists.specs.Kit.{cond, List, [], _∷_, _++_, ℕ, ltb}
 use Rattle.schemes.specs.declared.Named.the-variants.{Known, Unknown}
 use Rattle.schemes.specs.{declared.Fixed.Fixed, declared.Named.Named, Schemes.byFamily, Schemes.familyOf, Schemes.fixedOf, Schemes.schemeOf}
@@ -33,31 +33,24 @@ peerName = 112 ∷ 101 ∷ 101 ∷ 114 ∷ 61 ∷ []
 unfoldable pub question : ℕ → ℕ → ℕ → ℕ → List ℕ
 question a b c d = line schemeName a ++ line coinName b ++ line vName c ++ line wName d
 
--- ---- reading: the four lines one after the other, and nothing behind them
+-- ---- reading: the four lines one after the other
 
+-- the last four numbers read, and what stands behind them; or other text
 pub data Asked : Type 0 where
-  numbers : ℕ → ℕ → ℕ → ℕ → Asked
+  numbers : ℕ → ℕ → ℕ → ℕ → List ℕ → Asked
   text : Asked
 
-unfoldable pub endIn : ℕ → ℕ → ℕ → Read → Asked
-endIn a b c (number d []) = numbers a b c d
-endIn a b c (number d (x ∷ xs)) = text
-endIn a b c other = text
+abbrev pub shifted : ℕ → ℕ → ℕ → Read → Asked
+shifted b c d (number x xs) = numbers b c d x xs
+shifted b c d other = text
 
-unfoldable pub wIn : ℕ → ℕ → Read → Asked
-wIn a b (number c xs) = endIn a b c (fieldIn wName xs)
-wIn a b other = text
-
-unfoldable pub vIn : ℕ → Read → Asked
-vIn a (number b xs) = wIn a b (fieldIn vName xs)
-vIn a other = text
-
-unfoldable pub coinIn : Read → Asked
-coinIn (number a xs) = vIn a (fieldIn coinName xs)
-coinIn other = text
+-- one line more
+abbrev pub moved : List ℕ → Asked → Asked
+moved name (numbers a b c d xs) = shifted b c d (fieldIn name xs)
+moved name text = text
 
 unfoldable pub asked : List ℕ → Asked
-asked xs = coinIn (fieldIn schemeName xs)
+asked xs = moved wName (moved vName (moved coinName (moved schemeName (numbers 0 0 0 0 xs))))
 
 -- ---- answering
 
@@ -93,7 +86,8 @@ unfoldable pub settled : ℕ → ℕ → ℕ → ℕ → List ℕ
 settled scheme coin v w = settledIn (schemeOf scheme) coin v w
 
 unfoldable pub answerTo : Asked → List ℕ
-answerTo (numbers a b c d) = settled a b c d
+answerTo (numbers a b c d []) = settled a b c d
+answerTo (numbers a b c d (x ∷ xs)) = refusal 8
 answerTo text = refusal 8
 
 unfoldable pub answered : List ℕ → List ℕ

@@ -2,6 +2,7 @@
 // the longest answer 22, so a program reads 61 bytes at most to tell. Reading goes by positions in the input, a line after the other; the decision gives a
 // verdict and no text; then the verdict is written.
 ghost use mathlib.Core.Path.{_≡_};
+ghost use mathlib.Core.Bool.{cond};
 ghost use Prim.Native.Nat.{_*_, _^_, _≤_, _<_};
 ghost use lib.ListN.{length};
 ghost use Rattle.schemes.specs.declared.Family.{Family};
@@ -9,8 +10,8 @@ ghost use Rattle.schemes.specs.Schemes.{bcns, familyOf, fixedOf, schemeOf};
 ghost use Rattle.frodo.specs.Shown.{Round};
 ghost use Rattle.text.specs.Answer.{Answers};
 ghost use Rattle.text.specs.Steps.{Written};
-ghost use Rattle.line.specs.Line.{shown, bcnsShown, frodoShown, bcnsAnswer, frodoAnswer, settled, answered};
-ghost use Rattle.line.specs.Steps.{reached, partOf, Stands, moved, linesOf, firstOf, tested, textOf};
+ghost use Rattle.line.specs.Line.{moved, asked, shown, bcnsShown, frodoShown, bcnsAnswer, frodoAnswer, settled, answered};
+ghost use Rattle.line.specs.Steps.{reached, partOf, Stands, tested, textOf};
 use schemes::Family;
 use schemes::Named;
 use schemes::Scheme;
@@ -51,7 +52,7 @@ fn next(label: &[u8], s: &[u8], lines: Lines) -> Lines
 
 // All four.
 fn four_lines(s: &[u8]) -> Lines
-    ensures { λ r. ⌜ Stands (now (s .entry)) r (linesOf (now (s .entry))) ⌝ }
+    ensures { λ r. ⌜ Stands (now (s .entry)) r (asked (now (s .entry))) ⌝ }
 {
     let scheme = next(b"scheme=", s, Lines::Read(0, 0, 0, 0, 0));
     let coin = next(b"coin=", s, scheme);
@@ -63,7 +64,7 @@ fn four_lines(s: &[u8]) -> Lines
 
 // Of two tests, each with its refusal, the first that fails; 0 where both pass.
 fn first(a: bool, x: u32, b: bool, y: u32) -> u32
-    ensures { λ r. ⌜ r ≡ firstOf a x b y ⌝ }
+    ensures { λ r. ⌜ r ≡ cond a x (cond b y 0) ⌝ }
 {
     if a {
         return x;
