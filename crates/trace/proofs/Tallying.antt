@@ -1,13 +1,16 @@
 -- The counters after a trace are those of its exchanges.
---   answer-is                the text by the counters is the answer
+--   textAfter t r            the text, where the counters are t and r is still to come
+--   run-end, run-over, run-more, run-other   at the end, over the limit, with one exchange more, and with other text
+--   answer-is                from zeros on it is the answer
 --   held-none, made-is       how large they are: before, and after one exchange more
-use Rattle.lists.proofs.Kit.{_≡_, refl, _∙_, sym, ap, subst, Bool, true, false, cond, List, [], _∷_, ℕ, zero, suc, _+_, _*_, _≤_, _<_, max, arith, eqb, length}
+use Rattle.lists.proofs.Kit.{_≡_, refl, sym, ap, subst, Bool, true, false, cond, List, [], _∷_, ℕ, zero, suc, _+_, _*_, _≤_, _<_, max, arith, eqb, length}
 use Rattle.lists.proofs.Kit.{getD, set, replicate, length-set, getD-set-same, getD-set-other, eqb-true, eqb-false}
 use Rattle.lists.specs.First.{largestBy}
 use Rattle.lists.proofs.{Table.cond-all, Entries.below-zeros}
-use Rattle.trace.specs.Trace.{Exchange, Two, two, neither, twoIn, Trace, recorded, unread, more, behind, recordedIn, slacksOf, total, blockOf, summary}
+use Rattle.text.specs.{Text.line, Answer.refusalName}
+use Rattle.trace.specs.Trace.{Exchange, two, neither, twoIn, Trace, recorded, unread, more, recordedIn, slacksOf, total, blockOf, summary}
 use Rattle.trace.specs.Trace.{answerTo, answered}
-use Rattle.trace.specs.Steps.{zeros, added, Ran, counted, lost, runOn, run, Held, blockAt, summaryOf, textOf, Tally}
+use Rattle.trace.specs.Steps.{zeros, added, Held, blockAt, summaryOf, Tally}
 use Rattle.trace.specs.Exactly.{Valid, none, some}
 use Rattle.trace.proofs.Exactly.{no-other}
 
@@ -17,26 +20,36 @@ addAll : Tally → List Exchange → Tally
 addAll t [] = t
 addAll t (y ∷ ys) = addAll (added t (y .scheme) (y .slack)) ys
 
-ranAs : Tally → Trace → Ran
-ranAs t (recorded ys) = counted (addAll t ys)
-ranAs t unread = lost
+-- the text, where the counters are t and r is still to come
+pub textAfter : Tally → Trace → List ℕ
+textAfter t (recorded ys) = summaryOf (addAll t ys)
+textAfter t unread = line refusalName 8
 
-ran-more : (t : Tally) (a b : ℕ) (r : Trace) → ranAs (added t a b) r ≡ ranAs t (more a b r)
-unfolding ranAs addAll
-ran-more t a b (recorded ys) = refl
-ran-more t a b unread = refl
+after-more : (t : Tally) (a b : ℕ) (r : Trace) → textAfter t (more a b r) ≡ textAfter (added t a b) r
+unfolding textAfter addAll
+after-more t a b (recorded ys) = refl
+after-more t a b unread = refl
 
-run-is : (k : ℕ) (xs : List ℕ) (t : Tally) → run k xs t ≡ ranAs t (recordedIn k xs)
-unfolding run recordedIn ranAs addAll
-run-is zero [] t = refl
-run-is zero (c ∷ cs) t = refl
-run-is (suc k) [] t = refl
-run-is (suc k) (c ∷ cs) t = go (twoIn (c ∷ cs)) (run-is k)
-  where
-    go : (r : Two) → ((xs : List ℕ) (u : Tally) → run k xs u ≡ ranAs u (recordedIn k xs))
-        → runOn (λ xs u. run k xs u) t r ≡ ranAs t (behind (λ xs. recordedIn k xs) r)
-    go (two a b xs) h = h xs (added t a b) ∙ ran-more t a b (recordedIn k xs)
-    go neither h = refl
+pub run-end : (k : ℕ) (t : Tally) → textAfter t (recordedIn k []) ≡ summaryOf t
+unfolding recordedIn textAfter addAll
+run-end zero t = refl
+run-end (suc k) t = refl
+
+pub run-over : (xs : List ℕ) (t : Tally) → 0 < length xs → textAfter t (recordedIn zero xs) ≡ line refusalName 8
+unfolding recordedIn textAfter
+run-over [] t h = absurd (omega arith)
+run-over (c ∷ cs) t h = refl
+
+pub run-more : {a b : ℕ} {ys : List ℕ} (k : ℕ) (xs : List ℕ) (t : Tally) → 0 < length xs → twoIn xs ≡ two a b ys
+    → textAfter t (recordedIn (suc k) xs) ≡ textAfter (added t a b) (recordedIn k ys)
+unfolding recordedIn
+run-more k [] t h e = absurd (omega arith)
+run-more {a} {b} {ys} k (c ∷ cs) t h e = rw e (after-more t a b (recordedIn k ys))
+
+pub run-other : (k : ℕ) (xs : List ℕ) (t : Tally) → 0 < length xs → twoIn xs ≡ neither → textAfter t (recordedIn (suc k) xs) ≡ line refusalName 8
+unfolding recordedIn textAfter
+run-other k [] t h e = absurd (omega arith)
+run-other k (c ∷ cs) t h e = rw e
 
 -- ---- the counters of each scheme
 
@@ -109,11 +122,11 @@ module _ {ys : List Exchange} (v : Valid ys) where
   unfolding summaryOf summary
   summary-is = rw (block-is 0, block-is 1, block-is 2, block-is 3, block-is 4, block-is 5)
 
-pub answer-is : (xs : List ℕ) → textOf (run 2048 xs zeros) ≡ answered xs
-unfolding answered textOf answerTo ranAs
-answer-is xs = ap textOf (run-is 2048 xs zeros) ∙ go (recordedIn 2048 xs) refl
+pub answer-is : (xs : List ℕ) → textAfter zeros (recordedIn 2048 xs) ≡ answered xs
+unfolding answered answerTo textAfter
+answer-is xs = go (recordedIn 2048 xs) refl
   where
-    go : (r : Trace) → recordedIn 2048 xs ≡ r → textOf (ranAs zeros r) ≡ answerTo r
+    go : (r : Trace) → recordedIn 2048 xs ≡ r → textAfter zeros r ≡ answerTo r
     go (recorded ys) e = summary-is (no-other 2048 xs ys e .valid)
     go unread e = refl
 

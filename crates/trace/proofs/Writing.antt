@@ -2,11 +2,11 @@
 --   block-none, block-left     a scheme's lines: none, or in parts
 --   Blocks, blocks-none, blocks-room, blocks-more, blocks-all   a loop over the schemes: before, at each turn, after
 --   text-whole, text-lost      the text, by whether the whole trace was read
-use Rattle.lists.proofs.Kit.{_≡_, refl, sym, ap, subst, Bool, true, false, List, [], _∷_, _++_, append-nil, ℕ, zero, suc, _+_, _≤_, _<_, add-one, arith, length}
+use Rattle.lists.proofs.Kit.{_≡_, refl, sym, ap, subst, true, false, List, [], _∷_, _++_, append-nil, ℕ, zero, suc, _+_, _≤_, _<_, add-one, arith, length}
 use Rattle.lists.proofs.Kit.{drop, eq-eqb, ne-eqb}
 use Rattle.text.specs.{Text.schemeName, Text.line, Answer.refusalName, Steps.Written}
 use Rattle.text.proofs.Writing.{joined, Left, left-all, left-room, left-next, left-none, written-none}
-use Rattle.trace.specs.Steps.{blockAt, summaryOf, ranBy, ranOf, textOf, Tally, Counted}
+use Rattle.trace.specs.Steps.{blockAt, summaryOf, textOf, Tally, Counted}
 use Rattle.trace.specs.Trace.{exchangesName, sumName, largestName, block}
 
 abbrev parts : ℕ → ℕ → ℕ → ℕ → List (List ℕ)
@@ -70,10 +70,8 @@ module _ {t : Tally} {d e : List ℕ} {k at : ℕ} (h : Blocks t d k e at) where
 
 -- ---- the text, by whether the whole trace was read
 
-pub text-whole : (c : Counted) → c .whole ≡ true → textOf (ranOf c) ≡ summaryOf (c .tally)
-unfolding textOf
-text-whole c e = ap (λ (b : Bool). textOf (ranBy b (c .tally))) e
+pub text-whole : (c : Counted) → c .whole ≡ true → textOf c ≡ summaryOf (c .tally)
+text-whole c e = rw e
 
-pub text-lost : (c : Counted) → c .whole ≡ false → textOf (ranOf c) ≡ line refusalName 8
-unfolding textOf
-text-lost c e = ap (λ (b : Bool). textOf (ranBy b (c .tally))) e
+pub text-lost : (c : Counted) → c .whole ≡ false → textOf c ≡ line refusalName 8
+text-lost c e = rw e

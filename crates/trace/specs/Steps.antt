@@ -1,13 +1,12 @@
 -- What the code's steps do, in the terms of `Trace`; no promise to a caller stands here.
 --   twoOf xs r, endOf r   what a `Pair` means in the input xs, and the position behind it
 --   added t a b           one exchange more in the counters
---   run k xs t            the counters t after the exchanges of xs, at most k
 --   Held n t              the counters of n exchanges: six of each, and how large they are
 --   summaryOf t           the summary, by the counters
---   ranOf c, textOf r     what a `Counted` means, and its text
-use Rattle.lists.specs.Kit.{_≡_, Bool, true, false, List, [], _∷_, _++_, ℕ, zero, suc, _+_, _*_, _≤_, max, length, getD, set, drop, replicate}
+--   textOf c              the text of a `Counted`: the summary, or a refusal where not the whole trace was read
+use Rattle.lists.specs.Kit.{_≡_, cond, List, _++_, ℕ, _+_, _*_, _≤_, max, length, getD, set, drop, replicate}
 use Rattle.text.specs.{Text.line, Answer.refusalName}
-use Rattle.trace.specs.Trace.{Two, two, neither, twoIn, block}
+use Rattle.trace.specs.Trace.{Two, two, neither, block}
 pub use Rattle.trace.specs.{declared.Pair.Pair, declared.Tally.Tally, declared.Counted.Counted}
 use Rattle.trace.specs.declared.Pair.the-variants as pair
 
@@ -34,20 +33,6 @@ added t a b =
       largest = set (t .largest) a (max (getD (t .largest) a 0) b);
     }
 
-pub data Ran : Type 0 where
-  counted : Tally → Ran
-  lost : Ran
-
-abbrev pub runOn : (List ℕ → Tally → Ran) → Tally → Two → Ran
-runOn f t (two a b xs) = f xs (added t a b)
-runOn f t neither = lost
-
-unfoldable pub run : ℕ → List ℕ → Tally → Ran
-run zero [] t = counted t
-run zero (c ∷ cs) t = lost
-run (suc k) [] t = counted t
-run (suc k) (c ∷ cs) t = runOn (λ xs u. run k xs u) t (twoIn (c ∷ cs))
-
 pub record Held (n : ℕ) (t : Tally) : Type 0 where
   pub counts : length (t .count) ≡ 6
   pub sums : length (t .sum) ≡ 6
@@ -61,13 +46,5 @@ blockAt t j = block j (getD (t .count) j 0) (getD (t .sum) j 0) (getD (t .larges
 unfoldable pub summaryOf : Tally → List ℕ
 summaryOf t = blockAt t 0 ++ (blockAt t 1 ++ (blockAt t 2 ++ (blockAt t 3 ++ (blockAt t 4 ++ blockAt t 5))))
 
-abbrev pub ranBy : Bool → Tally → Ran
-ranBy true t = counted t
-ranBy false t = lost
-
-abbrev pub ranOf : Counted → Ran
-ranOf c = ranBy (c .whole) (c .tally)
-
-unfoldable pub textOf : Ran → List ℕ
-textOf (counted t) = summaryOf t
-textOf lost = line refusalName 8
+abbrev pub textOf : Counted → List ℕ
+textOf c = cond (c .whole) (summaryOf (c .tally)) (line refusalName 8)

@@ -8,7 +8,7 @@ ghost use Rattle.text.specs.Text.{fieldIn};
 ghost use Rattle.text.specs.Answer.{Answers};
 ghost use Rattle.text.specs.Steps.{Written};
 ghost use Rattle.trace.specs.Trace.{slackName, slackIn, twoIn, block, answered};
-ghost use Rattle.trace.specs.Steps.{Reads, zeros, added, run, Held, summaryOf, ranOf, textOf};
+ghost use Rattle.trace.specs.Steps.{Reads, zeros, added, Held, summaryOf, textOf};
 use text::Found;
 
 // Two lines: scheme and slack, and the position behind them; or other text.
@@ -94,7 +94,7 @@ fn add(t: Tally, n: usize, scheme: usize, slack: u64) -> Tally
 
 // At most 2,048 exchanges, which are 4,096 lines.
 fn count(s: &[u8]) -> Counted
-    ensures { λ r. ⌜ ranOf r ≡ run 2048 (now (s .entry)) zeros ⌝ }
+    ensures { λ r. ⌜ textOf r ≡ answered (now (s .entry)) ⌝ }
 {
     let mut t = zeros();
     let mut at: usize = 0;
@@ -158,8 +158,8 @@ fn write_summary(t: Tally, out: &mut [u8]) -> usize
 }
 
 fn write(c: Counted, out: &mut [u8]) -> usize
-    requires { ⌜ length (textOf (ranOf c)) ≤ length (now out) ⌝ }
-    ensures { λ r. ⌜ Written 0 (textOf (ranOf c)) (now (out .entry)) (now (out .exit)) r ⌝ }
+    requires { ⌜ length (textOf c) ≤ length (now out) ⌝ }
+    ensures { λ r. ⌜ Written 0 (textOf c) (now (out .entry)) (now (out .exit)) r ⌝ }
 {
     let t = c.tally;
     if c.whole {
