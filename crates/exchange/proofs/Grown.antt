@@ -1,6 +1,6 @@
 -- Where the public numbers come from.
 --   Lends, lends              they are lent where some are lent; only-newhope: where none are, the scheme is NewHope, whose are grown
---   lengths-passed            the three lengths that open and answer test one after the other
+--   lent-passed               what the three lengths that open and answer test one after the other say, behind the verdict v
 --   no-publics, no-table      none are refused where none are lent; NewHope has no table
 --   numbers-counted           the numbers that Grow makes where it does not refuse: all are there, below q
 --   grow-failed, grow-passed  what `grow` gives, by Grow's answer
@@ -8,6 +8,7 @@
 use Rattle.lists.proofs.Kit.{_≡_, refl, _∙_, sym, ap, List, [], ℕ, suc, le-refl, arith, length}
 use Rattle.schemes.specs.declared.Scheme.the-variants.{Bcns, NewHope, Challenge, Classical, Recommended, Paranoid}
 use Rattle.schemes.specs.{Schemes.fixedOf, declared.Scheme.Scheme}
+use Rattle.lists.specs.Ranges.{Below}
 use Rattle.lists.proofs.Same.{empty}
 use Rattle.noise.specs.{declared.Ruled.Ruled, declared.Ruled.the-variants.By}
 use Rattle.noise.proofs.Stream.{by-name-below}
@@ -17,29 +18,27 @@ use Rattle.refusals.specs.{Seen.told, Seen.shown, Seen.seen, declared.Answer.An
 use Rattle.refusals.proofs.Laws.{differ, both, all-pass, length-passed, length-passes, room-passes, below-passes, went-on}
 use Rattle.refusals.proofs.Seen.{seen-done}
 use Rattle.values.specs.Fit.{Counted}
-use Rattle.sampling.specs.Expand.{expandNumbers, growNumbers, blocks, growTests, growResult}
+use Rattle.sampling.specs.{Noise.tableWords, Expand.expandNumbers, Expand.growNumbers, Expand.blocks, Expand.growTests, Expand.growResult}
 use Rattle.sampling.proofs.Expanding.{enough-passed, numbers-few}
-use Rattle.exchange.specs.{Random.publicLent, Random.publicFrom, Random.tableOrder, Random.grown, Inside.ruledIn, Inside.Grows}
+use Rattle.exchange.specs.{Random.publicLent, Random.publicFrom, Random.tableOrder, Random.grown, Random.ruledIn, Inside.Sized}
 use Rattle.exchange.proofs.Drawn.{seen-fails, seen-whole}
 
-pub record Lengths (v : Verdict) (public table random p t r : ℕ) : Type 0 where
-  pub ahead : v ≡ Pass
-  pub public-long : public ≡ p
-  pub table-long : table ≡ t
-  pub random-long : random ≡ r
-
-pub lengths-passed : (v : Verdict) {public table random p t r : ℕ} → (v then lengthIs public p then lengthIs table t then lengthIs random r) ≡ Pass
-    → Lengths v public table random p t r
-lengths-passed v e =
-    let random = both _ _ e in
-    let table = both _ _ (random .0) in
-    let public = both _ _ (table .0) in
-    record {
-      ahead = public .0;
-      public-long = length-passed _ _ (public .1);
-      table-long = length-passed _ _ (table .1);
-      random-long = length-passed _ _ (random .1);
-    }
+pub lent-passed : (v : Verdict) (c : Scheme) (k : Ruled) (a table random : List ℕ) (n : ℕ) → Below 256 random
+    → (v then lengthIs (length a) (publicLent c) then lengthIs (length table) (tableWords c) then lengthIs (length random) n) ≡ Pass
+    → (v ≡ Pass) × (ruledIn k ≡ Pass → Sized c k a table random n)
+lent-passed v c k a table random n b e =
+    let r = both _ _ e in
+    let t = both _ _ (r .0) in
+    let p = both _ _ (t .0) in (
+      p .0,
+      λ u. record {
+        ruled = u;
+        public-long = length-passed _ _ (p .1);
+        table-long = length-passed _ _ (t .1);
+        random-long = length-passed _ _ (r .1);
+        bytes = b;
+      },
+    )
 
 -- the public numbers y, where a is lent
 pub record Passes (c : Scheme) (a y : List ℕ) : Type 0 where
@@ -101,14 +100,12 @@ module _ (k : Ruled) (seed : List ℕ) (u : ruledIn k ≡ Pass) (l : length seed
   pub grow-failed : {t : Refusal} → v ≡ Answer.Refused t → Fail t ≡ grown NewHope k seed
   grow-failed {t} f = sym (seen-fails (growNumbers k seed) 0 1024 (grown NewHope k seed) t 0 a (rw f at given))
 
-  pub grow-passed : {m : ℕ} → v ≡ Answer.Done m → Grows k seed a
+  pub grow-passed : {m : ℕ} → v ≡ Answer.Done m → (Pass ≡ grown NewHope k seed) × (a ≡ growNumbers k seed)
   grow-passed {m} f =
       let xs = growNumbers k seed in
       let g = rw f at given in
       let passed = seen-done xs 0 1024 (grown NewHope k seed) m a g in
-      let counted = numbers-counted k seed u passed in
-      let is = seen-whole xs 0 1024 (grown NewHope k seed) m a (counted .long) g in
-      record { passed = passed; is = is }
+      (sym passed, seen-whole xs 0 1024 (grown NewHope k seed) m a (numbers-counted k seed u passed .long) g)
 
 -- ---- of any scheme
 

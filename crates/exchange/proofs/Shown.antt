@@ -1,20 +1,20 @@
 -- What is stated in specs/Shown.
-use Rattle.lists.proofs.Kit.{_≡_, refl, sym, ap, _∙_, List, Bool, true, false, cond, ℕ, arith, leb, ltb, length}
+use Rattle.lists.proofs.Kit.{_≡_, sym, ap, _∙_, List, Bool, true, false, cond, ℕ, arith, leb, ltb, length}
 use Rattle.schemes.specs.declared.Named.the-variants.{Known, Unknown}
-use Rattle.schemes.specs.{Schemes.fixedOf, Schemes.familyOf, Schemes.byFamily, declared.Named.Named, declared.Family.Family, declared.Scheme.Scheme}
-use Rattle.lists.specs.{Ranges.Below, First.firstOver}
+use Rattle.schemes.specs.{Schemes.familyOf, Schemes.byFamily, declared.Named.Named, declared.Family.Family, declared.Scheme.Scheme}
+use Rattle.lists.specs.First.{firstOver}
 use Rattle.noise.specs.{declared.Ruled.the-variants.By, declared.Ruled.Ruled}
 use Rattle.refusals.specs.Refusals.{numberIn, _then_, lengthIs, roomFor, publicsIn, messageIn, notBlank, tableIn}
-use Rattle.refusals.specs.{Seen.Told, declared.Verdict.Verdict, declared.Verdict.the-variants.Pass}
+use Rattle.refusals.specs.{Seen.Told, declared.Verdict.Verdict}
 use Rattle.refusals.proofs.{Laws.differ, Laws.some, Laws.both, Number.and, Number.lengths, Number.rooms, Number.publics, Number.blanks, Same.same-refusal}
 use Rattle.sampling.specs.Expand.{enough}
 use Rattle.reply.specs.Reply.{ReplyRooms}
-use Rattle.exchange.specs.Open.{OpenLent, OpenRooms, OpenSeen, openTests, openSeen, OpenCounts}
+use Rattle.exchange.specs.Open.{OpenLent, OpenRooms, OpenSeen, openSizes, openTests, openSeen, OpenCounts}
 use Rattle.exchange.specs.Shown.{NeverSix, OpenOffers, AnswerReplies, OpenSeenAll, OpenToldAll}
 use Rattle.exchange.specs.declared.OpenAnswer.the-variants.{Done, Refused}
-use Rattle.exchange.specs.{Random.tableOrder, Random.grown, Answer.AnswerLent, Answer.answerTests}
-use Rattle.exchange.proofs.Answering.{answer-sized, answer-tests, answer-decides}
-use Rattle.exchange.proofs.Opening.{open-sized, open-tests, open-decides}
+use Rattle.exchange.specs.{Random.ruledIn, Random.tableOrder, Random.grown, Answer.AnswerLent, Answer.answerSizes, Answer.answerTests}
+use Rattle.exchange.proofs.Answering.{answer-sized, answer-decides}
+use Rattle.exchange.proofs.Opening.{open-sized, open-decides}
 
 -- ---- 6
 
@@ -53,6 +53,10 @@ message-other : (q : ℕ) (xs : List ℕ) → Other (numberIn (messageIn q xs))
 unfolding messageIn
 message-other q xs = either (ltb (firstOver q xs) (length xs)) _ _ (λ e. omega arith) none
 
+ruled-other : (k : Ruled) → Other (numberIn (ruledIn k))
+ruled-other Ruled.Unknown = λ e. omega arith
+ruled-other (By r) = none
+
 length-other : (m n : ℕ) → Other (numberIn (lengthIs m n))
 length-other = lengths Other none (λ e. omega arith)
 
@@ -69,23 +73,23 @@ also : (v w : Verdict) → Other (numberIn v) → Other (numberIn w) → Other (
 also v w a b = and Other v w a (λ _. b)
 
 open-never : (c : Scheme) (k : Ruled) (x : OpenLent) (m : OpenRooms) → Other (numberIn (openTests (Known c) k x m))
-unfolding openTests
-open-never c Ruled.Unknown x m = λ e. omega arith
-open-never c (By r) x m =
+unfolding openTests openSizes
+open-never c k x m =
     also _ _
     (also _ _
     (also _ _
     (also _ _
-    (also _ _ (also _ _ (also _ _ (also _ _ (length-other _ _) (length-other _ _)) (length-other _ _)) (room-other _ _)) (room-other _ _))
+    (also _ _
+    (also _ _ (also _ _ (also _ _ (also _ _ (ruled-other k) (length-other _ _)) (length-other _ _)) (length-other _ _)) (room-other _ _))
+    (room-other _ _))
     (table-other c (x .table)))
     (publics-other _ _))
-    (grown-other c (By r) _))
+    (grown-other c k _))
     (blank-other _)
 
 answer-never : (c : Scheme) (k : Ruled) (x : AnswerLent) (m : ReplyRooms) → Other (numberIn (answerTests (Known c) k x m))
-unfolding answerTests
-answer-never c Ruled.Unknown x m = λ e. omega arith
-answer-never c (By r) x m =
+unfolding answerTests answerSizes
+answer-never c k x m =
     also _ _
     (also _ _
     (also _ _
@@ -94,14 +98,16 @@ answer-never c (By r) x m =
     (also _ _
     (also _ _
     (also _ _
-    (also _ _ (also _ _ (also _ _ (also _ _ (length-other _ _) (length-other _ _)) (length-other _ _)) (length-other _ _)) (room-other _ _))
+    (also _ _
+    (also _ _ (also _ _ (also _ _ (also _ _ (ruled-other k) (length-other _ _)) (length-other _ _)) (length-other _ _)) (length-other _ _))
+    (room-other _ _))
     (room-other _ _))
     (room-other _ _))
     (table-other c (x .table)))
     (publics-other _ _))
     (message-other _ _))
     (blank-other _))
-    (grown-other c (By r) _))
+    (grown-other c k _))
     (blank-other _)
 
 pub never-six : NeverSix
@@ -122,7 +128,7 @@ pub open-offers : OpenOffers
 unfolding openTests
 open-offers Unknown k x m b t = differ t
 open-offers (Known c) k x m b t =
-    let grows = both _ _ (both _ _ (sym (open-tests c k x m refl) ∙ t) .0) in
+    let grows = both _ _ (both _ _ t .0) in
     let sizes = both _ _ (both _ _ (grows .0) .0) .0 in
     both _ _ (sym (open-decides (open-sized c k x m sizes b) (grows .1)) ∙ t) .1
 
@@ -130,7 +136,7 @@ pub answer-replies : AnswerReplies
 unfolding answerTests
 answer-replies Unknown k x m b t = differ t
 answer-replies (Known c) k x m b t =
-    let grows = both _ _ (both _ _ (sym (answer-tests c k x m refl) ∙ t) .0) in
+    let grows = both _ _ (both _ _ t .0) in
     let sizes = both _ _ (both _ _ (both _ _ (both _ _ (grows .0) .0) .0) .0) .0 in
     both _ _ (sym (answer-decides (answer-sized c k x m sizes b) (grows .1)) ∙ t) .1
 

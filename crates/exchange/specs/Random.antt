@@ -5,13 +5,14 @@
 --   valuesIn c table bytes        the noise values of bytes, as Noise has them
 --   publicLent c                  how many public numbers are lent: none in NewHope, whose are grown
 --   publicFrom c k seed a         the public numbers: in NewHope those that the rule k grows from the seed, else a as it is lent
+--   ruledIn k                     12, where no rule is named
 --   tableOrder c table            18, in BCNS alone
 --   grown c k seed                7, in NewHope alone
 use Rattle.lists.specs.Kit.{List, ℕ, _+_, _*_, ℤ, length, take, drop}
 use Rattle.schemes.specs.{Schemes.fixedOf, Schemes.familyOf, Schemes.byFamily, declared.Scheme.Scheme, declared.Named.the-variants.Known}
 use Rattle.noise.specs.declared.Ruled.{Ruled}
 use Rattle.bcns_noise.specs.Noise.{firstNotAbove}
-use Rattle.refusals.specs.{Refusals.tableIn, declared.Verdict.Verdict, declared.Verdict.the-variants.Pass}
+use Rattle.refusals.specs.{Refusals.tableIn, declared.Verdict.Verdict, declared.Verdict.the-variants.Pass, declared.Refusal.Refusal}
 use Rattle.sampling.specs.{Noise.noiseOf, Noise.bytesEach, Noise.noiseValues, Expand.enough, Expand.growNumbers}
 
 abbrev pub secretBytes : Scheme → ℕ
@@ -37,6 +38,10 @@ publicLent c = byFamily (familyOf c) (fixedOf c .public) 0 (fixedOf c .public)
 
 unfoldable pub publicFrom : Scheme → Ruled → List ℕ → List ℕ → List ℕ
 publicFrom c k seed a = byFamily (familyOf c) a (growNumbers k seed) a
+
+abbrev pub ruledIn : Ruled → Verdict
+ruledIn Ruled.Unknown = Verdict.Fail Refusal.NoRule
+ruledIn (Ruled.By r) = Pass
 
 unfoldable pub tableOrder : Scheme → List ℕ → Verdict
 tableOrder c table = byFamily (familyOf c) (tableIn (firstNotAbove table) 51) Pass Pass

@@ -10,11 +10,12 @@ ghost use Rattle.refusals.specs.Refusals.{_then_};
 ghost use Rattle.refusals.specs.declared.Verdict.the-variants.{Pass};
 ghost use Rattle.noise.specs.Expand.{ruleOf};
 ghost use Rattle.sampling.specs.Noise.{tableWords};
+ghost use Rattle.sampling.specs.Expand.{growNumbers};
 ghost use Rattle.wire.specs.Wire.{seedIn};
 ghost use Rattle.reply.specs.Reply.{replyRooms, replyRoomsOf, replyTold, replySeen};
-ghost use Rattle.exchange.specs.Random.{answerRandom, grown};
-ghost use Rattle.exchange.specs.Answer.{answerLent, answerLentOf, answerResult};
-ghost use Rattle.exchange.specs.Inside.{ruledIn, Grows, cameIn, answerSizes, AnswerSized, drawnAnswers};
+ghost use Rattle.exchange.specs.Random.{answerRandom, ruledIn, grown};
+ghost use Rattle.exchange.specs.Answer.{answerLent, answerLentOf, answerSizes, answerResult};
+ghost use Rattle.exchange.specs.Inside.{cameIn, AnswerSized, drawnAnswers};
 use refusals::Verdict;
 use reply::ReplyAnswer;
 use schemes::NewHope;
@@ -49,7 +50,7 @@ fn answer_sizes(
 fn grow_opened(rule: u32, opening: &[u8], numbers: &mut [u32]) -> Verdict
     requires { ⌜ (ruledIn (ruleOf rule) ≡ Pass) × (length (now opening) ≡ 1824) × (length (now numbers) ≡ 1024) ⌝ }
     ensures { λ r. ⌜ r ≡ cameIn variants.NewHope (was opening) then grown variants.NewHope (ruleOf rule) (seedIn variants.NewHope (was opening)) ⌝ }
-    ensures { λ r. ⌜ (r ≡ Pass → Grows (ruleOf rule) (seedIn variants.NewHope (was opening)) (left numbers)) ⌝ }
+    ensures { λ r. ⌜ (r ≡ Pass → left numbers ≡ growNumbers (ruleOf rule) (seedIn variants.NewHope (was opening))) ⌝ }
 {
     let at = NewHope::PACKED;
     let v = wire::take_opening(Scheme::NewHope, opening, numbers);

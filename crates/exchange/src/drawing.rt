@@ -7,8 +7,9 @@ ghost use Rattle.lists.specs.Lent.{was, left};
 ghost use Rattle.refusals.specs.declared.Verdict.the-variants.{Pass};
 ghost use Rattle.noise.specs.Expand.{ruleOf};
 ghost use Rattle.sampling.specs.Noise.{tableWords};
-ghost use Rattle.exchange.specs.Random.{publicLent, secretBytes, mixedBytes, cut, tableOrder, grown};
-ghost use Rattle.exchange.specs.Inside.{ruledIn, Grows, Draws, Drew};
+ghost use Rattle.sampling.specs.Expand.{growNumbers};
+ghost use Rattle.exchange.specs.Random.{publicLent, secretBytes, mixedBytes, cut, ruledIn, tableOrder, grown};
+ghost use Rattle.exchange.specs.Inside.{Draws, Drew};
 use noise::Ruled;
 use refusals::Answer;
 use refusals::Refusal;
@@ -66,7 +67,7 @@ pub(crate) fn ruled(rule: u32) -> Verdict
 pub(crate) fn grow(rule: u32, seed: &[u8], numbers: &mut [u32]) -> Verdict
     requires { ⌜ (ruledIn (ruleOf rule) ≡ Pass) × (length (now seed) ≡ 32) × (length (now numbers) ≡ 1024) ⌝ }
     ensures { λ r. ⌜ r ≡ grown variants.NewHope (ruleOf rule) (was seed) ⌝ }
-    ensures { λ r. ⌜ (r ≡ Pass → Grows (ruleOf rule) (was seed) (left numbers)) ⌝ }
+    ensures { λ r. ⌜ (r ≡ Pass → left numbers ≡ growNumbers (ruleOf rule) (was seed)) ⌝ }
 {
     let v = sampling::grow(rule, seed, numbers);
     match v {

@@ -14,8 +14,8 @@ ghost use Rattle.refusals.specs.declared.Verdict.the-variants.{Pass};
 ghost use Rattle.noise.specs.Expand.{ruleOf};
 ghost use Rattle.sampling.specs.Noise.{tableWords};
 ghost use Rattle.exchange.specs.Random.{openRandom, tableOrder};
-ghost use Rattle.exchange.specs.Open.{openLent, openLentOf, openRooms, openRoomsOf, openTold, openSeen, openResult};
-ghost use Rattle.exchange.specs.Inside.{openSizes, OpenSized, drawnOffer, drawnOpens, openShows, OpenHolds};
+ghost use Rattle.exchange.specs.Open.{openLent, openLentOf, openRooms, openRoomsOf, openTold, openSeen, drawnOffer, openSizes, openResult};
+ghost use Rattle.exchange.specs.Inside.{OpenSized, drawnOpens, openShows, OpenHolds};
 use crate::OpenAnswer;
 use crate::OpenCounts;
 use refusals::Answer;
@@ -56,7 +56,7 @@ fn open_drawn(
     requires { ⌜ (length (now random) ≡ openRandom scheme) × (length (now table) ≡ tableWords scheme) × (fixedOf scheme .secret ≤ length (now s)) ⌝ }
     requires { ⌜ now opening ≡ replicate (length (now opening)) 0 ⌝ }
     ensures { λ r. ⌜ seen (told r) (left opening) ≡ drawnOpens scheme (openLent public table random) (room opening) ⌝ }
-    ensures { λ _. ⌜ (tableOrder scheme (was table) ≡ Pass → left s ≡ drawnOffer scheme (openLent public table random) .s ++ drop (fixedOf scheme .secret) (was s)) ⌝ }
+    ensures { λ _. ⌜ (tableOrder scheme (was table) ≡ Pass → left s ≡ drawnOffer scheme (was public) (openLent public table random) .s ++ drop (fixedOf scheme .secret) (was s)) ⌝ }
 {
     let f = scheme.fixed();
     let n = f.secret;

@@ -18,7 +18,8 @@ use Rattle.finish.specs.Finish.{FinishRooms, finishShown, finishResult}
 use Rattle.reply.specs.Reply.{Reply, ReplySeen, replyOf, replyTests, replyMessage, replyKey, replyDigest, outputs, replyResult}
 use Rattle.agreement.specs.{Run.Run, Run.replyTo, Run.replying, Run.finishWith, Agreement.Near, Exchange.Sendable, Exchange.Rooms, Exchange.offers}
 use Rattle.agreement.proofs.Tests.{sendable-by, finish-passes}
-use Rattle.exchange.specs.{Random.publicFrom, Answer.answerReply, Answer.answerTests, Open.OpenSeen, Open.openOffer, Open.openTests, Open.openShown}
+use Rattle.exchange.specs.{Random.publicFrom, Answer.drawnReply, Answer.answerReply, Answer.answerTests}
+use Rattle.exchange.specs.Open.{OpenSeen, drawnOffer, openOffer, openTests, openShown}
 use Rattle.exchange.proofs.Shown.{open-offers, answer-replies}
 use Rattle.meetings.specs.FromRandom.{Lendings, opening, answering, runOf, Opened, finishOn, Drawn, DrawnFinishes}
 use Rattle.meetings.specs.Meeting.{Agreed}
@@ -59,11 +60,11 @@ module _ (c : Scheme) (k : Ruled) (x : Lendings) (t : Opened c k x) (b : Below 2
 
   -- both boxes have the same public numbers
   public-is : y .a ≡ o .a
-  unfolding answerReply openOffer
+  unfolding drawnReply answerReply drawnOffer openOffer
   public-is = ap (λ (seed : List ℕ). publicFrom c k seed (x .a)) seed-is
 
   reply-is : y ≡ replying c run
-  unfolding answerReply runOf
+  unfolding drawnReply answerReply runOf
   reply-is = ap (λ (a : List ℕ). replyOf (offerMessage (Known c) o) a (y .s') (y .e') (y .e'') (y .coins)) public-is
 
   answered : t .reply ≡ outputs (answerTests (Known c) k (answering x (offerMessage (Known c) o)) (t .reply-rooms)) (replyMessage (Known c) y) (replyKey (Known c) y) (replyDigest (Known c) y) (t .reply-rooms)

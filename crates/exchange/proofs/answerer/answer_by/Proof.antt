@@ -26,12 +26,12 @@ returns-2 c =
     let p : tie.After-answer-drawn = search needs in
     let k : tie.After-shared-slice-known4 = search needs in
     let a = start k .args in
-    let L = lends (a .scheme) _ _ (a .a .now) (λ e. omega (arith, sized k .public-long)) in
+    let L = lends (a .scheme) _ _ (a .a .now) (λ e. omega (arith, sized k .lent .public-long)) in
     answer-passed (sized k) (L .none) (sym (L .from)) (p .answer-drawn .ensures)
 
 pub answer-by-spec : {M : Type 1} → statement M
 answer-by-spec =
     tie.close
     (tie.spec (λ c κs. let k : tie.After-shared-slice-known4 = search needs in (sized-newhope (sized k) (omega arith), start k .pre .1))
-    (λ c κs. let k : tie.After-shared-slice-known4 = search needs in ((sized k .random-long, sized k .table-long), start k .pre .1))
+    (λ c κs. let k : tie.After-shared-slice-known4 = search needs in ((sized k .lent .random-long, sized k .lent .table-long), start k .pre .1))
     (search needs) (search needs) (search needs) returns (search needs) (search needs) (search needs) returns-2)

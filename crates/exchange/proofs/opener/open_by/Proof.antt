@@ -14,7 +14,7 @@ returns-2 c =
     let p : tie.After-open-drawn = search needs in
     let b : tie.Start = search needs in
     let z = b .pre .0 in
-    let L = lends (b .args .scheme) _ _ (b .args .a .now) (λ e. omega (arith, z .public-long)) in
+    let L = lends (b .args .scheme) _ _ (b .args .a .now) (λ e. omega (arith, z .lent .public-long)) in
     open-passed z (b .args .s .now) (L .none) (sym (L .from)) (p .open-drawn .ensures)
 
 pub open-by-spec : {M : Type 1} → statement M
