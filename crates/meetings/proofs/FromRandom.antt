@@ -16,13 +16,13 @@ use Rattle.offer.specs.{Offer.Offer, Offer.offerTests, Offer.offerMessage, Insi
 use Rattle.offer.proofs.Offering.{offer-opens}
 use Rattle.finish.specs.Finish.{FinishRooms, finishShown, finishResult}
 use Rattle.reply.specs.Reply.{Reply, ReplySeen, replyOf, replyTests, replyMessage, replyKey, replyDigest, outputs, replyResult}
-use Rattle.agreement.specs.{Run.Run, Run.replyTo, Run.replying, Run.finishWith, Agreement.Near, Exchange.Sendable, Exchange.Rooms, Exchange.offers}
+use Rattle.agreement.specs.Run.{Run, replyTo, replying, finishWith}
+use Rattle.agreement.specs.{Agreement.Near, Agreement.Agreed, Exchange.Sendable, Exchange.Rooms, Exchange.offers}
 use Rattle.agreement.proofs.Tests.{sendable-by, finish-passes}
 use Rattle.exchange.specs.{Random.publicFrom, Answer.drawnReply, Answer.answerReply, Answer.answerTests}
 use Rattle.exchange.specs.Open.{OpenSeen, drawnOffer, openOffer, openTests, openShown}
 use Rattle.exchange.proofs.Shown.{open-offers, answer-replies}
 use Rattle.meetings.specs.FromRandom.{Lendings, opening, answering, runOf, Opened, finishOn, Drawn, DrawnFinishes}
-use Rattle.meetings.specs.Meeting.{Agreed}
 use Rattle.meetings.proofs.Linked.{agreed}
 
 module _ (c : Scheme) (k : Ruled) (x : Lendings) (t : Opened c k x) (b : Below 256 (x .random)) (b' : Below 256 (x .random')) where

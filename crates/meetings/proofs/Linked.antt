@@ -11,13 +11,13 @@ use Rattle.refusals.specs.Seen.{Seen, answer}
 use Rattle.offer.specs.Offer.{offerResult}
 use Rattle.finish.specs.Finish.{FinishSeen, finishKey, finishResult}
 use Rattle.reply.specs.Reply.{ReplySeen, replyKey, replyResult}
-use Rattle.agreement.specs.{Run.Run, Exchange.Sendable, Exchange.Rooms, Exchange.Enough, Exchange.Exchange, Agreement.Near}
+use Rattle.agreement.specs.{Run.Run, Exchange.Sendable, Exchange.Rooms, Exchange.Enough, Exchange.Exchange, Agreement.Near, Agreement.Agreed}
 use Rattle.agreement.proofs.{Accepted.gave, Accepted.none-refused, Agreement.agreement, Meeting.own-published, Meeting.keys-meet}
 use Rattle.session.specs.Seen.{CallSeen, ofOffer, ofReply, ofFinish, number, Turn, turn, moved}
 use Rattle.session.specs.Table.{Call, offering, replying, finishing, whenIdle, row, keyed}
 use Rattle.session.specs.{declared.Stage.Stage, declared.Session.Session, Sequences.beneath}
 use Rattle.session.proofs.Sequences.{answered, accepted}
-use Rattle.meetings.specs.{Linked.Link, Linked.linkedBy, Linked.Linking, Linked.SameKey, Meeting.Agreed}
+use Rattle.meetings.specs.Linked.{Link, linkedBy, Linking, SameKey}
 use Rattle.agreement.specs.Run as inputs
 use Rattle.agreement.specs.Exchange as exchange
 
@@ -43,9 +43,7 @@ module _ (c : Scheme) (x : Run) (m : Rooms) {o : Seen ℕ} {r : ReplySeen} {f : 
 
   pub agreed : o .number ≡ 0 → r .number ≡ 0 → f .number ≡ 0 → Near c x → Agreed c x r f
   unfolding exchanged
-  agreed a b d near =
-      let k = agreement c x (exchanged a b d) near in
-      rw (replied, finished) (record { same = k .same; published = k .published; digests = k .digests })
+  agreed a b d near = rw (replied, finished) (agreement c x (exchanged a b d) near)
 
 -- ---- a call on a session
 

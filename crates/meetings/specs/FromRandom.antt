@@ -14,10 +14,9 @@ use Rattle.refusals.specs.Seen.{answer}
 use Rattle.offer.specs.Offer.{offerMessage}
 use Rattle.finish.specs.{Finish.FinishRooms, Finish.FinishSeen, Finish.finishOf, Finish.finishResult, Shown.FinishEnough}
 use Rattle.reply.specs.Reply.{ReplyRooms, ReplySeen}
-use Rattle.agreement.specs.{Run.Run, Agreement.Near}
+use Rattle.agreement.specs.{Run.Run, Agreement.Near, Agreement.Agreed}
 use Rattle.exchange.specs.Open.{OpenLent, OpenRooms, OpenSeen, openLentOf, openOffer, openResult}
 use Rattle.exchange.specs.Answer.{AnswerLent, answerLentOf, answerReply, answerResult}
-use Rattle.meetings.specs.Meeting.{Agreed}
 
 pub record Lendings : Type 0 where
   pub a : List ℕ

@@ -1,6 +1,5 @@
 -- Demand 3 over the joined matrix: 02, request e. Of the two boxes of an exchange in Frodo each goes by whole matrix or by rows, all by what the calls promise.
 --   Meeting c x      as `Exchange` of crate `agreement`, with Offer and Reply each whole or by rows, where the accepted parts join into the a of x
---   Agreed c x r f   of what is seen of Reply and Finish: both keys are equal, and are the published bits; so are both digests
 --   ByRows           the demand, of every one of Frodo's schemes
 --   Reached          the inputs of a meeting are sendable, and on any such there is a meeting
 --   EveryCut         on any such, in any parts that do not run past the end of their row and join into A, both boxes go by rows from begin to end and nothing is
@@ -13,7 +12,7 @@ use Rattle.refusals.specs.Seen.{Seen, answer}
 use Rattle.offer.specs.Offer.{offerMessage, offerResult}
 use Rattle.finish.specs.Finish.{FinishSeen, finishResult}
 use Rattle.reply.specs.Reply.{ReplyRooms, ReplySeen, replyResult}
-use Rattle.agreement.specs.{Run.Run, Run.offering, Run.replyTo, Run.finishWith, Exchange.Sendable, Exchange.Rooms, Agreement.Near, Agreement.publishedKey}
+use Rattle.agreement.specs.{Run.Run, Run.offering, Run.replyTo, Run.finishWith, Exchange.Sendable, Exchange.Rooms, Agreement.Near, Agreement.Agreed}
 use Rattle.rows.specs.Runs.{joined, WithinRows, OfferRun, ReplyRun, OfferAccepted, ReplyAccepted}
 use Rattle.rows.specs.{Offer.offerBeginOf, Reply.replyBeginOf}
 
@@ -35,11 +34,6 @@ pub record Meeting (c : Scheme) (x : Run) : Type 0 where
   pub finish : FinishSeen
   pub finishes : finish ≡ finishResult (Known c) (finishWith x (answer (reply .message))) (rooms .finish)
   pub finish-accepted : finish .number ≡ 0
-
-pub record Agreed (c : Scheme) (x : Run) (r : ReplySeen) (f : FinishSeen) : Type 0 where
-  pub same : answer (r .key) ≡ answer (f .key)
-  pub published : answer (r .key) ≡ publishedKey c x
-  pub digests : answer (r .digest) ≡ answer (f .digest)
 
 -- ---- what is shown; Frodo has no coins, and a seed is bytes
 
