@@ -1,5 +1,5 @@
 -- Offer by rows is Offer on the joined matrix: what is stated of it in specs/Shown.
---   offer-try, same-offer, early-offer, offer-taken   what is shown
+--   same-offer, early-offer, offer-taken   what is shown
 use Rattle.lists.proofs.Kit.{_≡_, refl, _∙_, sym, ap, ap₂, _≢_, true, List, _++_, ℕ, arith, length, take, replicate, take-at, drop-at}
 use Rattle.schemes.specs.{Schemes.familyOf, Schemes.fixedOf, declared.Family.Family, declared.Named.the-variants.Known, declared.Scheme.Scheme}
 use Rattle.lists.specs.Ranges.{Below}
@@ -16,10 +16,10 @@ use Rattle.offer.proofs.Offering.{Ranges, offer-opens}
 use Rattle.rows_state.specs.{State.long, State.named, State.savedOf, State.allBelow, State.savedIn, Part.stateShown, declared.Call.Call}
 use Rattle.rows_state.proofs.{Tests.goes, Tests.below-all, Tests.frodos, Laying.seed-kept-long}
 use Rattle.rows.specs.Offer.{OfferBegin, offerBeginTests, offerState, offerBeginResult, sentPart, offerEndTests, offerEndMessage}
-use Rattle.rows.specs.Runs.{Refused, Parts, joined, WithinRows, OfferAccepted}
-use Rattle.rows.specs.Shown.{OfferTry, SameOffer, EarlyOffer, OfferTaken}
+use Rattle.rows.specs.Runs.{Parts, joined, WithinRows, OfferAccepted}
+use Rattle.rows.specs.Shown.{SameOffer, EarlyOffer, OfferTaken}
 use Rattle.rows.proofs.Fresh.{Starts, Left, left, fill, in-turn, has-all, too-early}
-use Rattle.rows.proofs.{Running.unchanged, Opening.OfferSized, Opening.begin-sized, Ends.not-refused, Ends.by-frodo, Shown.took-parts}
+use Rattle.rows.proofs.{Opening.OfferSized, Opening.begin-sized, Ends.not-refused, Ends.by-frodo, Shown.took-parts}
 
 -- turn, room and blank part; and of the whole call lengths, room, numbers, secrets and blank part
 chain : (i r b l p s e b' : Verdict) → i ≡ Pass → l ≡ Pass → p ≡ Pass → s ≡ Pass → e ≡ Pass → b ≡ b'
@@ -27,9 +27,6 @@ chain : (i r b l p s e b' : Verdict) → i ≡ Pass → l ≡ Pass → p ≡ Pas
 unfolding _then_
 chain i Pass b l p s e b' h1 h2 h3 h4 h5 d = rw (h1, h2, h3, h4, h5) d
 chain i (Fail r) b l p s e b' h1 h2 h3 h4 h5 d = rw (h1, h2)
-
-pub offer-try : OfferTry
-offer-try st n h = unchanged (Refused.offerEnd n h)
 
 -- ---- after a good begin
 
@@ -117,17 +114,17 @@ module _ (c : Scheme) (x : OfferBegin) (m : ℕ) (frodo : familyOf c ≡ Family.
 -- ---- what is shown
 
 pub same-offer : SameOffer
-same-offer c x a n t frodo bytes r all =
+same-offer c x a n t frodo bytes (m, r) all =
     r .ends
-    ∙ ap₂ (λ (v : Verdict) (xs : List ℕ). shown v xs 0 n) (same-tests c x (r .stateRoom) frodo bytes (r .begins) a (r .last) (r .parts) all n)
-    (same-message c x (r .stateRoom) frodo bytes (r .begins) a (r .last) (r .parts) all)
+    ∙ ap₂ (λ (v : Verdict) (xs : List ℕ). shown v xs 0 n) (same-tests c x m frodo bytes (r .begins) a (r .last) (r .parts) all n)
+    (same-message c x m frodo bytes (r .begins) a (r .last) (r .parts) all)
 
 pub early-offer : EarlyOffer
 unfolding shown written
-early-offer c x a n t frodo bytes r some =
+early-offer c x a n t frodo bytes (m, r) some =
     r .ends
     ∙ ap (λ (v : Verdict). shown v (offerEndMessage (named (r .last)) (r .last)) 0 n)
-    (early c x (r .stateRoom) frodo bytes (r .begins) a (r .last) (r .parts) n some)
+    (early c x m frodo bytes (r .begins) a (r .last) (r .parts) n some)
 
 -- ---- nothing is refused
 
@@ -161,14 +158,14 @@ module _ (c : Scheme) (x : OfferBegin) (ps : List (List ℕ)) (n : ℕ) (frodo :
         begins = g;
         last = o .0;
         parts = o .1;
-        ends = ap numberIn (same-tests c x size frodo bytes g (joined ps) (o .0) (took-parts (o .1)) all n ∙ t);
+        ends = sym (ap numberIn (same-tests c x size frodo bytes g (joined ps) (o .0) (took-parts (o .1)) all n ∙ t));
       }
 
   as-whole : OfferAccepted c x ps n → offerTests (Known c) joint n ≡ Pass
   unfolding offerEndTests shown
   as-whole a =
       let p = took-parts (a .parts) in
-      let z : offerEndTests (named (a .last)) (a .last) n ≡ Pass = number-zero _ (sym (a .ends)) in
+      let z : offerEndTests (named (a .last)) (a .last) n ≡ Pass = number-zero _ (a .ends) in
       let l = walk c x size frodo bytes (a .begins) (joined ps) (a .last) p in
       let o = both _ _ (sym (ap (λ d. offerEndTests d (a .last) n) (l .is-named)) ∙ z) in
       let all = has-all frodo l (turn-passed _ (both _ _ (o .0) .0)) in

@@ -1,5 +1,5 @@
 -- Reply by rows is Reply on the joined matrix: what is stated of it in specs/Shown.
---   reply-try, same-reply, early-reply, reply-taken   what is shown
+--   same-reply, early-reply, reply-taken   what is shown
 use Rattle.lists.proofs.Kit.{_≡_, refl, _∙_, sym, ap, ap₂, _≢_, List, [], _++_, ℕ, length, replicate}
 use Rattle.schemes.specs.{Schemes.familyOf, Schemes.fixedOf, declared.Family.Family, declared.Named.the-variants.Known, declared.Scheme.Scheme}
 use Rattle.packing.specs.Packing.{packed}
@@ -17,11 +17,11 @@ use Rattle.reply.proofs.Replying.{Sized, reply-sized, reply-apart}
 use Rattle.rows_state.specs.{State.long, State.named, Part.stateShown, declared.Call.Call}
 use Rattle.rows_state.proofs.Tests.{below-all, frodos}
 use Rattle.rows.specs.Reply.{ReplyBegin, replyBeginTests, valueOf, replyState, replyBeginResult, replyEndTests, replyEndMessage, replyEndKey}
-use Rattle.rows.specs.Runs.{Refused, Parts, joined, WithinRows, ReplyAccepted}
-use Rattle.rows.specs.{Offer.sentPart, Inside.replyBeginSizes, Inside.replyBeginRest, Shown.ReplyTry, Shown.SameReply, Shown.EarlyReply, Shown.ReplyTaken}
+use Rattle.rows.specs.Runs.{Parts, joined, WithinRows, ReplyAccepted}
+use Rattle.rows.specs.{Offer.sentPart, Inside.replyBeginSizes, Inside.replyBeginRest, Shown.SameReply, Shown.EarlyReply, Shown.ReplyTaken}
 use Rattle.rows.proofs.Fresh.{Starts, Left, left, fill, in-turn, has-all, too-early}
 use Rattle.rows.proofs.Replying.{begin-sized, begin-apart, opened-tests}
-use Rattle.rows.proofs.{Running.unchanged, Ends.not-refused, Ends.by-frodo, Shown.took-parts}
+use Rattle.rows.proofs.{Ends.not-refused, Ends.by-frodo, Shown.took-parts}
 use Rattle.rows.proofs.Replying as rows
 
 -- ---- verdicts and outputs
@@ -30,9 +30,6 @@ chain : (i r s t b l p o c b' : Verdict) → i ≡ Pass → l ≡ Pass → p ≡
     → i then r then s then t then b ≡ l then r then s then t then p then (o then (c then b'))
 unfolding _then_
 chain i r s t b l p o c b' e f g h k d = rw (e, f, g, h, k, d) (sym (then-assoc (r then s then t) Pass b'))
-
-pub reply-try : ReplyTry
-reply-try st m h = unchanged (Refused.replyEnd m h)
 
 -- ---- after a good begin
 
@@ -119,19 +116,19 @@ module _ (c : Scheme) (x : ReplyBegin) (m : ℕ) (frodo : familyOf c ≡ Family.
 -- ---- what is shown
 
 pub same-reply : SameReply
-same-reply c x a m t frodo r all =
-    let s = same-tests c x (r .stateRoom) frodo (r .begins) a (r .last) (r .parts) all m in
-    let o = same-message c x (r .stateRoom) frodo (r .begins) a (r .last) (r .parts) all in
-    let i = same-key c x (r .stateRoom) frodo (r .begins) a (r .last) (r .parts) all in
+same-reply c x a m t frodo (n, r) all =
+    let s = same-tests c x n frodo (r .begins) a (r .last) (r .parts) all m in
+    let o = same-message c x n frodo (r .begins) a (r .last) (r .parts) all in
+    let i = same-key c x n frodo (r .begins) a (r .last) (r .parts) all in
     r .ends ∙ rw (s, o, i)
 
 pub early-reply : EarlyReply
 unfolding outputs written
-early-reply c x a m t frodo r some =
+early-reply c x a m t frodo (n, r) some =
     let l = r .last in
     r .ends
     ∙ ap (λ (v : Verdict). outputs v (replyEndMessage (named l) l) (replyEndKey (named l) l) (sha3 (replyEndKey (named l) l)) m)
-    (early c x (r .stateRoom) frodo (r .begins) a l (r .parts) m some)
+    (early c x n frodo (r .begins) a l (r .parts) m some)
 
 -- ---- nothing is refused
 
@@ -165,14 +162,14 @@ module _ (c : Scheme) (x : ReplyBegin) (ps : List (List ℕ)) (m : ReplyRooms) (
         begins = g;
         last = k .0;
         parts = k .1;
-        ends = ap numberIn (same-tests c x size frodo g (joined ps) (k .0) (took-parts (k .1)) (s .public-long) m ∙ t);
+        ends = sym (ap numberIn (same-tests c x size frodo g (joined ps) (k .0) (took-parts (k .1)) (s .public-long) m ∙ t));
       }
 
   as-whole : ReplyAccepted c x ps m → replyTests (Known c) joint m ≡ Pass
   unfolding replyEndTests outputs
   as-whole a =
       let p = took-parts (a .parts) in
-      let z : replyEndTests (named (a .last)) (a .last) m ≡ Pass = number-zero _ (sym (a .ends)) in
+      let z : replyEndTests (named (a .last)) (a .last) m ≡ Pass = number-zero _ (a .ends) in
       let l = walk c x size frodo (a .begins) (joined ps) (a .last) p in
       let o = both _ _ (sym (ap (λ y. replyEndTests y (a .last) m) (l .is-named)) ∙ z) in
       let turn = both _ _ (both _ _ (both _ _ (o .0) .0) .0) .0 in

@@ -26,7 +26,7 @@ use Rattle.rows_state.proofs.Laying.{apart, kept-long, secret-long, sums-long, 
 use Rattle.rows_state.proofs.Laying.{laid-secret, laid-sums, laid-held, laid-ext}
 use Rattle.rows_state.proofs.Tests.{stops, goes, passed, started, starts, Fits, fits, fits-so, frodo-in, frodo-named}
 use Rattle.rows_state.proofs.{Filling.block-fits, Filling.fills-up, Filling.held-mod, Turns.part-known}
-use Rattle.rows.specs.Runs.{Accepts, next, Refused, Parts, joined, Took, Good, steps, WithinRows}
+use Rattle.rows.specs.Runs.{Accepts, next, Parts, joined, Took, Good, steps, WithinRows}
 use Rattle.rows.specs.Shown.{Frodos, Allowed, Joining, Empty, Again, Running}
 use Rattle.rows.proofs.Running.{unchanged, below-front, below-behind, after-sums, after-held, Walked, walked}
 use Rattle.rows.proofs.Ends.{not-refused, by-frodo}
@@ -349,9 +349,6 @@ takes k c st (p ∷ ps) called b some w l m =
 
 -- ---- refused parts and ends
 
-refused : (k : Call) (st p : List ℕ) → 0 < partResult k st p .number → next k st p ≡ st
-refused k st p h = unchanged (Refused.part k p h)
-
 pub without : (k : Call) (st xs last : List ℕ) → Parts k st xs last → Good k st xs last
 unfolding joined
 without k st xs last Parts.none = ([], (refl, Took.none))
@@ -361,7 +358,7 @@ without k st xs last (Parts.more {xs = ys} p t ps) =
 without k st xs last (Parts.again {st' = same} r ps) = subst (λ (s : List ℕ). Good k s xs last) (unchanged r) (without k same xs last ps)
 
 pub again : Again
-again = (refused, without)
+again = (λ st st' r. unchanged r, without)
 
 -- ---- what any parts leave
 

@@ -8,15 +8,16 @@
 --   Good k st xs st'       some such parts, which join into xs
 --   steps k n st ps        the state st with the parts ps, one after the other
 --   WithinRows n at ps     none of the parts ps, of which the first starts at entry `at` of A, runs past the end of its row
---   OfferRun, ReplyRun     a begin of the scheme c on the inputs x that is not refused, parts whose accepted ones join into a, refused parts and ends among
---                          them, and an end, with room for n bytes or the rooms m, of which t is seen besides the state
+--   RunBy begin go end t   a begin of which `begin` is seen and which is not refused, what `go` says from its state to the last, and an end, of which t is seen
+--   OfferRun, ReplyRun     a begin of the scheme c on the inputs x, with a state of m numbers, parts whose accepted ones join into a, refused parts and ends
+--                          among them, and an end, with room for n bytes or the rooms o, of which t is seen besides the state
 --   OfferAccepted, ReplyAccepted   a begin of the scheme c on the inputs x with a state of its fixed length, the parts ps and an end with such rooms, and none
 --                          of them refused
 use Rattle.lists.specs.Kit.{_≡_, List, [], _∷_, _++_, ℕ, _+_, _%_, _≤_, _<_, length}
 use Rattle.schemes.specs.{Schemes.fixedOf, declared.Named.the-variants.Known, declared.Scheme.Scheme}
 use Rattle.refusals.specs.Seen.{Seen}
 use Rattle.reply.specs.Reply.{ReplyRooms, ReplySeen}
-use Rattle.rows_state.specs.{State.long, State.stepped, Part.partResult, declared.Call.Call}
+use Rattle.rows_state.specs.{State.long, State.stepped, Part.StateSeen, Part.partResult, declared.Call.Call}
 use Rattle.rows.specs.{Offer.OfferBegin, Offer.offerBeginResult, Offer.offerEndResult, Reply.ReplyBegin, Reply.replyBeginResult, Reply.replyEndResult}
 
 abbrev pub Accepts : Call → List ℕ → List ℕ → Type 0
@@ -56,30 +57,24 @@ WithinRows n at (p ∷ ps) = (at % n + length p ≤ n) × WithinRows n (at + len
 
 -- ---- a begin, parts, and an end
 
-pub record OfferRun (c : Scheme) (x : OfferBegin) (a : List ℕ) (n : ℕ) (t : Seen ℕ) : Type 0 where
-  pub stateRoom : ℕ
-  pub begins : offerBeginResult (Known c) x stateRoom .number ≡ 0
+pub record RunBy {T : Type 0} (begin : StateSeen) (go : List ℕ → List ℕ → Type 0) (end : List ℕ → T) (t : T) : Type 0 where
+  pub begins : begin .number ≡ 0
   pub last : List ℕ
-  pub parts : Parts Call.Offer (offerBeginResult (Known c) x stateRoom .state) a last
-  pub ends : t ≡ offerEndResult last n .answer
+  pub parts : go (begin .state) last
+  pub ends : t ≡ end last
 
-pub record ReplyRun (c : Scheme) (x : ReplyBegin) (a : List ℕ) (m : ReplyRooms) (t : ReplySeen) : Type 0 where
-  pub stateRoom : ℕ
-  pub begins : replyBeginResult (Known c) x stateRoom .number ≡ 0
-  pub last : List ℕ
-  pub parts : Parts Call.Reply (replyBeginResult (Known c) x stateRoom .state) a last
-  pub ends : t ≡ replyEndResult last m .answer
+abbrev pub OfferRun : Scheme → OfferBegin → List ℕ → ℕ → Seen ℕ → Type 0
+OfferRun c x a n t = (m : ℕ) × RunBy (offerBeginResult (Known c) x m) (λ st st'. Parts Call.Offer st a st') (λ st. offerEndResult st n .answer) t
 
--- ---- a begin, parts and an end, none of them refused
+abbrev pub ReplyRun : Scheme → ReplyBegin → List ℕ → ReplyRooms → ReplySeen → Type 0
+ReplyRun c x a o t = (m : ℕ) × RunBy (replyBeginResult (Known c) x m) (λ st st'. Parts Call.Reply st a st') (λ st. replyEndResult st o .answer) t
 
-pub record OfferAccepted (c : Scheme) (x : OfferBegin) (ps : List (List ℕ)) (n : ℕ) : Type 0 where
-  pub begins : offerBeginResult (Known c) x (long (fixedOf c .n)) .number ≡ 0
-  pub last : List ℕ
-  pub parts : Took Call.Offer (offerBeginResult (Known c) x (long (fixedOf c .n)) .state) ps last
-  pub ends : offerEndResult last n .answer .number ≡ 0
+-- ---- none of them refused
 
-pub record ReplyAccepted (c : Scheme) (x : ReplyBegin) (ps : List (List ℕ)) (m : ReplyRooms) : Type 0 where
-  pub begins : replyBeginResult (Known c) x (long (fixedOf c .n)) .number ≡ 0
-  pub last : List ℕ
-  pub parts : Took Call.Reply (replyBeginResult (Known c) x (long (fixedOf c .n)) .state) ps last
-  pub ends : replyEndResult last m .answer .number ≡ 0
+abbrev pub OfferAccepted : Scheme → OfferBegin → List (List ℕ) → ℕ → Type 0
+OfferAccepted c x ps n =
+    RunBy (offerBeginResult (Known c) x (long (fixedOf c .n))) (λ st st'. Took Call.Offer st ps st') (λ st. offerEndResult st n .answer .number) 0
+
+abbrev pub ReplyAccepted : Scheme → ReplyBegin → List (List ℕ) → ReplyRooms → Type 0
+ReplyAccepted c x ps o =
+    RunBy (replyBeginResult (Known c) x (long (fixedOf c .n))) (λ st st'. Took Call.Reply st ps st') (λ st. replyEndResult st o .answer .number) 0

@@ -7,8 +7,7 @@
 --   Joining           part after part is the part of both joined, for every cut: where the joined one is accepted, so are both; where both are and do not run past
 --                     one row, so is the joined one; and what is seen, from a state of numbers of 32 bits, is the same
 --   Empty             an empty part changes nothing
---   Again             a refused part changes nothing, so that it can be sent again: the run without the refused parts and ends leaves the same state
---   OfferTry, ReplyTry   a refused end changes nothing, so that it can be tried again
+--   Again             a refused part or end changes nothing, so that it can be sent or tried again: the run without them leaves the same state
 --   Running           after any parts the count is how many numbers the accepted ones join into, the sums are those of the blocks of sixteen rows that have come whole,
 --                     and the numbers behind these are held back
 --   blocks n xs       how many numbers those blocks have
@@ -29,8 +28,8 @@ use Rattle.offer.specs.Offer.{offerOf, offerTests, offerResult}
 use Rattle.reply.specs.Reply.{ReplyRooms, ReplySeen, replyOf, replyTests, outputs, replyResult}
 use Rattle.rows_state.specs.State.{frodoOf, long, named, taken, secretOf, sumsOf, heldOf, laid, secretWords, begun, terms}
 use Rattle.rows_state.specs.{Part.partResult, declared.Call.Call}
-use Rattle.rows.specs.Runs.{Accepts, next, Parts, Good, joined, steps, WithinRows, OfferRun, ReplyRun, OfferAccepted, ReplyAccepted}
-use Rattle.rows.specs.{Offer.OfferBegin, Offer.offerEndResult, Reply.ReplyBegin, Reply.replyEndResult}
+use Rattle.rows.specs.Runs.{Accepts, next, Refused, Parts, Good, joined, steps, WithinRows, OfferRun, ReplyRun, OfferAccepted, ReplyAccepted}
+use Rattle.rows.specs.{Offer.OfferBegin, Reply.ReplyBegin}
 
 -- ---- the state
 
@@ -54,15 +53,7 @@ abbrev pub Empty : Type 0
 Empty = (k : Call) (st : List ℕ) → next k st [] ≡ st
 
 abbrev pub Again : Type 0
-Again =
-    ((k : Call) (st p : List ℕ) → 0 < partResult k st p .number → next k st p ≡ st)
-    × ((k : Call) (st xs last : List ℕ) → Parts k st xs last → Good k st xs last)
-
-abbrev pub OfferTry : Type 0
-OfferTry = (st : List ℕ) (n : ℕ) → 0 < offerEndResult st n .answer .number → offerEndResult st n .state ≡ st
-
-abbrev pub ReplyTry : Type 0
-ReplyTry = (st : List ℕ) (m : ReplyRooms) → 0 < replyEndResult st m .answer .number → replyEndResult st m .state ≡ st
+Again = ((st st' : List ℕ) → Refused st st' → st' ≡ st) × ((k : Call) (st xs last : List ℕ) → Parts k st xs last → Good k st xs last)
 
 abbrev pub blocks : ℕ → List ℕ → ℕ
 blocks n xs = length xs / (16 * n) * (16 * n)
