@@ -24,8 +24,8 @@ use Rattle.reply.specs.Reply.{replySeen}
 use Rattle.reply.specs.{Inside.replyLengths, Inside.replyLast, Inside.replyRest, declared.ReplyAnswer.ReplyAnswer}
 use Rattle.reply.proofs.Replying.{reply-rest-decides, reply-refused}
 use Rattle.exchange.specs.Random.{secretBytes, mixedBytes, publicFrom, cut, tableOrder, grown}
-use Rattle.exchange.specs.Inside.{Drew, AnswerSized, drawnAnswers, cameIn}
-use Rattle.exchange.specs.Answer.{AnswerLent, answerLentOf, drawnReply, answerReply, answerSizes, answerTests, answerResult}
+use Rattle.exchange.specs.Inside.{Drew, AnswerSized, drawnAnswers, cameIn, answerSizes}
+use Rattle.exchange.specs.Answer.{AnswerLent, answerLentOf, drawnReply, answerReply, answerTests, answerResult}
 use Rattle.exchange.proofs.Grown.{lent-passed, no-table, no-publics, public-passes, only-newhope}
 use Rattle.exchange.proofs.Drawn.{draws-secret, draws-mixed, drawn-small}
 
@@ -67,7 +67,7 @@ chain-fails M B G N s e f g = rw (s, e, f) (failed N refl g)
 module _ {c : Scheme} {k : Ruled} {x : AnswerLent} {m : ReplyRooms} (z : AnswerSized c k x m) where
   pub answer-decides : grown c k (seedOf c x) ≡ Pass
       → answerTests (Known c) k x m ≡ tableOrder c (x .table) then replyTests (Known c) (answerReply (Known c) k x) m
-  unfolding answerTests replyLengths replyRest replyLast replySecrets receivedIn openedOf drawnReply answerReply
+  unfolding answerTests answerSizes replyLengths replyRest replyLast replySecrets receivedIn openedOf drawnReply answerReply
   answer-decides g =
       let n = secretBytes c in
       let i = mixedBytes c in
@@ -154,7 +154,7 @@ pub answer-ran-out : {k : Ruled} {x : AnswerLent} {m : ReplyRooms} {v : Verdict}
     → v ≡ cameIn NewHope (x .opening) then grown NewHope k (seedOf NewHope x) → v ≡ Fail r
     → message ≡ replicate (m .message) 0 → key ≡ replicate (m .key) 0 → digest ≡ replicate (m .digest) 0
     → replySeen (replyTold (ReplyAnswer.Refused r)) message key digest ≡ answerResult (Known NewHope) k x m
-unfolding answerTests receivedIn openedOf drawnReply answerReply
+unfolding answerTests answerSizes receivedIn openedOf drawnReply answerReply
 answer-ran-out {k} {x} {m} {r = r} z o f p q s =
     let none : publicsIn 12289 (x .a) ≡ Pass = rw (empty (x .a) (z .lent .public-long)) (no-publics 12288) in
     let t : answerTests (Known NewHope) k x m ≡ Fail r = chain-fails _ _ _ _ (z .sizes) (no-table (x .table)) none (sym o ∙ f) in
@@ -175,13 +175,13 @@ module _ {message key digest : List ℕ} (k : Ruled) (x : AnswerLent) (m : Reply
     (z : digest ≡ replicate (m .digest) 0) where
   pub answer-failed : (c : Scheme) {v : Verdict} {r : Refusal} → v ≡ answerSizes c k x m → v ≡ Fail r
       → replySeen (replyTold (ReplyAnswer.Refused r)) message key digest ≡ answerResult (Known c) k x m
-  unfolding answerTests
+  unfolding answerTests answerSizes
   answer-failed c e f =
       reply-refused _ _ _ m (failed _ refl (failed _ refl (failed _ refl (failed _ refl (failed _ refl (failed _ e f)))))) o y z
 
   module _ {c d : Named} (e : d ≡ c) where
     pub answer-unknown : d ≡ Unknown → replySeen (replyTold (ReplyAnswer.Refused NoScheme)) message key digest ≡ answerResult c k x m
-    unfolding answerTests
+    unfolding answerTests answerSizes
     answer-unknown u = let t : answerTests c k x m ≡ Fail NoScheme = rw (sym e ∙ u) in reply-refused _ _ _ m t o y z
 
     pub answer-known : {s : Scheme} {u : ReplySeen} → d ≡ Known s → u ≡ answerResult (Known s) k x (replyRoomsOf (length message) (length key) (length digest))

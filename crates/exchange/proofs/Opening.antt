@@ -23,9 +23,9 @@ use Rattle.refusals.proofs.Seen.{written-passed, written-failed, shown-failed, 
 use Rattle.values.specs.Fit.{Small}
 use Rattle.offer.specs.{Offer.offerOf, Offer.offeredPart, Offer.offerTests, Offer.offerMessage, Offer.offerResult, Inside.offerLengths, Inside.offerAhead}
 use Rattle.offer.proofs.Offering.{offer-last-decides}
-use Rattle.exchange.specs.Open.{OpenLent, openLentOf, OpenRooms, OpenSeen, drawnOffer, openOffer, openSizes, openTests, openShown, openResult}
+use Rattle.exchange.specs.Open.{OpenLent, openLentOf, OpenRooms, OpenSeen, drawnOffer, openOffer, openTests, openShown, openResult}
 use Rattle.exchange.specs.Open.{openRoomsOf, openTold, openSeen, OpenAnswer}
-use Rattle.exchange.specs.Inside.{Drew, OpenSized, drawnOpens, openShows, OpenHolds}
+use Rattle.exchange.specs.Inside.{Drew, OpenSized, drawnOpens, openShows, OpenHolds, openSizes}
 use Rattle.exchange.specs.Random.{secretBytes, publicFrom, cut, tableOrder, grown}
 use Rattle.exchange.proofs.Grown.{lent-passed, no-table, no-publics, public-passes, only-newhope}
 use Rattle.exchange.proofs.Drawn.{seen-fails, draws-secret, drawn-small}
@@ -67,7 +67,7 @@ module _ {c : Scheme} {k : Ruled} {x : OpenLent} {m : OpenRooms} (z : OpenSized 
 
   pub open-decides : grown c k (seedOf c x) ≡ Pass
       → openTests (Known c) k x m ≡ tableOrder c (x .table) then offerTests (Known c) (openOffer (Known c) k x) (m .opening)
-  unfolding openTests offerAhead offerLengths drawnOffer openOffer
+  unfolding openTests openSizes offerAhead offerLengths drawnOffer openOffer
   open-decides g =
       let y = openOffer (Known c) k x in
       let n = m .opening in
@@ -126,7 +126,7 @@ module _ {c : Scheme} {k : Ruled} {x : OpenLent} {m : OpenRooms} (z : OpenSized 
 module _ {k : Ruled} {x : OpenLent} {m : OpenRooms} (z : OpenSized NewHope k x m) {v : Verdict} (o : v ≡ grown NewHope k (seedOf NewHope x)) where
   pub open-ran-out : {r : Refusal} {opening : List ℕ} (old : List ℤ) {s : List ℤ} → v ≡ Fail r → opening ≡ replicate (m .opening) 0
       → (seen (refused r 0) opening ≡ openShows NewHope k x m) × OpenHolds NewHope k x m old s
-  unfolding openTests
+  unfolding openTests openSizes
   open-ran-out {r} old f p =
       let none : publicsIn 12289 (x .a) ≡ Pass = rw (empty (x .a) (z .lent .public-long)) (no-publics 12288) in
       let t : openTests (Known NewHope) k x m ≡ Fail r = chain-fails _ (z .sizes) (no-table (x .table)) none (sym o ∙ f) in
@@ -152,7 +152,7 @@ module _ (c : Named) (k : Ruled) (x : OpenLent) (m : OpenRooms) {r : Refusal} {o
 pub open-unknown : {c d : Named} (k : Ruled) (x : OpenLent) (m : OpenRooms) {opening : List ℕ} {s : List ℤ} → d ≡ c → d ≡ Unknown
     → opening ≡ replicate (m .opening) 0 → s ≡ replicate (m .s) (pos 0)
     → openSeen (openTold (OpenAnswer.Refused NoScheme)) opening s ≡ openResult c k x m
-unfolding openTests
+unfolding openTests openSizes
 open-unknown {c} k x m e u o p = let t : openTests c k x m ≡ Fail NoScheme = rw (sym e ∙ u) in open-fails c k x m t o p
 
 pub open-known : {c d : Named} {s : Scheme} (k : Ruled) (x : OpenLent) (m : OpenRooms) {u : OpenSeen} {opening : List ℕ} {old : List ℤ} → d ≡ c → d ≡ Known s
@@ -164,7 +164,7 @@ module _ (c : Scheme) (k : Ruled) (x : OpenLent) (m : OpenRooms) where
   pub open-failed : {v : Verdict} {r : Refusal} {opening : List ℕ} {s : List ℤ} → v ≡ openSizes c k x m → v ≡ Fail r
       → opening ≡ replicate (m .opening) 0 → s ≡ replicate (m .s) (pos 0)
       → openSeen (openTold (OpenAnswer.Refused r)) opening s ≡ openResult (Known c) k x m
-  unfolding openTests
+  unfolding openTests openSizes
   open-failed e f o p = open-fails (Known c) k x m (failed _ refl (failed _ refl (failed _ refl (failed _ e f)))) o p
 
   -- behind lengths and rooms

@@ -9,10 +9,10 @@ use Rattle.refusals.specs.{Seen.Told, declared.Verdict.Verdict}
 use Rattle.refusals.proofs.{Laws.differ, Laws.some, Laws.both, Number.and, Number.lengths, Number.rooms, Number.publics, Number.blanks, Same.same-refusal}
 use Rattle.sampling.specs.Expand.{enough}
 use Rattle.reply.specs.Reply.{ReplyRooms}
-use Rattle.exchange.specs.Open.{OpenLent, OpenRooms, OpenSeen, openSizes, openTests, openSeen, OpenCounts}
+use Rattle.exchange.specs.Open.{OpenLent, OpenRooms, OpenSeen, openTests, openSeen, OpenCounts}
 use Rattle.exchange.specs.Shown.{NeverSix, OpenOffers, AnswerReplies, OpenSeenAll, OpenToldAll}
 use Rattle.exchange.specs.declared.OpenAnswer.the-variants.{Done, Refused}
-use Rattle.exchange.specs.{Random.ruledIn, Random.tableOrder, Random.grown, Answer.AnswerLent, Answer.answerSizes, Answer.answerTests}
+use Rattle.exchange.specs.{Random.ruledIn, Random.tableOrder, Random.grown, Answer.AnswerLent, Answer.answerTests}
 use Rattle.exchange.proofs.Answering.{answer-sized, answer-decides}
 use Rattle.exchange.proofs.Opening.{open-sized, open-decides}
 
@@ -73,7 +73,7 @@ also : (v w : Verdict) → Other (numberIn v) → Other (numberIn w) → Other (
 also v w a b = and Other v w a (λ _. b)
 
 open-never : (c : Scheme) (k : Ruled) (x : OpenLent) (m : OpenRooms) → Other (numberIn (openTests (Known c) k x m))
-unfolding openTests openSizes
+unfolding openTests
 open-never c k x m =
     also _ _
     (also _ _
@@ -88,7 +88,7 @@ open-never c k x m =
     (blank-other _)
 
 answer-never : (c : Scheme) (k : Ruled) (x : AnswerLent) (m : ReplyRooms) → Other (numberIn (answerTests (Known c) k x m))
-unfolding answerTests answerSizes
+unfolding answerTests
 answer-never c k x m =
     also _ _
     (also _ _

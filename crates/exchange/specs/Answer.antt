@@ -2,7 +2,6 @@
 --   AnswerLent              what answer is lent: opening message, public a, table, random bytes; its outputs and their rooms are Reply's
 --   drawnReply c a x        what Reply is lent by the public numbers a: s', e', e'' and coins are cut from the random bytes, in this order
 --   answerReply c k x       what Reply is lent: NewHope's public numbers are grown from the opening's seed
---   answerSizes c k x m     its tests of rule, lengths and rooms: 12, 2, 3
 --   answerTests c k x m     its tests in 01's order: 1, 12, 2, 3, 18, 4, 5, 17 of the part that came, 7, 17 of the part about to be sent
 --   answerResult c k x m    its promise: what is seen, as a function of what is lent; answerShown v: by the verdict v of any tests
 --   answerLent, answerLentOf   what is lent, from the slices of a contract, and from lists
@@ -35,8 +34,10 @@ unfoldable pub answerReply : Named → Ruled → AnswerLent → Reply
 answerReply Named.Unknown k x = replyOf [] [] [] [] [] []
 answerReply (Named.Known c) k x = drawnReply c (publicFrom c k (seedIn c (x .opening)) (x .a)) x
 
-unfoldable pub answerSizes : Scheme → Ruled → AnswerLent → ReplyRooms → Verdict
-answerSizes c k x m =
+unfoldable pub answerTests : Named → Ruled → AnswerLent → ReplyRooms → Verdict
+answerTests Named.Unknown k x m = Verdict.Fail Refusal.NoScheme
+answerTests (Named.Known c) k x m =
+    let y = answerReply (Named.Known c) k x in
     ruledIn k
     then lengthIs (length (x .opening)) (fixedOf c .opening)
     then lengthIs (length (x .a)) (publicLent c)
@@ -45,12 +46,6 @@ answerSizes c k x m =
     then roomFor (m .message) (fixedOf c .reply)
     then roomFor (m .key) (fixedOf c .key)
     then roomFor (m .digest) 32
-
-unfoldable pub answerTests : Named → Ruled → AnswerLent → ReplyRooms → Verdict
-answerTests Named.Unknown k x m = Verdict.Fail Refusal.NoScheme
-answerTests (Named.Known c) k x m =
-    let y = answerReply (Named.Known c) k x in
-    answerSizes c k x m
     then tableOrder c (x .table)
     then publicsIn (fixedOf c .q) (x .a)
     then messageIn (fixedOf c .q) (openedOf c y)

@@ -1,6 +1,7 @@
 -- What the steps of open and answer ask of each other, where the tests before them have passed.
 --   Draws c n k at random table   n noise values are asked, of k random bytes from the place at on: lengths are right
 --   Drew c n table bytes old out  they are those of the bytes, at the front of out, and behind them stands what stood in old
+--   openSizes c k x m, answerSizes c k x m   the first tests of `openTests` and `answerTests` behind the scheme's: of rule, lengths and rooms
 --   Sized c k a table random n    what `openSizes` and `answerSizes` both say where they have passed: of the rule and lengths, with n random bytes
 --   OpenSized c k x m, AnswerSized c k x m   all that they say
 --   drawnOpens c x n, drawnAnswers c x m   what is seen of Offer and Reply by x's own public numbers, behind the table's test
@@ -10,14 +11,15 @@ use Rattle.lists.specs.Kit.{_≡_, List, _++_, ℕ, _+_, _/_, _≤_, ℤ, lengt
 use Rattle.schemes.specs.{Schemes.fixedOf, declared.Scheme.Scheme, declared.Named.the-variants.Known}
 use Rattle.lists.specs.Ranges.{Below}
 use Rattle.noise.specs.declared.Ruled.{Ruled}
-use Rattle.refusals.specs.{Refusals._then_, Refusals.receivedIn, Seen.Seen, Seen.shown, declared.Verdict.Verdict, declared.Verdict.the-variants.Pass}
+use Rattle.refusals.specs.{Refusals._then_, Refusals.lengthIs, Refusals.roomFor, Refusals.receivedIn, Seen.Seen, Seen.shown}
+use Rattle.refusals.specs.{declared.Verdict.Verdict, declared.Verdict.the-variants.Pass}
 use Rattle.sampling.specs.Noise.{lengthEither, bytesEach, tableWords}
 use Rattle.wire.specs.Wire.{openedIn, numbersIn}
 use Rattle.offer.specs.Offer.{offerTests, offerMessage}
 use Rattle.reply.specs.Reply.{ReplyRooms, ReplySeen, replyTests, replyShown}
 use Rattle.exchange.specs.Random.{secretBytes, mixedBytes, openRandom, answerRandom, valuesIn, publicLent, ruledIn, tableOrder}
-use Rattle.exchange.specs.Open.{OpenLent, OpenRooms, drawnOffer, openOffer, openSizes, openTests}
-use Rattle.exchange.specs.Answer.{AnswerLent, drawnReply, answerSizes}
+use Rattle.exchange.specs.Open.{OpenLent, OpenRooms, drawnOffer, openOffer, openTests}
+use Rattle.exchange.specs.Answer.{AnswerLent, drawnReply}
 
 -- ---- noise values
 
@@ -31,7 +33,18 @@ pub record Drew (c : Scheme) (n : ℕ) (table bytes : List ℕ) (old out : List 
   pub whole : out ≡ valuesIn c table bytes ++ drop n old
   pub front : take n out ≡ valuesIn c table bytes
 
--- ---- where the first tests have passed, of bytes
+-- ---- the first tests, and what they say of bytes where they have passed
+
+unfoldable pub openSizes : Scheme → Ruled → OpenLent → OpenRooms → Verdict
+openSizes c k x m =
+    ruledIn k then lengthIs (length (x .a)) (publicLent c) then lengthIs (length (x .table)) (tableWords c)
+    then lengthIs (length (x .random)) (openRandom c) then roomFor (m .opening) (fixedOf c .opening) then roomFor (m .s) (fixedOf c .secret)
+
+unfoldable pub answerSizes : Scheme → Ruled → AnswerLent → ReplyRooms → Verdict
+answerSizes c k x m =
+    ruledIn k then lengthIs (length (x .opening)) (fixedOf c .opening) then lengthIs (length (x .a)) (publicLent c)
+    then lengthIs (length (x .table)) (tableWords c) then lengthIs (length (x .random)) (answerRandom c) then roomFor (m .message) (fixedOf c .reply)
+    then roomFor (m .key) (fixedOf c .key) then roomFor (m .digest) 32
 
 pub record Sized (c : Scheme) (k : Ruled) (a table random : List ℕ) (n : ℕ) : Type 0 where
   pub ruled : ruledIn k ≡ Pass

@@ -3,7 +3,6 @@
 --   OpenSeen               what its caller sees
 --   drawnOffer c a x       what Offer is lent by the public numbers a: seed, s and e are cut from the random bytes, in this order
 --   openOffer c k x        what Offer is lent: NewHope's public numbers are grown from the seed
---   openSizes c k x m      its tests of rule, lengths and rooms: 12, 2, 3
 --   openTests c k x m      its tests in 01's order: 1, 12, 2, 3, 18, 4, 7, 17
 --   openResult c k x m     its promise: what is seen, as a function of what is lent; openShown v: by the verdict v of any tests
 --   openLent, openRooms    what is lent, from the slices of a contract; openLentOf, openRoomsOf: from lists and numbers
@@ -46,19 +45,15 @@ unfoldable pub openOffer : Named → Ruled → OpenLent → Offer
 openOffer Named.Unknown k x = offerOf [] [] [] []
 openOffer (Named.Known c) k x = drawnOffer c (publicFrom c k (take (fixedOf c .seed) (x .random)) (x .a)) x
 
-unfoldable pub openSizes : Scheme → Ruled → OpenLent → OpenRooms → Verdict
-openSizes c k x m =
+unfoldable pub openTests : Named → Ruled → OpenLent → OpenRooms → Verdict
+openTests Named.Unknown k x m = Verdict.Fail Refusal.NoScheme
+openTests (Named.Known c) k x m =
     ruledIn k
     then lengthIs (length (x .a)) (publicLent c)
     then lengthIs (length (x .table)) (tableWords c)
     then lengthIs (length (x .random)) (openRandom c)
     then roomFor (m .opening) (fixedOf c .opening)
     then roomFor (m .s) (fixedOf c .secret)
-
-unfoldable pub openTests : Named → Ruled → OpenLent → OpenRooms → Verdict
-openTests Named.Unknown k x m = Verdict.Fail Refusal.NoScheme
-openTests (Named.Known c) k x m =
-    openSizes c k x m
     then tableOrder c (x .table)
     then publicsIn (fixedOf c .q) (x .a)
     then grown c k (take (fixedOf c .seed) (x .random))

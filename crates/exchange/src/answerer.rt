@@ -1,8 +1,6 @@
 // answer, once the scheme is known and its outputs hold zeros: the rule, lengths and rooms, then the public numbers, in NewHope grown from the seed of the part that
 // came, which is tested first, then s', e' and e'' of the random bytes, and Reply. s', e', e'' and grown public numbers stay inside.
-ghost use mathlib.Core.Path.{_≡_};
-ghost use mathlib.Core.List.{[]};
-ghost use lib.ListN.{length, replicate};
+ghost use Rattle.lists.specs.Kit.{_≡_, [], length, replicate};
 ghost use Rattle.schemes.specs.declared.Named.the-variants.{Known};
 ghost use Rattle.schemes.specs.declared.Scheme.the-variants as variants;
 ghost use Rattle.lists.specs.Lent.{was, left};
@@ -14,8 +12,8 @@ ghost use Rattle.sampling.specs.Expand.{growNumbers};
 ghost use Rattle.wire.specs.Wire.{seedIn};
 ghost use Rattle.reply.specs.Reply.{replyRooms, replyRoomsOf, replyTold, replySeen};
 ghost use Rattle.exchange.specs.Random.{answerRandom, ruledIn, grown};
-ghost use Rattle.exchange.specs.Answer.{answerLent, answerLentOf, answerSizes, answerResult};
-ghost use Rattle.exchange.specs.Inside.{cameIn, AnswerSized, drawnAnswers};
+ghost use Rattle.exchange.specs.Answer.{answerLent, answerLentOf, answerResult};
+ghost use Rattle.exchange.specs.Inside.{cameIn, AnswerSized, drawnAnswers, answerSizes};
 use refusals::Verdict;
 use reply::ReplyAnswer;
 use schemes::NewHope;

@@ -1,7 +1,5 @@
 // What open and answer make of what they are lent: lengths by the scheme, noise values of random bytes, and numbers grown from a seed.
-ghost use mathlib.Core.Path.{_≡_};
-ghost use Prim.Native.Nat.{_≤_};
-ghost use lib.ListN.{length};
+ghost use Rattle.lists.specs.Kit.{_≡_, _≤_, length};
 ghost use Rattle.schemes.specs.declared.Scheme.the-variants as variants;
 ghost use Rattle.lists.specs.Lent.{was, left};
 ghost use Rattle.refusals.specs.declared.Verdict.the-variants.{Pass};

@@ -1,10 +1,6 @@
 // open, once the scheme is known and its outputs hold zeros: the rule, lengths and rooms, then the public numbers, grown in NewHope, then s and e of the random
 // bytes, and Offer. e and grown public numbers stay inside. A refusal behind the lengths zeroes s again.
-ghost use mathlib.Core.Path.{_≡_};
-ghost use mathlib.Core.List.{[], _++_};
-ghost use Prim.Native.Nat.{_≤_};
-ghost use lib.ListN.{length, replicate, drop};
-ghost use lib.IntN.{pos};
+ghost use Rattle.lists.specs.Kit.{_≡_, [], _++_, _≤_, length, replicate, drop, pos};
 ghost use Rattle.schemes.specs.Schemes.{fixedOf};
 ghost use Rattle.schemes.specs.declared.Named.the-variants.{Known};
 ghost use Rattle.schemes.specs.declared.Scheme.the-variants as variants;
@@ -14,8 +10,8 @@ ghost use Rattle.refusals.specs.declared.Verdict.the-variants.{Pass};
 ghost use Rattle.noise.specs.Expand.{ruleOf};
 ghost use Rattle.sampling.specs.Noise.{tableWords};
 ghost use Rattle.exchange.specs.Random.{openRandom, tableOrder};
-ghost use Rattle.exchange.specs.Open.{openLent, openLentOf, openRooms, openRoomsOf, openTold, openSeen, drawnOffer, openSizes, openResult};
-ghost use Rattle.exchange.specs.Inside.{OpenSized, drawnOpens, openShows, OpenHolds};
+ghost use Rattle.exchange.specs.Open.{openLent, openLentOf, openRooms, openRoomsOf, openTold, openSeen, drawnOffer, openResult};
+ghost use Rattle.exchange.specs.Inside.{OpenSized, drawnOpens, openShows, OpenHolds, openSizes};
 use crate::OpenAnswer;
 use crate::OpenCounts;
 use refusals::Answer;

@@ -4,7 +4,7 @@ use Rattle.schemes.specs.declared.Fixed.{Fixed}
 use Rattle.schemes.proofs.Sound.{sound}
 use Rattle.refusals.specs.Refusals.{lengthIs, roomFor}
 use Rattle.refusals.proofs.Laws.{also}
-use Rattle.exchange.specs.{Random.secretBytes, Random.mixedBytes, Answer.answerSizes}
+use Rattle.exchange.specs.{Random.secretBytes, Random.mixedBytes, Inside.answerSizes}
 use Rattle.exchange.proofs.{Drawn.secret-few, Drawn.mixed-few, answerer.answer_sizes.Statement.statement}
 use Rattle.exchange.proofs.answerer.answer_sizes.Tie as tie
 

@@ -4,7 +4,7 @@ use Rattle.schemes.specs.declared.Fixed.{Fixed}
 use Rattle.schemes.proofs.Sound.{sound}
 use Rattle.refusals.specs.Refusals.{lengthIs, roomFor}
 use Rattle.refusals.proofs.Laws.{also}
-use Rattle.exchange.specs.Open.{openSizes}
+use Rattle.exchange.specs.Inside.{openSizes}
 use Rattle.exchange.proofs.{Drawn.secret-few, opener.open_sizes.Statement.statement}
 use Rattle.exchange.proofs.opener.open_sizes.Tie as tie
 
