@@ -2,7 +2,7 @@
 --   opening-is, secret-is, message-is   what they wrote is Offer's and Reply's
 --   sendable          what the random bytes make is sendable
 --   replied-is, finished-is   with Finish they are the calls of an exchange
---   drawn-finishes, drawn   as specs/FromRandom states them
+--   from-random-finishes, from-random   as specs/FromRandom states them
 use Rattle.lists.proofs.Kit.{_≡_, refl, _∙_, sym, ap, List, ℕ, length}
 use Rattle.schemes.specs.{Schemes.fixedOf, declared.Named.the-variants.Known, declared.Scheme.Scheme}
 use Rattle.lists.specs.Ranges.{Below}
@@ -22,7 +22,7 @@ use Rattle.agreement.proofs.Tests.{sendable-by, finish-passes}
 use Rattle.exchange.specs.{Random.publicFrom, Answer.drawnReply, Answer.answerReply, Answer.answerTests}
 use Rattle.exchange.specs.Open.{OpenSeen, drawnOffer, openOffer, openTests, openShown}
 use Rattle.exchange.proofs.Shown.{open-offers, answer-replies}
-use Rattle.meetings.specs.FromRandom.{Lendings, opening, answering, runOf, Opened, finishOn, Drawn, DrawnFinishes}
+use Rattle.meetings.specs.FromRandom.{Lendings, opening, answering, runOf, Opened, finishOn, FromRandom, FromRandomFinishes}
 use Rattle.meetings.proofs.Linked.{agreed}
 
 module _ (c : Scheme) (k : Ruled) (x : Lendings) (t : Opened c k x) (b : Below 256 (x .random)) (b' : Below 256 (x .random')) where
@@ -105,10 +105,10 @@ module _ (c : Scheme) (k : Ruled) (x : Lendings) (t : Opened c k x) (b : Below 2
     unfolding runOf shown
     same z near = agreed c run rooms refl replied-is finished-is (ap numberIn offer-passed) (t .reply-accepted) z near
 
-pub drawn-finishes : DrawnFinishes
+pub from-random-finishes : FromRandomFinishes
 unfolding finishShown runOf
-drawn-finishes c k x t m b b' h =
+from-random-finishes c k x t m b b' h =
     rw (message-is c k x t b b', secret-is c k x t b b') (ap numberIn (finish-passes c (runOf c k x) (sendable c k x t b b') m h))
 
-pub drawn : Drawn
-drawn c k x t m b b' z near = same c k x t b b' m z near
+pub from-random : FromRandom
+from-random c k x t m b b' z near = same c k x t b b' m z near

@@ -4,8 +4,8 @@
 --   runOf c k x         the inputs that the random bytes make
 --   Opened c k x        open in the one box and answer in the other, on the opening as open wrote it, and none refused
 --   finishOn t m        Finish in the first, of the reply as answer wrote it and the s that open gave, in the rooms m
---   Drawn               the demand: where Finish refuses nothing either, and what the random bytes make is near, both boxes agree
---   DrawnFinishes       with enough room Finish then refuses nothing
+--   FromRandom          the demand: where Finish refuses nothing either, and what the random bytes make is near, both boxes agree
+--   FromRandomFinishes  with enough room Finish then refuses nothing
 use Rattle.lists.specs.Kit.{_≡_, List, ℕ}
 use Rattle.schemes.specs.{declared.Named.the-variants.Known, declared.Scheme.Scheme}
 use Rattle.lists.specs.Ranges.{Below}
@@ -53,12 +53,12 @@ finishOn {c} t m = finishResult (Known c) (finishOf (answer (t .reply .message))
 
 -- ---- what is shown; random bytes are bytes
 
-abbrev pub Drawn : Type 0
-Drawn =
+abbrev pub FromRandom : Type 0
+FromRandom =
     (c : Scheme) (k : Ruled) (x : Lendings) (t : Opened c k x) (m : FinishRooms) → Below 256 (x .random) → Below 256 (x .random')
     → finishOn t m .number ≡ 0 → Near c (runOf c k x) → Agreed c (runOf c k x) (t .reply) (finishOn t m)
 
-abbrev pub DrawnFinishes : Type 0
-DrawnFinishes =
+abbrev pub FromRandomFinishes : Type 0
+FromRandomFinishes =
     (c : Scheme) (k : Ruled) (x : Lendings) (t : Opened c k x) (m : FinishRooms) → Below 256 (x .random) → Below 256 (x .random')
     → FinishEnough c m → finishOn t m .number ≡ 0

@@ -8,7 +8,7 @@
 --   answerOf r                   the reader's answer by value to what it made of a text
 --   Read, readOf                 what the reader is lent: its own number and the text
 --   readingOf x                  what the reader makes of it
---   verdictOf r                  15: the format is newer; 8: any other misfit
+--   readVerdict r                15: the format is newer; 8: any other misfit
 --   setupIn r                    the setup that was read; after 15 and 8 the scheme and the rule are 0 and the label is empty
 --   readTests r n                the reader's tests in their order, with room for n bytes: 15 or 8, then 3 for the label that was read
 --   formatTold r v               the format that was read or is newer, where v is the tests' verdict; 0 after 8 and 3
@@ -75,10 +75,10 @@ readOf reader text = record { reader = reader; text = text }
 abbrev pub readingOf : Read → Reading
 readingOf x = reads (x .reader) (x .text)
 
-abbrev pub verdictOf : Reading → Verdict
-verdictOf (setup x) = Pass
-verdictOf (newer n) = Fail NewerFormat
-verdictOf misfit = Fail Misfit
+abbrev pub readVerdict : Reading → Verdict
+readVerdict (setup x) = Pass
+readVerdict (newer n) = Fail NewerFormat
+readVerdict misfit = Fail Misfit
 
 abbrev pub setupIn : Reading → Setup
 setupIn (setup x) = x
@@ -86,7 +86,7 @@ setupIn (newer n) = setupOf 0 0 []
 setupIn misfit = setupOf 0 0 []
 
 unfoldable pub readTests : Reading → ℕ → Verdict
-readTests r n = verdictOf r then roomFor n (length (setupIn r .label))
+readTests r n = readVerdict r then roomFor n (length (setupIn r .label))
 
 abbrev pub formatTold : Reading → Verdict → ℕ
 formatTold (setup x) v = ifPassed v (formatOf (length (x .label))) 0
