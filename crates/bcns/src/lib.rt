@@ -1,10 +1,7 @@
 // BCNS's reconciliation: 01, "Reconciliation"; q is that of `schemes`, and z lies in 0 .. 2q - 1. First one entry: z, its hint and its key bit at the replier,
 // the bit of w and its slack at the initiator; then all of these over lists. That both ends get the same bit is in `specs/Shown.antt`.
 // Nothing here divides by q or 2q (02b), and nothing branches on v, w or z, which are secrets: a test is a factor 0 or 1, or a bit.
-ghost use mathlib.Core.Path.{_≡_};
-ghost use Prim.Native.Nat.{ℕ, _*_, _≤_, _<_};
-ghost use lib.ListN.{length};
-ghost use lib.IntN.{natAbs};
+ghost use Rattle.lists.specs.Kit.{_≡_, ℕ, _*_, _≤_, _<_, length, natAbs};
 ghost use Rattle.lists.specs.Ranges.{Below};
 ghost use Rattle.bcns.specs.Rounding.{q, coinOf, doubled, hintOf, keyOf, peerOf, hintsOf, keysOf, peersOf, slackOf, slacksOf};
 

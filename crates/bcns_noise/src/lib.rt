@@ -4,10 +4,7 @@
 // passes where it is below that of the bytes plus 1, if the limbs below it passed, or plus 0. So a limb takes an addition and a comparison, on as many entries at a
 // time as the processor's vectors hold numbers of 32 bits, and the entries' first limbs stand side by side, and so on.
 // The caller sees to the lengths; nothing else is asked, and a table that does not ascend is counted too.
-ghost use mathlib.Core.Path.{_≡_};
-ghost use Prim.Native.Nat.{ℕ, suc, _+_, _-_, _*_, _/_, _^_, _<_, _≤_};
-ghost use lib.Dec.{leb, ltb};
-ghost use lib.ListN.{length, replicate};
+ghost use Rattle.lists.specs.Kit.{_≡_, ℕ, suc, _+_, _-_, _*_, _/_, _^_, _<_, _≤_, leb, ltb, length, replicate};
 ghost use mir.Val.{boolByte};
 ghost use Rattle.lists.specs.Ranges.{Below};
 ghost use Rattle.lists.specs.Lent.{was, left};

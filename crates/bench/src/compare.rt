@@ -1,7 +1,5 @@
 // Two keys bit by bit, lowest first through the bytes.
-ghost use mathlib.Core.Path.{_≡_};
-ghost use Prim.Native.Nat.{_*_, _≤_, _+_};
-ghost use lib.ListN.{length, take, drop};
+ghost use Rattle.lists.specs.Kit.{_≡_, _*_, _≤_, _+_, length, take, drop};
 ghost use Rattle.lists.specs.Lent.{was};
 ghost use Rattle.bench.specs.Bench.{differing};
 ghost use Rattle.bench.specs.Inside.{comparison};

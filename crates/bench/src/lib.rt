@@ -1,9 +1,7 @@
 // Bench: both ends of an exchange on lent secrets, by the calls Offer, Reply and Finish, one after the other, and then the two keys bit by bit. It has no
 // `requires`: it answers agree, differ with the first differing key bit, or the first refusal of Offer or Reply, and passes on the slack that Finish used.
 // Messages, keys and digests stay inside.
-ghost use mathlib.Core.Path.{_≡_};
-ghost use Prim.Native.Nat.{_+_};
-ghost use lib.ListN.{length};
+ghost use Rattle.lists.specs.Kit.{_≡_, _+_, length};
 ghost use Rattle.schemes.specs.Schemes.{fixedOf, schemeOf};
 ghost use Rattle.schemes.specs.declared.Named.the-variants.{Known};
 ghost use Rattle.schemes.specs.declared.Scheme.the-variants as variants;

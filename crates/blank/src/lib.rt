@@ -1,5 +1,5 @@
 // Whether a part is blank. Each function ends at the first number that is not 0, and so after one step of a good message.
-ghost use mathlib.Core.Path.{_≡_};
+ghost use Rattle.lists.specs.Kit.{_≡_};
 ghost use Rattle.lists.specs.Lent.{was};
 ghost use Rattle.blank.specs.Blank.{blank};
 

@@ -7,7 +7,7 @@ use refusals::Answer;
 use refusals::Refusal;
 use reply::ReplyAnswer;
 use schemes::FrodoRecommended;
-ghost use Prim.Native.Nat.{_<_};
+ghost use Rattle.lists.specs.Kit.{_<_};
 ghost use Rattle.schemes.specs.Schemes.{bcns, newHope, fixedOf};
 ghost use Rattle.schemes.specs.declared.Scheme.the-variants.{Recommended};
 ghost use Rattle.lists.specs.Ranges.{Below};

@@ -1,8 +1,6 @@
 // Finish's key, once the scheme is known, lengths and rooms are tested and the output holds zeros: the reply's numbers, then the secret, in 01's order; then the
 // key into the part of the output that it takes.
-ghost use mathlib.Core.Path.{_≡_};
-ghost use Prim.Native.Nat.{_^_};
-ghost use lib.ListN.{length, replicate, drop};
+ghost use Rattle.lists.specs.Kit.{_≡_, _^_, length, replicate, drop, _++_};
 ghost use Rattle.schemes.specs.Schemes.{fixedOf};
 ghost use Rattle.schemes.specs.declared.Named.the-variants.{Known};
 ghost use Rattle.lists.specs.Lent.{was, left};
@@ -15,7 +13,6 @@ ghost use Rattle.values.specs.Fit.{Counted};
 ghost use Rattle.values.specs.Keys as settled;
 ghost use Rattle.finish.specs.Finish.{finishOf, finish, finishKey, finishSlack};
 ghost use Rattle.finish.specs.Inside.{finishSizes, finishRest, keyFrom, slackFrom, Derives, Finishing};
-ghost use mathlib.Core.List.{_++_};
 use lists::Peak;
 use refusals::Outcome;
 use refusals::Verdict;

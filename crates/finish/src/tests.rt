@@ -1,5 +1,5 @@
 // The tests of Finish that come first, in 01's order: of its lengths, and of the room for its key.
-ghost use mathlib.Core.Path.{_≡_};
+ghost use Rattle.lists.specs.Kit.{_≡_};
 ghost use Rattle.finish.specs.Finish.{finish};
 ghost use Rattle.finish.specs.Inside.{finishSizes};
 use refusals::Verdict;

@@ -1,6 +1,6 @@
 // The permutation Keccak-f[1600] of FIPS 202, section 3, on 25 lanes of 64 bits: lane (x, y) stands at x + 5y. The steps are written out lane by lane, so that
 // a round has no index to compute and no branch.
-ghost use mathlib.Core.Path.{_≡_};
+ghost use Rattle.lists.specs.Kit.{_≡_};
 ghost use Rattle.keccak.specs.Keccak.{theta, rho, pi, chi, iota, round as rounded, keccakF};
 
 // theta, rho and pi: c has the parities of the columns, d what theta adds to each, t the lanes before they are turned.

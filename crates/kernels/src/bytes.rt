@@ -1,7 +1,5 @@
 // Numbers as bytes and back.
-ghost use mathlib.Core.Path.{_≡_};
-ghost use Prim.Native.Nat.{_*_, _^_, _≤_, _<_};
-ghost use lib.ListN.{length};
+ghost use Rattle.lists.specs.Kit.{_≡_, _*_, _^_, _≤_, _<_, length};
 ghost use Rattle.lists.specs.Lent.{was, left, room};
 ghost use Rattle.lists.specs.Ranges.{Below};
 ghost use Rattle.packing.specs.Packing.{packed, unpacked};

@@ -1,6 +1,5 @@
 // The remainder by BCNS's q, 2^32 - 1.
-ghost use mathlib.Core.Path.{_≡_};
-ghost use Prim.Native.Nat.{_%_};
+ghost use Rattle.lists.specs.Kit.{_≡_, _%_};
 
 #[no_mangle]
 pub extern "C" fn numbers_fold(x: u64) -> u64

@@ -1,10 +1,7 @@
 // The line program as a function from the input's bytes to the output's, for every input: 01, "The line program". The longest question has 60 bytes and
 // the longest answer 22, so a program reads 61 bytes at most to tell. Reading goes by positions in the input, a line after the other; the decision gives a
 // verdict and no text; then the verdict is written.
-ghost use mathlib.Core.Path.{_≡_};
-ghost use mathlib.Core.Bool.{cond};
-ghost use Prim.Native.Nat.{_*_, _^_, _≤_, _<_};
-ghost use lib.ListN.{length};
+ghost use Rattle.lists.specs.Kit.{_≡_, cond, _*_, _^_, _≤_, _<_, length};
 ghost use Rattle.schemes.specs.declared.Family.{Family};
 ghost use Rattle.schemes.specs.Schemes.{bcns, familyOf, fixedOf, schemeOf};
 ghost use Rattle.frodo.specs.Shown.{Round};

@@ -2,10 +2,7 @@
 // refusal, that for the first difference of two lists, and that for the largest number. Numbers are u32, secrets and noise values i32, all else bytes; the
 // laws that the proofs cite are stated once over the element. A function that writes fills the whole of the slice it is lent, so a caller lends the part it
 // means.
-ghost use mathlib.Core.Path.{_≡_};
-ghost use Prim.Native.Nat.{_≤_};
-ghost use lib.ListN.{length, replicate};
-ghost use lib.IntN.{pos, natAbs};
+ghost use Rattle.lists.specs.Kit.{_≡_, _≤_, length, replicate, pos, natAbs};
 ghost use Rattle.lists.specs.Lent.{was};
 ghost use Rattle.lists.specs.First.{largestBy, firstOver, firstBeyond, firstApart, peakOf};
 

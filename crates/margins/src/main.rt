@@ -1,6 +1,6 @@
 // Bench near the margin, on both sides where that is possible: docs/AGREEMENT.md, "Worked runs", which has the inputs of each run. `stdout` is what the
 // second program prints. What is not written is zero. A whole number that is written is the difference of two natural ones.
-ghost use Prim.Native.Nat.{_^_, _≤_, _<_};
+ghost use Rattle.lists.specs.Kit.{_^_, _≤_, _<_};
 use bench::BenchAnswer;
 use libc::STDOUT_FILENO;
 use schemes::Scheme;

@@ -5,10 +5,7 @@
 // Every sum starts as the noise, gains n products and is reduced once. XS goes row by row through X, with the columns of S laid side by side; SY goes
 // through Y four rows at a time, into 8 rows of sums. A row, or a block of four, is laid down as words and tested in one pass, and multiplied while it is
 // near: so A, up to 3 MB, is read once.
-ghost use mathlib.Core.Path.{_≡_};
-ghost use Prim.Native.Nat.{ℕ, _+_, _*_, _/_, _%_, _<_, _≤_};
-ghost use lib.ListN.{length, getD};
-ghost use lib.IntN.{pos};
+ghost use Rattle.lists.specs.Kit.{_≡_, ℕ, _+_, _*_, _/_, _%_, _<_, _≤_, length, getD, pos};
 ghost use Rattle.numbers.specs.Sum.{sumℕ};
 ghost use Rattle.numbers.specs.Residue.{residue};
 ghost use Rattle.lists.specs.Lent.{was, left};

@@ -1,11 +1,6 @@
 // NewHope's reconciliation of groups of four entries: 01, "Reconciliation", as amended by request d (docs/RULES.md); q, the size 1024 and the 256
 // groups are those of `schemes`.
-ghost use mathlib.Core.Path.{_≡_};
-ghost use mathlib.Core.Bool.{cond};
-ghost use Prim.Native.Nat.{_+_, _*_, _/_, _^_, _≤_, _<_};
-ghost use lib.Dec.{ltb};
-ghost use lib.IntN.{pos, _-ℤ_};
-ghost use lib.ListN.{length};
+ghost use Rattle.lists.specs.Kit.{_≡_, cond, _+_, _*_, _/_, _^_, _≤_, _<_, ltb, pos, _-ℤ_, length};
 ghost use Rattle.numbers.specs.Residue.{residue};
 ghost use Rattle.lists.specs.Ranges.{Below};
 ghost use Rattle.newhope.specs.Group.{q, size, groups, upOf, downOf, offOf, offsOf, termOf, hintOf, bitOf, groupOf, hintsOf, peersOf};

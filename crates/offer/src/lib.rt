@@ -1,6 +1,6 @@
 // Offer, the first call of 01, on lent slices. It has no `requires`: it ends with an answer or a numbered refusal, given exactly when its condition holds;
 // after a refusal its output is zero from end to end, and after a success what lies behind the answer is zero.
-ghost use mathlib.Core.Path.{_≡_};
+ghost use Rattle.lists.specs.Kit.{_≡_};
 ghost use Rattle.schemes.specs.Schemes.{schemeOf};
 ghost use Rattle.lists.specs.Lent.{left, room};
 ghost use Rattle.refusals.specs.Seen.{told, seen};

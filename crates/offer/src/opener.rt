@@ -1,7 +1,6 @@
 // Offer, once the scheme is known and the output holds zeros: the tests in 01's order, the last of them with the product, which reads the public numbers once;
 // then, where its numbers are not all 0, the opening's bytes into the part of the output that it takes.
-ghost use mathlib.Core.Path.{_≡_};
-ghost use lib.ListN.{length, replicate};
+ghost use Rattle.lists.specs.Kit.{_≡_, length, replicate};
 ghost use Rattle.schemes.specs.Schemes.{fixedOf};
 ghost use Rattle.schemes.specs.declared.Named.the-variants.{Known};
 ghost use Rattle.lists.specs.Lent.{was, left, room};

@@ -4,10 +4,7 @@
 // in place of w, in which every shift and every place is a constant. What is left behind the last group, and every other width, goes through a bit
 // accumulator in a machine word: numbers go in at one end and bytes come out at the other, four at a time, and the other way round. Between turns
 // fewer than 32 bits are held, so 32 more still fit it.
-ghost use mathlib.Core.Path.{_≡_};
-ghost use mathlib.Core.List.{_++_};
-ghost use Prim.Native.Nat.{_+_, _-_, _*_, _/_, _%_, _^_, _≤_, _<_};
-ghost use lib.ListN.{length, getD, take, drop};
+ghost use Rattle.lists.specs.Kit.{_≡_, _++_, _+_, _-_, _*_, _/_, _%_, _^_, _≤_, _<_, length, getD, take, drop};
 ghost use Rattle.lists.specs.Ranges.{Below};
 ghost use Rattle.packing.specs.Packing.{value, digits, packed, unpacked};
 

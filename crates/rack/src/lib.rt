@@ -1,7 +1,6 @@
 // Eight studios, one rack: 02, request k. A rack is eight records of 131 lent bytes, each its studio's number and then a session's 130 bytes. A call lends the
 // 130 bytes behind its own slot's number to the session's call; the bytes of other studios stay as they are and decide nothing.
-ghost use mathlib.Core.Path.{_≡_};
-ghost use lib.ListN.{length};
+ghost use Rattle.lists.specs.Kit.{_≡_, length};
 ghost use Rattle.lists.specs.Lent.{was, left, room};
 ghost use Rattle.refusals.specs.Refusals.{numberIn, placeIn};
 ghost use Rattle.refusals.specs.Seen.{told, seen};

@@ -1,9 +1,7 @@
 // The refusals by number and place, and the tests that give them, each once for all calls: 01, "Refusal numbers and their order". A call's tests are a
 // sequence of these in the order of its inputs; each takes the verdict so far and tests only where nothing was refused before it.
 // `named` begins Offer, Reply and Finish.
-ghost use mathlib.Core.Path.{_≡_};
-ghost use Prim.Native.Nat.{ℕ, _*_, _≤_, _<_};
-ghost use lib.ListN.{length, replicate};
+ghost use Rattle.lists.specs.Kit.{_≡_, ℕ, _*_, _≤_, _<_, length, replicate};
 ghost use Rattle.schemes.specs.Schemes.{schemeOf};
 ghost use Rattle.lists.specs.First.{firstOver};
 ghost use Rattle.lists.specs.Lent.{left, room};

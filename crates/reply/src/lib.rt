@@ -1,6 +1,6 @@
 // Reply, the second call of 01, on lent slices. It has no `requires`: it ends with an answer or a numbered refusal, given exactly when its condition holds;
 // after a refusal every output is zero from end to end, and after a success what lies behind the answer is zero.
-ghost use mathlib.Core.Path.{_≡_};
+ghost use Rattle.lists.specs.Kit.{_≡_};
 ghost use Rattle.schemes.specs.Schemes.{schemeOf};
 ghost use Rattle.lists.specs.Lent.{left};
 ghost use Rattle.reply.specs.Reply.{reply, replyRooms, replyTold, replySeen, replyResult};

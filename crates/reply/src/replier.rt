@@ -1,8 +1,7 @@
 // Reply, once the scheme is known and all outputs hold zeros: lengths and rooms, then the opening, then the secrets; then the message's numbers, with the test of
 // the public numbers, which the product reads once, and, where they are not all 0, message and key into the parts of the outputs that they take, and the key's
 // digest. In 01's order the public numbers come before the opening and the secrets: where one of these is refused, they are tested first.
-ghost use mathlib.Core.Path.{_≡_};
-ghost use lib.ListN.{length, replicate};
+ghost use Rattle.lists.specs.Kit.{_≡_, length, replicate};
 ghost use Rattle.schemes.specs.Schemes.{fixedOf};
 ghost use Rattle.schemes.specs.declared.Named.the-variants.{Known};
 ghost use Rattle.lists.specs.Lent.{was, left, room};

@@ -1,5 +1,5 @@
 // The tests of Reply, in 01's order. That of the public numbers is the product's own, which reads them once.
-ghost use mathlib.Core.Path.{_≡_};
+ghost use Rattle.lists.specs.Kit.{_≡_};
 ghost use Rattle.reply.specs.Reply.{reply, replyRoomsOf};
 ghost use Rattle.reply.specs.Inside.{replyLengths, replySizes};
 use refusals::Verdict;

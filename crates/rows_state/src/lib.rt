@@ -1,6 +1,6 @@
 // Frodo by rows: 02, request e: the lent running state (`specs/State.antt`), and what a part of A does to it (`specs/Part.antt`), in Offer and in Reply. How a call
 // begins and ends is crate `rows`.
-ghost use mathlib.Core.Path.{_≡_};
+ghost use Rattle.lists.specs.Kit.{_≡_};
 ghost use Rattle.rows_state.specs.State.{tagOf};
 
 pub mod part;

@@ -3,10 +3,7 @@
 // of 32 bits, to which each part is added as it comes, would hold no rows back; but a vector has half as many such words, plain x86-64 multiplies no four of them,
 // and a part has one row where the products take several into a sum: tried in C, such sums took 1.8 to 2.1 times as long. Sixteen divides n in every set, so that no
 // row is left at the end. As words sixteen rows take the room that eight would take as numbers.
-ghost use mathlib.Core.Path.{_≡_};
-ghost use mathlib.Core.Bool.{true};
-ghost use Prim.Native.Nat.{_+_, _*_, _%_, _<_, _≤_};
-ghost use lib.ListN.{length, take, drop};
+ghost use Rattle.lists.specs.Kit.{_≡_, true, _+_, _*_, _%_, _<_, _≤_, length, take, drop};
 ghost use Rattle.schemes.specs.Schemes.{familyOf, fixedOf};
 ghost use Rattle.schemes.specs.declared.Family.{Family};
 ghost use Rattle.schemes.specs.declared.Named.the-variants.{Known};

@@ -1,8 +1,5 @@
 // What a state says: which scheme, whether a call has begun, and whether a part or an end has its turn; and its words, two in each number.
-ghost use mathlib.Core.Path.{_≡_};
-ghost use mathlib.Core.List.{_++_};
-ghost use Prim.Native.Nat.{_+_, _*_, _%_, _<_, _≤_};
-ghost use lib.ListN.{length, replicate};
+ghost use Rattle.lists.specs.Kit.{_≡_, _++_, _+_, _*_, _%_, _<_, _≤_, length, replicate};
 ghost use Rattle.schemes.specs.Schemes.{fixedOf};
 ghost use Rattle.lists.specs.Lent.{was, left};
 ghost use Rattle.matrix.specs.Words.{wordsOf, reduced};

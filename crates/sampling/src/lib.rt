@@ -1,7 +1,6 @@
 // Noise, Expand and Grow: values and public numbers from bytes that the caller lends (01, "Noise" and "The NewHope transform"; 02, requests m, g and c). None has
 // a `requires`: each ends with an answer or a numbered refusal, given exactly when its condition holds; the whole output is zeroed first.
-ghost use mathlib.Core.Path.{_≡_};
-ghost use lib.ListN.{length, replicate};
+ghost use Rattle.lists.specs.Kit.{_≡_, length, replicate};
 ghost use Rattle.schemes.specs.Schemes.{schemeOf};
 ghost use Rattle.lists.specs.Lent.{was, left, room};
 ghost use Rattle.refusals.specs.Seen.{told, seen};

@@ -1,10 +1,6 @@
 // Noise, Expand and Grow, once the scheme or the rule is known and the output holds zeros: the tests in 01's order, then the work of the crates `noise`
 // and `bcns_noise` into the part of the output that the answer takes.
-ghost use mathlib.Core.Path.{_≡_};
-ghost use mathlib.Core.List.{_++_};
-ghost use Prim.Native.Nat.{_*_, _/_, _%_, _≤_, _<_};
-ghost use lib.ListN.{length, drop, replicate};
-ghost use lib.IntN.{pos};
+ghost use Rattle.lists.specs.Kit.{_≡_, _++_, _*_, _/_, _%_, _≤_, _<_, length, drop, replicate, pos};
 ghost use Rattle.schemes.specs.Schemes.{familyOf, byFamily};
 ghost use Rattle.schemes.specs.declared.Named.the-variants.{Known};
 ghost use Rattle.lists.specs.Lent.{was, left, room};

@@ -1,10 +1,7 @@
 // A link session above the key agreement: 02, request a. A session goes in by value and comes back by value beside the call's answer. No call has a
 // `requires`: where the stage does not take the call it is refusal 10, before all of 01's, and a refused call leaves the session as it was. Of the key
 // agreement nothing is used but what its calls promise.
-ghost use mathlib.Core.Path.{_≡_};
-ghost use mathlib.Core.List.{[]};
-ghost use Prim.Native.Nat.{min};
-ghost use lib.ListN.{take};
+ghost use Rattle.lists.specs.Kit.{_≡_, [], min, take};
 ghost use Rattle.schemes.specs.Schemes.{schemeOf};
 ghost use Rattle.lists.specs.Lent.{was, left, room};
 ghost use Rattle.schemes.specs.declared.Named.the-variants.{Unknown};

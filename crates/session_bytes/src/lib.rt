@@ -1,8 +1,6 @@
 // A session behind a pointer: 130 lent bytes, taken apart into a session by value and laid out again. A buffer that no call leaves is in no stage at all:
 // every call but close gives 10 and leaves it as it is.
-ghost use mathlib.Core.Path.{_≡_};
-ghost use Prim.Native.Nat.{_≤_};
-ghost use lib.ListN.{length, drop};
+ghost use Rattle.lists.specs.Kit.{_≡_, _≤_, length, drop, []};
 ghost use Rattle.lists.specs.Lent.{was, left, room};
 ghost use Rattle.refusals.specs.Seen.{done, told, seen};
 ghost use Rattle.offer.specs.Offer as offers;
@@ -11,7 +9,6 @@ ghost use Rattle.finish.specs.Finish as finishes;
 ghost use Rattle.session.specs.Table.{offering, replying, finishing, closing};
 ghost use Rattle.session.specs.Seen.{ofOffer, ofReply, ofFinish, ofClose, turn};
 ghost use Rattle.session_bytes.specs.Bytes.{stageByte, schemeByte, bytesOf, stageIn, keyLength, staged, movedBytes};
-ghost use mathlib.Core.List.{[]};
 ghost use Rattle.noise.specs.Expand.{ruleOf};
 ghost use Rattle.noise.specs.declared.Ruled as ruled;
 ghost use Rattle.schemes.specs.declared.Named.the-variants.{Unknown};

@@ -1,6 +1,6 @@
 // The settings of a box in a text store, for every input: 02, request h. Both readers are one function over the reader's own number, the highest format that it
 // knows; the writer takes the oldest format that holds the settings. No public call has a `requires`.
-ghost use mathlib.Core.Path.{_≡_};
+ghost use Rattle.lists.specs.Kit.{_≡_};
 ghost use Rattle.lists.specs.Lent.{was, left, room};
 ghost use Rattle.refusals.specs.Seen.{told, seen};
 ghost use Rattle.settings.specs.Settings.{setupOf, formatOf, isScheme, isRule, notAllowed, letters, reads};

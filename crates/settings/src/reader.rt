@@ -1,7 +1,5 @@
 // Reading, a line at a time. Each function takes the position that the one before it came to and gives the whole answer.
-ghost use mathlib.Core.Path.{_≡_};
-ghost use Prim.Native.Nat.{_≤_};
-ghost use lib.ListN.{length, drop};
+ghost use Rattle.lists.specs.Kit.{_≡_, _≤_, length, drop};
 ghost use Rattle.lists.specs.Lent.{was};
 ghost use Rattle.text.specs.Text.{schemeName, fieldIn};
 ghost use Rattle.settings.specs.Settings.{setupOf, letters, setup, ruleName, wellSpelled, spelledIn, lastIn, tailIn, ruleIn, schemeIn};

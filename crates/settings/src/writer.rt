@@ -1,7 +1,5 @@
 // Writing: the tests in their order, then the lines one behind the other.
-ghost use mathlib.Core.Path.{_≡_};
-ghost use Prim.Native.Nat.{_+_, _≤_};
-ghost use lib.ListN.{length};
+ghost use Rattle.lists.specs.Kit.{_≡_, _+_, _≤_, length};
 ghost use Rattle.lists.specs.Lent.{was, left};
 ghost use Rattle.refusals.specs.Refusals.{_then_};
 ghost use Rattle.text.specs.Steps.{Written};

@@ -1,9 +1,6 @@
 // SHAKE-128 and SHA3-256 by FIPS 202, on bytes and for a message of any length: padding, absorbing and squeezing (sections 4 to 6) around the permutation of
 // crate `keccak`. A function that writes fills the whole of the slice it is lent, but for `lay_digest`.
-ghost use mathlib.Core.Path.{_≡_};
-ghost use mathlib.Core.List.{_++_};
-ghost use Prim.Native.Nat.{_+_, _-_, _*_, _/_, _%_, _^_, _<_, _≤_};
-ghost use lib.ListN.{length, drop};
+ghost use Rattle.lists.specs.Kit.{_≡_, _++_, _+_, _-_, _*_, _/_, _%_, _^_, _<_, _≤_, length, drop};
 ghost use Rattle.lists.specs.Entries.{tab};
 ghost use Rattle.lists.specs.Lent.{was, left, room};
 ghost use Rattle.packing.specs.Packing.{value};

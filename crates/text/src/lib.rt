@@ -1,8 +1,6 @@
 // Lines of text as bytes: a name, '=', a number of 1 to 10 digits without a leading zero, LF, as 01's line program has them. Reading goes by positions in the
 // input and gives a number and the position behind its line; writing goes by positions in a lent output and gives the position behind what it wrote.
-ghost use mathlib.Core.Path.{_≡_};
-ghost use Prim.Native.Nat.{_+_, _-_, _≤_};
-ghost use lib.ListN.{length, drop};
+ghost use Rattle.lists.specs.Kit.{_≡_, _+_, _-_, _≤_, length, drop};
 ghost use Rattle.text.specs.Text.{notDigit, run, valueOf, wellFormed, begins, numberIn, fieldIn, decimal, line};
 ghost use Rattle.text.specs.Steps.{Reads, Written};
 

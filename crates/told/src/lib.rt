@@ -1,7 +1,6 @@
 // A call's answer in numbers, as a program in C takes it: 0 or the refusal's number, and behind pointers its place, the counts of what was written and the slack
 // used. Whatever does not apply is 0.
-ghost use mathlib.Core.Path.{_≡_};
-ghost use Prim.Native.Nat.{_≤_};
+ghost use Rattle.lists.specs.Kit.{_≡_, _≤_};
 ghost use Rattle.lists.specs.Lent.{left};
 ghost use Rattle.refusals.specs.Refusals.{numberIn, placeIn};
 ghost use Rattle.refusals.specs.Seen.{told};

@@ -4,9 +4,7 @@
 // The sums are made by Stockham's method, decimation in time (`specs/Level.antt`): ten levels between two buffers, all of whose powers stand below the table's
 // middle, so that no index is reduced. The buffers have 16 bits a number, so that eight are reckoned at a time, and nothing is reduced further than that asks.
 // In the last four levels a block has eight entries or fewer. There entry o of all blocks lies side by side, and each block has its power in a vector.
-ghost use mathlib.Core.Path.{_≡_};
-ghost use Prim.Native.Nat.{_+_, _*_, _%_, _<_, _≤_};
-ghost use lib.ListN.{length};
+ghost use Rattle.lists.specs.Kit.{_≡_, _+_, _*_, _%_, _<_, _≤_, length};
 ghost use Rattle.lists.specs.Ranges.{Below};
 ghost use Rattle.transform.specs.Transform.{transformed, inverted};
 ghost use Rattle.transform.specs.Theorems.{entrywise, multiplied, TableRule};

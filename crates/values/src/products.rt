@@ -1,7 +1,5 @@
 // The values that both ends compute, by the scheme.
-ghost use mathlib.Core.Path.{_≡_};
-ghost use Prim.Native.Nat.{_<_};
-ghost use lib.ListN.{length};
+ghost use Rattle.lists.specs.Kit.{_≡_, _<_, length};
 ghost use Rattle.schemes.specs.Schemes.{bcns, fixedOf};
 ghost use Rattle.lists.specs.Lent.{was, left, room};
 ghost use Rattle.lists.specs.Ranges.{Below, Within};

@@ -1,7 +1,5 @@
 // Hints, key entries and the slack used, by the scheme.
-ghost use mathlib.Core.Path.{_≡_};
-ghost use Prim.Native.Nat.{_^_};
-ghost use lib.ListN.{length};
+ghost use Rattle.lists.specs.Kit.{_≡_, _^_, length};
 ghost use Rattle.schemes.specs.Schemes.{fixedOf};
 ghost use Rattle.lists.specs.Lent.{was, left};
 ghost use Rattle.values.specs.Fit.{Counted};

@@ -1,5 +1,5 @@
 // What is drawn, and how an output is summed up: docs/VECTORS.md, "What is drawn" and "A line".
-ghost use Prim.Native.Nat.{_^_, _<_};
+ghost use Rattle.lists.specs.Kit.{_^_, _<_};
 
 // The state that comes after x.
 fn next(x: u32) -> u32 {

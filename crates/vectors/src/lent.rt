@@ -1,5 +1,5 @@
 // What a call is lent in a case: docs/VECTORS.md. A part of a list is cut to what is there, and a store tests its index.
-ghost use Prim.Native.Nat.{_≤_};
+ghost use Rattle.lists.specs.Kit.{_≤_};
 use crate::Call;
 use crate::Setting;
 use crate::draw;

@@ -1,5 +1,5 @@
 // Frodo by rows: each exported function hands on to one call of crate `rows`. Begin and part have no output but the state.
-ghost use mathlib.Core.Path.{_≡_};
+ghost use Rattle.lists.specs.Kit.{_≡_};
 ghost use Rattle.lists.specs.Lent.{was, left, room};
 ghost use Rattle.refusals.specs.Seen.{seen};
 ghost use Rattle.reply.specs.Reply.{replyRooms, replySeen};

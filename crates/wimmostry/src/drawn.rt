@@ -1,5 +1,5 @@
 // The calls from random bytes: open and answer, plain and on a session behind a pointer. Finish ends what open began.
-ghost use mathlib.Core.Path.{_≡_};
+ghost use Rattle.lists.specs.Kit.{_≡_};
 ghost use Rattle.schemes.specs.Schemes.{schemeOf};
 ghost use Rattle.lists.specs.Lent.{was, left};
 ghost use Rattle.noise.specs.Expand.{ruleOf};

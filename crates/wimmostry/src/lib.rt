@@ -1,6 +1,6 @@
 // The library for programs in C and Rust: each exported function hands on to one call and tells its answer in numbers. It returns 0 or the refusal's number,
 // has no `requires`, and promises what the call promises. `include/wimmostry.h` says what a caller has to know.
-ghost use mathlib.Core.Path.{_≡_};
+ghost use Rattle.lists.specs.Kit.{_≡_};
 ghost use Rattle.schemes.specs.Schemes.{schemeOf};
 ghost use Rattle.lists.specs.Lent.{was, left, room};
 ghost use Rattle.refusals.specs.Seen.{seen};

@@ -1,6 +1,6 @@
 // The calls on a rack behind a pointer, eight records of 131 lent bytes: 02, request k. Each takes the rack and a studio's number first, and then what the
 // plain call takes.
-ghost use mathlib.Core.Path.{_≡_};
+ghost use Rattle.lists.specs.Kit.{_≡_};
 ghost use Rattle.lists.specs.Lent.{was, left, room};
 ghost use Rattle.refusals.specs.Seen.{seen};
 ghost use Rattle.offer.specs.Offer.{offer};

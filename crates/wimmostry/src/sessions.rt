@@ -1,5 +1,5 @@
 // The calls on a session behind a pointer, 130 lent bytes: 02, request a. Each takes the session first, and then what the plain call takes.
-ghost use mathlib.Core.Path.{_≡_};
+ghost use Rattle.lists.specs.Kit.{_≡_};
 ghost use Rattle.lists.specs.Lent.{was, left, room};
 ghost use Rattle.refusals.specs.Seen.{seen};
 ghost use Rattle.offer.specs.Offer.{offer};

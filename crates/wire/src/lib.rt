@@ -1,9 +1,6 @@
 // The messages' bytes: 01, "Bytes on the wire". Where the parts of a message stand, bytes laid from numbers, seeds and hints, and taken apart again. Each
 // function that lays or takes fills the whole of its last argument; the caller sees to the lengths.
-ghost use mathlib.Core.Path.{_≡_};
-ghost use mathlib.Core.List.{_++_};
-ghost use Prim.Native.Nat.{_^_};
-ghost use lib.ListN.{length};
+ghost use Rattle.lists.specs.Kit.{_≡_, _++_, _^_, length};
 ghost use Rattle.lists.specs.Lent.{was, left};
 ghost use Rattle.schemes.specs.Schemes.{fixedOf};
 ghost use Rattle.packing.specs.Packing.{packed};

@@ -1,9 +1,6 @@
 // Steps that Offer and Reply share with their calls by rows: the test of the replier's secrets, and messages and key from the values, where the part that is sent
 // is not blank.
-ghost use mathlib.Core.Path.{_≡_};
-ghost use mathlib.Core.List.{_++_};
-ghost use Prim.Native.Nat.{_^_};
-ghost use lib.ListN.{length};
+ghost use Rattle.lists.specs.Kit.{_≡_, _++_, _^_, length};
 ghost use Rattle.schemes.specs.Schemes.{fixedOf};
 ghost use Rattle.lists.specs.Lent.{was, left};
 ghost use Rattle.packing.specs.Packing.{packed};
