@@ -10,11 +10,11 @@ use Rattle.lists.proofs.Kit.{_≡_, refl, _∙_, sym, ap, ap₂, subst, Bool, t
 use Rattle.lists.proofs.Kit.{add-one, arith, decLt, mul-le-mul, le-refl, pow-suc, add-suc, lt-ltb, le-ltb, le-leb, lt-leb, leb-true, leb-false, leb, ltb}
 use Rattle.lists.proofs.Kit.{length, getD, replicate, length-replicate, getD-replicate, boolByte}
 use Rattle.numbers.proofs.Natural.{power-power}
-use Rattle.lists.specs.Ranges.{Below}
+use Rattle.lists.specs.Ranges.{Below, Stored}
 use Rattle.lists.proofs.Entries.{tab-at, tab-const, below-tab}
 use Rattle.noise.specs.Noise.{atMost, withSign}
 use Rattle.noise.proofs.Noise.{Counted, counted-none, counted-all}
-use Rattle.bcns_noise.specs.Limbs.{byteOf, wordBytes, limbs, limbsOf, passes, tally, Row, Laid, Compared}
+use Rattle.bcns_noise.specs.Limbs.{byteOf, wordBytes, limbs, limbsOf, passes, tally, Laid, Compared}
 use Rattle.bcns_noise.specs.Noise.{entryOf, entries, bigEndian, bcnsValue}
 use Rattle.bcns_noise.proofs.{Words.big-join, Words.big-wide, Table.entries-long, Table.byte-le, Table.count-entry}
 
@@ -187,33 +187,34 @@ laid-none table n {t} e m =
       words = λ p. absurd (omega arith);
     })
 
-module _ {table : List ℕ} {n : ℕ} {t t′ : List ℕ} (old : Laid table n t) (new : Row table n t t′) where
+module _ {table : List ℕ} {n : ℕ} {t t′ : List ℕ} (old : Laid table n t)
+    (new : Stored 0 t (56 * n) 51 (λ (k : ℕ). bigEndian (wordBytes table) (24 * k + 3 * n) 3) t′ × Below (2 ^ 64) table) where
   small-at : (j : ℕ) → Dec (j < 56 * n) → Dec (j < 56 * n + 51) → getD t′ j 0 ≤ 16777216
-  small-at j (yes p) d = rw (new .row .below j p) (old .small j)
+  small-at j (yes p) d = rw (new .0 .below j p) (old .small j)
   small-at j (no p) (yes l) =
       let e : 56 * n + (j - 56 * n) ≡ j = omega arith in
       let v : getD t′ j 0 ≡ bigEndian (wordBytes table) (24 * (j - 56 * n) + 3 * n) 3 =
-      ap (λ (m : ℕ). getD t′ m 0) (sym e) ∙ new .row .inside (j - 56 * n) (omega arith) in
+      ap (λ (m : ℕ). getD t′ m 0) (sym e) ∙ new .0 .inside (j - 56 * n) (omega arith) in
       omega (arith, v, three-lt (wordBytes table) (byte-lt table) (24 * (j - 56 * n) + 3 * n))
-  small-at j (no p) (no l) = rw (new .row .above j (omega arith)) (old .small j)
+  small-at j (no p) (no l) = rw (new .0 .above j (omega arith)) (old .small j)
 
   laid-at : (k i : ℕ) → k < 51 → i < n + 1 → Dec (i < n) → limbsOf t′ k i ≡ bigEndian (wordBytes table) (24 * k + 3 * i) 3
-  laid-at k i l p (yes q) = new .row .below (56 * i + k) (omega arith) ∙ old .laid k i l q
+  laid-at k i l p (yes q) = new .0 .below (56 * i + k) (omega arith) ∙ old .laid k i l q
   laid-at k i l p (no q) =
       let e : i ≡ n = omega arith in
-      rw e (new .row .inside k l)
+      rw e (new .0 .inside k l)
 
   behind-at : (k : ℕ) → 51 ≤ k → k < 56 → Dec (0 < n) → limbsOf t′ k 0 ≡ 16777216
-  behind-at k l p (yes q) = new .row .below (56 * 0 + k) (omega arith) ∙ old .behind k l p
-  behind-at k l p (no q) = new .row .above (56 * 0 + k) (omega arith) ∙ old .behind k l p
+  behind-at k l p (yes q) = new .0 .below (56 * 0 + k) (omega arith) ∙ old .behind k l p
+  behind-at k l p (no q) = new .0 .above (56 * 0 + k) (omega arith) ∙ old .behind k l p
 
   pub laid-next : Laid table (n + 1) t′
   laid-next = record {
-    long = new .row .long ∙ old .long;
+    long = new .0 .long ∙ old .long;
     small = λ j. small-at j (decLt j (56 * n)) (decLt j (56 * n + 51));
     laid = λ k i l p. laid-at k i l p (decLt i n);
     behind = λ k l p. behind-at k l p (decLt 0 n);
-    words = λ p. new .words;
+    words = λ p. new .1;
   }
 
 -- ---- the count

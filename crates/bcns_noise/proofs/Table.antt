@@ -2,19 +2,19 @@
 --   entries-long, entry-at   how many entries there are, and which
 --   byte-le, count-entry     a test as a number, added to the count at each turn
 --   noise-long               25 bytes a value
---   largest, largest-51      no value lies beyond the number of entries
+--   largest-51               no value lies beyond 51, where there are 51 entries
 --   falls-behind             the test of an entry that has a forerunner
 --   Searched ..              the search: before, at each turn, where it finds one and where it ends
 --   ascends, each-place      what the place says
 use Rattle.lists.proofs.Kit.{_≡_, refl, _∙_, sym, ap, List, Bool, true, false, cond, ℕ, zero, suc, _+_, _*_, _-_, _/_, _%_, _<_, _≤_, arith, decLt, lt-leb}
 use Rattle.lists.proofs.Kit.{leb-true, leb-false, leb, eqb, length, getD, List·getD-eq-default, boolByte}
-use Rattle.lists.specs.{Entries.tab, First.firstWhere}
+use Rattle.lists.specs.{Entries.tab, Ranges.Within, First.firstWhere}
 use Rattle.lists.proofs.First.{Passed, passed-none, passed-more, found, missing, none-before, none-passes, none-found, first-passes}
 use Rattle.lists.proofs.Entries.{tab-length, tab-at, within-tab}
 use Rattle.noise.specs.Noise.{atMost}
 use Rattle.noise.proofs.Noise.{at-most-le, sign-size, Counted, counted-more}
 use Rattle.bcns_noise.specs.Noise.{entryOf, entries, bigEndian, bcnsValue, bcnsNoise, falls, firstNotAbove}
-use Rattle.bcns_noise.specs.Shown.{Largest, Largest51, Ascending, Ascends, Place, EachPlace}
+use Rattle.bcns_noise.specs.Shown.{Largest51, Ascending, Ascends, Place, EachPlace}
 
 pub entries-long : (table : List ℕ) → length (entries table) ≡ length table / 3
 unfolding entries
@@ -45,7 +45,7 @@ pub noise-long : (table bs : List ℕ) → length (bcnsNoise table bs) ≡ lengt
 unfolding bcnsNoise
 noise-long table bs = tab-length (length bs / 25) (bcnsValue table bs)
 
-pub largest : Largest
+largest : (table bs : List ℕ) → Within (length table / 3) (bcnsNoise table bs)
 unfolding bcnsNoise bcnsValue
 largest table bs =
     within-tab (length table / 3) (length bs / 25) _

@@ -6,12 +6,11 @@
 --   passes f g i m     whether the number of the m limbs of f from i on is at most that of g: from the lowest on, a limb is below the other one or, where
 --                      those below it pass, equal to it
 --   tally n f          how many of the first n tests are passed
---   Row table i t t′   row i of t is now limb i of each entry
 --   Laid table n t     the first n rows of t are the limbs of the table, and what stands behind its entries is above every number
 --   Compared t v k     what a comparison asks
 use Rattle.lists.specs.Kit.{_≡_, Bool, true, List, ℕ, zero, suc, _+_, _*_, _-_, _/_, _%_, _^_, _<_, _≤_, ltb, length, getD}
 use mir.Val.{boolByte}
-use Rattle.lists.specs.{Entries.tab, Ranges.Below, Ranges.Stored}
+use Rattle.lists.specs.{Entries.tab, Ranges.Below}
 use Rattle.bcns_noise.specs.Noise.{bigEndian}
 
 unfoldable pub byteOf : List ℕ → ℕ → ℕ
@@ -33,10 +32,6 @@ passes f g i (suc m) = ltb (f i) (g i + boolByte (passes f g (suc i) m))
 unfoldable pub tally : ℕ → (ℕ → Bool) → ℕ
 tally zero f = 0
 tally (suc n) f = tally n f + boolByte (f n)
-
-pub record Row (table : List ℕ) (i : ℕ) (t t′ : List ℕ) : Type 0 where
-  pub row : Stored 0 t (56 * i) 51 (λ (k : ℕ). bigEndian (wordBytes table) (24 * k + 3 * i) 3) t′
-  pub words : Below (2 ^ 64) table
 
 pub record Laid (table : List ℕ) (n : ℕ) (t : List ℕ) : Type 0 where
   pub long : length t ≡ 448

@@ -1,13 +1,10 @@
 -- What is shown of BCNS's noise and of its table: 02, request m.
---   Largest, Largest51    no value lies beyond the number of entries: none beyond 51, the largest noise, where there are 51
+--   Largest51             no value lies beyond 51, the largest noise, where there are 51 entries
 --   Ascending, Ascends    `firstNotAbove` is the number of entries exactly where each entry is above its forerunner
 --   Place, EachPlace      else it is 1 or more, that entry is not above its forerunner, and those in front of it ascend
 use Rattle.lists.specs.Kit.{_≡_, List, _↔_, ℕ, suc, _-_, _/_, _<_, _≤_, length}
 use Rattle.lists.specs.Ranges.{Within}
 use Rattle.bcns_noise.specs.Noise.{entryOf, bcnsNoise, firstNotAbove}
-
-abbrev pub Largest : Type 0
-Largest = (table bs : List ℕ) → Within (length table / 3) (bcnsNoise table bs)
 
 abbrev pub Largest51 : Type 0
 Largest51 = (table bs : List ℕ) → length table ≡ 153 → Within 51 (bcnsNoise table bs)

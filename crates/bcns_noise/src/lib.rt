@@ -6,11 +6,11 @@
 // The caller sees to the lengths; nothing else is asked, and a table that does not ascend is counted too.
 ghost use Rattle.lists.specs.Kit.{_≡_, ℕ, suc, _+_, _-_, _*_, _/_, _^_, _<_, _≤_, leb, ltb, length, replicate};
 ghost use mir.Val.{boolByte};
-ghost use Rattle.lists.specs.Ranges.{Below};
+ghost use Rattle.lists.specs.Ranges.{Below, Stored};
 ghost use Rattle.lists.specs.Lent.{was, left};
 ghost use Rattle.noise.specs.Noise.{withSign};
 ghost use Rattle.bcns_noise.specs.Noise.{wide, entryOf, bigEndian, bcnsValue, bcnsNoise, falls, firstNotAbove};
-ghost use Rattle.bcns_noise.specs.Limbs.{byteOf, wordBytes, limbs, limbsOf, passes, tally, Row, Laid, Compared};
+ghost use Rattle.bcns_noise.specs.Limbs.{byteOf, wordBytes, limbs, limbsOf, passes, tally, Laid, Compared};
 
 // Whether the number a b c is at most x y z: the words decide, the highest first.
 fn not_above(a: u64, b: u64, c: u64, x: u64, y: u64, z: u64) -> bool
@@ -46,7 +46,7 @@ fn limb(table: &[u64], n: usize) -> u32
 // Limb i of each entry, in row i of t.
 fn lay_row(table: &[u64], t: &mut [u32], i: usize)
     requires { ⌜ (length (now table) ≡ 153) × (length (now t) ≡ 448) × (i < 8) ⌝ }
-    ensures { λ _. ⌜ Row (was table) i (was t) (left t) ⌝ }
+    ensures { λ _. ⌜ Stored 0 (was t) (56 * i) 51 (λ (k : ℕ). bigEndian (wordBytes (was table)) (24 * k + 3 * i) 3) (left t) × Below (2 ^ 64) (was table) ⌝ }
 {
     let mut k: usize = 0;
     while k < 51 {

@@ -26,7 +26,7 @@ same-length c = let l : tie.At-loop Inv-loop μ-loop = search needs in l .loop .
 returns : tie.Need-returns Inv-loop μ-loop
 returns c =
     let l : tie.At-loop Inv-loop μ-loop = search needs in
-    record { row = stored-all (l .loop .inv .1) (omega arith); words = l .loop .inv .2 (omega arith) }
+    (stored-all (l .loop .inv .1) (omega arith), l .loop .inv .2 (omega arith))
 
 pub lay-row-spec : {M : Type 1} → statement M
 lay-row-spec =
