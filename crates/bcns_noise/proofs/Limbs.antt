@@ -14,7 +14,7 @@ use Rattle.lists.specs.Ranges.{Below, Stored}
 use Rattle.lists.proofs.Entries.{tab-at, tab-const, below-tab}
 use Rattle.noise.specs.Noise.{atMost, withSign}
 use Rattle.noise.proofs.Noise.{Counted, counted-none, counted-all}
-use Rattle.bcns_noise.specs.Limbs.{byteOf, wordBytes, limbs, limbsOf, passes, tally, Laid, Compared}
+use Rattle.bcns_noise.specs.Limbs.{byteOf, wordBytes, limbs, limbsOf, passes, tally, LimbRows, Compared}
 use Rattle.bcns_noise.specs.Noise.{entryOf, entries, bigEndian, bcnsValue}
 use Rattle.bcns_noise.proofs.{Words.big-join, Words.big-wide, Table.entries-long, Table.byte-le, Table.count-entry}
 
@@ -175,7 +175,7 @@ module _ (table : List ℕ) (words : Below (2 ^ 64) table) (k : ℕ) (h : 3 * k 
 
 -- ---- its rows
 
-pub laid-none : (table : List ℕ) (n : ℕ) {t : List ℕ} → t ≡ replicate n 16777216 → n ≡ 448 → Laid table 0 t
+pub laid-none : (table : List ℕ) (n : ℕ) {t : List ℕ} → t ≡ replicate n 16777216 → n ≡ 448 → LimbRows table 0 t
 laid-none table n {t} e m =
     let b : Below 16777217 (replicate n 16777216) =
     subst (λ (l : List ℕ). Below 16777217 l) (tab-const n 16777216) (below-tab 16777217 n (λ k. 16777216) (omega arith) (λ k p. omega arith)) in
@@ -187,7 +187,7 @@ laid-none table n {t} e m =
       words = λ p. absurd (omega arith);
     })
 
-module _ {table : List ℕ} {n : ℕ} {t t′ : List ℕ} (old : Laid table n t)
+module _ {table : List ℕ} {n : ℕ} {t t′ : List ℕ} (old : LimbRows table n t)
     (new : Stored 0 t (56 * n) 51 (λ (k : ℕ). bigEndian (wordBytes table) (24 * k + 3 * n) 3) t′ × Below (2 ^ 64) table) where
   small-at : (j : ℕ) → Dec (j < 56 * n) → Dec (j < 56 * n + 51) → getD t′ j 0 ≤ 16777216
   small-at j (yes p) d = rw (new .0 .below j p) (old .small j)
@@ -208,7 +208,7 @@ module _ {table : List ℕ} {n : ℕ} {t t′ : List ℕ} (old : Laid table n t)
   behind-at k l p (yes q) = new .0 .below (56 * 0 + k) (omega arith) ∙ old .behind k l p
   behind-at k l p (no q) = new .0 .above (56 * 0 + k) (omega arith) ∙ old .behind k l p
 
-  pub laid-next : Laid table (n + 1) t′
+  pub laid-next : LimbRows table (n + 1) t′
   laid-next = record {
     long = new .0 .long ∙ old .long;
     small = λ j. small-at j (decLt j (56 * n)) (decLt j (56 * n + 51));
@@ -243,7 +243,7 @@ tally-counted table x f n e (suc k) h =
     subst (λ (j : ℕ). Counted (entries table) x j (tally k f + boolByte (f k))) (add-one k)
     (count-entry table (f k) (tally-counted table x f n e k (omega arith)) (omega arith) (e k (omega arith)))
 
-module _ {table t v : List ℕ} (laid : Laid table 8 t) (n : length table ≡ 153) (small : Below 16777216 v) where
+module _ {table t v : List ℕ} (laid : LimbRows table 8 t) (n : length table ≡ 153) (small : Below 16777216 v) where
   within-entry : (k : ℕ) → k < 51 → passes (limbsOf t k) (limbs v) 0 8 ≡ leb (entryOf table k) (number (limbs v) 0 8)
   within-entry k h =
       let f : ℕ → ℕ = λ i. bigEndian (wordBytes table) (24 * k + 3 * i) 3 in
@@ -292,7 +292,7 @@ module _ {a b c d e f g h : ℕ} where
       rw (ea ∙ ap (λ (m : ℕ). bigEndian bs m 3) (sym z), eb, ec, ed, ee, ef, eg, eh) (number-big bs at 0 8 ∙ ap (λ (m : ℕ). bigEndian bs m 24) z)
 
 pub value-is :
-    {table t v : List ℕ} → Laid table 8 t → length table ≡ 153 → Below 16777216 v → (bs : List ℕ) (k : ℕ) {n : ℕ}
+    {table t v : List ℕ} → LimbRows table 8 t → length table ≡ 153 → Below 16777216 v → (bs : List ℕ) (k : ℕ) {n : ℕ}
     → number (limbs v) 0 8 ≡ bigEndian bs (25 * k) 24 → n ≡ tally 56 (λ (j : ℕ). passes (limbsOf t j) (limbs v) 0 8)
     → withSign (getD bs (25 * k + 24) 0) n ≡ bcnsValue table bs k
 unfolding bcnsValue

@@ -6,7 +6,7 @@
 --   passes f g i m     whether the number of the m limbs of f from i on is at most that of g: from the lowest on, a limb is below the other one or, where
 --                      those below it pass, equal to it
 --   tally n f          how many of the first n tests are passed
---   Laid table n t     the first n rows of t are the limbs of the table, and what stands behind its entries is above every number
+--   LimbRows table n t     the first n rows of t are the limbs of the table, and what stands behind its entries is above every number
 --   Compared t v k     what a comparison asks
 use Rattle.lists.specs.Kit.{_≡_, Bool, true, List, ℕ, zero, suc, _+_, _*_, _-_, _/_, _%_, _^_, _<_, _≤_, ltb, length, getD}
 use mir.Val.{boolByte}
@@ -33,7 +33,7 @@ unfoldable pub tally : ℕ → (ℕ → Bool) → ℕ
 tally zero f = 0
 tally (suc n) f = tally n f + boolByte (f n)
 
-pub record Laid (table : List ℕ) (n : ℕ) (t : List ℕ) : Type 0 where
+pub record LimbRows (table : List ℕ) (n : ℕ) (t : List ℕ) : Type 0 where
   pub long : length t ≡ 448
   pub small : (j : ℕ) → getD t j 0 ≤ 16777216
   pub laid : (k i : ℕ) → k < 51 → i < n → limbsOf t k i ≡ bigEndian (wordBytes table) (24 * k + 3 * i) 3

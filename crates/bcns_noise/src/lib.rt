@@ -10,7 +10,7 @@ ghost use Rattle.lists.specs.Ranges.{Below, Stored};
 ghost use Rattle.lists.specs.Lent.{was, left};
 ghost use Rattle.noise.specs.Noise.{withSign};
 ghost use Rattle.bcns_noise.specs.Noise.{wide, entryOf, bigEndian, bcnsValue, bcnsNoise, falls, firstNotAbove};
-ghost use Rattle.bcns_noise.specs.Limbs.{byteOf, wordBytes, limbs, limbsOf, passes, tally, Laid, Compared};
+ghost use Rattle.bcns_noise.specs.Limbs.{byteOf, wordBytes, limbs, limbsOf, passes, tally, LimbRows, Compared};
 
 // Whether the number a b c is at most x y z: the words decide, the highest first.
 fn not_above(a: u64, b: u64, c: u64, x: u64, y: u64, z: u64) -> bool
@@ -59,7 +59,7 @@ fn lay_row(table: &[u64], t: &mut [u32], i: usize)
 // The table by limbs: eight rows of 56, of which 51 are entries. What stands behind them is above every number.
 fn lay(table: &[u64], t: &mut [u32])
     requires { ⌜ (length (now table) ≡ 153) × (now t ≡ replicate 448 16777216) ⌝ }
-    ensures { λ _. ⌜ Laid (was table) 8 (left t) ⌝ }
+    ensures { λ _. ⌜ LimbRows (was table) 8 (left t) ⌝ }
 {
     let mut i: usize = 0;
     while i < 8 {
@@ -130,7 +130,7 @@ fn signed(size: u32, last: u8) -> i32
 
 // Value k: 25 bytes. The table is there for the contract alone.
 fn value(table: &[u64], t: &[u32], bytes: &[u8], k: usize) -> i32
-    requires { ⌜ Laid (now table) 8 (now t) × (length (now table) ≡ 153) × (25 * k + 25 ≤ length (now bytes)) ⌝ }
+    requires { ⌜ LimbRows (now table) 8 (now t) × (length (now table) ≡ 153) × (25 * k + 25 ≤ length (now bytes)) ⌝ }
     ensures { λ r. ⌜ r ≡ bcnsValue (was table) (was bytes) k ⌝ }
 {
     let at = 25 * k;
@@ -148,7 +148,7 @@ fn value(table: &[u64], t: &[u32], bytes: &[u8], k: usize) -> i32
 }
 
 fn fill(table: &[u64], t: &[u32], bytes: &[u8], out: &mut [i32])
-    requires { ⌜ Laid (now table) 8 (now t) × (length (now table) ≡ 153) × (length (now bytes) ≡ 25 * length (now out)) ⌝ }
+    requires { ⌜ LimbRows (now table) 8 (now t) × (length (now table) ≡ 153) × (length (now bytes) ≡ 25 * length (now out)) ⌝ }
     ensures { λ _. ⌜ now (out .exit) ≡ bcnsNoise (was table) (was bytes) ⌝ }
 {
     let mut i: usize = 0;

@@ -1,11 +1,11 @@
 -- `bcns_noise::lay` meets its contract: row by row.
 use Rattle.lists.proofs.Kit.{_≡_, _∙_, refl, sym, ap, subst, ℕ, _-_, _≤_, arith, needs, length, length-replicate}
-use Rattle.bcns_noise.specs.Limbs.{Laid}
+use Rattle.bcns_noise.specs.Limbs.{LimbRows}
 use Rattle.bcns_noise.proofs.{Limbs.laid-none, Limbs.laid-next, lay.Statement.statement}
 use Rattle.bcns_noise.proofs.lay.Tie as tie
 
 abbrev Inv-loop : tie.InvT-loop
-Inv-loop table t₀ i₀ t i = (i ≤ 8) × Laid table i t
+Inv-loop table t₀ i₀ t i = (i ≤ 8) × LimbRows table i t
 
 abbrev μ-loop : tie.MeasureT-loop
 μ-loop table t₀ i₀ t i = 8 - i
@@ -38,7 +38,7 @@ returns c =
     let s : tie.Start Inv-loop μ-loop = search needs in
     let l : tie.At-loop Inv-loop μ-loop = search needs in
     let e : l .loop .i ≡ 8 = omega arith in
-    subst (λ (n : ℕ). Laid (s .args .table .now) n (l .loop .t)) e (l .loop .inv .1)
+    subst (λ (n : ℕ). LimbRows (s .args .table .now) n (l .loop .t)) e (l .loop .inv .1)
 
 pub lay-spec : {M : Type 1} → statement M
 lay-spec = tie.close (tie.spec Inv-loop μ-loop loop-holds lay-row-requires (omega arith) (omega arith) loop-again same-length returns)
