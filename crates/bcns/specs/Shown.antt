@@ -10,7 +10,7 @@
 --   mostSlack, SlackBound   the largest that it can be, and that it is no more
 --   SlackApart              under the hint of the replier's z it is at most twice the distance of v and w, and one
 use Rattle.lists.specs.Kit.{_≡_, List, _↔_, ℕ, _+_, _*_, _-_, _/_, _%_, _≤_, _<_, min, length, getD}
-use Rattle.numbers.specs.{Residue.apart, Least.LeastGap}
+use Rattle.numbers.specs.{Residue.apart, Congruence.LeastGap}
 use Rattle.lists.specs.Ranges.{Below}
 use Rattle.bcns.specs.Rounding.{q, doubled, hintOf, keyOf, peerOf, slackOf, hintsOf, keysOf, peersOf}
 

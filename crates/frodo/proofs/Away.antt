@@ -5,7 +5,7 @@
 --   slack-apart, slack-least, slack-formula, slack-none, slack-bound
 use Rattle.lists.proofs.Kit.{_≡_, refl, ap, _∙_, Bool, true, ℕ, zero, suc, _+_, _*_, _-_, _/_, _%_, _^_, _≤_, _<_, min, ℕ-discrete, decLt, mul-le-mul-right}
 use Rattle.lists.proofs.Kit.{arith, eqb, pow-pos, eqb-true, eq-eqb}
-use Rattle.numbers.specs.Least.{gapTo, LeastGap}
+use Rattle.numbers.specs.{Congruence.LeastGap, Least.gapTo}
 use Rattle.numbers.proofs.{Natural.rest-is, Arc.Arc, Arc.away-arc, Arc.away-at-most, Arc.away-none}
 use Rattle.frodo.specs.Shown.{margin, SlackLeast, past, SlackFormula, SlackNone, SlackBound, SlackApart}
 use Rattle.frodo.specs.Rounding.{hintOf, slackOf}

@@ -9,7 +9,7 @@
 use Rattle.lists.proofs.Kit.{_≡_, sym, ap, _∙_, ℕ, zero, suc, _+_, _*_, _-_, _/_, _%_, _^_, _≤_, _<_, ℕ-discrete, decLt, le-trans, mul-le-mul-right, arith, eqb}
 use Rattle.lists.proofs.Kit.{pow-pos}
 use native.Mathlib.Nat.{lt-of-mul-lt-mul-right}
-use Rattle.numbers.specs.{Congruence.Close, Congruence.direct, Congruence.over, Congruence.under, Least.nearestTo, Least.Nearest}
+use Rattle.numbers.specs.{Congruence.Close, Congruence.direct, Congruence.over, Congruence.under, Congruence.Nearest, Least.nearestTo}
 use Rattle.numbers.proofs.{Circle.apart-close, Circle.close-apart, Arc.nearest-of}
 use Rattle.frodo.specs.Shown.{NoTie, formulaOf, Formula, Agreement}
 use Rattle.frodo.specs.Rounding.{hintOf, keyOf, peerOf}

@@ -10,8 +10,8 @@ use Prim.Native.Nat.{ℕ, _+_, _-_, _≤_, _<_, min}
 use native.{Mathlib.Decide.decLt, Mathlib.Decide.decLe, Mathlib.Decide.ℕ-discrete, Mathlib.Nat.le-refl, Mathlib.Nat.le-trans, Mathlib.Omega.arith}
 use lib.Dec.{eqb}
 use borrow.Author.Tests.{eq-eqb, eqb-true}
-use Rattle.numbers.specs.{Residue.apart, Congruence.Close, Congruence.direct, Congruence.over, Congruence.under}
-use Rattle.numbers.specs.Least.{nearestTo, gapTo, Nearest}
+use Rattle.numbers.specs.{Residue.apart, Congruence.Close, Congruence.direct, Congruence.over, Congruence.under, Congruence.Nearest}
+use Rattle.numbers.specs.Least.{nearestTo, gapTo}
 use Rattle.numbers.proofs.{Circle.apart-close, Circle.close-apart, Circle.apart-self, Least.Least, Least.least-below}
 
 module _ (m : ℕ) (p : ℕ → Bool) (x : ℕ) where

@@ -3,10 +3,12 @@
 --   NearZero q r    r is in the range of the remainders nearest to zero: -q <= 2 r < q
 --   OneNearest      `nearest` gives the one number of that range that is congruent to z
 --   Close q d v w   v and w are at most d apart, by cases with neither a difference nor a minimum
+--   Nearest m Marked x z    z is below m and has the mark, and of all that have it none is nearer to x around a circle of m numbers
+--   LeastGap m Marked x d   some z nearest to x is that far from it
 use mathlib.Core.Path.{_≡_}
 use Prim.Native.Nat.{ℕ, suc, _+_, _*_, _<_, _≤_}
 use lib.IntN.{ℤ, pos, negsuc, _+ℤ_, _*ℤ_}
-use Rattle.numbers.specs.Residue.{nearest}
+use Rattle.numbers.specs.Residue.{nearest, apart}
 
 infix 4 _≅⟨_⟩_
 pub record _≅⟨_⟩_ (x : ℤ) (q : ℕ) (y : ℤ) : Type 0 where
@@ -27,3 +29,13 @@ pub data Close (q d v w : ℕ) : Type 0 where
   direct : v ≤ w + d → w ≤ v + d → Close q d v w
   over : v + q ≤ w + d → Close q d v w
   under : w + q ≤ v + d → Close q d v w
+
+pub record Nearest (m : ℕ) (Marked : ℕ → Type 0) (x z : ℕ) : Type 0 where
+  pub below : z < m
+  pub marked : Marked z
+  pub nearest : (y : ℕ) → y < m → Marked y → apart m z x ≤ apart m y x
+
+pub record LeastGap (m : ℕ) (Marked : ℕ → Type 0) (x d : ℕ) : Type 0 where
+  pub z : ℕ
+  pub found : Nearest m Marked x z
+  pub reached : apart m z x ≡ d

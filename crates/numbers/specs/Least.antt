@@ -1,11 +1,9 @@
--- The nearest among the numbers with a mark, as a search over all of them and as a rule: 01, "Reconciliation", and 02f, the slack used.
+-- The nearest among the numbers with a mark, as a search over all of them: 01, "Reconciliation", and 02f, the slack used.
 --   leastBelow f p n   the first number below n at which f is least among those with the mark p; n where none has it
 --   nearestTo m p x    the first number below m nearest to x, around a circle of m numbers, among those with the mark p
 --   gapTo m p x        how far x lies from it, around the circle: the least distance over all numbers with the mark
---   Nearest m Marked x z    z is below m and has the mark, and of all that have it none is nearer to x around the circle
---   LeastGap m Marked x d   some z nearest to x is that far from it
-use mathlib.{Core.Path._≡_, Core.Bool.Bool, Core.Bool.cond}
-use Prim.Native.Nat.{ℕ, zero, suc, _≤_, _<_}
+use mathlib.Core.Bool.{Bool, cond}
+use Prim.Native.Nat.{ℕ, zero, suc}
 use lib.Dec.{eqb, ltb}
 use Rattle.numbers.specs.Residue.{apart}
 
@@ -22,13 +20,3 @@ nearestTo m p x = leastBelow (λ z. apart m z x) p m
 
 unfoldable pub gapTo : ℕ → (ℕ → Bool) → ℕ → ℕ
 gapTo m p x = apart m (nearestTo m p x) x
-
-pub record Nearest (m : ℕ) (Marked : ℕ → Type 0) (x z : ℕ) : Type 0 where
-  pub below : z < m
-  pub marked : Marked z
-  pub nearest : (y : ℕ) → y < m → Marked y → apart m z x ≤ apart m y x
-
-pub record LeastGap (m : ℕ) (Marked : ℕ → Type 0) (x d : ℕ) : Type 0 where
-  pub z : ℕ
-  pub found : Nearest m Marked x z
-  pub reached : apart m z x ≡ d
