@@ -7,7 +7,7 @@ use Rattle.lists.specs.Kit.{cond, List, [], _∷_, _++_, ℕ, ltb}
 use Rattle.schemes.specs.declared.Named.the-variants.{Known, Unknown}
 use Rattle.schemes.specs.{declared.Fixed.Fixed, declared.Named.Named, Schemes.byFamily, Schemes.familyOf, Schemes.fixedOf, Schemes.schemeOf}
 use Rattle.lists.specs.First.{both}
-use Rattle.text.specs.{Text.schemeName, Text.line, Text.Read, Text.number, Text.other, Text.fieldIn, Answer.refusalName}
+use Rattle.text.specs.Text.{schemeName, refusalName, line, Read, number, other, fieldIn}
 use Rattle.bcns.specs.Rounding as bcns
 use Rattle.frodo.specs.Rounding as frodo
 

@@ -10,16 +10,14 @@
 use Rattle.lists.proofs.Kit.{_≡_, refl, _∙_, sym, ap, ap₂, List, [], _∷_, _++_, append-assoc, append-nil, ℕ, _+_, _-_, _/_, _%_, _^_, _≤_, _<_, add-zero}
 use Rattle.lists.proofs.Kit.{add-one, arith, length, set, take, drop, length-append, length-drop, take-append-drop, length-take-le, take-at, drop-at, drop-drop}
 use Rattle.lists.proofs.Kit.{set-split, lt-ltb, le-ltb, putMid}
-use Rattle.text.specs.{Text.LF, Text.digitsUpTo, Text.decimal, Text.line, Steps.put, Steps.Written}
+use Rattle.text.specs.{Text.LF, Text.digitsUpTo, Text.decimal, Text.line, Steps.Written}
 use Rattle.text.proofs.Numeral.{enough}
 
 written-byte : (d : List ℕ) (i x : ℕ) → i < length d → Written i (x ∷ []) d (set d i x) (i + 1)
-unfolding put
 written-byte d i x h = record { count = refl; text = set-split d i x h ∙ rw (append-assoc, add-one) }
 
 -- xs was written to the part of d from i on that is as long
 pub written-copy : (d : List ℕ) (i : ℕ) {p xs : List ℕ} → p ≡ xs → Written i xs d (putMid i (i + length xs - i) d p) (i + length xs)
-unfolding put
 written-copy d i {p} {xs} e =
     let l : i + length xs - i ≡ length xs = omega arith in
     record { count = refl; text = rw (e, l, append-assoc, drop-drop) }
@@ -32,19 +30,15 @@ module _ {i : ℕ} {xs d e : List ℕ} {j : ℕ} (h : Written i xs d e j) (l : j
   front = rw (length-append, length-take-le i d (omega (arith, h .count))) (sym (h .count))
 
   pub written-length : length e ≡ length d
-  unfolding put
   written-length = ap length (h .text) ∙ rw length-append (rw (front, length-drop) (omega (arith, h .count)))
 
   front-is : take j e ≡ take i d ++ xs
-  unfolding put
   front-is = ap (take j) (h .text) ∙ take-at (take i d ++ xs) (drop (i + length xs) d) j front
 
   rest-is : drop j e ≡ drop j d
-  unfolding put
   rest-is = ap (drop j) (h .text) ∙ drop-at (take i d ++ xs) (drop (i + length xs) d) j front ∙ rw (h .count)
 
   written-then : {ys f : List ℕ} {r : ℕ} → Written j ys e f r → Written i (xs ++ ys) d f r
-  unfolding put
   written-then {ys} {f} {r} g =
       let n : i + length (xs ++ ys) ≡ j + length ys = omega (arith, h .count, length-append xs ys) in
       record {
@@ -98,7 +92,6 @@ module _ {i j : ℕ} {whole d e x : List ℕ} {rest : List (List ℕ)} (h : Left
       }
 
 pub written-none : (d : List ℕ) (i : ℕ) → Written i [] d d i
-unfolding put
 written-none d i = record { count = omega arith; text = sym (simp (append-nil, add-zero) (take-append-drop i d)) }
 
 pub left-none : {i j : ℕ} {whole d e : List ℕ} → Left i whole d [] e j → Written i whole d e j

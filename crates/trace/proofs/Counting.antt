@@ -3,7 +3,7 @@
 --   pair-known   what two lines gave: scheme 0 to 5, a slack of ten digits
 use Rattle.lists.proofs.Kit.{_≡_, _∙_, sym, ap, subst, List, ℕ, suc, _+_, _-_, _≤_, _<_, arith, length, drop, drop-of-length-le}
 use Rattle.lists.proofs.Kit.{length-drop}
-use Rattle.text.specs.{Text.line, Answer.refusalName}
+use Rattle.text.specs.Text.{line, refusalName}
 use Rattle.trace.specs.Steps.{Tally, twoOf, endOf, Reads, zeros, added, summaryOf, Held, Pair}
 use Rattle.trace.specs.Trace.{two, neither, twoIn, recordedIn, answered}
 use Rattle.trace.proofs.Reading.{two-back}

@@ -7,7 +7,7 @@ use Rattle.lists.proofs.Kit.{_≡_, refl, sym, ap, subst, Bool, true, false, co
 use Rattle.lists.proofs.Kit.{getD, set, replicate, length-set, getD-set-same, getD-set-other, eqb-true, eqb-false}
 use Rattle.lists.specs.First.{largestBy}
 use Rattle.lists.proofs.{Table.cond-all, Entries.below-zeros}
-use Rattle.text.specs.{Text.line, Answer.refusalName}
+use Rattle.text.specs.Text.{line, refusalName}
 use Rattle.trace.specs.Trace.{Exchange, two, neither, twoIn, Trace, recorded, unread, more, recordedIn, slacksOf, total, blockOf, summary}
 use Rattle.trace.specs.Trace.{answerTo, answered}
 use Rattle.trace.specs.Steps.{zeros, added, Held, blockAt, summaryOf, Tally}

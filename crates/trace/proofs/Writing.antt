@@ -4,7 +4,7 @@
 --   text-whole, text-lost      the text, by whether the whole trace was read
 use Rattle.lists.proofs.Kit.{_≡_, refl, sym, ap, subst, true, false, List, [], _∷_, _++_, append-nil, ℕ, zero, suc, _+_, _≤_, _<_, add-one, arith, length}
 use Rattle.lists.proofs.Kit.{drop, eq-eqb, ne-eqb}
-use Rattle.text.specs.{Text.schemeName, Text.line, Answer.refusalName, Steps.Written}
+use Rattle.text.specs.{Text.schemeName, Text.line, Text.refusalName, Steps.Written}
 use Rattle.text.proofs.Writing.{joined, Left, left-all, left-room, left-next, left-none, written-none}
 use Rattle.trace.specs.Steps.{blockAt, summaryOf, textOf, Tally, Counted}
 use Rattle.trace.specs.Trace.{exchangesName, sumName, largestName, block}

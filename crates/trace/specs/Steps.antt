@@ -5,7 +5,7 @@
 --   summaryOf t           the summary, by the counters
 --   textOf c              the text of a `Counted`: the summary, or a refusal where not the whole trace was read
 use Rattle.lists.specs.Kit.{_≡_, cond, List, _++_, ℕ, _+_, _*_, _≤_, max, length, getD, set, drop, replicate}
-use Rattle.text.specs.{Text.line, Answer.refusalName}
+use Rattle.text.specs.Text.{line, refusalName}
 use Rattle.trace.specs.Trace.{Two, two, neither, block}
 pub use Rattle.trace.specs.{declared.Pair.Pair, declared.Tally.Tally, declared.Counted.Counted}
 use Rattle.trace.specs.declared.Pair.the-variants as pair

@@ -6,7 +6,7 @@
 --   answered xs        the output of every input: refusal 8 for other text, a missing slack line or more than 4,096 lines
 use Rattle.lists.specs.Kit.{cond, List, [], _∷_, _++_, ℕ, zero, suc, _+_, eqb, leb, length}
 use Rattle.lists.specs.First.{largestBy}
-use Rattle.text.specs.{Text.schemeName, Text.line, Text.Read, Text.number, Text.other, Text.fieldIn, Answer.refusalName}
+use Rattle.text.specs.Text.{schemeName, refusalName, line, Read, number, other, fieldIn}
 
 -- the names, each with its '=', in bytes
 abbrev pub slackName : List ℕ
