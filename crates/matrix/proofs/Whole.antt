@@ -33,8 +33,8 @@ right-any m q n r x s e some w some-q h =
     (λ k t p b. product-≅ m some (getD x (k / 8 * n + t) 0) _ _ (column-at m n s (k % 8) t (mod-lt k (omega arith)) b))
 
 pub right-is :
-    (m : ℕ) {q n r : ℕ} {x : List ℕ} {s : List ℤ} → 0 < m → m % q ≡ 0 → (e : List ℤ) {l u v out : List ℕ} → Shape q n r x s → l ≡ columnsOf m n s → length e ≡ 8 * r →
-    u ≡ wordsOf m e → v ≡ gained m n (rightTerm n x l) u → out ≡ reduced q v → out ≡ rightMixed q r n 8 x s e
+    (m : ℕ) {q n r : ℕ} {x : List ℕ} {s : List ℤ} → 0 < m → m % q ≡ 0 → (e : List ℤ) {l u v out : List ℕ} → Shape q n r x s → l ≡ columnsOf m n s →
+    length e ≡ 8 * r → u ≡ wordsOf m e → v ≡ gained m n (rightTerm n x l) u → out ≡ reduced q v → out ≡ rightMixed q r n 8 x s e
 right-is m {q} {n} {r} {x} {s} some w e f d h i g o = steps-are m q n _ e i g o ∙ rw d (right-any m q n r x s e some w (f .some) h)
 
 pub left-any : (m q n c : ℕ) (s : List ℤ) (y : List ℕ) (e : List ℤ) → 0 < m → m % q ≡ 0 → 0 < q → 0 < c → length s ≡ 8 * n → length e ≡ 8 * c
@@ -48,8 +48,8 @@ left-any m q n c s y e some w some-q some-c long h =
     ⨾ eq-≅ (*ℤ-comm (pos (getD y (t * c + k % c) 0)) (ints s (k / c * n + t))))
 
 pub left-is :
-    (m : ℕ) {q n c : ℕ} {s : List ℤ} {y : List ℕ} → 0 < m → m % q ≡ 0 → (e : List ℤ) {l u v out : List ℕ} → Shape q n c y s → l ≡ wordsOf m s → length e ≡ 8 * c →
-    u ≡ wordsOf m e → v ≡ gained m n (leftTerm n c l y) u → out ≡ reduced q v → out ≡ leftMixed q n c 8 s y e
+    (m : ℕ) {q n c : ℕ} {s : List ℤ} {y : List ℕ} → 0 < m → m % q ≡ 0 → (e : List ℤ) {l u v out : List ℕ} → Shape q n c y s → l ≡ wordsOf m s →
+    length e ≡ 8 * c → u ≡ wordsOf m e → v ≡ gained m n (leftTerm n c l y) u → out ≡ reduced q v → out ≡ leftMixed q n c 8 s y e
 left-is m {q} {n} {c} {s} {y} some w e f d h i g o =
     steps-are m q n _ e i g o ∙ rw d (left-any m q n c s y e some w (f .some) (f .rows-many) (f .s-long) h)
 
