@@ -20,12 +20,12 @@ by-value : (y : Session) (x : Call) {bs cs : List ℕ} {s : CallSeen} → Sound 
 unfolding moved
 by-value y x h e m =
     let s = m ∙ ap (λ (us : List ℕ). movedBytes us x) e ∙ moved-bytes y h x in
-    (ap (λ (u : Turn (List ℕ)). turn (step y x) (u .seen)) s, ap (λ (u : Turn (List ℕ)). u .session) s)
+    (ap (λ (u : Turn (List ℕ) CallSeen). turn (step y x) (u .seen)) s, ap (λ (u : Turn (List ℕ) CallSeen). u .session) s)
 
 -- the session in a buffer on which a call refuses nothing
 held : (bs : List ℕ) (x : Call) {cs : List ℕ} {s : CallSeen} → closes x ≡ false → turn cs s ≡ movedBytes bs x → number s ≡ 0
     → (y : Session) × (bs ≡ bytesOf y) × Sound y
-held bs x f m z = held-by bs x f (sym (ap (λ (u : Turn (List ℕ)). number (u .seen)) m) ∙ z)
+held bs x f m z = held-by bs x f (sym (ap (λ (u : Turn (List ℕ) CallSeen). number (u .seen)) m) ∙ z)
 
 record ByValue {c : Scheme} {x : Run} {bs cs : List ℕ} {m : Rooms} (t : LinkBytes c x bs cs m) : Type 0 where
   pub y : Session
@@ -72,12 +72,12 @@ by-values {c} {x} {bs} {cs} {m} t =
     }
 
 in-bytes : (y : Session) (x : Call) {z : Session} {s : CallSeen} → Sound y → turn z s ≡ moved y x → turn (bytesOf z) s ≡ movedBytes (bytesOf y) x
-in-bytes y x h m = ap (λ (u : Turn Session). laidOut u) m ∙ sym (moved-bytes y h x)
+in-bytes y x h m = ap (λ (u : Turn Session CallSeen). laidOut u) m ∙ sym (moved-bytes y h x)
 
 laid-link : {c : Scheme} {x : Run} {y z : Session} {m : Rooms} → Sound y → Sound z → Link c x y z m → LinkBytes c x (bytesOf y) (bytesOf z) m
 unfolding moved
 laid-link {c} {x} {y} {z} {m} h i t =
-    let after : Sound (t .opened) = subst Sound (sym (ap (λ (u : Turn Session). u .session) (t .offers))) (step-sound y (first c x m) h) in
+    let after : Sound (t .opened) = subst Sound (sym (ap (λ (u : Turn Session CallSeen). u .session) (t .offers))) (step-sound y (first c x m) h) in
     record {
       opened = bytesOf (t .opened);
       offer = t .offer;

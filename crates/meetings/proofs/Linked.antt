@@ -50,8 +50,8 @@ module _ (c : Scheme) (x : Run) (m : Rooms) {o : Seen ℕ} {r : ReplySeen} {f : 
 went : (y : Session) (x : Call) {z : Session} {s : CallSeen} → turn z s ≡ moved y x → number s ≡ 0
     → (row x .allowed (y .stage) ≡ true) × (z ≡ row x .leads) × (s ≡ beneath x)
 went y x e n =
-    let a = accepted y x (sym (ap (λ (u : Turn Session). number (u .seen)) e) ∙ n) in
-    (a .0, ap (λ (u : Turn Session). u .session) e ∙ a .1, ap (λ (u : Turn Session). u .seen) e ∙ a .2)
+    let a = accepted y x (sym (ap (λ (u : Turn Session CallSeen). number (u .seen)) e) ∙ n) in
+    (a .0, ap (λ (u : Turn Session CallSeen). u .session) e ∙ a .1, ap (λ (u : Turn Session CallSeen). u .seen) e ∙ a .2)
 
 goes : (y : Session) (x : Call) → row x .allowed (y .stage) ≡ true → number (beneath x) ≡ 0 → turn (row x .leads) (beneath x) ≡ moved y x
 goes y x a n =

@@ -15,14 +15,14 @@ use Rattle.refusals.specs.Seen.{Seen, answer}
 use Rattle.finish.specs.Finish.{FinishSeen}
 use Rattle.reply.specs.Reply.{ReplySeen}
 use Rattle.agreement.specs.{Run.Run, Exchange.Sendable, Exchange.Rooms, Exchange.Enough, Agreement.Near, Agreement.publishedKey}
-use Rattle.session.specs.Seen.{ofOffer, ofReply, ofFinish, Turn, turn, moved}
+use Rattle.session.specs.Seen.{CallSeen, ofOffer, ofReply, ofFinish, Turn, turn, moved}
 use Rattle.session.specs.Table.{Call, offering, replying, finishing, padded}
 use Rattle.session.specs.{declared.Session.Session, declared.Stage.the-variants.Idle, declared.Stage.the-variants.Keyed}
 use Rattle.session_bytes.specs.{declared.Found.the-variants.At, Bytes.bytesOf, Bytes.staged, Bytes.movedBytes}
 use Rattle.agreement.specs.Run as inputs
 
 -- x has one list of public numbers, which both sessions take, and one secret s, which Offer and Finish take
-pub record LinkBy {S : Type 0} (move : S → Call → Turn S) (c : Scheme) (x : Run) (y z : S) (m : Rooms) : Type 0 where
+pub record LinkBy {S : Type 0} (move : S → Call → Turn S CallSeen) (c : Scheme) (x : Run) (y z : S) (m : Rooms) : Type 0 where
   -- one session offers
   pub opened : S
   pub offer : Seen ℕ

@@ -17,10 +17,10 @@ unfolding movedIn
 turned bs i x h = rw (slot-none bs i (closes x) h)
 
 -- a slot's bytes after a call, with what is shown; a session's bytes with its slot's number
-abbrev ofSlot : ℕ → Turn (List ℕ) → Turn (List ℕ)
+abbrev ofSlot : ℕ → Turn (List ℕ) CallSeen → Turn (List ℕ) CallSeen
 ofSlot i m = turn (part (m .session) i) (m .seen)
 
-abbrev numbers : ℕ → Turn (List ℕ) → Turn (List ℕ)
+abbrev numbers : ℕ → Turn (List ℕ) CallSeen → Turn (List ℕ) CallSeen
 numbers i m = turn (i ∷ m .session) (m .seen)
 
 -- a call by the verdict v of its slot's tests
@@ -59,7 +59,7 @@ untouched bs i j x o = (other bs i x j o (slotTests bs i (closes x)) refl, moved
 
 -- a slot's bytes and what is shown, as two
 both : {s u : List ℕ} {t v : CallSeen} → turn s t ≡ turn u v → (t ≡ v) × (s ≡ u)
-both e = (ap (λ (m : Turn (List ℕ)). m .seen) e, ap (λ (m : Turn (List ℕ)). m .session) e)
+both e = (ap (λ (m : Turn (List ℕ) CallSeen). m .seen) e, ap (λ (m : Turn (List ℕ) CallSeen). m .session) e)
 
 -- the tests of a slot look at the length and at the slot
 slot-same : (bs cs : List ℕ) (i : ℕ) (b : Bool) → length bs ≡ length cs → part bs i ≡ part cs i → slotTests bs i b ≡ slotTests cs i b
@@ -89,10 +89,10 @@ module _ (bs : List ℕ) (j : ℕ) (x : Call) (o : Owned bs j) where
   own-stays : Owned (movedIn bs j x .session) j
   own-stays =
       let r = slot-rack bs j false o in
-      slot-own (movedIn bs j x .session) j (r .0) (moved-long bs j x ∙ r .1) (ap (λ (m : Turn (List ℕ)). getD (m .session) 0 0) own-is)
+      slot-own (movedIn bs j x .session) j (r .0) (moved-long bs j x ∙ r .1) (ap (λ (m : Turn (List ℕ) CallSeen). getD (m .session) 0 0) own-is)
 
 pub slotwise : Slotwise
-slotwise bs i x o = ap (λ (m : Turn (List ℕ)). turn (drop 1 (m .session)) (m .seen)) (own-is bs i x o)
+slotwise bs i x o = ap (λ (m : Turn (List ℕ) CallSeen). turn (drop 1 (m .session)) (m .seen)) (own-is bs i x o)
 
 -- and of another
 other-stays : (bs : List ℕ) (i j : ℕ) (x : Call) → (i ≡ j → ⊥) → Owned bs j → Owned (movedIn bs i x .session) j
@@ -114,19 +114,19 @@ pub alone : Alone
 unfolding own views
 alone j bs _ _ _ o RanBy.none = (RanBy.none, o)
 alone j bs ds _ _ o (RanBy.more {z = cs} {x = x} {xs = xs} {t = t} {ts = ts} m r) =
-    let k : Owned cs j = ap (λ (u : Turn (List ℕ)). slotTests (u .session) j false) m ∙ stays bs (x .by) j (x .call) o in
+    let k : Owned cs j = ap (λ (u : Turn (List ℕ) CallSeen). slotTests (u .session) j false) m ∙ stays bs (x .by) j (x .call) o in
     let q = alone j cs ds xs ts k r in (go (eqb (x .by) j) refl (q .0), q .1)
   where
     go : (b : Bool) → eqb (x .by) j ≡ b → RanBytes (inside cs j) (own j xs) (inside ds j) (views j xs ts)
         → RanBytes (inside bs j) (cond b (x .call ∷ own j xs) (own j xs)) (inside ds j) (cond b (t ∷ views j xs ts) (views j xs ts))
     go true e p =
         RanBy.more
-        (ap (λ (u : Turn (List ℕ)). turn (inside (u .session) j) (u .seen)) (m ∙ ap (λ (i : ℕ). movedIn bs i (x .call)) (eqb-true (x .by) j e))
+        (ap (λ (u : Turn (List ℕ) CallSeen). turn (inside (u .session) j) (u .seen)) (m ∙ ap (λ (i : ℕ). movedIn bs i (x .call)) (eqb-true (x .by) j e))
         ∙ slotwise bs j (x .call) o)
         p
     go false e p =
         subst (λ (s : List ℕ). RanBytes (drop 1 s) (own j xs) (inside ds j) (views j xs ts))
-        (ap (λ (u : Turn (List ℕ)). part (u .session) j) m ∙ untouched bs (x .by) j (x .call) (eqb-false (x .by) j e) .0)
+        (ap (λ (u : Turn (List ℕ) CallSeen). part (u .session) j) m ∙ untouched bs (x .by) j (x .call) (eqb-false (x .by) j e) .0)
         p
 
 numbered-is : (s : List ℕ) (j : ℕ) → length s ≡ 131 → getD s 0 0 ≡ j → s ≡ j ∷ drop 1 s

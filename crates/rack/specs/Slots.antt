@@ -13,7 +13,7 @@ use Rattle.lists.specs.Kit.{_≡_, Bool, true, false, cond, List, [], _∷_, _+
 use Rattle.refusals.specs.declared.Refusal.the-variants.{OutOfStage, NoStudio}
 use Rattle.refusals.specs.declared.Verdict.the-variants.{Pass, Fail}
 use Rattle.refusals.specs.{Refusals.numberIn, Refusals.placeIn, Refusals._then_, Seen.ifPassed, declared.Verdict.Verdict}
-use Rattle.session.specs.{Table.Call, Seen.shownBy, Seen.Turn, Seen.turn}
+use Rattle.session.specs.{Table.Call, Seen.CallSeen, Seen.shownBy, Seen.Turn, Seen.turn}
 use Rattle.session_bytes.specs.Bytes.{closes, movedBytes}
 
 abbrev pub part : List ℕ → ℕ → List ℕ
@@ -37,13 +37,13 @@ slotTests bs i b =
 abbrev pub Owned : List ℕ → ℕ → Type 0
 Owned bs i = slotTests bs i false ≡ Pass
 
-abbrev pub inRack : List ℕ → ℕ → Turn (List ℕ) → Turn (List ℕ)
+abbrev pub inRack : List ℕ → ℕ → Turn (List ℕ) CallSeen → Turn (List ℕ) CallSeen
 inRack bs i m = turn (withSlot bs i (i ∷ m .session)) (m .seen)
 
-abbrev pub movedBy : Verdict → List ℕ → ℕ → Call → Turn (List ℕ)
+abbrev pub movedBy : Verdict → List ℕ → ℕ → Call → Turn (List ℕ) CallSeen
 movedBy v bs i x = ifPassed v (inRack bs i (movedBytes (inside bs i) x)) (turn bs (shownBy v x))
 
-unfoldable pub movedIn : List ℕ → ℕ → Call → Turn (List ℕ)
+unfoldable pub movedIn : List ℕ → ℕ → Call → Turn (List ℕ) CallSeen
 movedIn bs i x = movedBy (slotTests bs i (closes x)) bs i x
 
 -- ---- clear

@@ -12,7 +12,7 @@ use Rattle.reply.specs.Reply.{Reply, replyKey}
 use Rattle.reply.proofs.Replying.{key-length}
 use Rattle.session.specs.Sequences.{RanBy, seenOf, beneath, fits, Sound, Followed, Answered, Accepted, Kept, Sounds}
 use Rattle.session.specs.Table.{Session, Call, offering, replying, finishing, closing, row, outcome, step, run, offered, keyed}
-use Rattle.session.specs.Seen.{number, shownBy, Turn, moved}
+use Rattle.session.specs.Seen.{CallSeen, number, shownBy, Turn, moved}
 use Rattle.session.proofs.Laws.{shown-number}
 use Rattle.finish.proofs.Finishing as finishes
 
@@ -21,8 +21,8 @@ unfolding run seenOf moved
 followed y _ _ _ RanBy.none = (refl, refl)
 followed y w _ _ (RanBy.more {z = z} {x = x} {xs = xs} {t = t} {ts = ts} m r) =
     let q = followed z w xs ts r in
-    let s : z ≡ step y x = ap (λ (u : Turn Session). u .session) m in
-    let e : t ≡ moved y x .seen = ap (λ (u : Turn Session). u .seen) m in
+    let s : z ≡ step y x = ap (λ (u : Turn Session CallSeen). u .session) m in
+    let e : t ≡ moved y x .seen = ap (λ (u : Turn Session CallSeen). u .seen) m in
     (q .0 ∙ ap (λ (u : Session). run u xs) s, ap₂ _∷_ e (q .1 ∙ ap (λ (u : Session). seenOf u xs) s))
 
 by-tests : (x : Call) → shownBy (row x .tests) x ≡ beneath x

@@ -33,12 +33,12 @@ shownBy v (replying k x m) = ofReply (replyShown v (schemeOf k) x m)
 shownBy v (finishing k x m) = ofFinish (finishShown v (schemeOf k) x m)
 shownBy v closing = ofClose (toldBy v)
 
-pub record Turn (S : Type 0) : Type 0 where
+pub record Turn (S T : Type 0) : Type 0 where
   pub session : S
-  pub seen : CallSeen
+  pub seen : T
 
-abbrev pub turn : {S : Type 0} → S → CallSeen → Turn S
+abbrev pub turn : {S T : Type 0} → S → T → Turn S T
 turn z t = record { session = z; seen = t }
 
-unfoldable pub moved : Session → Call → Turn Session
+unfoldable pub moved : Session → Call → Turn Session CallSeen
 moved y x = turn (step y x) (shownBy (outcome (y .stage) x) x)

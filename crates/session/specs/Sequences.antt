@@ -19,7 +19,7 @@ use Rattle.reply.specs.Reply.{replyResult}
 use Rattle.session.specs.Table.{Stage, Session, Idle, Offered, Keyed, Call, offering, replying, finishing, closing, row, padded, noKey, idle, step, run}
 use Rattle.session.specs.Seen.{CallSeen, ofOffer, ofReply, ofFinish, ofClose, number, toldBy, shownBy, Turn, turn, moved}
 
-pub data RanBy {S C : Type 0} (move : S → C → Turn S) : S → List C → S → List CallSeen → Type 0 where
+pub data RanBy {S C : Type 0} (move : S → C → Turn S CallSeen) : S → List C → S → List CallSeen → Type 0 where
   none : {y : S} → RanBy move y [] y []
   more : {y z w : S} {x : C} {xs : List C} {t : CallSeen} {ts : List CallSeen} → turn z t ≡ move y x → RanBy move z xs w ts → RanBy move y (x ∷ xs) w (t ∷ ts)
 

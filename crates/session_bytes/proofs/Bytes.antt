@@ -130,7 +130,7 @@ held-by bs x f z = go (staged bs) refl
     go : (s : Found) → staged bs ≡ s → (y : Session) × (bs ≡ bytesOf y) × Sound y
     go (At st) e = let l = laid-back bs st e in (sessionIn st bs, sym (l .0), l .1)
     go Nowhere e =
-        let n : number (movedBytes bs x .seen) ≡ 10 = ap (λ (m : Turn (List ℕ)). number (m .seen)) (untouched bs x e f) ∙ shown-number (Fail OutOfStage) x in
+        let n : number (movedBytes bs x .seen) ≡ 10 = ap (λ (m : Turn (List ℕ) CallSeen). number (m .seen)) (untouched bs x e f) ∙ shown-number (Fail OutOfStage) x in
         absurd (omega (arith, n, z))
 
 run-from : (y : Session) (bs : List ℕ) (xs : List Call) (cs : List ℕ) (ts : List CallSeen) → Sound y → bs ≡ bytesOf y → RanBytes bs xs cs ts
@@ -139,8 +139,8 @@ unfolding run moved
 run-from y bs _ _ _ h e RanBy.none = (e, RanBy.none)
 run-from y bs _ ds _ h e (RanBy.more {z = cs} {x = x} {xs = xs} {t = t} {ts = ts} m r) =
     let s : turn cs t ≡ laidOut (moved y x) = m ∙ ap (λ (us : List ℕ). movedBytes us x) e ∙ moved-bytes y h x in
-    let q = run-from (step y x) cs xs ds ts (step-sound y x h) (ap (λ (u : Turn (List ℕ)). u .session) s) r in
-    (q .0, RanBy.more (ap (λ (u : Turn (List ℕ)). turn (step y x) (u .seen)) s) (q .1))
+    let q = run-from (step y x) cs xs ds ts (step-sound y x h) (ap (λ (u : Turn (List ℕ) CallSeen). u .session) s) r in
+    (q .0, RanBy.more (ap (λ (u : Turn (List ℕ) CallSeen). turn (step y x) (u .seen)) s) (q .1))
 
 pub run-bytes : RunBytes
 run-bytes y xs cs ts h r = run-from y (bytesOf y) xs cs ts h refl r

@@ -17,9 +17,9 @@ use Rattle.exchange.specs.Answer.{AnswerLent, answerReply, answerTests, answerS
 use Rattle.exchange.specs.{declared.OpenCounts.OpenCounts, declared.OpenAnswer.OpenAnswer}
 use Rattle.exchange.proofs.Shown.{open-offers, answer-replies}
 use Rattle.session.specs.declared.Stage.the-variants.{Idle, Offered, Keyed}
-use Rattle.session.specs.{declared.Session.Session, Seen.shownBy, Seen.moved, Table.offered, Table.keyed, Table.row, Table.outcome, Table.step}
+use Rattle.session.specs.{declared.Session.Session, Seen.shownBy, Seen.turn, Seen.moved, Table.offered, Table.keyed, Table.row, Table.outcome, Table.step}
 use Rattle.session.proofs.{Laws.stays, Laws.whole, Sequences.kept-by}
-use Rattle.session_bytes.specs.Drawn.{idleAt, ahead, Drawn, drawn, openMoved, answerMoved, Opens, Answers, Stays}
+use Rattle.session_bytes.specs.Drawn.{idleAt, ahead, openMoved, answerMoved, Opens, Answers, Stays}
 use Rattle.session_bytes.specs.Bytes.{Found, At, Nowhere, bytesOf, staged, movedBytes}
 use Rattle.session_bytes.proofs.Stages.{parts}
 
@@ -33,12 +33,12 @@ idle-long bs = go (staged bs) refl
 -- ---- over any call with tests v, that leads to a buffer and shows by a verdict
 
 module _ {T : Type 0} (bs : List ℕ) (v : Verdict) (leads : List ℕ) (shows : Verdict → T) {t : T} where
-  stops : idleAt (staged bs) ≡ false → t ≡ shows (Fail OutOfStage) → drawn bs t ≡ drawn (ifPassed (ahead bs v) leads bs) (shows (ahead bs v))
+  stops : idleAt (staged bs) ≡ false → t ≡ shows (Fail OutOfStage) → turn bs t ≡ turn (ifPassed (ahead bs v) leads bs) (shows (ahead bs v))
   unfolding ahead
   stops a g = rw (a, g)
 
   goes : {cs : List ℕ} → idleAt (staged bs) ≡ true → t ≡ shows v → cs ≡ ifPassed v leads bs
-      → drawn cs t ≡ drawn (ifPassed (ahead bs v) leads bs) (shows (ahead bs v))
+      → turn cs t ≡ turn (ifPassed (ahead bs v) leads bs) (shows (ahead bs v))
   unfolding ahead
   goes a g e = rw (a, g, e)
 
@@ -46,13 +46,13 @@ module _ {T : Type 0} (bs : List ℕ) (v : Verdict) (leads : List ℕ) (shows : 
 
 module _ (bs : List ℕ) (k : ℕ) (r : Ruled) (x : OpenLent) (m : OpenRooms) where
   pub open-stops : {t : OpenSeen} → idleAt (staged bs) ≡ false → t ≡ openShown (Fail OutOfStage) Unknown Ruled.Unknown (openLentOf [] [] []) m
-      → drawn bs t ≡ openMoved bs k r x m
+      → turn bs t ≡ openMoved bs k r x m
   unfolding openMoved openShown written
   open-stops a e = stops bs (openTests (schemeOf k) r x m) (bytesOf (offered (schemeOf k))) (λ (v : Verdict). openShown v (schemeOf k) r x m) a e
 
   module _ (opening : List ℕ) (s : List ℤ) (w : OpenAnswer) (a : idleAt (staged bs) ≡ true) (p : openSeen (openTold w) opening s ≡ openResult (schemeOf k) r x m)
     where
-      pub open-refused : {q : Refusal} → w ≡ OpenAnswer.Refused q → drawn bs (openSeen (openTold w) opening s) ≡ openMoved bs k r x m
+      pub open-refused : {q : Refusal} → w ≡ OpenAnswer.Refused q → turn bs (openSeen (openTold w) opening s) ≡ openMoved bs k r x m
       unfolding openMoved openSeen openShown
       open-refused {q} e =
           let v = openTests (schemeOf k) r x m in
@@ -61,7 +61,7 @@ module _ (bs : List ℕ) (k : ℕ) (r : Ruled) (x : OpenLent) (m : OpenRooms) wh
           (stays v q bs (bytesOf (offered (schemeOf k))) n)
 
       pub open-done : {n : OpenCounts} {z : Session} {cs : List ℕ} → w ≡ OpenAnswer.Done n → z ≡ offered (schemeOf k) → cs ≡ bytesOf z
-          → drawn cs (openSeen (openTold w) opening s) ≡ openMoved bs k r x m
+          → turn cs (openSeen (openTold w) opening s) ≡ openMoved bs k r x m
       unfolding openMoved openSeen openShown
       open-done e f l =
           let v = openTests (schemeOf k) r x m in
@@ -78,14 +78,14 @@ module _ (bs : List ℕ) (k : ℕ) (r : Ruled) (x : AnswerLent) (m : ReplyRooms)
   abbrev shows : Verdict → ReplySeen
   shows v = answerShown v (schemeOf k) r x m
 
-  pub answer-stops : {t : ReplySeen} → idleAt (staged bs) ≡ false → t ≡ outputs (Fail OutOfStage) [] [] [] m → drawn bs t ≡ answerMoved bs k r x m
+  pub answer-stops : {t : ReplySeen} → idleAt (staged bs) ≡ false → t ≡ outputs (Fail OutOfStage) [] [] [] m → turn bs t ≡ answerMoved bs k r x m
   unfolding answerMoved outputs written
   answer-stops a e = stops bs (answerTests (schemeOf k) r x m) leads shows a e
 
   module _ (message key digest : List ℕ) (w : ReplyAnswer) (p : replySeen (replyTold w) message key digest ≡ answerResult (schemeOf k) r x m)
       (a : idleAt (staged bs) ≡ true)
     where
-      pub answer-refused : {q : Refusal} → w ≡ ReplyAnswer.Refused q → drawn bs (replySeen (replyTold w) message key digest) ≡ answerMoved bs k r x m
+      pub answer-refused : {q : Refusal} → w ≡ ReplyAnswer.Refused q → turn bs (replySeen (replyTold w) message key digest) ≡ answerMoved bs k r x m
       unfolding answerMoved replySeen outputs
       answer-refused {q} e =
           let v = answerTests (schemeOf k) r x m in
@@ -93,7 +93,7 @@ module _ (bs : List ℕ) (k : ℕ) (r : Ruled) (x : AnswerLent) (m : ReplyRooms)
           goes bs v leads shows a p (stays v q bs leads n)
 
       pub answer-done : {n : ReplyCounts} {z : Session} {cs : List ℕ} → w ≡ ReplyAnswer.Done n → z ≡ keyed (schemeOf k) (take (n .key) key) → cs ≡ bytesOf z
-          → drawn cs (replySeen (replyTold (ReplyAnswer.Done n)) message key digest) ≡ answerMoved bs k r x m
+          → turn cs (replySeen (replyTold (ReplyAnswer.Done n)) message key digest) ≡ answerMoved bs k r x m
       unfolding answerMoved replySeen outputs
       answer-done e f l =
           let h = rw e at p in

@@ -10,7 +10,7 @@ use Rattle.schemes.specs.{Schemes.schemeOf, declared.Scheme.Scheme, declared.Na
 use Rattle.schemes.proofs.Laws.{by-scheme}
 use Rattle.blank.specs.Blank.{blank}
 use Rattle.session.specs.{declared.Stage.Stage, declared.Stage.the-variants.Idle, declared.Stage.the-variants.Offered, declared.Stage.the-variants.Keyed}
-use Rattle.session_bytes.specs.Bytes.{stageByte, schemeByte, offeredAt, keyedAt, stageIn, keyLength, checked, staged, Found, At, Nowhere}
+use Rattle.session_bytes.specs.Bytes.{stageByte, schemeByte, stageAt, stageIn, keyLength, checked, staged, Found, At, Nowhere}
 
 -- ---- by the tests of the code
 
@@ -77,11 +77,11 @@ module _ (bs : List ℕ) {st : Stage} {n : ℕ} {f : Found} (l : length bs ≡ 1
 apart : {X : Type 0} {st : Stage} → Nowhere ≡ At st → X
 apart e = let z : _≡_ {A = ℕ} 0 1 = cc in absurd (omega arith)
 
-offered-numbers : (k : ℕ) (st : Stage) (n : Named) → schemeOf k ≡ n → offeredAt n ≡ At st → (1 ≡ stageByte st) × (k ≡ schemeByte st)
+offered-numbers : (k : ℕ) (st : Stage) (n : Named) → schemeOf k ≡ n → stageAt Offered n ≡ At st → (1 ≡ stageByte st) × (k ≡ schemeByte st)
 offered-numbers k st Unknown d e = apart e
 offered-numbers k st (Known c) d e = let p : Offered c ≡ st = cc in rw (← p) (refl, by-scheme k c d)
 
-keyed-numbers : (k : ℕ) (st : Stage) (n : Named) → schemeOf k ≡ n → keyedAt n ≡ At st → (2 ≡ stageByte st) × (k ≡ schemeByte st)
+keyed-numbers : (k : ℕ) (st : Stage) (n : Named) → schemeOf k ≡ n → stageAt Keyed n ≡ At st → (2 ≡ stageByte st) × (k ≡ schemeByte st)
 keyed-numbers k st Unknown d e = apart e
 keyed-numbers k st (Known c) d e = let p : Keyed c ≡ st = cc in rw (← p) (refl, by-scheme k c d)
 
@@ -90,7 +90,7 @@ unfolding stageIn
 numbers-back t k st = go (eqb t 0) refl (eqb k 0) refl (eqb t 1) refl (eqb t 2) refl
   where
     go : (a : Bool) → eqb t 0 ≡ a → (b : Bool) → eqb k 0 ≡ b → (c : Bool) → eqb t 1 ≡ c → (d : Bool) → eqb t 2 ≡ d
-        → cond a (cond b (At Idle) Nowhere) (cond c (offeredAt (schemeOf k)) (cond d (keyedAt (schemeOf k)) Nowhere)) ≡ At st
+        → cond a (cond b (At Idle) Nowhere) (cond c (stageAt Offered (schemeOf k)) (cond d (stageAt Keyed (schemeOf k)) Nowhere)) ≡ At st
         → (t ≡ stageByte st) × (k ≡ schemeByte st)
     go true e true f c g d h z = let p : Idle ≡ st = cc in rw (← p) (eqb-true t 0 e, eqb-true k 0 f)
     go true e false f c g d h z = apart z

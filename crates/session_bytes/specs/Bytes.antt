@@ -8,12 +8,12 @@
 --                    it is, but close zeroes it, however long it is
 use Rattle.lists.specs.Kit.{Bool, true, false, cond, List, _∷_, ℕ, eqb, length, getD, drop, replicate}
 use Rattle.schemes.specs.declared.Named.the-variants.{Known, Unknown}
-use Rattle.schemes.specs.{Schemes.schemeOf, Schemes.schemeNumber, Schemes.fixedOf, declared.Named.Named}
+use Rattle.schemes.specs.{Schemes.schemeOf, Schemes.schemeNumber, Schemes.fixedOf, declared.Named.Named, declared.Scheme.Scheme}
 use Rattle.blank.specs.Blank.{blank}
 use Rattle.refusals.specs.{declared.Refusal.the-variants.OutOfStage, declared.Verdict.the-variants.Pass, declared.Verdict.the-variants.Fail}
 use Rattle.session.specs.declared.Stage.the-variants.{Idle, Offered, Keyed}
 use Rattle.session.specs.Table.{Call, offering, replying, finishing, closing}
-use Rattle.session.specs.{declared.Stage.Stage, declared.Session.Session, Seen.shownBy, Seen.Turn, Seen.turn, Seen.moved}
+use Rattle.session.specs.{declared.Stage.Stage, declared.Session.Session, Seen.CallSeen, Seen.shownBy, Seen.Turn, Seen.turn, Seen.moved}
 pub use Rattle.session_bytes.specs.{declared.Found.Found, declared.Found.the-variants.At, declared.Found.the-variants.Nowhere}
 
 -- ---- laid out
@@ -33,19 +33,15 @@ bytesOf y = stageByte (y .stage) ∷ schemeByte (y .stage) ∷ y .key
 
 -- ---- taken apart
 
-abbrev pub offeredAt : Named → Found
-offeredAt (Known c) = At (Offered c)
-offeredAt Unknown = Nowhere
-
-abbrev pub keyedAt : Named → Found
-keyedAt (Known c) = At (Keyed c)
-keyedAt Unknown = Nowhere
+abbrev pub stageAt : (Scheme → Stage) → Named → Found
+stageAt stage (Known c) = At (stage c)
+stageAt stage Unknown = Nowhere
 
 unfoldable pub stageIn : ℕ → ℕ → Found
 stageIn t k =
     cond (eqb t 0) (cond (eqb k 0) (At Idle) Nowhere)
-    (cond (eqb t 1) (offeredAt (schemeOf k))
-    (cond (eqb t 2) (keyedAt (schemeOf k))
+    (cond (eqb t 1) (stageAt Offered (schemeOf k))
+    (cond (eqb t 2) (stageAt Keyed (schemeOf k))
     Nowhere))
 
 -- how many of the 128 bytes are key
@@ -73,12 +69,12 @@ closes (replying k x m) = false
 closes (finishing k x m) = false
 closes closing = true
 
-abbrev pub laidOut : Turn Session → Turn (List ℕ)
+abbrev pub laidOut : Turn Session CallSeen → Turn (List ℕ) CallSeen
 laidOut m = turn (bytesOf (m .session)) (m .seen)
 
-abbrev pub movedAt : Found → List ℕ → Call → Turn (List ℕ)
+abbrev pub movedAt : Found → List ℕ → Call → Turn (List ℕ) CallSeen
 movedAt (At st) bs x = laidOut (moved (sessionIn st bs) x)
 movedAt Nowhere bs x = cond (closes x) (turn (replicate (length bs) 0) (shownBy Pass x)) (turn bs (shownBy (Fail OutOfStage) x))
 
-unfoldable pub movedBytes : List ℕ → Call → Turn (List ℕ)
+unfoldable pub movedBytes : List ℕ → Call → Turn (List ℕ) CallSeen
 movedBytes bs x = movedAt (staged bs) bs x

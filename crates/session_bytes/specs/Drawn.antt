@@ -1,7 +1,6 @@
 -- Open and answer on a session in bytes: the calls from random bytes, in the rows of Offer and Reply. They are allowed when idle; open leads to offered, answer to
 -- keyed with its key.
 --   idleAt f, ahead bs v    whether a buffer is an idle session; the verdict v of a call's tests on one, and 10 on any other
---   Drawn, drawn bs t       the buffer after a call, and what is seen of the call
 --   openMoved, answerMoved  the promises: what open and answer on a buffer lead to and show; a refused one leaves the buffer as it was
 -- What is shown:
 --   Opens      an open that refuses nothing leaves the buffer and shows the message that Offer leaves and shows there, lent what open makes of the random bytes
@@ -15,7 +14,7 @@ use Rattle.refusals.specs.{Seen.ifPassed, declared.Refusal.the-variants.OutOfSt
 use Rattle.reply.specs.Reply.{ReplyRooms, ReplySeen, replyKey}
 use Rattle.exchange.specs.Open.{OpenLent, OpenRooms, OpenSeen, openOffer, openTests, openShown}
 use Rattle.exchange.specs.Answer.{AnswerLent, answerReply, answerTests, answerShown}
-use Rattle.session.specs.{Table.offering, Table.replying, Table.whenIdle, Table.offered, Table.keyed, Seen.ofOffer, Seen.ofReply, Seen.turn}
+use Rattle.session.specs.{Table.offering, Table.replying, Table.whenIdle, Table.offered, Table.keyed, Seen.ofOffer, Seen.ofReply, Seen.Turn, Seen.turn}
 use Rattle.session_bytes.specs.Bytes.{Found, At, Nowhere, bytesOf, staged, movedBytes}
 
 abbrev pub idleAt : Found → Bool
@@ -25,26 +24,19 @@ idleAt Nowhere = false
 unfoldable pub ahead : List ℕ → Verdict → Verdict
 ahead bs v = cond (idleAt (staged bs)) v (Fail OutOfStage)
 
-pub record Drawn (T : Type 0) : Type 0 where
-  pub session : List ℕ
-  pub seen : T
-
-abbrev pub drawn : {T : Type 0} → List ℕ → T → Drawn T
-drawn bs t = record { session = bs; seen = t }
-
 -- ---- the promises
 
-unfoldable pub openMoved : List ℕ → ℕ → Ruled → OpenLent → OpenRooms → Drawn OpenSeen
+unfoldable pub openMoved : List ℕ → ℕ → Ruled → OpenLent → OpenRooms → Turn (List ℕ) OpenSeen
 openMoved bs k r x m =
     let c = schemeOf k in
     let v = ahead bs (openTests c r x m) in
-    drawn (ifPassed v (bytesOf (offered c)) bs) (openShown v c r x m)
+    turn (ifPassed v (bytesOf (offered c)) bs) (openShown v c r x m)
 
-unfoldable pub answerMoved : List ℕ → ℕ → Ruled → AnswerLent → ReplyRooms → Drawn ReplySeen
+unfoldable pub answerMoved : List ℕ → ℕ → Ruled → AnswerLent → ReplyRooms → Turn (List ℕ) ReplySeen
 answerMoved bs k r x m =
     let c = schemeOf k in
     let v = ahead bs (answerTests c r x m) in
-    drawn (ifPassed v (bytesOf (keyed c (replyKey c (answerReply c r x)))) bs) (answerShown v c r x m)
+    turn (ifPassed v (bytesOf (keyed c (replyKey c (answerReply c r x)))) bs) (answerShown v c r x m)
 
 -- ---- what is shown
 

@@ -15,7 +15,7 @@ ghost use Rattle.schemes.specs.declared.Named.the-variants.{Unknown};
 ghost use Rattle.refusals.specs.declared.Verdict.the-variants.{Fail};
 ghost use Rattle.exchange.specs.Open.{openLent, openLentOf, openRooms, openShown, openTold, openSeen};
 ghost use Rattle.exchange.specs.Answer.{answerLent};
-ghost use Rattle.session_bytes.specs.Drawn.{idleAt, drawn, openMoved, answerMoved};
+ghost use Rattle.session_bytes.specs.Drawn.{idleAt, openMoved, answerMoved};
 use exchange::OpenAnswer;
 use finish::FinishAnswer;
 use refusals::Answer;
@@ -251,7 +251,7 @@ pub fn open(
     s: &mut [i32],
 ) -> OpenAnswer
     ensures { λ r. ⌜
-        drawn (left bytes) (openSeen (openTold r) (left opening) (left s))
+        turn (left bytes) (openSeen (openTold r) (left opening) (left s))
         ≡ openMoved (was bytes) scheme (ruleOf rule) (openLent a table random) (openRooms opening s)
         ⌝ }
 {
@@ -281,7 +281,7 @@ pub fn answer(
     digest: &mut [u8],
 ) -> ReplyAnswer
     ensures { λ r. ⌜
-        drawn (left bytes) (replies.replySeen (replies.replyTold r) (left message) (left key) (left digest))
+        turn (left bytes) (replies.replySeen (replies.replyTold r) (left message) (left key) (left digest))
         ≡ answerMoved (was bytes) scheme (ruleOf rule) (answerLent opening a table random) (replies.replyRooms message key digest)
         ⌝ }
 {

@@ -6,7 +6,8 @@ ghost use Rattle.noise.specs.Expand.{ruleOf};
 ghost use Rattle.reply.specs.Reply.{replyRooms, replySeen};
 ghost use Rattle.exchange.specs.Open.{openLent, openRooms, openSeen, openResult};
 ghost use Rattle.exchange.specs.Answer.{answerLent, answerResult};
-ghost use Rattle.session_bytes.specs.Drawn.{drawn, openMoved, answerMoved};
+ghost use Rattle.session.specs.Seen.{turn};
+ghost use Rattle.session_bytes.specs.Drawn.{openMoved, answerMoved};
 ghost use Rattle.told.specs.Numbers.{replyNumbers};
 
 // Open: the opening message and the secret s, from the public numbers a, the table and random bytes.
@@ -85,7 +86,7 @@ pub extern "C" fn wim_session_open(
     valued: &mut u64,
 ) -> u32
     ensures { λ r. ⌜
-        drawn (left session)
+        turn (left session)
         (openSeen
         (record { number = r; place = left place; counts = record { opening = left opened; s = left valued } })
         (left opening) (left s)) ≡ openMoved (was session) scheme (ruleOf rule) (openLent a table random) (openRooms opening s)
@@ -114,7 +115,7 @@ pub extern "C" fn wim_session_answer(
     digested: &mut u64,
 ) -> u32
     ensures { λ r. ⌜
-        drawn (left session) (replySeen (replyNumbers r (left place) (left written) (left keyed) (left digested)) (left message) (left key) (left digest))
+        turn (left session) (replySeen (replyNumbers r (left place) (left written) (left keyed) (left digested)) (left message) (left key) (left digest))
         ≡ answerMoved (was session) scheme (ruleOf rule) (answerLent opening a table random) (replyRooms message key digest)
         ⌝ }
 {
