@@ -21,13 +21,13 @@ use Rattle.offer.specs.{Offer.offerTests, Offer.offerMessage, Offer.offerResult
 use Rattle.offer.proofs.Offering.{offer-opens, opening-long}
 use Rattle.finish.specs.Finish.{Finish, FinishSeen, finishOf, finishRoomsOf, finishKey, finishSlack, finishShown, finishResult, finishTold, finishSeen}
 use Rattle.finish.specs.{declared.FinishAnswer.FinishAnswer, declared.FinishCounts.FinishCounts}
-use Rattle.reply.specs.Reply.{Reply, ReplySeen, replyOf, replyRoomsOf, replyMessage, replyKey, outputs, replyResult, replyTold, replySeen}
+use Rattle.reply.specs.Reply.{Reply, ReplySeen, replyRoomsOf, replyMessage, replyKey, outputs, replyResult, replyTold, replySeen}
 use Rattle.reply.specs.{declared.ReplyAnswer.ReplyAnswer, declared.ReplyCounts.ReplyCounts}
-use Rattle.agreement.specs.Run.{offering, replying, finishing}
+use Rattle.agreement.specs.Run.{offering, replyTo, replying, finishing}
 use Rattle.agreement.proofs.Tests.{sendable-by, finish-passes}
 use Rattle.bench.specs.Bench.{Bench, benchTests, keysDiffer, benchDiffers, benchSlack, differing, benchShown, benchResult, benchTold, bcnsTold}
 use Rattle.bench.specs.Bench.{BcnsAnswer, BenchAnswer}
-use Rattle.bench.specs.Inside.{testsFromFinish, testsFromReply, testsFromOffer, Keyed, FromFinish, FromReply, FromOffer, comparison, agreed}
+use Rattle.bench.specs.Inside.{testsFromFinish, testsFromReply, testsFromOffer, Keyed, FromFinish, BothKeys, comparison, agreed}
 use Rattle.bench.proofs.Lamp.{differs-is}
 use Rattle.reply.proofs.Replying as reply
 use Rattle.finish.proofs.Finishing as finish
@@ -88,7 +88,7 @@ module _ (c : Scheme) (x : Finish) {n : Named} (e : n ≡ Known c) {k : ℕ} (l 
 
 module _ (c : Scheme) (x : Reply) (s : List ℤ) {n : Named} (e : n ≡ Known c) {j k : ℕ} (l : (j ≡ fixedOf c .reply) × (k ≡ fixedOf c .key)) (v : ReplyAnswer)
     (message key digest : List ℕ) (t : replySeen (replyTold v) message key digest ≡ replyResult n x (replyRoomsOf j k 32)) where
-  pub reply-refused : {r : Refusal} (keys : List ℕ) → v ≡ ReplyAnswer.Refused r → FromReply c x s (Outcome.Refused r) keys
+  pub reply-refused : {r : Refusal} (keys : List ℕ) → v ≡ ReplyAnswer.Refused r → BothKeys c (testsFromReply c x s) x s (Outcome.Refused r) keys
   unfolding replySeen outputs
   reply-refused {r} keys h =
       let g = sym (rw (e, l .0, l .1, h) at t) in
@@ -105,7 +105,7 @@ module _ (c : Scheme) (x : Reply) (s : List ℤ) {n : Named} (e : n ≡ Known c)
 
   pub reply-told : {w : ReplyCounts} {r : Outcome} {peer : List ℕ} {m i : ℕ} → m ≡ fixedOf c .reply → i ≡ fixedOf c .key → (rest old : List ℕ)
       → v ≡ ReplyAnswer.Done w → FromFinish c (finishOf (take m (message ++ rest)) s) r peer
-      → FromReply c x s r (putMid i (length (key ++ drop i old) - i) (key ++ drop i old) peer)
+      → BothKeys c (testsFromReply c x s) x s r (putMid i (length (key ++ drop i old) - i) (key ++ drop i old) peer)
   unfolding replySeen outputs
   reply-told {peer = peer} {m} m-is i-is rest old h p =
       let g = rw (e, l .0, l .1, h) at t in
@@ -121,7 +121,7 @@ module _ (c : Scheme) (x : Reply) (s : List ℤ) {n : Named} (e : n ≡ Known c)
 
 module _ (c : Scheme) (x : Bench) {n : Named} (e : n ≡ Known c) {j : ℕ} (l : j ≡ fixedOf c .opening) (v : Answer) (opening : List ℕ)
     (t : seen (told v) opening ≡ offerResult n (offering x) j) where
-  pub offer-refused : {r : Refusal} (keys : List ℕ) → v ≡ Answer.Refused r → FromOffer c x (Outcome.Refused r) keys
+  pub offer-refused : {r : Refusal} (keys : List ℕ) → v ≡ Answer.Refused r → BothKeys c (testsFromOffer c x) (replying c x) (x .s) (Outcome.Refused r) keys
   unfolding seen shown
   offer-refused {r} keys h =
       let g = sym (rw (e, l, h) at t) in
@@ -138,15 +138,15 @@ module _ (c : Scheme) (x : Bench) {n : Named} (e : n ≡ Known c) {j : ℕ} (l :
       (filled (offerMessage (Known c) (offering x)) (fixedOf c .opening) o long (ap (λ (s : Seen ℕ). s .out) g), long)
 
   pub offer-told : {w : ℕ} {r : Outcome} {keys : List ℕ} {m : ℕ} → m ≡ fixedOf c .opening → (rest : List ℕ) → v ≡ Answer.Done w
-      → FromReply c (replyOf (take m (opening ++ rest)) (x .a) (x .s') (x .e') (x .e'') (x .coins)) (x .s) r keys → FromOffer c x r keys
+      → let y = replyTo x (take m (opening ++ rest)) in BothKeys c (testsFromReply c y (x .s)) y (x .s) r keys
+      → BothKeys c (testsFromOffer c x) (replying c x) (x .s) r keys
   unfolding seen shown offerTests offerIn offerLengths
   offer-told {m = m} m-is rest h p =
       let g = rw (e, l, h) at t in
       let o = number-zero (offerTests (Known c) (offering x) (fixedOf c .opening)) (ap (λ (s : Seen ℕ). s .number) g) in
       let sent = offer-sent h in
       let q = rw (front-is m (sent .0) (sent .1 ∙ sym m-is) rest) at p in
-      let z = went-on (testsFromReply c (replying c x) (x .s)) refl o in
-      record { ended = rw z (q .ended); owned = λ f. q .owned (sym z ∙ f); peered = λ f. q .peered (sym z ∙ f) }
+      rw (went-on (testsFromReply c (replying c x) (x .s)) refl o) q
 
 -- ---- the promise
 
@@ -161,7 +161,7 @@ unfolding benchShown
 answered c x zero e f g = rw (e, ← f, ← g)
 answered c x (suc i) e f g = rw (e, ← f, ← g)
 
-module _ (c : Scheme) (x : Bench) {o : Outcome} {keys : List ℕ} (p : FromOffer c x o keys) where
+module _ (c : Scheme) (x : Bench) {o : Outcome} {keys : List ℕ} (p : BothKeys c (testsFromOffer c x) (replying c x) (x .s) o keys) where
   pub bench-refused : {r : Refusal} → o ≡ Outcome.Refused r → benchTold (BenchAnswer.Refused r) ≡ benchResult (Known c) x
   unfolding benchShown
   bench-refused {r} h =
@@ -181,13 +181,14 @@ module _ (c : Scheme) (x : Bench) {o : Outcome} {keys : List ℕ} (p : FromOffer
         ap benchTold g ∙ answered (Known c) x (differing (take k keys) (drop k keys)) e d (ran .1)
 
 -- in BCNS, where nothing is compared
-bcns-told : (x : Bench) (o : Outcome) {keys : List ℕ} → FromOffer Bcns x o keys → bcnsTold (agreed o) ≡ benchResult (Known Bcns) x
+bcns-told : (x : Bench) (o : Outcome) {keys : List ℕ} → BothKeys Bcns (testsFromOffer Bcns x) (replying Bcns x) (x .s) o keys
+    → bcnsTold (agreed o) ≡ benchResult (Known Bcns) x
 unfolding benchDiffers benchSlack
 bcns-told x (Outcome.Refused r) p = bench-refused Bcns x p refl
 bcns-told x (Outcome.Slack s) p = answered (Known Bcns) x 0 (sym (same-tests Bcns x) ∙ ran Bcns x p refl .0) refl (ran Bcns x p refl .1)
 
-pub bcns-answered : (x : Bench) (o : Outcome) {keys : List ℕ} {r : BcnsAnswer} → FromOffer Bcns x o keys → r ≡ agreed o
-    → bcnsTold r ≡ benchResult (Known Bcns) x
+pub bcns-answered : (x : Bench) (o : Outcome) {keys : List ℕ} {r : BcnsAnswer} → BothKeys Bcns (testsFromOffer Bcns x) (replying Bcns x) (x .s) o keys
+    → r ≡ agreed o → bcnsTold r ≡ benchResult (Known Bcns) x
 bcns-answered x o p e = ap bcnsTold e ∙ bcns-told x o p
 
 pub bench-unknown : {n : Named} (x : Bench) → n ≡ Unknown → benchTold (BenchAnswer.Refused NoScheme) ≡ benchResult n x

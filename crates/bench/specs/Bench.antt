@@ -84,5 +84,5 @@ benchTold (Differ i p) = record { number = 0; place = 0; differ = suc i; slack =
 benchTold (Refused r) = record { number = numberOf r; place = placeOf r; differ = 0; slack = unused }
 
 abbrev pub bcnsTold : BcnsAnswer → BenchSeen
-bcnsTold (BcnsAnswer.Agree p) = record { number = 0; place = 0; differ = 0; slack = p }
-bcnsTold (BcnsAnswer.Refused r) = record { number = numberOf r; place = placeOf r; differ = 0; slack = unused }
+bcnsTold (BcnsAnswer.Agree p) = benchTold (Agree p)
+bcnsTold (BcnsAnswer.Refused r) = benchTold (Refused r)

@@ -2,8 +2,8 @@
 --   testsFromFinish c x, testsFromReply c x s, testsFromOffer c x   the tests that are still to come: x is what the call is lent, s what Finish will be
 --   Keyed v key out             where nothing is refused, a buffer holds the key
 --   FromFinish c x r peer       from Finish on: what it hands on, and the initiator's key
---   FromReply c x s r keys      from Reply on, where Finish is lent its message and s: what is handed on, and the replier's key before the initiator's
---   FromOffer c x r keys        from Offer on
+--   BothKeys c v x s r keys     from Offer or Reply on, where Reply is lent x and Finish its message and s: what is handed on by the verdict v of the tests
+--                               that are still to come, and the replier's key before the initiator's
 --   agreed o                    what was handed on, as the BCNS bench's answer
 --   comparison d p              the answer without a refusal, where d says how the keys differ, and p is the slack
 use Rattle.lists.specs.Kit.{_≡_, List, ℕ, zero, suc, ℤ, take, drop}
@@ -13,7 +13,7 @@ use Rattle.refusals.specs.{Refusals._then_, Steps.outcome, declared.Outcome.Out
 use Rattle.offer.specs.Offer.{offerTests}
 use Rattle.finish.specs.Finish.{Finish, finishOf, finishRoomsOf, finishTests, finishKey, finishSlack}
 use Rattle.reply.specs.Reply.{Reply, replyRoomsOf, replyTests, replyMessage, replyKey}
-use Rattle.agreement.specs.Run.{offering, replying, finishing}
+use Rattle.agreement.specs.Run.{offering, replying}
 use Rattle.bench.specs.Bench.{Bench, BcnsAnswer, BenchAnswer, Agree, Differ}
 
 abbrev pub testsFromFinish : Scheme → Finish → Verdict
@@ -33,15 +33,10 @@ pub record FromFinish (c : Scheme) (x : Finish) (r : Outcome) (peer : List ℕ) 
   pub ended : r ≡ outcome (testsFromFinish c x) (finishSlack (Known c) x)
   pub peered : Keyed (testsFromFinish c x) (finishKey (Known c) x) peer
 
-pub record FromReply (c : Scheme) (x : Reply) (s : List ℤ) (r : Outcome) (keys : List ℕ) : Type 0 where
-  pub ended : r ≡ outcome (testsFromReply c x s) (finishSlack (Known c) (finishOf (replyMessage (Known c) x) s))
-  pub owned : Keyed (testsFromReply c x s) (replyKey (Known c) x) (take (fixedOf c .key) keys)
-  pub peered : Keyed (testsFromReply c x s) (finishKey (Known c) (finishOf (replyMessage (Known c) x) s)) (drop (fixedOf c .key) keys)
-
-pub record FromOffer (c : Scheme) (x : Bench) (r : Outcome) (keys : List ℕ) : Type 0 where
-  pub ended : r ≡ outcome (testsFromOffer c x) (finishSlack (Known c) (finishing c x))
-  pub owned : Keyed (testsFromOffer c x) (replyKey (Known c) (replying c x)) (take (fixedOf c .key) keys)
-  pub peered : Keyed (testsFromOffer c x) (finishKey (Known c) (finishing c x)) (drop (fixedOf c .key) keys)
+pub record BothKeys (c : Scheme) (v : Verdict) (x : Reply) (s : List ℤ) (r : Outcome) (keys : List ℕ) : Type 0 where
+  pub ended : r ≡ outcome v (finishSlack (Known c) (finishOf (replyMessage (Known c) x) s))
+  pub owned : Keyed v (replyKey (Known c) x) (take (fixedOf c .key) keys)
+  pub peered : Keyed v (finishKey (Known c) (finishOf (replyMessage (Known c) x) s)) (drop (fixedOf c .key) keys)
 
 abbrev pub comparison : ℕ → Peak → BenchAnswer
 comparison zero p = Agree p

@@ -8,8 +8,9 @@ ghost use Rattle.schemes.specs.declared.Scheme.the-variants as variants;
 ghost use Rattle.lists.specs.Lent.{was, left};
 ghost use Rattle.reply.specs.Reply as lent;
 ghost use Rattle.finish.specs.Finish.{finish};
+ghost use Rattle.agreement.specs.Run.{replying};
 ghost use Rattle.bench.specs.Bench.{bench, benchResult, benchTold, bcnsTold};
-ghost use Rattle.bench.specs.Inside.{FromFinish, FromReply, FromOffer, agreed};
+ghost use Rattle.bench.specs.Inside.{testsFromReply, testsFromOffer, FromFinish, BothKeys, agreed};
 
 mod compare;
 
@@ -65,7 +66,7 @@ fn from_reply(
     keys: &mut [u8],
 ) -> Outcome
     requires { ⌜ length (now keys) ≡ fixedOf scheme .key + fixedOf scheme .key ⌝ }
-    ensures { λ r. ⌜ FromReply scheme (lent.reply opening a s1 e1 e2 coins) (was s) r (left keys) ⌝ }
+    ensures { λ r. ⌜ (let x = lent.reply opening a s1 e1 e2 coins in BothKeys scheme (testsFromReply scheme x (was s)) x (was s) r (left keys)) ⌝ }
 {
     let f = scheme.fixed();
     let n = f.reply;
@@ -104,7 +105,7 @@ fn from_offer(
     keys: &mut [u8],
 ) -> Outcome
     requires { ⌜ length (now keys) ≡ fixedOf scheme .key + fixedOf scheme .key ⌝ }
-    ensures { λ r. ⌜ FromOffer scheme (bench a s e seed s1 e1 e2 coins) r (left keys) ⌝ }
+    ensures { λ r. ⌜ (let x = bench a s e seed s1 e1 e2 coins in BothKeys scheme (testsFromOffer scheme x) (replying scheme x) (was s) r (left keys)) ⌝ }
 {
     let f = scheme.fixed();
     let m = f.opening;
