@@ -55,20 +55,12 @@ fn join(
     dst[k1] = x + 24578 - y;
 }
 
-// c entries of one block, from k on: they share their power. Its factor stands in an array, of which the compiler makes a vector of 16 bits a number; of one
+// 16 entries of one block, from k on: they share their power. Its factor stands in an array, of which the compiler makes a vector of 16 bits a number; of one
 // factor it makes a vector of 32 bits a number, and multiplies twice.
-fn run(
-    t: &[u32; 2048],
-    src: &[u16; 1024],
-    dst: &mut [u16; 1024],
-    a: usize,
-    h: usize,
-    c: usize,
-    k: usize,
-)
-    requires { ⌜ (a < 2) × (0 < h) × OneBlock h c k × (c ≤ 16) ⌝ }
+fn run(t: &[u32; 2048], src: &[u16; 1024], dst: &mut [u16; 1024], a: usize, h: usize, k: usize)
+    requires { ⌜ (a < 2) × (0 < h) × OneBlock h 16 k ⌝ }
     requires { ⌜ TableRule (now t) × Butterflies (now src) a h k (now dst) ⌝ }
-    ensures { λ _. ⌜ Butterflies (now (src .entry)) a h (k + c) (now (dst .exit)) ⌝ }
+    ensures { λ _. ⌜ Butterflies (now (src .entry)) a h (k + 16) (now (dst .exit)) ⌝ }
 {
     let i = k / h;
     let r = k + i * h;
@@ -78,23 +70,23 @@ fn run(
     let f = (65536 * v / NewHope::Q) as u16;
     let fs = [f; 16];
     let mut j: usize = 0;
-    while j < c {
+    while j < 16 {
         join(src, dst, w, fs[j], r + j, h, k + j, 512);
         j += 1;
     }
 }
 
-// One level, in runs of c entries, which lie side by side. It is small enough to be compiled anew into each of its six calls, where h and c are constants and a
-// run is laid out in vectors. With more than 16 factors it would be too large for that, as it would with two halvings a level.
-fn level(t: &[u32; 2048], src: &[u16; 1024], dst: &mut [u16; 1024], a: usize, h: usize, c: usize)
-    requires { ⌜ (a < 2) × (0 < h) × (512 % h ≡ 0) × (0 < c) × (h % c ≡ 0) × (c ≤ 16) ⌝ }
+// One level, in runs of 16 entries, which lie side by side. It is small enough to be compiled anew into each of its six calls, where h is a constant and a run
+// is laid out in vectors. With more than 16 factors it would be too large for that, as it would with two halvings a level.
+fn level(t: &[u32; 2048], src: &[u16; 1024], dst: &mut [u16; 1024], a: usize, h: usize)
+    requires { ⌜ (a < 2) × (0 < h) × (512 % h ≡ 0) × (h % 16 ≡ 0) ⌝ }
     requires { ⌜ TableRule (now t) × (length (now dst) ≡ 1024) ⌝ }
     ensures { λ _. ⌜ Butterflies (now (src .entry)) a h 512 (now (dst .exit)) ⌝ }
 {
     let mut k: usize = 0;
     while k < 512 {
-        run(t, src, dst, a, h, c, k);
-        k += c;
+        run(t, src, dst, a, h, k);
+        k += 16;
     }
 }
 
@@ -195,12 +187,12 @@ fn sums(t: &[u32; 2048], g: &mut [u32; 1024], a: usize)
     let mut ws = [0u16; 512];
     let mut fs = [0u16; 512];
     narrow(g, &mut p);
-    level(t, &p, &mut s, a, 512, 16);
-    level(t, &s, &mut p, a, 256, 16);
-    level(t, &p, &mut s, a, 128, 16);
-    level(t, &s, &mut p, a, 64, 16);
-    level(t, &p, &mut s, a, 32, 16);
-    level(t, &s, &mut p, a, 16, 16);
+    level(t, &p, &mut s, a, 512);
+    level(t, &s, &mut p, a, 256);
+    level(t, &p, &mut s, a, 128);
+    level(t, &s, &mut p, a, 64);
+    level(t, &p, &mut s, a, 32);
+    level(t, &s, &mut p, a, 16);
     lay(t, &mut ws, &mut fs, a, 8, 64);
     cross(&ws, &fs, &p, &mut s, 8, 64, 1, 16);
     lay(t, &mut ws, &mut fs, a, 4, 128);

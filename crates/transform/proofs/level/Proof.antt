@@ -5,25 +5,25 @@ use Rattle.transform.proofs.{Joins.butterflies-none, Joins.next-run, le
 use Rattle.transform.proofs.level.Tie as tie
 
 abbrev Inv-loop : tie.InvT-loop
-Inv-loop t src dst₀ a h c k₀ dst k = (k ≤ 512) × (k % c ≡ 0) × Butterflies src a h k dst
+Inv-loop t src dst₀ a h k₀ dst k = (k ≤ 512) × (k % 16 ≡ 0) × Butterflies src a h k dst
 
 abbrev μ-loop : tie.MeasureT-loop
-μ-loop t src dst₀ a h c k₀ dst k = 512 - k
+μ-loop t src dst₀ a h k₀ dst k = 512 - k
 
 loop-holds : tie.Need-loop-holds Inv-loop μ-loop
-loop-holds c = (omega arith, zero-mod _, butterflies-none _ _ _ _ (c .pre .1 .1))
+loop-holds c = (omega arith, zero-mod 16, butterflies-none _ _ _ _ (c .pre .1 .1))
 
 -- the next run lies in one block
-within : (c : tie.In-loop Inv-loop μ-loop) → OneBlock (c .before .before .args .h) (c .before .before .args .c) (c .before .loop .k)
+within : (c : tie.In-loop Inv-loop μ-loop) → OneBlock (c .before .before .args .h) 16 (c .before .loop .k)
 within c =
     let a = c .before .before in
     let l = c .before .loop in
-    next-run (a .args .h) (a .args .c) (l .k) (a .pre .0 .1) (a .pre .0 .2) (a .pre .0 .3) (a .pre .0 .4) (l .inv .1) (omega arith)
+    next-run (a .args .h) 16 (l .k) (a .pre .0 .1) (a .pre .0 .2) (omega arith) (a .pre .0 .3) (l .inv .1) (omega arith)
 
 run-requires : tie.Need-run-requires Inv-loop μ-loop
 run-requires c κs =
     let a : tie.Start Inv-loop μ-loop = search needs in
-    ((a .pre .0 .0, a .pre .0 .1, within (c .before), a .pre .0 .5), (a .pre .1 .0, c .before .before .loop .inv .2))
+    ((a .pre .0 .0, a .pre .0 .1, within (c .before)), (a .pre .1 .0, c .before .before .loop .inv .2))
 
 add-k : tie.Need-add-k Inv-loop μ-loop
 add-k c = omega (arith, within (c .before .before) .block, within (c .before .before) .half)

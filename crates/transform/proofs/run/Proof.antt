@@ -5,10 +5,10 @@ use Rattle.transform.proofs.{Seven.power-lt, Joins.exponent-≤, Joins.
 use Rattle.transform.proofs.run.Tie as tie
 
 abbrev Inv-loop : tie.InvT-loop
-Inv-loop t src dst₀ a h c k i r e v w f fs j₀ dst j = (j ≤ c) × Butterflies src a h (k + j) dst
+Inv-loop t src dst₀ a h k i r e v w f fs j₀ dst j = (j ≤ 16) × Butterflies src a h (k + j) dst
 
 abbrev μ-loop : tie.MeasureT-loop
-μ-loop t src dst₀ a h c k i r e v w f fs j₀ dst j = c - j
+μ-loop t src dst₀ a h k i r e v w f fs j₀ dst j = 16 - j
 
 -- the power that is read
 abbrev exponent : tie.Start Inv-loop μ-loop → ℕ
@@ -55,8 +55,7 @@ loop-again c =
 
 returns : tie.Need-returns Inv-loop μ-loop
 returns c =
-    let d : tie.Start Inv-loop μ-loop = search needs in
-    let e : c .before .loop .j ≡ d .args .c = omega arith in
+    let e : c .before .loop .j ≡ 16 = omega arith in
     rw e at (c .before .loop .inv .1)
 
 pub run-spec : {M : Type 1} → statement M

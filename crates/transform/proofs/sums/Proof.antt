@@ -51,13 +51,13 @@ level-requires-2 : tie.Need-level-requires-2
 level-requires-2 c κs =
     let s : tie.Start = search needs in
     let n : tie.After-narrow = search needs in
-    ((s .pre .0, omega arith, refl, omega arith, refl, omega arith), (s .pre .1, ap length (n .narrow .ensures) ∙ s .pre .3))
+    ((s .pre .0, omega arith, refl, refl), (s .pre .1, ap length (n .narrow .ensures) ∙ s .pre .3))
 
 level-requires-6 : tie.Need-level-requires-6
 level-requires-6 c κs =
     let m : tie.After-level5 = search needs in
     let l : tie.After-level4 = search needs in
-    ((start m .pre .0, omega arith, refl, omega arith, refl, omega arith), (start m .pre .1, l .level4 .ensures .size))
+    ((start m .pre .0, omega arith, refl, refl), (start m .pre .1, l .level4 .ensures .size))
 
 lay-requires : tie.Need-lay-requires
 lay-requires c κs =
