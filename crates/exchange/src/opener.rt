@@ -52,7 +52,10 @@ fn open_drawn(
     requires { ⌜ (length (now random) ≡ openRandom scheme) × (length (now table) ≡ tableWords scheme) × (fixedOf scheme .secret ≤ length (now s)) ⌝ }
     requires { ⌜ now opening ≡ replicate (length (now opening)) 0 ⌝ }
     ensures { λ r. ⌜ seen (told r) (left opening) ≡ drawnOpens scheme (openLent public table random) (room opening) ⌝ }
-    ensures { λ _. ⌜ (tableOrder scheme (was table) ≡ Pass → left s ≡ drawnOffer scheme (was public) (openLent public table random) .s ++ drop (fixedOf scheme .secret) (was s)) ⌝ }
+    ensures { λ _. ⌜
+        (tableOrder scheme (was table) ≡ Pass
+        → left s ≡ drawnOffer scheme (was public) (openLent public table random) .s ++ drop (fixedOf scheme .secret) (was s))
+        ⌝ }
 {
     let f = scheme.fixed();
     let n = f.secret;

@@ -10,7 +10,7 @@ use Rattle.refusals.proofs.Laws.{number-zero}
 use Rattle.finish.specs.Finish.{Finish, finishKey}
 use Rattle.reply.specs.Reply.{Reply, replyKey}
 use Rattle.reply.proofs.Replying.{key-length}
-use Rattle.session.specs.Sequences.{RanBy, seenOf, beneath, fits, Sound, Followed, Answered, Accepted, Kept, Sounds}
+use Rattle.session.specs.Sequences.{RanBy, seenOf, beneath, Sound, Followed, Answered, Accepted, Kept, Sounds}
 use Rattle.session.specs.Table.{Session, Call, offering, replying, finishing, closing, row, outcome, step, run, offered, keyed}
 use Rattle.session.specs.Seen.{CallSeen, number, shownBy, Turn, moved}
 use Rattle.session.proofs.Laws.{shown-number}
@@ -69,12 +69,12 @@ offered-sound (Known c) = refl
 replied-sound : (c : Named) (x : Reply) → Sound (keyed c (replyKey c x))
 unfolding replyKey
 replied-sound Unknown x = refl
-replied-sound (Known c) x = fits (replyKey (Known c) x) (key-length c x) refl
+replied-sound (Known c) x = (replyKey (Known c) x, key-length c x, refl)
 
 finished-sound : (c : Named) (x : Finish) → Sound (keyed c (finishKey c x))
 unfolding finishKey
 finished-sound Unknown x = refl
-finished-sound (Known c) x = fits (finishKey (Known c) x) (finishes.key-length c x) refl
+finished-sound (Known c) x = (finishKey (Known c) x, finishes.key-length c x, refl)
 
 leads-sound : (x : Call) → Sound (row x .leads)
 unfolding row

@@ -38,13 +38,10 @@ beneath closing = ofClose (toldBy Pass)
 
 -- ---- what a session can hold
 
-pub data Fits (n : ℕ) (place : List ℕ) : Type 0 where
-  fits : (key : List ℕ) → length key ≡ n → place ≡ padded key → Fits n place
-
 abbrev pub Holds : Stage → List ℕ → Type 0
-Holds Idle key = key ≡ noKey
-Holds (Offered c) key = key ≡ noKey
-Holds (Keyed c) key = Fits (fixedOf c .key) key
+Holds Idle place = place ≡ noKey
+Holds (Offered c) place = place ≡ noKey
+Holds (Keyed c) place = (key : List ℕ) × (length key ≡ fixedOf c .key) × (place ≡ padded key)
 
 abbrev pub Sound : Session → Type 0
 Sound y = Holds (y .stage) (y .key)

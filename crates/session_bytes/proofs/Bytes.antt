@@ -13,7 +13,7 @@ use Rattle.refusals.specs.{Seen.done, declared.Refusal.the-variants.OutOfStage,
 use Rattle.session.specs.declared.Stage.the-variants.{Idle, Offered, Keyed}
 use Rattle.session.specs.Table.{Call, closing, row, outcome, step, run, noKey, padded}
 use Rattle.session.specs.Seen.{CallSeen, ofClose, number, shownBy, Turn, turn, moved}
-use Rattle.session.specs.{declared.Stage.Stage, declared.Session.Session, Sequences.RanBy, Sequences.Ran, Sequences.Sound, Sequences.Holds, Sequences.fits}
+use Rattle.session.specs.{declared.Stage.Stage, declared.Session.Session, Sequences.RanBy, Sequences.Ran, Sequences.Sound, Sequences.Holds}
 use Rattle.session.proofs.{Laws.shown-number, Sequences.step-sound}
 use Rattle.session_bytes.specs.Bytes.{stageByte, schemeByte, bytesOf, stageIn, keyLength, staged, sessionIn, closes, laidOut, movedAt, movedBytes, Found}
 use Rattle.session_bytes.specs.Bytes.{At, Nowhere}
@@ -37,7 +37,7 @@ padded-few key h = ap (λ (ks : List ℕ). ks ++ replicate (128 - length key) 0)
 holds-shaped : (st : Stage) (key : List ℕ) → Holds st key → Shaped st key
 holds-shaped Idle key h = let s = none-shaped key h in record { long = s .0; behind = s .1 }
 holds-shaped (Offered c) key h = let s = none-shaped key h in record { long = s .0; behind = s .1 }
-holds-shaped (Keyed c) key (fits k l e) =
+holds-shaped (Keyed c) key (k, l, e) =
     let few = sound c .keys in
     let p = e ∙ padded-few k (omega (arith, few, l)) in
     record {
@@ -54,9 +54,8 @@ shaped-holds (Keyed c) key s =
     let few : n ≤ length key = omega (arith, sound c .keys, s .long) in
     let l : length (take n key) ≡ n = length-take-le n key few in
     let r : length (drop n key) ≡ 128 - length (take n key) = length-drop n key ∙ omega (arith, s .long, l) in
-    fits (take n key) l
-    (sym (take-append-drop n key) ∙ ap (λ (xs : List ℕ). take n key ++ xs) (zeros-blank (drop n key) (s .behind) ∙ ap (λ (m : ℕ). replicate m 0) r)
-    ∙ sym (padded-few (take n key) (omega (arith, sound c .keys, l))))
+    let p = sym (take-append-drop n key) ∙ ap (λ (xs : List ℕ). take n key ++ xs) (zeros-blank (drop n key) (s .behind) ∙ ap (λ (m : ℕ). replicate m 0) r) in
+    (take n key, l, p ∙ sym (padded-few (take n key) (omega (arith, sound c .keys, l))))
 
 -- ---- taken back
 
@@ -130,7 +129,7 @@ held-by bs x f z = go (staged bs) refl
     go : (s : Found) → staged bs ≡ s → (y : Session) × (bs ≡ bytesOf y) × Sound y
     go (At st) e = let l = laid-back bs st e in (sessionIn st bs, sym (l .0), l .1)
     go Nowhere e =
-        let n : number (movedBytes bs x .seen) ≡ 10 = ap (λ (m : Turn (List ℕ) CallSeen). number (m .seen)) (untouched bs x e f) ∙ shown-number (Fail OutOfStage) x in
+        let n : number (movedBytes bs x .seen) ≡ 10 = rw (untouched bs x e f) (shown-number (Fail OutOfStage) x) in
         absurd (omega (arith, n, z))
 
 run-from : (y : Session) (bs : List ℕ) (xs : List Call) (cs : List ℕ) (ts : List CallSeen) → Sound y → bs ≡ bytesOf y → RanBytes bs xs cs ts
