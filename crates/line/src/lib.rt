@@ -5,7 +5,7 @@ ghost use Rattle.lists.specs.Kit.{_≡_, cond, _*_, _^_, _≤_, _<_, length};
 ghost use Rattle.schemes.specs.declared.Family.{Family};
 ghost use Rattle.schemes.specs.Schemes.{bcns, familyOf, fixedOf, schemeOf};
 ghost use Rattle.frodo.specs.Shown.{Round};
-ghost use Rattle.text.specs.Text.{Answers};
+ghost use Rattle.text.specs.Answer.{Answers};
 ghost use Rattle.text.specs.Steps.{Written};
 ghost use Rattle.line.specs.Line.{moved, asked, shown, bcnsShown, frodoShown, bcnsAnswer, frodoAnswer, settled, answered};
 ghost use Rattle.line.specs.Steps.{reached, partOf, Stands, tested, textOf};

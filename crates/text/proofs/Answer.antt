@@ -1,10 +1,10 @@
--- An answer in the room that it is lent (`specs/Text.antt`).
+-- An answer in the room that it is lent (`specs/Answer.antt`).
 --   answers      what was written over zeros is one
 --   within       it lies in that room
 --   one-answer   a promise has one result
 use Rattle.lists.proofs.Kit.{_≡_, _∙_, sym, ap, List, _++_, ℕ, _-_, _≤_, zero-add, arith, length, replicate, length-append}
 use Rattle.lists.proofs.Parts.{drop-same}
-use Rattle.text.specs.{Steps.Written, Text.Answers, Text.OneAnswer}
+use Rattle.text.specs.{Steps.Written, Answer.Answers, Answer.OneAnswer}
 
 pub answers : {xs ys e : List ℕ} {r : ℕ} (room : ℕ) → xs ≡ ys → Written 0 xs (replicate room 0) e r → Answers room ys r e
 answers {xs} {ys} {e} {r} room q w =

@@ -2,7 +2,8 @@
 // each of the six schemes. No trace has more than 53,248 bytes and no answer more than 372, so a program reads 53,249 bytes at most to tell. Sums are exact:
 // 2,048 numbers of ten digits are far below 2^64.
 ghost use Rattle.lists.specs.Kit.{_≡_, _+_, _≤_, _<_, max, length, drop};
-ghost use Rattle.text.specs.Text.{fieldIn, Answers};
+ghost use Rattle.text.specs.Text.{fieldIn};
+ghost use Rattle.text.specs.Answer.{Answers};
 ghost use Rattle.text.specs.Steps.{Written};
 ghost use Rattle.trace.specs.Trace.{slackName, slackIn, twoIn, block, answered};
 ghost use Rattle.trace.specs.Steps.{Reads, zeros, added, Held, summaryOf, textOf};
