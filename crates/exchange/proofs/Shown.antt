@@ -12,7 +12,7 @@ use Rattle.reply.specs.Reply.{ReplyRooms}
 use Rattle.exchange.specs.Open.{OpenLent, OpenRooms, OpenSeen, openTests, openSeen, OpenCounts}
 use Rattle.exchange.specs.Shown.{NeverSix, OpenOffers, AnswerReplies, OpenSeenAll, OpenToldAll}
 use Rattle.exchange.specs.declared.OpenAnswer.the-variants.{Done, Refused}
-use Rattle.exchange.specs.{Random.ruledIn, Random.tableOrder, Random.grown, Answer.AnswerLent, Answer.answerTests}
+use Rattle.exchange.specs.{Random.ruledIn, Random.tableOrder, Random.grown, Answer.AnswerLent, Answer.answerTests, Inside.openSizes, Inside.answerSizes}
 use Rattle.exchange.proofs.Answering.{answer-sized, answer-decides}
 use Rattle.exchange.proofs.Opening.{open-sized, open-decides}
 
@@ -125,7 +125,7 @@ never-six = (opens, answers)
 -- ---- what passes
 
 pub open-offers : OpenOffers
-unfolding openTests
+unfolding openTests openSizes
 open-offers Unknown k x m b t = differ t
 open-offers (Known c) k x m b t =
     let grows = both _ _ (both _ _ t .0) in
@@ -133,7 +133,7 @@ open-offers (Known c) k x m b t =
     both _ _ (sym (open-decides (open-sized c k x m sizes b) (grows .1)) ∙ t) .1
 
 pub answer-replies : AnswerReplies
-unfolding answerTests
+unfolding answerTests answerSizes
 answer-replies Unknown k x m b t = differ t
 answer-replies (Known c) k x m b t =
     let grows = both _ _ (both _ _ t .0) in
