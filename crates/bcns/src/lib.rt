@@ -59,7 +59,7 @@ pub fn peer(h: u32, w: u32) -> u32
     (((w as u64) + (1 + 2 * (h as u64)) * EIGHTH) / FIRST % 2) as u32
 }
 
-// The slack used (02f): how far 2w lies, around a circle of 2q, from the nearest z with the hint h. In place of a search its formula, which `Slack.antt`
+// The slack used (02f): how far 2w lies, around a circle of 2q, from the nearest z with the hint h. In place of a search its formula, which `Shown.antt`
 // states: the place of 2w behind the start of a row of z with the other hint, and the way out of that row.
 pub fn slack(h: u32, w: u32) -> u32
     requires { ⌜ (h < 2) × (w < q) ⌝ }

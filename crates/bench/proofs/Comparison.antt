@@ -1,4 +1,4 @@
--- What is stated in specs/Comparison.
+-- What is stated in specs/Shown.
 --   compared                  an answer without a refusal; told-agree, told-differ: by how two keys differ
 --   bench-sendable, bench-shows, bench-gave  where Bench refuses nothing, its inputs are sendable; and what it shows and answers of such inputs
 --   differ-few                the number that tells how the keys differ, whatever the scheme

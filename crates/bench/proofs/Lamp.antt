@@ -1,4 +1,4 @@
--- What is stated in specs/Lamp.
+-- What is stated in specs/Shown.
 --   same-long, own-bytes, peer-bytes   two keys of an exchange are of one length, and bytes
 --   never-differ                       those of BCNS are the same
 --   differs-is                         so comparing them says what Bench's definition says; same-numbers: and so do the two promises

@@ -1,5 +1,5 @@
 -- What Bench promises: 01, "The calls". It runs both ends on lent secrets and answers agree, or differ with the first differing key bit; and passes on the
--- slack that Finish used: 02, request f. The keys of BCNS cannot differ, and its bench has no such answer: 02, request i, and `Lamp.antt`.
+-- slack that Finish used: 02, request f. The keys of BCNS cannot differ, and its bench has no such answer: 02, request i, and `Shown.antt`.
 --   Bench                 what it is lent: public a, s, e and seed of the one end, s', e', e'' and coins of the other
 --   BenchSeen             what its caller sees: differ is 0 where the keys agree and after a refusal, else 1 + the first bit that differs
 --   bits k                the bits of a key, lowest first through the bytes

@@ -48,7 +48,7 @@ pub fn peer(i: u32, b: u32, h: u32, w: u32) -> u32
     (4 * w + (1 + 2 * h) * i) / (4 * i) % values(b)
 }
 
-// The slack used (02f): how far w lies from the nearest value with the hint h. In place of a search its formula, which `Slack.antt` states: the place of w
+// The slack used (02f): how far w lies from the nearest value with the hint h. In place of a search its formula, which `Shown.antt` states: the place of w
 // behind the start of a half interval with the other hint, and the way out of that half.
 pub fn slack(i: u32, b: u32, h: u32, w: u32) -> u32
     requires { ⌜ Round i b × (h < 2) × (w < i * 2 ^ b) ⌝ }
