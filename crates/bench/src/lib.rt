@@ -21,7 +21,7 @@ use reply::ReplyAnswer;
 use schemes::{FrodoParanoid, Named, Scheme};
 
 // What Bench gives: the keys agree, with the slack used; they differ, first at this bit; or the refusal.
-#[derive(Drop)]
+#[derive(Clone, Copy)]
 pub enum BenchAnswer {
     Agree(Peak),
     Differ(usize, Peak),
@@ -29,7 +29,7 @@ pub enum BenchAnswer {
 }
 
 // What the BCNS bench gives: its keys cannot differ.
-#[derive(Drop)]
+#[derive(Clone, Copy)]
 pub enum BcnsAnswer {
     Agree(Peak),
     Refused(Refusal),

@@ -14,7 +14,7 @@ use refusals::{Answer, Refusal, Verdict};
 use schemes::{Family, Scheme};
 
 // How many public numbers and words of a table are lent, and how many random bytes the values of s or e and those of e'' take.
-#[derive(Drop)]
+#[derive(Clone, Copy)]
 pub(crate) struct Takes {
     pub(crate) public: usize,
     pub(crate) table: usize,

@@ -19,14 +19,14 @@ const BCNS: u64 = schemes::Bcns::Q as u64;
 const WORDS: u64 = 1 << 32;
 
 // The lines read so far: their numbers, the last one last, zeros in the place of those to come, and the position behind them; or other text.
-#[derive(Drop)]
+#[derive(Clone, Copy)]
 enum Lines {
     Read(u64, u64, u64, u64, usize),
     Other,
 }
 
 // What a question is answered with: hint, key and the peer's key; or a refusal's number.
-#[derive(Drop)]
+#[derive(Clone, Copy)]
 enum Verdict {
     Shown(u32, u32, u32),
     Refused(u32),

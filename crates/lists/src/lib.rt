@@ -7,7 +7,7 @@ ghost use Rattle.lists.specs.Lent.{was};
 ghost use Rattle.lists.specs.First.{largest_by, first_over_lem, first_beyond_lem, first_apart_lem, peak_of_lem};
 
 // The largest number of a list and the first index at which it stands; 0 and 0 of an empty list.
-#[derive(Drop)]
+#[derive(Clone, Copy)]
 pub struct Peak {
     pub most: u32,
     pub at: usize,

@@ -16,7 +16,7 @@ const EIGHT: u32 = 8 * Q;
 const GROUPS: usize = schemes::NewHope::GROUPS;
 
 // What a group has at its entries i, i + 256, i + 512 and i + 768.
-#[derive(Drop)]
+#[derive(Clone, Copy)]
 pub struct Four {
     pub e0: u32,
     pub e1: u32,

@@ -12,7 +12,7 @@ ghost use Rattle.refusals.specs.Steps.{◌before◌, outcome};
 use lists::Peak;
 use schemes::Named;
 
-#[derive(Drop)]
+#[derive(Clone, Copy)]
 pub enum Refusal {
     NoScheme,
     BadLength,
@@ -78,21 +78,21 @@ impl Refusal {
 }
 
 // The tests so far: none has failed, or the first that did.
-#[derive(Drop)]
+#[derive(Clone, Copy)]
 pub enum Verdict {
     Pass,
     Fail(Refusal),
 }
 
 // What a call with one output gives: how much it wrote, or the refusal. A call with more has an enum of its own, whose `Done` holds a struct of its numbers.
-#[derive(Drop)]
+#[derive(Clone, Copy)]
 pub enum Answer {
     Done(usize),
     Refused(Refusal),
 }
 
 // What the steps of Finish and Bench hand on: the slack used, or the refusal.
-#[derive(Drop)]
+#[derive(Clone, Copy)]
 pub enum Outcome {
     Slack(Peak),
     Refused(Refusal),

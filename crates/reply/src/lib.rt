@@ -12,14 +12,14 @@ use refusals::Refusal;
 use schemes::Named;
 
 // What Reply gives: how much it wrote of each output, or the refusal.
-#[derive(Drop)]
+#[derive(Clone, Copy)]
 pub struct ReplyCounts {
     pub message: usize,
     pub key: usize,
     pub digest: usize,
 }
 
-#[derive(Drop)]
+#[derive(Clone, Copy)]
 pub enum ReplyAnswer {
     Done(ReplyCounts),
     Refused(Refusal),

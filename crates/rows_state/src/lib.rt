@@ -7,7 +7,7 @@ pub mod part;
 pub mod state;
 
 // The two calls that go by rows.
-#[derive(Drop)]
+#[derive(Clone, Copy)]
 pub enum Call {
     Offer,
     Reply,

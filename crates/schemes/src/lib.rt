@@ -6,7 +6,7 @@ ghost use Rattle.schemes.specs.Schemes.{bcns, new_hope, frodo, fixed_of, family_
 ghost use Rattle.schemes.specs.declared.Scheme.TheVariants.{Challenge, Classical, Recommended, Paranoid};
 
 // What is fixed in a scheme. Lengths of bytes and counts of numbers are usize, widths in bits and bounds u32.
-#[derive(Drop)]
+#[derive(Clone, Copy)]
 pub struct Fixed {
     // the size n, the modulus q, the largest noise
     pub n: usize,
@@ -33,7 +33,7 @@ pub struct Fixed {
     pub key: usize,
 }
 
-#[derive(Drop)]
+#[derive(Clone, Copy)]
 pub struct Bcns;
 
 impl Bcns {
@@ -102,7 +102,7 @@ impl Bcns {
     }
 }
 
-#[derive(Drop)]
+#[derive(Clone, Copy)]
 pub struct NewHope;
 
 impl NewHope {
@@ -200,7 +200,7 @@ fn frodo(n: usize, q: u32, largest: u32, width: u32, keybits: u32, key: usize) -
     }
 }
 
-#[derive(Drop)]
+#[derive(Clone, Copy)]
 pub struct FrodoChallenge;
 
 impl FrodoChallenge {
@@ -230,7 +230,7 @@ impl FrodoChallenge {
     }
 }
 
-#[derive(Drop)]
+#[derive(Clone, Copy)]
 pub struct FrodoClassical;
 
 impl FrodoClassical {
@@ -260,7 +260,7 @@ impl FrodoClassical {
     }
 }
 
-#[derive(Drop)]
+#[derive(Clone, Copy)]
 pub struct FrodoRecommended;
 
 impl FrodoRecommended {
@@ -290,7 +290,7 @@ impl FrodoRecommended {
     }
 }
 
-#[derive(Drop)]
+#[derive(Clone, Copy)]
 pub struct FrodoParanoid;
 
 impl FrodoParanoid {
@@ -326,14 +326,14 @@ impl FrodoParanoid {
 }
 
 // The three families: in schemes 0 and 1 products are of polynomials, NewHope's through the transform; in Frodo they are of matrices.
-#[derive(Drop)]
+#[derive(Clone, Copy)]
 pub enum Family {
     Bcns,
     NewHope,
     Frodo,
 }
 
-#[derive(Drop)]
+#[derive(Clone, Copy)]
 pub enum Scheme {
     Bcns,
     NewHope,
@@ -385,7 +385,7 @@ impl Scheme {
 }
 
 // The scheme that a number names, if it names one.
-#[derive(Drop)]
+#[derive(Clone, Copy)]
 pub enum Named {
     Known(Scheme),
     Unknown,

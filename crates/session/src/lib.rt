@@ -21,7 +21,7 @@ use reply::ReplyAnswer;
 use schemes::{Named, Scheme};
 
 // Where a session stands, with the scheme that it was opened with.
-#[derive(Drop)]
+#[derive(Clone, Copy)]
 pub enum Stage {
     Idle,
     Offered(Scheme),

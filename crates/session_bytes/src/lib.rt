@@ -25,7 +25,7 @@ use schemes::Named;
 use session::{Session, Stage};
 
 // The stage of a buffer that is a session, or that it is none.
-#[derive(Drop)]
+#[derive(Clone, Copy)]
 pub enum Found {
     At(Stage),
     Nowhere,

@@ -13,7 +13,7 @@ use refusals::{Answer, Verdict};
 use text::Found;
 
 // How reading ended: with settings; with a newer format, by its number (refusal 15); or with any other misfit (8).
-#[derive(Drop)]
+#[derive(Clone, Copy)]
 pub enum Ending {
     Read,
     Newer(u64),
@@ -21,7 +21,7 @@ pub enum Ending {
 }
 
 // The label stands in the first count bytes, with zeros behind it.
-#[derive(Drop)]
+#[derive(Clone, Copy)]
 pub struct Settings {
     pub scheme: u32,
     pub rule: u32,
@@ -30,14 +30,14 @@ pub struct Settings {
 }
 
 // The settings are all zero unless read.
-#[derive(Drop)]
+#[derive(Clone, Copy)]
 pub struct ReadAnswer {
     pub ending: Ending,
     pub settings: Settings,
 }
 
 // The answer to a caller that lends the label's room: how many bytes of it were written, or the refusal; and the format, which is also told where it is newer.
-#[derive(Drop)]
+#[derive(Clone, Copy)]
 pub struct LentAnswer {
     pub answer: Answer,
     pub format: u64,

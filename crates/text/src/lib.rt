@@ -5,7 +5,7 @@ ghost use Rattle.text.specs.Text.{not_digit_lem, run, value_of, well_formed_lem,
 ghost use Rattle.text.specs.Steps.{Reads, Written};
 
 // What reading a number finds: the number and the position behind its line, or other text.
-#[derive(Drop)]
+#[derive(Clone, Copy)]
 pub enum Found {
     Number(u64, usize),
     Other,

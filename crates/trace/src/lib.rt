@@ -11,14 +11,14 @@ ghost use Rattle.trace.specs.Steps.{Reads, zeros, added, Held, summary_of, text_
 use text::Found;
 
 // Two lines: scheme and slack, and the position behind them; or other text.
-#[derive(Drop)]
+#[derive(Clone, Copy)]
 enum Pair {
     Exchange(u64, u64, usize),
     Other,
 }
 
 // For each scheme: how many exchanges, the sum of their slacks, and the largest.
-#[derive(Drop)]
+#[derive(Clone, Copy)]
 struct Tally {
     count: [u64; 6],
     sum: [u64; 6],
@@ -26,7 +26,7 @@ struct Tally {
 }
 
 // The counters of the exchanges so far, and whether the whole trace was read. The checker does not take an enum that holds an array, hence a flag.
-#[derive(Drop)]
+#[derive(Clone, Copy)]
 struct Counted {
     whole: bool,
     tally: Tally,

@@ -24,7 +24,7 @@ pub const OPENING: usize = 576;
 pub const REPLY: usize = 13584;
 
 // What is counted in a scheme; s, e, s' and e' are equally long.
-#[derive(Drop)]
+#[derive(Clone, Copy)]
 pub enum Count {
     Public,
     Secret,

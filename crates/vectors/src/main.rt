@@ -7,7 +7,7 @@ mod lent;
 mod lines;
 mod others;
 
-#[derive(Drop)]
+#[derive(Clone, Copy)]
 pub enum Call {
     Offer,
     Reply,
@@ -21,7 +21,7 @@ pub enum Call {
 }
 
 // Case c of a call, in the lines of scheme or rule k.
-#[derive(Drop)]
+#[derive(Clone, Copy)]
 pub struct Setting {
     pub call: Call,
     pub k: u32,

@@ -14,7 +14,7 @@ use refusals::Verdict;
 use schemes::{Family, Scheme};
 
 // Where the packed part of an opening begins, and where its seed does.
-#[derive(Drop)]
+#[derive(Clone, Copy)]
 struct Starts(usize, usize);
 
 // Frodo's seed stands before its packed part, the others' behind it.
