@@ -7,7 +7,6 @@
 ghost use Rattle.lists.specs.Kit.{◌≡◌, ℕ, suc, ◌+◌, ◌-◌, ◌*◌, ◌/◌, ◌^◌, ◌<◌, ◌≤◌, leb, ltb, length, replicate};
 ghost use mir.Val.{bool_byte};
 ghost use Rattle.lists.specs.Ranges.{Below, Stored};
-ghost use Rattle.lists.specs.Lent.{was, left};
 ghost use Rattle.noise.specs.Noise.{with_sign};
 ghost use Rattle.bcns_noise.specs.Noise.{wide, entry_of, big_endian, bcns_value_lem, bcns_noise_lem, falls, first_not_above_lem};
 ghost use Rattle.bcns_noise.specs.Limbs.{byte_of, word_bytes, limbs, limbs_of, passes, tally, LimbRows, Compared};
@@ -22,7 +21,7 @@ fn not_above(a: u64, b: u64, c: u64, x: u64, y: u64, z: u64) -> bool
 // Whether entry k of the table is at most x y z.
 fn entry_not_above(table: &[u64], k: usize, x: u64, y: u64, z: u64) -> bool
     requires { k < length table.now / 3 }
-    ensures { result ≡ leb (entry_of (was table) k) (wide x y z) }
+    ensures { result ≡ leb (entry_of table.now k) (wide x y z) }
 {
     not_above(table[3 * k], table[3 * k + 1], table[3 * k + 2], x, y, z)
 }
@@ -30,7 +29,7 @@ fn entry_not_above(table: &[u64], k: usize, x: u64, y: u64, z: u64) -> bool
 // Byte n of the table, where each word is eight bytes, the highest first.
 fn byte(table: &[u64], n: usize) -> u32
     requires { n < 8 * length table.now }
-    ensures { (result ≡ byte_of (was table) n) × (result < 256) × Below (2 ^ 64) (was table) }
+    ensures { (result ≡ byte_of table.now n) × (result < 256) × Below (2 ^ 64) table.now }
 {
     ((table[n / 8] >> (56 - 8 * (n % 8))) % 256) as u32
 }
@@ -38,7 +37,7 @@ fn byte(table: &[u64], n: usize) -> u32
 // A limb of an entry: three bytes from byte n on.
 fn limb(table: &[u64], n: usize) -> u32
     requires { n + 3 ≤ 8 * length table.now }
-    ensures { (result ≡ big_endian (word_bytes (was table)) n 3) × (result < 16777216) × Below (2 ^ 64) (was table) }
+    ensures { (result ≡ big_endian (word_bytes table.now) n 3) × (result < 16777216) × Below (2 ^ 64) table.now }
 {
     byte(table, n) * 65536 + byte(table, n + 1) * 256 + byte(table, n + 2)
 }
@@ -46,7 +45,7 @@ fn limb(table: &[u64], n: usize) -> u32
 // Limb i of each entry, in row i of t.
 fn lay_row(table: &[u64], t: &mut [u32], i: usize)
     requires { (length table.now ≡ 153) × (length t.old ≡ 448) × (i < 8) }
-    ensures { Stored 0 (was t) (56 * i) 51 (λ (k : ℕ). big_endian (word_bytes (was table)) (24 * k + 3 * i) 3) (left t) × Below (2 ^ 64) (was table) }
+    ensures { Stored 0 t.old (56 * i) 51 (λ (k : ℕ). big_endian (word_bytes table.now) (24 * k + 3 * i) 3) t.new × Below (2 ^ 64) table.now }
 {
     let mut k: usize = 0;
     while k < 51 {
@@ -59,7 +58,7 @@ fn lay_row(table: &[u64], t: &mut [u32], i: usize)
 // The table by limbs: eight rows of 56, of which 51 are entries. What stands behind them is above every number.
 fn lay(table: &[u64], t: &mut [u32])
     requires { (length table.now ≡ 153) × (t.old ≡ replicate 448 16777216) }
-    ensures { LimbRows (was table) 8 (left t) }
+    ensures { LimbRows table.now 8 t.new }
 {
     let mut i: usize = 0;
     while i < 8 {
@@ -80,7 +79,7 @@ fn less(t: u32, x: u32) -> u32
 fn step(t: &[u32], v: &[u32], k: usize, i: usize, r: u32) -> u32
     requires compared { Compared t.now v.now k × (i < 8) × (r ≤ 1) }
     requires r_value { r ≡ bool_byte (passes (limbs_of t.now k) (limbs v.now) (suc i) (7 - i)) }
-    ensures value { result ≡ bool_byte (passes (limbs_of (was t) k) (limbs (was v)) i (8 - i)) }
+    ensures value { result ≡ bool_byte (passes (limbs_of t.now k) (limbs v.now) i (8 - i)) }
     ensures upper_bound { result ≤ 1 }
 {
     less(t[56 * i + k], v[i] + r)
@@ -89,7 +88,7 @@ fn step(t: &[u32], v: &[u32], k: usize, i: usize, r: u32) -> u32
 // Whether entry k is at most the number of the limbs v: 1 or 0.
 fn compare(t: &[u32], v: &[u32], k: usize) -> u32
     requires { Compared t.now v.now k }
-    ensures value { result ≡ bool_byte (passes (limbs_of (was t) k) (limbs (was v)) 0 8) }
+    ensures value { result ≡ bool_byte (passes (limbs_of t.now k) (limbs v.now) 0 8) }
     ensures upper_bound { result ≤ 1 }
 {
     let a = step(t, v, k, 6, step(t, v, k, 7, 1));
@@ -101,7 +100,7 @@ fn compare(t: &[u32], v: &[u32], k: usize) -> u32
 // How many entries are at most the number of the limbs v.
 fn count(t: &[u32], v: &[u32]) -> u32
     requires { Compared t.now v.now 0 }
-    ensures { (result ≡ tally 56 (λ (k : ℕ). passes (limbs_of (was t) k) (limbs (was v)) 0 8)) × (result ≤ 56) }
+    ensures { (result ≡ tally 56 (λ (k : ℕ). passes (limbs_of t.now k) (limbs v.now) 0 8)) × (result ≤ 56) }
 {
     let mut size: u32 = 0;
     let mut k: usize = 0;
@@ -115,7 +114,7 @@ fn count(t: &[u32], v: &[u32]) -> u32
 // Three bytes, the first one highest.
 fn three(bytes: &[u8], at: usize) -> u32
     requires { at + 3 ≤ length bytes.now }
-    ensures { (result ≡ big_endian (was bytes) at 3) × (result < 16777216) }
+    ensures { (result ≡ big_endian bytes.now at 3) × (result < 16777216) }
 {
     (bytes[at] as u32) * 65536 + (bytes[at + 1] as u32) * 256 + (bytes[at + 2] as u32)
 }
@@ -131,7 +130,7 @@ fn signed(size: u32, last: u8) -> i32
 // Value k: 25 bytes. The table is there for the contract alone.
 fn value(table: &[u64], t: &[u32], bytes: &[u8], k: usize) -> i32
     requires { LimbRows table.now 8 t.now × (length table.now ≡ 153) × (25 * k + 25 ≤ length bytes.now) }
-    ensures { result ≡ bcns_value_lem (was table) (was bytes) k }
+    ensures { result ≡ bcns_value_lem table.now bytes.now k }
 {
     let at = 25 * k;
     let v = [
@@ -149,7 +148,7 @@ fn value(table: &[u64], t: &[u32], bytes: &[u8], k: usize) -> i32
 
 fn fill(table: &[u64], t: &[u32], bytes: &[u8], out: &mut [i32])
     requires { LimbRows table.now 8 t.now × (length table.now ≡ 153) × (length bytes.now ≡ 25 * length out.old) }
-    ensures { out.new ≡ bcns_noise_lem (was table) (was bytes) }
+    ensures { out.new ≡ bcns_noise_lem table.now bytes.now }
 {
     let mut i: usize = 0;
     while i < out.len() {
@@ -161,7 +160,7 @@ fn fill(table: &[u64], t: &[u32], bytes: &[u8], out: &mut [i32])
 // All values, by a table of 51 entries.
 pub fn values(table: &[u64], bytes: &[u8], out: &mut [i32])
     requires { (length table.now ≡ 153) × (length bytes.now ≡ 25 * length out.old) }
-    ensures { out.new ≡ bcns_noise_lem (was table) (was bytes) }
+    ensures { out.new ≡ bcns_noise_lem table.now bytes.now }
 {
     let mut t = [16777216u32; 448];
     lay(table, &mut t);
@@ -171,7 +170,7 @@ pub fn values(table: &[u64], bytes: &[u8], out: &mut [i32])
 // Whether entry k has a forerunner and is not above it.
 fn falls_at(table: &[u64], k: usize) -> bool
     requires { k < length table.now / 3 }
-    ensures { result ≡ falls (was table) k }
+    ensures { result ≡ falls table.now k }
 {
     if k == 0 {
         return false;
@@ -182,7 +181,7 @@ fn falls_at(table: &[u64], k: usize) -> bool
 
 // The place of the first entry that is not above its forerunner, or the number of entries where there is none.
 pub fn first_not_above(table: &[u64]) -> usize
-    ensures { result ≡ first_not_above_lem (was table) }
+    ensures { result ≡ first_not_above_lem table.now }
 {
     let n = table.len() / 3;
     let mut k: usize = 0;

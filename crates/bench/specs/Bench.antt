@@ -15,7 +15,7 @@
 use Rattle.lists.specs.Kit.{cond, List, [], ℕ, suc, ◌*◌, ltb, ℤ, length}
 use Rattle.schemes.specs.declared.Named.TheVariants.{Known, Unknown}
 use Rattle.schemes.specs.{Schemes.by_family, Schemes.family_of, Schemes.fixed_of, declared.Named.Named, declared.Scheme.Scheme}
-use Rattle.lists.specs.{First.first_apart_lem, First.peak_of_lem, Lent.Lent, Lent.was, declared.Peak.Peak}
+use Rattle.lists.specs.{First.first_apart_lem, First.peak_of_lem, declared.Peak.Peak}
 use Rattle.packing.specs.Packing.{unpacked}
 use Rattle.refusals.specs.Refusals.{number_of, place_of, number_in, place_in, ◌then◌}
 use Rattle.refusals.specs.{Seen.if_passed, Seen.unused, declared.Verdict.Verdict, declared.Verdict.TheVariants.Fail, declared.Refusal.TheVariants.NoScheme}
@@ -75,8 +75,8 @@ abbrev pub bench_of : List ℕ → List ℤ → List ℤ → List ℕ → List �
 bench_of a s e seed s' e' e'' coins = record { a = a; s = s; e = e; seed = seed; s' = s'; e' = e'; e'' = e''; coins = coins }
 
 abbrev pub bench :
-    Lent (List ℕ) → Lent (List ℤ) → Lent (List ℤ) → Lent (List ℕ) → Lent (List ℤ) → Lent (List ℤ) → Lent (List ℤ) → Lent (List ℕ) → Bench
-bench a s e seed s1 e1 e2 coins = bench_of (was a) (was s) (was e) (was seed) (was s1) (was e1) (was e2) (was coins)
+    List ℕ → List ℤ → List ℤ → List ℕ → List ℤ → List ℤ → List ℤ → List ℕ → Bench
+bench a s e seed s1 e1 e2 coins = bench_of a s e seed s1 e1 e2 coins
 
 abbrev pub bench_told : BenchAnswer → BenchSeen
 bench_told (Agree p) = record { number = 0; place = 0; differ = 0; slack = p }

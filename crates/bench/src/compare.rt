@@ -1,6 +1,5 @@
 // Two keys bit by bit, lowest first through the bytes.
 ghost use Rattle.lists.specs.Kit.{◌≡◌, ◌*◌, ◌≤◌, ◌+◌, length, take, drop};
-ghost use Rattle.lists.specs.Lent.{was};
 ghost use Rattle.bench.specs.Bench.{differing};
 ghost use Rattle.bench.specs.Inside.{comparison};
 
@@ -10,7 +9,7 @@ use lists::Peak;
 // Two keys by their bits; x and y are room for those. The slack used is passed on.
 fn by_bits(own: &[u8], peer: &[u8], slack: Peak, x: &mut [u32], y: &mut [u32]) -> BenchAnswer
     requires { (length own.now ≡ length peer.now) × (length x.old ≡ 8 * length own.now) × (length y.old ≡ 8 * length peer.now) }
-    ensures { result ≡ comparison (differing (was own) (was peer)) slack }
+    ensures { result ≡ comparison (differing own.now peer.now) slack }
 {
     packing::unpack(1, own, x);
     packing::unpack(1, peer, y);
@@ -25,7 +24,7 @@ fn by_bits(own: &[u8], peer: &[u8], slack: Peak, x: &mut [u32], y: &mut [u32]) -
 // Two keys of k bytes, one behind the other, with room for the bits of each, of which no scheme has more than 1024.
 pub(crate) fn both(k: usize, keys: &[u8], slack: Peak) -> BenchAnswer
     requires { (k ≤ 128) × (length keys.now ≡ k + k) }
-    ensures { result ≡ comparison (differing (take k (was keys)) (drop k (was keys))) slack }
+    ensures { result ≡ comparison (differing (take k keys.now) (drop k keys.now)) slack }
 {
     let mut x = [0u32; 1024];
     let mut y = [0u32; 1024];

@@ -5,7 +5,6 @@ ghost use Rattle.lists.specs.Kit.{◌≡◌, ◌+◌, length};
 ghost use Rattle.schemes.specs.Schemes.{fixed_of, scheme_of_lem};
 ghost use Rattle.schemes.specs.declared.Named.TheVariants.{Known};
 ghost use Rattle.schemes.specs.declared.Scheme.TheVariants as variants;
-ghost use Rattle.lists.specs.Lent.{was, left};
 ghost use Rattle.reply.specs.Reply as lent;
 ghost use Rattle.finish.specs.Finish.{finish};
 ghost use Rattle.agreement.specs.Run.{replying};
@@ -38,7 +37,7 @@ pub enum BcnsAnswer {
 // From Finish on: the initiator's key into peer.
 fn from_finish(scheme: Scheme, reply: &[u8], s: &[i32], peer: &mut [u8]) -> Outcome
     requires { length peer.old ≡ (fixed_of scheme).key }
-    ensures { FromFinish scheme (finish reply s) result (left peer) }
+    ensures { FromFinish scheme (finish reply.now s.now) result peer.new }
 {
     let mut digest = [0u8; 32];
     let v = finish::finish(scheme.number(), reply, s, peer, &mut digest);
@@ -64,7 +63,7 @@ fn from_reply(
     keys: &mut [u8],
 ) -> Outcome
     requires { length keys.old ≡ (fixed_of scheme).key + (fixed_of scheme).key }
-    ensures { let x = lent.reply opening a s1 e1 e2 coins in BothKeys scheme (tests_from_reply scheme x (was s)) x (was s) result (left keys) }
+    ensures { let x = lent.reply opening.now a.now s1.now e1.now e2.now coins.now in BothKeys scheme (tests_from_reply scheme x s.now) x s.now result keys.new }
 {
     let f = scheme.fixed();
     let n = f.reply;
@@ -103,7 +102,7 @@ fn from_offer(
     keys: &mut [u8],
 ) -> Outcome
     requires { length keys.old ≡ (fixed_of scheme).key + (fixed_of scheme).key }
-    ensures { let x = bench a s e seed s1 e1 e2 coins in BothKeys scheme (tests_from_offer scheme x) (replying scheme x) (was s) result (left keys) }
+    ensures { let x = bench a.now s.now e.now seed.now s1.now e1.now e2.now coins.now in BothKeys scheme (tests_from_offer scheme x) (replying scheme x) s.now result keys.new }
 {
     let f = scheme.fixed();
     let m = f.opening;
@@ -129,7 +128,7 @@ fn run(
     keys: &mut [u8],
 ) -> BenchAnswer
     requires { length keys.old ≡ (fixed_of scheme).key + (fixed_of scheme).key }
-    ensures { bench_told result ≡ bench_result (Known scheme) (bench a s e seed s1 e1 e2 coins) }
+    ensures { bench_told result ≡ bench_result (Known scheme) (bench a.now s.now e.now seed.now s1.now e1.now e2.now coins.now) }
 {
     let f = scheme.fixed();
     let k = f.key;
@@ -152,7 +151,7 @@ fn bench_in(
     e2: &[i32],
     coins: &[u8],
 ) -> BenchAnswer
-    ensures { bench_told result ≡ bench_result (Known scheme) (bench a s e seed s1 e1 e2 coins) }
+    ensures { bench_told result ≡ bench_result (Known scheme) (bench a.now s.now e.now seed.now s1.now e1.now e2.now coins.now) }
 {
     let f = scheme.fixed();
     let n = f.key + f.key;
@@ -181,7 +180,7 @@ pub fn bcns(
     e2: &[i32],
     coins: &[u8],
 ) -> BcnsAnswer
-    ensures { bcns_told result ≡ bench_result (Known variants.Bcns) (bench a s e seed s1 e1 e2 coins) }
+    ensures { bcns_told result ≡ bench_result (Known variants.Bcns) (bench a.now s.now e.now seed.now s1.now e1.now e2.now coins.now) }
 {
     let mut keys = [0u8; 256];
     let v = from_offer(Scheme::Bcns, a, s, e, seed, s1, e1, e2, coins, &mut keys);
@@ -210,7 +209,7 @@ fn by_scheme(
     e2: &[i32],
     coins: &[u8],
 ) -> BenchAnswer
-    ensures { bench_told result ≡ bench_result (Known scheme) (bench a s e seed s1 e1 e2 coins) }
+    ensures { bench_told result ≡ bench_result (Known scheme) (bench a.now s.now e.now seed.now s1.now e1.now e2.now coins.now) }
 {
     match scheme {
         Scheme::Bcns => told(bcns(a, s, e, seed, s1, e1, e2, coins)),
@@ -230,7 +229,7 @@ pub fn bench(
     e2: &[i32],
     coins: &[u8],
 ) -> BenchAnswer
-    ensures { bench_told result ≡ bench_result (scheme_of_lem scheme) (bench a s e seed s1 e1 e2 coins) }
+    ensures { bench_told result ≡ bench_result (scheme_of_lem scheme) (bench a.now s.now e.now seed.now s1.now e1.now e2.now coins.now) }
 {
     let Named::Known(known) = schemes::scheme_of(scheme) else {
         return BenchAnswer::Refused(Refusal::NoScheme);

@@ -1,11 +1,10 @@
 // Whether a part is blank. Each function ends at the first number that is not 0, and so after one step of a good message.
 ghost use Rattle.lists.specs.Kit.{◌≡◌};
-ghost use Rattle.lists.specs.Lent.{was};
 ghost use Rattle.blank.specs.Blank.{blank};
 
 // A packed part as it came.
 pub fn bytes(part: &[u8]) -> bool
-    ensures { result ≡ blank (was part) }
+    ensures { result ≡ blank part.now }
 {
     let mut i: usize = 0;
     while i < part.len() {
@@ -19,7 +18,7 @@ pub fn bytes(part: &[u8]) -> bool
 
 // Numbers that are about to be packed.
 pub fn numbers(xs: &[u32]) -> bool
-    ensures { result ≡ blank (was xs) }
+    ensures { result ≡ blank xs.now }
 {
     let mut i: usize = 0;
     while i < xs.len() {

@@ -7,7 +7,6 @@
 --   answer_lent, answer_lent_of   what is lent, from the slices of a contract, and from lists
 use Rattle.lists.specs.Kit.{List, [], ℕ, ◌+◌, length}
 use Rattle.schemes.specs.{Schemes.fixed_of, declared.Named.Named, declared.Scheme.Scheme}
-use Rattle.lists.specs.Lent.{Lent, was}
 use Rattle.noise.specs.declared.Ruled.{Ruled}
 use Rattle.refusals.specs.Refusals.{◌then◌, length_is_lem, room_for_lem, publics_in_lem, message_in, not_blank_lem}
 use Rattle.refusals.specs.{declared.Verdict.Verdict, declared.Refusal.Refusal}
@@ -66,5 +65,5 @@ answer_result c k x m = answer_shown (answer_tests c k x m) c k x m
 abbrev pub answer_lent_of : List ℕ → List ℕ → List ℕ → List ℕ → AnswerLent
 answer_lent_of opening a table random = record { opening = opening; a = a; table = table; random = random }
 
-abbrev pub answer_lent : Lent (List ℕ) → Lent (List ℕ) → Lent (List ℕ) → Lent (List ℕ) → AnswerLent
-answer_lent opening a table random = answer_lent_of (was opening) (was a) (was table) (was random)
+abbrev pub answer_lent : List ℕ → List ℕ → List ℕ → List ℕ → AnswerLent
+answer_lent opening a table random = answer_lent_of opening a table random

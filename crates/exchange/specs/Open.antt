@@ -10,7 +10,6 @@
 --   open_seen t opening s   what is seen where open tells t and leaves these outputs
 use Rattle.lists.specs.Kit.{List, [], ℕ, ◌+◌, ℤ, pos, length, take}
 use Rattle.schemes.specs.{Schemes.fixed_of, declared.Named.Named, declared.Scheme.Scheme}
-use Rattle.lists.specs.Lent.{Lent, was, room}
 use Rattle.noise.specs.declared.Ruled.{Ruled}
 use Rattle.refusals.specs.Refusals.{number_in, place_in, ◌then◌, length_is_lem, room_for_lem, publics_in_lem, not_blank_lem}
 use Rattle.refusals.specs.{Seen.Output, Seen.output, Seen.written, Seen.Told, Seen.done, Seen.refused, declared.Verdict.Verdict, declared.Refusal.Refusal}
@@ -78,14 +77,14 @@ open_result c k x m = open_shown (open_tests c k x m) c k x m
 abbrev pub open_lent_of : List ℕ → List ℕ → List ℕ → OpenLent
 open_lent_of a table random = record { a = a; table = table; random = random }
 
-abbrev pub open_lent : Lent (List ℕ) → Lent (List ℕ) → Lent (List ℕ) → OpenLent
-open_lent a table random = open_lent_of (was a) (was table) (was random)
+abbrev pub open_lent : List ℕ → List ℕ → List ℕ → OpenLent
+open_lent a table random = open_lent_of a table random
 
 abbrev pub open_rooms_of : ℕ → ℕ → OpenRooms
 open_rooms_of opening s = record { opening = opening; s = s }
 
-abbrev pub open_rooms : Lent (List ℕ) → Lent (List ℤ) → OpenRooms
-open_rooms opening s = open_rooms_of (room opening) (room s)
+abbrev pub open_rooms : List ℕ → List ℤ → OpenRooms
+open_rooms opening s = open_rooms_of (length opening) (length s)
 
 abbrev pub open_told : OpenAnswer → Told OpenCounts
 open_told (OpenAnswer.Done n) = done n

@@ -3,7 +3,6 @@
 ghost use Rattle.lists.specs.Kit.{◌≡◌, [], length, replicate};
 ghost use Rattle.schemes.specs.declared.Named.TheVariants.{Known};
 ghost use Rattle.schemes.specs.declared.Scheme.TheVariants as variants;
-ghost use Rattle.lists.specs.Lent.{was, left};
 ghost use Rattle.refusals.specs.Refusals.{◌then◌};
 ghost use Rattle.refusals.specs.declared.Verdict.TheVariants.{Pass};
 ghost use Rattle.noise.specs.Expand.{rule_of_lem};
@@ -31,7 +30,7 @@ fn answer_sizes(
     keyroom: usize,
     digestroom: usize,
 ) -> Verdict
-    ensures { result ≡ answer_sizes_lem scheme (rule_of_lem rule) (answer_lent opening a table random) (reply_rooms_of room keyroom digestroom) }
+    ensures { result ≡ answer_sizes_lem scheme (rule_of_lem rule) (answer_lent opening.now a.now table.now random.now) (reply_rooms_of room keyroom digestroom) }
 {
     let f = scheme.fixed();
     let l = crate::drawing::lengths(scheme);
@@ -47,8 +46,8 @@ fn answer_sizes(
 // NewHope's public numbers, grown from the opening's seed; the part that came is tested first.
 fn grow_opened(rule: u32, opening: &[u8], numbers: &mut [u32]) -> Verdict
     requires { (ruled_in (rule_of_lem rule) ≡ Pass) × (length opening.now ≡ 1824) × (length numbers.old ≡ 1024) }
-    ensures value { result ≡ came_in variants.NewHope (was opening) then grown variants.NewHope (rule_of_lem rule) (seed_in variants.NewHope (was opening)) }
-    ensures numbers_value { result ≡ Pass → left numbers ≡ grow_numbers (rule_of_lem rule) (seed_in variants.NewHope (was opening)) }
+    ensures value { result ≡ came_in variants.NewHope opening.now then grown variants.NewHope (rule_of_lem rule) (seed_in variants.NewHope opening.now) }
+    ensures numbers_value { result ≡ Pass → numbers.new ≡ grow_numbers (rule_of_lem rule) (seed_in variants.NewHope opening.now) }
 {
     let at = NewHope::PACKED;
     let v = wire::take_opening(Scheme::NewHope, opening, numbers);
@@ -72,7 +71,7 @@ fn answer_drawn(
     requires random_len { (length random.now ≡ answer_random scheme) × (length table.now ≡ table_words scheme) }
     requires message_value { (message.old ≡ replicate (length message.old) 0) × (key.old ≡ replicate (length key.old) 0) }
     requires digest_value { digest.old ≡ replicate (length digest.old) 0 }
-    ensures { reply_seen (reply_told result) (left message) (left key) (left digest) ≡ drawn_answers scheme (answer_lent opening public table random) (reply_rooms message key digest) }
+    ensures { reply_seen (reply_told result) message.new key.new digest.new ≡ drawn_answers scheme (answer_lent opening.now public.now table.now random.now) (reply_rooms message.old key.old digest.old) }
 {
     let f = scheme.fixed();
     let n = f.noise;
@@ -120,8 +119,8 @@ fn answer_grown(
     requires answer_sized { AnswerSized variants.NewHope (rule_of_lem rule) (answer_lent_of opening.now [] table.now random.now) (reply_rooms_of (length message.old) (length key.old) (length digest.old)) }
     requires message_value { (message.old ≡ replicate (length message.old) 0) × (key.old ≡ replicate (length key.old) 0) }
     requires digest_value { digest.old ≡ replicate (length digest.old) 0 }
-    ensures { reply_seen (reply_told result) (left message) (left key) (left digest)
-        ≡ answer_result (Known variants.NewHope) (rule_of_lem rule) (answer_lent_of (was opening) [] (was table) (was random)) (reply_rooms message key digest) }
+    ensures { reply_seen (reply_told result) message.new key.new digest.new
+        ≡ answer_result (Known variants.NewHope) (rule_of_lem rule) (answer_lent_of opening.now [] table.now random.now) (reply_rooms message.old key.old digest.old) }
 {
     let mut numbers = [0u32; NewHope::PUBLIC];
     let v = grow_opened(rule, opening, &mut numbers);
@@ -155,7 +154,7 @@ fn answer_by(
     requires digest_value { answer_sizes_lem scheme (rule_of_lem rule) (answer_lent_of opening.now a.now table.now random.now) (reply_rooms_of (length message.old) (length key.old) (length digest.old)) ≡ Pass }
     requires message_value { (message.old ≡ replicate (length message.old) 0) × (key.old ≡ replicate (length key.old) 0) }
     requires digest_value_2 { digest.old ≡ replicate (length digest.old) 0 }
-    ensures { reply_seen (reply_told result) (left message) (left key) (left digest) ≡ answer_result (Known scheme) (rule_of_lem rule) (answer_lent opening a table random) (reply_rooms message key digest) }
+    ensures { reply_seen (reply_told result) message.new key.new digest.new ≡ answer_result (Known scheme) (rule_of_lem rule) (answer_lent opening.now a.now table.now random.now) (reply_rooms message.old key.old digest.old) }
 {
     if a.len() == 0 {
         answer_grown(rule, opening, table, random, message, key, digest)
@@ -178,7 +177,7 @@ pub(crate) fn answer_in(
 ) -> ReplyAnswer
     requires message_value { (message.old ≡ replicate (length message.old) 0) × (key.old ≡ replicate (length key.old) 0) }
     requires digest_value { digest.old ≡ replicate (length digest.old) 0 }
-    ensures { reply_seen (reply_told result) (left message) (left key) (left digest) ≡ answer_result (Known scheme) (rule_of_lem rule) (answer_lent opening a table random) (reply_rooms message key digest) }
+    ensures { reply_seen (reply_told result) message.new key.new digest.new ≡ answer_result (Known scheme) (rule_of_lem rule) (answer_lent opening.now a.now table.now random.now) (reply_rooms message.old key.old digest.old) }
 {
     let v = answer_sizes(
         scheme,

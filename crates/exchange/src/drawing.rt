@@ -1,7 +1,6 @@
 // What open and answer make of what they are lent: lengths by the scheme, noise values of random bytes, and numbers grown from a seed.
 ghost use Rattle.lists.specs.Kit.{◌≡◌, ◌≤◌, length};
 ghost use Rattle.schemes.specs.declared.Scheme.TheVariants as variants;
-ghost use Rattle.lists.specs.Lent.{was, left};
 ghost use Rattle.refusals.specs.declared.Verdict.TheVariants.{Pass};
 ghost use Rattle.noise.specs.Expand.{rule_of_lem};
 ghost use Rattle.sampling.specs.Noise.{table_words};
@@ -63,8 +62,8 @@ pub(crate) fn ruled(rule: u32) -> Verdict
 // NewHope's public numbers, grown from a seed.
 pub(crate) fn grow(rule: u32, seed: &[u8], numbers: &mut [u32]) -> Verdict
     requires { (ruled_in (rule_of_lem rule) ≡ Pass) × (length seed.now ≡ 32) × (length numbers.old ≡ 1024) }
-    ensures value { result ≡ grown variants.NewHope (rule_of_lem rule) (was seed) }
-    ensures numbers_value { result ≡ Pass → left numbers ≡ grow_numbers (rule_of_lem rule) (was seed) }
+    ensures value { result ≡ grown variants.NewHope (rule_of_lem rule) seed.now }
+    ensures numbers_value { result ≡ Pass → numbers.new ≡ grow_numbers (rule_of_lem rule) seed.now }
 {
     let v = sampling::grow(rule, seed, numbers);
     match v {
@@ -84,8 +83,8 @@ pub(crate) fn draw(
     out: &mut [i32],
 ) -> Verdict
     requires { Draws scheme n k at random.now table.now × (n ≤ length out.old) }
-    ensures value { result ≡ table_order scheme (was table) }
-    ensures drew { table_order scheme (was table) ≡ Pass → Drew scheme n (was table) (cut at k (was random)) (was out) (left out) }
+    ensures value { result ≡ table_order scheme table.now }
+    ensures drew { table_order scheme table.now ≡ Pass → Drew scheme n table.now (cut at k random.now) out.old out.new }
 {
     let end = at + k;
     let v = sampling::noise(scheme.number(), &random[at..end], table, &mut out[..n]);

@@ -4,7 +4,6 @@ ghost use Rattle.lists.specs.Kit.{◌≡◌, [], ◌++◌, ◌≤◌, length, re
 ghost use Rattle.schemes.specs.Schemes.{fixed_of};
 ghost use Rattle.schemes.specs.declared.Named.TheVariants.{Known};
 ghost use Rattle.schemes.specs.declared.Scheme.TheVariants as variants;
-ghost use Rattle.lists.specs.Lent.{was, left, room};
 ghost use Rattle.refusals.specs.Seen.{told, seen};
 ghost use Rattle.refusals.specs.declared.Verdict.TheVariants.{Pass};
 ghost use Rattle.noise.specs.Expand.{rule_of_lem};
@@ -27,7 +26,7 @@ fn open_sizes(
     room: usize,
     sroom: usize,
 ) -> Verdict
-    ensures { result ≡ open_sizes_lem scheme (rule_of_lem rule) (open_lent a table random) (open_rooms_of room sroom) }
+    ensures { result ≡ open_sizes_lem scheme (rule_of_lem rule) (open_lent a.now table.now random.now) (open_rooms_of room sroom) }
 {
     let f = scheme.fixed();
     let l = crate::drawing::lengths(scheme);
@@ -49,9 +48,9 @@ fn open_drawn(
 ) -> Answer
     requires random_len { (length random.now ≡ open_random scheme) × (length table.now ≡ table_words scheme) × ((fixed_of scheme).secret ≤ length s.old) }
     requires opening_value { opening.old ≡ replicate (length opening.old) 0 }
-    ensures opening_value_2 { seen (told result) (left opening) ≡ drawn_opens scheme (open_lent public table random) (room opening) }
-    ensures s_value { table_order scheme (was table) ≡ Pass
-        → left s ≡ (drawn_offer scheme (was public) (open_lent public table random)).s ++ drop (fixed_of scheme).secret (was s) }
+    ensures opening_value_2 { seen (told result) opening.new ≡ drawn_opens scheme (open_lent public.now table.now random.now) (length opening.old) }
+    ensures s_value { table_order scheme table.now ≡ Pass
+        → s.new ≡ (drawn_offer scheme public.now (open_lent public.now table.now random.now)).s ++ drop (fixed_of scheme).secret s.old }
 {
     let f = scheme.fixed();
     let n = f.secret;
@@ -76,8 +75,8 @@ fn open_drawn(
 fn open_grown(rule: u32, table: &[u64], random: &[u8], opening: &mut [u8], s: &mut [i32]) -> Answer
     requires open_sized { OpenSized variants.NewHope (rule_of_lem rule) (open_lent_of [] table.now random.now) (open_rooms_of (length opening.old) (length s.old)) }
     requires opening_value { opening.old ≡ replicate (length opening.old) 0 }
-    ensures opening_value_2 { seen (told result) (left opening) ≡ open_shows variants.NewHope (rule_of_lem rule) (open_lent_of [] (was table) (was random)) (open_rooms opening s) }
-    ensures open_holds { OpenHolds variants.NewHope (rule_of_lem rule) (open_lent_of [] (was table) (was random)) (open_rooms opening s) (was s) (left s) }
+    ensures opening_value_2 { seen (told result) opening.new ≡ open_shows variants.NewHope (rule_of_lem rule) (open_lent_of [] table.now random.now) (open_rooms opening.old s.old) }
+    ensures open_holds { OpenHolds variants.NewHope (rule_of_lem rule) (open_lent_of [] table.now random.now) (open_rooms opening.old s.old) s.old s.new }
 {
     let at = NewHope::SEED;
     let mut numbers = [0u32; NewHope::PUBLIC];
@@ -100,8 +99,8 @@ fn open_by(
 ) -> Answer
     requires open_sized { OpenSized scheme (rule_of_lem rule) (open_lent_of a.now table.now random.now) (open_rooms_of (length opening.old) (length s.old)) }
     requires opening_value { opening.old ≡ replicate (length opening.old) 0 }
-    ensures opening_value_2 { seen (told result) (left opening) ≡ open_shows scheme (rule_of_lem rule) (open_lent a table random) (open_rooms opening s) }
-    ensures open_holds { OpenHolds scheme (rule_of_lem rule) (open_lent a table random) (open_rooms opening s) (was s) (left s) }
+    ensures opening_value_2 { seen (told result) opening.new ≡ open_shows scheme (rule_of_lem rule) (open_lent a.now table.now random.now) (open_rooms opening.old s.old) }
+    ensures open_holds { OpenHolds scheme (rule_of_lem rule) (open_lent a.now table.now random.now) (open_rooms opening.old s.old) s.old s.new }
 {
     if a.len() == 0 {
         open_grown(rule, table, random, opening, s)
@@ -122,7 +121,7 @@ fn open_sized(
 ) -> OpenAnswer
     requires s_value { open_sizes_lem scheme (rule_of_lem rule) (open_lent_of a.now table.now random.now) (open_rooms_of (length opening.old) (length s.old)) ≡ Pass }
     requires opening_value { (opening.old ≡ replicate (length opening.old) 0) × (s.old ≡ replicate (length s.old) (pos 0)) }
-    ensures { open_seen (open_told result) (left opening) (left s) ≡ open_result (Known scheme) (rule_of_lem rule) (open_lent a table random) (open_rooms opening s) }
+    ensures { open_seen (open_told result) opening.new s.new ≡ open_result (Known scheme) (rule_of_lem rule) (open_lent a.now table.now random.now) (open_rooms opening.old s.old) }
 {
     let v = open_by(scheme, rule, a, table, random, opening, s);
     match v {
@@ -149,7 +148,7 @@ pub(crate) fn open_in(
     s: &mut [i32],
 ) -> OpenAnswer
     requires { (opening.old ≡ replicate (length opening.old) 0) × (s.old ≡ replicate (length s.old) (pos 0)) }
-    ensures { open_seen (open_told result) (left opening) (left s) ≡ open_result (Known scheme) (rule_of_lem rule) (open_lent a table random) (open_rooms opening s) }
+    ensures { open_seen (open_told result) opening.new s.new ≡ open_result (Known scheme) (rule_of_lem rule) (open_lent a.now table.now random.now) (open_rooms opening.old s.old) }
 {
     let v = open_sizes(scheme, rule, a, table, random, opening.len(), s.len());
     match v {

@@ -13,7 +13,7 @@
 --   finish_seen t key digest   what is seen where Finish tells t and leaves these outputs
 use Rattle.lists.specs.Kit.{List, [], ℕ, ℤ, length}
 use Rattle.schemes.specs.{Schemes.fixed_of, declared.Scheme.Scheme, declared.Named.Named, declared.Named.TheVariants.Known, declared.Named.TheVariants.Unknown}
-use Rattle.lists.specs.{Lent.Lent, Lent.was, Lent.room, First.peak_of_lem, declared.Peak.Peak}
+use Rattle.lists.specs.{First.peak_of_lem, declared.Peak.Peak}
 use Rattle.packing.specs.Packing.{packed}
 use Rattle.sponge.specs.Sponge.{sha3}
 use Rattle.refusals.specs.Refusals.{number_in, place_in, ◌then◌, length_is_lem, room_for_lem, message_in, not_blank_lem, secrets_in_lem}
@@ -84,14 +84,14 @@ finish_result c x m = finish_shown (finish_tests c x m) c x m
 abbrev pub finish_of : List ℕ → List ℤ → Finish
 finish_of reply s = record { reply = reply; s = s }
 
-abbrev pub finish : Lent (List ℕ) → Lent (List ℤ) → Finish
-finish reply s = finish_of (was reply) (was s)
+abbrev pub finish : List ℕ → List ℤ → Finish
+finish reply s = finish_of reply s
 
 abbrev pub finish_rooms_of : ℕ → ℕ → FinishRooms
 finish_rooms_of key digest = record { key = key; digest = digest }
 
-abbrev pub finish_rooms : Lent (List ℕ) → Lent (List ℕ) → FinishRooms
-finish_rooms key digest = finish_rooms_of (room key) (room digest)
+abbrev pub finish_rooms : List ℕ → List ℕ → FinishRooms
+finish_rooms key digest = finish_rooms_of (length key) (length digest)
 
 abbrev pub finish_told : FinishAnswer → Told FinishCounts
 finish_told (Done n) = done n

@@ -3,7 +3,6 @@
 ghost use Rattle.lists.specs.Kit.{◌≡◌, ◌^◌, length, replicate, drop, ◌++◌};
 ghost use Rattle.schemes.specs.Schemes.{fixed_of};
 ghost use Rattle.schemes.specs.declared.Named.TheVariants.{Known};
-ghost use Rattle.lists.specs.Lent.{was, left};
 ghost use Rattle.lists.specs.First.{peak_of_lem};
 ghost use Rattle.packing.specs.Packing.{packed};
 ghost use Rattle.refusals.specs.Refusals.{secrets_in_lem, ◌then◌};
@@ -22,8 +21,8 @@ use schemes::Scheme;
 fn settle(scheme: Scheme, hints: &[u32], w: &mut [u32], entries: &mut [u32], key: &mut [u8]) -> Peak
     requires counted { Counted (fixed_of scheme).mixed (fixed_of scheme).q w.old × (length entries.old ≡ (fixed_of scheme).groups) }
     requires counted_2 { Counted (fixed_of scheme).mixed (2 ^ (fixed_of scheme).hintbits) hints.now × (length key.old ≡ (fixed_of scheme).key) }
-    ensures key_value { left key ≡ packed (fixed_of scheme).keybits (settled.peers scheme (was hints) (was w)) }
-    ensures value { result ≡ peak_of_lem (settled.slacks scheme (was hints) (was w)) }
+    ensures key_value { key.new ≡ packed (fixed_of scheme).keybits (settled.peers scheme hints.now w.old) }
+    ensures value { result ≡ peak_of_lem (settled.slacks scheme hints.now w.old) }
 {
     values::settle::peers(scheme, hints, w, entries);
     wire::lay_key(scheme, entries, key);
@@ -43,8 +42,8 @@ fn derive(
 ) -> Peak
     requires derives { Derives scheme (finish_of reply.now s.now) u.now × (length key.old ≡ (fixed_of scheme).key) }
     requires n_value { (n ≡ (fixed_of scheme).mixed) × (g ≡ (fixed_of scheme).groups) }
-    ensures key_value { left key ≡ key_from scheme (was u) (finish reply s) }
-    ensures value { result ≡ slack_from scheme (was u) (finish reply s) }
+    ensures key_value { key.new ≡ key_from scheme u.now (finish reply.now s.now) }
+    ensures value { result ≡ slack_from scheme u.now (finish reply.now s.now) }
 {
     let mut w = [0u32; 1024];
     let mut hints = [0u32; 1024];
@@ -57,8 +56,8 @@ fn derive(
 // The secret's test, then the key. What is refused leaves zeros.
 fn with_secret(scheme: Scheme, reply: &[u8], u: &[u32], s: &[i32], key: &mut [u8]) -> Outcome
     requires { Finishing scheme (finish_of reply.now s.now) key.old × Counted (fixed_of scheme).secret (fixed_of scheme).q u.now }
-    ensures value { result ≡ outcome (secrets_in_lem (fixed_of scheme).largest (was s)) (slack_from scheme (was u) (finish reply s)) }
-    ensures laid { Laid (secrets_in_lem (fixed_of scheme).largest (was s)) (key_from scheme (was u) (finish reply s)) key }
+    ensures value { result ≡ outcome (secrets_in_lem (fixed_of scheme).largest s.now) (slack_from scheme u.now (finish reply.now s.now)) }
+    ensures laid { Laid (secrets_in_lem (fixed_of scheme).largest s.now) (key_from scheme u.now (finish reply.now s.now)) key.old key.new }
 {
     let f = scheme.fixed();
     let v = refusals::secrets_in(Verdict::Pass, f.largest, s);
@@ -71,8 +70,8 @@ fn with_secret(scheme: Scheme, reply: &[u8], u: &[u32], s: &[i32], key: &mut [u8
 // The reply's n numbers, of which no scheme has more than 6912, then the secret's test and the key. A refused message ends the call here, with its place.
 fn with_reply(scheme: Scheme, n: usize, reply: &[u8], s: &[i32], key: &mut [u8]) -> Outcome
     requires { Finishing scheme (finish_of reply.now s.now) key.old × (n ≡ (fixed_of scheme).secret) }
-    ensures value { result ≡ outcome (finish_rest scheme (finish reply s)) (finish_slack (Known scheme) (finish reply s)) }
-    ensures laid { Laid (finish_rest scheme (finish reply s)) (finish_key (Known scheme) (finish reply s)) key }
+    ensures value { result ≡ outcome (finish_rest scheme (finish reply.now s.now)) (finish_slack (Known scheme) (finish reply.now s.now)) }
+    ensures laid { Laid (finish_rest scheme (finish reply.now s.now)) (finish_key (Known scheme) (finish reply.now s.now)) key.old key.new }
 {
     let mut u = [0u32; 6912];
     let v = wire::take_reply(scheme, reply, &mut u[..n]);
@@ -87,8 +86,8 @@ fn with_reply(scheme: Scheme, n: usize, reply: &[u8], s: &[i32], key: &mut [u8])
 pub(crate) fn key_in(scheme: Scheme, v: Verdict, reply: &[u8], s: &[i32], key: &mut [u8]) -> Outcome
     requires key_value { v ≡ Pass → finish_sizes_lem scheme (finish_of reply.now s.now) (length key.old) ≡ Pass }
     requires key_value_2 { key.old ≡ replicate (length key.old) 0 }
-    ensures value { result ≡ outcome (v then finish_rest scheme (finish reply s)) (finish_slack (Known scheme) (finish reply s)) }
-    ensures laid { Laid (v then finish_rest scheme (finish reply s)) (finish_key (Known scheme) (finish reply s) ++ drop (fixed_of scheme).key (was key)) key }
+    ensures value { result ≡ outcome (v then finish_rest scheme (finish reply.now s.now)) (finish_slack (Known scheme) (finish reply.now s.now)) }
+    ensures laid { Laid (v then finish_rest scheme (finish reply.now s.now)) (finish_key (Known scheme) (finish reply.now s.now) ++ drop (fixed_of scheme).key key.old) key.old key.new }
 {
     match v {
         Verdict::Fail(r) => Outcome::Refused(r),

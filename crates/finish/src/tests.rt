@@ -7,7 +7,7 @@ use refusals::Verdict;
 use schemes::Scheme;
 
 pub(crate) fn finish_sizes(scheme: Scheme, reply: &[u8], s: &[i32], room: usize) -> Verdict
-    ensures { result ≡ finish_sizes_lem scheme (finish reply s) room }
+    ensures { result ≡ finish_sizes_lem scheme (finish reply.now s.now) room }
 {
     let f = scheme.fixed();
     let v = refusals::length_is(Verdict::Pass, reply.len(), f.reply);

@@ -14,7 +14,7 @@
 use Rattle.lists.specs.Kit.{◌≡◌, Bool, true, cond, List, ℕ, zero, suc, ◌*◌, ◌^◌, eqb, length, replicate}
 use Rattle.numbers.specs.Residue.{residue}
 use Rattle.schemes.specs.{Schemes.fixed_of, declared.Scheme.TheVariants.Bcns}
-use Rattle.lists.specs.{Entries.tab, Entries.nums, Lent.Lent, Lent.was}
+use Rattle.lists.specs.{Entries.tab, Entries.nums}
 use Rattle.polynomial.specs.Product.{product}
 use Rattle.refusals.specs.Refusals.{◌then◌, length_is_lem, room_for_lem, publics_in_lem}
 use Rattle.refusals.specs.declared.Verdict.TheVariants.{Pass, Fail}
@@ -37,8 +37,8 @@ pub record Factors : Type 0 where
 abbrev pub factors_of : List ℕ → List ℕ → Factors
 factors_of a b = record { a = a; b = b }
 
-abbrev pub factors : Lent (List ℕ) → Lent (List ℕ) → Factors
-factors a b = factors_of (was a) (was b)
+abbrev pub factors : List ℕ → List ℕ → Factors
+factors a b = factors_of a b
 
 unfoldable pub product_tests_lem : Factors → ℕ → ℕ → Verdict
 product_tests_lem x n m =

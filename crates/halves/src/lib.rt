@@ -5,7 +5,6 @@
 // that no step takes a branch on a number and each is an equation of remainders. (A trial in C that only kept the numbers below 2^32 was a sixth quicker.)
 ghost use Rattle.lists.specs.Kit.{◌≡◌, ℕ, ◌+◌, ◌-◌, ◌*◌, ◌/◌, ◌%◌, ◌^◌, ◌<◌, ◌≤◌, length, get_or, replicate};
 ghost use Rattle.lists.specs.Entries.{tab};
-ghost use Rattle.lists.specs.Lent.{was, left, room};
 ghost use Rattle.lists.specs.Ranges.{Stored};
 ghost use Rattle.refusals.specs.Seen.{told, shown, seen};
 ghost use Rattle.halves.specs.Halves.{q, size_up_to, size_in_lem, factors, product_tests_lem, plain, product_seen, product_result};
@@ -39,7 +38,7 @@ fn less_both(m: u32, x: u32, y: u32) -> u32
 fn copy(w: &mut [u32], x: usize, to: usize, n: usize)
     requires n_in_bounds { (x + n ≤ length w.old) × (to + n ≤ length w.old) }
     requires ahead { Ahead x to n }
-    ensures { Stored 0 (was w) to n (from (was w) x) (left w) }
+    ensures { Stored 0 w.old to n (from w.old x) w.new }
 {
     let mut i: usize = 0;
     while i < n {
@@ -54,7 +53,7 @@ fn copy(w: &mut [u32], x: usize, to: usize, n: usize)
 fn add(w: &mut [u32], x: usize, y: usize, to: usize, n: usize)
     requires n_in_bounds { (x + n ≤ length w.old) × (y + n ≤ length w.old) × (to + n ≤ length w.old) }
     requires ahead { Ahead x to n × Ahead y to n }
-    ensures { Stored 0 (was w) to n (λ (k : ℕ). (from (was w) x k + from (was w) y k) % q) (left w) }
+    ensures { Stored 0 w.old to n (λ (k : ℕ). (from w.old x k + from w.old y k) % q) w.new }
 {
     let mut i: usize = 0;
     while i < n {
@@ -70,7 +69,7 @@ fn add(w: &mut [u32], x: usize, y: usize, to: usize, n: usize)
 fn subtract(w: &mut [u32], x: usize, y: usize, to: usize, n: usize)
     requires n_in_bounds { (x + n ≤ length w.old) × (y + n ≤ length w.old) × (to + n ≤ length w.old) }
     requires ahead { Ahead x to n × Ahead y to n }
-    ensures { Stored 0 (was w) to n (λ (k : ℕ). (from (was w) to k + (q - from (was w) x k) + (q - from (was w) y k)) % q) (left w) }
+    ensures { Stored 0 w.old to n (λ (k : ℕ). (from w.old to k + (q - from w.old x k) + (q - from w.old y k)) % q) w.new }
 {
     let mut i: usize = 0;
     while i < n {
@@ -105,7 +104,7 @@ fn high(p: u64) -> u64
 fn lay_second(w: &[u32], b: &mut [u64])
     requires in_bounds { (64 ≤ length w.now) × (length b.old ≡ 34) }
     requires by_index { (k : ℕ) → get_or b.old k 0 ≡ 0 }
-    ensures { Padded (was w) (left b) }
+    ensures { Padded w.now b.new }
 {
     let mut k: usize = 0;
     while k < 32 {
@@ -122,7 +121,7 @@ fn lay_second(w: &[u32], b: &mut [u64])
 fn two_rows(w: &[u32], b: &[u64], lows: &mut [u64], highs: &mut [u64], i: usize)
     requires padded { Padded w.now b.now × Rows w.now i lows.old highs.old }
     requires in_bounds { (64 ≤ length w.now) × (i + 2 ≤ 32) }
-    ensures { Rows (was w) (i + 2) (left lows) (left highs) }
+    ensures { Rows w.now (i + 2) lows.new highs.new }
 {
     let x = w[i];
     let y = w[i + 1];
@@ -140,7 +139,7 @@ fn two_rows(w: &[u32], b: &[u64], lows: &mut [u64], highs: &mut [u64], i: usize)
 fn rows(w: &[u32], b: &[u64], lows: &mut [u64], highs: &mut [u64])
     requires padded { Padded w.now b.now × Rows w.now 0 lows.old highs.old }
     requires in_bounds { 64 ≤ length w.now }
-    ensures { Rows (was w) 32 (left lows) (left highs) }
+    ensures { Rows w.now 32 lows.new highs.new }
 {
     let mut i: usize = 0;
     while i < 32 {
@@ -153,7 +152,7 @@ fn rows(w: &[u32], b: &[u64], lows: &mut [u64], highs: &mut [u64])
 fn settle(lows: &[u64], highs: &[u64], w: &mut [u32])
     requires lows_len { (length lows.now ≡ 64) × (length highs.now ≡ 64) × (64 ≤ length w.old) }
     requires by_index { (k : ℕ) → k < 64 → (get_or lows.now k 0 < 2 ^ 40) × (get_or highs.now k 0 < 2 ^ 40) }
-    ensures { Stored 0 (was w) 0 64 (λ (k : ℕ). (get_or (was lows) k 0 + 2 * get_or (was highs) k 0) % q) (left w) }
+    ensures { Stored 0 w.old 0 64 (λ (k : ℕ). (get_or lows.now k 0 + 2 * get_or highs.now k 0) % q) w.new }
 {
     let mut k: usize = 0;
     while k < 64 {
@@ -165,7 +164,7 @@ fn settle(lows: &[u64], highs: &[u64], w: &mut [u32])
 // The shortest product, by the plain rule.
 fn leaf(w: &mut [u32])
     requires { 160 ≤ length w.old }
-    ensures { Product (was w) 32 (left w) }
+    ensures { Product w.old 32 w.new }
 {
     let mut b = [0u64; 34];
     let mut lows = [0u64; 64];
@@ -178,7 +177,7 @@ fn leaf(w: &mut [u32])
 // Factors of 2 h numbers, lower and upper half each, become the pairs of lower halves, of upper halves and of sums.
 fn spread(w: &mut [u32], h: usize)
     requires { 12 * h ≤ length w.old }
-    ensures { Spread (was w) h (left w) }
+    ensures { Spread w.old h w.new }
 {
     add(w, 0, h, 4 * h, h);
     add(w, 2 * h, 3 * h, 5 * h, h);
@@ -190,7 +189,7 @@ fn spread(w: &mut [u32], h: usize)
 // The product of the sums, less the two others, is what lies in the middle.
 fn join(w: &mut [u32], h: usize)
     requires { 12 * h ≤ length w.old }
-    ensures { Joined (was w) h (left w) }
+    ensures { Joined w.old h w.new }
 {
     subtract(w, 0, 2 * h, 10 * h, 2 * h);
     add(w, h, 10 * h, h, 2 * h);
@@ -201,7 +200,7 @@ fn join(w: &mut [u32], h: usize)
 fn halves(w: &mut [u32], n: usize)
     requires n_in_bounds { 6 * n ≤ length w.old }
     requires size { Size n }
-    ensures { Product (was w) n (left w) }
+    ensures { Product w.old n w.new }
 {
     if n <= 32 {
         leaf(w);
@@ -226,7 +225,7 @@ fn halves(w: &mut [u32], n: usize)
 // The numbers of x, written at `to`.
 fn load(w: &mut [u32], x: &[u32], to: usize)
     requires { to + length x.now ≤ length w.old }
-    ensures { Stored 0 (was w) to (room x) (λ (k : ℕ). get_or (was x) k 0) (left w) }
+    ensures { Stored 0 w.old to (length x.now) (λ (k : ℕ). get_or x.now k 0) w.new }
 {
     let mut i: usize = 0;
     while i < x.len() {
@@ -239,7 +238,7 @@ fn load(w: &mut [u32], x: &[u32], to: usize)
 // The product of twice as many numbers at the front of w, folded modulo X^n + 1: what passes X^(n - 1) comes round with a minus.
 fn fold_into(w: &[u32], out: &mut [u32])
     requires { 2 * length out.old ≤ length w.now }
-    ensures { left out ≡ tab (room out) (λ (k : ℕ). (get_or (was w) k 0 + (q - get_or (was w) (room out + k) 0)) % q) }
+    ensures { out.new ≡ tab (length out.old) (λ (k : ℕ). (get_or w.now k 0 + (q - get_or w.now (length out.old + k) 0)) % q) }
 {
     let n = out.len();
     let mut i: usize = 0;
@@ -253,7 +252,7 @@ fn fold_into(w: &[u32], out: &mut [u32])
 // The work, once nothing is refused.
 fn multiply(a: &[u32], b: &[u32], out: &mut [u32], scratch: &mut [u32])
     requires { Fit (length out.old) a.now b.now (length scratch.old) }
-    ensures { left out ≡ plain (factors a b) }
+    ensures { out.new ≡ plain (factors a.now b.now) }
 {
     let n = out.len();
     load(scratch, a, 0);
@@ -296,7 +295,7 @@ fn size_in(n: usize) -> Verdict
 
 // The tests in their order.
 fn product_tests(a: &[u32], b: &[u32], room: usize, scratch: usize) -> Verdict
-    ensures { result ≡ product_tests_lem (factors a b) room scratch }
+    ensures { result ≡ product_tests_lem (factors a.now b.now) room scratch }
 {
     let n = a.len();
     let size = size_in(n);
@@ -311,7 +310,7 @@ fn product_tests(a: &[u32], b: &[u32], room: usize, scratch: usize) -> Verdict
 // The product into zeros, where nothing is refused; the scratch is left as it is then.
 fn product_in(a: &[u32], b: &[u32], out: &mut [u32], scratch: &mut [u32]) -> Answer
     requires { out.old ≡ replicate (length out.old) 0 }
-    ensures { seen (told result) (left out) ≡ shown (product_tests_lem (factors a b) (room out) (room scratch)) (plain (factors a b)) 0 (room out) }
+    ensures { seen (told result) out.new ≡ shown (product_tests_lem (factors a.now b.now) (length out.old) (length scratch.old)) (plain (factors a.now b.now)) 0 (length out.old) }
 {
     let v = product_tests(a, b, out.len(), scratch.len());
     match v {
@@ -326,7 +325,7 @@ fn product_in(a: &[u32], b: &[u32], out: &mut [u32], scratch: &mut [u32]) -> Ans
 
 // Product: a, b. The scratch is zeroed last, refused or not.
 pub fn product(a: &[u32], b: &[u32], out: &mut [u32], scratch: &mut [u32]) -> Answer
-    ensures { product_seen (told result) (left out) (left scratch) ≡ product_result (factors a b) (room out) (room scratch) }
+    ensures { product_seen (told result) out.new scratch.new ≡ product_result (factors a.now b.now) (length out.old) (length scratch.old) }
 {
     lists::zero_numbers(out);
     let r = product_in(a, b, out, scratch);

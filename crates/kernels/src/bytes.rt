@@ -1,6 +1,5 @@
 // Numbers as bytes and back.
 ghost use Rattle.lists.specs.Kit.{◌≡◌, ◌*◌, ◌^◌, ◌≤◌, ◌<◌, length};
-ghost use Rattle.lists.specs.Lent.{was, left, room};
 ghost use Rattle.lists.specs.Ranges.{Below};
 ghost use Rattle.packing.specs.Packing.{packed, unpacked};
 
@@ -8,7 +7,7 @@ ghost use Rattle.packing.specs.Packing.{packed, unpacked};
 pub extern "C" fn packing_pack(w: u32, xs: &[u32], out: &mut [u8])
     requires w_nonzero { (0 < w) × (w ≤ 32) × Below (2 ^ w) xs.now }
     requires xs_value { w * length xs.now ≡ 8 * length out.old }
-    ensures { left out ≡ packed w (was xs) }
+    ensures { out.new ≡ packed w xs.now }
 {
     packing::pack(w, xs, out);
 }
@@ -17,7 +16,7 @@ pub extern "C" fn packing_pack(w: u32, xs: &[u32], out: &mut [u8])
 pub extern "C" fn packing_unpack(w: u32, bytes: &[u8], out: &mut [u32])
     requires w_nonzero { (0 < w) × (w ≤ 32) }
     requires bytes_value { 8 * length bytes.now ≡ w * length out.old }
-    ensures { left out ≡ unpacked w (room out) (was bytes) }
+    ensures { out.new ≡ unpacked w (length out.old) bytes.now }
 {
     packing::unpack(w, bytes, out);
 }

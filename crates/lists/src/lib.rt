@@ -3,7 +3,6 @@
 // laws that the proofs cite are stated once over the element. A function that writes fills the whole of the slice it is lent, so a caller lends the part it
 // means.
 ghost use Rattle.lists.specs.Kit.{◌≡◌, ◌≤◌, length, replicate, pos, nat_abs};
-ghost use Rattle.lists.specs.Lent.{was};
 ghost use Rattle.lists.specs.First.{largest_by, first_over_lem, first_beyond_lem, first_apart_lem, peak_of_lem};
 
 // The largest number of a list and the first index at which it stands; 0 and 0 of an empty list.
@@ -173,7 +172,7 @@ pub fn first_beyond(bound: u32, s: &[i32]) -> usize
 // The first index at which two lists differ, or their length where they do not.
 pub fn first_apart(xs: &[u32], ys: &[u32]) -> usize
     requires { length xs.now ≡ length ys.now }
-    ensures { result ≡ first_apart_lem (was xs) (was ys) }
+    ensures { result ≡ first_apart_lem xs.now ys.now }
 {
     let mut at: usize = 0;
     while at < xs.len() {

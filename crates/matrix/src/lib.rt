@@ -8,7 +8,6 @@
 ghost use Rattle.lists.specs.Kit.{◌≡◌, ℕ, ◌+◌, ◌*◌, ◌/◌, ◌%◌, ◌<◌, ◌≤◌, length, get_or, pos};
 ghost use Rattle.numbers.specs.Sum.{sum_ℕ};
 ghost use Rattle.numbers.specs.Residue.{residue};
-ghost use Rattle.lists.specs.Lent.{was, left};
 ghost use Rattle.lists.specs.First.{first_over_lem};
 ghost use Rattle.lists.specs.Entries.{tab, ints};
 ghost use Rattle.lists.specs.Ranges.{Below};
@@ -66,8 +65,8 @@ fn packed(x: u32) -> u16
 // Numbers in 16 bits each, where they fit. The answer has every bit that some number has, so no number is over it.
 fn narrow_bits(xs: &[u32], out: &mut [u16]) -> u32
     requires { length xs.now ≡ length out.old }
-    ensures by_index { (k : ℕ) → k < length (was xs) → get_or (was xs) k 0 ≤ result }
-    ensures out_value { Below 32768 (was xs) → left out ≡ was xs }
+    ensures by_index { (k : ℕ) → k < length xs.now → get_or xs.now k 0 ≤ result }
+    ensures out_value { Below 32768 xs.now → out.new ≡ xs.now }
 {
     let mut bits: u32 = 0;
     let mut k: usize = 0;
@@ -84,8 +83,8 @@ fn narrow_bits(xs: &[u32], out: &mut [u16]) -> u32
 // as in Frodo, numbers are all below it where their bits are, and so one pass does both.
 fn narrow_below(q: u32, xs: &[u32], out: &mut [u16]) -> usize
     requires { (0 < q) × (q ≤ 32768) × (length xs.now ≡ length out.old) }
-    ensures value { result ≡ first_over_lem q (was xs) }
-    ensures out_value { Below q (was xs) → left out ≡ was xs }
+    ensures value { result ≡ first_over_lem q xs.now }
+    ensures out_value { Below q xs.now → out.new ≡ xs.now }
 {
     if narrow_bits(xs, out) < q {
         return xs.len();
@@ -96,7 +95,7 @@ fn narrow_below(q: u32, xs: &[u32], out: &mut [u16]) -> usize
 // Sums with others.
 fn add_words(ws: &[u16], sums: &mut [u16])
     requires { length ws.now ≡ length sums.old }
-    ensures { left sums ≡ tab (length (was sums)) (λ k. (get_or (was sums) k 0 + get_or (was ws) k 0) % 65536) }
+    ensures { sums.new ≡ tab (length sums.old) (λ k. (get_or sums.old k 0 + get_or ws.now k 0) % 65536) }
 {
     let mut k: usize = 0;
     while k < sums.len() {
@@ -169,7 +168,7 @@ fn add_products(x: u16, n: usize, t: usize, cols: &[u16], sums: &mut [u16])
 // A row with each of the 8 columns: one load of the row serves 8 dot products.
 fn dots_on(n: usize, row: &[u16], cols: &[u16], sums: &mut [u16])
     requires { (length row.now ≡ n) × (length cols.now ≡ 8 * n) × (length sums.old ≡ 8) }
-    ensures { left sums ≡ gained 65536 n (dot_term n (was row) (was cols)) (was sums) }
+    ensures { sums.new ≡ gained 65536 n (dot_term n row.now cols.now) sums.old }
 {
     let mut t: usize = 0;
     while t < n {
@@ -181,7 +180,7 @@ fn dots_on(n: usize, row: &[u16], cols: &[u16], sums: &mut [u16])
 // `dots_on`, where the compiler can read for Frodo's n how far apart the columns lie, and so reckons no addresses.
 fn dots_by(n: usize, row: &[u16], cols: &[u16], sums: &mut [u16])
     requires { (length row.now ≡ n) × (length cols.now ≡ 8 * n) × (length sums.old ≡ 8) }
-    ensures { left sums ≡ gained 65536 n (dot_term n (was row) (was cols)) (was sums) }
+    ensures { sums.new ≡ gained 65536 n (dot_term n row.now cols.now) sums.old }
 {
     match n {
         352 => dots_on(352, row, cols, sums),
@@ -196,7 +195,7 @@ fn dots_by(n: usize, row: &[u16], cols: &[u16], sums: &mut [u16])
 // memory each time.
 fn add_dots(n: usize, row: &[u16], cols: &[u16], sums: &mut [u16])
     requires { (length row.now ≡ n) × (length cols.now ≡ 8 * n) × (length sums.old ≡ 8) }
-    ensures { left sums ≡ gained 65536 n (dot_term n (was row) (was cols)) (was sums) }
+    ensures { sums.new ≡ gained 65536 n (dot_term n row.now cols.now) sums.old }
 {
     let mut own: [u16; 8] = [0; 8];
     dots_by(n, row, cols, &mut own);
@@ -206,7 +205,7 @@ fn add_dots(n: usize, row: &[u16], cols: &[u16], sums: &mut [u16])
 // The r rows of X, as words, with the columns.
 pub fn add_right(n: usize, r: usize, x: &[u16], cols: &[u16], sums: &mut [u16])
     requires { (length x.now ≡ r * n) × (length cols.now ≡ 8 * n) × (length sums.old ≡ 8 * r) }
-    ensures { left sums ≡ gained 65536 n (right_term n (was x) (was cols)) (was sums) }
+    ensures { sums.new ≡ gained 65536 n (right_term n x.now cols.now) sums.old }
 {
     let mut i: usize = 0;
     while i < r {
@@ -227,8 +226,8 @@ fn right_row(
     sums: &mut [u16],
 ) -> usize
     requires { (0 < q) × (q ≤ 32768) × (length row.now ≡ n) × (length cols.now ≡ 8 * n) × (length line.old ≡ n) × (length sums.old ≡ 8) }
-    ensures value { result ≡ first_over_lem q (was row) }
-    ensures sums_value { Below q (was row) → left sums ≡ gained 65536 n (dot_term n (was row) (was cols)) (was sums) }
+    ensures value { result ≡ first_over_lem q row.now }
+    ensures sums_value { Below q row.now → sums.new ≡ gained 65536 n (dot_term n row.now cols.now) sums.old }
 {
     let at = narrow_below(q, row, line);
     add_dots(n, line, cols, sums);
@@ -246,8 +245,8 @@ fn right_rows(
     sums: &mut [u16],
 ) -> usize
     requires { (0 < q) × (q ≤ 32768) × (length x.now ≡ r * n) × (length cols.now ≡ 8 * n) × (length line.old ≡ n) × (length sums.old ≡ 8 * r) }
-    ensures value { result ≡ first_over_lem q (was x) }
-    ensures sums_value { Below q (was x) → left sums ≡ gained 65536 n (right_term n (was x) (was cols)) (was sums) }
+    ensures value { result ≡ first_over_lem q x.now }
+    ensures sums_value { Below q x.now → sums.new ≡ gained 65536 n (right_term n x.now cols.now) sums.old }
 {
     let mut i: usize = 0;
     while i < r {
@@ -277,8 +276,8 @@ fn right_on(
 ) -> usize
     requires shape { Shape q n r x.now s.now × (length e.now ≡ 8 * r) × (length out.old ≡ 8 * r) }
     requires cols_len { (length cols.old ≡ 8 * n) × (length line.old ≡ n) × (length sums.old ≡ 8 * r) }
-    ensures value { result ≡ first_over_lem q (was x) }
-    ensures out_value { Below q (was x) → left out ≡ right_mixed q r n 8 (was x) (was s) (was e) }
+    ensures value { result ≡ first_over_lem q x.now }
+    ensures out_value { Below q x.now → out.new ≡ right_mixed q r n 8 x.now s.now e.now }
 {
     columns(n, s, cols);
     words(e, sums);
@@ -292,7 +291,7 @@ fn right_on(
 // 10 % of Frodo's products on an AMD EPYC. Which arrays these are was found by looking; no proof rests on it, and another compiler may lay them otherwise.
 pub fn mix_right(q: u32, n: usize, x: &[u32], s: &[i32], e: &[i32], out: &mut [u32]) -> usize
     requires { (Shape q n n x.now s.now × (length out.old ≡ 8 * n)) × (length e.now ≡ 8 * n) }
-    ensures { (result ≡ first_over_lem q (was x)) × (Below q (was x) → left out ≡ right_mixed q n n 8 (was x) (was s) (was e)) }
+    ensures { (result ≡ first_over_lem q x.now) × (Below q x.now → out.new ≡ right_mixed q n n 8 x.now s.now e.now) }
 {
     let mut cols: [u16; 6920] = [0; 6920];
     let mut line: [u16; 864] = [0; 864];
@@ -390,8 +389,8 @@ fn left_block(
 ) -> usize
     requires q_nonzero { (0 < q) × (q ≤ 32768) × (length s.now ≡ 8 * n) × (t + m ≤ n) × (length y.now ≡ m * c) }
     requires block_len { (length block.old ≡ m * c) × (length sums.old ≡ 8 * c) }
-    ensures value { result ≡ first_over_lem q (was y) }
-    ensures sums_value { Below q (was y) → left sums ≡ gained 65536 m (part_term n c t (was s) (was y)) (was sums) }
+    ensures value { result ≡ first_over_lem q y.now }
+    ensures sums_value { Below q y.now → sums.new ≡ gained 65536 m (part_term n c t s.now y.now) sums.old }
 {
     let at = narrow_below(q, y, block);
     add_left(n, c, t, m, s, block, sums);
@@ -418,8 +417,8 @@ fn left_rows(
 ) -> usize
     requires q_nonzero { (0 < q) × (q ≤ 32768) × (length y.now ≡ c * n) × (length s.now ≡ 8 * n) }
     requires c_in_bounds { (4 * c ≤ length block.old) × (length sums.old ≡ 8 * c) }
-    ensures value { result ≡ first_over_lem q (was y) }
-    ensures sums_value { Below q (was y) → left sums ≡ gained 65536 n (left_term n c (was s) (was y)) (was sums) }
+    ensures value { result ≡ first_over_lem q y.now }
+    ensures sums_value { Below q y.now → sums.new ≡ gained 65536 n (left_term n c s.now y.now) sums.old }
 {
     let mut t: usize = 0;
     while t < n {
@@ -449,8 +448,8 @@ fn left_on(
 ) -> usize
     requires shape { Shape q n n y.now s.now × (length e.now ≡ 8 * n) × (length out.old ≡ 8 * n) }
     requires factors_len { (length factors.old ≡ 8 * n) × (4 * n ≤ length block.old) × (length sums.old ≡ 8 * n) }
-    ensures value { result ≡ first_over_lem q (was y) }
-    ensures out_value { Below q (was y) → left out ≡ left_mixed q n n 8 (was s) (was y) (was e) }
+    ensures value { result ≡ first_over_lem q y.now }
+    ensures out_value { Below q y.now → out.new ≡ left_mixed q n n 8 s.now y.now e.now }
 {
     words(s, factors);
     words(e, sums);
@@ -462,7 +461,7 @@ fn left_on(
 // SY + E, where Y has n rows and n columns: S'A + E'. The answer is the place of the first number of Y that is q or more, or Y's length.
 pub fn mix_left(q: u32, n: usize, s: &[i32], y: &[u32], e: &[i32], out: &mut [u32]) -> usize
     requires { (Shape q n n y.now s.now × (length out.old ≡ 8 * n)) × (length e.now ≡ 8 * n) }
-    ensures { (result ≡ first_over_lem q (was y)) × (Below q (was y) → left out ≡ left_mixed q n n 8 (was s) (was y) (was e)) }
+    ensures { (result ≡ first_over_lem q y.now) × (Below q y.now → out.new ≡ left_mixed q n n 8 s.now y.now e.now) }
 {
     let mut factors: [u16; 6912] = [0; 6912];
     let mut block: [u16; 3460] = [0; 3460];
@@ -485,7 +484,7 @@ pub fn mix_left(q: u32, n: usize, s: &[i32], y: &[u32], e: &[i32], out: &mut [u3
 // Challenge, with the columns of S made so, took 4.6 microseconds in place of 3.6.
 fn turn_column(y: &[u32], j: usize, out: &mut [u16])
     requires { (j < 8) × (length y.now ≡ 8 * length out.old) × Below 32768 y.now }
-    ensures { left out ≡ tab (length (was out)) (λ t. get_or (was y) (t * 8 + j) 0) }
+    ensures { out.new ≡ tab (length out.old) (λ t. get_or y.now (t * 8 + j) 0) }
 {
     let mut t: usize = 0;
     while t < out.len() {
@@ -497,7 +496,7 @@ fn turn_column(y: &[u32], j: usize, out: &mut [u16])
 // The columns of Y, one after the other.
 fn turn(n: usize, y: &[u32], cols: &mut [u16])
     requires { (0 < n) × (length y.now ≡ 8 * n) × (length cols.old ≡ 8 * n) × Below 32768 y.now }
-    ensures { left cols ≡ turned n (was y) }
+    ensures { cols.new ≡ turned n y.now }
 {
     let mut j: usize = 0;
     while j < 8 {
@@ -521,7 +520,7 @@ fn eight_on(
 )
     requires fit { Fit q n 8 y.now s.now × (length e.now ≡ 64) × (length out.old ≡ 64) }
     requires ws_len { (length ws.old ≡ 8 * n) × (length cols.old ≡ 8 * n) × (length sums.old ≡ 64) }
-    ensures { left out ≡ left_mixed q n 8 8 (was s) (was y) (was e) }
+    ensures { out.new ≡ left_mixed q n 8 8 s.now y.now e.now }
 {
     turn(n, y, cols);
     words(s, ws);
@@ -535,7 +534,7 @@ fn eight_on(
 pub fn mix_eight(q: u32, n: usize, s: &[i32], y: &[u32], e: &[i32], out: &mut [u32])
     requires fit { Fit q n 8 y.now s.now × (length out.old ≡ 64) }
     requires e_len { length e.now ≡ 64 }
-    ensures { left out ≡ left_mixed q n 8 8 (was s) (was y) (was e) }
+    ensures { out.new ≡ left_mixed q n 8 8 s.now y.now e.now }
 {
     let mut ws: [u16; 6916] = [0; 6916];
     let mut cols: [u16; 6920] = [0; 6920];

@@ -7,7 +7,6 @@
 --   offer, offer_of      what is lent, from the slices of a contract, and from lists
 use Rattle.lists.specs.Kit.{List, [], ℕ, ℤ, length}
 use Rattle.schemes.specs.{Schemes.fixed_of, declared.Scheme.Scheme, declared.Named.Named, declared.Named.TheVariants.Known, declared.Named.TheVariants.Unknown}
-use Rattle.lists.specs.Lent.{Lent, was}
 use Rattle.packing.specs.Packing.{packed}
 use Rattle.refusals.specs.Refusals.{◌then◌, length_is_lem, room_for_lem, publics_in_lem, not_blank_lem, secrets_in_lem}
 use Rattle.refusals.specs.{Seen.Seen, Seen.shown, declared.Verdict.Verdict, declared.Verdict.TheVariants.Fail, declared.Refusal.TheVariants.NoScheme}
@@ -48,5 +47,5 @@ offer_result c x n = shown (offer_tests c x n) (offer_message c x) 0 n
 abbrev pub offer_of : List ℕ → List ℤ → List ℤ → List ℕ → Offer
 offer_of a s e seed = record { a = a; s = s; e = e; seed = seed }
 
-abbrev pub offer : Lent (List ℕ) → Lent (List ℤ) → Lent (List ℤ) → Lent (List ℕ) → Offer
-offer a s e seed = offer_of (was a) (was s) (was e) (was seed)
+abbrev pub offer : List ℕ → List ℤ → List ℤ → List ℕ → Offer
+offer a s e seed = offer_of a s e seed

@@ -1,8 +1,7 @@
 // Offer, the first call of 01, on lent slices. It has no `requires`: it ends with an answer or a numbered refusal, given exactly when its condition holds;
 // after a refusal its output is zero from end to end, and after a success what lies behind the answer is zero.
-ghost use Rattle.lists.specs.Kit.{◌≡◌};
+ghost use Rattle.lists.specs.Kit.{◌≡◌, length};
 ghost use Rattle.schemes.specs.Schemes.{scheme_of_lem};
-ghost use Rattle.lists.specs.Lent.{left, room};
 ghost use Rattle.refusals.specs.Seen.{told, seen};
 ghost use Rattle.offer.specs.Offer.{offer, offer_result};
 
@@ -21,7 +20,7 @@ pub fn offer(
     seed: &[u8],
     message: &mut [u8],
 ) -> Answer
-    ensures { seen (told result) (left message) ≡ offer_result (scheme_of_lem scheme) (offer a s e seed) (room message) }
+    ensures { seen (told result) message.new ≡ offer_result (scheme_of_lem scheme) (offer a.now s.now e.now seed.now) (length message.old) }
 {
     let Named::Known(known) = refusals::named(scheme, message) else {
         return Answer::Refused(Refusal::NoScheme);

@@ -3,7 +3,6 @@
 ghost use Rattle.lists.specs.Kit.{◌≡◌, length, replicate};
 ghost use Rattle.schemes.specs.Schemes.{fixed_of};
 ghost use Rattle.schemes.specs.declared.Named.TheVariants.{Known};
-ghost use Rattle.lists.specs.Lent.{was, left, room};
 ghost use Rattle.refusals.specs.Refusals.{◌then◌, publics_in_lem, not_blank_lem};
 ghost use Rattle.refusals.specs.Seen.{told, seen};
 ghost use Rattle.refusals.specs.Steps.{Laid};
@@ -26,8 +25,8 @@ fn lay(
 ) -> Verdict
     requires opens { Opens scheme (offer_of a.now s.now e.now seed.now) }
     requires n_value { (n ≡ (fixed_of scheme).secret) × (length out.old ≡ (fixed_of scheme).opening) }
-    ensures value { result ≡ publics_in_lem (fixed_of scheme).q (was a) then not_blank_lem (offered_part scheme (offer a s e seed)) }
-    ensures laid { Laid result (offer_message (Known scheme) (offer a s e seed)) out }
+    ensures value { result ≡ publics_in_lem (fixed_of scheme).q a.now then not_blank_lem (offered_part scheme (offer a.now s.now e.now seed.now)) }
+    ensures laid { Laid result (offer_message (Known scheme) (offer a.now s.now e.now seed.now)) out.old out.new }
 {
     let mut b = [0u32; 6912];
     let at = values::products::offer(scheme, a, s, e, &mut b[..n]);
@@ -42,7 +41,7 @@ fn lay(
 fn send(scheme: Scheme, a: &[u32], s: &[i32], e: &[i32], seed: &[u8], message: &mut [u8]) -> Answer
     requires message_value { offer_ahead scheme (offer_of a.now s.now e.now seed.now) (length message.old) ≡ Pass }
     requires message_value_2 { message.old ≡ replicate (length message.old) 0 }
-    ensures { seen (told result) (left message) ≡ offer_result (Known scheme) (offer a s e seed) (room message) }
+    ensures { seen (told result) message.new ≡ offer_result (Known scheme) (offer a.now s.now e.now seed.now) (length message.old) }
 {
     let f = scheme.fixed();
     let n = f.opening;
@@ -62,7 +61,7 @@ pub(crate) fn offer_in(
     message: &mut [u8],
 ) -> Answer
     requires { message.old ≡ replicate (length message.old) 0 }
-    ensures { seen (told result) (left message) ≡ offer_result (Known scheme) (offer a s e seed) (room message) }
+    ensures { seen (told result) message.new ≡ offer_result (Known scheme) (offer a.now s.now e.now seed.now) (length message.old) }
 {
     let v = crate::tests::offer(scheme, a, s, e, seed, message.len());
     match v {

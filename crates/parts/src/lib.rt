@@ -2,7 +2,6 @@
 // of A that are held back. Here they are put together, from any word on, and taken apart again for crate `matrix`, whose products serve both ways. The laws,
 // that the cut makes no difference, stand in `proofs/`, once over n, the modulus and the number of rows.
 ghost use Rattle.lists.specs.Kit.{◌≡◌, ◌++◌, ◌+◌, ◌*◌, ◌%◌, ◌<◌, ◌≤◌, length, take, drop, set};
-ghost use Rattle.lists.specs.Lent.{was, left};
 ghost use Rattle.lists.specs.Ranges.{Below};
 ghost use Rattle.matrix.specs.Steps.{part_term, columns_from};
 ghost use Rattle.matrix.specs.Words.{gained, right_term};
@@ -11,7 +10,7 @@ ghost use Rattle.parts.specs.Parts.{wrap, words, pairs};
 // Both words of each number. Where the lower word lies first the compiler makes one copy of it.
 pub fn unpair(xs: &[u32], out: &mut [u16])
     requires { length out.old ≡ 2 * length xs.now }
-    ensures { left out ≡ words (was xs) }
+    ensures { out.new ≡ words xs.now }
 {
     let mut i: usize = 0;
     while i < xs.len() {
@@ -25,7 +24,7 @@ pub fn unpair(xs: &[u32], out: &mut [u16])
 // The way back.
 pub fn pair(ws: &[u16], out: &mut [u32])
     requires { length ws.now ≡ 2 * length out.old }
-    ensures { left out ≡ pairs (was ws) }
+    ensures { out.new ≡ pairs ws.now }
 {
     let mut i: usize = 0;
     while i < out.len() {
@@ -37,7 +36,7 @@ pub fn pair(ws: &[u16], out: &mut [u32])
 // Word k: the lower half of number k / 2 where k is even, and its upper half where k is odd.
 fn put_word(k: usize, w: u32, out: &mut [u32])
     requires { (k < 2 * length out.old) × (w < 65536) }
-    ensures { words (left out) ≡ set (words (was out)) k w }
+    ensures { words out.new ≡ set (words out.old) k w }
 {
     let i = k / 2;
     let x = out[i];
@@ -51,7 +50,7 @@ fn put_word(k: usize, w: u32, out: &mut [u32])
 // Numbers of 16 bits as words, from word `at` on, one at a time.
 fn put_each(at: usize, ws: &[u32], out: &mut [u32])
     requires { (at + length ws.now ≤ 2 * length out.old) × Below 65536 ws.now }
-    ensures { left out ≡ pairs (take at (words (was out)) ++ (was ws ++ drop (at + length (was ws)) (words (was out)))) }
+    ensures { out.new ≡ pairs (take at (words out.old) ++ (ws.now ++ drop (at + length ws.now) (words out.old))) }
 {
     let mut k: usize = 0;
     while k < ws.len() {
@@ -63,7 +62,7 @@ fn put_each(at: usize, ws: &[u32], out: &mut [u32])
 // Two numbers of 16 bits in one.
 fn pair_numbers(xs: &[u32], out: &mut [u32])
     requires { (length xs.now ≡ 2 * length out.old) × Below 65536 xs.now }
-    ensures { left out ≡ pairs (was xs) }
+    ensures { out.new ≡ pairs xs.now }
 {
     let mut i: usize = 0;
     while i < out.len() {
@@ -75,7 +74,7 @@ fn pair_numbers(xs: &[u32], out: &mut [u32])
 // Numbers of 16 bits as words, from word `at` on. Where they start and end on whole numbers, as whole rows do, two go at a time.
 pub fn put_words(at: usize, ws: &[u32], out: &mut [u32])
     requires { (at + length ws.now ≤ 2 * length out.old) × Below 65536 ws.now }
-    ensures { left out ≡ pairs (take at (words (was out)) ++ (was ws ++ drop (at + length (was ws)) (words (was out)))) }
+    ensures { out.new ≡ pairs (take at (words out.old) ++ (ws.now ++ drop (at + length ws.now) (words out.old))) }
 {
     if at % 2 == 0 && ws.len() % 2 == 0 {
         let a = at / 2;
@@ -97,7 +96,7 @@ pub fn add_rows(
     sums: &mut [u16],
 )
     requires { (n ≡ 2 * h) × (length x.now ≡ r * h) × (length cols.now ≡ 8 * n) × (length line.old ≡ n) × (length sums.old ≡ 8 * r) }
-    ensures { left sums ≡ gained wrap n (right_term n (words (was x)) (was cols)) (was sums) }
+    ensures { sums.new ≡ gained wrap n (right_term n (words x.now) cols.now) sums.old }
 {
     let mut i: usize = 0;
     while i < r {
@@ -112,7 +111,7 @@ pub fn add_rows(
 // Reply: 2c words of each row of S', from word 2r on, which 2c rows of A meet; a row has 2h words.
 pub fn some_columns(h: usize, r: usize, c: usize, secret: &[u32], out: &mut [u16])
     requires { (0 < c) × (r + c ≤ h) × (length secret.now ≡ 8 * h) × (length out.old ≡ 8 * (2 * c)) }
-    ensures { left out ≡ columns_from (2 * h) (2 * r) (2 * c) (words (was secret)) }
+    ensures { out.new ≡ columns_from (2 * h) (2 * r) (2 * c) (words secret.now) }
 {
     let w = 2 * c;
     let mut k: usize = 0;
@@ -136,7 +135,7 @@ pub fn add_left(
     sums: &mut [u16],
 )
     requires { (0 < n) × (n ≡ 2 * h) × (w % 4 ≡ 0) × (length s.now ≡ 8 * w) × (length x.now ≡ w * h) × (length block.old ≡ 4 * n) × (length sums.old ≡ 8 * n) }
-    ensures { left sums ≡ gained wrap w (part_term w n 0 (was s) (words (was x))) (was sums) }
+    ensures { sums.new ≡ gained wrap w (part_term w n 0 s.now (words x.now)) sums.old }
 {
     let l = 4 * h;
     let mut t: usize = 0;

@@ -12,7 +12,6 @@ ghost use Rattle.schemes.specs.Schemes.{bcns};
 ghost use Rattle.numbers.specs.Residue.{residue};
 ghost use Rattle.lists.specs.Entries.{tab, nums, ints};
 ghost use Rattle.lists.specs.Ranges.{Below, Within, Stored};
-ghost use Rattle.lists.specs.Lent.{was, left, room};
 ghost use Rattle.polynomial.specs.Product.{mixed, bare};
 ghost use Rattle.polynomial.specs.Steps.{Fit, lift, upper, lower, span, slide, Pair, Ready, Prepared, Halved, Made, Joined, Windowed};
 
@@ -91,7 +90,7 @@ fn dot_product(w: &[i16], s: &[i16]) -> i32
 // The n dot products of the secrets in front of t with its entries from x on, at `to` of o.
 fn dots(t: &[i16], x: usize, o: &mut [i64], to: usize, n: usize)
     requires { Prepared x n t.now × (to + n ≤ length o.old) }
-    ensures { Stored (pos 0) (was o) to n (slide n (λ (i : ℕ). ints (was t) (x + i)) (ints (was t))) (left o) }
+    ensures { Stored (pos 0) o.old to n (slide n (λ (i : ℕ). ints t.now (x + i)) (ints t.now)) o.new }
 {
     let mut k: usize = 0;
     while k < n {
@@ -131,7 +130,7 @@ fn low_half(y: u32) -> i16
 fn lay_halves(q: u32, d: &[u32], t: &mut [i16], n: usize)
     requires ready { Ready q n d.now t.old }
     requires n_in_bounds { (2 * n ≤ length d.now) × (5 * n ≤ length t.old) }
-    ensures { Halved q n (was d) (was t) (left t) }
+    ensures { Halved q n d.now t.old t.new }
 {
     let mut i: usize = 0;
     while i < 2 * n {
@@ -154,7 +153,7 @@ fn together(high: i64, low: i64) -> i64
 // The n sums of high halves in front of o, put together with those of low halves behind them.
 fn put_together(o: &mut [i64], n: usize)
     requires { (n + n ≤ length o.old) × ((k : ℕ) → k < n + n → nat_abs (ints o.old k) ≤ 2 ^ 31) }
-    ensures { Stored (pos 0) (was o) 0 n (λ (k : ℕ). ints (was o) k *ℤ pos 65536 +ℤ ints (was o) (n + k)) (left o) }
+    ensures { Stored (pos 0) o.old 0 n (λ (k : ℕ). ints o.old k *ℤ pos 65536 +ℤ ints o.old (n + k)) o.new }
 {
     let mut k: usize = 0;
     while k < n {
@@ -168,7 +167,7 @@ fn put_together(o: &mut [i64], n: usize)
 fn leaf(q: u32, d: &[u32], t: &mut [i16], o: &mut [i64], n: usize)
     requires ready { Ready q n d.now t.old }
     requires n_in_bounds { (2 * n ≤ length d.now) × (5 * n ≤ length t.old) × (n + n ≤ length o.old) }
-    ensures { Made q n (nums (was d)) (ints (was t)) (left o) }
+    ensures { Made q n (nums d.now) (ints t.old) o.new }
 {
     let three = 3 * n;
     lay_halves(q, d, t, n);
@@ -189,7 +188,7 @@ fn minus(q: u32, x: u32, y: u32) -> u32
 fn subtract(q: u32, d: &mut [u32], x: usize, y: usize, to: usize, n: usize)
     requires n_bound { (x + n ≤ to) × (y + n ≤ to) × (to + n ≤ length d.old) }
     requires by_index { (i : ℕ) → i < to → get_or d.old i 0 < q }
-    ensures { Stored 0 (was d) to n (λ (k : ℕ). residue q (nums (was d) (x + k) -ℤ nums (was d) (y + k))) (left d) }
+    ensures { Stored 0 d.old to n (λ (k : ℕ). residue q (nums d.old (x + k) -ℤ nums d.old (y + k))) d.new }
 {
     let mut i: usize = 0;
     while i < n {
@@ -204,7 +203,7 @@ fn subtract(q: u32, d: &mut [u32], x: usize, y: usize, to: usize, n: usize)
 // The first n secrets, copied behind them.
 fn copy(t: &mut [i16], to: usize, n: usize)
     requires { (n ≤ to) × (to + n ≤ length t.old) }
-    ensures { Stored (pos 0) (was t) to n (ints (was t)) (left t) }
+    ensures { Stored (pos 0) t.old to n (ints t.old) t.new }
 {
     let mut i: usize = 0;
     while i < n {
@@ -217,7 +216,7 @@ fn copy(t: &mut [i16], to: usize, n: usize)
 // The n secrets at x, added to those at `to`.
 fn add(t: &mut [i16], to: usize, x: usize, n: usize)
     requires { (to + n ≤ x) × (x + n ≤ length t.old) × ((k : ℕ) → k < x + n → nat_abs (ints t.old k) ≤ 16383) }
-    ensures { Stored (pos 0) (was t) to n (λ (k : ℕ). ints (was t) (to + k) +ℤ ints (was t) (x + k)) (left t) }
+    ensures { Stored (pos 0) t.old to n (λ (k : ℕ). ints t.old (to + k) +ℤ ints t.old (x + k)) t.new }
 {
     let mut k: usize = 0;
     while k < n {
@@ -231,7 +230,7 @@ fn add(t: &mut [i16], to: usize, x: usize, n: usize)
 // The n sums at x, added to those at `to`.
 fn add_sums(o: &mut [i64], to: usize, x: usize, n: usize)
     requires { (to + n ≤ x) × (x + n ≤ length o.old) × ((k : ℕ) → k < x + n → nat_abs (ints o.old k) ≤ 2 ^ 61) }
-    ensures { Stored (pos 0) (was o) to n (λ (k : ℕ). ints (was o) (to + k) +ℤ ints (was o) (x + k)) (left o) }
+    ensures { Stored (pos 0) o.old to n (λ (k : ℕ). ints o.old (to + k) +ℤ ints o.old (x + k)) o.new }
 {
     let mut k: usize = 0;
     while k < n {
@@ -244,7 +243,7 @@ fn add_sums(o: &mut [i64], to: usize, x: usize, n: usize)
 
 fn join(o: &mut [i64], m: usize)
     requires { (m + m + m ≤ length o.old) × ((k : ℕ) → k < m + m + m → nat_abs (ints o.old k) ≤ 2 ^ 60) }
-    ensures { Joined m (was o) (left o) }
+    ensures { Joined m o.old o.new }
 {
     let two = m + m;
     add_sums(o, 0, two, m);
@@ -270,7 +269,7 @@ fn half(n: usize) -> usize
 fn windows(q: u32, d: &mut [u32], t: &mut [i16], o: &mut [i64], n: usize)
     requires ready { Ready q n d.old t.old }
     requires n_in_bounds { (4 * n ≤ length d.old) × (5 * n ≤ length t.old) × (n + n ≤ length o.old) }
-    ensures { Made q n (nums (was d)) (ints (was t)) (left o) }
+    ensures { Made q n (nums d.old) (ints t.old) o.new }
 {
     let m = half(n);
     if m == 0 {
@@ -299,7 +298,7 @@ fn negative(q: u32, x: u32) -> u32
 
 fn lay_negatives(q: u32, a: &[u32], d: &mut [u32])
     requires { Below q a.now × (length a.now ≤ length d.old) }
-    ensures { Stored 0 (was d) 0 (room a - 1) (λ (i : ℕ). residue q (neg_ℤ (nums (was a) (i + 1)))) (left d) }
+    ensures { Stored 0 d.old 0 (length a.now - 1) (λ (i : ℕ). residue q (neg_ℤ (nums a.now (i + 1)))) d.new }
 {
     let mut i: usize = 0;
     while i + 1 < a.len() {
@@ -310,7 +309,7 @@ fn lay_negatives(q: u32, a: &[u32], d: &mut [u32])
 
 fn lay_numbers(a: &[u32], d: &mut [u32], to: usize)
     requires { to + length a.now ≤ length d.old }
-    ensures { Stored 0 (was d) to (room a) (λ (i : ℕ). get_or (was a) i 0) (left d) }
+    ensures { Stored 0 d.old to (length a.now) (λ (i : ℕ). get_or a.now i 0) d.new }
 {
     let mut i: usize = 0;
     while i < a.len() {
@@ -324,7 +323,7 @@ fn lay_numbers(a: &[u32], d: &mut [u32], to: usize)
 fn lay_window(q: u32, a: &[u32], d: &mut [u32])
     requires below { Below q a.now × Below q d.old }
     requires a_nonzero { (0 < length a.now) × (length a.now + length a.now ≤ length d.old) }
-    ensures { Windowed q (room a) (was a) (left d) }
+    ensures { Windowed q (length a.now) a.now d.new }
 {
     lay_negatives(q, a, d);
     lay_numbers(a, d, a.len() - 1);
@@ -333,7 +332,7 @@ fn lay_window(q: u32, a: &[u32], d: &mut [u32])
 // The secret, its last entry first, in front of t.
 fn reverse(s: &[i32], t: &mut [i16])
     requires { (length s.now ≤ length t.old) × Within 51 s.now }
-    ensures { Stored (pos 0) (was t) 0 (room s) (λ (j : ℕ). ints (was s) (room s - (j + 1))) (left t) }
+    ensures { Stored (pos 0) t.old 0 (length s.now) (λ (j : ℕ). ints s.now (length s.now - (j + 1))) t.new }
 {
     let mut j: usize = 0;
     while j < s.len() {
@@ -353,7 +352,7 @@ fn reduce(x: i64, e: i32) -> u32
 fn entries(o: &[i64], e: &[i32], out: &mut [u32])
     requires out_in_bounds { (length out.old ≤ length o.now) × (length e.now ≡ length out.old) }
     requires by_index { (k : ℕ) → k < length out.old → nat_abs (ints o.now k) ≤ 2 ^ 60 }
-    ensures { left out ≡ tab (room out) (λ (k : ℕ). residue bcns.q (ints (was o) k +ℤ ints (was e) k)) }
+    ensures { out.new ≡ tab (length out.old) (λ (k : ℕ). residue bcns.q (ints o.now k +ℤ ints e.now k)) }
 {
     let mut k: usize = 0;
     while k < out.len() {

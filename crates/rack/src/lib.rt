@@ -1,7 +1,6 @@
 // Eight studios, one rack: 02, request k. A rack is eight records of 131 lent bytes, each its studio's number and then a session's 130 bytes. A call lends the
 // 130 bytes behind its own slot's number to the session's call; the bytes of other studios stay as they are and decide nothing.
 ghost use Rattle.lists.specs.Kit.{◌≡◌, length};
-ghost use Rattle.lists.specs.Lent.{was, left, room};
 ghost use Rattle.refusals.specs.Refusals.{number_in, place_in};
 ghost use Rattle.refusals.specs.Seen.{told, seen};
 ghost use Rattle.offer.specs.Offer as offers;
@@ -17,7 +16,7 @@ use reply::ReplyAnswer;
 
 // The tests of a studio's slot: 16, then 10. Close does not look at the slot's number.
 fn slot(bytes: &[u8], studio: u32, closes: bool) -> Verdict
-    ensures { result ≡ slot_tests (was bytes) studio closes }
+    ensures { result ≡ slot_tests bytes.now studio closes }
 {
     if 8 <= studio {
         return Verdict::Fail(Refusal::NoStudio);
@@ -46,7 +45,7 @@ pub fn offer(
     seed: &[u8],
     message: &mut [u8],
 ) -> Answer
-    ensures { turn (left bytes) (of_offer (seen (told result) (left message))) ≡ moved_in (was bytes) studio (offering scheme (offers.offer a s e seed) (room message)) }
+    ensures { turn bytes.new (of_offer (seen (told result) message.new)) ≡ moved_in bytes.old studio (offering scheme (offers.offer a.now s.now e.now seed.now) (length message.old)) }
 {
     if let Verdict::Fail(refusal) = slot(bytes, studio, false) {
         return session::stop(refusal, message);
@@ -71,8 +70,8 @@ pub fn reply(
     key: &mut [u8],
     digest: &mut [u8],
 ) -> ReplyAnswer
-    ensures { turn (left bytes) (of_reply (replies.reply_seen (replies.reply_told result) (left message) (left key) (left digest)))
-        ≡ moved_in (was bytes) studio (replying scheme (replies.reply opening a s1 e1 e2 coins) (replies.reply_rooms message key digest)) }
+    ensures { turn bytes.new (of_reply (replies.reply_seen (replies.reply_told result) message.new key.new digest.new))
+        ≡ moved_in bytes.old studio (replying scheme (replies.reply opening.now a.now s1.now e1.now e2.now coins.now) (replies.reply_rooms message.old key.old digest.old)) }
 {
     if let Verdict::Fail(refusal) = slot(bytes, studio, false) {
         return session::stop_reply(refusal, message, key, digest);
@@ -104,8 +103,8 @@ pub fn finish(
     key: &mut [u8],
     digest: &mut [u8],
 ) -> FinishAnswer
-    ensures { turn (left bytes) (of_finish (finishes.finish_seen (finishes.finish_told result) (left key) (left digest)))
-        ≡ moved_in (was bytes) studio (finishing scheme (finishes.finish reply s) (finishes.finish_rooms key digest)) }
+    ensures { turn bytes.new (of_finish (finishes.finish_seen (finishes.finish_told result) key.new digest.new))
+        ≡ moved_in bytes.old studio (finishing scheme (finishes.finish reply.now s.now) (finishes.finish_rooms key.old digest.old)) }
 {
     if let Verdict::Fail(refusal) = slot(bytes, studio, false) {
         return session::stop_finish(refusal, key, digest);
@@ -117,7 +116,7 @@ pub fn finish(
 
 // Close for one, whatever its slot holds: the number and 130 zeros.
 pub fn close(bytes: &mut [u8], studio: u32) -> Verdict
-    ensures { turn (left bytes) (of_close (told_by result)) ≡ moved_in (was bytes) studio closing }
+    ensures { turn bytes.new (of_close (told_by result)) ≡ moved_in bytes.old studio closing }
 {
     let v = slot(bytes, studio, true);
     let Verdict::Pass = v else {
@@ -133,7 +132,7 @@ pub fn close(bytes: &mut [u8], studio: u32) -> Verdict
 // An empty rack.
 fn lay_empty(bytes: &mut [u8])
     requires { length bytes.old ≡ 1048 }
-    ensures { left bytes ≡ empty_rack }
+    ensures { bytes.new ≡ empty_rack }
 {
     lists::zero_bytes(bytes);
     bytes[131] = 1;
@@ -147,7 +146,7 @@ fn lay_empty(bytes: &mut [u8])
 
 // Clear: eight idle records with their numbers, whatever the bytes held.
 pub fn clear(bytes: &mut [u8]) -> Verdict
-    ensures { record { number = number_in result; place = place_in result; rack = left bytes } ≡ cleared (was bytes) }
+    ensures { record { number = number_in result; place = place_in result; rack = bytes.new } ≡ cleared bytes.old }
 {
     if bytes.len() != 1048 {
         return Verdict::Fail(Refusal::OutOfStage);

@@ -4,7 +4,6 @@
 ghost use Rattle.lists.specs.Kit.{◌≡◌, ℕ, ◌*◌, ◌≤◌, ◌<◌, length, replicate};
 ghost use Rattle.schemes.specs.Schemes.{scheme_of_lem};
 ghost use Rattle.lists.specs.First.{first_over_lem};
-ghost use Rattle.lists.specs.Lent.{left, room};
 ghost use Rattle.packing.specs.Packing.{unpacked};
 ghost use Rattle.refusals.specs.Refusals.{◌then◌, length_is_lem, length_up_to_lem, room_for_lem, in_turn, table_in_lem, publics_in_lem, not_blank_lem, received_in, secrets_in_lem, number_of, place_of};
 ghost use Rattle.refusals.specs.Steps.{◌before◌, outcome};
@@ -100,8 +99,8 @@ pub enum Outcome {
 
 // The scheme that a number names. The output, a call's last, is zeroed first, so that whatever ends the call leaves zeros.
 pub fn named(scheme: u32, out: &mut [u8]) -> Named
-    ensures value { (result ≡ scheme_of_lem scheme) × (left out ≡ replicate (room out) 0) }
-    ensures out_value { left out ≡ replicate (length (left out)) 0 }
+    ensures value { (result ≡ scheme_of_lem scheme) × (out.new ≡ replicate (length out.old) 0) }
+    ensures out_value { out.new ≡ replicate (length out.new) 0 }
 {
     lists::zero_bytes(out);
     schemes::scheme_of(scheme)

@@ -14,7 +14,6 @@
 --   reply_seen t message key digest   what is seen where Reply tells t and leaves these outputs
 use Rattle.lists.specs.Kit.{List, [], ◌++◌, ℕ, ℤ, length}
 use Rattle.schemes.specs.{Schemes.fixed_of, declared.Scheme.Scheme, declared.Named.Named, declared.Named.TheVariants.Known, declared.Named.TheVariants.Unknown}
-use Rattle.lists.specs.Lent.{Lent, was, room}
 use Rattle.packing.specs.Packing.{packed}
 use Rattle.sponge.specs.Sponge.{sha3}
 use Rattle.refusals.specs.Refusals.{number_in, place_in, ◌then◌, length_is_lem, room_for_lem, publics_in_lem, message_in, not_blank_lem, secrets_in_lem}
@@ -108,14 +107,14 @@ reply_result c x m = reply_shown (reply_tests c x m) c x m
 abbrev pub reply_of : List ℕ → List ℕ → List ℤ → List ℤ → List ℤ → List ℕ → Reply
 reply_of opening a s' e' e'' coins = record { opening = opening; a = a; s' = s'; e' = e'; e'' = e''; coins = coins }
 
-abbrev pub reply : Lent (List ℕ) → Lent (List ℕ) → Lent (List ℤ) → Lent (List ℤ) → Lent (List ℤ) → Lent (List ℕ) → Reply
-reply opening a s1 e1 e2 coins = reply_of (was opening) (was a) (was s1) (was e1) (was e2) (was coins)
+abbrev pub reply : List ℕ → List ℕ → List ℤ → List ℤ → List ℤ → List ℕ → Reply
+reply opening a s1 e1 e2 coins = reply_of opening a s1 e1 e2 coins
 
 abbrev pub reply_rooms_of : ℕ → ℕ → ℕ → ReplyRooms
 reply_rooms_of message key digest = record { message = message; key = key; digest = digest }
 
-abbrev pub reply_rooms : Lent (List ℕ) → Lent (List ℕ) → Lent (List ℕ) → ReplyRooms
-reply_rooms message key digest = reply_rooms_of (room message) (room key) (room digest)
+abbrev pub reply_rooms : List ℕ → List ℕ → List ℕ → ReplyRooms
+reply_rooms message key digest = reply_rooms_of (length message) (length key) (length digest)
 
 abbrev pub reply_told : ReplyAnswer → Told ReplyCounts
 reply_told (Done n) = done n

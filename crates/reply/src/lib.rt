@@ -2,7 +2,6 @@
 // after a refusal every output is zero from end to end, and after a success what lies behind the answer is zero.
 ghost use Rattle.lists.specs.Kit.{◌≡◌};
 ghost use Rattle.schemes.specs.Schemes.{scheme_of_lem};
-ghost use Rattle.lists.specs.Lent.{left};
 ghost use Rattle.reply.specs.Reply.{reply, reply_rooms, reply_told, reply_seen, reply_result};
 
 mod replier;
@@ -38,7 +37,7 @@ pub fn reply(
     key: &mut [u8],
     digest: &mut [u8],
 ) -> ReplyAnswer
-    ensures { reply_seen (reply_told result) (left message) (left key) (left digest) ≡ reply_result (scheme_of_lem scheme) (reply opening a s1 e1 e2 coins) (reply_rooms message key digest) }
+    ensures { reply_seen (reply_told result) message.new key.new digest.new ≡ reply_result (scheme_of_lem scheme) (reply opening.now a.now s1.now e1.now e2.now coins.now) (reply_rooms message.old key.old digest.old) }
 {
     replier::zero_outputs(message, key);
     let Named::Known(known) = refusals::named(scheme, digest) else {

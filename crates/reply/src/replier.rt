@@ -4,7 +4,6 @@
 ghost use Rattle.lists.specs.Kit.{◌≡◌, length, replicate};
 ghost use Rattle.schemes.specs.Schemes.{fixed_of};
 ghost use Rattle.schemes.specs.declared.Named.TheVariants.{Known};
-ghost use Rattle.lists.specs.Lent.{was, left, room};
 ghost use Rattle.refusals.specs.Refusals.{◌then◌, publics_in_lem, not_blank_lem};
 ghost use Rattle.refusals.specs.Steps.{Laid};
 ghost use Rattle.refusals.specs.declared.Verdict.TheVariants.{Pass};
@@ -18,8 +17,8 @@ use schemes::Scheme;
 
 // Both outputs become zeros, whatever they held.
 pub(crate) fn zero_outputs(message: &mut [u8], key: &mut [u8])
-    ensures message_value { left message ≡ replicate (room message) 0 }
-    ensures key_value { left key ≡ replicate (room key) 0 }
+    ensures message_value { message.new ≡ replicate (length message.old) 0 }
+    ensures key_value { key.new ≡ replicate (length key.old) 0 }
 {
     lists::zero_bytes(message);
     lists::zero_bytes(key);
@@ -40,9 +39,9 @@ fn lay(
 ) -> Verdict
     requires settles { Settles scheme b.old s1.now e2.now coins.now × Mixes scheme a.now s1.now e1.now }
     requires message_len { (length message.old ≡ (fixed_of scheme).reply) × (length key.old ≡ (fixed_of scheme).key) }
-    ensures value { result ≡ publics_in_lem (fixed_of scheme).q (was a) then not_blank_lem (replied_part scheme (was a) (was s1) (was e1)) }
-    ensures laid { Laid result (message_from scheme (was b) (was a) (was s1) (was e1) (was e2) (was coins)) message }
-    ensures laid_2 { Laid result (key_from scheme (was b) (was s1) (was e2) (was coins)) key }
+    ensures value { result ≡ publics_in_lem (fixed_of scheme).q a.now then not_blank_lem (replied_part scheme a.now s1.now e1.now) }
+    ensures laid { Laid result (message_from scheme b.old a.now s1.now e1.now e2.now coins.now) message.old message.new }
+    ensures laid_2 { Laid result (key_from scheme b.old s1.now e2.now coins.now) key.old key.new }
 {
     let f = scheme.fixed();
     let n = f.mixed;
@@ -85,9 +84,9 @@ fn with_secrets(
 ) -> Verdict
     requires replying { Replying scheme a.now s1.now e1.now e2.now coins.now message.old key.old }
     requires counted { Counted (fixed_of scheme).secret (fixed_of scheme).q b.old }
-    ensures value { result ≡ publics_in_lem (fixed_of scheme).q (was a) then reply_last scheme (was a) (was s1) (was e1) (was e2) }
-    ensures laid { Laid result (message_from scheme (was b) (was a) (was s1) (was e1) (was e2) (was coins)) message }
-    ensures laid_2 { Laid result (key_from scheme (was b) (was s1) (was e2) (was coins)) key }
+    ensures value { result ≡ publics_in_lem (fixed_of scheme).q a.now then reply_last scheme a.now s1.now e1.now e2.now }
+    ensures laid { Laid result (message_from scheme b.old a.now s1.now e1.now e2.now coins.now) message.old message.new }
+    ensures laid_2 { Laid result (key_from scheme b.old s1.now e2.now coins.now) key.old key.new }
 {
     let f = scheme.fixed();
     let v = wire::steps::reply_secrets(scheme, s1, e1, e2);
@@ -112,9 +111,9 @@ fn with_opening(
 ) -> Verdict
     requires replying { Replying scheme a.now s1.now e1.now e2.now coins.now message.old key.old }
     requires opening_len { length opening.now ≡ (fixed_of scheme).opening }
-    ensures value { result ≡ publics_in_lem (fixed_of scheme).q (was a) then reply_rest scheme (reply opening a s1 e1 e2 coins) }
-    ensures laid { Laid result (reply_message (Known scheme) (reply opening a s1 e1 e2 coins)) message }
-    ensures laid_2 { Laid result (reply_key (Known scheme) (reply opening a s1 e1 e2 coins)) key }
+    ensures value { result ≡ publics_in_lem (fixed_of scheme).q a.now then reply_rest scheme (reply opening.now a.now s1.now e1.now e2.now coins.now) }
+    ensures laid { Laid result (reply_message (Known scheme) (reply opening.now a.now s1.now e1.now e2.now coins.now)) message.old message.new }
+    ensures laid_2 { Laid result (reply_key (Known scheme) (reply opening.now a.now s1.now e1.now e2.now coins.now)) key.old key.new }
 {
     let f = scheme.fixed();
     let n = f.secret;
@@ -144,7 +143,7 @@ fn reply_sized(
         ≡ Pass }
     requires message_value { (message.old ≡ replicate (length message.old) 0) × (key.old ≡ replicate (length key.old) 0) }
     requires digest_value_2 { digest.old ≡ replicate (length digest.old) 0 }
-    ensures { reply_seen (reply_told result) (left message) (left key) (left digest) ≡ reply_result (Known scheme) (reply opening a s1 e1 e2 coins) (reply_rooms message key digest) }
+    ensures { reply_seen (reply_told result) message.new key.new digest.new ≡ reply_result (Known scheme) (reply opening.now a.now s1.now e1.now e2.now coins.now) (reply_rooms message.old key.old digest.old) }
 {
     let f = scheme.fixed();
     let n = f.reply;
@@ -187,7 +186,7 @@ pub(crate) fn reply_in(
 ) -> ReplyAnswer
     requires message_value { (message.old ≡ replicate (length message.old) 0) × (key.old ≡ replicate (length key.old) 0) }
     requires digest_value { digest.old ≡ replicate (length digest.old) 0 }
-    ensures { reply_seen (reply_told result) (left message) (left key) (left digest) ≡ reply_result (Known scheme) (reply opening a s1 e1 e2 coins) (reply_rooms message key digest) }
+    ensures { reply_seen (reply_told result) message.new key.new digest.new ≡ reply_result (Known scheme) (reply opening.now a.now s1.now e1.now e2.now coins.now) (reply_rooms message.old key.old digest.old) }
 {
     let v = crate::tests::reply_sizes(
         scheme,

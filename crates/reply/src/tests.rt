@@ -15,7 +15,7 @@ fn reply_lengths(
     e2: &[i32],
     coins: &[u8],
 ) -> Verdict
-    ensures { result ≡ reply_lengths_lem scheme (reply opening a s1 e1 e2 coins) }
+    ensures { result ≡ reply_lengths_lem scheme (reply opening.now a.now s1.now e1.now e2.now coins.now) }
 {
     let f = scheme.fixed();
     let v = refusals::length_is(Verdict::Pass, opening.len(), f.opening);
@@ -38,7 +38,7 @@ pub(crate) fn reply_sizes(
     keyroom: usize,
     digestroom: usize,
 ) -> Verdict
-    ensures { result ≡ reply_sizes_lem scheme (reply opening a s1 e1 e2 coins) (reply_rooms_of room keyroom digestroom) }
+    ensures { result ≡ reply_sizes_lem scheme (reply opening.now a.now s1.now e1.now e2.now coins.now) (reply_rooms_of room keyroom digestroom) }
 {
     let f = scheme.fixed();
     let v = reply_lengths(scheme, opening, a, s1, e1, e2, coins);

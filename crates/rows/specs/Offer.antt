@@ -11,7 +11,6 @@
 --   offer_begin_lem, offer_begin_of  what is lent, from the slices of a contract, and from lists
 use Rattle.lists.specs.Kit.{List, [], ◌++◌, ℕ, ℤ, length, take, replicate}
 use Rattle.schemes.specs.{Schemes.fixed_of, declared.Named.Named, declared.Scheme.Scheme, declared.Named.TheVariants.Known, declared.Named.TheVariants.Unknown}
-use Rattle.lists.specs.Lent.{Lent, was}
 use Rattle.packing.specs.Packing.{packed}
 use Rattle.matrix.specs.Words.{reduced}
 use Rattle.refusals.specs.Refusals.{◌then◌, length_is_lem, room_for_lem, in_turn, not_blank_lem, secrets_in_lem}
@@ -78,5 +77,5 @@ offer_end_result st n =
 abbrev pub offer_begin_of : List ℤ → List ℤ → List ℕ → OfferBegin
 offer_begin_of s e seed = record { s = s; e = e; seed = seed }
 
-abbrev pub offer_begin_lem : Lent (List ℤ) → Lent (List ℤ) → Lent (List ℕ) → OfferBegin
-offer_begin_lem s e seed = offer_begin_of (was s) (was e) (was seed)
+abbrev pub offer_begin_lem : List ℤ → List ℤ → List ℕ → OfferBegin
+offer_begin_lem s e seed = offer_begin_of s e seed

@@ -10,7 +10,6 @@
 --   reply_begin_lem, reply_begin_of  what is lent, from the slices of a contract, and from lists
 use Rattle.lists.specs.Kit.{List, [], ◌++◌, ℕ, ℤ, length, replicate}
 use Rattle.schemes.specs.{Schemes.fixed_of, declared.Named.Named, declared.Scheme.Scheme, declared.Named.TheVariants.Known, declared.Named.TheVariants.Unknown}
-use Rattle.lists.specs.Lent.{Lent, was}
 use Rattle.packing.specs.Packing.{packed}
 use Rattle.sponge.specs.Sponge.{sha3}
 use Rattle.refusals.specs.Refusals.{◌then◌, length_is_lem, room_for_lem, in_turn, not_blank_lem, secrets_in_lem}
@@ -86,5 +85,5 @@ reply_end_result st m =
 abbrev pub reply_begin_of : List ℕ → List ℤ → List ℤ → List ℤ → ReplyBegin
 reply_begin_of opening s' e' e'' = record { opening = opening; s' = s'; e' = e'; e'' = e'' }
 
-abbrev pub reply_begin_lem : Lent (List ℕ) → Lent (List ℤ) → Lent (List ℤ) → Lent (List ℤ) → ReplyBegin
-reply_begin_lem opening s1 e1 e2 = reply_begin_of (was opening) (was s1) (was e1) (was e2)
+abbrev pub reply_begin_lem : List ℕ → List ℤ → List ℤ → List ℤ → ReplyBegin
+reply_begin_lem opening s1 e1 e2 = reply_begin_of opening s1 e1 e2

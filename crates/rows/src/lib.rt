@@ -1,8 +1,7 @@
 // Frodo by rows: 02, request e. Offer and Reply take A row by row, in parts of any length: begin, parts, end, with a lent state between them. None has a
 // `requires`: each ends with an answer or a numbered refusal. A refused begin zeroes the state; a refused part or end leaves it as it was, and every output
 // zero, and may be tried again; a good end zeroes it.
-ghost use Rattle.lists.specs.Kit.{◌≡◌};
-ghost use Rattle.lists.specs.Lent.{was, left, room};
+ghost use Rattle.lists.specs.Kit.{◌≡◌, length};
 ghost use Rattle.refusals.specs.Seen.{told, seen};
 ghost use Rattle.reply.specs.Reply.{reply_rooms, reply_told, reply_seen};
 ghost use Rattle.rows_state.specs.State.{frodo_of_lem};
@@ -20,7 +19,7 @@ use schemes::Named;
 
 // Offer, begin: the secret s, the noise e and the seed into the state, afresh.
 pub fn offer_begin(scheme: u32, s: &[i32], e: &[i32], seed: &[u8], state: &mut [u32]) -> Verdict
-    ensures { state_seen result (left state) ≡ offer_begin_result (frodo_of_lem scheme) (offer_begin_lem s e seed) (room state) }
+    ensures { state_seen result state.new ≡ offer_begin_result (frodo_of_lem scheme) (offer_begin_lem s.now e.now seed.now) (length state.old) }
 {
     lists::zero_numbers(state);
     let Named::Known(known) = rows_state::state::frodo_of(scheme) else {
@@ -31,14 +30,14 @@ pub fn offer_begin(scheme: u32, s: &[i32], e: &[i32], seed: &[u8], state: &mut [
 
 // Offer, a part: some numbers of the current row of A.
 pub fn offer_part(p: &[u32], state: &mut [u32]) -> Verdict
-    ensures { state_seen result (left state) ≡ part_result Call.Offer (was state) (was p) }
+    ensures { state_seen result state.new ≡ part_result Call.Offer state.old p.now }
 {
     rows_state::part::part(Call::Offer, p, state)
 }
 
 // Offer, end: the opening message.
 pub fn offer_end(state: &mut [u32], message: &mut [u8]) -> Answer
-    ensures { record { answer = seen (told result) (left message); state = left state } ≡ offer_end_result (was state) (room message) }
+    ensures { record { answer = seen (told result) message.new; state = state.new } ≡ offer_end_result state.old (length message.old) }
 {
     match opener::send(state, message) {
         Answer::Refused(r) => Answer::Refused(r),
@@ -58,7 +57,7 @@ pub fn reply_begin(
     e2: &[i32],
     state: &mut [u32],
 ) -> Verdict
-    ensures { state_seen result (left state) ≡ reply_begin_result (frodo_of_lem scheme) (reply_begin_lem opening s1 e1 e2) (room state) }
+    ensures { state_seen result state.new ≡ reply_begin_result (frodo_of_lem scheme) (reply_begin_lem opening.now s1.now e1.now e2.now) (length state.old) }
 {
     lists::zero_numbers(state);
     let Named::Known(known) = rows_state::state::frodo_of(scheme) else {
@@ -69,7 +68,7 @@ pub fn reply_begin(
 
 // Reply, a part: some numbers of the current row of A.
 pub fn reply_part(p: &[u32], state: &mut [u32]) -> Verdict
-    ensures { state_seen result (left state) ≡ part_result Call.Reply (was state) (was p) }
+    ensures { state_seen result state.new ≡ part_result Call.Reply state.old p.now }
 {
     rows_state::part::part(Call::Reply, p, state)
 }
@@ -81,7 +80,7 @@ pub fn reply_end(
     key: &mut [u8],
     digest: &mut [u8],
 ) -> ReplyAnswer
-    ensures { record { answer = reply_seen (reply_told result) (left message) (left key) (left digest); state = left state } ≡ reply_end_result (was state) (reply_rooms message key digest) }
+    ensures { record { answer = reply_seen (reply_told result) message.new key.new digest.new; state = state.new } ≡ reply_end_result state.old (reply_rooms message.old key.old digest.old) }
 {
     lists::zero_bytes(digest);
     let a = replier::send(state, message, key, digest.len());

@@ -3,7 +3,6 @@ ghost use Rattle.lists.specs.Kit.{◌≡◌, true, ◌++◌, ◌≤◌, length, 
 ghost use Rattle.schemes.specs.Schemes.{family_of, fixed_of};
 ghost use Rattle.schemes.specs.declared.Family.{Family};
 ghost use Rattle.schemes.specs.declared.Named.TheVariants.{Known};
-ghost use Rattle.lists.specs.Lent.{was, left, room};
 ghost use Rattle.lists.specs.Ranges.{Below};
 ghost use Rattle.refusals.specs.Refusals.{not_blank_lem};
 ghost use Rattle.refusals.specs.Seen.{told, seen};
@@ -19,7 +18,7 @@ use schemes::{Named, Scheme};
 
 fn begin_tests(scheme: Scheme, s: &[i32], e: &[i32], seed: &[u8], room: usize) -> Verdict
     requires { (fixed_of scheme).n ≤ 864 }
-    ensures { result ≡ offer_begin_tests (Known scheme) (offer_begin_lem s e seed) room }
+    ensures { result ≡ offer_begin_tests (Known scheme) (offer_begin_lem s.now e.now seed.now) room }
 {
     let f = scheme.fixed();
     let v = refusals::length_is(Verdict::Pass, s.len(), f.secret);
@@ -33,7 +32,7 @@ fn begin_tests(scheme: Scheme, s: &[i32], e: &[i32], seed: &[u8], room: usize) -
 // Bytes as numbers.
 fn spread(bytes: &[u8], out: &mut [u32])
     requires { length bytes.now ≡ length out.old }
-    ensures { left out ≡ was bytes }
+    ensures { out.new ≡ bytes.now }
 {
     let mut k: usize = 0;
     while k < out.len() {
@@ -45,7 +44,7 @@ fn spread(bytes: &[u8], out: &mut [u32])
 // What is kept for the end: the seed, and zeros behind it.
 fn lay_seed(seed: &[u8], kept: &mut [u32])
     requires { (length seed.now ≡ 16) × (kept.old ≡ replicate 64 0) }
-    ensures { left kept ≡ was seed ++ replicate 48 0 }
+    ensures { kept.new ≡ seed.now ++ replicate 48 0 }
 {
     spread(seed, &mut kept[..16]);
 }
@@ -58,7 +57,7 @@ pub(crate) fn begin_in(
     state: &mut [u32],
 ) -> Verdict
     requires { (family_of scheme ≡ Family.Frodo) × (state.old ≡ replicate (length state.old) 0) }
-    ensures { state_seen result (left state) ≡ offer_begin_result (Known scheme) (offer_begin_lem s e seed) (room state) }
+    ensures { state_seen result state.new ≡ offer_begin_result (Known scheme) (offer_begin_lem s.now e.now seed.now) (length state.old) }
 {
     let f = scheme.fixed();
     let v = begin_tests(scheme, s, e, seed, state.len());
@@ -75,7 +74,7 @@ pub(crate) fn begin_in(
 // Numbers that are bytes.
 fn gather(xs: &[u32], out: &mut [u8])
     requires { (length xs.now ≡ length out.old) × Below 256 xs.now }
-    ensures { left out ≡ was xs }
+    ensures { out.new ≡ xs.now }
 {
     let mut k: usize = 0;
     while k < out.len() {
@@ -87,8 +86,8 @@ fn gather(xs: &[u32], out: &mut [u8])
 // The opening of the sums and the seed that was kept. No scheme has more than 6912 sums.
 fn lay(scheme: Scheme, state: &[u32], out: &mut [u8]) -> Verdict
     requires { (family_of scheme ≡ Family.Frodo) × (begun Call.Offer (fixed_of scheme) state.now ≡ true) × (length out.old ≡ (fixed_of scheme).opening) }
-    ensures value { result ≡ not_blank_lem (sent_part scheme (was state)) }
-    ensures laid { Laid result (offer_end_message (Known scheme) (was state)) out }
+    ensures value { result ≡ not_blank_lem (sent_part scheme state.now) }
+    ensures laid { Laid result (offer_end_message (Known scheme) state.now) out.old out.new }
 {
     let f = scheme.fixed();
     let n = f.secret;
@@ -101,7 +100,7 @@ fn lay(scheme: Scheme, state: &[u32], out: &mut [u8]) -> Verdict
 
 fn end_tests(scheme: Scheme, state: &[u32], room: usize) -> Verdict
     requires { (fixed_of scheme).n ≤ 864 }
-    ensures { result ≡ offer_end_sizes scheme (was state) room }
+    ensures { result ≡ offer_end_sizes scheme state.now room }
 {
     let f = scheme.fixed();
     let v = refusals::in_turn(rows_state::state::is_complete(Call::Offer, f, state));
@@ -110,7 +109,7 @@ fn end_tests(scheme: Scheme, state: &[u32], room: usize) -> Verdict
 
 // The message into the zeroed output, where turn, room and the part about to be sent pass.
 pub(crate) fn send(state: &[u32], message: &mut [u8]) -> Answer
-    ensures { seen (told result) (left message) ≡ (offer_end_result (was state) (room message)).answer }
+    ensures { seen (told result) message.new ≡ (offer_end_result state.now (length message.old)).answer }
 {
     lists::zero_bytes(message);
     let Named::Known(scheme) = rows_state::state::named(state) else {

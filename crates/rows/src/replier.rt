@@ -4,7 +4,6 @@ ghost use Rattle.lists.specs.Kit.{◌≡◌, true, ◌≤◌, length, replicate}
 ghost use Rattle.schemes.specs.Schemes.{family_of, fixed_of};
 ghost use Rattle.schemes.specs.declared.Family.{Family};
 ghost use Rattle.schemes.specs.declared.Named.TheVariants.{Known};
-ghost use Rattle.lists.specs.Lent.{was, left, room};
 ghost use Rattle.refusals.specs.Refusals.{not_blank_lem};
 ghost use Rattle.refusals.specs.Seen.{if_passed};
 ghost use Rattle.refusals.specs.Steps.{Laid};
@@ -30,7 +29,7 @@ fn begin_sizes(
     room: usize,
 ) -> Verdict
     requires { (fixed_of scheme).n ≤ 864 }
-    ensures { result ≡ reply_begin_sizes scheme (reply_begin_lem opening s1 e1 e2) room }
+    ensures { result ≡ reply_begin_sizes scheme (reply_begin_lem opening.now s1.now e1.now e2.now) room }
 {
     let f = scheme.fixed();
     let v = refusals::length_is(Verdict::Pass, opening.len(), f.opening);
@@ -52,8 +51,8 @@ fn begin_sized(
 ) -> Verdict
     requires scheme_value { (family_of scheme ≡ Family.Frodo) × (state.old ≡ replicate (length state.old) 0) }
     requires state_value { reply_begin_sizes scheme (reply_begin_of opening.now s1.now e1.now e2.now) (length state.old) ≡ Pass }
-    ensures value { result ≡ reply_begin_rest scheme (reply_begin_lem opening s1 e1 e2) }
-    ensures state_value_2 { left state ≡ if_passed result (reply_state (Known scheme) (reply_begin_lem opening s1 e1 e2)) (was state) }
+    ensures value { result ≡ reply_begin_rest scheme (reply_begin_lem opening.now s1.now e1.now e2.now) }
+    ensures state_value_2 { state.new ≡ if_passed result (reply_state (Known scheme) (reply_begin_lem opening.now s1.now e1.now e2.now)) state.old }
 {
     let f = scheme.fixed();
     let m = f.secret;
@@ -82,7 +81,7 @@ pub(crate) fn begin_in(
     state: &mut [u32],
 ) -> Verdict
     requires { (family_of scheme ≡ Family.Frodo) × (state.old ≡ replicate (length state.old) 0) }
-    ensures { state_seen result (left state) ≡ reply_begin_result (Known scheme) (reply_begin_lem opening s1 e1 e2) (room state) }
+    ensures { state_seen result state.new ≡ reply_begin_result (Known scheme) (reply_begin_lem opening.now s1.now e1.now e2.now) (length state.old) }
 {
     let v = begin_sizes(scheme, opening, s1, e1, e2, state.len());
     match v {
@@ -95,9 +94,9 @@ pub(crate) fn begin_in(
 fn lay(scheme: Scheme, state: &[u32], message: &mut [u8], key: &mut [u8]) -> Verdict
     requires scheme_value { (family_of scheme ≡ Family.Frodo) × (begun Call.Reply (fixed_of scheme) state.now ≡ true) }
     requires message_len { (length message.old ≡ (fixed_of scheme).reply) × (length key.old ≡ (fixed_of scheme).key) }
-    ensures value { result ≡ not_blank_lem (sent_part scheme (was state)) }
-    ensures laid { Laid result (reply_end_message (Known scheme) (was state)) message }
-    ensures laid_2 { Laid result (reply_end_key (Known scheme) (was state)) key }
+    ensures value { result ≡ not_blank_lem (sent_part scheme state.now) }
+    ensures laid { Laid result (reply_end_message (Known scheme) state.now) message.old message.new }
+    ensures laid_2 { Laid result (reply_end_key (Known scheme) state.now) key.old key.new }
 {
     let f = scheme.fixed();
     let n = f.secret;
@@ -128,7 +127,7 @@ fn end_sizes(
     digestroom: usize,
 ) -> Verdict
     requires { (fixed_of scheme).n ≤ 864 }
-    ensures { result ≡ reply_end_sizes scheme (was state) (reply_rooms_of room keyroom digestroom) }
+    ensures { result ≡ reply_end_sizes scheme state.now (reply_rooms_of room keyroom digestroom) }
 {
     let f = scheme.fixed();
     let v = refusals::in_turn(rows_state::state::is_complete(Call::Reply, f, state));
@@ -139,7 +138,7 @@ fn end_sizes(
 
 // Message and key into the zeroed outputs, where turn, rooms and the part about to be sent pass. The digest has room for m bytes.
 pub(crate) fn send(state: &[u32], message: &mut [u8], key: &mut [u8], m: usize) -> ReplyAnswer
-    ensures { Sent result (was state) (reply_rooms_of (room message) (room key) m) (left message) (left key) }
+    ensures { Sent result state.now (reply_rooms_of (length message.old) (length key.old) m) message.new key.new }
 {
     lists::zero_bytes(message);
     lists::zero_bytes(key);

@@ -7,7 +7,6 @@ ghost use Rattle.lists.specs.Kit.{◌≡◌, true, ◌+◌, ◌*◌, ◌%◌, �
 ghost use Rattle.schemes.specs.Schemes.{family_of, fixed_of};
 ghost use Rattle.schemes.specs.declared.Family.{Family};
 ghost use Rattle.schemes.specs.declared.Named.TheVariants.{Known};
-ghost use Rattle.lists.specs.Lent.{was, left};
 ghost use Rattle.lists.specs.Ranges.{Below};
 ghost use Rattle.matrix.specs.Steps.{part_term};
 ghost use Rattle.matrix.specs.Words.{gained, right_term};
@@ -26,7 +25,7 @@ use schemes::{Named, Scheme};
 fn hold(n: usize, at: usize, p: &[u32], state: &mut [u32])
     requires sized { Sized n state.old × (at ≡ taken state.old) × (at % (16 * n) + length p.now ≤ 16 * n) × (at + length p.now ≤ n * n) }
     requires below { Below 65536 p.now }
-    ensures { left state ≡ holding n (was state) (was p) }
+    ensures { state.new ≡ holding n state.old p.now }
 {
     let d = 67 + 8 * n;
     parts::put_words(at % (16 * n), p, &mut state[d..]);
@@ -43,7 +42,7 @@ fn sums_right(
     sums: &mut [u16],
 )
     requires { Sized n state.now × (row + 16 ≤ n) × (length line.old ≡ n) × (length cols.old ≡ 8 * n) × (length sums.old ≡ 128) }
-    ensures { left sums ≡ gained wrap n (right_term n (held_of n (was state)) (secret_of n (was state))) (words (take 64 (drop (67 + 4 * n + row * 4) (was state)))) }
+    ensures { sums.new ≡ gained wrap n (right_term n (held_of n state.now) (secret_of n state.now)) (words (take 64 (drop (67 + 4 * n + row * 4) state.now))) }
 {
     let a = 67 + 4 * n;
     let h = 67 + 8 * n;
@@ -62,7 +61,7 @@ fn put_right(
     state: &mut [u32],
 )
     requires { Sized n state.old × (row + 16 ≤ n) × (length line.old ≡ n) × (length cols.old ≡ 8 * n) × (length sums.old ≡ 128) }
-    ensures { left state ≡ entered Call.Offer n (row * n) (was state) }
+    ensures { state.new ≡ entered Call.Offer n (row * n) state.old }
 {
     sums_right(n, row, state, line, cols, sums);
     let d = 67 + 4 * n + row * 4;
@@ -73,7 +72,7 @@ fn put_right(
 // as long. The columns have four words of room that nobody needs: with them all three arrays start where 16 bytes do.
 fn add_right_small(n: usize, row: usize, state: &mut [u32])
     requires { Sized n state.old × (row + 16 ≤ n) × (n ≤ 352) }
-    ensures { left state ≡ entered Call.Offer n (row * n) (was state) }
+    ensures { state.new ≡ entered Call.Offer n (row * n) state.old }
 {
     let mut line = [0u16; 352];
     let mut cols = [0u16; 2820];
@@ -85,7 +84,7 @@ fn add_right_small(n: usize, row: usize, state: &mut [u32])
 // Sixteen rows into the sums of Offer, in any set.
 fn add_right(n: usize, row: usize, state: &mut [u32])
     requires { Sized n state.old × (row + 16 ≤ n) }
-    ensures { left state ≡ entered Call.Offer n (row * n) (was state) }
+    ensures { state.new ≡ entered Call.Offer n (row * n) state.old }
 {
     if n <= 352 {
         return add_right_small(n, row, state);
@@ -107,7 +106,7 @@ fn sums_left(
     sums: &mut [u16],
 )
     requires { Sized n state.now × (row + 16 ≤ n) × (row % 16 ≡ 0) × (length block.old ≡ 4 * n) × (length secret.old ≡ 128) × (length sums.old ≡ 8 * n) }
-    ensures { left sums ≡ gained wrap 16 (part_term n n row (secret_of n (was state)) (held_of n (was state))) (sums_of n (was state)) }
+    ensures { sums.new ≡ gained wrap 16 (part_term n n row (secret_of n state.now) (held_of n state.now)) (sums_of n state.now) }
 {
     let a = 67 + 4 * n;
     let h = a + 4 * n;
@@ -125,7 +124,7 @@ fn put_left(
     state: &mut [u32],
 )
     requires { Sized n state.old × (row + 16 ≤ n) × (row % 16 ≡ 0) × (length block.old ≡ 4 * n) × (length secret.old ≡ 128) × (length sums.old ≡ 8 * n) }
-    ensures { left state ≡ entered Call.Reply n (row * n) (was state) }
+    ensures { state.new ≡ entered Call.Reply n (row * n) state.old }
 {
     sums_left(n, row, state, block, secret, sums);
     let a = 67 + 4 * n;
@@ -135,7 +134,7 @@ fn put_left(
 
 fn add_left(n: usize, row: usize, state: &mut [u32])
     requires { Sized n state.old × (row + 16 ≤ n) × (row % 16 ≡ 0) }
-    ensures { left state ≡ entered Call.Reply n (row * n) (was state) }
+    ensures { state.new ≡ entered Call.Reply n (row * n) state.old }
 {
     let mut block = [0u16; 3456];
     let mut secret = [0u16; 128];
@@ -148,7 +147,7 @@ fn add_left(n: usize, row: usize, state: &mut [u32])
 // The sixteen rows that are held back into the sums. Their words stay where they lie until the next rows take their place.
 fn enter(call: Call, n: usize, row: usize, state: &mut [u32])
     requires { Sized n state.old × (row + 16 ≤ n) × (row % 16 ≡ 0) }
-    ensures { left state ≡ entered call n (row * n) (was state) }
+    ensures { state.new ≡ entered call n (row * n) state.old }
 {
     match call {
         Call::Offer => add_right(n, row, state),
@@ -159,7 +158,7 @@ fn enter(call: Call, n: usize, row: usize, state: &mut [u32])
 // The part, as words, into the state, and the sixteen rows that it ends into the sums.
 fn put_part(call: Call, n: usize, p: &[u32], state: &mut [u32])
     requires { Sized n state.old × (fits_in_lem n (taken state.old) (length p.now) ≡ true) × Below 65536 p.now }
-    ensures { left state ≡ stepped call n (was state) (was p) }
+    ensures { state.new ≡ stepped call n state.old p.now }
 {
     let at = state[2] as usize;
     let e = at + p.len();
@@ -172,8 +171,8 @@ fn put_part(call: Call, n: usize, p: &[u32], state: &mut [u32])
 // Its numbers first.
 fn take_part(call: Call, q: u32, n: usize, p: &[u32], state: &mut [u32]) -> Verdict
     requires { (0 < q) × (q ≤ 32768) × Sized n state.old × (fits_in_lem n (taken state.old) (length p.now) ≡ true) }
-    ensures value { result ≡ publics_in_lem q (was p) }
-    ensures state_value { left state ≡ if_passed result (stepped call n (was state) (was p)) (was state) }
+    ensures value { result ≡ publics_in_lem q p.now }
+    ensures state_value { state.new ≡ if_passed result (stepped call n state.old p.now) state.old }
 {
     let v = refusals::publics_in(Verdict::Pass, q, p);
     match v {
@@ -187,8 +186,8 @@ fn take_part(call: Call, q: u32, n: usize, p: &[u32], state: &mut [u32]) -> Verd
 
 fn part_in(call: Call, scheme: Scheme, p: &[u32], state: &mut [u32]) -> Verdict
     requires { family_of scheme ≡ Family.Frodo }
-    ensures value { result ≡ part_tests call (Known scheme) (was state) (was p) }
-    ensures state_value { left state ≡ if_passed result (stepped call (fixed_of scheme).n (was state) (was p)) (was state) }
+    ensures value { result ≡ part_tests call (Known scheme) state.old p.now }
+    ensures state_value { state.new ≡ if_passed result (stepped call (fixed_of scheme).n state.old p.now) state.old }
 {
     let f = scheme.fixed();
     let v = refusals::in_turn(crate::state::may_take(call, f, state, p.len()));
@@ -199,7 +198,7 @@ fn part_in(call: Call, scheme: Scheme, p: &[u32], state: &mut [u32]) -> Verdict
 }
 
 pub fn part(call: Call, p: &[u32], state: &mut [u32]) -> Verdict
-    ensures { state_seen result (left state) ≡ part_result call (was state) (was p) }
+    ensures { state_seen result state.new ≡ part_result call state.old p.now }
 {
     let Named::Known(known) = crate::state::named(state) else {
         return Verdict::Fail(Refusal::OutOfTurn);

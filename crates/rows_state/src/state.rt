@@ -1,7 +1,6 @@
 // What a state says: which scheme, whether a call has begun, and whether a part or an end has its turn; and its words, two in each number.
 ghost use Rattle.lists.specs.Kit.{◌≡◌, ◌++◌, ◌+◌, ◌*◌, ◌%◌, ◌<◌, ◌≤◌, length, replicate};
 ghost use Rattle.schemes.specs.Schemes.{fixed_of};
-ghost use Rattle.lists.specs.Lent.{was, left};
 ghost use Rattle.matrix.specs.Words.{words_of, reduced};
 ghost use Rattle.parts.specs.Parts.{wrap, pairs};
 ghost use Rattle.rows_state.specs.State.{frodo_of_lem, long, named, taken, saved_of, sums_of, laid, secret_words_lem, fresh, ◌and◌, all_below, saved_in, begun, fits_in_lem, complete, fills};
@@ -26,7 +25,7 @@ pub fn frodo_of(no: u32) -> Named
 
 // The scheme that a state names.
 pub fn named(state: &[u32]) -> Named
-    ensures { result ≡ named (was state) }
+    ensures { result ≡ named state.now }
 {
     if state.len() < 2 {
         return Named::Unknown;
@@ -35,7 +34,7 @@ pub fn named(state: &[u32]) -> Named
 }
 
 fn all_below(b: u32, xs: &[u32]) -> bool
-    ensures { result ≡ all_below b (was xs) }
+    ensures { result ≡ all_below b xs.now }
 {
     lists::first_over(b, xs) == xs.len()
 }
@@ -43,7 +42,7 @@ fn all_below(b: u32, xs: &[u32]) -> bool
 // The seed's bytes, then zeros.
 fn seed_kept(kept: &[u32]) -> bool
     requires { length kept.now ≡ 64 }
-    ensures { result ≡ saved_in Call.Offer 0 (was kept) }
+    ensures { result ≡ saved_in Call.Offer 0 kept.now }
 {
     if !all_below(256, &kept[..16]) {
         return false;
@@ -53,7 +52,7 @@ fn seed_kept(kept: &[u32]) -> bool
 
 fn kept_in(call: Call, q: u32, kept: &[u32]) -> bool
     requires { length kept.now ≡ 64 }
-    ensures { result ≡ saved_in call q (was kept) }
+    ensures { result ≡ saved_in call q kept.now }
 {
     match call {
         Call::Offer => seed_kept(kept),
@@ -67,7 +66,7 @@ fn kept_in(call: Call, q: u32, kept: &[u32]) -> bool
 // would still pass. A test at the end alone would be another rule than 02's.
 fn has_begun(call: Call, f: Fixed, state: &[u32]) -> bool
     requires { f.n ≤ 864 }
-    ensures { result ≡ begun call f (was state) }
+    ensures { result ≡ begun call f state.now }
 {
     if state.len() != 16 * f.n + 67 {
         return false;
@@ -96,7 +95,7 @@ fn fits_in(n: usize, at: usize, m: usize) -> bool
 // A part of m numbers has its turn.
 pub fn may_take(call: Call, f: Fixed, state: &[u32], m: usize) -> bool
     requires { (0 < f.n) × (f.n ≤ 864) }
-    ensures { result ≡ begun call f (was state) and fits_in_lem f.n (taken (was state)) m }
+    ensures { result ≡ begun call f state.now and fits_in_lem f.n (taken state.now) m }
 {
     if !has_begun(call, f, state) {
         return false;
@@ -107,7 +106,7 @@ pub fn may_take(call: Call, f: Fixed, state: &[u32], m: usize) -> bool
 // The end has its turn.
 pub fn is_complete(call: Call, f: Fixed, state: &[u32]) -> bool
     requires { f.n ≤ 864 }
-    ensures { result ≡ complete call f (was state) }
+    ensures { result ≡ complete call f state.now }
 {
     if !has_begun(call, f, state) {
         return false;
@@ -129,7 +128,7 @@ pub fn fills(n: usize, at: usize, m: usize) -> bool
 // The words of secret and noise into zeros; no row is held back yet.
 fn lay_pairs(n: usize, secret: &[u16], noise: &[u16], out: &mut [u32])
     requires { (n ≤ 864) × (length secret.now ≡ 8 * n) × (length noise.now ≡ 8 * n) × (out.old ≡ replicate (16 * n) 0) }
-    ensures { left out ≡ pairs (was secret) ++ (pairs (was noise) ++ replicate (8 * n) 0) }
+    ensures { out.new ≡ pairs secret.now ++ (pairs noise.now ++ replicate (8 * n) 0) }
 {
     let a = 4 * n;
     let e = a + 4 * n;
@@ -140,7 +139,7 @@ fn lay_pairs(n: usize, secret: &[u16], noise: &[u16], out: &mut [u32])
 // The words of the secret: Offer's in columns, Reply's as they lie.
 fn secret_words(call: Call, n: usize, s: &[i32], out: &mut [u16])
     requires { (0 < n) × (length s.now ≡ 8 * n) × (length out.old ≡ 8 * n) }
-    ensures { left out ≡ secret_words_lem call n (was s) }
+    ensures { out.new ≡ secret_words_lem call n s.now }
 {
     match call {
         Call::Offer => matrix::columns(n, s, out),
@@ -160,7 +159,7 @@ fn words_on(
 )
     requires n_nonzero { (0 < n) × (n ≤ 864) × (length s.now ≡ 8 * n) × (length e.now ≡ 8 * n) × (out.old ≡ replicate (16 * n) 0) }
     requires secret_len { (length secret.old ≡ 8 * n) × (length noise.old ≡ 8 * n) }
-    ensures { left out ≡ pairs (secret_words_lem call n (was s)) ++ (pairs (words_of wrap (was e)) ++ replicate (8 * n) 0) }
+    ensures { out.new ≡ pairs (secret_words_lem call n s.now) ++ (pairs (words_of wrap e.now) ++ replicate (8 * n) 0) }
 {
     secret_words(call, n, s, secret);
     matrix::words(e, noise);
@@ -169,7 +168,7 @@ fn words_on(
 
 fn lay_words(call: Call, n: usize, s: &[i32], e: &[i32], out: &mut [u32])
     requires { (0 < n) × (n ≤ 864) × (length s.now ≡ 8 * n) × (length e.now ≡ 8 * n) × (out.old ≡ replicate (16 * n) 0) }
-    ensures { left out ≡ pairs (secret_words_lem call n (was s)) ++ (pairs (words_of wrap (was e)) ++ replicate (8 * n) 0) }
+    ensures { out.new ≡ pairs (secret_words_lem call n s.now) ++ (pairs (words_of wrap e.now) ++ replicate (8 * n) 0) }
 {
     let mut secret = [0u16; 6912];
     let mut noise = [0u16; 6912];
@@ -181,7 +180,7 @@ fn lay_words(call: Call, n: usize, s: &[i32], e: &[i32], out: &mut [u32])
 pub fn lay_state(call: Call, scheme: Scheme, n: usize, s: &[i32], e: &[i32], state: &mut [u32])
     requires sized { Sized n state.old × (n ≡ (fixed_of scheme).n) × (state.old ≡ keeping n (saved_of state.old)) }
     requires s_len { (length s.now ≡ 8 * n) × (length e.now ≡ 8 * n) }
-    ensures { left state ≡ laid (fresh call scheme (saved_of (was state)) (was s) (was e)) }
+    ensures { state.new ≡ laid (fresh call scheme (saved_of state.old) s.now e.now) }
 {
     state[0] = call.tag();
     state[1] = scheme.number();
@@ -191,7 +190,7 @@ pub fn lay_state(call: Call, scheme: Scheme, n: usize, s: &[i32], e: &[i32], sta
 // The remainders of the sums, with room for their words. They are made without a division, as in `matrix`: a sum holds more of the secret than what is sent of it.
 fn reduce_on(q: u32, n: usize, state: &[u32], sums: &mut [u16], out: &mut [u32])
     requires { (0 < q) × (q ≤ 32768) × (65536 % q ≡ 0) × (n ≤ 864) × (length state.now ≡ long n) × (length sums.old ≡ 8 * n) × (length out.old ≡ 8 * n) }
-    ensures { left out ≡ reduced q (sums_of n (was state)) }
+    ensures { out.new ≡ reduced q (sums_of n state.now) }
 {
     let a = 67 + 4 * n;
     let e = a + 4 * n;
@@ -201,7 +200,7 @@ fn reduce_on(q: u32, n: usize, state: &[u32], sums: &mut [u16], out: &mut [u32])
 
 pub fn reduce(q: u32, n: usize, state: &[u32], out: &mut [u32])
     requires { (0 < q) × (q ≤ 32768) × (65536 % q ≡ 0) × (n ≤ 864) × (length state.now ≡ long n) × (length out.old ≡ 8 * n) }
-    ensures { left out ≡ reduced q (sums_of n (was state)) }
+    ensures { out.new ≡ reduced q (sums_of n state.now) }
 {
     let mut sums = [0u16; 6912];
     let k = 8 * n;

@@ -13,7 +13,7 @@ use Rattle.lists.specs.Kit.{◌≡◌, cond, List, [], ℕ, ◌*◌, ◌/◌, �
 use Rattle.schemes.specs.declared.Scheme.TheVariants.{Bcns, NewHope, Challenge, Classical, Recommended, Paranoid}
 use Rattle.schemes.specs.declared.Named.TheVariants.{Known, Unknown}
 use Rattle.schemes.specs.{Schemes.fixed_of, Schemes.family_of, Schemes.by_family, declared.Named.Named, declared.Scheme.Scheme}
-use Rattle.lists.specs.{Ranges.Below, Lent.Lent, Lent.was}
+use Rattle.lists.specs.Ranges.{Below}
 use Rattle.noise.specs.Noise.{new_hope_noise, frodo_noise_lem, d1, d2, d3, d4}
 use Rattle.bcns_noise.specs.{Noise.bcns_noise_lem, Noise.first_not_above_lem, Shown.Place}
 use Rattle.refusals.specs.Refusals.{number_in, place_in, ◌then◌, length_is_lem, room_for_lem, table_in_lem, secrets_in_lem}
@@ -27,8 +27,8 @@ pub record Noise : Type 0 where
 abbrev pub noise_of : List ℕ → List ℕ → Noise
 noise_of bytes table = record { bytes = bytes; table = table }
 
-abbrev pub noise : Lent (List ℕ) → Lent (List ℕ) → Noise
-noise bytes table = noise_of (was bytes) (was table)
+abbrev pub noise : List ℕ → List ℕ → Noise
+noise bytes table = noise_of bytes table
 
 unfoldable pub length_either_lem : ℕ → ℕ → ℕ → Verdict
 length_either_lem m x y = cond (eqb m x) Pass (length_is_lem m y)

@@ -2,7 +2,6 @@
 // a `requires`: each ends with an answer or a numbered refusal, given exactly when its condition holds; the whole output is zeroed first.
 ghost use Rattle.lists.specs.Kit.{◌≡◌, length, replicate};
 ghost use Rattle.schemes.specs.Schemes.{scheme_of_lem};
-ghost use Rattle.lists.specs.Lent.{was, left, room};
 ghost use Rattle.refusals.specs.Seen.{told, seen};
 ghost use Rattle.noise.specs.Expand.{rule_of_lem};
 ghost use Rattle.sampling.specs.Noise.{noise, noise_result};
@@ -17,7 +16,7 @@ use schemes::Named;
 // Noise: scheme, bytes, table. The values that the bytes give: 25 bytes a value in BCNS, by the table; four in NewHope and two in Frodo, which lend an empty
 // one.
 pub fn noise(scheme: u32, bytes: &[u8], table: &[u64], out: &mut [i32]) -> Answer
-    ensures { seen (told result) (left out) ≡ noise_result (scheme_of_lem scheme) (noise bytes table) (room out) }
+    ensures { seen (told result) out.new ≡ noise_result (scheme_of_lem scheme) (noise bytes.now table.now) (length out.old) }
 {
     lists::zero_values(out);
     let Named::Known(s) = schemes::scheme_of(scheme) else {
@@ -28,8 +27,8 @@ pub fn noise(scheme: u32, bytes: &[u8], table: &[u64], out: &mut [i32]) -> Answe
 
 // The rule that a number names. The output is zeroed first, so that whatever ends a call leaves zeros.
 fn named(rule: u32, out: &mut [u32]) -> Ruled
-    ensures value { (result ≡ rule_of_lem rule) × (left out ≡ replicate (room out) 0) }
-    ensures out_value { left out ≡ replicate (length (left out)) 0 }
+    ensures value { (result ≡ rule_of_lem rule) × (out.new ≡ replicate (length out.old) 0) }
+    ensures out_value { out.new ≡ replicate (length out.new) 0 }
 {
     lists::zero_numbers(out);
     noise::rule_of(rule)
@@ -37,7 +36,7 @@ fn named(rule: u32, out: &mut [u32]) -> Ruled
 
 // Expand: rule, stream. The first 1,024 numbers that the rule takes from it.
 pub fn expand(rule: u32, stream: &[u8], out: &mut [u32]) -> Answer
-    ensures { seen (told result) (left out) ≡ expand_result (rule_of_lem rule) (was stream) (room out) }
+    ensures { seen (told result) out.new ≡ expand_result (rule_of_lem rule) stream.now (length out.old) }
 {
     let Ruled::By(name) = named(rule, out) else {
         return Answer::Refused(Refusal::NoRule);
@@ -47,7 +46,7 @@ pub fn expand(rule: u32, stream: &[u8], out: &mut [u32]) -> Answer
 
 // Grow: rule, seed. The first 1,024 numbers that the rule takes from the blocks of SHAKE-128 of the seed.
 pub fn grow(rule: u32, seed: &[u8], out: &mut [u32]) -> Answer
-    ensures { seen (told result) (left out) ≡ grow_result (rule_of_lem rule) (was seed) (room out) }
+    ensures { seen (told result) out.new ≡ grow_result (rule_of_lem rule) seed.now (length out.old) }
 {
     let Ruled::By(name) = named(rule, out) else {
         return Answer::Refused(Refusal::NoRule);

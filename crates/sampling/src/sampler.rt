@@ -3,7 +3,6 @@
 ghost use Rattle.lists.specs.Kit.{◌≡◌, ◌++◌, ◌*◌, ◌/◌, ◌%◌, ◌≤◌, ◌<◌, length, drop, replicate, pos};
 ghost use Rattle.schemes.specs.Schemes.{family_of, by_family};
 ghost use Rattle.schemes.specs.declared.Named.TheVariants.{Known};
-ghost use Rattle.lists.specs.Lent.{was, left, room};
 ghost use Rattle.refusals.specs.Refusals.{◌then◌, table_in_lem};
 ghost use Rattle.refusals.specs.Seen.{told, seen};
 ghost use Rattle.refusals.specs.declared.Verdict.TheVariants.{Pass};
@@ -38,7 +37,7 @@ fn noise_sizes(
     room: usize,
 ) -> Verdict
     requires { (0 < each) × (each ≤ 25) }
-    ensures { result ≡ noise_sizes_lem s each words (noise bytes table) room }
+    ensures { result ≡ noise_sizes_lem s each words (noise bytes.now table.now) room }
 {
     let f = s.fixed();
     let v = length_either(bytes.len(), each * f.noise, each * f.mixed);
@@ -48,7 +47,7 @@ fn noise_sizes(
 
 // Each entry of the table is above its forerunner. The table is gone through only where nothing was refused before.
 fn table_ascends(v: Verdict, table: &[u64]) -> Verdict
-    ensures { result ≡ v then table_in_lem (first_not_above_lem (was table)) 51 }
+    ensures { result ≡ v then table_in_lem (first_not_above_lem table.now) 51 }
 {
     let Verdict::Pass = v else {
         return v;
@@ -58,7 +57,7 @@ fn table_ascends(v: Verdict, table: &[u64]) -> Verdict
 
 // BCNS alone has a table, 51 entries of three words.
 fn noise_tests(s: Scheme, bytes: &[u8], table: &[u64], room: usize) -> Verdict
-    ensures { result ≡ noise_tests_lem (Known s) (noise bytes table) room }
+    ensures { result ≡ noise_tests_lem (Known s) (noise bytes.now table.now) room }
 {
     match s.family() {
         Family::Bcns => table_ascends(noise_sizes(s, 25, 153, bytes, table, room), table),
@@ -69,7 +68,7 @@ fn noise_tests(s: Scheme, bytes: &[u8], table: &[u64], room: usize) -> Verdict
 
 // How many values the bytes give, whatever the table.
 fn noise_count(s: Scheme, bytes: &[u8]) -> usize
-    ensures { result ≡ length (was bytes) / by_family (family_of s) 25 4 2 }
+    ensures { result ≡ length bytes.now / by_family (family_of s) 25 4 2 }
 {
     match s.family() {
         Family::Bcns => bytes.len() / 25,
@@ -81,7 +80,7 @@ fn noise_count(s: Scheme, bytes: &[u8]) -> usize
 // The values, into the part that they fill.
 fn noise_fill(s: Scheme, bytes: &[u8], table: &[u64], out: &mut [i32])
     requires { (length bytes.now ≡ by_family (family_of s) 25 4 2 * length out.old) × (length table.now ≡ by_family (family_of s) 153 0 0) }
-    ensures { left out ≡ noise_values_lem (Known s) (noise bytes table) }
+    ensures { out.new ≡ noise_values_lem (Known s) (noise bytes.now table.now) }
 {
     match s {
         Scheme::Bcns => bcns_noise::values(table, bytes, out),
@@ -96,8 +95,8 @@ fn noise_fill(s: Scheme, bytes: &[u8], table: &[u64], out: &mut [i32])
 // The values at the front of the output, and how many they are.
 fn noise_values(s: Scheme, bytes: &[u8], table: &[u64], out: &mut [i32]) -> usize
     requires { noise_tests_lem (Known s) (noise_of bytes.now table.now) (length out.old) ≡ Pass }
-    ensures value { result ≡ length (noise_values_lem (Known s) (noise bytes table)) }
-    ensures out_value { left out ≡ noise_values_lem (Known s) (noise bytes table) ++ drop result (was out) }
+    ensures value { result ≡ length (noise_values_lem (Known s) (noise bytes.now table.now)) }
+    ensures out_value { out.new ≡ noise_values_lem (Known s) (noise bytes.now table.now) ++ drop result out.old }
 {
     let n = noise_count(s, bytes);
     noise_fill(s, bytes, table, &mut out[..n]);
@@ -107,7 +106,7 @@ fn noise_values(s: Scheme, bytes: &[u8], table: &[u64], out: &mut [i32]) -> usiz
 // Noise in a known scheme.
 pub(crate) fn noise_in(s: Scheme, bytes: &[u8], table: &[u64], out: &mut [i32]) -> Answer
     requires { out.old ≡ replicate (length out.old) (pos 0) }
-    ensures { seen (told result) (left out) ≡ noise_result (Known s) (noise bytes table) (room out) }
+    ensures { seen (told result) out.new ≡ noise_result (Known s) (noise bytes.now table.now) (length out.old) }
 {
     let v = noise_tests(s, bytes, table, out.len());
     match v {
@@ -118,7 +117,7 @@ pub(crate) fn noise_in(s: Scheme, bytes: &[u8], table: &[u64], out: &mut [i32]) 
 
 // Expand's tests of lengths.
 fn expand_sizes(stream: &[u8], room: usize) -> Verdict
-    ensures { result ≡ expand_sizes_lem (was stream) room }
+    ensures { result ≡ expand_sizes_lem stream.now room }
 {
     let v = refusals::length_up_to(Verdict::Pass, stream.len(), 65536);
     refusals::room_for(v, room, NewHope::PUBLIC)
@@ -128,7 +127,7 @@ fn expand_sizes(stream: &[u8], room: usize) -> Verdict
 fn expand_in(name: RuleName, stream: &[u8], out: &mut [u32]) -> Answer
     requires out_value { expand_sizes_lem stream.now (length out.old) ≡ Pass }
     requires out_value_2 { out.old ≡ replicate (length out.old) 0 }
-    ensures { seen (told result) (left out) ≡ expand_result (By name) (was stream) (room out) }
+    ensures { seen (told result) out.new ≡ expand_result (By name) stream.now (length out.old) }
 {
     let n = noise::expand(name, stream, &mut out[..NewHope::PUBLIC]);
     if n < NewHope::PUBLIC {
@@ -141,7 +140,7 @@ fn expand_in(name: RuleName, stream: &[u8], out: &mut [u32]) -> Answer
 // Expand by a known rule.
 pub(crate) fn expand_by(name: RuleName, stream: &[u8], out: &mut [u32]) -> Answer
     requires { out.old ≡ replicate (length out.old) 0 }
-    ensures { seen (told result) (left out) ≡ expand_result (By name) (was stream) (room out) }
+    ensures { seen (told result) out.new ≡ expand_result (By name) stream.now (length out.old) }
 {
     let v = expand_sizes(stream, out.len());
     match v {
@@ -152,7 +151,7 @@ pub(crate) fn expand_by(name: RuleName, stream: &[u8], out: &mut [u32]) -> Answe
 
 // Grow's tests of lengths.
 fn grow_sizes(seed: &[u8], room: usize) -> Verdict
-    ensures { result ≡ grow_sizes_lem (was seed) room }
+    ensures { result ≡ grow_sizes_lem seed.now room }
 {
     let v = refusals::length_is(Verdict::Pass, seed.len(), NewHope::SEED);
     refusals::room_for(v, room, NewHope::PUBLIC)
@@ -173,7 +172,7 @@ fn first_bytes(name: RuleName) -> usize
 fn grow_from(name: RuleName, seed: &[u8], bytes: &mut [u8], out: &mut [u32]) -> Answer
     requires out_value { (grow_sizes_lem seed.now (length out.old) ≡ Pass) × (length bytes.old ≤ 24 * 168) }
     requires out_value_2 { out.old ≡ replicate (length out.old) 0 }
-    ensures { seen (told result) (left out) ≡ expand_result (By name) (shake128 (was seed) (length (was bytes))) (room out) }
+    ensures { seen (told result) out.new ≡ expand_result (By name) (shake128 seed.now (length bytes.old)) (length out.old) }
 {
     sponge::shake128(seed, bytes);
     expand_in(name, bytes, out)
@@ -183,7 +182,7 @@ fn grow_from(name: RuleName, seed: &[u8], bytes: &mut [u8], out: &mut [u32]) -> 
 fn grow_first(name: RuleName, seed: &[u8], bytes: &mut [u8], out: &mut [u32]) -> Answer
     requires out_value { (grow_sizes_lem seed.now (length out.old) ≡ Pass) × (length bytes.old ≡ 24 * 168) }
     requires out_value_2 { out.old ≡ replicate (length out.old) 0 }
-    ensures { seen (told result) (left out) ≡ grow_result (By name) (was seed) (room out) }
+    ensures { seen (told result) out.new ≡ grow_result (By name) seed.now (length out.old) }
 {
     let n = first_bytes(name);
     let a = grow_from(name, seed, &mut bytes[..n], out);
@@ -197,7 +196,7 @@ fn grow_first(name: RuleName, seed: &[u8], bytes: &mut [u8], out: &mut [u32]) ->
 fn grow_in(name: RuleName, seed: &[u8], out: &mut [u32]) -> Answer
     requires out_value { grow_sizes_lem seed.now (length out.old) ≡ Pass }
     requires out_value_2 { out.old ≡ replicate (length out.old) 0 }
-    ensures { seen (told result) (left out) ≡ grow_result (By name) (was seed) (room out) }
+    ensures { seen (told result) out.new ≡ grow_result (By name) seed.now (length out.old) }
 {
     let mut blocks = [0u8; 4032];
     grow_first(name, seed, &mut blocks, out)
@@ -206,7 +205,7 @@ fn grow_in(name: RuleName, seed: &[u8], out: &mut [u32]) -> Answer
 // Grow by a known rule.
 pub(crate) fn grow_by(name: RuleName, seed: &[u8], out: &mut [u32]) -> Answer
     requires { out.old ≡ replicate (length out.old) 0 }
-    ensures { seen (told result) (left out) ≡ grow_result (By name) (was seed) (room out) }
+    ensures { seen (told result) out.new ≡ grow_result (By name) seed.now (length out.old) }
 {
     let v = grow_sizes(seed, out.len());
     match v {

@@ -1,9 +1,8 @@
 // A link session above the key agreement: 02, request a. A session goes in by value and comes back by value beside the call's answer. No call has a
 // `requires`: where the stage does not take the call it is refusal 10, before all of 01's, and a refused call leaves the session as it was. Of the key
 // agreement nothing is used but what its calls promise.
-ghost use Rattle.lists.specs.Kit.{◌≡◌, [], min, take};
+ghost use Rattle.lists.specs.Kit.{◌≡◌, [], min, take, length};
 ghost use Rattle.schemes.specs.Schemes.{scheme_of_lem};
-ghost use Rattle.lists.specs.Lent.{was, left, room};
 ghost use Rattle.schemes.specs.declared.Named.TheVariants.{Unknown};
 ghost use Rattle.refusals.specs.Seen.{told, seen, shown};
 ghost use Rattle.refusals.specs.declared.Verdict.TheVariants.{Fail};
@@ -117,7 +116,7 @@ fn smaller(a: usize, b: usize) -> usize
 
 // The first n bytes of an output in the key's place of 128, as far as there are so many and the place takes them.
 fn padded_key(key: &[u8], n: usize) -> [u8; 128]
-    ensures { result ≡ padded (take n (was key)) }
+    ensures { result ≡ padded (take n key.now) }
 {
     let mut place = no_key();
     let count = smaller(n, smaller(key.len(), 128));
@@ -127,7 +126,7 @@ fn padded_key(key: &[u8], n: usize) -> [u8; 128]
 
 // The session after a Reply or a Finish that nothing refused, with the first n bytes that it wrote as its key.
 pub fn keyed(scheme: u32, key: &[u8], n: usize) -> Session
-    ensures { result ≡ table.keyed (scheme_of_lem scheme) (take n (was key)) }
+    ensures { result ≡ table.keyed (scheme_of_lem scheme) (take n key.now) }
 {
     let Named::Known(known) = schemes::scheme_of(scheme) else {
         return idle();
@@ -140,7 +139,7 @@ pub fn keyed(scheme: u32, key: &[u8], n: usize) -> Session
 
 // The refusal of a call ahead of the one beneath: each output is zeroed, whatever it held. Of Offer:
 pub fn stop(refusal: Refusal, message: &mut [u8]) -> Answer
-    ensures { seen (told result) (left message) ≡ shown (Fail refusal) [] 0 (room message) }
+    ensures { seen (told result) message.new ≡ shown (Fail refusal) [] 0 (length message.old) }
 {
     lists::zero_bytes(message);
     Answer::Refused(refusal)
@@ -153,8 +152,8 @@ pub fn stop_reply(
     key: &mut [u8],
     digest: &mut [u8],
 ) -> ReplyAnswer
-    ensures { replies.reply_seen (replies.reply_told result) (left message) (left key) (left digest)
-        ≡ replies.outputs (Fail refusal) [] [] [] (replies.reply_rooms message key digest) }
+    ensures { replies.reply_seen (replies.reply_told result) message.new key.new digest.new
+        ≡ replies.outputs (Fail refusal) [] [] [] (replies.reply_rooms message.old key.old digest.old) }
 {
     lists::zero_bytes(message);
     lists::zero_bytes(key);
@@ -164,7 +163,7 @@ pub fn stop_reply(
 
 // Of Finish, in which a refusal shows the same whatever the scheme and the inputs are.
 pub fn stop_finish(refusal: Refusal, key: &mut [u8], digest: &mut [u8]) -> FinishAnswer
-    ensures { finish_seen (finish_told result) (left key) (left digest) ≡ finish_shown (Fail refusal) Unknown (finish_of [] []) (finish_rooms key digest) }
+    ensures { finish_seen (finish_told result) key.new digest.new ≡ finish_shown (Fail refusal) Unknown (finish_of [] []) (finish_rooms key.old digest.old) }
 {
     lists::zero_bytes(key);
     lists::zero_bytes(digest);
@@ -181,7 +180,7 @@ pub fn offer(
     seed: &[u8],
     message: &mut [u8],
 ) -> Moved
-    ensures { turn result.session (of_offer (seen (told result.answer) (left message))) ≡ moved session (offering scheme (offers.offer a s e seed) (room message)) }
+    ensures { turn result.session (of_offer (seen (told result.answer) message.new)) ≡ moved session (offering scheme (offers.offer a.now s.now e.now seed.now) (length message.old)) }
 {
     let stage = session.stage;
     if !is_idle(stage) {
@@ -212,8 +211,8 @@ pub fn reply(
     key: &mut [u8],
     digest: &mut [u8],
 ) -> ReplyMoved
-    ensures { turn result.session (of_reply (replies.reply_seen (replies.reply_told result.answer) (left message) (left key) (left digest)))
-        ≡ moved session (replying scheme (replies.reply opening a s1 e1 e2 coins) (replies.reply_rooms message key digest)) }
+    ensures { turn result.session (of_reply (replies.reply_seen (replies.reply_told result.answer) message.new key.new digest.new))
+        ≡ moved session (replying scheme (replies.reply opening.now a.now s1.now e1.now e2.now coins.now) (replies.reply_rooms message.old key.old digest.old)) }
 {
     let stage = session.stage;
     if !is_idle(stage) {
@@ -239,8 +238,8 @@ pub fn finish(
     key: &mut [u8],
     digest: &mut [u8],
 ) -> FinishMoved
-    ensures { turn result.session (of_finish (finish_seen (finish_told result.answer) (left key) (left digest)))
-        ≡ moved session (finishing scheme (finishes.finish reply s) (finish_rooms key digest)) }
+    ensures { turn result.session (of_finish (finish_seen (finish_told result.answer) key.new digest.new))
+        ≡ moved session (finishing scheme (finishes.finish reply.now s.now) (finish_rooms key.old digest.old)) }
 {
     let stage = session.stage;
     if !awaits(stage, scheme) {

@@ -1,7 +1,6 @@
 // A session behind a pointer: 130 lent bytes, taken apart into a session by value and laid out again. A buffer that no call leaves is in no stage at all:
 // every call but close gives 10 and leaves it as it is.
 ghost use Rattle.lists.specs.Kit.{◌≡◌, ◌≤◌, length, drop, []};
-ghost use Rattle.lists.specs.Lent.{was, left, room};
 ghost use Rattle.refusals.specs.Seen.{done, told, seen};
 ghost use Rattle.offer.specs.Offer as offers;
 ghost use Rattle.reply.specs.Reply as replies;
@@ -85,7 +84,7 @@ fn stage_in(stage: u8, scheme: u8) -> Found
 }
 
 pub fn stage_of(bytes: &[u8]) -> Found
-    ensures { result ≡ staged (was bytes) }
+    ensures { result ≡ staged bytes.now }
 {
     if bytes.len() != 130 {
         return Found::Nowhere;
@@ -102,7 +101,7 @@ pub fn stage_of(bytes: &[u8]) -> Found
 
 fn key_of(bytes: &[u8]) -> [u8; 128]
     requires { length bytes.now ≡ 130 }
-    ensures { result ≡ drop 2 (was bytes) }
+    ensures { result ≡ drop 2 bytes.now }
 {
     let mut key = session::no_key();
     lists::copy_bytes(&bytes[2..130], &mut key);
@@ -111,7 +110,7 @@ fn key_of(bytes: &[u8]) -> [u8; 128]
 
 fn lay_out(y: Session, bytes: &mut [u8])
     requires { length bytes.old ≡ 130 }
-    ensures { left bytes ≡ bytes_of y }
+    ensures { bytes.new ≡ bytes_of y }
 {
     let stage = y.stage;
     let key = y.key;
@@ -130,7 +129,7 @@ pub fn offer(
     seed: &[u8],
     message: &mut [u8],
 ) -> Answer
-    ensures { turn (left bytes) (of_offer (seen (told result) (left message))) ≡ moved_bytes (was bytes) (offering scheme (offers.offer a s e seed) (room message)) }
+    ensures { turn bytes.new (of_offer (seen (told result) message.new)) ≡ moved_bytes bytes.old (offering scheme (offers.offer a.now s.now e.now seed.now) (length message.old)) }
 {
     let Found::At(stage) = stage_of(bytes) else {
         return session::stop(Refusal::OutOfStage, message);
@@ -156,8 +155,8 @@ pub fn reply(
     key: &mut [u8],
     digest: &mut [u8],
 ) -> ReplyAnswer
-    ensures { turn (left bytes) (of_reply (replies.reply_seen (replies.reply_told result) (left message) (left key) (left digest)))
-        ≡ moved_bytes (was bytes) (replying scheme (replies.reply opening a s1 e1 e2 coins) (replies.reply_rooms message key digest)) }
+    ensures { turn bytes.new (of_reply (replies.reply_seen (replies.reply_told result) message.new key.new digest.new))
+        ≡ moved_bytes bytes.old (replying scheme (replies.reply opening.now a.now s1.now e1.now e2.now coins.now) (replies.reply_rooms message.old key.old digest.old)) }
 {
     let Found::At(stage) = stage_of(bytes) else {
         return session::stop_reply(Refusal::OutOfStage, message, key, digest);
@@ -181,8 +180,8 @@ pub fn finish(
     key: &mut [u8],
     digest: &mut [u8],
 ) -> FinishAnswer
-    ensures { turn (left bytes) (of_finish (finishes.finish_seen (finishes.finish_told result) (left key) (left digest)))
-        ≡ moved_bytes (was bytes) (finishing scheme (finishes.finish reply s) (finishes.finish_rooms key digest)) }
+    ensures { turn bytes.new (of_finish (finishes.finish_seen (finishes.finish_told result) key.new digest.new))
+        ≡ moved_bytes bytes.old (finishing scheme (finishes.finish reply.now s.now) (finishes.finish_rooms key.old digest.old)) }
 {
     let Found::At(stage) = stage_of(bytes) else {
         return session::stop_finish(Refusal::OutOfStage, key, digest);
@@ -196,14 +195,14 @@ pub fn finish(
 
 // Close on any buffer: it looks at nothing, and refuses nothing.
 pub fn close(bytes: &mut [u8])
-    ensures { turn (left bytes) (of_close (done 0)) ≡ moved_bytes (was bytes) closing }
+    ensures { turn bytes.new (of_close (done 0)) ≡ moved_bytes bytes.old closing }
 {
     lists::zero_bytes(bytes);
 }
 
 // Whether a buffer is an idle session.
 fn takes(bytes: &[u8]) -> bool
-    ensures { result ≡ idle_at (staged (was bytes)) }
+    ensures { result ≡ idle_at (staged bytes.now) }
 {
     match stage_of(bytes) {
         Found::At(stage) => session::is_idle(stage),
@@ -213,8 +212,8 @@ fn takes(bytes: &[u8]) -> bool
 
 // The refusal of open ahead of the call beneath.
 fn stop_open(refusal: Refusal, opening: &mut [u8], s: &mut [i32]) -> OpenAnswer
-    ensures { open_seen (open_told result) (left opening) (left s)
-        ≡ open_shown (Fail refusal) Unknown ruled.Ruled.Unknown (open_lent_of [] [] []) (open_rooms opening s) }
+    ensures { open_seen (open_told result) opening.new s.new
+        ≡ open_shown (Fail refusal) Unknown ruled.Ruled.Unknown (open_lent_of [] [] []) (open_rooms opening.old s.old) }
 {
     lists::zero_bytes(opening);
     lists::zero_values(s);
@@ -232,8 +231,8 @@ pub fn open(
     opening: &mut [u8],
     s: &mut [i32],
 ) -> OpenAnswer
-    ensures { turn (left bytes) (open_seen (open_told result) (left opening) (left s))
-        ≡ open_moved (was bytes) scheme (rule_of_lem rule) (open_lent a table random) (open_rooms opening s) }
+    ensures { turn bytes.new (open_seen (open_told result) opening.new s.new)
+        ≡ open_moved bytes.old scheme (rule_of_lem rule) (open_lent a.now table.now random.now) (open_rooms opening.old s.old) }
 {
     if !takes(bytes) {
         return stop_open(Refusal::OutOfStage, opening, s);
@@ -260,8 +259,8 @@ pub fn answer(
     key: &mut [u8],
     digest: &mut [u8],
 ) -> ReplyAnswer
-    ensures { turn (left bytes) (replies.reply_seen (replies.reply_told result) (left message) (left key) (left digest))
-        ≡ answer_moved (was bytes) scheme (rule_of_lem rule) (answer_lent opening a table random) (replies.reply_rooms message key digest) }
+    ensures { turn bytes.new (replies.reply_seen (replies.reply_told result) message.new key.new digest.new)
+        ≡ answer_moved bytes.old scheme (rule_of_lem rule) (answer_lent opening.now a.now table.now random.now) (replies.reply_rooms message.old key.old digest.old) }
 {
     if !takes(bytes) {
         return session::stop_reply(Refusal::OutOfStage, message, key, digest);

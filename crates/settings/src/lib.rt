@@ -1,7 +1,6 @@
 // The settings of a box in a text store, for every input: 02, request h. Both readers are one function over the reader's own number, the highest format that it
 // knows; the writer takes the oldest format that holds the settings. No public call has a `requires`.
-ghost use Rattle.lists.specs.Kit.{◌≡◌};
-ghost use Rattle.lists.specs.Lent.{was, left, room};
+ghost use Rattle.lists.specs.Kit.{◌≡◌, length};
 ghost use Rattle.refusals.specs.Seen.{told, seen};
 ghost use Rattle.settings.specs.Settings.{setup_of, format_of, is_scheme_lem, is_rule_lem, not_allowed_lem, letters, reads};
 ghost use Rattle.settings.specs.Calls.{answer_of, write_result, read_of, read_result, read_told, read_seen};
@@ -67,7 +66,7 @@ fn not_allowed(c: u8) -> bool
 
 // How many capital letters and digits s begins with.
 fn count_letters(s: &[u8]) -> usize
-    ensures { result ≡ letters (was s) }
+    ensures { result ≡ letters s.now }
 {
     let mut i: usize = 0;
     while i < s.len() {
@@ -93,7 +92,7 @@ fn format_of(n: usize) -> u64
 
 // What a reader of that number makes of a text.
 pub fn read(reader: u32, text: &[u8]) -> ReadAnswer
-    ensures { result ≡ answer_of (reads reader (was text)) }
+    ensures { result ≡ answer_of (reads reader text.now) }
 {
     let Found::Number(format, end) = text::field(b"format=", text, 0) else {
         return reader::nothing(Ending::Refused);
@@ -107,7 +106,7 @@ pub fn read(reader: u32, text: &[u8]) -> ReadAnswer
 // What a reader of that number makes of a text, into a lent label: 15 or 8, then 3 for the label that was read. After 15 and 8 that label is empty, so that
 // every room is enough for it.
 pub fn read_lent(reader: u32, text: &[u8], label: &mut [u8]) -> LentAnswer
-    ensures { read_seen (read_told result) (left label) ≡ read_result (read_of reader (was text)) (room label) }
+    ensures { read_seen (read_told result) label.new ≡ read_result (read_of reader text.now) (length label.old) }
 {
     lists::zero_bytes(label);
     let a = read(reader, text);
@@ -125,7 +124,7 @@ pub fn read_lent(reader: u32, text: &[u8], label: &mut [u8]) -> LentAnswer
 // Write: scheme, rule, label. The text with zeros behind it, or zeros after a refusal: 1 scheme, 12 rule, 2 a label over 16 bytes, 3 an output too short, 8 a
 // byte of the label that is not allowed.
 pub fn write(scheme: u32, rule: u32, label: &[u8], out: &mut [u8]) -> Answer
-    ensures { seen (told result) (left out) ≡ write_result (setup_of scheme rule (was label)) (room out) }
+    ensures { seen (told result) out.new ≡ write_result (setup_of scheme rule label.now) (length out.old) }
 {
     lists::zero_bytes(out);
     let v = writer::write_tests(scheme, rule, label, out.len());

@@ -1,6 +1,5 @@
 // Reading, a line at a time. Each function takes the position that the one before it came to and gives the whole answer.
 ghost use Rattle.lists.specs.Kit.{◌≡◌, ◌≤◌, length, drop};
-ghost use Rattle.lists.specs.Lent.{was};
 ghost use Rattle.text.specs.Text.{scheme_name, field_in};
 ghost use Rattle.settings.specs.Settings.{setup_of, letters, setup, rule_name, well_spelled_lem, spelled_in, last_in, tail_in, rule_in, scheme_in};
 ghost use Rattle.settings.specs.Calls.{ended, answer_of};
@@ -27,7 +26,7 @@ pub(crate) fn nothing(e: Ending) -> ReadAnswer
 
 fn found(scheme: u32, rule: u32, label: &[u8]) -> ReadAnswer
     requires { length label.now ≤ 16 }
-    ensures { result ≡ answer_of (setup (setup_of scheme rule (was label))) }
+    ensures { result ≡ answer_of (setup (setup_of scheme rule label.now)) }
 {
     let n = label.len();
     let mut bytes = [0u8; 16];
@@ -46,7 +45,7 @@ fn found(scheme: u32, rule: u32, label: &[u8]) -> ReadAnswer
 // Of n letters at the front of s: 1 to 16, then LF, and nothing behind.
 fn well_spelled(s: &[u8], n: usize) -> bool
     requires { n ≡ letters s.now }
-    ensures { result ≡ well_spelled_lem (was s) }
+    ensures { result ≡ well_spelled_lem s.now }
 {
     if n < 1 {
         return false;
@@ -61,7 +60,7 @@ fn well_spelled(s: &[u8], n: usize) -> bool
 }
 
 fn spelled(scheme: u32, rule: u32, s: &[u8]) -> ReadAnswer
-    ensures { result ≡ answer_of (spelled_in scheme rule (was s)) }
+    ensures { result ≡ answer_of (spelled_in scheme rule s.now) }
 {
     let n = crate::count_letters(s);
     if well_spelled(s, n) {
@@ -74,7 +73,7 @@ fn spelled(scheme: u32, rule: u32, s: &[u8]) -> ReadAnswer
 // The label's line.
 fn last_line(scheme: u32, rule: u32, s: &[u8], at: usize) -> ReadAnswer
     requires { at ≤ length s.now }
-    ensures { result ≡ answer_of (last_in scheme rule (drop at (was s))) }
+    ensures { result ≡ answer_of (last_in scheme rule (drop at s.now)) }
 {
     let t = &s[at..];
     if text::begins_with(b"label=", t) {
@@ -87,7 +86,7 @@ fn last_line(scheme: u32, rule: u32, s: &[u8], at: usize) -> ReadAnswer
 // What stands behind the rule, by the format.
 fn tail(format: u64, scheme: u32, rule: u32, s: &[u8], at: usize) -> ReadAnswer
     requires { at ≤ length s.now }
-    ensures { result ≡ answer_of (tail_in format scheme rule (drop at (was s))) }
+    ensures { result ≡ answer_of (tail_in format scheme rule (drop at s.now)) }
 {
     if format == 2 {
         return last_line(scheme, rule, s, at);
@@ -103,7 +102,7 @@ fn tail(format: u64, scheme: u32, rule: u32, s: &[u8], at: usize) -> ReadAnswer
 
 fn rule_line(format: u64, scheme: u32, s: &[u8], at: usize) -> ReadAnswer
     requires { at ≤ length s.now }
-    ensures { result ≡ answer_of (rule_in format scheme (field_in rule_name (drop at (was s)))) }
+    ensures { result ≡ answer_of (rule_in format scheme (field_in rule_name (drop at s.now))) }
 {
     let Found::Number(rule, end) = text::field(b"rule=", s, at) else {
         return nothing(Ending::Refused);
@@ -117,7 +116,7 @@ fn rule_line(format: u64, scheme: u32, s: &[u8], at: usize) -> ReadAnswer
 
 pub(crate) fn scheme_line(format: u64, s: &[u8], at: usize) -> ReadAnswer
     requires { at ≤ length s.now }
-    ensures { result ≡ answer_of (scheme_in format (field_in scheme_name (drop at (was s)))) }
+    ensures { result ≡ answer_of (scheme_in format (field_in scheme_name (drop at s.now))) }
 {
     let Found::Number(scheme, end) = text::field(b"scheme=", s, at) else {
         return nothing(Ending::Refused);

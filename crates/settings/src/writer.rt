@@ -1,6 +1,5 @@
 // Writing: the tests in their order, then the lines one behind the other.
 ghost use Rattle.lists.specs.Kit.{◌≡◌, ◌+◌, ◌≤◌, length};
-ghost use Rattle.lists.specs.Lent.{was, left};
 ghost use Rattle.refusals.specs.Refusals.{◌then◌};
 ghost use Rattle.text.specs.Steps.{Written};
 ghost use Rattle.settings.specs.Settings.{setup_of, label_line, text_of};
@@ -26,7 +25,7 @@ fn known(scheme: u32, rule: u32) -> Verdict
 
 // Each byte of the label is a capital letter or a digit.
 fn label_in(v: Verdict, label: &[u8]) -> Verdict
-    ensures { result ≡ v then allowed (was label) }
+    ensures { result ≡ v then allowed label.now }
 {
     let Verdict::Pass = v else {
         return v;
@@ -51,7 +50,7 @@ fn size(n: usize) -> usize
 
 // The text's length is known once the scheme, the rule and the label's length are.
 pub(crate) fn write_tests(scheme: u32, rule: u32, label: &[u8], room: usize) -> Verdict
-    ensures { result ≡ write_tests_lem (setup_of scheme rule (was label)) room }
+    ensures { result ≡ write_tests_lem (setup_of scheme rule label.now) room }
 {
     let v = refusals::length_up_to(known(scheme, rule), label.len(), 16);
     let Verdict::Pass = v else {
@@ -66,7 +65,7 @@ pub(crate) fn write_tests(scheme: u32, rule: u32, label: &[u8], room: usize) -> 
 // The label's line, where there is a label.
 fn write_label(label: &[u8], out: &mut [u8], at: usize) -> usize
     requires { at + length (label_line label.now) ≤ length out.old }
-    ensures { Written at (label_line (was label)) (was out) (left out) result }
+    ensures { Written at (label_line label.now) out.old out.new result }
 {
     if label.len() == 0 {
         return at;
@@ -78,7 +77,7 @@ fn write_label(label: &[u8], out: &mut [u8], at: usize) -> usize
 
 pub(crate) fn write_lines(scheme: u32, rule: u32, label: &[u8], out: &mut [u8]) -> usize
     requires { length (text_of (setup_of scheme rule label.now)) ≤ length out.old }
-    ensures { Written 0 (text_of (setup_of scheme rule (was label))) (was out) (left out) result }
+    ensures { Written 0 (text_of (setup_of scheme rule label.now)) out.old out.new result }
 {
     let i = text::write_line(b"format=", crate::format_of(label.len()), out, 0);
     let j = text::write_line(b"scheme=", scheme as u64, out, i);

@@ -2,7 +2,6 @@
 // crate `keccak`. A function that writes fills the whole of the slice it is lent, but for `lay_digest`.
 ghost use Rattle.lists.specs.Kit.{◌≡◌, ◌++◌, ◌+◌, ◌-◌, ◌*◌, ◌/◌, ◌%◌, ◌^◌, ◌<◌, ◌≤◌, length, drop};
 ghost use Rattle.lists.specs.Entries.{tab};
-ghost use Rattle.lists.specs.Lent.{was, left, room};
 ghost use Rattle.packing.specs.Packing.{value};
 ghost use Rattle.keccak.specs.Keccak.{keccak_f};
 ghost use Rattle.sponge.specs.Sponge.{byte_at, over, ending, absorbed, squeezed, shake128 as shaken, sha3};
@@ -20,7 +19,7 @@ fn joined(a: u8, b: u8, c: u8, d: u8, e: u8, f: u8, g: u8, h: u8) -> u64
 // The lane that eight bytes make.
 fn load(b: &[u8]) -> u64
     requires { length b.now ≡ 8 }
-    ensures { result ≡ value 256 (was b) }
+    ensures { result ≡ value 256 b.now }
 {
     joined(b[0], b[1], b[2], b[3], b[4], b[5], b[6], b[7])
 }
@@ -28,7 +27,7 @@ fn load(b: &[u8]) -> u64
 // The state with a block laid over its first lanes.
 fn xor_block(s: [u64; 25], b: &[u8]) -> [u64; 25]
     requires { WholeLanes (length b.now) }
-    ensures { result ≡ over s (was b) }
+    ensures { result ≡ over s b.now }
 {
     let mut t = s;
     let n = b.len() / 8;
@@ -45,7 +44,7 @@ fn xor_block(s: [u64; 25], b: &[u8]) -> [u64; 25]
 // The last block: what is left of the message, and its ending.
 fn pad(rest: &[u8], suffix: u8, block: &mut [u8])
     requires { (length rest.now < length block.old) × (suffix < 128) }
-    ensures { left block ≡ was rest ++ ending (room block - length (was rest)) suffix }
+    ensures { block.new ≡ rest.now ++ ending (length block.old - length rest.now) suffix }
 {
     let n = rest.len();
     let room = block.len();
@@ -61,7 +60,7 @@ fn pad(rest: &[u8], suffix: u8, block: &mut [u8])
 
 fn absorb_last(s: [u64; 25], rest: &[u8], suffix: u8, block: &mut [u8]) -> [u64; 25]
     requires { (length rest.now < length block.old) × (suffix < 128) × WholeLanes (length block.old) }
-    ensures { result ≡ keccak_f (over s (was rest ++ ending (room block - length (was rest)) suffix)) }
+    ensures { result ≡ keccak_f (over s (rest.now ++ ending (length block.old - length rest.now) suffix)) }
 {
     pad(rest, suffix, block);
     let x = xor_block(s, block);
@@ -71,7 +70,7 @@ fn absorb_last(s: [u64; 25], rest: &[u8], suffix: u8, block: &mut [u8]) -> [u64;
 // The local array stands here alone, since each of its bytes would stand in every goal.
 fn absorb_rest(s: [u64; 25], rest: &[u8], rate: usize, suffix: u8) -> [u64; 25]
     requires { (length rest.now < rate) × (suffix < 128) × Rate rate }
-    ensures { result ≡ keccak_f (over s (was rest ++ ending (rate - length (was rest)) suffix)) }
+    ensures { result ≡ keccak_f (over s (rest.now ++ ending (rate - length rest.now) suffix)) }
 {
     let mut block = [0u8; 168];
     absorb_last(s, rest, suffix, &mut block[..rate])
@@ -80,7 +79,7 @@ fn absorb_rest(s: [u64; 25], rest: &[u8], rate: usize, suffix: u8) -> [u64; 25]
 // The state after the padded message.
 fn absorb(input: &[u8], rate: usize, suffix: u8) -> [u64; 25]
     requires { Rate rate × (suffix < 128) }
-    ensures { result ≡ absorbed rate suffix (was input) }
+    ensures { result ≡ absorbed rate suffix input.now }
 {
     let n = input.len();
     let mut s = [0u64; 25];
@@ -98,7 +97,7 @@ fn absorb(input: &[u8], rate: usize, suffix: u8) -> [u64; 25]
 // The eight bytes of a lane.
 fn store(x: u64, out: &mut [u8])
     requires { length out.old ≡ 8 }
-    ensures { left out ≡ tab 8 (λ k. x / 2 ^ (8 * k) % 256) }
+    ensures { out.new ≡ tab 8 (λ k. x / 2 ^ (8 * k) % 256) }
 {
     out[0] = (x % 256) as u8;
     out[1] = ((x >> 8) % 256) as u8;
@@ -113,7 +112,7 @@ fn store(x: u64, out: &mut [u8])
 // The first bytes of a state: whole lanes, then what is left.
 fn put(s: [u64; 25], out: &mut [u8])
     requires { length out.old ≤ 200 }
-    ensures { left out ≡ tab (room out) (byte_at s) }
+    ensures { out.new ≡ tab (length out.old) (byte_at s) }
 {
     let n = out.len();
     let lanes = n / 8;
@@ -133,7 +132,7 @@ fn put(s: [u64; 25], out: &mut [u8])
 // No permutation follows the last block.
 fn squeeze(s: [u64; 25], rate: usize, out: &mut [u8])
     requires { Rate rate }
-    ensures { left out ≡ squeezed rate s (room out) }
+    ensures { out.new ≡ squeezed rate s (length out.old) }
 {
     let n = out.len();
     let mut t = s;
@@ -149,7 +148,7 @@ fn squeeze(s: [u64; 25], rate: usize, out: &mut [u8])
 }
 
 pub fn shake128(input: &[u8], out: &mut [u8])
-    ensures { left out ≡ shaken (was input) (room out) }
+    ensures { out.new ≡ shaken input.now (length out.old) }
 {
     let s = absorb(input, 168, 31);
     squeeze(s, 168, out);
@@ -157,7 +156,7 @@ pub fn shake128(input: &[u8], out: &mut [u8])
 
 pub fn sha3_256(input: &[u8], out: &mut [u8])
     requires { length out.old ≡ 32 }
-    ensures { left out ≡ sha3 (was input) }
+    ensures { out.new ≡ sha3 input.now }
 {
     let s = absorb(input, 136, 6);
     squeeze(s, 136, out);
@@ -166,7 +165,7 @@ pub fn sha3_256(input: &[u8], out: &mut [u8])
 // The digest of a key, at the front of its output; what lies behind it stays.
 pub fn lay_digest(key: &[u8], digest: &mut [u8])
     requires { 32 ≤ length digest.old }
-    ensures { left digest ≡ sha3 (was key) ++ drop 32 (was digest) }
+    ensures { digest.new ≡ sha3 key.now ++ drop 32 digest.old }
 {
     sha3_256(key, &mut digest[..32]);
 }

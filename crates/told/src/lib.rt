@@ -1,7 +1,6 @@
 // A call's answer in numbers, as a program in C takes it: 0 or the refusal's number, and behind pointers its place, the counts of what was written and the slack
 // used. Whatever does not apply is 0.
 ghost use Rattle.lists.specs.Kit.{◌≡◌, ◌≤◌};
-ghost use Rattle.lists.specs.Lent.{left};
 ghost use Rattle.refusals.specs.Refusals.{number_in, place_in};
 ghost use Rattle.refusals.specs.Seen.{told};
 ghost use Rattle.settings.specs.Calls.{read_told};
@@ -20,7 +19,7 @@ use settings::LentAnswer;
 
 // An answer in numbers.
 pub fn tell(answer: Answer, place: &mut u64, written: &mut u64) -> u32
-    ensures { record { number = result; place = left place; counts = left written } ≡ told answer }
+    ensures { record { number = result; place = place.new; counts = written.new } ≡ told answer }
 {
     match answer {
         Answer::Done(n) => {
@@ -38,7 +37,7 @@ pub fn tell(answer: Answer, place: &mut u64, written: &mut u64) -> u32
 
 // A verdict in numbers, of a call that has no count.
 pub fn tell_verdict(verdict: Verdict, place: &mut u64) -> u32
-    ensures { (result ≡ number_in verdict) × (left place ≡ place_in verdict) }
+    ensures { (result ≡ number_in verdict) × (place.new ≡ place_in verdict) }
 {
     match verdict {
         Verdict::Pass => {
@@ -60,7 +59,7 @@ pub fn tell_reply(
     keyed: &mut u64,
     digested: &mut u64,
 ) -> u32
-    ensures { reply_numbers result (left place) (left written) (left keyed) (left digested) ≡ reply_told answer }
+    ensures { reply_numbers result place.new written.new keyed.new digested.new ≡ reply_told answer }
 {
     match answer {
         ReplyAnswer::Done(n) => {
@@ -80,7 +79,7 @@ pub fn tell_reply(
 
 // The answer of open in numbers, with its two counts.
 pub fn tell_open(answer: OpenAnswer, place: &mut u64, opened: &mut u64, valued: &mut u64) -> u32
-    ensures { record { number = result; place = left place; counts = record { opening = left opened; s = left valued } } ≡ open_told answer }
+    ensures { record { number = result; place = place.new; counts = record { opening = opened.new; s = valued.new } } ≡ open_told answer }
 {
     match answer {
         OpenAnswer::Done(n) => {
@@ -105,7 +104,7 @@ pub fn tell_finish(
     slack: &mut u64,
     index: &mut u64,
 ) -> u32
-    ensures { finish_numbers result (left place) (left keyed) (left digested) (left slack) (left index) ≡ finish_told answer }
+    ensures { finish_numbers result place.new keyed.new digested.new slack.new index.new ≡ finish_told answer }
 {
     match answer {
         FinishAnswer::Done(n) => {
@@ -135,7 +134,7 @@ pub fn tell_bench(
     index: &mut u64,
 ) -> u32
     requires { (bench_told answer).differ ≤ 1024 }
-    ensures { record { number = result; place = left place; differ = left differ; slack = record { most = left slack; at = left index } } ≡ bench_told answer }
+    ensures { record { number = result; place = place.new; differ = differ.new; slack = record { most = slack.new; at = index.new } } ≡ bench_told answer }
 {
     match answer {
         BenchAnswer::Agree(used) => {
@@ -170,8 +169,8 @@ pub fn tell_settings(
 ) -> u32
     ensures { record {
       number = result;
-      place = left place;
-      counts = record { label = left labelled; format = left format; scheme = left scheme; rule = left rule };
+      place = place.new;
+      counts = record { label = labelled.new; format = format.new; scheme = scheme.new; rule = rule.new };
     } ≡ read_told found }
 {
     let answer = found.answer;

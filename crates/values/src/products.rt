@@ -1,7 +1,6 @@
 // The values that both ends compute, by the scheme.
 ghost use Rattle.lists.specs.Kit.{◌≡◌, ◌<◌, length};
 ghost use Rattle.schemes.specs.Schemes.{bcns, fixed_of};
-ghost use Rattle.lists.specs.Lent.{was, left, room};
 ghost use Rattle.lists.specs.Ranges.{Below, Within};
 ghost use Rattle.lists.specs.First.{first_over_lem};
 ghost use Rattle.polynomial.specs.Steps.{Fit};
@@ -16,8 +15,8 @@ use schemes::{Family, Scheme};
 fn mix_bcns(q: u32, a: &[u32], s: &[i32], e: &[i32], out: &mut [u32]) -> usize
     requires q_nonzero { 0 < q }
     requires fit { Below q a.now → Fit bcns.q (length out.old) a.now s.now × (length e.now ≡ length out.old) }
-    ensures value { result ≡ first_over_lem q (was a) }
-    ensures out_value { Below q (was a) → left out ≡ mixed bcns.q (room out) (was a) (was s) (was e) }
+    ensures value { result ≡ first_over_lem q a.now }
+    ensures out_value { Below q a.now → out.new ≡ mixed bcns.q (length out.old) a.now s.now e.now }
 {
     let at = lists::first_over(q, a);
     if at < a.len() {
@@ -31,8 +30,8 @@ fn mix_bcns(q: u32, a: &[u32], s: &[i32], e: &[i32], out: &mut [u32]) -> usize
 fn mix_newhope(q: u32, a: &[u32], s: &[i32], e: &[i32], out: &mut [u32]) -> usize
     requires q_nonzero { 0 < q }
     requires new_hope_asks { Below q a.now → NewHopeAsks a.now s.now (length out.old) × ((length e.now ≡ 1024) × (Within 16 s.now × Within 16 e.now)) }
-    ensures value { result ≡ first_over_lem q (was a) }
-    ensures out_value { Below q (was a) → left out ≡ transformed (mixed 12289 1024 (inverted (was a)) (was s) (was e)) }
+    ensures value { result ≡ first_over_lem q a.now }
+    ensures out_value { Below q a.now → out.new ≡ transformed (mixed 12289 1024 (inverted a.now) s.now e.now) }
 {
     let at = lists::first_over(q, a);
     if at < a.len() {
@@ -54,9 +53,9 @@ fn reply_newhope(
 ) -> usize
     requires q_nonzero { 0 < q }
     requires new_hope_replies { Below q a.now → NewHopeReplies a.now b.old (length v.old) × NewHopeSecrets s1.now e1.now e2.now }
-    ensures value { result ≡ first_over_lem q (was a) }
-    ensures b_value { Below q (was a) → left b ≡ transformed (mixed 12289 1024 (inverted (was a)) (was s1) (was e1)) }
-    ensures v_value { Below q (was a) → left v ≡ mixed 12289 1024 (inverted (was b)) (was s1) (was e2) }
+    ensures value { result ≡ first_over_lem q a.now }
+    ensures b_value { Below q a.now → b.new ≡ transformed (mixed 12289 1024 (inverted a.now) s1.now e1.now) }
+    ensures v_value { Below q a.now → v.new ≡ mixed 12289 1024 (inverted b.old) s1.now e2.now }
 {
     let at = lists::first_over(q, a);
     if at < a.len() {
@@ -70,8 +69,8 @@ fn reply_newhope(
 pub fn offer(scheme: Scheme, a: &[u32], s: &[i32], e: &[i32], out: &mut [u32]) -> usize
     requires a_len { (length a.now ≡ (fixed_of scheme).public) × (length out.old ≡ (fixed_of scheme).secret) }
     requires small { Small (fixed_of scheme).secret (fixed_of scheme).largest s.now × Small (fixed_of scheme).noise (fixed_of scheme).largest e.now }
-    ensures value { result ≡ first_over_lem (fixed_of scheme).q (was a) }
-    ensures out_value { Below (fixed_of scheme).q (was a) → left out ≡ offered scheme (was a) (was s) (was e) }
+    ensures value { result ≡ first_over_lem (fixed_of scheme).q a.now }
+    ensures out_value { Below (fixed_of scheme).q a.now → out.new ≡ offered scheme a.now s.now e.now }
 {
     let f = scheme.fixed();
     let family = scheme.family();
@@ -96,9 +95,9 @@ pub fn reply(
     requires counted { Counted (fixed_of scheme).secret (fixed_of scheme).q b.old }
     requires small { Small (fixed_of scheme).secret (fixed_of scheme).largest s1.now × Small (fixed_of scheme).noise (fixed_of scheme).largest e1.now }
     requires small_2 { Small (fixed_of scheme).mixed (fixed_of scheme).largest e2.now }
-    ensures value { result ≡ first_over_lem (fixed_of scheme).q (was a) }
-    ensures b_value { Below (fixed_of scheme).q (was a) → left b ≡ replied scheme (was a) (was s1) (was e1) }
-    ensures v_value { Below (fixed_of scheme).q (was a) → left v ≡ mixed_value scheme (was b) (was s1) (was e2) }
+    ensures value { result ≡ first_over_lem (fixed_of scheme).q a.now }
+    ensures b_value { Below (fixed_of scheme).q a.now → b.new ≡ replied scheme a.now s1.now e1.now }
+    ensures v_value { Below (fixed_of scheme).q a.now → v.new ≡ mixed_value scheme b.old s1.now e2.now }
 {
     let f = scheme.fixed();
     let family = scheme.family();
@@ -119,7 +118,7 @@ pub fn reply(
 pub fn mix(scheme: Scheme, b: &[u32], s1: &[i32], e2: &[i32], out: &mut [u32])
     requires counted { Counted (fixed_of scheme).secret (fixed_of scheme).q b.now × (length out.old ≡ (fixed_of scheme).mixed) }
     requires small { Small (fixed_of scheme).secret (fixed_of scheme).largest s1.now × Small (fixed_of scheme).mixed (fixed_of scheme).largest e2.now }
-    ensures { left out ≡ mixed_value scheme (was b) (was s1) (was e2) }
+    ensures { out.new ≡ mixed_value scheme b.now s1.now e2.now }
 {
     let f = scheme.fixed();
     let family = scheme.family();
@@ -134,7 +133,7 @@ pub fn mix(scheme: Scheme, b: &[u32], s1: &[i32], e2: &[i32], out: &mut [u32])
 pub fn multiply(scheme: Scheme, u: &[u32], s: &[i32], out: &mut [u32])
     requires counted { Counted (fixed_of scheme).secret (fixed_of scheme).q u.now × (length out.old ≡ (fixed_of scheme).mixed) }
     requires small { Small (fixed_of scheme).secret (fixed_of scheme).largest s.now }
-    ensures { left out ≡ bare_value scheme (was u) (was s) }
+    ensures { out.new ≡ bare_value scheme u.now s.now }
 {
     let f = scheme.fixed();
     let family = scheme.family();

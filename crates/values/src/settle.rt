@@ -1,7 +1,6 @@
 // Hints, key entries and the slack used, by the scheme.
 ghost use Rattle.lists.specs.Kit.{◌≡◌, ◌^◌, length};
 ghost use Rattle.schemes.specs.Schemes.{fixed_of};
-ghost use Rattle.lists.specs.Lent.{was, left};
 ghost use Rattle.values.specs.Fit.{Counted};
 ghost use Rattle.values.specs.Keys.{hints, keys, peers, slacks};
 
@@ -11,7 +10,7 @@ use schemes::{Family, Scheme};
 pub fn hints(scheme: Scheme, coins: &[u32], v: &[u32], out: &mut [u32])
     requires counted { Counted (fixed_of scheme).mixed (fixed_of scheme).q v.now × (length out.old ≡ (fixed_of scheme).mixed) }
     requires counted_2 { Counted (fixed_of scheme).groups (2 ^ (fixed_of scheme).coinbits) coins.now }
-    ensures { left out ≡ hints scheme (was coins) (was v) }
+    ensures { out.new ≡ hints scheme coins.now v.now }
 {
     let family = scheme.family();
     match family {
@@ -29,7 +28,7 @@ pub fn keys(scheme: Scheme, coins: &[u32], own: &[u32], v: &[u32], out: &mut [u3
     requires counted { Counted (fixed_of scheme).mixed (fixed_of scheme).q v.now × (length out.old ≡ (fixed_of scheme).groups) }
     requires counted_2 { Counted (fixed_of scheme).groups (2 ^ (fixed_of scheme).coinbits) coins.now }
     requires own_value { own.now ≡ hints scheme coins.now v.now }
-    ensures { left out ≡ keys scheme (was coins) (was v) }
+    ensures { out.new ≡ keys scheme coins.now v.now }
 {
     let family = scheme.family();
     match family {
@@ -46,7 +45,7 @@ pub fn keys(scheme: Scheme, coins: &[u32], own: &[u32], v: &[u32], out: &mut [u3
 pub fn peers(scheme: Scheme, given: &[u32], w: &[u32], out: &mut [u32])
     requires counted { Counted (fixed_of scheme).mixed (fixed_of scheme).q w.now × (length out.old ≡ (fixed_of scheme).groups) }
     requires counted_2 { Counted (fixed_of scheme).mixed (2 ^ (fixed_of scheme).hintbits) given.now }
-    ensures { left out ≡ peers scheme (was given) (was w) }
+    ensures { out.new ≡ peers scheme given.now w.now }
 {
     let family = scheme.family();
     match family {
@@ -63,7 +62,7 @@ pub fn peers(scheme: Scheme, given: &[u32], w: &[u32], out: &mut [u32])
 pub fn slacks(scheme: Scheme, given: &[u32], w: &mut [u32])
     requires counted { Counted (fixed_of scheme).mixed (fixed_of scheme).q w.old }
     requires counted_2 { Counted (fixed_of scheme).mixed (2 ^ (fixed_of scheme).hintbits) given.now }
-    ensures { left w ≡ slacks scheme (was given) (was w) }
+    ensures { w.new ≡ slacks scheme given.now w.old }
 {
     let family = scheme.family();
     match family {

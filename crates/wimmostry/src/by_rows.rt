@@ -1,6 +1,5 @@
 // Frodo by rows: each exported function hands on to one call of crate `rows`. Begin and part have no output but the state.
-ghost use Rattle.lists.specs.Kit.{◌≡◌};
-ghost use Rattle.lists.specs.Lent.{was, left, room};
+ghost use Rattle.lists.specs.Kit.{◌≡◌, length};
 ghost use Rattle.refusals.specs.Seen.{seen};
 ghost use Rattle.reply.specs.Reply.{reply_rooms, reply_seen};
 ghost use Rattle.rows_state.specs.State.{frodo_of_lem};
@@ -20,7 +19,7 @@ pub extern "C" fn wim_rows_offer_begin(
     state: &mut [u32],
     place: &mut u64,
 ) -> u32
-    ensures { record { number = result; place = left place; state = left state } ≡ offer_begin_result (frodo_of_lem scheme) (offer_begin_lem s e seed) (room state) }
+    ensures { record { number = result; place = place.new; state = state.new } ≡ offer_begin_result (frodo_of_lem scheme) (offer_begin_lem s.now e.now seed.now) (length state.old) }
 {
     told::tell_verdict(rows::offer_begin(scheme, s, e, seed, state), place)
 }
@@ -28,7 +27,7 @@ pub extern "C" fn wim_rows_offer_begin(
 // Offer, a part: some numbers of the current row of A.
 #[unsafe(no_mangle)]
 pub extern "C" fn wim_rows_offer_part(part: &[u32], state: &mut [u32], place: &mut u64) -> u32
-    ensures { record { number = result; place = left place; state = left state } ≡ part_result Call.Offer (was state) (was part) }
+    ensures { record { number = result; place = place.new; state = state.new } ≡ part_result Call.Offer state.old part.now }
 {
     told::tell_verdict(rows::offer_part(part, state), place)
 }
@@ -41,7 +40,7 @@ pub extern "C" fn wim_rows_offer_end(
     place: &mut u64,
     written: &mut u64,
 ) -> u32
-    ensures { record { answer = seen (record { number = result; place = left place; counts = left written }) (left message); state = left state } ≡ offer_end_result (was state) (room message) }
+    ensures { record { answer = seen (record { number = result; place = place.new; counts = written.new }) message.new; state = state.new } ≡ offer_end_result state.old (length message.old) }
 {
     told::tell(rows::offer_end(state, message), place, written)
 }
@@ -57,7 +56,7 @@ pub extern "C" fn wim_rows_reply_begin(
     state: &mut [u32],
     place: &mut u64,
 ) -> u32
-    ensures { record { number = result; place = left place; state = left state } ≡ reply_begin_result (frodo_of_lem scheme) (reply_begin_lem opening s1 e1 e2) (room state) }
+    ensures { record { number = result; place = place.new; state = state.new } ≡ reply_begin_result (frodo_of_lem scheme) (reply_begin_lem opening.now s1.now e1.now e2.now) (length state.old) }
 {
     told::tell_verdict(rows::reply_begin(scheme, opening, s1, e1, e2, state), place)
 }
@@ -65,7 +64,7 @@ pub extern "C" fn wim_rows_reply_begin(
 // Reply, a part: some numbers of the current row of A.
 #[unsafe(no_mangle)]
 pub extern "C" fn wim_rows_reply_part(part: &[u32], state: &mut [u32], place: &mut u64) -> u32
-    ensures { record { number = result; place = left place; state = left state } ≡ part_result Call.Reply (was state) (was part) }
+    ensures { record { number = result; place = place.new; state = state.new } ≡ part_result Call.Reply state.old part.now }
 {
     told::tell_verdict(rows::reply_part(part, state), place)
 }
@@ -83,9 +82,9 @@ pub extern "C" fn wim_rows_reply_end(
     digested: &mut u64,
 ) -> u32
     ensures { record {
-      answer = reply_seen (reply_numbers result (left place) (left written) (left keyed) (left digested)) (left message) (left key) (left digest);
-      state = left state;
-    } ≡ reply_end_result (was state) (reply_rooms message key digest) }
+      answer = reply_seen (reply_numbers result place.new written.new keyed.new digested.new) message.new key.new digest.new;
+      state = state.new;
+    } ≡ reply_end_result state.old (reply_rooms message.old key.old digest.old) }
 {
     let answer = rows::reply_end(state, message, key, digest);
     told::tell_reply(answer, place, written, keyed, digested)

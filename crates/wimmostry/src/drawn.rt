@@ -1,7 +1,6 @@
 // The calls from random bytes: open and answer, plain and on a session behind a pointer. Finish ends what open began.
 ghost use Rattle.lists.specs.Kit.{◌≡◌};
 ghost use Rattle.schemes.specs.Schemes.{scheme_of_lem};
-ghost use Rattle.lists.specs.Lent.{was, left};
 ghost use Rattle.noise.specs.Expand.{rule_of_lem};
 ghost use Rattle.reply.specs.Reply.{reply_rooms, reply_seen};
 ghost use Rattle.exchange.specs.Open.{open_lent, open_rooms, open_seen, open_result};
@@ -25,8 +24,8 @@ pub extern "C" fn wim_open(
     valued: &mut u64,
 ) -> u32
     ensures { open_seen
-        (record { number = result; place = left place; counts = record { opening = left opened; s = left valued } })
-        (left opening) (left s) ≡ open_result (scheme_of_lem scheme) (rule_of_lem rule) (open_lent a table random) (open_rooms opening s) }
+        (record { number = result; place = place.new; counts = record { opening = opened.new; s = valued.new } })
+        opening.new s.new ≡ open_result (scheme_of_lem scheme) (rule_of_lem rule) (open_lent a.now table.now random.now) (open_rooms opening.old s.old) }
 {
     let answer = exchange::open(scheme, rule, a, table, random, opening, s);
     told::tell_open(answer, place, opened, valued)
@@ -49,8 +48,8 @@ pub extern "C" fn wim_answer(
     keyed: &mut u64,
     digested: &mut u64,
 ) -> u32
-    ensures { reply_seen (reply_numbers result (left place) (left written) (left keyed) (left digested)) (left message) (left key) (left digest)
-        ≡ answer_result (scheme_of_lem scheme) (rule_of_lem rule) (answer_lent opening a table random) (reply_rooms message key digest) }
+    ensures { reply_seen (reply_numbers result place.new written.new keyed.new digested.new) message.new key.new digest.new
+        ≡ answer_result (scheme_of_lem scheme) (rule_of_lem rule) (answer_lent opening.now a.now table.now random.now) (reply_rooms message.old key.old digest.old) }
 {
     let answer = exchange::answer(
         scheme, rule, opening, a, table, random, message, key, digest,
@@ -73,10 +72,10 @@ pub extern "C" fn wim_session_open(
     opened: &mut u64,
     valued: &mut u64,
 ) -> u32
-    ensures { turn (left session)
+    ensures { turn session.new
         (open_seen
-        (record { number = result; place = left place; counts = record { opening = left opened; s = left valued } })
-        (left opening) (left s)) ≡ open_moved (was session) scheme (rule_of_lem rule) (open_lent a table random) (open_rooms opening s) }
+        (record { number = result; place = place.new; counts = record { opening = opened.new; s = valued.new } })
+        opening.new s.new) ≡ open_moved session.old scheme (rule_of_lem rule) (open_lent a.now table.now random.now) (open_rooms opening.old s.old) }
 {
     let answer = session_bytes::open(session, scheme, rule, a, table, random, opening, s);
     told::tell_open(answer, place, opened, valued)
@@ -100,8 +99,8 @@ pub extern "C" fn wim_session_answer(
     keyed: &mut u64,
     digested: &mut u64,
 ) -> u32
-    ensures { turn (left session) (reply_seen (reply_numbers result (left place) (left written) (left keyed) (left digested)) (left message) (left key) (left digest))
-        ≡ answer_moved (was session) scheme (rule_of_lem rule) (answer_lent opening a table random) (reply_rooms message key digest) }
+    ensures { turn session.new (reply_seen (reply_numbers result place.new written.new keyed.new digested.new) message.new key.new digest.new)
+        ≡ answer_moved session.old scheme (rule_of_lem rule) (answer_lent opening.now a.now table.now random.now) (reply_rooms message.old key.old digest.old) }
 {
     let answer = session_bytes::answer(
         session, scheme, rule, opening, a, table, random, message, key, digest,

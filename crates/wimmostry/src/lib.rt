@@ -1,8 +1,7 @@
 // The library for programs in C and Rust: each exported function hands on to one call and tells its answer in numbers. It returns 0 or the refusal's number,
 // has no `requires`, and promises what the call promises. `include/wimmostry.h` says what a caller has to know.
-ghost use Rattle.lists.specs.Kit.{◌≡◌};
+ghost use Rattle.lists.specs.Kit.{◌≡◌, length};
 ghost use Rattle.schemes.specs.Schemes.{scheme_of_lem};
-ghost use Rattle.lists.specs.Lent.{was, left, room};
 ghost use Rattle.refusals.specs.Seen.{seen};
 ghost use Rattle.sampling.specs.Noise.{noise, noise_result};
 ghost use Rattle.noise.specs.Expand.{rule_of_lem};
@@ -34,7 +33,7 @@ pub extern "C" fn wim_offer(
     place: &mut u64,
     written: &mut u64,
 ) -> u32
-    ensures { seen (record { number = result; place = left place; counts = left written }) (left message) ≡ offer_result (scheme_of_lem scheme) (offer a s e seed) (room message) }
+    ensures { seen (record { number = result; place = place.new; counts = written.new }) message.new ≡ offer_result (scheme_of_lem scheme) (offer a.now s.now e.now seed.now) (length message.old) }
 {
     told::tell(offer::offer(scheme, a, s, e, seed, message), place, written)
 }
@@ -57,8 +56,8 @@ pub extern "C" fn wim_reply(
     keyed: &mut u64,
     digested: &mut u64,
 ) -> u32
-    ensures { reply_seen (reply_numbers result (left place) (left written) (left keyed) (left digested)) (left message) (left key) (left digest)
-        ≡ reply_result (scheme_of_lem scheme) (reply opening a s1 e1 e2 coins) (reply_rooms message key digest) }
+    ensures { reply_seen (reply_numbers result place.new written.new keyed.new digested.new) message.new key.new digest.new
+        ≡ reply_result (scheme_of_lem scheme) (reply opening.now a.now s1.now e1.now e2.now coins.now) (reply_rooms message.old key.old digest.old) }
 {
     let answer = reply::reply(scheme, opening, a, s1, e1, e2, coins, message, key, digest);
     told::tell_reply(answer, place, written, keyed, digested)
@@ -78,8 +77,8 @@ pub extern "C" fn wim_finish(
     slack: &mut u64,
     index: &mut u64,
 ) -> u32
-    ensures { finish_seen (finish_numbers result (left place) (left keyed) (left digested) (left slack) (left index)) (left key) (left digest)
-        ≡ finish_result (scheme_of_lem scheme) (finish reply s) (finish_rooms key digest) }
+    ensures { finish_seen (finish_numbers result place.new keyed.new digested.new slack.new index.new) key.new digest.new
+        ≡ finish_result (scheme_of_lem scheme) (finish reply.now s.now) (finish_rooms key.old digest.old) }
 {
     let answer = finish::finish(scheme, reply, s, key, digest);
     told::tell_finish(answer, place, keyed, digested, slack, index)
@@ -102,8 +101,8 @@ pub extern "C" fn wim_bench(
     slack: &mut u64,
     index: &mut u64,
 ) -> u32
-    ensures { record { number = result; place = left place; differ = left differ; slack = record { most = left slack; at = left index } }
-        ≡ bench_result (scheme_of_lem scheme) (bench a s e seed s1 e1 e2 coins) }
+    ensures { record { number = result; place = place.new; differ = differ.new; slack = record { most = slack.new; at = index.new } }
+        ≡ bench_result (scheme_of_lem scheme) (bench a.now s.now e.now seed.now s1.now e1.now e2.now coins.now) }
 {
     let answer = bench::bench(scheme, a, s, e, seed, s1, e1, e2, coins);
     told::tell_bench(answer, place, differ, slack, index)
@@ -124,10 +123,10 @@ pub extern "C" fn wim_settings_read(
     ensures { read_seen
         (record {
           number = result;
-          place = left place;
-          counts = record { label = left labelled; format = left format; scheme = left scheme; rule = left rule };
+          place = place.new;
+          counts = record { label = labelled.new; format = format.new; scheme = scheme.new; rule = rule.new };
         })
-        (left label) ≡ read_result (read_of reader (was text)) (room label) }
+        label.new ≡ read_result (read_of reader text.now) (length label.old) }
 {
     let found = settings::read_lent(reader, text, label);
     told::tell_settings(found, place, labelled, format, scheme, rule)
@@ -143,7 +142,7 @@ pub extern "C" fn wim_settings_write(
     place: &mut u64,
     written: &mut u64,
 ) -> u32
-    ensures { seen (record { number = result; place = left place; counts = left written }) (left text) ≡ write_result (setup_of scheme rule (was label)) (room text) }
+    ensures { seen (record { number = result; place = place.new; counts = written.new }) text.new ≡ write_result (setup_of scheme rule label.now) (length text.old) }
 {
     told::tell(settings::write(scheme, rule, label, text), place, written)
 }
@@ -158,7 +157,7 @@ pub extern "C" fn wim_product(
     place: &mut u64,
     written: &mut u64,
 ) -> u32
-    ensures { product_seen (record { number = result; place = left place; counts = left written }) (left out) (left scratch) ≡ product_result (factors a b) (room out) (room scratch) }
+    ensures { product_seen (record { number = result; place = place.new; counts = written.new }) out.new scratch.new ≡ product_result (factors a.now b.now) (length out.old) (length scratch.old) }
 {
     told::tell(halves::product(a, b, out, scratch), place, written)
 }
@@ -173,7 +172,7 @@ pub extern "C" fn wim_noise(
     place: &mut u64,
     written: &mut u64,
 ) -> u32
-    ensures { seen (record { number = result; place = left place; counts = left written }) (left out) ≡ noise_result (scheme_of_lem scheme) (noise bytes table) (room out) }
+    ensures { seen (record { number = result; place = place.new; counts = written.new }) out.new ≡ noise_result (scheme_of_lem scheme) (noise bytes.now table.now) (length out.old) }
 {
     told::tell(sampling::noise(scheme, bytes, table, out), place, written)
 }
@@ -186,7 +185,7 @@ pub extern "C" fn wim_shake128(
     place: &mut u64,
     written: &mut u64,
 ) -> u32
-    ensures { seen (record { number = result; place = left place; counts = left written }) (left out) ≡ shake_result (was input) (room out) }
+    ensures { seen (record { number = result; place = place.new; counts = written.new }) out.new ≡ shake_result input.now (length out.old) }
 {
     told::tell(hashing::shake128(input, out), place, written)
 }
@@ -199,7 +198,7 @@ pub extern "C" fn wim_sha3_256(
     place: &mut u64,
     written: &mut u64,
 ) -> u32
-    ensures { seen (record { number = result; place = left place; counts = left written }) (left out) ≡ digest_result (was input) (room out) }
+    ensures { seen (record { number = result; place = place.new; counts = written.new }) out.new ≡ digest_result input.now (length out.old) }
 {
     told::tell(hashing::sha3_256(input, out), place, written)
 }
@@ -213,7 +212,7 @@ pub extern "C" fn wim_expand(
     place: &mut u64,
     written: &mut u64,
 ) -> u32
-    ensures { seen (record { number = result; place = left place; counts = left written }) (left out) ≡ expand_result (rule_of_lem rule) (was stream) (room out) }
+    ensures { seen (record { number = result; place = place.new; counts = written.new }) out.new ≡ expand_result (rule_of_lem rule) stream.now (length out.old) }
 {
     told::tell(sampling::expand(rule, stream, out), place, written)
 }
@@ -227,7 +226,7 @@ pub extern "C" fn wim_grow(
     place: &mut u64,
     written: &mut u64,
 ) -> u32
-    ensures { seen (record { number = result; place = left place; counts = left written }) (left out) ≡ grow_result (rule_of_lem rule) (was seed) (room out) }
+    ensures { seen (record { number = result; place = place.new; counts = written.new }) out.new ≡ grow_result (rule_of_lem rule) seed.now (length out.old) }
 {
     told::tell(sampling::grow(rule, seed, out), place, written)
 }

@@ -1,7 +1,6 @@
 // The calls on a rack behind a pointer, eight records of 131 lent bytes: 02, request k. Each takes the rack and a studio's number first, and then what the
 // plain call takes.
-ghost use Rattle.lists.specs.Kit.{◌≡◌};
-ghost use Rattle.lists.specs.Lent.{was, left, room};
+ghost use Rattle.lists.specs.Kit.{◌≡◌, length};
 ghost use Rattle.refusals.specs.Seen.{seen};
 ghost use Rattle.offer.specs.Offer.{offer};
 ghost use Rattle.reply.specs.Reply.{reply, reply_rooms, reply_seen};
@@ -25,8 +24,8 @@ pub extern "C" fn wim_rack_offer(
     place: &mut u64,
     written: &mut u64,
 ) -> u32
-    ensures { turn (left rack) (of_offer (seen (record { number = result; place = left place; counts = left written }) (left message)))
-        ≡ moved_in (was rack) studio (offering scheme (offer a s e seed) (room message)) }
+    ensures { turn rack.new (of_offer (seen (record { number = result; place = place.new; counts = written.new }) message.new))
+        ≡ moved_in rack.old studio (offering scheme (offer a.now s.now e.now seed.now) (length message.old)) }
 {
     let answer = rack::offer(rack, studio, scheme, a, s, e, seed, message);
     told::tell(answer, place, written)
@@ -52,8 +51,8 @@ pub extern "C" fn wim_rack_reply(
     keyed: &mut u64,
     digested: &mut u64,
 ) -> u32
-    ensures { turn (left rack) (of_reply (reply_seen (reply_numbers result (left place) (left written) (left keyed) (left digested)) (left message) (left key) (left digest)))
-        ≡ moved_in (was rack) studio (replying scheme (reply opening a s1 e1 e2 coins) (reply_rooms message key digest)) }
+    ensures { turn rack.new (of_reply (reply_seen (reply_numbers result place.new written.new keyed.new digested.new) message.new key.new digest.new))
+        ≡ moved_in rack.old studio (replying scheme (reply opening.now a.now s1.now e1.now e2.now coins.now) (reply_rooms message.old key.old digest.old)) }
 {
     let answer = rack::reply(
         rack, studio, scheme, opening, a, s1, e1, e2, coins, message, key, digest,
@@ -77,8 +76,8 @@ pub extern "C" fn wim_rack_finish(
     slack: &mut u64,
     index: &mut u64,
 ) -> u32
-    ensures { turn (left rack) (of_finish (finish_seen (finish_numbers result (left place) (left keyed) (left digested) (left slack) (left index)) (left key) (left digest)))
-        ≡ moved_in (was rack) studio (finishing scheme (finish reply s) (finish_rooms key digest)) }
+    ensures { turn rack.new (of_finish (finish_seen (finish_numbers result place.new keyed.new digested.new slack.new index.new) key.new digest.new))
+        ≡ moved_in rack.old studio (finishing scheme (finish reply.now s.now) (finish_rooms key.old digest.old)) }
 {
     let answer = rack::finish(rack, studio, scheme, reply, s, key, digest);
     told::tell_finish(answer, place, keyed, digested, slack, index)
@@ -87,7 +86,7 @@ pub extern "C" fn wim_rack_finish(
 // Close for one: its slot's number and zeros, whatever the slot held.
 #[unsafe(no_mangle)]
 pub extern "C" fn wim_rack_close(rack: &mut [u8], studio: u32, place: &mut u64) -> u32
-    ensures { turn (left rack) (of_close (record { number = result; place = left place; counts = 0 })) ≡ moved_in (was rack) studio closing }
+    ensures { turn rack.new (of_close (record { number = result; place = place.new; counts = 0 })) ≡ moved_in rack.old studio closing }
 {
     told::tell_verdict(rack::close(rack, studio), place)
 }
@@ -95,7 +94,7 @@ pub extern "C" fn wim_rack_close(rack: &mut [u8], studio: u32, place: &mut u64) 
 // An empty rack: eight idle records with their numbers.
 #[unsafe(no_mangle)]
 pub extern "C" fn wim_rack_clear(rack: &mut [u8], place: &mut u64) -> u32
-    ensures { record { number = result; place = left place; rack = left rack } ≡ cleared (was rack) }
+    ensures { record { number = result; place = place.new; rack = rack.new } ≡ cleared rack.old }
 {
     told::tell_verdict(rack::clear(rack), place)
 }

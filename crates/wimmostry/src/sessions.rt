@@ -1,6 +1,5 @@
 // The calls on a session behind a pointer, 130 lent bytes: 02, request a. Each takes the session first, and then what the plain call takes.
-ghost use Rattle.lists.specs.Kit.{◌≡◌};
-ghost use Rattle.lists.specs.Lent.{was, left, room};
+ghost use Rattle.lists.specs.Kit.{◌≡◌, length};
 ghost use Rattle.refusals.specs.Seen.{seen};
 ghost use Rattle.offer.specs.Offer.{offer};
 ghost use Rattle.reply.specs.Reply.{reply, reply_rooms, reply_seen};
@@ -23,8 +22,8 @@ pub extern "C" fn wim_session_offer(
     place: &mut u64,
     written: &mut u64,
 ) -> u32
-    ensures { turn (left session) (of_offer (seen (record { number = result; place = left place; counts = left written }) (left message)))
-        ≡ moved_bytes (was session) (offering scheme (offer a s e seed) (room message)) }
+    ensures { turn session.new (of_offer (seen (record { number = result; place = place.new; counts = written.new }) message.new))
+        ≡ moved_bytes session.old (offering scheme (offer a.now s.now e.now seed.now) (length message.old)) }
 {
     let answer = session_bytes::offer(session, scheme, a, s, e, seed, message);
     told::tell(answer, place, written)
@@ -49,8 +48,8 @@ pub extern "C" fn wim_session_reply(
     keyed: &mut u64,
     digested: &mut u64,
 ) -> u32
-    ensures { turn (left session) (of_reply (reply_seen (reply_numbers result (left place) (left written) (left keyed) (left digested)) (left message) (left key) (left digest)))
-        ≡ moved_bytes (was session) (replying scheme (reply opening a s1 e1 e2 coins) (reply_rooms message key digest)) }
+    ensures { turn session.new (of_reply (reply_seen (reply_numbers result place.new written.new keyed.new digested.new) message.new key.new digest.new))
+        ≡ moved_bytes session.old (replying scheme (reply opening.now a.now s1.now e1.now e2.now coins.now) (reply_rooms message.old key.old digest.old)) }
 {
     let answer = session_bytes::reply(
         session, scheme, opening, a, s1, e1, e2, coins, message, key, digest,
@@ -73,8 +72,8 @@ pub extern "C" fn wim_session_finish(
     slack: &mut u64,
     index: &mut u64,
 ) -> u32
-    ensures { turn (left session) (of_finish (finish_seen (finish_numbers result (left place) (left keyed) (left digested) (left slack) (left index)) (left key) (left digest)))
-        ≡ moved_bytes (was session) (finishing scheme (finish reply s) (finish_rooms key digest)) }
+    ensures { turn session.new (of_finish (finish_seen (finish_numbers result place.new keyed.new digested.new slack.new index.new) key.new digest.new))
+        ≡ moved_bytes session.old (finishing scheme (finish reply.now s.now) (finish_rooms key.old digest.old)) }
 {
     let answer = session_bytes::finish(session, scheme, reply, s, key, digest);
     told::tell_finish(answer, place, keyed, digested, slack, index)
@@ -83,7 +82,7 @@ pub extern "C" fn wim_session_finish(
 // Close on any buffer: it zeroes it, and returns 0 always.
 #[unsafe(no_mangle)]
 pub extern "C" fn wim_session_close(session: &mut [u8]) -> u32
-    ensures { turn (left session) (of_close (record { number = result; place = 0; counts = 0 })) ≡ moved_bytes (was session) closing }
+    ensures { turn session.new (of_close (record { number = result; place = 0; counts = 0 })) ≡ moved_bytes session.old closing }
 {
     session_bytes::close(session);
     0

@@ -1,7 +1,6 @@
 // The messages' bytes: 01, "Bytes on the wire". Where the parts of a message stand, bytes laid from numbers, seeds and hints, and taken apart again. Each
 // function that lays or takes fills the whole of its last argument; the caller sees to the lengths.
 ghost use Rattle.lists.specs.Kit.{◌≡◌, ◌++◌, ◌^◌, length};
-ghost use Rattle.lists.specs.Lent.{was, left};
 ghost use Rattle.schemes.specs.Schemes.{fixed_of};
 ghost use Rattle.packing.specs.Packing.{packed};
 ghost use Rattle.values.specs.Fit.{Counted};
@@ -33,7 +32,7 @@ fn opening_starts(scheme: Scheme) -> Starts
 pub fn lay_opening(scheme: Scheme, numbers: &[u32], seed: &[u8], out: &mut [u8])
     requires counted { Counted (fixed_of scheme).secret (fixed_of scheme).q numbers.now }
     requires seed_len { (length seed.now ≡ (fixed_of scheme).seed) × (length out.old ≡ (fixed_of scheme).opening) }
-    ensures { left out ≡ opening scheme (was seed) (packed (fixed_of scheme).width (was numbers)) }
+    ensures { out.new ≡ opening scheme seed.now (packed (fixed_of scheme).width numbers.now) }
 {
     let f = scheme.fixed();
     let starts = opening_starts(scheme);
@@ -48,8 +47,8 @@ pub fn lay_opening(scheme: Scheme, numbers: &[u32], seed: &[u8], out: &mut [u8])
 // The unpack step of Reply: the opening's numbers, whether each is below q, and whether its packed part is blank.
 pub fn take_opening(scheme: Scheme, opening: &[u8], numbers: &mut [u32]) -> Verdict
     requires { (length opening.now ≡ (fixed_of scheme).opening) × (length numbers.old ≡ (fixed_of scheme).secret) }
-    ensures value { result ≡ received_in (fixed_of scheme).q (opened_in scheme (was opening)) (numbers_in scheme (opened_in scheme (was opening))) }
-    ensures numbers_value { left numbers ≡ numbers_in scheme (opened_in scheme (was opening)) }
+    ensures value { result ≡ received_in (fixed_of scheme).q (opened_in scheme opening.now) (numbers_in scheme (opened_in scheme opening.now)) }
+    ensures numbers_value { numbers.new ≡ numbers_in scheme (opened_in scheme opening.now) }
 {
     let f = scheme.fixed();
     let starts = opening_starts(scheme);
@@ -61,8 +60,8 @@ pub fn take_opening(scheme: Scheme, opening: &[u8], numbers: &mut [u32]) -> Verd
 // The unpack step of Finish: the reply's numbers, whether each is below q, and whether its packed part is blank.
 pub fn take_reply(scheme: Scheme, reply: &[u8], numbers: &mut [u32]) -> Verdict
     requires { (length reply.now ≡ (fixed_of scheme).reply) × (length numbers.old ≡ (fixed_of scheme).secret) }
-    ensures value { result ≡ received_in (fixed_of scheme).q (replied_in scheme (was reply)) (numbers_in scheme (replied_in scheme (was reply))) }
-    ensures numbers_value { left numbers ≡ numbers_in scheme (replied_in scheme (was reply)) }
+    ensures value { result ≡ received_in (fixed_of scheme).q (replied_in scheme reply.now) (numbers_in scheme (replied_in scheme reply.now)) }
+    ensures numbers_value { numbers.new ≡ numbers_in scheme (replied_in scheme reply.now) }
 {
     let f = scheme.fixed();
     let k = f.packed;
@@ -72,7 +71,7 @@ pub fn take_reply(scheme: Scheme, reply: &[u8], numbers: &mut [u32]) -> Verdict
 // The hints of a reply.
 pub fn take_hints(scheme: Scheme, reply: &[u8], hints: &mut [u32])
     requires { (length reply.now ≡ (fixed_of scheme).reply) × (length hints.old ≡ (fixed_of scheme).mixed) }
-    ensures { left hints ≡ hints_in scheme (was reply) }
+    ensures { hints.new ≡ hints_in scheme reply.now }
 {
     let f = scheme.fixed();
     let at = f.packed;
@@ -83,7 +82,7 @@ pub fn take_hints(scheme: Scheme, reply: &[u8], hints: &mut [u32])
 // The coins of all groups; Frodo has none, which reads as zeros.
 pub fn take_coins(scheme: Scheme, bytes: &[u8], coins: &mut [u32])
     requires { (length bytes.now ≡ (fixed_of scheme).coins) × (length coins.old ≡ (fixed_of scheme).groups) }
-    ensures { left coins ≡ coins_in scheme (was bytes) }
+    ensures { coins.new ≡ coins_in scheme bytes.now }
 {
     let f = scheme.fixed();
     let w = f.coinbits;
@@ -98,7 +97,7 @@ pub fn take_coins(scheme: Scheme, bytes: &[u8], coins: &mut [u32])
 pub fn lay_reply(scheme: Scheme, numbers: &[u32], hints: &[u32], out: &mut [u8])
     requires counted { Counted (fixed_of scheme).secret (fixed_of scheme).q numbers.now }
     requires counted_2 { Counted (fixed_of scheme).mixed (2 ^ (fixed_of scheme).hintbits) hints.now × (length out.old ≡ (fixed_of scheme).reply) }
-    ensures { left out ≡ packed (fixed_of scheme).width (was numbers) ++ packed (fixed_of scheme).hintbits (was hints) }
+    ensures { out.new ≡ packed (fixed_of scheme).width numbers.now ++ packed (fixed_of scheme).hintbits hints.now }
 {
     let f = scheme.fixed();
     let k = f.packed;
@@ -109,7 +108,7 @@ pub fn lay_reply(scheme: Scheme, numbers: &[u32], hints: &[u32], out: &mut [u8])
 // The bytes of a key from its entries.
 pub fn lay_key(scheme: Scheme, entries: &[u32], out: &mut [u8])
     requires { Counted (fixed_of scheme).groups (2 ^ (fixed_of scheme).keybits) entries.now × (length out.old ≡ (fixed_of scheme).key) }
-    ensures { left out ≡ packed (fixed_of scheme).keybits (was entries) }
+    ensures { out.new ≡ packed (fixed_of scheme).keybits entries.now }
 {
     let f = scheme.fixed();
     packing::pack(f.keybits, entries, out);

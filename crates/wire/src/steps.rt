@@ -2,7 +2,6 @@
 // is not blank.
 ghost use Rattle.lists.specs.Kit.{◌≡◌, ◌++◌, ◌^◌, length};
 ghost use Rattle.schemes.specs.Schemes.{fixed_of};
-ghost use Rattle.lists.specs.Lent.{was, left};
 ghost use Rattle.packing.specs.Packing.{packed};
 ghost use Rattle.refusals.specs.Refusals.{not_blank_lem};
 ghost use Rattle.refusals.specs.Steps.{Laid};
@@ -16,7 +15,7 @@ use schemes::Scheme;
 
 // The tests of s', e' and e'', in this order.
 pub fn reply_secrets(scheme: Scheme, s1: &[i32], e1: &[i32], e2: &[i32]) -> Verdict
-    ensures { result ≡ reply_secrets_lem scheme (was s1) (was e1) (was e2) }
+    ensures { result ≡ reply_secrets_lem scheme s1.now e1.now e2.now }
 {
     let f = scheme.fixed();
     let v = refusals::secrets_in(Verdict::Pass, f.largest, s1);
@@ -28,8 +27,8 @@ pub fn reply_secrets(scheme: Scheme, s1: &[i32], e1: &[i32], e2: &[i32]) -> Verd
 pub fn lay_numbers(scheme: Scheme, b: &[u32], seed: &[u8], out: &mut [u8]) -> Verdict
     requires counted { Counted (fixed_of scheme).secret (fixed_of scheme).q b.now }
     requires seed_len { (length seed.now ≡ (fixed_of scheme).seed) × (length out.old ≡ (fixed_of scheme).opening) }
-    ensures value { result ≡ not_blank_lem (packed (fixed_of scheme).width (was b)) }
-    ensures laid { Laid result (opening scheme (was seed) (packed (fixed_of scheme).width (was b))) out }
+    ensures value { result ≡ not_blank_lem (packed (fixed_of scheme).width b.now) }
+    ensures laid { Laid result (opening scheme seed.now (packed (fixed_of scheme).width b.now)) out.old out.new }
 {
     let v = refusals::not_blank(b);
     match v {
@@ -52,8 +51,8 @@ fn settle(
 )
     requires counted { Counted (fixed_of scheme).mixed (fixed_of scheme).q v.now × (length coins.now ≡ (fixed_of scheme).coins) }
     requires rooms { Rooms scheme tosses.old hints.old entries.old }
-    ensures hints_value { left hints ≡ settled.hints scheme (coins_in scheme (was coins)) (was v) }
-    ensures entries_value { left entries ≡ settled.keys scheme (coins_in scheme (was coins)) (was v) }
+    ensures hints_value { hints.new ≡ settled.hints scheme (coins_in scheme coins.now) v.now }
+    ensures entries_value { entries.new ≡ settled.keys scheme (coins_in scheme coins.now) v.now }
 {
     crate::take_coins(scheme, coins, tosses);
     values::settle::hints(scheme, tosses, v, hints);
@@ -64,8 +63,8 @@ fn settle(
 fn lay_message(scheme: Scheme, u: &[u32], hints: &[u32], message: &mut [u8]) -> Verdict
     requires counted { Counted (fixed_of scheme).secret (fixed_of scheme).q u.now }
     requires counted_2 { Counted (fixed_of scheme).mixed (2 ^ (fixed_of scheme).hintbits) hints.now × (length message.old ≡ (fixed_of scheme).reply) }
-    ensures value { result ≡ not_blank_lem (packed (fixed_of scheme).width (was u)) }
-    ensures laid { Laid result (packed (fixed_of scheme).width (was u) ++ packed (fixed_of scheme).hintbits (was hints)) message }
+    ensures value { result ≡ not_blank_lem (packed (fixed_of scheme).width u.now) }
+    ensures laid { Laid result (packed (fixed_of scheme).width u.now ++ packed (fixed_of scheme).hintbits hints.now) message.old message.new }
 {
     let v = refusals::not_blank(u);
     match v {
@@ -92,9 +91,9 @@ pub fn lay_values(
     requires counted { Counted (fixed_of scheme).secret (fixed_of scheme).q u.now × Counted (fixed_of scheme).mixed (fixed_of scheme).q v.now }
     requires coins_len { (length coins.now ≡ (fixed_of scheme).coins) × Rooms scheme tosses.old hints.old entries.old }
     requires message_len { (length message.old ≡ (fixed_of scheme).reply) × (length key.old ≡ (fixed_of scheme).key) }
-    ensures value { result ≡ not_blank_lem (packed (fixed_of scheme).width (was u)) }
-    ensures laid { Laid result (message_by scheme (was u) (was v) (was coins)) message }
-    ensures laid_2 { Laid result (key_by scheme (was v) (was coins)) key }
+    ensures value { result ≡ not_blank_lem (packed (fixed_of scheme).width u.now) }
+    ensures laid { Laid result (message_by scheme u.now v.now coins.now) message.old message.new }
+    ensures laid_2 { Laid result (key_by scheme v.now coins.now) key.old key.new }
 {
     settle(scheme, coins, v, tosses, hints, entries);
     let sent = lay_message(scheme, u, hints, message);

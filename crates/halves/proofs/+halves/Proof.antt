@@ -1,5 +1,5 @@
 -- `halves::halves` meets its contract: the length falls at each call of itself. At a place of its code, `hₙ` is half the length and `wₙ` what w holds.
-use Rattle.lists.proofs.Kit.{◌≡◌, List, ℕ, ◌+◌, ◌*◌, ◌-◌, ◌/◌, ◌<◌, ◌≤◌, arith, length, take, drop, needs, put_mid}
+use Rattle.lists.proofs.Kit.{◌≡◌, List, ℕ, ◌+◌, ◌*◌, ◌-◌, ◌/◌, ◌<◌, ◌≤◌, arith, length, take, drop, rules, put_mid}
 use borrow.{Fn.Kinds.In, Fn.Kinds.Out, Fn.PlainCycle.Measures, Fn.PlainCycle.is, Fn.PlainCycle.falls, Fn.PlainCycle.and}
 use Rattle.halves.specs.Steps.{Size, Product, InPart, Ahead}
 use Rattle.halves.proofs.Part.{size-least, size-half, size-even, lent-long, part-product, product_at}
@@ -42,28 +42,28 @@ module _ (t : ℕ) where
   -- ---- from each step to the one before it
 
   abbrev above₁ : Place lts.After-spread → Above
-  above₁ c = search needs
+  above₁ c = search rules
 
   abbrev at₂ : Place lts.After-halves → Place lts.After-spread
-  at₂ c = search needs
+  at₂ c = search rules
 
   abbrev at₃ : Place lts.After-copy → Place lts.After-halves
-  at₃ c = search needs
+  at₃ c = search rules
 
   abbrev at₄ : Place lts.After-halves2 → Place lts.After-copy
-  at₄ c = search needs
+  at₄ c = search rules
 
   abbrev at₅ : Place lts.After-copy2 → Place lts.After-halves2
-  at₅ c = search needs
+  at₅ c = search rules
 
   abbrev at₆ : Place lts.After-halves3 → Place lts.After-copy2
-  at₆ c = search needs
+  at₆ c = search rules
 
   abbrev at₇ : Place lts.After-copy3 → Place lts.After-halves3
-  at₇ c = search needs
+  at₇ c = search rules
 
   abbrev at₈ : Place lts.After-join → Place lts.After-copy3
-  at₈ c = search needs
+  at₈ c = search rules
 
   abbrev above₃ : Place lts.After-copy → Above
   above₃ c = above₁ (at₂ (at₃ c))
@@ -154,7 +154,7 @@ module _ (t : ℕ) where
 
   returns : lts.Need-returns (known t) (halves-at t) halves.Post
   returns c =
-      let u : Place lts.Then1 = search needs in
+      let u : Place lts.Then1 = search rules in
       let s = u.before.before in
       let e : s.args.n ≡ 32 = omega (arith, size-least s.pre.1.1, u.if1.taken) in
       product_at e c.before.before.leaf.ensures

@@ -1,5 +1,5 @@
 -- `polynomial::windows` meets its contract: the length falls at each call of itself.
-use Rattle.lists.proofs.Kit.{◌≡◌, ◌∙◌, sym, List, ℕ, ◌+◌, ◌*◌, ◌-◌, ◌<◌, ◌≤◌, arith, length, get_or, ℤ, pos, nat_abs, ◌+ℤ◌, ◌-ℤ◌, needs, put_mid}
+use Rattle.lists.proofs.Kit.{◌≡◌, ◌∙◌, sym, List, ℕ, ◌+◌, ◌*◌, ◌-◌, ◌<◌, ◌≤◌, arith, length, get_or, ℤ, pos, nat_abs, ◌+ℤ◌, ◌-ℤ◌, rules, put_mid}
 use borrow.{Fn.Kinds.In, Fn.Kinds.Out, Fn.PlainCycle.Measures, Fn.PlainCycle.is, Fn.PlainCycle.falls, Fn.PlainCycle.and}
 use Rattle.lists.specs.Entries.{nums, ints}
 use Rattle.polynomial.specs.Steps.{Ready, Made}
@@ -110,7 +110,7 @@ module _ (t : ℕ) where
   d₁ c = c.subtract.new.1.0
 
   abbrev at₂ : Place lts.After-copy → Place lts.After-subtract
-  at₂ c = search needs
+  at₂ c = search rules
 
   abbrev m₂ : Place lts.After-copy → ℕ
   m₂ c = m₁ (at₂ c)
@@ -127,7 +127,7 @@ module _ (t : ℕ) where
   -- ---- the upper half
 
   abbrev at₃ : Place lts.After-windows → Place lts.After-copy
-  at₃ c = search needs
+  at₃ c = search rules
 
   abbrev even₃ : Place lts.After-windows → Even
   even₃ c = even₁ (at₂ (at₃ c))
@@ -177,13 +177,13 @@ module _ (t : ℕ) where
       put-below (pos 0) (m₃ c + m₃ c) (t₁ c₂) c.windows.new.1.1.0 (omega (arith, t-long₁ c₂)) (t-back₂ c) j p ∙ c₂.copy.ensures.below j p
 
   abbrev at₄ : Place lts.After-subtract2 → Place lts.After-windows
-  at₄ c = search needs
+  at₄ c = search rules
 
   abbrev d₃ : Place lts.After-subtract2 → List ℕ
   d₃ c = c.subtract2.new.1.0
 
   abbrev at₅ : Place lts.After-add → Place lts.After-subtract2
-  at₅ c = search needs
+  at₅ c = search rules
 
   abbrev even₅ : Place lts.After-add → Even
   even₅ c = even₃ (at₄ (at₅ c))
@@ -203,7 +203,7 @@ module _ (t : ℕ) where
   -- ---- the middle
 
   abbrev at₆ : Place lts.After-windows2 → Place lts.After-add
-  at₆ c = search needs
+  at₆ c = search rules
 
   abbrev even₆ : Place lts.After-windows2 → Even
   even₆ c = even₅ (at₆ c)
@@ -271,7 +271,7 @@ module _ (t : ℕ) where
   -- ---- all three
 
   abbrev at₇ : Place lts.After-windows3 → Place lts.After-windows2
-  at₇ c = search needs
+  at₇ c = search rules
 
   abbrev even₇ : Place lts.After-windows3 → Even
   even₇ c = even₆ (at₇ c)
@@ -326,7 +326,7 @@ module _ (t : ℕ) where
       middle-made (m₇ c) (whole (even₇ c)) (d-same₂ c₃) (t-same₂ c₃) (at₅ (at₆ c₆)).subtract2.ensures (at₆ c₆).add.ensures (d₄ c₆) (t₄ c₆) (d-same₄ c₆) (t-same₄ c₆) c.windows3.ensures
 
   abbrev at₈ : Place lts.After-join → Place lts.After-windows3
-  at₈ c = search needs
+  at₈ c = search rules
 
   made : (c : Place lts.After-join) → let u = even₇ (at₈ c) in Made (start u).args.q (m₀ u + m₀ u) (nums (d₀ u)) (ints (t₀ u)) c.join.new.0
   made c =
@@ -346,7 +346,7 @@ module _ (t : ℕ) where
       ((omega arith, omega arith, omega (arith, d-long₀ u)), λ i p. (whole u).below i (omega arith))
 
   windows-requires : lts.Need-windows-requires (known t) (windows-at t) windows.Post
-  windows-requires c κs = let c₂ : Place lts.After-copy = search needs in
+  windows-requires c κs = let c₂ : Place lts.After-copy = search rules in
       let c₁ = at₂ c₂ in
       let u = even₁ c₁ in (
         falling u,
@@ -357,7 +357,7 @@ module _ (t : ℕ) where
       )
 
   subtract-requires-2 : lts.Need-subtract-requires-2 (known t) (windows-at t) windows.Post
-  subtract-requires-2 c κs = let c₃ : Place lts.After-windows = search needs in
+  subtract-requires-2 c κs = let c₃ : Place lts.After-windows = search rules in
       let u = even₃ c₃ in
       ((omega arith, omega arith, omega (arith, d-long₂ c₃)), λ i p. rw (d-same₂ c₃ i (omega arith)) ((whole u).below i (omega arith)))
 
@@ -368,7 +368,7 @@ module _ (t : ℕ) where
       (omega arith, omega (arith, t-long₂ c₃), λ j p. secrets-small u (t₂ c₃) (t-same₂ c₃) j p)
 
   windows-requires-2 : lts.Need-windows-requires-2 (known t) (windows-at t) windows.Post
-  windows-requires-2 c κs = let c₅ : Place lts.After-add = search needs in
+  windows-requires-2 c κs = let c₅ : Place lts.After-add = search rules in
       let c₄ = at₅ c₅ in
       let c₃ = at₄ c₄ in
       let u = even₅ c₅ in (
@@ -380,7 +380,7 @@ module _ (t : ℕ) where
       )
 
   windows-requires-3 : lts.Need-windows-requires-3 (known t) (windows-at t) windows.Post
-  windows-requires-3 c κs = let c₆ : Place lts.After-windows2 = search needs in
+  windows-requires-3 c κs = let c₆ : Place lts.After-windows2 = search rules in
       let c₅ = at₆ c₆ in
       let c₄ = at₅ c₅ in
       let c₃ = at₄ c₄ in
@@ -393,7 +393,7 @@ module _ (t : ℕ) where
       )
 
   join-requires : lts.Need-join-requires (known t) (windows-at t) windows.Post
-  join-requires c κs = let c₇ : Place lts.After-windows3 = search needs in
+  join-requires c κs = let c₇ : Place lts.After-windows3 = search rules in
       let u = even₇ c₇ in (
         omega (arith, o-same₃ c₇, o-long₂ (at₇ c₇)),
         three-small (nums (d₀ u)) (ints (t₀ u)) (o₃ c₇) (low c₇) (high c₇) (middle c₇) (low-at c₇) (high-at c₇) (middle-at c₇) (omega (arith, few u)),
@@ -423,16 +423,16 @@ pub +windows-spec : {M : Type 1} → statement M
 +windows-spec =
     close μ-windows λ t.
     lts.spec (known t) (windows-at t) windows.Post
-    (λ c κs. search needs)
-    (λ c κs. search needs)
-    (λ c. search needs)
-    (λ c. search needs)
-    (λ c. search needs)
+    (λ c κs. search rules)
+    (λ c κs. search rules)
+    (λ c. search rules)
+    (λ c. search rules)
+    (λ c. search rules)
     (λ c. c.before.before.leaf.ensures)
     (λ c. omega (arith, few t c))
     (λ c. omega (arith, few t c))
     (subtract-requires t)
-    (λ c κs. let u : Even t = search needs in (omega arith, omega (arith, t-long₀ t u)))
+    (λ c κs. let u : Even t = search rules in (omega arith, omega (arith, t-long₀ t u)))
     (λ c. let c₀ = c.before in omega (arith, d-long₁ t (at₂ t c₀), few t (even₁ t (at₂ t c₀))))
     (λ c. let c₀ = c.before in omega (arith, d-long₁ t (at₂ t c₀), few t (even₁ t (at₂ t c₀))))
     (λ c. let c₀ = c.before in omega (arith, d-long₁ t (at₂ t c₀), few t (even₁ t (at₂ t c₀))))
@@ -457,14 +457,14 @@ pub +windows-spec : {M : Type 1} → statement M
     (λ c. let c₀ = c.before.before.before in omega (arith, o-long₁ t (at₄ t (at₅ t c₀)), few t (even₅ t c₀)))
     (λ c. let c₀ = c.before.before.before in omega (arith, o-long₁ t (at₄ t (at₅ t c₀)), few t (even₅ t c₀)))
     (windows-requires-2 t)
-    (λ c. let c₀ : Place t lts.After-windows2 = search needs in omega (arith, d-long₄ t c₀, few t (even₆ t c₀)))
-    (λ c. let c₀ : Place t lts.After-windows2 = search needs in omega (arith, d-long₄ t c₀, few t (even₆ t c₀)))
-    (λ c. let c₀ : Place t lts.After-windows2 = search needs in omega (arith, d-long₄ t c₀, few t (even₆ t c₀)))
-    (λ c. let c₀ : Place t lts.After-windows2 = search needs in omega (arith, d-long₄ t c₀, few t (even₆ t c₀)))
-    (λ c. let c₀ : Place t lts.After-windows2 = search needs in omega (arith, o-long₂ t c₀, few t (even₆ t c₀)))
-    (λ c. let c₀ : Place t lts.After-windows2 = search needs in omega (arith, o-long₂ t c₀, few t (even₆ t c₀)))
-    (λ c. let c₀ : Place t lts.After-windows2 = search needs in omega (arith, o-long₂ t c₀, few t (even₆ t c₀)))
-    (λ c. let c₀ : Place t lts.After-windows2 = search needs in omega (arith, o-long₂ t c₀, few t (even₆ t c₀)))
+    (λ c. let c₀ : Place t lts.After-windows2 = search rules in omega (arith, d-long₄ t c₀, few t (even₆ t c₀)))
+    (λ c. let c₀ : Place t lts.After-windows2 = search rules in omega (arith, d-long₄ t c₀, few t (even₆ t c₀)))
+    (λ c. let c₀ : Place t lts.After-windows2 = search rules in omega (arith, d-long₄ t c₀, few t (even₆ t c₀)))
+    (λ c. let c₀ : Place t lts.After-windows2 = search rules in omega (arith, d-long₄ t c₀, few t (even₆ t c₀)))
+    (λ c. let c₀ : Place t lts.After-windows2 = search rules in omega (arith, o-long₂ t c₀, few t (even₆ t c₀)))
+    (λ c. let c₀ : Place t lts.After-windows2 = search rules in omega (arith, o-long₂ t c₀, few t (even₆ t c₀)))
+    (λ c. let c₀ : Place t lts.After-windows2 = search rules in omega (arith, o-long₂ t c₀, few t (even₆ t c₀)))
+    (λ c. let c₀ : Place t lts.After-windows2 = search rules in omega (arith, o-long₂ t c₀, few t (even₆ t c₀)))
     (windows-requires-3 t)
     (join-requires t)
     (same-length-4 t)

@@ -1,5 +1,5 @@
 -- `text::write_number` meets its contract: the number falls at each call of itself.
-use Rattle.lists.proofs.Kit.{arith, length-set, ℕ, ◌<◌, needs}
+use Rattle.lists.proofs.Kit.{arith, length-set, ℕ, ◌<◌, rules}
 use borrow.{Fn.Kinds.In, Fn.PlainCycle.Measures, Fn.PlainCycle.is, Fn.PlainCycle.falls, Fn.PlainCycle.and}
 use Rattle.text.proofs.Writing.{one-room, one_written, more_room, Ending, ending}
 use Rattle.text.proofs.{+write_number.statement, +write_number.Tie.close}
@@ -28,21 +28,21 @@ module _ (t : ℕ) where
   After = lts.After-write-number (known t) (write-number-at t) write-number.Post
 
   slice-write-out : lts.Need-slice-write-out (known t) (write-number-at t) write-number.Post
-  slice-write-out c = let s : Start = search needs in one-room s.args.n s.args.out.now s.args.at s.pre.1 (omega arith)
+  slice-write-out c = let s : Start = search rules in one-room s.args.n s.args.out.now s.args.at s.pre.1 (omega arith)
 
   returns : lts.Need-returns (known t) (write-number-at t) write-number.Post
-  returns c = let s : Start = search needs in one_written s.args.n s.args.out.now s.args.at s.pre.1 c.if1.true
+  returns c = let s : Start = search rules in one_written s.args.n s.args.out.now s.args.at s.pre.1 c.if1.true
 
   write-number-requires : lts.Need-write-number-requires (known t) (write-number-at t) write-number.Post
   write-number-requires c κs =
-      let s : Start = search needs in
+      let s : Start = search rules in
       (omega arith, omega (arith, more_room s.args.n s.args.out.now s.args.at s.pre.1 (omega arith) (omega arith)))
 
   -- the last digit has room behind the others
-  made : (c : After) → let s : Start = search needs in
+  made : (c : After) → let s : Start = search rules in
       Ending s.args.n s.args.out.now s.args.at c.write-number.new.1.0 c.write-number.result
   made c =
-      let s : Start = search needs in
+      let s : Start = search rules in
       ending s.args.n s.args.out.now s.args.at s.pre.1 (omega arith) (omega arith) c.write-number.ensures
 
   add-result-2 : lts.Need-overflow-add-result-2 (known t) (write-number-at t) write-number.Post

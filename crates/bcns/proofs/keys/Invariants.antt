@@ -1,0 +1,11 @@
+-- `bcns::keys` meets its contract: it fills with the key bit of each value's z.
+use Rattle.lists.proofs.Kit.{◌∙◌, ap, ◌-◌, arith, length, get_or, length-set, rules}
+use Rattle.lists.proofs.Fill.{Filled, fill_start, fill-next, fill-whole}
+use Rattle.bcns.specs.Rounding.{doubled, key_of, keys_of}
+use Rattle.bcns.proofs.keys.Given as goal
+
+abbrev pub invariant-loop-i : goal.invariant-loop-i
+invariant-loop-i l = Filled (λ k. key_of (doubled (get_or l.coins k 0) (get_or l.v k 0))) l.initial.out l.out l.i
+
+abbrev pub decreases-loop-i : goal.decreases-loop-i
+decreases-loop-i l = length l.out - l.i

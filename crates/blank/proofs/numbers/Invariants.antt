@@ -1,0 +1,10 @@
+-- `blank::numbers` meets its contract.
+use Rattle.lists.proofs.Kit.{◌-◌, arith, rules, length}
+use Rattle.blank.proofs.{Search.Zeros, Search.zeros-none, Search.zeros-more, Search.zeros-found, Search.zeros-all}
+use Rattle.blank.proofs.numbers.Given as goal
+
+abbrev pub invariant-loop-i : goal.invariant-loop-i
+invariant-loop-i l = Zeros l.xs l.i
+
+abbrev pub decreases-loop-i : goal.decreases-loop-i
+decreases-loop-i l = length l.xs - l.i

@@ -1,0 +1,11 @@
+-- `frodo::hints` meets its contract: it fills with the hints of the values.
+use Rattle.lists.proofs.Kit.{sym, ◌-◌, arith, length, get_or, length-set, rules}
+use Rattle.lists.proofs.Fill.{Filled, fill_start, fill-next, fill-whole}
+use Rattle.frodo.specs.Rounding.{hint_of, hints_of}
+use Rattle.frodo.proofs.hints.Given as goal
+
+abbrev pub invariant-loop-k : goal.invariant-loop-k
+invariant-loop-k l = Filled (λ j. hint_of l.i (get_or l.v j 0)) l.initial.out l.out l.k
+
+abbrev pub decreases-loop-k : goal.decreases-loop-k
+decreases-loop-k l = length l.out - l.k

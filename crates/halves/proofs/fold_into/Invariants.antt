@@ -1,0 +1,11 @@
+-- `halves::fold_into` meets its contract: it fills with the folded numbers.
+use Rattle.lists.proofs.Kit.{◌+◌, ◌-◌, ◌%◌, arith, rules, length, get_or, length-set}
+use Rattle.lists.proofs.Fill.{Filled, fill_start, fill-next, fill_end}
+use Rattle.halves.specs.Halves.{q}
+use Rattle.halves.proofs.fold_into.Given as goal
+
+abbrev pub invariant-loop-i : goal.invariant-loop-i
+invariant-loop-i l = Filled (λ k. (get_or l.w k 0 + (q - get_or l.w (l.n + k) 0)) % q) l.initial.out l.out l.i
+
+abbrev pub decreases-loop-i : goal.decreases-loop-i
+decreases-loop-i l = length l.out - l.i

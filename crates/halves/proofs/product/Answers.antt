@@ -1,0 +1,13 @@
+-- `halves::product` meets its contract.
+use Rattle.lists.proofs.Kit.{length, rules}
+use Rattle.lists.proofs.Same.{zeros, zeros-long}
+use Rattle.halves.proofs.{Multiplied.product-cleared}
+use Rattle.halves.proofs.product.Goals as goal
+
+pub product_in-r-requires : goal.product_in-r-requires
+product_in-r-requires c =
+    zeros (length c.args.out.now) 0 c.zero_numbers.ensures
+
+pub returns : goal.returns
+returns c =
+    product-cleared _ {l = length c.product_in-r.last.1.1.1.0} (zeros-long (length c.args.out.now) 0 c.zero_numbers.ensures) c.product_in-r.ensures c.zero_numbers-2.ensures (search rules)

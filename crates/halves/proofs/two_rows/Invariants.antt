@@ -1,0 +1,10 @@
+-- `halves::two_rows` meets its contract: k of the 33 columns have the two rows.
+use Rattle.lists.proofs.Kit.{◌≡◌, refl, ◌∙◌, sym, ◌+◌, ◌-◌, ◌≤◌, arith, rules, get_or}
+use Rattle.halves.proofs.{Columns.Doing, Columns.doing-none, Columns.doing-next, Columns.doing-all, Columns.doing-small}
+use Rattle.halves.proofs.two_rows.Given as goal
+
+abbrev pub invariant-loop-k : goal.invariant-loop-k
+invariant-loop-k l = (l.k ≤ 33) × (l.x ≡ get_or l.w l.i 0) × (l.y ≡ get_or l.w (l.i + 1) 0) × Doing l.w l.i l.k l.lows l.highs
+
+abbrev pub decreases-loop-k : goal.decreases-loop-k
+decreases-loop-k l = 33 - l.k

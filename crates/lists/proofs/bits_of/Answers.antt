@@ -1,0 +1,22 @@
+-- `lists::bits_of` meets its contract.
+use Rattle.lists.proofs.Kit.{rules, ℕ, ◌-◌, ◌≤◌, arith, bit_or, and_le_l, and_le_r, or_add_and, length, get_or}
+use Rattle.lists.proofs.{First.Reached, First.reached-none, First.reached-more, First.reached-all}
+use Rattle.lists.proofs.bits_of.Goals as goal
+
+-- neither of two numbers is over their bits
+under-l : (a b : ℕ) → a ≤ bit_or a b
+under-l a b = omega (arith, or_add_and a b, and_le_r a b)
+
+under-r : (a b : ℕ) → b ≤ bit_or a b
+under-r a b = omega (arith, or_add_and a b, and_le_l a b)
+
+pub loop-i-preserved : goal.loop-i-preserved
+loop-i-preserved c =
+    let x = get_or c.args.xs.now c.loop-i.i 0 in
+    reached-more (λ x. x) 0 _ c.loop-i.i _ _ c.loop-i.invariant (omega arith) (under-l c.loop-i.bits x) (under-r c.loop-i.bits x)
+
+pub loop-i-init : goal.loop-i-init
+loop-i-init c = reached-none (λ x. x) 0 _
+
+pub returns : goal.returns
+returns c = reached-all (λ x. x) 0 _ _ _ c.loop-i.invariant (omega arith)

@@ -1,0 +1,10 @@
+-- `lists::first_apart` meets its contract.
+use Rattle.lists.proofs.Kit.{◌-◌, arith, rules, length}
+use Rattle.lists.proofs.{First.Tried, First.tried-none, First.differ, First.along, First.parted, First.met}
+use Rattle.lists.proofs.first_apart.Given as goal
+
+abbrev pub invariant-loop-at : goal.invariant-loop-at
+invariant-loop-at l = Tried (length l.xs) (differ l.xs l.ys) l.at
+
+abbrev pub decreases-loop-at : goal.decreases-loop-at
+decreases-loop-at l = length l.xs - l.at

@@ -1,0 +1,14 @@
+-- `lists::first_over` meets its contract.
+use Rattle.lists.proofs.Kit.{sym, arith, rules}
+use Rattle.lists.proofs.{First.none_over}
+use Rattle.lists.proofs.first_over.Goals as goal
+
+-- by its bits
+pub returns-then-bits_of-q : goal.returns-then-bits_of-q
+returns-then-bits_of-q c =
+    sym (none_over c.args.q c.args.xs.now (omega arith))
+
+-- by its largest
+pub returns-then-largest_of-q : goal.returns-then-largest_of-q
+returns-then-largest_of-q c =
+    sym (none_over c.args.q c.args.xs.now (omega arith))

@@ -1,0 +1,10 @@
+-- `lists::largest_of` meets its contract.
+use Rattle.lists.proofs.Kit.{rules, ⊎_elim, ◌-◌, arith, length}
+use Rattle.lists.proofs.{First.Most, First.most-none, First.most-more, First.most-all}
+use Rattle.lists.proofs.largest_of.Given as goal
+
+abbrev pub invariant-loop-i : goal.invariant-loop-i
+invariant-loop-i l = Most (λ x. x) 0 l.xs l.i l.most
+
+abbrev pub decreases-loop-i : goal.decreases-loop-i
+decreases-loop-i l = length l.xs - l.i

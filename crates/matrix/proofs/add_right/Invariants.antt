@@ -1,0 +1,16 @@
+-- `matrix::add_right` meets its contract: it fills a row of sums at a time.
+use Rattle.lists.proofs.Kit.{◌≡◌, List, ℕ, ◌+◌, ◌*◌, ◌-◌, ◌%◌, ◌≤◌, arith, rules, length, get_or}
+use Rattle.numbers.specs.Sum.{sum_ℕ}
+use Rattle.lists.proofs.{Fill.Filled, Fill.fill_end, Fill.rows_start, Fill.rows_next, Parts.slice-long}
+use Rattle.matrix.specs.Words.{gained, right_term}
+use Rattle.matrix.proofs.{Terms.row_in, Terms.right-sums, Terms.Row, Terms.row_of}
+use Rattle.matrix.proofs.add_right.Given as goal
+
+abbrev pub from : ℕ → List ℕ → List ℕ → List ℕ → ℕ → ℕ
+from n x cols sums k = (get_or sums k 0 + sum_ℕ n (right_term n x cols k)) % 65536
+
+abbrev pub invariant-loop-i : goal.invariant-loop-i
+invariant-loop-i l = (l.i ≤ l.r) × Filled (from l.n l.x l.cols l.initial.sums) l.initial.sums l.sums (l.i * 8)
+
+abbrev pub decreases-loop-i : goal.decreases-loop-i
+decreases-loop-i l = l.r - l.i

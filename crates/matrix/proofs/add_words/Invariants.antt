@@ -1,0 +1,13 @@
+-- `matrix::add_words` meets its contract: it fills with each sum and its word.
+use Rattle.lists.proofs.Kit.{◌∙◌, ap, List, ℕ, ◌+◌, ◌-◌, ◌%◌, arith, mul-one, rules, length, get_or, length-set}
+use Rattle.lists.proofs.Fill.{Filled, fill_start, fill-next, fill_end, fill-old}
+use Rattle.matrix.proofs.add_words.Given as goal
+
+abbrev pub from : List ℕ → List ℕ → ℕ → ℕ
+from ws sums k = (get_or sums k 0 + get_or ws k 0) % 65536
+
+abbrev pub invariant-loop-k : goal.invariant-loop-k
+invariant-loop-k l = Filled (from l.ws l.initial.sums) l.initial.sums l.sums l.k
+
+abbrev pub decreases-loop-k : goal.decreases-loop-k
+decreases-loop-k l = length l.sums - l.k

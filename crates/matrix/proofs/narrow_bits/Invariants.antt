@@ -1,0 +1,14 @@
+-- `matrix::narrow_bits` meets its contract: it fills with the numbers where they fit, and none that was passed is over the bits.
+use Rattle.lists.proofs.Kit.{◌≡◌, refl, ◌∙◌, ap, ℕ, ◌-◌, ◌≤◌, ◌<◌, arith, not-suc-le-zero, rules, bit_or, and_le_l, and_le_r, or_add_and, length, get_or}
+use Rattle.lists.proofs.Kit.{length-set}
+use borrow.Author.Count.{below_more}
+use Rattle.lists.specs.{Entries.tab, Ranges.Below}
+use Rattle.lists.proofs.{Entries.tab-getD, Fill.Filled, Fill.fill_start, Fill.fill-next, Fill.fill_end}
+use Rattle.matrix.proofs.narrow_bits.Given as goal
+
+abbrev pub invariant-loop-k : goal.invariant-loop-k
+invariant-loop-k l =
+    (length l.out ≡ length l.initial.out) × ((i : ℕ) → i < l.k → get_or l.xs i 0 ≤ l.bits) × (Below 32768 l.xs → Filled (λ i. get_or l.xs i 0) l.initial.out l.out l.k)
+
+abbrev pub decreases-loop-k : goal.decreases-loop-k
+decreases-loop-k l = length l.out - l.k

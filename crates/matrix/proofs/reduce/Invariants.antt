@@ -1,0 +1,15 @@
+-- `matrix::reduce` meets its contract: it fills with the remainders of the sums.
+use Rattle.lists.proofs.Kit.{refl, ◌∙◌, ap, List, ℕ, ◌-◌, ◌/◌, ◌%◌, arith, mod-lt, rules, length, length-set, get_or}
+use Rattle.lists.specs.Entries.{tab}
+use Rattle.lists.proofs.Fill.{Filled, fill_start, fill-next, fill_end}
+use Rattle.matrix.specs.Words.{reduced}
+use Rattle.matrix.proofs.reduce.Given as goal
+
+abbrev pub from : ℕ → List ℕ → ℕ → ℕ
+from q sums k = get_or sums k 0 % q
+
+abbrev pub invariant-loop-k : goal.invariant-loop-k
+invariant-loop-k l = Filled (from l.q l.sums) l.initial.out l.out l.k
+
+abbrev pub decreases-loop-k : goal.decreases-loop-k
+decreases-loop-k l = length l.out - l.k

@@ -1,0 +1,16 @@
+-- `matrix::words` meets its contract: it fills with the words of the values.
+use Rattle.lists.proofs.Kit.{◌∙◌, ap, List, ℕ, ◌-◌, arith, rules, length, length-set, ℤ, to_z-of_z}
+use Rattle.numbers.specs.Residue.{residue}
+use Rattle.lists.specs.Entries.{tab, ints}
+use Rattle.lists.proofs.Fill.{Filled, fill_start, fill-next, fill_end}
+use Rattle.matrix.specs.Words.{words_of}
+use Rattle.matrix.proofs.words.Given as goal
+
+abbrev pub from : List ℤ → ℕ → ℕ
+from zs k = residue 65536 (ints zs k)
+
+abbrev pub invariant-loop-k : goal.invariant-loop-k
+invariant-loop-k l = Filled (from l.zs) l.initial.out l.out l.k
+
+abbrev pub decreases-loop-k : goal.decreases-loop-k
+decreases-loop-k l = length l.out - l.k

@@ -1,0 +1,12 @@
+-- `newhope::hints` meets its contract: it writes the four places of each group.
+use Rattle.lists.proofs.Kit.{◌-◌, arith, rules, length-set}
+use Rattle.newhope.specs.Group.{groups}
+use Rattle.newhope.proofs.Groups.{small-group, hint-at, hints-next, hints-end}
+use Rattle.newhope.proofs.{Spread.Spread, Spread.spread-start}
+use Rattle.newhope.proofs.hints.Given as goal
+
+abbrev pub invariant-loop-i : goal.invariant-loop-i
+invariant-loop-i l = Spread (hint-at l.coins l.v) l.out l.i
+
+abbrev pub decreases-loop-i : goal.decreases-loop-i
+decreases-loop-i l = groups - l.i

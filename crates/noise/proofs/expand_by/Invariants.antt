@@ -1,0 +1,11 @@
+-- `noise::expand_by` meets its contract: its loop stores each word's number, and counts those that the rule takes.
+use Rattle.lists.proofs.Kit.{◌∙◌, sym, ap, Bool, true, false, inl, inr, ◌-◌, ◌<◌, ◌≤◌, arith, rules, ltb-true, ltb-false, bool_byte}
+use Rattle.noise.specs.Expand.{rule}
+use Rattle.noise.proofs.{Stream.Storing, Stream.store-none, Stream.store_long, Stream.store-more, Stream.store-end}
+use Rattle.noise.proofs.expand_by.Given as goal
+
+abbrev pub invariant-loop-i : goal.invariant-loop-i
+invariant-loop-i l = Storing (rule l.name) l.stream l.initial.out l.out l.n l.i × (l.i ≤ l.words)
+
+abbrev pub decreases-loop-i : goal.decreases-loop-i
+decreases-loop-i l = l.words - l.i

@@ -1,0 +1,15 @@
+-- `parts::add_left` meets its contract: after t rows each sum has gained t products.
+use Rattle.lists.proofs.Kit.{◌≡◌, refl, ◌∙◌, sym, ap, List, ℕ, ◌+◌, ◌*◌, ◌-◌, ◌%◌, ◌≤◌, arith, mul-le-mul_right, rules, length, take, drop}
+use Rattle.lists.proofs.Parts.{slice-long}
+use Rattle.matrix.specs.{Steps.part_term, Words.gained}
+use Rattle.matrix.proofs.Steps.{gained-length, gained-none, gained-more}
+use Rattle.parts.specs.Parts.{words}
+use Rattle.parts.proofs.{Words.slice-words-long, Blocks.one_block}
+use Rattle.parts.proofs.add_left.Given as goal
+
+abbrev pub invariant-loop-t : goal.invariant-loop-t
+invariant-loop-t l =
+    (l.t ≤ l.w) × (l.t % 4 ≡ 0) × (length l.block ≡ length l.initial.block) × (l.sums ≡ gained 65536 l.t (part_term l.w l.n 0 l.s (words l.x)) l.initial.sums)
+
+abbrev pub decreases-loop-t : goal.decreases-loop-t
+decreases-loop-t l = l.w - l.t

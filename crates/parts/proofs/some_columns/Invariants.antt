@@ -1,0 +1,17 @@
+-- `parts::some_columns` meets its contract: it fills with the words of one row of S' at a time.
+use Rattle.lists.proofs.Kit.{◌≡◌, ◌∙◌, sym, ap, List, ℕ, ◌+◌, ◌*◌, ◌-◌, ◌/◌, ◌%◌, ◌≤◌, arith, rules, length, get_or}
+use Rattle.lists.proofs.{Fill.Filled, Fill.fill-whole, Fill.rows_start, Fill.rows_next, Parts.slice-long}
+use Rattle.matrix.specs.Steps.{columns_from}
+use Rattle.matrix.proofs.Terms.{row_in}
+use Rattle.parts.specs.Parts.{words}
+use Rattle.parts.proofs.{Blocks.columns-row}
+use Rattle.parts.proofs.some_columns.Given as goal
+
+abbrev pub from : ℕ → ℕ → ℕ → List ℕ → ℕ → ℕ
+from h r c secret k = get_or (words secret) (k / (2 * c) * (2 * h) + (2 * r + k % (2 * c))) 0
+
+abbrev pub invariant-loop-k : goal.invariant-loop-k
+invariant-loop-k l = (l.k ≤ 8) × Filled (from l.h l.r l.c l.secret) l.initial.out l.out (l.k * (2 * l.c))
+
+abbrev pub decreases-loop-k : goal.decreases-loop-k
+decreases-loop-k l = 8 - l.k

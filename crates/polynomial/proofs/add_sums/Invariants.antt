@@ -1,0 +1,12 @@
+-- `polynomial::add_sums` meets its contract.
+use Rattle.lists.proofs.Kit.{◌+◌, ◌-◌, ◌^◌, ◌≤◌, arith, lit≤, pos, ◌+ℤ◌, w64, rules}
+use Rattle.lists.specs.{Entries.ints, Ranges.Stored}
+use Rattle.lists.proofs.Stored.{store-none, stored-all}
+use Rattle.polynomial.proofs.{Level.add-fits, Level.add-next}
+use Rattle.polynomial.proofs.add_sums.Given as goal
+
+abbrev pub invariant-loop-k : goal.invariant-loop-k
+invariant-loop-k l = (l.k ≤ l.n) × Stored (pos 0) l.initial.o l.to l.k (λ j. ints l.initial.o (l.to + j) +ℤ ints l.initial.o (l.x + j)) l.o
+
+abbrev pub decreases-loop-k : goal.decreases-loop-k
+decreases-loop-k l = l.n - l.k

@@ -1,0 +1,17 @@
+-- `polynomial::entries` meets its contract: it fills with the sums, reduced.
+use Rattle.lists.proofs.Kit.{◌≡◌, ◌∙◌, sym, ap₂, subst, List, ℕ, ◌-◌, ◌^◌, ◌≤◌, arith, length, get_or, length-set, ℤ, pos, nat_abs, ◌+ℤ◌, w32, w64, to_z, of_z}
+use Rattle.lists.proofs.Kit.{to_z-of_z, rules}
+use Rattle.numbers.specs.Residue.{residue}
+use Rattle.schemes.specs.Schemes.{bcns}
+use Rattle.lists.specs.Entries.{ints}
+use Rattle.lists.proofs.Fill.{Filled, fill_start, fill-next, fill_end}
+use Rattle.polynomial.proofs.entries.Given as goal
+
+abbrev pub by : List ℤ → List ℤ → ℕ → ℕ
+by o e k = residue bcns.q (ints o k +ℤ ints e k)
+
+abbrev pub invariant-loop-k : goal.invariant-loop-k
+invariant-loop-k l = Filled (by l.o l.e) l.initial.out l.out l.k
+
+abbrev pub decreases-loop-k : goal.decreases-loop-k
+decreases-loop-k l = length l.out - l.k

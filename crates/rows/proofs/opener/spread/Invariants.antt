@@ -1,0 +1,11 @@
+-- `rows::opener::spread` meets its contract: it fills with the entries of the source.
+use Rattle.lists.proofs.Kit.{refl, ◌∙◌, ap, ℕ, ◌-◌, arith, length, get_or, length-set}
+use Rattle.lists.specs.Entries.{tab}
+use Rattle.lists.proofs.{Entries.tab-getD, Fill.Filled, Fill.fill_start, Fill.fill-next, Fill.fill_end}
+use Rattle.rows.proofs.opener.spread.Given as goal
+
+abbrev pub invariant-loop-k : goal.invariant-loop-k
+invariant-loop-k l = Filled (λ i. get_or l.bytes i 0) l.initial.out l.out l.k
+
+abbrev pub decreases-loop-k : goal.decreases-loop-k
+decreases-loop-k l = length l.out - l.k

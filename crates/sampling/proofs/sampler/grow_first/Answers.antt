@@ -1,0 +1,39 @@
+-- `sampling::sampler::grow_first` meets its contract: by the first bytes where they are enough, and by all after their refusal, which has left zeros.
+use Rattle.lists.proofs.Kit.{◌≡◌, refl, ◌∙◌, sym, ap, ℕ, ◌*◌, ◌≤◌, arith, length, take, length-take-le, rules}
+use Rattle.lists.proofs.Same.{zeros, zeros-long}
+use Rattle.sampling.specs.Steps.{grow_sizes_lem}
+use Rattle.sampling.proofs.{Expanding.refused-zeros, Growing.grown-all, Growing.grown-first, Growing.grow-named}
+use Rattle.sampling.proofs.sampler.grow_first.Goals as goal
+use Rattle.sampling.proofs.sampler.grow_first.Goals.{Start}
+
+-- how many bytes are lent for the first
+lent : (b : Start) (n : ℕ) → n ≤ 24 * 168 → length (take n b.args.bytes.now) ≡ n
+lent b n l = length-take-le n b.args.bytes.now (omega (arith, b.requires.out_value.1))
+
+pub slice_bounds-grow_from-end-2 : goal.slice_bounds-grow_from-end-2
+slice_bounds-grow_from-end-2 c =
+    sym (lent c.before.before.before.before.before _ c.first_bytes-n.ensures.0)
+
+pub grow_from-a-requires : goal.grow_from-a-requires
+grow_from-a-requires c =
+    ((c.requires.out_value.0, omega (arith, lent c.before.before.before.before.before.before _ c.first_bytes-n.ensures.0)), c.requires.out_value_2)
+
+pub returns-in_default : goal.returns-in_default
+returns-in_default c =
+    let l = lent c.before.before.before.before.before.before.before.before.before.before.before.before.before _ c.first_bytes-n.ensures.0 in
+    grown-first c.args.name c.args.seed.now _ c.requires.out_value.0 _ (omega (arith, l)) _ (omega (arith, l, c.first_bytes-n.ensures.1))
+    c.in_default.is c.grow_from-a.ensures
+
+pub grow_from-requires : goal.grow_from-requires
+grow_from-requires c =
+    let z = refused-zeros _ _ _ c.in-Refused.is c.grow_from-a.ensures in
+    let n = length c.args.out.now in
+    record { out_value = (ap (grow_sizes_lem c.args.seed.now) (zeros-long n 0 z) ∙ c.requires.out_value.0, omega (arith, c.bytes-1.given.1, c.requires.out_value.1)); out_value_2 = zeros n 0 z }
+
+pub returns : goal.returns
+returns c =
+    let z = refused-zeros _ _ _ c.in-Refused.is c.grow_from-a.ensures in
+    let n = length c.args.out.now in
+    let e = ap (grow_sizes_lem c.args.seed.now) (zeros-long n 0 z) ∙ c.requires.out_value.0 in
+    grow-named refl _ n refl z
+    (grown-all c.args.name c.args.seed.now _ e _ (omega (arith, c.bytes-1.given.1, c.requires.out_value.1)) (c.bytes-1.given.1 ∙ c.requires.out_value.1) c.grow_from.ensures)

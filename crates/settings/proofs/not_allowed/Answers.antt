@@ -1,0 +1,6 @@
+-- `settings::not_allowed` meets its contract.
+use Rattle.settings.proofs.{Known.not-allowed}
+use Rattle.settings.proofs.not_allowed.Goals as goal
+
+pub returns : goal.returns
+returns c = not-allowed c.args.c

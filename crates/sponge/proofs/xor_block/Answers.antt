@@ -1,0 +1,19 @@
+-- `sponge::xor_block` meets its contract: it fills the first lanes, and over the others nothing is laid.
+use Rattle.lists.proofs.Kit.{rules, ◌≤◌, ◌-◌, arith, length-take, length-drop}
+use Rattle.lists.proofs.Fill.{Filled, fill_start}
+use Rattle.sponge.proofs.{Lanes.laid, Lanes.laid_next, Lanes.laid-all}
+use Rattle.sponge.proofs.xor_block.Goals as goal
+
+pub load-x-requires : goal.load-x-requires
+load-x-requires c = simp (length-take, length-drop) (omega arith)
+
+pub loop-i-preserved : goal.loop-i-preserved
+loop-i-preserved c =
+    (omega arith, laid_next c.args.s c.args.b.now c.loop-i.invariant.1 c.load-x.result (omega arith) c.load-x.ensures)
+
+pub returns : goal.returns
+returns c =
+    laid-all c.args.s c.args.b.now c.loop-i.invariant.1 (omega arith) (omega arith)
+
+pub loop-i-init : goal.loop-i-init
+loop-i-init c = (omega arith, fill_start _ _)

@@ -1,0 +1,11 @@
+-- `transform::cross` meets its contract, row after row.
+use Rattle.lists.proofs.Kit.{◌≡◌, refl, ◌∙◌, ap, ℕ, ◌+◌, ◌-◌, ◌*◌, ◌≤◌, ◌<◌, arith, rules}
+use Rattle.transform.specs.Level.{Crossed}
+use Rattle.transform.proofs.{Joins.crossed-none}
+use Rattle.transform.proofs.cross.Given as goal
+
+abbrev pub invariant-loop-o : goal.invariant-loop-o
+invariant-loop-o l = (l.o ≤ l.h) × Crossed l.src l.ws l.h l.m l.u l.v (l.o * l.m) l.dst
+
+abbrev pub decreases-loop-o : goal.decreases-loop-o
+decreases-loop-o l = l.h - l.o

@@ -1,0 +1,17 @@
+-- `transform::on_transforms::put` meets its contract: it fills with the entries.
+use Rattle.lists.proofs.Kit.{rules, refl, ◌∙◌, sym, ◌-◌, arith, get_or}
+use Rattle.lists.proofs.{Entries.tab-getD, Fill.Filled, Fill.fill_start, Fill.fill-next, Fill.fill-whole}
+use Rattle.transform.proofs.on_transforms.put.Goals as goal
+
+pub loop-k-preserved : goal.loop-k-preserved
+loop-k-preserved c = fill-next _ c.loop-k.invariant (omega arith) refl
+
+pub returns : goal.returns
+returns c =
+    fill-whole c.loop-k.invariant (c.requires.1 ∙ sym c.requires.0) (omega arith) ∙ tab-getD _ 0
+
+pub loop-k-init : goal.loop-k-init
+loop-k-init c = fill_start _ _
+
+pub shape_of-out : goal.shape_of-out
+shape_of-out c = c.loop-k.invariant.long

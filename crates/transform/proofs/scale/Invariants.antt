@@ -1,0 +1,17 @@
+-- `transform::scale` meets its contract: it fills with the entries of the inverse.
+use Rattle.lists.proofs.Kit.{rules, ◌≡◌, ◌∙◌, sym, ap, ap₂, List, ℕ, ◌-◌, ◌*◌, ◌%◌, ◌^◌, ◌<◌, arith, mod-eq_of_lt, length, get_or, length-set}
+use Rattle.lists.specs.Entries.{tab}
+use Rattle.lists.proofs.Fill.{Filled, fill-next, fill_end, fill-first}
+use Rattle.transform.specs.Level.{scaled}
+use Rattle.transform.proofs.{Seven.power-lt, Joins.product-fits}
+use Rattle.transform.proofs.scale.Given as goal
+
+-- entry k of the inverse
+abbrev pub entry : List ℕ → ℕ → ℕ
+entry src k = get_or src ((1024 - k) % 1024) 0 * (12 * (7 ^ (1024 - k) % 12289)) % 12289
+
+abbrev pub invariant-loop-k : goal.invariant-loop-k
+invariant-loop-k l = (0 < l.k) × (length l.initial.dst ≡ 1024) × Filled (entry l.src) l.initial.dst l.dst l.k
+
+abbrev pub decreases-loop-k : goal.decreases-loop-k
+decreases-loop-k l = 1024 - l.k

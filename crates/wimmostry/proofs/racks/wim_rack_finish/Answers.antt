@@ -1,0 +1,6 @@
+-- `wimmostry::racks::wim_rack_finish` meets its contract: its numbers are the answer's.
+use Rattle.lists.proofs.Kit.{rules}
+use Rattle.wimmostry.proofs.racks.wim_rack_finish.Goals as goal
+
+pub returns : goal.returns
+returns c = rw c.tell_finish.ensures (search rules)

@@ -1,0 +1,6 @@
+-- `wimmostry::wim_settings_write` meets its contract: its numbers are the answer's.
+use Rattle.lists.proofs.Kit.{rules}
+use Rattle.wimmostry.proofs.wim_settings_write.Goals as goal
+
+pub returns : goal.returns
+returns c = rw c.tell.ensures (search rules)
