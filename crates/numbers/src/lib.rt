@@ -2,6 +2,9 @@
 // are `specs/Residue.antt`; the laws on sums, congruence and circular distance, which the crates above cite, stand in `proofs/`.
 // A modulus q is at least 1 and fits the signed type. In i32 nothing else is asked. In i64 nothing is divided: either x is smaller than q in size (`residue64`,
 // `negate64`), or q is 2^32 - 1 (02b; `fold`, and `residue_folded` of signed numbers). Frodo's and BCNS's slack used (02f) come down to `way_out`.
+
+#![tactic(auto)]
+
 ghost use Rattle.std.specs.Prelude.{◌≡◌, ◌+◌, ◌-◌, ◌/◌, ◌%◌, ◌^◌, ◌≤◌, ◌<◌, min, neg_ℤ, nat_abs};
 ghost use Rattle.numbers.specs.Residue.{residue, nearest, distance};
 

@@ -1,6 +1,5 @@
 -- `numbers::fold` meets its contract.
 use native.Mathlib.Omega.{arith}
-use borrow.Author.Rules.{rules}
 use Rattle.numbers.proofs.{Halves.taken-le, Halves.folded}
 use Rattle.numbers.proofs.fold.Goals as goal
 

@@ -1,6 +1,5 @@
 -- `numbers::nearest32` meets its contract.
 use native.Mathlib.Omega.{arith}
-use borrow.Author.Rules.{rules}
 use mir.Syntax.{w32}
 use Rattle.numbers.proofs.{Machine.Rem, Machine.rest-room, Machine.low, Machine.high_fits, Machine.high}
 use Rattle.numbers.proofs.nearest32.Goals as goal

@@ -1,7 +1,6 @@
 -- `numbers::residue32` meets its contract.
 use mathlib.Core.Path.{ap}
 use native.Mathlib.Omega.{arith}
-use borrow.Author.Rules.{rules}
 use lib.IntN.{nat_abs}
 use mir.Syntax.{w32}
 use Rattle.numbers.proofs.Machine.{Rem, pos-cast, quot_fits, rest_lt, up_fits, cut_up, cut-stay}

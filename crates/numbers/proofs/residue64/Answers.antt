@@ -1,6 +1,5 @@
 -- `numbers::residue64` meets its contract.
 use mathlib.Core.Path.{ap}
-use borrow.Author.Rules.{rules}
 use lib.IntN.{nat_abs}
 use Rattle.numbers.proofs.{Machine.once-fits, Machine.sum_fits, Machine.added, Machine.added-cast}
 use Rattle.numbers.proofs.residue64.Goals as goal

@@ -1,6 +1,5 @@
 -- `numbers::residue_folded` meets its contract.
 use mathlib.Core.Path.{◌∙◌}
-use borrow.Author.Rules.{rules}
 use Rattle.numbers.proofs.{Lifted.sum_fits, Lifted.sum-high, Lifted.sum-rest}
 use Rattle.numbers.proofs.residue_folded.Goals as goal
 

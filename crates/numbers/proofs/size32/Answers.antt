@@ -1,6 +1,5 @@
 -- `numbers::size32` meets its contract.
 use native.Mathlib.Omega.{arith}
-use borrow.Author.Rules.{rules}
 use lib.Signed.{nat_abs-le}
 use mir.{Syntax.w32, Facts.to_z-of_z}
 use Rattle.numbers.proofs.{Machine.lift-fits, Machine.turn-fits, Machine.turn_is, Machine.size-some, Machine.not-below-zero}

@@ -4,7 +4,7 @@ use Prim.Native.Nat.{ℕ, ◌+◌, ◌*◌, ◌-◌, ◌≤◌, min}
 use native.Mathlib.Omega.{arith}
 use lib.Dec.{ltb}
 use mir.Val.{bool_byte}
-use borrow.{Author.Rules.rules, Author.Tests.ltb-true, Author.Tests.ltb-false}
+use borrow.{Author.Tests.ltb-true, Author.Tests.ltb-false}
 use Rattle.numbers.proofs.way_out.Goals as goal
 
 byte : (b : Bool) → bool_byte b ≤ 1
