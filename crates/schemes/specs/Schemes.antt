@@ -3,7 +3,7 @@
 --   frodo ..           what is fixed in a scheme of Frodo's, over the numbers in which the four differ
 --   fixed_of s          what is fixed in the scheme s
 --   family_of s         the family of a scheme
---   by_family F bcns new_hope frodo   what is meant in each family
+--   by_family F a b c   what is meant in each family: a in BCNS, b in NewHope, c in Frodo
 --   scheme_number s     the number of a scheme, 0 to 5
 --   scheme_of_lem k         the scheme that a number names, or that it names none
 use Rattle.std.specs.Prelude.{ℕ, ◌+◌, ◌*◌, cond, eqb}
@@ -103,9 +103,9 @@ family_of Paranoid = Family.Frodo
 
 -- what differs from family to family
 abbrev pub by_family : {A : Type 0} → Family → A → A → A → A
-by_family Family.Bcns bcns new_hope frodo = bcns
-by_family Family.NewHope bcns new_hope frodo = new_hope
-by_family Family.Frodo bcns new_hope frodo = frodo
+by_family Family.Bcns a b c = a
+by_family Family.NewHope a b c = b
+by_family Family.Frodo a b c = c
 
 abbrev pub scheme_number : Scheme → ℕ
 scheme_number Bcns = 0

@@ -1,6 +1,9 @@
 // The six schemes by name, each with its fixed numbers, written once: 01, "The three families and their numbers", "The calls"
 // and "Bytes on the wire". The definitions (`specs/Schemes.antt`) have these numbers as a record for each scheme, and the proofs tie
 // code and definitions: a number that is changed on one side alone fails the check.
+
+#![tactic(auto)]
+
 ghost use Rattle.std.specs.Prelude.{◌≡◌, ◌≤◌};
 ghost use Rattle.schemes.specs.Schemes.{bcns, new_hope, frodo, fixed_of, family_of, scheme_number, scheme_of_lem};
 ghost use Rattle.schemes.specs.declared.Scheme.TheVariants.{Challenge, Classical, Recommended, Paranoid};

@@ -1,7 +1,6 @@
 -- `schemes::frodo` meets its contract: no length is too long to be one.
 use Prim.Native.Nat.{◌*◌, ◌≤◌}
 use native.{Mathlib.Nat.mul-le-mul, Mathlib.Omega.arith}
-use borrow.Author.Rules.{rules}
 use Rattle.schemes.proofs.frodo.Goals as goal
 use Rattle.schemes.proofs.frodo.Goals.{Start}
 
