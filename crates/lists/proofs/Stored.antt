@@ -3,7 +3,8 @@
 --   not_yet                  what is not yet written is as it was
 --   stored-all               at the end, by another count
 --   store-front, front-not-yet, front_at   a turn, what is not yet written and what is, at the front of a list
-use Rattle.lists.proofs.Kit.{◌≡◌, refl, ◌∙◌, sym, ap, subst, List, ℕ, ◌+◌, ◌<◌, arith, length, get_or, set, length-set, get_or-set_same, get_or-set_other}
+use Rattle.lists.proofs.Kit.{refl, ◌∙◌, sym, ap, subst, List, ℕ, arith, length, get_or, set, length-set, get_or-set_same, get_or-set_other}
+use Rattle.std.proofs.Common.{◌≡◌, ◌+◌, ◌<◌}
 use borrow.Author.Count.{below_more}
 use Rattle.lists.specs.Ranges.{Stored}
 

@@ -6,7 +6,8 @@
 --   peak-at      it stands where it is said to stand
 --   peak-below   and nowhere before
 --   peak-inside  which is in the list, if it has an entry
-use Rattle.lists.proofs.Kit.{◌≡◌, refl, sym, ap, ap₂, ◌∙◌, Bool, cond, List, [], ◌∷◌, ℕ, zero, suc, ◌-◌, ◌≤◌, ◌<◌, dec_lt, ℕ_discrete, le_refl, arith}
+use Rattle.lists.proofs.Kit.{refl, sym, ap, ap₂, ◌∙◌, Bool, cond, List, [], ℕ, zero, suc, dec_lt, ℕ_discrete, le_refl, arith}
+use Rattle.std.proofs.Common.{◌≡◌, ◌∷◌, ◌-◌, ◌≤◌, ◌<◌}
 use Rattle.lists.proofs.Kit.{eqb, leb, length, get_or, replicate, eqb-true, eqb-false, eq-eqb, ne_eqb, le-leb, lt-leb}
 use Rattle.lists.specs.First.{first_where, first_over_lem, largest_by, peak_of_lem}
 use Rattle.lists.proofs.First.{none_before, none_passes, first_passes}

@@ -1,4 +1,3 @@
-pub mod Kit
 pub mod Entries
 pub mod First
 pub mod Ranges

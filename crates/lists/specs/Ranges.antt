@@ -2,7 +2,7 @@
 --   Below q xs             every number is below q
 --   Within B xs            no secret or noise value lies further than B from 0
 --   Stored z w to n f w'   the n entries at `to` are now f 0, .., f (n - 1), and the others as they were
-use Rattle.lists.specs.Kit.{◌≡◌, List, ℕ, ◌+◌, ◌<◌, ◌≤◌, ℤ, pos, nat_abs, length, get_or}
+use Rattle.std.specs.Prelude.{◌≡◌, List, ℕ, ◌+◌, ◌<◌, ◌≤◌, ℤ, pos, nat_abs, length, get_or}
 
 pub record Below (q : ℕ) (xs : List ℕ) : Type 0 where
   pub below : (k : ℕ) → get_or xs k 0 < q

@@ -2,7 +2,10 @@
 // refusal, that for the first difference of two lists, and that for the largest number. Numbers are u32, secrets and noise values i32, all else bytes; the
 // laws that the proofs cite are stated once over the element. A function that writes fills the whole of the slice it is lent, so a caller lends the part it
 // means.
-ghost use Rattle.lists.specs.Kit.{◌≡◌, ◌≤◌, length, replicate, pos, nat_abs};
+
+#![tactic(auto)]
+
+ghost use Rattle.std.specs.Prelude.{◌≡◌, ◌≤◌, length, replicate, pos, nat_abs};
 ghost use Rattle.lists.specs.First.{largest_by, first_over_lem, first_beyond_lem, first_apart_lem, peak_of_lem};
 
 // The largest number of a list and the first index at which it stands; 0 and 0 of an empty list.

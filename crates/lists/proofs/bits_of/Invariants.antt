@@ -1,6 +1,7 @@
 -- `lists::bits_of` meets its contract.
-use Rattle.lists.proofs.Kit.{rules, ℕ, ◌-◌, ◌≤◌, arith, bit_or, and_le_l, and_le_r, or_add_and, length, get_or}
-use Rattle.lists.proofs.{First.Reached, First.reached-none, First.reached-more, First.reached-all}
+use Rattle.lists.proofs.Kit.{length}
+use Rattle.std.proofs.Common.{◌-◌}
+use Rattle.lists.proofs.{First.Reached}
 use Rattle.lists.proofs.bits_of.Given as goal
 
 abbrev pub invariant-loop-i : goal.invariant-loop-i

@@ -1,7 +1,7 @@
 -- `lists::copy_bytes` meets its contract: it fills with the entries of the source.
-use Rattle.lists.proofs.Kit.{rules, refl, ◌∙◌, ap, ℕ, ◌-◌, arith, length, get_or, length-set}
-use Rattle.lists.specs.Entries.{tab}
-use Rattle.lists.proofs.{Entries.tab-getD, Fill.Filled, Fill.fill_start, Fill.fill-next, Fill.fill_end}
+use Rattle.lists.proofs.Kit.{length, get_or}
+use Rattle.std.proofs.Common.{◌-◌}
+use Rattle.lists.proofs.{Fill.Filled}
 use Rattle.lists.proofs.copy_bytes.Given as goal
 
 abbrev pub invariant-loop-i : goal.invariant-loop-i

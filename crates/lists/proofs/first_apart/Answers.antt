@@ -1,6 +1,6 @@
 -- `lists::first_apart` meets its contract.
-use Rattle.lists.proofs.Kit.{◌-◌, arith, rules, length}
-use Rattle.lists.proofs.{First.Tried, First.tried-none, First.differ, First.along, First.parted, First.met}
+use Rattle.lists.proofs.Kit.{arith}
+use Rattle.lists.proofs.{First.tried-none, First.along, First.parted, First.met}
 use Rattle.lists.proofs.first_apart.Goals as goal
 
 pub returns-then-xs-at : goal.returns-then-xs-at

@@ -1,6 +1,7 @@
 -- `lists::first_apart` meets its contract.
-use Rattle.lists.proofs.Kit.{◌-◌, arith, rules, length}
-use Rattle.lists.proofs.{First.Tried, First.tried-none, First.differ, First.along, First.parted, First.met}
+use Rattle.lists.proofs.Kit.{length}
+use Rattle.std.proofs.Common.{◌-◌}
+use Rattle.lists.proofs.{First.Tried, First.differ}
 use Rattle.lists.proofs.first_apart.Given as goal
 
 abbrev pub invariant-loop-at : goal.invariant-loop-at

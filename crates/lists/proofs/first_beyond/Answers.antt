@@ -1,5 +1,5 @@
 -- `lists::first_beyond` meets its contract.
-use Rattle.lists.proofs.Kit.{sym, arith, rules}
+use Rattle.lists.proofs.Kit.{sym, arith}
 use Rattle.lists.proofs.{First.none-beyond}
 use Rattle.lists.proofs.first_beyond.Goals as goal
 

@@ -1,5 +1,5 @@
 -- `lists::first_over` meets its contract.
-use Rattle.lists.proofs.Kit.{sym, arith, rules}
+use Rattle.lists.proofs.Kit.{sym, arith}
 use Rattle.lists.proofs.{First.none_over}
 use Rattle.lists.proofs.first_over.Goals as goal
 

@@ -1,6 +1,7 @@
 -- `lists::largest_of` meets its contract.
-use Rattle.lists.proofs.Kit.{rules, ⊎_elim, ◌-◌, arith, length}
-use Rattle.lists.proofs.{First.Most, First.most-none, First.most-more, First.most-all}
+use Rattle.lists.proofs.Kit.{length}
+use Rattle.std.proofs.Common.{◌-◌}
+use Rattle.lists.proofs.{First.Most}
 use Rattle.lists.proofs.largest_of.Given as goal
 
 abbrev pub invariant-loop-i : goal.invariant-loop-i

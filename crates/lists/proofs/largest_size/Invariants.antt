@@ -1,6 +1,7 @@
 -- `lists::largest_size` meets its contract.
-use Rattle.lists.proofs.Kit.{◌≡◌, ⊎_elim, ◌-◌, arith, rules, length, get_or, pos, nat_abs, to_z-of_z}
-use Rattle.lists.proofs.{First.Most, First.most-none, First.most-more, First.most-all}
+use Rattle.lists.proofs.Kit.{length, pos, nat_abs}
+use Rattle.std.proofs.Common.{◌-◌}
+use Rattle.lists.proofs.{First.Most}
 use Rattle.lists.proofs.largest_size.Given as goal
 
 abbrev pub invariant-loop-i : goal.invariant-loop-i

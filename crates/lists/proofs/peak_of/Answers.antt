@@ -1,5 +1,4 @@
 -- `lists::peak_of` meets its contract.
-use Rattle.lists.proofs.Kit.{rules}
 use Rattle.lists.proofs.{Top.peak-is}
 use Rattle.lists.proofs.peak_of.Goals as goal
 

@@ -1,8 +1,7 @@
 -- `lists::search_all` meets its contract: each test is a factor 0 or 1.
-use Rattle.lists.proofs.Kit.{rules, ◌≡◌, refl, Bool, true, false, ◌⊎◌, inl, inr, ℕ, ◌*◌, ◌-◌, ◌≤◌, arith, leb, ltb, length, get_or, bool_byte, le-leb}
-use Rattle.lists.proofs.Kit.{lt-leb, ltb-true, ltb-false}
-use Rattle.lists.specs.First.{first_over_lem}
-use Rattle.lists.proofs.{First.Looking, First.looking-none, First.looking-more, First.looking-all}
+use Rattle.lists.proofs.Kit.{Bool, ℕ, leb, length}
+use Rattle.std.proofs.Common.{◌-◌, ◌≤◌}
+use Rattle.lists.proofs.{First.Looking}
 use Rattle.lists.proofs.search_all.Given as goal
 
 abbrev pub over : ℕ → ℕ → Bool

@@ -1,7 +1,8 @@
 -- `lists::search_beyond` meets its contract.
-use Rattle.lists.proofs.Kit.{◌≡◌, Bool, ℕ, ◌-◌, arith, rules, lt-ltb, le-ltb, ltb, length, get_or, ℤ, pos, nat_abs, to_z-of_z}
+use Rattle.lists.proofs.Kit.{arith, lt-ltb, le-ltb, get_or, pos, nat_abs, to_z-of_z}
+use Rattle.std.proofs.Common.{◌≡◌}
 use Rattle.lists.specs.First.{first_beyond_lem}
-use Rattle.lists.proofs.{First.Passed, First.passed_none, First.passed-more, First.found, First.missing}
+use Rattle.lists.proofs.{First.passed_none, First.passed-more, First.found, First.missing}
 use Rattle.lists.proofs.search_beyond.Invariants.{beyond}
 use Rattle.lists.proofs.search_beyond.Goals as goal
 use Rattle.lists.proofs.search_beyond.Goals.{After-size32}

@@ -1,7 +1,7 @@
 -- `lists::search_beyond` meets its contract.
-use Rattle.lists.proofs.Kit.{◌≡◌, Bool, ℕ, ◌-◌, arith, rules, lt-ltb, le-ltb, ltb, length, get_or, ℤ, pos, nat_abs, to_z-of_z}
-use Rattle.lists.specs.First.{first_beyond_lem}
-use Rattle.lists.proofs.{First.Passed, First.passed_none, First.passed-more, First.found, First.missing}
+use Rattle.lists.proofs.Kit.{Bool, ℕ, ltb, length, ℤ, pos, nat_abs}
+use Rattle.std.proofs.Common.{◌-◌}
+use Rattle.lists.proofs.{First.Passed}
 use Rattle.lists.proofs.search_beyond.Given as goal
 
 abbrev pub beyond : ℕ → ℤ → Bool

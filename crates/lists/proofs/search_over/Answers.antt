@@ -1,7 +1,7 @@
 -- `lists::search_over` meets its contract.
-use Rattle.lists.proofs.Kit.{rules, Bool, ℕ, ◌-◌, arith, le-leb, lt-leb, leb, length}
+use Rattle.lists.proofs.Kit.{arith, le-leb, lt-leb}
 use Rattle.lists.specs.First.{first_over_lem}
-use Rattle.lists.proofs.{First.Passed, First.passed_none, First.passed-more, First.found, First.missing}
+use Rattle.lists.proofs.{First.passed_none, First.passed-more, First.found, First.missing}
 use Rattle.lists.proofs.search_over.Invariants.{over}
 use Rattle.lists.proofs.search_over.Goals as goal
 

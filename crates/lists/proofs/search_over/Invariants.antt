@@ -1,7 +1,7 @@
 -- `lists::search_over` meets its contract.
-use Rattle.lists.proofs.Kit.{rules, Bool, ℕ, ◌-◌, arith, le-leb, lt-leb, leb, length}
-use Rattle.lists.specs.First.{first_over_lem}
-use Rattle.lists.proofs.{First.Passed, First.passed_none, First.passed-more, First.found, First.missing}
+use Rattle.lists.proofs.Kit.{Bool, ℕ, leb, length}
+use Rattle.std.proofs.Common.{◌-◌}
+use Rattle.lists.proofs.{First.Passed}
 use Rattle.lists.proofs.search_over.Given as goal
 
 abbrev pub over : ℕ → ℕ → Bool

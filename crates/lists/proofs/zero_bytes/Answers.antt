@@ -1,6 +1,6 @@
 -- `lists::zero_bytes` meets its contract: it fills with zeros.
-use Rattle.lists.proofs.Kit.{refl, ◌∙◌, ◌-◌, arith, length, length-set}
-use Rattle.lists.proofs.{Entries.tab-const, Fill.Filled, Fill.fill_start, Fill.fill-next, Fill.fill_end}
+use Rattle.lists.proofs.Kit.{refl, ◌∙◌, arith, length-set}
+use Rattle.lists.proofs.{Entries.tab-const, Fill.fill_start, Fill.fill-next, Fill.fill_end}
 use Rattle.lists.proofs.zero_bytes.Goals as goal
 
 pub loop-i-init : goal.loop-i-init

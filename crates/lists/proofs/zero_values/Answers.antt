@@ -1,6 +1,6 @@
 -- `lists::zero_values` meets its contract: it fills with zeros.
-use Rattle.lists.proofs.Kit.{refl, ◌∙◌, ◌-◌, arith, length, length-set, pos}
-use Rattle.lists.proofs.{Entries.tab-const, Fill.Filled, Fill.fill_start, Fill.fill-next, Fill.fill_end}
+use Rattle.lists.proofs.Kit.{refl, ◌∙◌, arith, length-set, pos}
+use Rattle.lists.proofs.{Entries.tab-const, Fill.fill_start, Fill.fill-next, Fill.fill_end}
 use Rattle.lists.proofs.zero_values.Goals as goal
 
 pub loop-i-init : goal.loop-i-init

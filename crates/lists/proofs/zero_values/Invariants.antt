@@ -1,6 +1,7 @@
 -- `lists::zero_values` meets its contract: it fills with zeros.
-use Rattle.lists.proofs.Kit.{refl, ◌∙◌, ◌-◌, arith, length, length-set, pos}
-use Rattle.lists.proofs.{Entries.tab-const, Fill.Filled, Fill.fill_start, Fill.fill-next, Fill.fill_end}
+use Rattle.lists.proofs.Kit.{length, pos}
+use Rattle.std.proofs.Common.{◌-◌}
+use Rattle.lists.proofs.{Fill.Filled}
 use Rattle.lists.proofs.zero_values.Given as goal
 
 abbrev pub invariant-loop-i : goal.invariant-loop-i
