@@ -6,7 +6,7 @@
 --   round, rounds        3.3: a round, and one after the other by their constants
 --   keccak_f a            3.4: the 24 rounds of Keccak-f[1600]
 --   offsets, constants   the tables of rho and iota
-use Rattle.lists.specs.Kit.{List, [], ◌∷◌, ℕ, zero, suc, ◌+◌, ◌-◌, ◌*◌, ◌/◌, ◌%◌, ◌^◌, bit_xor, get_or, set}
+use Rattle.std.specs.Prelude.{List, [], ◌∷◌, ℕ, zero, suc, ◌+◌, ◌-◌, ◌*◌, ◌/◌, ◌%◌, ◌^◌, bit_xor, get_or, set}
 use Rattle.std.specs.Int.Bits.{bit_and, bit_or}
 use Rattle.lists.specs.Entries.{tab}
 

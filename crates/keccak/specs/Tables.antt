@@ -1,7 +1,7 @@
 -- What gives the tables of Keccak-f[1600]: FIPS 202, section 3.
 --   OffsetsRule     rho's table is what algorithm 2 gives
 --   ConstantsRule   and iota's what algorithms 5 and 6 give
-use Rattle.lists.specs.Kit.{◌≡◌, List, ℕ, zero, suc, ◌+◌, ◌*◌, ◌/◌, ◌%◌, ◌^◌, bit_xor, set}
+use Rattle.std.specs.Prelude.{◌≡◌, List, ℕ, zero, suc, ◌+◌, ◌*◌, ◌/◌, ◌%◌, ◌^◌, bit_xor, set}
 use Rattle.lists.specs.Entries.{tab}
 use Rattle.keccak.specs.Keccak.{offsets, constants}
 

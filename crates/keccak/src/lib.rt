@@ -1,6 +1,9 @@
 // The permutation Keccak-f[1600] of FIPS 202, section 3, on 25 lanes of 64 bits: lane (x, y) stands at x + 5y. The steps are written out lane by lane, so that
 // a round has no index to compute and no branch.
-ghost use Rattle.lists.specs.Kit.{◌≡◌};
+
+#![tactic(auto)]
+
+ghost use Rattle.std.specs.Prelude.{◌≡◌};
 ghost use Rattle.keccak.specs.Keccak.{theta, rho, pi, chi, iota, round as rounded, keccak_f};
 
 // theta, rho and pi: c has the parities of the columns, d what theta adds to each, t the lanes before they are turned.

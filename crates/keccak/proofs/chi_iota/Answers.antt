@@ -1,5 +1,5 @@
 -- `keccak::chi_iota` meets its contract: every lane is the definition's, by computation.
-use Rattle.lists.proofs.Kit.{refl, rules}
+use Rattle.lists.proofs.Kit.{refl}
 use Rattle.lists.specs.Entries.{tab}
 use Rattle.keccak.specs.Keccak.{chi, iota}
 use Rattle.keccak.proofs.chi_iota.Goals as goal

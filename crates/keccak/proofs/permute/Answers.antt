@@ -1,5 +1,6 @@
 -- `keccak::permute` meets its contract: what the rounds that are left make of the state is what all of them make of the first.
-use Rattle.lists.proofs.Kit.{◌≡◌, refl, sym, ap, ◌∙◌, ℕ, ◌≤◌, ◌+◌, ◌-◌, arith, drop, rules}
+use Rattle.lists.proofs.Kit.{refl, sym, ap, ◌∙◌, ℕ, arith, drop}
+use Rattle.std.proofs.Common.{◌≡◌, ◌+◌}
 use Rattle.keccak.specs.Keccak.{rounds, keccak_f, constants}
 use Rattle.keccak.proofs.{Rounds.round-next}
 use Rattle.keccak.proofs.permute.Goals as goal

@@ -1,7 +1,7 @@
 -- `keccak::permute` meets its contract: what the rounds that are left make of the state is what all of them make of the first.
-use Rattle.lists.proofs.Kit.{◌≡◌, refl, sym, ap, ◌∙◌, ℕ, ◌≤◌, ◌+◌, ◌-◌, arith, drop, rules}
+use Rattle.lists.proofs.Kit.{drop}
+use Rattle.std.proofs.Common.{◌≡◌, ◌≤◌, ◌-◌}
 use Rattle.keccak.specs.Keccak.{rounds, keccak_f, constants}
-use Rattle.keccak.proofs.{Rounds.round-next}
 use Rattle.keccak.proofs.permute.Given as goal
 
 abbrev pub invariant-loop-i : goal.invariant-loop-i

@@ -1,5 +1,5 @@
 -- `keccak::round` meets its contract.
-use Rattle.lists.proofs.Kit.{ap, ◌∙◌, List, ℕ, rules}
+use Rattle.lists.proofs.Kit.{ap, ◌∙◌, List, ℕ}
 use Rattle.keccak.specs.Keccak.{round, chi, iota}
 use Rattle.keccak.proofs.round.Goals as goal
 
