@@ -7,7 +7,8 @@
 --   take_in, emit         it holds after k digits are taken in, and after k are written; where it starts, `resume` of Groups says
 --   fits, room            what is held fits the accumulator; what is held and written has room
 --   all_in, all-out       once all is taken in, the digits of what is held complete `out`; once all is written, it is complete
-use Rattle.lists.proofs.Kit.{◌≡◌, sym, ap, ◌∙◌, List, ◌++◌, append_assoc, append-nil, ℕ, ◌+◌, ◌*◌, ◌-◌, ◌/◌, ◌%◌, ◌^◌, ◌≤◌, ◌<◌, add-mul-div_left}
+use Rattle.lists.proofs.Kit.{sym, ap, ◌∙◌, List, append_assoc, append-nil, ℕ, add-mul-div_left}
+use Rattle.std.proofs.Common.{◌≡◌, ◌++◌, ◌+◌, ◌*◌, ◌-◌, ◌/◌, ◌%◌, ◌^◌, ◌≤◌, ◌<◌}
 use Rattle.lists.proofs.Kit.{lt_of_lt_of_le, mul-le-mul_left, one-le-pow, add-one, arith, w64, Fits, length, take, drop, set, length-append, length-drop}
 use Rattle.lists.proofs.Kit.{drop_of_length-le, drop-drop, length-take-le, set_split, take_all, take_at, pow-add, pow_mono, pow_pos, shl_exact, shr_lt}
 use Rattle.lists.proofs.Kit.{digits_lt}

@@ -15,7 +15,8 @@
 --   words-on      a number of 32 bits more is packed
 --   fewer         of the first n digits, the first m
 --   resume        `Flow` with nothing held, where the first j digits are there
-use Rattle.lists.proofs.Kit.{◌≡◌, sym, ap, ◌∙◌, List, ◌++◌, append_assoc, append-nil, ℕ, suc, ◌+◌, ◌*◌, ◌-◌, ◌/◌, ◌%◌, ◌^◌, ◌≤◌, ◌<◌, add_assoc}
+use Rattle.lists.proofs.Kit.{sym, ap, ◌∙◌, List, append_assoc, append-nil, ℕ, suc, add_assoc}
+use Rattle.std.proofs.Common.{◌≡◌, ◌++◌, ◌+◌, ◌*◌, ◌-◌, ◌/◌, ◌%◌, ◌^◌, ◌≤◌, ◌<◌}
 use Rattle.lists.proofs.Kit.{add-mul-mod_self_left, lt_of_lt_of_le, mod-lt, mul_assoc, mul_comm, mul-le-mul, mul-mod_left, mul-zero, add-zero, one-mul}
 use Rattle.lists.proofs.Kit.{zero-add, arith, length, get_or, take, drop, set, length-append, take-append-drop, drop_at, drop-drop, length-take-le, take_at}
 use Rattle.lists.proofs.Kit.{take-take, field, mod-pow-add, pow-add, pow_mono, pow_pos, shl_exact, shl-shr, shr-shr, digits_lt}

@@ -19,7 +19,8 @@
 --   unpacked-below    each of w bits
 --   no_bits           numbers of no bits are zeros
 --   unpack-pack, pack-unpack   packing and unpacking undo each other
-use Rattle.lists.proofs.Kit.{◌≡◌, refl, sym, ap, ◌∙◌, List, [], ◌∷◌, ◌++◌, ℕ, zero, suc, ◌+◌, ◌*◌, ◌/◌, ◌^◌, ◌≤◌, ◌<◌, mod-lt, div-add-mod', div-lt_iff_lt-mul}
+use Rattle.lists.proofs.Kit.{refl, sym, ap, ◌∙◌, List, [], ℕ, zero, suc, mod-lt, div-add-mod', div-lt_iff_lt-mul}
+use Rattle.std.proofs.Common.{◌≡◌, ◌∷◌, ◌++◌, ◌+◌, ◌*◌, ◌/◌, ◌^◌, ◌≤◌, ◌<◌}
 use Rattle.lists.proofs.Kit.{div-div-eq-div-mul, add-mul-div_left, add-mul-mod_self_left, one-le-pow, pow-suc, pow-succ', mul_assoc, add_assoc, add-zero}
 use Rattle.lists.proofs.Kit.{zero-add, suc-add, div-one, arith, length, get_or, take, drop, replicate, pow_pos, get_or-drop, drop-drop, take_all, take-nil}
 use Rattle.lists.proofs.Kit.{digits_div, digits_mod, digits_lt}

@@ -7,7 +7,7 @@
 -- What is shown of them, once over the width (demand 2):
 --   UnpackPack        numbers packed and unpacked are the same numbers, wherever they fill whole bytes
 --   PackUnpack        bytes unpacked and packed are the same bytes, wherever whole numbers fill them
-use Rattle.lists.specs.Kit.{◌≡◌, List, [], ◌∷◌, ℕ, zero, suc, ◌+◌, ◌*◌, ◌/◌, ◌%◌, ◌^◌, length}
+use Rattle.std.specs.Prelude.{◌≡◌, List, [], ◌∷◌, ℕ, zero, suc, ◌+◌, ◌*◌, ◌/◌, ◌%◌, ◌^◌, length}
 use Rattle.lists.specs.Ranges.{Below}
 
 unfoldable pub value : ℕ → List ℕ → ℕ

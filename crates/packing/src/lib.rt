@@ -4,7 +4,10 @@
 // in place of w, in which every shift and every place is a constant. What is left behind the last group, and every other width, goes through a bit
 // accumulator in a machine word: numbers go in at one end and bytes come out at the other, four at a time, and the other way round. Between turns
 // fewer than 32 bits are held, so 32 more still fit it.
-ghost use Rattle.lists.specs.Kit.{◌≡◌, ◌++◌, ◌+◌, ◌-◌, ◌*◌, ◌/◌, ◌%◌, ◌^◌, ◌≤◌, ◌<◌, length, get_or, take, drop};
+
+#![tactic(auto)]
+
+ghost use Rattle.std.specs.Prelude.{◌≡◌, ◌++◌, ◌+◌, ◌-◌, ◌*◌, ◌/◌, ◌%◌, ◌^◌, ◌≤◌, ◌<◌, length, get_or, take, drop};
 ghost use Rattle.lists.specs.Ranges.{Below};
 ghost use Rattle.packing.specs.Packing.{value, digits, packed, unpacked};
 

@@ -1,5 +1,4 @@
 -- `packing::four` meets its contract: the number of four digits, one after the other.
-use Rattle.lists.proofs.Kit.{rules}
 use Rattle.packing.proofs.{Laws.value-four}
 use Rattle.packing.proofs.four.Goals as goal
 

@@ -1,5 +1,6 @@
 -- `packing::number` meets its contract: the number's bits lie within the eight bytes.
-use Rattle.lists.proofs.Kit.{◌≡◌, ◌+◌, ◌*◌, ◌/◌, mod-lt, lt_of_lt_of_le, arith, rules, take, drop, drop-drop, pow_mono, pow_pos}
+use Rattle.lists.proofs.Kit.{mod-lt, lt_of_lt_of_le, arith, take, drop, drop-drop, pow_mono, pow_pos}
+use Rattle.std.proofs.Common.{◌≡◌, ◌+◌, ◌*◌, ◌/◌}
 use Rattle.lists.specs.Ranges.{Below}
 use Rattle.packing.specs.Packing.{value}
 use Rattle.packing.proofs.{Laws.value-parts, Groups.based, Groups.bits_at}

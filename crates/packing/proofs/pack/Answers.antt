@@ -1,5 +1,4 @@
 -- `packing::pack` meets its contract: the groups, and then the rest.
-use Rattle.lists.proofs.Kit.{rules}
 use Rattle.packing.proofs.pack.Goals as goal
 
 pub pack_rest-requires : goal.pack_rest-requires

@@ -1,6 +1,7 @@
 -- `packing::pack_groups` meets its contract: after g groups the first w g bytes are there.
-use Rattle.lists.proofs.Kit.{◌≡◌, refl, ◌∙◌, ◌+◌, ◌*◌, ◌-◌, ◌^◌, ◌≤◌, le_of_mul-le-mul_left, mul-zero, arith, rules, length, take}
-use Rattle.packing.specs.Packing.{value, digits}
+use Rattle.lists.proofs.Kit.{refl, ◌∙◌, le_of_mul-le-mul_left, mul-zero, arith, length}
+use Rattle.std.proofs.Common.{◌+◌, ◌*◌, ◌≤◌}
+use Rattle.packing.specs.Packing.{digits}
 use Rattle.packing.proofs.{Groups.packed-on, Groups.quad-below, Groups.two-quads}
 use Rattle.packing.proofs.pack_groups.Goals as goal
 use Rattle.packing.proofs.pack_groups.Goals.{In-loop-i}
@@ -35,7 +36,7 @@ loop-i-preserved c =
     let put = c.put_group in
     let group = two-quads w (8 * c.loop-i.g) c.args.xs.now c.quad-low.result c.quad-high.result c.quad-low.ensures c.quad-high.ensures in
     let more = packed-on w c.loop-i.g c.loop-i.out c.requires.w_nonzero.1 c.requires.w_nonzero.2 c.loop-i.invariant.3 (omega (arith, c.loop-i.invariant.1)) _ group in
-    (put.auto.1.1.1.0 ∙ c.loop-i.invariant.0, omega (arith, c.loop-i.invariant.1), omega arith, rw (put.ensures, c.loop-i.invariant.1) more)
+    (put.auto.out ∙ c.loop-i.invariant.0, omega (arith, c.loop-i.invariant.1), omega arith, rw (put.ensures, c.loop-i.invariant.1) more)
 
 pub returns : goal.returns
 returns c = (omega (arith, c.loop-i.invariant.1), c.loop-i.invariant.3)

@@ -1,7 +1,7 @@
 -- `packing::pack_groups` meets its contract: after g groups the first w g bytes are there.
-use Rattle.lists.proofs.Kit.{◌≡◌, refl, ◌∙◌, ◌+◌, ◌*◌, ◌-◌, ◌^◌, ◌≤◌, le_of_mul-le-mul_left, mul-zero, arith, rules, length, take}
+use Rattle.lists.proofs.Kit.{length, take}
+use Rattle.std.proofs.Common.{◌≡◌, ◌*◌, ◌-◌, ◌^◌, ◌≤◌}
 use Rattle.packing.specs.Packing.{value, digits}
-use Rattle.packing.proofs.{Groups.packed-on, Groups.quad-below, Groups.two-quads}
 use Rattle.packing.proofs.pack_groups.Given as goal
 
 abbrev pub invariant-loop-i : goal.invariant-loop-i

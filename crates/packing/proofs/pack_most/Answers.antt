@@ -1,5 +1,6 @@
 -- `packing::pack_most` meets its contract: each arm is the groups at its width.
-use Rattle.lists.proofs.Kit.{◌≡◌, ℕ, ◌*◌, ◌^◌, ◌<◌, mul-zero, arith, rules, length}
+use Rattle.lists.proofs.Kit.{ℕ, mul-zero, arith, length}
+use Rattle.std.proofs.Common.{◌≡◌, ◌*◌, ◌^◌, ◌<◌}
 use Rattle.lists.specs.Ranges.{Below}
 use Rattle.packing.specs.Packing.{digits}
 use Rattle.packing.proofs.pack_most.Goals as goal
@@ -7,8 +8,8 @@ use Rattle.packing.proofs.pack_most.Goals.{Start}
 
 -- what the groups ask, at a width that is known
 asks : (s : Start) {k : ℕ} → s.args.w ≡ k → k < 16
-    → ((0 < k) × (k < 16) × Below (2 ^ k) s.args.xs.now) × (k * length s.args.xs.now ≡ 8 * length s.args.out.now)
-asks s e l = ((omega arith, l, rw e at s.requires.w_nonzero.2), rw e at s.requires.xs_value)
+    → record { w_nonzero : (0 < k) × (k < 16) × Below (2 ^ k) s.args.xs.now; xs_value : k * length s.args.xs.now ≡ 8 * length s.args.out.now }
+asks s e l = record { w_nonzero = (omega arith, l, rw e at s.requires.w_nonzero.2); xs_value = rw e at s.requires.xs_value }
 
 pub pack_words-requires : goal.pack_words-requires
 pack_words-requires c =

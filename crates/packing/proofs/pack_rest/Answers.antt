@@ -1,5 +1,6 @@
 -- `packing::pack_rest` meets its contract: the invariant is `Flow` at 8 bits out, with fewer than 32 bits held.
-use Rattle.lists.proofs.Kit.{◌≡◌, refl, sym, ◌∙◌, ◌+◌, ◌*◌, ◌-◌, ◌/◌, ◌%◌, ◌^◌, ◌≤◌, ◌<◌, mul-one, le_of_mul-le-mul_left, arith, rules, length, get_or}
+use Rattle.lists.proofs.Kit.{refl, sym, ◌∙◌, mul-one, le_of_mul-le-mul_left, arith, length, get_or}
+use Rattle.std.proofs.Common.{◌≡◌, ◌+◌, ◌*◌, ◌/◌, ◌%◌, ◌^◌, ◌≤◌}
 use Rattle.packing.specs.Packing.{packed}
 use Rattle.packing.proofs.Flow.{Flow, take_in, emit, fits, room, all_in}
 use Rattle.packing.proofs.{Laws.value-one, Groups.resume}
@@ -46,7 +47,7 @@ overflow_add-j c = omega (arith, word_fits (goal.at.overflow_add-j c).Then-held-
 
 pub loop-i-preserved-then-held-ge32 : goal.loop-i-preserved-then-held-ge32
 loop-i-preserved-then-held-ge32 c =
-    let f = emit (taken t.before) 4 32 refl c.if-held-ge32.taken (word_fits (goal.at.loop-i-preserved-then-held-ge32 c).Then-held-ge32) in
+    let f = emit (taken (goal.at.loop-i-preserved-then-held-ge32 c).After-shared_slice_known-in-loop-i-1) 4 32 refl c.if-held-ge32.true (word_fits (goal.at.loop-i-preserved-then-held-ge32 c).Then-held-ge32) in
     (omega arith, omega arith, rw c.put_word.ensures f)
 
 pub loop-i-preserved : goal.loop-i-preserved

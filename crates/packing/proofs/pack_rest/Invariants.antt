@@ -1,8 +1,7 @@
 -- `packing::pack_rest` meets its contract: the invariant is `Flow` at 8 bits out, with fewer than 32 bits held.
-use Rattle.lists.proofs.Kit.{◌≡◌, refl, sym, ◌∙◌, ◌+◌, ◌*◌, ◌-◌, ◌/◌, ◌%◌, ◌^◌, ◌≤◌, ◌<◌, mul-one, le_of_mul-le-mul_left, arith, rules, length, get_or}
-use Rattle.packing.specs.Packing.{packed}
-use Rattle.packing.proofs.Flow.{Flow, take_in, emit, fits, room, all_in}
-use Rattle.packing.proofs.{Laws.value-one, Groups.resume}
+use Rattle.lists.proofs.Kit.{length}
+use Rattle.std.proofs.Common.{◌-◌, ◌≤◌, ◌<◌}
+use Rattle.packing.proofs.Flow.{Flow}
 use Rattle.packing.proofs.pack_rest.Given as goal
 
 abbrev pub invariant-loop-i : goal.invariant-loop-i

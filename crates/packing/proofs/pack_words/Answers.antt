@@ -1,5 +1,6 @@
 -- `packing::pack_words` meets its contract: after j turns the first 4 j bytes are there.
-use Rattle.lists.proofs.Kit.{rules, ◌≡◌, refl, ◌∙◌, ◌*◌, ◌-◌, ◌/◌, ◌≤◌, arith, length, take}
+use Rattle.lists.proofs.Kit.{refl, ◌∙◌, arith}
+use Rattle.std.proofs.Common.{◌*◌, ◌/◌, ◌≤◌}
 use Rattle.packing.specs.Packing.{value, digits}
 use Rattle.packing.proofs.{Groups.words-on, Groups.fewer}
 use Rattle.packing.proofs.pack_words.Goals as goal
@@ -19,7 +20,7 @@ pub loop-j-preserved : goal.loop-j-preserved
 loop-j-preserved c =
     let put = c.put_word in
     let more = words-on c.loop-j.j c.loop-j.out c.requires.below c.loop-j.invariant.2 (omega (arith, c.requires.xs_value, c.loop-j.invariant.0)) in
-    (put.auto.0 ∙ c.loop-j.invariant.0, omega arith, rw put.ensures more)
+    (put.auto.out ∙ c.loop-j.invariant.0, omega arith, rw put.ensures more)
 
 pub returns : goal.returns
 returns c =

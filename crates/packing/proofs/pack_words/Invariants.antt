@@ -1,7 +1,7 @@
 -- `packing::pack_words` meets its contract: after j turns the first 4 j bytes are there.
-use Rattle.lists.proofs.Kit.{rules, ◌≡◌, refl, ◌∙◌, ◌*◌, ◌-◌, ◌/◌, ◌≤◌, arith, length, take}
+use Rattle.lists.proofs.Kit.{length, take}
+use Rattle.std.proofs.Common.{◌≡◌, ◌*◌, ◌-◌, ◌≤◌}
 use Rattle.packing.specs.Packing.{value, digits}
-use Rattle.packing.proofs.{Groups.words-on, Groups.fewer}
 use Rattle.packing.proofs.pack_words.Given as goal
 
 abbrev pub invariant-loop-j : goal.invariant-loop-j

@@ -1,5 +1,6 @@
 -- `packing::put_group` meets its contract: sixteen bytes of one number, of which a word holds each half.
-use Rattle.lists.proofs.Kit.{◌≡◌, ◌∙◌, ◌+◌, ◌*◌, ◌-◌, ◌^◌, arith, rules}
+use Rattle.lists.proofs.Kit.{◌∙◌, arith}
+use Rattle.std.proofs.Common.{◌≡◌, ◌+◌, ◌*◌, ◌-◌, ◌^◌}
 use Rattle.packing.proofs.{Groups.shifted_fits, Groups.shifted-low, Groups.shifted-high, Groups.sixteen}
 use Rattle.packing.proofs.put_group.Goals as goal
 use Rattle.packing.proofs.put_group.Goals.{Start}

@@ -1,6 +1,6 @@
 -- `packing::put_rest` meets its contract: what the digits that are left would complete stays the same from turn to turn.
-use Rattle.lists.proofs.Kit.{◌≡◌, refl, sym, ◌∙◌, ◌-◌, ◌≤◌, add-zero, mul-zero, arith, length, length-set}
-use Rattle.packing.proofs.{Flow.filled, Flow.fill, Flow.one, Flow.full}
+use Rattle.lists.proofs.Kit.{refl, sym, ◌∙◌, add-zero, mul-zero, arith, length-set}
+use Rattle.packing.proofs.{Flow.fill, Flow.one, Flow.full}
 use Rattle.packing.proofs.put_rest.Goals as goal
 
 pub loop-j-init : goal.loop-j-init

@@ -1,6 +1,7 @@
 -- `packing::put_rest` meets its contract: what the digits that are left would complete stays the same from turn to turn.
-use Rattle.lists.proofs.Kit.{◌≡◌, refl, sym, ◌∙◌, ◌-◌, ◌≤◌, add-zero, mul-zero, arith, length, length-set}
-use Rattle.packing.proofs.{Flow.filled, Flow.fill, Flow.one, Flow.full}
+use Rattle.lists.proofs.Kit.{length}
+use Rattle.std.proofs.Common.{◌≡◌, ◌-◌, ◌≤◌}
+use Rattle.packing.proofs.{Flow.filled}
 use Rattle.packing.proofs.put_rest.Given as goal
 
 abbrev pub invariant-loop-j : goal.invariant-loop-j

@@ -1,5 +1,6 @@
 -- `packing::put_word` meets its contract: four stores side by side are one part of the list.
-use Rattle.lists.proofs.Kit.{[], ◌∷◌, ◌/◌, ◌%◌, div-div-eq-div-mul, add-one, arith, length-set, rules}
+use Rattle.lists.proofs.Kit.{[], div-div-eq-div-mul, add-one, arith, length-set}
+use Rattle.std.proofs.Common.{◌∷◌, ◌/◌, ◌%◌}
 use native.Mathlib.Numerals.{add-two, add-three}
 use lib.Seq.{sets-eq}
 use Rattle.packing.specs.Packing.{digits}

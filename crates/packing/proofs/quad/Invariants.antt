@@ -1,7 +1,7 @@
 -- `packing::quad` meets its contract: a number more at each turn, from the last to the first.
-use Rattle.lists.proofs.Kit.{rules, ◌≡◌, refl, ◌∙◌, suc, ◌+◌, ◌*◌, ◌-◌, ◌^◌, ◌≤◌, add-zero, sub-zero, arith, get_or, take, drop}
+use Rattle.lists.proofs.Kit.{take, drop}
+use Rattle.std.proofs.Common.{◌≡◌, ◌+◌, ◌-◌, ◌^◌, ◌≤◌}
 use Rattle.packing.specs.Packing.{value}
-use Rattle.packing.proofs.{Groups.few, Groups.one_more}
 use Rattle.packing.proofs.quad.Given as goal
 
 abbrev pub invariant-loop-k : goal.invariant-loop-k

@@ -1,5 +1,4 @@
 -- `packing::unpack` meets its contract: the groups, and then the rest.
-use Rattle.lists.proofs.Kit.{rules}
 use Rattle.packing.proofs.unpack.Goals as goal
 
 pub unpack_rest-requires : goal.unpack_rest-requires

@@ -1,7 +1,8 @@
 -- `packing::unpack_group` meets its contract: after k turns k numbers are written.
-use Rattle.lists.proofs.Kit.{rules, ◌≡◌, refl, ◌*◌, ◌-◌, ◌^◌, ◌≤◌, mul-le-mul_right, arith, length, drop, length-set}
+use Rattle.lists.proofs.Kit.{length, drop}
+use Rattle.std.proofs.Common.{◌≡◌, ◌-◌, ◌^◌, ◌≤◌}
 use Rattle.packing.specs.Packing.{value}
-use Rattle.packing.proofs.{Flow.written, Groups.written_none, Groups.stored}
+use Rattle.packing.proofs.{Flow.written}
 use Rattle.packing.proofs.unpack_group.Given as goal
 
 abbrev pub invariant-loop-k : goal.invariant-loop-k

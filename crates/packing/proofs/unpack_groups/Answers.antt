@@ -1,7 +1,8 @@
 -- `packing::unpack_groups` meets its contract: after g groups the first 8 g numbers are there.
-use Rattle.lists.proofs.Kit.{◌≡◌, refl, ◌∙◌, ◌+◌, ◌*◌, ◌-◌, ◌^◌, ◌≤◌, le_of_mul-le-mul_left, arith, rules, length, take}
+use Rattle.lists.proofs.Kit.{refl, ◌∙◌, le_of_mul-le-mul_left, arith, length}
+use Rattle.std.proofs.Common.{◌+◌, ◌*◌, ◌≤◌}
 use Rattle.lists.specs.Ranges.{Below}
-use Rattle.packing.specs.Packing.{value, digits}
+use Rattle.packing.specs.Packing.{digits}
 use Rattle.packing.proofs.{Groups.unpacked-on}
 use Rattle.packing.proofs.unpack_groups.Goals as goal
 use Rattle.packing.proofs.unpack_groups.Goals.{In-loop-i}

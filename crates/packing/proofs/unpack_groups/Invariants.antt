@@ -1,8 +1,7 @@
 -- `packing::unpack_groups` meets its contract: after g groups the first 8 g numbers are there.
-use Rattle.lists.proofs.Kit.{◌≡◌, refl, ◌∙◌, ◌+◌, ◌*◌, ◌-◌, ◌^◌, ◌≤◌, le_of_mul-le-mul_left, arith, rules, length, take}
-use Rattle.lists.specs.Ranges.{Below}
+use Rattle.lists.proofs.Kit.{length, take}
+use Rattle.std.proofs.Common.{◌≡◌, ◌*◌, ◌-◌, ◌^◌, ◌≤◌}
 use Rattle.packing.specs.Packing.{value, digits}
-use Rattle.packing.proofs.{Groups.unpacked-on}
 use Rattle.packing.proofs.unpack_groups.Given as goal
 
 abbrev pub invariant-loop-i : goal.invariant-loop-i

@@ -1,5 +1,5 @@
 -- `packing::unpack_most` meets its contract: each arm is the groups at its width.
-use Rattle.lists.proofs.Kit.{refl, arith, rules}
+use Rattle.lists.proofs.Kit.{refl, arith}
 use Rattle.packing.specs.Packing.{digits}
 use Rattle.packing.proofs.unpack_most.Goals as goal
 

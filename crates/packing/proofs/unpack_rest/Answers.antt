@@ -1,13 +1,14 @@
 -- `packing::unpack_rest` meets its contract: the invariant is `Flow` at 8 bits in, with fewer than 32 bits held.
-use Rattle.lists.proofs.Kit.{refl, ⊎_elim, ◌+◌, ◌*◌, ◌-◌, ◌%◌, ◌^◌, ◌≤◌, ◌<◌, mod-lt, mul-one, mul-le-mul_left, le_of_mul-le-mul_left, lt_of_lt_of_le, arith}
-use Rattle.lists.proofs.Kit.{rules, length, pow_mono, pow_pos}
+use Rattle.lists.proofs.Kit.{refl, ℕ, mod-lt, mul-one, mul-le-mul_left, le_of_mul-le-mul_left, lt_of_lt_of_le, arith}
+use Rattle.std.proofs.Common.{◌≡◌, ◌+◌, ◌*◌, ◌%◌, ◌^◌, ◌≤◌, ◌<◌}
+use Rattle.lists.proofs.Kit.{length, take, drop, pow_mono, pow_pos}
 use Rattle.lists.specs.Ranges.{Below}
 use Rattle.lists.proofs.Parts.{below-drop}
-use Rattle.packing.specs.Packing.{unpacked}
+use Rattle.packing.specs.Packing.{value, unpacked}
 use Rattle.packing.proofs.Flow.{Flow, take_in, emit, one, fits, all-out}
 use Rattle.packing.proofs.{Laws.value-take-below, Groups.based, Groups.resume}
 use Rattle.packing.proofs.unpack_rest.Goals as goal
-use Rattle.packing.proofs.unpack_rest.Goals.{After-slice_known-1, After-word, Joined-held-w, Then-held-w}
+use Rattle.packing.proofs.unpack_rest.Goals.{After-slice_known-1, In-loop-j, Joined-held-w, Then-held-w, then-held-w, else-held-w}
 
 -- what is done had room
 done-fits : (c : After-slice_known-1) → 8 * c.args.done ≤ length c.args.out.now
@@ -28,22 +29,22 @@ byte-comes c =
     omega (arith, c.requires.bytes_value, l.invariant.2.bits, mul-le-mul_left c.args.w more)
 
 -- what holds once a word is taken in
-taken : (c : After-word)
+taken : (c : In-loop-j) (x : ℕ)
     → let l = c.loop-j in
     let a = c.args in
-    let acc = l.acc + c.word.result * 2 ^ l.held % 2 ^ 64 in
-    Flow 8 a.w a.bytes.now (length a.out.now) l.out acc (l.held + 32) (l.i + 4) l.j
-taken c =
+    let acc = l.acc + x * 2 ^ l.held % 2 ^ 64 in
+    x ≡ value 256 (take 4 (drop l.i a.bytes.now)) → Flow 8 a.w a.bytes.now (length a.out.now) l.out acc (l.held + 32) (l.i + 4) l.j
+taken c x e =
     let l = c.loop-j in
     let bytes : Below 256 c.args.bytes.now = record { below = λ n. omega (arith, c.type_inv.bytes n) } in
-    let small = rw (← c.word.ensures) at (value-take-below (below-drop bytes l.i) 4) in
-    take_in l.invariant.2 4 32 c.word.result refl (omega arith) small c.word.ensures
+    let small = rw (← e) at (value-take-below (below-drop bytes l.i) 4) in
+    take_in l.invariant.2 4 32 x refl (omega arith) small e
 
 pub overflow_add-acc : goal.overflow_add-acc
-overflow_add-acc c = fits (taken (goal.at.overflow_add-acc c).After-word) (omega arith)
+overflow_add-acc c = fits (taken (goal.at.overflow_add-acc c).In-loop-j _ c.word.ensures) (omega arith)
 
 pub overflow_add-i : goal.overflow_add-i
-overflow_add-i c = omega (arith, byte-comes (goal.at.overflow_add-i c).Then-held-w, c.good)
+overflow_add-i c = omega (arith, byte-comes (goal.at.overflow_add-i c).Then-held-w)
 
 -- before a number is written, its bits are held
 ready : (c : Joined-held-w)
@@ -52,10 +53,10 @@ ready : (c : Joined-held-w)
     (a.w ≤ c.if-held-w.held) × (c.if-held-w.held < a.w + 32)
     × Flow 8 a.w a.bytes.now (length a.out.now) l.out c.if-held-w.acc c.if-held-w.held c.if-held-w.i l.j
 ready c =
-    ⊎_elim
-    (λ t. rw (t.2, t.3, t.4) (omega arith, omega arith, taken (record { before = record { before = c.before; if1 = t.0 }; word = t.1 })))
-    (λ t. rw (t.1, t.2, t.3) (omega arith, omega arith, c.loop-j.invariant.2))
-    c.if-held-w.branch
+    elim c.if-held-w.branch [
+      | then-held-w w ↦ rw (w.acc-is, w.held-is, w.i-is) (omega arith, omega arith, taken (goal.at.Joined-held-w c).In-loop-j _ w.word.ensures)
+      | else-held-w w ↦ rw (w.acc-is, w.held-is, w.i-is) (omega arith, omega arith, c.loop-j.invariant.2)
+    ]
 
 pub nonzero_rem-out : goal.nonzero_rem-out
 nonzero_rem-out c =

@@ -1,5 +1,4 @@
 -- `packing::word` meets its contract: past the end a byte reads 0.
-use Rattle.lists.proofs.Kit.{rules}
 use Rattle.packing.proofs.{Laws.value-four}
 use Rattle.packing.proofs.word.Goals as goal
 
