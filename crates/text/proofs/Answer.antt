@@ -2,7 +2,8 @@
 --   answers      what was written over zeros is one
 --   within       it lies in that room
 --   one_answer   a promise has one result
-use Rattle.lists.proofs.Kit.{◌≡◌, ◌∙◌, sym, ap, List, ◌++◌, ℕ, ◌-◌, ◌≤◌, zero-add, arith, length, replicate, length-append}
+use Rattle.lists.proofs.Kit.{◌∙◌, sym, ap, List, ℕ, zero-add, arith, length, replicate, length-append}
+use Rattle.std.proofs.Common.{◌≡◌, ◌++◌, ◌-◌, ◌≤◌}
 use Rattle.lists.proofs.Parts.{drop-same}
 use Rattle.text.specs.{Steps.Written, Answer.Answers, Answer.OneAnswer}
 

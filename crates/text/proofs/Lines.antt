@@ -3,7 +3,8 @@
 --   begins-front                a text that a label stands before begins with it
 --   line-forth, line-back       the text of a line is read as its number, and nothing else is
 --   told-number, told-within, told-other   what was found at a position
-use Rattle.lists.proofs.Kit.{◌≡◌, refl, ◌∙◌, sym, ap, ap₂, subst, Bool, true, false, cond, List, [], ◌∷◌, ◌++◌, append_assoc, ℕ, suc, ◌^◌, ◌≤◌, ◌<◌}
+use Rattle.lists.proofs.Kit.{refl, ◌∙◌, sym, ap, ap₂, subst, Bool, true, false, cond, List, [], append_assoc, ℕ, suc}
+use Rattle.std.proofs.Common.{◌≡◌, ◌∷◌, ◌++◌, ◌^◌, ◌≤◌, ◌<◌}
 use Rattle.lists.proofs.Kit.{pow-le-pow_right, add-one, arith, eqb, length, get_or, take, drop, length-take, take-append_seam, drop_at}
 use Rattle.lists.proofs.Kit.{get_or-append_seam, split_at, eqb-true, eq-eqb, le-leb}
 use lib.Seq.{drop-append-add}

@@ -7,8 +7,9 @@
 --   small           k digits make a number below 10^k
 --   some, runs, front   at least one; a text that begins with them begins with no more; a leading zero stands alone
 --   taken           the digits that a well-formed text begins with
-use Rattle.lists.proofs.Kit.{◌≡◌, refl, ◌∙◌, ap, subst, Bool, true, false, cond, List, [], ◌∷◌, ◌++◌, append_assoc, append-nil, ℕ, zero, suc, ◌+◌, ◌*◌, ◌-◌}
-use Rattle.lists.proofs.Kit.{◌/◌, ◌%◌, ◌^◌, ◌≤◌, ◌<◌, dec_lt, not-suc-le-zero, pow-succ', zero-add, add-one, arith, leb, ltb, length, get_or, take, length-append}
+use Rattle.lists.proofs.Kit.{refl, ◌∙◌, ap, subst, Bool, true, false, cond, List, [], append_assoc, append-nil, ℕ, zero, suc}
+use Rattle.std.proofs.Common.{◌≡◌, ◌∷◌, ◌++◌, ◌+◌, ◌*◌, ◌-◌, ◌/◌, ◌%◌, ◌^◌, ◌≤◌, ◌<◌}
+use Rattle.lists.proofs.Kit.{dec_lt, not-suc-le-zero, pow-succ', zero-add, add-one, arith, leb, ltb, length, get_or, take, length-append}
 use Rattle.lists.proofs.Kit.{leb-true, lt-ltb, le-ltb, le-leb}
 use Rattle.lists.specs.First.{first_where, both}
 use Rattle.text.specs.Text.{digits_up_to, decimal, is_digit_lem, not_digit_lem, run, value_of}

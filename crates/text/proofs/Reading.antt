@@ -8,7 +8,8 @@
 --   begins-is               a text that begins with a label is the label and the rest
 --   number_size, number-found, number-other   the number at a position, or other text
 --   label-room, label-found, label-other   the number of a line with its label at a position, or other text
-use Rattle.lists.proofs.Kit.{◌≡◌, refl, ◌∙◌, sym, ap, Bool, true, false, cond, not, ◌||◌, ◌&&◌, List, [], ◌∷◌, ◌++◌, ℕ, suc, ◌+◌, ◌*◌, ◌-◌, ◌^◌, ◌≤◌, ◌<◌}
+use Rattle.lists.proofs.Kit.{refl, ◌∙◌, sym, ap, Bool, true, false, cond, not, List, [], ℕ, suc}
+use Rattle.std.proofs.Common.{◌≡◌, ◌||◌, ◌&&◌, ◌∷◌, ◌++◌, ◌+◌, ◌*◌, ◌-◌, ◌^◌, ◌≤◌, ◌<◌}
 use Rattle.lists.proofs.Kit.{dec_lt, pow-succ', pow-le-pow_right, add-one, arith, eqb, leb, ltb, drop-cons, drop-drop, length, get_or, take, drop}
 use Rattle.lists.proofs.Kit.{drop_of_length-le, length-append, length-drop, List·getD-eq-default, leb-true, leb-false, eqb-true, lt-ltb, le-ltb, le-leb, lt-leb}
 use Rattle.lists.proofs.Kit.{eq-eqb, ne_eqb}

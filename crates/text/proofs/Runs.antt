@@ -2,7 +2,8 @@
 --   run-all      a list that fails it from end to end, before an entry that passes
 --   run_take     the run itself fails it from end to end
 --   run-within   it is no longer than the list
-use Rattle.lists.proofs.Kit.{◌≡◌, refl, ap, Bool, true, false, cond, List, [], ◌∷◌, ◌++◌, zero, suc, ◌≤◌, arith, length, take}
+use Rattle.lists.proofs.Kit.{refl, ap, Bool, true, false, cond, List, [], zero, suc, arith, length, take}
+use Rattle.std.proofs.Common.{◌≡◌, ◌∷◌, ◌++◌, ◌≤◌}
 use Rattle.lists.specs.First.{first_where}
 
 module _ {A : Type 0} (p : A → Bool) where

@@ -7,7 +7,8 @@
 --   one-digit, last-digit  the text of a number, by its last digit
 --   one-room, one_written, more_room, Ending, ending   writing it so
 --   line-length, line-room, number-room, Lined, lined   a line: its label, a number, LF
-use Rattle.lists.proofs.Kit.{◌≡◌, refl, ◌∙◌, sym, ap, ap₂, List, [], ◌∷◌, ◌++◌, append_assoc, append-nil, ℕ, ◌+◌, ◌-◌, ◌/◌, ◌%◌, ◌^◌, ◌≤◌, ◌<◌, add-zero}
+use Rattle.lists.proofs.Kit.{refl, ◌∙◌, sym, ap, ap₂, List, [], append_assoc, append-nil, ℕ, add-zero}
+use Rattle.std.proofs.Common.{◌≡◌, ◌∷◌, ◌++◌, ◌+◌, ◌-◌, ◌/◌, ◌%◌, ◌^◌, ◌≤◌, ◌<◌}
 use Rattle.lists.proofs.Kit.{add-one, arith, length, set, take, drop, length-append, length-drop, take-append-drop, length-take-le, take_at, drop_at, drop-drop}
 use Rattle.lists.proofs.Kit.{set_split, lt-ltb, le-ltb, put_mid}
 use Rattle.text.specs.{Text.LF, Text.digits_up_to, Text.decimal, Text.line, Steps.Written}

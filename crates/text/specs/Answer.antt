@@ -1,7 +1,7 @@
 -- A program's answer, as it stands in the room that it is lent.
 --   Answers room xs r out   out, of that many bytes, holds the text xs and zeros behind it, and r is how many bytes xs has
 --   OneAnswer               no two results satisfy it
-use Rattle.lists.specs.Kit.{◌≡◌, List, ◌++◌, ℕ, ◌-◌, length, replicate}
+use Rattle.std.specs.Prelude.{◌≡◌, List, ◌++◌, ℕ, ◌-◌, length, replicate}
 
 pub record Answers (room : ℕ) (xs : List ℕ) (r : ℕ) (out : List ℕ) : Type 0 where
   pub count : r ≡ length xs

@@ -1,6 +1,9 @@
 // Lines of text as bytes: a name, '=', a number of 1 to 10 digits without a leading zero, LF, as 01's line program has them. Reading goes by positions in the
 // input and gives a number and the position behind its line; writing goes by positions in a lent output and gives the position behind what it wrote.
-ghost use Rattle.lists.specs.Kit.{◌≡◌, ◌+◌, ◌-◌, ◌≤◌, length, drop};
+
+#![tactic(auto)]
+
+ghost use Rattle.std.specs.Prelude.{◌≡◌, ◌+◌, ◌-◌, ◌≤◌, length, drop};
 ghost use Rattle.text.specs.Text.{not_digit_lem, run, value_of, well_formed_lem, begins, number_in, field_in, decimal, line};
 ghost use Rattle.text.specs.Steps.{Reads, Written};
 

@@ -1,6 +1,6 @@
 -- `text::begins_with` meets its contract.
-use Rattle.lists.proofs.Kit.{rules, ◌-◌, arith, length}
-use Rattle.text.proofs.Reading.{Begun, begun-none, begun_more, begun-differs, begun-short, begun_all}
+use Rattle.lists.proofs.Kit.{arith}
+use Rattle.text.proofs.Reading.{begun-none, begun_more, begun-differs, begun-short, begun_all}
 use Rattle.text.proofs.begins_with.Goals as goal
 
 pub returns-then-s-i : goal.returns-then-s-i

@@ -1,6 +1,7 @@
 -- `text::begins_with` meets its contract.
-use Rattle.lists.proofs.Kit.{rules, ◌-◌, arith, length}
-use Rattle.text.proofs.Reading.{Begun, begun-none, begun_more, begun-differs, begun-short, begun_all}
+use Rattle.lists.proofs.Kit.{length}
+use Rattle.std.proofs.Common.{◌-◌}
+use Rattle.text.proofs.Reading.{Begun}
 use Rattle.text.proofs.begins_with.Given as goal
 
 abbrev pub invariant-loop-i : goal.invariant-loop-i

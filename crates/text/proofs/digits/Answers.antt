@@ -1,6 +1,6 @@
 -- `text::digits` meets its contract: it searches for the first byte that is no digit.
-use Rattle.lists.proofs.Kit.{◌∙◌, sym, ◌-◌, arith, rules, length}
-use Rattle.lists.proofs.First.{Passed, passed_none, passed-more, found, missing}
+use Rattle.lists.proofs.Kit.{◌∙◌, sym, arith}
+use Rattle.lists.proofs.First.{passed_none, passed-more, found, missing}
 use Rattle.text.specs.Text.{not_digit_lem, run}
 use Rattle.text.proofs.digits.Goals as goal
 

@@ -1,7 +1,8 @@
 -- `text::digits` meets its contract: it searches for the first byte that is no digit.
-use Rattle.lists.proofs.Kit.{◌∙◌, sym, ◌-◌, arith, rules, length}
-use Rattle.lists.proofs.First.{Passed, passed_none, passed-more, found, missing}
-use Rattle.text.specs.Text.{not_digit_lem, run}
+use Rattle.lists.proofs.Kit.{length}
+use Rattle.std.proofs.Common.{◌-◌}
+use Rattle.lists.proofs.First.{Passed}
+use Rattle.text.specs.Text.{not_digit_lem}
 use Rattle.text.proofs.digits.Given as goal
 
 abbrev pub invariant-loop-i : goal.invariant-loop-i

@@ -1,5 +1,5 @@
 -- `text::field` meets its contract.
-use Rattle.lists.proofs.Kit.{sym, ◌∙◌, rules}
+use Rattle.lists.proofs.Kit.{sym, ◌∙◌}
 use Rattle.text.proofs.{Reading.label-room, Reading.label-found, Reading.label-other}
 use Rattle.text.proofs.field.Goals as goal
 

@@ -1,5 +1,6 @@
 -- `text::number` meets its contract.
-use Rattle.lists.proofs.Kit.{sym, ◌∙◌, arith, rules, length, length-take, length-take-le, ◌+◌, ◌≤◌, ◌<◌}
+use Rattle.lists.proofs.Kit.{sym, ◌∙◌, arith, length, length-take, length-take-le}
+use Rattle.std.proofs.Common.{◌+◌, ◌≤◌, ◌<◌}
 use Rattle.lists.proofs.Parts.{part}
 use Rattle.text.proofs.{Reading.number_size, Reading.number-found, Reading.number-other}
 use Rattle.text.proofs.number.Goals as goal
@@ -27,7 +28,7 @@ overflow_add-result-then-well_formed c = omega (arith, (size (goal.at.overflow_a
 pub returns-then-well_formed : goal.returns-then-well_formed
 returns-then-well_formed c =
     number-found c.args.s.now c.args.at c.requires c.digits-n.ensures
-    (sym c.if-well_formed.true ∙ c.well-formed.ensures) c.value.ensures
+    (sym c.if-well_formed.true ∙ c.well_formed-2.ensures) c.value.ensures
 
 pub returns-else-well_formed : goal.returns-else-well_formed
 returns-else-well_formed c =

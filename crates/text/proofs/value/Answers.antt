@@ -1,6 +1,6 @@
 -- `text::value` meets its contract.
-use Rattle.lists.proofs.Kit.{◌-◌, arith, rules, length}
-use Rattle.text.proofs.{Reading.Valued, Reading.valued-none, Reading.valued-more, Reading.valued-all, Reading.valued-room}
+use Rattle.lists.proofs.Kit.{arith}
+use Rattle.text.proofs.{Reading.valued-none, Reading.valued-more, Reading.valued-all, Reading.valued-room}
 use Rattle.text.proofs.value.Goals as goal
 
 pub overflow_mul-n : goal.overflow_mul-n

@@ -1,6 +1,7 @@
 -- `text::value` meets its contract.
-use Rattle.lists.proofs.Kit.{◌-◌, arith, rules, length}
-use Rattle.text.proofs.{Reading.Valued, Reading.valued-none, Reading.valued-more, Reading.valued-all, Reading.valued-room}
+use Rattle.lists.proofs.Kit.{length}
+use Rattle.std.proofs.Common.{◌-◌}
+use Rattle.text.proofs.{Reading.Valued}
 use Rattle.text.proofs.value.Given as goal
 
 abbrev pub invariant-loop-i : goal.invariant-loop-i

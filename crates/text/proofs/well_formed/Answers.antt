@@ -1,5 +1,5 @@
 -- `text::well_formed` meets its contract: the tests one by one.
-use Rattle.lists.proofs.Kit.{arith, rules}
+use Rattle.lists.proofs.Kit.{arith}
 use Rattle.text.proofs.{Reading.few, Reading.many, Reading.ended, Reading.formed}
 use Rattle.text.proofs.well_formed.Goals as goal
 

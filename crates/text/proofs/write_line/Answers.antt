@@ -1,5 +1,5 @@
 -- `text::write_line` meets its contract.
-use Rattle.lists.proofs.Kit.{length-set, arith, rules}
+use Rattle.lists.proofs.Kit.{length-set, arith}
 use Rattle.text.proofs.{Writing.line-room, Writing.number-room, Writing.Lined, Writing.lined}
 use Rattle.text.proofs.write_line.Goals as goal
 use Rattle.text.proofs.write_line.Goals.{After-write_number-end}

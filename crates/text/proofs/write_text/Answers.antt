@@ -1,5 +1,4 @@
 -- `text::write_text` meets its contract.
-use Rattle.lists.proofs.Kit.{rules}
 use Rattle.text.proofs.{Writing.written-copy}
 use Rattle.text.proofs.write_text.Goals as goal
 
