@@ -3,7 +3,8 @@
 --   arc-first, arc-second, arc-third, arc-fourth   where 2w has the other hint, its region is a stretch of numbers without the given one, and both neighbours have it
 --   Case, case-of   the two cases, with the slack and the formula in each
 --   slack-apart, slack-least, slack-formula, slack-none, slack-bound
-use Rattle.lists.proofs.Kit.{◌≡◌, refl, sym, ◌∙◌, Bool, true, ℕ, ◌+◌, ◌*◌, ◌-◌, ◌%◌, ◌≤◌, ◌<◌, min, ℕ_discrete, le_refl, arith, eqb, eqb-true, eq-eqb}
+use Rattle.lists.proofs.Kit.{refl, sym, ◌∙◌, Bool, true, ℕ, min, ℕ_discrete, le_refl, arith, eqb, eqb-true, eq-eqb}
+use Rattle.std.proofs.Common.{◌≡◌, ◌+◌, ◌*◌, ◌-◌, ◌%◌, ◌≤◌, ◌<◌}
 use Rattle.numbers.specs.{Residue.apart, Least.nearest_to, Least.gap_to}
 use Rattle.numbers.proofs.Circle.{apart-close, close-apart, close-swap, close-join, close-scale}
 use Rattle.numbers.proofs.{Natural.rest-is, Arc.Arc, Arc.away-arc, Arc.away-at-most, Arc.away-none, Arc.nearest-of}

@@ -5,7 +5,8 @@
 --   Region, region     the four regions: (hint, key bit) is (0, 0), (1, 1), (0, 1), (1, 0)
 --   formula-is         the initiator's bit as a formula, by how many times 2147483648 goes into its sum
 --   near_same          2w is at most 1073741823 from z: the formula under z's hint is z's key bit
-use Rattle.lists.proofs.Kit.{◌≡◌, ◌∙◌, sym, ap, ℕ, ◌+◌, ◌*◌, ◌/◌, ◌%◌, ◌≤◌, ◌<◌, dec_lt, arith, mod-lt, leb, le-leb, lt-leb}
+use Rattle.lists.proofs.Kit.{◌∙◌, sym, ap, ℕ, dec_lt, arith, mod-lt, leb, le-leb, lt-leb}
+use Rattle.std.proofs.Common.{◌≡◌, ◌+◌, ◌*◌, ◌/◌, ◌%◌, ◌≤◌, ◌<◌}
 use Rattle.numbers.specs.Congruence.{Close, direct, over, under}
 use Rattle.numbers.proofs.Natural.{quotient_is}
 use Rattle.lists.specs.First.{both}

@@ -6,7 +6,7 @@
 --   peer_of h w      the initiator's bit: 0 exactly if 2w lies, modulo 2q, within 1073741823 of some z with the hint h and the key bit 0
 --   slack_of h w     how far 2w lies, around a circle of 2q, from the nearest z with the hint h
 --   hints_of, keys_of, peers_of, slacks_of   hint, key, peer's key and slack, entry by entry
-use Rattle.lists.specs.Kit.{Bool, true, false, cond, List, ℕ, zero, suc, ◌+◌, ◌*◌, ◌-◌, ◌/◌, ◌%◌, leb, eqb, ℤ, pos, negsuc, ◌-ℤ◌, length, get_or}
+use Rattle.std.specs.Prelude.{Bool, true, false, cond, List, ℕ, zero, suc, ◌+◌, ◌*◌, ◌-◌, ◌/◌, ◌%◌, leb, eqb, ℤ, pos, negsuc, ◌-ℤ◌, length, get_or}
 use Rattle.numbers.specs.{Residue.residue, Residue.apart, Least.gap_to}
 use Rattle.schemes.specs.{Schemes.fixed_of, declared.Scheme.TheVariants.Bcns}
 use Rattle.lists.specs.{Entries.tab, First.both}

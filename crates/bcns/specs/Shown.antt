@@ -9,7 +9,7 @@
 --   SlackNone               it is 0 exactly if 2w has the hint
 --   most_slack, SlackBound   the largest that it can be, and that it is no more
 --   SlackApart              under the hint of the replier's z it is at most twice the distance of v and w, and one
-use Rattle.lists.specs.Kit.{◌≡◌, List, ◌↔◌, ℕ, ◌+◌, ◌*◌, ◌-◌, ◌/◌, ◌%◌, ◌≤◌, ◌<◌, min, length, get_or}
+use Rattle.std.specs.Prelude.{◌≡◌, List, ◌↔◌, ℕ, ◌+◌, ◌*◌, ◌-◌, ◌/◌, ◌%◌, ◌≤◌, ◌<◌, min, length, get_or}
 use Rattle.numbers.specs.{Residue.apart, Congruence.LeastGap}
 use Rattle.lists.specs.Ranges.{Below}
 use Rattle.bcns.specs.Rounding.{q, doubled, hint_of, key_of, peer_of, slack_of, hints_of, keys_of, peers_of}

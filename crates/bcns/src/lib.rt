@@ -1,7 +1,10 @@
 // BCNS's reconciliation: 01, "Reconciliation"; q is that of `schemes`, and z lies in 0 .. 2q - 1. First one entry: z, its hint and its key bit at the replier,
 // the bit of w and its slack at the initiator; then all of these over lists. That both ends get the same bit is in `specs/Shown.antt`.
 // Nothing here divides by q or 2q (02b), and nothing branches on v, w or z, which are secrets: a test is a factor 0 or 1, or a bit.
-ghost use Rattle.lists.specs.Kit.{◌≡◌, ℕ, ◌*◌, ◌≤◌, ◌<◌, length, nat_abs};
+
+#![tactic(auto)]
+
+ghost use Rattle.std.specs.Prelude.{◌≡◌, ℕ, ◌*◌, ◌≤◌, ◌<◌, length, nat_abs};
 ghost use Rattle.lists.specs.Ranges.{Below};
 ghost use Rattle.bcns.specs.Rounding.{q, coin_of_lem, doubled, hint_of, key_of, peer_of, hints_of, keys_of, peers_of, slack_of, slacks_of};
 

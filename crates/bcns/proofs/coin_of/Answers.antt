@@ -1,6 +1,7 @@
 -- `bcns::coin_of` meets its contract: the bits are not 2 and 3 at once.
-use Rattle.lists.proofs.Kit.{◌≡◌, refl, ◌∙◌, sym, ap, subst, Bool, true, false, cond, ℕ, arith, eqb, pos, negsuc, nat_abs, ◌-ℤ◌, w64, SFits, to_z, bool_byte}
-use Rattle.lists.proofs.Kit.{to_z-of_z, rules, eqb-true}
+use Rattle.lists.proofs.Kit.{refl, ◌∙◌, sym, ap, subst, Bool, true, false, cond, ℕ, arith, eqb, pos, negsuc, nat_abs, w64, SFits, to_z, bool_byte}
+use Rattle.std.proofs.Common.{◌≡◌, ◌-ℤ◌}
+use Rattle.lists.proofs.Kit.{to_z-of_z, eqb-true}
 use Rattle.numbers.proofs.Machine.{fits-abs}
 use Rattle.bcns.specs.Rounding.{coin_of_lem}
 use Rattle.bcns.proofs.{Margin.coin-small}

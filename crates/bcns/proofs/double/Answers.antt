@@ -1,6 +1,7 @@
 -- `bcns::double` meets its contract: 2q + 2v - c is not below 0, and that, or 2q less, is z.
-use Rattle.lists.proofs.Kit.{◌≡◌, refl, ◌∙◌, sym, ap, subst, Bool, true, false, ℕ, suc, ◌+◌, ◌*◌, ◌-◌, ◌^◌, ◌≤◌, ◌<◌, arith, T, leb, ℤ, pos, negsuc, nat_abs}
-use Rattle.lists.proofs.Kit.{◌-ℤ◌, w64, Fits, SFits, to_z, of_z, bool_byte, to_z-of_z, rules, leb-true, leb-false}
+use Rattle.lists.proofs.Kit.{refl, ◌∙◌, sym, ap, subst, Bool, true, false, ℕ, suc, arith, T, leb, ℤ, pos, negsuc, nat_abs}
+use Rattle.std.proofs.Common.{◌≡◌, ◌+◌, ◌*◌, ◌-◌, ◌^◌, ◌≤◌, ◌<◌, ◌-ℤ◌}
+use Rattle.lists.proofs.Kit.{w64, Fits, SFits, to_z, of_z, bool_byte, to_z-of_z, leb-true, leb-false}
 use lib.Signed.{non_neg}
 use Rattle.numbers.specs.{Residue.residue, Congruence.◌≅⟨◌⟩◌}
 use Rattle.numbers.proofs.Congruence.{eq-≅, refl-≅, ◌⨾◌, sub-≅, multiples-≅, residue-is}

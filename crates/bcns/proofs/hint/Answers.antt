@@ -1,5 +1,6 @@
 -- `bcns::hint` meets its contract: by the four regions of z.
-use Rattle.lists.proofs.Kit.{◌≡◌, sym, ◌&&◌, ◌||◌, ℕ, arith, leb, ltb, bool_byte, rules, le-leb, lt-leb, lt-ltb, le-ltb}
+use Rattle.lists.proofs.Kit.{sym, ℕ, arith, leb, ltb, bool_byte, le-leb, lt-leb, lt-ltb, le-ltb}
+use Rattle.std.proofs.Common.{◌≡◌, ◌&&◌, ◌||◌}
 use Rattle.bcns.specs.Rounding.{q, hint_of}
 use Rattle.bcns.proofs.{Regions.Region, Regions.first, Regions.second, Regions.third, Regions.fourth, Regions.region}
 use Rattle.bcns.proofs.hint.Goals as goal

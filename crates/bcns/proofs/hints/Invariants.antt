@@ -1,7 +1,8 @@
 -- `bcns::hints` meets its contract: it fills with the hint of each value's z.
-use Rattle.lists.proofs.Kit.{◌∙◌, ap, ◌-◌, arith, length, get_or, length-set, rules}
-use Rattle.lists.proofs.Fill.{Filled, fill_start, fill-next, fill-whole}
-use Rattle.bcns.specs.Rounding.{doubled, hint_of, hints_of}
+use Rattle.lists.proofs.Kit.{length, get_or}
+use Rattle.std.proofs.Common.{◌-◌}
+use Rattle.lists.proofs.Fill.{Filled}
+use Rattle.bcns.specs.Rounding.{doubled, hint_of}
 use Rattle.bcns.proofs.hints.Given as goal
 
 abbrev pub invariant-loop-i : goal.invariant-loop-i

@@ -1,5 +1,6 @@
 -- `bcns::key` meets its contract: the code is the definition.
-use Rattle.lists.proofs.Kit.{◌≡◌, refl, Bool, true, false, cond, ◌&&◌, leb, bool_byte, rules}
+use Rattle.lists.proofs.Kit.{refl, Bool, true, false, cond, leb, bool_byte}
+use Rattle.std.proofs.Common.{◌≡◌, ◌&&◌}
 use Rattle.lists.specs.First.{both}
 use Rattle.bcns.specs.Rounding.{key_of}
 use Rattle.bcns.proofs.key.Goals as goal

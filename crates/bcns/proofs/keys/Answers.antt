@@ -1,7 +1,7 @@
 -- `bcns::keys` meets its contract: it fills with the key bit of each value's z.
-use Rattle.lists.proofs.Kit.{◌∙◌, ap, ◌-◌, arith, length, get_or, length-set, rules}
-use Rattle.lists.proofs.Fill.{Filled, fill_start, fill-next, fill-whole}
-use Rattle.bcns.specs.Rounding.{doubled, key_of, keys_of}
+use Rattle.lists.proofs.Kit.{◌∙◌, ap, arith, length-set}
+use Rattle.lists.proofs.Fill.{fill_start, fill-next, fill-whole}
+use Rattle.bcns.specs.Rounding.{key_of, keys_of}
 use Rattle.bcns.proofs.keys.Goals as goal
 
 pub loop-i-preserved : goal.loop-i-preserved

@@ -1,5 +1,5 @@
 -- `bcns::peer` meets its contract: the code is the formula.
-use Rattle.lists.proofs.Kit.{sym, rules}
+use Rattle.lists.proofs.Kit.{sym}
 use Rattle.bcns.proofs.{Formula.formula}
 use Rattle.bcns.proofs.peer.Goals as goal
 

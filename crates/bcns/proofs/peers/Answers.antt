@@ -1,7 +1,7 @@
 -- `bcns::peers` meets its contract: it fills with the bit of each value under its hint.
-use Rattle.lists.proofs.Kit.{◌-◌, arith, length, get_or, length-set, rules}
-use Rattle.lists.proofs.Fill.{Filled, fill_start, fill-next, fill-whole}
-use Rattle.bcns.specs.Rounding.{peer_of, peers_of}
+use Rattle.lists.proofs.Kit.{arith, length-set}
+use Rattle.lists.proofs.Fill.{fill_start, fill-next, fill-whole}
+use Rattle.bcns.specs.Rounding.{peers_of}
 use Rattle.bcns.proofs.peers.Goals as goal
 
 pub peer-requires : goal.peer-requires

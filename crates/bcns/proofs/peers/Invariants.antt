@@ -1,7 +1,8 @@
 -- `bcns::peers` meets its contract: it fills with the bit of each value under its hint.
-use Rattle.lists.proofs.Kit.{◌-◌, arith, length, get_or, length-set, rules}
-use Rattle.lists.proofs.Fill.{Filled, fill_start, fill-next, fill-whole}
-use Rattle.bcns.specs.Rounding.{peer_of, peers_of}
+use Rattle.lists.proofs.Kit.{length, get_or}
+use Rattle.std.proofs.Common.{◌-◌}
+use Rattle.lists.proofs.Fill.{Filled}
+use Rattle.bcns.specs.Rounding.{peer_of}
 use Rattle.bcns.proofs.peers.Given as goal
 
 abbrev pub invariant-loop-i : goal.invariant-loop-i

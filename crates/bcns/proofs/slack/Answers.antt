@@ -1,5 +1,6 @@
 -- `bcns::slack` meets its contract: the code is the formula.
-use Rattle.lists.proofs.Kit.{sym, ◌∙◌, ap, ℕ, ◌+◌, ◌-◌, min, rules}
+use Rattle.lists.proofs.Kit.{sym, ◌∙◌, ap, ℕ, min}
+use Rattle.std.proofs.Common.{◌+◌, ◌-◌}
 use Rattle.bcns.proofs.{Away.slack-formula}
 use Rattle.bcns.proofs.slack.Goals as goal
 

@@ -1,6 +1,6 @@
 -- `bcns::slacks` meets its contract: it fills in place with the slack of each value under its hint, which still stands there.
-use Rattle.lists.proofs.Kit.{refl, ap, ◌∙◌, ◌-◌, arith, length, get_or, length-set, rules}
-use Rattle.lists.proofs.Fill.{Filled, fill_start, fill-next, fill-whole, fill-old}
+use Rattle.lists.proofs.Kit.{refl, ap, ◌∙◌, arith, length-set}
+use Rattle.lists.proofs.Fill.{fill_start, fill-next, fill-whole, fill-old}
 use Rattle.bcns.specs.Rounding.{slack_of, slacks_of}
 use Rattle.bcns.proofs.slacks.Goals as goal
 

@@ -1,7 +1,8 @@
 -- `bcns::slacks` meets its contract: it fills in place with the slack of each value under its hint, which still stands there.
-use Rattle.lists.proofs.Kit.{refl, ap, ◌∙◌, ◌-◌, arith, length, get_or, length-set, rules}
-use Rattle.lists.proofs.Fill.{Filled, fill_start, fill-next, fill-whole, fill-old}
-use Rattle.bcns.specs.Rounding.{slack_of, slacks_of}
+use Rattle.lists.proofs.Kit.{length, get_or}
+use Rattle.std.proofs.Common.{◌-◌}
+use Rattle.lists.proofs.Fill.{Filled}
+use Rattle.bcns.specs.Rounding.{slack_of}
 use Rattle.bcns.proofs.slacks.Given as goal
 
 abbrev pub invariant-loop-i : goal.invariant-loop-i
