@@ -3,7 +3,8 @@
 --   stored_more   some at the front, and then those behind them
 --   stored-tab    all of them
 --   wide_fits, wide   a number of 16 bits in 32
-use Rattle.lists.proofs.Kit.{◌≡◌, ◌∙◌, sym, ap, List, ℕ, ◌+◌, ◌-◌, ◌<◌, ◌≤◌, arith, dec_lt, ℤ, length, get_or, to_z-of_z, sfits_widen, w16, w32, SFits, to_z, of_z}
+use Rattle.lists.proofs.Kit.{◌∙◌, sym, ap, List, ℕ, arith, dec_lt, ℤ, length, get_or, to_z-of_z, sfits_widen, w16, w32, SFits, to_z, of_z}
+use Rattle.std.proofs.Common.{◌≡◌, ◌+◌, ◌-◌, ◌<◌, ◌≤◌}
 use Rattle.lists.specs.{Entries.tab, Ranges.Stored}
 use Rattle.lists.proofs.{Entries.tab-getD, Entries.tab-ext, Stored.front_at}
 

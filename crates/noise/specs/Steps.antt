@@ -1,6 +1,6 @@
 -- What the code's own steps promise to each other.
 --   Trimmed r bs k    the first k words of the stream hold all that are taken, and the last of them is one
-use Rattle.lists.specs.Kit.{◌≡◌, true, List, ℕ, ◌+◌, ◌/◌, ◌≤◌, length, take}
+use Rattle.std.specs.Prelude.{◌≡◌, true, List, ℕ, ◌+◌, ◌/◌, ◌≤◌, length, take}
 use Rattle.noise.specs.{Noise.word_at, Expand.Rule, Expand.words, Expand.taken}
 
 pub record Trimmed (r : Rule) (bs : List ℕ) (k : ℕ) : Type 0 where

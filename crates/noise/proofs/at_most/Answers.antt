@@ -1,11 +1,12 @@
 -- `noise::at_most` meets its contract.
-use Rattle.lists.proofs.Kit.{⊎_elim, ◌-◌, arith, rules, le-leb, lt-leb, length}
-use Rattle.noise.proofs.{Noise.Counted, Noise.counted_none, Noise.counted-more, Noise.counted-few, Noise.counted-all}
+use Rattle.lists.proofs.Kit.{arith, le-leb, lt-leb}
+use Rattle.noise.proofs.{Noise.counted_none, Noise.counted-more, Noise.counted-few, Noise.counted-all}
 use Rattle.noise.proofs.at_most.Goals as goal
+use Rattle.noise.proofs.at_most.Goals.{then-thresholds-i, else-thresholds-i}
 
 pub loop-i-preserved : goal.loop-i-preserved
 loop-i-preserved c =
-    counted-more c.loop-i.invariant _ (omega arith) (⊎_elim (λ w. rw (le-leb _ _ w.0.taken) w.1) (λ w. rw (lt-leb _ _ w.0.left) w.1) c.if-thresholds-i.branch)
+    counted-more c.loop-i.invariant _ (omega arith) (elim c.if-thresholds-i.branch [ then-thresholds-i w ↦ rw (le-leb _ _ w.if-thresholds-i.true) w.size-is | else-thresholds-i w ↦ rw (lt-leb _ _ w.if-thresholds-i.false) w.size-is ])
 
 pub loop-i-init : goal.loop-i-init
 loop-i-init c = counted_none _ _

@@ -1,6 +1,7 @@
 -- `noise::at_most` meets its contract.
-use Rattle.lists.proofs.Kit.{⊎_elim, ◌-◌, arith, rules, le-leb, lt-leb, length}
-use Rattle.noise.proofs.{Noise.Counted, Noise.counted_none, Noise.counted-more, Noise.counted-few, Noise.counted-all}
+use Rattle.lists.proofs.Kit.{length}
+use Rattle.std.proofs.Common.{◌-◌}
+use Rattle.noise.proofs.{Noise.Counted}
 use Rattle.noise.proofs.at_most.Given as goal
 
 abbrev pub invariant-loop-i : goal.invariant-loop-i

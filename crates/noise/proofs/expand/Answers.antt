@@ -1,5 +1,4 @@
 -- `noise::expand` meets its contract: by the rule's name.
-use Rattle.lists.proofs.Kit.{rules}
 use Rattle.noise.proofs.expand.Goals as goal
 
 pub returns-in-LowBits : goal.returns-in-LowBits

@@ -1,13 +1,14 @@
 -- `noise::expand_by` meets its contract: its loop stores each word's number, and counts those that the rule takes.
-use Rattle.lists.proofs.Kit.{◌∙◌, sym, ap, Bool, true, false, inl, inr, ◌-◌, ◌<◌, ◌≤◌, arith, rules, ltb-true, ltb-false, bool_byte}
+use Rattle.lists.proofs.Kit.{◌∙◌, sym, ap, Bool, true, false, inl, inr, arith, bool_byte}
+use Rattle.std.proofs.Common.{◌<◌, ◌≤◌}
 use Rattle.noise.specs.Expand.{rule}
-use Rattle.noise.proofs.{Stream.Storing, Stream.store-none, Stream.store_long, Stream.store-more, Stream.store-end}
+use Rattle.noise.proofs.{Stream.store-none, Stream.store_long, Stream.store-more, Stream.store-end}
 use Rattle.noise.proofs.expand_by.Goals as goal
 use Rattle.noise.proofs.expand_by.Goals.{Then-n-lt1024}
 
 -- in a turn fewer than 1,024 numbers are taken
 room : (c : Then-n-lt1024) → c.loop-i.n < 1024
-room c = ltb-true _ _ c.if-n-lt1024.true
+room c = c.if-n-lt1024.true
 
 one : (b : Bool) → bool_byte b ≤ 1
 one true = omega arith
@@ -35,11 +36,13 @@ loop-i-preserved c =
 
 pub returns-else-n-lt1024 : goal.returns-else-n-lt1024
 returns-else-n-lt1024 c =
-    store-end c.loop-i.invariant.0 c.trimmed-words.ensures c.loop-i.invariant.1 c.requires (inr (ltb-false _ _ c.if-n-lt1024.false))
+    let e = store-end c.loop-i.invariant.0 c.trimmed-words.ensures c.loop-i.invariant.1 c.requires (inr c.if-n-lt1024.false) in
+    record { value = e.0; out_after = e.1 }
 
 pub returns-after-loop-i : goal.returns-after-loop-i
 returns-after-loop-i c =
-    store-end c.loop-i.invariant.0 c.trimmed-words.ensures c.loop-i.invariant.1 c.requires (inl c.loop-i-test.false)
+    let e = store-end c.loop-i.invariant.0 c.trimmed-words.ensures c.loop-i.invariant.1 c.requires (inl c.loop-i-test.false) in
+    record { value = e.0; out_after = e.1 }
 
 pub loop-i-init : goal.loop-i-init
 loop-i-init c = (store-none _ _ _, omega arith)

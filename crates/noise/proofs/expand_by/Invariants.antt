@@ -1,7 +1,7 @@
 -- `noise::expand_by` meets its contract: its loop stores each word's number, and counts those that the rule takes.
-use Rattle.lists.proofs.Kit.{◌∙◌, sym, ap, Bool, true, false, inl, inr, ◌-◌, ◌<◌, ◌≤◌, arith, rules, ltb-true, ltb-false, bool_byte}
+use Rattle.std.proofs.Common.{◌-◌, ◌≤◌}
 use Rattle.noise.specs.Expand.{rule}
-use Rattle.noise.proofs.{Stream.Storing, Stream.store-none, Stream.store_long, Stream.store-more, Stream.store-end}
+use Rattle.noise.proofs.{Stream.Storing}
 use Rattle.noise.proofs.expand_by.Given as goal
 
 abbrev pub invariant-loop-i : goal.invariant-loop-i

@@ -1,9 +1,8 @@
 -- `noise::frodo` meets its contract: it stores the values of the words, some at a time.
-use Rattle.lists.proofs.Kit.{◌≡◌, ℕ, ◌+◌, ◌-◌, ◌/◌, ◌<◌, ◌≤◌, arith, rules, pos, length}
+use Rattle.lists.proofs.Kit.{ℕ, pos, length}
+use Rattle.std.proofs.Common.{◌-◌, ◌≤◌}
 use Rattle.lists.specs.Ranges.{Stored}
-use Rattle.lists.proofs.Stored.{store-none}
-use Rattle.noise.specs.Noise.{word_at, threshold_of_lem, frodo_noise_lem}
-use Rattle.noise.proofs.{Blocks.stored_more, Blocks.stored-tab}
+use Rattle.noise.specs.Noise.{word_at, threshold_of_lem}
 use Rattle.noise.proofs.frodo.Given as goal
 
 abbrev pub invariant-loop-i : goal.invariant-loop-i

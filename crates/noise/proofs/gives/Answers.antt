@@ -1,5 +1,4 @@
 -- `noise::gives` meets its contract: by the rule's name.
-use Rattle.lists.proofs.Kit.{rules}
 use Rattle.noise.proofs.gives.Goals as goal
 
 pub returns-in-LowBits : goal.returns-in-LowBits

@@ -1,15 +1,14 @@
 -- `noise::narrow` meets its contract.
-use Rattle.lists.proofs.Kit.{◌∙◌, ap, ℕ, ◌+◌, ◌-◌, ◌≤◌, arith, rules, pos, to_z-of_z}
-use Rattle.lists.specs.Ranges.{Stored}
+use Rattle.lists.proofs.Kit.{◌∙◌, ap, arith, to_z-of_z, w16}
 use Rattle.lists.proofs.Stored.{store-none, store-front, stored-all}
-use Rattle.noise.specs.Noise.{word_at, threshold_of_lem}
+use Rattle.noise.specs.Noise.{threshold_of_lem}
 use Rattle.noise.proofs.narrow.Goals as goal
 
 pub loop-i-preserved : goal.loop-i-preserved
 loop-i-preserved c = (
   omega arith,
   store-front c.loop-i.invariant.1 (omega arith)
-      (to_z-of_z (record { sfits = c.threshold_of.ok })
+      (to_z-of_z {w = w16} (record { sfits = c.threshold_of.type_inv })
       ∙ c.threshold_of.ensures
       ∙ ap (threshold_of_lem c.args.thresholds.now c.args.m) c.word.ensures),
 )

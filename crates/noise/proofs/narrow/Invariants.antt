@@ -1,7 +1,7 @@
 -- `noise::narrow` meets its contract.
-use Rattle.lists.proofs.Kit.{◌∙◌, ap, ℕ, ◌+◌, ◌-◌, ◌≤◌, arith, rules, pos, to_z-of_z}
+use Rattle.lists.proofs.Kit.{ℕ, pos}
+use Rattle.std.proofs.Common.{◌+◌, ◌-◌, ◌≤◌}
 use Rattle.lists.specs.Ranges.{Stored}
-use Rattle.lists.proofs.Stored.{store-none, store-front, stored-all}
 use Rattle.noise.specs.Noise.{word_at, threshold_of_lem}
 use Rattle.noise.proofs.narrow.Given as goal
 

@@ -1,6 +1,7 @@
 -- `noise::newhope` meets its contract: it fills with the values of the bytes.
-use Rattle.lists.proofs.Kit.{◌≡◌, ◌∙◌, ap₂, ◌-◌, ◌/◌, arith, rules, length, length-set, to_z-of_z}
-use Rattle.lists.proofs.Fill.{Filled, fill_start, fill-next, fill_end}
+use Rattle.lists.proofs.Kit.{◌∙◌, ap₂, arith, length, length-set, to_z-of_z, w32}
+use Rattle.std.proofs.Common.{◌≡◌, ◌/◌}
+use Rattle.lists.proofs.Fill.{fill_start, fill-next, fill_end}
 use Rattle.noise.specs.Noise.{ones_less_of, ones_less_lem, new_hope_noise}
 use Rattle.noise.proofs.newhope.Goals as goal
 
@@ -8,7 +9,7 @@ pub loop-i-preserved : goal.loop-i-preserved
 unfolding ones_less_lem
 loop-i-preserved c =
     fill-next _ c.loop-i.invariant (omega arith)
-    (to_z-of_z (record { sfits = c.ones_less.ok })
+    (to_z-of_z {w = w32} (record { sfits = c.ones_less.type_inv })
     ∙ c.ones_less.ensures
     ∙ ap₂ ones_less_of c.word-first.ensures c.word-second.ensures)
 

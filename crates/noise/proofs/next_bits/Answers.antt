@@ -1,5 +1,6 @@
 -- `noise::next_bits` meets its contract: 2 ^ m fits, and one less is a mask.
-use Rattle.lists.proofs.Kit.{◌≡◌, ◌∙◌, ap, ℕ, ◌*◌, ◌-◌, ◌/◌, ◌%◌, ◌^◌, ◌<◌, arith, one-mul, rules, bit_and, and_mask, pow_pos, shl_exact}
+use Rattle.lists.proofs.Kit.{◌∙◌, ap, ℕ, arith, one-mul, bit_and, and_mask, pow_pos, shl_exact}
+use Rattle.std.proofs.Common.{◌≡◌, ◌*◌, ◌-◌, ◌/◌, ◌%◌, ◌^◌, ◌<◌}
 use Rattle.noise.proofs.next_bits.Goals as goal
 
 shifted : (m : ℕ) → m < 16 → 1 * 2 ^ m % 2 ^ 16 ≡ 2 ^ m

@@ -1,5 +1,6 @@
 -- `noise::ones_less` meets its contract: a word of 16 bits has at most 16 ones.
-use Rattle.lists.proofs.Kit.{ℕ, ◌^◌, ◌<◌, arith, w32}
+use Rattle.lists.proofs.Kit.{ℕ, arith, w32}
+use Rattle.std.proofs.Common.{◌^◌, ◌<◌}
 use lib.Count.{ones, ones-le}
 use Rattle.numbers.proofs.Machine.{less-fits, less-is}
 use Rattle.noise.proofs.ones_less.Goals as goal

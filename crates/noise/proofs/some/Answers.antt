@@ -1,5 +1,4 @@
 -- `noise::some` meets its contract.
-use Rattle.lists.proofs.Kit.{rules}
 use Rattle.lists.proofs.Stored.{front_at}
 use Rattle.noise.proofs.{Blocks.stored_same}
 use Rattle.noise.proofs.some.Goals as goal

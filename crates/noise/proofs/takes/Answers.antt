@@ -1,5 +1,4 @@
 -- `noise::takes` meets its contract: by the rule's name.
-use Rattle.lists.proofs.Kit.{rules}
 use Rattle.noise.proofs.takes.Goals as goal
 
 pub returns-in-LowBits : goal.returns-in-LowBits

@@ -1,22 +1,20 @@
 -- `noise::threshold_of` meets its contract: the size is at most the number of thresholds, so it fits with either sign.
-use Rattle.lists.proofs.Kit.{◌≡◌, ◌∙◌, ap, ℕ, ◌/◌, ◌%◌, ◌^◌, ◌<◌, arith, rules, eq-eqb, ne_eqb, pos, neg_ℤ, +ℤ_idl, w16}
+use Rattle.lists.proofs.Kit.{◌∙◌, ap, ℕ, arith, eq-eqb, ne_eqb, pos, neg_ℤ, +ℤ_idl, w16}
+use Rattle.std.proofs.Common.{◌≡◌, ◌/◌, ◌%◌, ◌^◌, ◌<◌}
 use Rattle.numbers.proofs.Machine.{to_z_pos, less-fits, less-is}
 use Rattle.noise.specs.Noise.{at_most, threshold_of_lem}
 use Rattle.noise.proofs.{Noise.at-most-le}
 use Rattle.noise.proofs.threshold_of.Goals as goal
-use Rattle.noise.proofs.threshold_of.Goals.{After-at_most-size, Start}
+use Rattle.noise.proofs.threshold_of.Goals.{After-at_most-size}
 
 -- the size, which the callees give
-abbrev start : After-at_most-size → Start
-start c = c.before.before.before
-
-size : (c : After-at_most-size) → let a = (start c).args in c.at_most-size.result ≡ at_most a.thresholds.now (a.w / 2 % 2 ^ a.m)
+size : (c : After-at_most-size) → let a = c.args in c.at_most-size.result ≡ at_most a.thresholds.now (a.w / 2 % 2 ^ a.m)
 size c =
-    c.at_most-size.ensures ∙ ap (at_most (start c).args.thresholds.now) c.next_bits.ensures
+    c.at_most-size.ensures ∙ ap (at_most c.args.thresholds.now) c.next_bits.ensures
 
 room : (c : After-at_most-size) → c.at_most-size.result < 2 ^ 15
 room c =
-    omega (arith, c.at_most-size.ensures, at-most-le (start c).args.thresholds.now c.next_bits.result)
+    omega (arith, c.at_most-size.ensures, at-most-le c.args.thresholds.now c.next_bits.result)
 
 pub returns-then-w-eq1 : goal.returns-then-w-eq1
 unfolding threshold_of_lem

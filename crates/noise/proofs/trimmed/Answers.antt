@@ -1,7 +1,8 @@
 -- `noise::trimmed` meets its contract: a word that is not taken is left out from the end, until one is.
-use Rattle.lists.proofs.Kit.{◌≡◌, ◌∙◌, sym, ap, ◌-◌, ◌/◌, ◌≤◌, arith, rules, length}
-use Rattle.noise.specs.{Noise.word_at, Expand.rule, Expand.words, Expand.taken}
-use Rattle.noise.proofs.{Stream.so_far, Stream.trim-none, Stream.trim-less, Stream.trim_end}
+use Rattle.lists.proofs.Kit.{◌∙◌, sym, ap, arith}
+use Rattle.std.proofs.Common.{◌≡◌, ◌-◌}
+use Rattle.noise.specs.{Noise.word_at, Expand.rule}
+use Rattle.noise.proofs.{Stream.trim-none, Stream.trim-less, Stream.trim_end}
 use Rattle.noise.proofs.trimmed.Goals as goal
 use Rattle.noise.proofs.trimmed.Goals.{After-takes}
 

@@ -1,6 +1,5 @@
 -- `noise::widen` meets its contract.
-use Rattle.lists.proofs.Kit.{ℕ, ◌-◌, ◌≤◌, arith, rules, pos, get_or}
-use Rattle.lists.specs.Ranges.{Stored}
+use Rattle.lists.proofs.Kit.{arith, pos, get_or}
 use Rattle.lists.proofs.Stored.{store-none, store-next, stored-all}
 use Rattle.noise.proofs.{Blocks.wide_fits, Blocks.wide}
 use Rattle.noise.proofs.widen.Goals as goal

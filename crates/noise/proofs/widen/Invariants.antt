@@ -1,8 +1,7 @@
 -- `noise::widen` meets its contract.
-use Rattle.lists.proofs.Kit.{ℕ, ◌-◌, ◌≤◌, arith, rules, pos, get_or}
+use Rattle.lists.proofs.Kit.{ℕ, pos, get_or}
+use Rattle.std.proofs.Common.{◌-◌, ◌≤◌}
 use Rattle.lists.specs.Ranges.{Stored}
-use Rattle.lists.proofs.Stored.{store-none, store-next, stored-all}
-use Rattle.noise.proofs.{Blocks.wide_fits, Blocks.wide}
 use Rattle.noise.proofs.widen.Given as goal
 
 abbrev pub invariant-loop-k : goal.invariant-loop-k

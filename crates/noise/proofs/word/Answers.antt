@@ -1,5 +1,6 @@
 -- `noise::word` meets its contract: a byte is below 256, so the sum fits.
-use Rattle.lists.proofs.Kit.{◌+◌, ◌*◌, arith, rules}
+use Rattle.lists.proofs.Kit.{arith, rules}
+use Rattle.std.proofs.Common.{◌+◌, ◌*◌}
 use Rattle.noise.specs.Noise.{word_at}
 use Rattle.noise.proofs.word.Goals as goal
 
