@@ -4,7 +4,7 @@
 --   span-one, span-join, span_small   the products of some neighbouring entries: of one, of some and those behind them, and their size
 --   secret-small             the size of one secret
 --   near_fits, far-fits, all-fits, all   four such sums of m products, one behind the other, added two by two
---   first-none, first_fits, first_read, first_more   the sum of the first i products
+--   first-none, first_fits, first_more   the sum of the first i products
 --   times-*, both-*          65536 times one sum, and another
 --   noise-*                  a sum and the noise
 --   plus-*                   two numbers of one type
@@ -119,27 +119,24 @@ module _ (m : ℕ) (w s : List ℤ) (i : ℕ) (h : Pair w s × (i + (m + m + (m 
 
 -- ---- the first i products
 
-pub first-none : (w s : List ℤ) → 0 ≡ of_z w32 (span 0 w s 0)
+pub first-none : (w s : List ℤ) → pos 0 ≡ span 0 w s 0
 unfolding span dot sum
 first-none w s = refl
 
-pub first_read : (w s : List ℤ) (i t : ℕ) → Pair w s → i ≤ length w → t ≡ of_z w32 (span i w s 0) → to_z w32 t ≡ span i w s 0
-first_read w s i t p h e = ap (to_z w32) e ∙ to_z-of_z (span_fits i w s 0 p h)
-
-module _ (m : ℕ) (w s : List ℤ) (i t : ℕ) (y : ℤ) (p : Pair w s) (few : i + m ≤ length w) (et : t ≡ of_z w32 (span i w s 0)) (ey : y ≡ span m w s i) where
+module _ (m : ℕ) (w s : List ℤ) (i t : ℕ) (y : ℤ) (p : Pair w s) (few : i + m ≤ length w) (et : to_z w32 t ≡ span i w s 0) (ey : y ≡ span m w s i) where
   first-is : to_z w32 t +ℤ to_z w32 (of_z w32 y) ≡ span (i + m) w s 0
   first-is =
       let e : i ≡ 0 + i = omega arith in
       ap₂ (λ (a b : ℤ). a +ℤ b)
-      (first_read w s i t p (omega arith) et)
+      et
       (ap (λ (b : ℤ). to_z w32 (of_z w32 b)) ey ∙ to_z-of_z (span_fits m w s i p (omega arith)) ∙ ap (span m w s) e)
       ∙ span-join i m w s 0
 
   pub first_fits : SFits w32 (to_z w32 t +ℤ to_z w32 (of_z w32 y))
   first_fits = subst (SFits w32) (sym first-is) (span_fits (i + m) w s 0 p few)
 
-  pub first_more : of_z w32 (to_z w32 t +ℤ to_z w32 (of_z w32 y)) ≡ of_z w32 (span (i + m) w s 0)
-  first_more = ap (of_z w32) first-is
+  pub first_more : to_z w32 (of_z w32 (to_z w32 t +ℤ to_z w32 (of_z w32 y))) ≡ span (i + m) w s 0
+  first_more = to_z-of_z first_fits ∙ first-is
 
 -- ---- the two halves put together, and the noise added
 

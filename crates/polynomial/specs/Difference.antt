@@ -2,7 +2,7 @@
 --   difference n s e s' e' e'' k   entry k of d = s'e + e'' - e's, before any remainder (demand 3)
 --   Identity   the replier's v less the initiator's w is d modulo q, whatever n and q
 --   Largest    BCNS: with secrets and noise from -51 to 51, d is at most 5,326,899 in size
-use Rattle.lists.specs.Kit.{List, ℕ, ◌<◌, ◌≤◌, ℤ, nat_abs, ◌+ℤ◌, ◌-ℤ◌}
+use Rattle.std.specs.Prelude.{List, ℕ, ◌<◌, ◌≤◌, ℤ, nat_abs, ◌+ℤ◌, ◌-ℤ◌}
 use Rattle.numbers.specs.Congruence.{◌≅⟨◌⟩◌}
 use Rattle.lists.specs.{Entries.nums, Entries.ints, Ranges.Within}
 use Rattle.polynomial.specs.Product.{product, mixed, bare}

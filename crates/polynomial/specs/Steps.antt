@@ -17,7 +17,7 @@
 --   Made q n w s o    o has the n sums of the window w and the secrets s, modulo q, and they fit
 --   Joined m o o'     the sums of the whole from those of its three products: both halves, and what is added to either
 --   Windowed q n a d  [-a | a] without its first entry
-use Rattle.lists.specs.Kit.{◌≡◌, List, cond, ℕ, ◌+◌, ◌-◌, ◌*◌, ◌/◌, ◌%◌, ◌^◌, ◌<◌, ◌≤◌, ltb, length, get_or, ℤ, pos, neg_ℤ, nat_abs, ◌+ℤ◌, ◌-ℤ◌, ◌*ℤ◌}
+use Rattle.std.specs.Prelude.{◌≡◌, List, cond, ℕ, ◌+◌, ◌-◌, ◌*◌, ◌/◌, ◌%◌, ◌^◌, ◌<◌, ◌≤◌, ltb, length, get_or, ℤ, pos, neg_ℤ, nat_abs, ◌+ℤ◌, ◌-ℤ◌, ◌*ℤ◌}
 use Rattle.numbers.specs.{Sum.sum_ℤ, Congruence.◌≅⟨◌⟩◌}
 use Rattle.lists.specs.{Entries.nums, Entries.ints, Ranges.Below, Ranges.Within}
 

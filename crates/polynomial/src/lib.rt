@@ -7,7 +7,10 @@
 // of a half with the secrets fit an i32; the two sums are put together in an i64, and each entry is reduced once, without a division (02b). Sixty-four
 // products are one expression, which the compiler makes instructions of that multiply and add eight each (pmaddwd); in a plain loop it does not, and a tree of 128
 // is no longer compiled into its caller. An Arm processor takes two products of 32 bits or four of 16, of which there are twice as many, and gains nothing.
-ghost use Rattle.lists.specs.Kit.{◌≡◌, ℕ, ◌+◌, ◌*◌, ◌%◌, ◌^◌, ◌<◌, ◌≤◌, ◌-◌, length, get_or, pos, neg_ℤ, nat_abs, ◌+ℤ◌, ◌-ℤ◌, ◌*ℤ◌};
+
+#![tactic(auto)]
+
+ghost use Rattle.std.specs.Prelude.{◌≡◌, ℕ, ◌+◌, ◌*◌, ◌%◌, ◌^◌, ◌<◌, ◌≤◌, ◌-◌, length, get_or, pos, neg_ℤ, nat_abs, ◌+ℤ◌, ◌-ℤ◌, ◌*ℤ◌};
 ghost use Rattle.schemes.specs.Schemes.{bcns};
 ghost use Rattle.numbers.specs.Residue.{residue};
 ghost use Rattle.lists.specs.Entries.{tab, nums, ints};

@@ -1,8 +1,6 @@
 -- `polynomial::add` meets its contract.
-use Rattle.lists.proofs.Kit.{◌+◌, ◌-◌, ◌≤◌, arith, lit≤, pos, ◌+ℤ◌, w16, rules}
+use Rattle.lists.proofs.Kit.{◌+◌, ◌-◌, ◌≤◌, pos, ◌+ℤ◌}
 use Rattle.lists.specs.{Entries.ints, Ranges.Stored}
-use Rattle.lists.proofs.Stored.{store-none, stored-all}
-use Rattle.polynomial.proofs.{Level.add-fits, Level.add-next}
 use Rattle.polynomial.proofs.add.Given as goal
 
 abbrev pub invariant-loop-k : goal.invariant-loop-k

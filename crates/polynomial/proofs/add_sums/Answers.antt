@@ -1,6 +1,5 @@
 -- `polynomial::add_sums` meets its contract.
-use Rattle.lists.proofs.Kit.{◌+◌, ◌-◌, ◌^◌, ◌≤◌, arith, lit≤, pos, ◌+ℤ◌, w64, rules}
-use Rattle.lists.specs.{Entries.ints, Ranges.Stored}
+use Rattle.lists.proofs.Kit.{◌^◌, arith, lit≤, w64}
 use Rattle.lists.proofs.Stored.{store-none, stored-all}
 use Rattle.polynomial.proofs.{Level.add-fits, Level.add-next}
 use Rattle.polynomial.proofs.add_sums.Goals as goal

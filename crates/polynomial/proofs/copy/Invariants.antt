@@ -1,7 +1,6 @@
 -- `polynomial::copy` meets its contract.
-use Rattle.lists.proofs.Kit.{◌∙◌, ◌-◌, ◌≤◌, arith, get_or, pos, to_z-of_z, rules}
+use Rattle.lists.proofs.Kit.{◌-◌, ◌≤◌, pos}
 use Rattle.lists.specs.{Entries.ints, Ranges.Stored}
-use Rattle.lists.proofs.Stored.{store-none, store-next, stored-all}
 use Rattle.polynomial.proofs.copy.Given as goal
 
 abbrev pub invariant-loop-i : goal.invariant-loop-i

@@ -1,9 +1,7 @@
 -- `polynomial::dots` meets its contract.
-use Rattle.lists.proofs.Kit.{◌∙◌, sym, ◌+◌, ◌-◌, ◌≤◌, arith, pos, rules}
+use Rattle.lists.proofs.Kit.{◌∙◌, sym, arith}
 use Rattle.numbers.proofs.Machine.{wide, wide_fits}
-use Rattle.lists.specs.{Entries.ints, Ranges.Stored}
 use Rattle.lists.proofs.{Parts.front_long, Stored.store-none, Stored.store-next, Stored.stored-all}
-use Rattle.polynomial.specs.Steps.{slide}
 use Rattle.polynomial.proofs.{Level.dot-pair, Level.dot-part}
 use Rattle.polynomial.proofs.dots.Goals as goal
 
@@ -14,12 +12,12 @@ pub dot_product-requires : goal.dot_product-requires
 dot_product-requires c = dot-pair c.requires.0 c.loop-k.k (omega arith)
 
 pub overflow_cast-o : goal.overflow_cast-o
-overflow_cast-o c = wide_fits c.dot_product.result (record { sfits = c.dot_product.type-inv })
+overflow_cast-o c = wide_fits c.dot_product.result (record { sfits = c.dot_product.type_inv })
 
 pub loop-k-preserved : goal.loop-k-preserved
 loop-k-preserved c = let o = c.loop-k.invariant.1 in (
   omega arith,
-  store-next o (omega arith) (wide c.dot_product.result (record { sfits = c.dot_product.type-inv }) ∙ c.dot_product.ensures ∙ dot-part c.requires.0 c.loop-k.k (omega arith)),
+  store-next o (omega arith) (wide c.dot_product.result (record { sfits = c.dot_product.type_inv }) ∙ c.dot_product.ensures ∙ dot-part c.requires.0 c.loop-k.k (omega arith)),
 )
 
 pub returns : goal.returns

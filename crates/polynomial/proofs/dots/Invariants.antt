@@ -1,10 +1,7 @@
 -- `polynomial::dots` meets its contract.
-use Rattle.lists.proofs.Kit.{◌∙◌, sym, ◌+◌, ◌-◌, ◌≤◌, arith, pos, rules}
-use Rattle.numbers.proofs.Machine.{wide, wide_fits}
+use Rattle.lists.proofs.Kit.{◌+◌, ◌-◌, ◌≤◌, pos}
 use Rattle.lists.specs.{Entries.ints, Ranges.Stored}
-use Rattle.lists.proofs.{Parts.front_long, Stored.store-none, Stored.store-next, Stored.stored-all}
 use Rattle.polynomial.specs.Steps.{slide}
-use Rattle.polynomial.proofs.{Level.dot-pair, Level.dot-part}
 use Rattle.polynomial.proofs.dots.Given as goal
 
 abbrev pub invariant-loop-k : goal.invariant-loop-k

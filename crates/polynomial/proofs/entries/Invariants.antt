@@ -1,10 +1,9 @@
 -- `polynomial::entries` meets its contract: it fills with the sums, reduced.
-use Rattle.lists.proofs.Kit.{◌≡◌, ◌∙◌, sym, ap₂, subst, List, ℕ, ◌-◌, ◌^◌, ◌≤◌, arith, length, get_or, length-set, ℤ, pos, nat_abs, ◌+ℤ◌, w32, w64, to_z, of_z}
-use Rattle.lists.proofs.Kit.{to_z-of_z, rules}
+use Rattle.lists.proofs.Kit.{List, ℕ, ◌-◌, length, ℤ, ◌+ℤ◌}
 use Rattle.numbers.specs.Residue.{residue}
 use Rattle.schemes.specs.Schemes.{bcns}
 use Rattle.lists.specs.Entries.{ints}
-use Rattle.lists.proofs.Fill.{Filled, fill_start, fill-next, fill_end}
+use Rattle.lists.proofs.Fill.{Filled}
 use Rattle.polynomial.proofs.entries.Given as goal
 
 abbrev pub by : List ℤ → List ℤ → ℕ → ℕ

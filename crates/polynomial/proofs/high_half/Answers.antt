@@ -1,5 +1,5 @@
 -- `polynomial::high_half` meets its contract.
-use Rattle.lists.proofs.Kit.{◌/◌, arith, rules}
+use Rattle.lists.proofs.Kit.{◌/◌, arith}
 use Rattle.polynomial.specs.Steps.{upper}
 use Rattle.polynomial.proofs.{Halves.less-fits, Halves.narrow-fits, Halves.narrow}
 use Rattle.polynomial.proofs.high_half.Goals as goal

@@ -1,5 +1,5 @@
 -- `polynomial::join` meets its contract.
-use Rattle.lists.proofs.Kit.{arith, rules}
+use Rattle.lists.proofs.Kit.{arith}
 use Rattle.polynomial.proofs.{Level.added-small, Level.joined}
 use Rattle.polynomial.proofs.join.Goals as goal
 

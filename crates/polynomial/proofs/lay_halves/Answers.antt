@@ -1,7 +1,7 @@
 -- `polynomial::lay_halves` meets its contract.
-use Rattle.lists.proofs.Kit.{◌∙◌, ap, ◌+◌, ◌*◌, ◌-◌, ◌≤◌, arith, length-set, to_z-of_z, rules}
+use Rattle.lists.proofs.Kit.{◌∙◌, ap, arith, length-set, w16, to_z-of_z}
 use Rattle.polynomial.specs.Steps.{upper, lower}
-use Rattle.polynomial.proofs.{Level.Halving, Level.halving-none, Level.halving-next, Level.halving-all}
+use Rattle.polynomial.proofs.{Level.halving-none, Level.halving-next, Level.halving-all}
 use Rattle.polynomial.proofs.lay_halves.Goals as goal
 
 pub lifted-y-requires : goal.lifted-y-requires
@@ -11,8 +11,8 @@ pub loop-i-preserved : goal.loop-i-preserved
 loop-i-preserved c = let y = c.lifted-y.ensures in (
   omega arith,
   halving-next c.loop-i.invariant.1 (omega arith) c.requires.n_in_bounds.1
-      (to_z-of_z (record { sfits = c.high_half_lem.type-inv }) ∙ c.high_half_lem.ensures ∙ ap upper y)
-      (to_z-of_z (record { sfits = c.low_half_lem.type-inv }) ∙ c.low_half_lem.ensures ∙ ap lower y),
+      (to_z-of_z {w = w16} (record { sfits = c.high_half.type_inv }) ∙ c.high_half.ensures ∙ ap upper y)
+      (to_z-of_z {w = w16} (record { sfits = c.low_half.type_inv }) ∙ c.low_half.ensures ∙ ap lower y),
 )
 
 pub loop-i-init : goal.loop-i-init

@@ -1,7 +1,6 @@
 -- `polynomial::lay_halves` meets its contract.
-use Rattle.lists.proofs.Kit.{◌∙◌, ap, ◌+◌, ◌*◌, ◌-◌, ◌≤◌, arith, length-set, to_z-of_z, rules}
-use Rattle.polynomial.specs.Steps.{upper, lower}
-use Rattle.polynomial.proofs.{Level.Halving, Level.halving-none, Level.halving-next, Level.halving-all}
+use Rattle.lists.proofs.Kit.{◌+◌, ◌*◌, ◌-◌, ◌≤◌}
+use Rattle.polynomial.proofs.{Level.Halving}
 use Rattle.polynomial.proofs.lay_halves.Given as goal
 
 abbrev pub invariant-loop-i : goal.invariant-loop-i

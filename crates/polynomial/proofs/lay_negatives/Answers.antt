@@ -1,12 +1,11 @@
 -- `polynomial::lay_negatives` meets its contract.
-use Rattle.lists.proofs.Kit.{◌+◌, ◌-◌, ◌≤◌, arith, length, neg_ℤ, rules}
-use Rattle.numbers.specs.Residue.{residue}
-use Rattle.lists.specs.{Entries.nums, Ranges.Stored}
+use Rattle.lists.proofs.Kit.{◌+◌, arith}
+use Rattle.lists.specs.{Entries.nums}
 use Rattle.lists.proofs.Stored.{store-none, store-front, stored-all}
 use Rattle.polynomial.proofs.lay_negatives.Goals as goal
 
 pub negative-requires : goal.negative-requires
-negative-requires c = c.requires.0.below (c.loop-i.i + 1)
+negative-requires c = c.requires.0.below _
 
 pub loop-i-preserved : goal.loop-i-preserved
 unfolding nums

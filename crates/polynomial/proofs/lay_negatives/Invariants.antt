@@ -1,8 +1,7 @@
 -- `polynomial::lay_negatives` meets its contract.
-use Rattle.lists.proofs.Kit.{◌+◌, ◌-◌, ◌≤◌, arith, length, neg_ℤ, rules}
+use Rattle.lists.proofs.Kit.{◌+◌, ◌-◌, ◌≤◌, length, neg_ℤ}
 use Rattle.numbers.specs.Residue.{residue}
 use Rattle.lists.specs.{Entries.nums, Ranges.Stored}
-use Rattle.lists.proofs.Stored.{store-none, store-front, stored-all}
 use Rattle.polynomial.proofs.lay_negatives.Given as goal
 
 abbrev pub invariant-loop-i : goal.invariant-loop-i

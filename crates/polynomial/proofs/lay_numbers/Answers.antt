@@ -1,6 +1,5 @@
 -- `polynomial::lay_numbers` meets its contract.
-use Rattle.lists.proofs.Kit.{refl, ◌-◌, ◌≤◌, arith, length, get_or, rules}
-use Rattle.lists.specs.Ranges.{Stored}
+use Rattle.lists.proofs.Kit.{refl, arith}
 use Rattle.lists.proofs.Stored.{store-none, store-next, stored-all}
 use Rattle.polynomial.proofs.lay_numbers.Goals as goal
 

@@ -1,7 +1,6 @@
 -- `polynomial::lay_numbers` meets its contract.
-use Rattle.lists.proofs.Kit.{refl, ◌-◌, ◌≤◌, arith, length, get_or, rules}
+use Rattle.lists.proofs.Kit.{◌-◌, ◌≤◌, length, get_or}
 use Rattle.lists.specs.Ranges.{Stored}
-use Rattle.lists.proofs.Stored.{store-none, store-next, stored-all}
 use Rattle.polynomial.proofs.lay_numbers.Given as goal
 
 abbrev pub invariant-loop-i : goal.invariant-loop-i

@@ -1,5 +1,5 @@
 -- `polynomial::lay_window` meets its contract.
-use Rattle.lists.proofs.Kit.{arith, rules}
+use Rattle.lists.proofs.Kit.{arith}
 use Rattle.polynomial.proofs.{Window.laid-window}
 use Rattle.polynomial.proofs.lay_window.Goals as goal
 

@@ -1,5 +1,5 @@
 -- `polynomial::leaf` meets its contract.
-use Rattle.lists.proofs.Kit.{arith, rules}
+use Rattle.lists.proofs.Kit.{arith}
 use Rattle.polynomial.proofs.{Level.laid-high, Level.laid-low, Level.sums-small, Level.leaf-made}
 use Rattle.polynomial.proofs.leaf.Goals as goal
 

@@ -1,5 +1,5 @@
 -- `polynomial::lifted` meets its contract.
-use Rattle.lists.proofs.Kit.{sym, rules}
+use Rattle.lists.proofs.Kit.{sym}
 use Rattle.polynomial.proofs.{Halves.lift-low, Halves.lift-high}
 use Rattle.polynomial.proofs.lifted.Goals as goal
 

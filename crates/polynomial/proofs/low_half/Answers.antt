@@ -1,5 +1,5 @@
 -- `polynomial::low_half` meets its contract.
-use Rattle.lists.proofs.Kit.{◌%◌, arith, rules}
+use Rattle.lists.proofs.Kit.{◌%◌, arith}
 use Rattle.polynomial.specs.Steps.{lower}
 use Rattle.polynomial.proofs.{Halves.less-fits, Halves.narrow-fits, Halves.narrow}
 use Rattle.polynomial.proofs.low_half.Goals as goal

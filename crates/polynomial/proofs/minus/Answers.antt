@@ -1,5 +1,5 @@
 -- `polynomial::minus` meets its contract.
-use Rattle.lists.proofs.Kit.{arith, rules, pos, ◌-ℤ◌}
+use Rattle.lists.proofs.Kit.{arith, pos, ◌-ℤ◌}
 use Rattle.numbers.proofs.Congruence.{residue-lt}
 use Rattle.polynomial.proofs.{Halves.minus_is}
 use Rattle.polynomial.proofs.minus.Goals as goal

@@ -1,5 +1,5 @@
 -- `polynomial::mix` meets its contract: the three lists that it lends are as long as `mix_lent` asks, and zeros are below q.
-use Rattle.lists.proofs.Kit.{length-replicate, pos, ℕ, rules}
+use Rattle.lists.proofs.Kit.{length-replicate, pos, ℕ}
 use Rattle.lists.proofs.Entries.{below-zeros}
 use Rattle.polynomial.proofs.mix.Goals as goal
 

@@ -1,5 +1,5 @@
 -- `polynomial::multiply` meets its contract: the noise that it lends is 0.
-use Rattle.lists.proofs.Kit.{◌∙◌, sym, arith, rules, length, pos}
+use Rattle.lists.proofs.Kit.{◌∙◌, sym, arith, length, pos}
 use Rattle.lists.proofs.Parts.{same-long, zeros_within}
 use Rattle.polynomial.proofs.{Window.mixed-bare}
 use Rattle.polynomial.proofs.multiply.Goals as goal

@@ -1,5 +1,5 @@
 -- `polynomial::negative` meets its contract.
-use Rattle.lists.proofs.Kit.{◌≡◌, ◌∙◌, ap, arith, rules, ℤ, pos, neg_ℤ, w64}
+use Rattle.lists.proofs.Kit.{◌≡◌, ◌∙◌, ap, arith, ℤ, pos, neg_ℤ, w64}
 use Rattle.numbers.specs.Residue.{residue}
 use Rattle.numbers.proofs.{Congruence.residue-lt, Machine.to_z_pos}
 use Rattle.polynomial.proofs.negative.Goals as goal

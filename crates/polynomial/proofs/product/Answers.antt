@@ -1,5 +1,5 @@
 -- `polynomial::product` meets its contract.
-use Rattle.lists.proofs.Kit.{◌∙◌, get_or, ℤ, pos, rules}
+use Rattle.lists.proofs.Kit.{◌∙◌, get_or, ℤ, pos}
 use Rattle.polynomial.proofs.{Kernel.widen-fits, Kernel.one-fits, Kernel.one, Kernel.span-one, Kernel.secret-small}
 use Rattle.polynomial.proofs.product.Goals as goal
 use Rattle.polynomial.proofs.product.Goals.{Start}

@@ -1,7 +1,6 @@
 -- `polynomial::put_together` meets its contract.
-use Rattle.lists.proofs.Kit.{◌≡◌, ◌∙◌, sym, ap₂, subst, ◌+◌, ◌-◌, ◌^◌, ◌≤◌, arith, get_or, ℤ, pos, nat_abs, ◌+ℤ◌, ◌*ℤ◌, w64, to_z, of_z, to_z-of_z, rules}
+use Rattle.lists.proofs.Kit.{◌+◌, ◌-◌, ◌≤◌, pos, ◌+ℤ◌, ◌*ℤ◌}
 use Rattle.lists.specs.{Entries.ints, Ranges.Stored}
-use Rattle.lists.proofs.Stored.{store-none, store-front, front-not-yet, stored-all}
 use Rattle.polynomial.proofs.put_together.Given as goal
 
 abbrev pub invariant-loop-k : goal.invariant-loop-k

@@ -1,6 +1,6 @@
 -- `polynomial::reverse` meets its contract: it writes the entries of the secret, the last one first.
-use Rattle.lists.proofs.Kit.{◌∙◌, ap, List, ℕ, ◌+◌, ◌-◌, ◌≤◌, arith, length, get_or, ℤ, pos, rules}
-use Rattle.lists.specs.{Entries.ints, Ranges.Stored}
+use Rattle.lists.proofs.Kit.{◌∙◌, ap, List, ℕ, ◌-◌, arith, length, get_or, ℤ, pos}
+use Rattle.lists.specs.{Entries.ints}
 use Rattle.lists.proofs.Stored.{store-none, store-front, stored-all}
 use Rattle.polynomial.proofs.{Kernel.secret-fits, Kernel.secret}
 use Rattle.polynomial.proofs.reverse.Goals as goal

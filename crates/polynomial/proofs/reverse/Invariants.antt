@@ -1,8 +1,6 @@
 -- `polynomial::reverse` meets its contract: it writes the entries of the secret, the last one first.
-use Rattle.lists.proofs.Kit.{◌∙◌, ap, List, ℕ, ◌+◌, ◌-◌, ◌≤◌, arith, length, get_or, ℤ, pos, rules}
+use Rattle.lists.proofs.Kit.{◌+◌, ◌-◌, ◌≤◌, length, pos}
 use Rattle.lists.specs.{Entries.ints, Ranges.Stored}
-use Rattle.lists.proofs.Stored.{store-none, store-front, stored-all}
-use Rattle.polynomial.proofs.{Kernel.secret-fits, Kernel.secret}
 use Rattle.polynomial.proofs.reverse.Given as goal
 
 abbrev pub invariant-loop-j : goal.invariant-loop-j

@@ -1,7 +1,7 @@
 -- `polynomial::subtract` meets its contract.
-use Rattle.lists.proofs.Kit.{◌∙◌, ap₂, ℕ, ◌+◌, ◌-◌, ◌≤◌, arith, pos, ◌-ℤ◌, rules}
+use Rattle.lists.proofs.Kit.{◌∙◌, ap₂, ℕ, ◌+◌, arith, pos, ◌-ℤ◌}
 use Rattle.numbers.specs.Residue.{residue}
-use Rattle.lists.specs.{Entries.nums, Ranges.Stored}
+use Rattle.lists.specs.{Entries.nums}
 use Rattle.lists.proofs.Stored.{store-none, store-next, stored-all}
 use Rattle.polynomial.proofs.subtract.Goals as goal
 
