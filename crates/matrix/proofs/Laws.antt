@@ -3,7 +3,8 @@
 --   times-add-left, times-add-right   it distributes over sums
 --   times-assoc       (a b) c = a (b c)
 --   times-size        an entry, by bounds on those of its factors
-use Rattle.lists.proofs.Kit.{◌≡◌, ◌∙◌, sym, ℕ, ◌*◌, ◌<◌, ◌≤◌, ℤ, nat_abs, ◌+ℤ◌, ◌*ℤ◌}
+use Rattle.lists.proofs.Kit.{◌∙◌, sym, ℕ, ℤ, nat_abs}
+use Rattle.std.proofs.Common.{◌≡◌, ◌*◌, ◌<◌, ◌≤◌, ◌+ℤ◌, ◌*ℤ◌}
 use Rattle.numbers.specs.Congruence.{◌≅⟨◌⟩◌}
 use Rattle.numbers.proofs.Sums.{whole, sum-ext, sum-add, sum-mul, sum-mul-right, sum-swap}
 use Rattle.numbers.proofs.{Ring.add-mul, Ring.mul-add, Ring.mul_assoc, Size.abs-mul-≤, Size.abs-sum, Congruence.mul-≅, Congruence.sum-≅}

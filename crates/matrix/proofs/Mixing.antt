@@ -4,7 +4,8 @@
 --   identity            the identity, of what the two ends compute
 --   apart-difference    how far V and W are apart is how far D is from a multiple of q
 --   difference-size     D is at most 2 n B B + B in size, where secrets and noise are at most B in size
-use Rattle.lists.proofs.Kit.{◌≡◌, refl, ◌∙◌, ap, List, ℕ, ◌+◌, ◌*◌, ◌<◌, ◌≤◌, get_or, ℤ, nat_abs, ◌+ℤ◌, ◌-ℤ◌}
+use Rattle.lists.proofs.Kit.{refl, ◌∙◌, ap, List, ℕ, get_or, ℤ, nat_abs}
+use Rattle.std.proofs.Common.{◌≡◌, ◌+◌, ◌*◌, ◌<◌, ◌≤◌, ◌+ℤ◌, ◌-ℤ◌}
 use Rattle.numbers.specs.{Residue.distance, Residue.apart, Congruence.◌≅⟨◌⟩◌}
 use Rattle.numbers.proofs.Congruence.{eq-≅, ◌⨾◌, add-≅, sub-≅, residue-≅}
 use Rattle.numbers.proofs.{Ring.cancel, Size.abs-three, Nearest.distance-same}

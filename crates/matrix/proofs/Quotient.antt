@@ -2,7 +2,8 @@
 --   kept        so it is with k modulo 65536, as a word has it
 --   back        and q times that, by 65536, is the remainder
 --   kept-fits, back_fits   both fit
-use Rattle.lists.proofs.Kit.{◌≡◌, ◌∙◌, sym, ap, ℕ, suc, ◌+◌, ◌*◌, ◌/◌, ◌%◌, ◌<◌, ◌≤◌, arith, div-add-mod', mod-lt, mul-div_cancel, mul-le-mul_right}
+use Rattle.lists.proofs.Kit.{◌∙◌, sym, ap, ℕ, suc, arith, div-add-mod', mod-lt, mul-div_cancel, mul-le-mul_right}
+use Rattle.std.proofs.Common.{◌≡◌, ◌+◌, ◌*◌, ◌/◌, ◌%◌, ◌<◌, ◌≤◌}
 use Rattle.lists.proofs.Kit.{le-div_iff_mul-le, digits_mod}
 use native.Mathlib.Nat.{add-mul-mod_self_right}
 

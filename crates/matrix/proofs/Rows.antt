@@ -1,6 +1,7 @@
 -- A matrix as a list, row after row.
 --   rows-length, rows_at, nums-rows, rows-below   its length, its entries, and that they are below q
-use Rattle.lists.proofs.Kit.{◌≡◌, ◌∙◌, ap, ap₂, ℕ, suc, ◌+◌, ◌*◌, ◌<◌, ◌≤◌, arith, mul-le-mul_right, digits_div, digits_mod, length, get_or, pos}
+use Rattle.lists.proofs.Kit.{◌∙◌, ap, ap₂, ℕ, suc, arith, mul-le-mul_right, digits_div, digits_mod, length, get_or, pos}
+use Rattle.std.proofs.Common.{◌≡◌, ◌+◌, ◌*◌, ◌<◌, ◌≤◌}
 use Rattle.lists.specs.{Entries.nums, Ranges.Below}
 use Rattle.lists.proofs.Entries.{tab-length, tab-at, below-tab}
 use Rattle.matrix.specs.Matrix.{rows, nums_at}

@@ -4,7 +4,8 @@
 --   all-clear, below_wider    where all are below q, without parts; and they are below what is no less than q
 --   clear-part, part-below    after a part that has none, whose numbers are below q
 --   part-place, part-full     the place in the list of the one that a part has; there is none where all are below q
-use Rattle.lists.proofs.Kit.{◌≡◌, refl, ◌∙◌, sym, ap, subst, false, List, ℕ, ◌+◌, ◌*◌, ◌-◌, ◌≤◌, ◌<◌, dec_lt, zero-mul, arith, leb, length, get_or, take, drop}
+use Rattle.lists.proofs.Kit.{refl, ◌∙◌, sym, ap, subst, false, List, ℕ, dec_lt, zero-mul, arith, leb, length, get_or, take, drop}
+use Rattle.std.proofs.Common.{◌≡◌, ◌+◌, ◌*◌, ◌-◌, ◌≤◌, ◌<◌}
 use Rattle.lists.proofs.Kit.{lt-leb}
 use Rattle.lists.specs.{Ranges.Below, First.first_over_lem}
 use Rattle.lists.proofs.First.{Passed, passed_none, found, missing, none_before, first_passes, none_found, all-below}

@@ -5,8 +5,9 @@
 --   on-zeros, on-copy, known   sums that start as zeros and are added at the end; what is made of a copy; the products of a row whose length is known
 --   reduced-gained, steps-are  from the noise to the remainders, by place; in three steps
 --   mixed                      they are those of the whole sums, by row and column
-use Rattle.lists.proofs.Kit.{◌≡◌, refl, ◌∙◌, sym, ap, List, ℕ, ◌+◌, ◌*◌, ◌/◌, ◌%◌, ◌<◌, arith, mod-add-mod, mod-eq_of_lt, div-add-mod', add-one, length, get_or}
-use Rattle.lists.proofs.Kit.{replicate, length-replicate, ℤ, pos, ◌+ℤ◌, ◌*ℤ◌, +ℤ_comm}
+use Rattle.lists.proofs.Kit.{refl, ◌∙◌, sym, ap, List, ℕ, arith, mod-add-mod, mod-eq_of_lt, div-add-mod', add-one, length, get_or}
+use Rattle.std.proofs.Common.{◌≡◌, ◌+◌, ◌*◌, ◌/◌, ◌%◌, ◌<◌, ◌+ℤ◌, ◌*ℤ◌}
+use Rattle.lists.proofs.Kit.{replicate, length-replicate, ℤ, pos, +ℤ_comm}
 use Rattle.numbers.specs.{Sum.sum, Sum.sum_ℕ, Sum.sum_ℤ, Residue.residue, Congruence.◌≅⟨◌⟩◌}
 use Rattle.numbers.proofs.Congruence.{finer-≅, eq-≅, ◌⨾◌, add-≅, sum-≅, mod-≅, residue-≅, same-residue}
 use Rattle.numbers.proofs.Sums.{natural, sum-split, pos_sum}

@@ -6,7 +6,8 @@
 --   right-sums             row i of the sums of XS
 --   in-s, block-long, block_row   a block of rows of Y and their words, for row i of SY
 --   in-y, part-terms       a block as it lies in Y
-use Rattle.lists.proofs.Kit.{◌≡◌, ◌∙◌, sym, ap, ap₂, List, ℕ, suc, ◌+◌, ◌*◌, ◌-◌, ◌/◌, ◌%◌, ◌<◌, ◌≤◌, arith, mul-le-mul_right, mul_comm, mod-lt, digits_div}
+use Rattle.lists.proofs.Kit.{◌∙◌, sym, ap, ap₂, List, ℕ, suc, arith, mul-le-mul_right, mul_comm, mod-lt, digits_div}
+use Rattle.std.proofs.Common.{◌≡◌, ◌+◌, ◌*◌, ◌-◌, ◌/◌, ◌%◌, ◌<◌, ◌≤◌}
 use Rattle.lists.proofs.Kit.{digits_mod, digits_lt, length, get_or, take, drop}
 use Rattle.numbers.specs.Sum.{sum_ℕ}
 use Rattle.numbers.proofs.Sums.{natural, sum-ext}

@@ -2,8 +2,9 @@
 --   column-at, columns-length   an entry of the columns of S, and how many there are
 --   right-any, left-any    words of any modulus m that is a multiple of q: XS + E by rows of X and columns of S; SY + E by rows of Y
 --   right_is, left_is, bare-is   so of what the code has made; US as XS + E without noise
-use Rattle.lists.proofs.Kit.{◌≡◌, refl, ◌∙◌, ap, ap₂, List, ℕ, ◌+◌, ◌*◌, ◌/◌, ◌%◌, ◌<◌, arith, mod-lt, div-lt_iff_lt-mul, digits_div, digits_mod, digits_lt}
-use Rattle.lists.proofs.Kit.{length, get_or, replicate, ℤ, pos, ◌+ℤ◌, ◌*ℤ◌, +ℤ_idr, *ℤ_comm}
+use Rattle.lists.proofs.Kit.{refl, ◌∙◌, ap, ap₂, List, ℕ, arith, mod-lt, div-lt_iff_lt-mul, digits_div, digits_mod, digits_lt}
+use Rattle.std.proofs.Common.{◌≡◌, ◌+◌, ◌*◌, ◌/◌, ◌%◌, ◌<◌, ◌+ℤ◌, ◌*ℤ◌}
+use Rattle.lists.proofs.Kit.{length, get_or, replicate, ℤ, pos, +ℤ_idr, *ℤ_comm}
 use Rattle.numbers.specs.{Residue.residue, Congruence.◌≅⟨◌⟩◌}
 use Rattle.numbers.proofs.Congruence.{eq-≅, refl-≅, ◌⨾◌, mul-≅, residue-≅}
 use Rattle.lists.specs.Entries.{nums, ints}

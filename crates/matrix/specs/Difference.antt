@@ -1,7 +1,7 @@
 -- How far apart the two ends of an exchange of matrices modulo q end; the shapes are those of `Matrix.antt`.
 --   difference n m s e s' e' e'' i j   the entry of D = S'E + E'' - E'S, before any remainder (demand 3)
 --   Identity   the replier's V less the initiator's W is D modulo q, whatever n, m and q
-use Rattle.lists.specs.Kit.{List, ℕ, ◌<◌, ℤ, ◌+ℤ◌, ◌-ℤ◌}
+use Rattle.std.specs.Prelude.{List, ℕ, ◌<◌, ℤ, ◌+ℤ◌, ◌-ℤ◌}
 use Rattle.numbers.specs.Congruence.{◌≅⟨◌⟩◌}
 use Rattle.matrix.specs.Matrix.{times, nums_at, ints_at, right_mixed, left_mixed, bare}
 

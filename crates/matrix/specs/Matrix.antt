@@ -7,7 +7,7 @@
 --   right_mixed q r n m x s e   XS + E, X of r rows and n columns: the opener's B = AS + E
 --   left_mixed q n c m s y e    SY + E, Y of n rows and c columns: the replier's B' = S'A + E' and V = S'B + E''
 --   bare q n m u s             US: the initiator's W = B'S
-use Rattle.lists.specs.Kit.{List, ℕ, ◌+◌, ◌*◌, ◌/◌, ◌%◌, ℤ, ◌+ℤ◌, ◌*ℤ◌}
+use Rattle.std.specs.Prelude.{List, ℕ, ◌+◌, ◌*◌, ◌/◌, ◌%◌, ℤ, ◌+ℤ◌, ◌*ℤ◌}
 use Rattle.numbers.specs.{Sum.sum_ℤ, Residue.residue}
 use Rattle.lists.specs.Entries.{tab, nums, ints}
 

@@ -7,7 +7,7 @@
 --   block_term, part_term   the products of a block y of rows of Y, each with its word of w, at column j; of the block that starts at row t, with the words of S,
 --                       for the entry k of SY
 --   block_gained w y ws  the sums ws, a row of them, with the products of the block
-use Rattle.lists.specs.Kit.{◌≡◌, List, ℕ, ◌+◌, ◌*◌, ◌/◌, ◌%◌, ◌<◌, ◌≤◌, length, get_or, ℤ}
+use Rattle.std.specs.Prelude.{◌≡◌, List, ℕ, ◌+◌, ◌*◌, ◌/◌, ◌%◌, ◌<◌, ◌≤◌, length, get_or, ℤ}
 use Rattle.lists.specs.{Entries.tab, Ranges.Below, Ranges.Within}
 use Rattle.matrix.specs.Words.{gained}
 

@@ -4,7 +4,7 @@
 --   reduced q ws        the remainders of the sums in 0 .. q - 1
 --   columns_of m n s     the 8 columns of S, one after the other, as words
 --   right_term, left_term the products for the entry k of XS, and for the entry k of SY
-use Rattle.lists.specs.Kit.{List, ℕ, ◌+◌, ◌*◌, ◌/◌, ◌%◌, length, get_or, ℤ}
+use Rattle.std.specs.Prelude.{List, ℕ, ◌+◌, ◌*◌, ◌/◌, ◌%◌, length, get_or, ℤ}
 use Rattle.numbers.specs.{Sum.sum_ℕ, Residue.residue}
 use Rattle.lists.specs.Entries.{tab, ints}
 

@@ -5,7 +5,10 @@
 // Every sum starts as the noise, gains n products and is reduced once. XS goes row by row through X, with the columns of S laid side by side; SY goes
 // through Y four rows at a time, into 8 rows of sums. A row, or a block of four, is laid down as words and tested in one pass, and multiplied while it is
 // near: so A, up to 3 MB, is read once.
-ghost use Rattle.lists.specs.Kit.{◌≡◌, ℕ, ◌+◌, ◌*◌, ◌/◌, ◌%◌, ◌<◌, ◌≤◌, length, get_or, pos};
+
+#![tactic(auto)]
+
+ghost use Rattle.std.specs.Prelude.{◌≡◌, ℕ, ◌+◌, ◌*◌, ◌/◌, ◌%◌, ◌<◌, ◌≤◌, length, get_or, pos};
 ghost use Rattle.numbers.specs.Sum.{sum_ℕ};
 ghost use Rattle.numbers.specs.Residue.{residue};
 ghost use Rattle.lists.specs.First.{first_over_lem};

@@ -1,5 +1,5 @@
 -- `matrix::add_block` meets its contract: the four words that it lends are all.
-use Rattle.lists.proofs.Kit.{◌≡◌, arith, rules, take, take_all}
+use Rattle.lists.proofs.Kit.{◌≡◌, arith, take, take_all}
 use Rattle.matrix.proofs.add_block.Goals as goal
 use Rattle.matrix.proofs.add_block.Goals.{Then-w-eq4}
 

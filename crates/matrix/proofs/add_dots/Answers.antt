@@ -1,5 +1,4 @@
 -- `matrix::add_dots` meets its contract.
-use Rattle.lists.proofs.Kit.{rules}
 use Rattle.matrix.specs.Steps.{dot_term}
 use Rattle.matrix.proofs.{Steps.on-zeros}
 use Rattle.matrix.proofs.add_dots.Goals as goal

@@ -1,9 +1,8 @@
 -- `matrix::add_left` meets its contract: it fills a row of sums at a time.
-use Rattle.lists.proofs.Kit.{◌≡◌, List, ℕ, ◌+◌, ◌*◌, ◌-◌, ◌%◌, ◌≤◌, arith, rules, length, get_or}
+use Rattle.lists.proofs.Kit.{List, ℕ, ◌+◌, ◌*◌, ◌-◌, ◌%◌, ◌≤◌, get_or}
 use Rattle.numbers.specs.Sum.{sum_ℕ}
-use Rattle.lists.proofs.Fill.{Filled, fill_end, rows_start, rows_next}
-use Rattle.matrix.specs.{Steps.part_term, Words.gained}
-use Rattle.matrix.proofs.{Terms.in-s, Terms.block-long, Terms.block_row, Terms.Row, Terms.row_of}
+use Rattle.lists.proofs.Fill.{Filled}
+use Rattle.matrix.specs.{Steps.part_term}
 use Rattle.matrix.proofs.add_left.Given as goal
 
 abbrev pub from : ℕ → ℕ → ℕ → ℕ → List ℕ → List ℕ → List ℕ → ℕ → ℕ

@@ -1,5 +1,5 @@
 -- `matrix::add_product` meets its contract.
-use Rattle.lists.proofs.Kit.{◌*◌, ◌≤◌, arith, mul-le-mul, rules}
+use Rattle.lists.proofs.Kit.{◌*◌, ◌≤◌, arith, mul-le-mul}
 use Rattle.matrix.proofs.add_product.Goals as goal
 use Rattle.matrix.proofs.add_product.Goals.{Start}
 

@@ -1,7 +1,7 @@
 -- `matrix::add_products` meets its contract: it fills with each sum and its product.
-use Rattle.lists.proofs.Kit.{◌∙◌, ap, List, ℕ, ◌+◌, ◌*◌, ◌-◌, ◌%◌, ◌<◌, arith, rules, digits_lt, get_or}
+use Rattle.lists.proofs.Kit.{◌∙◌, ap, ℕ, ◌+◌, ◌*◌, ◌<◌, arith, digits_lt}
 use Rattle.lists.specs.Entries.{tab}
-use Rattle.lists.proofs.Fill.{Filled, fill_start, fill-next, fill_end, fill-old}
+use Rattle.lists.proofs.Fill.{fill_start, fill-next, fill_end, fill-old}
 use Rattle.matrix.proofs.add_products.Invariants.{from}
 use Rattle.matrix.proofs.add_products.Goals as goal
 use Rattle.matrix.proofs.add_products.Goals.{In-loop-j}

@@ -1,7 +1,6 @@
 -- `matrix::add_products` meets its contract: it fills with each sum and its product.
-use Rattle.lists.proofs.Kit.{◌∙◌, ap, List, ℕ, ◌+◌, ◌*◌, ◌-◌, ◌%◌, ◌<◌, arith, rules, digits_lt, get_or}
-use Rattle.lists.specs.Entries.{tab}
-use Rattle.lists.proofs.Fill.{Filled, fill_start, fill-next, fill_end, fill-old}
+use Rattle.lists.proofs.Kit.{List, ℕ, ◌+◌, ◌*◌, ◌-◌, ◌%◌, get_or}
+use Rattle.lists.proofs.Fill.{Filled}
 use Rattle.matrix.proofs.add_products.Given as goal
 
 abbrev pub from : ℕ → ℕ → ℕ → List ℕ → List ℕ → ℕ → ℕ

@@ -1,9 +1,8 @@
 -- `matrix::add_right` meets its contract: it fills a row of sums at a time.
-use Rattle.lists.proofs.Kit.{◌≡◌, List, ℕ, ◌+◌, ◌*◌, ◌-◌, ◌%◌, ◌≤◌, arith, rules, length, get_or}
+use Rattle.lists.proofs.Kit.{List, ℕ, ◌+◌, ◌*◌, ◌-◌, ◌%◌, ◌≤◌, get_or}
 use Rattle.numbers.specs.Sum.{sum_ℕ}
-use Rattle.lists.proofs.{Fill.Filled, Fill.fill_end, Fill.rows_start, Fill.rows_next, Parts.slice-long}
-use Rattle.matrix.specs.Words.{gained, right_term}
-use Rattle.matrix.proofs.{Terms.row_in, Terms.right-sums, Terms.Row, Terms.row_of}
+use Rattle.lists.proofs.{Fill.Filled}
+use Rattle.matrix.specs.Words.{right_term}
 use Rattle.matrix.proofs.add_right.Given as goal
 
 abbrev pub from : ℕ → List ℕ → List ℕ → List ℕ → ℕ → ℕ

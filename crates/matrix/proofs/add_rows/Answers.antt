@@ -1,9 +1,7 @@
 -- `matrix::add_rows` meets its contract: it fills with each sum and its products.
-use Rattle.lists.proofs.Kit.{rules, List, ℕ, ◌+◌, ◌-◌, ◌%◌, arith, length, get_or}
-use Rattle.numbers.specs.Sum.{sum_ℕ}
-use Rattle.lists.proofs.Fill.{Filled, fill_start, fill-next, fill_end, fill-old}
-use Rattle.matrix.specs.{Steps.block_term, Steps.block_gained, Words.gained}
-use Rattle.matrix.proofs.add_rows.Invariants.{from}
+use Rattle.lists.proofs.Kit.{arith}
+use Rattle.lists.proofs.Fill.{fill_start, fill-next, fill_end, fill-old}
+use Rattle.matrix.specs.{Steps.block_gained, Words.gained}
 use Rattle.matrix.proofs.add_rows.Goals as goal
 
 pub weigh-requires : goal.weigh-requires

@@ -1,8 +1,8 @@
 -- `matrix::add_rows` meets its contract: it fills with each sum and its products.
-use Rattle.lists.proofs.Kit.{rules, List, ℕ, ◌+◌, ◌-◌, ◌%◌, arith, length, get_or}
+use Rattle.lists.proofs.Kit.{List, ℕ, ◌+◌, ◌-◌, ◌%◌, length, get_or}
 use Rattle.numbers.specs.Sum.{sum_ℕ}
-use Rattle.lists.proofs.Fill.{Filled, fill_start, fill-next, fill_end, fill-old}
-use Rattle.matrix.specs.{Steps.block_term, Steps.block_gained, Words.gained}
+use Rattle.lists.proofs.Fill.{Filled}
+use Rattle.matrix.specs.{Steps.block_term}
 use Rattle.matrix.proofs.add_rows.Given as goal
 
 abbrev pub from : List ℕ → List ℕ → List ℕ → ℕ → ℕ

@@ -1,7 +1,6 @@
 -- `matrix::add_words` meets its contract: it fills with each sum and its word.
-use Rattle.lists.proofs.Kit.{◌∙◌, ap, List, ℕ, ◌+◌, ◌-◌, ◌%◌, arith, mul-one, rules, length, get_or, length-set}
-use Rattle.lists.proofs.Fill.{Filled, fill_start, fill-next, fill_end, fill-old}
-use Rattle.matrix.proofs.add_words.Invariants.{from}
+use Rattle.lists.proofs.Kit.{◌∙◌, ap, ℕ, ◌+◌, ◌%◌, arith, mul-one, get_or, length-set}
+use Rattle.lists.proofs.Fill.{fill_start, fill-next, fill_end, fill-old}
 use Rattle.matrix.proofs.add_words.Goals as goal
 
 pub loop-k-preserved : goal.loop-k-preserved

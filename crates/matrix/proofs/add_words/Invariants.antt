@@ -1,6 +1,6 @@
 -- `matrix::add_words` meets its contract: it fills with each sum and its word.
-use Rattle.lists.proofs.Kit.{◌∙◌, ap, List, ℕ, ◌+◌, ◌-◌, ◌%◌, arith, mul-one, rules, length, get_or, length-set}
-use Rattle.lists.proofs.Fill.{Filled, fill_start, fill-next, fill_end, fill-old}
+use Rattle.lists.proofs.Kit.{List, ℕ, ◌+◌, ◌-◌, ◌%◌, length, get_or}
+use Rattle.lists.proofs.Fill.{Filled}
 use Rattle.matrix.proofs.add_words.Given as goal
 
 abbrev pub from : List ℕ → List ℕ → ℕ → ℕ

@@ -1,9 +1,7 @@
 -- `matrix::column` meets its contract: it fills with the words of every eighth value.
-use Rattle.lists.proofs.Kit.{List, ℕ, ◌+◌, ◌*◌, ◌-◌, arith, rules, length, length-set, ℤ, to_z-of_z}
-use Rattle.numbers.specs.Residue.{residue}
+use Rattle.lists.proofs.Kit.{arith, length-set, to_z-of_z}
 use Rattle.lists.specs.Entries.{ints}
-use Rattle.lists.proofs.Fill.{Filled, fill_start, fill-next, fill_end}
-use Rattle.matrix.proofs.column.Invariants.{from}
+use Rattle.lists.proofs.Fill.{fill_start, fill-next, fill_end}
 use Rattle.matrix.proofs.column.Goals as goal
 
 pub loop-t-preserved : goal.loop-t-preserved

@@ -1,8 +1,8 @@
 -- `matrix::column` meets its contract: it fills with the words of every eighth value.
-use Rattle.lists.proofs.Kit.{List, ℕ, ◌+◌, ◌*◌, ◌-◌, arith, rules, length, length-set, ℤ, to_z-of_z}
+use Rattle.lists.proofs.Kit.{List, ℕ, ◌+◌, ◌*◌, ◌-◌, length, ℤ}
 use Rattle.numbers.specs.Residue.{residue}
 use Rattle.lists.specs.Entries.{ints}
-use Rattle.lists.proofs.Fill.{Filled, fill_start, fill-next, fill_end}
+use Rattle.lists.proofs.Fill.{Filled}
 use Rattle.matrix.proofs.column.Given as goal
 
 abbrev pub from : List ℤ → ℕ → ℕ → ℕ

@@ -1,8 +1,8 @@
 -- `matrix::columns` meets its contract: it fills a column at a time.
-use Rattle.lists.proofs.Kit.{◌≡◌, ◌∙◌, ap, List, ℕ, ◌+◌, ◌*◌, ◌-◌, ◌/◌, ◌%◌, ◌≤◌, arith, rules, length, ℤ}
+use Rattle.lists.proofs.Kit.{◌≡◌, ◌∙◌, ap, ℕ, ◌+◌, ◌*◌, ◌≤◌, arith, length}
 use Rattle.numbers.specs.Residue.{residue}
 use Rattle.lists.specs.Entries.{tab, ints}
-use Rattle.lists.proofs.{Fill.Filled, Fill.fill_end, Fill.rows_start, Fill.rows_next, Parts.slice-long}
+use Rattle.lists.proofs.{Fill.fill_end, Fill.rows_start, Fill.rows_next, Parts.slice-long}
 use Rattle.matrix.specs.Words.{columns_of}
 use Rattle.matrix.proofs.{Terms.row_in, Terms.column-row}
 use Rattle.matrix.proofs.columns.Invariants.{from}
@@ -23,7 +23,7 @@ column-requires c =
 
 pub loop-j-preserved : goal.loop-j-preserved
 loop-j-preserved c =
-    let l = i.before in
+    let l = (goal.at.loop-j-preserved c).In-loop-j in
     let n = l.args.n in
     let s = l.args.s.now in (
       omega arith,

@@ -1,10 +1,8 @@
 -- `matrix::columns` meets its contract: it fills a column at a time.
-use Rattle.lists.proofs.Kit.{◌≡◌, ◌∙◌, ap, List, ℕ, ◌+◌, ◌*◌, ◌-◌, ◌/◌, ◌%◌, ◌≤◌, arith, rules, length, ℤ}
+use Rattle.lists.proofs.Kit.{List, ℕ, ◌+◌, ◌*◌, ◌-◌, ◌/◌, ◌%◌, ◌≤◌, ℤ}
 use Rattle.numbers.specs.Residue.{residue}
-use Rattle.lists.specs.Entries.{tab, ints}
-use Rattle.lists.proofs.{Fill.Filled, Fill.fill_end, Fill.rows_start, Fill.rows_next, Parts.slice-long}
-use Rattle.matrix.specs.Words.{columns_of}
-use Rattle.matrix.proofs.{Terms.row_in, Terms.column-row}
+use Rattle.lists.specs.Entries.{ints}
+use Rattle.lists.proofs.{Fill.Filled}
 use Rattle.matrix.proofs.columns.Given as goal
 
 abbrev pub from : ℕ → List ℤ → ℕ → ℕ

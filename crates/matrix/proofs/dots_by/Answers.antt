@@ -1,5 +1,5 @@
 -- `matrix::dots_by` meets its contract: each n that it names is n.
-use Rattle.lists.proofs.Kit.{arith, rules}
+use Rattle.lists.proofs.Kit.{arith}
 use Rattle.matrix.proofs.{Steps.known}
 use Rattle.matrix.proofs.dots_by.Goals as goal
 

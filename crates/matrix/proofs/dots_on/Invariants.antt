@@ -1,7 +1,6 @@
 -- `matrix::dots_on` meets its contract: after t numbers of the row each sum has gained t products.
-use Rattle.lists.proofs.Kit.{◌≡◌, ◌∙◌, sym, ap, ℕ, ◌-◌, ◌≤◌, arith, rules, length}
+use Rattle.lists.proofs.Kit.{◌≡◌, ◌-◌, ◌≤◌}
 use Rattle.matrix.specs.{Steps.dot_term, Words.gained}
-use Rattle.matrix.proofs.{Steps.gained-length, Steps.gained-none, Steps.gained-next}
 use Rattle.matrix.proofs.dots_on.Given as goal
 
 abbrev pub invariant-loop-t : goal.invariant-loop-t

@@ -1,5 +1,5 @@
 -- `matrix::left_block` meets its contract: the block is made narrow, and then serves all 8 rows of sums.
-use Rattle.lists.proofs.Kit.{List, ℕ, rules}
+use Rattle.lists.proofs.Kit.{List, ℕ}
 use Rattle.matrix.specs.{Steps.part_term, Words.gained}
 use Rattle.matrix.proofs.{Steps.on-copy}
 use Rattle.matrix.proofs.left_block.Goals as goal

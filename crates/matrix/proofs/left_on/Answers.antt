@@ -1,5 +1,5 @@
 -- `matrix::left_on` meets its contract.
-use Rattle.lists.proofs.Kit.{arith, rules}
+use Rattle.lists.proofs.Kit.{arith}
 use Rattle.matrix.proofs.{Whole.left_is}
 use Rattle.matrix.proofs.left_on.Goals as goal
 

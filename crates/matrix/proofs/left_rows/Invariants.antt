@@ -1,9 +1,7 @@
 -- `matrix::left_rows` meets its contract: after t rows each sum has gained t products, and none of their numbers is q or more.
-use Rattle.lists.proofs.Kit.{◌≡◌, refl, ◌∙◌, sym, ap, List, ℕ, ◌+◌, ◌*◌, ◌-◌, ◌≤◌, arith, mul_comm, mul-le-mul_right, rules, length, take, length-take-le}
-use Rattle.lists.proofs.Parts.{slice-long}
+use Rattle.lists.proofs.Kit.{◌≡◌, ◌*◌, ◌-◌, ◌≤◌, length}
 use Rattle.matrix.specs.Words.{gained, left_term}
-use Rattle.matrix.proofs.Search.{Clear, clear-start, clear-part, clear-all, part-below, part-place, part-full}
-use Rattle.matrix.proofs.{Steps.gained-length, Steps.gained-none, Steps.gained-more, Terms.in-y, Terms.part-terms}
+use Rattle.matrix.proofs.Search.{Clear}
 use Rattle.matrix.proofs.left_rows.Given as goal
 
 abbrev pub invariant-loop-t : goal.invariant-loop-t

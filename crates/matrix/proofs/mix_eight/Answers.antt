@@ -1,5 +1,6 @@
 -- `matrix::mix_eight` meets its contract: it lends room for the words, the columns and the sums.
-use Rattle.lists.proofs.Kit.{sym, ◌*◌, arith, rules}
+use Rattle.lists.proofs.Kit.{sym, arith, rules}
+use Rattle.std.proofs.Common.{◌*◌}
 use Rattle.lists.proofs.Parts.{buffer-long}
 use Rattle.matrix.proofs.mix_eight.Goals as goal
 

@@ -1,5 +1,5 @@
 -- `matrix::mix_left` meets its contract: it lends room for the secrets as words, a block and the sums.
-use Rattle.lists.proofs.Kit.{sym, ◌*◌, arith, rules}
+use Rattle.lists.proofs.Kit.{sym, ◌*◌, arith}
 use Rattle.lists.proofs.Parts.{buffer-long}
 use Rattle.matrix.proofs.mix_left.Goals as goal
 
@@ -14,4 +14,4 @@ left_on-requires c =
     record { shape = (c.requires.0.0, c.requires.1, c.requires.0.1); factors_len = (buffer-long (8 * c.args.n) 6912 (omega arith), omega arith, buffer-long (8 * c.args.n) 6920 (omega arith)) }
 
 pub returns : goal.returns
-returns c = c.left_on.ensures
+returns c = (c.left_on.ensures.value, c.left_on.ensures.out_value)

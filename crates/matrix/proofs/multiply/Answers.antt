@@ -1,5 +1,5 @@
 -- `matrix::multiply` meets its contract: XS + E where the noise is zeros.
-use Rattle.lists.proofs.Kit.{refl, sym, ◌*◌, arith, rules}
+use Rattle.lists.proofs.Kit.{refl, sym, ◌*◌, arith}
 use Rattle.lists.proofs.Parts.{buffer-long}
 use Rattle.matrix.proofs.{Whole.bare-is}
 use Rattle.matrix.proofs.multiply.Goals as goal

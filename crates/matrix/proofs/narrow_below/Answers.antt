@@ -1,5 +1,5 @@
 -- `matrix::narrow_below` meets its contract.
-use Rattle.lists.proofs.Kit.{arith, rules}
+use Rattle.lists.proofs.Kit.{arith}
 use Rattle.matrix.proofs.{Search.all-clear, Search.below_wider}
 use Rattle.matrix.proofs.narrow_below.Goals as goal
 

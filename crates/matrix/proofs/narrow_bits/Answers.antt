@@ -1,9 +1,9 @@
 -- `matrix::narrow_bits` meets its contract: it fills with the numbers where they fit, and none that was passed is over the bits.
-use Rattle.lists.proofs.Kit.{◌≡◌, refl, ◌∙◌, ap, ℕ, ◌-◌, ◌≤◌, ◌<◌, arith, not-suc-le-zero, rules, bit_or, and_le_l, and_le_r, or_add_and, length, get_or}
+use Rattle.lists.proofs.Kit.{refl, ◌∙◌, ap, ℕ, ◌≤◌, arith, not-suc-le-zero, bit_or, and_le_l, and_le_r, or_add_and, get_or}
 use Rattle.lists.proofs.Kit.{length-set}
 use borrow.Author.Count.{below_more}
-use Rattle.lists.specs.{Entries.tab, Ranges.Below}
-use Rattle.lists.proofs.{Entries.tab-getD, Fill.Filled, Fill.fill_start, Fill.fill-next, Fill.fill_end}
+use Rattle.lists.specs.{Entries.tab}
+use Rattle.lists.proofs.{Entries.tab-getD, Fill.fill_start, Fill.fill-next, Fill.fill_end}
 use Rattle.matrix.proofs.narrow_bits.Goals as goal
 
 pub loop-k-init : goal.loop-k-init

@@ -1,5 +1,4 @@
 -- `matrix::number_at` meets its contract.
-use Rattle.lists.proofs.Kit.{rules}
 use Rattle.lists.proofs.Parts.{slice_at}
 use Rattle.matrix.proofs.number_at.Goals as goal
 

@@ -1,8 +1,8 @@
 -- `matrix::packed` meets its contract: a number that fits meets neither bound.
-use Rattle.lists.proofs.Kit.{◌≡◌, ◌∙◌, ap, true, false, ⊎_elim, ℕ, ◌<◌, arith, mod-eq_of_lt, rules, ltb-true, ltb, ℤ, pos, lt_z, w32, to_z, of_z, to_z-of_z}
+use Rattle.lists.proofs.Kit.{◌≡◌, ◌∙◌, ap, true, false, ℕ, ◌<◌, arith, mod-eq_of_lt, ltb-true, ltb, ℤ, pos, lt_z, w32, to_z, of_z, to_z-of_z}
 use Rattle.numbers.specs.Residue.{residue}
 use Rattle.matrix.proofs.packed.Goals as goal
-use Rattle.matrix.proofs.packed.Goals.{After-signed-z, Joined-low-gt32767, Joined-z-ltminus32768}
+use Rattle.matrix.proofs.packed.Goals.{After-signed-z, Joined-low-gt32767, Joined-z-ltminus32768, then-z-ltminus32768, else-z-ltminus32768, then-low-gt32767, else-low-gt32767}
 
 -- the value z of bits
 module _ (x : ℕ) (h : x < 32768) (b : ℕ) (read : to_z w32 b ≡ pos x) where
@@ -21,13 +21,15 @@ module _ (c : After-signed-z) (h : c.args.x < 32768) where
   start : to_z w32 (of_z w32 c.signed-z.result) ≡ pos c.args.x
   start = ap (λ (z : ℤ). to_z w32 (of_z w32 z)) (c.signed-z.ensures h) ∙ to_z-of_z {w = w32} {z = pos c.args.x} (record { sfits = omega arith })
 
-first : (c : Joined-z-ltminus32768) → c.args.x < 32768 → to_z w32 c.if-z-ltminus32768.low ≡ pos c.args.x
+first : (c : Joined-z-ltminus32768) → c.args.x < 32768 → to_z w32 c.if-z-ltminus32768.low-bits ≡ pos c.args.x
 first c h =
-    ⊎_elim (λ w. absurd (not-below _ h (of_z w32 c.signed-z.result) (start c.before h) w.0.taken)) (λ w. ap (to_z w32) w.1 ∙ start c.before h) c.if-z-ltminus32768.branch
+    let s = start (goal.at.Joined-z-ltminus32768 c).After-signed-z h in
+    elim c.if-z-ltminus32768.branch [ then-z-ltminus32768 w ↦ absurd (not-below _ h (of_z w32 c.signed-z.result) s w.if-z-ltminus32768.true) | else-z-ltminus32768 w ↦ w.low-is ∙ s ]
 
-second : (c : Joined-low-gt32767) → c.args.x < 32768 → to_z w32 c.if-low-gt32767.both ≡ pos c.args.x
+second : (c : Joined-low-gt32767) → c.args.x < 32768 → to_z w32 c.if-low-gt32767.both-bits ≡ pos c.args.x
 second c h =
-    ⊎_elim (λ w. absurd (not-above _ h c.if-z-ltminus32768.low (first (goal.at.Joined-low-gt32767 c).Joined-z-ltminus32768 h) w.0.taken)) (λ w. ap (to_z w32) w.1 ∙ first (goal.at.Joined-low-gt32767 c).Joined-z-ltminus32768 h) c.if-low-gt32767.branch
+    let s = first (goal.at.Joined-low-gt32767 c).Joined-z-ltminus32768 h in
+    elim c.if-low-gt32767.branch [ then-low-gt32767 w ↦ absurd (not-above _ h c.if-z-ltminus32768.low-bits s w.if-low-gt32767.true) | else-low-gt32767 w ↦ w.both-is ∙ s ]
 
 pub returns : goal.returns
 unfolding residue

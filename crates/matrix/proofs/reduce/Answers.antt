@@ -1,7 +1,7 @@
 -- `matrix::reduce` meets its contract: it fills with the remainders of the sums.
-use Rattle.lists.proofs.Kit.{refl, ◌∙◌, ap, List, ℕ, ◌-◌, ◌/◌, ◌%◌, arith, mod-lt, rules, length, length-set, get_or}
+use Rattle.lists.proofs.Kit.{refl, ◌∙◌, ap, ℕ, ◌/◌, arith, mod-lt, length-set}
 use Rattle.lists.specs.Entries.{tab}
-use Rattle.lists.proofs.Fill.{Filled, fill_start, fill-next, fill_end}
+use Rattle.lists.proofs.Fill.{fill_start, fill-next, fill_end}
 use Rattle.matrix.specs.Words.{reduced}
 use Rattle.matrix.proofs.reduce.Invariants.{from}
 use Rattle.matrix.proofs.reduce.Goals as goal

@@ -1,8 +1,6 @@
 -- `matrix::reduce` meets its contract: it fills with the remainders of the sums.
-use Rattle.lists.proofs.Kit.{refl, ◌∙◌, ap, List, ℕ, ◌-◌, ◌/◌, ◌%◌, arith, mod-lt, rules, length, length-set, get_or}
-use Rattle.lists.specs.Entries.{tab}
-use Rattle.lists.proofs.Fill.{Filled, fill_start, fill-next, fill_end}
-use Rattle.matrix.specs.Words.{reduced}
+use Rattle.lists.proofs.Kit.{List, ℕ, ◌-◌, ◌%◌, length, get_or}
+use Rattle.lists.proofs.Fill.{Filled}
 use Rattle.matrix.proofs.reduce.Given as goal
 
 abbrev pub from : ℕ → List ℕ → ℕ → ℕ

@@ -1,5 +1,5 @@
 -- `matrix::remainder` meets its contract.
-use Rattle.lists.proofs.Kit.{◌*◌, ◌%◌, ◌<◌, ◌≤◌, arith, mul-le-mul, mod-lt, rules}
+use Rattle.lists.proofs.Kit.{◌*◌, ◌%◌, ◌<◌, ◌≤◌, arith, mul-le-mul, mod-lt}
 use Rattle.matrix.proofs.{Quotient.back, Quotient.back_fits}
 use Rattle.matrix.proofs.remainder.Goals as goal
 

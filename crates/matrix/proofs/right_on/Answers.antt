@@ -1,5 +1,5 @@
 -- `matrix::right_on` meets its contract.
-use Rattle.lists.proofs.Kit.{arith, rules}
+use Rattle.lists.proofs.Kit.{arith}
 use Rattle.matrix.proofs.{Whole.right_is}
 use Rattle.matrix.proofs.right_on.Goals as goal
 

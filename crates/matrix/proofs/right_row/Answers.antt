@@ -1,5 +1,5 @@
 -- `matrix::right_row` meets its contract: the row is made words, and then serves all 8 columns.
-use Rattle.lists.proofs.Kit.{List, ℕ, rules}
+use Rattle.lists.proofs.Kit.{List, ℕ}
 use Rattle.matrix.specs.{Steps.dot_term, Words.gained}
 use Rattle.matrix.proofs.{Steps.on-copy}
 use Rattle.matrix.proofs.right_row.Goals as goal

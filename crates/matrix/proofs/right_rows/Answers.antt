@@ -1,13 +1,11 @@
 -- `matrix::right_rows` meets its contract: it fills a row at a time, and no number of the rows before is q or more.
-use Rattle.lists.proofs.Kit.{◌≡◌, refl, ◌∙◌, sym, ap, List, ℕ, ◌+◌, ◌*◌, ◌-◌, ◌%◌, ◌≤◌, arith, rules, length, get_or}
-use Rattle.numbers.specs.Sum.{sum_ℕ}
-use Rattle.lists.proofs.{Fill.Filled, Fill.fill_end, Fill.rows_start, Fill.rows_next, Parts.slice-long}
-use Rattle.matrix.specs.Words.{gained, right_term}
-use Rattle.matrix.proofs.Search.{Clear, clear-start, clear-part, clear-all, part-below, part-place, part-full}
+use Rattle.lists.proofs.Kit.{◌≡◌, refl, ◌∙◌, sym, ap, ℕ, ◌+◌, ◌*◌, ◌≤◌, arith, rules, length}
+use Rattle.lists.proofs.{Fill.fill_end, Fill.rows_start, Fill.rows_next, Parts.slice-long}
+use Rattle.matrix.specs.Words.{gained}
+use Rattle.matrix.proofs.Search.{clear-start, clear-part, clear-all, part-below, part-place, part-full}
 use Rattle.matrix.proofs.{Terms.row_in, Terms.right-sums, Terms.Row, Terms.row_of}
-use Rattle.matrix.proofs.right_rows.Invariants.{from}
 use Rattle.matrix.proofs.right_rows.Goals as goal
-use Rattle.matrix.proofs.right_rows.Goals.{After-right_row-at, In-loop-i, Start}
+use Rattle.matrix.proofs.right_rows.Goals.{In-loop-i, Start}
 
 pub loop-i-init : goal.loop-i-init
 loop-i-init c =
@@ -15,7 +13,7 @@ loop-i-init c =
 
 module _ (c : In-loop-i) where
   abbrev a : Start
-  a = search rules
+  a = (goal.at.In-loop-i c).Start
 
   abbrev i : ℕ
   i = c.loop-i.i
@@ -28,54 +26,42 @@ module _ (c : In-loop-i) where
   row = row_of a.args.r 8 i c.loop-i.invariant.3 (omega (arith, a.requires.5)) c.loop-i-test.true
 
 pub overflow_add-b : goal.overflow_add-b
-overflow_add-b c = omega (arith, (row c.before.before).room)
+overflow_add-b c = omega (arith, (row (goal.at.overflow_add-b c).In-loop-i).room)
 
 pub offset_bounds-sums-b : goal.offset_bounds-sums-b
-offset_bounds-sums-b c = omega (arith, (row c.before.before).room)
+offset_bounds-sums-b c = omega (arith, (row (goal.at.offset_bounds-sums-b c).In-loop-i).room)
 
--- GONE: part-right-row-end-2 : tie.Need-slice-bounds-right-row-end-2 invariant-loop decreases-loop
--- part-right-row-end-2 c = let b : tie.In-loop invariant-loop decreases-loop = search rules in (row b).room
 --
 
 pub right_row-at-requires : goal.right_row-at-requires
 right_row-at-requires c =
+    let b = (goal.at.right_row-at-requires c).In-loop-i in
     let l = c.loop-i in
-    let g = (a c.before.before.before).args in
-    let p = (a c.before.before.before).pre in
-    (p.0, p.1, slice-long (i c.before.before.before * g.n) g.n g.x.now (in-x c.before.before.before), p.3, l.invariant.1 ∙ p.4, slice-long (i c.before.before.before * 8) 8 l.sums (row c.before.before.before).room)
-
--- after row i
-module _ (c : After-right_row-at) where
-  abbrev at : In-loop-i
-  at = search rules
-
-  abbrev x : List ℕ
-  x = (a at).args.x.now
-
-  abbrev n : ℕ
-  n = (a at).args.n
+    let g = (a b).args in
+    let p = (a b).requires in
+    (p.0, p.1, slice-long (i b * g.n) g.n g.x.now (in-x b), p.3, l.invariant.1 ∙ p.4, slice-long (i b * 8) 8 l.sums (row b).room)
 
 pub overflow_add-result : goal.overflow_add-result
-overflow_add-result c = omega (arith, in-x (at c.before.before.before.before.before))
+overflow_add-result c = omega (arith, in-x (goal.at.overflow_add-result c).In-loop-i)
 
 pub returns-then-at-n : goal.returns-then-at-n
 returns-then-at-n c =
-    let b = at c.before.before.before.before.before in
-    let q = (a b).args.q in
-    let h = b.loop-i.invariant.2 in (
-      part-place q (x c.before.before.before.before.before) (i b * n c.before.before.before.before.before) (n c.before.before.before.before.before) h (in-x b) c.right_row-at.ensures.value c.if-at-n.true,
-      λ k. absurd (omega (arith, part-full q (x c.before.before.before.before.before) (i b * n c.before.before.before.before.before) (n c.before.before.before.before.before) h (in-x b) c.right_row-at.ensures.value k, c.if-at-n.true)),
-    )
+    let b = (goal.at.returns-then-at-n c).In-loop-i in
+    let g = (a b).args in
+    let h = b.loop-i.invariant.2 in record {
+      value = part-place g.q g.x.now (i b * g.n) g.n h (in-x b) c.right_row-at.ensures.value c.if-at-n.true;
+      sums_value = λ k. absurd (omega (arith, part-full g.q g.x.now (i b * g.n) g.n h (in-x b) c.right_row-at.ensures.value k, c.if-at-n.true));
+    }
 
 pub loop-i-preserved : goal.loop-i-preserved
 loop-i-preserved c =
-    let b = at c.before.before.before.before.before in
+    let b = (goal.at.loop-i-preserved c).In-loop-i in
     let l = b.loop-i in
     let g = (a b).args in
-    let f = part-below g.q (x c.before.before.before.before.before) (i b * n c.before.before.before.before.before) (n c.before.before.before.before.before) l.invariant.2 (in-x b) c.right_row-at.ensures.value (a b).pre.0 c.if-at-n.false in (
+    let f = part-below g.q g.x.now (i b * g.n) g.n l.invariant.2 (in-x b) c.right_row-at.ensures.value (a b).requires.0 c.if-at-n.false in (
       omega arith,
       search rules,
-      clear-part g.q (x c.before.before.before.before.before) (i b * n c.before.before.before.before.before) (n c.before.before.before.before.before) l.invariant.2 (in-x b) c.right_row-at.ensures.value c.if-at-n.false _ (omega arith),
+      clear-part g.q g.x.now (i b * g.n) g.n l.invariant.2 (in-x b) c.right_row-at.ensures.value c.if-at-n.false _ (omega arith),
       rows_next (i b) 8 _ l.invariant.3 (row b).first
           (right-sums g.n (i b) g.x.now g.cols.now g.sums.now _ (row b).first (row b).same (c.right_row-at.ensures.sums_value f)),
     )
@@ -88,22 +74,22 @@ returns c =
     let k : l.i ≡ g.r = omega arith in record { value = clear-all g.q g.x.now _ l.invariant.2 (c.requires.2 ∙ ap (λ (j : ℕ). j * g.n) (sym k)); sums_value = λ _. fill_end l.invariant.3 (rw (k, c.requires.5) (omega arith)) }
 
 pub overflow_mul-a : goal.overflow_mul-a
-overflow_mul-a c = omega (arith, in-x c)
+overflow_mul-a c = omega (arith, in-x (goal.at.overflow_mul-a c).In-loop-i)
 
 pub overflow_mul-b : goal.overflow_mul-b
-overflow_mul-b c = omega (arith, (row c).room)
+overflow_mul-b c = omega (arith, (row (goal.at.overflow_mul-b c).In-loop-i).room)
 
 pub overflow_add-a : goal.overflow_add-a
-overflow_add-a c = omega (arith, in-x c)
+overflow_add-a c = omega (arith, in-x (goal.at.overflow_add-a c).In-loop-i)
 
 pub offset_bounds-x-a : goal.offset_bounds-x-a
-offset_bounds-x-a c = omega (arith, in-x c)
+offset_bounds-x-a c = omega (arith, in-x (goal.at.offset_bounds-x-a c).In-loop-i)
 
 pub slice_bounds-right_row-end : goal.slice_bounds-right_row-end
-slice_bounds-right_row-end c = in-x c
+slice_bounds-right_row-end c = in-x (goal.at.slice_bounds-right_row-end c).In-loop-i
 
 pub slice_bounds-right_row-end-in-loop-i : goal.slice_bounds-right_row-end-in-loop-i
-slice_bounds-right_row-end-in-loop-i c = part-right-row-end-2 c
+slice_bounds-right_row-end-in-loop-i c = (row (goal.at.slice_bounds-right_row-end-in-loop-i c).In-loop-i).room
 
 pub shape_of-line : goal.shape_of-line
 shape_of-line c = c.loop-i.invariant.1

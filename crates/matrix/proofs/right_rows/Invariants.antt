@@ -1,10 +1,9 @@
 -- `matrix::right_rows` meets its contract: it fills a row at a time, and no number of the rows before is q or more.
-use Rattle.lists.proofs.Kit.{◌≡◌, refl, ◌∙◌, sym, ap, List, ℕ, ◌+◌, ◌*◌, ◌-◌, ◌%◌, ◌≤◌, arith, rules, length, get_or}
+use Rattle.lists.proofs.Kit.{◌≡◌, List, ℕ, ◌+◌, ◌*◌, ◌-◌, ◌%◌, ◌≤◌, length, get_or}
 use Rattle.numbers.specs.Sum.{sum_ℕ}
-use Rattle.lists.proofs.{Fill.Filled, Fill.fill_end, Fill.rows_start, Fill.rows_next, Parts.slice-long}
-use Rattle.matrix.specs.Words.{gained, right_term}
-use Rattle.matrix.proofs.Search.{Clear, clear-start, clear-part, clear-all, part-below, part-place, part-full}
-use Rattle.matrix.proofs.{Terms.row_in, Terms.right-sums, Terms.Row, Terms.row_of}
+use Rattle.lists.proofs.{Fill.Filled}
+use Rattle.matrix.specs.Words.{right_term}
+use Rattle.matrix.proofs.Search.{Clear}
 use Rattle.matrix.proofs.right_rows.Given as goal
 
 abbrev pub from : ℕ → List ℕ → List ℕ → List ℕ → ℕ → ℕ

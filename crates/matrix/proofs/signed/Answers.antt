@@ -1,5 +1,5 @@
 -- `matrix::signed` meets its contract.
-use Rattle.lists.proofs.Kit.{◌≡◌, ℕ, zero, suc, ◌-◌, ◌<◌, arith, rules, pos, negsuc, ◌-ℤ◌, w32, to_z, SFits, to_z-of_z}
+use Rattle.lists.proofs.Kit.{◌≡◌, ℕ, zero, suc, ◌-◌, ◌<◌, arith, pos, negsuc, ◌-ℤ◌, w32, to_z, SFits, to_z-of_z}
 use Rattle.matrix.proofs.signed.Goals as goal
 
 read : (n : ℕ) → n < 2147483648 → to_z w32 n ≡ pos n

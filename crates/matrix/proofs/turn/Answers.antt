@@ -1,7 +1,7 @@
 -- `matrix::turn` meets its contract: it fills a column at a time.
-use Rattle.lists.proofs.Kit.{◌≡◌, ◌∙◌, ap, List, ℕ, ◌+◌, ◌*◌, ◌-◌, ◌/◌, ◌%◌, ◌≤◌, arith, rules, get_or}
+use Rattle.lists.proofs.Kit.{◌≡◌, ◌∙◌, ap, ℕ, ◌*◌, arith, get_or}
 use Rattle.lists.specs.Entries.{tab}
-use Rattle.lists.proofs.{Fill.Filled, Fill.fill_end, Fill.rows_start, Fill.rows_next, Parts.slice-long}
+use Rattle.lists.proofs.{Fill.fill_end, Fill.rows_start, Fill.rows_next, Parts.slice-long}
 use Rattle.matrix.specs.Steps.{turned}
 use Rattle.matrix.proofs.{Terms.Row, Terms.row_of, Terms.column-row}
 use Rattle.matrix.proofs.turn.Invariants.{from}
@@ -13,7 +13,7 @@ loop-j-init c = (omega arith, rows_start _ _ c.args.n)
 
 module _ (c : In-loop-j) where
   abbrev a : Start
-  a = search rules
+  a = (goal.at.In-loop-j c).Start
 
   abbrev j : ℕ
   j = c.loop-j.j
@@ -23,15 +23,15 @@ module _ (c : In-loop-j) where
 
 pub turn_column-requires : goal.turn_column-requires
 turn_column-requires c =
-    let g = (a c.before).args in
-    (c.loop-j-test.taken, rw (slice-long (j c.before * g.n) g.n c.loop-j.cols (row c.before).room) (a c.before).pre.1, (a c.before).pre.3)
+    let g = (a (goal.at.turn_column-requires c).In-loop-j).args in
+    (c.loop-j-test.true, rw (slice-long (j (goal.at.turn_column-requires c).In-loop-j * g.n) g.n c.loop-j.cols (row (goal.at.turn_column-requires c).In-loop-j).room) (a (goal.at.turn_column-requires c).In-loop-j).requires.1, (a (goal.at.turn_column-requires c).In-loop-j).requires.3)
 
 pub loop-j-preserved : goal.loop-j-preserved
 loop-j-preserved c =
-    let g = (a c.before.before.before.before).args in (
+    let g = (a (goal.at.loop-j-preserved c).In-loop-j).args in (
       omega arith,
-      rows_next (j c.before.before.before.before) g.n _ c.loop-j.invariant.1 (row c.before.before.before.before).first
-          (c.turn_column.ensures ∙ column-row (λ k. get_or g.y.now k 0) g.n _ (j c.before.before.before.before) (slice-long (j c.before.before.before.before * g.n) g.n c.loop-j.cols (row c.before.before.before.before).room)),
+      rows_next (j (goal.at.loop-j-preserved c).In-loop-j) g.n _ c.loop-j.invariant.1 (row (goal.at.loop-j-preserved c).In-loop-j).first
+          (c.turn_column.ensures ∙ column-row (λ k. get_or g.y.now k 0) g.n _ (j (goal.at.loop-j-preserved c).In-loop-j) (slice-long (j (goal.at.loop-j-preserved c).In-loop-j * g.n) g.n c.loop-j.cols (row (goal.at.loop-j-preserved c).In-loop-j).room)),
     )
 
 pub returns : goal.returns
@@ -42,16 +42,16 @@ returns c =
     fill_end l.invariant.1 (rw (k, c.requires.2) (omega arith)) ∙ ap (λ (m : ℕ). tab m (from c.args.n c.args.y.now)) c.requires.2
 
 pub overflow_mul-a : goal.overflow_mul-a
-overflow_mul-a c = omega (arith, (row c).room)
+overflow_mul-a c = omega (arith, (row (goal.at.overflow_mul-a c).In-loop-j).room)
 
 pub overflow_add-a : goal.overflow_add-a
-overflow_add-a c = omega (arith, (row c).room)
+overflow_add-a c = omega (arith, (row (goal.at.overflow_add-a c).In-loop-j).room)
 
 pub offset_bounds-cols-a : goal.offset_bounds-cols-a
-offset_bounds-cols-a c = omega (arith, (row c).room)
+offset_bounds-cols-a c = omega (arith, (row (goal.at.offset_bounds-cols-a c).In-loop-j).room)
 
 pub slice_bounds-turn_column-end : goal.slice_bounds-turn_column-end
-slice_bounds-turn_column-end c = (row c).room
+slice_bounds-turn_column-end c = (row (goal.at.slice_bounds-turn_column-end c).In-loop-j).room
 
 pub shape_of-cols : goal.shape_of-cols
 shape_of-cols c = c.loop-j.invariant.1.long

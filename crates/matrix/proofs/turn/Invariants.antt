@@ -1,9 +1,6 @@
 -- `matrix::turn` meets its contract: it fills a column at a time.
-use Rattle.lists.proofs.Kit.{◌≡◌, ◌∙◌, ap, List, ℕ, ◌+◌, ◌*◌, ◌-◌, ◌/◌, ◌%◌, ◌≤◌, arith, rules, get_or}
-use Rattle.lists.specs.Entries.{tab}
-use Rattle.lists.proofs.{Fill.Filled, Fill.fill_end, Fill.rows_start, Fill.rows_next, Parts.slice-long}
-use Rattle.matrix.specs.Steps.{turned}
-use Rattle.matrix.proofs.{Terms.Row, Terms.row_of, Terms.column-row}
+use Rattle.lists.proofs.Kit.{List, ℕ, ◌+◌, ◌*◌, ◌-◌, ◌/◌, ◌%◌, ◌≤◌, get_or}
+use Rattle.lists.proofs.{Fill.Filled}
 use Rattle.matrix.proofs.turn.Given as goal
 
 abbrev pub from : ℕ → List ℕ → ℕ → ℕ

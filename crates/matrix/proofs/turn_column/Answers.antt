@@ -1,7 +1,6 @@
 -- `matrix::turn_column` meets its contract: it fills with every eighth number.
-use Rattle.lists.proofs.Kit.{List, refl, ℕ, ◌+◌, ◌*◌, ◌-◌, arith, lt_of_lt_of_le, rules, length, get_or, length-set}
-use Rattle.lists.proofs.Fill.{Filled, fill_start, fill-next, fill_end}
-use Rattle.matrix.proofs.turn_column.Invariants.{from}
+use Rattle.lists.proofs.Kit.{refl, ◌+◌, ◌*◌, arith, lt_of_lt_of_le, length-set}
+use Rattle.lists.proofs.Fill.{fill_start, fill-next, fill_end}
 use Rattle.matrix.proofs.turn_column.Goals as goal
 
 -- a number below 32768 has 16 bits

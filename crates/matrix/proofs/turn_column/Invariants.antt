@@ -1,6 +1,6 @@
 -- `matrix::turn_column` meets its contract: it fills with every eighth number.
-use Rattle.lists.proofs.Kit.{List, refl, ℕ, ◌+◌, ◌*◌, ◌-◌, arith, lt_of_lt_of_le, rules, length, get_or, length-set}
-use Rattle.lists.proofs.Fill.{Filled, fill_start, fill-next, fill_end}
+use Rattle.lists.proofs.Kit.{List, ℕ, ◌+◌, ◌*◌, ◌-◌, length, get_or}
+use Rattle.lists.proofs.Fill.{Filled}
 use Rattle.matrix.proofs.turn_column.Given as goal
 
 abbrev pub from : List ℕ → ℕ → ℕ → ℕ

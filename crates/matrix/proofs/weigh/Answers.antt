@@ -1,5 +1,5 @@
 -- `matrix::weigh` meets its contract: after u rows the sum has gained u products.
-use Rattle.lists.proofs.Kit.{◌≡◌, ◌∙◌, ap, ap₂, ℕ, ◌+◌, ◌*◌, ◌-◌, ◌%◌, ◌≤◌, arith, mul-le-mul_right, rules, length, get_or}
+use Rattle.lists.proofs.Kit.{◌∙◌, ap, ap₂, ℕ, ◌+◌, ◌*◌, ◌%◌, arith, mul-le-mul_right, get_or}
 use Rattle.numbers.specs.Sum.{sum, sum_ℕ}
 use Rattle.matrix.specs.Steps.{block_term}
 use Rattle.matrix.proofs.{Steps.gain-next}

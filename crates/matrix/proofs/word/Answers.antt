@@ -1,5 +1,5 @@
 -- `matrix::word` meets its contract.
-use Rattle.lists.proofs.Kit.{arith, rules, to_z-of_z}
+use Rattle.lists.proofs.Kit.{arith, to_z-of_z}
 use Rattle.numbers.proofs.Congruence.{residue-lt}
 use Rattle.matrix.proofs.word.Goals as goal
 

@@ -1,8 +1,7 @@
 -- `matrix::words` meets its contract: it fills with the words of the values.
-use Rattle.lists.proofs.Kit.{◌∙◌, ap, List, ℕ, ◌-◌, arith, rules, length, length-set, ℤ, to_z-of_z}
-use Rattle.numbers.specs.Residue.{residue}
+use Rattle.lists.proofs.Kit.{◌∙◌, ap, ℕ, arith, length-set, to_z-of_z}
 use Rattle.lists.specs.Entries.{tab, ints}
-use Rattle.lists.proofs.Fill.{Filled, fill_start, fill-next, fill_end}
+use Rattle.lists.proofs.Fill.{fill_start, fill-next, fill_end}
 use Rattle.matrix.specs.Words.{words_of}
 use Rattle.matrix.proofs.words.Invariants.{from}
 use Rattle.matrix.proofs.words.Goals as goal

@@ -1,9 +1,8 @@
 -- `matrix::words` meets its contract: it fills with the words of the values.
-use Rattle.lists.proofs.Kit.{◌∙◌, ap, List, ℕ, ◌-◌, arith, rules, length, length-set, ℤ, to_z-of_z}
+use Rattle.lists.proofs.Kit.{List, ℕ, ◌-◌, length, ℤ}
 use Rattle.numbers.specs.Residue.{residue}
-use Rattle.lists.specs.Entries.{tab, ints}
-use Rattle.lists.proofs.Fill.{Filled, fill_start, fill-next, fill_end}
-use Rattle.matrix.specs.Words.{words_of}
+use Rattle.lists.specs.Entries.{ints}
+use Rattle.lists.proofs.Fill.{Filled}
 use Rattle.matrix.proofs.words.Given as goal
 
 abbrev pub from : List ℤ → ℕ → ℕ
