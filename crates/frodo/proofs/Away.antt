@@ -3,7 +3,8 @@
 --   in-half    there the formula's remainder is the place of w in that half; elsewhere it is behind it
 --   Case, case-of   the two cases, with the slack and the formula in each
 --   slack-apart, slack-least, slack-formula, slack-none, slack-bound
-use Rattle.lists.proofs.Kit.{◌≡◌, refl, ap, ◌∙◌, Bool, true, ℕ, zero, suc, ◌+◌, ◌*◌, ◌-◌, ◌/◌, ◌%◌, ◌^◌, ◌≤◌, ◌<◌, min, ℕ_discrete, dec_lt, mul-le-mul_right}
+use Rattle.lists.proofs.Kit.{refl, ap, ◌∙◌, Bool, true, ℕ, zero, suc, min, ℕ_discrete, dec_lt, mul-le-mul_right}
+use Rattle.std.proofs.Common.{◌≡◌, ◌+◌, ◌*◌, ◌-◌, ◌/◌, ◌%◌, ◌^◌, ◌≤◌, ◌<◌}
 use Rattle.lists.proofs.Kit.{arith, eqb, pow_pos, eqb-true, eq-eqb}
 use Rattle.numbers.specs.{Congruence.LeastGap, Least.gap_to}
 use Rattle.numbers.proofs.{Natural.rest-is, Arc.Arc, Arc.away-arc, Arc.away-at-most, Arc.away-none}

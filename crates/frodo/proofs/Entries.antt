@@ -6,7 +6,8 @@
 --   slacks-length                             as many slacks as there are values
 --   slacks-apart                              under the replier's hints each is at most the distance of the two values
 --   slacks-most                               and under any hints at most the largest that a slack can be
-use Rattle.lists.proofs.Kit.{◌≡◌, ap, ◌∙◌, List, ℕ, ◌*◌, ◌^◌, ◌≤◌, ◌<◌, mod-lt, arith, length, get_or, pow_pos}
+use Rattle.lists.proofs.Kit.{ap, ◌∙◌, List, ℕ, mod-lt, arith, length, get_or, pow_pos}
+use Rattle.std.proofs.Common.{◌≡◌, ◌*◌, ◌^◌, ◌≤◌, ◌<◌}
 use Rattle.numbers.specs.Residue.{apart}
 use Rattle.lists.specs.{Entries.tab, Ranges.Below}
 use Rattle.lists.proofs.Entries.{tab-length, tab-at, tab-ext, below-tab}

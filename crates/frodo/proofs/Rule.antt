@@ -6,7 +6,8 @@
 --   chosen-nearest, peer-is   the search finds a nearest one, so the initiator's key is the formula's
 --   quarter      I = 4 * t, over which all this is stated
 --   no_tie, formula, agreement
-use Rattle.lists.proofs.Kit.{◌≡◌, sym, ap, ◌∙◌, ℕ, zero, suc, ◌+◌, ◌*◌, ◌-◌, ◌/◌, ◌%◌, ◌^◌, ◌≤◌, ◌<◌, ℕ_discrete, dec_lt, le_trans, mul-le-mul_right, arith, eqb}
+use Rattle.lists.proofs.Kit.{sym, ap, ◌∙◌, ℕ, zero, suc, ℕ_discrete, dec_lt, le_trans, mul-le-mul_right, arith, eqb}
+use Rattle.std.proofs.Common.{◌≡◌, ◌+◌, ◌*◌, ◌-◌, ◌/◌, ◌%◌, ◌^◌, ◌≤◌, ◌<◌}
 use Rattle.lists.proofs.Kit.{pow_pos}
 use native.Mathlib.Nat.{lt_of_mul-lt-mul_right}
 use Rattle.numbers.specs.{Congruence.Close, Congruence.direct, Congruence.over, Congruence.under, Congruence.Nearest, Least.nearest_to}

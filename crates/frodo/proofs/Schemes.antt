@@ -1,6 +1,7 @@
 -- The four schemes' intervals: what `specs/Shown.antt` states of them, by tests that the checker computes.
 --   quarters, each-scheme
-use Rattle.lists.proofs.Kit.{◌≡◌, refl, ℕ, arith, lit≤}
+use Rattle.lists.proofs.Kit.{refl, ℕ, arith, lit≤}
+use Rattle.std.proofs.Common.{◌≡◌}
 use Rattle.schemes.specs.declared.Scheme.TheVariants.{Bcns, NewHope, Challenge, Classical, Recommended, Paranoid}
 use Rattle.frodo.specs.Shown.{Quarters, EachScheme}
 

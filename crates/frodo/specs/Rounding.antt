@@ -5,7 +5,7 @@
 --   peer_of I B h w    the initiator's key: that of the z nearest to w, around the circle, among those with the hint h
 --   slack_of I B h w   how far w lies, around the circle, from the nearest value with the hint h
 --   hints_of, keys_of, peers_of, slacks_of   hint, key, peer's key and slack, entry by entry
-use Rattle.lists.specs.Kit.{List, ℕ, ◌+◌, ◌*◌, ◌/◌, ◌%◌, ◌^◌, eqb, length, get_or}
+use Rattle.std.specs.Prelude.{List, ℕ, ◌+◌, ◌*◌, ◌/◌, ◌%◌, ◌^◌, eqb, length, get_or}
 use Rattle.numbers.specs.Least.{nearest_to, gap_to}
 use Rattle.schemes.specs.declared.Fixed.{Fixed}
 use Rattle.lists.specs.Entries.{tab}

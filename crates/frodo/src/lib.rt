@@ -1,7 +1,10 @@
 // Frodo's reconciliation, over the rounding interval i and the number b of key bits of an entry: 01, "Reconciliation".
 // i is a multiple of 4 and i * 2^b, which is q, at most 65536, so every sum below fits 32 bits: 4w + 3i is the largest. i need not be a power of two here. In
 // each scheme it is one, and the compiler knows it: where the code divides by i the archive shifts (`runs/secrets` looks for divisions).
-ghost use Rattle.lists.specs.Kit.{◌≡◌, ◌*◌, ◌^◌, ◌<◌, length};
+
+#![tactic(auto)]
+
+ghost use Rattle.std.specs.Prelude.{◌≡◌, ◌*◌, ◌^◌, ◌<◌, length};
 ghost use Rattle.schemes.specs.Schemes.{fixed_of};
 ghost use Rattle.lists.specs.Ranges.{Below};
 ghost use Rattle.frodo.specs.Rounding.{interval, hint_of, key_of, peer_of, hints_of, keys_of, peers_of, slack_of, slacks_of};

@@ -1,5 +1,5 @@
 -- `frodo::hint` meets its contract: the body is the definition.
-use Rattle.lists.proofs.Kit.{refl, rules}
+use Rattle.lists.proofs.Kit.{refl}
 use Rattle.frodo.specs.Rounding.{hint_of}
 use Rattle.frodo.proofs.hint.Goals as goal
 

@@ -1,7 +1,7 @@
 -- `frodo::hints` meets its contract: it fills with the hints of the values.
-use Rattle.lists.proofs.Kit.{sym, ◌-◌, arith, length, get_or, length-set, rules}
-use Rattle.lists.proofs.Fill.{Filled, fill_start, fill-next, fill-whole}
-use Rattle.frodo.specs.Rounding.{hint_of, hints_of}
+use Rattle.lists.proofs.Kit.{sym, arith, length-set}
+use Rattle.lists.proofs.Fill.{fill_start, fill-next, fill-whole}
+use Rattle.frodo.specs.Rounding.{hints_of}
 use Rattle.frodo.proofs.hints.Goals as goal
 
 pub hint-requires : goal.hint-requires

@@ -1,7 +1,8 @@
 -- `frodo::hints` meets its contract: it fills with the hints of the values.
-use Rattle.lists.proofs.Kit.{sym, ◌-◌, arith, length, get_or, length-set, rules}
-use Rattle.lists.proofs.Fill.{Filled, fill_start, fill-next, fill-whole}
-use Rattle.frodo.specs.Rounding.{hint_of, hints_of}
+use Rattle.lists.proofs.Kit.{length, get_or}
+use Rattle.std.proofs.Common.{◌-◌}
+use Rattle.lists.proofs.Fill.{Filled}
+use Rattle.frodo.specs.Rounding.{hint_of}
 use Rattle.frodo.proofs.hints.Given as goal
 
 abbrev pub invariant-loop-k : goal.invariant-loop-k

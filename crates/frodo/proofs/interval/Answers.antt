@@ -1,5 +1,5 @@
 -- `frodo::interval` meets its contract: a shift by the key bits divides by their power of two.
-use Rattle.lists.proofs.Kit.{ap, arith, rules}
+use Rattle.lists.proofs.Kit.{ap, arith}
 use Rattle.schemes.proofs.Sound.{sound}
 use Rattle.frodo.specs.Rounding.{interval}
 use Rattle.frodo.proofs.interval.Goals as goal

@@ -1,5 +1,6 @@
 -- `frodo::key` meets its contract: the body is the definition.
-use Rattle.lists.proofs.Kit.{ap, ℕ, ◌+◌, ◌*◌, ◌/◌, ◌%◌, arith, pow_pos, rules}
+use Rattle.lists.proofs.Kit.{ap, ℕ, arith, pow_pos}
+use Rattle.std.proofs.Common.{◌+◌, ◌*◌, ◌/◌, ◌%◌}
 use Rattle.frodo.specs.Rounding.{key_of}
 use Rattle.frodo.proofs.{Room.interval-room, Room.bits-room}
 use Rattle.frodo.proofs.key.Goals as goal

@@ -1,7 +1,7 @@
 -- `frodo::keys` meets its contract: it fills with the keys of the values.
-use Rattle.lists.proofs.Kit.{sym, ◌-◌, arith, length, get_or, length-set, rules}
-use Rattle.lists.proofs.Fill.{Filled, fill_start, fill-next, fill-whole}
-use Rattle.frodo.specs.Rounding.{key_of, keys_of}
+use Rattle.lists.proofs.Kit.{sym, arith, length-set}
+use Rattle.lists.proofs.Fill.{fill_start, fill-next, fill-whole}
+use Rattle.frodo.specs.Rounding.{keys_of}
 use Rattle.frodo.proofs.keys.Goals as goal
 
 pub key-requires : goal.key-requires

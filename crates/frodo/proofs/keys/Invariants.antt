@@ -1,7 +1,8 @@
 -- `frodo::keys` meets its contract: it fills with the keys of the values.
-use Rattle.lists.proofs.Kit.{sym, ◌-◌, arith, length, get_or, length-set, rules}
-use Rattle.lists.proofs.Fill.{Filled, fill_start, fill-next, fill-whole}
-use Rattle.frodo.specs.Rounding.{key_of, keys_of}
+use Rattle.lists.proofs.Kit.{length, get_or}
+use Rattle.std.proofs.Common.{◌-◌}
+use Rattle.lists.proofs.Fill.{Filled}
+use Rattle.frodo.specs.Rounding.{key_of}
 use Rattle.frodo.proofs.keys.Given as goal
 
 abbrev pub invariant-loop-k : goal.invariant-loop-k

@@ -1,5 +1,6 @@
 -- `frodo::peer` meets its contract: the body is the formula of the nearest z's key.
-use Rattle.lists.proofs.Kit.{◌∙◌, sym, ap, ℕ, ◌+◌, ◌*◌, ◌/◌, ◌%◌, ◌≤◌, mul-le-mul, arith, pow_pos, rules}
+use Rattle.lists.proofs.Kit.{◌∙◌, sym, ap, ℕ, mul-le-mul, arith, pow_pos}
+use Rattle.std.proofs.Common.{◌+◌, ◌*◌, ◌/◌, ◌%◌, ◌≤◌}
 use Rattle.frodo.specs.Shown.{formula_of}
 use Rattle.frodo.proofs.{Room.interval-room, Room.bits-room, Rule.formula}
 use Rattle.frodo.proofs.peer.Goals as goal

@@ -1,7 +1,7 @@
 -- `frodo::peers` meets its contract: it fills with the initiator's keys, each from its hint and its value.
-use Rattle.lists.proofs.Kit.{sym, ◌-◌, arith, length, get_or, length-set, rules}
-use Rattle.lists.proofs.Fill.{Filled, fill_start, fill-next, fill-whole}
-use Rattle.frodo.specs.Rounding.{peer_of, peers_of}
+use Rattle.lists.proofs.Kit.{sym, arith, length-set}
+use Rattle.lists.proofs.Fill.{fill_start, fill-next, fill-whole}
+use Rattle.frodo.specs.Rounding.{peers_of}
 use Rattle.frodo.proofs.peers.Goals as goal
 
 pub peer-requires : goal.peer-requires

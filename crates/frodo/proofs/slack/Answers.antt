@@ -1,5 +1,6 @@
 -- `frodo::slack` meets its contract: the body is the formula of the least distance.
-use Rattle.lists.proofs.Kit.{sym, ◌∙◌, ◌*◌, ◌-◌, ◌/◌, ◌+◌, ◌≤◌, mul-le-mul, mod-lt, arith, rules}
+use Rattle.lists.proofs.Kit.{sym, ◌∙◌, mul-le-mul, mod-lt, arith}
+use Rattle.std.proofs.Common.{◌*◌, ◌-◌, ◌/◌, ◌+◌, ◌≤◌}
 use Rattle.frodo.proofs.{Room.interval-room, Away.slack-formula}
 use Rattle.frodo.proofs.slack.Goals as goal
 use Rattle.frodo.proofs.slack.Goals.{Start}

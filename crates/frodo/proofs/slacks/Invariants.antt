@@ -1,7 +1,8 @@
 -- `frodo::slacks` meets its contract: it fills in place with the slacks, each from its hint and its value, which still stands there.
-use Rattle.lists.proofs.Kit.{refl, ap, ◌∙◌, ◌-◌, arith, length, get_or, length-set, rules}
-use Rattle.lists.proofs.Fill.{Filled, fill_start, fill-next, fill-whole, fill-old}
-use Rattle.frodo.specs.Rounding.{slack_of, slacks_of}
+use Rattle.lists.proofs.Kit.{length, get_or}
+use Rattle.std.proofs.Common.{◌-◌}
+use Rattle.lists.proofs.Fill.{Filled}
+use Rattle.frodo.specs.Rounding.{slack_of}
 use Rattle.frodo.proofs.slacks.Given as goal
 
 abbrev pub invariant-loop-k : goal.invariant-loop-k

@@ -1,5 +1,5 @@
 -- `frodo::values` meets its contract: the bit that is shifted stays within 32.
-use Rattle.lists.proofs.Kit.{◌∙◌, arith, shl_exact, rules}
+use Rattle.lists.proofs.Kit.{◌∙◌, arith, shl_exact}
 use Rattle.frodo.proofs.values.Goals as goal
 
 pub returns : goal.returns
