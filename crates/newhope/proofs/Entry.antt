@@ -5,7 +5,8 @@
 --   opposite         the terms of c and of c + 4 sum to half of the circle at least
 --   own-up, own-down   the replier's own term: at most 2 |2X - q_p| + 4b where k is 0, q - 2 |2X - q_p| + 4b where it is 1
 --   off-half, up-five, down-five   |2X - q_p| is at most half of q; P and Q are below 5
-use Rattle.lists.proofs.Kit.{◌≡◌, refl, ◌∙◌, ap, ℕ, ◌+◌, ◌*◌, ◌-◌, ◌/◌, ◌%◌, ◌<◌, ◌≤◌, arith, dec_lt, ℤ, pos, neg_ℤ, ◌+ℤ◌, ◌-ℤ◌, ◌*ℤ◌}
+use Rattle.lists.proofs.Kit.{refl, ◌∙◌, ap, ℕ, arith, dec_lt, ℤ, pos, neg_ℤ}
+use Rattle.std.proofs.Common.{◌≡◌, ◌+◌, ◌*◌, ◌-◌, ◌/◌, ◌%◌, ◌<◌, ◌≤◌, ◌+ℤ◌, ◌-ℤ◌, ◌*ℤ◌}
 use lib.{IntN.-ℤ-+ℤ_cancel}
 use Rattle.numbers.specs.{Residue.residue, Residue.nearest, Residue.distance, Residue.apart, Congruence.◌≅⟨◌⟩◌}
 use Rattle.numbers.proofs.Congruence.{refl-≅, eq-≅, ◌⨾◌, add-≅, sub-≅, scale-≅, residue-≅, same-mod, multiples-≅}

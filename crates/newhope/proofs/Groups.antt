@@ -7,7 +7,8 @@
 --   hint-at, at_place    the hint at k, by its group and its place there
 --   group_at             a group read at its four places
 --   hints-next, hints-end   the loop that writes the hints, at each turn and after
-use Rattle.lists.proofs.Kit.{◌≡◌, refl, ◌∙◌, sym, ap, ap₂, subst, List, Bool, true, false, cond, ℕ, zero, suc, ◌+◌, ◌*◌, ◌/◌, ◌%◌, ◌<◌, ◌≤◌, arith, leb, length}
+use Rattle.lists.proofs.Kit.{refl, ◌∙◌, sym, ap, ap₂, subst, List, Bool, true, false, cond, ℕ, zero, suc, arith, leb, length}
+use Rattle.std.proofs.Common.{◌≡◌, ◌+◌, ◌*◌, ◌/◌, ◌%◌, ◌<◌, ◌≤◌}
 use Rattle.lists.proofs.Kit.{get_or, set}
 use Rattle.lists.specs.Ranges.{Below}
 use Rattle.lists.proofs.Entries.{tab-length, tab-at, tab-ext, below-tab}

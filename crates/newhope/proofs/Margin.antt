@@ -2,7 +2,8 @@
 --   margin       8 times the distance and the replier's own 2q + 16 within 8q: the bit is 0 exactly where p3 is 2 or 3
 --   agreement    so both ends compute the same bit
 --   published    which is the published one
-use Rattle.lists.proofs.Kit.{◌≡◌, refl, ◌∙◌, sym, ap, Bool, true, false, cond, ℕ, zero, suc, ◌+◌, ◌*◌, ◌-◌, ◌/◌, ◌%◌, ◌<◌, ◌≤◌, arith, ltb, pos, ◌-ℤ◌, ltb-true}
+use Rattle.lists.proofs.Kit.{refl, ◌∙◌, sym, ap, Bool, true, false, cond, ℕ, zero, suc, arith, ltb, pos, ltb-true}
+use Rattle.std.proofs.Common.{◌≡◌, ◌+◌, ◌*◌, ◌-◌, ◌/◌, ◌%◌, ◌<◌, ◌≤◌, ◌-ℤ◌}
 use Rattle.lists.proofs.Kit.{ltb-false, le-leb, lt-leb}
 use lib.IntN.{+ℤ_invr}
 use Rattle.numbers.specs.Residue.{residue, apart}

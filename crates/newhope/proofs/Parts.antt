@@ -2,7 +2,8 @@
 --   hint-small   its entries are below 4
 --   hint-is      the parts, as the code computes them one after the other, are together the hint
 --   ranged       what equals the hint has its range
-use Rattle.lists.proofs.Kit.{◌≡◌, ◌∙◌, sym, ap, ap₂, subst, cond, ℕ, ◌+◌, ◌*◌, ◌%◌, ◌<◌, arith, ltb, pos, ◌-ℤ◌}
+use Rattle.lists.proofs.Kit.{◌∙◌, sym, ap, ap₂, subst, cond, ℕ, arith, ltb, pos}
+use Rattle.std.proofs.Common.{◌≡◌, ◌+◌, ◌*◌, ◌%◌, ◌<◌, ◌-ℤ◌}
 use Rattle.numbers.specs.Residue.{residue}
 use Rattle.numbers.proofs.Congruence.{residue-lt}
 use Rattle.newhope.specs.Group.{Four, q, up_of, down_of, offs_of, k_of, p_of, less_of, last_of, hint_of}

@@ -1,7 +1,8 @@
 -- A loop over 256 groups that writes at each turn the four places of a group: i, i + 256, i + 512 and i + 768.
 --   Spread f out i   what holds when i groups are written: f k at each of their places k
 --   spread-start, spread-next, spread_end   before, at each turn, and after
-use Rattle.lists.proofs.Kit.{◌≡◌, ◌∙◌, sym, ap, List, ℕ, ◌+◌, ◌%◌, ◌<◌, ◌≤◌, arith, length, get_or, set, length-set}
+use Rattle.lists.proofs.Kit.{◌∙◌, sym, ap, List, ℕ, arith, length, get_or, set, length-set}
+use Rattle.std.proofs.Common.{◌≡◌, ◌+◌, ◌%◌, ◌<◌, ◌≤◌}
 use Rattle.lists.specs.Entries.{tab}
 use Rattle.lists.proofs.Entries.{tab-ext, tab-getD, entry_set}
 

@@ -8,7 +8,7 @@
 --   bit_of h x              1 (near) if the four sum to at most 8q, else 0 (far): both ends' bit
 --   group_of xs i           group i of a list of 1,024 numbers
 --   hints_of, keys_of, peers_of   over all 256 groups: hint j of group i stands at i + 256 j
-use Rattle.lists.specs.Kit.{cond, List, ℕ, zero, suc, ◌+◌, ◌*◌, ◌/◌, ◌%◌, ltb, leb, pos, nat_abs, ◌-ℤ◌, get_or}
+use Rattle.std.specs.Prelude.{cond, List, ℕ, zero, suc, ◌+◌, ◌*◌, ◌/◌, ◌%◌, ltb, leb, pos, nat_abs, ◌-ℤ◌, get_or}
 use Rattle.numbers.specs.Residue.{residue, apart}
 use Rattle.schemes.specs.{Schemes.fixed_of, declared.Scheme.TheVariants.NewHope}
 use Rattle.lists.specs.Entries.{tab}

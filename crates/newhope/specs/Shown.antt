@@ -6,7 +6,7 @@
 --   Agreement    up to there both ends compute the same bit
 --   Published    and the replier's is the published one
 --   EveryGroup   both ends have the same bits where the margin holds in each of the 256 groups
-use Rattle.lists.specs.Kit.{◌≡◌, List, ◌↔◌, ℕ, ◌+◌, ◌≤◌, ◌<◌}
+use Rattle.std.specs.Prelude.{◌≡◌, List, ◌↔◌, ℕ, ◌+◌, ◌≤◌, ◌<◌}
 use Rattle.numbers.specs.Residue.{apart}
 use Rattle.lists.specs.Ranges.{Below}
 use Rattle.newhope.specs.Group.{Four, q, groups, p_of, hint_of, bit_of, group_of, hints_of, keys_of, peers_of}

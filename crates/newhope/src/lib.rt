@@ -1,6 +1,9 @@
 // NewHope's reconciliation of groups of four entries: 01, "Reconciliation", as amended by request d (docs/RULES.md); q, the size 1024 and the 256
 // groups are those of `schemes`.
-ghost use Rattle.lists.specs.Kit.{◌≡◌, cond, ◌+◌, ◌*◌, ◌/◌, ◌^◌, ◌≤◌, ◌<◌, ltb, pos, ◌-ℤ◌, length};
+
+#![tactic(auto)]
+
+ghost use Rattle.std.specs.Prelude.{◌≡◌, cond, ◌+◌, ◌*◌, ◌/◌, ◌^◌, ◌≤◌, ◌<◌, ltb, pos, ◌-ℤ◌, length};
 ghost use Rattle.numbers.specs.Residue.{residue};
 ghost use Rattle.lists.specs.Ranges.{Below};
 ghost use Rattle.newhope.specs.Group.{q, size, groups, up_of, down_of, off_of, offs_of, term_of, hint_of, bit_of, group_of, hints_of, peers_of};
@@ -116,6 +119,7 @@ fn term(c: u32, x: u32) -> u32
 }
 
 // The bit of either end: 1 near, 0 far.
+#[tactic(auto, using(std::proofs::lemmas::Bool::Decides::nat_tests), unfolding(crate::specs::Group::bit_of, crate::specs::Group::sum_of))]
 pub fn bit(h: Four, x: Four) -> u32
     requires { Hint h × BelowQ x }
     ensures { result ≡ bit_of h x }

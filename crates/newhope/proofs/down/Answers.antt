@@ -1,5 +1,5 @@
 -- `newhope::down` meets its contract.
-use Rattle.lists.proofs.Kit.{refl, rules}
+use Rattle.lists.proofs.Kit.{refl}
 use Rattle.newhope.specs.Group.{down_of}
 use Rattle.newhope.proofs.{Entry.down-five}
 use Rattle.newhope.proofs.down.Goals as goal

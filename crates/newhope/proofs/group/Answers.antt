@@ -1,5 +1,4 @@
 -- `newhope::group` meets its contract.
-use Rattle.lists.proofs.Kit.{rules}
 use Rattle.newhope.proofs.{Groups.group_at}
 use Rattle.newhope.proofs.group.Goals as goal
 

@@ -1,5 +1,4 @@
 -- `newhope::hint` meets its contract.
-use Rattle.lists.proofs.Kit.{rules}
 use Rattle.newhope.proofs.{Parts.hint-is, Parts.ranged}
 use Rattle.newhope.proofs.hint.Goals as goal
 

@@ -1,8 +1,7 @@
 -- `newhope::hints` meets its contract: it writes the four places of each group.
-use Rattle.lists.proofs.Kit.{◌-◌, arith, rules, length-set}
-use Rattle.newhope.specs.Group.{groups}
-use Rattle.newhope.proofs.Groups.{small-group, hint-at, hints-next, hints-end}
-use Rattle.newhope.proofs.{Spread.Spread, Spread.spread-start}
+use Rattle.lists.proofs.Kit.{arith, length-set}
+use Rattle.newhope.proofs.Groups.{small-group, hints-next, hints-end}
+use Rattle.newhope.proofs.{Spread.spread-start}
 use Rattle.newhope.proofs.hints.Goals as goal
 
 pub hint-h-requires : goal.hint-h-requires

@@ -1,8 +1,8 @@
 -- `newhope::hints` meets its contract: it writes the four places of each group.
-use Rattle.lists.proofs.Kit.{◌-◌, arith, rules, length-set}
+use Rattle.std.proofs.Common.{◌-◌}
 use Rattle.newhope.specs.Group.{groups}
-use Rattle.newhope.proofs.Groups.{small-group, hint-at, hints-next, hints-end}
-use Rattle.newhope.proofs.{Spread.Spread, Spread.spread-start}
+use Rattle.newhope.proofs.Groups.{hint-at}
+use Rattle.newhope.proofs.{Spread.Spread}
 use Rattle.newhope.proofs.hints.Given as goal
 
 abbrev pub invariant-loop-i : goal.invariant-loop-i

@@ -1,5 +1,5 @@
 -- `newhope::less` meets its contract.
-use Rattle.lists.proofs.Kit.{◌∙◌, ap, arith, rules, w32}
+use Rattle.lists.proofs.Kit.{◌∙◌, ap, arith, w32}
 use Rattle.numbers.specs.Residue.{residue}
 use Rattle.numbers.proofs.Machine.{difference-handed}
 use Rattle.newhope.proofs.less.Goals as goal

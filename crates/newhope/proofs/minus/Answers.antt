@@ -1,5 +1,6 @@
 -- `newhope::minus` meets its contract: a difference of numbers below 2^30 fits.
-use Rattle.lists.proofs.Kit.{◌≡◌, arith, rules, pos, ◌-ℤ◌, w32, SFits, to_z, to_z-of_z}
+use Rattle.lists.proofs.Kit.{arith, pos, w32, SFits, to_z, to_z-of_z}
+use Rattle.std.proofs.Common.{◌≡◌, ◌-ℤ◌}
 use Rattle.numbers.proofs.{Machine.fits-abs, Machine.to_z_pos, Size.abs-difference}
 use Rattle.newhope.proofs.minus.Goals as goal
 use Rattle.newhope.proofs.minus.Goals.{Start}

@@ -1,5 +1,6 @@
 -- `newhope::off` meets its contract.
-use Rattle.lists.proofs.Kit.{◌∙◌, ap, ℕ, ◌+◌, ◌*◌, arith, rules, pos, nat_abs, ◌-ℤ◌, w32}
+use Rattle.lists.proofs.Kit.{◌∙◌, ap, ℕ, arith, pos, nat_abs, w32}
+use Rattle.std.proofs.Common.{◌+◌, ◌*◌, ◌-ℤ◌}
 use Rattle.numbers.proofs.Machine.{difference-handed}
 use Rattle.newhope.specs.Group.{off_of}
 use Rattle.newhope.proofs.{Entry.off-half}

@@ -1,5 +1,5 @@
 -- `newhope::offs` meets its contract.
-use Rattle.lists.proofs.Kit.{arith, rules}
+use Rattle.lists.proofs.Kit.{arith}
 use Rattle.newhope.specs.Group.{offs_of}
 use Rattle.newhope.proofs.offs.Goals as goal
 

@@ -1,9 +1,7 @@
 -- `newhope::peers` meets its contract: it fills with the bits of the groups.
-use Rattle.lists.proofs.Kit.{◌∙◌, ap, ap₂, ℕ, ◌-◌, arith, rules}
-use Rattle.lists.specs.Entries.{tab}
-use Rattle.lists.proofs.Fill.{Filled, fill_start, fill-next, fill_end}
-use Rattle.newhope.specs.Group.{bit_of, group_of, peers_of}
-use Rattle.newhope.proofs.{Groups.small-group, Groups.hint-group}
+use Rattle.std.proofs.Common.{◌-◌}
+use Rattle.lists.proofs.Fill.{Filled}
+use Rattle.newhope.specs.Group.{bit_of, group_of}
 use Rattle.newhope.proofs.peers.Given as goal
 
 abbrev pub invariant-loop-i : goal.invariant-loop-i

@@ -1,5 +1,5 @@
 -- `newhope::pick` meets its contract.
-use Rattle.lists.proofs.Kit.{rules, lt-ltb, le-ltb}
+use Rattle.lists.proofs.Kit.{lt-ltb, le-ltb}
 use Rattle.newhope.proofs.pick.Goals as goal
 
 pub returns-then-s-lt-Q : goal.returns-then-s-lt-Q

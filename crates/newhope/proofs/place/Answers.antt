@@ -1,5 +1,5 @@
 -- `newhope::place` meets its contract.
-use Rattle.lists.proofs.Kit.{refl, arith, rules}
+use Rattle.lists.proofs.Kit.{refl, arith}
 use Rattle.newhope.proofs.place.Goals as goal
 
 pub returns : goal.returns

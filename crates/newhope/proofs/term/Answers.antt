@@ -1,5 +1,6 @@
 -- `newhope::term` meets its contract.
-use Rattle.lists.proofs.Kit.{◌∙◌, ap, ◌*◌, arith, rules, pos, ◌-ℤ◌, w32}
+use Rattle.lists.proofs.Kit.{◌∙◌, ap, arith, pos, w32}
+use Rattle.std.proofs.Common.{◌*◌, ◌-ℤ◌}
 use Rattle.numbers.specs.Residue.{distance, apart}
 use Rattle.numbers.proofs.{Nearest.distance-half, Machine.difference-handed}
 use Rattle.newhope.specs.Group.{term_of}

@@ -1,5 +1,5 @@
 -- `newhope::up` meets its contract.
-use Rattle.lists.proofs.Kit.{refl, rules}
+use Rattle.lists.proofs.Kit.{refl}
 use Rattle.newhope.specs.Group.{up_of}
 use Rattle.newhope.proofs.{Entry.up-five}
 use Rattle.newhope.proofs.up.Goals as goal
