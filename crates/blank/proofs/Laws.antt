@@ -1,7 +1,8 @@
 -- Zero bytes are zero numbers, at every width: a list of zeros has the number 0, whose digits are zeros, and packing and unpacking undo each other.
 --   blank-packed, blank-unpacked   as specs/Blank states them
 --   blank-zeros, zeros-blank       a blank list is one of zeros
-use Rattle.lists.proofs.Kit.{◌≡◌, refl, sym, ap₂, List, [], ◌∷◌, Bool, true, false, cond, ℕ, zero, suc, ◌*◌, ◌/◌, ◌^◌, zero-div, zero-mod, arith, eqb, length}
+use Rattle.lists.proofs.Kit.{refl, sym, ap₂, List, [], Bool, true, false, cond, ℕ, zero, suc, zero-div, zero-mod, arith, eqb, length}
+use Rattle.std.proofs.Common.{◌≡◌, ◌∷◌, ◌*◌, ◌/◌, ◌^◌}
 use Rattle.lists.proofs.Kit.{replicate, eqb-true}
 use Rattle.packing.specs.Packing.{value, digits, packed, unpacked}
 use Rattle.packing.proofs.Laws.{unpack-pack, pack-unpack}

@@ -1,7 +1,8 @@
 -- The search for a number that is not 0: before it lie zeros alone.
 --   Zeros, zeros-none, zeros-more   the loop, before it and at a zero
 --   zeros-found, zeros-all          what it finds: another number, or none
-use Rattle.lists.proofs.Kit.{◌≡◌, refl, ◌∙◌, sym, ap, List, true, false, cond, ℕ, ◌+◌, ◌<◌, ◌≤◌, add-one, arith, eqb, length, get_or, drop, drop_of_length-le}
+use Rattle.lists.proofs.Kit.{refl, ◌∙◌, sym, ap, List, true, false, cond, ℕ, add-one, arith, eqb, length, get_or, drop, drop_of_length-le}
+use Rattle.std.proofs.Common.{◌≡◌, ◌+◌, ◌<◌, ◌≤◌}
 use Rattle.lists.proofs.Kit.{drop-cons, eq-eqb, ne_eqb}
 use Rattle.blank.specs.Blank.{blank}
 

@@ -3,7 +3,7 @@
 -- What is shown of it, once over the width: zero bytes are zero numbers, so that either may be tested for the other.
 --   BlankPacked      of numbers that are packed into whole bytes
 --   BlankUnpacked    of bytes that whole numbers fill
-use Rattle.lists.specs.Kit.{◌≡◌, Bool, true, false, cond, List, [], ◌∷◌, ℕ, ◌*◌, ◌^◌, eqb, length}
+use Rattle.std.specs.Prelude.{◌≡◌, Bool, true, false, cond, List, [], ◌∷◌, ℕ, ◌*◌, ◌^◌, eqb, length}
 use Rattle.lists.specs.Ranges.{Below}
 use Rattle.packing.specs.Packing.{packed, unpacked}
 

@@ -1,5 +1,8 @@
 // Whether a part is blank. Each function ends at the first number that is not 0, and so after one step of a good message.
-ghost use Rattle.lists.specs.Kit.{◌≡◌};
+
+#![tactic(auto)]
+
+ghost use Rattle.std.specs.Prelude.{◌≡◌};
 ghost use Rattle.blank.specs.Blank.{blank};
 
 // A packed part as it came.

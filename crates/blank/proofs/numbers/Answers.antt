@@ -1,6 +1,6 @@
 -- `blank::numbers` meets its contract.
-use Rattle.lists.proofs.Kit.{◌-◌, arith, rules, length}
-use Rattle.blank.proofs.{Search.Zeros, Search.zeros-none, Search.zeros-more, Search.zeros-found, Search.zeros-all}
+use Rattle.lists.proofs.Kit.{arith, rules}
+use Rattle.blank.proofs.{Search.zeros-none, Search.zeros-more, Search.zeros-found, Search.zeros-all}
 use Rattle.blank.proofs.numbers.Goals as goal
 
 pub loop-i-init : goal.loop-i-init
@@ -10,7 +10,7 @@ pub returns-then-xs-i-ne0 : goal.returns-then-xs-i-ne0
 returns-then-xs-i-ne0 c = zeros-found _ _ (search rules) (omega arith) c.if-xs-i-ne0.true
 
 pub loop-i-preserved : goal.loop-i-preserved
-loop-i-preserved c = zeros-more _ _ (search rules) (omega arith) c.if-xs-i-ne0.false
+loop-i-preserved c = zeros-more _ _ (search rules) (omega arith) (omega arith)
 
 pub returns : goal.returns
 returns c = zeros-all _ _ (search rules) c.loop-i-test.false

@@ -1,6 +1,7 @@
 -- `blank::numbers` meets its contract.
-use Rattle.lists.proofs.Kit.{◌-◌, arith, rules, length}
-use Rattle.blank.proofs.{Search.Zeros, Search.zeros-none, Search.zeros-more, Search.zeros-found, Search.zeros-all}
+use Rattle.lists.proofs.Kit.{length}
+use Rattle.std.proofs.Common.{◌-◌}
+use Rattle.blank.proofs.{Search.Zeros}
 use Rattle.blank.proofs.numbers.Given as goal
 
 abbrev pub invariant-loop-i : goal.invariant-loop-i
