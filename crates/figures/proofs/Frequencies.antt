@@ -4,7 +4,8 @@
 --   any-table       for any ascending thresholds
 --   table-one       for D1 to D4
 --   frequencies     all of it
-use Rattle.lists.proofs.Kit.{◌≡◌, refl, ◌∙◌, sym, ap, ap₂, Bool, true, false, cond, List, [], ◌∷◌, ℕ, zero, suc, ◌+◌, ◌*◌, ◌-◌, ◌/◌, ◌%◌, ◌^◌, ◌<◌, ◌≤◌}
+use Rattle.lists.proofs.Kit.{refl, ◌∙◌, sym, ap, ap₂, Bool, true, false, cond, List, [], ℕ, zero, suc}
+use Rattle.std.proofs.Common.{◌≡◌, ◌∷◌, ◌+◌, ◌*◌, ◌-◌, ◌/◌, ◌%◌, ◌^◌, ◌<◌, ◌≤◌}
 use Rattle.lists.proofs.Kit.{add-one, arith, dec_le, mod-eq_of_lt, pow-suc, leb-true, lt-ltb, le-ltb, le-leb, lt-leb, eq-eqb, ne_eqb, leb, ltb, eqb}
 use Rattle.lists.proofs.Kit.{eqb·zero-suc, eqb·suc-zero, eqb·suc-suc, ℤ, pos, negsuc, neg_ℤ, get_or}
 use lib.Dec.{leb-suc-zero, leb-suc-suc}

@@ -1,6 +1,7 @@
 -- The margins: what `specs/Margins.antt` states, of the agreement that each family shows and one case beyond it.
 --   margins   all of it
-use Rattle.lists.proofs.Kit.{refl, subst, ℕ, ◌<◌, arith, lit≤}
+use Rattle.lists.proofs.Kit.{refl, subst, ℕ, arith, lit≤}
+use Rattle.std.proofs.Common.{◌<◌}
 use Rattle.schemes.specs.declared.Scheme.TheVariants.{Bcns, NewHope, Challenge, Classical, Recommended, Paranoid}
 use Rattle.schemes.specs.{Schemes.fixed_of, declared.Scheme.Scheme}
 use Rattle.numbers.specs.Residue.{residue, nearest, distance, apart}

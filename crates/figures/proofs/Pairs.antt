@@ -3,8 +3,9 @@
 --   ones-count     k ones in choose n k of the words of n bits
 --   pair-count     k ones in choose (n + m) k of the pairs of words of n and m bits
 --   binomial       for words of n bits
-use Rattle.lists.proofs.Kit.{◌≡◌, refl, ◌∙◌, sym, ap, ap₂, Bool, true, false, cond, ℕ, zero, suc, ◌+◌, ◌*◌, ◌-◌, ◌/◌, ◌%◌, ◌^◌, arith, ℕ_discrete, pow-suc}
-use Rattle.lists.proofs.Kit.{add-zero, add-suc, eqb-true, eq-eqb, ne_eqb, eqb, eqb·zero-suc, eqb·suc-zero, eqb·suc-suc, ℤ, pos, negsuc, ◌-ℤ◌}
+use Rattle.lists.proofs.Kit.{refl, ◌∙◌, sym, ap, ap₂, Bool, true, false, cond, ℕ, zero, suc, arith, ℕ_discrete, pow-suc}
+use Rattle.std.proofs.Common.{◌≡◌, ◌+◌, ◌*◌, ◌/◌, ◌%◌, ◌^◌, ◌-ℤ◌}
+use Rattle.lists.proofs.Kit.{add-zero, add-suc, eqb-true, eq-eqb, ne_eqb, eqb, eqb·zero-suc, eqb·suc-zero, eqb·suc-suc, ℤ, pos, negsuc}
 use lib.Count.{ones, ones_in, ones_step, ones-le}
 use Rattle.numbers.specs.Sum.{sum, sum_ℕ}
 use Rattle.numbers.proofs.Difference.{diff, pos-sub, diff-≡, diff-inj}

@@ -14,7 +14,7 @@
 --   pairs n z               how many pairs of words of n bits the sampler, `ones_less_of`, turns into z
 --   Binomial n              k - n comes out as often as there are sets of k out of 2n, and what lies below -n never; NewHope's words have 16 bits
 --   Frequencies             all of this
-use Rattle.lists.specs.Kit.{◌≡◌, Bool, true, false, cond, List, [], ◌∷◌, ℕ, zero, suc, ◌+◌, ◌*◌, ◌-◌, ◌^◌, ◌<◌, leb, eqb, ℤ, pos, negsuc, ◌-ℤ◌, get_or}
+use Rattle.std.specs.Prelude.{◌≡◌, Bool, true, false, cond, List, [], ◌∷◌, ℕ, zero, suc, ◌+◌, ◌*◌, ◌-◌, ◌^◌, ◌<◌, leb, eqb, ℤ, pos, negsuc, ◌-ℤ◌, get_or}
 use Rattle.numbers.specs.Sum.{sum_ℕ}
 use Rattle.lists.specs.First.{both}
 use Rattle.noise.specs.Noise.{ones_less_of, threshold_of_lem, d1, d2, d3, d4}

@@ -10,7 +10,7 @@
 -- Beyond the request, NewHope, where the distance is the sum of a group's four:
 --   NewHopeFrom           v and w of entries below q, a coin below 2
 --   Margins               all of this
-use Rattle.lists.specs.Kit.{◌≡◌, ℕ, ◌+◌, ◌*◌, ◌/◌, ◌%◌, ◌^◌, ◌<◌}
+use Rattle.std.specs.Prelude.{◌≡◌, ℕ, ◌+◌, ◌*◌, ◌/◌, ◌%◌, ◌^◌, ◌<◌}
 use Rattle.numbers.specs.Residue.{apart}
 use Rattle.schemes.specs.{Schemes.family_of, Schemes.fixed_of, declared.Family.Family, declared.Scheme.Scheme}
 use Rattle.newhope.specs.{Shown.BelowQ, Shown.apart_of, declared.Four.Four}
