@@ -7,7 +7,8 @@
 --   beyond                   a number of more than 32 bits names no scheme
 --   unnamed, in-family       the answers, by the scheme
 --   other_text, some-behind, nothing-behind   the answers, by what was read of the lines
-use Rattle.lists.proofs.Kit.{◌≡◌, refl, ◌∙◌, sym, ap, ap₂, Bool, true, false, cond, ◌||◌, List, ℕ, ◌*◌, ◌^◌, ◌≤◌, ◌<◌, pow-le-pow_right, arith}
+use Rattle.lists.proofs.Kit.{refl, ◌∙◌, sym, ap, ap₂, Bool, true, false, cond, List, ℕ, pow-le-pow_right, arith}
+use Rattle.std.proofs.Common.{◌≡◌, ◌||◌, ◌*◌, ◌^◌, ◌≤◌, ◌<◌}
 use Rattle.lists.proofs.Kit.{eqb, leb, ltb, length, drop, drop_of_length-le, drop-cons, ltb-true, ltb-false, leb-true, leb-false, lt-ltb, le-ltb, ne_eqb}
 use Rattle.schemes.specs.declared.Named.TheVariants.{Known, Unknown}
 use Rattle.schemes.specs.Schemes.{by_family, family_of, fixed_of, scheme_of_lem}

@@ -1,7 +1,8 @@
 -- A question is exactly its four lines (`specs/Exactly.antt`), a line at a time.
 --   exactly                     a question is read as its numbers, and no other text is
 --   question-short, enough      a question has at most 60 bytes, so the first 61 of a text tell
-use Rattle.lists.proofs.Kit.{◌≡◌, refl, ◌∙◌, sym, ap, List, [], ◌∷◌, ◌++◌, append_assoc, append-nil, ℕ, ◌^◌, ◌≤◌, ◌<◌, dec_le, arith, length, take}
+use Rattle.lists.proofs.Kit.{refl, ◌∙◌, sym, ap, List, [], append_assoc, append-nil, ℕ, dec_le, arith, length, take}
+use Rattle.std.proofs.Common.{◌≡◌, ◌∷◌, ◌++◌, ◌^◌, ◌≤◌, ◌<◌}
 use Rattle.lists.proofs.Kit.{length-append, length-take, take_all}
 use Rattle.text.specs.Text.{scheme_name, decimal, line, Read, number, other, field_in}
 use Rattle.text.proofs.{Numeral.decimal-length, Lines.line-forth, Lines.line-back}

@@ -1,6 +1,7 @@
 -- Reading: what the functions that take a question apart rest on.
 --   next-room, next-other, next-read, all-four   one line more, and all four
-use Rattle.lists.proofs.Kit.{◌≡◌, ◌∙◌, sym, ap, subst, List, ℕ, ◌≤◌, arith, length, drop}
+use Rattle.lists.proofs.Kit.{◌∙◌, sym, ap, subst, List, ℕ, arith, length, drop}
+use Rattle.std.proofs.Common.{◌≡◌, ◌≤◌}
 use Rattle.text.specs.{Text.scheme_name, Text.field_in, Steps.read_of, Steps.behind, Steps.Reads, declared.Found.Found}
 use Rattle.line.specs.Steps.{Lines, part_of, reached, Stands}
 use Rattle.line.specs.Line.{coin_name, v_name, w_name, numbers, shifted, moved, asked}

@@ -1,5 +1,6 @@
 -- An answer has at most 22 bytes (`specs/Exactly.antt`).
-use Rattle.lists.proofs.Kit.{ap, Bool, cond, List, [], ◌∷◌, ℕ, ◌≤◌, ◌<◌, arith, ltb, length, length-append}
+use Rattle.lists.proofs.Kit.{ap, Bool, cond, List, [], ℕ, arith, ltb, length, length-append}
+use Rattle.std.proofs.Common.{◌∷◌, ◌≤◌, ◌<◌}
 use Rattle.schemes.specs.declared.Named.TheVariants.{Known, Unknown}
 use Rattle.schemes.specs.Schemes.{by_family, family_of, fixed_of, scheme_of_lem}
 use Rattle.schemes.specs.{declared.Family.Family, declared.Fixed.Fixed, declared.Named.Named}

@@ -1,7 +1,8 @@
 -- Writing what is shown: three lines, one after the other.
 --   shown-left     all three are still to come
 --   shown-short    an answer fits 32 bytes
-use Rattle.lists.proofs.Kit.{◌≡◌, ap, List, [], ◌∷◌, ◌++◌, append_assoc, append-nil, ℕ, ◌≤◌, arith, length}
+use Rattle.lists.proofs.Kit.{ap, List, [], append_assoc, append-nil, ℕ, arith, length}
+use Rattle.std.proofs.Common.{◌≡◌, ◌∷◌, ◌++◌, ◌≤◌}
 use Rattle.text.specs.Text.{line}
 use Rattle.text.proofs.Writing.{joined, Left, left-all}
 use Rattle.line.specs.Line.{hint_name, key_name, peer_name, shown, answered}

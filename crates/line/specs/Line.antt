@@ -3,7 +3,7 @@
 --   asked xs           the four numbers that xs begins with and what stands behind them, or that xs is other text
 --   settled a b c d    the answer's text: hint, key and the peer's key; or a refusal: 1, 9, 4, in that order
 --   answered xs        the output of every input: 8 for other text, and where anything stands behind the four lines
-use Rattle.lists.specs.Kit.{cond, List, [], ◌∷◌, ◌++◌, ℕ, ltb}
+use Rattle.std.specs.Prelude.{cond, List, [], ◌∷◌, ◌++◌, ℕ, ltb}
 use Rattle.schemes.specs.declared.Named.TheVariants.{Known, Unknown}
 use Rattle.schemes.specs.{declared.Fixed.Fixed, declared.Named.Named, Schemes.by_family, Schemes.family_of, Schemes.fixed_of, Schemes.scheme_of_lem}
 use Rattle.lists.specs.First.{both}

@@ -2,7 +2,7 @@
 --   part_of xs r, reached r    what the lines read so far mean in the input xs, and the position behind them
 --   tested most q coin v w    0, or the refusal of a coin over most (9), of v or w of q or more (4), in that order
 --   text_of r                  the text of a verdict
-use Rattle.lists.specs.Kit.{◌≡◌, cond, List, ℕ, ◌≤◌, ltb, length, drop}
+use Rattle.std.specs.Prelude.{◌≡◌, cond, List, ℕ, ◌≤◌, ltb, length, drop}
 use Rattle.lists.specs.First.{both}
 use Rattle.line.specs.Line.{Asked, numbers, text, shown, refusal}
 pub use Rattle.line.specs.{declared.Lines.Lines, declared.Verdict.Verdict}

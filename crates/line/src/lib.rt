@@ -1,7 +1,10 @@
 // The line program as a function from the input's bytes to the output's, for every input: 01, "The line program". The longest question has 60 bytes and
 // the longest answer 22, so a program reads 61 bytes at most to tell. Reading goes by positions in the input, a line after the other; the decision gives a
 // verdict and no text; then the verdict is written.
-ghost use Rattle.lists.specs.Kit.{◌≡◌, cond, ◌*◌, ◌^◌, ◌≤◌, ◌<◌, length};
+
+#![tactic(auto)]
+
+ghost use Rattle.std.specs.Prelude.{◌≡◌, cond, ◌*◌, ◌^◌, ◌≤◌, ◌<◌, length};
 ghost use Rattle.schemes.specs.declared.Family.{Family};
 ghost use Rattle.schemes.specs.Schemes.{bcns, family_of, fixed_of, scheme_of_lem};
 ghost use Rattle.frodo.specs.Shown.{Round};

@@ -1,5 +1,4 @@
 -- `line::answer` meets its contract.
-use Rattle.lists.proofs.Kit.{rules}
 use Rattle.text.proofs.Answer.{answers}
 use Rattle.line.proofs.{Showing.shown-short}
 use Rattle.line.proofs.answer.Goals as goal

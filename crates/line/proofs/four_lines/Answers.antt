@@ -1,5 +1,4 @@
 -- `line::four_lines` meets its contract.
-use Rattle.lists.proofs.Kit.{rules}
 use Rattle.line.proofs.{Reading.all-four}
 use Rattle.line.proofs.four_lines.Goals as goal
 

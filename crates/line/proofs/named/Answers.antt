@@ -1,5 +1,5 @@
 -- `line::named` meets its contract: a number of more than 32 bits names no scheme.
-use Rattle.lists.proofs.Kit.{arith, rules}
+use Rattle.lists.proofs.Kit.{arith}
 use Rattle.line.proofs.{Deciding.beyond}
 use Rattle.line.proofs.named.Goals as goal
 

@@ -1,5 +1,4 @@
 -- `line::next` meets its contract.
-use Rattle.lists.proofs.Kit.{rules}
 use Rattle.line.proofs.{Reading.next-room, Reading.next-other, Reading.next-read}
 use Rattle.line.proofs.next.Goals as goal
 

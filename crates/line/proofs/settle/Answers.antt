@@ -1,5 +1,5 @@
 -- `line::settle` meets its contract: by whether the number names a scheme, and then by the scheme's family.
-use Rattle.lists.proofs.Kit.{◌∙◌, sym, rules}
+use Rattle.lists.proofs.Kit.{◌∙◌, sym}
 use Rattle.line.proofs.{Deciding.unnamed, Deciding.in-family}
 use Rattle.line.proofs.settle.Goals as goal
 

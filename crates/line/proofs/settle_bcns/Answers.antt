@@ -1,5 +1,6 @@
 -- `line::settle_bcns` meets its contract.
-use Rattle.lists.proofs.Kit.{◌∙◌, ◌≤◌, ◌<◌, arith, rules}
+use Rattle.lists.proofs.Kit.{◌∙◌, arith}
+use Rattle.std.proofs.Common.{◌≤◌, ◌<◌}
 use Rattle.bcns.specs.Rounding.{q}
 use Rattle.line.proofs.{Deciding.passed, Deciding.bcns-shown, Deciding.bcns-refused}
 use Rattle.line.proofs.settle_bcns.Goals as goal

@@ -1,5 +1,5 @@
 -- `line::settle_frodo` meets its contract.
-use Rattle.lists.proofs.Kit.{◌∙◌, arith, rules}
+use Rattle.lists.proofs.Kit.{◌∙◌, arith}
 use Rattle.line.proofs.{Deciding.Ready, Deciding.ready, Deciding.fitted, Deciding.frodo-shown, Deciding.frodo-refused}
 use Rattle.line.proofs.settle_frodo.Goals as goal
 use Rattle.line.proofs.settle_frodo.Goals.{After-interval-i}

@@ -1,5 +1,5 @@
 -- `line::show_bcns` meets its contract.
-use Rattle.lists.proofs.Kit.{arith, rules}
+use Rattle.lists.proofs.Kit.{arith}
 use Rattle.bcns.proofs.Regions.{hint-below}
 use Rattle.line.specs.Line.{bcns_shown}
 use Rattle.line.proofs.show_bcns.Goals as goal

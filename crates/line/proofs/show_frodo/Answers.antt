@@ -1,5 +1,5 @@
 -- `line::show_frodo` meets its contract.
-use Rattle.lists.proofs.Kit.{arith, rules}
+use Rattle.lists.proofs.Kit.{arith}
 use Rattle.frodo.proofs.Rule.{hint-below}
 use Rattle.line.specs.Line.{frodo_shown}
 use Rattle.line.proofs.show_frodo.Goals as goal

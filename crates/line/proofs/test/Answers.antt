@@ -1,5 +1,5 @@
 -- `line::test` meets its contract: the tests one by one.
-use Rattle.lists.proofs.Kit.{◌∙◌, ap, cond, ℕ, ltb, rules}
+use Rattle.lists.proofs.Kit.{◌∙◌, ap, cond, ℕ, ltb}
 use Rattle.line.specs.Steps.{tested}
 use Rattle.line.proofs.{Deciding.outside}
 use Rattle.line.proofs.test.Goals as goal

@@ -1,5 +1,5 @@
 -- `line::write` meets its contract.
-use Rattle.lists.proofs.Kit.{ap, arith, length, rules}
+use Rattle.lists.proofs.Kit.{ap, arith, length}
 use Rattle.text.proofs.Writing.{written_as}
 use Rattle.line.specs.{Line.refusal, Steps.text_of}
 use Rattle.line.proofs.write.Goals as goal

@@ -1,5 +1,4 @@
 -- `line::write_shown` meets its contract.
-use Rattle.lists.proofs.Kit.{rules}
 use Rattle.text.proofs.Writing.{left-room, left-next, left-none}
 use Rattle.line.proofs.{Showing.shown-left}
 use Rattle.line.proofs.write_shown.Goals as goal
