@@ -6,7 +6,8 @@
 --   compared_at, tally-next   the count: what each comparison asks, and one entry more
 --   eight-below, number-eight   the limbs of a value: each is small, and they are its 24 bytes
 --   value-is               a value from its parts, as the code forms them
-use Rattle.lists.proofs.Kit.{◌≡◌, refl, ◌∙◌, sym, ap, ap₂, subst, Bool, true, false, List, [], ◌∷◌, ℕ, zero, suc, ◌+◌, ◌*◌, ◌-◌, ◌/◌, ◌%◌, ◌^◌, ◌<◌, ◌≤◌}
+use Rattle.lists.proofs.Kit.{refl, ◌∙◌, sym, ap, ap₂, subst, Bool, true, false, List, [], ℕ, zero, suc}
+use Rattle.std.proofs.Common.{◌≡◌, ◌∷◌, ◌+◌, ◌*◌, ◌-◌, ◌/◌, ◌%◌, ◌^◌, ◌<◌, ◌≤◌}
 use Rattle.lists.proofs.Kit.{add-one, arith, dec_lt, mul-le-mul, le_refl, pow-suc, add-suc, lt-ltb, le-ltb, le-leb, lt-leb, leb-true, leb-false, leb, ltb}
 use Rattle.lists.proofs.Kit.{length, get_or, replicate, length-replicate, get_or-replicate, bool_byte}
 use Rattle.numbers.proofs.Natural.{power-power}

@@ -1,7 +1,8 @@
 -- The sign as a factor, 1 - 2 b where b is its bit, as the machine forms it.
 --   double-fits, turn-fits, times-fits   no step leaves the 32 bits
 --   times                                the product is n with that sign
-use Rattle.lists.proofs.Kit.{◌≡◌, ◌∙◌, sym, ap, subst, cond, ℕ, zero, suc, ◌*◌, ◌^◌, ◌<◌, arith, eqb, ℤ, pos, negsuc, neg_ℤ, ◌-ℤ◌, ◌*ℤ◌, w32, SFits, to_z, of_z}
+use Rattle.lists.proofs.Kit.{◌∙◌, sym, ap, subst, cond, ℕ, zero, suc, arith, eqb, ℤ, pos, negsuc, neg_ℤ, w32, SFits, to_z, of_z}
+use Rattle.std.proofs.Common.{◌≡◌, ◌*◌, ◌^◌, ◌<◌, ◌-ℤ◌, ◌*ℤ◌}
 use Rattle.lists.proofs.Kit.{to_z-of_z}
 use Rattle.numbers.proofs.Machine.{fits-abs, to_z_pos}
 use Rattle.noise.proofs.Noise.{sign-size}

@@ -6,7 +6,8 @@
 --   falls-behind             the test of an entry that has a forerunner
 --   Searched ..              the search: before, at each turn, where it finds one and where it ends
 --   ascends, each-place      what the place says
-use Rattle.lists.proofs.Kit.{◌≡◌, refl, ◌∙◌, sym, ap, List, Bool, true, false, cond, ℕ, zero, suc, ◌+◌, ◌*◌, ◌-◌, ◌/◌, ◌%◌, ◌<◌, ◌≤◌, arith, dec_lt, lt-leb}
+use Rattle.lists.proofs.Kit.{refl, ◌∙◌, sym, ap, List, Bool, true, false, cond, ℕ, zero, suc, arith, dec_lt, lt-leb}
+use Rattle.std.proofs.Common.{◌≡◌, ◌+◌, ◌*◌, ◌-◌, ◌/◌, ◌%◌, ◌<◌, ◌≤◌}
 use Rattle.lists.proofs.Kit.{leb-true, leb-false, leb, eqb, length, get_or, List·getD-eq-default, bool_byte}
 use Rattle.lists.specs.{Entries.tab, Ranges.Within, First.first_where}
 use Rattle.lists.proofs.First.{Passed, passed_none, passed-more, found, missing, none_before, none_passes, none_found, first_passes}

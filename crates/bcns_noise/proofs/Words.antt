@@ -3,7 +3,8 @@
 --   big-join      the number of some bytes and those behind them
 --   big-wide      24 bytes are three words
 --   big-three     three bytes
-use Rattle.lists.proofs.Kit.{◌≡◌, ◌∙◌, sym, ap, ap₂, Bool, ◌&&◌, ◌||◌, List, ℕ, zero, suc, ◌+◌, ◌*◌, ◌^◌, ◌<◌, ◌≤◌, arith, dec_lt, dec_le, ℕ_discrete, add-suc}
+use Rattle.lists.proofs.Kit.{◌∙◌, sym, ap, ap₂, Bool, List, ℕ, zero, suc, arith, dec_lt, dec_le, ℕ_discrete, add-suc}
+use Rattle.std.proofs.Common.{◌≡◌, ◌&&◌, ◌||◌, ◌+◌, ◌*◌, ◌^◌, ◌<◌, ◌≤◌}
 use Rattle.lists.proofs.Kit.{pow-suc, mul-le-mul, le_refl, lt-ltb, le-ltb, le-leb, lt-leb, eq-eqb, ne_eqb, leb, ltb, eqb, get_or}
 use Rattle.bcns_noise.specs.Noise.{wide, big_endian}
 

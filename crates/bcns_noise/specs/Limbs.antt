@@ -8,7 +8,7 @@
 --   tally n f          how many of the first n tests are passed
 --   LimbRows table n t     the first n rows of t are the limbs of the table, and what stands behind its entries is above every number
 --   Compared t v k     what a comparison asks
-use Rattle.lists.specs.Kit.{◌≡◌, Bool, true, List, ℕ, zero, suc, ◌+◌, ◌*◌, ◌-◌, ◌/◌, ◌%◌, ◌^◌, ◌<◌, ◌≤◌, ltb, length, get_or}
+use Rattle.std.specs.Prelude.{◌≡◌, Bool, true, List, ℕ, zero, suc, ◌+◌, ◌*◌, ◌-◌, ◌/◌, ◌%◌, ◌^◌, ◌<◌, ◌≤◌, ltb, length, get_or}
 use mir.Val.{bool_byte}
 use Rattle.lists.specs.{Entries.tab, Ranges.Below}
 use Rattle.bcns_noise.specs.Noise.{big_endian}

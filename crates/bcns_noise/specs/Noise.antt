@@ -11,7 +11,7 @@
 --   "18, a table not strictly ascending, place of the first entry not above its forerunner"
 --   falls table k         entry k has a forerunner and is not above it
 --   first_not_above_lem table   the first such k, or the number of entries where there is none
-use Rattle.lists.specs.Kit.{Bool, false, List, ℕ, zero, suc, ◌+◌, ◌*◌, ◌/◌, ◌^◌, leb, ℤ, length, get_or}
+use Rattle.std.specs.Prelude.{Bool, false, List, ℕ, zero, suc, ◌+◌, ◌*◌, ◌/◌, ◌^◌, leb, ℤ, length, get_or}
 use Rattle.lists.specs.{Entries.tab, First.first_where}
 use Rattle.noise.specs.Noise.{at_most, with_sign}
 

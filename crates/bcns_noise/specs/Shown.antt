@@ -2,7 +2,7 @@
 --   Largest51             no value lies beyond 51, the largest noise, where there are 51 entries
 --   Ascending, Ascends    `first_not_above_lem` is the number of entries exactly where each entry is above its forerunner
 --   Place, EachPlace      else it is 1 or more, that entry is not above its forerunner, and those in front of it ascend
-use Rattle.lists.specs.Kit.{◌≡◌, List, ◌↔◌, ℕ, suc, ◌-◌, ◌/◌, ◌<◌, ◌≤◌, length}
+use Rattle.std.specs.Prelude.{◌≡◌, List, ◌↔◌, ℕ, suc, ◌-◌, ◌/◌, ◌<◌, ◌≤◌, length}
 use Rattle.lists.specs.Ranges.{Within}
 use Rattle.bcns_noise.specs.Noise.{entry_of, bcns_noise_lem, first_not_above_lem}
 

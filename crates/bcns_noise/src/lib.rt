@@ -4,7 +4,10 @@
 // passes where it is below that of the bytes plus 1, if the limbs below it passed, or plus 0. So a limb takes an addition and a comparison, on as many entries at a
 // time as the processor's vectors hold numbers of 32 bits, and the entries' first limbs stand side by side, and so on.
 // The caller sees to the lengths; nothing else is asked, and a table that does not ascend is counted too.
-ghost use Rattle.lists.specs.Kit.{◌≡◌, ℕ, suc, ◌+◌, ◌-◌, ◌*◌, ◌/◌, ◌^◌, ◌<◌, ◌≤◌, leb, ltb, length, replicate};
+
+#![tactic(auto)]
+
+ghost use Rattle.std.specs.Prelude.{◌≡◌, ℕ, suc, ◌+◌, ◌-◌, ◌*◌, ◌/◌, ◌^◌, ◌<◌, ◌≤◌, leb, ltb, length, replicate};
 ghost use mir.Val.{bool_byte};
 ghost use Rattle.lists.specs.Ranges.{Below, Stored};
 ghost use Rattle.noise.specs.Noise.{with_sign};

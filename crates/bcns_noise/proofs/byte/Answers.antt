@@ -1,5 +1,5 @@
 -- `bcns_noise::byte` meets its contract: a shift divides, and a word has 64 bits.
-use Rattle.lists.proofs.Kit.{refl, arith, rules}
+use Rattle.lists.proofs.Kit.{refl, arith}
 use Rattle.bcns_noise.specs.Limbs.{byte_of}
 use Rattle.bcns_noise.proofs.byte.Goals as goal
 

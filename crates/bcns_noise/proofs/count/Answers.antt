@@ -1,5 +1,6 @@
 -- `bcns_noise::count` meets its contract.
-use Rattle.lists.proofs.Kit.{◌≡◌, ◌∙◌, refl, ap, ℕ, ◌-◌, ◌≤◌, arith, rules}
+use Rattle.lists.proofs.Kit.{◌∙◌, refl, ap, ℕ, arith}
+use Rattle.std.proofs.Common.{◌≡◌}
 use Rattle.bcns_noise.specs.Limbs.{limbs, limbs_of, passes, tally}
 use Rattle.bcns_noise.proofs.{Limbs.compared_at, Limbs.tally-next}
 use Rattle.bcns_noise.proofs.count.Goals as goal

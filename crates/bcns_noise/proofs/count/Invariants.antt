@@ -1,7 +1,7 @@
 -- `bcns_noise::count` meets its contract.
-use Rattle.lists.proofs.Kit.{◌≡◌, ◌∙◌, refl, ap, ℕ, ◌-◌, ◌≤◌, arith, rules}
+use Rattle.lists.proofs.Kit.{ℕ}
+use Rattle.std.proofs.Common.{◌≡◌, ◌-◌, ◌≤◌}
 use Rattle.bcns_noise.specs.Limbs.{limbs, limbs_of, passes, tally}
-use Rattle.bcns_noise.proofs.{Limbs.compared_at, Limbs.tally-next}
 use Rattle.bcns_noise.proofs.count.Given as goal
 
 abbrev pub invariant-loop-k : goal.invariant-loop-k

@@ -1,5 +1,4 @@
 -- `bcns_noise::entry_not_above` meets its contract.
-use Rattle.lists.proofs.Kit.{rules}
 use Rattle.bcns_noise.specs.Noise.{entry_of}
 use Rattle.bcns_noise.proofs.entry_not_above.Goals as goal
 

@@ -1,7 +1,8 @@
 -- `bcns_noise::fill` meets its contract: it fills with the values of the bytes.
-use Rattle.lists.proofs.Kit.{◌≡◌, ◌∙◌, ◌-◌, ◌/◌, arith, rules, length, length-set, to_z-of_z}
-use Rattle.lists.proofs.Fill.{Filled, fill_start, fill-next, fill_end}
-use Rattle.bcns_noise.specs.Noise.{bcns_value_lem, bcns_noise_lem}
+use Rattle.lists.proofs.Kit.{◌∙◌, arith, length, length-set, to_z-of_z, w32}
+use Rattle.std.proofs.Common.{◌≡◌, ◌/◌}
+use Rattle.lists.proofs.Fill.{fill_start, fill-next, fill_end}
+use Rattle.bcns_noise.specs.Noise.{bcns_noise_lem}
 use Rattle.bcns_noise.proofs.fill.Goals as goal
 
 pub loop-i-init : goal.loop-i-init
@@ -15,7 +16,7 @@ loop-i-smaller c = simp length-set (omega arith)
 
 pub loop-i-preserved : goal.loop-i-preserved
 loop-i-preserved c =
-    fill-next _ c.loop-i.invariant (omega arith) (to_z-of_z (record { sfits = c.value.ok }) ∙ c.value.ensures)
+    fill-next _ c.loop-i.invariant (omega arith) (to_z-of_z {w = w32} (record { sfits = c.value.type_inv }) ∙ c.value.ensures)
 
 pub shape_of-out : goal.shape_of-out
 shape_of-out c = c.loop-i.invariant.long

@@ -1,7 +1,8 @@
 -- `bcns_noise::fill` meets its contract: it fills with the values of the bytes.
-use Rattle.lists.proofs.Kit.{◌≡◌, ◌∙◌, ◌-◌, ◌/◌, arith, rules, length, length-set, to_z-of_z}
-use Rattle.lists.proofs.Fill.{Filled, fill_start, fill-next, fill_end}
-use Rattle.bcns_noise.specs.Noise.{bcns_value_lem, bcns_noise_lem}
+use Rattle.lists.proofs.Kit.{length}
+use Rattle.std.proofs.Common.{◌-◌}
+use Rattle.lists.proofs.Fill.{Filled}
+use Rattle.bcns_noise.specs.Noise.{bcns_value_lem}
 use Rattle.bcns_noise.proofs.fill.Given as goal
 
 abbrev pub invariant-loop-i : goal.invariant-loop-i

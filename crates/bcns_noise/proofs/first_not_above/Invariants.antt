@@ -1,6 +1,7 @@
 -- `bcns_noise::first_not_above` meets its contract.
-use Rattle.lists.proofs.Kit.{◌∙◌, sym, ◌-◌, ◌/◌, arith, rules, length}
-use Rattle.bcns_noise.proofs.Table.{Searched, search-start, search-next, search-found, search-end}
+use Rattle.lists.proofs.Kit.{length}
+use Rattle.std.proofs.Common.{◌-◌, ◌/◌}
+use Rattle.bcns_noise.proofs.Table.{Searched}
 use Rattle.bcns_noise.proofs.first_not_above.Given as goal
 
 abbrev pub invariant-loop-k : goal.invariant-loop-k

@@ -1,7 +1,6 @@
 -- `bcns_noise::lay` meets its contract: row by row.
-use Rattle.lists.proofs.Kit.{◌≡◌, ◌∙◌, refl, sym, ap, subst, ℕ, ◌-◌, ◌≤◌, arith, rules, length, length-replicate}
+use Rattle.std.proofs.Common.{◌-◌, ◌≤◌}
 use Rattle.bcns_noise.specs.Limbs.{LimbRows}
-use Rattle.bcns_noise.proofs.{Limbs.laid_none, Limbs.laid_next}
 use Rattle.bcns_noise.proofs.lay.Given as goal
 
 abbrev pub invariant-loop-i : goal.invariant-loop-i

@@ -1,8 +1,6 @@
 -- `bcns_noise::lay_row` meets its contract.
-use Rattle.lists.proofs.Kit.{ℕ, ◌+◌, ◌*◌, ◌-◌, ◌^◌, ◌<◌, ◌≤◌, arith, rules}
-use Rattle.lists.specs.Ranges.{Below, Stored}
+use Rattle.lists.proofs.Kit.{arith}
 use Rattle.lists.proofs.Stored.{store-none, store-next, stored-all}
-use Rattle.bcns_noise.specs.{Noise.big_endian, Limbs.word_bytes}
 use Rattle.bcns_noise.proofs.lay_row.Goals as goal
 
 pub loop-k-preserved : goal.loop-k-preserved

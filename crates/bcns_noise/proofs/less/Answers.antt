@@ -1,5 +1,6 @@
 -- `bcns_noise::less` meets its contract: numbers so small are the same with a sign.
-use Rattle.lists.proofs.Kit.{◌≡◌, ap₂, arith, rules, ltb, ℤ, lt_z, w32, to_z, bool_byte}
+use Rattle.lists.proofs.Kit.{ap₂, arith, ltb, ℤ, lt_z, w32, to_z, bool_byte}
+use Rattle.std.proofs.Common.{◌≡◌}
 use Rattle.numbers.proofs.Machine.{to_z_pos}
 use Rattle.bcns_noise.proofs.{Table.byte_le}
 use Rattle.bcns_noise.proofs.less.Goals as goal

@@ -1,5 +1,5 @@
 -- `bcns_noise::limb` meets its contract.
-use Rattle.lists.proofs.Kit.{arith, rules}
+use Rattle.lists.proofs.Kit.{arith}
 use Rattle.bcns_noise.proofs.{Limbs.table-limb}
 use Rattle.bcns_noise.proofs.limb.Goals as goal
 

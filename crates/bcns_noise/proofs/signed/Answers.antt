@@ -1,5 +1,6 @@
 -- `bcns_noise::signed` meets its contract: the factor is 1 or -1.
-use Rattle.lists.proofs.Kit.{◌%◌, arith, rules}
+use Rattle.lists.proofs.Kit.{arith}
+use Rattle.std.proofs.Common.{◌%◌}
 use Rattle.bcns_noise.proofs.{Sign.double-fits, Sign.turn-fits, Sign.times-fits, Sign.times}
 use Rattle.bcns_noise.proofs.signed.Goals as goal
 

@@ -1,5 +1,6 @@
 -- `bcns_noise::step` meets its contract.
-use Rattle.lists.proofs.Kit.{◌∙◌, ◌+◌, ◌*◌, arith, rules}
+use Rattle.lists.proofs.Kit.{◌∙◌, arith}
+use Rattle.std.proofs.Common.{◌+◌, ◌*◌}
 use Rattle.bcns_noise.specs.Limbs.{limbs, limbs_of}
 use Rattle.bcns_noise.proofs.{Limbs.pass-next}
 use Rattle.bcns_noise.proofs.step.Goals as goal

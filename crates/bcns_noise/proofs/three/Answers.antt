@@ -1,5 +1,6 @@
 -- `bcns_noise::three` meets its contract: a byte is below 256.
-use Rattle.lists.proofs.Kit.{◌+◌, arith, rules}
+use Rattle.lists.proofs.Kit.{arith}
+use Rattle.std.proofs.Common.{◌+◌}
 use Rattle.bcns_noise.proofs.{Words.big-three}
 use Rattle.bcns_noise.proofs.three.Goals as goal
 
