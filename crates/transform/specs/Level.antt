@@ -17,7 +17,7 @@
 --   sums a g                 what ten levels come to: entry i is the sum over j of g_j 7^(j (a + 2i))
 --   scaled f                 entry k is entry 1024 - k of f times 12 7^(1024 - k)
 --   reduced s                secrets or noise, each reduced to 0 .. q - 1
-use Rattle.lists.specs.Kit.{◌≡◌, List, ℕ, ◌+◌, ◌-◌, ◌*◌, ◌/◌, ◌%◌, ◌^◌, ◌<◌, ◌≤◌, length, get_or, set, ℤ}
+use Rattle.std.specs.Prelude.{◌≡◌, List, ℕ, ◌+◌, ◌-◌, ◌*◌, ◌/◌, ◌%◌, ◌^◌, ◌<◌, ◌≤◌, length, get_or, set, ℤ}
 use Rattle.numbers.specs.{Sum.sum_ℕ, Residue.residue}
 use Rattle.lists.specs.Entries.{tab, ints}
 

@@ -4,7 +4,10 @@
 // The sums are made by Stockham's method, decimation in time (`specs/Level.antt`): ten levels between two buffers, all of whose powers stand below the table's
 // middle, so that no index is reduced. The buffers have 16 bits a number, so that eight are reckoned at a time, and nothing is reduced further than that asks.
 // In the last four levels a block has eight entries or fewer. There entry o of all blocks lies side by side, and each block has its power in a vector.
-ghost use Rattle.lists.specs.Kit.{◌≡◌, ◌+◌, ◌*◌, ◌%◌, ◌<◌, ◌≤◌, length};
+
+#![tactic(auto)]
+
+ghost use Rattle.std.specs.Prelude.{◌≡◌, ◌+◌, ◌*◌, ◌%◌, ◌<◌, ◌≤◌, length};
 ghost use Rattle.lists.specs.Ranges.{Below};
 ghost use Rattle.transform.specs.Transform.{transformed, inverted};
 ghost use Rattle.transform.specs.Theorems.{entrywise, multiplied, TableRule};

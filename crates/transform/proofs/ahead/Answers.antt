@@ -1,5 +1,5 @@
 -- `transform::ahead` meets its contract.
-use Rattle.lists.proofs.Kit.{◌∙◌, sym, rules}
+use Rattle.lists.proofs.Kit.{◌∙◌, sym}
 use Rattle.transform.proofs.{Inverses.transformed-sums}
 use Rattle.transform.proofs.ahead.Goals as goal
 

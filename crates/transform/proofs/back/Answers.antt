@@ -1,5 +1,5 @@
 -- `transform::back` meets its contract.
-use Rattle.lists.proofs.Kit.{◌∙◌, sym, ap, rules, length}
+use Rattle.lists.proofs.Kit.{◌∙◌, sym, ap, length}
 use Rattle.transform.specs.Level.{scaled}
 use Rattle.transform.proofs.{Sizes.sums-length, Sizes.sums-below, Inverses.inverted-scaled}
 use Rattle.transform.proofs.back.Goals as goal

@@ -1,6 +1,5 @@
 -- `transform::cross` meets its contract, row after row.
-use Rattle.lists.proofs.Kit.{◌≡◌, refl, ◌∙◌, ap, ℕ, ◌+◌, ◌-◌, ◌*◌, ◌≤◌, ◌<◌, arith, rules}
-use Rattle.transform.specs.Level.{Crossed}
+use Rattle.lists.proofs.Kit.{◌≡◌, ◌∙◌, ap, ℕ, ◌+◌, ◌*◌, arith}
 use Rattle.transform.proofs.{Joins.crossed-none}
 use Rattle.transform.proofs.cross.Goals as goal
 

@@ -1,7 +1,6 @@
 -- `transform::cross` meets its contract, row after row.
-use Rattle.lists.proofs.Kit.{◌≡◌, refl, ◌∙◌, ap, ℕ, ◌+◌, ◌-◌, ◌*◌, ◌≤◌, ◌<◌, arith, rules}
+use Rattle.lists.proofs.Kit.{◌-◌, ◌*◌, ◌≤◌}
 use Rattle.transform.specs.Level.{Crossed}
-use Rattle.transform.proofs.{Joins.crossed-none}
 use Rattle.transform.proofs.cross.Given as goal
 
 abbrev pub invariant-loop-o : goal.invariant-loop-o

@@ -1,5 +1,4 @@
 -- `transform::join` meets its contract.
-use Rattle.lists.proofs.Kit.{rules}
 use Rattle.transform.proofs.{Joins.stored_is}
 use Rattle.transform.proofs.join.Goals as goal
 

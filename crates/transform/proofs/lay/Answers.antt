@@ -1,6 +1,6 @@
 -- `transform::lay` meets its contract: each turn lays one more power and its factor.
-use Rattle.lists.proofs.Kit.{◌≡◌, refl, ℕ, ◌+◌, ◌-◌, ◌*◌, ◌/◌, ◌≤◌, ◌<◌, arith, mul-le-mul_right, get_or, rules}
-use Rattle.transform.specs.Level.{factor, Factors, Powers}
+use Rattle.lists.proofs.Kit.{◌≡◌, refl, ℕ, ◌+◌, ◌*◌, ◌/◌, ◌≤◌, ◌<◌, arith, mul-le-mul_right, get_or}
+use Rattle.transform.specs.Level.{factor, Factors}
 use Rattle.transform.proofs.{Seven.power-lt, Joins.block-≤, Joins.powers-none, Joins.powers-more}
 use Rattle.transform.proofs.lay.Goals as goal
 use Rattle.transform.proofs.lay.Goals.{In-loop-i}
@@ -23,12 +23,12 @@ long c = c.loop-i.invariant.1.factors
 
 pub loop-i-preserved : goal.loop-i-preserved
 loop-i-preserved c =
-    let s = b.before.before in
-    let x = get_or s.args.t.now (exponent c.before.before.before.before) 0 in
+    let b = (goal.at.loop-i-preserved c).In-loop-i in
+    let x = get_or c.args.t.now (exponent b) 0 in
     let e : 65536 * x / 12289 ≡ factor x = unfold factor in refl in (
       omega arith,
-      powers-more s.args.a s.args.h c.loop-i.i _ _ _ _ (omega (arith, fits (goal.at.loop-i-preserved c).In-loop-i))
-          (s.requires.table_rule.0.power (exponent c.before.before.before.before) (omega (arith, below (goal.at.loop-i-preserved c).In-loop-i)))
+      powers-more c.args.a c.args.h c.loop-i.i _ _ _ _ (omega (arith, fits b))
+          (c.requires.table_rule.0.power (exponent b) (omega (arith, below b)))
           e c.loop-i.invariant.1,
     )
 

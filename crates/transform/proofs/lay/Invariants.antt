@@ -1,7 +1,6 @@
 -- `transform::lay` meets its contract: each turn lays one more power and its factor.
-use Rattle.lists.proofs.Kit.{◌≡◌, refl, ℕ, ◌+◌, ◌-◌, ◌*◌, ◌/◌, ◌≤◌, ◌<◌, arith, mul-le-mul_right, get_or, rules}
-use Rattle.transform.specs.Level.{factor, Factors, Powers}
-use Rattle.transform.proofs.{Seven.power-lt, Joins.block-≤, Joins.powers-none, Joins.powers-more}
+use Rattle.lists.proofs.Kit.{◌-◌, ◌≤◌}
+use Rattle.transform.specs.Level.{Powers}
 use Rattle.transform.proofs.lay.Given as goal
 
 abbrev pub invariant-loop-i : goal.invariant-loop-i

@@ -1,6 +1,6 @@
 -- `transform::level` meets its contract, run after run.
-use Rattle.lists.proofs.Kit.{◌≡◌, ◌∙◌, ◌-◌, ◌%◌, ◌≤◌, arith, add-mod_right, zero-mod, rules}
-use Rattle.transform.specs.Level.{Butterflies, OneBlock}
+use Rattle.lists.proofs.Kit.{◌≡◌, ◌∙◌, arith, add-mod_right, zero-mod}
+use Rattle.transform.specs.Level.{OneBlock}
 use Rattle.transform.proofs.{Joins.butterflies-none, Joins.next-run}
 use Rattle.transform.proofs.level.Goals as goal
 use Rattle.transform.proofs.level.Goals.{In-loop-k}

@@ -1,7 +1,6 @@
 -- `transform::level` meets its contract, run after run.
-use Rattle.lists.proofs.Kit.{◌≡◌, ◌∙◌, ◌-◌, ◌%◌, ◌≤◌, arith, add-mod_right, zero-mod, rules}
-use Rattle.transform.specs.Level.{Butterflies, OneBlock}
-use Rattle.transform.proofs.{Joins.butterflies-none, Joins.next-run}
+use Rattle.lists.proofs.Kit.{◌≡◌, ◌-◌, ◌%◌, ◌≤◌}
+use Rattle.transform.specs.Level.{Butterflies}
 use Rattle.transform.proofs.level.Given as goal
 
 abbrev pub invariant-loop-k : goal.invariant-loop-k

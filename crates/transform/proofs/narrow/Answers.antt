@@ -1,6 +1,6 @@
 -- `transform::narrow` meets its contract: it fills with the entries.
-use Rattle.lists.proofs.Kit.{rules, refl, ◌∙◌, sym, ◌-◌, arith, get_or}
-use Rattle.lists.proofs.{Entries.tab-getD, Fill.Filled, Fill.fill_start, Fill.fill-next, Fill.fill-whole}
+use Rattle.lists.proofs.Kit.{refl, ◌∙◌, sym, arith}
+use Rattle.lists.proofs.{Entries.tab-getD, Fill.fill_start, Fill.fill-next, Fill.fill-whole}
 use Rattle.transform.proofs.narrow.Goals as goal
 
 pub overflow_cast-dst : goal.overflow_cast-dst

@@ -1,5 +1,5 @@
 -- `transform::product` meets its contract.
-use Rattle.lists.proofs.Kit.{◌∙◌, ap, ap₂, rules, length}
+use Rattle.lists.proofs.Kit.{◌∙◌, ap, ap₂, length}
 use Rattle.transform.specs.{Transform.inverted, Theorems.entrywise}
 use Rattle.transform.proofs.Sizes.{transformed-length, transformed-below, entrywise-length, entrywise-below}
 use Rattle.transform.proofs.{Products.multiplied-through, Entrywise.turned_round}

@@ -1,6 +1,6 @@
 -- `transform::reduce` meets its contract: it fills with the remainders.
-use Rattle.lists.proofs.Kit.{rules, refl, ◌-◌, ◌%◌, arith, get_or}
-use Rattle.lists.proofs.Fill.{Filled, fill_start, fill-next, fill-whole}
+use Rattle.lists.proofs.Kit.{refl, arith}
+use Rattle.lists.proofs.Fill.{fill_start, fill-next, fill-whole}
 use Rattle.transform.specs.Level.{remainders}
 use Rattle.transform.proofs.reduce.Goals as goal
 

@@ -1,6 +1,5 @@
 -- `transform::row` meets its contract: each turn makes one more entry of each half.
-use Rattle.lists.proofs.Kit.{◌≡◌, refl, ℕ, ◌+◌, ◌-◌, ◌*◌, ◌≤◌, ◌<◌, arith, add-zero, mul-le-mul_right, rules}
-use Rattle.transform.specs.Level.{factor, Crossed}
+use Rattle.lists.proofs.Kit.{◌≡◌, ℕ, ◌+◌, ◌*◌, ◌≤◌, ◌<◌, arith, add-zero, mul-le-mul_right}
 use Rattle.transform.proofs.{Joins.reads_in, Joins.crossed-more}
 use Rattle.transform.proofs.row.Goals as goal
 use Rattle.transform.proofs.row.Goals.{In-loop-i, Start}

@@ -1,7 +1,6 @@
 -- `transform::row` meets its contract: each turn makes one more entry of each half.
-use Rattle.lists.proofs.Kit.{◌≡◌, refl, ℕ, ◌+◌, ◌-◌, ◌*◌, ◌≤◌, ◌<◌, arith, add-zero, mul-le-mul_right, rules}
-use Rattle.transform.specs.Level.{factor, Crossed}
-use Rattle.transform.proofs.{Joins.reads_in, Joins.crossed-more}
+use Rattle.lists.proofs.Kit.{◌+◌, ◌-◌, ◌*◌, ◌≤◌}
+use Rattle.transform.specs.Level.{Crossed}
 use Rattle.transform.proofs.row.Given as goal
 
 abbrev pub invariant-loop-i : goal.invariant-loop-i

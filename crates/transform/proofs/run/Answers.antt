@@ -1,6 +1,6 @@
 -- `transform::run` meets its contract: each turn makes one more entry of each half.
-use Rattle.lists.proofs.Kit.{◌≡◌, refl, ◌∙◌, ℕ, ◌+◌, ◌-◌, ◌*◌, ◌/◌, ◌≤◌, ◌<◌, arith, add-zero, div-le_self, div-mul-le_self, get_or, get_or-replicate, rules}
-use Rattle.transform.specs.Level.{factor, Butterflies}
+use Rattle.lists.proofs.Kit.{◌≡◌, refl, ◌∙◌, ℕ, ◌+◌, ◌*◌, ◌/◌, ◌≤◌, ◌<◌, arith, add-zero, div-le_self, div-mul-le_self, get_or, get_or-replicate}
+use Rattle.transform.specs.Level.{factor}
 use Rattle.transform.proofs.{Seven.power-lt, Joins.exponent-≤, Joins.run_more}
 use Rattle.transform.proofs.run.Goals as goal
 use Rattle.transform.proofs.run.Goals.{Start}
@@ -32,7 +32,7 @@ loop-j-init c = (omega arith, rw add-zero c.requires.table_rule.1)
 
 pub join-requires : goal.join-requires
 join-requires c =
-    let e : 65536 * get_or c.args.t.now (exponent c.before.before.before.before.before) 0 / 12289 ≡ factor (get_or c.args.t.now (exponent c.before.before.before.before.before) 0) = unfold factor in refl in
+    let e : 65536 * get_or c.args.t.now (exponent (goal.at.join-requires c).Start) 0 / 12289 ≡ factor (get_or c.args.t.now (exponent (goal.at.join-requires c).Start) 0) = unfold factor in refl in
     (get_or-replicate 16 c.loop-j.j _ 0 (omega arith) ∙ e, omega arith, omega arith)
 
 pub loop-j-preserved : goal.loop-j-preserved
@@ -40,7 +40,7 @@ loop-j-preserved c =
     let l = c.loop-j in (
       omega arith,
       run_more _ _ _ c.args.a c.args.h c.args.k l.j _ (omega arith) (omega arith) l.invariant.1
-          (c.requires.table_rule.0.power (exponent c.before.before.before.before.before.before) (omega (arith, below (goal.at.loop-j-preserved c).Start)))
+          (c.requires.table_rule.0.power (exponent (goal.at.loop-j-preserved c).Start) (omega (arith, below (goal.at.loop-j-preserved c).Start)))
           c.join.ensures,
     )
 

@@ -1,7 +1,6 @@
 -- `transform::run` meets its contract: each turn makes one more entry of each half.
-use Rattle.lists.proofs.Kit.{◌≡◌, refl, ◌∙◌, ℕ, ◌+◌, ◌-◌, ◌*◌, ◌/◌, ◌≤◌, ◌<◌, arith, add-zero, div-le_self, div-mul-le_self, get_or, get_or-replicate, rules}
-use Rattle.transform.specs.Level.{factor, Butterflies}
-use Rattle.transform.proofs.{Seven.power-lt, Joins.exponent-≤, Joins.run_more}
+use Rattle.lists.proofs.Kit.{◌+◌, ◌-◌, ◌≤◌}
+use Rattle.transform.specs.Level.{Butterflies}
 use Rattle.transform.proofs.run.Given as goal
 
 abbrev pub invariant-loop-j : goal.invariant-loop-j

@@ -1,7 +1,7 @@
 -- `transform::scale` meets its contract: it fills with the entries of the inverse.
-use Rattle.lists.proofs.Kit.{rules, ◌≡◌, ◌∙◌, sym, ap, ap₂, List, ℕ, ◌-◌, ◌*◌, ◌%◌, ◌^◌, ◌<◌, arith, mod-eq_of_lt, length, get_or, length-set}
+use Rattle.lists.proofs.Kit.{◌≡◌, ◌∙◌, sym, ap, ap₂, ℕ, ◌-◌, ◌*◌, ◌%◌, ◌<◌, arith, mod-eq_of_lt, length, get_or, length-set}
 use Rattle.lists.specs.Entries.{tab}
-use Rattle.lists.proofs.Fill.{Filled, fill-next, fill_end, fill-first}
+use Rattle.lists.proofs.Fill.{fill-next, fill_end, fill-first}
 use Rattle.transform.specs.Level.{scaled}
 use Rattle.transform.proofs.{Seven.power-lt, Joins.product-fits}
 use Rattle.transform.proofs.scale.Invariants.{entry}

@@ -1,9 +1,6 @@
 -- `transform::scale` meets its contract: it fills with the entries of the inverse.
-use Rattle.lists.proofs.Kit.{rules, ◌≡◌, ◌∙◌, sym, ap, ap₂, List, ℕ, ◌-◌, ◌*◌, ◌%◌, ◌^◌, ◌<◌, arith, mod-eq_of_lt, length, get_or, length-set}
-use Rattle.lists.specs.Entries.{tab}
-use Rattle.lists.proofs.Fill.{Filled, fill-next, fill_end, fill-first}
-use Rattle.transform.specs.Level.{scaled}
-use Rattle.transform.proofs.{Seven.power-lt, Joins.product-fits}
+use Rattle.lists.proofs.Kit.{◌≡◌, List, ℕ, ◌-◌, ◌*◌, ◌%◌, ◌^◌, ◌<◌, length, get_or}
+use Rattle.lists.proofs.Fill.{Filled}
 use Rattle.transform.proofs.scale.Given as goal
 
 -- entry k of the inverse

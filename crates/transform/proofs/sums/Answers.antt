@@ -1,71 +1,43 @@
 -- `transform::sums` meets its contract: ten levels, each of which makes its sums twice as long, and the remainders.
-use Rattle.lists.proofs.Kit.{refl, ◌∙◌, ap, arith, rules, length}
+use Rattle.lists.proofs.Kit.{refl, ◌∙◌, ap, arith, length}
 use Rattle.transform.proofs.Levels.{Holds, Placed, holds-start, five-levels, first-across, last-across, in_order, holds-end}
 use Rattle.transform.proofs.sums.Goals as goal
-use Rattle.transform.proofs.sums.Goals.{After-cross, After-cross-2, After-cross-3, After-cross-4, After-lay, After-lay-3, After-level-5, After-level-6, Start}
-
--- the start; `search` looks no further back than five levels
-abbrev start : After-level-5 → Start
-start c = search rules
+use Rattle.transform.proofs.sums.Goals.{After-cross-2, After-cross-4, After-level-5}
 
 -- what five levels make of the numbers, eight and ten
-half : (c : After-level-5) → Holds (start c).args.g.now (start c).args.a 32 32 c.level-5.new.dst
+half : (c : After-level-5) → Holds c.args.g.now c.args.a 32 32 c.level-5.new.dst
 half c =
-    five-levels _ _ 1 32 refl (holds-start _ _ _ c.narrow.ensures (start c).requires.2)
+    five-levels _ _ 1 32 refl (holds-start _ _ _ c.narrow.ensures c.requires.2)
     c.level.ensures c.level-2.ensures c.level-3.ensures c.level-4.ensures c.level-5.ensures
 
--- from levels across, those before
-abbrev five : After-cross-2 → After-level-5
-five c = search rules
-
-abbrev six : After-cross-2 → After-level-6
-six c = search rules
-
-abbrev powers : After-cross → After-lay
-powers c = search rules
-
-eight : (c : After-cross-2) → Placed (start (five c)).args.g.now (start (five c)).args.a 256 4 256 1 c.cross-2.new.dst
+eight : (c : After-cross-2) → Placed c.args.g.now c.args.a 256 4 256 1 c.cross-2.new.dst
 eight c =
-    first-across (half (five c)) (six c).level6.ensures (powers c.before.before.before.before.before.before.before.before).lay.ensures c.cross.ensures c.lay-2.ensures c.cross-2.ensures
+    first-across (half (goal.at.After-cross-2 c).After-level-5) c.level-6.ensures c.lay.ensures c.cross.ensures c.lay-2.ensures c.cross-2.ensures
 
-abbrev eighth : After-cross-4 → After-cross-2
-eighth c = search rules
-
-abbrev powers3 : After-cross-3 → After-lay-3
-powers3 c = search rules
-
-whole : (c : After-cross-4) → let s = start (five (eighth c)) in Placed s.args.g.now s.args.a 1024 1 1024 1 c.cross-4.new.dst
+whole : (c : After-cross-4) → Placed c.args.g.now c.args.a 1024 1 1024 1 c.cross-4.new.dst
 whole c =
-    last-across (eight (eighth c)) (powers3 c.before.before.before.before.before.before.before.before).lay3.ensures c.cross-3.ensures c.lay-4.ensures c.cross-4.ensures
+    last-across (eight (goal.at.After-cross-4 c).After-cross-2) c.lay-3.ensures c.cross-3.ensures c.lay-4.ensures c.cross-4.ensures
 
 pub level-requires-2 : goal.level-requires-2
-level-requires-2 c =
-    record { a_bound = (c.requires.0, omega arith, refl, refl); table_rule = (c.requires.1, ap length c.narrow.ensures ∙ c.requires.3) }
+level-requires-2 c = record { a_bound = (c.requires.0, omega arith, refl, refl); table_rule = (c.requires.1, ap length c.narrow.ensures ∙ c.requires.3) }
 
 pub level-requires-6 : goal.level-requires-6
-level-requires-6 c =
-    record { a_bound = ((start c.before.before).pre.0, omega arith, refl, refl); table_rule = ((start c.before.before).pre.1, c.level-4.ensures.size) }
+level-requires-6 c = record { a_bound = (c.requires.0, omega arith, refl, refl); table_rule = (c.requires.1, c.level-4.ensures.size) }
 
 pub lay-requires : goal.lay-requires
-lay-requires c =
-    record { a_bound = ((start c.before.before.before.before.before).pre.0, omega arith, refl); table_rule = ((start c.before.before.before.before.before).pre.1, refl, refl) }
+lay-requires c = record { a_bound = (c.requires.0, omega arith, refl); table_rule = (c.requires.1, refl, refl) }
 
 pub lay-requires-2 : goal.lay-requires-2
-lay-requires-2 c =
-    record { a_bound = ((start c.before.before.before.before.before.before.before.before.before.before.before.before.before).pre.0, omega arith, refl); table_rule = ((start c.before.before.before.before.before.before.before.before.before.before.before.before.before).pre.1, c.lay.ensures.factors.long, c.lay.ensures.factors.also) }
+lay-requires-2 c = record { a_bound = (c.requires.0, omega arith, refl); table_rule = (c.requires.1, c.lay.ensures.factors.long, c.lay.ensures.factors.also) }
 
 pub lay-requires-3 : goal.lay-requires-3
-lay-requires-3 c =
-    record { a_bound = ((start c.before.before.before.before.before.before.before.before.before.before.before.before.before.before.before.before.before.before.before.before.before).pre.0, omega arith, refl); table_rule = ((start c.before.before.before.before.before.before.before.before.before.before.before.before.before.before.before.before.before.before.before.before.before).pre.1, c.lay-2.ensures.factors.long, c.lay-2.ensures.factors.also) }
+lay-requires-3 c = record { a_bound = (c.requires.0, omega arith, refl); table_rule = (c.requires.1, c.lay-2.ensures.factors.long, c.lay-2.ensures.factors.also) }
 
 pub lay-requires-4 : goal.lay-requires-4
-lay-requires-4 c =
-    let m = five (search rules) in
-    record { a_bound = ((start m).pre.0, omega arith, refl); table_rule = ((start m).pre.1, (powers3 c.before.before).lay3.ensures.factors.long, (powers3 c.before.before).lay3.ensures.factors.also) }
+lay-requires-4 c = record { a_bound = (c.requires.0, omega arith, refl); table_rule = (c.requires.1, c.lay-3.ensures.factors.long, c.lay-3.ensures.factors.also) }
 
 pub reduce-requires : goal.reduce-requires
-reduce-requires c =
-    ((whole (goal.at.reduce-requires c).After-cross-4).small, (start (five (eighth c.before.before))).requires.3)
+reduce-requires c = ((whole (goal.at.reduce-requires c).After-cross-4).small, c.requires.3)
 
 pub returns : goal.returns
 returns c = c.reduce.ensures ∙ holds-end _ _ _ (in_order (whole (goal.at.returns c).After-cross-4))

@@ -1,5 +1,5 @@
 -- `transform::tight` meets its contract.
-use Rattle.lists.proofs.Kit.{refl, arith, rules}
+use Rattle.lists.proofs.Kit.{refl, arith}
 use Rattle.transform.specs.Level.{tight}
 use Rattle.transform.proofs.tight.Goals as goal
 

@@ -1,9 +1,9 @@
 -- `transform::on_transforms::add_noise` meets its contract: it fills with the sums.
-use Rattle.lists.proofs.Kit.{rules, ◌≡◌, ◌∙◌, ap, ℕ, ◌+◌, ◌-◌, ◌%◌, ◌<◌, arith, get_or, to_z-of_z}
+use Rattle.lists.proofs.Kit.{◌≡◌, ◌∙◌, ap, ℕ, ◌+◌, ◌%◌, ◌<◌, arith, get_or, to_z-of_z}
 use Rattle.numbers.specs.Residue.{residue}
 use Rattle.numbers.proofs.Congruence.{residue-lt}
 use Rattle.lists.specs.Entries.{ints}
-use Rattle.lists.proofs.Fill.{Filled, fill_start, fill-next, fill-whole}
+use Rattle.lists.proofs.Fill.{fill_start, fill-next, fill-whole}
 use Rattle.transform.proofs.{Entrywise.noised, Small.entry-small}
 use Rattle.transform.proofs.on_transforms.add_noise.Goals as goal
 use Rattle.transform.proofs.on_transforms.add_noise.Goals.{After-lifted}

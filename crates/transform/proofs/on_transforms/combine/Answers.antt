@@ -1,6 +1,6 @@
 -- `transform::on_transforms::combine` meets its contract: it fills with the sums.
-use Rattle.lists.proofs.Kit.{rules, refl, ◌∙◌, ◌+◌, ◌-◌, ◌*◌, ◌%◌, arith, get_or}
-use Rattle.lists.proofs.Fill.{Filled, fill_start, fill-next, fill-whole}
+use Rattle.lists.proofs.Kit.{refl, ◌∙◌, arith}
+use Rattle.lists.proofs.Fill.{fill_start, fill-next, fill-whole}
 use Rattle.transform.proofs.{Joins.product-fits, Entrywise.combine-fits, Entrywise.combined}
 use Rattle.transform.proofs.on_transforms.combine.Goals as goal
 

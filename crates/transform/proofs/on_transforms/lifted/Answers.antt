@@ -1,5 +1,5 @@
 -- `transform::on_transforms::lifted` meets its contract.
-use Rattle.lists.proofs.Kit.{ap, arith, rules, nat_abs, w32}
+use Rattle.lists.proofs.Kit.{ap, arith, nat_abs, w32}
 use Rattle.numbers.proofs.{Machine.pos-cast, Congruence.residue-lt}
 use Rattle.transform.proofs.{Small.up_fits, Small.up_is, Small.stay-is}
 use Rattle.transform.proofs.on_transforms.lifted.Goals as goal

@@ -1,5 +1,5 @@
 -- `transform::on_transforms::mix_turned` meets its contract.
-use Rattle.lists.proofs.Kit.{◌∙◌, ap, List, ℕ, rules}
+use Rattle.lists.proofs.Kit.{◌∙◌, ap, List, ℕ}
 use Rattle.transform.specs.Theorems.{entrywise, summed}
 use Rattle.transform.proofs.{Sizes.transformed-below}
 use Rattle.transform.proofs.on_transforms.mix_turned.Goals as goal
@@ -10,4 +10,4 @@ combine-requires c =
 
 pub returns : goal.returns
 returns c =
-    c.combine.ensures ∙ ap (λ (y : List ℕ). summed (entrywise c.args.a.now c.args.x.now) c.before.before.before.before) c.turn.ensures
+    c.combine.ensures ∙ ap (λ (y : List ℕ). summed (entrywise c.args.a.now c.args.x.now) y) c.turn.ensures

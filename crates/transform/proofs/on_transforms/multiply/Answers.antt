@@ -1,5 +1,5 @@
 -- `transform::on_transforms::multiply` meets its contract: what is made in a local array is put out.
-use Rattle.lists.proofs.Kit.{◌∙◌, ap, rules, length}
+use Rattle.lists.proofs.Kit.{◌∙◌, ap, length}
 use Rattle.transform.proofs.Sizes.{transformed-length, transformed-below, inverted-length}
 use Rattle.transform.proofs.{Mixing.bare-through}
 use Rattle.transform.proofs.on_transforms.multiply.Goals as goal

@@ -1,6 +1,6 @@
 -- `transform::on_transforms::put` meets its contract: it fills with the entries.
-use Rattle.lists.proofs.Kit.{rules, refl, ◌∙◌, sym, ◌-◌, arith, get_or}
-use Rattle.lists.proofs.{Entries.tab-getD, Fill.Filled, Fill.fill_start, Fill.fill-next, Fill.fill-whole}
+use Rattle.lists.proofs.Kit.{refl, ◌∙◌, sym, arith}
+use Rattle.lists.proofs.{Entries.tab-getD, Fill.fill_start, Fill.fill-next, Fill.fill-whole}
 use Rattle.transform.proofs.on_transforms.put.Goals as goal
 
 pub loop-k-preserved : goal.loop-k-preserved

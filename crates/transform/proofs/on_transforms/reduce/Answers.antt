@@ -1,8 +1,8 @@
 -- `transform::on_transforms::reduce` meets its contract: it fills with the remainders.
-use Rattle.lists.proofs.Kit.{rules, ◌≡◌, ◌-◌, arith, to_z-of_z}
+use Rattle.lists.proofs.Kit.{◌≡◌, arith, to_z-of_z}
 use Rattle.numbers.specs.Residue.{residue}
 use Rattle.lists.specs.Entries.{ints}
-use Rattle.lists.proofs.Fill.{Filled, fill_start, fill-next, fill-whole}
+use Rattle.lists.proofs.Fill.{fill_start, fill-next, fill-whole}
 use Rattle.transform.specs.Level.{reduced}
 use Rattle.transform.proofs.{Small.entry-small}
 use Rattle.transform.proofs.on_transforms.reduce.Goals as goal

@@ -1,5 +1,5 @@
 -- `transform::on_transforms::reply` meets its contract.
-use Rattle.lists.proofs.Kit.{◌∙◌, ap, rules, length}
+use Rattle.lists.proofs.Kit.{◌∙◌, ap, length}
 use Rattle.transform.proofs.Sizes.{transformed-length, transformed-below}
 use Rattle.transform.proofs.{Mixing.mixed-through, Mixing.value-through}
 use Rattle.transform.proofs.on_transforms.reply.Goals as goal

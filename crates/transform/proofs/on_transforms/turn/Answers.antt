@@ -1,5 +1,5 @@
 -- `transform::on_transforms::turn` meets its contract.
-use Rattle.lists.proofs.Kit.{◌∙◌, ap, rules, length}
+use Rattle.lists.proofs.Kit.{◌∙◌, ap, length}
 use Rattle.transform.specs.Transform.{transformed}
 use Rattle.transform.proofs.{Sizes.reduced-length, Sizes.reduced-below}
 use Rattle.transform.proofs.on_transforms.turn.Goals as goal

@@ -1,5 +1,5 @@
 -- `transform::on_transforms::value` meets its contract.
-use Rattle.lists.proofs.Kit.{◌∙◌, ap, rules, length}
+use Rattle.lists.proofs.Kit.{◌∙◌, ap, length}
 use Rattle.transform.proofs.{Sizes.transformed-length, Sizes.transformed-below, Mixing.value-through}
 use Rattle.transform.proofs.on_transforms.value.Goals as goal
 

@@ -1,5 +1,5 @@
 -- `transform::on_transforms::value_turned` meets its contract.
-use Rattle.lists.proofs.Kit.{◌∙◌, ap, List, ℕ, rules, length}
+use Rattle.lists.proofs.Kit.{◌∙◌, ap, List, ℕ, length}
 use Rattle.transform.specs.{Theorems.summed, Level.reduced}
 use Rattle.transform.proofs.{Sizes.inverted-length, Sizes.inverted-below}
 use Rattle.transform.proofs.on_transforms.value_turned.Goals as goal

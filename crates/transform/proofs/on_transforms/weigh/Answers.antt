@@ -1,6 +1,6 @@
 -- `transform::on_transforms::weigh` meets its contract: it fills with the products.
-use Rattle.lists.proofs.Kit.{ap, ℕ, ◌-◌, ◌*◌, ◌%◌, arith, get_or, rules}
-use Rattle.lists.proofs.Fill.{Filled, fill_start, fill-next, fill-old, fill-whole}
+use Rattle.lists.proofs.Kit.{ap, ℕ, ◌*◌, ◌%◌, arith, get_or}
+use Rattle.lists.proofs.Fill.{fill_start, fill-next, fill-old, fill-whole}
 use Rattle.transform.specs.Theorems.{entrywise}
 use Rattle.transform.proofs.{Joins.product-fits}
 use Rattle.transform.proofs.on_transforms.weigh.Goals as goal

@@ -1,5 +1,5 @@
 -- `transform::on_transforms::weigh_back` meets its contract.
-use Rattle.lists.proofs.Kit.{◌∙◌, ap, rules, length}
+use Rattle.lists.proofs.Kit.{◌∙◌, ap, length}
 use Rattle.transform.specs.Transform.{inverted}
 use Rattle.transform.proofs.{Sizes.entrywise-length, Sizes.entrywise-below}
 use Rattle.transform.proofs.on_transforms.weigh_back.Goals as goal

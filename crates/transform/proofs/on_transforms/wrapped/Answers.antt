@@ -1,5 +1,5 @@
 -- `transform::on_transforms::wrapped` meets its contract.
-use Rattle.lists.proofs.Kit.{◌≡◌, Bool, ℕ, ◌<◌, arith, rules, ltb-true, ltb-false, ltb, pos, lt_z, w32, to_z}
+use Rattle.lists.proofs.Kit.{◌≡◌, Bool, ℕ, ◌<◌, arith, ltb-true, ltb-false, ltb, pos, lt_z, w32, to_z}
 use Rattle.numbers.proofs.Machine.{to_z_pos}
 use Rattle.transform.proofs.on_transforms.wrapped.Goals as goal
 use Rattle.transform.proofs.on_transforms.wrapped.Goals.{Then-x}
@@ -18,4 +18,4 @@ pub returns-then-x : goal.returns-then-x
 returns-then-x c = omega (arith, below (goal.at.returns-then-x c).Then-x)
 
 pub returns-else-x : goal.returns-else-x
-returns-else-x c = omega (arith, sub-result c)
+returns-else-x c = omega (arith, ltb-false _ _ (test _ c.requires c.if-x.false))
