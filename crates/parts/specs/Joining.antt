@@ -4,7 +4,7 @@
 --   SoFar        the sums of the numbers xs that have come, then the part p behind them, are those of xs ++ p
 --   Nothing      an empty part changes nothing
 --   WholeRight, WholeLeft   once all of A has come, the remainders of the sums are AS + E, and S'A + E'
-use Rattle.lists.specs.Kit.{◌≡◌, List, [], ◌++◌, ℕ, ◌+◌, ◌*◌, ◌%◌, ◌<◌, length, get_or, ℤ}
+use Rattle.std.specs.Prelude.{◌≡◌, List, [], ◌++◌, ℕ, ◌+◌, ◌*◌, ◌%◌, ◌<◌, length, get_or, ℤ}
 use Rattle.lists.specs.Ranges.{Below}
 use Rattle.matrix.specs.{Matrix.right_mixed, Matrix.left_mixed, Words.words_of, Words.columns_of, Words.gained, Words.reduced, Words.right_term, Words.left_term}
 use Rattle.parts.specs.Parts.{placed}

@@ -4,7 +4,7 @@
 --   words xs      the words of numbers: of each the lower one, and then the upper one
 --   pairs ws      words, two in each number
 --   placed at p   the matrix that holds the numbers p from entry `at` on, and zeros elsewhere: a list reads 0 past its end
-use Rattle.lists.specs.Kit.{List, [], ◌∷◌, ◌++◌, ℕ, ◌+◌, ◌*◌, ◌/◌, ◌%◌, length, get_or, replicate}
+use Rattle.std.specs.Prelude.{List, [], ◌∷◌, ◌++◌, ℕ, ◌+◌, ◌*◌, ◌/◌, ◌%◌, length, get_or, replicate}
 use Rattle.lists.specs.Entries.{tab}
 
 abbrev pub wrap : ℕ

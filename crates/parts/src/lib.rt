@@ -1,7 +1,10 @@
 // Frodo's running sums, where A comes in parts: 02, request e. The lent state holds words of 16 bits, two in each number: the secret, the sums, and the rows
 // of A that are held back. Here they are put together, from any word on, and taken apart again for crate `matrix`, whose products serve both ways. The laws,
 // that the cut makes no difference, stand in `proofs/`, once over n, the modulus and the number of rows.
-ghost use Rattle.lists.specs.Kit.{◌≡◌, ◌++◌, ◌+◌, ◌*◌, ◌%◌, ◌<◌, ◌≤◌, length, take, drop, set};
+
+#![tactic(auto)]
+
+ghost use Rattle.std.specs.Prelude.{◌≡◌, ◌++◌, ◌+◌, ◌*◌, ◌%◌, ◌<◌, ◌≤◌, length, take, drop, set};
 ghost use Rattle.lists.specs.Ranges.{Below};
 ghost use Rattle.matrix.specs.Steps.{part_term, columns_from};
 ghost use Rattle.matrix.specs.Words.{gained, right_term};

@@ -1,5 +1,5 @@
 -- `parts::add_left` meets its contract: after t rows each sum has gained t products.
-use Rattle.lists.proofs.Kit.{◌≡◌, refl, ◌∙◌, sym, ap, List, ℕ, ◌+◌, ◌*◌, ◌-◌, ◌%◌, ◌≤◌, arith, mul-le-mul_right, rules, length, take, drop}
+use Rattle.lists.proofs.Kit.{◌≡◌, refl, ◌∙◌, sym, ap, List, ℕ, ◌+◌, ◌*◌, ◌-◌, ◌≤◌, arith, mul-le-mul_right, length, take, drop}
 use Rattle.lists.proofs.Parts.{slice-long}
 use Rattle.matrix.specs.{Steps.part_term, Words.gained}
 use Rattle.matrix.proofs.Steps.{gained-length, gained-none, gained-more}
@@ -10,10 +10,10 @@ use Rattle.parts.proofs.add_left.Goals.{At-loop-t, In-loop-t, Start}
 
 module _ (c : In-loop-t) where
   abbrev at : At-loop-t
-  at = c.before
+  at = (goal.at.In-loop-t c).At-loop-t
 
   abbrev a : Start
-  a = search rules
+  a = (goal.at.In-loop-t c).Start
 
   abbrev t : ℕ
   t = at.loop-t.t
@@ -35,21 +35,21 @@ module _ (c : In-loop-t) where
 
 pub unpair-requires : goal.unpair-requires
 unpair-requires c =
-    let g = (a c.before.before).args in
-    omega (arith, slice-long (t c.before.before * g.h) (4 * g.h) g.x.now (rows c.before.before), (a c.before.before).pre.1, (a c.before.before).pre.5, (at c.before.before).loop.invariant.2)
+    let g = (a (goal.at.unpair-requires c).In-loop-t).args in
+    omega (arith, slice-long (t (goal.at.unpair-requires c).In-loop-t * g.h) (4 * g.h) g.x.now (rows (goal.at.unpair-requires c).In-loop-t), (a (goal.at.unpair-requires c).In-loop-t).requires.1, (a (goal.at.unpair-requires c).In-loop-t).requires.5, (at (goal.at.unpair-requires c).In-loop-t).loop-t.invariant.2)
 
 pub add_left-requires : goal.add_left-requires
 add_left-requires c =
-    ((a c.before.before.before.before.before.before).pre.3, inside c.before.before.before.before.before.before, block-long c.before.before.before.before.before.before c.unpair.ensures, long c.before.before.before.before.before.before)
+    ((a (goal.at.add_left-requires c).In-loop-t).requires.3, inside (goal.at.add_left-requires c).In-loop-t, block-long (goal.at.add_left-requires c).In-loop-t c.unpair.ensures, long (goal.at.add_left-requires c).In-loop-t)
 
 pub loop-t-preserved : goal.loop-t-preserved
 loop-t-preserved c =
-    let g = (a c.before.before.before.before.before.before.before.before.before).args in (
-      inside c.before.before.before.before.before.before.before.before.before,
-      omega (arith, (at c.before.before.before.before.before.before.before.before.before).loop.invariant.1),
-      block-long c.before.before.before.before.before.before.before.before.before c.unpair.ensures ∙ sym (a c.before.before.before.before.before.before.before.before.before).pre.5,
-      gained-more 65536 (t c.before.before.before.before.before.before.before.before.before) 4 (part_term g.w g.n 0 g.s.now (words g.x.now)) g.sums.now (at c.before.before.before.before.before.before.before.before.before).loop.invariant.3
-          (one_block 65536 g.n g.h g.w (t c.before.before.before.before.before.before.before.before.before) 4 g.s.now g.x.now (at c.before.before.before.before.before.before.before.before.before).loop.sums (a c.before.before.before.before.before.before.before.before.before).pre.0 (a c.before.before.before.before.before.before.before.before.before).pre.1 c.unpair.ensures c.add_left.ensures),
+    let g = (a (goal.at.loop-t-preserved c).In-loop-t).args in (
+      inside (goal.at.loop-t-preserved c).In-loop-t,
+      omega (arith, (at (goal.at.loop-t-preserved c).In-loop-t).loop-t.invariant.1),
+      block-long (goal.at.loop-t-preserved c).In-loop-t c.unpair.ensures ∙ sym (a (goal.at.loop-t-preserved c).In-loop-t).requires.5,
+      gained-more 65536 (t (goal.at.loop-t-preserved c).In-loop-t) 4 (part_term g.w g.n 0 g.s.now (words g.x.now)) g.sums.now (at (goal.at.loop-t-preserved c).In-loop-t).loop-t.invariant.3
+          (one_block 65536 g.n g.h g.w (t (goal.at.loop-t-preserved c).In-loop-t) 4 g.s.now g.x.now (at (goal.at.loop-t-preserved c).In-loop-t).loop-t.sums (a (goal.at.loop-t-preserved c).In-loop-t).requires.0 (a (goal.at.loop-t-preserved c).In-loop-t).requires.1 c.unpair.ensures c.add_left.ensures),
     )
 
 pub returns : goal.returns
@@ -66,19 +66,19 @@ pub loop-t-init : goal.loop-t-init
 loop-t-init c = (omega arith, refl, refl, sym (gained-none 65536 _ _ (λ k. omega (arith, c.type_inv.sums k))))
 
 pub overflow_mul-a : goal.overflow_mul-a
-overflow_mul-a c = omega (arith, rows c)
+overflow_mul-a c = omega (arith, rows (goal.at.overflow_mul-a c).In-loop-t)
 
 pub overflow_add-a : goal.overflow_add-a
-overflow_add-a c = omega (arith, rows c)
+overflow_add-a c = omega (arith, rows (goal.at.overflow_add-a c).In-loop-t)
 
 pub offset_bounds-x-a : goal.offset_bounds-x-a
-offset_bounds-x-a c = omega (arith, rows c)
+offset_bounds-x-a c = omega (arith, rows (goal.at.offset_bounds-x-a c).In-loop-t)
 
 pub slice_bounds-unpair-end : goal.slice_bounds-unpair-end
-slice_bounds-unpair-end c = rows c
+slice_bounds-unpair-end c = rows (goal.at.slice_bounds-unpair-end c).In-loop-t
 
 pub overflow_add-t : goal.overflow_add-t
-overflow_add-t c = omega (arith, inside c.before.before.before.before.before.before.before.before.before)
+overflow_add-t c = omega (arith, inside (goal.at.overflow_add-t c).In-loop-t)
 
 pub shape_of-block : goal.shape_of-block
 shape_of-block c = c.loop-t.invariant.2

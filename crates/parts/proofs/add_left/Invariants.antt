@@ -1,10 +1,7 @@
 -- `parts::add_left` meets its contract: after t rows each sum has gained t products.
-use Rattle.lists.proofs.Kit.{◌≡◌, refl, ◌∙◌, sym, ap, List, ℕ, ◌+◌, ◌*◌, ◌-◌, ◌%◌, ◌≤◌, arith, mul-le-mul_right, rules, length, take, drop}
-use Rattle.lists.proofs.Parts.{slice-long}
+use Rattle.lists.proofs.Kit.{◌≡◌, ◌-◌, ◌%◌, ◌≤◌, length}
 use Rattle.matrix.specs.{Steps.part_term, Words.gained}
-use Rattle.matrix.proofs.Steps.{gained-length, gained-none, gained-more}
 use Rattle.parts.specs.Parts.{words}
-use Rattle.parts.proofs.{Words.slice-words-long, Blocks.one_block}
 use Rattle.parts.proofs.add_left.Given as goal
 
 abbrev pub invariant-loop-t : goal.invariant-loop-t

@@ -1,18 +1,16 @@
 -- `parts::add_rows` meets its contract: it fills a row of sums at a time.
-use Rattle.lists.proofs.Kit.{◌≡◌, refl, ◌∙◌, sym, ap, List, ℕ, ◌+◌, ◌*◌, ◌-◌, ◌%◌, ◌≤◌, arith, rules, length, get_or, take, drop}
-use Rattle.numbers.specs.Sum.{sum_ℕ}
-use Rattle.lists.proofs.{Fill.Filled, Fill.fill_end, Fill.rows_start, Fill.rows_next, Fill.fill-rest, Parts.slice-long}
-use Rattle.matrix.specs.Words.{gained, right_term}
+use Rattle.lists.proofs.Kit.{◌≡◌, refl, ◌∙◌, sym, ap, List, ℕ, ◌+◌, ◌*◌, ◌-◌, ◌≤◌, arith, length, take, drop}
+use Rattle.lists.proofs.{Fill.fill_end, Fill.rows_start, Fill.rows_next, Fill.fill-rest, Parts.slice-long}
+use Rattle.matrix.specs.Words.{gained}
 use Rattle.matrix.proofs.Terms.{row_in}
 use Rattle.parts.specs.Parts.{words}
 use Rattle.parts.proofs.{Words.slice-words-long, Blocks.one-row}
-use Rattle.parts.proofs.add_rows.Invariants.{from}
 use Rattle.parts.proofs.add_rows.Goals as goal
 use Rattle.parts.proofs.add_rows.Goals.{In-loop-i, Start}
 
 module _ (c : In-loop-i) where
   abbrev a : Start
-  a = search rules
+  a = (goal.at.In-loop-i c).Start
 
   abbrev i : ℕ
   i = c.loop-i.i
@@ -37,24 +35,24 @@ module _ (c : In-loop-i) where
 
 pub unpair-requires : goal.unpair-requires
 unpair-requires c =
-    let g = (a c.before.before).args in
-    omega (arith, slice-long (i c.before.before * g.h) g.h g.x.now (in-x c.before.before), (a c.before.before).pre.0, (a c.before.before).pre.3, c.loop-i.invariant.1)
+    let g = (a (goal.at.unpair-requires c).In-loop-i).args in
+    omega (arith, slice-long (i (goal.at.unpair-requires c).In-loop-i * g.h) g.h g.x.now (in-x (goal.at.unpair-requires c).In-loop-i), (a (goal.at.unpair-requires c).In-loop-i).requires.0, (a (goal.at.unpair-requires c).In-loop-i).requires.3, c.loop-i.invariant.1)
 
 pub add_right-requires : goal.add_right-requires
 add_right-requires c =
-    let g = (a c.before.before.before.before.before.before).args in (
-      line-long c.before.before.before.before.before.before c.unpair.ensures ∙ omega arith,
-      (a c.before.before.before.before.before.before).pre.2,
-      slice-long (i c.before.before.before.before.before.before * 8) 8 c.loop-i.sums (row c.before.before.before.before.before.before),
+    let g = (a (goal.at.add_right-requires c).In-loop-i).args in (
+      line-long (goal.at.add_right-requires c).In-loop-i c.unpair.ensures ∙ omega arith,
+      (a (goal.at.add_right-requires c).In-loop-i).requires.2,
+      slice-long (i (goal.at.add_right-requires c).In-loop-i * 8) 8 c.loop-i.sums (row (goal.at.add_right-requires c).In-loop-i),
     )
 
 pub loop-i-preserved : goal.loop-i-preserved
 loop-i-preserved c =
-    let g = (a c.before.before.before.before.before.before.before.before.before).args in (
+    let g = (a (goal.at.loop-i-preserved c).In-loop-i).args in (
       omega arith,
-      line-long c.before.before.before.before.before.before.before.before.before c.unpair.ensures ∙ sym (a c.before.before.before.before.before.before.before.before.before).pre.3,
-      rows_next (i c.before.before.before.before.before.before.before.before.before) 8 _ c.loop-i.invariant.2 (first c.before.before.before.before.before.before.before.before.before)
-          (one-row g.n g.h (i c.before.before.before.before.before.before.before.before.before) g.x.now g.cols.now g.sums.now _ _ (a c.before.before.before.before.before.before.before.before.before).pre.0 (first c.before.before.before.before.before.before.before.before.before) (same c.before.before.before.before.before.before.before.before.before) c.unpair.ensures c.add_right.ensures),
+      line-long (goal.at.loop-i-preserved c).In-loop-i c.unpair.ensures ∙ sym (a (goal.at.loop-i-preserved c).In-loop-i).requires.3,
+      rows_next (i (goal.at.loop-i-preserved c).In-loop-i) 8 _ c.loop-i.invariant.2 (first (goal.at.loop-i-preserved c).In-loop-i)
+          (one-row g.n g.h (i (goal.at.loop-i-preserved c).In-loop-i) g.x.now g.cols.now g.sums.now _ _ (a (goal.at.loop-i-preserved c).In-loop-i).requires.0 (first (goal.at.loop-i-preserved c).In-loop-i) (same (goal.at.loop-i-preserved c).In-loop-i) c.unpair.ensures c.add_right.ensures),
     )
 
 pub returns : goal.returns
@@ -68,28 +66,28 @@ pub loop-i-init : goal.loop-i-init
 loop-i-init c = (omega arith, refl, rows_start _ _ 8)
 
 pub overflow_mul-a : goal.overflow_mul-a
-overflow_mul-a c = omega (arith, in-x c)
+overflow_mul-a c = omega (arith, in-x (goal.at.overflow_mul-a c).In-loop-i)
 
 pub overflow_mul-b : goal.overflow_mul-b
-overflow_mul-b c = omega (arith, row c)
+overflow_mul-b c = omega (arith, row (goal.at.overflow_mul-b c).In-loop-i)
 
 pub overflow_add-a : goal.overflow_add-a
-overflow_add-a c = omega (arith, in-x c)
+overflow_add-a c = omega (arith, in-x (goal.at.overflow_add-a c).In-loop-i)
 
 pub offset_bounds-x-a : goal.offset_bounds-x-a
-offset_bounds-x-a c = omega (arith, in-x c)
+offset_bounds-x-a c = omega (arith, in-x (goal.at.offset_bounds-x-a c).In-loop-i)
 
 pub slice_bounds-unpair-end : goal.slice_bounds-unpair-end
-slice_bounds-unpair-end c = in-x c
+slice_bounds-unpair-end c = in-x (goal.at.slice_bounds-unpair-end c).In-loop-i
 
 pub overflow_add-b : goal.overflow_add-b
-overflow_add-b c = omega (arith, row c.before.before.before.before.before)
+overflow_add-b c = omega (arith, row (goal.at.overflow_add-b c).In-loop-i)
 
 pub offset_bounds-sums-b : goal.offset_bounds-sums-b
-offset_bounds-sums-b c = omega (arith, row c.before.before.before.before.before)
+offset_bounds-sums-b c = omega (arith, row (goal.at.offset_bounds-sums-b c).In-loop-i)
 
 pub slice_bounds-add_right-end : goal.slice_bounds-add_right-end
-slice_bounds-add_right-end c = row c.before.before.before.before.before
+slice_bounds-add_right-end c = row (goal.at.slice_bounds-add_right-end c).In-loop-i
 
 pub shape_of-line : goal.shape_of-line
 shape_of-line c = c.loop-i.invariant.1

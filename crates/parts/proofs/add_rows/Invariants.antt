@@ -1,11 +1,9 @@
 -- `parts::add_rows` meets its contract: it fills a row of sums at a time.
-use Rattle.lists.proofs.Kit.{◌≡◌, refl, ◌∙◌, sym, ap, List, ℕ, ◌+◌, ◌*◌, ◌-◌, ◌%◌, ◌≤◌, arith, rules, length, get_or, take, drop}
+use Rattle.lists.proofs.Kit.{◌≡◌, List, ℕ, ◌+◌, ◌*◌, ◌-◌, ◌%◌, ◌≤◌, length, get_or}
 use Rattle.numbers.specs.Sum.{sum_ℕ}
-use Rattle.lists.proofs.{Fill.Filled, Fill.fill_end, Fill.rows_start, Fill.rows_next, Fill.fill-rest, Parts.slice-long}
-use Rattle.matrix.specs.Words.{gained, right_term}
-use Rattle.matrix.proofs.Terms.{row_in}
+use Rattle.lists.proofs.{Fill.Filled}
+use Rattle.matrix.specs.Words.{right_term}
 use Rattle.parts.specs.Parts.{words}
-use Rattle.parts.proofs.{Words.slice-words-long, Blocks.one-row}
 use Rattle.parts.proofs.add_rows.Given as goal
 
 abbrev pub from : ℕ → List ℕ → List ℕ → List ℕ → ℕ → ℕ

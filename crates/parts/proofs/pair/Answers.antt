@@ -1,7 +1,7 @@
 -- `parts::pair` meets its contract: it fills with numbers of two words each.
-use Rattle.lists.proofs.Kit.{refl, ◌∙◌, ap, List, ℕ, ◌+◌, ◌*◌, ◌-◌, arith, rules, length, get_or, length-set}
+use Rattle.lists.proofs.Kit.{refl, ◌∙◌, ap, ℕ, ◌+◌, ◌*◌, arith, length-set}
 use Rattle.lists.specs.Entries.{tab}
-use Rattle.lists.proofs.Fill.{Filled, fill_start, fill-next, fill_end}
+use Rattle.lists.proofs.Fill.{fill_start, fill-next, fill_end}
 use Rattle.parts.specs.Parts.{pairs}
 use Rattle.parts.proofs.pair.Invariants.{from}
 use Rattle.parts.proofs.pair.Goals as goal

@@ -1,7 +1,7 @@
 -- `parts::pair_numbers` meets its contract: it fills with numbers of two words each.
-use Rattle.lists.proofs.Kit.{refl, ◌∙◌, ap, List, ℕ, ◌+◌, ◌*◌, ◌-◌, ◌<◌, arith, rules, length, get_or, length-set}
+use Rattle.lists.proofs.Kit.{refl, ◌∙◌, ap, ℕ, ◌+◌, ◌*◌, ◌<◌, arith, get_or, length-set}
 use Rattle.lists.specs.Entries.{tab}
-use Rattle.lists.proofs.Fill.{Filled, fill_start, fill-next, fill_end}
+use Rattle.lists.proofs.Fill.{fill_start, fill-next, fill_end}
 use Rattle.parts.specs.Parts.{pairs}
 use Rattle.parts.proofs.pair_numbers.Invariants.{from}
 use Rattle.parts.proofs.pair_numbers.Goals as goal
@@ -10,7 +10,7 @@ use Rattle.parts.proofs.pair_numbers.Goals.{In-loop-i, Start}
 -- numbers of 16 bits
 module _ (c : In-loop-i) where
   abbrev a : Start
-  a = search rules
+  a = (goal.at.In-loop-i c).Start
 
   abbrev x : ℕ
   x = get_or a.args.xs.now (2 * c.loop-i.i) 0
@@ -36,10 +36,10 @@ pub loop-i-init : goal.loop-i-init
 loop-i-init c = fill_start _ _
 
 pub overflow_mul-out-in-loop-i-2 : goal.overflow_mul-out-in-loop-i-2
-overflow_mul-out-in-loop-i-2 c = record { fits = omega (arith, upper c.before.before) }
+overflow_mul-out-in-loop-i-2 c = record { fits = omega (arith, upper (goal.at.overflow_mul-out-in-loop-i-2 c).In-loop-i) }
 
 pub overflow_add-out-in-loop-i : goal.overflow_add-out-in-loop-i
-overflow_add-out-in-loop-i c = record { fits = omega (arith, lower c.before.before, upper c.before.before) }
+overflow_add-out-in-loop-i c = record { fits = omega (arith, lower (goal.at.overflow_add-out-in-loop-i c).In-loop-i, upper (goal.at.overflow_add-out-in-loop-i c).In-loop-i) }
 
 pub loop-i-smaller : goal.loop-i-smaller
 loop-i-smaller c = simp length-set (omega arith)

@@ -1,8 +1,6 @@
 -- `parts::pair_numbers` meets its contract: it fills with numbers of two words each.
-use Rattle.lists.proofs.Kit.{refl, ◌∙◌, ap, List, ℕ, ◌+◌, ◌*◌, ◌-◌, ◌<◌, arith, rules, length, get_or, length-set}
-use Rattle.lists.specs.Entries.{tab}
-use Rattle.lists.proofs.Fill.{Filled, fill_start, fill-next, fill_end}
-use Rattle.parts.specs.Parts.{pairs}
+use Rattle.lists.proofs.Kit.{List, ℕ, ◌+◌, ◌*◌, ◌-◌, length, get_or}
+use Rattle.lists.proofs.Fill.{Filled}
 use Rattle.parts.proofs.pair_numbers.Given as goal
 
 abbrev pub from : List ℕ → ℕ → ℕ

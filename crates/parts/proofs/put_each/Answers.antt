@@ -1,5 +1,5 @@
 -- `parts::put_each` meets its contract: after k turns k words are laid.
-use Rattle.lists.proofs.Kit.{◌≡◌, refl, ◌∙◌, sym, ap, List, ◌++◌, append_assoc, ℕ, ◌+◌, ◌-◌, ◌<◌, ◌≤◌, add-one, arith, rules, length, get_or, set, take, drop}
+use Rattle.lists.proofs.Kit.{◌≡◌, refl, ◌∙◌, sym, ap, List, ◌++◌, append_assoc, ℕ, ◌+◌, ◌<◌, ◌≤◌, add-one, arith, length, get_or, set, take, drop}
 use Rattle.lists.proofs.Kit.{take_all}
 use lib.Seq.{paste, paste-zero, paste-suc, length-paste}
 use Rattle.parts.specs.Parts.{words, pairs}
@@ -43,7 +43,7 @@ pub loop-k-preserved : goal.loop-k-preserved
 loop-k-preserved c =
     let g = c.args in
     let b = c.loop-k in
-    let e = put_next (words g.out.now) g.at g.ws.now b.k b.invariant.2 (omega (arith, words_long g.out.now)) c.loop-k-test.taken c.put_word.ensures in
+    let e = put_next (words g.out.now) g.at g.ws.now b.k b.invariant.2 (omega (arith, words_long g.out.now)) c.loop-k-test.true c.put_word.ensures in
     (omega arith, lasting g.at g.ws.now (b.k + 1) _ _ e (omega arith) (omega (arith, words_long g.out.now)), e)
 
 pub returns : goal.returns

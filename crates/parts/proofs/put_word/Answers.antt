@@ -1,15 +1,8 @@
 -- `parts::put_word` meets its contract: the other word of the number stays.
-use Rattle.lists.proofs.Kit.{◌≡◌, ◌∙◌, ap, ℕ, ◌+◌, ◌*◌, ◌/◌, arith, rules, set}
+use Rattle.lists.proofs.Kit.{◌≡◌, ◌∙◌, ap, ℕ, ◌+◌, ◌*◌, ◌/◌, arith, set}
 use Rattle.parts.specs.Parts.{words}
 use Rattle.parts.proofs.{Words.set-lower, Words.set-upper}
 use Rattle.parts.proofs.put_word.Goals as goal
-
--- a number of 32 bits
-pub overflow_mul-out : goal.overflow_mul-out
-overflow_mul-out c = record { fits = omega (arith, c.type_inv.out (c.args.k / 2)) }
-
-pub overflow_add-out : goal.overflow_add-out
-overflow_add-out c = record { fits = omega (arith, c.type_inv.out (c.args.k / 2)) }
 
 pub returns-then-k-eq0 : goal.returns-then-k-eq0
 returns-then-k-eq0 c =

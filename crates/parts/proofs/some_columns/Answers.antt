@@ -1,17 +1,15 @@
 -- `parts::some_columns` meets its contract: it fills with the words of one row of S' at a time.
-use Rattle.lists.proofs.Kit.{◌≡◌, ◌∙◌, sym, ap, List, ℕ, ◌+◌, ◌*◌, ◌-◌, ◌/◌, ◌%◌, ◌≤◌, arith, rules, length, get_or}
-use Rattle.lists.proofs.{Fill.Filled, Fill.fill-whole, Fill.rows_start, Fill.rows_next, Parts.slice-long}
+use Rattle.lists.proofs.Kit.{◌≡◌, ◌∙◌, sym, ap, ℕ, ◌+◌, ◌*◌, ◌≤◌, arith, length}
+use Rattle.lists.proofs.{Fill.fill-whole, Fill.rows_start, Fill.rows_next, Parts.slice-long}
 use Rattle.matrix.specs.Steps.{columns_from}
 use Rattle.matrix.proofs.Terms.{row_in}
-use Rattle.parts.specs.Parts.{words}
 use Rattle.parts.proofs.{Blocks.columns-row}
-use Rattle.parts.proofs.some_columns.Invariants.{from}
 use Rattle.parts.proofs.some_columns.Goals as goal
 use Rattle.parts.proofs.some_columns.Goals.{In-loop-k, Start}
 
 module _ (c : In-loop-k) where
   abbrev a : Start
-  a = search rules
+  a = (goal.at.In-loop-k c).Start
 
   abbrev k : ℕ
   k = c.loop-k.k
@@ -30,18 +28,18 @@ module _ (c : In-loop-k) where
   row : k * w + w ≤ length c.loop-k.out
   row = rw c.loop-k.invariant.1.long first
 
-pub unpair-requires : goal.unpair-requires
-unpair-requires c =
-    let g = (a c.before.before).args in
-    let e = slice-long (k c.before.before * g.h + g.r) g.c g.secret.now (in-secret c.before.before) in
-    slice-long (k c.before.before * w c.before.before) (w c.before.before) c.loop-k.out (row c.before.before) ∙ sym (ap (λ (j : ℕ). 2 * j) e)
-
 pub loop-k-preserved : goal.loop-k-preserved
 loop-k-preserved c =
-    let g = (a c.before.before.before.before.before).args in (
+    let g = (a (goal.at.loop-k-preserved c).In-loop-k).args in (
       omega arith,
-      rows_next (k c.before.before.before.before.before) (w c.before.before.before.before.before) _ c.loop-k.invariant.1 (first c.before.before.before.before.before) (columns-row g.h g.r g.c (k c.before.before.before.before.before) g.secret.now (in-secret c.before.before.before.before.before) c.unpair.ensures),
+      rows_next (k (goal.at.loop-k-preserved c).In-loop-k) (w (goal.at.loop-k-preserved c).In-loop-k) _ c.loop-k.invariant.1 (first (goal.at.loop-k-preserved c).In-loop-k) (columns-row g.h g.r g.c (k (goal.at.loop-k-preserved c).In-loop-k) g.secret.now (in-secret (goal.at.loop-k-preserved c).In-loop-k) c.unpair.ensures),
     )
+
+pub unpair-requires : goal.unpair-requires
+unpair-requires c =
+    let g = (a (goal.at.unpair-requires c).In-loop-k).args in
+    let e = slice-long (k (goal.at.unpair-requires c).In-loop-k * g.h + g.r) g.c g.secret.now (in-secret (goal.at.unpair-requires c).In-loop-k) in
+    slice-long (k (goal.at.unpair-requires c).In-loop-k * w (goal.at.unpair-requires c).In-loop-k) (w (goal.at.unpair-requires c).In-loop-k) c.loop-k.out (row (goal.at.unpair-requires c).In-loop-k) ∙ sym (ap (λ (j : ℕ). 2 * j) e)
 
 pub returns : goal.returns
 unfolding columns_from
@@ -56,31 +54,31 @@ pub loop-k-init : goal.loop-k-init
 loop-k-init c = (omega arith, rows_start _ _ (2 * c.args.c))
 
 pub overflow_mul-a : goal.overflow_mul-a
-overflow_mul-a c = omega (arith, in-secret c)
+overflow_mul-a c = omega (arith, in-secret (goal.at.overflow_mul-a c).In-loop-k)
 
 pub overflow_add-a : goal.overflow_add-a
-overflow_add-a c = omega (arith, in-secret c)
+overflow_add-a c = omega (arith, in-secret (goal.at.overflow_add-a c).In-loop-k)
 
 pub overflow_mul-b : goal.overflow_mul-b
-overflow_mul-b c = omega (arith, row c)
+overflow_mul-b c = omega (arith, row (goal.at.overflow_mul-b c).In-loop-k)
 
 pub overflow_add-a-in-loop-k : goal.overflow_add-a-in-loop-k
-overflow_add-a-in-loop-k c = omega (arith, in-secret c)
+overflow_add-a-in-loop-k c = omega (arith, in-secret (goal.at.overflow_add-a-in-loop-k c).In-loop-k)
 
 pub offset_bounds-secret-a : goal.offset_bounds-secret-a
-offset_bounds-secret-a c = omega (arith, in-secret c)
+offset_bounds-secret-a c = omega (arith, in-secret (goal.at.offset_bounds-secret-a c).In-loop-k)
 
 pub slice_bounds-unpair-end : goal.slice_bounds-unpair-end
-slice_bounds-unpair-end c = in-secret c
+slice_bounds-unpair-end c = in-secret (goal.at.slice_bounds-unpair-end c).In-loop-k
 
 pub overflow_add-b : goal.overflow_add-b
-overflow_add-b c = omega (arith, row c.before)
+overflow_add-b c = omega (arith, row (goal.at.overflow_add-b c).In-loop-k)
 
 pub offset_bounds-out-b : goal.offset_bounds-out-b
-offset_bounds-out-b c = omega (arith, row c.before)
+offset_bounds-out-b c = omega (arith, row (goal.at.offset_bounds-out-b c).In-loop-k)
 
 pub slice_bounds-unpair-end-in-loop-k : goal.slice_bounds-unpair-end-in-loop-k
-slice_bounds-unpair-end-in-loop-k c = row c.before
+slice_bounds-unpair-end-in-loop-k c = row (goal.at.slice_bounds-unpair-end-in-loop-k c).In-loop-k
 
 pub shape_of-out : goal.shape_of-out
 shape_of-out c = c.loop-k.invariant.1.long

@@ -1,10 +1,7 @@
 -- `parts::some_columns` meets its contract: it fills with the words of one row of S' at a time.
-use Rattle.lists.proofs.Kit.{◌≡◌, ◌∙◌, sym, ap, List, ℕ, ◌+◌, ◌*◌, ◌-◌, ◌/◌, ◌%◌, ◌≤◌, arith, rules, length, get_or}
-use Rattle.lists.proofs.{Fill.Filled, Fill.fill-whole, Fill.rows_start, Fill.rows_next, Parts.slice-long}
-use Rattle.matrix.specs.Steps.{columns_from}
-use Rattle.matrix.proofs.Terms.{row_in}
+use Rattle.lists.proofs.Kit.{List, ℕ, ◌+◌, ◌*◌, ◌-◌, ◌/◌, ◌%◌, ◌≤◌, get_or}
+use Rattle.lists.proofs.{Fill.Filled}
 use Rattle.parts.specs.Parts.{words}
-use Rattle.parts.proofs.{Blocks.columns-row}
 use Rattle.parts.proofs.some_columns.Given as goal
 
 abbrev pub from : ℕ → ℕ → ℕ → List ℕ → ℕ → ℕ

@@ -1,9 +1,7 @@
 -- `parts::unpair` meets its contract: it fills with the words, two at a time.
-use Rattle.lists.proofs.Kit.{◌≡◌, ◌∙◌, sym, ap, List, ℕ, ◌+◌, ◌*◌, ◌-◌, ◌≤◌, arith, rules, length, get_or, length-set}
-use Rattle.lists.specs.Entries.{tab}
-use Rattle.lists.proofs.{Entries.tab-getD, Fill.Filled, Fill.fill_start, Fill.fill-next, Fill.fill_end}
+use Rattle.lists.proofs.Kit.{List, ℕ, ◌*◌, ◌-◌, ◌≤◌, length, get_or}
+use Rattle.lists.proofs.{Fill.Filled}
 use Rattle.parts.specs.Parts.{words}
-use Rattle.parts.proofs.{Words.words_long, Words.words-even, Words.words-odd}
 use Rattle.parts.proofs.unpair.Given as goal
 
 abbrev pub from : List ℕ → ℕ → ℕ
