@@ -1,6 +1,9 @@
 // SHAKE-128 and SHA3-256 by FIPS 202, on bytes and for a message of any length: padding, absorbing and squeezing (sections 4 to 6) around the permutation of
 // crate `keccak`. A function that writes fills the whole of the slice it is lent, but for `lay_digest`.
-ghost use Rattle.lists.specs.Kit.{◌≡◌, ◌++◌, ◌+◌, ◌-◌, ◌*◌, ◌/◌, ◌%◌, ◌^◌, ◌<◌, ◌≤◌, length, drop};
+
+#![tactic(auto)]
+
+ghost use Rattle.std.specs.Prelude.{◌≡◌, ◌++◌, ◌+◌, ◌-◌, ◌*◌, ◌/◌, ◌%◌, ◌^◌, ◌<◌, ◌≤◌, length, drop};
 ghost use Rattle.lists.specs.Entries.{tab};
 ghost use Rattle.packing.specs.Packing.{value};
 ghost use Rattle.keccak.specs.Keccak.{keccak_f};

@@ -1,8 +1,8 @@
 -- `sponge::absorb` meets its contract: whole blocks of the message, then the last one.
-use Rattle.lists.proofs.Kit.{sym, subst, ◌-◌, ◌*◌, arith, length, length-take, length-drop, rules}
+use Rattle.lists.proofs.Kit.{sym, subst, arith, length, length-take, length-drop}
 use Rattle.lists.proofs.Parts.{slice-long}
 use Rattle.sponge.specs.Fit.{WholeLanes}
-use Rattle.sponge.proofs.Absorbing.{few-blocks, Absorbed, absorb-none, absorb-more, absorb-all}
+use Rattle.sponge.proofs.Absorbing.{few-blocks, absorb-none, absorb-more, absorb-all}
 use Rattle.sponge.proofs.absorb.Goals as goal
 
 pub xor_block-x-requires : goal.xor_block-x-requires

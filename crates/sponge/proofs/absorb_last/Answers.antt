@@ -1,5 +1,5 @@
 -- `sponge::absorb_last` meets its contract.
-use Rattle.lists.proofs.Kit.{◌∙◌, ap, rules}
+use Rattle.lists.proofs.Kit.{◌∙◌, ap}
 use Rattle.keccak.specs.Keccak.{keccak_f}
 use Rattle.sponge.specs.Sponge.{over}
 use Rattle.sponge.proofs.absorb_last.Goals as goal

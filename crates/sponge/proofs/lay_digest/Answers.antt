@@ -1,5 +1,6 @@
 -- `sponge::lay_digest` meets its contract.
-use Rattle.lists.proofs.Kit.{sym, ap, List, ◌++◌, drop, rules}
+use Rattle.lists.proofs.Kit.{sym, ap, List, drop}
+use Rattle.std.proofs.Common.{◌++◌}
 use Rattle.lists.proofs.Parts.{front_long}
 use Rattle.sponge.proofs.lay_digest.Goals as goal
 

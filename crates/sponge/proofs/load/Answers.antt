@@ -1,5 +1,5 @@
 -- `sponge::load` meets its contract.
-use Rattle.lists.proofs.Kit.{◌∙◌, rules}
+use Rattle.lists.proofs.Kit.{◌∙◌}
 use Rattle.sponge.proofs.{Lanes.eight}
 use Rattle.sponge.proofs.load.Goals as goal
 

@@ -1,5 +1,6 @@
 -- `sponge::pad` meets its contract.
-use Rattle.lists.proofs.Kit.{sym, ◌+◌, arith, length, rules}
+use Rattle.lists.proofs.Kit.{sym, arith, length}
+use Rattle.std.proofs.Common.{◌+◌}
 use Rattle.sponge.proofs.{Ending.front_fits, Ending.one-length, Ending.two-length, Ending.ending-one, Ending.ending-two}
 use Rattle.sponge.proofs.pad.Goals as goal
 
@@ -29,4 +30,5 @@ returns c =
     ending-two c.args.rest.now (length c.args.block.now) c.copy_bytes.ensures c.zero_bytes.ensures c.args.suffix (omega arith)
 
 pub copy_bytes-requires : goal.copy_bytes-requires
-copy_bytes-requires c = slice-aggregate-copy-bytes c
+copy_bytes-requires c =
+    sym (front_fits _ (length c.args.block.now) c.zero_bytes.ensures (omega arith))

@@ -1,7 +1,6 @@
 -- `sponge::put` meets its contract: it fills eight bytes at a time, and then one.
-use Rattle.lists.proofs.Kit.{◌≡◌, refl, ◌∙◌, ◌-◌, ◌*◌, ◌≤◌, arith, length, length-take, length-drop, rules}
-use Rattle.lists.proofs.Fill.{Filled, fill-next, fill-whole, rows_start, rows_next}
-use Rattle.sponge.specs.Sponge.{byte_at}
+use Rattle.lists.proofs.Kit.{refl, ◌∙◌, arith, length-take, length-drop}
+use Rattle.lists.proofs.Fill.{fill-next, fill-whole, rows_start, rows_next}
 use Rattle.sponge.proofs.{Lanes.lane-bytes, Lanes.fill-again}
 use Rattle.sponge.proofs.put.Goals as goal
 
@@ -10,7 +9,7 @@ store-requires c = simp (length-take, length-drop) (omega arith)
 
 pub loop-i-preserved : goal.loop-i-preserved
 loop-i-preserved c =
-    (omega arith, rows_next c.loop-i.i 8 _ c.loop-i.invariant.1 (omega arith) (c.store.ensures ∙ lane-bytes c.args.t1 c.loop-i.i))
+    (omega arith, rows_next c.loop-i.i 8 _ c.loop-i.invariant.1 (omega arith) (c.store.ensures ∙ lane-bytes c.args.s c.loop-i.i))
 
 pub loop-k-init : goal.loop-k-init
 loop-k-init c =

@@ -1,8 +1,8 @@
 -- `sponge::put` meets its contract: it fills eight bytes at a time, and then one.
-use Rattle.lists.proofs.Kit.{◌≡◌, refl, ◌∙◌, ◌-◌, ◌*◌, ◌≤◌, arith, length, length-take, length-drop, rules}
-use Rattle.lists.proofs.Fill.{Filled, fill-next, fill-whole, rows_start, rows_next}
+use Rattle.lists.proofs.Kit.{length}
+use Rattle.std.proofs.Common.{◌≡◌, ◌-◌, ◌*◌, ◌≤◌}
+use Rattle.lists.proofs.Fill.{Filled}
 use Rattle.sponge.specs.Sponge.{byte_at}
-use Rattle.sponge.proofs.{Lanes.lane-bytes, Lanes.fill-again}
 use Rattle.sponge.proofs.put.Given as goal
 
 abbrev pub invariant-loop-i : goal.invariant-loop-i
@@ -11,7 +11,7 @@ invariant-loop-i l = (l.i ≤ l.lanes) × Filled (byte_at l.s) l.initial.out l.o
 abbrev pub decreases-loop-i : goal.decreases-loop-i
 decreases-loop-i l = l.lanes - l.i
 
--- out₀ is what the first loop has left
+-- l.initial.out is what the first loop has left
 abbrev pub invariant-loop-k : goal.invariant-loop-k
 invariant-loop-k l = (length l.initial.out ≡ l.n) × Filled (byte_at l.s) l.initial.out l.out l.k
 

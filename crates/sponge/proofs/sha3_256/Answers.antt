@@ -1,5 +1,5 @@
 -- `sponge::sha3_256` meets its contract.
-use Rattle.lists.proofs.Kit.{ap₂, ◌∙◌, List, ℕ, rules}
+use Rattle.lists.proofs.Kit.{ap₂, ◌∙◌, List, ℕ}
 use Rattle.sponge.specs.Sponge.{squeezed, sha3}
 use Rattle.sponge.proofs.sha3_256.Goals as goal
 

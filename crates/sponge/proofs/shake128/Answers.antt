@@ -1,5 +1,5 @@
 -- `sponge::shake128` meets its contract.
-use Rattle.lists.proofs.Kit.{ap, ◌∙◌, List, ℕ, length, rules}
+use Rattle.lists.proofs.Kit.{ap, ◌∙◌, List, ℕ, length}
 use Rattle.sponge.specs.Sponge.{squeezed, shake128}
 use Rattle.sponge.proofs.shake128.Goals as goal
 

@@ -1,6 +1,7 @@
 -- `sponge::squeeze` meets its contract: whole blocks of the output, then the last one.
-use Rattle.lists.proofs.Kit.{◌∙◌, ◌-◌, ◌*◌, arith, length, length-take, length-drop, same_len_mid, rules}
-use Rattle.sponge.proofs.Squeezing.{Squeezed, squeeze-none, squeeze-more, squeeze-all}
+use Rattle.lists.proofs.Kit.{◌∙◌, arith, length, length-take, length-drop, same_len_mid}
+use Rattle.std.proofs.Common.{◌-◌, ◌*◌}
+use Rattle.sponge.proofs.Squeezing.{squeeze-none, squeeze-more, squeeze-all}
 use Rattle.sponge.proofs.{Absorbing.few-blocks}
 use Rattle.sponge.proofs.squeeze.Goals as goal
 
@@ -13,7 +14,7 @@ overflow_add-j c =
 
 pub loop-j-preserved : goal.loop-j-preserved
 loop-j-preserved c =
-    squeeze-more c.loop-j.invariant c.put.last.1.0 c.permute-u.result (omega arith) c.put.ensures c.permute-u.ensures
+    squeeze-more c.loop-j.invariant c.put.new.out c.permute-u.result (omega arith) c.put.ensures c.permute-u.ensures
 
 pub put-requires-2 : goal.put-requires-2
 put-requires-2 c = simp (length-take, length-drop) (omega arith)
@@ -22,12 +23,12 @@ pub shape_of-out : goal.shape_of-out
 shape_of-out c =
     let p = c.put-2 in
     let at = c.loop-j.j * c.args.rate in
-    same_len_mid at (length c.loop-j.out - at) c.loop-j.out p.new.1.0 p.auto.1.0 ∙ c.loop-j.invariant.filled.long
+    same_len_mid at (length c.loop-j.out - at) c.loop-j.out p.new.out p.auto.out ∙ c.loop-j.invariant.filled.long
 
 pub returns : goal.returns
 returns c =
     let p = c.put-2 in
-    squeeze-all c.loop-j.invariant p.new.1.0 (omega arith) p.ensures
+    squeeze-all c.loop-j.invariant p.new.out (omega arith) p.ensures
 
 pub loop-j-init : goal.loop-j-init
 loop-j-init c = squeeze-none _ _ _

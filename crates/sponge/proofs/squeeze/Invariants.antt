@@ -1,7 +1,6 @@
 -- `sponge::squeeze` meets its contract: whole blocks of the output, then the last one.
-use Rattle.lists.proofs.Kit.{◌∙◌, ◌-◌, ◌*◌, arith, length, length-take, length-drop, same_len_mid, rules}
-use Rattle.sponge.proofs.Squeezing.{Squeezed, squeeze-none, squeeze-more, squeeze-all}
-use Rattle.sponge.proofs.{Absorbing.few-blocks}
+use Rattle.std.proofs.Common.{◌-◌, ◌*◌}
+use Rattle.sponge.proofs.Squeezing.{Squeezed}
 use Rattle.sponge.proofs.squeeze.Given as goal
 
 abbrev pub invariant-loop-j : goal.invariant-loop-j

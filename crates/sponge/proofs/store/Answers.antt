@@ -1,5 +1,5 @@
 -- `sponge::store` meets its contract.
-use Rattle.lists.proofs.Kit.{refl, arith, length-set, rules}
+use Rattle.lists.proofs.Kit.{refl, arith, length-set}
 use Rattle.sponge.proofs.{Lanes.eight-stored}
 use Rattle.sponge.proofs.store.Goals as goal
 

@@ -1,7 +1,7 @@
 -- `sponge::xor_block` meets its contract: it fills the first lanes, and over the others nothing is laid.
-use Rattle.lists.proofs.Kit.{rules, ◌≤◌, ◌-◌, arith, length-take, length-drop}
-use Rattle.lists.proofs.Fill.{Filled, fill_start}
-use Rattle.sponge.proofs.{Lanes.laid, Lanes.laid_next, Lanes.laid-all}
+use Rattle.lists.proofs.Kit.{arith, length-take, length-drop}
+use Rattle.lists.proofs.Fill.{fill_start}
+use Rattle.sponge.proofs.{Lanes.laid_next, Lanes.laid-all}
 use Rattle.sponge.proofs.xor_block.Goals as goal
 
 pub load-x-requires : goal.load-x-requires
