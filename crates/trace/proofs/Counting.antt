@@ -1,7 +1,8 @@
 -- The loop over a trace.
 --   Going, going-none, going_more, going-many, going-other, going-all   before, at each turn, and at its three ends
 --   pair-known   what two lines gave: scheme 0 to 5, a slack of ten digits
-use Rattle.lists.proofs.Kit.{◌≡◌, ◌∙◌, sym, ap, subst, List, ℕ, suc, ◌+◌, ◌-◌, ◌≤◌, ◌<◌, arith, length, drop, drop_of_length-le}
+use Rattle.lists.proofs.Kit.{◌∙◌, sym, ap, subst, List, ℕ, suc, arith, length, drop, drop_of_length-le}
+use Rattle.std.proofs.Common.{◌≡◌, ◌+◌, ◌-◌, ◌≤◌, ◌<◌}
 use Rattle.lists.proofs.Kit.{length-drop}
 use Rattle.text.specs.Text.{line, refusal_name}
 use Rattle.trace.specs.Steps.{Tally, two_of, end_of, Reads, zeros, added, summary_of, Held, Pair}

@@ -1,7 +1,8 @@
 -- A trace is exactly its lines (`specs/Exactly.antt`).
 --   no_other, exactly   a trace is read as its exchanges, and no other text is
 --   empty               an empty trace prints nothing
-use Rattle.lists.proofs.Kit.{◌≡◌, refl, ◌∙◌, ap, subst, List, [], ◌∷◌, ◌++◌, ℕ, zero, suc, ◌≤◌, ◌<◌, arith, length, length-append}
+use Rattle.lists.proofs.Kit.{refl, ◌∙◌, ap, subst, List, [], ℕ, zero, suc, arith, length, length-append}
+use Rattle.std.proofs.Common.{◌≡◌, ◌∷◌, ◌++◌, ◌≤◌, ◌<◌}
 use Rattle.text.specs.Text.{scheme_name, line}
 use Rattle.text.proofs.Writing.{line-length}
 use Rattle.trace.specs.Trace.{slack_name, Exchange, traced, Two, two, neither, two_in, Trace, recorded, unread, more, behind, recorded_in, slacks_of, block}

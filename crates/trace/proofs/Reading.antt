@@ -1,7 +1,8 @@
 -- Two lines of a trace: what the functions that read them rest on, and both ways.
 --   slack-other, slack-read, two-other, two-bad, two-read   what they find
 --   two-forth, two_back                                     two lines are read as their numbers, and nothing else is
-use Rattle.lists.proofs.Kit.{◌≡◌, refl, ◌∙◌, ap₂, List, ◌++◌, Bool, true, false, cond, ℕ, ◌≤◌, ◌<◌, ◌^◌, arith, leb, drop, leb-true, le-leb, lt-leb}
+use Rattle.lists.proofs.Kit.{refl, ◌∙◌, ap₂, List, Bool, true, false, cond, ℕ, arith, leb, drop, leb-true, le-leb, lt-leb}
+use Rattle.std.proofs.Common.{◌≡◌, ◌++◌, ◌≤◌, ◌<◌, ◌^◌}
 use Rattle.text.specs.{Text.scheme_name, Text.line, Text.Read, Text.number, Text.other, Text.field_in, declared.Found.Found}
 use Rattle.text.proofs.Lines.{line-forth, line-back, told-number, told-within, told-other}
 use Rattle.trace.specs.{Trace.slack_name, Trace.two, Trace.neither, Trace.slack_in, Trace.scheme_in, Trace.two_in, Steps.Reads, Steps.Pair}

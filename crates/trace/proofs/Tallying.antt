@@ -3,7 +3,8 @@
 --   run_end, run-over, run_more, run-other   at the end, over the limit, with one exchange more, and with other text
 --   answer-is                from zeros on it is the answer
 --   held_none, made-is       how large they are: before, and after one exchange more
-use Rattle.lists.proofs.Kit.{◌≡◌, refl, sym, ap, subst, Bool, true, false, cond, List, [], ◌∷◌, ℕ, zero, suc, ◌+◌, ◌*◌, ◌≤◌, ◌<◌, max, arith, eqb, length}
+use Rattle.lists.proofs.Kit.{refl, sym, ap, subst, Bool, true, false, cond, List, [], ℕ, zero, suc, max, arith, eqb, length}
+use Rattle.std.proofs.Common.{◌≡◌, ◌∷◌, ◌+◌, ◌*◌, ◌≤◌, ◌<◌}
 use Rattle.lists.proofs.Kit.{get_or, set, replicate, length-set, get_or-set_same, get_or-set_other, eqb-true, eqb-false}
 use Rattle.lists.specs.First.{largest_by}
 use Rattle.lists.proofs.{Table.cond-all, Entries.below-zeros}

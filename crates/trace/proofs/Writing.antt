@@ -2,7 +2,8 @@
 --   block_none, block-left     a scheme's lines: none, or in parts
 --   Blocks, blocks-none, blocks-room, blocks_more, blocks-all   a loop over the schemes: before, at each turn, after
 --   text-whole, text-lost      the text, by whether the whole trace was read
-use Rattle.lists.proofs.Kit.{◌≡◌, refl, sym, ap, subst, true, false, List, [], ◌∷◌, ◌++◌, append-nil, ℕ, zero, suc, ◌+◌, ◌≤◌, ◌<◌, add-one, arith, length}
+use Rattle.lists.proofs.Kit.{refl, sym, ap, subst, true, false, List, [], append-nil, ℕ, zero, suc, add-one, arith, length}
+use Rattle.std.proofs.Common.{◌≡◌, ◌∷◌, ◌++◌, ◌+◌, ◌≤◌, ◌<◌}
 use Rattle.lists.proofs.Kit.{drop, eq-eqb, ne_eqb}
 use Rattle.text.specs.{Text.scheme_name, Text.line, Text.refusal_name, Steps.Written}
 use Rattle.text.proofs.Writing.{joined, Left, left-all, left-room, left-next, left-none, written_none}

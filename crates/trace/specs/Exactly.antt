@@ -4,7 +4,7 @@
 --   Empty                  an empty trace prints nothing
 --   Short                  an answer has at most 372 bytes
 --   bytes, Enough          the first 53,249 bytes of a text tell its answer
-use Rattle.lists.specs.Kit.{◌≡◌, List, [], ◌∷◌, ℕ, ◌^◌, ◌≤◌, ◌<◌, length, take}
+use Rattle.std.specs.Prelude.{◌≡◌, List, [], ◌∷◌, ℕ, ◌^◌, ◌≤◌, ◌<◌, length, take}
 use Rattle.trace.specs.Trace.{Exchange, traced, recorded, recorded_in, answered}
 
 pub data Valid : List Exchange → Type 0 where

@@ -4,7 +4,7 @@
 --   Held n t              the counters of n exchanges: six of each, and how large they are
 --   summary_of t           the summary, by the counters
 --   text_of c              the text of a `Counted`: the summary, or a refusal where not the whole trace was read
-use Rattle.lists.specs.Kit.{◌≡◌, cond, List, ◌++◌, ℕ, ◌+◌, ◌*◌, ◌≤◌, max, length, get_or, set, drop, replicate}
+use Rattle.std.specs.Prelude.{◌≡◌, cond, List, ◌++◌, ℕ, ◌+◌, ◌*◌, ◌≤◌, max, length, get_or, set, drop, replicate}
 use Rattle.text.specs.Text.{line, refusal_name}
 use Rattle.trace.specs.Trace.{Two, two, neither, block}
 pub use Rattle.trace.specs.{declared.Pair.Pair, declared.Tally.Tally, declared.Counted.Counted}

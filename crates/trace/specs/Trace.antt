@@ -4,7 +4,7 @@
 --   slacks_of s ys      the slacks of the exchanges of scheme s
 --   summary ys         for each scheme present, lowest first, the lines `scheme=`, `exchanges=`, `sum=`, `largest=`
 --   answered xs        the output of every input: refusal 8 for other text, a missing slack line or more than 4,096 lines
-use Rattle.lists.specs.Kit.{cond, List, [], ◌∷◌, ◌++◌, ℕ, zero, suc, ◌+◌, eqb, leb, length}
+use Rattle.std.specs.Prelude.{cond, List, [], ◌∷◌, ◌++◌, ℕ, zero, suc, ◌+◌, eqb, leb, length}
 use Rattle.lists.specs.First.{largest_by}
 use Rattle.text.specs.Text.{scheme_name, refusal_name, line, Read, number, other, field_in}
 

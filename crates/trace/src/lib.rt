@@ -1,7 +1,10 @@
 // The trace program as a function from the input's bytes to the output's, for every input: 02, request f. One pass over the lines, with three counters for
 // each of the six schemes. No trace has more than 53,248 bytes and no answer more than 372, so a program reads 53,249 bytes at most to tell. Sums are exact:
 // 2,048 numbers of ten digits are far below 2^64.
-ghost use Rattle.lists.specs.Kit.{◌≡◌, ◌+◌, ◌≤◌, ◌<◌, max, length, drop};
+
+#![tactic(auto)]
+
+ghost use Rattle.std.specs.Prelude.{◌≡◌, ◌+◌, ◌≤◌, ◌<◌, max, length, drop};
 ghost use Rattle.text.specs.Text.{field_in};
 ghost use Rattle.text.specs.Answer.{Answers};
 ghost use Rattle.text.specs.Steps.{Written};

@@ -1,5 +1,5 @@
 -- `trace::add` meets its contract.
-use Rattle.lists.proofs.Kit.{arith, rules}
+use Rattle.lists.proofs.Kit.{arith}
 use Rattle.trace.proofs.{Tallying.made-is}
 use Rattle.trace.proofs.add.Goals as goal
 

@@ -1,5 +1,5 @@
 -- `trace::answer` meets its contract.
-use Rattle.lists.proofs.Kit.{ap, arith, length, rules}
+use Rattle.lists.proofs.Kit.{ap, arith, length}
 use Rattle.text.proofs.Answer.{answers}
 use Rattle.trace.proofs.{Short.answered-short}
 use Rattle.trace.proofs.answer.Goals as goal

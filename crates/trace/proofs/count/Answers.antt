@@ -1,6 +1,6 @@
 -- `trace::count` meets its contract.
-use Rattle.lists.proofs.Kit.{◌-◌, arith, rules}
-use Rattle.trace.proofs.Counting.{Going, going-none, going_more, going-many, going-other, going-all, pair-known}
+use Rattle.lists.proofs.Kit.{arith}
+use Rattle.trace.proofs.Counting.{going-none, going_more, going-many, going-other, going-all, pair-known}
 use Rattle.trace.proofs.count.Goals as goal
 
 pub returns-then-n-ge2048 : goal.returns-then-n-ge2048

@@ -1,6 +1,6 @@
 -- `trace::count` meets its contract.
-use Rattle.lists.proofs.Kit.{◌-◌, arith, rules}
-use Rattle.trace.proofs.Counting.{Going, going-none, going_more, going-many, going-other, going-all, pair-known}
+use Rattle.std.proofs.Common.{◌-◌}
+use Rattle.trace.proofs.Counting.{Going}
 use Rattle.trace.proofs.count.Given as goal
 
 abbrev pub invariant-loop-at : goal.invariant-loop-at

@@ -1,5 +1,4 @@
 -- `trace::slack_line` meets its contract.
-use Rattle.lists.proofs.Kit.{rules}
 use Rattle.trace.proofs.{Reading.slack-other, Reading.slack-read}
 use Rattle.trace.proofs.slack_line.Goals as goal
 

@@ -1,5 +1,5 @@
 -- `trace::two_lines` meets its contract.
-use Rattle.lists.proofs.Kit.{arith, rules}
+use Rattle.lists.proofs.Kit.{arith}
 use Rattle.text.specs.Text.{scheme_name}
 use Rattle.text.proofs.Lines.{told-within}
 use Rattle.trace.proofs.{Reading.two-other, Reading.two-bad, Reading.two-read}

@@ -1,5 +1,5 @@
 -- `trace::write` meets its contract.
-use Rattle.lists.proofs.Kit.{ap, arith, length, rules}
+use Rattle.lists.proofs.Kit.{ap, arith, length}
 use Rattle.text.proofs.Writing.{written_as}
 use Rattle.trace.proofs.{Writing.text-whole, Writing.text-lost}
 use Rattle.trace.proofs.write.Goals as goal
@@ -14,8 +14,8 @@ write_line-requires c =
 
 pub returns-then-c : goal.returns-then-c
 returns-then-c c =
-    written_as (text-whole c.args.c c.if-c.taken) c.write_summary.ensures
+    written_as (text-whole c.args.c c.if-c.true) c.write_summary.ensures
 
 pub returns-else-c : goal.returns-else-c
 returns-else-c c =
-    written_as (text-lost c.args.c c.if-c.left) c.write_line.ensures
+    written_as (text-lost c.args.c c.if-c.false) c.write_line.ensures

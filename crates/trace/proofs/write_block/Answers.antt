@@ -1,5 +1,5 @@
 -- `trace::write_block` meets its contract.
-use Rattle.lists.proofs.Kit.{arith, rules}
+use Rattle.lists.proofs.Kit.{arith}
 use Rattle.text.proofs.Writing.{left-room, left-next, left-none}
 use Rattle.trace.proofs.{Writing.block_none, Writing.block-left}
 use Rattle.trace.proofs.write_block.Goals as goal

@@ -1,10 +1,10 @@
 -- `trace::write_summary` meets its contract.
-use Rattle.lists.proofs.Kit.{◌-◌, arith, rules}
-use Rattle.trace.proofs.Writing.{Blocks, blocks-none, blocks-room, blocks_more, blocks-all}
+use Rattle.lists.proofs.Kit.{arith}
+use Rattle.trace.proofs.Writing.{blocks-none, blocks-room, blocks_more, blocks-all}
 use Rattle.trace.proofs.write_summary.Goals as goal
 
 pub loop-scheme-init : goal.loop-scheme-init
-loop-scheme-init c = blocks-none c.args.t1 c.args.out.now c.requires
+loop-scheme-init c = blocks-none c.args.t c.args.out.now c.requires
 
 pub write_block-at-requires : goal.write_block-at-requires
 write_block-at-requires c = blocks-room c.loop-scheme.invariant (omega arith)

@@ -1,6 +1,6 @@
 -- `trace::write_summary` meets its contract.
-use Rattle.lists.proofs.Kit.{◌-◌, arith, rules}
-use Rattle.trace.proofs.Writing.{Blocks, blocks-none, blocks-room, blocks_more, blocks-all}
+use Rattle.std.proofs.Common.{◌-◌}
+use Rattle.trace.proofs.Writing.{Blocks}
 use Rattle.trace.proofs.write_summary.Given as goal
 
 abbrev pub invariant-loop-scheme : goal.invariant-loop-scheme
