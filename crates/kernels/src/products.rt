@@ -1,5 +1,5 @@
 // The products of the three families.
-ghost use Rattle.lists.specs.Kit.{◌≡◌, ◌*◌, length};
+ghost use Rattle.std.specs.Prelude.{◌≡◌, ◌*◌, length};
 ghost use Rattle.schemes.specs.Schemes.{bcns};
 ghost use Rattle.lists.specs.Ranges.{Below};
 ghost use Rattle.polynomial.specs.Steps as polynomial;

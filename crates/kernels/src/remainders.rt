@@ -1,5 +1,5 @@
 // The remainder by BCNS's q, 2^32 - 1.
-ghost use Rattle.lists.specs.Kit.{◌≡◌, ◌%◌};
+ghost use Rattle.std.specs.Prelude.{◌≡◌, ◌%◌};
 
 #[unsafe(no_mangle)]
 pub extern "C" fn numbers_fold(x: u64) -> u64

@@ -1,5 +1,4 @@
 -- `kernels::matrix_left` meets its contract: the numbers are below q.
-use Rattle.lists.proofs.Kit.{rules}
 use Rattle.kernels.proofs.products.matrix_left.Goals as goal
 
 pub returns : goal.returns
