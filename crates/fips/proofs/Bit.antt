@@ -2,7 +2,8 @@
 --   bit-lt                     it is 0 or 1
 --   bit-suc, bit-low           of a half, and of the low part
 --   bit-xor, bit-and, bit-flip, bit-rot   of two lanes added, of two multiplied, of one flipped, and of one turned
-use Rattle.lists.proofs.Kit.{◌≡◌, refl, sym, ap, ap₂, ◌∙◌, ⊎_elim, ℕ, zero, suc, ◌+◌, ◌-◌, ◌*◌, ◌/◌, ◌%◌, ◌^◌, ◌≤◌, ◌<◌, min, mod-lt, mod-eq_of_lt}
+use Rattle.lists.proofs.Kit.{refl, sym, ap, ap₂, ◌∙◌, ⊎_elim, ℕ, zero, suc, min, mod-lt, mod-eq_of_lt}
+use Rattle.std.proofs.Common.{◌≡◌, ◌+◌, ◌-◌, ◌*◌, ◌/◌, ◌%◌, ◌^◌, ◌≤◌, ◌<◌}
 use Rattle.lists.proofs.Kit.{mul-mod_left, add-zero, pow-suc, div-one, arith, digits_mod, bit_xor, bit_and, bit_or, shr-shr, shr_lt, shl-shr, mod-pow-add, field}
 use native.Mathlib.Nat.{eq-zero-or-pos}
 use lib.{Bits.differ, Bits.xor_step, Bits.xor_shr, Bits.and_step, Bits.and_shr, Bits.or_shifted, Pow.mod-mod-pow, Pow.high, Pow.low}

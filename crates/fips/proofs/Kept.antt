@@ -2,7 +2,8 @@
 --   theta-keeps, rho-keeps, pi-keeps, chi-keeps, iota-keeps   through each step
 --   xor-keeps                                                 through a sum
 --   keccak-keeps                                              and through all rounds
-use Rattle.lists.proofs.Kit.{refl, List, [], ◌∷◌, ℕ, zero, suc, ◌+◌, ◌-◌, ◌*◌, ◌/◌, ◌%◌, ◌^◌, ◌<◌, mod-lt, le_of_eq, div-le_self, arith, bit_xor, xor_lt}
+use Rattle.lists.proofs.Kit.{refl, List, [], ℕ, zero, suc, mod-lt, le_of_eq, div-le_self, arith, bit_xor, xor_lt}
+use Rattle.std.proofs.Common.{◌∷◌, ◌+◌, ◌-◌, ◌*◌, ◌/◌, ◌%◌, ◌^◌, ◌<◌}
 use Rattle.lists.proofs.Kit.{and_le_r, set}
 use native.Mathlib.Nat.{lt_of_le_of_lt}
 use lib.Bits.{or_lt}

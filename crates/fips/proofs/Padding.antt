@@ -1,7 +1,8 @@
 -- The padding in bytes is the padding in bits, once over suffix and rate.
 --   string-append, string-length  the string of bytes in two parts, and its length
 --   padded-is                     the padded bytes are the string M ‖ suffix ‖ pad10*1
-use Rattle.lists.proofs.Kit.{◌≡◌, refl, sym, ap, ◌∙◌, List, [], ◌∷◌, ◌++◌, append_assoc, ℕ, zero, suc, ◌+◌, ◌-◌, ◌*◌, ◌/◌, ◌%◌, ◌≤◌, ◌<◌, mod-eq_of_lt, mod-lt}
+use Rattle.lists.proofs.Kit.{refl, sym, ap, ◌∙◌, List, [], append_assoc, ℕ, zero, suc, mod-eq_of_lt, mod-lt}
+use Rattle.std.proofs.Common.{◌≡◌, ◌∷◌, ◌++◌, ◌+◌, ◌-◌, ◌*◌, ◌/◌, ◌%◌, ◌≤◌, ◌<◌}
 use Rattle.lists.proofs.Kit.{div-add-mod', arith, digits_mod, length, replicate, length-append, replicate-append-replicate}
 use Rattle.packing.specs.Packing.{digits}
 use Rattle.sponge.specs.Sponge.{padded, ending}

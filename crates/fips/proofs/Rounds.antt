@@ -1,7 +1,8 @@
 -- The rounds on lanes are the standard's on bits: each step reads of an array only the bits that it has, so that one may follow the other.
 --   keccak-on   arrays with the same bits have the same bits after all rounds
 --   keccak-is   all rounds, one after the other
-use Rattle.lists.proofs.Kit.{◌≡◌, refl, ap₂, ◌∙◌, List, [], ◌∷◌, ℕ, zero, suc, ◌+◌, ◌-◌, ◌*◌, ◌%◌, ◌^◌, ◌<◌, mod-lt, arith, length}
+use Rattle.lists.proofs.Kit.{refl, ap₂, ◌∙◌, List, [], ℕ, zero, suc, mod-lt, arith, length}
+use Rattle.std.proofs.Common.{◌≡◌, ◌∷◌, ◌+◌, ◌*◌, ◌%◌, ◌^◌, ◌<◌}
 use Rattle.lists.specs.Ranges.{Below}
 use Rattle.lists.proofs.{Entries.tab-length, Parts.below-tail}
 use Rattle.keccak.specs.Keccak.{constants, theta, rho, pi, chi, round, rounds, keccak_f}

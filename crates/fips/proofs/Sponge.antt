@@ -1,6 +1,7 @@
 -- The sponge on bytes is the standard's on bits.
 --   shake-is, sha3-is    SHAKE-128 and SHA3-256
-use Rattle.lists.proofs.Kit.{◌≡◌, refl, sym, ap, ap₂, ◌∙◌, List, [], ◌∷◌, ◌++◌, ℕ, zero, suc, ◌+◌, ◌-◌, ◌*◌, ◌/◌, ◌%◌, ◌^◌, ◌≤◌, ◌<◌, mod-lt, mod-eq_of_lt}
+use Rattle.lists.proofs.Kit.{refl, sym, ap, ap₂, ◌∙◌, List, [], ℕ, zero, suc, mod-lt, mod-eq_of_lt}
+use Rattle.std.proofs.Common.{◌≡◌, ◌∷◌, ◌++◌, ◌+◌, ◌-◌, ◌*◌, ◌/◌, ◌%◌, ◌^◌, ◌≤◌, ◌<◌}
 use Rattle.lists.proofs.Kit.{zero-div, div-one, div-add-mod', arith, digits_div, digits_mod, bit_xor, shr-shr, length, get_or, take, drop, replicate, ext_get_or}
 use Rattle.lists.proofs.Kit.{take-nil, drop-nil}
 use Rattle.lists.specs.{Entries.tab, Ranges.Below}

@@ -2,7 +2,8 @@
 --   lane-state                                  a state has the lanes that it is made of
 --   lane_below, parity-below, offset-below      lanes and parities have 64 bits; offsets are below 64, by one computed test
 --   theta-is, rho-is, pi-is, chi-is, iota-is    each step
-use Rattle.lists.proofs.Kit.{◌≡◌, refl, sym, ap, ap₂, ◌∙◌, ◌≢◌, List, ℕ, zero, suc, ◌+◌, ◌-◌, ◌*◌, ◌/◌, ◌%◌, ◌^◌, ◌<◌, mod-eq_of_lt, le_of_eq, arith, bit_xor}
+use Rattle.lists.proofs.Kit.{refl, sym, ap, ap₂, ◌∙◌, List, ℕ, zero, suc, mod-eq_of_lt, le_of_eq, arith, bit_xor}
+use Rattle.std.proofs.Common.{◌≡◌, ◌≢◌, ◌+◌, ◌-◌, ◌*◌, ◌/◌, ◌%◌, ◌^◌, ◌<◌}
 use Rattle.lists.proofs.Kit.{bit_and, xor_lt, length, get_or, get_or-set_same, get_or-set_other}
 use native.Mathlib.Nat.{mod-mod}
 use Rattle.lists.specs.{Ranges.Below, First.first_over_lem, First.first_where}

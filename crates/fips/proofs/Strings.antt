@@ -1,6 +1,7 @@
 -- Lanes and bytes as strings of bits.
 --   lane-is, bytes-is   the lane that bytes make, and the bytes of a lane
-use Rattle.lists.proofs.Kit.{◌≡◌, refl, sym, ap, ap₂, ◌∙◌, List, [], ◌∷◌, ◌++◌, ℕ, zero, suc, ◌+◌, ◌*◌, ◌/◌, ◌%◌, ◌^◌, ◌<◌, div-one, mod-lt, arith, shr-shr}
+use Rattle.lists.proofs.Kit.{refl, sym, ap, ap₂, ◌∙◌, List, [], ℕ, zero, suc, div-one, mod-lt, arith, shr-shr}
+use Rattle.std.proofs.Common.{◌≡◌, ◌∷◌, ◌++◌, ◌+◌, ◌*◌, ◌/◌, ◌%◌, ◌^◌, ◌<◌}
 use Rattle.lists.proofs.Kit.{length}
 use Rattle.lists.specs.{Entries.tab, Ranges.Below}
 use Rattle.lists.proofs.{Entries.tab-ext, Parts.below-tail}

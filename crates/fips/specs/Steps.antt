@@ -13,7 +13,7 @@
 --   Same A B               two arrays have the same bits
 --   Everywhere step f      the array after a step on lanes is f of the array before
 --   KeccakIs               all rounds on lanes, one after the other, are the standard's
-use Rattle.lists.specs.Kit.{◌≡◌, List, [], ◌∷◌, ℕ, zero, suc, ◌+◌, ◌-◌, ◌*◌, ◌/◌, ◌%◌, ◌^◌, ◌<◌}
+use Rattle.std.specs.Prelude.{◌≡◌, List, [], ◌∷◌, ℕ, zero, suc, ◌+◌, ◌-◌, ◌*◌, ◌/◌, ◌%◌, ◌^◌, ◌<◌}
 use Rattle.lists.specs.Ranges.{Below}
 use Rattle.keccak.specs.Keccak.{lane, offsets, constants, keccak_f}
 

@@ -10,7 +10,7 @@
 --   sponge_of r n d      algorithm 8 with pad10*1: P = N ‖ pad10*1(r, len N) is absorbed, and d bits are squeezed out
 --   ShakeIs             6.2: SHAKE128(M, d) is SPONGE with the rate 1344 of M ‖ 1111
 --   Sha3Is              6.1: SHA3-256(M) is SPONGE with the rate 1088 of M ‖ 01, 256 bits of it
-use Rattle.lists.specs.Kit.{◌≡◌, List, [], ◌∷◌, ◌++◌, ℕ, zero, suc, ◌+◌, ◌-◌, ◌*◌, ◌/◌, ◌%◌, length, get_or, take, drop, replicate}
+use Rattle.std.specs.Prelude.{◌≡◌, List, [], ◌∷◌, ◌++◌, ℕ, zero, suc, ◌+◌, ◌-◌, ◌*◌, ◌/◌, ◌%◌, length, get_or, take, drop, replicate}
 use Rattle.lists.specs.{Entries.tab, Ranges.Below}
 use Rattle.packing.specs.Packing.{digits}
 use Rattle.sponge.specs.Sponge.{shake128, sha3}
