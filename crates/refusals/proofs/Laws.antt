@@ -14,7 +14,8 @@
 --   then-assoc, failed, went_on   a sequence in two parts: the first fails, or the second decides
 --   before-pass, before-fail      a test that is made only where the later one fails
 --   before-failed, before-passed  a sequence in which the middle is left for last: where it fails, and where it passes
-use Rattle.lists.proofs.Kit.{◌≡◌, refl, sym, ap₂, ◌∙◌, List, Bool, true, false, cond, ℕ, ◌-◌, ◌*◌, ◌^◌, ◌≤◌, ◌<◌, arith, leb, ltb, length, ℤ, pos, nat_abs}
+use Rattle.lists.proofs.Kit.{refl, sym, ap₂, ◌∙◌, List, Bool, true, false, cond, ℕ, arith, leb, ltb, length, ℤ, pos, nat_abs}
+use Rattle.std.proofs.Common.{◌≡◌, ◌*◌, ◌^◌, ◌≤◌, ◌<◌}
 use Rattle.lists.proofs.Kit.{eqb-true, leb-true, ltb-false, lt-ltb, le-ltb, le-leb, lt-leb, eq-eqb}
 use Rattle.lists.specs.{Ranges.Below, Ranges.Within, First.first_over_lem, First.first_beyond_lem}
 use Rattle.lists.proofs.First.{all-below, all-within, none_found}

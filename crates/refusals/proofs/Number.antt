@@ -1,7 +1,8 @@
 -- What holds of the number of a chain of tests, if it holds of each test's: which refusals cannot arise.
 --   and, passes                           a test and those after it; a test that passes
 --   lengths, rooms, publics, secrets, blanks   each kind of test
-use Rattle.lists.proofs.Kit.{◌≡◌, refl, Bool, true, false, cond, List, ℕ, eqb, leb, ltb, ℤ, length}
+use Rattle.lists.proofs.Kit.{refl, Bool, true, false, cond, List, ℕ, eqb, leb, ltb, ℤ, length}
+use Rattle.std.proofs.Common.{◌≡◌}
 use Rattle.lists.specs.First.{first_over_lem, first_beyond_lem}
 use Rattle.blank.specs.Blank.{blank}
 use Rattle.refusals.specs.Refusals.{◌then◌, length_is_lem, room_for_lem, publics_in_lem, not_blank_lem, secrets_in_lem, number_in, Verdict, Pass, Fail}

@@ -1,6 +1,7 @@
 -- A refusal and a verdict back from their number and their place.
 --   same-refusal, same-verdict   two refusals with the same number and place are the same; so are two verdicts
-use Rattle.lists.proofs.Kit.{◌≡◌, refl, ap, cond, ℕ, arith, eqb}
+use Rattle.lists.proofs.Kit.{refl, ap, cond, ℕ, arith, eqb}
+use Rattle.std.proofs.Common.{◌≡◌}
 use Rattle.refusals.specs.Refusals.{number_of, place_of, number_in, place_in, Refusal, Verdict, NoScheme, BadLength, Short, PublicOver, MessageOver}
 use Rattle.refusals.specs.Refusals.{SecretBeyond, RanOut, Misfit, OutOfStage, OutOfTurn, NoRule, NewerFormat, NoStudio, Blank, NotAscending, Pass, Fail}
 use Rattle.refusals.proofs.Laws.{some}

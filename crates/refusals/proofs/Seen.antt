@@ -8,7 +8,8 @@
 --   seen_done, seen-refused           what is seen without a refusal says that the tests have passed; what is seen of a refusal, that the output is zero
 --   same-counts, same-refused, never_both   what an answer's numbers say: of two without a refusal, of two refusals, and of one of each
 --   one, seen_all, told-all           what follows
-use Rattle.lists.proofs.Kit.{◌≡◌, refl, sym, ◌∙◌, ap, List, ◌++◌, append-nil, ℕ, zero, suc, ◌-◌, ◌≤◌, sub-zero, zero-sub, suc-sub-suc, arith, length, take}
+use Rattle.lists.proofs.Kit.{refl, sym, ◌∙◌, ap, List, append-nil, ℕ, zero, suc, sub-zero, zero-sub, suc-sub-suc, arith, length, take}
+use Rattle.std.proofs.Common.{◌≡◌, ◌++◌, ◌-◌, ◌≤◌}
 use Rattle.lists.proofs.Kit.{drop, replicate, get_or, length-replicate, length-append, take-append_seam}
 use Rattle.lists.proofs.Same.{restored, append-all, equal-all}
 use Rattle.refusals.specs.Seen.{output, written, answer, Told, done, refused, Seen, shown, seen, One, SeenAll, ToldAll, Done, Refused}

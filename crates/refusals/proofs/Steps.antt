@@ -4,7 +4,8 @@
 --   kept                             a part that a step has left as it was, where it refused
 --   laid_on, put-kept                what a step has left of the part that it is lent: where it refused nothing; and where tests fail, whatever is made ahead of them
 --   outcome-slack, outcome-refused   what a step hands on, by its verdict; passed-by, failed-by: and back
-use Rattle.lists.proofs.Kit.{◌≡◌, refl, ◌∙◌, ap, List, ◌++◌, ℕ, ◌≤◌, arith, length, take, drop, replicate, length-append, take-append-drop, take_at}
+use Rattle.lists.proofs.Kit.{refl, ◌∙◌, ap, List, ℕ, arith, length, take, drop, replicate, length-append, take-append-drop, take_at}
+use Rattle.std.proofs.Common.{◌≡◌, ◌++◌, ◌≤◌}
 use Rattle.lists.specs.declared.Peak.{Peak}
 use Rattle.lists.proofs.Same.{take_same}
 use Rattle.refusals.specs.{Refusals.◌then◌, Refusals.Refusal, Refusals.Verdict, Refusals.Pass, Refusals.Fail, Seen.if_passed, Steps.outcome, Steps.Outcome}

@@ -12,7 +12,7 @@
 --   not_blank_lem part           17: a packed part is blank
 --   received_in q part xs    the tests of a part that has come, with the numbers xs: 5, then 17
 --   secrets_in_lem B xs          6: a secret or noise value lies beyond the largest noise
-use Rattle.lists.specs.Kit.{Bool, cond, List, ℕ, eqb, leb, ltb, ℤ, length}
+use Rattle.std.specs.Prelude.{Bool, cond, List, ℕ, eqb, leb, ltb, ℤ, length}
 use Rattle.lists.specs.First.{first_over_lem, first_beyond_lem}
 use Rattle.blank.specs.Blank.{blank}
 pub use Rattle.refusals.specs.declared.Refusal.TheVariants.{NoScheme, BadLength, Short, PublicOver, MessageOver, SecretBeyond, RanOut, Misfit}

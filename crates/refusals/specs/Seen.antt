@@ -16,7 +16,7 @@
 --   One                 no two results satisfy one promise, whatever the call
 --   SeenAll             `seen` forgets nothing: from what is seen come the number, the place, the count and the output
 --   ToldAll             `told` forgets nothing: two answers with the same numbers are the same
-use Rattle.lists.specs.Kit.{◌≡◌, List, ◌++◌, ℕ, ◌-◌, length, replicate, take}
+use Rattle.std.specs.Prelude.{◌≡◌, List, ◌++◌, ℕ, ◌-◌, length, replicate, take}
 use Rattle.lists.specs.declared.Peak.{Peak}
 use Rattle.refusals.specs.Refusals.{number_of, place_of, number_in, place_in, Refusal, Verdict, Pass, Fail}
 pub use Rattle.refusals.specs.{declared.Answer.Answer, declared.Answer.TheVariants.Done, declared.Answer.TheVariants.Refused}

@@ -2,7 +2,7 @@
 --   v before w      v then w, where v is not looked at unless w fails: of tests that all passed it says only that w has
 --   Laid v xs old new   a step that is lent a part of an output leaves xs there, and after a refusal what was there
 --   outcome v p     what a step hands on: p, or the refusal
-use Rattle.lists.specs.Kit.{◌≡◌, List, ℕ}
+use Rattle.std.specs.Prelude.{◌≡◌, List, ℕ}
 use Rattle.lists.specs.declared.Peak.{Peak}
 use Rattle.refusals.specs.{Refusals.◌then◌, Refusals.Verdict, Refusals.Pass, Refusals.Fail, Seen.if_passed}
 pub use Rattle.refusals.specs.{declared.Outcome.Outcome, declared.Outcome.TheVariants.Slack, declared.Outcome.TheVariants.Refused}

@@ -1,7 +1,10 @@
 // The refusals by number and place, and the tests that give them, each once for all calls: 01, "Refusal numbers and their order". A call's tests are a
 // sequence of these in the order of its inputs; each takes the verdict so far and tests only where nothing was refused before it.
 // `named` begins Offer, Reply and Finish.
-ghost use Rattle.lists.specs.Kit.{◌≡◌, ℕ, ◌*◌, ◌≤◌, ◌<◌, length, replicate};
+
+#![tactic(auto)]
+
+ghost use Rattle.std.specs.Prelude.{◌≡◌, ℕ, ◌*◌, ◌≤◌, ◌<◌, length, replicate};
 ghost use Rattle.schemes.specs.Schemes.{scheme_of_lem};
 ghost use Rattle.lists.specs.First.{first_over_lem};
 ghost use Rattle.packing.specs.Packing.{unpacked};

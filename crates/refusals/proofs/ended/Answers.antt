@@ -1,5 +1,5 @@
 -- `refusals::ended` meets its contract, in either arm.
-use Rattle.lists.proofs.Kit.{sym, rules}
+use Rattle.lists.proofs.Kit.{sym}
 use Rattle.refusals.proofs.{Steps.outcome-slack, Steps.outcome-refused}
 use Rattle.refusals.proofs.ended.Goals as goal
 

@@ -1,5 +1,5 @@
 -- `refusals::length_is` meets its contract.
-use Rattle.lists.proofs.Kit.{eq-eqb, ne_eqb, rules}
+use Rattle.lists.proofs.Kit.{eq-eqb, ne_eqb}
 use Rattle.refusals.specs.Refusals.{length_is_lem}
 use Rattle.refusals.proofs.{Laws.stays, Laws.goes_on}
 use Rattle.refusals.proofs.length_is.Goals as goal

@@ -1,5 +1,5 @@
 -- `refusals::length_up_to` meets its contract.
-use Rattle.lists.proofs.Kit.{le-leb, lt-leb, rules}
+use Rattle.lists.proofs.Kit.{le-leb, lt-leb}
 use Rattle.refusals.specs.Refusals.{length_up_to_lem}
 use Rattle.refusals.proofs.{Laws.stays, Laws.goes_on}
 use Rattle.refusals.proofs.length_up_to.Goals as goal

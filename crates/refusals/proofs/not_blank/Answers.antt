@@ -1,5 +1,5 @@
 -- `refusals::not_blank` meets its contract.
-use Rattle.lists.proofs.Kit.{sym, ◌∙◌, rules}
+use Rattle.lists.proofs.Kit.{sym, ◌∙◌}
 use Rattle.refusals.proofs.{Laws.blank-fails, Laws.not-blank-passes}
 use Rattle.refusals.proofs.not_blank.Goals as goal
 

@@ -1,5 +1,5 @@
 -- `refusals::part_not_blank` meets its contract.
-use Rattle.lists.proofs.Kit.{sym, ◌∙◌, rules}
+use Rattle.lists.proofs.Kit.{sym, ◌∙◌}
 use Rattle.refusals.proofs.{Laws.blank-fails, Laws.not-blank-passes}
 use Rattle.refusals.proofs.part_not_blank.Goals as goal
 

@@ -3,7 +3,7 @@ use Rattle.refusals.proofs.{Laws.publics-over, Laws.publics-under}
 use Rattle.refusals.proofs.publics_at.Goals as goal
 
 pub returns-then-at-xs : goal.returns-then-at-xs
-returns-then-at-xs c = λ c q e. publics-over q _ e c.if-at-xs.true c
+returns-then-at-xs c q e = publics-over q _ e c.if-at-xs.true
 
 pub returns-else-at-xs : goal.returns-else-at-xs
-returns-else-at-xs c = λ c q e. publics-under q _ e c.if-at-xs.false c
+returns-else-at-xs c q e = publics-under q _ e c.if-at-xs.false

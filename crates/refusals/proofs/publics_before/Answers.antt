@@ -1,5 +1,5 @@
 -- `refusals::publics_before` meets its contract.
-use Rattle.lists.proofs.Kit.{refl, sym, ◌∙◌, rules}
+use Rattle.lists.proofs.Kit.{refl, sym, ◌∙◌}
 use Rattle.refusals.proofs.Laws.{publics-over, publics-under, before-pass, before-fail, failed, went_on}
 use Rattle.refusals.proofs.publics_before.Goals as goal
 

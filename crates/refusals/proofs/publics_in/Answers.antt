@@ -1,5 +1,4 @@
 -- `refusals::publics_in` meets its contract.
-use Rattle.lists.proofs.Kit.{rules}
 use Rattle.refusals.proofs.{Laws.stays, Laws.goes_on}
 use Rattle.refusals.proofs.publics_in.Goals as goal
 

@@ -1,5 +1,5 @@
 -- `refusals::room_for` meets its contract.
-use Rattle.lists.proofs.Kit.{le-leb, lt-leb, rules}
+use Rattle.lists.proofs.Kit.{le-leb, lt-leb}
 use Rattle.refusals.specs.Refusals.{room_for_lem}
 use Rattle.refusals.proofs.{Laws.stays, Laws.goes_on}
 use Rattle.refusals.proofs.room_for.Goals as goal

@@ -1,5 +1,5 @@
 -- `refusals::secrets_in` meets its contract.
-use Rattle.lists.proofs.Kit.{lt-ltb, le-ltb, rules}
+use Rattle.lists.proofs.Kit.{lt-ltb, le-ltb}
 use Rattle.refusals.specs.Refusals.{secrets_in_lem}
 use Rattle.refusals.proofs.{Laws.stays, Laws.goes_on}
 use Rattle.refusals.proofs.secrets_in.Goals as goal

@@ -1,5 +1,5 @@
 -- `refusals::table_in` meets its contract.
-use Rattle.lists.proofs.Kit.{lt-ltb, le-ltb, rules}
+use Rattle.lists.proofs.Kit.{lt-ltb, le-ltb}
 use Rattle.refusals.specs.Refusals.{table_in_lem}
 use Rattle.refusals.proofs.{Laws.stays, Laws.goes_on}
 use Rattle.refusals.proofs.table_in.Goals as goal
