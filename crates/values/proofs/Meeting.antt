@@ -1,7 +1,8 @@
 -- How far the values of the two ends lie apart, by the scheme: d = s'e + e'' - e's, of any a, lent as it is.
 --   difference_of c s e s' e' e'' k   entry k of d, before any remainder
 --   values-apart                     the values are as far apart as d is from a multiple of q
-use Rattle.lists.proofs.Kit.{◌≡◌, subst, List, ℕ, ◌/◌, ◌%◌, ◌<◌, div-add-mod', arith, ℤ, get_or}
+use Rattle.lists.proofs.Kit.{subst, List, ℕ, div-add-mod', arith, ℤ, get_or}
+use Rattle.std.proofs.Common.{◌≡◌, ◌/◌, ◌%◌, ◌<◌}
 use Rattle.numbers.specs.Residue.{distance, apart}
 use Rattle.schemes.specs.{Schemes.by_family, Schemes.family_of, Schemes.fixed_of, declared.Fixed.Fixed, declared.Family.Family, declared.Scheme.Scheme}
 use Rattle.transform.specs.Transform.{transformed, inverted}

@@ -9,7 +9,8 @@
 --   in-arm, arm-asks       in an arm of a match over the family: what is made there is what is meant, and what is asked there
 --   key-bits               an entry's key has fewer than 32 bits
 --   packed-below           a number below q fits the width of a packed number
-use Rattle.lists.proofs.Kit.{◌≡◌, refl, ◌∙◌, sym, subst, List, ℕ, ◌*◌, ◌/◌, ◌%◌, ◌^◌, ◌≤◌, ◌<◌, lt_of_lt_of_le, arith, T, leb, lit≤}
+use Rattle.lists.proofs.Kit.{refl, ◌∙◌, sym, subst, List, ℕ, lt_of_lt_of_le, arith, T, leb, lit≤}
+use Rattle.std.proofs.Common.{◌≡◌, ◌*◌, ◌/◌, ◌%◌, ◌^◌, ◌≤◌, ◌<◌}
 use Rattle.schemes.specs.Schemes.{by_family, family_of, fixed_of, bcns, new_hope, frodo}
 use Rattle.schemes.specs.{declared.Family.Family, declared.Fixed.Fixed, declared.Scheme.Scheme}
 use Rattle.schemes.proofs.Sound.{sound}

@@ -1,7 +1,8 @@
 -- The values of both ends: as many as the scheme has, each below q, of whatever they are computed.
 --   offered-counted, replied-counted   b and u, as they travel
 --   mixed-counted, bare-counted        v and w
-use Rattle.lists.proofs.Kit.{◌≡◌, ◌∙◌, sym, List, ℕ, ◌*◌, ◌<◌, mul_comm, arith, ℤ}
+use Rattle.lists.proofs.Kit.{◌∙◌, sym, List, ℕ, mul_comm, arith, ℤ}
+use Rattle.std.proofs.Common.{◌≡◌, ◌*◌, ◌<◌}
 use Rattle.numbers.specs.Residue.{residue}
 use Rattle.numbers.proofs.Congruence.{residue-lt}
 use Rattle.schemes.specs.{Schemes.family_of, Schemes.fixed_of, declared.Fixed.Fixed, declared.Scheme.Scheme}

@@ -5,7 +5,8 @@
 --   Told X, tell     what a function knows in an arm: what it is given, what `scheme.family()` returned, and the interval and the key bits
 --   frodo            what it knows in Frodo's arm, where the interval and the key bits are what the arm computed
 --   hints-asks, hints-made, keys-asks, keys-made, peers-asks, peers-made, slacks-asks, slacks-made   in the arms; NewHope's keys are the bits of its own hints
-use Rattle.lists.proofs.Kit.{◌≡◌, refl, ◌∙◌, sym, ap, subst, List, ℕ, ◌*◌, ◌^◌, length, replicate, length-replicate}
+use Rattle.lists.proofs.Kit.{refl, ◌∙◌, sym, ap, subst, List, ℕ, length, replicate, length-replicate}
+use Rattle.std.proofs.Common.{◌≡◌, ◌*◌, ◌^◌}
 use Rattle.schemes.specs.{Schemes.by_family, Schemes.family_of, Schemes.fixed_of, declared.Fixed.Fixed, declared.Family.Family, declared.Scheme.Scheme}
 use Rattle.lists.specs.Ranges.{Below}
 use Rattle.values.specs.{Fit.Counted, Keys.interval, Keys.hints, Keys.keys, Keys.peers, Keys.slacks}

@@ -6,7 +6,8 @@
 --   offer-made, reply-made     and what they are where none is
 --   mix-asks, mix-made         the replier's value
 --   multiply-asks, multiply-made   the initiator's value
-use Rattle.lists.proofs.Kit.{◌≡◌, refl, ◌∙◌, sym, ap, List, ℕ, ◌*◌, ◌<◌, ◌≤◌, le_trans, arith, leb, lit≤, length, ℤ, lt-leb}
+use Rattle.lists.proofs.Kit.{refl, ◌∙◌, sym, ap, List, ℕ, le_trans, arith, leb, lit≤, length, ℤ, lt-leb}
+use Rattle.std.proofs.Common.{◌≡◌, ◌*◌, ◌<◌, ◌≤◌}
 use Rattle.schemes.specs.Schemes.{bcns, by_family, family_of, fixed_of}
 use Rattle.schemes.specs.{declared.Family.Family, declared.Fixed.Fixed, declared.Scheme.Scheme}
 use Rattle.schemes.proofs.Sound.{sound}

@@ -2,7 +2,7 @@
 --   Counted m q xs   m numbers below q
 --   Small m B xs     m secrets or noise values of which none lies further than B from 0
 --   NewHopeAsks a s l, NewHopeReplies a b l, NewHopeSecrets s' e' e''   what NewHope's products ask of numbers, secrets and room for l numbers
-use Rattle.lists.specs.Kit.{◌≡◌, List, ℕ, length, ℤ}
+use Rattle.std.specs.Prelude.{◌≡◌, List, ℕ, length, ℤ}
 use Rattle.lists.specs.Ranges.{Below, Within}
 
 pub record Counted (m q : ℕ) (xs : List ℕ) : Type 0 where

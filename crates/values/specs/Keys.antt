@@ -4,7 +4,7 @@
 --   keys c cs v     the key entries of the replier's value
 --   peers c hs w    those of the initiator's value w under the hints
 --   slacks c hs w   the slack that each entry of w uses under the hints: 02, request f; none in NewHope
-use Rattle.lists.specs.Kit.{List, ℕ, length, replicate}
+use Rattle.std.specs.Prelude.{List, ℕ, length, replicate}
 use Rattle.schemes.specs.{Schemes.by_family, Schemes.family_of, Schemes.fixed_of, declared.Scheme.Scheme}
 use Rattle.bcns.specs.Rounding as bcns
 use Rattle.newhope.specs.Group as newhope

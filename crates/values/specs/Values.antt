@@ -5,7 +5,7 @@
 --   replied c a s' e'       u, as it travels
 --   mixed_value c b s' e''   the replier's value v, of the b that travelled
 --   bare_value c u s         the initiator's value w, of the u that travelled
-use Rattle.lists.specs.Kit.{List, ℕ, ℤ}
+use Rattle.std.specs.Prelude.{List, ℕ, ℤ}
 use Rattle.schemes.specs.{Schemes.by_family, Schemes.family_of, Schemes.fixed_of, declared.Scheme.Scheme}
 use Rattle.transform.specs.Transform.{transformed, inverted}
 use Rattle.polynomial.specs.Product as polynomial

@@ -1,5 +1,5 @@
 // The values that both ends compute, by the scheme.
-ghost use Rattle.lists.specs.Kit.{◌≡◌, ◌<◌, length};
+ghost use Rattle.std.specs.Prelude.{◌≡◌, ◌<◌, length};
 ghost use Rattle.schemes.specs.Schemes.{bcns, fixed_of};
 ghost use Rattle.lists.specs.Ranges.{Below, Within};
 ghost use Rattle.lists.specs.First.{first_over_lem};

@@ -1,5 +1,5 @@
 // Hints, key entries and the slack used, by the scheme.
-ghost use Rattle.lists.specs.Kit.{◌≡◌, ◌^◌, length};
+ghost use Rattle.std.specs.Prelude.{◌≡◌, ◌^◌, length};
 ghost use Rattle.schemes.specs.Schemes.{fixed_of};
 ghost use Rattle.values.specs.Fit.{Counted};
 ghost use Rattle.values.specs.Keys.{hints, keys, peers, slacks};

@@ -1,15 +1,14 @@
 -- `values::products::mix_bcns` meets its contract: the place, and where there is none what is made.
-use Rattle.lists.proofs.Kit.{rules}
 use Rattle.values.proofs.{Valuing.none_over, Valuing.goes_by}
 use Rattle.values.proofs.products.mix_bcns.Goals as goal
 
 pub returns-then-at-a : goal.returns-then-at-a
 returns-then-at-a c =
-    record { value = c.first_over-at.ensures; out_value = λ h. goes_by _ c.first_over-at.ensures (search rules) h }
+    record { value = c.first_over-at.ensures; out_value = λ h. goes_by _ c.first_over-at.ensures c.if-at-a.true h }
 
 pub mix-requires : goal.mix-requires
 mix-requires c =
-    c.requires.fit (none_over _ c.requires.q_nonzero c.first_over-at.ensures (search rules))
+    let x = c.requires.fit (none_over _ c.requires.q_nonzero c.first_over-at.ensures c.if-at-a.false) in record { fit = x.0; e_len = x.1 }
 
 pub returns : goal.returns
-returns c = record { value = search rules; out_value = λ h. search rules }
+returns c = record { value = c.first_over-at.ensures; out_value = λ h. c.mix.ensures }
