@@ -7,8 +7,8 @@
 --   doing-small        a column has room for two products more
 --   column-small       the sums are small enough to be put together
 --   leaf-law           what the steps of a leaf come to
-use Rattle.lists.proofs.Kit.{◌≡◌, refl, ◌∙◌, sym, ap, ap₂, subst, List, Bool, cond, ℕ, suc, ◌+◌, ◌*◌, ◌-◌, ◌/◌, ◌%◌, ◌^◌, ◌<◌, ◌≤◌, arith, mul-zero, zero-mul}
-use Rattle.lists.proofs.Kit.{zero-add, div-add-mod, mod-lt, add-one, dec_lt, lt-ltb, le-ltb, ltb, length, get_or, set, length-set, get_or-set_same, get_or-set_other}
+use Rattle.lists.proofs.Kit.{◌≡◌, ◌∙◌, sym, ap, subst, List, Bool, cond, ℕ, suc, ◌+◌, ◌*◌, ◌-◌, ◌/◌, ◌%◌, ◌^◌, ◌<◌, ◌≤◌, arith, mul-zero, zero-mul}
+use Rattle.lists.proofs.Kit.{zero-add, div-add-mod, mod-lt, dec_lt, lt-ltb, le-ltb, ltb, length, get_or, set, length-set, get_or-set_same, get_or-set_other}
 use Rattle.numbers.specs.Sum.{sum, sum_ℕ}
 use Rattle.numbers.proofs.{Sums.natural, Sums.sum-ext, Sums.sum-split, Sums.sum-none, Congruence.multiples-≅, Congruence.same-mod}
 use Rattle.lists.specs.Ranges.{Below, Stored}

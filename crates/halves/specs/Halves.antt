@@ -11,7 +11,7 @@
 --   product_seen t out scratch   what is seen where the call tells t and leaves out and scratch
 --   product_result x n m      what the call shows: a scratch of zeros, refused or not
 --   ProductSeenAll           `product_seen` forgets nothing
-use Rattle.lists.specs.Kit.{◌≡◌, Bool, true, cond, List, ℕ, zero, suc, ◌*◌, ◌^◌, eqb, length, replicate}
+use Rattle.std.specs.Prelude.{◌≡◌, Bool, true, cond, List, ℕ, zero, suc, ◌*◌, ◌^◌, eqb, length, replicate}
 use Rattle.numbers.specs.Residue.{residue}
 use Rattle.schemes.specs.{Schemes.fixed_of, declared.Scheme.TheVariants.Bcns}
 use Rattle.lists.specs.{Entries.tab, Entries.nums}

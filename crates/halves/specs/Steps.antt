@@ -15,7 +15,7 @@
 --   middle w h            the product of the sums less the two others
 --   Joined w h w'         the three products of 2 h numbers have become one of 4 h
 --   Fit n a b m           n numbers in each factor, and a scratch of m numbers that is large enough
-use Rattle.lists.specs.Kit.{◌≡◌, cond, List, ℕ, suc, ◌+◌, ◌-◌, ◌*◌, ◌%◌, ◌<◌, ◌≤◌, ltb, length, get_or}
+use Rattle.std.specs.Prelude.{◌≡◌, cond, List, ℕ, suc, ◌+◌, ◌-◌, ◌*◌, ◌%◌, ◌<◌, ◌≤◌, ltb, length, get_or}
 use Rattle.numbers.specs.Sum.{sum_ℕ}
 use Rattle.lists.specs.Ranges.{Below}
 use Rattle.halves.specs.Halves.{q}

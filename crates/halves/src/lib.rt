@@ -3,7 +3,10 @@
 // The work is done in the one slice of 6 L numbers that is lent as scratch: it holds the factors, their product in their place, and the room for it. A leaf alone
 // has arrays of its own, of 1,296 bytes, which the compiler knows to lie apart from the scratch. Every number in the scratch is reduced, by 02b's remainder, so
 // that no step takes a branch on a number and each is an equation of remainders. (A trial in C that only kept the numbers below 2^32 was a sixth quicker.)
-ghost use Rattle.lists.specs.Kit.{◌≡◌, ℕ, ◌+◌, ◌-◌, ◌*◌, ◌/◌, ◌%◌, ◌^◌, ◌<◌, ◌≤◌, length, get_or, replicate};
+
+#![tactic(auto)]
+
+ghost use Rattle.std.specs.Prelude.{◌≡◌, ℕ, ◌+◌, ◌-◌, ◌*◌, ◌/◌, ◌%◌, ◌^◌, ◌<◌, ◌≤◌, length, get_or, replicate};
 ghost use Rattle.lists.specs.Entries.{tab};
 ghost use Rattle.lists.specs.Ranges.{Stored};
 ghost use Rattle.refusals.specs.Seen.{told, shown, seen};

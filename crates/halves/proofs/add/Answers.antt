@@ -1,8 +1,7 @@
 -- `halves::add` meets its contract.
-use Rattle.lists.proofs.Kit.{◌≡◌, ◌∙◌, ap₂, ℕ, ◌+◌, ◌-◌, ◌%◌, ◌≤◌, arith, rules}
-use Rattle.lists.specs.Ranges.{Stored}
+use Rattle.lists.proofs.Kit.{◌≡◌, ◌∙◌, ap₂, ℕ, ◌+◌, ◌%◌, arith}
 use Rattle.lists.proofs.Stored.{store-none, store-next}
-use Rattle.halves.specs.{Halves.q, Steps.from}
+use Rattle.halves.specs.{Halves.q}
 use Rattle.halves.proofs.{Stores.read-ahead}
 use Rattle.halves.proofs.add.Goals as goal
 

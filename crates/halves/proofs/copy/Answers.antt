@@ -1,8 +1,6 @@
 -- `halves::copy` meets its contract.
-use Rattle.lists.proofs.Kit.{◌≡◌, ◌-◌, ◌≤◌, arith, rules}
-use Rattle.lists.specs.Ranges.{Stored}
+use Rattle.lists.proofs.Kit.{◌≡◌, arith}
 use Rattle.lists.proofs.Stored.{store-none, store-next}
-use Rattle.halves.specs.Steps.{from}
 use Rattle.halves.proofs.{Stores.read-ahead}
 use Rattle.halves.proofs.copy.Goals as goal
 

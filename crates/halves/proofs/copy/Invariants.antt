@@ -1,9 +1,7 @@
 -- `halves::copy` meets its contract.
-use Rattle.lists.proofs.Kit.{◌≡◌, ◌-◌, ◌≤◌, arith, rules}
+use Rattle.lists.proofs.Kit.{◌-◌, ◌≤◌}
 use Rattle.lists.specs.Ranges.{Stored}
-use Rattle.lists.proofs.Stored.{store-none, store-next}
 use Rattle.halves.specs.Steps.{from}
-use Rattle.halves.proofs.{Stores.read-ahead}
 use Rattle.halves.proofs.copy.Given as goal
 
 abbrev pub invariant-loop-i : goal.invariant-loop-i

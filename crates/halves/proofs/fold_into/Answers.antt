@@ -1,7 +1,6 @@
 -- `halves::fold_into` meets its contract: it fills with the folded numbers.
-use Rattle.lists.proofs.Kit.{◌+◌, ◌-◌, ◌%◌, arith, rules, length, get_or, length-set}
-use Rattle.lists.proofs.Fill.{Filled, fill_start, fill-next, fill_end}
-use Rattle.halves.specs.Halves.{q}
+use Rattle.lists.proofs.Kit.{arith, length-set}
+use Rattle.lists.proofs.Fill.{fill_start, fill-next, fill_end}
 use Rattle.halves.proofs.fold_into.Goals as goal
 
 pub loop-i-preserved : goal.loop-i-preserved

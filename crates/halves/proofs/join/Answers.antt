@@ -1,5 +1,4 @@
 -- `halves::join` meets its contract.
-use Rattle.lists.proofs.Kit.{rules}
 use Rattle.halves.proofs.{Moves.join-law}
 use Rattle.halves.proofs.join.Goals as goal
 

@@ -1,8 +1,6 @@
 -- `halves::lay_second` meets its contract.
-use Rattle.lists.proofs.Kit.{◌≡◌, refl, ◌+◌, ◌-◌, ◌≤◌, arith, rules}
-use Rattle.lists.specs.Ranges.{Below, Stored}
+use Rattle.lists.proofs.Kit.{refl, ◌+◌, arith}
 use Rattle.lists.proofs.{Entries.below_set, Stored.store-none, Stored.store-next}
-use Rattle.halves.specs.Steps.{from}
 use Rattle.halves.proofs.{Columns.padded}
 use Rattle.halves.proofs.lay_second.Goals as goal
 

@@ -1,9 +1,7 @@
 -- `halves::lay_second` meets its contract.
-use Rattle.lists.proofs.Kit.{◌≡◌, refl, ◌+◌, ◌-◌, ◌≤◌, arith, rules}
+use Rattle.lists.proofs.Kit.{◌-◌, ◌≤◌}
 use Rattle.lists.specs.Ranges.{Below, Stored}
-use Rattle.lists.proofs.{Entries.below_set, Stored.store-none, Stored.store-next}
 use Rattle.halves.specs.Steps.{from}
-use Rattle.halves.proofs.{Columns.padded}
 use Rattle.halves.proofs.lay_second.Given as goal
 
 abbrev pub invariant-loop-k : goal.invariant-loop-k

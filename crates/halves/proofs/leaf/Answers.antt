@@ -1,5 +1,5 @@
 -- `halves::leaf` meets its contract.
-use Rattle.lists.proofs.Kit.{◌≡◌, ℕ, arith, get_or, replicate, length-replicate, rules}
+use Rattle.lists.proofs.Kit.{◌≡◌, ℕ, arith, get_or, replicate, length-replicate}
 use Rattle.lists.proofs.Entries.{below-zeros}
 use Rattle.halves.proofs.{Columns.cells-none, Columns.column-small, Columns.leaf-law}
 use Rattle.halves.proofs.leaf.Goals as goal

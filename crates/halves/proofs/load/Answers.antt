@@ -1,6 +1,5 @@
 -- `halves::load` meets its contract.
-use Rattle.lists.proofs.Kit.{◌≡◌, refl, ◌-◌, ◌≤◌, arith, rules, length, get_or}
-use Rattle.lists.specs.Ranges.{Stored}
+use Rattle.lists.proofs.Kit.{◌≡◌, refl, arith, length}
 use Rattle.lists.proofs.Stored.{store-none, store-next}
 use Rattle.halves.proofs.load.Goals as goal
 

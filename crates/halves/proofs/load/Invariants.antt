@@ -1,7 +1,6 @@
 -- `halves::load` meets its contract.
-use Rattle.lists.proofs.Kit.{◌≡◌, refl, ◌-◌, ◌≤◌, arith, rules, length, get_or}
+use Rattle.lists.proofs.Kit.{◌-◌, ◌≤◌, length, get_or}
 use Rattle.lists.specs.Ranges.{Stored}
-use Rattle.lists.proofs.Stored.{store-none, store-next}
 use Rattle.halves.proofs.load.Given as goal
 
 abbrev pub invariant-loop-i : goal.invariant-loop-i

@@ -1,5 +1,5 @@
 -- `halves::multiply` meets its contract.
-use Rattle.lists.proofs.Kit.{arith, length, rules}
+use Rattle.lists.proofs.Kit.{arith, length}
 use Rattle.halves.proofs.{Multiplied.plain-law}
 use Rattle.halves.proofs.multiply.Goals as goal
 

@@ -10,4 +10,4 @@ product_in-r-requires c =
 
 pub returns : goal.returns
 returns c =
-    product-cleared _ {l = length c.product_in-r.last.1.1.1.0} (zeros-long (length c.args.out.now) 0 c.zero_numbers.ensures) c.product_in-r.ensures c.zero_numbers-2.ensures (search rules)
+    product-cleared _ {l = length c.product_in-r.new.scratch} (zeros-long (length c.args.out.now) 0 c.zero_numbers.ensures) c.product_in-r.ensures c.zero_numbers-2.ensures (search rules)

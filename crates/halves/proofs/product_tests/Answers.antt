@@ -1,5 +1,5 @@
 -- `halves::product_tests` meets its contract.
-use Rattle.lists.proofs.Kit.{refl, sym, ◌∙◌, arith, rules, length}
+use Rattle.lists.proofs.Kit.{refl, sym, ◌∙◌, arith, length}
 use Rattle.refusals.proofs.Laws.{also}
 use Rattle.halves.specs.Halves.{product_tests_lem, factors_of}
 use Rattle.halves.proofs.{Part.size-most, Multiplied.size-passed, Multiplied.tests-stop}

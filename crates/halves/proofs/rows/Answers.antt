@@ -1,6 +1,5 @@
 -- `halves::rows` meets its contract.
-use Rattle.lists.proofs.Kit.{◌≡◌, ◌∙◌, sym, ◌-◌, ◌%◌, ◌≤◌, arith, rules}
-use Rattle.halves.specs.Steps.{Rows}
+use Rattle.lists.proofs.Kit.{◌≡◌, ◌∙◌, sym, arith}
 use Rattle.halves.proofs.rows.Goals as goal
 
 pub loop-i-init : goal.loop-i-init

@@ -1,5 +1,5 @@
 -- `halves::rows` meets its contract.
-use Rattle.lists.proofs.Kit.{◌≡◌, ◌∙◌, sym, ◌-◌, ◌%◌, ◌≤◌, arith, rules}
+use Rattle.lists.proofs.Kit.{◌≡◌, ◌-◌, ◌%◌, ◌≤◌}
 use Rattle.halves.specs.Steps.{Rows}
 use Rattle.halves.proofs.rows.Given as goal
 

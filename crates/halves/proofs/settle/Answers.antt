@@ -1,8 +1,6 @@
 -- `halves::settle` meets its contract.
-use Rattle.lists.proofs.Kit.{◌≡◌, ℕ, ◌+◌, ◌-◌, ◌*◌, ◌%◌, ◌≤◌, arith, rules, get_or}
-use Rattle.lists.specs.Ranges.{Stored}
+use Rattle.lists.proofs.Kit.{◌≡◌, arith}
 use Rattle.lists.proofs.Stored.{store-none, store-front}
-use Rattle.halves.specs.Halves.{q}
 use Rattle.halves.proofs.settle.Goals as goal
 
 pub overflow_mul-highs : goal.overflow_mul-highs

@@ -1,7 +1,6 @@
 -- `halves::settle` meets its contract.
-use Rattle.lists.proofs.Kit.{◌≡◌, ℕ, ◌+◌, ◌-◌, ◌*◌, ◌%◌, ◌≤◌, arith, rules, get_or}
+use Rattle.lists.proofs.Kit.{ℕ, ◌+◌, ◌-◌, ◌*◌, ◌%◌, ◌≤◌, get_or}
 use Rattle.lists.specs.Ranges.{Stored}
-use Rattle.lists.proofs.Stored.{store-none, store-front}
 use Rattle.halves.specs.Halves.{q}
 use Rattle.halves.proofs.settle.Given as goal
 

@@ -1,5 +1,4 @@
 -- `halves::size_in` meets its contract.
-use Rattle.lists.proofs.Kit.{rules}
 use Rattle.halves.proofs.{Multiplied.size-passes, Multiplied.size-fails}
 use Rattle.halves.proofs.size_in.Goals as goal
 

@@ -1,5 +1,4 @@
 -- `halves::spread` meets its contract.
-use Rattle.lists.proofs.Kit.{rules}
 use Rattle.halves.proofs.{Moves.spread-law}
 use Rattle.halves.proofs.spread.Goals as goal
 

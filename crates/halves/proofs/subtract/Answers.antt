@@ -1,6 +1,5 @@
 -- `halves::subtract` meets its contract.
-use Rattle.lists.proofs.Kit.{◌≡◌, ◌∙◌, ap, ap₂, ℕ, ◌+◌, ◌-◌, ◌%◌, ◌≤◌, arith, rules, get_or}
-use Rattle.lists.specs.Ranges.{Stored}
+use Rattle.lists.proofs.Kit.{◌≡◌, ◌∙◌, ap, ap₂, ℕ, ◌+◌, ◌-◌, ◌%◌, arith, get_or}
 use Rattle.lists.proofs.Stored.{store-none, store-next, not_yet}
 use Rattle.halves.specs.{Halves.q, Steps.from}
 use Rattle.halves.proofs.{Stores.read-ahead}

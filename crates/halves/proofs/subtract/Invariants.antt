@@ -1,9 +1,7 @@
 -- `halves::subtract` meets its contract.
-use Rattle.lists.proofs.Kit.{◌≡◌, ◌∙◌, ap, ap₂, ℕ, ◌+◌, ◌-◌, ◌%◌, ◌≤◌, arith, rules, get_or}
+use Rattle.lists.proofs.Kit.{◌+◌, ◌-◌, ◌%◌, ◌≤◌}
 use Rattle.lists.specs.Ranges.{Stored}
-use Rattle.lists.proofs.Stored.{store-none, store-next, not_yet}
 use Rattle.halves.specs.{Halves.q, Steps.from}
-use Rattle.halves.proofs.{Stores.read-ahead}
 use Rattle.halves.proofs.subtract.Given as goal
 
 abbrev pub invariant-loop-i : goal.invariant-loop-i

@@ -1,5 +1,5 @@
 -- `halves::times` meets its contract.
-use Rattle.lists.proofs.Kit.{arith, mul-le-mul, rules, ℕ, ◌*◌, ◌≤◌}
+use Rattle.lists.proofs.Kit.{arith, mul-le-mul, ℕ, ◌*◌, ◌≤◌}
 use Rattle.halves.proofs.times.Goals as goal
 
 square : (x y : ℕ) → x ≤ 4294967295 → y ≤ 4294967295 → x * y ≤ 4294967295 * 4294967295

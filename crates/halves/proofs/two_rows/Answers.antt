@@ -1,6 +1,6 @@
 -- `halves::two_rows` meets its contract: k of the 33 columns have the two rows.
-use Rattle.lists.proofs.Kit.{◌≡◌, refl, ◌∙◌, sym, ◌+◌, ◌-◌, ◌≤◌, arith, rules, get_or}
-use Rattle.halves.proofs.{Columns.Doing, Columns.doing-none, Columns.doing-next, Columns.doing-all, Columns.doing-small}
+use Rattle.lists.proofs.Kit.{refl, ◌∙◌, sym, ◌+◌, arith}
+use Rattle.halves.proofs.{Columns.doing-none, Columns.doing-next, Columns.doing-all, Columns.doing-small}
 use Rattle.halves.proofs.two_rows.Goals as goal
 
 pub loop-k-init : goal.loop-k-init

@@ -1,6 +1,6 @@
 -- `halves::two_rows` meets its contract: k of the 33 columns have the two rows.
-use Rattle.lists.proofs.Kit.{◌≡◌, refl, ◌∙◌, sym, ◌+◌, ◌-◌, ◌≤◌, arith, rules, get_or}
-use Rattle.halves.proofs.{Columns.Doing, Columns.doing-none, Columns.doing-next, Columns.doing-all, Columns.doing-small}
+use Rattle.lists.proofs.Kit.{◌≡◌, ◌+◌, ◌-◌, ◌≤◌, get_or}
+use Rattle.halves.proofs.{Columns.Doing}
 use Rattle.halves.proofs.two_rows.Given as goal
 
 abbrev pub invariant-loop-k : goal.invariant-loop-k
