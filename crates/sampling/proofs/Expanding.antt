@@ -8,7 +8,8 @@
 --   numbers-few          no more are taken than the answer has
 --   whole_part           numbers that fill their part
 --   expand-unknown, expand-named   what is seen where no rule is named, and under another name and room
-use Rattle.lists.proofs.Kit.{◌≡◌, refl, ◌∙◌, sym, ap, Bool, true, false, List, ◌++◌, append-nil, ℕ, ◌≤◌, ◌<◌, arith, leb, length, take, drop, replicate}
+use Rattle.lists.proofs.Kit.{refl, ◌∙◌, sym, ap, Bool, true, false, List, append-nil, ℕ, arith, leb, length, take, drop, replicate}
+use Rattle.std.proofs.Common.{◌≡◌, ◌++◌, ◌≤◌, ◌<◌}
 use Rattle.lists.proofs.Kit.{length-take, drop_of_length-le, leb-true, le-leb, lt-leb}
 use Rattle.lists.proofs.Same.{zeros-long}
 use Rattle.noise.specs.{Expand.rule, declared.RuleName.RuleName, declared.Ruled.Ruled, declared.Ruled.TheVariants.By, declared.Ruled.TheVariants.Unknown}

@@ -4,7 +4,8 @@
 --   bytes-sized          where Grow's tests of lengths pass, so do Expand's of up to 24 blocks
 --   grown-all, grown-first   what is seen of it is then what is seen of Expand on all blocks, and on the first bytes where they are not refused
 --   grow-unknown, grow-named   what is seen where no rule is named, and under another name and room
-use Rattle.lists.proofs.Kit.{◌≡◌, refl, ◌∙◌, sym, ap, ap₂, List, ◌++◌, ℕ, ◌+◌, ◌-◌, ◌*◌, ◌%◌, ◌≤◌, arith, length, take, drop, replicate, take-append-drop}
+use Rattle.lists.proofs.Kit.{refl, ◌∙◌, sym, ap, ap₂, List, ℕ, arith, length, take, drop, replicate, take-append-drop}
+use Rattle.std.proofs.Common.{◌≡◌, ◌++◌, ◌+◌, ◌-◌, ◌*◌, ◌%◌, ◌≤◌}
 use Rattle.lists.proofs.Same.{zeros-long}
 use Rattle.noise.specs.declared.Ruled.TheVariants.{By, Unknown}
 use Rattle.noise.specs.{Expand.expanded, Expand.rule, declared.RuleName.RuleName, declared.Ruled.Ruled}

@@ -4,7 +4,8 @@
 --   Fits, sizes-passed, tests-passed   what passed tests say of the lengths
 --   takes, words, filled   the bytes, the table and the values of a scheme that is known by its name
 --   noise-unknown, noise-named   what is seen where no scheme is named, and under another name and room
-use Rattle.lists.proofs.Kit.{◌≡◌, refl, ◌∙◌, sym, ap, List, Bool, true, false, ℕ, ◌*◌, ◌/◌, ◌≤◌, arith, eqb, ℤ, pos, length, replicate, eqb-true}
+use Rattle.lists.proofs.Kit.{refl, ◌∙◌, sym, ap, List, Bool, true, false, ℕ, arith, eqb, ℤ, pos, length, replicate, eqb-true}
+use Rattle.std.proofs.Common.{◌≡◌, ◌*◌, ◌/◌, ◌≤◌}
 use Rattle.schemes.specs.declared.Scheme.TheVariants.{Bcns, NewHope, Challenge, Classical, Recommended, Paranoid}
 use Rattle.schemes.specs.declared.Named.TheVariants.{Known, Unknown}
 use Rattle.schemes.specs.{Schemes.fixed_of, Schemes.family_of, Schemes.by_family, declared.Named.Named, declared.Family.Family, declared.Scheme.Scheme}

@@ -5,7 +5,8 @@
 --   grow-below, grow-passes         so of Grow
 --   never-eighteen, eighteen-says   where Noise is refused with 18, and what its place says
 --   same-grown                      two boxes grow the same numbers
-use Rattle.lists.proofs.Kit.{◌≡◌, refl, ◌∙◌, sym, Bool, true, false, List, ℕ, ◌*◌, ◌/◌, ◌<◌, ◌≤◌, arith, eqb, ltb, pos, nat_abs, length, take, take_at, ltb-true}
+use Rattle.lists.proofs.Kit.{refl, ◌∙◌, sym, Bool, true, false, List, ℕ, arith, eqb, ltb, pos, nat_abs, length, take, take_at, ltb-true}
+use Rattle.std.proofs.Common.{◌≡◌, ◌*◌, ◌/◌, ◌<◌, ◌≤◌}
 use Rattle.schemes.specs.declared.Scheme.TheVariants.{Bcns, NewHope, Challenge, Classical, Recommended, Paranoid}
 use Rattle.schemes.specs.{Schemes.fixed_of, Schemes.family_of, Schemes.by_family, Schemes.new_hope, declared.Scheme.Scheme, declared.Named.TheVariants.Known}
 use Rattle.lists.specs.Ranges.{Below, Within}

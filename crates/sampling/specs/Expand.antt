@@ -9,7 +9,7 @@
 --   grow_tests, grow_result k seed n   Grow's tests, and what it shows
 --   ExpandPasses, GrowPasses   no part of what either writes is refused as public numbers of NewHope
 --   SameGrown                two boxes that grow from one rule and seed hold the same numbers, whatever room they lend
-use Rattle.lists.specs.Kit.{◌≡◌, cond, List, [], ℕ, ◌*◌, leb, length, take, drop}
+use Rattle.std.specs.Prelude.{◌≡◌, cond, List, [], ℕ, ◌*◌, leb, length, take, drop}
 use Rattle.schemes.specs.Schemes.{new_hope}
 use Rattle.noise.specs.{Expand.expanded, Expand.rule, declared.Ruled.Ruled, declared.Ruled.TheVariants.By, declared.Ruled.TheVariants.Unknown}
 use Rattle.sponge.specs.Sponge.{shake128}

@@ -9,7 +9,7 @@
 --   NoisePasses                  no part of what Noise writes is refused as a secret or as noise
 --   NeverEighteen                18 cannot arise in the other schemes
 --   EighteenSays                 in BCNS its place is "the first entry not above its forerunner", 1 to 50
-use Rattle.lists.specs.Kit.{◌≡◌, cond, List, [], ℕ, ◌*◌, ◌/◌, ◌<◌, eqb, ℤ, pos, length, take, drop}
+use Rattle.std.specs.Prelude.{◌≡◌, cond, List, [], ℕ, ◌*◌, ◌/◌, ◌<◌, eqb, ℤ, pos, length, take, drop}
 use Rattle.schemes.specs.declared.Scheme.TheVariants.{Bcns, NewHope, Challenge, Classical, Recommended, Paranoid}
 use Rattle.schemes.specs.declared.Named.TheVariants.{Known, Unknown}
 use Rattle.schemes.specs.{Schemes.fixed_of, Schemes.family_of, Schemes.by_family, declared.Named.Named, declared.Scheme.Scheme}

@@ -2,7 +2,7 @@
 --   noise_sizes_lem c each words x n   Noise's, where a value takes so many bytes and the table has so many words, with room for n values
 --   expand_sizes_lem stream n          Expand's, with room for n numbers
 --   grow_sizes_lem seed n              Grow's
-use Rattle.lists.specs.Kit.{List, ℕ, ◌*◌, ◌/◌, length}
+use Rattle.std.specs.Prelude.{List, ℕ, ◌*◌, ◌/◌, length}
 use Rattle.schemes.specs.{Schemes.fixed_of, Schemes.new_hope, declared.Scheme.Scheme}
 use Rattle.refusals.specs.{Refusals.◌then◌, Refusals.length_is_lem, Refusals.length_up_to_lem, Refusals.room_for_lem, declared.Verdict.Verdict}
 use Rattle.sampling.specs.Noise.{Noise, length_either_lem}

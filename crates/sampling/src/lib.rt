@@ -1,6 +1,9 @@
 // Noise, Expand and Grow: values and public numbers from bytes that the caller lends (01, "Noise" and "The NewHope transform"; 02, requests m, g and c). None has
 // a `requires`: each ends with an answer or a numbered refusal, given exactly when its condition holds; the whole output is zeroed first.
-ghost use Rattle.lists.specs.Kit.{◌≡◌, length, replicate};
+
+#![tactic(auto)]
+
+ghost use Rattle.std.specs.Prelude.{◌≡◌, length, replicate};
 ghost use Rattle.schemes.specs.Schemes.{scheme_of_lem};
 ghost use Rattle.refusals.specs.Seen.{told, seen};
 ghost use Rattle.noise.specs.Expand.{rule_of_lem};

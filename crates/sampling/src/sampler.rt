@@ -1,6 +1,6 @@
 // Noise, Expand and Grow, once the scheme or the rule is known and the output holds zeros: the tests in 01's order, then the work of the crates `noise`
 // and `bcns_noise` into the part of the output that the answer takes.
-ghost use Rattle.lists.specs.Kit.{◌≡◌, ◌++◌, ◌*◌, ◌/◌, ◌%◌, ◌≤◌, ◌<◌, length, drop, replicate, pos};
+ghost use Rattle.std.specs.Prelude.{◌≡◌, ◌++◌, ◌*◌, ◌/◌, ◌%◌, ◌≤◌, ◌<◌, length, drop, replicate, pos};
 ghost use Rattle.schemes.specs.Schemes.{family_of, by_family};
 ghost use Rattle.schemes.specs.declared.Named.TheVariants.{Known};
 ghost use Rattle.refusals.specs.Refusals.{◌then◌, table_in_lem};

@@ -1,5 +1,5 @@
 -- `sampling::named` meets its contract.
-use Rattle.lists.proofs.Kit.{length, rules}
+use Rattle.lists.proofs.Kit.{length}
 use Rattle.lists.proofs.Same.{zeros}
 use Rattle.sampling.proofs.named.Goals as goal
 

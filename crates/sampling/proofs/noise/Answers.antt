@@ -1,5 +1,5 @@
 -- `sampling::noise` meets its contract: the output is zeroed first, and then holds what the scheme by its name gives.
-use Rattle.lists.proofs.Kit.{sym, ◌∙◌, pos, length, rules}
+use Rattle.lists.proofs.Kit.{sym, ◌∙◌, pos, length}
 use Rattle.lists.proofs.Same.{zeros, zeros-long}
 use Rattle.sampling.proofs.{Noising.noise-unknown, Noising.noise-named}
 use Rattle.sampling.proofs.noise.Goals as goal

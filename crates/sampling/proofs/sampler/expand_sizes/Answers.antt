@@ -1,5 +1,5 @@
 -- `sampling::sampler::expand_sizes` meets its contract.
-use Rattle.lists.proofs.Kit.{refl, rules}
+use Rattle.lists.proofs.Kit.{refl}
 use Rattle.refusals.proofs.Laws.{first, also}
 use Rattle.sampling.specs.Steps.{expand_sizes_lem}
 use Rattle.sampling.proofs.sampler.expand_sizes.Goals as goal

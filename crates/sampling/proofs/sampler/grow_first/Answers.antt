@@ -1,26 +1,29 @@
 -- `sampling::sampler::grow_first` meets its contract: by the first bytes where they are enough, and by all after their refusal, which has left zeros.
-use Rattle.lists.proofs.Kit.{◌≡◌, refl, ◌∙◌, sym, ap, ℕ, ◌*◌, ◌≤◌, arith, length, take, length-take-le, rules}
+use Rattle.lists.proofs.Kit.{refl, ◌∙◌, sym, ap, List, ℕ, arith, length, take, length-take-le}
+use Rattle.std.proofs.Common.{◌≡◌, ◌*◌, ◌≤◌}
 use Rattle.lists.proofs.Same.{zeros, zeros-long}
 use Rattle.sampling.specs.Steps.{grow_sizes_lem}
 use Rattle.sampling.proofs.{Expanding.refused-zeros, Growing.grown-all, Growing.grown-first, Growing.grow-named}
 use Rattle.sampling.proofs.sampler.grow_first.Goals as goal
-use Rattle.sampling.proofs.sampler.grow_first.Goals.{Start}
 
 -- how many bytes are lent for the first
-lent : (b : Start) (n : ℕ) → n ≤ 24 * 168 → length (take n b.args.bytes.now) ≡ n
-lent b n l = length-take-le n b.args.bytes.now (omega (arith, b.requires.out_value.1))
+lent : (bytes : List ℕ) (n : ℕ) → length bytes ≡ 24 * 168 → n ≤ 24 * 168 → length (take n bytes) ≡ n
+lent bytes n e l = length-take-le n bytes (omega arith)
 
 pub slice_bounds-grow_from-end-2 : goal.slice_bounds-grow_from-end-2
 slice_bounds-grow_from-end-2 c =
-    sym (lent c.before.before.before.before.before _ c.first_bytes-n.ensures.0)
+    sym (lent c.args.bytes.now _ c.requires.out_value.1 c.first_bytes-n.ensures.0)
 
 pub grow_from-a-requires : goal.grow_from-a-requires
 grow_from-a-requires c =
-    ((c.requires.out_value.0, omega (arith, lent c.before.before.before.before.before.before _ c.first_bytes-n.ensures.0)), c.requires.out_value_2)
+    record {
+      out_value = (c.requires.out_value.0, omega (arith, lent c.args.bytes.now _ c.requires.out_value.1 c.first_bytes-n.ensures.0));
+      out_value_2 = c.requires.out_value_2;
+    }
 
 pub returns-in_default : goal.returns-in_default
 returns-in_default c =
-    let l = lent c.before.before.before.before.before.before.before.before.before.before.before.before.before _ c.first_bytes-n.ensures.0 in
+    let l = lent c.args.bytes.now _ c.requires.out_value.1 c.first_bytes-n.ensures.0 in
     grown-first c.args.name c.args.seed.now _ c.requires.out_value.0 _ (omega (arith, l)) _ (omega (arith, l, c.first_bytes-n.ensures.1))
     c.in_default.is c.grow_from-a.ensures
 

@@ -1,5 +1,5 @@
 -- `sampling::sampler::grow_from` meets its contract: what Expand promises of the bytes.
-use Rattle.lists.proofs.Kit.{◌∙◌, ap, arith, length, rules}
+use Rattle.lists.proofs.Kit.{◌∙◌, ap, arith, length}
 use Rattle.sponge.proofs.Output.{shake-length}
 use Rattle.sampling.proofs.{Growing.bytes-sized}
 use Rattle.sampling.proofs.sampler.grow_from.Goals as goal

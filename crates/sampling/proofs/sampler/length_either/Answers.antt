@@ -1,5 +1,5 @@
 -- `sampling::sampler::length_either` meets its contract.
-use Rattle.lists.proofs.Kit.{eq-eqb, ne_eqb, refl, rules}
+use Rattle.lists.proofs.Kit.{eq-eqb, ne_eqb, refl}
 use Rattle.refusals.proofs.Laws.{first}
 use Rattle.sampling.specs.Noise.{length_either_lem}
 use Rattle.sampling.proofs.sampler.length_either.Goals as goal

@@ -1,5 +1,5 @@
 -- `sampling::sampler::noise_count` meets its contract: by the family.
-use Rattle.lists.proofs.Kit.{◌∙◌, sym, length, rules}
+use Rattle.lists.proofs.Kit.{◌∙◌, sym, length}
 use Rattle.sampling.proofs.{Noising.count_by}
 use Rattle.sampling.proofs.sampler.noise_count.Goals as goal
 

@@ -1,5 +1,6 @@
 -- `sampling::sampler::noise_sizes` meets its contract.
-use Rattle.lists.proofs.Kit.{refl, ◌∙◌, ap, ◌*◌, arith, mul-le-mul, length, rules}
+use Rattle.lists.proofs.Kit.{refl, ◌∙◌, ap, arith, mul-le-mul, length}
+use Rattle.std.proofs.Common.{◌*◌}
 use Rattle.schemes.specs.declared.Fixed.{Fixed}
 use Rattle.schemes.proofs.Sound.{Sound, sound}
 use Rattle.refusals.proofs.Laws.{also}

@@ -1,5 +1,5 @@
 -- `sampling::sampler::noise_tests` meets its contract: by the family.
-use Rattle.lists.proofs.Kit.{refl, ◌∙◌, sym, rules}
+use Rattle.lists.proofs.Kit.{refl, ◌∙◌, sym}
 use Rattle.refusals.proofs.Laws.{also}
 use Rattle.sampling.proofs.{Noising.tests_by}
 use Rattle.sampling.proofs.sampler.noise_tests.Goals as goal

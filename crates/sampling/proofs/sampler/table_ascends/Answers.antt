@@ -1,5 +1,5 @@
 -- `sampling::sampler::table_ascends` meets its contract.
-use Rattle.lists.proofs.Kit.{ap, ℕ, rules}
+use Rattle.lists.proofs.Kit.{ap, ℕ}
 use Rattle.refusals.specs.Refusals.{table_in_lem}
 use Rattle.refusals.proofs.Laws.{stays, goes_on, first}
 use Rattle.sampling.proofs.sampler.table_ascends.Goals as goal
