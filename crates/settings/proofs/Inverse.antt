@@ -2,7 +2,8 @@
 --   text-read, no_other        the text of settings is read as them, and no other text is
 --   newer-told, newer-only     a newer format is told exactly where the first line says so
 --   back, same_bytes, same-reading, older-tells, upgraded   what follows
-use Rattle.lists.proofs.Kit.{◌≡◌, refl, ◌∙◌, sym, ap, ap₂, subst, Bool, true, false, cond, List, [], ◌∷◌, ◌++◌, ℕ, zero, suc, ◌≤◌, arith, eqb, ltb, length}
+use Rattle.lists.proofs.Kit.{refl, ◌∙◌, sym, ap, ap₂, subst, Bool, true, false, cond, List, [], ℕ, zero, suc, arith, eqb, ltb, length}
+use Rattle.std.proofs.Common.{◌≡◌, ◌∷◌, ◌++◌, ◌≤◌}
 use Rattle.lists.proofs.Kit.{get_or, take, drop, length-append, drop_of_length-le, take-append_seam, get_or-append_seam, split_at, length-take-le, leb-true}
 use Rattle.lists.proofs.Kit.{ltb-true, ltb-false, eqb-true, le-leb, lt-ltb, le-ltb, eq-eqb}
 use Rattle.lists.specs.First.{first_where}

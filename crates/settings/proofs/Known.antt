@@ -3,7 +3,8 @@
 --   scheme-small, rule-is, rule-small   and which they are
 --   format-none, format-some   the format, by the label's length
 --   not-allowed                a byte that is no digit and no capital letter
-use Rattle.lists.proofs.Kit.{◌≡◌, refl, ◌∙◌, ◌⊎◌, inl, inr, Bool, true, false, cond, not, ◌||◌, ◌&&◌, ℕ, zero, suc, ◌≤◌, ◌<◌, arith, eqb, leb, ltb, leb-true}
+use Rattle.lists.proofs.Kit.{refl, ◌∙◌, inl, inr, Bool, true, false, cond, not, ℕ, zero, suc, arith, eqb, leb, ltb, leb-true}
+use Rattle.std.proofs.Common.{◌≡◌, ◌⊎◌, ◌||◌, ◌&&◌, ◌≤◌, ◌<◌}
 use Rattle.lists.proofs.Kit.{eqb-true, eqb-false, le-leb, lt-leb}
 use Rattle.lists.specs.First.{both}
 use Rattle.text.specs.Text.{is_digit_lem}

@@ -3,7 +3,8 @@
 --   read_short   what is seen where the room is shorter than that label
 --   read-laid    and where it was laid at the front of the zeros
 --   read-seen-all, read-told-all   `read_seen` and `read_told` forget nothing
-use Rattle.lists.proofs.Kit.{◌≡◌, refl, ◌∙◌, ap, List, ◌++◌, ℕ, ◌≤◌, ◌<◌, arith, length, take, drop, replicate, length-append, take-append_seam, lt-leb}
+use Rattle.lists.proofs.Kit.{refl, ◌∙◌, ap, List, ℕ, arith, length, take, drop, replicate, length-append, take-append_seam, lt-leb}
+use Rattle.std.proofs.Common.{◌≡◌, ◌++◌, ◌≤◌, ◌<◌}
 use Rattle.lists.proofs.Same.{zeros-long}
 use Rattle.refusals.specs.declared.Refusal.TheVariants.{Short, Misfit, NewerFormat}
 use Rattle.refusals.specs.declared.Verdict.TheVariants.{Pass, Fail}

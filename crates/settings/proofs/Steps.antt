@@ -5,7 +5,8 @@
 --   tail-two, tail_none, tail_more, tail-end, end_short   what stands behind the rule
 --   within                                 a number that was read ends within the text
 --   rule-other, rule-read, rule-bad, scheme-.., format-..   the lines, where they are other text, read, or bad
-use Rattle.lists.proofs.Kit.{◌≡◌, refl, ◌∙◌, sym, ap, subst, Bool, true, false, ◌&&◌, List, ◌++◌, ℕ, suc, ◌+◌, ◌-◌, ◌≤◌, ◌<◌, add-one, arith, eqb, leb}
+use Rattle.lists.proofs.Kit.{refl, ◌∙◌, sym, ap, subst, Bool, true, false, List, ℕ, suc, add-one, arith, eqb, leb}
+use Rattle.std.proofs.Common.{◌≡◌, ◌&&◌, ◌++◌, ◌+◌, ◌-◌, ◌≤◌, ◌<◌}
 use Rattle.lists.proofs.Kit.{drop-cons, length, get_or, take, drop, replicate, length-append, length-drop, drop_of_length-le, leb-true, eqb-true, le-leb, lt-leb}
 use Rattle.lists.proofs.Kit.{lt-ltb, le-ltb, ne_eqb}
 use Rattle.lists.specs.First.{both}

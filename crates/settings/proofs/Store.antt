@@ -7,7 +7,8 @@
 --   label-none, label-left, lines_left   a label's line, and all lines, in parts
 --   write-refused, write_done      what is seen where a test fails, and where the lines were written over zeros
 --   stored_back                    what the output holds is read as what was written
-use Rattle.lists.proofs.Kit.{◌≡◌, refl, ◌∙◌, sym, ap, ◌⊎◌, inl, inr, Bool, true, false, cond, List, [], ◌∷◌, ◌++◌, append-nil, ℕ, zero, suc, ◌+◌, ◌≤◌, ◌<◌}
+use Rattle.lists.proofs.Kit.{refl, ◌∙◌, sym, ap, inl, inr, Bool, true, false, cond, List, [], append-nil, ℕ, zero, suc}
+use Rattle.std.proofs.Common.{◌≡◌, ◌⊎◌, ◌∷◌, ◌++◌, ◌+◌, ◌≤◌, ◌<◌}
 use Rattle.lists.proofs.Kit.{arith, length, replicate, length-append, leb-true, le-leb, lt-leb, ne_eqb}
 use Rattle.text.specs.{Text.LF, Text.digits_up_to, Text.decimal, Text.scheme_name, Text.line, Steps.Written}
 use Rattle.text.proofs.Writing.{joined, Left, left-all, written_none, one-digit, line-length}

@@ -19,7 +19,7 @@
 --   read_told a                   the numbers of its answer
 --   read_seen t label             what is seen of it where it tells t and leaves label
 --   ReadSeenAll, ReadToldAll     `read_seen` and `read_told` forget nothing
-use Rattle.lists.specs.Kit.{◌≡◌, cond, List, [], ◌++◌, ℕ, ◌-◌, leb, length, replicate}
+use Rattle.std.specs.Prelude.{◌≡◌, cond, List, [], ◌++◌, ℕ, ◌-◌, leb, length, replicate}
 use Rattle.refusals.specs.declared.Refusal.TheVariants.{NoScheme, NoRule, Misfit, NewerFormat}
 use Rattle.refusals.specs.Seen.{if_passed, Output, output, written, Told, Seen, shown, told}
 use Rattle.refusals.specs.Refusals.{number_in, place_in, ◌then◌, length_up_to_lem, room_for_lem}

@@ -7,7 +7,7 @@
 --   letters xs          how many capital letters and digits xs begins with
 --   Reading             what a reader makes of a text: a setup, a newer format by its number, or a misfit
 --   reads reader xs     that of the text xs, by a reader of the formats up to its own
-use Rattle.lists.specs.Kit.{Bool, true, false, cond, List, [], ◌∷◌, ◌++◌, ℕ, zero, suc, eqb, leb, ltb, length, get_or, take, drop}
+use Rattle.std.specs.Prelude.{Bool, true, false, cond, List, [], ◌∷◌, ◌++◌, ℕ, zero, suc, eqb, leb, ltb, length, get_or, take, drop}
 use Rattle.schemes.specs.{Schemes.scheme_of_lem, declared.Named.Named}
 use Rattle.lists.specs.First.{first_where, both}
 use Rattle.text.specs.Text.{LF, scheme_name, line, Read, number, other, is_digit_lem, begins, field_in}

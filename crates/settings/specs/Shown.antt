@@ -12,7 +12,7 @@
 --   Upgraded            hence what the format 1 reader reads, the format 2 reader reads as the same settings
 --   OlderTells          of settings with a label the format 1 reader says that they are in format 2
 --   Enough              50 bytes tell, of which settings have at most 49
-use Rattle.lists.specs.Kit.{◌≡◌, true, List, ℕ, ◌≤◌, ◌<◌, length, take}
+use Rattle.std.specs.Prelude.{◌≡◌, true, List, ℕ, ◌≤◌, ◌<◌, length, take}
 use Rattle.text.specs.Text.{number, field_in}
 use Rattle.refusals.specs.Seen.{answer}
 use Rattle.settings.specs.Settings.{Setup, format_name, format_of, text_of, is_scheme_lem, is_rule_lem, letters, setup, newer, reads}

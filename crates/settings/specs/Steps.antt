@@ -2,7 +2,7 @@
 --   lent_of e s   the answer that ended with e and s, in numbers, for a caller that lends the label's room
 --   short_of      that caller's answer where the room is shorter than the label that was read
 --   size_of n     how long the text with a label of n bytes is
-use Rattle.lists.specs.Kit.{cond, ℕ, ◌+◌, eqb}
+use Rattle.std.specs.Prelude.{cond, ℕ, ◌+◌, eqb}
 use Rattle.refusals.specs.declared.Refusal.TheVariants.{Short, Misfit, NewerFormat}
 use Rattle.refusals.specs.declared.Answer.TheVariants.{Done, Refused}
 use Rattle.settings.specs.{Settings.format_of, Calls.Ending, Calls.Settings, Calls.LentAnswer}

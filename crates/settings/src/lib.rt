@@ -1,6 +1,9 @@
 // The settings of a box in a text store, for every input: 02, request h. Both readers are one function over the reader's own number, the highest format that it
 // knows; the writer takes the oldest format that holds the settings. No public call has a `requires`.
-ghost use Rattle.lists.specs.Kit.{◌≡◌, length};
+
+#![tactic(auto)]
+
+ghost use Rattle.std.specs.Prelude.{◌≡◌, length};
 ghost use Rattle.refusals.specs.Seen.{told, seen};
 ghost use Rattle.settings.specs.Settings.{setup_of, format_of, is_scheme_lem, is_rule_lem, not_allowed_lem, letters, reads};
 ghost use Rattle.settings.specs.Calls.{answer_of, write_result, read_of, read_result, read_told, read_seen};

@@ -1,5 +1,5 @@
 // Reading, a line at a time. Each function takes the position that the one before it came to and gives the whole answer.
-ghost use Rattle.lists.specs.Kit.{◌≡◌, ◌≤◌, length, drop};
+ghost use Rattle.std.specs.Prelude.{◌≡◌, ◌≤◌, length, drop};
 ghost use Rattle.text.specs.Text.{scheme_name, field_in};
 ghost use Rattle.settings.specs.Settings.{setup_of, letters, setup, rule_name, well_spelled_lem, spelled_in, last_in, tail_in, rule_in, scheme_in};
 ghost use Rattle.settings.specs.Calls.{ended, answer_of};

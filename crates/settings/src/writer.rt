@@ -1,5 +1,5 @@
 // Writing: the tests in their order, then the lines one behind the other.
-ghost use Rattle.lists.specs.Kit.{◌≡◌, ◌+◌, ◌≤◌, length};
+ghost use Rattle.std.specs.Prelude.{◌≡◌, ◌+◌, ◌≤◌, length};
 ghost use Rattle.refusals.specs.Refusals.{◌then◌};
 ghost use Rattle.text.specs.Steps.{Written};
 ghost use Rattle.settings.specs.Settings.{setup_of, label_line, text_of};

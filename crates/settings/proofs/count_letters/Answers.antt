@@ -1,6 +1,6 @@
 -- `settings::count_letters` meets its contract: it searches for the first byte that is no capital letter or digit.
-use Rattle.lists.proofs.Kit.{◌∙◌, sym, ◌-◌, arith, rules, length}
-use Rattle.lists.proofs.First.{Passed, passed_none, passed-more, found, missing}
+use Rattle.lists.proofs.Kit.{◌∙◌, sym, arith}
+use Rattle.lists.proofs.First.{passed_none, passed-more, found, missing}
 use Rattle.settings.specs.Settings.{not_allowed_lem, letters}
 use Rattle.settings.proofs.count_letters.Goals as goal
 

@@ -1,7 +1,8 @@
 -- `settings::count_letters` meets its contract: it searches for the first byte that is no capital letter or digit.
-use Rattle.lists.proofs.Kit.{◌∙◌, sym, ◌-◌, arith, rules, length}
-use Rattle.lists.proofs.First.{Passed, passed_none, passed-more, found, missing}
-use Rattle.settings.specs.Settings.{not_allowed_lem, letters}
+use Rattle.lists.proofs.Kit.{length}
+use Rattle.std.proofs.Common.{◌-◌}
+use Rattle.lists.proofs.First.{Passed}
+use Rattle.settings.specs.Settings.{not_allowed_lem}
 use Rattle.settings.proofs.count_letters.Given as goal
 
 abbrev pub invariant-loop-i : goal.invariant-loop-i

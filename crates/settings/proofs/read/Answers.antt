@@ -1,5 +1,6 @@
 -- `settings::read` meets its contract.
-use Rattle.lists.proofs.Kit.{◌∙◌, ap, rules}
+use Rattle.lists.proofs.Kit.{◌∙◌, ap, arith, rules}
+use Rattle.std.proofs.lemmas.Bool.Decides.{nat_tests}
 use Rattle.text.proofs.Lines.{told-within}
 use Rattle.settings.specs.{Settings.format_name, Calls.answer_of}
 use Rattle.settings.proofs.{Steps.format-other, Steps.format-newer, Steps.format_read}
@@ -14,7 +15,7 @@ returns-in_default c =
 
 pub returns-then-reader-format : goal.returns-then-reader-format
 returns-then-reader-format c =
-    c.nothing-then-reader-format.ensures ∙ ap answer_of (format-newer c.args.reader c.args.text.now c.field.ensures c.in-Number.is c.if-reader-format.taken)
+    c.nothing-then-reader-format.ensures ∙ ap answer_of (format-newer c.args.reader c.args.text.now c.field.ensures c.in-Number.is (grind (arith, nat_tests)))
 
 pub scheme_line-requires : goal.scheme_line-requires
 scheme_line-requires c =
@@ -22,4 +23,4 @@ scheme_line-requires c =
 
 pub returns : goal.returns
 returns c =
-    c.scheme_line.ensures ∙ ap answer_of (format_read c.args.reader c.args.text.now c.field.ensures c.in-Number.is c.if-reader-format.left)
+    c.scheme_line.ensures ∙ ap answer_of (format_read c.args.reader c.args.text.now c.field.ensures c.in-Number.is (grind (arith, nat_tests)))

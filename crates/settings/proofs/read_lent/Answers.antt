@@ -1,5 +1,5 @@
 -- `settings::read_lent` meets its contract: the label is zeroed first, and written where there is room for the one that was read.
-use Rattle.lists.proofs.Kit.{◌∙◌, sym, arith, rules}
+use Rattle.lists.proofs.Kit.{◌∙◌, sym, arith}
 use Rattle.lists.proofs.Parts.{front_long}
 use Rattle.settings.specs.Calls.{read_of}
 use Rattle.settings.proofs.{Lending.label-fits, Lending.read_short, Lending.read-laid}

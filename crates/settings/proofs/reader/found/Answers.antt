@@ -1,5 +1,5 @@
 -- `settings::reader::found` meets its contract.
-use Rattle.lists.proofs.Kit.{sym, ap, List, arith, ℕ, length, replicate, length-take-le, rules}
+use Rattle.lists.proofs.Kit.{sym, ap, List, arith, ℕ, length, replicate, length-take-le}
 use Rattle.settings.specs.Calls.{ReadAnswer}
 use Rattle.settings.proofs.{Steps.padded}
 use Rattle.settings.specs.declared.Ending.TheVariants as ending

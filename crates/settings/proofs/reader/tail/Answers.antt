@@ -1,12 +1,12 @@
 -- `settings::reader::tail` meets its contract.
-use Rattle.lists.proofs.Kit.{◌∙◌, ap, arith, rules}
+use Rattle.lists.proofs.Kit.{◌∙◌, ap, arith}
 use Rattle.settings.specs.Calls.{answer_of}
 use Rattle.settings.proofs.{Steps.tail-two, Steps.tail_none, Steps.tail_more, Steps.tail-end, Steps.end_short}
 use Rattle.settings.proofs.reader.tail.Goals as goal
 
 pub returns-then-format-eq2 : goal.returns-then-format-eq2
 returns-then-format-eq2 c =
-    c.last_Line.ensures ∙ ap answer_of (tail-two c.args.format c.args.scheme c.args.rule c.args.s.now c.args.at (omega arith))
+    c.last_line.ensures ∙ ap answer_of (tail-two c.args.format c.args.scheme c.args.rule c.args.s.now c.args.at (omega arith))
 
 pub returns-then-format-ne1 : goal.returns-then-format-ne1
 returns-then-format-ne1 c =

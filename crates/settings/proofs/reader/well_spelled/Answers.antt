@@ -1,5 +1,5 @@
 -- `settings::reader::well_spelled` meets its contract.
-use Rattle.lists.proofs.Kit.{arith, rules}
+use Rattle.lists.proofs.Kit.{arith}
 use Rattle.settings.proofs.{Steps.few, Steps.many, Steps.unended, Steps.formed}
 use Rattle.settings.proofs.reader.well_spelled.Goals as goal
 

@@ -1,5 +1,5 @@
 -- `settings::writer::known` meets its contract.
-use Rattle.lists.proofs.Kit.{◌∙◌, sym, rules}
+use Rattle.lists.proofs.Kit.{◌∙◌, sym}
 use Rattle.settings.proofs.{Store.known-no-scheme, Store.known-no-rule, Store.known_both}
 use Rattle.settings.proofs.writer.known.Goals as goal
 

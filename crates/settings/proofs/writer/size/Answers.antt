@@ -1,5 +1,5 @@
 -- `settings::writer::size` meets its contract.
-use Rattle.lists.proofs.Kit.{eq-eqb, ne_eqb, rules}
+use Rattle.lists.proofs.Kit.{eq-eqb, ne_eqb}
 use Rattle.settings.proofs.writer.size.Goals as goal
 
 pub returns-then-n-eq0 : goal.returns-then-n-eq0

@@ -1,5 +1,5 @@
 -- `settings::writer::write_label` meets its contract.
-use Rattle.lists.proofs.Kit.{arith, rules}
+use Rattle.lists.proofs.Kit.{arith}
 use Rattle.text.proofs.Writing.{left-room, left-next, left-none}
 use Rattle.settings.proofs.{Store.label-none, Store.label-left}
 use Rattle.settings.proofs.writer.write_label.Goals as goal
