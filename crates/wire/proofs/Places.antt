@@ -10,7 +10,8 @@
 --   numbers-hold, taken          a packed part: what the unpack step asks, and what it gives
 --   replied, reply-split, reply-front       the packed part of a reply, which lies within it, and what is left for its hints
 --   hints-hold, hints-of, coins-hold, coins-of   hints and coins: what `unpack` asks, and what it gives
-use Rattle.lists.proofs.Kit.{◌≡◌, sym, ap, ap₂, ◌∙◌, List, ◌++◌, append-nil, ℕ, ◌+◌, ◌-◌, ◌*◌, ◌^◌, ◌≤◌, ◌<◌, le_refl, arith, length, take, drop, length-drop}
+use Rattle.lists.proofs.Kit.{sym, ap, ap₂, ◌∙◌, List, append-nil, ℕ, le_refl, arith, length, take, drop, length-drop}
+use Rattle.std.proofs.Common.{◌≡◌, ◌++◌, ◌+◌, ◌-◌, ◌*◌, ◌^◌, ◌≤◌, ◌<◌}
 use Rattle.lists.proofs.Kit.{drop_of_length-le, take_at, drop_at, take_all, length-take-le, put_mid}
 use Rattle.schemes.specs.{Schemes.family_of, Schemes.fixed_of, Schemes.by_family, declared.Fixed.Fixed, declared.Family.Family, declared.Scheme.Scheme}
 use Rattle.schemes.proofs.{Laws.tied, Sound.sound}

@@ -9,7 +9,8 @@
 --   opening-again, reply-again   a message of the scheme's length comes back the same when it is unpacked and packed again
 --   hints-given, coins-given     hints and coins are as many as the scheme has, each within its bits
 --   message-counted              numbers that are not refused are as many as the scheme has, each below q
-use Rattle.lists.proofs.Kit.{◌≡◌, sym, ap, ap₂, ◌∙◌, List, ◌++◌, ℕ, ◌+◌, ◌^◌, le_refl, arith, length, take, drop, length-append, length-drop, take-append-drop}
+use Rattle.lists.proofs.Kit.{sym, ap, ap₂, ◌∙◌, List, ℕ, le_refl, arith, length, take, drop, length-append, length-drop, take-append-drop}
+use Rattle.std.proofs.Common.{◌≡◌, ◌++◌, ◌+◌, ◌^◌}
 use Rattle.lists.proofs.Kit.{take_at, drop_at, take_all}
 use Rattle.schemes.specs.{Schemes.family_of, Schemes.fixed_of, Schemes.by_family, declared.Family.Family, declared.Scheme.Scheme}
 use Rattle.schemes.proofs.{Laws.tied, Sound.sound}

@@ -7,7 +7,8 @@
 --   back           numbers packed and unpacked are the same
 --   as-blank       they are blank where their bytes are
 --   again          bytes unpacked and packed are the same
-use Rattle.lists.proofs.Kit.{◌≡◌, sym, ap, ◌∙◌, List, ℕ, ◌*◌, ◌^◌, ◌≤◌, ◌<◌, lt_of_lt_of_le, arith, length}
+use Rattle.lists.proofs.Kit.{sym, ap, ◌∙◌, List, ℕ, lt_of_lt_of_le, arith, length}
+use Rattle.std.proofs.Common.{◌≡◌, ◌*◌, ◌^◌, ◌≤◌, ◌<◌}
 use Rattle.schemes.specs.{Schemes.fixed_of, declared.Scheme.Scheme}
 use Rattle.schemes.proofs.{Laws.tied, Sound.sound}
 use Rattle.lists.specs.Ranges.{Below}

@@ -1,7 +1,7 @@
 -- Messages there and back.
 --   OpeningBack   the numbers and the seed that an opening was put together from come back
 --   ReplyBack     so do the numbers and the hints of a reply
-use Rattle.lists.specs.Kit.{◌≡◌, List, ◌++◌, ℕ, ◌^◌, length}
+use Rattle.std.specs.Prelude.{◌≡◌, List, ◌++◌, ℕ, ◌^◌, length}
 use Rattle.schemes.specs.{Schemes.fixed_of, declared.Scheme.Scheme}
 use Rattle.packing.specs.Packing.{packed}
 use Rattle.values.specs.Fit.{Counted}

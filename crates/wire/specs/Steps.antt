@@ -2,7 +2,7 @@
 --   reply_secrets_lem c s' e' e''       the tests of the replier's secrets
 --   message_by c u v coins, key_by c v coins   the reply message and the key, of u and v
 --   Rooms c tosses hints entries   there is room for the coins as numbers, the hints and the entries of the key
-use Rattle.lists.specs.Kit.{◌≡◌, List, ◌++◌, ℕ, ℤ, length}
+use Rattle.std.specs.Prelude.{◌≡◌, List, ◌++◌, ℕ, ℤ, length}
 use Rattle.schemes.specs.{Schemes.fixed_of, declared.Scheme.Scheme}
 use Rattle.packing.specs.Packing.{packed}
 use Rattle.refusals.specs.{Refusals.◌then◌, Refusals.secrets_in_lem, declared.Verdict.Verdict}

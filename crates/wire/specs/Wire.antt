@@ -6,7 +6,7 @@
 --   numbers_in c p           the numbers of a packed part
 --   hints_in c m             the hints of a reply
 --   coins_in c coins         the coins of all groups
-use Rattle.lists.specs.Kit.{List, ◌++◌, ℕ, take, drop}
+use Rattle.std.specs.Prelude.{List, ◌++◌, ℕ, take, drop}
 use Rattle.schemes.specs.{Schemes.family_of, Schemes.fixed_of, Schemes.by_family, declared.Scheme.Scheme}
 use Rattle.packing.specs.Packing.{unpacked}
 

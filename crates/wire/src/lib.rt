@@ -1,6 +1,8 @@
 // The messages' bytes: 01, "Bytes on the wire". Where the parts of a message stand, bytes laid from numbers, seeds and hints, and taken apart again. Each
 // function that lays or takes fills the whole of its last argument; the caller sees to the lengths.
-ghost use Rattle.lists.specs.Kit.{◌≡◌, ◌++◌, ◌^◌, length};
+#![tactic(auto)]
+
+ghost use Rattle.std.specs.Prelude.{◌≡◌, ◌++◌, ◌^◌, length};
 ghost use Rattle.schemes.specs.Schemes.{fixed_of};
 ghost use Rattle.packing.specs.Packing.{packed};
 ghost use Rattle.values.specs.Fit.{Counted};

@@ -1,6 +1,6 @@
 // Steps that Offer and Reply share with their calls by rows: the test of the replier's secrets, and messages and key from the values, where the part that is sent
 // is not blank.
-ghost use Rattle.lists.specs.Kit.{◌≡◌, ◌++◌, ◌^◌, length};
+ghost use Rattle.std.specs.Prelude.{◌≡◌, ◌++◌, ◌^◌, length};
 ghost use Rattle.schemes.specs.Schemes.{fixed_of};
 ghost use Rattle.packing.specs.Packing.{packed};
 ghost use Rattle.refusals.specs.Refusals.{not_blank_lem};

@@ -7,7 +7,9 @@ use Rattle.wire.proofs.lay_key.Goals as goal
 
 pub pack-requires : goal.pack-requires
 pack-requires c =
+    let x =
     entries_fit c.args.scheme c.fixed-f.ensures c.requires.0 c.requires.1
+    in record { w_nonzero = x.0; xs_value = x.1 }
 
 pub returns : goal.returns
 returns c =

@@ -9,8 +9,10 @@ overflow_add-end c =
 
 pub pack-requires : goal.pack-requires
 pack-requires c =
+    let x =
     let s = c.args.scheme in
     numbers_fit s c.fixed-f.ensures c.requires.counted (packed-part s c.fixed-f.ensures c.opening_starts-starts.ensures.0 c.args.out.now c.requires.seed_len.1)
+    in record { w_nonzero = x.0; xs_value = x.1 }
 
 pub overflow_add-to : goal.overflow_add-to
 overflow_add-to c =

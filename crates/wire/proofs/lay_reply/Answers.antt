@@ -14,8 +14,10 @@ slice_bounds-pack-end-2 c =
 
 pub pack-requires : goal.pack-requires
 pack-requires c =
+    let x =
     numbers_fit c.args.scheme c.fixed-f.ensures c.requires.counted
     (front_long c.fixed-f.result.packed c.args.out.now (reply-front c.args.scheme c.fixed-f.ensures c.requires.counted_2.1))
+    in record { w_nonzero = x.0; xs_value = x.1 }
 
 pub slice_bounds-pack-count : goal.slice_bounds-pack-count
 slice_bounds-pack-count c =
@@ -23,8 +25,10 @@ slice_bounds-pack-count c =
 
 pub pack-requires-2 : goal.pack-requires-2
 pack-requires-2 c =
+    let x =
     let l = reply-split c.args.scheme c.fixed-f.ensures (c.out-1.given.1 ∙ c.requires.counted_2.1) in
     hints-fit c.args.scheme c.fixed-f.ensures c.requires.counted_2.0 (simp (length-take, length-drop) (omega (arith, l)))
+    in record { w_nonzero = x.0; xs_value = x.1 }
 
 pub returns : goal.returns
 returns c =

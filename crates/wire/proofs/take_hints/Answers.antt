@@ -13,8 +13,10 @@ slice_bounds-unpack-end c =
 
 pub unpack-requires : goal.unpack-requires
 unpack-requires c =
+    let x =
     let l = reply-split c.args.scheme c.fixed-f.ensures c.requires.0 in
     hints-hold c.args.scheme c.fixed-f.ensures c.requires.1 (simp (length-take, length-drop) (omega (arith, l)))
+    in record { w_nonzero = x.0; bytes_value = x.1 }
 
 pub returns : goal.returns
 returns c =

@@ -15,8 +15,10 @@ take_message-requires c =
 
 pub returns : goal.returns
 returns c =
+    let x =
     let s = c.args.scheme in
-    taken s c.fixed-f.ensures c.requires.1 (opened s c.fixed-f.ensures c.opening_starts-starts.ensures.0 c.args.opening.now) c.take_message.ensures
+    taken s c.fixed-f.ensures c.requires.1 (opened s c.fixed-f.ensures c.opening_starts-starts.ensures.0 c.args.opening.now) (c.take_message.ensures.value, c.take_message.ensures.nums_after)
+    in record { value = x.0; numbers_value = x.1 }
 
 pub slice_bounds-take_message-end : goal.slice_bounds-take_message-end
 slice_bounds-take_message-end c = search (rules, packed-end)

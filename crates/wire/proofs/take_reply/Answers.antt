@@ -16,5 +16,7 @@ take_message-requires c =
 
 pub returns : goal.returns
 returns c =
+    let x =
     let s = c.args.scheme in
-    taken s c.fixed-f.ensures c.requires.1 (replied s c.fixed-f.ensures c.args.reply.now) c.take_message.ensures
+    taken s c.fixed-f.ensures c.requires.1 (replied s c.fixed-f.ensures c.args.reply.now) (c.take_message.ensures.value, c.take_message.ensures.nums_after)
+    in record { value = x.0; numbers_value = x.1 }
