@@ -4,7 +4,8 @@
 --   offer-failed, offer-last-decides   its verdict by the test that decides
 --   opening-long     an opening is as long as the scheme says
 --   offer-unknown    its tests where the number names no scheme
-use Rattle.lists.proofs.Kit.{◌≡◌, sym, ap, ◌∙◌, ℕ, ◌≤◌, arith, length}
+use Rattle.lists.proofs.Kit.{sym, ap, ◌∙◌, ℕ, arith, length}
+use Rattle.std.proofs.Common.{◌≡◌, ◌≤◌}
 use Rattle.schemes.specs.{Schemes.fixed_of, declared.Named.Named, declared.Scheme.Scheme, declared.Named.TheVariants.Known, declared.Named.TheVariants.Unknown}
 use Rattle.schemes.proofs.Sound.{sound}
 use Rattle.refusals.specs.Refusals.{◌then◌, publics_in_lem, not_blank_lem, secrets_in_lem}

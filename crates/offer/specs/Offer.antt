@@ -5,7 +5,7 @@
 --   offer_message c x    the opening message: the seed and b's part
 --   offer_result c x n   its promise: what is seen, as a function of what is lent, in the scheme c with room for n bytes
 --   offer, offer_of      what is lent, from the slices of a contract, and from lists
-use Rattle.lists.specs.Kit.{List, [], ℕ, ℤ, length}
+use Rattle.std.specs.Prelude.{List, [], ℕ, ℤ, length}
 use Rattle.schemes.specs.{Schemes.fixed_of, declared.Scheme.Scheme, declared.Named.Named, declared.Named.TheVariants.Known, declared.Named.TheVariants.Unknown}
 use Rattle.packing.specs.Packing.{packed}
 use Rattle.refusals.specs.Refusals.{◌then◌, length_is_lem, room_for_lem, publics_in_lem, not_blank_lem, secrets_in_lem}

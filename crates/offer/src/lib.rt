@@ -1,6 +1,8 @@
 // Offer, the first call of 01, on lent slices. It has no `requires`: it ends with an answer or a numbered refusal, given exactly when its condition holds;
 // after a refusal its output is zero from end to end, and after a success what lies behind the answer is zero.
-ghost use Rattle.lists.specs.Kit.{◌≡◌, length};
+#![tactic(auto)]
+
+ghost use Rattle.std.specs.Prelude.{◌≡◌, length};
 ghost use Rattle.schemes.specs.Schemes.{scheme_of_lem};
 ghost use Rattle.refusals.specs.Seen.{told, seen};
 ghost use Rattle.offer.specs.Offer.{offer, offer_result};

@@ -1,6 +1,6 @@
 // Offer, once the scheme is known and the output holds zeros: the tests in 01's order, the last of them with the product, which reads the public numbers once;
 // then, where its numbers are not all 0, the opening's bytes into the part of the output that it takes.
-ghost use Rattle.lists.specs.Kit.{◌≡◌, length, replicate};
+ghost use Rattle.std.specs.Prelude.{◌≡◌, length, replicate};
 ghost use Rattle.schemes.specs.Schemes.{fixed_of};
 ghost use Rattle.schemes.specs.declared.Named.TheVariants.{Known};
 ghost use Rattle.refusals.specs.Refusals.{◌then◌, publics_in_lem, not_blank_lem};
