@@ -6,7 +6,8 @@
 --   laid-front, held, held_fits, held-hashed   an output of which a step was lent the front
 --   finish-unknown      its tests where the number names no scheme
 --   finish-refused, finish-done   what is seen after a refusal, and where nothing is refused
-use Rattle.lists.proofs.Kit.{◌≡◌, refl, ◌∙◌, sym, ap, List, ◌++◌, ℕ, ◌≤◌, arith, length, take, drop, replicate, length-append, take-append-drop, take_at}
+use Rattle.lists.proofs.Kit.{refl, ◌∙◌, sym, ap, List, ℕ, arith, length, take, drop, replicate, length-append, take-append-drop, take_at}
+use Rattle.std.proofs.Common.{◌≡◌, ◌++◌, ◌≤◌}
 use Rattle.schemes.specs.{Schemes.fixed_of, declared.Named.Named, declared.Scheme.Scheme, declared.Named.TheVariants.Known, declared.Named.TheVariants.Unknown}
 use Rattle.sponge.specs.Sponge.{sha3}
 use Rattle.refusals.specs.declared.Verdict.TheVariants.{Pass, Fail}

@@ -11,7 +11,7 @@
 --   finish, finish_rooms       what is lent, from the slices of a contract; finish_of, finish_rooms_of: from lists and numbers
 --   finish_told r              the numbers of its answer r
 --   finish_seen t key digest   what is seen where Finish tells t and leaves these outputs
-use Rattle.lists.specs.Kit.{List, [], ℕ, ℤ, length}
+use Rattle.std.specs.Prelude.{List, [], ℕ, ℤ, length}
 use Rattle.schemes.specs.{Schemes.fixed_of, declared.Scheme.Scheme, declared.Named.Named, declared.Named.TheVariants.Known, declared.Named.TheVariants.Unknown}
 use Rattle.lists.specs.{First.peak_of_lem, declared.Peak.Peak}
 use Rattle.packing.specs.Packing.{packed}

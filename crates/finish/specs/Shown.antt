@@ -5,7 +5,7 @@
 --   ReplyComesBack   demand 2: a reply that is accepted comes back the same when it is unpacked and packed again
 --   NoSlack          request f: NewHope gives slack 0 and index 0
 --   KeysFit          its key is as long as the scheme says, and at most 128 bytes
-use Rattle.lists.specs.Kit.{◌≡◌, List, ◌++◌, ℕ, ◌≤◌, length}
+use Rattle.std.specs.Prelude.{◌≡◌, List, ◌++◌, ℕ, ◌≤◌, length}
 use Rattle.schemes.specs.{Schemes.family_of, Schemes.fixed_of, declared.Family.Family, declared.Named.TheVariants.Known, declared.Scheme.Scheme}
 use Rattle.lists.specs.Ranges.{Below}
 use Rattle.packing.specs.Packing.{packed}

@@ -1,6 +1,6 @@
 // Finish's key, once the scheme is known, lengths and rooms are tested and the output holds zeros: the reply's numbers, then the secret, in 01's order; then the
 // key into the part of the output that it takes.
-ghost use Rattle.lists.specs.Kit.{◌≡◌, ◌^◌, length, replicate, drop, ◌++◌};
+ghost use Rattle.std.specs.Prelude.{◌≡◌, ◌^◌, length, replicate, drop, ◌++◌};
 ghost use Rattle.schemes.specs.Schemes.{fixed_of};
 ghost use Rattle.schemes.specs.declared.Named.TheVariants.{Known};
 ghost use Rattle.lists.specs.First.{peak_of_lem};

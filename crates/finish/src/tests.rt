@@ -1,5 +1,5 @@
 // The tests of Finish that come first, in 01's order: of its lengths, and of the room for its key.
-ghost use Rattle.lists.specs.Kit.{◌≡◌};
+ghost use Rattle.std.specs.Prelude.{◌≡◌};
 ghost use Rattle.finish.specs.Finish.{finish};
 ghost use Rattle.finish.specs.Inside.{finish_sizes_lem};
 

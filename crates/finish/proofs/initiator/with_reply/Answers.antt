@@ -1,5 +1,6 @@
 -- `finish::initiator::with_reply` meets its contract: it lends room for the reply's numbers; a refused message ends the call, and otherwise the secret's test decides.
-use Rattle.lists.proofs.Kit.{◌≡◌, sym, ap₂, ◌∙◌, List, ℕ, ◌≤◌, arith, length, rules}
+use Rattle.lists.proofs.Kit.{sym, ap₂, ◌∙◌, List, ℕ, arith, length, rules}
+use Rattle.std.proofs.Common.{◌≡◌, ◌≤◌}
 use Rattle.schemes.specs.{Schemes.fixed_of, declared.Named.TheVariants.Known}
 use Rattle.schemes.proofs.Sound.{sound}
 use Rattle.lists.proofs.{Same.zeros, Parts.buffer-long, Parts.front_long}
@@ -17,13 +18,13 @@ few : (b : Start) → b.args.n ≤ 6912
 few b = omega (arith, b.requires.1, (sound b.args.scheme).secrets)
 
 pub slice_bounds-u-end : goal.slice_bounds-u-end
-slice_bounds-u-end c = few c.before.before
+slice_bounds-u-end c = few (goal.at.slice_bounds-u-end c).Start
 
 pub slice_bounds-take_reply-end : goal.slice_bounds-take_reply-end
-slice_bounds-take_reply-end c = sym (buffer-long c.args.n 6912 (few c.before.before.before))
+slice_bounds-take_reply-end c = sym (buffer-long c.args.n 6912 (few (goal.at.slice_bounds-take_reply-end c).Start))
 
 pub take_reply-v-requires : goal.take_reply-v-requires
-take_reply-v-requires c = (c.requires.0.reply-long, buffer-long c.args.n 6912 (few c.before.before.before) ∙ c.requires.1)
+take_reply-v-requires c = (c.requires.0.reply-long, buffer-long c.args.n 6912 (few (goal.at.take_reply-v-requires c).Start) ∙ c.requires.1)
 
 pub returns-in_default : goal.returns-in_default
 unfolding finish_rest replied_of
@@ -42,20 +43,20 @@ numbers-long b = unpacked-length _ _ _ ∙ sym b.requires.1
 
 pub slice_bounds-u-end-2 : goal.slice_bounds-u-end-2
 slice_bounds-u-end-2 c =
-    front_fits _ c.take_reply-v.ensures.numbers_value (numbers-long c.before.before.before.before.before.before.before) _
+    front_fits _ c.take_reply-v.ensures.numbers_value (numbers-long (goal.at.slice_bounds-u-end-2 c).Start) _
 
 pub slice_bounds-with_secret-end : goal.slice_bounds-with_secret-end
 slice_bounds-with_secret-end c =
-    sym (front_long _ _ (front_fits _ c.take_reply-v.ensures.numbers_value (numbers-long c.before.before.before.before.before.before.before.before) _))
+    sym (front_long _ _ (front_fits _ c.take_reply-v.ensures.numbers_value (numbers-long (goal.at.slice_bounds-with_secret-end c).Start) _))
 
 pub with_secret-requires : goal.with_secret-requires
 with_secret-requires c =
     let v = c.take_reply-v.ensures in
-    (c.requires.0, message-counted c.args.scheme (replied_in c.args.scheme c.args.reply.now) (front-is _ v.1 (numbers-long c.before.before.before.before.before.before.before.before.before) _) v.0 c.in-Pass.is)
+    (c.requires.0, message-counted c.args.scheme (replied_in c.args.scheme c.args.reply.now) (front-is _ v.numbers_value (numbers-long (goal.at.with_secret-requires c).Start) _) v.value c.in-Pass.is)
 
 pub returns : goal.returns
 unfolding finish_rest replied_of
 returns c =
     let x = finish_of c.args.reply.now c.args.s.now in
-    let u = front-is _ c.take_reply-v.ensures.numbers_value (numbers-long c.before.before.before.before.before.before.before.before.before.before.before.before) _ in
+    let u = front-is _ c.take_reply-v.ensures.numbers_value (numbers-long (goal.at.returns c).Start) _ in
     let rest = sym (went_on _ c.take_reply-v.ensures.value c.in-Pass.is) in record { value = c.with_secret.ensures.value ∙ ap₂ outcome rest (slack-taken c.args.scheme x u); laid = c.with_secret.ensures.laid ∙ ap₂ (λ (v : Verdict) (xs : List ℕ). if_passed v xs c.args.key.now) rest (key-taken c.args.scheme x u) }
