@@ -6,7 +6,8 @@
 --   reply-rooms-failed, reply-rest-decides   its verdict by the test that decides
 --   reply-unknown                its tests where the number names no scheme
 --   reply-refused, reply-done    what is seen after a refusal, and where nothing is refused
-use Rattle.lists.proofs.Kit.{◌≡◌, refl, ◌∙◌, sym, List, ℕ, ◌≤◌, ℤ, length, replicate}
+use Rattle.lists.proofs.Kit.{refl, ◌∙◌, sym, List, ℕ, ℤ, length, replicate}
+use Rattle.std.proofs.Common.{◌≡◌, ◌≤◌}
 use Rattle.schemes.specs.{Schemes.fixed_of, declared.Named.Named, declared.Scheme.Scheme, declared.Named.TheVariants.Known, declared.Named.TheVariants.Unknown}
 use Rattle.lists.specs.Ranges.{Within}
 use Rattle.refusals.specs.declared.Verdict.TheVariants.{Pass, Fail}

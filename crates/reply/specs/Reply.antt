@@ -12,7 +12,7 @@
 --   reply, reply_rooms         what is lent, from the slices of a contract; reply_of, reply_rooms_of: from lists and numbers
 --   reply_told r               the numbers of its answer r
 --   reply_seen t message key digest   what is seen where Reply tells t and leaves these outputs
-use Rattle.lists.specs.Kit.{List, [], ◌++◌, ℕ, ℤ, length}
+use Rattle.std.specs.Prelude.{List, [], ◌++◌, ℕ, ℤ, length}
 use Rattle.schemes.specs.{Schemes.fixed_of, declared.Scheme.Scheme, declared.Named.Named, declared.Named.TheVariants.Known, declared.Named.TheVariants.Unknown}
 use Rattle.packing.specs.Packing.{packed}
 use Rattle.sponge.specs.Sponge.{sha3}

@@ -3,7 +3,7 @@
 --   ReplyToldAll       `reply_told` forgets nothing: two answers with the same numbers are the same
 --   OpeningComesBack   demand 2: an opening that is accepted comes back the same when it is unpacked and packed again
 --   KeysFit            its key is as long as the scheme says, and at most 128 bytes
-use Rattle.lists.specs.Kit.{◌≡◌, List, ℕ, ◌≤◌, length}
+use Rattle.std.specs.Prelude.{◌≡◌, List, ℕ, ◌≤◌, length}
 use Rattle.schemes.specs.{Schemes.fixed_of, declared.Named.TheVariants.Known, declared.Scheme.Scheme}
 use Rattle.lists.specs.Ranges.{Below}
 use Rattle.packing.specs.Packing.{packed}

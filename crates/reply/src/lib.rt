@@ -1,6 +1,8 @@
 // Reply, the second call of 01, on lent slices. It has no `requires`: it ends with an answer or a numbered refusal, given exactly when its condition holds;
 // after a refusal every output is zero from end to end, and after a success what lies behind the answer is zero.
-ghost use Rattle.lists.specs.Kit.{◌≡◌};
+#![tactic(auto)]
+
+ghost use Rattle.std.specs.Prelude.{◌≡◌};
 ghost use Rattle.schemes.specs.Schemes.{scheme_of_lem};
 ghost use Rattle.reply.specs.Reply.{reply, reply_rooms, reply_told, reply_seen, reply_result};
 

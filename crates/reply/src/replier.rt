@@ -1,7 +1,7 @@
 // Reply, once the scheme is known and all outputs hold zeros: lengths and rooms, then the opening, then the secrets; then the message's numbers, with the test of
 // the public numbers, which the product reads once, and, where they are not all 0, message and key into the parts of the outputs that they take, and the key's
 // digest. In 01's order the public numbers come before the opening and the secrets: where one of these is refused, they are tested first.
-ghost use Rattle.lists.specs.Kit.{◌≡◌, length, replicate};
+ghost use Rattle.std.specs.Prelude.{◌≡◌, length, replicate};
 ghost use Rattle.schemes.specs.Schemes.{fixed_of};
 ghost use Rattle.schemes.specs.declared.Named.TheVariants.{Known};
 ghost use Rattle.refusals.specs.Refusals.{◌then◌, publics_in_lem, not_blank_lem};

@@ -1,5 +1,5 @@
 // The tests of Reply, in 01's order. That of the public numbers is the product's own, which reads them once.
-ghost use Rattle.lists.specs.Kit.{◌≡◌};
+ghost use Rattle.std.specs.Prelude.{◌≡◌};
 ghost use Rattle.reply.specs.Reply.{reply, reply_rooms_of};
 ghost use Rattle.reply.specs.Inside.{reply_lengths_lem, reply_sizes_lem};
 

@@ -5,7 +5,7 @@ use Rattle.reply.proofs.replier.reply_in.Goals as goal
 
 pub reply_sized-requires : goal.reply_sized-requires
 reply_sized-requires c =
-    (sym c.reply_sizes-v.ensures ∙ c.in-Pass.is, c.requires)
+    record { digest_value = sym c.reply_sizes-v.ensures ∙ c.in-Pass.is; message_value = c.requires.message_value; digest_value_2 = c.requires.digest_value }
 
 pub returns-in-Fail : goal.returns-in-Fail
 returns-in-Fail c =

@@ -8,7 +8,6 @@ use Rattle.values.specs.Fit.{Small}
 use Rattle.reply.specs.Inside.{reply_last}
 use Rattle.reply.proofs.{Replying.secrets-small}
 use Rattle.reply.proofs.replier.with_secrets.Goals as goal
-use Rattle.reply.proofs.replier.with_secrets.Goals.{After-fixed-f, After-publics_before, After-reply_secrets-v, In-Fail, Start}
 
 pub lay-requires : goal.lay-requires
 lay-requires c =
@@ -23,36 +22,21 @@ lay-requires c =
       message_len = (zeros-long (fixed_of a.scheme).reply 0 p.message-blank, zeros-long (fixed_of a.scheme).key 0 p.key-blank);
     }
 
--- the places, from the last to the first
-abbrev failing : After-publics_before → In-Fail
-failing c = search rules
-
-abbrev refused : In-Fail → After-reply_secrets-v
-refused c = search rules
-
-abbrev fixing : After-reply_secrets-v → After-fixed-f
-fixing c = search rules
-
-abbrev start : After-fixed-f → Start
-start c = search rules
-
 pub returns-in-Fail : goal.returns-in-Fail
 unfolding reply_last
 returns-in-Fail c =
-    let o = failing c in
-    let t = refused o in
-    let f = fixing t in
-    let a = (start f).args in
+    let a = c.args in
     let P = publics_in_lem (fixed_of a.scheme).q a.a.now in
-    let e = o.in-Fail.is in
-    let q = rw f.fixed-f.ensures at c.publics_before.ensures ∙ sym (before-fail P e) in
-    (q ∙ ap (λ (w : Verdict). P then w) (e ∙ sym (failed _ t.reply_secrets-v.ensures e)), (put-kept P _ q e, put-kept P _ q e))
+    let e = c.in-Fail.is in
+    let q = rw c.fixed-f.ensures at c.publics_before.ensures ∙ sym (before-fail P e) in
+    record { value = q ∙ ap (λ (w : Verdict). P then w) (e ∙ sym (failed _ c.reply_secrets-v.ensures e)); laid = put-kept P _ q e; laid_2 = put-kept P _ q e }
 
 pub returns-in-Pass : goal.returns-in-Pass
 unfolding reply_last
 returns-in-Pass c =
-    let a = (start (fixing c.before.before.before.before.before.before.before.before.before.before.before.before)).args in
-    let q = c.lay.ensures in (
-      q.0 ∙ ap (λ (u : Verdict). publics_in_lem (fixed_of a.scheme).q a.a.now then u) (sym (went_on _ c.reply_secrets-v.ensures c.in-Pass.is)),
-      q.1,
-    )
+    let a = c.args in
+    let q = c.lay.ensures in record {
+      value = q.value ∙ ap (λ (u : Verdict). publics_in_lem (fixed_of a.scheme).q a.a.now then u) (sym (went_on _ c.reply_secrets-v.ensures c.in-Pass.is));
+      laid = q.laid;
+      laid_2 = q.laid_2;
+    }
