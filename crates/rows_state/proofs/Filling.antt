@@ -5,7 +5,8 @@
 --   row_is, row_fits, row-sixteenth   the first of the sixteen rows that it ends: its place, and that it is a multiple of 16
 --   halves            which can be halved
 --   whole-blocks      n is a multiple of 16, so that at the end nothing is held back
-use Rattle.lists.proofs.Kit.{◌≡◌, ◌∙◌, sym, ap, Bool, true, false, cond, ℕ, ◌+◌, ◌*◌, ◌-◌, ◌/◌, ◌%◌, ◌<◌, ◌≤◌, arith, mul-le-mul_right, mod-lt, mod-eq_of_lt}
+use Rattle.lists.proofs.Kit.{◌∙◌, sym, ap, Bool, true, false, cond, ℕ, arith, mul-le-mul_right, mod-lt, mod-eq_of_lt}
+use Rattle.std.proofs.Common.{◌≡◌, ◌+◌, ◌*◌, ◌-◌, ◌/◌, ◌%◌, ◌<◌, ◌≤◌}
 use Rattle.lists.proofs.Kit.{mod-add-mod, div-add-mod', div-lt_iff_lt-mul, mul-mod_left, mul-div_cancel, dec_lt, leb-true, eqb-true, le-leb, eq-eqb, digits_div}
 use Rattle.lists.proofs.Kit.{digits_mod}
 use native.Mathlib.Nat.{mod_self, mod-mod_of_dvd, div-eq_of_eq-mul_left, dvd_of_mod-eq-zero, div-le_of_le-mul}

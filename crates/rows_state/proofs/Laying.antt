@@ -10,7 +10,8 @@
 --   kept-zeros, keeping-long, keeping-kept, keeping-is   what is kept, written into zeros
 --   headed, headed-long, behind-zeros, lay-is   two numbers ahead of it, and then all words behind it
 --   secret-words-long, fresh-long   how many words a secret has; how long a state is as begin leaves it
-use Rattle.lists.proofs.Kit.{◌≡◌, refl, ◌∙◌, sym, ap, ap₂, List, [], ◌∷◌, ◌++◌, append-nil, ℕ, zero, suc, ◌+◌, ◌*◌, ◌-◌, ◌%◌, ◌≤◌, arith, ℤ, take_at, drop_at}
+use Rattle.lists.proofs.Kit.{refl, ◌∙◌, sym, ap, ap₂, List, [], append-nil, ℕ, zero, suc, arith, ℤ, take_at, drop_at}
+use Rattle.std.proofs.Common.{◌≡◌, ◌∷◌, ◌++◌, ◌+◌, ◌*◌, ◌-◌, ◌%◌, ◌≤◌}
 use Rattle.lists.proofs.Kit.{drop-drop, take-add, length, get_or, take, drop, set, replicate, length-append, length-take, length-drop, length-replicate}
 use Rattle.lists.proofs.Kit.{length-set, take-append-drop, drop_of_length-le, suc-add, put_mid}
 use Rattle.schemes.specs.{Schemes.fixed_of, declared.Scheme.Scheme}

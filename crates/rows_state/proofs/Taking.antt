@@ -7,7 +7,8 @@
 --   back-right, back-left     they are written in their place
 --   entered-wide              the state stays as long
 --   step-holds, step-enters   so the part is in the state, whether it ends a block or not
-use Rattle.lists.proofs.Kit.{◌≡◌, refl, ◌∙◌, sym, ap, ap₂, true, false, List, [], ◌∷◌, ◌++◌, append_assoc, append-nil, ℕ, ◌+◌, ◌*◌, ◌-◌, ◌/◌, ◌%◌, ◌≤◌, arith}
+use Rattle.lists.proofs.Kit.{refl, ◌∙◌, sym, ap, ap₂, true, false, List, [], append_assoc, append-nil, ℕ, arith}
+use Rattle.std.proofs.Common.{◌≡◌, ◌∷◌, ◌++◌, ◌+◌, ◌*◌, ◌-◌, ◌/◌, ◌%◌, ◌≤◌}
 use Rattle.lists.proofs.Kit.{length, get_or, take, drop, set, length-append, length-take, length-drop, take-append-drop, drop_of_length-le, put_mid, take-add}
 use Rattle.lists.proofs.Kit.{take-take, take-append-le, drop-append-le, drop-drop}
 use Rattle.lists.specs.Ranges.{Below}

@@ -6,7 +6,8 @@
 --   completes, complete-so   all of A has come, likewise
 --   Frodos, frodos, frodo-named   what Frodo's schemes have in common; a state names none but these
 --   square                   n n is small
-use Rattle.lists.proofs.Kit.{◌≡◌, refl, sym, ap, Bool, true, false, List, ℕ, ◌+◌, ◌*◌, ◌%◌, ◌^◌, ◌<◌, ◌≤◌, arith, le_of_eq, mul-le-mul, leb-true, eqb-true}
+use Rattle.lists.proofs.Kit.{refl, sym, ap, Bool, true, false, List, ℕ, arith, le_of_eq, mul-le-mul, leb-true, eqb-true}
+use Rattle.std.proofs.Common.{◌≡◌, ◌+◌, ◌*◌, ◌%◌, ◌^◌, ◌<◌, ◌≤◌}
 use Rattle.lists.proofs.Kit.{eq-eqb, le-leb, lt-leb, leb, length, get_or}
 use Rattle.schemes.specs.declared.Scheme.TheVariants.{Bcns, NewHope, Challenge, Classical, Recommended, Paranoid}
 use Rattle.schemes.specs.declared.Named.TheVariants.{Known, Unknown}
@@ -14,7 +15,6 @@ use Rattle.schemes.specs.Schemes.{family_of, fixed_of, scheme_of_lem}
 use Rattle.schemes.specs.{declared.Fixed.Fixed, declared.Family.Family, declared.Named.Named, declared.Scheme.Scheme}
 use Rattle.lists.specs.{Ranges.Below, First.first_over_lem}
 use Rattle.lists.proofs.{First.none_found, Table.both_true}
-use Rattle.values.proofs.Numbers.{Frodo}
 use Rattle.rows_state.specs.State.{frodo_in_lem, frodo_of_lem, tag_of, long, taken, saved_of, ◌and◌, all_below, saved_in, begun, fits_in_lem, complete, Call}
 use Rattle.lists.proofs.First as first
 

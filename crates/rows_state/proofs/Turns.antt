@@ -2,7 +2,8 @@
 --   turn-begins, turn-fails, turn-goes   its turn passed, and what that says; failed; and what follows decides
 --   state-by, state-seen-all   what is seen of a call that leaves a state, by its verdict; and that this is all
 --   part-unknown, part-known   the promise of a part, by the scheme that the state names
-use Rattle.lists.proofs.Kit.{◌≡◌, refl, ◌∙◌, sym, ap, Bool, true, List, ℕ, length}
+use Rattle.lists.proofs.Kit.{refl, ◌∙◌, sym, ap, Bool, true, List, ℕ, length}
+use Rattle.std.proofs.Common.{◌≡◌}
 use Rattle.schemes.specs.declared.Named.TheVariants.{Known, Unknown}
 use Rattle.schemes.specs.{Schemes.fixed_of, declared.Fixed.Fixed, declared.Named.Named, declared.Scheme.Scheme}
 use Rattle.refusals.specs.declared.Verdict.TheVariants.{Pass, Fail}

@@ -4,7 +4,7 @@
 --   entered k n at st   the state with these sums
 --   keeping n kept      a state of zeros but for what is kept for the end
 --   Sized n st          the length of a state, and numbers that the code can count with
-use Rattle.lists.specs.Kit.{◌≡◌, List, ◌∷◌, ◌++◌, ℕ, ◌+◌, ◌*◌, ◌%◌, ◌<◌, ◌≤◌, length, take, drop, replicate}
+use Rattle.std.specs.Prelude.{◌≡◌, List, ◌∷◌, ◌++◌, ℕ, ◌+◌, ◌*◌, ◌%◌, ◌<◌, ◌≤◌, length, take, drop, replicate}
 use Rattle.matrix.specs.Words.{gained}
 use Rattle.parts.specs.Parts.{wrap, pairs, placed}
 use Rattle.rows_state.specs.State.{long, taken, secret_of, sums_of, held_of, laid, onward, terms, held_with, Call}

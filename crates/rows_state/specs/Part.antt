@@ -7,7 +7,7 @@
 --   part_state k c st p    the state with the part
 --   part_result k st p     its promise: what is seen, as a function of what is lent; refused, the state stays as it was
 --   StateSeenAll          `state_seen` forgets nothing: from what is seen come the verdict and the state
-use Rattle.lists.specs.Kit.{◌≡◌, List, ℕ, length}
+use Rattle.std.specs.Prelude.{◌≡◌, List, ℕ, length}
 use Rattle.schemes.specs.{Schemes.fixed_of, declared.Named.Named, declared.Named.TheVariants.Known, declared.Named.TheVariants.Unknown}
 use Rattle.refusals.specs.Refusals.{number_in, place_in, ◌then◌, in_turn, publics_in_lem}
 use Rattle.refusals.specs.{Seen.if_passed, declared.Verdict.Verdict, declared.Verdict.TheVariants.Fail, declared.Refusal.TheVariants.OutOfTurn}

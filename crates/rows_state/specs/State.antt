@@ -26,7 +26,7 @@
 --   held_with n st p      the numbers that are held back, with the part p behind them
 --   sums_with k n st p    the sums with the part p, which sixteen rows enter where it fills them
 --   stepped k n st p     the state with the part p
-use Rattle.lists.specs.Kit.{Bool, cond, List, ◌∷◌, ◌++◌, ℕ, ◌+◌, ◌*◌, ◌-◌, ◌%◌, eqb, leb, ℤ, length, get_or, take, drop, replicate}
+use Rattle.std.specs.Prelude.{Bool, cond, List, ◌∷◌, ◌++◌, ℕ, ◌+◌, ◌*◌, ◌-◌, ◌%◌, eqb, leb, ℤ, length, get_or, take, drop, replicate}
 use Rattle.schemes.specs.Schemes.{by_family, family_of, fixed_of, scheme_number, scheme_of_lem}
 use Rattle.schemes.specs.declared.Named.TheVariants.{Known, Unknown}
 use Rattle.schemes.specs.{declared.Fixed.Fixed, declared.Named.Named, declared.Scheme.Scheme}

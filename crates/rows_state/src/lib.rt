@@ -1,6 +1,8 @@
 // Frodo by rows: 02, request e: the lent running state (`specs/State.antt`), and what a part of A does to it (`specs/Part.antt`), in Offer and in Reply. How a call
 // begins and ends is crate `rows`.
-ghost use Rattle.lists.specs.Kit.{◌≡◌};
+#![tactic(auto)]
+
+ghost use Rattle.std.specs.Prelude.{◌≡◌};
 ghost use Rattle.rows_state.specs.State.{tag_of};
 
 pub mod part;

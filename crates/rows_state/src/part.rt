@@ -3,7 +3,7 @@
 // of 32 bits, to which each part is added as it comes, would hold no rows back; but a vector has half as many such words, plain x86-64 multiplies no four of them,
 // and a part has one row where the products take several into a sum: tried in C, such sums took 1.8 to 2.1 times as long. Sixteen divides n in every set, so that no
 // row is left at the end. As words sixteen rows take the room that eight would take as numbers.
-ghost use Rattle.lists.specs.Kit.{◌≡◌, true, ◌+◌, ◌*◌, ◌%◌, ◌<◌, ◌≤◌, length, take, drop};
+ghost use Rattle.std.specs.Prelude.{◌≡◌, true, ◌+◌, ◌*◌, ◌%◌, ◌<◌, ◌≤◌, length, take, drop};
 ghost use Rattle.schemes.specs.Schemes.{family_of, fixed_of};
 ghost use Rattle.schemes.specs.declared.Family.{Family};
 ghost use Rattle.schemes.specs.declared.Named.TheVariants.{Known};

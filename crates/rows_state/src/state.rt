@@ -1,5 +1,5 @@
 // What a state says: which scheme, whether a call has begun, and whether a part or an end has its turn; and its words, two in each number.
-ghost use Rattle.lists.specs.Kit.{◌≡◌, ◌++◌, ◌+◌, ◌*◌, ◌%◌, ◌<◌, ◌≤◌, length, replicate};
+ghost use Rattle.std.specs.Prelude.{◌≡◌, ◌++◌, ◌+◌, ◌*◌, ◌%◌, ◌<◌, ◌≤◌, length, replicate};
 ghost use Rattle.schemes.specs.Schemes.{fixed_of};
 ghost use Rattle.matrix.specs.Words.{words_of, reduced};
 ghost use Rattle.parts.specs.Parts.{wrap, pairs};

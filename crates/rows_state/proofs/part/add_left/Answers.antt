@@ -1,5 +1,6 @@
 -- `rows_state::part::add_left` meets its contract: it lends room for the words.
-use Rattle.lists.proofs.Kit.{sym, ℕ, ◌*◌, ◌≤◌, arith, rules, length-replicate}
+use Rattle.lists.proofs.Kit.{sym, ℕ, arith, length-replicate}
+use Rattle.std.proofs.Common.{◌*◌, ◌≤◌}
 use Rattle.lists.proofs.Parts.{buffer-long}
 use Rattle.rows_state.proofs.part.add_left.Goals as goal
 use Rattle.rows_state.proofs.part.add_left.Goals.{Start}

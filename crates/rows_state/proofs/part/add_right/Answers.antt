@@ -1,5 +1,6 @@
 -- `rows_state::part::add_right` meets its contract: it lends room for the words.
-use Rattle.lists.proofs.Kit.{sym, ◌*◌, ◌≤◌, ℕ, arith, rules, length-replicate}
+use Rattle.lists.proofs.Kit.{sym, ℕ, arith, length-replicate}
+use Rattle.std.proofs.Common.{◌*◌, ◌≤◌}
 use Rattle.lists.proofs.Parts.{buffer-long}
 use Rattle.rows_state.proofs.part.add_right.Goals as goal
 use Rattle.rows_state.proofs.part.add_right.Goals.{Start}
@@ -12,7 +13,7 @@ put_right-requires c =
     (c.requires.0, c.requires.1, buffer-long c.args.n 864 c.requires.0.few, buffer-long (8 * c.args.n) 6916 (few (goal.at.put_right-requires c).Start), length-replicate {A = ℕ} 128 0)
 
 pub add_right_small-requires : goal.add_right_small-requires
-add_right_small-requires c = (c.requires.0, c.requires.1, c.if-n-le352.taken)
+add_right_small-requires c = (c.requires.0, c.requires.1, c.if-n-le352.true)
 
 pub returns-then-n-le352 : goal.returns-then-n-le352
 returns-then-n-le352 c = c.add_right_small.ensures

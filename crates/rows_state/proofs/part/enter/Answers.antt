@@ -1,5 +1,6 @@
 -- `rows_state::part::enter` meets its contract: by the call.
-use Rattle.lists.proofs.Kit.{◌∙◌, sym, ap, ◌*◌, rules}
+use Rattle.lists.proofs.Kit.{◌∙◌, sym, ap}
+use Rattle.std.proofs.Common.{◌*◌}
 use Rattle.rows_state.specs.{Inside.entered, State.Call}
 use Rattle.rows_state.proofs.part.enter.Goals as goal
 

@@ -1,5 +1,5 @@
 -- `rows_state::part::part` meets its contract: by the scheme that the state names.
-use Rattle.lists.proofs.Kit.{◌∙◌, sym, rules, get_or}
+use Rattle.lists.proofs.Kit.{◌∙◌, sym, get_or}
 use Rattle.rows_state.proofs.{Tests.frodo-named, Turns.part-unknown, Turns.part-known}
 use Rattle.rows_state.proofs.part.part.Goals as goal
 

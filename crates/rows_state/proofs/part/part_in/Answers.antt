@@ -1,5 +1,5 @@
 -- `rows_state::part::part_in` meets its contract: by its turn, then by its numbers.
-use Rattle.lists.proofs.Kit.{refl, ◌∙◌, ap, rules}
+use Rattle.lists.proofs.Kit.{refl, ◌∙◌, ap}
 use Rattle.schemes.specs.{Schemes.fixed_of, declared.Fixed.Fixed}
 use Rattle.refusals.specs.Seen.{if_passed}
 use Rattle.values.proofs.Numbers.{numbers-in, Frodo}

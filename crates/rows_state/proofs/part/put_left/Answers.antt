@@ -1,5 +1,4 @@
 -- `rows_state::part::put_left` meets its contract: the sums, back in their place.
-use Rattle.lists.proofs.Kit.{rules}
 use Rattle.rows_state.proofs.{Taking.back-left}
 use Rattle.rows_state.proofs.part.put_left.Goals as goal
 

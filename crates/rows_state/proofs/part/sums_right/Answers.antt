@@ -1,5 +1,4 @@
 -- `rows_state::part::sums_right` meets its contract: words, then the products.
-use Rattle.lists.proofs.Kit.{rules}
 use Rattle.rows_state.proofs.{Taking.right-made}
 use Rattle.rows_state.proofs.part.sums_right.Goals as goal
 

@@ -1,5 +1,5 @@
 -- `rows_state::part::take_part` meets its contract: its numbers, then the state. Where none is too large they are words.
-use Rattle.lists.proofs.Kit.{refl, ◌∙◌, sym, arith, rules}
+use Rattle.lists.proofs.Kit.{refl, ◌∙◌, sym, arith}
 use Rattle.matrix.proofs.Search.{below_wider}
 use Rattle.refusals.specs.Refusals.{◌then◌}
 use Rattle.refusals.proofs.Laws.{publics-passed}

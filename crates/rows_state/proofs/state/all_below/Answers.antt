@@ -1,5 +1,4 @@
 -- `rows_state::state::all_below` meets its contract: it finds none.
-use Rattle.lists.proofs.Kit.{rules}
 use Rattle.rows_state.specs.State.{all_below}
 use Rattle.rows_state.proofs.state.all_below.Goals as goal
 

@@ -1,5 +1,6 @@
 -- `rows_state::state::fits_in` meets its contract: one test after the other.
-use Rattle.lists.proofs.Kit.{refl, ◌+◌, ◌%◌, ◌<◌, ◌≤◌, arith, mod-lt, rules, le-leb, lt-leb}
+use Rattle.lists.proofs.Kit.{refl, arith, mod-lt, le-leb, lt-leb}
+use Rattle.std.proofs.Common.{◌+◌, ◌%◌, ◌<◌, ◌≤◌}
 use Rattle.rows_state.specs.State.{fits_in_lem}
 use Rattle.rows_state.proofs.{Tests.stops, Tests.goes, Tests.square}
 use Rattle.rows_state.proofs.state.fits_in.Goals as goal
@@ -16,7 +17,7 @@ overflow_add-result c = record { fits = omega (arith, square c.args.n c.requires
 pub returns : goal.returns
 unfolding fits_in_lem
 returns c =
-    let h : c.args.at % c.args.n + c.args.m ≤ c.args.n = omega (arith, mod-lt c.args.at c.requires.0, c.if-left-m.left) in
+    let h : c.args.at % c.args.n + c.args.m ≤ c.args.n = omega (arith, mod-lt c.args.at c.requires.0, c.if-left-m.false) in
     goes (le-leb _ _ h) refl
 
 pub overflow_sub-left : goal.overflow_sub-left

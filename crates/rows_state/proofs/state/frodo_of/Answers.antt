@@ -1,5 +1,6 @@
 -- `rows_state::state::frodo_of` meets its contract: by the family.
-use Rattle.lists.proofs.Kit.{◌≡◌, ◌∙◌, sym, ap, ℕ, rules}
+use Rattle.lists.proofs.Kit.{◌∙◌, sym, ap, ℕ}
+use Rattle.std.proofs.Common.{◌≡◌}
 use Rattle.schemes.specs.declared.Named.TheVariants.{Known, Unknown}
 use Rattle.schemes.specs.{Schemes.by_family, Schemes.family_of, Schemes.scheme_of_lem, declared.Family.Family, declared.Scheme.Scheme}
 use Rattle.rows_state.specs.State.{frodo_in_lem, frodo_of_lem}

@@ -1,16 +1,17 @@
 -- `rows_state::state::is_complete` meets its contract: one test after the other.
-use Rattle.lists.proofs.Kit.{◌≡◌, refl, ◌∙◌, sym, true, arith, rules, not-true, not-false}
+use Rattle.lists.proofs.Kit.{refl, ◌∙◌, sym, true, arith}
+use Rattle.std.proofs.Common.{◌≡◌}
 use Rattle.rows_state.specs.State.{begun, complete}
 use Rattle.rows_state.proofs.{Tests.stops, Tests.goes, Tests.started, Tests.square}
 use Rattle.rows_state.proofs.state.is_complete.Goals as goal
 use Rattle.rows_state.proofs.state.is_complete.Goals.{Else-not-has_begun}
 
 begins : (c : Else-not-has_begun) → begun c.args.call c.args.f c.args.state.now ≡ true
-begins c = sym c.has_begun.ensures ∙ not-false _ c.if-not-has_begun.false
+begins c = sym c.has_begun.ensures ∙ c.if-not-has_begun.false
 
 pub returns-then-not-has_begun : goal.returns-then-not-has_begun
 unfolding complete
-returns-then-not-has_begun c = stops _ (sym c.has_begun.ensures ∙ not-true _ c.if-not-has_begun.true)
+returns-then-not-has_begun c = stops _ (sym c.has_begun.ensures ∙ c.if-not-has_begun.true)
 
 pub bounds-state-2 : goal.bounds-state-2
 bounds-state-2 c = omega (arith, (started _ _ _ (begins (goal.at.bounds-state-2 c).Else-not-has_begun)).is-long)

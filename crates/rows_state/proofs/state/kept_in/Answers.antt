@@ -1,5 +1,5 @@
 -- `rows_state::state::kept_in` meets its contract: by the call.
-use Rattle.lists.proofs.Kit.{◌∙◌, sym, ap, rules}
+use Rattle.lists.proofs.Kit.{◌∙◌, sym, ap}
 use Rattle.rows_state.specs.State.{saved_in, Call}
 use Rattle.rows_state.proofs.state.kept_in.Goals as goal
 

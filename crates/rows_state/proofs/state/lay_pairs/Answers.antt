@@ -1,5 +1,6 @@
 -- `rows_state::state::lay_pairs` meets its contract: one behind the other.
-use Rattle.lists.proofs.Kit.{◌≡◌, ◌∙◌, sym, ap, ◌*◌, arith, rules, length, length-append, length-drop, length-take}
+use Rattle.lists.proofs.Kit.{◌∙◌, sym, ap, arith, length, length-append, length-drop, length-take}
+use Rattle.std.proofs.Common.{◌≡◌, ◌*◌}
 use Rattle.lists.proofs.{Parts.front_long, Same.zeros-long}
 use Rattle.parts.proofs.Words.{pairs-long}
 use Rattle.rows_state.proofs.{Laying.pairs-laid}
@@ -17,8 +18,7 @@ pair-requires c =
     omega (arith, c.requires.1, front_long (4 * c.args.n) c.args.out.now (omega (arith, out-long (goal.at.pair-requires c).Start)))
 
 pub slice_bounds-pair-end : goal.slice_bounds-pair-end
-slice_bounds-pair-end c =
-    simp (length-append, length-drop) (omega (arith, out-long (goal.at.slice_bounds-pair-end c).Start, ap length c.pair.ensures ∙ pairs-long c.args.secret.now (4 * c.args.n) (c.requires.1 ∙ omega arith)))
+slice_bounds-pair-end c = omega (arith, out-long (goal.at.slice_bounds-pair-end c).Start)
 
 pub pair-requires-2 : goal.pair-requires-2
 pair-requires-2 c =

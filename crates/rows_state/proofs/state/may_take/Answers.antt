@@ -1,15 +1,16 @@
 -- `rows_state::state::may_take` meets its contract: one test after the other.
-use Rattle.lists.proofs.Kit.{◌≡◌, ◌∙◌, sym, true, arith, rules, not-true, not-false}
+use Rattle.lists.proofs.Kit.{◌∙◌, sym, true, arith}
+use Rattle.std.proofs.Common.{◌≡◌}
 use Rattle.rows_state.specs.State.{begun}
 use Rattle.rows_state.proofs.{Tests.stops, Tests.goes, Tests.started}
 use Rattle.rows_state.proofs.state.may_take.Goals as goal
 use Rattle.rows_state.proofs.state.may_take.Goals.{Else-not-has_begun}
 
 begins : (c : Else-not-has_begun) → begun c.args.call c.args.f c.args.state.now ≡ true
-begins c = sym c.has_begun.ensures ∙ not-false _ c.if-not-has_begun.false
+begins c = sym c.has_begun.ensures ∙ c.if-not-has_begun.false
 
 pub returns-then-not-has_begun : goal.returns-then-not-has_begun
-returns-then-not-has_begun c = stops _ (sym c.has_begun.ensures ∙ not-true _ c.if-not-has_begun.true)
+returns-then-not-has_begun c = stops _ (sym c.has_begun.ensures ∙ c.if-not-has_begun.true)
 
 pub fits_in-requires : goal.fits_in-requires
 fits_in-requires c =

@@ -1,5 +1,5 @@
 -- `rows_state::state::named` meets its contract: past its end a list reads 0, which names none.
-use Rattle.lists.proofs.Kit.{sym, ap, arith, rules, List·getD-eq-default}
+use Rattle.lists.proofs.Kit.{sym, ap, arith, List·getD-eq-default}
 use Rattle.rows_state.specs.State.{frodo_of_lem}
 use Rattle.rows_state.proofs.state.named.Goals as goal
 

@@ -1,5 +1,6 @@
 -- `rows_state::state::reduce` meets its contract: it lends room for the words.
-use Rattle.lists.proofs.Kit.{sym, ◌*◌, ◌≤◌, arith, rules}
+use Rattle.lists.proofs.Kit.{sym, arith}
+use Rattle.std.proofs.Common.{◌*◌, ◌≤◌}
 use Rattle.lists.proofs.Parts.{buffer-long}
 use Rattle.rows_state.proofs.state.reduce.Goals as goal
 use Rattle.rows_state.proofs.state.reduce.Goals.{Start}

@@ -1,5 +1,6 @@
 -- `rows_state::state::reduce_on` meets its contract: the words of the sums, then their remainders.
-use Rattle.lists.proofs.Kit.{◌≡◌, ◌∙◌, sym, ap, ℕ, ◌+◌, ◌*◌, ◌-◌, arith, rules, length, take, drop}
+use Rattle.lists.proofs.Kit.{◌∙◌, sym, ap, ℕ, arith, length, take, drop}
+use Rattle.std.proofs.Common.{◌≡◌, ◌+◌, ◌*◌, ◌-◌}
 use Rattle.lists.proofs.Parts.{slice-long}
 use Rattle.matrix.specs.Words.{reduced}
 use Rattle.parts.specs.Parts.{words}

@@ -1,5 +1,5 @@
 -- `rows_state::state::secret_words` meets its contract: by the call.
-use Rattle.lists.proofs.Kit.{◌∙◌, sym, ap, rules}
+use Rattle.lists.proofs.Kit.{◌∙◌, sym, ap}
 use Rattle.rows_state.specs.State.{secret_words_lem, Call}
 use Rattle.rows_state.proofs.state.secret_words.Goals as goal
 

@@ -1,5 +1,6 @@
 -- `rows_state::state::words_on` meets its contract: the words of both, then the state.
-use Rattle.lists.proofs.Kit.{◌∙◌, ap, ap₂, List, ◌++◌, ℕ, ◌*◌, rules, length, replicate}
+use Rattle.lists.proofs.Kit.{◌∙◌, ap, ap₂, List, ℕ, length, replicate}
+use Rattle.std.proofs.Common.{◌++◌, ◌*◌}
 use Rattle.matrix.proofs.Steps.{words-length}
 use Rattle.parts.specs.Parts.{wrap, pairs}
 use Rattle.rows_state.proofs.{Laying.secret-words-long}
