@@ -3,7 +3,8 @@
 --   Gave t, gave     an exchange: its rooms are enough, its inputs in range, and its messages, keys and slack are those of the run
 --   none-refused     and back: in any such rooms and on any such inputs no call refuses
 --   accepted, numbered, one_number   the theorems of specs/Exchange
-use Rattle.lists.proofs.Kit.{◌≡◌, refl, sym, ap, ◌∙◌, ℕ, le_refl, arith}
+use Rattle.lists.proofs.Kit.{refl, sym, ap, ◌∙◌, ℕ, le_refl, arith}
+use Rattle.std.proofs.Common.{◌≡◌}
 use Rattle.schemes.specs.{Schemes.fixed_of, declared.Scheme.Scheme, declared.Named.TheVariants.Known, declared.Named.TheVariants.Unknown}
 use Rattle.schemes.proofs.Laws.{by_number, by-scheme}
 use Rattle.sponge.specs.Sponge.{sha3}

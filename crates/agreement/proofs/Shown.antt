@@ -1,5 +1,6 @@
 -- What is stated in specs/Shown.
-use Rattle.lists.proofs.Kit.{◌≡◌, List, ℕ, ◌^◌, ◌≤◌, lt_of_lt_of_le, arith, lit≤}
+use Rattle.lists.proofs.Kit.{List, ℕ, lt_of_lt_of_le, arith, lit≤}
+use Rattle.std.proofs.Common.{◌≡◌, ◌^◌, ◌≤◌}
 use Rattle.schemes.specs.declared.Scheme.TheVariants.{Bcns, NewHope, Challenge, Classical, Recommended, Paranoid}
 use Rattle.schemes.specs.{Schemes.family_of, Schemes.fixed_of, declared.Family.Family, declared.Scheme.Scheme}
 use Rattle.packing.proofs.Laws.{unpacked-below}

@@ -4,7 +4,8 @@
 --   opening-received an opening that Offer has made passes the tests of a part that has come
 --   offer-passes, reply-passes, finish-passes   such inputs pass the tests of each call, in any rooms that are enough
 --   offer-room, reply-rooms   a call that passes its tests was lent such rooms
-use Rattle.lists.proofs.Kit.{◌≡◌, sym, ◌∙◌, false, List, ℕ, ◌≤◌, length}
+use Rattle.lists.proofs.Kit.{sym, ◌∙◌, false, List, ℕ, length}
+use Rattle.std.proofs.Common.{◌≡◌, ◌≤◌}
 use Rattle.schemes.specs.{Schemes.fixed_of, declared.Named.TheVariants.Known, declared.Scheme.Scheme}
 use Rattle.blank.specs.Blank.{blank}
 use Rattle.refusals.specs.{Refusals.◌then◌, Refusals.received_in, declared.Verdict.TheVariants.Pass}

@@ -12,7 +12,7 @@
 --   Numbered       a call that refuses nothing was given a scheme
 --   OneNumber      which its number names, and no other number
 --   NeverFive      01: refusal 5 can't arise in Frodo
-use Rattle.lists.specs.Kit.{◌≡◌, false, List, ◌↔◌, ℕ, ◌≤◌, length}
+use Rattle.std.specs.Prelude.{◌≡◌, false, List, ◌↔◌, ℕ, ◌≤◌, length}
 use Rattle.schemes.specs.Schemes.{family_of, fixed_of, scheme_number, scheme_of_lem}
 use Rattle.schemes.specs.{declared.Family.Family, declared.Named.Named, declared.Scheme.Scheme, declared.Named.TheVariants.Known}
 use Rattle.lists.specs.declared.Peak.{Peak}
