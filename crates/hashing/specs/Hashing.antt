@@ -3,7 +3,7 @@
 --   digest_tests_lem input n      the tests of SHA3-256 in 01's order, with room for n bytes
 --   shake_result input n      what SHAKE-128 shows, with room for n bytes
 --   digest_result input n     what SHA3-256 shows
-use Rattle.lists.specs.Kit.{List, ℕ, length}
+use Rattle.std.specs.Prelude.{List, ℕ, length}
 use Rattle.sponge.specs.Sponge.{shake128, sha3}
 use Rattle.refusals.specs.{Refusals.◌then◌, Refusals.length_up_to_lem, Refusals.room_for_lem, Seen.Seen, Seen.shown, declared.Verdict.Verdict}
 

@@ -1,5 +1,5 @@
 -- `hashing::digest_tests` meets its contract.
-use Rattle.lists.proofs.Kit.{refl, rules}
+use Rattle.lists.proofs.Kit.{refl}
 use Rattle.refusals.proofs.Laws.{first, also}
 use Rattle.hashing.specs.Hashing.{digest_tests_lem}
 use Rattle.hashing.proofs.digest_tests.Goals as goal

@@ -1,5 +1,4 @@
 -- `hashing::shake128` meets its contract: the output is zeroed after a refusal, and filled where there is none.
-use Rattle.lists.proofs.Kit.{rules}
 use Rattle.hashing.proofs.{Hashed.shake-refused, Hashed.shake-done}
 use Rattle.hashing.proofs.shake128.Goals as goal
 

@@ -1,5 +1,5 @@
 -- `hashing::shake_tests` meets its contract.
-use Rattle.lists.proofs.Kit.{refl, rules}
+use Rattle.lists.proofs.Kit.{refl}
 use Rattle.refusals.proofs.Laws.{first}
 use Rattle.hashing.specs.Hashing.{shake_tests_lem}
 use Rattle.hashing.proofs.shake_tests.Goals as goal
