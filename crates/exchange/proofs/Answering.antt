@@ -6,7 +6,8 @@
 --   answer-passed, answer-grows, answer-ran-out   what is seen of answer where Grow has not refused, and where the opening or Grow's bytes are
 --   answer-newhope, sized-newhope   the same of a scheme of which no public numbers are lent
 --   answer-unknown, answer-known, answer-failed   what is seen of answer where no scheme is named, where one is, and where lengths or rooms are refused
-use Rattle.lists.proofs.Kit.{◌≡◌, refl, ◌∙◌, sym, ap, List, [], ℕ, ◌+◌, ◌-◌, ◌≤◌, arith, ℤ, length, replicate, take, drop}
+use Rattle.lists.proofs.Kit.{refl, ◌∙◌, sym, ap, List, [], ℕ, arith, ℤ, length, replicate, take, drop}
+use Rattle.std.proofs.Common.{◌≡◌, ◌+◌, ◌-◌, ◌≤◌}
 use Rattle.schemes.specs.declared.Named.TheVariants.{Known, Unknown}
 use Rattle.schemes.specs.{Schemes.fixed_of, declared.Named.Named, declared.Scheme.Scheme, declared.Fixed.Fixed, declared.Scheme.TheVariants.NewHope}
 use Rattle.schemes.proofs.Laws.{tied}

@@ -5,7 +5,8 @@
 --   numbers-counted           the numbers that Grow makes where it does not refuse: all are there, below q
 --   grow-failed, grow-passed  what `grow` gives, by Grow's answer
 --   Passes, public-passes     the public numbers of any scheme, lent or grown: all are there, and they pass where what is lent passes
-use Rattle.lists.proofs.Kit.{◌≡◌, refl, ◌∙◌, sym, ap, List, [], ℕ, suc, le_refl, arith, length}
+use Rattle.lists.proofs.Kit.{refl, ◌∙◌, sym, ap, List, [], ℕ, suc, le_refl, arith, length}
+use Rattle.std.proofs.Common.{◌≡◌}
 use Rattle.schemes.specs.declared.Scheme.TheVariants.{Bcns, NewHope, Challenge, Classical, Recommended, Paranoid}
 use Rattle.schemes.specs.{Schemes.fixed_of, declared.Scheme.Scheme}
 use Rattle.lists.specs.Ranges.{Below}

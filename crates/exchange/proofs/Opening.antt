@@ -6,7 +6,8 @@
 --   open-newhope, sized-newhope  the same of a scheme of which no public numbers are lent
 --   open_unknown, open-failed    what is seen of open where no scheme is named, and where lengths or rooms are refused
 --   open-refused, open_done      what is seen of open behind lengths and rooms, by what is seen of its opening
-use Rattle.lists.proofs.Kit.{◌≡◌, refl, ◌∙◌, sym, ap, List, [], ◌++◌, ℕ, ◌+◌, ◌≤◌, arith, ℤ, pos, length, replicate, take, drop}
+use Rattle.lists.proofs.Kit.{refl, ◌∙◌, sym, ap, List, [], ℕ, arith, ℤ, pos, length, replicate, take, drop}
+use Rattle.std.proofs.Common.{◌≡◌, ◌++◌, ◌+◌, ◌≤◌}
 use Rattle.schemes.specs.declared.Named.TheVariants.{Known, Unknown}
 use Rattle.schemes.specs.{Schemes.fixed_of, declared.Named.Named, declared.Scheme.Scheme, declared.Fixed.Fixed, declared.Scheme.TheVariants.NewHope}
 use Rattle.schemes.proofs.Laws.{tied}

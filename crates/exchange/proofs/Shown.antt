@@ -1,5 +1,6 @@
 -- What is stated in specs/Shown.
-use Rattle.lists.proofs.Kit.{◌≡◌, sym, ap, ◌∙◌, List, Bool, true, false, cond, ℕ, arith, leb, ltb, length}
+use Rattle.lists.proofs.Kit.{sym, ap, ◌∙◌, List, Bool, true, false, cond, ℕ, arith, leb, ltb, length}
+use Rattle.std.proofs.Common.{◌≡◌}
 use Rattle.schemes.specs.declared.Named.TheVariants.{Known, Unknown}
 use Rattle.schemes.specs.{Schemes.family_of, Schemes.by_family, declared.Named.Named, declared.Family.Family, declared.Scheme.Scheme}
 use Rattle.lists.specs.First.{first_over_lem}

@@ -5,7 +5,7 @@
 --   answer_tests c k x m     its tests in 01's order: 1, 12, 2, 3, 18, 4, 5, 17 of the part that came, 7, 17 of the part about to be sent
 --   answer_result c k x m    its promise: what is seen, as a function of what is lent; answer_shown v: by the verdict v of any tests
 --   answer_lent, answer_lent_of   what is lent, from the slices of a contract, and from lists
-use Rattle.lists.specs.Kit.{List, [], ℕ, ◌+◌, length}
+use Rattle.std.specs.Prelude.{List, [], ℕ, ◌+◌, length}
 use Rattle.schemes.specs.{Schemes.fixed_of, declared.Named.Named, declared.Scheme.Scheme}
 use Rattle.noise.specs.declared.Ruled.{Ruled}
 use Rattle.refusals.specs.Refusals.{◌then◌, length_is_lem, room_for_lem, publics_in_lem, message_in, not_blank_lem}

@@ -7,7 +7,7 @@
 --   drawn_opens c x n, drawn_answers c x m   what is seen of Offer and Reply by x's own public numbers, behind the table's test
 --   open_shows c k x m             what is seen of open's opening; OpenHolds c k x m old s: what s holds where nothing is refused, which held old
 --   came_in c opening              the tests of the opening, which came
-use Rattle.lists.specs.Kit.{◌≡◌, List, ◌++◌, ℕ, ◌+◌, ◌/◌, ◌≤◌, ℤ, length, take, drop}
+use Rattle.std.specs.Prelude.{◌≡◌, List, ◌++◌, ℕ, ◌+◌, ◌/◌, ◌≤◌, ℤ, length, take, drop}
 use Rattle.schemes.specs.{Schemes.fixed_of, declared.Scheme.Scheme, declared.Named.TheVariants.Known}
 use Rattle.lists.specs.Ranges.{Below}
 use Rattle.noise.specs.declared.Ruled.{Ruled}

@@ -8,7 +8,7 @@
 --   open_lent, open_rooms    what is lent, from the slices of a contract; open_lent_of, open_rooms_of: from lists and numbers
 --   open_told r             the numbers of its answer r
 --   open_seen t opening s   what is seen where open tells t and leaves these outputs
-use Rattle.lists.specs.Kit.{List, [], ℕ, ◌+◌, ℤ, pos, length, take}
+use Rattle.std.specs.Prelude.{List, [], ℕ, ◌+◌, ℤ, pos, length, take}
 use Rattle.schemes.specs.{Schemes.fixed_of, declared.Named.Named, declared.Scheme.Scheme}
 use Rattle.noise.specs.declared.Ruled.{Ruled}
 use Rattle.refusals.specs.Refusals.{number_in, place_in, ◌then◌, length_is_lem, room_for_lem, publics_in_lem, not_blank_lem}

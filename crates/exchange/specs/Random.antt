@@ -8,7 +8,7 @@
 --   ruled_in k                     12, where no rule is named
 --   table_order c table            18, in BCNS alone
 --   grown c k seed                7, in NewHope alone
-use Rattle.lists.specs.Kit.{List, ℕ, ◌+◌, ◌*◌, ℤ, length, take, drop}
+use Rattle.std.specs.Prelude.{List, ℕ, ◌+◌, ◌*◌, ℤ, length, take, drop}
 use Rattle.schemes.specs.{Schemes.fixed_of, Schemes.family_of, Schemes.by_family, declared.Scheme.Scheme, declared.Named.TheVariants.Known}
 use Rattle.noise.specs.declared.Ruled.{Ruled}
 use Rattle.bcns_noise.specs.Noise.{first_not_above_lem}

@@ -1,6 +1,6 @@
 // answer, once the scheme is known and its outputs hold zeros: the rule, lengths and rooms, then the public numbers, in NewHope grown from the seed of the part that
 // came, which is tested first, then s', e' and e'' of the random bytes, and Reply. s', e', e'' and grown public numbers stay inside.
-ghost use Rattle.lists.specs.Kit.{◌≡◌, [], length, replicate};
+ghost use Rattle.std.specs.Prelude.{◌≡◌, [], length, replicate};
 ghost use Rattle.schemes.specs.declared.Named.TheVariants.{Known};
 ghost use Rattle.schemes.specs.declared.Scheme.TheVariants as variants;
 ghost use Rattle.refusals.specs.Refusals.{◌then◌};

@@ -1,5 +1,5 @@
 // What open and answer make of what they are lent: lengths by the scheme, noise values of random bytes, and numbers grown from a seed.
-ghost use Rattle.lists.specs.Kit.{◌≡◌, ◌≤◌, length};
+ghost use Rattle.std.specs.Prelude.{◌≡◌, ◌≤◌, length};
 ghost use Rattle.schemes.specs.declared.Scheme.TheVariants as variants;
 ghost use Rattle.refusals.specs.declared.Verdict.TheVariants.{Pass};
 ghost use Rattle.noise.specs.Expand.{rule_of_lem};

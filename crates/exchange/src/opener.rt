@@ -1,6 +1,6 @@
 // open, once the scheme is known and its outputs hold zeros: the rule, lengths and rooms, then the public numbers, grown in NewHope, then s and e of the random
 // bytes, and Offer. e and grown public numbers stay inside. A refusal behind the lengths zeroes s again.
-ghost use Rattle.lists.specs.Kit.{◌≡◌, [], ◌++◌, ◌≤◌, length, replicate, drop, pos};
+ghost use Rattle.std.specs.Prelude.{◌≡◌, [], ◌++◌, ◌≤◌, length, replicate, drop, pos};
 ghost use Rattle.schemes.specs.Schemes.{fixed_of};
 ghost use Rattle.schemes.specs.declared.Named.TheVariants.{Known};
 ghost use Rattle.schemes.specs.declared.Scheme.TheVariants as variants;

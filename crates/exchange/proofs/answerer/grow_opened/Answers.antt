@@ -1,22 +1,17 @@
 -- `exchange::answerer::grow_opened` meets its contract: the opening's refusal, or what is grown.
-use Rattle.lists.proofs.Kit.{sym, ap, ◌∙◌, arith, rules}
+use Rattle.lists.proofs.Kit.{sym, ◌∙◌, arith}
 use Rattle.schemes.specs.declared.Scheme.TheVariants.{NewHope}
 use Rattle.refusals.proofs.Laws.{differ, stays, goes_on}
 use Rattle.wire.specs.Wire.{opened_in}
 use Rattle.wire.proofs.Travel.{message-counted}
 use Rattle.exchange.proofs.{Answering.seed-taken, Answering.seed-long}
 use Rattle.exchange.proofs.answerer.grow_opened.Goals as goal
-use Rattle.exchange.proofs.answerer.grow_opened.Goals.{After-take_opening-v, Start}
-
-abbrev start : After-take_opening-v → Start
-start c = search rules
 
 pub grow-requires : goal.grow-requires
 grow-requires c =
-    let b = start c.before.before.before.before.before.before in
-    let opening = b.args.opening.now in
+    let opening = c.args.opening.now in
     let n = message-counted NewHope (opened_in NewHope opening) c.take_opening-v.ensures.numbers_value c.take_opening-v.ensures.value c.in-Pass.is in
-    (b.requires.0, rw (seed-taken opening b.requires.1) (seed-long opening b.requires.1), n.long)
+    (c.requires.0, rw (seed-taken opening c.requires.1) (seed-long opening c.requires.1), n.long)
 
 pub returns-in-Fail : goal.returns-in-Fail
 returns-in-Fail c =
@@ -24,8 +19,7 @@ returns-in-Fail c =
 
 pub returns-in-Pass : goal.returns-in-Pass
 returns-in-Pass c =
-    let b = start c.before.before.before.before.before.before.before.before.before in
-    let e = seed-taken b.args.opening.now b.requires.1 in
+    let e = seed-taken c.args.opening.now c.requires.1 in
     record { value = goes_on (sym c.take_opening-v.ensures.value ∙ c.in-Pass.is) (rw e at c.grow.ensures.value); numbers_value = λ h. rw e at (c.grow.ensures.numbers_value h) }
 
 pub take_opening-v-requires : goal.take_opening-v-requires

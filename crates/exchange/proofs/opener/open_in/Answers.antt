@@ -3,14 +3,9 @@ use Rattle.lists.proofs.Kit.{rules}
 use Rattle.sampling.proofs.Expanding.{passes}
 use Rattle.exchange.proofs.{Opening.open-failed}
 use Rattle.exchange.proofs.opener.open_in.Goals as goal
-use Rattle.exchange.proofs.opener.open_in.Goals.{After-open_sizes-v, Start}
-
-abbrev start : After-open_sizes-v → Start
-start c = search rules
 
 pub open_sized-requires : goal.open_sized-requires
-open_sized-requires c =
-    record { s_value = passes c.open_sizes-v.ensures c.in-Pass.is; opening_value = (start c.before.before.before.before).pre }
+open_sized-requires c = record { s_value = passes c.open_sizes-v.ensures c.in-Pass.is; opening_value = c.requires }
 
 pub returns-in-Fail : goal.returns-in-Fail
 returns-in-Fail c = search (rules, open-failed)
