@@ -6,7 +6,8 @@
 --   by-frodo                 what is meant in Frodo
 --   number-names             the number of a scheme of Frodo's names it
 --   words-below, columns-below, zeros-below   secrets, noise and zeros are words
-use Rattle.lists.proofs.Kit.{◌≡◌, sym, ◌∙◌, ap, List, ℕ, ◌*◌, ◌<◌, arith, ℤ, length, replicate}
+use Rattle.lists.proofs.Kit.{sym, ◌∙◌, ap, List, ℕ, arith, ℤ, length, replicate}
+use Rattle.std.proofs.Common.{◌≡◌, ◌*◌, ◌<◌}
 use Rattle.numbers.proofs.Congruence.{residue-lt}
 use Rattle.schemes.specs.Schemes.{by_family, family_of, scheme_number}
 use Rattle.schemes.specs.{declared.Family.Family, declared.Named.Named, declared.Named.TheVariants.Known, declared.Scheme.Scheme}

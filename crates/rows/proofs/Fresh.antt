@@ -5,7 +5,8 @@
 --   Left, left          such a state after any parts: what it names, counts and keeps, that its call has begun, and what its sums are
 --   fill                parts that join into A are accepted
 --   in-turn, too-early, has_all   whether all of A has come
-use Rattle.lists.proofs.Kit.{◌≡◌, refl, ◌∙◌, sym, ap, ap₂, subst, ◌≢◌, Bool, true, false, List, [], ℕ, ◌*◌, ◌%◌, ◌<◌, arith, ℤ, length, get_or, replicate}
+use Rattle.lists.proofs.Kit.{refl, ◌∙◌, sym, ap, ap₂, subst, Bool, true, false, List, [], ℕ, arith, ℤ, length, get_or, replicate}
+use Rattle.std.proofs.Common.{◌≡◌, ◌≢◌, ◌*◌, ◌%◌, ◌<◌}
 use Rattle.lists.proofs.Kit.{length-replicate}
 use Rattle.schemes.specs.Schemes.{family_of, fixed_of, scheme_number}
 use Rattle.schemes.specs.{declared.Family.Family, declared.Named.TheVariants.Known, declared.Scheme.Scheme}

@@ -1,6 +1,7 @@
 -- Offer by rows is Offer on the joined matrix: what is stated of it in specs/Shown.
 --   same-offer, early-offer, offer-taken   what is shown
-use Rattle.lists.proofs.Kit.{◌≡◌, refl, ◌∙◌, sym, ap, ap₂, ◌≢◌, true, List, ◌++◌, ℕ, arith, length, take, replicate, take_at, drop_at}
+use Rattle.lists.proofs.Kit.{refl, ◌∙◌, sym, ap, ap₂, true, List, ℕ, arith, length, take, replicate, take_at, drop_at}
+use Rattle.std.proofs.Common.{◌≡◌, ◌≢◌, ◌++◌}
 use Rattle.schemes.specs.{Schemes.family_of, Schemes.fixed_of, declared.Family.Family, declared.Named.TheVariants.Known, declared.Scheme.Scheme}
 use Rattle.lists.specs.Ranges.{Below}
 use Rattle.lists.proofs.Entries.{below-zeros}

@@ -7,7 +7,8 @@
 --   end-unknown, end-failed, end-blank, end-done   what is seen of end besides the state, by the test that decides
 --   end-begun, end-roomy         what passed sizes of end say
 --   end_kept, end-cleared        and with the state
-use Rattle.lists.proofs.Kit.{◌≡◌, refl, ◌∙◌, sym, ap, true, List, ◌++◌, ℕ, ◌≤◌, arith, length, get_or, take, drop, replicate, length-take}
+use Rattle.lists.proofs.Kit.{refl, ◌∙◌, sym, ap, true, List, ℕ, arith, length, get_or, take, drop, replicate, length-take}
+use Rattle.std.proofs.Common.{◌≡◌, ◌++◌, ◌≤◌}
 use Rattle.schemes.specs.declared.Named.TheVariants.{Known, Unknown}
 use Rattle.schemes.specs.{Schemes.family_of, Schemes.fixed_of, declared.Family.Family, declared.Named.Named, declared.Scheme.Scheme, declared.Fixed.Fixed}
 use Rattle.lists.specs.Ranges.{Below}

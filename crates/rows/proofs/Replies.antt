@@ -1,6 +1,7 @@
 -- Reply by rows is Reply on the joined matrix: what is stated of it in specs/Shown.
 --   same-reply, early-reply, reply-taken   what is shown
-use Rattle.lists.proofs.Kit.{◌≡◌, refl, ◌∙◌, sym, ap, ap₂, ◌≢◌, List, [], ◌++◌, ℕ, length, replicate}
+use Rattle.lists.proofs.Kit.{refl, ◌∙◌, sym, ap, ap₂, List, [], ℕ, length, replicate}
+use Rattle.std.proofs.Common.{◌≡◌, ◌≢◌, ◌++◌}
 use Rattle.schemes.specs.{Schemes.family_of, Schemes.fixed_of, declared.Family.Family, declared.Named.TheVariants.Known, declared.Scheme.Scheme}
 use Rattle.packing.specs.Packing.{packed}
 use Rattle.sponge.specs.Sponge.{sha3}

@@ -9,7 +9,8 @@
 --   Roomy, end-roomy     what passed sizes of end say
 --   key_fits, digest-fits   a good end's key lies in its output, and the digest has room
 --   end_kept, end-cleared   what is seen of end
-use Rattle.lists.proofs.Kit.{◌≡◌, refl, ◌∙◌, sym, ap, true, List, [], ◌++◌, ℕ, ◌-◌, ◌≤◌, arith, length, get_or, take, drop, replicate, length-append}
+use Rattle.lists.proofs.Kit.{refl, ◌∙◌, sym, ap, true, List, [], ℕ, arith, length, get_or, take, drop, replicate, length-append}
+use Rattle.std.proofs.Common.{◌≡◌, ◌++◌, ◌-◌, ◌≤◌}
 use Rattle.schemes.specs.declared.Named.TheVariants.{Known, Unknown}
 use Rattle.schemes.specs.{Schemes.family_of, Schemes.fixed_of, declared.Family.Family, declared.Named.Named, declared.Scheme.Scheme}
 use Rattle.lists.proofs.Same.{zeros-long}

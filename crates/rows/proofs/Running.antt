@@ -8,8 +8,9 @@
 --   Stepped, stepped-after   a part behind the numbers xs that have come
 --   below-front, below-behind   of two lists joined
 --   Walked, walked   what any parts leave: the state after the numbers that they join into
-use Rattle.lists.proofs.Kit.{◌≡◌, refl, ◌∙◌, sym, ap, ap₂, subst, Bool, true, false, cond, List, [], ◌∷◌, ◌++◌, append_assoc, append-nil, ℕ, ◌+◌, ◌*◌, ◌-◌, ◌/◌}
-use Rattle.lists.proofs.Kit.{◌%◌, ◌≤◌, ◌<◌, arith, zero-mod, div-mul-le_self, length, take, drop, length-append, length-take, length-drop, take-append-drop}
+use Rattle.lists.proofs.Kit.{refl, ◌∙◌, sym, ap, ap₂, subst, Bool, true, false, cond, List, [], append_assoc, append-nil, ℕ}
+use Rattle.std.proofs.Common.{◌≡◌, ◌∷◌, ◌++◌, ◌+◌, ◌*◌, ◌-◌, ◌/◌, ◌%◌, ◌≤◌, ◌<◌}
+use Rattle.lists.proofs.Kit.{arith, zero-mod, div-mul-le_self, length, take, drop, length-append, length-take, length-drop, take-append-drop}
 use Rattle.lists.proofs.Kit.{drop_of_length-le, take_at, take_all, take-nil, drop-nil, take-append-le, drop-append-le, length-take-le}
 use Rattle.lists.specs.Ranges.{Below}
 use Rattle.lists.proofs.Parts.{below-drop, below-take}

@@ -2,7 +2,8 @@
 --   sent-counted   they are as many as the secret, and below q
 --   sent_is        they are what the code makes
 --   sent-blank     they are tested for their bytes
-use Rattle.lists.proofs.Kit.{◌≡◌, ◌∙◌, sym, ap, List, ℕ, mod-lt, length}
+use Rattle.lists.proofs.Kit.{◌∙◌, sym, ap, List, ℕ, mod-lt, length}
+use Rattle.std.proofs.Common.{◌≡◌}
 use Rattle.schemes.specs.{Schemes.family_of, Schemes.fixed_of, declared.Family.Family, declared.Fixed.Fixed, declared.Scheme.Scheme}
 use Rattle.lists.proofs.Entries.{tab-length, below-tab}
 use Rattle.matrix.specs.Words.{reduced}

@@ -4,8 +4,9 @@
 --   without          the run without what was refused
 --   Cut, took-cut    accepted parts: what they leave, and that none runs past the end of its row or past the last row
 --   frodos-are, allowed, joining, empty-part, again, running   what is shown
-use Rattle.lists.proofs.Kit.{◌≡◌, refl, ◌∙◌, sym, ap, ap₂, subst, Bool, true, false, cond, List, [], ◌∷◌, ◌++◌, append_assoc, append-nil, ℕ, zero, suc, ◌+◌}
-use Rattle.lists.proofs.Kit.{◌*◌, ◌-◌, ◌%◌, ◌≤◌, ◌<◌, arith, mod-lt, mod-eq_of_lt, mod-add-mod, lt-leb, le-leb, eqb, take_at, drop_at, drop-drop, length, get_or}
+use Rattle.lists.proofs.Kit.{refl, ◌∙◌, sym, ap, ap₂, subst, Bool, true, false, cond, List, [], append_assoc, append-nil, ℕ, zero, suc}
+use Rattle.std.proofs.Common.{◌≡◌, ◌∷◌, ◌++◌, ◌+◌, ◌*◌, ◌-◌, ◌%◌, ◌≤◌, ◌<◌}
+use Rattle.lists.proofs.Kit.{arith, mod-lt, mod-eq_of_lt, mod-add-mod, lt-leb, le-leb, eqb, take_at, drop_at, drop-drop, length, get_or}
 use Rattle.lists.proofs.Kit.{take, drop, length-append, length-take, length-drop, take-append-drop}
 use Rattle.schemes.specs.declared.Named.TheVariants.{Known, Unknown}
 use Rattle.schemes.specs.{Schemes.family_of, Schemes.fixed_of, Schemes.scheme_of_lem, declared.Named.Named, declared.Family.Family, declared.Scheme.Scheme}

@@ -4,7 +4,7 @@
 --   offer_end_sizes c st n, reply_end_sizes c st m     the first tests of end: of its turn, and of rooms
 --   verdict_of r               the verdict of an answer
 --   Sent r st m message key   what Reply's end answers, and what it leaves of message and key, with the rooms m
-use Rattle.lists.specs.Kit.{◌≡◌, List, ℕ, length}
+use Rattle.std.specs.Prelude.{◌≡◌, List, ℕ, length}
 use Rattle.schemes.specs.{Schemes.fixed_of, declared.Scheme.Scheme}
 use Rattle.refusals.specs.Refusals.{◌then◌, length_is_lem, room_for_lem, in_turn, not_blank_lem}
 use Rattle.refusals.specs.declared.Verdict.TheVariants.{Pass, Fail}

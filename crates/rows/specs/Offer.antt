@@ -9,7 +9,7 @@
 --   offer_end_message c st      the opening message: the seed and that part
 --   offer_end_result st n       its promise, likewise: the state is zeros; refused, it stays as it was
 --   offer_begin_lem, offer_begin_of  what is lent, from the slices of a contract, and from lists
-use Rattle.lists.specs.Kit.{List, [], ◌++◌, ℕ, ℤ, length, take, replicate}
+use Rattle.std.specs.Prelude.{List, [], ◌++◌, ℕ, ℤ, length, take, replicate}
 use Rattle.schemes.specs.{Schemes.fixed_of, declared.Named.Named, declared.Scheme.Scheme, declared.Named.TheVariants.Known, declared.Named.TheVariants.Unknown}
 use Rattle.packing.specs.Packing.{packed}
 use Rattle.matrix.specs.Words.{reduced}

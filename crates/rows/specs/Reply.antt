@@ -8,7 +8,7 @@
 --   reply_end_message, reply_end_key   message and key: that part and the hints of V; the published bits of V
 --   reply_end_result st m       its promise, likewise: the state is zeros; refused, it stays as it was
 --   reply_begin_lem, reply_begin_of  what is lent, from the slices of a contract, and from lists
-use Rattle.lists.specs.Kit.{List, [], ◌++◌, ℕ, ℤ, length, replicate}
+use Rattle.std.specs.Prelude.{List, [], ◌++◌, ℕ, ℤ, length, replicate}
 use Rattle.schemes.specs.{Schemes.fixed_of, declared.Named.Named, declared.Scheme.Scheme, declared.Named.TheVariants.Known, declared.Named.TheVariants.Unknown}
 use Rattle.packing.specs.Packing.{packed}
 use Rattle.sponge.specs.Sponge.{sha3}

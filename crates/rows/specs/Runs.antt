@@ -13,7 +13,7 @@
 --                          among them, and an end, with room for n bytes or the rooms o, of which t is seen besides the state
 --   OfferAccepted, ReplyAccepted   a begin of the scheme c on the inputs x with a state of its fixed length, the parts ps and an end with such rooms, and none
 --                          of them refused
-use Rattle.lists.specs.Kit.{◌≡◌, List, [], ◌∷◌, ◌++◌, ℕ, ◌+◌, ◌%◌, ◌≤◌, ◌<◌, length}
+use Rattle.std.specs.Prelude.{◌≡◌, List, [], ◌∷◌, ◌++◌, ℕ, ◌+◌, ◌%◌, ◌≤◌, ◌<◌, length}
 use Rattle.schemes.specs.{Schemes.fixed_of, declared.Named.TheVariants.Known, declared.Scheme.Scheme}
 use Rattle.refusals.specs.Seen.{Seen}
 use Rattle.reply.specs.Reply.{ReplyRooms, ReplySeen}

@@ -15,8 +15,7 @@
 --   EarlyOffer, EarlyReply   where the parts do not fill the rows, it gives 11, and zeros
 --   OfferTaken, ReplyTaken   of parts that do not run past the end of their row, begin, all parts and end are accepted exactly if the whole-matrix call accepts the
 --                     joined matrix
-use Rattle.lists.specs.Kit.{◌≡◌, ◌↔◌, true, List, [], ◌++◌, ℕ, ◌+◌, ◌*◌, ◌/◌, ◌%◌, ◌≤◌, ◌<◌, ℤ, length, take, drop}
-use Rattle.std.specs.Prelude.{◌≢◌}
+use Rattle.std.specs.Prelude.{◌≡◌, ◌↔◌, true, List, [], ◌++◌, ℕ, ◌+◌, ◌*◌, ◌/◌, ◌%◌, ◌≤◌, ◌<◌, ℤ, length, take, drop, ◌≢◌}
 use Rattle.schemes.specs.Schemes.{family_of, fixed_of, scheme_of_lem}
 use Rattle.schemes.specs.{declared.Family.Family, declared.Named.TheVariants.Known, declared.Scheme.Scheme}
 use Rattle.lists.specs.Ranges.{Below}

@@ -1,7 +1,9 @@
 // Frodo by rows: 02, request e. Offer and Reply take A row by row, in parts of any length: begin, parts, end, with a lent state between them. None has a
 // `requires`: each ends with an answer or a numbered refusal. A refused begin zeroes the state; a refused part or end leaves it as it was, and every output
 // zero, and may be tried again; a good end zeroes it.
-ghost use Rattle.lists.specs.Kit.{◌≡◌, length};
+#![tactic(auto)]
+
+ghost use Rattle.std.specs.Prelude.{◌≡◌, length};
 ghost use Rattle.refusals.specs.Seen.{told, seen};
 ghost use Rattle.reply.specs.Reply.{reply_rooms, reply_told, reply_seen};
 ghost use Rattle.rows_state.specs.State.{frodo_of_lem};

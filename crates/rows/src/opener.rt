@@ -1,5 +1,5 @@
 // Offer's begin and end, once the scheme is known: the tests in 01's order, then the state, or the message into the part of the output that it takes.
-ghost use Rattle.lists.specs.Kit.{◌≡◌, true, ◌++◌, ◌≤◌, length, replicate};
+ghost use Rattle.std.specs.Prelude.{◌≡◌, true, ◌++◌, ◌≤◌, length, replicate};
 ghost use Rattle.schemes.specs.Schemes.{family_of, fixed_of};
 ghost use Rattle.schemes.specs.declared.Family.{Family};
 ghost use Rattle.schemes.specs.declared.Named.TheVariants.{Known};

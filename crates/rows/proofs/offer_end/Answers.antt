@@ -1,5 +1,5 @@
 -- `rows::offer_end` meets its contract: the message, and then zeros into the state, where nothing is refused.
-use Rattle.lists.proofs.Kit.{length, rules}
+use Rattle.lists.proofs.Kit.{length}
 use Rattle.rows.proofs.{Opening.end_kept, Opening.end-cleared}
 use Rattle.rows.proofs.offer_end.Goals as goal
 

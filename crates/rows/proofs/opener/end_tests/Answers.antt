@@ -1,5 +1,5 @@
 -- `rows::opener::end_tests` meets its contract: its turn, then the room.
-use Rattle.lists.proofs.Kit.{refl, ◌∙◌, ap, rules}
+use Rattle.lists.proofs.Kit.{refl, ◌∙◌, ap}
 use Rattle.refusals.specs.Refusals.{in_turn}
 use Rattle.refusals.proofs.Laws.{also}
 use Rattle.rows.specs.Inside.{offer_end_sizes}

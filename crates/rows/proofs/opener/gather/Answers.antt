@@ -1,7 +1,7 @@
 -- `rows::opener::gather` meets its contract: it fills with the entries of the source.
-use Rattle.lists.proofs.Kit.{refl, ◌∙◌, ap, ℕ, ◌-◌, arith, length, get_or, length-set}
+use Rattle.lists.proofs.Kit.{refl, ◌∙◌, ap, ℕ, arith, get_or, length-set}
 use Rattle.lists.specs.Entries.{tab}
-use Rattle.lists.proofs.{Entries.tab-getD, Fill.Filled, Fill.fill_start, Fill.fill-next, Fill.fill_end}
+use Rattle.lists.proofs.{Entries.tab-getD, Fill.fill_start, Fill.fill-next, Fill.fill_end}
 use Rattle.rows.proofs.opener.gather.Goals as goal
 
 pub loop-k-init : goal.loop-k-init

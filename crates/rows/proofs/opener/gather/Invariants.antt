@@ -1,7 +1,7 @@
 -- `rows::opener::gather` meets its contract: it fills with the entries of the source.
-use Rattle.lists.proofs.Kit.{refl, ◌∙◌, ap, ℕ, ◌-◌, arith, length, get_or, length-set}
-use Rattle.lists.specs.Entries.{tab}
-use Rattle.lists.proofs.{Entries.tab-getD, Fill.Filled, Fill.fill_start, Fill.fill-next, Fill.fill_end}
+use Rattle.lists.proofs.Kit.{length, get_or}
+use Rattle.std.proofs.Common.{◌-◌}
+use Rattle.lists.proofs.{Fill.Filled}
 use Rattle.rows.proofs.opener.gather.Given as goal
 
 abbrev pub invariant-loop-k : goal.invariant-loop-k

@@ -1,5 +1,6 @@
 -- `rows::opener::lay_seed` meets its contract: zeros, of which 16 are written.
-use Rattle.lists.proofs.Kit.{◌∙◌, sym, ap₂, List, ◌++◌, ℕ, arith, rules, drop}
+use Rattle.lists.proofs.Kit.{◌∙◌, sym, ap₂, List, ℕ, arith, drop}
+use Rattle.std.proofs.Common.{◌++◌}
 use Rattle.lists.proofs.{Parts.front_long, Same.zeros-long}
 use Rattle.rows.proofs.opener.lay_seed.Goals as goal
 

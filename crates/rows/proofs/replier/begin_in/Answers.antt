@@ -1,5 +1,5 @@
 -- `rows::replier::begin_in` meets its contract: the sizes, then the rest of the tests.
-use Rattle.lists.proofs.Kit.{sym, ap, ◌∙◌, List, ℕ, rules}
+use Rattle.lists.proofs.Kit.{sym, ap, ◌∙◌, List, ℕ}
 use Rattle.schemes.specs.declared.Named.TheVariants.{Known}
 use Rattle.refusals.specs.Seen.{if_passed}
 use Rattle.values.proofs.Numbers.{numbers-in}

@@ -1,5 +1,6 @@
 -- `rows::replier::begin_sized` meets its contract: it lends room for the opening's numbers; a refused opening ends the call; then the secrets, and then the state.
-use Rattle.lists.proofs.Kit.{◌≡◌, refl, ◌∙◌, sym, ap, List, ℕ, ◌≤◌, arith, length, rules}
+use Rattle.lists.proofs.Kit.{refl, ◌∙◌, sym, ap, List, ℕ, arith, length}
+use Rattle.std.proofs.Common.{◌≡◌, ◌≤◌}
 use Rattle.schemes.specs.{Schemes.fixed_of, declared.Fixed.Fixed, declared.Named.TheVariants.Known}
 use Rattle.schemes.proofs.Sound.{sound}
 use Rattle.lists.proofs.Parts.{part-long, buffer-long, front_long}
@@ -16,144 +17,114 @@ use Rattle.rows_state.proofs.{Tests.frodos, Laying.keeping-long, Laying.keeping-
 use Rattle.rows.specs.{Reply.ReplyBegin, Reply.reply_begin_of, Reply.value_of, Reply.reply_state, Inside.reply_begin_rest}
 use Rattle.rows.proofs.{Replying.Sized, Replying.begin-sized, Replying.opened-tests}
 use Rattle.rows.proofs.replier.begin_sized.Goals as goal
-use Rattle.rows.proofs.replier.begin_sized.Goals.{After-fixed-f, After-reply_secrets-v, After-take_opening-v, In-Pass, In_default, Start}
-
--- the places, from the last to the first
-abbrev passing : After-reply_secrets-v → In-Pass
-passing c = search rules
-
-abbrev opened : In-Pass → After-take_opening-v
-opened c = search rules
-
-abbrev refused : In_default → After-take_opening-v
-refused c = search rules
-
-abbrev fixing : After-take_opening-v → After-fixed-f
-fixing c = search rules
-
-abbrev start : After-fixed-f → Start
-start c = search rules
+use Rattle.rows.proofs.replier.begin_sized.Goals.{After-fixed-f, After-reply_secrets-v, After-take_opening-v}
 
 module _ (x : After-fixed-f) where
   abbrev lent : ReplyBegin
-  lent = let a = (start x).args in reply_begin_of a.opening.now a.s1.now a.e1.now a.e2.now
+  lent = let a = x.args in reply_begin_of a.opening.now a.s1.now a.e1.now a.e2.now
 
-  sized : Sized (start x).args.scheme lent (length (start x).args.state.now)
-  sized = begin-sized _ _ _ (start x).pre.1
+  sized : Sized x.args.scheme lent (length x.args.state.now)
+  sized = begin-sized _ _ _ x.requires.state_value
 
-  many : x.fixed-f.result.secret ≡ (fixed_of (start x).args.scheme).secret
+  many : x.fixed-f.result.secret ≡ (fixed_of x.args.scheme).secret
   many = ap (λ (f : Fixed). f.secret) x.fixed-f.ensures
 
   few : x.fixed-f.result.secret ≤ 6912
-  few = omega (arith, many, (sound (start x).args.scheme).secrets)
+  few = omega (arith, many, (sound x.args.scheme).secrets)
 
-  numbers-long : length (numbers_in (start x).args.scheme (opened_in (start x).args.scheme (start x).args.opening.now)) ≡ x.fixed-f.result.secret
+  numbers-long : length (numbers_in x.args.scheme (opened_in x.args.scheme x.args.opening.now)) ≡ x.fixed-f.result.secret
   unfolding numbers_in
   numbers-long = unpacked-length _ _ _ ∙ sym many
 
-  value-long : (xs : List ℕ) → let a = (start x).args in length (mixed_value a.scheme xs a.s1.now a.e2.now) ≡ 64
+  value-long : (xs : List ℕ) → let a = x.args in length (mixed_value a.scheme xs a.s1.now a.e2.now) ≡ 64
   value-long xs =
-      let b = start x in
+      let b = x in
       (mixed-counted b.args.scheme xs b.args.s1.now b.args.e2.now).long ∙ (numbers-in b.args.scheme b.requires.scheme_value.0).mixed
 
 -- the unpack step's verdict, without the test that cannot fail
-unpacked : (t : After-take_opening-v) → let a = (start (fixing t)).args in t.take_opening-v.result ≡ not_blank_lem (opened_in a.scheme a.opening.now)
+unpacked : (t : After-take_opening-v) → let a = t.args in t.take_opening-v.result ≡ not_blank_lem (opened_in a.scheme a.opening.now)
 unpacked t =
-    let b = start (fixing t) in
-    t.take_opening-v.ensures.value ∙ opened-tests b.args.scheme b.requires.scheme_value.0 (opened_in b.args.scheme b.args.opening.now)
+    t.take_opening-v.ensures.value ∙ opened-tests t.args.scheme t.requires.scheme_value.0 (opened_in t.args.scheme t.args.opening.now)
 
 -- where it has passed, the secrets decide
-tested : (s : After-reply_secrets-v) → let x = fixing (opened (passing s)) in s.reply_secrets-v.result ≡ reply_begin_rest (start x).args.scheme (lent x)
+tested : (s : After-reply_secrets-v) → s.reply_secrets-v.result ≡ reply_begin_rest s.args.scheme (reply_begin_of s.args.opening.now s.args.s1.now s.args.e1.now s.args.e2.now)
 unfolding reply_begin_rest
 tested s =
-    let o = passing s in
-    s.reply_secrets-v.ensures ∙ sym (went_on _ (unpacked (opened o)) o.in-Pass.is)
+    s.reply_secrets-v.ensures ∙ sym (went_on _ (unpacked (goal.at.After-reply_secrets-v s).After-take_opening-v) s.in-Pass.is)
 
 pub slice_bounds-b-end : goal.slice_bounds-b-end
-slice_bounds-b-end c = few c
+slice_bounds-b-end c = few (goal.at.slice_bounds-b-end c).After-fixed-f
 
 pub slice_bounds-take_opening-end : goal.slice_bounds-take_opening-end
-slice_bounds-take_opening-end c = sym (buffer-long _ 6912 (few c.before))
+slice_bounds-take_opening-end c = sym (buffer-long _ 6912 (few (goal.at.slice_bounds-take_opening-end c).After-fixed-f))
 
 pub take_opening-v-requires : goal.take_opening-v-requires
-take_opening-v-requires c = ((sized c.before).opening-long, buffer-long _ 6912 (few c.before) ∙ many c.before)
+take_opening-v-requires c = ((sized (goal.at.take_opening-v-requires c).After-fixed-f).opening-long, buffer-long _ 6912 (few (goal.at.take_opening-v-requires c).After-fixed-f) ∙ many (goal.at.take_opening-v-requires c).After-fixed-f)
 
 pub slice_bounds-b-end-in-Pass-v : goal.slice_bounds-b-end-in-Pass-v
 slice_bounds-b-end-in-Pass-v c =
-    let t = opened (passing c.before.before) in
-    front_fits _ t.take_opening-v.ensures.numbers_value (numbers-long (fixing t)) _
+    front_fits _ c.take_opening-v.ensures.numbers_value (numbers-long (goal.at.slice_bounds-b-end-in-Pass-v c).After-fixed-f) _
 
 pub slice_bounds-mix-end : goal.slice_bounds-mix-end
 slice_bounds-mix-end c =
-    let t = opened (passing c.before.before.before) in
-    sym (front_long _ _ (front_fits _ t.take_opening-v.ensures.numbers_value (numbers-long (fixing t)) _))
+    sym (front_long _ _ (front_fits _ c.take_opening-v.ensures.numbers_value (numbers-long (goal.at.slice_bounds-mix-end c).After-fixed-f) _))
 
-pub slice_bounds-mix-end : goal.slice_bounds-mix-end
-slice_bounds-mix-end c =
-    omega (arith, (sized (fixing (opened (passing c.before.before.before)))).state-long)
+pub slice_bounds-mix-end-in-Pass-v : goal.slice_bounds-mix-end-in-Pass-v
+slice_bounds-mix-end-in-Pass-v c =
+    omega (arith, (sized (goal.at.slice_bounds-mix-end-in-Pass-v c).After-fixed-f).state-long)
 
 pub mix-requires : goal.mix-requires
 mix-requires c =
-    let o = passing c.before.before.before.before in
-    let t = opened o in
-    let x = fixing t in
-    let b = start x in
-    let a = b.args in
-    let z = sized x in
-    let v = t.take_opening-v.ensures in
+    let a = c.args in
+    let z = sized (goal.at.mix-requires c).After-fixed-f in
+    let v = c.take_opening-v.ensures in
     let w = secrets-small a.scheme a.s1.now a.e1.now a.e2.now (sym c.reply_secrets-v.ensures ∙ c.in-Pass-v.is) in record {
       counted = (
-        message-counted a.scheme (opened_in a.scheme a.opening.now) (front-is _ v.1 (numbers-long x) _) v.0 o.in-Pass.is,
-        part-long 3 64 a.state.now (omega (arith, z.state-long)) ∙ sym (numbers-in a.scheme b.requires.scheme_value.0).mixed,
+        message-counted a.scheme (opened_in a.scheme a.opening.now) (front-is _ v.numbers_value (numbers-long (goal.at.mix-requires c).After-fixed-f) _) v.value c.in-Pass.is,
+        part-long 3 64 a.state.now (omega (arith, z.state-long)) ∙ sym (numbers-in a.scheme c.requires.scheme_value.0).mixed,
       );
       small = (record { long = z.secret-long; within = w.0 }, record { long = z.last-long; within = w.2 });
     }
 
 pub lay_state-requires : goal.lay_state-requires
 lay_state-requires c =
-    let x = fixing (opened (passing c.before.before.before.before.before.before.before.before)) in
-    let b = start x in
-    let a = b.args in
-    let z = sized x in
-    let h = numbers-in a.scheme b.requires.scheme_value.0 in
+    let a = c.args in
+    let z = sized (goal.at.lay_state-requires c).After-fixed-f in
+    let h = numbers-in a.scheme c.requires.scheme_value.0 in
     let n = (fixed_of a.scheme).n in
-    rw x.fixed-f.ensures (
-      (
+    rw c.fixed-f.ensures
+    (record {
+      sized = (
         record {
           some = h.some;
           few = h.few;
-          sixteens = (frodos a.scheme b.requires.scheme_value.0).sixteens;
-          long = keeping-long n a.state.now z.state-long b.requires.scheme_value.1 c.mix.ensures (value-long x _);
+          sixteens = (frodos a.scheme c.requires.scheme_value.0).sixteens;
+          long = keeping-long n a.state.now z.state-long c.requires.scheme_value.1 c.mix.ensures (value-long (goal.at.lay_state-requires c).After-fixed-f _);
         },
         refl,
-        keeping-is n a.state.now z.state-long b.requires.scheme_value.1 c.mix.ensures (value-long x _),
-      ),
-      (z.secret-long ∙ h.secret, z.noise-long ∙ h.noise),
-    )
+        keeping-is n a.state.now z.state-long c.requires.scheme_value.1 c.mix.ensures (value-long (goal.at.lay_state-requires c).After-fixed-f _),
+      );
+      s_len = (z.secret-long ∙ h.secret, z.noise-long ∙ h.noise);
+    })
 
 -- a refused opening
 pub returns-in_default : goal.returns-in_default
 unfolding reply_begin_rest
 returns-in_default c =
-    let t = refused c in
-    let x = fixing t in
-    let b = start x in
     let e = c.in_default.is in
-    (e ∙ sym (failed _ (unpacked t) e), ap (λ (v : Verdict). if_passed v (reply_state (Known b.args.scheme) (lent x)) b.args.state.now) (sym e))
+    record { value = e ∙ sym (failed _ (unpacked (goal.at.returns-in_default c).After-take_opening-v) e); state_value_2 = ap (λ (v : Verdict). if_passed v (reply_state (Known c.args.scheme) (reply_begin_of c.args.opening.now c.args.s1.now c.args.e1.now c.args.e2.now)) c.args.state.now) (sym e) }
 
 pub returns-in-Fail : goal.returns-in-Fail
 returns-in-Fail c =
-    (sym c.in-Fail.is ∙ tested (goal.at.returns-in-Fail c).After-reply_secrets-v, refl)
+    record { value = sym c.in-Fail.is ∙ tested (goal.at.returns-in-Fail c).After-reply_secrets-v; state_value_2 = refl }
 
 pub returns-in-Pass-v : goal.returns-in-Pass-v
 unfolding reply_state value_of
 returns-in-Pass-v c =
-    let t = opened (passing c.before.before.before.before.before.before.before.before.before.before.before) in
-    let x = fixing t in
-    let a = (start x).args in (
-      sym c.in-Pass-v.is ∙ tested (goal.at.returns-in-Pass-v c).After-reply_secrets-v,
-      c.lay_state.ensures
+    let a = c.args in record {
+      value = sym c.in-Pass-v.is ∙ tested (goal.at.returns-in-Pass-v c).After-reply_secrets-v;
+      state_value_2 = c.lay_state.ensures
           ∙ ap (λ (v : List ℕ). laid (fresh Call.Reply a.scheme v a.s1.now a.e1.now))
-          (keeping-kept (fixed_of a.scheme).n a.state.now (sized x).state-long (start x).pre.0.1 c.mix.ensures (value-long x _)
-          ∙ ap (λ (xs : List ℕ). mixed_value a.scheme xs a.s1.now a.e2.now) (front-is _ t.take_opening-v.ensures.numbers_value (numbers-long x) _)),
-    )
+          (keeping-kept (fixed_of a.scheme).n a.state.now (sized (goal.at.returns-in-Pass-v c).After-fixed-f).state-long c.requires.scheme_value.1 c.mix.ensures (value-long (goal.at.returns-in-Pass-v c).After-fixed-f _)
+          ∙ ap (λ (xs : List ℕ). mixed_value a.scheme xs a.s1.now a.e2.now) (front-is _ c.take_opening-v.ensures.numbers_value (numbers-long (goal.at.returns-in-Pass-v c).After-fixed-f) _));
+    }

@@ -1,5 +1,5 @@
 -- `rows::replier::end_sizes` meets its contract: one test after the other.
-use Rattle.lists.proofs.Kit.{refl, ◌∙◌, ap, arith, rules}
+use Rattle.lists.proofs.Kit.{refl, ◌∙◌, ap, arith}
 use Rattle.schemes.specs.declared.Fixed.{Fixed}
 use Rattle.refusals.specs.Refusals.{in_turn}
 use Rattle.refusals.proofs.Laws.{also}
