@@ -4,7 +4,8 @@
 --   finish-done, reply-told, offer-told            and one whose call does not, by the step after it
 --   reply-sent, offer-sent                         and its message
 --   bench-refused, bench-told, bcns-answered, bench-unknown   Bench's promise, by what is handed on from Offer on; and where the number names no scheme
-use Rattle.lists.proofs.Kit.{◌≡◌, refl, ◌∙◌, sym, ap, ap₂, List, [], ◌++◌, append-nil, ℕ, zero, suc, ◌-◌, le_refl, le_of_eq, ℤ, length, take, drop, length-drop}
+use Rattle.lists.proofs.Kit.{refl, ◌∙◌, sym, ap, ap₂, List, [], append-nil, ℕ, zero, suc, le_refl, le_of_eq, ℤ, length, take, drop, length-drop}
+use Rattle.std.proofs.Common.{◌≡◌, ◌++◌, ◌-◌}
 use Rattle.lists.proofs.Kit.{drop_of_length-le, take_at, drop_at, put_mid}
 use Rattle.schemes.specs.declared.Named.TheVariants.{Known, Unknown}
 use Rattle.schemes.specs.Schemes.{fixed_of, scheme_of_lem, scheme_number}

@@ -1,6 +1,7 @@
 -- Two keys bit by bit.
 --   told-apart, told_same   the answer of two keys that differ, and of two that do not
-use Rattle.lists.proofs.Kit.{◌≡◌, List, ℕ, ◌*◌, ◌≤◌, ◌<◌, arith, length, lt-ltb, le-ltb}
+use Rattle.lists.proofs.Kit.{List, ℕ, arith, length, lt-ltb, le-ltb}
+use Rattle.std.proofs.Common.{◌≡◌, ◌*◌, ◌≤◌, ◌<◌}
 use Rattle.lists.specs.{First.first_apart_lem, declared.Peak.Peak}
 use Rattle.packing.specs.Packing.{unpacked}
 use Rattle.bench.specs.{Bench.bits, Bench.differing, Bench.Agree, Bench.Differ, Inside.comparison}

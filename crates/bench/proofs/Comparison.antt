@@ -2,7 +2,8 @@
 --   compared                  an answer without a refusal; told-agree, told-differ: by how two keys differ
 --   bench-sendable, bench-shows, bench-gave  where Bench refuses nothing, its inputs are sendable; and what it shows and answers of such inputs
 --   differ-few                the number that tells how the keys differ, whatever the scheme
-use Rattle.lists.proofs.Kit.{◌≡◌, refl, ◌∙◌, sym, ap, List, ◌↔◌, Bool, true, false, cond, ℕ, zero, suc, ◌*◌, ◌≤◌, le_refl, arith, ltb, length, ltb-true}
+use Rattle.lists.proofs.Kit.{refl, ◌∙◌, sym, ap, List, Bool, true, false, cond, ℕ, zero, suc, le_refl, arith, ltb, length, ltb-true}
+use Rattle.std.proofs.Common.{◌≡◌, ◌↔◌, ◌*◌, ◌≤◌}
 use Rattle.schemes.specs.declared.Named.TheVariants.{Known, Unknown}
 use Rattle.schemes.specs.{Schemes.by_family, Schemes.family_of, declared.Family.Family, declared.Scheme.Scheme, declared.Named.Named}
 use Rattle.schemes.proofs.Sound.{sound}

@@ -2,7 +2,8 @@
 --   same-apart, apart-before, apart-there   of two lists: where they are the same, below the first difference, and at it
 --   differing-none     two keys differ at no bit exactly where they are the same
 --   differing-at       they differ first at i exactly where i is the first bit that differs
-use Rattle.lists.proofs.Kit.{◌≡◌, refl, ◌∙◌, sym, ap, subst, ◌↔◌, Bool, true, false, cond, List, [], ◌∷◌, ℕ, zero, suc, ◌*◌, ◌≤◌, ◌<◌, dec_lt, not-suc-le-zero}
+use Rattle.lists.proofs.Kit.{refl, ◌∙◌, sym, ap, subst, Bool, true, false, cond, List, [], ℕ, zero, suc, dec_lt, not-suc-le-zero}
+use Rattle.std.proofs.Common.{◌≡◌, ◌↔◌, ◌∷◌, ◌*◌, ◌≤◌, ◌<◌}
 use Rattle.lists.proofs.Kit.{le_of_suc-le-suc, arith, eqb, length, get_or, ext_get_or, eqb-true, eqb-false, eq-eqb, lt-ltb, le-ltb}
 use Rattle.lists.specs.{Ranges.Below, First.first_apart_lem}
 use Rattle.packing.specs.Packing.{packed}

@@ -2,7 +2,8 @@
 --   same-long, own-bytes, peer-bytes   two keys of an exchange are of one length, and bytes
 --   never-differ                       those of BCNS are the same
 --   differs-is                         so comparing them says what Bench's definition says; same_numbers: and so do the two promises
-use Rattle.lists.proofs.Kit.{◌≡◌, refl, ◌∙◌, sym, ℕ, length}
+use Rattle.lists.proofs.Kit.{refl, ◌∙◌, sym, ℕ, length}
+use Rattle.std.proofs.Common.{◌≡◌}
 use Rattle.schemes.specs.declared.Scheme.TheVariants.{Bcns, NewHope, Challenge, Classical, Recommended, Paranoid}
 use Rattle.schemes.specs.{declared.Named.Named, declared.Scheme.Scheme, declared.Named.TheVariants.Known, declared.Named.TheVariants.Unknown}
 use Rattle.lists.specs.{Ranges.Below, declared.Peak.Peak}

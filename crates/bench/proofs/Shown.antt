@@ -3,7 +3,8 @@
 --   never-three-or-five   3 and 5 cannot arise
 --   opening-passes        an opening that Offer has made is not refused
 --   finish-accepts        Finish refuses nothing there
-use Rattle.lists.proofs.Kit.{◌≡◌, ap, ap₂, List, ℕ, le_refl, arith, ℤ}
+use Rattle.lists.proofs.Kit.{ap, ap₂, List, ℕ, le_refl, arith, ℤ}
+use Rattle.std.proofs.Common.{◌≡◌}
 use Rattle.schemes.specs.{Schemes.fixed_of, declared.Scheme.Scheme, declared.Named.Named, declared.Named.TheVariants.Known, declared.Named.TheVariants.Unknown}
 use Rattle.refusals.specs.Refusals.{number_in, length_is_lem, room_for_lem, publics_in_lem, not_blank_lem, received_in, secrets_in_lem}
 use Rattle.refusals.specs.declared.Verdict.TheVariants.{Pass}

@@ -12,7 +12,7 @@
 --                         as d says and p is the slack
 --   bench, bench_of        what is lent, from the slices of a contract, and from lists
 --   bench_told r           the numbers of its answer r; bcns_told: of an answer of the bench of BCNS
-use Rattle.lists.specs.Kit.{cond, List, [], ℕ, suc, ◌*◌, ltb, ℤ, length}
+use Rattle.std.specs.Prelude.{cond, List, [], ℕ, suc, ◌*◌, ltb, ℤ, length}
 use Rattle.schemes.specs.declared.Named.TheVariants.{Known, Unknown}
 use Rattle.schemes.specs.{Schemes.by_family, Schemes.family_of, Schemes.fixed_of, declared.Named.Named, declared.Scheme.Scheme}
 use Rattle.lists.specs.{First.first_apart_lem, First.peak_of_lem, declared.Peak.Peak}

@@ -6,7 +6,7 @@
 --                               that are still to come, and the replier's key before the initiator's
 --   agreed o                    what was handed on, as the BCNS bench's answer
 --   comparison d p              the answer without a refusal, where d says how the keys differ, and p is the slack
-use Rattle.lists.specs.Kit.{◌≡◌, List, ℕ, zero, suc, ℤ, take, drop}
+use Rattle.std.specs.Prelude.{◌≡◌, List, ℕ, zero, suc, ℤ, take, drop}
 use Rattle.schemes.specs.{Schemes.fixed_of, declared.Scheme.Scheme, declared.Named.TheVariants.Known}
 use Rattle.lists.specs.declared.Peak.{Peak}
 use Rattle.refusals.specs.{Refusals.◌then◌, Steps.outcome, declared.Outcome.Outcome, declared.Verdict.Verdict, declared.Verdict.TheVariants.Pass}

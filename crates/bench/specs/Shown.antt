@@ -14,7 +14,7 @@
 --   NeverDiffer        where Bench refuses nothing in BCNS, the two keys are the same
 --   compared_result     Bench's promise where the keys are compared in every scheme
 --   SameNumbers        it and the present promise are one, in every scheme
-use Rattle.lists.specs.Kit.{◌≡◌, List, ◌↔◌, ℕ, ◌<◌, get_or}
+use Rattle.std.specs.Prelude.{◌≡◌, List, ◌↔◌, ℕ, ◌<◌, get_or}
 use Rattle.schemes.specs.declared.Named.TheVariants.{Known, Unknown}
 use Rattle.schemes.specs.{Schemes.fixed_of, declared.Scheme.Scheme, declared.Named.Named, declared.Scheme.TheVariants.Bcns}
 use Rattle.refusals.specs.{Refusals.received_in, declared.Verdict.TheVariants.Pass}

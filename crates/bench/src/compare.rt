@@ -1,5 +1,5 @@
 // Two keys bit by bit, lowest first through the bytes.
-ghost use Rattle.lists.specs.Kit.{◌≡◌, ◌*◌, ◌≤◌, ◌+◌, length, take, drop};
+ghost use Rattle.std.specs.Prelude.{◌≡◌, ◌*◌, ◌≤◌, ◌+◌, length, take, drop};
 ghost use Rattle.bench.specs.Bench.{differing};
 ghost use Rattle.bench.specs.Inside.{comparison};
 

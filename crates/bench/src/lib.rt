@@ -1,7 +1,10 @@
 // Bench: both ends of an exchange on lent secrets, by the calls Offer, Reply and Finish, one after the other, and then the two keys bit by bit. It has no
 // `requires`: it answers agree, differ with the first differing key bit, or the first refusal of Offer or Reply, and passes on the slack that Finish used.
 // Messages, keys and digests stay inside.
-ghost use Rattle.lists.specs.Kit.{◌≡◌, ◌+◌, length};
+
+#![tactic(auto)]
+
+ghost use Rattle.std.specs.Prelude.{◌≡◌, ◌+◌, length};
 ghost use Rattle.schemes.specs.Schemes.{fixed_of, scheme_of_lem};
 ghost use Rattle.schemes.specs.declared.Named.TheVariants.{Known};
 ghost use Rattle.schemes.specs.declared.Scheme.TheVariants as variants;
