@@ -9,7 +9,8 @@
 --   offer-stops                  what a refusal ahead of Offer shows; so of the others
 --   offer-refused, offer-done    Offer: a refusal of the call beneath, and its answer; so of the others
 --   close-moves                  Close
-use Rattle.lists.proofs.Kit.{◌≡◌, refl, ◌∙◌, sym, ap, List, [], ◌++◌, Bool, true, false, not, ℕ, ◌-◌, min, arith, sub-zero, length, take, drop, length-take}
+use Rattle.lists.proofs.Kit.{refl, ◌∙◌, sym, ap, List, [], Bool, true, false, not, ℕ, min, arith, sub-zero, length, take, drop, length-take}
+use Rattle.std.proofs.Common.{◌≡◌, ◌++◌, ◌-◌}
 use Rattle.lists.proofs.Kit.{take_all, take-take, not-true, not-false}
 use Rattle.schemes.specs.{Schemes.scheme_of_lem, declared.Named.Named, declared.Named.TheVariants.Unknown}
 use Rattle.lists.proofs.Parts.{drop-same}

@@ -2,7 +2,8 @@
 --   followed, answered, accepted, kept, sounds
 --   kept_by       what a refusal does not change
 --   step-sound    one step
-use Rattle.lists.proofs.Kit.{◌≡◌, refl, ◌∙◌, sym, ap, ap₂, Bool, true, false, cond, List, [], ◌∷◌, ℕ, arith}
+use Rattle.lists.proofs.Kit.{refl, ◌∙◌, sym, ap, ap₂, Bool, true, false, cond, List, [], ℕ, arith}
+use Rattle.std.proofs.Common.{◌≡◌, ◌∷◌}
 use Rattle.schemes.specs.{Schemes.scheme_of_lem, declared.Named.Named, declared.Named.TheVariants.Known, declared.Named.TheVariants.Unknown}
 use Rattle.refusals.specs.declared.Verdict.TheVariants.{Pass, Fail}
 use Rattle.refusals.specs.{Refusals.number_in, Seen.if_passed, declared.Verdict.Verdict, declared.Refusal.TheVariants.OutOfStage}

@@ -4,7 +4,7 @@
 --   shown_by_lem v x      what the call x shows by the verdict v: what the call beneath shows by it
 --   Turn, turn z t   the session z after a call, by value or in bytes, and what is seen of the call
 --   moved y x        the promise: what the call x on the session y leads to and shows
-use Rattle.lists.specs.Kit.{ℕ}
+use Rattle.std.specs.Prelude.{ℕ}
 use Rattle.schemes.specs.Schemes.{scheme_of_lem}
 use Rattle.refusals.specs.{Refusals.number_in, Refusals.place_in, Seen.Told, Seen.Seen, Seen.shown, declared.Verdict.Verdict}
 use Rattle.offer.specs.Offer.{offer_message}

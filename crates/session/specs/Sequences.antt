@@ -10,7 +10,7 @@
 --   Accepted         a call that refuses nothing was allowed, leads where the table says, and shows what the call beneath promises
 --   Kept             a refused call, with 10 or any other number, changes no stage and no key byte
 --   Sounds           the idle session is sound, and every sequence leaves a sound one sound
-use Rattle.lists.specs.Kit.{◌≡◌, true, false, List, [], ◌∷◌, ℕ, length}
+use Rattle.std.specs.Prelude.{◌≡◌, true, false, List, [], ◌∷◌, ℕ, length}
 use Rattle.schemes.specs.Schemes.{scheme_of_lem, fixed_of}
 use Rattle.refusals.specs.{declared.Refusal.TheVariants.OutOfStage, declared.Verdict.TheVariants.Pass, declared.Verdict.TheVariants.Fail}
 use Rattle.offer.specs.Offer.{offer_result}

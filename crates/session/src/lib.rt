@@ -1,7 +1,10 @@
 // A link session above the key agreement: 02, request a. A session goes in by value and comes back by value beside the call's answer. No call has a
 // `requires`: where the stage does not take the call it is refusal 10, before all of 01's, and a refused call leaves the session as it was. Of the key
 // agreement nothing is used but what its calls promise.
-ghost use Rattle.lists.specs.Kit.{◌≡◌, [], min, take, length};
+
+#![tactic(auto)]
+
+ghost use Rattle.std.specs.Prelude.{◌≡◌, [], min, take, length};
 ghost use Rattle.schemes.specs.Schemes.{scheme_of_lem};
 ghost use Rattle.schemes.specs.declared.Named.TheVariants.{Unknown};
 ghost use Rattle.refusals.specs.Seen.{told, seen, shown};

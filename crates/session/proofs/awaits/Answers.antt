@@ -1,5 +1,4 @@
 -- `session::awaits` meets its contract.
-use Rattle.lists.proofs.Kit.{rules}
 use Rattle.session.proofs.awaits.Goals as goal
 
 pub returns-in-Offered : goal.returns-in-Offered

@@ -1,5 +1,4 @@
 -- `session::idle` meets its contract.
-use Rattle.lists.proofs.Kit.{rules}
 use Rattle.session.proofs.idle.Goals as goal
 
 pub returns : goal.returns

@@ -1,5 +1,5 @@
 -- `session::keyed` meets its contract.
-use Rattle.lists.proofs.Kit.{◌∙◌, sym, ap, take, rules}
+use Rattle.lists.proofs.Kit.{◌∙◌, sym, ap, take}
 use Rattle.schemes.specs.declared.Named.{Named}
 use Rattle.session.specs.Table as table
 use Rattle.session.proofs.keyed.Goals as goal

@@ -1,5 +1,5 @@
 -- `session::offered` meets its contract.
-use Rattle.lists.proofs.Kit.{◌∙◌, sym, ap, rules}
+use Rattle.lists.proofs.Kit.{◌∙◌, sym, ap}
 use Rattle.session.specs.Table as table
 use Rattle.session.proofs.offered.Goals as goal
 

@@ -1,5 +1,4 @@
 -- `session::stop_finish` meets its contract.
-use Rattle.lists.proofs.Kit.{rules}
 use Rattle.refusals.specs.Seen.{written}
 use Rattle.finish.specs.Finish.{finish_shown, finish_seen}
 use Rattle.session.proofs.stop_finish.Goals as goal

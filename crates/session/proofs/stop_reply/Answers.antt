@@ -1,5 +1,4 @@
 -- `session::stop_reply` meets its contract.
-use Rattle.lists.proofs.Kit.{rules}
 use Rattle.refusals.specs.Seen.{written}
 use Rattle.reply.specs.Reply.{outputs, reply_seen}
 use Rattle.session.proofs.stop_reply.Goals as goal
