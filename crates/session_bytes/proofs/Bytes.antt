@@ -2,7 +2,8 @@
 --   taken_back, laid-back, fresh, closed, untouched, run-bytes
 --   moved-bytes   a call on the bytes of a session is the call by value
 --   held_by       a buffer on which a call other than close refuses nothing is a session
-use Rattle.lists.proofs.Kit.{◌≡◌, refl, ◌∙◌, sym, ap, true, false, List, [], ◌∷◌, ◌++◌, ℕ, suc, ◌-◌, ◌≤◌, arith, length, get_or, take, drop, replicate}
+use Rattle.lists.proofs.Kit.{refl, ◌∙◌, sym, ap, true, false, List, [], ℕ, suc, arith, length, get_or, take, drop, replicate}
+use Rattle.std.proofs.Common.{◌≡◌, ◌∷◌, ◌++◌, ◌-◌, ◌≤◌}
 use Rattle.lists.proofs.Kit.{length-replicate, length-append, length-drop, take-append-drop, drop_at, length-take-le, take_all, eq-eqb}
 use Rattle.schemes.specs.declared.Scheme.TheVariants.{Bcns, NewHope, Challenge, Classical, Recommended, Paranoid}
 use Rattle.schemes.specs.Schemes.{fixed_of}

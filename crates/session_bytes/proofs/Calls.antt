@@ -4,7 +4,8 @@
 --   long           one that is in a stage has 130 bytes
 --   found          one that is a session: it is taken apart, the call made, and the session after it laid out
 --   close-bytes    Close
-use Rattle.lists.proofs.Kit.{◌≡◌, ◌∙◌, sym, ap, false, List, [], ◌∷◌, ◌++◌, append-nil, ℕ, ◌≤◌, arith, length, take, drop, replicate, set, length-drop}
+use Rattle.lists.proofs.Kit.{◌∙◌, sym, ap, false, List, [], append-nil, ℕ, arith, length, take, drop, replicate, set, length-drop}
+use Rattle.std.proofs.Common.{◌≡◌, ◌∷◌, ◌++◌, ◌≤◌}
 use Rattle.lists.proofs.Kit.{drop_of_length-le, take_all, length-take-le}
 use Rattle.refusals.specs.{Seen.done, declared.Refusal.TheVariants.OutOfStage, declared.Verdict.TheVariants.Fail}
 use Rattle.session.specs.Seen.{CallSeen, of_close, shown_by_lem, turn, moved}

@@ -3,7 +3,8 @@
 --   open-stops, open-refused, open_done   open: 10, a refusal of the call beneath, and its answer
 --   answer-stops, answer-refused, answer-done   so of answer
 --   opens, answers, kept                  the theorems of specs/Drawn
-use Rattle.lists.proofs.Kit.{◌≡◌, refl, ◌∙◌, sym, ap, List, [], true, false, cond, ℕ, arith, length, take, ℤ}
+use Rattle.lists.proofs.Kit.{refl, ◌∙◌, sym, ap, List, [], true, false, cond, ℕ, arith, length, take, ℤ}
+use Rattle.std.proofs.Common.{◌≡◌}
 use Rattle.schemes.specs.{Schemes.scheme_of_lem, declared.Named.TheVariants.Unknown}
 use Rattle.noise.specs.declared.Ruled.{Ruled}
 use Rattle.refusals.specs.declared.Verdict.TheVariants.{Pass, Fail}

@@ -3,7 +3,8 @@
 --   numbers-back     and back: the bytes of the stage that they name
 --   staged-short, staged-none, staged-at, staged-behind   the whole buffer, by the tests of the code
 --   Parts, parts     what a buffer that is a session holds
-use Rattle.lists.proofs.Kit.{◌≡◌, refl, ◌∙◌, sym, ap, List, Bool, true, false, cond, ℕ, ◌+◌, ◌-◌, ◌≤◌, arith, eqb, length, get_or, take, drop, length-drop}
+use Rattle.lists.proofs.Kit.{refl, ◌∙◌, sym, ap, List, Bool, true, false, cond, ℕ, arith, eqb, length, get_or, take, drop, length-drop}
+use Rattle.std.proofs.Common.{◌≡◌, ◌+◌, ◌-◌, ◌≤◌}
 use Rattle.lists.proofs.Kit.{take_all, drop-drop, eq-eqb, ne_eqb, eqb-true}
 use Rattle.schemes.specs.declared.Named.TheVariants.{Known, Unknown}
 use Rattle.schemes.specs.{Schemes.scheme_of_lem, declared.Scheme.Scheme, declared.Named.Named}

@@ -6,7 +6,7 @@
 --   session_in st bs  then the session
 --   moved_bytes bs x  the promise of each call on bytes: what the call x by value leads to and shows, laid out; a buffer that is in no stage gives 10 and stays as
 --                    it is, but close zeroes it, however long it is
-use Rattle.lists.specs.Kit.{Bool, true, false, cond, List, ◌∷◌, ℕ, eqb, length, get_or, drop, replicate}
+use Rattle.std.specs.Prelude.{Bool, true, false, cond, List, ◌∷◌, ℕ, eqb, length, get_or, drop, replicate}
 use Rattle.schemes.specs.declared.Named.TheVariants.{Known, Unknown}
 use Rattle.schemes.specs.{Schemes.scheme_of_lem, Schemes.scheme_number, Schemes.fixed_of, declared.Named.Named, declared.Scheme.Scheme}
 use Rattle.blank.specs.Blank.{blank}

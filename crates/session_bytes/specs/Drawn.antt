@@ -6,7 +6,7 @@
 --   Opens      an open that refuses nothing leaves the buffer and shows the message that Offer leaves and shows there, lent what open makes of the random bytes
 --   Answers    so of answer and Reply
 --   Stays      a refused open or answer leaves the buffer as it was
-use Rattle.lists.specs.Kit.{◌≡◌, Bool, false, cond, List, ℕ}
+use Rattle.std.specs.Prelude.{◌≡◌, Bool, false, cond, List, ℕ}
 use Rattle.schemes.specs.Schemes.{scheme_of_lem}
 use Rattle.lists.specs.Ranges.{Below}
 use Rattle.noise.specs.declared.Ruled.{Ruled}

@@ -6,7 +6,7 @@
 --   Untouched     a buffer that is in no stage gives 10 to every other call, and stays as it is
 --   RanBytes      a sequence of calls on bytes, each as its function promises
 --   RunBytes      over any sequence the bytes are those of the table's run, and the caller sees what the calls by value show
-use Rattle.lists.specs.Kit.{◌≡◌, false, List, ℕ, length, replicate}
+use Rattle.std.specs.Prelude.{◌≡◌, false, List, ℕ, length, replicate}
 use Rattle.refusals.specs.{Seen.done, declared.Refusal.TheVariants.OutOfStage, declared.Verdict.TheVariants.Fail}
 use Rattle.session.specs.Seen.{CallSeen, of_close, shown_by_lem, turn}
 use Rattle.session.specs.Sequences.{RanBy, Ran, Sound}

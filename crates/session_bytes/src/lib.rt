@@ -1,6 +1,9 @@
 // A session behind a pointer: 130 lent bytes, taken apart into a session by value and laid out again. A buffer that no call leaves is in no stage at all:
 // every call but close gives 10 and leaves it as it is.
-ghost use Rattle.lists.specs.Kit.{◌≡◌, ◌≤◌, length, drop, []};
+
+#![tactic(auto)]
+
+ghost use Rattle.std.specs.Prelude.{◌≡◌, ◌≤◌, length, drop, []};
 ghost use Rattle.refusals.specs.Seen.{done, told, seen};
 ghost use Rattle.offer.specs.Offer as offers;
 ghost use Rattle.reply.specs.Reply as replies;

@@ -1,5 +1,6 @@
 -- `session_bytes::lay_out` meets its contract.
-use Rattle.lists.proofs.Kit.{◌≡◌, ◌∙◌, sym, length, length-set, rules}
+use Rattle.lists.proofs.Kit.{◌∙◌, sym, length, length-set, rules}
+use Rattle.std.proofs.Common.{◌≡◌}
 use Rattle.session_bytes.specs.Bytes.{bytes_of}
 use Rattle.session_bytes.proofs.{Calls.part-128, Calls.laid}
 use Rattle.session_bytes.proofs.lay_out.Goals as goal

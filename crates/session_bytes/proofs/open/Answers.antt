@@ -1,12 +1,12 @@
 -- `session_bytes::open` meets its contract: 10, a refusal of the call beneath, or its answer.
-use Rattle.lists.proofs.Kit.{rules}
+use Rattle.lists.proofs.Kit.{◌∙◌, sym, rules}
 use Rattle.session.proofs.Laws.{bars, allows}
 use Rattle.session_bytes.proofs.{Drawn.idle-long, Drawn.open-stops, Drawn.open-refused, Drawn.open_done}
 use Rattle.session_bytes.proofs.open.Goals as goal
 
 pub returns : goal.returns
 returns c =
-    open_done _ _ _ _ _ _ _ c.open-opened.result (allows c.takes.ensures c.if-not-takes.left) c.open-opened.ensures c.in-Done.is c.offered-next.ensures
+    open_done _ _ _ _ _ _ _ c.open-opened.result (sym c.takes.ensures ∙ c.if-not-takes.false) c.open-opened.ensures c.in-Done.is c.offered-next.ensures
     c.lay_out.ensures
 
 pub returns-then-not-takes : goal.returns-then-not-takes
