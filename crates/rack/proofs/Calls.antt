@@ -5,7 +5,8 @@
 --   ends, called    so as the code lends them
 --   close-stopped, closed   Close
 --   clear-not, clear-done   Clear; laid-empty   the numbers into zeros
-use Rattle.lists.proofs.Kit.{◌≡◌, ◌∙◌, sym, ap, ap₂, true, false, List, ◌∷◌, ◌++◌, ℕ, ◌+◌, ◌-◌, ◌*◌, ◌≤◌, ◌<◌, arith, add-one, length, set, take, drop}
+use Rattle.lists.proofs.Kit.{◌∙◌, sym, ap, ap₂, true, false, List, ℕ, arith, add-one, length, set, take, drop}
+use Rattle.std.proofs.Common.{◌≡◌, ◌∷◌, ◌++◌, ◌+◌, ◌-◌, ◌*◌, ◌≤◌, ◌<◌}
 use Rattle.lists.proofs.Kit.{replicate, eq-eqb, ne_eqb}
 use Rattle.refusals.specs.declared.Verdict.TheVariants.{Pass, Fail}
 use Rattle.refusals.specs.{Seen.done, declared.Refusal.Refusal, declared.Verdict.Verdict}

@@ -5,7 +5,8 @@
 --   moved-long                              a call keeps the length of a session's bytes
 --   part-long, inside-long, front_long, slot-long   how long the parts are
 --   part_placed, part-other                 a slot that was written, and another
-use Rattle.lists.proofs.Kit.{◌≡◌, refl, ◌∙◌, sym, ap, Bool, true, false, cond, List, [], ◌∷◌, ◌++◌, ℕ, zero, suc, ◌+◌, ◌-◌, ◌*◌, ◌≤◌, ◌<◌, arith, dec_lt, length}
+use Rattle.lists.proofs.Kit.{refl, ◌∙◌, sym, ap, Bool, true, false, cond, List, [], ℕ, zero, suc, arith, dec_lt, length}
+use Rattle.std.proofs.Common.{◌≡◌, ◌∷◌, ◌++◌, ◌+◌, ◌-◌, ◌*◌, ◌≤◌, ◌<◌}
 use Rattle.lists.proofs.Kit.{get_or, set, take, drop, replicate, length-replicate, length-drop, length-append, take-append-drop, take-append-le, drop-append-le}
 use Rattle.lists.proofs.Kit.{drop-drop, length-take-le, drop_at, take_at, eqb-true, ltb-true, eq-eqb, ne_eqb, lt-ltb, le-ltb}
 use Rattle.refusals.specs.declared.Refusal.TheVariants.{OutOfStage, NoStudio}

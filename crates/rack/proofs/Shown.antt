@@ -1,6 +1,7 @@
 -- The theorems of specs/Shown.
 --   turned, numbered, slotwise, untouched, blind, wiped, alone, run-rack, emptied; threads is in Calls
-use Rattle.lists.proofs.Kit.{◌≡◌, refl, ◌∙◌, sym, ap, subst, Bool, true, false, cond, List, [], ◌∷◌, ℕ, zero, suc, ◌<◌, arith, eqb, length, get_or, drop}
+use Rattle.lists.proofs.Kit.{refl, ◌∙◌, sym, ap, subst, Bool, true, false, cond, List, [], ℕ, zero, suc, arith, eqb, length, get_or, drop}
+use Rattle.std.proofs.Common.{◌≡◌, ◌∷◌, ◌<◌}
 use Rattle.lists.proofs.Kit.{replicate, eqb-true, eqb-false}
 use Rattle.refusals.specs.{Seen.if_passed, Seen.done, declared.Verdict.Verdict, declared.Verdict.TheVariants.Pass, declared.Verdict.TheVariants.Fail}
 use Rattle.session.specs.{Table.Call, Table.closing, Table.no_key_lem, Sequences.RanBy, Seen.CallSeen, Seen.of_close, Seen.shown_by_lem, Seen.Turn, Seen.turn}

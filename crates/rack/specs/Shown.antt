@@ -14,7 +14,7 @@
 --   Alone           over any sequence: the bytes of studio j's slot and all that it sees are those of its own 130 bytes under its own calls, the only ones
 --   RunRack         over any sequence: a record that held a session holds the run of request a's table under the studio's own calls
 --   Emptied         clear leaves eight idle sessions behind their numbers
-use Rattle.lists.specs.Kit.{◌≡◌, cond, List, [], ◌∷◌, ℕ, ◌≤◌, ◌<◌, eqb, length, replicate}
+use Rattle.std.specs.Prelude.{◌≡◌, cond, List, [], ◌∷◌, ℕ, ◌≤◌, ◌<◌, eqb, length, replicate}
 use Rattle.refusals.specs.{Seen.done, declared.Refusal.TheVariants.NoStudio, declared.Verdict.TheVariants.Fail}
 use Rattle.session.specs.Seen.{CallSeen, of_close, shown_by_lem, turn}
 use Rattle.session.specs.{declared.Session.Session, Table.Call, Table.closing, Table.run, Sequences.RanBy, Sequences.Ran, Sequences.Sound}

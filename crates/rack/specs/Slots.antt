@@ -9,7 +9,7 @@
 --   moved_in bs i x     the promise of every call of a studio: its slot's tests, and then what the call on the session's bytes leads to and shows
 --   empty_rack          eight idle records with their numbers
 --   ClearSeen, cleared bs   what is seen of clear, and its promise
-use Rattle.lists.specs.Kit.{◌≡◌, Bool, true, false, cond, List, [], ◌∷◌, ◌++◌, ℕ, zero, suc, ◌*◌, eqb, ltb, length, get_or, take, drop, replicate}
+use Rattle.std.specs.Prelude.{◌≡◌, Bool, true, false, cond, List, [], ◌∷◌, ◌++◌, ℕ, zero, suc, ◌*◌, eqb, ltb, length, get_or, take, drop, replicate}
 use Rattle.refusals.specs.declared.Refusal.TheVariants.{OutOfStage, NoStudio}
 use Rattle.refusals.specs.declared.Verdict.TheVariants.{Pass, Fail}
 use Rattle.refusals.specs.{Refusals.number_in, Refusals.place_in, Refusals.◌then◌, Seen.if_passed, declared.Verdict.Verdict}

@@ -1,6 +1,9 @@
 // Eight studios, one rack: 02, request k. A rack is eight records of 131 lent bytes, each its studio's number and then a session's 130 bytes. A call lends the
 // 130 bytes behind its own slot's number to the session's call; the bytes of other studios stay as they are and decide nothing.
-ghost use Rattle.lists.specs.Kit.{◌≡◌, length};
+
+#![tactic(auto)]
+
+ghost use Rattle.std.specs.Prelude.{◌≡◌, length};
 ghost use Rattle.refusals.specs.Refusals.{number_in, place_in};
 ghost use Rattle.refusals.specs.Seen.{told, seen};
 ghost use Rattle.offer.specs.Offer as offers;
