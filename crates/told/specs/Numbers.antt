@@ -1,6 +1,6 @@
 -- The numbers that a call leaves with a program in C: what it returns, and what then stands behind the pointers.
 --   reply_numbers, finish_numbers   those of Reply and of Finish
-use Rattle.lists.specs.Kit.{ℕ}
+use Rattle.std.specs.Prelude.{ℕ}
 use Rattle.refusals.specs.Seen.{Told}
 use Rattle.finish.specs.declared.FinishCounts.{FinishCounts}
 use Rattle.reply.specs.declared.ReplyCounts.{ReplyCounts}

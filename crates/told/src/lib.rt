@@ -1,6 +1,9 @@
 // A call's answer in numbers, as a program in C takes it: 0 or the refusal's number, and behind pointers its place, the counts of what was written and the slack
 // used. Whatever does not apply is 0.
-ghost use Rattle.lists.specs.Kit.{◌≡◌, ◌≤◌};
+
+#![tactic(auto)]
+
+ghost use Rattle.std.specs.Prelude.{◌≡◌, ◌≤◌};
 ghost use Rattle.refusals.specs.Refusals.{number_in, place_in};
 ghost use Rattle.refusals.specs.Seen.{told};
 ghost use Rattle.settings.specs.Calls.{read_told};
