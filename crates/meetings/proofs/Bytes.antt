@@ -3,7 +3,8 @@
 --   ByValue t, by_values   that link
 --   laid-link              and back: a link of sessions, laid out
 --   linking-bytes, same-key-bytes   as specs/Linked states them
-use Rattle.lists.proofs.Kit.{◌≡◌, refl, ◌∙◌, sym, ap, subst, false, List, ℕ}
+use Rattle.lists.proofs.Kit.{refl, ◌∙◌, sym, ap, subst, false, List, ℕ}
+use Rattle.std.proofs.Common.{◌≡◌}
 use Rattle.schemes.specs.declared.Scheme.{Scheme}
 use Rattle.refusals.specs.Seen.{answer}
 use Rattle.agreement.specs.{Run.Run, Exchange.Rooms}

@@ -3,7 +3,8 @@
 --   sendable          what the random bytes make is sendable
 --   replied-is, finished-is   with Finish they are the calls of an exchange
 --   from-random-finishes, from-random   as specs/FromRandom states them
-use Rattle.lists.proofs.Kit.{◌≡◌, refl, ◌∙◌, sym, ap, List, ℕ, length}
+use Rattle.lists.proofs.Kit.{refl, ◌∙◌, sym, ap, List, ℕ, length}
+use Rattle.std.proofs.Common.{◌≡◌}
 use Rattle.schemes.specs.{Schemes.fixed_of, declared.Named.TheVariants.Known, declared.Scheme.Scheme}
 use Rattle.lists.specs.Ranges.{Below}
 use Rattle.noise.specs.declared.Ruled.{Ruled}

@@ -4,7 +4,8 @@
 --   asked          what a link has asked of its sessions, rooms and inputs
 --   link           a link of two idle sessions
 --   linking, same_key   as specs/Linked states them
-use Rattle.lists.proofs.Kit.{◌≡◌, refl, ◌∙◌, sym, ap, ap₂, true, List, ℕ, eq-eqb}
+use Rattle.lists.proofs.Kit.{refl, ◌∙◌, sym, ap, ap₂, true, List, ℕ, eq-eqb}
+use Rattle.std.proofs.Common.{◌≡◌}
 use Rattle.schemes.specs.{Schemes.scheme_of_lem, Schemes.scheme_number, declared.Named.TheVariants.Known, declared.Scheme.Scheme}
 use Rattle.schemes.proofs.Laws.{by_number}
 use Rattle.refusals.specs.Seen.{Seen, answer}

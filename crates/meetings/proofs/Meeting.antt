@@ -1,7 +1,8 @@
 -- A meeting is an exchange of the whole-matrix calls.
 --   whole-offer, whole-reply   where an end is not refused, the parts have filled the rows, and it shows what the whole call shows
 --   by_rows, reached, every-cut   what is shown
-use Rattle.lists.proofs.Kit.{◌≡◌, refl, sym, ap, subst, List, [], ◌⊎◌, inl, inr, ℕ, arith, ℕ_discrete, length}
+use Rattle.lists.proofs.Kit.{refl, sym, ap, subst, List, [], inl, inr, ℕ, arith, ℕ_discrete, length}
+use Rattle.std.proofs.Common.{◌≡◌, ◌⊎◌}
 use Rattle.schemes.specs.{Schemes.family_of, Schemes.fixed_of, declared.Family.Family, declared.Named.TheVariants.Known, declared.Scheme.Scheme}
 use Rattle.lists.specs.Ranges.{Below}
 use Rattle.refusals.specs.declared.Verdict.TheVariants.{Pass, Fail}

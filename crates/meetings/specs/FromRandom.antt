@@ -6,7 +6,7 @@
 --   finish_on t m        Finish in the first, of the reply as answer wrote it and the s that open gave, in the rooms m
 --   FromRandom          the demand: where Finish refuses nothing either, and what the random bytes make is near, both boxes agree
 --   FromRandomFinishes  with enough room Finish then refuses nothing
-use Rattle.lists.specs.Kit.{◌≡◌, List, ℕ}
+use Rattle.std.specs.Prelude.{◌≡◌, List, ℕ}
 use Rattle.schemes.specs.{declared.Named.TheVariants.Known, declared.Scheme.Scheme}
 use Rattle.lists.specs.Ranges.{Below}
 use Rattle.noise.specs.declared.Ruled.{Ruled}

@@ -9,7 +9,7 @@
 --   SameKey          under demand 3's premise both sessions are then linked_by c x, and so hold the same key
 --   LinkingBytes     there is a link of two buffers exactly where both are idle sessions, the rooms are enough and the inputs are sendable
 --   SameKeyBytes     under demand 3's premise both buffers are then the same 130 bytes, linked_by c x laid out
-use Rattle.lists.specs.Kit.{◌≡◌, List, ◌↔◌, ℕ, length}
+use Rattle.std.specs.Prelude.{◌≡◌, List, ◌↔◌, ℕ, length}
 use Rattle.schemes.specs.{Schemes.scheme_number, declared.Scheme.Scheme}
 use Rattle.refusals.specs.Seen.{Seen, answer}
 use Rattle.finish.specs.Finish.{FinishSeen}

@@ -4,8 +4,7 @@
 --   Reached          the inputs of a meeting are sendable, and on any such there is a meeting
 --   EveryCut         on any such, in any parts that do not run past the end of their row and join into A, both boxes go by rows from begin to end and nothing is
 --                    refused; the two boxes need not cut A alike
-use Rattle.lists.specs.Kit.{◌≡◌, ◌↔◌, List, [], ℕ, ◌≤◌}
-use Rattle.std.specs.Prelude.{◌⊎◌}
+use Rattle.std.specs.Prelude.{◌≡◌, ◌↔◌, List, [], ℕ, ◌≤◌, ◌⊎◌}
 use Rattle.schemes.specs.{Schemes.family_of, Schemes.fixed_of, declared.Family.Family, declared.Named.TheVariants.Known, declared.Scheme.Scheme}
 use Rattle.lists.specs.Ranges.{Below}
 use Rattle.refusals.specs.Seen.{Seen, answer}
