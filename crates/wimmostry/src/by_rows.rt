@@ -1,5 +1,5 @@
 // Frodo by rows: each exported function hands on to one call of crate `rows`. Begin and part have no output but the state.
-ghost use Rattle.lists.specs.Kit.{◌≡◌, length};
+ghost use Rattle.std.specs.Prelude.{◌≡◌, length};
 ghost use Rattle.refusals.specs.Seen.{seen};
 ghost use Rattle.reply.specs.Reply.{reply_rooms, reply_seen};
 ghost use Rattle.rows_state.specs.State.{frodo_of_lem};

@@ -1,5 +1,5 @@
 // The calls from random bytes: open and answer, plain and on a session behind a pointer. Finish ends what open began.
-ghost use Rattle.lists.specs.Kit.{◌≡◌};
+ghost use Rattle.std.specs.Prelude.{◌≡◌};
 ghost use Rattle.schemes.specs.Schemes.{scheme_of_lem};
 ghost use Rattle.noise.specs.Expand.{rule_of_lem};
 ghost use Rattle.reply.specs.Reply.{reply_rooms, reply_seen};

@@ -1,6 +1,9 @@
 // The library for programs in C and Rust: each exported function hands on to one call and tells its answer in numbers. It returns 0 or the refusal's number,
 // has no `requires`, and promises what the call promises. `include/wimmostry.h` says what a caller has to know.
-ghost use Rattle.lists.specs.Kit.{◌≡◌, length};
+
+#![tactic(auto)]
+
+ghost use Rattle.std.specs.Prelude.{◌≡◌, length};
 ghost use Rattle.schemes.specs.Schemes.{scheme_of_lem};
 ghost use Rattle.refusals.specs.Seen.{seen};
 ghost use Rattle.sampling.specs.Noise.{noise, noise_result};

@@ -1,5 +1,5 @@
 // The calls on a session behind a pointer, 130 lent bytes: 02, request a. Each takes the session first, and then what the plain call takes.
-ghost use Rattle.lists.specs.Kit.{◌≡◌, length};
+ghost use Rattle.std.specs.Prelude.{◌≡◌, length};
 ghost use Rattle.refusals.specs.Seen.{seen};
 ghost use Rattle.offer.specs.Offer.{offer};
 ghost use Rattle.reply.specs.Reply.{reply, reply_rooms, reply_seen};
