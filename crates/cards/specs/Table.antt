@@ -3,7 +3,7 @@
 --   Says    what a card says of the definitions
 --   table   the cards, in 01's order
 --   Shown   all of them hold
-use Rattle.lists.specs.Kit.{◌≡◌, List, [], ◌∷◌, ℕ, ℤ, pos, negsuc}
+use Rattle.std.specs.Prelude.{◌≡◌, List, [], ◌∷◌, ℕ, ℤ, pos, negsuc}
 use Rattle.schemes.specs.{declared.Scheme.TheVariants.Recommended, Schemes.fixed_of}
 use Rattle.noise.specs.Noise.{new_hope_noise, threshold_of_lem, d3}
 use Rattle.newhope.specs.declared.Four.{Four}

@@ -1,61 +1,63 @@
 // The bench cards, run: 01, "Bench cards", as amended by request d (docs/RULES.md). A line has a card's inputs and what the library's functions give for them.
 // It begins with `*` where 01 marks the card, which is then a theorem on the definitions too (`specs/Table.antt`). `stdout` is what the second program prints.
-ghost use Rattle.lists.specs.Kit.{◌<◌};
+// A write that fails ends the program with its error.
+#![tactic(auto)]
+
+ghost use Rattle.std.specs.Prelude.{◌<◌};
 ghost use Rattle.schemes.specs.Schemes.{bcns, new_hope, fixed_of};
 ghost use Rattle.schemes.specs.declared.Scheme.TheVariants.{Recommended};
 ghost use Rattle.lists.specs.Ranges.{Below};
 
 use finish::FinishAnswer;
-use libc::STDOUT_FILENO;
 use newhope::Four;
 use refusals::{Answer, Refusal};
 use reply::ReplyAnswer;
 use schemes::FrodoRecommended;
+use std::io;
 
-fn text(t: &[u8]) {
-    io::write_all(STDOUT_FILENO, t);
+fn text(rt: &impl Print, t: &[u8]) -> io::Result<()> {
+    rt.write_all(t)
 }
 
-fn number(n: u64) {
-    io::print_decimal(STDOUT_FILENO, n);
+fn number(rt: &impl Print, n: u64) -> io::Result<()> {
+    print!(rt; "{n}")
 }
 
-fn signed(z: i32) {
+fn signed(rt: &impl Print, z: i32) -> io::Result<()> {
     if z < 0 {
-        text(b"-");
+        text(rt, b"-")?;
     }
-    number(numbers::size32(z) as u64);
+    number(rt, numbers::size32(z) as u64)
 }
 
 // A name and its number.
-fn field(name: &[u8], n: u32) {
-    text(name);
-    number(n as u64);
+fn field(rt: &impl Print, name: &[u8], n: u32) -> io::Result<()> {
+    text(rt, name)?;
+    number(rt, n as u64)
 }
 
 // Entry i of a list, behind a comma unless it is the first.
-fn entry(i: usize, x: u32) {
+fn entry(rt: &impl Print, i: usize, x: u32) -> io::Result<()> {
     if 0 < i {
-        text(b",");
+        text(rt, b",")?;
     }
-    number(x as u64);
+    number(rt, x as u64)
 }
 
 // A name and its numbers.
-fn list(name: &[u8], xs: &[u32; 1024]) {
-    text(name);
-    let mut i: usize = 0;
-    while i < 1024 {
-        entry(i, xs[i]);
-        i += 1;
+fn list(rt: &impl Print, name: &[u8], xs: &[u32; 1024]) -> io::Result<()> {
+    text(rt, name)?;
+    for (i, x) in xs.iter().enumerate() {
+        entry(rt, i, *x)?;
     }
+    Ok(())
 }
 
-fn four(name: &[u8], x: Four) {
-    field(name, x.e0);
-    field(b",", x.e1);
-    field(b",", x.e2);
-    field(b",", x.e3);
+fn four(rt: &impl Print, name: &[u8], x: Four) -> io::Result<()> {
+    field(rt, name, x.e0)?;
+    field(rt, b",", x.e1)?;
+    field(rt, b",", x.e2)?;
+    field(rt, b",", x.e3)
 }
 
 // A hexadecimal digit, in upper case.
@@ -65,28 +67,28 @@ fn digit(d: u8) -> u8
     if d < 10 { b'0' + d } else { b'A' - 10 + d }
 }
 
-fn byte(x: u8) {
-    text(&[digit(x / 16), digit(x % 16)]);
+fn byte(rt: &impl Print, x: u8) -> io::Result<()> {
+    text(rt, &[digit(x / 16), digit(x % 16)])
 }
 
-fn bcns_value(v: u32, coin: u32)
+fn bcns_value(rt: &impl Print, v: u32, coin: u32) -> io::Result<()>
     requires { v < bcns.q }
 {
     let z = bcns::double(coin, v);
-    field(b"* bcns v=", v);
-    field(b" coin=", coin);
-    field(b" : hint=", bcns::hint(z));
-    field(b" bit=", bcns::key(z));
-    text(b"\n");
+    field(rt, b"* bcns v=", v)?;
+    field(rt, b" coin=", coin)?;
+    field(rt, b" : hint=", bcns::hint(z))?;
+    field(rt, b" bit=", bcns::key(z))?;
+    text(rt, b"\n")
 }
 
-fn bcns_peer(w: u32, h: u32)
+fn bcns_peer(rt: &impl Print, w: u32, h: u32) -> io::Result<()>
     requires { (h < 2) × (w < bcns.q) }
 {
-    field(b"* bcns w=", w);
-    field(b" hint=", h);
-    field(b" : bit=", bcns::peer(h, w));
-    text(b"\n");
+    field(rt, b"* bcns w=", w)?;
+    field(rt, b" hint=", h)?;
+    field(rt, b" : bit=", bcns::peer(h, w))?;
+    text(rt, b"\n")
 }
 
 // Frodo Recommended: the bits of an entry's key, and the interval.
@@ -94,26 +96,26 @@ const B: u32 = FrodoRecommended::KEYBITS;
 
 const I: u32 = FrodoRecommended::Q >> B;
 
-fn frodo_value(v: u32)
+fn frodo_value(rt: &impl Print, v: u32) -> io::Result<()>
     requires { v < (fixed_of Recommended).q }
 {
-    field(b"* frodo scheme=4 v=", v);
-    field(b" : hint=", frodo::hint(I, B, v));
-    field(b" key=", frodo::key(I, B, v));
-    text(b"\n");
+    field(rt, b"* frodo scheme=4 v=", v)?;
+    field(rt, b" : hint=", frodo::hint(I, B, v))?;
+    field(rt, b" key=", frodo::key(I, B, v))?;
+    text(rt, b"\n")
 }
 
-fn frodo_peer(w: u32, h: u32)
+fn frodo_peer(rt: &impl Print, w: u32, h: u32) -> io::Result<()>
     requires { (h < 2) × (w < (fixed_of Recommended).q) }
 {
-    field(b"* frodo scheme=4 w=", w);
-    field(b" hint=", h);
-    field(b" : key=", frodo::peer(I, B, h, w));
-    text(b"\n");
+    field(rt, b"* frodo scheme=4 w=", w)?;
+    field(rt, b" hint=", h)?;
+    field(rt, b" : key=", frodo::peer(I, B, h, w))?;
+    text(rt, b"\n")
 }
 
 // Four entries that are all x.
-fn newhope_group(x: u32, coin: u32)
+fn newhope_group(rt: &impl Print, x: u32, coin: u32) -> io::Result<()>
     requires { (coin < 2) × (x < new_hope.q) }
 {
     let group = Four {
@@ -123,34 +125,34 @@ fn newhope_group(x: u32, coin: u32)
         e3: x,
     };
     let hint = newhope::hint(coin, group);
-    four(b"* newhope x=", group);
-    field(b" coin=", coin);
-    four(b" : hint=", hint);
-    field(b" bit=", newhope::bit(hint, group));
-    text(b"\n");
+    four(rt, b"* newhope x=", group)?;
+    field(rt, b" coin=", coin)?;
+    four(rt, b" : hint=", hint)?;
+    field(rt, b" bit=", newhope::bit(hint, group))?;
+    text(rt, b"\n")
 }
 
-fn newhope_noise(a: u8, b: u8, c: u8, d: u8) {
+fn newhope_noise(rt: &impl Print, a: u8, b: u8, c: u8, d: u8) -> io::Result<()> {
     let mut out = [0i32; 1];
     noise::newhope(&[a, b, c, d], &mut out);
-    text(b"* noise scheme=1 bytes=");
-    byte(a);
-    byte(b);
-    byte(c);
-    byte(d);
-    text(b" : value=");
-    signed(out[0]);
-    text(b"\n");
+    text(rt, b"* noise scheme=1 bytes=")?;
+    byte(rt, a)?;
+    byte(rt, b)?;
+    byte(rt, c)?;
+    byte(rt, d)?;
+    text(rt, b" : value=")?;
+    signed(rt, out[0])?;
+    text(rt, b"\n")
 }
 
 // The word as its two bytes, the lower first.
-fn frodo_noise(word: u16) {
+fn frodo_noise(rt: &impl Print, word: u16) -> io::Result<()> {
     let mut out = [0i32; 1];
     noise::recommended(&[(word % 256) as u8, (word / 256) as u8], &mut out);
-    field(b"* noise scheme=4 word=", word as u32);
-    text(b" : value=");
-    signed(out[0]);
-    text(b"\n");
+    field(rt, b"* noise scheme=4 word=", word as u32)?;
+    text(rt, b" : value=")?;
+    signed(rt, out[0])?;
+    text(rt, b"\n")
 }
 
 // X^k.
@@ -164,37 +166,37 @@ fn power(k: usize) -> [u32; 1024]
 }
 
 // Of X^k, which is called by the name.
-fn transform_of(name: &[u8], k: usize)
+fn transform_of(rt: &impl Print, name: &[u8], k: usize) -> io::Result<()>
     requires { k < 1024 }
 {
     let mut g = power(k);
     transform::forward(&mut g);
-    text(b"- transform of=");
-    text(name);
-    list(b" : ", &g);
-    text(b"\n");
+    text(rt, b"- transform of=")?;
+    text(rt, name)?;
+    list(rt, b" : ", &g)?;
+    text(rt, b"\n")
 }
 
-fn product_card() {
+fn product_card(rt: &impl Print) -> io::Result<()> {
     let mut a = power(1023);
     let mut b = power(1);
     transform::product(&mut a, &mut b);
-    list(b"- product of=X^1023,X : ", &a);
-    text(b"\n");
+    list(rt, b"- product of=X^1023,X : ", &a)?;
+    text(rt, b"\n")
 }
 
 // A refusal with its place.
-fn refused(r: Refusal) {
-    field(b"refusal=", r.number());
-    text(b" place=");
-    number(r.place() as u64);
+fn refused(rt: &impl Print, r: Refusal) -> io::Result<()> {
+    field(rt, b"refusal=", r.number())?;
+    text(rt, b" place=")?;
+    number(rt, r.place() as u64)
 }
 
 // A call's answer: that it passes, or the refusal.
-fn told(answer: Answer) {
+fn told(rt: &impl Print, answer: Answer) -> io::Result<()> {
     match answer {
-        Answer::Done(_) => text(b"passes"),
-        Answer::Refused(r) => refused(r),
+        Answer::Done(_) => text(rt, b"passes"),
+        Answer::Refused(r) => refused(rt, r),
     }
 }
 
@@ -219,7 +221,7 @@ fn reply(n: u32) -> [u8; 2048]
 }
 
 // With some noise, since zeros alone would make a blank part.
-fn reply_card(n: u32)
+fn reply_card(rt: &impl Print, n: u32) -> io::Result<()>
     requires { n < 16384 }
 {
     let given = opening(n);
@@ -242,16 +244,16 @@ fn reply_card(n: u32)
         &mut key,
         &mut digest,
     );
-    field(b"- reply scheme=1 index=0 number=", n);
-    text(b" : ");
+    field(rt, b"- reply scheme=1 index=0 number=", n)?;
+    text(rt, b" : ")?;
     match answer {
-        ReplyAnswer::Done(_) => text(b"passes"),
-        ReplyAnswer::Refused(r) => refused(r),
+        ReplyAnswer::Done(_) => text(rt, b"passes")?,
+        ReplyAnswer::Refused(r) => refused(rt, r)?,
     }
-    text(b"\n");
+    text(rt, b"\n")
 }
 
-fn finish_card(n: u32)
+fn finish_card(rt: &impl Print, n: u32) -> io::Result<()>
     requires { n < 16384 }
 {
     let given = reply(n);
@@ -259,75 +261,75 @@ fn finish_card(n: u32)
     let mut key = [0u8; 32];
     let mut digest = [0u8; 32];
     let answer = finish::finish(1, &given, &secret, &mut key, &mut digest);
-    field(b"- finish scheme=1 index=0 number=", n);
-    text(b" : ");
+    field(rt, b"- finish scheme=1 index=0 number=", n)?;
+    text(rt, b" : ")?;
     match answer {
-        FinishAnswer::Done(_) => text(b"passes"),
-        FinishAnswer::Refused(r) => refused(r),
+        FinishAnswer::Done(_) => text(rt, b"passes")?,
+        FinishAnswer::Refused(r) => refused(rt, r)?,
     }
-    text(b"\n");
+    text(rt, b"\n")
 }
 
-fn message_cards() {
-    reply_card(12288);
-    finish_card(12288);
-    reply_card(12289);
-    finish_card(12289);
+fn message_cards(rt: &impl Print) -> io::Result<()> {
+    reply_card(rt, 12288)?;
+    finish_card(rt, 12288)?;
+    reply_card(rt, 12289)?;
+    finish_card(rt, 12289)
 }
 
 // Of the empty stream.
-fn expand_card() {
+fn expand_card(rt: &impl Print) -> io::Result<()> {
     let stream = [0u8; 0];
     let mut out = [0u32; 1024];
     let answer = sampling::expand(14, &stream, &mut out);
-    text(b"- expand stream= : ");
-    told(answer);
-    text(b"\n");
+    text(rt, b"- expand stream= : ")?;
+    told(rt, answer)?;
+    text(rt, b"\n")
 }
 
-fn bcns_cards() {
-    bcns_value(1073741824, 2);
-    bcns_peer(1610612735, 0);
-    bcns_peer(1610612736, 0);
-    bcns_value(1073741824, 0);
-    bcns_value(0, 2);
+fn bcns_cards(rt: &impl Print) -> io::Result<()> {
+    bcns_value(rt, 1073741824, 2)?;
+    bcns_peer(rt, 1610612735, 0)?;
+    bcns_peer(rt, 1610612736, 0)?;
+    bcns_value(rt, 1073741824, 0)?;
+    bcns_value(rt, 0, 2)
 }
 
-fn frodo_cards() {
-    frodo_value(1023);
-    frodo_peer(1535, 0);
-    frodo_peer(1536, 0);
-    frodo_value(32767);
-    frodo_peer(0, 1);
+fn frodo_cards(rt: &impl Print) -> io::Result<()> {
+    frodo_value(rt, 1023)?;
+    frodo_peer(rt, 1535, 0)?;
+    frodo_peer(rt, 1536, 0)?;
+    frodo_value(rt, 32767)?;
+    frodo_peer(rt, 0, 1)
 }
 
-fn newhope_cards() {
-    newhope_group(0, 0);
-    newhope_group(0, 1);
-    newhope_group(6144, 0);
-    newhope_group(1536, 0);
+fn newhope_cards(rt: &impl Print) -> io::Result<()> {
+    newhope_group(rt, 0, 0)?;
+    newhope_group(rt, 0, 1)?;
+    newhope_group(rt, 6144, 0)?;
+    newhope_group(rt, 1536, 0)
 }
 
-fn noise_cards() {
-    newhope_noise(255, 255, 0, 0);
-    newhope_noise(1, 0, 3, 0);
-    frodo_noise(1205);
-    frodo_noise(1206);
-    frodo_noise(4095);
+fn noise_cards(rt: &impl Print) -> io::Result<()> {
+    newhope_noise(rt, 255, 255, 0, 0)?;
+    newhope_noise(rt, 1, 0, 3, 0)?;
+    frodo_noise(rt, 1205)?;
+    frodo_noise(rt, 1206)?;
+    frodo_noise(rt, 4095)
 }
 
-fn transform_cards() {
-    transform_of(b"1", 0);
-    transform_of(b"X", 1);
-    product_card();
+fn transform_cards(rt: &impl Print) -> io::Result<()> {
+    transform_of(rt, b"1", 0)?;
+    transform_of(rt, b"X", 1)?;
+    product_card(rt)
 }
 
-fn main() {
-    bcns_cards();
-    frodo_cards();
-    newhope_cards();
-    noise_cards();
-    transform_cards();
-    message_cards();
-    expand_card();
+fn main(rt: HostRuntime) -> io::Result<()> {
+    bcns_cards(&rt)?;
+    frodo_cards(&rt)?;
+    newhope_cards(&rt)?;
+    noise_cards(&rt)?;
+    transform_cards(&rt)?;
+    message_cards(&rt)?;
+    expand_card(&rt)
 }

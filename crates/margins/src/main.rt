@@ -1,35 +1,38 @@
 // Bench near the margin, on both sides where that is possible: docs/AGREEMENT.md, "Worked runs", which has the inputs of each run. `stdout` is what the
 // second program prints. What is not written is zero. A whole number that is written is the difference of two natural ones.
-ghost use Rattle.lists.specs.Kit.{◌^◌, ◌≤◌, ◌<◌};
+// A write that fails ends the program with its error.
+#![tactic(auto)]
+
+ghost use Rattle.std.specs.Prelude.{◌^◌, ◌≤◌, ◌<◌};
 
 use bench::BenchAnswer;
-use libc::STDOUT_FILENO;
 use schemes::Scheme;
+use std::io;
 
-fn text(t: &[u8]) {
-    io::write_all(STDOUT_FILENO, t);
+fn text(rt: &impl Print, t: &[u8]) -> io::Result<()> {
+    rt.write_all(t)
 }
 
 // A name and its number.
-fn field(name: &[u8], n: u64) {
-    text(name);
-    io::print_decimal(STDOUT_FILENO, n);
+fn field(rt: &impl Print, name: &[u8], n: u64) -> io::Result<()> {
+    text(rt, name)?;
+    print!(rt; "{n}")
 }
 
 // A run's line.
-fn told(scheme: u32, name: &[u8], answer: BenchAnswer) {
-    field(b"bench scheme=", scheme as u64);
-    text(b" run=");
-    text(name);
+fn told(rt: &impl Print, scheme: u32, name: &[u8], answer: BenchAnswer) -> io::Result<()> {
+    field(rt, b"bench scheme=", scheme as u64)?;
+    text(rt, b" run=")?;
+    text(rt, name)?;
     match answer {
-        BenchAnswer::Agree(_) => text(b" agree"),
-        BenchAnswer::Differ(bit, _) => field(b" differ=", bit as u64),
+        BenchAnswer::Agree(_) => text(rt, b" agree")?,
+        BenchAnswer::Differ(bit, _) => field(rt, b" differ=", bit as u64)?,
         BenchAnswer::Refused(r) => {
-            field(b" refusal=", r.number() as u64);
-            field(b" place=", r.place() as u64);
+            field(rt, b" refusal=", r.number() as u64)?;
+            field(rt, b" place=", r.place() as u64)?;
         }
     }
-    text(b"\n");
+    text(rt, b"\n")
 }
 
 fn less(up: u32, down: u32) -> i32
@@ -48,14 +51,14 @@ fn put(xs: &mut [i32], k: usize, up: u32, down: u32)
 }
 
 // The largest d that there is.
-fn bcns() {
+fn bcns(rt: &impl Print) -> io::Result<()> {
     let a = [1u32; 1024];
     let most = [51i32; 1024];
     let least = [-51i32; 1024];
     let seed = [0u8; 0];
     let coins = [0u8; 256];
     let answer = bench::bench(0, &a, &most, &most, &seed, &most, &least, &most, &coins);
-    told(0, b"largest", answer);
+    told(rt, 0, b"largest", answer)
 }
 
 // NewHope's targets are told 16 times 512 higher: none is then below 0, and division rounds down.
@@ -85,10 +88,8 @@ fn part(s: u32, i: u32) -> u32
 fn spread(xs: &mut [i32], k: usize, target: u32)
     requires { (k < 1024) × (target < 32768) }
 {
-    let mut i: u32 = 0;
-    while i < 32 {
+    for i in 0..32 {
         put_before(xs, k, i as usize, part(target / 16, i), 16);
-        i += 1;
     }
 }
 
@@ -110,10 +111,8 @@ fn target_w(k: usize, target: u32, e1: &mut [i32])
 
 // 16 in each of the first 32 entries.
 fn sixteens(xs: &mut [i32]) {
-    let mut k: usize = 0;
-    while k < 32 {
+    for k in 0..32 {
         put(xs, k, 16, 0);
-        k += 1;
     }
 }
 
@@ -132,6 +131,7 @@ fn targets(third: u32, e: &mut [i32], e1: &mut [i32], e2: &mut [i32])
 }
 
 fn newhope_in(
+    rt: &impl Print,
     name: &[u8],
     third: u32,
     s: &mut [i32],
@@ -139,7 +139,7 @@ fn newhope_in(
     s1: &mut [i32],
     e1: &mut [i32],
     e2: &mut [i32],
-)
+) -> io::Result<()>
     requires { third < 32768 }
 {
     let a = [0u32; 1024];
@@ -150,11 +150,11 @@ fn newhope_in(
     put(s, 32, 1, 0);
     targets(third, e, e1, e2);
     let answer = bench::bench(1, &a, s, e, &seed, s1, e1, e2, &coins);
-    told(1, name, answer);
+    told(rt, 1, name, answer)
 }
 
 // Lends `newhope_in` its lists.
-fn newhope(name: &[u8], third: u32)
+fn newhope(rt: &impl Print, name: &[u8], third: u32) -> io::Result<()>
     requires { third < 32768 }
 {
     let mut s = [0i32; 1024];
@@ -162,7 +162,7 @@ fn newhope(name: &[u8], third: u32)
     let mut s1 = [0i32; 1024];
     let mut e1 = [0i32; 1024];
     let mut e2 = [0i32; 1024];
-    newhope_in(name, third, &mut s, &mut e, &mut s1, &mut e1, &mut e2);
+    newhope_in(rt, name, third, &mut s, &mut e, &mut s1, &mut e1, &mut e2)
 }
 
 // The number at index i is (7i + 1) mod q.
@@ -170,11 +170,9 @@ fn public_numbers(q: u32, a: &mut [u32])
     requires { 1 < q }
 {
     let mut x: u64 = 1;
-    let mut i: usize = 0;
-    while i < a.len() {
-        a[i] = x as u32;
+    for entry in a.iter_mut() {
+        *entry = x as u32;
         x = (x + 7) % (q as u64);
-        i += 1;
     }
 }
 
@@ -190,10 +188,8 @@ fn meet(k: u32, x: u32, y: u32, s: &mut [i32], e1: &mut [i32])
 fn full_terms(full: u32, b: u32, s: &mut [i32], e1: &mut [i32])
     requires { b < 2 ^ 31 }
 {
-    let mut k: u32 = 0;
-    while k < full {
+    for k in 0..full {
         meet(k, b, b, s, e1);
-        k += 1;
     }
 }
 
@@ -208,6 +204,7 @@ fn secrets(t: u32, b: u32, s: &mut [i32], e1: &mut [i32])
 }
 
 fn frodo_in(
+    rt: &impl Print,
     scheme: u32,
     name: &[u8],
     t: u32,
@@ -218,7 +215,7 @@ fn frodo_in(
     e: &[i32],
     s1: &[i32],
     e1: &mut [i32],
-)
+) -> io::Result<()>
     requires { (t < 2 ^ 31) × (1 < q) × (0 < b) × (b < 2 ^ 31) }
 {
     let seed = [0u8; 16];
@@ -227,11 +224,20 @@ fn frodo_in(
     public_numbers(q, a);
     secrets(t, b, s, e1);
     let answer = bench::bench(scheme, a, s, e, &seed, s1, e1, &e2, &coins);
-    told(scheme, name, answer);
+    told(rt, scheme, name, answer)
 }
 
 // Lends `frodo_in` its lists, of which no scheme has longer ones.
-fn frodo_run(scheme: u32, name: &[u8], t: u32, q: u32, b: u32, public: usize, secret: usize)
+fn frodo_run(
+    rt: &impl Print,
+    scheme: u32,
+    name: &[u8],
+    t: u32,
+    q: u32,
+    b: u32,
+    public: usize,
+    secret: usize,
+) -> io::Result<()>
     requires { (t < 2 ^ 31) × (1 < q) × (0 < b) × (b < 2 ^ 31) × (public ≤ 746496) × (secret ≤ 6912) }
 {
     let mut a = [0u32; 746496];
@@ -240,6 +246,7 @@ fn frodo_run(scheme: u32, name: &[u8], t: u32, q: u32, b: u32, public: usize, se
     let s1 = [0i32; 6912];
     let mut e1 = [0i32; 6912];
     frodo_in(
+        rt,
         scheme,
         name,
         t,
@@ -250,16 +257,17 @@ fn frodo_run(scheme: u32, name: &[u8], t: u32, q: u32, b: u32, public: usize, se
         &e[..secret],
         &s1[..secret],
         &mut e1[..secret],
-    );
+    )
 }
 
 // A quarter of the rounding interval, and one more.
-fn frodo(scheme: Scheme) {
+fn frodo(rt: &impl Print, scheme: Scheme) -> io::Result<()> {
     let f = scheme.fixed();
     let no = scheme.number();
     let quarter = (f.q >> f.keybits) / 4;
-    frodo_run(no, b"at", quarter, f.q, f.largest, f.public, f.secret);
+    frodo_run(rt, no, b"at", quarter, f.q, f.largest, f.public, f.secret)?;
     frodo_run(
+        rt,
         no,
         b"beyond",
         quarter + 1,
@@ -267,15 +275,15 @@ fn frodo(scheme: Scheme) {
         f.largest,
         f.public,
         f.secret,
-    );
+    )
 }
 
-fn main() {
-    bcns();
-    newhope(b"at", HIGHER - 1804);
-    newhope(b"beyond", HIGHER - 1805);
-    frodo(Scheme::Challenge);
-    frodo(Scheme::Classical);
-    frodo(Scheme::Recommended);
-    frodo(Scheme::Paranoid);
+fn main(rt: HostRuntime) -> io::Result<()> {
+    bcns(&rt)?;
+    newhope(&rt, b"at", HIGHER - 1804)?;
+    newhope(&rt, b"beyond", HIGHER - 1805)?;
+    frodo(&rt, Scheme::Challenge)?;
+    frodo(&rt, Scheme::Classical)?;
+    frodo(&rt, Scheme::Recommended)?;
+    frodo(&rt, Scheme::Paranoid)
 }

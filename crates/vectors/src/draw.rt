@@ -1,5 +1,5 @@
 // What is drawn, and how an output is summed up: docs/VECTORS.md, "What is drawn" and "A line".
-ghost use Rattle.lists.specs.Kit.{◌^◌, ◌<◌};
+ghost use Rattle.std.specs.Prelude.{◌^◌, ◌<◌};
 
 // The state that comes after x.
 fn next(x: u32) -> u32 {
@@ -25,21 +25,17 @@ pub fn numbers(seed: u32, m: u32, out: &mut [u32])
     requires { 0 < m }
 {
     let mut x = seed;
-    let mut i: usize = 0;
-    while i < out.len() {
+    for y in out.iter_mut() {
         x = next(x);
-        out[i] = below(x, m);
-        i += 1;
+        *y = below(x, m);
     }
 }
 
 pub fn bytes(seed: u32, out: &mut [u8]) {
     let mut x = seed;
-    let mut i: usize = 0;
-    while i < out.len() {
+    for y in out.iter_mut() {
         x = next(x);
-        out[i] = below(x, 256) as u8;
-        i += 1;
+        *y = below(x, 256) as u8;
     }
 }
 
@@ -47,11 +43,9 @@ pub fn values(seed: u32, b: u32, out: &mut [i32])
     requires { b < 2 ^ 30 }
 {
     let mut x = seed;
-    let mut i: usize = 0;
-    while i < out.len() {
+    for y in out.iter_mut() {
         x = next(x);
-        out[i] = within(x, b);
-        i += 1;
+        *y = within(x, b);
     }
 }
 
@@ -62,20 +56,16 @@ fn more(h: u32, x: u32) -> u32 {
 
 pub fn check_bytes(xs: &[u8]) -> u32 {
     let mut h: u32 = 1;
-    let mut i: usize = 0;
-    while i < xs.len() {
-        h = more(h, xs[i] as u32);
-        i += 1;
+    for x in xs {
+        h = more(h, *x as u32);
     }
     h
 }
 
 pub fn check_numbers(xs: &[u32]) -> u32 {
     let mut h: u32 = 1;
-    let mut i: usize = 0;
-    while i < xs.len() {
-        h = more(h, xs[i]);
-        i += 1;
+    for x in xs {
+        h = more(h, *x);
     }
     h
 }
@@ -87,10 +77,8 @@ fn counted(z: i32) -> u32 {
 
 pub fn check_values(zs: &[i32]) -> u32 {
     let mut h: u32 = 1;
-    let mut i: usize = 0;
-    while i < zs.len() {
-        h = more(h, counted(zs[i]));
-        i += 1;
+    for z in zs {
+        h = more(h, counted(*z));
     }
     h
 }

@@ -4,10 +4,11 @@ use crate::faults::put_bytes;
 use crate::lent::{Count, bytes, length, name, numbers, room, room_for, values};
 use crate::{Setting, lent, lines};
 use bench::BenchAnswer;
+use std::io;
 
-fn head(call: &[u8], g: Setting) {
-    lines::field(call, g.k);
-    lines::field(b" case=", g.c);
+fn head(rt: &impl Print, call: &[u8], g: Setting) -> io::Result<()> {
+    lines::field(rt, call, g.k)?;
+    lines::field(rt, b" case=", g.c)
 }
 
 fn keep(c: u32, message: &[u8], at: usize, xs: &mut [u8]) {
@@ -16,7 +17,14 @@ fn keep(c: u32, message: &[u8], at: usize, xs: &mut [u8]) {
     }
 }
 
-fn offer_line(g: Setting, a: &[u32], zs: &[i32], xs: &mut [u8], message: &mut [u8]) {
+fn offer_line(
+    rt: &impl Print,
+    g: Setting,
+    a: &[u32],
+    zs: &[i32],
+    xs: &mut [u8],
+    message: &mut [u8],
+) -> io::Result<()> {
     let k = length(g, Count::Secret);
     let n = room_for(g, Count::Opening, message.len());
     let answer = offer::offer(
@@ -27,19 +35,27 @@ fn offer_line(g: Setting, a: &[u32], zs: &[i32], xs: &mut [u8], message: &mut [u
         bytes(xs, lent::SEED, length(g, Count::Seed)),
         &mut message[0..n],
     );
-    head(b"offer scheme=", g);
-    lines::told(answer);
-    lines::summed(b" message=", message, n);
-    lines::text(b"\n");
+    head(rt, b"offer scheme=", g)?;
+    lines::told(rt, answer)?;
+    lines::summed(rt, b" message=", message, n)?;
+    lines::text(rt, b"\n")?;
     keep(g.c, message, lent::OPENING, xs);
+    Ok(())
 }
 
-pub fn offer_case(g: Setting, a: &[u32], zs: &[i32], xs: &mut [u8]) {
+pub fn offer_case(
+    rt: &impl Print,
+    g: Setting,
+    a: &[u32],
+    zs: &[i32],
+    xs: &mut [u8],
+) -> io::Result<()> {
     let mut message = [165u8; 13008];
-    offer_line(g, a, zs, xs, &mut message);
+    offer_line(rt, g, a, zs, xs, &mut message)
 }
 
 fn reply_line(
+    rt: &impl Print,
     g: Setting,
     a: &[u32],
     zs: &[i32],
@@ -47,7 +63,7 @@ fn reply_line(
     message: &mut [u8],
     key: &mut [u8],
     digest: &mut [u8],
-) {
+) -> io::Result<()> {
     let n = room_for(g, Count::Reply, message.len());
     let m = room_for(g, Count::Key, key.len());
     let d = room(32, g.c, digest.len());
@@ -64,42 +80,56 @@ fn reply_line(
         &mut key[0..m],
         &mut digest[0..d],
     );
-    head(b"reply scheme=", g);
-    lines::told_reply(answer);
-    lines::summed(b" message=", message, n);
-    keys(key, m, digest, d);
+    head(rt, b"reply scheme=", g)?;
+    lines::told_reply(rt, answer)?;
+    lines::summed(rt, b" message=", message, n)?;
+    keys(rt, key, m, digest, d)?;
     keep(g.c, message, lent::REPLY, xs);
+    Ok(())
 }
 
-pub fn reply_case(g: Setting, a: &[u32], zs: &[i32], xs: &mut [u8]) {
+pub fn reply_case(
+    rt: &impl Print,
+    g: Setting,
+    a: &[u32],
+    zs: &[i32],
+    xs: &mut [u8],
+) -> io::Result<()> {
     let mut message = [165u8; 13008];
     let mut key = [165u8; 160];
     let mut digest = [165u8; 64];
-    reply_line(g, a, zs, xs, &mut message, &mut key, &mut digest);
+    reply_line(rt, g, a, zs, xs, &mut message, &mut key, &mut digest)
 }
 
 // The end of a line with a key and its digest.
-fn keys(key: &[u8], n: usize, digest: &[u8], d: usize) {
-    lines::summed(b" key=", key, n);
-    lines::summed(b" digest=", digest, d);
-    lines::text(b"\n");
+fn keys(rt: &impl Print, key: &[u8], n: usize, digest: &[u8], d: usize) -> io::Result<()> {
+    lines::summed(rt, b" key=", key, n)?;
+    lines::summed(rt, b" digest=", digest, d)?;
+    lines::text(rt, b"\n")
 }
 
-fn finish_line(g: Setting, zs: &[i32], xs: &[u8], key: &mut [u8], digest: &mut [u8]) {
+fn finish_line(
+    rt: &impl Print,
+    g: Setting,
+    zs: &[i32],
+    xs: &[u8],
+    key: &mut [u8],
+    digest: &mut [u8],
+) -> io::Result<()> {
     let n = room_for(g, Count::Key, key.len());
     let d = room(32, g.c, digest.len());
     let reply = bytes(xs, lent::REPLY, length(g, Count::Reply));
     let s = values(zs, lent::S, length(g, Count::Secret));
     let answer = finish::finish(name(g, 6), reply, s, &mut key[0..n], &mut digest[0..d]);
-    head(b"finish scheme=", g);
-    lines::told_finish(answer);
-    keys(key, n, digest, d);
+    head(rt, b"finish scheme=", g)?;
+    lines::told_finish(rt, answer)?;
+    keys(rt, key, n, digest, d)
 }
 
-pub fn finish_case(g: Setting, zs: &[i32], xs: &[u8]) {
+pub fn finish_case(rt: &impl Print, g: Setting, zs: &[i32], xs: &[u8]) -> io::Result<()> {
     let mut key = [165u8; 160];
     let mut digest = [165u8; 64];
-    finish_line(g, zs, xs, &mut key, &mut digest);
+    finish_line(rt, g, zs, xs, &mut key, &mut digest)
 }
 
 fn bench_on(g: Setting, a: &[u32], zs: &[i32], xs: &[u8]) -> BenchAnswer {
@@ -117,9 +147,9 @@ fn bench_on(g: Setting, a: &[u32], zs: &[i32], xs: &[u8]) -> BenchAnswer {
     )
 }
 
-pub fn bench_case(g: Setting, a: &[u32], zs: &[i32], xs: &[u8]) {
+pub fn bench_case(rt: &impl Print, g: Setting, a: &[u32], zs: &[i32], xs: &[u8]) -> io::Result<()> {
     let answer = bench_on(g, a, zs, xs);
-    head(b"bench scheme=", g);
-    lines::told_bench(answer);
-    lines::text(b"\n");
+    head(rt, b"bench scheme=", g)?;
+    lines::told_bench(rt, answer)?;
+    lines::text(rt, b"\n")
 }

@@ -22,10 +22,8 @@ fn put_byte(xs: &mut [u8], i: usize, x: u8) {
 
 // A list of bytes, from an index on.
 pub fn put_bytes(from: &[u8], at: usize, xs: &mut [u8]) {
-    let mut i: usize = 0;
-    while i < from.len() {
-        put_byte(xs, std::num::wrapping_add_usize(at, i), from[i]);
-        i += 1;
+    for (i, x) in from.iter().enumerate() {
+        put_byte(xs, at.wrapping_add(i), *x);
     }
 }
 
@@ -34,11 +32,9 @@ const BEYOND: i32 = 402685952;
 
 // Two entries in each of the lists s, e, s', e', e'': of list j the entries 40 - 10j and 50.
 fn beyond(values: &mut [i32]) {
-    let mut j: usize = 0;
-    while j < 5 {
+    for j in 0..5 {
         put_value(values, 6934 * j + 40, BEYOND);
         put_value(values, 6944 * j + 50, BEYOND);
-        j += 1;
     }
 }
 
@@ -66,16 +62,12 @@ fn blank(at: usize, n: usize, bytes: &mut [u8]) {
 
 // Four bytes in the middle of the packed part.
 fn over(at: usize, n: usize, bytes: &mut [u8]) {
-    put_bytes(
-        b"\xff\xff\xff\xff",
-        std::num::wrapping_add_usize(at, n / 2),
-        bytes,
-    );
+    put_bytes(b"\xff\xff\xff\xff", at.wrapping_add(n / 2), bytes);
 }
 
 fn public(n: usize, q: u32, a: &mut [u32]) {
     put_number(a, n / 2, q);
-    put_number(a, std::num::wrapping_sub_usize(n, 1), q);
+    put_number(a, n.wrapping_sub(1), q);
 }
 
 // A call's good case draws its lists; each further one adds its fault.

@@ -1,5 +1,5 @@
 // What a call is lent in a case: docs/VECTORS.md. A part of a list is cut to what is there, and a store tests its index.
-ghost use Rattle.lists.specs.Kit.{◌≤◌};
+ghost use Rattle.std.specs.Prelude.{◌≤◌};
 
 use crate::{Call, Setting, draw};
 use schemes::{Fixed, Named, Scheme};
@@ -67,7 +67,7 @@ pub fn name(g: Setting, other: u32) -> u32 {
 // The length of an input of n; one more in cases 8 and 9.
 pub fn longer(n: usize, c: u32) -> usize {
     match c {
-        8 | 9 => std::num::wrapping_add_usize(n, 1),
+        8 | 9 => n.wrapping_add(1),
         _ => n,
     }
 }
@@ -82,8 +82,8 @@ pub fn room(n: usize, c: u32, most: usize) -> usize
 {
     match c % 10 {
         0 => cut(n, most),
-        1..=6 => cut(std::num::wrapping_add_usize(n, 32), most),
-        _ => cut(std::num::wrapping_sub_usize(n, 1), most),
+        1..=6 => cut(n.wrapping_add(32), most),
+        _ => cut(n.wrapping_sub(1), most),
     }
 }
 
@@ -125,7 +125,7 @@ pub fn bytes(xs: &[u8], at: usize, n: usize) -> &[u8] {
 // The seed of stream j of scheme k.
 fn stream(k: u32, j: u32) -> u32 {
     if k < 100 {
-        std::num::wrapping_add_u32(100 * k, j)
+        (100 * k).wrapping_add(j)
     } else {
         j
     }

@@ -2,92 +2,95 @@
 use crate::{draw, lent};
 use bench::BenchAnswer;
 use finish::FinishAnswer;
-use libc::STDOUT_FILENO;
 use lists::Peak;
 use refusals::{Answer, Refusal};
 use reply::ReplyAnswer;
+use std::io;
 
-pub fn text(t: &[u8]) {
-    io::write_all(STDOUT_FILENO, t);
+pub fn text(rt: &impl Print, t: &[u8]) -> io::Result<()> {
+    rt.write_all(t)
 }
 
-pub fn field(name: &[u8], n: u32) {
-    text(name);
-    io::print_decimal(STDOUT_FILENO, n as u64);
+pub fn field(rt: &impl Print, name: &[u8], n: u32) -> io::Result<()> {
+    text(rt, name)?;
+    print!(rt; "{n}")
 }
 
-fn count(name: &[u8], n: usize) {
-    text(name);
-    io::print_decimal(STDOUT_FILENO, n as u64);
+fn count(rt: &impl Print, name: &[u8], n: usize) -> io::Result<()> {
+    text(rt, name)?;
+    print!(rt; "{n}")
 }
 
 // The checksum of the first n bytes.
-pub fn summed(name: &[u8], xs: &[u8], n: usize) {
-    field(name, draw::check_bytes(lent::bytes(xs, 0, n)));
+pub fn summed(rt: &impl Print, name: &[u8], xs: &[u8], n: usize) -> io::Result<()> {
+    field(rt, name, draw::check_bytes(lent::bytes(xs, 0, n)))
 }
 
-fn accepted(name: &[u8], n: usize) {
-    text(b" refusal=0 place=0");
-    count(name, n);
+fn accepted(rt: &impl Print, name: &[u8], n: usize) -> io::Result<()> {
+    text(rt, b" refusal=0 place=0")?;
+    count(rt, name, n)
 }
 
-fn refused(r: Refusal, rest: &[u8]) {
-    field(b" refusal=", r.number());
-    count(b" place=", r.place());
-    text(rest);
+fn refused(rt: &impl Print, r: Refusal, rest: &[u8]) -> io::Result<()> {
+    field(rt, b" refusal=", r.number())?;
+    count(rt, b" place=", r.place())?;
+    text(rt, rest)
 }
 
 // What a call with one output says.
-pub fn told(answer: Answer) {
+pub fn told(rt: &impl Print, answer: Answer) -> io::Result<()> {
     match answer {
-        Answer::Done(n) => accepted(b" written=", n),
-        Answer::Refused(r) => refused(r, b" written=0"),
+        Answer::Done(n) => accepted(rt, b" written=", n),
+        Answer::Refused(r) => refused(rt, r, b" written=0"),
     }
 }
 
-pub fn told_reply(answer: ReplyAnswer) {
+pub fn told_reply(rt: &impl Print, answer: ReplyAnswer) -> io::Result<()> {
     match answer {
         ReplyAnswer::Done(n) => {
-            accepted(b" message_written=", n.message);
-            count(b" key_written=", n.key);
-            count(b" digest_written=", n.digest);
+            accepted(rt, b" message_written=", n.message)?;
+            count(rt, b" key_written=", n.key)?;
+            count(rt, b" digest_written=", n.digest)
         }
         ReplyAnswer::Refused(r) => {
-            refused(r, b" message_written=0 key_written=0 digest_written=0")
+            refused(rt, r, b" message_written=0 key_written=0 digest_written=0")
         }
     }
 }
 
 // The slack used and its index; both are 0 after a refusal.
-fn used(slack: Peak) {
-    field(b" slack=", slack.most);
-    count(b" slack_index=", slack.at);
+fn used(rt: &impl Print, slack: Peak) -> io::Result<()> {
+    field(rt, b" slack=", slack.most)?;
+    count(rt, b" slack_index=", slack.at)
 }
 
-pub fn told_finish(answer: FinishAnswer) {
+pub fn told_finish(rt: &impl Print, answer: FinishAnswer) -> io::Result<()> {
     match answer {
         FinishAnswer::Done(n) => {
-            let slack = n.slack;
-            accepted(b" key_written=", n.key);
-            count(b" digest_written=", n.digest);
-            used(slack);
+            accepted(rt, b" key_written=", n.key)?;
+            count(rt, b" digest_written=", n.digest)?;
+            used(rt, n.slack)
         }
         FinishAnswer::Refused(r) => {
-            refused(r, b" key_written=0 digest_written=0 slack=0 slack_index=0")
+            refused(
+                rt,
+                r,
+                b" key_written=0 digest_written=0 slack=0 slack_index=0",
+            )
         }
     }
 }
 
-fn agreed(differ: usize, slack: Peak) {
-    accepted(b" differ=", differ);
-    used(slack);
+fn agreed(rt: &impl Print, differ: usize, slack: Peak) -> io::Result<()> {
+    accepted(rt, b" differ=", differ)?;
+    used(rt, slack)
 }
 
 // The first differing bit counts from 1, 0 where the keys agree.
-pub fn told_bench(answer: BenchAnswer) {
+pub fn told_bench(rt: &impl Print, answer: BenchAnswer) -> io::Result<()> {
     match answer {
-        BenchAnswer::Agree(slack) => agreed(0, slack),
-        BenchAnswer::Differ(i, slack) => agreed(std::num::wrapping_add_usize(i, 1), slack),
-        BenchAnswer::Refused(r) => refused(r, b" differ=0 slack=0 slack_index=0"),
+        BenchAnswer::Agree(slack) => agreed(rt, 0, slack),
+        BenchAnswer::Differ(i, slack) => agreed(rt, i.wrapping_add(1), slack),
+        BenchAnswer::Refused(r) => refused(rt, r, b" differ=0 slack=0 slack_index=0"),
     }
 }

@@ -1,11 +1,16 @@
 // The runs of docs/VECTORS.md: every call in every scheme on a good input and with one fault after the other, a line for each case. `stdout` is what the
 // second program prints. What a program prints is run and not proved; each function here is proved safe.
+// A write that fails ends the program with its error.
+#![tactic(auto)]
+
 mod draw;
 mod exchange;
 mod faults;
 mod lent;
 mod lines;
 mod others;
+
+use std::io;
 
 #[derive(Clone, Copy)]
 pub enum Call {
@@ -75,44 +80,49 @@ fn line(i: u32) -> Setting {
     }
 }
 
-fn run(g: Setting, a: &[u32], values: &[i32], bytes: &mut [u8]) {
+fn run(rt: &impl Print, g: Setting, a: &[u32], values: &[i32], bytes: &mut [u8]) -> io::Result<()> {
     let call = g.call;
     match call {
-        Call::Offer => exchange::offer_case(g, a, values, bytes),
-        Call::Reply => exchange::reply_case(g, a, values, bytes),
-        Call::Finish => exchange::finish_case(g, values, bytes),
-        Call::Bench => exchange::bench_case(g, a, values, bytes),
-        Call::Noise => others::noise_case(g, bytes),
-        Call::Expand | Call::Grow => others::numbers_case(g, bytes),
-        Call::Shake128 | Call::Sha3 => others::hash_case(g, bytes),
+        Call::Offer => exchange::offer_case(rt, g, a, values, bytes),
+        Call::Reply => exchange::reply_case(rt, g, a, values, bytes),
+        Call::Finish => exchange::finish_case(rt, g, values, bytes),
+        Call::Bench => exchange::bench_case(rt, g, a, values, bytes),
+        Call::Noise => others::noise_case(rt, g, bytes),
+        Call::Expand | Call::Grow => others::numbers_case(rt, g, bytes),
+        Call::Shake128 | Call::Sha3 => others::hash_case(rt, g, bytes),
     }
 }
 
-fn step(g: Setting, a: &mut [u32], values: &mut [i32], bytes: &mut [u8]) {
+fn step(
+    rt: &impl Print,
+    g: Setting,
+    a: &mut [u32],
+    values: &mut [i32],
+    bytes: &mut [u8],
+) -> io::Result<()> {
     faults::prepare(g, a, values, bytes);
-    run(g, a, values, bytes);
+    run(rt, g, a, values, bytes)
 }
 
-fn all(a: &mut [u32], values: &mut [i32], bytes: &mut [u8]) {
-    let mut i: u32 = 0;
-    while i < 390 {
-        step(line(i), a, values, bytes);
-        i += 1;
+fn all(rt: &impl Print, a: &mut [u32], values: &mut [i32], bytes: &mut [u8]) -> io::Result<()> {
+    for i in 0..390 {
+        step(rt, line(i), a, values, bytes)?;
     }
+    Ok(())
 }
 
 // The lists, as long as the longest of any call; a function each, so that no proof holds two of them at length.
-fn with_bytes(a: &mut [u32], values: &mut [i32]) {
+fn with_bytes(rt: &impl Print, a: &mut [u32], values: &mut [i32]) -> io::Result<()> {
     let mut bytes = [0u8; 65537];
-    all(a, values, &mut bytes);
+    all(rt, a, values, &mut bytes)
 }
 
-fn with_values(a: &mut [u32]) {
+fn with_values(rt: &impl Print, a: &mut [u32]) -> io::Result<()> {
     let mut values = [0i32; 34720];
-    with_bytes(a, &mut values);
+    with_bytes(rt, a, &mut values)
 }
 
-fn main() {
+fn main(rt: HostRuntime) -> io::Result<()> {
     let mut a = [0u32; 746497];
-    with_values(&mut a);
+    with_values(&rt, &mut a)
 }

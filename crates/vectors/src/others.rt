@@ -2,6 +2,7 @@
 use crate::lent::{Count, bytes, longer, name, numbers, room};
 use crate::{Call, Setting, draw, lent, lines};
 use refusals::Answer;
+use std::io;
 
 // Word i of Noise's table: each of an entry's three is 2^58 times the entry's number, counted from 1. In cases 6 to 9 the entries from 25 on are each
 // the one before.
@@ -15,10 +16,8 @@ fn word(i: usize, c: u32) -> u64 {
 }
 
 fn make(table: &mut [u64], c: u32) {
-    let mut i: usize = 0;
-    while i < table.len() {
-        table[i] = word(i, c);
-        i += 1;
+    for (i, x) in table.iter_mut().enumerate() {
+        *x = word(i, c);
     }
 }
 
@@ -54,21 +53,27 @@ fn noise_on(g: Setting, xs: &[u8], table: &[u64], out: &mut [i32]) -> Answer {
     )
 }
 
-fn noise_line(g: Setting, xs: &[u8], table: &mut [u64], out: &mut [i32]) {
+fn noise_line(
+    rt: &impl Print,
+    g: Setting,
+    xs: &[u8],
+    table: &mut [u64],
+    out: &mut [i32],
+) -> io::Result<()> {
     make(table, g.c);
     let n = room(values_of(g), g.c, out.len());
     let answer = noise_on(g, xs, table, &mut out[0..n]);
-    lines::field(b"noise scheme=", g.k);
-    lines::field(b" case=", g.c);
-    lines::told(answer);
-    lines::field(b" values=", draw::check_values(lent::values(out, 0, n)));
-    lines::text(b"\n");
+    lines::field(rt, b"noise scheme=", g.k)?;
+    lines::field(rt, b" case=", g.c)?;
+    lines::told(rt, answer)?;
+    lines::field(rt, b" values=", draw::check_values(lent::values(out, 0, n)))?;
+    lines::text(rt, b"\n")
 }
 
-pub fn noise_case(g: Setting, xs: &[u8]) {
+pub fn noise_case(rt: &impl Print, g: Setting, xs: &[u8]) -> io::Result<()> {
     let mut table = [0u64; 154];
     let mut out = [-1515870811i32; 6944];
-    noise_line(g, xs, &mut table, &mut out);
+    noise_line(rt, g, xs, &mut table, &mut out)
 }
 
 // The length of Expand's stream: in cases 2 to 7 it runs out.
@@ -88,27 +93,27 @@ fn numbers_on(g: Setting, xs: &[u8], out: &mut [u32]) -> Answer {
     }
 }
 
-fn numbers_head(g: Setting) {
+fn numbers_head(rt: &impl Print, g: Setting) -> io::Result<()> {
     let call = g.call;
     match call {
-        Call::Expand => lines::field(b"expand rule=", g.k),
-        _ => lines::field(b"grow rule=", g.k),
+        Call::Expand => lines::field(rt, b"expand rule=", g.k),
+        _ => lines::field(rt, b"grow rule=", g.k),
     }
 }
 
-fn numbers_line(g: Setting, xs: &[u8], out: &mut [u32]) {
+fn numbers_line(rt: &impl Print, g: Setting, xs: &[u8], out: &mut [u32]) -> io::Result<()> {
     let n = room(1024, g.c, out.len());
     let answer = numbers_on(g, xs, &mut out[0..n]);
-    numbers_head(g);
-    lines::field(b" case=", g.c);
-    lines::told(answer);
-    lines::field(b" numbers=", draw::check_numbers(numbers(out, n)));
-    lines::text(b"\n");
+    numbers_head(rt, g)?;
+    lines::field(rt, b" case=", g.c)?;
+    lines::told(rt, answer)?;
+    lines::field(rt, b" numbers=", draw::check_numbers(numbers(out, n)))?;
+    lines::text(rt, b"\n")
 }
 
-pub fn numbers_case(g: Setting, xs: &[u8]) {
+pub fn numbers_case(rt: &impl Print, g: Setting, xs: &[u8]) -> io::Result<()> {
     let mut out = [2779096485u32; 1056];
-    numbers_line(g, xs, &mut out);
+    numbers_line(rt, g, xs, &mut out)
 }
 
 fn hash_length(c: u32) -> usize {
@@ -126,24 +131,24 @@ fn hash_on(g: Setting, xs: &[u8], out: &mut [u8]) -> Answer {
     }
 }
 
-fn hash_head(g: Setting) {
+fn hash_head(rt: &impl Print, g: Setting) -> io::Result<()> {
     let call = g.call;
     match call {
-        Call::Shake128 => lines::field(b"shake128 case=", g.c),
-        _ => lines::field(b"sha3_256 case=", g.c),
+        Call::Shake128 => lines::field(rt, b"shake128 case=", g.c),
+        _ => lines::field(rt, b"sha3_256 case=", g.c),
     }
 }
 
-fn hash_line(g: Setting, xs: &[u8], out: &mut [u8]) {
+fn hash_line(rt: &impl Print, g: Setting, xs: &[u8], out: &mut [u8]) -> io::Result<()> {
     let n = room(32, g.c, out.len());
     let answer = hash_on(g, xs, &mut out[0..n]);
-    hash_head(g);
-    lines::told(answer);
-    lines::summed(b" bytes=", out, n);
-    lines::text(b"\n");
+    hash_head(rt, g)?;
+    lines::told(rt, answer)?;
+    lines::summed(rt, b" bytes=", out, n)?;
+    lines::text(rt, b"\n")
 }
 
-pub fn hash_case(g: Setting, xs: &[u8]) {
+pub fn hash_case(rt: &impl Print, g: Setting, xs: &[u8]) -> io::Result<()> {
     let mut out = [165u8; 64];
-    hash_line(g, xs, &mut out);
+    hash_line(rt, g, xs, &mut out)
 }

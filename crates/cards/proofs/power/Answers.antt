@@ -1,5 +1,5 @@
 -- `cards::power` meets its contract: zeros and a 1.
-use Rattle.lists.proofs.Kit.{ℕ, arith, replicate, length-replicate, rules}
+use Rattle.lists.proofs.Kit.{ℕ, arith, replicate, length-replicate}
 use Rattle.lists.proofs.Entries.{below_set, below-zeros}
 use Rattle.cards.proofs.power.Goals as goal
 
