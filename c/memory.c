@@ -1,12 +1,12 @@
 /*
- * The copies and fills of the proved code, for which the compiler calls memcpy and memset: `native`
- * gives these calls the names below, so that the archive needs no function from outside.
+ * The copies and fills of the proved code, for which the compiler calls memcpy, memmove and memset:
+ * `native` gives these calls the names below, so that the archive needs no function from outside.
  *
  * The C library's own use whatever vector registers the processor has, and with AVX-512 they left a
  * whole key in registers that no code for plain x86-64 can clear. On x86-64 these use no vector
  * register. On Arm they use one, which wim_scrub clears.
  *
- * Both are hidden: the linker finds them for the other object of the archive, and gives them to no
+ * All are hidden: the linker finds them for the other object of the archive, and gives them to no
  * program or shared library that this one is loaded with. Within one program the prefix keeps them
  * apart from the program's own.
  */
@@ -29,6 +29,14 @@ HIDDEN void *wim_memcpy(void *to, const void *from, size_t count)
     return start;
 }
 
+/* From the last byte to the first. */
+static void copy_back(uint8_t *to, const uint8_t *from, size_t count)
+{
+    to += count - 1;
+    from += count - 1;
+    __asm__ volatile("std\n\trep movsb\n\tcld" : "+D"(to), "+S"(from), "+c"(count) : : "memory");
+}
+
 HIDDEN void *wim_memset(void *to, int byte, size_t count)
 {
     void *start = to;
@@ -41,7 +49,7 @@ HIDDEN void *wim_memset(void *to, int byte, size_t count)
 
 typedef uint8_t wide __attribute__((vector_size(16), aligned(1), may_alias));
 
-/* Without it the compiler would make calls of memcpy and memset of the loops. */
+/* Without it the compiler would make calls of memcpy, memmove and memset of the loops. */
 #define KEEP_LOOP() __asm__ volatile("" : : : "memory")
 
 HIDDEN void *wim_memcpy(void *to, const void *from, size_t count)
@@ -58,6 +66,19 @@ HIDDEN void *wim_memcpy(void *to, const void *from, size_t count)
         KEEP_LOOP();
     }
     return to;
+}
+
+/* From the last byte to the first. */
+static void copy_back(uint8_t *to, const uint8_t *from, size_t count)
+{
+    for (; count >= 16; count -= 16) {
+        *(wide *)(to + count - 16) = *(const wide *)(from + count - 16);
+        KEEP_LOOP();
+    }
+    for (; count > 0; count--) {
+        to[count - 1] = from[count - 1];
+        KEEP_LOOP();
+    }
 }
 
 HIDDEN void *wim_memset(void *to, int byte, size_t count)
@@ -77,3 +98,13 @@ HIDDEN void *wim_memset(void *to, int byte, size_t count)
 }
 
 #endif
+
+HIDDEN void *wim_memmove(void *to, const void *from, size_t count)
+{
+    /* A copy from the first byte on reads none that it has written, unless to is among those that are
+     * read. */
+    if ((uintptr_t)to - (uintptr_t)from >= count)
+        return wim_memcpy(to, from, count);
+    copy_back(to, from, count);
+    return to;
+}

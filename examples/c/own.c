@@ -1,6 +1,7 @@
 /*
  * What the archive's functions of C do, beside those that other programs here look at: wim_wipe,
- * wim_same, wim_sizes and wim_bcns_table.
+ * wim_same, wim_sizes and wim_bcns_table; and the copies of its proved code (c/memory.c), which a
+ * program that is linked with the archive finds.
  *
  * Compiled with -O2, a memset of an array that is not read again is dropped, and the array stays on
  * the stack. Here such an array is wiped by wim_wipe, and looked for after its function has
@@ -13,6 +14,9 @@
 #include <string.h>
 
 #define COUNT 4096
+
+void *wim_memcpy(void *to, const void *from, size_t count);
+void *wim_memmove(void *to, const void *from, size_t count);
 
 #if defined(__GNUC__)
 #define OWN_FRAME __attribute__((noinline))
@@ -70,6 +74,31 @@ static int wipes(void)
     return before > COUNT / 2 && after < 64;
 }
 
+/* Each length and distance, forward and backward, and what stands beside is left. */
+static int copies(void)
+{
+    uint8_t was[120], bytes[120];
+
+    for (size_t i = 0; i < sizeof was; i++)
+        was[i] = (uint8_t)(i + 1);
+    for (size_t from = 0; from < 50; from++)
+        for (size_t to = 0; to < 50; to++)
+            for (size_t count = 0; count < 70; count++) {
+                int apart = to >= from + count || from >= to + count;
+
+                for (int moves = apart ? 0 : 1; moves < 2; moves++) {
+                    memcpy(bytes, was, sizeof was);
+                    if ((moves ? wim_memmove : wim_memcpy)(bytes + to, bytes + from, count) !=
+                        bytes + to)
+                        return 0;
+                    for (size_t i = 0; i < sizeof bytes; i++)
+                        if (bytes[i] != was[i >= to && i < to + count ? i - to + from : i])
+                            return 0;
+                }
+            }
+    return 1;
+}
+
 /* Every length, and at each one every bit that differs. */
 static int compares(void)
 {
@@ -108,5 +137,5 @@ static int tells(void)
 
 int main(void)
 {
-    return wipes() && compares() && tells() ? EXIT_SUCCESS : EXIT_FAILURE;
+    return wipes() && copies() && compares() && tells() ? EXIT_SUCCESS : EXIT_FAILURE;
 }
