@@ -44,8 +44,12 @@ fn main() {
 fn found() -> PathBuf {
     let root = std::env::var_os("CARGO_MANIFEST_DIR").expect("cargo sets it");
     let own = Path::new(&root).join("../target/native");
-    if own.join(ARCHIVE).exists() {
-        return own;
+    // the command line has this package one folder further down
+    let below = Path::new(&root).join("../../target/native");
+    for folder in [&own, &below] {
+        if folder.join(ARCHIVE).exists() {
+            return folder.clone();
+        }
     }
     let program = std::env::var_os("PKG_CONFIG").unwrap_or("pkg-config".into());
     let asked = Command::new(program)
