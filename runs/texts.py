@@ -62,9 +62,10 @@ def random_text(rand, letters, parts, lengths):
 def command(program):
     if platform.machine() in ("x86_64", "AMD64"):
         return [program]
+    # the program is for x86-64: an emulator, with the loader and the C library of the kit
     doc = subprocess.run(["rt", "doc"], capture_output=True, text=True, check=True).stdout.strip()
-    tools = os.path.join(os.path.dirname(doc), "..", "on", platform.machine(), "toolchain")
-    return [os.path.join(tools, "bin", "qemu-x86_64"), os.path.join(tools, "lib", "ld-linux-x86-64.so.2"), "--library-path", os.path.join(tools, "lib"), program]
+    lib = os.path.join(os.path.dirname(doc), "toolchain", "lib")
+    return ["qemu-x86_64", os.path.join(lib, "ld-linux-x86-64.so.2"), "--library-path", lib, program]
 
 
 def run(words, data):

@@ -13,29 +13,41 @@ from .common import hold, read, refused, run, write
 # cargo that makes a program of three lines
 FAKE = {
     "bin/rt": """#!/bin/bash
-case $1 in check | staticlib) ;; *) echo "$(dirname "$0")/../kit/docs/guide"; exit 0 ;; esac
-mkdir -p target/log target/staticlib
-echo "$*" >>target/asked
-for name in "${@:2}"; do
-    for i in $(seq 40); do echo "fn $name::f$i: proved"; done >"target/log/$name.out"
-    : >"target/log/$name.say"
-    [ "$name" != "${SLOW:-}" ] || { echo "$$" >target/slow; sleep "$SECONDS_OF_SLOW"; }
+[ "$1 $2" = "all check" ] || { echo "$(dirname "$0")/../kit/guide"; exit 0; }
+top=$PWD/../..
+echo "${PWD##*/} $*" >>"$top/target/asked"
+for name in $(cat below); do
+    rm -rf "../$name/out/rlib"
+    mkdir -p "../$name/out/rlib"
+    [ "$name" != "${SLOW:-}" ] || { echo "$$" >"$top/target/slow"; sleep "$SECONDS_OF_SLOW"; }
+    echo "== $name"
+    for i in $(seq 40); do echo "fn $name::f$i: proved"; done
     if [ "$name" = "${BREAK:-}" ]; then
-        echo "rt: $name NOT PROVED (exit 1, 1 s)" >>"target/log/$name.out"
+        echo "fn $name::f41: not proved"
     else
-        echo "rt: $name proved (1 s)" >>"target/log/$name.out"
+        : >"../$name/out/rlib/stamp"
     fi
-    cat "target/log/$name.out"
 done
-[ -z "${BREAK:-}" ] || exit 1
-[ "$1" = staticlib ] || exit 0
-rm -f "target/staticlib/lib$2.a"
-: >"target/$2.bc"
-"$RATTLE_HOME/on/x86_64/toolchain/bin/clang" "target/$2.bc" -o "target/$2.o"
-ar rc "target/staticlib/lib$2.a" "target/$2.o"
+echo "== summary"
+for name in $(cat below); do
+    [ "$name" = "${BREAK:-}" ] && echo "$name: failed (1)" || echo "$name: ok"
+done
+[ -z "${BREAK:-}" ]
 """,
-    "kit/docs/guide": "",
-    "kit/on/x86_64/toolchain/bin/clang": "#!/bin/bash\ncc -c -x c /dev/null -o \"$3\"\n",
+    "kit/guide": "",
+    "kit/bin/rattle": """#!/bin/bash
+work=$(mktemp -d)
+echo "$1 $3" >>"$PWD/../../target/asked"
+name=$3
+while [ "$1" != --toolchain ]; do shift; done
+cd "$work"
+: >module.bc
+"$2/bin/clang" module.bc -o "$name.o"
+rm -f "$4"
+ar rc "$4" "$name.o"
+rm -r "$work"
+""",
+    "kit/toolchain/bin/clang": "#!/bin/bash\ncc -c -x c /dev/null -o \"$3\"\n",
     "bin/uname": "#!/bin/bash\necho x86_64\n",
     "bin/cargo": """#!/bin/bash
 root=$(dirname "$0")/..
@@ -47,17 +59,18 @@ chmod +x "$root/target/cli/release/wimmostry"
 }
 
 
-ARCHIVES = ("wimmostry", "trace")
+# each archive, and the crate that it is made of
+ARCHIVES = {"wimmostry": "wimmostry", "trace": "trace_c"}
 
 
-def made_of(archive, crates):
-    """The crates that an archive is made of, in the order in which rt takes them."""
+def made_of(crate, crates):
+    """The crates that a static library is made of, in the order in which they are taken."""
     needs = {}
     with open(crates) as lines:
         for line in lines:
             if ":" in line and not line.startswith("#"):
                 name, rest = line.split(":")
-                needs[name] = rest.split()
+                needs[name.split()[0]] = rest.split()
     level = {}
 
     def visit(name):
@@ -65,7 +78,7 @@ def made_of(archive, crates):
             level[name] = max([visit(x) + 1 for x in needs[name] if x in needs], default=0)
         return level[name]
 
-    visit(archive)
+    visit(crate)
     order = []
 
     def walk(name):
@@ -75,7 +88,7 @@ def made_of(archive, crates):
         if name not in order:
             order.append(name)
 
-    walk(archive)
+    walk(crate)
     return sorted(order, key=lambda x: level[x])
 
 
@@ -151,32 +164,38 @@ def script(both):
         shutil.copy(os.path.join(root, name), tree)
     for name in ("c", "include", "data"):
         shutil.copytree(os.path.join(root, name), os.path.join(tree, name))
-    made = {x: made_of(x, os.path.join(root, "crates.txt")) for x in ARCHIVES}
-    for name in ("rust/src", "cli/src"):
+    made = {x: made_of(x, os.path.join(root, "crates.txt")) for x in ARCHIVES.values()}
+    for name in ("cli/rust", "cli/src"):
         os.makedirs(os.path.join(tree, name))
-    for name in ("rust/build.rs", "cli/build.rs", "cli/Cargo.toml"):
+    for name in ("cli/build.rs", "cli/Cargo.toml"):
         write(os.path.join(tree, name), b"")
-    for name in {*made["wimmostry"], *made["trace"]}:
+    for name in {*made["wimmostry"], *made["trace_c"]}:
         os.makedirs(os.path.join(tree, "crates", name, "src"))
         write(os.path.join(tree, "crates", name, "src/lib.rt"), b"")
-    around = {**os.environ, "PATH": tree + "/bin:" + os.environ["PATH"]}
+        below = made_of(name, os.path.join(root, "crates.txt"))
+        write(os.path.join(tree, "crates", name, "below"), "\n".join(below).encode())
+    around = {**os.environ, "PATH": tree + "/bin:" + os.environ["PATH"], "RT_JOBS": "3"}
     start = lambda **more: run([os.path.join(tree, "box"), "some", "words"], env={**around, **more})
 
-    def proving(done, what, archives=ARCHIVES):
+    def proving(done, what, archives=tuple(ARCHIVES), left=False):
         """It names the log, and tells of all crates at the end; rt is asked for what is below the
-        archives' crates first, and for these crates then."""
+        archives' crates first, unless rt ci left that, and the compiler for these crates then."""
         status, text, error = done
-        below = {x: 0 for archive in archives for x in made[archive][:-1]}
-        many, told = len(below) + len(archives), r"prove: the log is target/native/prove\.log\n"
+        crates = [ARCHIVES[x] for x in archives]
+        many = len({x for crate in crates for x in made[crate]})
+        told = r"prove: the log is target/native/prove\.log\n"
         told += rf"(prove: \d+ of {many} proved in .*\n)*prove: {many} of {many} proved in \w+\n"
-        asked = f"check {' '.join(below)}\n" + "".join(f"staticlib {x}\n" for x in archives)
-        got = read(tree + "/target/asked").decode()
+        first, then = [f"{x} all check --jobs 3" for x in crates], [f"build {x}" for x in crates]
+        first = [] if left else first
+        got = read(tree + "/target/asked").decode().splitlines()
         fine = status == 7 and text == b"some words\n" and re.fullmatch(told, error.decode())
-        hold("script", fine and got == asked, f"{what}: {done} {got}")
+        fine = fine and got[:len(first)] == first and sorted(got[len(first):]) == sorted(then)
+        hold("script", fine, f"{what}: {done} {got}")
         os.remove(tree + "/target/asked")
 
     broken = start(BREAK="matrix")
-    fine = broken[0] == 4 and broken[1] == b"" and b"rt: matrix NOT PROVED" in broken[2]
+    fine = broken[0] == 4 and broken[1] == b"" and b"fn matrix::f41: not proved" in broken[2]
+    fine = fine and b"fn bcns::" not in broken[2]
     hold("script", fine and broken[2].count(b"\n") < 60, f"a proof that fails: {broken}")
     broken = start(BREAK_CARGO="1")
     hold("script", broken[0] == 4 and b"error: cargo" in broken[2], f"a build that fails: {broken}")
@@ -190,6 +209,26 @@ def script(both):
     proving(start(), "a source of the library", ["wimmostry"])
     write(os.path.join(tree, "crates/trace/src/lib.rt"), b"changed")
     proving(start(), "a source of the trace", ["trace"])
+
+    def proved(source, remade):
+        """As runs/ci does: rt ci makes the libraries of changed sources anew, or puts the old back."""
+        write(os.path.join(tree, "crates/matrix/src/lib.rt"), source)
+        run([tree + "/prove", "--before"], env=around)
+        time.sleep(0.1)
+        for name in {*made["wimmostry"], *made["trace_c"]} if remade else ():
+            rlib = os.path.join(tree, "crates", name, "out/rlib")
+            shutil.rmtree(rlib, ignore_errors=True)
+            os.makedirs(os.path.join(rlib, name + ".rlib"))
+            write(os.path.join(rlib, name + ".rlib/format"), source)
+        return run([tree + "/prove", "--after"], env=around)
+
+    hold("script", proved(b"by rt ci", True) == (0, b"", b""), "rt ci's libraries are not taken")
+    proving(start(), "libraries that rt ci left", ["wimmostry"], left=True)
+    hold("script", proved(b"by another rt ci", False) == (0, b"", b""), "old libraries")
+    proving(start(), "libraries that rt ci put back", ["wimmostry"])
+    proved(b"by a third rt ci", True)
+    write(os.path.join(tree, "crates/matrix/src/lib.rt"), b"changed since")
+    proving(start(), "libraries of other sources", ["wimmostry"])
     os.makedirs(os.path.join(tree, "crates/matrix/must-fail"))
     write(os.path.join(tree, "crates/matrix/must-fail/x.edit"), b"")
     hold("script", start() == (7, b"some words\n", b""), "an edit that must fail is no source")
