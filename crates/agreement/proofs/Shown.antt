@@ -4,7 +4,7 @@ use Rattle.std.proofs.Common.{◌≡◌, ◌^◌, ◌≤◌}
 use Rattle.schemes.specs.declared.Scheme.TheVariants.{Bcns, NewHope, Challenge, Classical, Recommended, Paranoid}
 use Rattle.schemes.specs.{Schemes.family_of, Schemes.fixed_of, declared.Family.Family, declared.Scheme.Scheme}
 use Rattle.packing.proofs.Laws.{unpacked-below}
-use Rattle.refusals.specs.{Refusals.number_in, Refusals.◌then◌, Refusals.message_in, declared.Verdict.Verdict, declared.Verdict.TheVariants.Pass}
+use Rattle.refusals.specs.{Refusals.number_in, Refusals.◌then◌, Refusals.message_in, Refusals.Verdict, Refusals.pass}
 use Rattle.refusals.proofs.{Laws.message-passes, Number.and, Number.passes, Number.lengths, Number.rooms, Number.publics, Number.secrets, Number.blanks}
 use Rattle.wire.specs.Wire.{numbers_in}
 use Rattle.finish.specs.Finish.{finish_tests, replied_of}
@@ -20,7 +20,7 @@ whole Classical e = lit≤ tt
 whole Recommended e = lit≤ tt
 whole Paranoid e = lit≤ tt
 
-fits : (c : Scheme) → family_of c ≡ Family.Frodo → (p : List ℕ) → message_in (fixed_of c).q (numbers_in c p) ≡ Pass
+fits : (c : Scheme) → family_of c ≡ Family.Frodo → (p : List ℕ) → message_in (fixed_of c).q (numbers_in c p) ≡ pass
 unfolding numbers_in
 fits c d p = message-passes (record { below = λ k. lt_of_lt_of_le ((unpacked-below (fixed_of c).width (fixed_of c).secret p).below k) (whole c d) })
 

@@ -5,10 +5,10 @@
 --   offer-passes, reply-passes, finish-passes   such inputs pass the tests of each call, in any rooms that are enough
 --   offer-room, reply-rooms   a call that passes its tests was lent such rooms
 use Rattle.lists.proofs.Kit.{sym, ◌∙◌, false, List, ℕ, length}
-use Rattle.std.proofs.Common.{◌≡◌, ◌≤◌}
-use Rattle.schemes.specs.{Schemes.fixed_of, declared.Named.TheVariants.Known, declared.Scheme.Scheme}
+use Rattle.std.proofs.Common.{Some, ◌≡◌, ◌≤◌}
+use Rattle.schemes.specs.{Schemes.fixed_of, declared.Scheme.Scheme}
 use Rattle.blank.specs.Blank.{blank}
-use Rattle.refusals.specs.{Refusals.◌then◌, Refusals.received_in, declared.Verdict.TheVariants.Pass}
+use Rattle.refusals.specs.{Refusals.◌then◌, Refusals.received_in, Refusals.pass}
 use Rattle.refusals.proofs.Laws.{both, all_pass, length-passes, room-passes, below-passes, message-passes, within-passes, not-blank-passes, not-blank-passed}
 use Rattle.values.specs.{Keys.hints, Values.offered, Values.replied}
 use Rattle.values.proofs.{Ranges.offered-counted, Ranges.replied-counted, Ranges.mixed-counted, Settling.hints-counted}
@@ -24,8 +24,8 @@ use Rattle.agreement.specs.{Run.Run, Run.offering, Run.reply_to, Run.replying, R
 
 module _ (c : Scheme) (x : Run) where
   -- of any opening
-  pub sendable-by : (n : ℕ) (m : ReplyRooms) (opening : List ℕ) → offer_tests (Known c) (offering x) n ≡ Pass
-      → reply_tests (Known c) (reply_to x opening) m ≡ Pass → Sendable c x
+  pub sendable-by : (n : ℕ) (m : ReplyRooms) (opening : List ℕ) → offer_tests (Some c) (offering x) n ≡ pass
+      → reply_tests (Some c) (reply_to x opening) m ≡ pass → Sendable c x
   unfolding offer_tests offer_in_lem offer_lengths_lem reply_rest reply_last
   sendable-by n m opening o r =
       let lent = both _ _ o in
@@ -53,11 +53,11 @@ module _ (c : Scheme) (x : Run) where
   opened-is l = opened-back c x.seed l (offered-counted c x.a x.s x.e)
 
   -- the packed parts, as they came
-  opened-part-is : length x.seed ≡ (fixed_of c).seed → opened_in c (offer_message (Known c) (offering x)) ≡ offered_part c (offering x)
+  opened-part-is : length x.seed ≡ (fixed_of c).seed → opened_in c (offer_message (Some c) (offering x)) ≡ offered_part c (offering x)
   unfolding offer_message
   opened-part-is l = opened-part c x.seed l (offered-counted c x.a x.s x.e)
 
-  replied-part-is : replied_in c (reply_message (Known c) (replying c x)) ≡ replied_part c x.a x.s' x.e'
+  replied-part-is : replied_in c (reply_message (Some c) (replying c x)) ≡ replied_part c x.a x.s' x.e'
   unfolding reply_message reply_value
   replied-part-is =
       replied-part c (replied-counted c x.a x.s' x.e') (hints-counted c (coins_in c x.coins) _ (mixed-counted c _ x.s' x.e'').long)
@@ -67,7 +67,7 @@ module _ (c : Scheme) (x : Run) where
   replied-is =
       replied-back c (replied-counted c x.a x.s' x.e') (hints-counted c (coins_in c x.coins) _ (mixed-counted c _ x.s' x.e'').long)
 
-  pub hints-are : hints_in c (reply_message (Known c) (replying c x)) ≡ hints c (coins_in c x.coins) (reply_value c (replying c x))
+  pub hints-are : hints_in c (reply_message (Some c) (replying c x)) ≡ hints c (coins_in c x.coins) (reply_value c (replying c x))
   unfolding reply_message reply_value
   hints-are =
       hints-back c (replied-counted c x.a x.s' x.e') (hints-counted c (coins_in c x.coins) _ (mixed-counted c _ x.s' x.e'').long)
@@ -75,7 +75,7 @@ module _ (c : Scheme) (x : Run) where
   -- ---- what passes
 
   pub opening-received : length x.seed ≡ (fixed_of c).seed → blank (offered_part c (offering x)) ≡ false
-      → received_in (fixed_of c).q (opened_in c (offer_message (Known c) (offering x))) (opened_of c (replying c x)) ≡ Pass
+      → received_in (fixed_of c).q (opened_in c (offer_message (Some c) (offering x))) (opened_of c (replying c x)) ≡ pass
   unfolding received_in
   opening-received l b =
       all_pass (rw (opened-is l) (message-passes (offered-counted c x.a x.s x.e).below)) (rw (opened-part-is l) (not-blank-passes _ b))
@@ -84,7 +84,7 @@ module _ (c : Scheme) (x : Run) where
     h : Ranged c x
     h = s.ranged
 
-    pub offer-passes : (n : ℕ) → (fixed_of c).opening ≤ n → offer_tests (Known c) (offering x) n ≡ Pass
+    pub offer-passes : (n : ℕ) → (fixed_of c).opening ≤ n → offer_tests (Some c) (offering x) n ≡ pass
     unfolding offer_tests ◌then◌
     offer-passes n l =
         rw (
@@ -99,7 +99,7 @@ module _ (c : Scheme) (x : Run) where
           not-blank-passes _ s.opening,
         )
 
-    pub reply-passes : (m : ReplyRooms) → (fixed_of c).reply ≤ m.message → (fixed_of c).key ≤ m.key → 32 ≤ m.digest → reply_tests (Known c) (replying c x) m ≡ Pass
+    pub reply-passes : (m : ReplyRooms) → (fixed_of c).reply ≤ m.message → (fixed_of c).key ≤ m.key → 32 ≤ m.digest → reply_tests (Some c) (replying c x) m ≡ pass
     unfolding reply_tests ◌then◌
     reply-passes m l k d =
         rw (
@@ -123,7 +123,7 @@ module _ (c : Scheme) (x : Run) where
           not-blank-passes _ s.reply,
         )
 
-    pub finish-passes : (m : FinishRooms) → FinishEnough c m → finish_tests (Known c) (finishing c x) m ≡ Pass
+    pub finish-passes : (m : FinishRooms) → FinishEnough c m → finish_tests (Some c) (finishing c x) m ≡ pass
     unfolding finish_tests ◌then◌
     finish-passes m r =
         rw (
@@ -141,11 +141,11 @@ module _ (c : Scheme) (x : Run) where
 -- ---- the rooms
 
 module _ (c : Scheme) where
-  pub offer-room : (x : Offer) (n : ℕ) → offer_tests (Known c) x n ≡ Pass → (fixed_of c).opening ≤ n
+  pub offer-room : (x : Offer) (n : ℕ) → offer_tests (Some c) x n ≡ pass → (fixed_of c).opening ≤ n
   unfolding offer_tests offer_in_lem offer_lengths_lem
   offer-room x n t = (offer-opens c x n (both _ _ t).0).1
 
-  pub reply-rooms : (x : Reply) (m : ReplyRooms) → reply_tests (Known c) x m ≡ Pass
+  pub reply-rooms : (x : Reply) (m : ReplyRooms) → reply_tests (Some c) x m ≡ pass
       → ((fixed_of c).reply ≤ m.message) × ((fixed_of c).key ≤ m.key) × (32 ≤ m.digest)
   reply-rooms x m t =
       let s = reply-sized c x m (both _ _ (both _ _ (sym (reply-apart c x m) ∙ t)).0).0 in

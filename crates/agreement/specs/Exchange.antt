@@ -12,9 +12,9 @@
 --   Numbered       a call that refuses nothing was given a scheme
 --   OneNumber      which its number names, and no other number
 --   NeverFive      01: refusal 5 can't arise in Frodo
-use Rattle.std.specs.Prelude.{◌≡◌, false, List, ◌↔◌, ℕ, ◌≤◌, length}
+use Rattle.std.specs.Prelude.{Some, Option, ◌≡◌, false, List, ◌↔◌, ℕ, ◌≤◌, length}
 use Rattle.schemes.specs.Schemes.{family_of, fixed_of, scheme_number, scheme_of_lem}
-use Rattle.schemes.specs.{declared.Family.Family, declared.Named.Named, declared.Scheme.Scheme, declared.Named.TheVariants.Known}
+use Rattle.schemes.specs.{declared.Family.Family, declared.Scheme.Scheme}
 use Rattle.lists.specs.declared.Peak.{Peak}
 use Rattle.blank.specs.Blank.{blank}
 use Rattle.refusals.specs.{Refusals.number_in, Seen.Seen, Seen.answer}
@@ -54,13 +54,13 @@ pub record Enough (c : Scheme) (m : Rooms) : Type 0 where
 -- x has one list of public numbers, which both boxes take, and one secret s, which Offer and Finish take; each call takes the message as the one before wrote it
 module _ (c : Scheme) (x : Run) (m : Rooms) where
   abbrev pub offers : Seen ℕ
-  offers = offer_result (Known c) (offering x) m.offer
+  offers = offer_result (Some c) (offering x) m.offer
 
   abbrev pub replies : ReplySeen
-  replies = reply_result (Known c) (reply_to x (answer offers.out)) m.reply
+  replies = reply_result (Some c) (reply_to x (answer offers.out)) m.reply
 
   abbrev pub finishes : FinishSeen
-  finishes = finish_result (Known c) (finish_with x (answer replies.message)) m.finish
+  finishes = finish_result (Some c) (finish_with x (answer replies.message)) m.finish
 
 pub record Exchange (c : Scheme) (x : Run) : Type 0 where
   pub rooms : Rooms
@@ -84,12 +84,12 @@ abbrev pub Accepted : Type 0
 Accepted = (c : Scheme) (x : Run) → Exchange c x ↔ Sendable c x
 
 abbrev pub Numbered : Type 0
-Numbered = (n : Named) (x : Offer) (room : ℕ) → (offer_result n x room).number ≡ 0 → (c : Scheme) × (n ≡ Known c)
+Numbered = (n : Option Scheme) (x : Offer) (room : ℕ) → (offer_result n x room).number ≡ 0 → (c : Scheme) × (n ≡ Some c)
 
 abbrev pub OneNumber : Type 0
-OneNumber = (k : ℕ) (c : Scheme) → (scheme_of_lem k ≡ Known c) ↔ (k ≡ scheme_number c)
+OneNumber = (k : ℕ) (c : Scheme) → (scheme_of_lem k ≡ Some c) ↔ (k ≡ scheme_number c)
 
 abbrev pub NeverFive : Type 0
 NeverFive =
     (c : Scheme) → family_of c ≡ Family.Frodo
-    → ((x : Reply) (m : ReplyRooms) → number_in (reply_tests (Known c) x m) ≡ 5 → ⊥) × ((x : Finish) (m : FinishRooms) → number_in (finish_tests (Known c) x m) ≡ 5 → ⊥)
+    → ((x : Reply) (m : ReplyRooms) → number_in (reply_tests (Some c) x m) ≡ 5 → ⊥) × ((x : Finish) (m : FinishRooms) → number_in (finish_tests (Some c) x m) ≡ 5 → ⊥)

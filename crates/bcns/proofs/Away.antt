@@ -2,7 +2,7 @@
 --   marked, bare   a z that has the hint, and one that has not
 --   arc-first, arc-second, arc-third, arc-fourth   where 2w has the other hint, its region is a stretch of numbers without the given one, and both neighbours have it
 --   Case, case-of   the two cases, with the slack and the formula in each
---   slack-apart, slack-least, slack-formula, slack-none, slack-bound
+--   slack-apart, slack-least, slack_formula, slack-none, slack-bound
 use Rattle.lists.proofs.Kit.{refl, sym, ◌∙◌, Bool, true, ℕ, min, ℕ_discrete, le_refl, arith, eqb, eqb-true, eq-eqb}
 use Rattle.std.proofs.Common.{◌≡◌, ◌+◌, ◌*◌, ◌-◌, ◌%◌, ◌≤◌, ◌<◌}
 use Rattle.numbers.specs.{Residue.apart, Least.nearest_to, Least.gap_to}
@@ -138,8 +138,8 @@ module _ (w : ℕ) (hw : w < q) where
   bound_at h l (has e z y) = omega arith
   bound_at h l (lacks d r i z y) = omega arith
 
-pub slack-formula : SlackFormula
-slack-formula h w hw l = formula-at w hw h (case-of w hw h l)
+pub slack_formula : SlackFormula
+slack_formula h w hw l = formula-at w hw h (case-of w hw h l)
 
 pub slack-none : SlackNone
 slack-none h w hw l = (none-at w hw h (case-of w hw h l), there w hw h)

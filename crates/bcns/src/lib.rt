@@ -8,6 +8,8 @@ ghost use Rattle.std.specs.Prelude.{◌≡◌, ℕ, ◌*◌, ◌≤◌, ◌<◌,
 ghost use Rattle.lists.specs.Ranges.{Below};
 ghost use Rattle.bcns.specs.Rounding.{q, coin_of_lem, doubled, hint_of, key_of, peer_of, hints_of, keys_of, peers_of, slack_of, slacks_of};
 
+use lists::each::set_each;
+
 // q, 2q, the first and the last z whose key bit is 1, an eighth of the circle of w, and how many z of the hint 1 stand in a row; of the hint 0 one more.
 const Q: u64 = schemes::Bcns::Q as u64;
 
@@ -22,6 +24,7 @@ const EIGHTH: u64 = (Q + 1) / 8;
 const ROW: u64 = Q / 2;
 
 // What two coin bits give: 0, 1 or -1.
+#[tactic(auto, using(std::proofs::lemmas::Bool::Decides::nat_tests), unfolding(crate::specs::Rounding::coin_of_lem))]
 fn coin_of(bits: u32) -> i64
     ensures { (result ≡ coin_of_lem bits) × (nat_abs result ≤ 1) }
 {
@@ -40,6 +43,7 @@ pub fn double(coin: u32, v: u32) -> u64
 }
 
 // The hint of z: it is 1 in the second and in the fourth of the four rows of z that have one hint and one key bit.
+#[tactic(auto, using(std::proofs::lemmas::Bool::Decides::nat_tests), unfolding(crate::specs::Rounding::hint_of))]
 pub fn hint(z: u64) -> u32
     requires { z < 2 * q }
     ensures { result ≡ hint_of z }
@@ -48,6 +52,7 @@ pub fn hint(z: u64) -> u32
 }
 
 // The replier's key bit of z.
+#[tactic(auto, unfolding(crate::specs::Rounding::key_of))]
 pub fn key(z: u64) -> u32
     ensures { result ≡ key_of z }
 {
@@ -55,6 +60,7 @@ pub fn key(z: u64) -> u32
 }
 
 // The initiator's bit of w under the hint h: 01's rule as a formula (`Formula`). The sum stays below 3 * 2^31.
+#[tactic(auto, using(crate::proofs::Formula::formula))]
 pub fn peer(h: u32, w: u32) -> u32
     requires { (h < 2) × (w < q) }
     ensures { result ≡ peer_of h w }
@@ -64,6 +70,7 @@ pub fn peer(h: u32, w: u32) -> u32
 
 // The slack used (02f): how far 2w lies, around a circle of 2q, from the nearest z with the hint h. In place of a search its formula, which `Shown.antt`
 // states: the place of 2w behind the start of a row of z with the other hint, and the way out of that row.
+#[tactic(auto, using(crate::proofs::Away::slack_formula))]
 pub fn slack(h: u32, w: u32) -> u32
     requires { (h < 2) × (w < q) }
     ensures { result ≡ slack_of h w }
@@ -78,33 +85,21 @@ pub fn hints(coins: &[u32], v: &[u32], out: &mut [u32])
     requires { Below q v.now × (length coins.now ≡ length v.now) × (length out.old ≡ length v.now) }
     ensures { out.new ≡ hints_of coins.now v.now }
 {
-    let mut i: usize = 0;
-    while i < out.len() {
-        out[i] = hint(double(coins[i], v[i]));
-        i += 1;
-    }
+    set_each(out, |k, _| hint(double(coins[k], v[k])));
 }
 
 pub fn keys(coins: &[u32], v: &[u32], out: &mut [u32])
     requires { Below q v.now × (length coins.now ≡ length v.now) × (length out.old ≡ length v.now) }
     ensures { out.new ≡ keys_of coins.now v.now }
 {
-    let mut i: usize = 0;
-    while i < out.len() {
-        out[i] = key(double(coins[i], v[i]));
-        i += 1;
-    }
+    set_each(out, |k, _| key(double(coins[k], v[k])));
 }
 
 pub fn peers(hints: &[u32], w: &[u32], out: &mut [u32])
     requires { Below q w.now × Below 2 hints.now × (length hints.now ≡ length w.now) × (length out.old ≡ length w.now) }
     ensures { out.new ≡ peers_of hints.now w.now }
 {
-    let mut i: usize = 0;
-    while i < out.len() {
-        out[i] = peer(hints[i], w[i]);
-        i += 1;
-    }
+    set_each(out, |k, _| peer(hints[k], w[k]));
 }
 
 // In place: each value becomes its slack.
@@ -112,9 +107,5 @@ pub fn slacks(hints: &[u32], w: &mut [u32])
     requires { Below q w.old × Below 2 hints.now × (length hints.now ≡ length w.old) }
     ensures { w.new ≡ slacks_of hints.now w.old }
 {
-    let mut i: usize = 0;
-    while i < w.len() {
-        w[i] = slack(hints[i], w[i]);
-        i += 1;
-    }
+    set_each(w, |k, x| slack(hints[k], x));
 }

@@ -3,7 +3,7 @@
 --   pass-next              a comparison: one limb more
 --   table-limb             a limb of the table from its bytes
 --   laid_none, laid_next   the rows of the table by limbs: before, and at each turn
---   compared_at, tally-next   the count: what each comparison asks, and one entry more
+--   tally-next             the count: one entry more
 --   eight-below, number-eight   the limbs of a value: each is small, and they are its 24 bytes
 --   value-is               a value from its parts, as the code forms them
 use Rattle.lists.proofs.Kit.{refl, ◌∙◌, sym, ap, ap₂, subst, Bool, true, false, List, [], ℕ, zero, suc}
@@ -15,7 +15,7 @@ use Rattle.lists.specs.Ranges.{Below, Stored}
 use Rattle.lists.proofs.Entries.{tab-at, tab-const, below-tab}
 use Rattle.noise.specs.Noise.{at_most, with_sign}
 use Rattle.noise.proofs.Noise.{Counted, counted_none, counted-all}
-use Rattle.bcns_noise.specs.Limbs.{byte_of, word_bytes, limbs, limbs_of, passes, tally, LimbRows, Compared}
+use Rattle.bcns_noise.specs.Limbs.{byte_of, word_bytes, limbs, limbs_of, passes, tally, LimbRows}
 use Rattle.bcns_noise.specs.Noise.{entry_of, entries, big_endian, bcns_value_lem}
 use Rattle.bcns_noise.proofs.{Words.big-join, Words.big-wide, Table.entries-long, Table.byte_le, Table.count-entry}
 
@@ -219,9 +219,6 @@ module _ {table : List ℕ} {n : ℕ} {t t' : List ℕ} (old : LimbRows table n 
   }
 
 -- ---- the count
-
-pub compared_at : {t v : List ℕ} (k : ℕ) → Compared t v 0 → k < 56 → Compared t v k
-compared_at k c h = record { long = c.long; eight = c.eight; column = h; small = c.small; below = c.below }
 
 pub tally-next : (f : ℕ → Bool) (k : ℕ) {size r : ℕ} → size ≡ tally k f → r ≡ bool_byte (f k) → size + r ≡ tally (k + 1) f
 unfolding tally

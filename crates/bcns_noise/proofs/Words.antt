@@ -1,10 +1,12 @@
 -- Numbers as words and as bytes.
 --   words-order   the order of the words, highest first, is the order of the numbers
+--   tuple-order   that of tuples of them, which the code compares
 --   big-join      the number of some bytes and those behind them
 --   big-wide      24 bytes are three words
 --   big-three     three bytes
-use Rattle.lists.proofs.Kit.{◌∙◌, sym, ap, ap₂, Bool, List, ℕ, zero, suc, arith, dec_lt, dec_le, ℕ_discrete, add-suc}
-use Rattle.std.proofs.Common.{◌≡◌, ◌&&◌, ◌||◌, ◌+◌, ◌*◌, ◌^◌, ◌<◌, ◌≤◌}
+use Rattle.lists.proofs.Kit.{refl, ◌∙◌, sym, ap, ap₂, Bool, true, false, cond, List, ℕ, zero, suc, arith, dec_lt, dec_le, ℕ_discrete, add-suc}
+use Rattle.std.specs.Ordering.{nat_cmp, partial_ordering_then, partial_le}
+use Rattle.std.proofs.Common.{◌≡◌, Option, Some, Ordering, Less, Equal, Greater, ◌&&◌, ◌||◌, ◌+◌, ◌*◌, ◌^◌, ◌<◌, ◌≤◌}
 use Rattle.lists.proofs.Kit.{pow-suc, mul-le-mul, le_refl, lt-ltb, le-ltb, le-leb, lt-leb, eq-eqb, ne_eqb, leb, ltb, eqb, get_or}
 use Rattle.bcns_noise.specs.Noise.{wide, big_endian}
 
@@ -49,6 +51,33 @@ pub words-order :
     ltb a x || (eqb a x && (ltb b y || (eqb b y && leb c z))) ≡ leb (wide a b c) (wide x y z)
 unfolding wide
 words-order a b c x y z hb hc hy hz = three-order (2 ^ 64) a b c x y z hb hc hy hz
+
+-- as `<=` decides at tuples of three
+by_parts : (p q r s t u : Bool) →
+    partial_le (λ (_ _ : ℕ). partial_ordering_then (partial_ordering_then (Some (cond p Less (cond q Equal Greater))) (Some (cond r Less (cond s Equal Greater)))) (Some (cond t Less (cond u Equal Greater)))) 0 0
+    ≡ p || (q && (r || (s && (t || u))))
+by_parts true q r s t u = refl
+by_parts false true true s t u = refl
+by_parts false true false true true u = refl
+by_parts false true false true false true = refl
+by_parts false true false true false false = refl
+by_parts false true false false t u = refl
+by_parts false false r s t u = refl
+
+less-or-same : (c z : ℕ) → Dec (c < z) → Dec (c ≡ z) → ltb c z || eqb c z ≡ leb c z
+less-or-same c z (yes p) d = rw (lt-ltb c z p) (sym (le-leb c z (omega arith)))
+less-or-same c z (no p) (yes e) = rw (le-ltb c z (omega arith), eq-eqb c z e) (sym (le-leb c z (omega arith)))
+less-or-same c z (no p) (no e) = rw (le-ltb c z (omega arith), ne_eqb c z e) (sym (lt-leb c z (omega arith)))
+
+abbrev pub three_cmp : ℕ × ℕ × ℕ → ℕ × ℕ × ℕ → Option Ordering
+three_cmp s t = partial_ordering_then (partial_ordering_then (Some (nat_cmp s.0 t.0)) (Some (nat_cmp s.1 t.1))) (Some (nat_cmp s.2 t.2))
+
+pub tuple-order :
+    (a b c x y z : ℕ) → b < 2 ^ 64 → c < 2 ^ 64 → y < 2 ^ 64 → z < 2 ^ 64 → partial_le three_cmp (a, b, c) (x, y, z) ≡ leb (wide a b c) (wide x y z)
+tuple-order a b c x y z hb hc hy hz =
+    by_parts (ltb a x) (eqb a x) (ltb b y) (eqb b y) (ltb c z) (eqb c z)
+    ∙ ap (λ (t : Bool). ltb a x || (eqb a x && (ltb b y || (eqb b y && t)))) (less-or-same c z (dec_lt c z) (ℕ_discrete c z))
+    ∙ words-order a b c x y z hb hc hy hz
 
 -- ---- bytes
 

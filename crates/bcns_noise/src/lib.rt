@@ -7,26 +7,19 @@
 
 #![tactic(auto)]
 
-ghost use Rattle.std.specs.Prelude.{◌≡◌, ℕ, suc, ◌+◌, ◌-◌, ◌*◌, ◌/◌, ◌^◌, ◌<◌, ◌≤◌, leb, ltb, length, replicate};
+ghost use Rattle.std.specs.Prelude.{◌≡◌, ℕ, suc, ◌+◌, ◌-◌, ◌*◌, ◌/◌, ◌^◌, ◌<◌, ◌≤◌, leb, ltb, length, get_or, replicate};
 ghost use mir.Val.{bool_byte};
 ghost use Rattle.lists.specs.Ranges.{Below, Stored};
 ghost use Rattle.noise.specs.Noise.{with_sign};
 ghost use Rattle.bcns_noise.specs.Noise.{wide, entry_of, big_endian, bcns_value_lem, bcns_noise_lem, falls, first_not_above_lem};
 ghost use Rattle.bcns_noise.specs.Limbs.{byte_of, word_bytes, limbs, limbs_of, passes, tally, LimbRows, Compared};
 
-// Whether the number a b c is at most x y z: the words decide, the highest first.
-fn not_above(a: u64, b: u64, c: u64, x: u64, y: u64, z: u64) -> bool
-    ensures { result ≡ leb (wide a b c) (wide x y z) }
-{
-    (a < x) | ((a == x) & ((b < y) | ((b == y) & (c <= z))))
-}
-
-// Whether entry k of the table is at most x y z.
-fn entry_not_above(table: &[u64], k: usize, x: u64, y: u64, z: u64) -> bool
+// Entry k of the table: three words, highest first.
+fn entry(table: &[u64], k: usize) -> (u64, u64, u64)
     requires { k < length table.now / 3 }
-    ensures { result ≡ leb (entry_of table.now k) (wide x y z) }
+    ensures { result ≡ (get_or table.now (3 * k) 0, get_or table.now (3 * k + 1) 0, get_or table.now (3 * k + 2) 0) }
 {
-    not_above(table[3 * k], table[3 * k + 1], table[3 * k + 2], x, y, z)
+    (table[3 * k], table[3 * k + 1], table[3 * k + 2])
 }
 
 // Byte n of the table, where each word is eight bytes, the highest first.
@@ -50,11 +43,8 @@ fn lay_row(table: &[u64], t: &mut [u32], i: usize)
     requires { (length table.now ≡ 153) × (length t.old ≡ 448) × (i < 8) }
     ensures { Stored 0 t.old (56 * i) 51 (λ (k : ℕ). big_endian (word_bytes table.now) (24 * k + 3 * i) 3) t.new × Below (2 ^ 64) table.now }
 {
-    let mut k: usize = 0;
-    while k < 51 {
-        let c = 56 * i + k;
-        t[c] = limb(table, 24 * k + 3 * i);
-        k += 1;
+    for k in 0..51 {
+        t[56 * i + k] = limb(table, 24 * k + 3 * i);
     }
 }
 
@@ -63,10 +53,8 @@ fn lay(table: &[u64], t: &mut [u32])
     requires { (length table.now ≡ 153) × (t.old ≡ replicate 448 16777216) }
     ensures { LimbRows table.now 8 t.new }
 {
-    let mut i: usize = 0;
-    while i < 8 {
+    for i in 0..8 {
         lay_row(table, t, i);
-        i += 1;
     }
 }
 
@@ -106,10 +94,8 @@ fn count(t: &[u32], v: &[u32]) -> u32
     ensures { (result ≡ tally 56 (λ (k : ℕ). passes (limbs_of t.now k) (limbs v.now) 0 8)) × (result ≤ 56) }
 {
     let mut size: u32 = 0;
-    let mut k: usize = 0;
-    while k < 56 {
+    for k in 0..56 {
         size += compare(t, v, k);
-        k += 1;
     }
     size
 }
@@ -119,7 +105,7 @@ fn three(bytes: &[u8], at: usize) -> u32
     requires { at + 3 ≤ length bytes.now }
     ensures { (result ≡ big_endian bytes.now at 3) × (result < 16777216) }
 {
-    (bytes[at] as u32) * 65536 + (bytes[at + 1] as u32) * 256 + (bytes[at + 2] as u32)
+    u32::from_be_bytes([0, bytes[at], bytes[at + 1], bytes[at + 2]])
 }
 
 // A size with the sign of the last byte: times 1 or -1.
@@ -153,10 +139,8 @@ fn fill(table: &[u64], t: &[u32], bytes: &[u8], out: &mut [i32])
     requires { LimbRows table.now 8 t.now × (length table.now ≡ 153) × (length bytes.now ≡ 25 * length out.old) }
     ensures { out.new ≡ bcns_noise_lem table.now bytes.now }
 {
-    let mut i: usize = 0;
-    while i < out.len() {
-        out[i] = value(table, t, bytes, i);
-        i += 1;
+    for (i, x) in out.iter_mut().enumerate() {
+        *x = value(table, t, bytes, i);
     }
 }
 
@@ -175,11 +159,7 @@ fn falls_at(table: &[u64], k: usize) -> bool
     requires { k < length table.now / 3 }
     ensures { result ≡ falls table.now k }
 {
-    if k == 0 {
-        return false;
-    }
-    let j = k - 1;
-    entry_not_above(table, k, table[3 * j], table[3 * j + 1], table[3 * j + 2])
+    k > 0 && entry(table, k) <= entry(table, k - 1)
 }
 
 // The place of the first entry that is not above its forerunner, or the number of entries where there is none.
@@ -187,12 +167,10 @@ pub fn first_not_above(table: &[u64]) -> usize
     ensures { result ≡ first_not_above_lem table.now }
 {
     let n = table.len() / 3;
-    let mut k: usize = 0;
-    while k < n {
+    for k in 0..n {
         if falls_at(table, k) {
             return k;
         }
-        k += 1;
     }
-    k
+    n
 }

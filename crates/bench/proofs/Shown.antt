@@ -3,11 +3,11 @@
 --   never-three-or-five   3 and 5 cannot arise
 --   opening-passes        an opening that Offer has made is not refused
 --   finish-accepts        Finish refuses nothing there
-use Rattle.lists.proofs.Kit.{ap, ap₂, List, ℕ, le_refl, arith, ℤ}
-use Rattle.std.proofs.Common.{◌≡◌}
-use Rattle.schemes.specs.{Schemes.fixed_of, declared.Scheme.Scheme, declared.Named.Named, declared.Named.TheVariants.Known, declared.Named.TheVariants.Unknown}
-use Rattle.refusals.specs.Refusals.{number_in, length_is_lem, room_for_lem, publics_in_lem, not_blank_lem, received_in, secrets_in_lem}
-use Rattle.refusals.specs.declared.Verdict.TheVariants.{Pass}
+use Rattle.lists.proofs.Kit.{refl, ap, ap₂, List, ℕ, le_refl, arith, ℤ}
+use Rattle.std.proofs.Common.{Ok, Err, Some, None, Option, ◌≡◌}
+use Rattle.schemes.specs.{Schemes.fixed_of, declared.Scheme.Scheme}
+use Rattle.lists.specs.declared.Peak.{Peak}
+use Rattle.refusals.specs.Refusals.{number_in, length_is_lem, room_for_lem, publics_in_lem, not_blank_lem, received_in, secrets_in_lem, pass}
 use Rattle.refusals.proofs.Number.{and, passes, lengths, publics, secrets, blanks}
 use Rattle.refusals.proofs.{Laws.some, Laws.both, Laws.room-passes, Laws.not-blank-passed, Same.same-refusal}
 use Rattle.wire.specs.Wire.{opened_in}
@@ -16,7 +16,7 @@ use Rattle.offer.proofs.Offering.{offer-opens}
 use Rattle.reply.specs.Reply.{Reply, reply_rooms_of, reply_tests, opened_of}
 use Rattle.agreement.specs.Run.{offering, replying}
 use Rattle.agreement.proofs.Tests.{sendable-by, opening-received, finish-passes}
-use Rattle.bench.specs.Bench.{Bench, BenchSeen, bench_tests, bench_shown, BcnsAnswer, Agree, Differ, Refused}
+use Rattle.bench.specs.Bench.{Bench, BenchSeen, bench_tests, bench_shown, BenchAnswer, differ_number}
 use Rattle.bench.specs.Shown.{BenchToldAll, BcnsToldAll, NeverThreeOrFive, OpeningPasses, FinishPasses}
 
 -- ---- one answer
@@ -34,22 +34,27 @@ module _ {s t : BenchSeen} (e : s ≡ t) where
   slacks : s.slack ≡ t.slack
   slacks = ap (λ (u : BenchSeen). u.slack) e
 
+one_bit : (a b : Option ℕ) → differ_number a ≡ differ_number b → a ≡ b
+one_bit None None e = refl
+one_bit None (Some j) e = absurd (omega arith)
+one_bit (Some i) None e = absurd (omega arith)
+one_bit (Some i) (Some j) e = ap Some (omega (arith, e))
+
+abbrev answer : Option ℕ → Peak → BenchAnswer
+answer d p = Ok (record { differ = d; slack = p })
+
 pub bench-told-all : BenchToldAll
-bench-told-all (Agree p) (Agree q) e = ap Agree (slacks e)
-bench-told-all (Agree p) (Differ j q) e = absurd (omega (arith, differs e))
-bench-told-all (Agree p) (Refused s) e = absurd (omega (arith, some s, numbers e))
-bench-told-all (Differ i p) (Agree q) e = absurd (omega (arith, differs e))
-bench-told-all (Differ i p) (Differ j q) e = ap₂ Differ (omega (arith, differs e)) (slacks e)
-bench-told-all (Differ i p) (Refused s) e = absurd (omega (arith, some s, numbers e))
-bench-told-all (Refused r) (Agree q) e = absurd (omega (arith, some r, numbers e))
-bench-told-all (Refused r) (Differ j q) e = absurd (omega (arith, some r, numbers e))
-bench-told-all (Refused r) (Refused s) e = ap Refused (same-refusal r s (numbers e) (places e))
+bench-told-all (Ok m) (Ok n) e =
+    ap₂ answer (one_bit m.differ n.differ (differs e)) (slacks e)
+bench-told-all (Ok m) (Err s) e = absurd (omega (arith, some s, numbers e))
+bench-told-all (Err r) (Ok n) e = absurd (omega (arith, some r, numbers e))
+bench-told-all (Err r) (Err s) e = ap Err (same-refusal r s (numbers e) (places e))
 
 pub bcns-told-all : BcnsToldAll
-bcns-told-all (BcnsAnswer.Agree p) (BcnsAnswer.Agree q) e = ap BcnsAnswer.Agree (slacks e)
-bcns-told-all (BcnsAnswer.Agree p) (BcnsAnswer.Refused s) e = absurd (omega (arith, some s, numbers e))
-bcns-told-all (BcnsAnswer.Refused r) (BcnsAnswer.Agree q) e = absurd (omega (arith, some r, numbers e))
-bcns-told-all (BcnsAnswer.Refused r) (BcnsAnswer.Refused s) e = ap BcnsAnswer.Refused (same-refusal r s (numbers e) (places e))
+bcns-told-all (Ok p) (Ok q) e = ap Ok (slacks e)
+bcns-told-all (Ok p) (Err s) e = absurd (omega (arith, some s, numbers e))
+bcns-told-all (Err r) (Ok q) e = absurd (omega (arith, some r, numbers e))
+bcns-told-all (Err r) (Err s) e = ap Err (same-refusal r s (numbers e) (places e))
 
 -- ---- neither 3 nor 5
 
@@ -75,7 +80,7 @@ secret-in B s = secrets Inside zero_in (λ e. omega arith, λ e. omega arith) B 
 blank-in : (part : List ℕ) → Inside (number_in (not_blank_lem part))
 blank-in part = blanks Inside zero_in (λ e. omega arith, λ e. omega arith) part
 
-offer-in : (c : Scheme) (x : Offer) → Inside (number_in (offer_tests (Known c) x (fixed_of c).opening))
+offer-in : (c : Scheme) (x : Offer) → Inside (number_in (offer_tests (Some c) x (fixed_of c).opening))
 unfolding offer_tests
 offer-in c x =
     let l = length-in in
@@ -96,8 +101,8 @@ opening-passes c x e =
     let t = both _ _ e in
     opening-received c x (offer-opens c (offering x) _ t.0).0.seed-long (not-blank-passed _ t.1)
 
-reply-in : (c : Scheme) (x : Reply) → received_in (fixed_of c).q (opened_in c x.opening) (opened_of c x) ≡ Pass
-    → Inside (number_in (reply_tests (Known c) x (reply_rooms_of (fixed_of c).reply (fixed_of c).key 32)))
+reply-in : (c : Scheme) (x : Reply) → received_in (fixed_of c).q (opened_in c x.opening) (opened_of c x) ≡ pass
+    → Inside (number_in (reply_tests (Some c) x (reply_rooms_of (fixed_of c).reply (fixed_of c).key 32)))
 unfolding reply_tests received_in
 reply-in c x o =
     let l = length-in in
@@ -128,10 +133,10 @@ reply-in c x o =
     (λ _. secret-in _ x.e''))
     (λ _. blank-in _)
 
-by_name : (c : Named) (x : Bench) → Inside (number_in (bench_tests c x))
+by_name : (c : Option Scheme) (x : Bench) → Inside (number_in (bench_tests c x))
 unfolding bench_tests
-by_name Unknown x = (λ e. omega arith, λ e. omega arith)
-by_name (Known c) x = and Inside _ _ (offer-in c (offering x)) (λ e. reply-in c (replying c x) (opening-passes c x e))
+by_name None x = (λ e. omega arith, λ e. omega arith)
+by_name (Some c) x = and Inside _ _ (offer-in c (offering x)) (λ e. reply-in c (replying c x) (opening-passes c x e))
 
 pub never-three-or-five : NeverThreeOrFive
 unfolding bench_shown

@@ -3,11 +3,11 @@ ghost use Rattle.std.specs.Prelude.{◌≡◌, ◌*◌, ◌≤◌, ◌+◌, leng
 ghost use Rattle.bench.specs.Bench.{differing};
 ghost use Rattle.bench.specs.Inside.{comparison};
 
-use crate::BenchAnswer;
+use crate::Compared;
 use lists::Peak;
 
 // Two keys by their bits; x and y are room for those. The slack used is passed on.
-fn by_bits(own: &[u8], peer: &[u8], slack: Peak, x: &mut [u32], y: &mut [u32]) -> BenchAnswer
+fn by_bits(own: &[u8], peer: &[u8], slack: Peak, x: &mut [u32], y: &mut [u32]) -> Compared
     requires { (length own.now ≡ length peer.now) × (length x.old ≡ 8 * length own.now) × (length y.old ≡ 8 * length peer.now) }
     ensures { result ≡ comparison (differing own.now peer.now) slack }
 {
@@ -15,14 +15,20 @@ fn by_bits(own: &[u8], peer: &[u8], slack: Peak, x: &mut [u32], y: &mut [u32]) -
     packing::unpack(1, peer, y);
     let i = lists::first_apart(x, y);
     if i < x.len() {
-        BenchAnswer::Differ(i, slack)
+        Compared {
+            differ: Some(i),
+            slack,
+        }
     } else {
-        BenchAnswer::Agree(slack)
+        Compared {
+            differ: None,
+            slack,
+        }
     }
 }
 
 // Two keys of k bytes, one behind the other, with room for the bits of each, of which no scheme has more than 1024.
-pub(crate) fn both(k: usize, keys: &[u8], slack: Peak) -> BenchAnswer
+pub(crate) fn both(k: usize, keys: &[u8], slack: Peak) -> Compared
     requires { (k ≤ 128) × (length keys.now ≡ k + k) }
     ensures { result ≡ comparison (differing (take k keys.now) (drop k keys.now)) slack }
 {

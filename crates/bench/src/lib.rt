@@ -4,53 +4,36 @@
 
 #![tactic(auto)]
 
-ghost use Rattle.std.specs.Prelude.{◌≡◌, ◌+◌, length};
+ghost use Rattle.std.specs.Prelude.{Some, ◌≡◌, ◌+◌, length};
 ghost use Rattle.schemes.specs.Schemes.{fixed_of, scheme_of_lem};
-ghost use Rattle.schemes.specs.declared.Named.TheVariants.{Known};
 ghost use Rattle.schemes.specs.declared.Scheme.TheVariants as variants;
 ghost use Rattle.reply.specs.Reply as lent;
 ghost use Rattle.finish.specs.Finish.{finish};
 ghost use Rattle.agreement.specs.Run.{replying};
 ghost use Rattle.bench.specs.Bench.{bench, bench_result, bench_told, bcns_told};
-ghost use Rattle.bench.specs.Inside.{tests_from_reply, tests_from_offer, FromFinish, BothKeys, agreed};
+ghost use Rattle.bench.specs.Inside.{tests_from_reply, tests_from_offer, FromFinish, BothKeys};
 
 mod compare;
 
-use finish::FinishAnswer;
 use lists::Peak;
-use refusals::{Answer, Outcome, Refusal};
-use reply::ReplyAnswer;
-use schemes::{FrodoParanoid, Named, Scheme};
+use refusals::Refusal;
+use schemes::{LONGEST_OPENING, LONGEST_REPLY, Scheme};
 
-// What Bench gives: the keys agree, with the slack used; they differ, first at this bit; or the refusal.
+// What Bench gives where nothing is refused: the first bit at which the keys differ, if there is one, and the slack used.
 #[derive(Clone, Copy)]
-pub enum BenchAnswer {
-    Agree(Peak),
-    Differ(usize, Peak),
-    Refused(Refusal),
-}
-
-// What the BCNS bench gives: its keys cannot differ.
-#[derive(Clone, Copy)]
-pub enum BcnsAnswer {
-    Agree(Peak),
-    Refused(Refusal),
+pub struct Compared {
+    pub differ: Option<usize>,
+    pub slack: Peak,
 }
 
 // From Finish on: the initiator's key into peer.
-fn from_finish(scheme: Scheme, reply: &[u8], s: &[i32], peer: &mut [u8]) -> Outcome
+fn from_finish(scheme: Scheme, reply: &[u8], s: &[i32], peer: &mut [u8]) -> Result<Peak, Refusal>
     requires { length peer.old ≡ (fixed_of scheme).key }
     ensures { FromFinish scheme (finish reply.now s.now) result peer.new }
 {
     let mut digest = [0u8; 32];
-    let v = finish::finish(scheme.number(), reply, s, peer, &mut digest);
-    match v {
-        FinishAnswer::Refused(r) => Outcome::Refused(r),
-        FinishAnswer::Done(n) => {
-            let used = n.slack;
-            Outcome::Slack(used)
-        }
-    }
+    let counts = finish::finish(scheme.number(), reply, s, peer, &mut digest)?;
+    Ok(counts.slack)
 }
 
 // From Reply on: the replier's key into the front half of keys, the initiator's into the other. Frodo Paranoid has the longest reply.
@@ -64,16 +47,16 @@ fn from_reply(
     e2: &[i32],
     coins: &[u8],
     keys: &mut [u8],
-) -> Outcome
+) -> Result<Peak, Refusal>
     requires { length keys.old ≡ (fixed_of scheme).key + (fixed_of scheme).key }
     ensures { let x = lent.reply opening.now a.now s1.now e1.now e2.now coins.now in BothKeys scheme (tests_from_reply scheme x s.now) x s.now result keys.new }
 {
     let f = scheme.fixed();
     let n = f.reply;
     let k = f.key;
-    let mut reply = [0u8; FrodoParanoid::REPLY];
+    let mut reply = [0u8; LONGEST_REPLY];
     let mut digest = [0u8; 32];
-    let v = reply::reply(
+    reply::reply(
         scheme.number(),
         opening,
         a,
@@ -84,11 +67,8 @@ fn from_reply(
         &mut reply[..n],
         &mut keys[..k],
         &mut digest,
-    );
-    match v {
-        ReplyAnswer::Refused(r) => Outcome::Refused(r),
-        ReplyAnswer::Done(_) => from_finish(scheme, &reply[..n], s, &mut keys[k..]),
-    }
+    )?;
+    from_finish(scheme, &reply[..n], s, &mut keys[k..])
 }
 
 // From Offer on. Frodo Paranoid has the longest opening.
@@ -103,18 +83,15 @@ fn from_offer(
     e2: &[i32],
     coins: &[u8],
     keys: &mut [u8],
-) -> Outcome
+) -> Result<Peak, Refusal>
     requires { length keys.old ≡ (fixed_of scheme).key + (fixed_of scheme).key }
     ensures { let x = bench a.now s.now e.now seed.now s1.now e1.now e2.now coins.now in BothKeys scheme (tests_from_offer scheme x) (replying scheme x) s.now result keys.new }
 {
     let f = scheme.fixed();
     let m = f.opening;
-    let mut opening = [0u8; FrodoParanoid::OPENING];
-    let v = offer::offer(scheme.number(), a, s, e, seed, &mut opening[..m]);
-    match v {
-        Answer::Refused(r) => Outcome::Refused(r),
-        Answer::Done(_) => from_reply(scheme, &opening[..m], a, s, s1, e1, e2, coins, keys),
-    }
+    let mut opening = [0u8; LONGEST_OPENING];
+    offer::offer(scheme.number(), a, s, e, seed, &mut opening[..m])?;
+    from_reply(scheme, &opening[..m], a, s, s1, e1, e2, coins, keys)
 }
 
 // All of it: both ends, and then their keys.
@@ -129,17 +106,14 @@ fn run(
     e2: &[i32],
     coins: &[u8],
     keys: &mut [u8],
-) -> BenchAnswer
+) -> Result<Compared, Refusal>
     requires { length keys.old ≡ (fixed_of scheme).key + (fixed_of scheme).key }
-    ensures { bench_told result ≡ bench_result (Known scheme) (bench a.now s.now e.now seed.now s1.now e1.now e2.now coins.now) }
+    ensures { bench_told result ≡ bench_result (Some scheme) (bench a.now s.now e.now seed.now s1.now e1.now e2.now coins.now) }
 {
     let f = scheme.fixed();
     let k = f.key;
-    let v = from_offer(scheme, a, s, e, seed, s1, e1, e2, coins, keys);
-    match v {
-        Outcome::Refused(r) => BenchAnswer::Refused(r),
-        Outcome::Slack(used) => compare::both(k, keys, used),
-    }
+    let slack = from_offer(scheme, a, s, e, seed, s1, e1, e2, coins, keys)?;
+    Ok(compare::both(k, keys, slack))
 }
 
 // `run` with room for two keys, of which BCNS has the longest.
@@ -153,23 +127,13 @@ fn bench_in(
     e1: &[i32],
     e2: &[i32],
     coins: &[u8],
-) -> BenchAnswer
-    ensures { bench_told result ≡ bench_result (Known scheme) (bench a.now s.now e.now seed.now s1.now e1.now e2.now coins.now) }
+) -> Result<Compared, Refusal>
+    ensures { bench_told result ≡ bench_result (Some scheme) (bench a.now s.now e.now seed.now s1.now e1.now e2.now coins.now) }
 {
     let f = scheme.fixed();
     let n = f.key + f.key;
     let mut keys = [0u8; 256];
     run(scheme, a, s, e, seed, s1, e1, e2, coins, &mut keys[..n])
-}
-
-// What was handed on, as the BCNS bench's answer.
-fn agreed(v: Outcome) -> BcnsAnswer
-    ensures { result ≡ agreed v }
-{
-    match v {
-        Outcome::Refused(r) => BcnsAnswer::Refused(r),
-        Outcome::Slack(used) => BcnsAnswer::Agree(used),
-    }
 }
 
 // Both ends in BCNS. No keys are compared: whatever is not refused agrees (`NeverDiffer`).
@@ -182,22 +146,11 @@ pub fn bcns(
     e1: &[i32],
     e2: &[i32],
     coins: &[u8],
-) -> BcnsAnswer
-    ensures { bcns_told result ≡ bench_result (Known variants.Bcns) (bench a.now s.now e.now seed.now s1.now e1.now e2.now coins.now) }
+) -> Result<Peak, Refusal>
+    ensures { bcns_told result ≡ bench_result (Some variants.Bcns) (bench a.now s.now e.now seed.now s1.now e1.now e2.now coins.now) }
 {
     let mut keys = [0u8; 256];
-    let v = from_offer(Scheme::Bcns, a, s, e, seed, s1, e1, e2, coins, &mut keys);
-    agreed(v)
-}
-
-// Its answer as one of Bench.
-fn told(r: BcnsAnswer) -> BenchAnswer
-    ensures { bench_told result ≡ bcns_told r }
-{
-    match r {
-        BcnsAnswer::Agree(used) => BenchAnswer::Agree(used),
-        BcnsAnswer::Refused(why) => BenchAnswer::Refused(why),
-    }
+    from_offer(Scheme::Bcns, a, s, e, seed, s1, e1, e2, coins, &mut keys)
 }
 
 // By the scheme: BCNS has a bench of its own.
@@ -211,11 +164,17 @@ fn by_scheme(
     e1: &[i32],
     e2: &[i32],
     coins: &[u8],
-) -> BenchAnswer
-    ensures { bench_told result ≡ bench_result (Known scheme) (bench a.now s.now e.now seed.now s1.now e1.now e2.now coins.now) }
+) -> Result<Compared, Refusal>
+    ensures { bench_told result ≡ bench_result (Some scheme) (bench a.now s.now e.now seed.now s1.now e1.now e2.now coins.now) }
 {
     match scheme {
-        Scheme::Bcns => told(bcns(a, s, e, seed, s1, e1, e2, coins)),
+        Scheme::Bcns => {
+            let slack = bcns(a, s, e, seed, s1, e1, e2, coins)?;
+            Ok(Compared {
+                differ: None,
+                slack,
+            })
+        }
         _ => bench_in(scheme, a, s, e, seed, s1, e1, e2, coins),
     }
 }
@@ -231,11 +190,9 @@ pub fn bench(
     e1: &[i32],
     e2: &[i32],
     coins: &[u8],
-) -> BenchAnswer
+) -> Result<Compared, Refusal>
     ensures { bench_told result ≡ bench_result (scheme_of_lem scheme) (bench a.now s.now e.now seed.now s1.now e1.now e2.now coins.now) }
 {
-    let Named::Known(known) = schemes::scheme_of(scheme) else {
-        return BenchAnswer::Refused(Refusal::NoScheme);
-    };
+    let known = Scheme::try_from(scheme)?;
     by_scheme(known, a, s, e, seed, s1, e1, e2, coins)
 }

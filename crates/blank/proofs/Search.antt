@@ -1,29 +1,15 @@
--- The search for a number that is not 0: before it lie zeros alone.
---   Zeros, zeros-none, zeros-more   the loop, before it and at a zero
---   zeros-found, zeros-all          what it finds: another number, or none
-use Rattle.lists.proofs.Kit.{refl, ◌∙◌, sym, ap, List, true, false, cond, ℕ, add-one, arith, eqb, length, get_or, drop, drop_of_length-le}
-use Rattle.std.proofs.Common.{◌≡◌, ◌+◌, ◌<◌, ◌≤◌}
-use Rattle.lists.proofs.Kit.{drop-cons, eq-eqb, ne_eqb}
+-- What std's test of all numbers says.
+--   all-zeros   all are 0 where the list is blank
+use Rattle.lists.proofs.Kit.{refl, List, [], Bool, true, false, cond, ℕ, eqb}
+use Rattle.std.proofs.Common.{◌≡◌, ◌∷◌, ◌&&◌}
+use Rattle.std.specs.List.{list_all}
 use Rattle.blank.specs.Blank.{blank}
 
-pub record Zeros (xs : List ℕ) (i : ℕ) : Type 0 where
-  pub seen : i ≤ length xs
-  pub rest : blank (drop i xs) ≡ blank xs
-
-pub zeros-none : (xs : List ℕ) → Zeros xs 0
-zeros-none xs = record { seen = omega arith; rest = refl }
-
-module _ (xs : List ℕ) (i : ℕ) (h : Zeros xs i) where
-  next : i < length xs → blank (drop i xs) ≡ cond (eqb (get_or xs i 0) 0) (blank (drop (i + 1) xs)) false
-  unfolding blank
-  next l = ap blank (drop-cons xs i 0 l) ∙ rw (add-one i)
-
-  pub zeros-more : i < length xs → get_or xs i 0 ≡ 0 → Zeros xs (i + 1)
-  zeros-more l e = record { seen = omega arith; rest = sym (rw (eq-eqb _ _ e) at (next l)) ∙ h.rest }
-
-  pub zeros-found : i < length xs → (get_or xs i 0 ≡ 0 → ⊥) → false ≡ blank xs
-  zeros-found l e = sym (rw (ne_eqb _ _ e) at (next l)) ∙ h.rest
-
-  pub zeros-all : length xs ≤ i → true ≡ blank xs
-  unfolding blank
-  zeros-all l = sym (ap blank (drop_of_length-le xs l)) ∙ h.rest
+pub all-zeros : (xs : List ℕ) → list_all (λ (x : ℕ). eqb x 0) xs ≡ blank xs
+unfolding blank
+all-zeros [] = refl
+all-zeros (x ∷ xs) = rw (all-zeros xs) (go (eqb x 0))
+  where
+    go : (t : Bool) → (t && blank xs) ≡ cond t (blank xs) false
+    go true = refl
+    go false = refl

@@ -9,26 +9,12 @@ ghost use Rattle.blank.specs.Blank.{blank};
 pub fn bytes(part: &[u8]) -> bool
     ensures { result ≡ blank part.now }
 {
-    let mut i: usize = 0;
-    while i < part.len() {
-        if part[i] != 0 {
-            return false;
-        }
-        i += 1;
-    }
-    true
+    part.iter().all(|x| *x == 0)
 }
 
 // Numbers that are about to be packed.
 pub fn numbers(xs: &[u32]) -> bool
     ensures { result ≡ blank xs.now }
 {
-    let mut i: usize = 0;
-    while i < xs.len() {
-        if xs[i] != 0 {
-            return false;
-        }
-        i += 1;
-    }
-    true
+    xs.iter().all(|x| *x == 0)
 }

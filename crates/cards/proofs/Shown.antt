@@ -5,8 +5,7 @@ use Rattle.numbers.specs.Residue.{residue, nearest, distance, apart}
 use Rattle.lists.specs.{Entries.tab, First.both}
 use Rattle.lists.proofs.Table.{both-T}
 use Rattle.newhope.specs.declared.Four.{Four}
-use Rattle.cards.specs.Table.{Card, bcns-value, bcns-peer, frodo-value, frodo-peer, newhope-group, newhope-noise, frodo-noise, four, I, B, Says, All}
-use Rattle.cards.specs.Table.{table, Shown}
+use Rattle.cards.specs.Table.{Card, bcns-value, bcns-peer, frodo-value, frodo-peer, newhope-group, newhope-noise, frodo-noise, four, I, B, Says, All, table, Shown}
 use Rattle.bcns.specs.Rounding as bcns
 use Rattle.bcns.specs.Shown as bcns-shown
 use Rattle.frodo.specs.Rounding as frodo

@@ -8,11 +8,8 @@ ghost use Rattle.schemes.specs.Schemes.{bcns, new_hope, fixed_of};
 ghost use Rattle.schemes.specs.declared.Scheme.TheVariants.{Recommended};
 ghost use Rattle.lists.specs.Ranges.{Below};
 
-use finish::FinishAnswer;
 use newhope::Four;
-use refusals::{Answer, Refusal};
-use reply::ReplyAnswer;
-use schemes::FrodoRecommended;
+use refusals::Refusal;
 use std::io;
 
 fn text(rt: &impl Print, t: &[u8]) -> io::Result<()> {
@@ -24,10 +21,7 @@ fn number(rt: &impl Print, n: u64) -> io::Result<()> {
 }
 
 fn signed(rt: &impl Print, z: i32) -> io::Result<()> {
-    if z < 0 {
-        text(rt, b"-")?;
-    }
-    number(rt, numbers::size32(z) as u64)
+    print!(rt; "{z}")
 }
 
 // A name and its number.
@@ -60,15 +54,9 @@ fn four(rt: &impl Print, name: &[u8], x: Four) -> io::Result<()> {
     field(rt, b",", x.e3)
 }
 
-// A hexadecimal digit, in upper case.
-fn digit(d: u8) -> u8
-    requires { d < 16 }
-{
-    if d < 10 { b'0' + d } else { b'A' - 10 + d }
-}
-
+// A byte in hexadecimal, in upper case.
 fn byte(rt: &impl Print, x: u8) -> io::Result<()> {
-    text(rt, &[digit(x / 16), digit(x % 16)])
+    print!(rt; "{x:02X}")
 }
 
 fn bcns_value(rt: &impl Print, v: u32, coin: u32) -> io::Result<()>
@@ -92,9 +80,9 @@ fn bcns_peer(rt: &impl Print, w: u32, h: u32) -> io::Result<()>
 }
 
 // Frodo Recommended: the bits of an entry's key, and the interval.
-const B: u32 = FrodoRecommended::KEYBITS;
+const B: u32 = 4;
 
-const I: u32 = FrodoRecommended::Q >> B;
+const I: u32 = 32768 >> B;
 
 fn frodo_value(rt: &impl Print, v: u32) -> io::Result<()>
     requires { v < (fixed_of Recommended).q }
@@ -148,7 +136,11 @@ fn newhope_noise(rt: &impl Print, a: u8, b: u8, c: u8, d: u8) -> io::Result<()> 
 // The word as its two bytes, the lower first.
 fn frodo_noise(rt: &impl Print, word: u16) -> io::Result<()> {
     let mut out = [0i32; 1];
-    noise::recommended(&[(word % 256) as u8, (word / 256) as u8], &mut out);
+    noise::frodo(
+        noise::FrodoSet::Recommended,
+        &[(word % 256) as u8, (word / 256) as u8],
+        &mut out,
+    );
     field(rt, b"* noise scheme=4 word=", word as u32)?;
     text(rt, b" : value=")?;
     signed(rt, out[0])?;
@@ -193,10 +185,10 @@ fn refused(rt: &impl Print, r: Refusal) -> io::Result<()> {
 }
 
 // A call's answer: that it passes, or the refusal.
-fn told(rt: &impl Print, answer: Answer) -> io::Result<()> {
+fn told(rt: &impl Print, answer: Result<usize, Refusal>) -> io::Result<()> {
     match answer {
-        Answer::Done(_) => text(rt, b"passes"),
-        Answer::Refused(r) => refused(rt, r),
+        Ok(_) => text(rt, b"passes"),
+        Err(r) => refused(rt, r),
     }
 }
 
@@ -247,8 +239,8 @@ fn reply_card(rt: &impl Print, n: u32) -> io::Result<()>
     field(rt, b"- reply scheme=1 index=0 number=", n)?;
     text(rt, b" : ")?;
     match answer {
-        ReplyAnswer::Done(_) => text(rt, b"passes")?,
-        ReplyAnswer::Refused(r) => refused(rt, r)?,
+        Ok(_) => text(rt, b"passes")?,
+        Err(r) => refused(rt, r)?,
     }
     text(rt, b"\n")
 }
@@ -264,8 +256,8 @@ fn finish_card(rt: &impl Print, n: u32) -> io::Result<()>
     field(rt, b"- finish scheme=1 index=0 number=", n)?;
     text(rt, b" : ")?;
     match answer {
-        FinishAnswer::Done(_) => text(rt, b"passes")?,
-        FinishAnswer::Refused(r) => refused(rt, r)?,
+        Ok(_) => text(rt, b"passes")?,
+        Err(r) => refused(rt, r)?,
     }
     text(rt, b"\n")
 }

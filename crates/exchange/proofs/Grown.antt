@@ -5,17 +5,16 @@
 --   numbers-counted           the numbers that Grow makes where it does not refuse: all are there, below q
 --   grow-failed, grow-passed  what `grow` gives, by Grow's answer
 --   Passes, public-passes     the public numbers of any scheme, lent or grown: all are there, and they pass where what is lent passes
+use Rattle.std.proofs.Common.{Ok, Err, Some, None, Option, ◌≡◌}
+use Rattle.noise.specs.declared.RuleName.{RuleName}
 use Rattle.lists.proofs.Kit.{refl, ◌∙◌, sym, ap, List, [], ℕ, suc, le_refl, arith, length}
-use Rattle.std.proofs.Common.{◌≡◌}
 use Rattle.schemes.specs.declared.Scheme.TheVariants.{Bcns, NewHope, Challenge, Classical, Recommended, Paranoid}
 use Rattle.schemes.specs.{Schemes.fixed_of, declared.Scheme.Scheme}
 use Rattle.lists.specs.Ranges.{Below}
 use Rattle.lists.proofs.Same.{empty}
-use Rattle.noise.specs.{declared.Ruled.Ruled, declared.Ruled.TheVariants.By}
 use Rattle.noise.proofs.Stream.{by_name-below}
-use Rattle.refusals.specs.declared.Verdict.TheVariants.{Pass, Fail}
-use Rattle.refusals.specs.Refusals.{◌then◌, length_is_lem, publics_in_lem}
-use Rattle.refusals.specs.{Seen.told, Seen.shown, Seen.seen, declared.Answer.Answer, declared.Refusal.Refusal, declared.Verdict.Verdict}
+use Rattle.refusals.specs.Refusals.{pass, ◌then◌, length_is_lem, publics_in_lem}
+use Rattle.refusals.specs.{Seen.Answer, Seen.told, Seen.shown, Seen.seen, declared.Refusal.Refusal, Refusals.Verdict}
 use Rattle.refusals.proofs.Laws.{differ, both, all_pass, length-passed, length-passes, room-passes, below-passes, went_on}
 use Rattle.refusals.proofs.Seen.{seen_done}
 use Rattle.values.specs.Fit.{Counted}
@@ -24,9 +23,9 @@ use Rattle.sampling.proofs.Expanding.{enough-passed, numbers-few}
 use Rattle.exchange.specs.{Random.public_lent, Random.public_from, Random.table_order, Random.grown, Random.ruled_in, Inside.Sized}
 use Rattle.exchange.proofs.Drawn.{seen-fails, seen-whole}
 
-pub lent-passed : (v : Verdict) (c : Scheme) (k : Ruled) (a table random : List ℕ) (n : ℕ) → Below 256 random
-    → (v then length_is_lem (length a) (public_lent c) then length_is_lem (length table) (table_words c) then length_is_lem (length random) n) ≡ Pass
-    → (v ≡ Pass) × (ruled_in k ≡ Pass → Sized c k a table random n)
+pub lent-passed : (v : Verdict) (c : Scheme) (k : Option RuleName) (a table random : List ℕ) (n : ℕ) → Below 256 random
+    → (v then length_is_lem (length a) (public_lent c) then length_is_lem (length table) (table_words c) then length_is_lem (length random) n) ≡ pass
+    → (v ≡ pass) × (ruled_in k ≡ pass → Sized c k a table random n)
 lent-passed v c k a table random n b e =
     let r = both _ _ e in
     let t = both _ _ r.0 in
@@ -46,16 +45,16 @@ pub record Passes (c : Scheme) (a y : List ℕ) : Type 0 where
   pub long : length y ≡ (fixed_of c).public
   pub alike : publics_in_lem (fixed_of c).q a ≡ publics_in_lem (fixed_of c).q y
 
-pub record Lends (c : Scheme) (k : Ruled) (seed a : List ℕ) : Type 0 where
+pub record Lends (c : Scheme) (k : Option RuleName) (seed a : List ℕ) : Type 0 where
   pub from : public_from c k seed a ≡ a
-  pub none : grown c k seed ≡ Pass
+  pub none : grown c k seed ≡ pass
   pub long : public_lent c ≡ (fixed_of c).public
   pub some : public_lent c ≡ 0 → ⊥
 
 never : (n : ℕ) → suc n ≡ 0 → ⊥
 never n e = omega arith
 
-either_way : {X : Type 0} (c : Scheme) (k : Ruled) (seed a : List ℕ) → (Lends c k seed a → X) → (c ≡ NewHope → X) → X
+either_way : {X : Type 0} (c : Scheme) (k : Option RuleName) (seed a : List ℕ) → (Lends c k seed a → X) → (c ≡ NewHope → X) → X
 unfolding public_from grown
 either_way Bcns k seed a f g = f (record { from = refl; none = refl; long = refl; some = never 1023 })
 either_way NewHope k seed a f g = g refl
@@ -64,44 +63,44 @@ either_way Classical k seed a f g = f (record { from = refl; none = refl; long =
 either_way Recommended k seed a f g = f (record { from = refl; none = refl; long = refl; some = never 565503 })
 either_way Paranoid k seed a f g = f (record { from = refl; none = refl; long = refl; some = never 746495 })
 
-pub lends : (c : Scheme) (k : Ruled) (seed a : List ℕ) → (public_lent c ≡ 0 → ⊥) → Lends c k seed a
+pub lends : (c : Scheme) (k : Option RuleName) (seed a : List ℕ) → (public_lent c ≡ 0 → ⊥) → Lends c k seed a
 lends c k seed a h = either_way c k seed a (λ L. L) (λ d. absurd (h (ap public_lent d)))
 
 pub only-newhope : (c : Scheme) → public_lent c ≡ 0 → c ≡ NewHope
-only-newhope c e = either_way c Ruled.Unknown [] [] (λ L. absurd (L.some e)) (λ d. d)
+only-newhope c e = either_way c None [] [] (λ L. absurd (L.some e)) (λ d. d)
 
 -- ---- Grow
 
-pub no-publics : (q : ℕ) → publics_in_lem (suc q) [] ≡ Pass
+pub no-publics : (q : ℕ) → publics_in_lem (suc q) [] ≡ pass
 no-publics q = below-passes (record { below = λ i. omega arith })
 
-pub no_table : (table : List ℕ) → table_order NewHope table ≡ Pass
+pub no_table : (table : List ℕ) → table_order NewHope table ≡ pass
 unfolding table_order
 no_table table = refl
 
 -- the numbers that it makes where it does not refuse
-pub numbers-counted : (k : Ruled) (seed : List ℕ) → ruled_in k ≡ Pass → grown NewHope k seed ≡ Pass → Counted 1024 12289 (grow_numbers k seed)
+pub numbers-counted : (k : Option RuleName) (seed : List ℕ) → ruled_in k ≡ pass → grown NewHope k seed ≡ pass → Counted 1024 12289 (grow_numbers k seed)
 unfolding grown expand_numbers
-numbers-counted Ruled.Unknown seed u p = differ u
-numbers-counted (By r) seed u p =
-    let xs = grow_numbers (By r) seed in
+numbers-counted None seed u p = differ u
+numbers-counted (Some r) seed u p =
+    let xs = grow_numbers (Some r) seed in
     record { long = omega (arith, enough-passed (length xs) _ refl p, numbers-few r (blocks seed)); below = by_name-below r (blocks seed) }
 
-grow-tests : (k : Ruled) (seed : List ℕ) → ruled_in k ≡ Pass → length seed ≡ 32 → grow_tests k seed 1024 ≡ grown NewHope k seed
+grow-tests : (k : Option RuleName) (seed : List ℕ) → ruled_in k ≡ pass → length seed ≡ 32 → grow_tests k seed 1024 ≡ grown NewHope k seed
 unfolding grow_tests grown
-grow-tests Ruled.Unknown seed u l = differ u
-grow-tests (By r) seed u l = went_on _ refl (all_pass (length-passes l) (room-passes (le_refl 1024)))
+grow-tests None seed u l = differ u
+grow-tests (Some r) seed u l = went_on _ refl (all_pass (length-passes l) (room-passes (le_refl 1024)))
 
 -- with just the room that it takes, by what it has left in a
-module _ (k : Ruled) (seed : List ℕ) (u : ruled_in k ≡ Pass) (l : length seed ≡ 32) {room : ℕ} (r : room ≡ 1024) (v : Answer) (a : List ℕ)
+module _ (k : Option RuleName) (seed : List ℕ) (u : ruled_in k ≡ pass) (l : length seed ≡ 32) {room : ℕ} (r : room ≡ 1024) (v : Answer) (a : List ℕ)
     (p : seen (told v) a ≡ grow_result k seed room) where
   given : seen (told v) a ≡ shown (grown NewHope k seed) (grow_numbers k seed) 0 1024
   given = rw r at p ∙ ap (λ (w : Verdict). shown w (grow_numbers k seed) 0 1024) (grow-tests k seed u l)
 
-  pub grow-failed : {t : Refusal} → v ≡ Answer.Refused t → Fail t ≡ grown NewHope k seed
+  pub grow-failed : {t : Refusal} → v ≡ Err t → Err t ≡ grown NewHope k seed
   grow-failed {t} f = sym (seen-fails (grow_numbers k seed) 0 1024 (grown NewHope k seed) t 0 a (rw f at given))
 
-  pub grow-passed : {m : ℕ} → v ≡ Answer.Done m → (Pass ≡ grown NewHope k seed) × (a ≡ grow_numbers k seed)
+  pub grow-passed : {m : ℕ} → v ≡ Ok m → (pass ≡ grown NewHope k seed) × (a ≡ grow_numbers k seed)
   grow-passed {m} f =
       let xs = grow_numbers k seed in
       let g = rw f at given in
@@ -110,7 +109,7 @@ module _ (k : Ruled) (seed : List ℕ) (u : ruled_in k ≡ Pass) (l : length see
 
 -- ---- of any scheme
 
-module _ (c : Scheme) (k : Ruled) (seed a : List ℕ) (u : ruled_in k ≡ Pass) (l : length a ≡ public_lent c) (g : grown c k seed ≡ Pass) where
+module _ (c : Scheme) (k : Option RuleName) (seed a : List ℕ) (u : ruled_in k ≡ pass) (l : length a ≡ public_lent c) (g : grown c k seed ≡ pass) where
   as-grown : c ≡ NewHope → Passes c a (public_from c k seed a)
   unfolding public_from
   as-grown e =

@@ -1,18 +1,16 @@
 -- What is stated in specs/Shown.
+use Rattle.std.proofs.Common.{Ok, Err, Some, None, Option, ◌≡◌}
+use Rattle.noise.specs.declared.RuleName.{RuleName}
 use Rattle.lists.proofs.Kit.{sym, ap, ◌∙◌, List, Bool, true, false, cond, ℕ, arith, leb, ltb, length}
-use Rattle.std.proofs.Common.{◌≡◌}
-use Rattle.schemes.specs.declared.Named.TheVariants.{Known, Unknown}
-use Rattle.schemes.specs.{Schemes.family_of, Schemes.by_family, declared.Named.Named, declared.Family.Family, declared.Scheme.Scheme}
+use Rattle.schemes.specs.{Schemes.family_of, Schemes.by_family, declared.Family.Family, declared.Scheme.Scheme}
 use Rattle.lists.specs.First.{first_over_lem}
-use Rattle.noise.specs.{declared.Ruled.TheVariants.By, declared.Ruled.Ruled}
 use Rattle.refusals.specs.Refusals.{number_in, ◌then◌, length_is_lem, room_for_lem, publics_in_lem, message_in, not_blank_lem, table_in_lem}
-use Rattle.refusals.specs.{Seen.Told, declared.Verdict.Verdict}
+use Rattle.refusals.specs.{Seen.Told, Refusals.Verdict}
 use Rattle.refusals.proofs.{Laws.differ, Laws.some, Laws.both, Number.and, Number.lengths, Number.rooms, Number.publics, Number.blanks, Same.same-refusal}
 use Rattle.sampling.specs.Expand.{enough}
 use Rattle.reply.specs.Reply.{ReplyRooms}
 use Rattle.exchange.specs.Open.{OpenLent, OpenRooms, OpenSeen, open_tests, open_seen, OpenCounts}
 use Rattle.exchange.specs.Shown.{NeverSix, OpenOffers, AnswerReplies, OpenSeenAll, OpenToldAll}
-use Rattle.exchange.specs.declared.OpenAnswer.TheVariants.{Done, Refused}
 use Rattle.exchange.specs.{Random.ruled_in, Random.table_order, Random.grown, Answer.AnswerLent, Answer.answer_tests, Inside.open_sizes_lem, Inside.answer_sizes_lem}
 use Rattle.exchange.proofs.Answering.{answer-sized, answer-decides}
 use Rattle.exchange.proofs.Opening.{open-sized, open-decides}
@@ -46,7 +44,7 @@ enough-other : (m : ℕ) → Other (number_in (enough m))
 unfolding enough
 enough-other m = either (leb 1024 m) _ _ none (λ e. omega arith)
 
-grown-other : (c : Scheme) (k : Ruled) (seed : List ℕ) → Other (number_in (grown c k seed))
+grown-other : (c : Scheme) (k : Option RuleName) (seed : List ℕ) → Other (number_in (grown c k seed))
 unfolding grown
 grown-other c k seed = by-family (family_of c) _ _ _ none (enough-other _) none
 
@@ -54,9 +52,9 @@ message-other : (q : ℕ) (xs : List ℕ) → Other (number_in (message_in q xs)
 unfolding message_in
 message-other q xs = either (ltb (first_over_lem q xs) (length xs)) _ _ (λ e. omega arith) none
 
-ruled-other : (k : Ruled) → Other (number_in (ruled_in k))
-ruled-other Ruled.Unknown = λ e. omega arith
-ruled-other (By r) = none
+ruled-other : (k : Option RuleName) → Other (number_in (ruled_in k))
+ruled-other None = λ e. omega arith
+ruled-other (Some r) = none
 
 length-other : (m n : ℕ) → Other (number_in (length_is_lem m n))
 length-other = lengths Other none (λ e. omega arith)
@@ -73,7 +71,7 @@ blank-other = blanks Other none (λ e. omega arith)
 also : (v w : Verdict) → Other (number_in v) → Other (number_in w) → Other (number_in (v then w))
 also v w a b = and Other v w a (λ _. b)
 
-open-never : (c : Scheme) (k : Ruled) (x : OpenLent) (m : OpenRooms) → Other (number_in (open_tests (Known c) k x m))
+open-never : (c : Scheme) (k : Option RuleName) (x : OpenLent) (m : OpenRooms) → Other (number_in (open_tests (Some c) k x m))
 unfolding open_tests
 open-never c k x m =
     also _ _
@@ -88,7 +86,7 @@ open-never c k x m =
     (grown-other c k _))
     (blank-other _)
 
-answer-never : (c : Scheme) (k : Ruled) (x : AnswerLent) (m : ReplyRooms) → Other (number_in (answer_tests (Known c) k x m))
+answer-never : (c : Scheme) (k : Option RuleName) (x : AnswerLent) (m : ReplyRooms) → Other (number_in (answer_tests (Some c) k x m))
 unfolding answer_tests
 answer-never c k x m =
     also _ _
@@ -115,28 +113,28 @@ pub never-six : NeverSix
 unfolding open_tests answer_tests
 never-six = (opens, answers)
   where
-    opens : (c : Named) (k : Ruled) (x : OpenLent) (m : OpenRooms) → number_in (open_tests c k x m) ≡ 6 → ⊥
-    opens Unknown k x m = λ e. omega arith
-    opens (Known c) k x m = open-never c k x m
+    opens : (c : Option Scheme) (k : Option RuleName) (x : OpenLent) (m : OpenRooms) → number_in (open_tests c k x m) ≡ 6 → ⊥
+    opens None k x m = λ e. omega arith
+    opens (Some c) k x m = open-never c k x m
 
-    answers : (c : Named) (k : Ruled) (x : AnswerLent) (m : ReplyRooms) → number_in (answer_tests c k x m) ≡ 6 → ⊥
-    answers Unknown k x m = λ e. omega arith
-    answers (Known c) k x m = answer-never c k x m
+    answers : (c : Option Scheme) (k : Option RuleName) (x : AnswerLent) (m : ReplyRooms) → number_in (answer_tests c k x m) ≡ 6 → ⊥
+    answers None k x m = λ e. omega arith
+    answers (Some c) k x m = answer-never c k x m
 
 -- ---- what passes
 
 pub open-offers : OpenOffers
 unfolding open_tests open_sizes_lem
-open-offers Unknown k x m b t = differ t
-open-offers (Known c) k x m b t =
+open-offers None k x m b t = differ t
+open-offers (Some c) k x m b t =
     let grows = both _ _ (both _ _ t).0 in
     let sizes = (both _ _ (both _ _ grows.0).0).0 in
     (both _ _ (sym (open-decides (open-sized c k x m sizes b) grows.1) ∙ t)).1
 
 pub answer-replies : AnswerReplies
 unfolding answer_tests answer_sizes_lem
-answer-replies Unknown k x m b t = differ t
-answer-replies (Known c) k x m b t =
+answer-replies None k x m b t = differ t
+answer-replies (Some c) k x m b t =
     let grows = both _ _ (both _ _ t).0 in
     let sizes = (both _ _ (both _ _ (both _ _ (both _ _ grows.0).0).0).0).0 in
     (both _ _ (sym (answer-decides (answer-sized c k x m sizes b) grows.1) ∙ t)).1
@@ -152,8 +150,8 @@ unfolding open_seen told_in
 open-seen-all t t' opening opening' s s' e = (ap told_in e, ap (λ (u : OpenSeen). u.opening.holds) e, ap (λ (u : OpenSeen). u.s.holds) e)
 
 pub open-told-all : OpenToldAll
-open-told-all (Done n) (Done n') e = ap Done (ap (λ (t : Told OpenCounts). t.counts) e)
-open-told-all (Done n) (Refused r) e = let z = ap (λ (t : Told OpenCounts). t.number) e in absurd (omega (arith, some r))
-open-told-all (Refused r) (Done n) e = let z = ap (λ (t : Told OpenCounts). t.number) e in absurd (omega (arith, some r))
-open-told-all (Refused r) (Refused s) e =
-    ap Refused (same-refusal r s (ap (λ (t : Told OpenCounts). t.number) e) (ap (λ (t : Told OpenCounts). t.place) e))
+open-told-all (Ok n) (Ok n') e = ap Ok (ap (λ (t : Told OpenCounts). t.counts) e)
+open-told-all (Ok n) (Err r) e = let z = ap (λ (t : Told OpenCounts). t.number) e in absurd (omega (arith, some r))
+open-told-all (Err r) (Ok n) e = let z = ap (λ (t : Told OpenCounts). t.number) e in absurd (omega (arith, some r))
+open-told-all (Err r) (Err s) e =
+    ap Err (same-refusal r s (ap (λ (t : Told OpenCounts). t.number) e) (ap (λ (t : Told OpenCounts). t.place) e))

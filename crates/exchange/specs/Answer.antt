@@ -4,15 +4,15 @@
 --   answer_reply c k x       what Reply is lent: NewHope's public numbers are grown from the opening's seed
 --   answer_tests c k x m     its tests in 01's order: 1, 12, 2, 3, 18, 4, 5, 17 of the part that came, 7, 17 of the part about to be sent
 --   answer_result c k x m    its promise: what is seen, as a function of what is lent; answer_shown v: by the verdict v of any tests
---   answer_lent, answer_lent_of   what is lent, from the slices of a contract, and from lists
-use Rattle.std.specs.Prelude.{List, [], ℕ, ◌+◌, length}
-use Rattle.schemes.specs.{Schemes.fixed_of, declared.Named.Named, declared.Scheme.Scheme}
-use Rattle.noise.specs.declared.Ruled.{Ruled}
+--   answer_lent              what is lent
+use Rattle.std.specs.Prelude.{Err, Some, None, Option, List, [], ℕ, ◌+◌, length}
+use Rattle.noise.specs.declared.RuleName.{RuleName}
+use Rattle.schemes.specs.{Schemes.fixed_of, declared.Scheme.Scheme}
 use Rattle.refusals.specs.Refusals.{◌then◌, length_is_lem, room_for_lem, publics_in_lem, message_in, not_blank_lem}
-use Rattle.refusals.specs.{declared.Verdict.Verdict, declared.Refusal.Refusal}
+use Rattle.refusals.specs.{Refusals.Verdict, declared.Refusal.Refusal}
 use Rattle.sampling.specs.Noise.{table_words}
 use Rattle.wire.specs.Wire.{opened_in, seed_in}
-use Rattle.reply.specs.Reply.{Reply, ReplyRooms, ReplySeen, reply_of, opened_of, replied_part, reply_shown}
+use Rattle.reply.specs.Reply.{Reply, ReplyRooms, ReplySeen, reply, opened_of, replied_part, reply_shown}
 use Rattle.exchange.specs.Random.{secret_bytes, mixed_bytes, answer_random, cut, values_in, public_lent, public_from, ruled_in, table_order, grown}
 
 pub record AnswerLent : Type 0 where
@@ -23,20 +23,20 @@ pub record AnswerLent : Type 0 where
 
 unfoldable pub drawn_reply : Scheme → List ℕ → AnswerLent → Reply
 drawn_reply c a x =
-    reply_of x.opening a
+    reply x.opening a
     (values_in c x.table (cut 0 (secret_bytes c) x.random))
     (values_in c x.table (cut (secret_bytes c) (secret_bytes c) x.random))
     (values_in c x.table (cut (secret_bytes c + secret_bytes c) (mixed_bytes c) x.random))
     (cut (secret_bytes c + secret_bytes c + mixed_bytes c) (fixed_of c).coins x.random)
 
-unfoldable pub answer_reply : Named → Ruled → AnswerLent → Reply
-answer_reply Named.Unknown k x = reply_of [] [] [] [] [] []
-answer_reply (Named.Known c) k x = drawn_reply c (public_from c k (seed_in c x.opening) x.a) x
+unfoldable pub answer_reply : Option Scheme → Option RuleName → AnswerLent → Reply
+answer_reply None k x = reply [] [] [] [] [] []
+answer_reply (Some c) k x = drawn_reply c (public_from c k (seed_in c x.opening) x.a) x
 
-unfoldable pub answer_tests : Named → Ruled → AnswerLent → ReplyRooms → Verdict
-answer_tests Named.Unknown k x m = Verdict.Fail Refusal.NoScheme
-answer_tests (Named.Known c) k x m =
-    let y = answer_reply (Named.Known c) k x in
+unfoldable pub answer_tests : Option Scheme → Option RuleName → AnswerLent → ReplyRooms → Verdict
+answer_tests None k x m = Err Refusal.NoScheme
+answer_tests (Some c) k x m =
+    let y = answer_reply (Some c) k x in
     ruled_in k
     then length_is_lem (length x.opening) (fixed_of c).opening
     then length_is_lem (length x.a) (public_lent c)
@@ -54,16 +54,13 @@ answer_tests (Named.Known c) k x m =
 
 -- ---- the promise
 
-abbrev pub answer_shown : Verdict → Named → Ruled → AnswerLent → ReplyRooms → ReplySeen
+abbrev pub answer_shown : Verdict → Option Scheme → Option RuleName → AnswerLent → ReplyRooms → ReplySeen
 answer_shown v c k x m = reply_shown v c (answer_reply c k x) m
 
-abbrev pub answer_result : Named → Ruled → AnswerLent → ReplyRooms → ReplySeen
+abbrev pub answer_result : Option Scheme → Option RuleName → AnswerLent → ReplyRooms → ReplySeen
 answer_result c k x m = answer_shown (answer_tests c k x m) c k x m
 
 -- ---- of a call
 
-abbrev pub answer_lent_of : List ℕ → List ℕ → List ℕ → List ℕ → AnswerLent
-answer_lent_of opening a table random = record { opening = opening; a = a; table = table; random = random }
-
 abbrev pub answer_lent : List ℕ → List ℕ → List ℕ → List ℕ → AnswerLent
-answer_lent opening a table random = answer_lent_of opening a table random
+answer_lent opening a table random = record { opening = opening; a = a; table = table; random = random }

@@ -5,18 +5,19 @@
 --   open_offer c k x        what Offer is lent: NewHope's public numbers are grown from the seed
 --   open_tests c k x m      its tests in 01's order: 1, 12, 2, 3, 18, 4, 7, 17
 --   open_result c k x m     its promise: what is seen, as a function of what is lent; open_shown v: by the verdict v of any tests
---   open_lent, open_rooms    what is lent, from the slices of a contract; open_lent_of, open_rooms_of: from lists and numbers
+--   open_lent                what is lent
+--   open_rooms, open_rooms_of   the rooms, from the outputs of a contract and from numbers
 --   open_told r             the numbers of its answer r
 --   open_seen t opening s   what is seen where open tells t and leaves these outputs
-use Rattle.std.specs.Prelude.{List, [], ℕ, ◌+◌, ℤ, pos, length, take}
-use Rattle.schemes.specs.{Schemes.fixed_of, declared.Named.Named, declared.Scheme.Scheme}
-use Rattle.noise.specs.declared.Ruled.{Ruled}
+use Rattle.std.specs.Prelude.{Ok, Err, Some, None, Option, Result, List, [], ℕ, ◌+◌, ℤ, pos, length, take}
+use Rattle.noise.specs.declared.RuleName.{RuleName}
+use Rattle.schemes.specs.{Schemes.fixed_of, declared.Scheme.Scheme}
 use Rattle.refusals.specs.Refusals.{number_in, place_in, ◌then◌, length_is_lem, room_for_lem, publics_in_lem, not_blank_lem}
-use Rattle.refusals.specs.{Seen.Output, Seen.output, Seen.written, Seen.Told, Seen.done, Seen.refused, declared.Verdict.Verdict, declared.Refusal.Refusal}
+use Rattle.refusals.specs.{Seen.Output, Seen.output, Seen.written, Seen.Told, Seen.done, Seen.refused, Refusals.Verdict, declared.Refusal.Refusal}
 use Rattle.sampling.specs.Noise.{table_words}
-use Rattle.offer.specs.Offer.{Offer, offer_of, offered_part, offer_message}
+use Rattle.offer.specs.Offer.{Offer, offer, offered_part, offer_message}
 use Rattle.exchange.specs.Random.{secret_bytes, open_random, cut, values_in, public_lent, public_from, ruled_in, table_order, grown}
-pub use Rattle.exchange.specs.{declared.OpenCounts.OpenCounts, declared.OpenAnswer.OpenAnswer}
+pub use Rattle.exchange.specs.{declared.OpenCounts.OpenCounts}
 
 pub record OpenLent : Type 0 where
   pub a : List ℕ
@@ -35,18 +36,18 @@ pub record OpenSeen : Type 0 where
 
 unfoldable pub drawn_offer : Scheme → List ℕ → OpenLent → Offer
 drawn_offer c a x =
-    offer_of a
+    offer a
     (values_in c x.table (cut (fixed_of c).seed (secret_bytes c) x.random))
     (values_in c x.table (cut ((fixed_of c).seed + secret_bytes c) (secret_bytes c) x.random))
     (take (fixed_of c).seed x.random)
 
-unfoldable pub open_offer : Named → Ruled → OpenLent → Offer
-open_offer Named.Unknown k x = offer_of [] [] [] []
-open_offer (Named.Known c) k x = drawn_offer c (public_from c k (take (fixed_of c).seed x.random) x.a) x
+unfoldable pub open_offer : Option Scheme → Option RuleName → OpenLent → Offer
+open_offer None k x = offer [] [] [] []
+open_offer (Some c) k x = drawn_offer c (public_from c k (take (fixed_of c).seed x.random) x.a) x
 
-unfoldable pub open_tests : Named → Ruled → OpenLent → OpenRooms → Verdict
-open_tests Named.Unknown k x m = Verdict.Fail Refusal.NoScheme
-open_tests (Named.Known c) k x m =
+unfoldable pub open_tests : Option Scheme → Option RuleName → OpenLent → OpenRooms → Verdict
+open_tests None k x m = Err Refusal.NoScheme
+open_tests (Some c) k x m =
     ruled_in k
     then length_is_lem (length x.a) (public_lent c)
     then length_is_lem (length x.table) (table_words c)
@@ -56,11 +57,11 @@ open_tests (Named.Known c) k x m =
     then table_order c x.table
     then publics_in_lem (fixed_of c).q x.a
     then grown c k (take (fixed_of c).seed x.random)
-    then not_blank_lem (offered_part c (open_offer (Named.Known c) k x))
+    then not_blank_lem (offered_part c (open_offer (Some c) k x))
 
 -- ---- the promise
 
-unfoldable pub open_shown : Verdict → Named → Ruled → OpenLent → OpenRooms → OpenSeen
+unfoldable pub open_shown : Verdict → Option Scheme → Option RuleName → OpenLent → OpenRooms → OpenSeen
 open_shown v c k x m =
     record {
       number = number_in v;
@@ -69,16 +70,13 @@ open_shown v c k x m =
       s = written v (open_offer c k x).s (pos 0) m.s;
     }
 
-abbrev pub open_result : Named → Ruled → OpenLent → OpenRooms → OpenSeen
+abbrev pub open_result : Option Scheme → Option RuleName → OpenLent → OpenRooms → OpenSeen
 open_result c k x m = open_shown (open_tests c k x m) c k x m
 
 -- ---- of a call
 
-abbrev pub open_lent_of : List ℕ → List ℕ → List ℕ → OpenLent
-open_lent_of a table random = record { a = a; table = table; random = random }
-
 abbrev pub open_lent : List ℕ → List ℕ → List ℕ → OpenLent
-open_lent a table random = open_lent_of a table random
+open_lent a table random = record { a = a; table = table; random = random }
 
 abbrev pub open_rooms_of : ℕ → ℕ → OpenRooms
 open_rooms_of opening s = record { opening = opening; s = s }
@@ -86,9 +84,9 @@ open_rooms_of opening s = record { opening = opening; s = s }
 abbrev pub open_rooms : List ℕ → List ℤ → OpenRooms
 open_rooms opening s = open_rooms_of (length opening) (length s)
 
-abbrev pub open_told : OpenAnswer → Told OpenCounts
-open_told (OpenAnswer.Done n) = done n
-open_told (OpenAnswer.Refused r) = refused r (record { opening = 0; s = 0 })
+abbrev pub open_told : Result OpenCounts Refusal → Told OpenCounts
+open_told (Ok n) = done n
+open_told (Err r) = refused r (record { opening = 0; s = 0 })
 
 unfoldable pub open_seen : Told OpenCounts → List ℕ → List ℤ → OpenSeen
 open_seen t opening s =

@@ -8,12 +8,12 @@
 --   ruled_in k                     12, where no rule is named
 --   table_order c table            18, in BCNS alone
 --   grown c k seed                7, in NewHope alone
-use Rattle.std.specs.Prelude.{List, ℕ, ◌+◌, ◌*◌, ℤ, length, take, drop}
-use Rattle.schemes.specs.{Schemes.fixed_of, Schemes.family_of, Schemes.by_family, declared.Scheme.Scheme, declared.Named.TheVariants.Known}
-use Rattle.noise.specs.declared.Ruled.{Ruled}
+use Rattle.std.specs.Prelude.{Err, Some, None, Option, List, ℕ, ◌+◌, ◌*◌, ℤ, length, take, drop}
+use Rattle.noise.specs.declared.RuleName.{RuleName}
+use Rattle.schemes.specs.{Schemes.fixed_of, Schemes.family_of, Schemes.by_family, declared.Scheme.Scheme}
 use Rattle.bcns_noise.specs.Noise.{first_not_above_lem}
-use Rattle.refusals.specs.{Refusals.table_in_lem, declared.Verdict.Verdict, declared.Verdict.TheVariants.Pass, declared.Refusal.Refusal}
-use Rattle.sampling.specs.{Noise.noise_of, Noise.bytes_each, Noise.noise_values_lem, Expand.enough, Expand.grow_numbers}
+use Rattle.refusals.specs.{Refusals.table_in_lem, Refusals.Verdict, Refusals.pass, declared.Refusal.Refusal}
+use Rattle.sampling.specs.{Noise.noise, Noise.bytes_each, Noise.noise_values_lem, Expand.enough, Expand.grow_numbers}
 
 abbrev pub secret_bytes : Scheme → ℕ
 secret_bytes c = bytes_each c * (fixed_of c).noise
@@ -31,20 +31,20 @@ abbrev pub cut : ℕ → ℕ → List ℕ → List ℕ
 cut at n random = take n (drop at random)
 
 abbrev pub values_in : Scheme → List ℕ → List ℕ → List ℤ
-values_in c table bytes = noise_values_lem (Known c) (noise_of bytes table)
+values_in c table bytes = noise_values_lem (Some c) (noise bytes table)
 
 abbrev pub public_lent : Scheme → ℕ
 public_lent c = by_family (family_of c) (fixed_of c).public 0 (fixed_of c).public
 
-unfoldable pub public_from : Scheme → Ruled → List ℕ → List ℕ → List ℕ
+unfoldable pub public_from : Scheme → Option RuleName → List ℕ → List ℕ → List ℕ
 public_from c k seed a = by_family (family_of c) a (grow_numbers k seed) a
 
-abbrev pub ruled_in : Ruled → Verdict
-ruled_in Ruled.Unknown = Verdict.Fail Refusal.NoRule
-ruled_in (Ruled.By r) = Pass
+abbrev pub ruled_in : Option RuleName → Verdict
+ruled_in None = Err Refusal.NoRule
+ruled_in (Some r) = pass
 
 unfoldable pub table_order : Scheme → List ℕ → Verdict
-table_order c table = by_family (family_of c) (table_in_lem (first_not_above_lem table) 51) Pass Pass
+table_order c table = by_family (family_of c) (table_in_lem (first_not_above_lem table) 51) pass pass
 
-unfoldable pub grown : Scheme → Ruled → List ℕ → Verdict
-grown c k seed = by_family (family_of c) Pass (enough (length (grow_numbers k seed))) Pass
+unfoldable pub grown : Scheme → Option RuleName → List ℕ → Verdict
+grown c k seed = by_family (family_of c) pass (enough (length (grow_numbers k seed))) pass

@@ -1,4 +1,5 @@
 -- What is stated in specs/Shown.
+use Rattle.std.proofs.Common.{Ok, Err}
 use Rattle.lists.proofs.Kit.{sym, ap, length}
 use Rattle.schemes.proofs.Sound.{sound}
 use Rattle.lists.proofs.Top.{peak-zeros}
@@ -6,7 +7,7 @@ use Rattle.refusals.specs.Seen.{Told}
 use Rattle.refusals.proofs.Seen.{same-counts, same-refused, never_both}
 use Rattle.values.specs.Keys.{slacks}
 use Rattle.wire.proofs.Travel.{reply-again}
-use Rattle.finish.specs.Finish.{FinishSeen, replied_of, finish_value, finish_slack, finish_seen, Done, Refused, FinishCounts}
+use Rattle.finish.specs.Finish.{FinishSeen, replied_of, finish_value, finish_slack, finish_seen, FinishCounts}
 use Rattle.finish.specs.Shown.{FinishSeenAll, FinishToldAll, ReplyComesBack, NoSlack, KeysFit}
 use Rattle.finish.proofs.Finishing.{key-length, finish-passed}
 
@@ -28,10 +29,10 @@ finish-seen-all _ _ _ _ _ _ e = (
 )
 
 pub finish-told-all : FinishToldAll
-finish-told-all (Done n) (Done n') e = ap Done (same-counts e)
-finish-told-all (Done n) (Refused r) e = never_both r e
-finish-told-all (Refused r) (Done n) e = never_both r (sym e)
-finish-told-all (Refused r) (Refused s) e = ap Refused (same-refused r s e)
+finish-told-all (Ok n) (Ok n') e = ap Ok (same-counts e)
+finish-told-all (Ok n) (Err r) e = never_both r e
+finish-told-all (Err r) (Ok n) e = never_both r (sym e)
+finish-told-all (Err r) (Err s) e = ap Err (same-refused r s e)
 
 pub reply-comes-back : ReplyComesBack
 unfolding replied_of

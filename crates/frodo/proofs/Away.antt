@@ -2,7 +2,7 @@
 --   arc        where w has the other hint, it stands in a half interval of numbers without the given one, and both neighbours have it
 --   in-half    there the formula's remainder is the place of w in that half; elsewhere it is behind it
 --   Case, case-of   the two cases, with the slack and the formula in each
---   slack-apart, slack-least, slack-formula, slack-none, slack-bound
+--   slack-apart, slack-least, slack_formula, slack-none, slack-bound
 use Rattle.lists.proofs.Kit.{refl, ap, ◌∙◌, Bool, true, ℕ, zero, suc, min, ℕ_discrete, dec_lt, mul-le-mul_right}
 use Rattle.std.proofs.Common.{◌≡◌, ◌+◌, ◌*◌, ◌-◌, ◌/◌, ◌%◌, ◌^◌, ◌≤◌, ◌<◌}
 use Rattle.lists.proofs.Kit.{arith, eqb, pow_pos, eqb-true, eq-eqb}
@@ -121,8 +121,8 @@ module _ (t : ℕ) (p : 0 < t) (B w : ℕ) (hw : w < 4 * t * 2 ^ B) where
 pub slack-least : SlackLeast
 slack-least I B h w o e = let p : 0 < I / 4 = omega arith in rw (quarter I e) (λ hw l. least_at (I / 4) p B w hw h l)
 
-pub slack-formula : SlackFormula
-slack-formula I B h w o e =
+pub slack_formula : SlackFormula
+slack_formula I B h w o e =
     let p : 0 < I / 4 = omega arith in rw (quarter I e) (λ hw l. formula-at (I / 4) p B w hw h (case-of (I / 4) p B w hw h l))
 
 pub slack-none : SlackNone

@@ -10,6 +10,7 @@ ghost use Rattle.lists.specs.Ranges.{Below};
 ghost use Rattle.frodo.specs.Rounding.{interval, hint_of, key_of, peer_of, hints_of, keys_of, peers_of, slack_of, slacks_of};
 ghost use Rattle.frodo.specs.Shown.{Round};
 
+use lists::each::set_each;
 use schemes::Scheme;
 
 // The interval of a scheme.
@@ -21,6 +22,7 @@ pub fn interval(scheme: Scheme) -> u32
 }
 
 // The hint of the replier's value v: which half of its interval v stands in.
+#[tactic(auto, unfolding(crate::specs::Rounding::hint_of))]
 pub fn hint(i: u32, b: u32, v: u32) -> u32
     requires { Round i b × (v < i * 2 ^ b) }
     ensures { result ≡ hint_of i v }
@@ -37,6 +39,7 @@ fn values(b: u32) -> u32
 }
 
 // The replier's key.
+#[tactic(auto, using(crate::proofs::Room::room), unfolding(crate::specs::Rounding::key_of))]
 pub fn key(i: u32, b: u32, v: u32) -> u32
     requires { Round i b × (v < i * 2 ^ b) }
     ensures { result ≡ key_of i b v }
@@ -45,6 +48,7 @@ pub fn key(i: u32, b: u32, v: u32) -> u32
 }
 
 // The initiator's key of w under the hint h: in place of a search for the nearest z its formula, which `Shown.antt` states.
+#[tactic(auto, using(crate::proofs::Room::room, crate::proofs::Rule::formula), unfolding(crate::specs::Shown::formula_of))]
 pub fn peer(i: u32, b: u32, h: u32, w: u32) -> u32
     requires { Round i b × (h < 2) × (w < i * 2 ^ b) }
     ensures { result ≡ peer_of i b h w }
@@ -54,6 +58,7 @@ pub fn peer(i: u32, b: u32, h: u32, w: u32) -> u32
 
 // The slack used (02f): how far w lies from the nearest value with the hint h. In place of a search its formula, which `Shown.antt` states: the place of w
 // behind the start of a half interval with the other hint, and the way out of that half.
+#[tactic(auto, using(crate::proofs::Room::room, crate::proofs::Away::slack_formula))]
 pub fn slack(i: u32, b: u32, h: u32, w: u32) -> u32
     requires { Round i b × (h < 2) × (w < i * 2 ^ b) }
     ensures { result ≡ slack_of i b h w }
@@ -65,22 +70,14 @@ pub fn hints(i: u32, b: u32, v: &[u32], out: &mut [u32])
     requires { Round i b × Below (i * 2 ^ b) v.now × (length v.now ≡ length out.old) }
     ensures { out.new ≡ hints_of i v.now }
 {
-    let mut k: usize = 0;
-    while k < out.len() {
-        out[k] = hint(i, b, v[k]);
-        k += 1;
-    }
+    set_each(out, |k, _| hint(i, b, v[k]));
 }
 
 pub fn keys(i: u32, b: u32, v: &[u32], out: &mut [u32])
     requires { Round i b × Below (i * 2 ^ b) v.now × (length v.now ≡ length out.old) }
     ensures { out.new ≡ keys_of i b v.now }
 {
-    let mut k: usize = 0;
-    while k < out.len() {
-        out[k] = key(i, b, v[k]);
-        k += 1;
-    }
+    set_each(out, |k, _| key(i, b, v[k]));
 }
 
 pub fn peers(i: u32, b: u32, hints: &[u32], w: &[u32], out: &mut [u32])
@@ -88,11 +85,7 @@ pub fn peers(i: u32, b: u32, hints: &[u32], w: &[u32], out: &mut [u32])
     requires below { Below 2 hints.now × (length hints.now ≡ length w.now) }
     ensures { out.new ≡ peers_of i b hints.now w.now }
 {
-    let mut k: usize = 0;
-    while k < out.len() {
-        out[k] = peer(i, b, hints[k], w[k]);
-        k += 1;
-    }
+    set_each(out, |k, _| peer(i, b, hints[k], w[k]));
 }
 
 // In place: each value becomes its slack.
@@ -101,9 +94,5 @@ pub fn slacks(i: u32, b: u32, hints: &[u32], w: &mut [u32])
     requires below { Below 2 hints.now × (length hints.now ≡ length w.old) }
     ensures { w.new ≡ slacks_of i b hints.now w.old }
 {
-    let mut k: usize = 0;
-    while k < w.len() {
-        w[k] = slack(i, b, hints[k], w[k]);
-        k += 1;
-    }
+    set_each(w, |k, x| slack(i, b, hints[k], x));
 }

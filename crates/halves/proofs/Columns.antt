@@ -5,7 +5,6 @@
 --   Doing w i k        k of the 33 columns that rows i and i + 1 reach have them
 --   doing-none, doing-next, doing-all   the first column, one more, and all
 --   doing-small        a column has room for two products more
---   column-small       the sums are small enough to be put together
 --   leaf-law           what the steps of a leaf come to
 use Rattle.lists.proofs.Kit.{◌≡◌, ◌∙◌, sym, ap, subst, List, Bool, cond, ℕ, suc, ◌+◌, ◌*◌, ◌-◌, ◌/◌, ◌%◌, ◌^◌, ◌<◌, ◌≤◌, arith, mul-zero, zero-mul}
 use Rattle.lists.proofs.Kit.{zero-add, div-add-mod, mod-lt, dec_lt, lt-ltb, le-ltb, ltb, length, get_or, set, length-set, get_or-set_same, get_or-set_other}
@@ -159,9 +158,6 @@ pub doing-small : {w : List ℕ} {i k : ℕ} {lows highs : List ℕ} → Doing w
 doing-small {i = i} {k} d l n = let c = d.todo (i + k) (omega arith) (omega arith) in (omega (arith, c.low), omega (arith, c.high))
 
 -- ---- all of it
-
-pub column-small : {w lows highs : List ℕ} → Rows w 32 lows highs → (k : ℕ) → k < 64 → (get_or lows k 0 < 2 ^ 40) × (get_or highs k 0 < 2 ^ 40)
-column-small r k l = let c = r.at k l in (omega (arith, c.low), omega (arith, c.high))
 
 pub padded :
     {w b b' : List ℕ} {n : ℕ} → length b ≡ 34 → ((k : ℕ) → get_or b k 0 ≡ 0) → Stored 0 b 1 n (from w 32) b' → n ≡ 32 → Below 4294967296 b' → Padded w b'

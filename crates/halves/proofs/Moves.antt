@@ -1,7 +1,6 @@
 -- What the moves around the three products come to.
 --   same            a place, by any name
 --   times-ext       the full product of equal factors
---   spread-law, join-law   what the steps before and behind the products do
 --   level-law       all of one level
 use Rattle.lists.proofs.Kit.{◌≡◌, ◌∙◌, sym, ap, ap₂, List, ℕ, ◌+◌, ◌*◌, ◌-◌, ◌%◌, ◌<◌, arith, zero-add, dec_lt, get_or}
 use Rattle.lists.specs.Ranges.{Stored}
@@ -21,60 +20,6 @@ pub times-ext :
     times w n x y k ≡ times w' n x' y' k
 unfolding times
 times-ext w w' n x y x' y' k p r = factors-ext n _ _ _ _ k p r
-
-module _ {h : ℕ} {w₀ w₁ w₂ w₃ w₄ w₅ : List ℕ}
-    (a₁ : Stored 0 w₀ (4 * h) h (λ k. (from w₀ 0 k + from w₀ h k) % q) w₁)
-    (a₂ : Stored 0 w₁ (5 * h) h (λ k. (from w₁ (2 * h) k + from w₁ (3 * h) k) % q) w₂)
-    (c₁ : Stored 0 w₂ (6 * h) h (from w₂ h) w₃)
-    (c₂ : Stored 0 w₃ h h (from w₃ (2 * h)) w₄)
-    (c₃ : Stored 0 w₄ (2 * h) h (from w₄ (6 * h)) w₅) where
-  kept : (i : ℕ) → i < 4 * h → get_or w₃ i 0 ≡ get_or w₀ i 0
-  kept i p = c₁.below i (omega arith) ∙ a₂.below i (omega arith) ∙ a₁.below i p
-
-  pub spread-law : Spread w₀ h w₅
-  spread-law =
-      record {
-        long = c₃.long ∙ c₂.long ∙ c₁.long ∙ a₂.long ∙ a₁.long;
-        a-low = λ k p. c₃.below k (omega arith) ∙ c₂.below k p ∙ kept k (omega arith);
-        b-low = λ k p. c₃.below (h + k) (omega arith) ∙ c₂.inside k p ∙ kept (2 * h + k) (omega arith);
-        a-high = λ k p.
-            c₃.inside k p
-            ∙ c₂.above (6 * h + k) (omega arith)
-            ∙ c₁.inside k p
-            ∙ a₂.below (h + k) (omega arith)
-            ∙ a₁.below (h + k) (omega arith);
-        b-high = λ k p. c₃.above (3 * h + k) (omega arith) ∙ c₂.above (3 * h + k) (omega arith) ∙ kept (3 * h + k) (omega arith);
-        a_sum = λ k p.
-            c₃.above (4 * h + k) (omega arith)
-            ∙ c₂.above (4 * h + k) (omega arith)
-            ∙ c₁.below (4 * h + k) (omega arith)
-            ∙ a₂.below (4 * h + k) (omega arith)
-            ∙ a₁.inside k p
-            ∙ ap (λ (x : ℕ). (x + get_or w₀ (h + k) 0) % q) (same w₀ (zero-add k));
-        b-sum = λ k p.
-            c₃.above (5 * h + k) (omega arith)
-            ∙ c₂.above (5 * h + k) (omega arith)
-            ∙ c₁.below (5 * h + k) (omega arith)
-            ∙ a₂.inside k p
-            ∙ ap₂ (λ (x y : ℕ). (x + y) % q) (a₁.below (2 * h + k) (omega arith)) (a₁.below (3 * h + k) (omega arith));
-      }
-
-pub join-law :
-    {h : ℕ} {w₀ w₁ w₂ : List ℕ} →
-    Stored 0 w₀ (10 * h) (2 * h) (λ k. (from w₀ (10 * h) k + (q - from w₀ 0 k) + (q - from w₀ (2 * h) k)) % q) w₁ →
-    Stored 0 w₁ h (2 * h) (λ k. (from w₁ h k + from w₁ (10 * h) k) % q) w₂ → Joined w₀ h w₂
-join-law {h} {w₀} s a =
-    record {
-      long = a.long ∙ s.long;
-      low = λ k p. a.below k p ∙ s.below k (omega arith);
-      mid = λ k p.
-          a.inside k (omega arith)
-          ∙ ap₂ (λ (x y : ℕ). (x + y) % q)
-          (s.below (h + k) (omega arith))
-          (s.inside k (omega arith)
-          ∙ ap (λ (x : ℕ). (get_or w₀ (10 * h + k) 0 + (q - x) + (q - get_or w₀ (2 * h + k) 0)) % q) (same w₀ (zero-add k)));
-      high = λ k p r. a.above k (omega arith) ∙ s.below k (omega arith);
-    }
 
 -- the three products are made from the last to the first, and each is moved out of the way of the next
 module _ {h : ℕ} {w₀ w₁ w₂ w₃ w₄ w₅ w₆ w₇ w₈ : List ℕ} (s : Spread w₀ h w₁)

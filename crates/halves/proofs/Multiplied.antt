@@ -6,6 +6,7 @@
 --   product-refused, product-done   what is seen of the output, where a test fails and where the front of the zeros is written over
 --   product-cleared    what is seen of the call, once the scratch is zeroed
 --   product-seen-all   `product_seen` forgets nothing
+use Rattle.std.proofs.Common.{Err}
 use Rattle.lists.proofs.Kit.{◌≡◌, refl, ◌∙◌, sym, ap, ap₂, List, ◌++◌, Bool, true, false, cond, ℕ, ◌+◌, ◌*◌, ◌-◌, ◌%◌, ◌<◌, ◌≤◌, mod-lt, arith, length, get_or}
 use Rattle.lists.proofs.Kit.{drop, replicate}
 use Rattle.numbers.specs.Residue.{residue}
@@ -13,34 +14,34 @@ use Rattle.numbers.proofs.Congruence.{eq-≅, ◌⨾◌, sub-≅, mod-≅, resid
 use Rattle.lists.specs.{Entries.tab, Entries.nums, Ranges.Stored}
 use Rattle.lists.proofs.Entries.{tab-length, tab-ext}
 use Rattle.polynomial.specs.Product.{product}
-use Rattle.refusals.specs.declared.Verdict.TheVariants.{Pass, Fail}
+use Rattle.refusals.specs.Refusals.{pass}
 use Rattle.refusals.specs.Seen.{done, refused, Seen, shown, seen}
-use Rattle.refusals.specs.{declared.Refusal.Refusal, declared.Refusal.TheVariants.BadLength, declared.Verdict.Verdict}
+use Rattle.refusals.specs.{declared.Refusal.Refusal, declared.Refusal.TheVariants.BadLength, Refusals.Verdict}
 use Rattle.refusals.proofs.{Laws.differ, Laws.both, Laws.failed, Laws.length-passed, Laws.room-passed, Seen.shown-passed, Seen.shown-failed}
-use Rattle.halves.specs.Halves.{q, size_up_to, size_in_lem, Factors, factors_of, product_tests_lem, plain, ProductSeen, with_scratch, product_result, ProductSeenAll}
+use Rattle.halves.specs.Halves.{q, size_up_to, size_in_lem, Factors, factors, product_tests_lem, plain, ProductSeen, with_scratch, product_result, ProductSeenAll}
 use Rattle.halves.specs.Steps.{full, cut, from, times, Product, Fit}
 use Rattle.halves.proofs.{Full.cut-ext, Full.full-ext, Folded.product-folded, Part.size-upto, Step.rest-≅, Step.less-≅}
 
 -- ---- lengths
 
-pub size-passes : (n : ℕ) {b : Bool} → b ≡ size_up_to 5 n → b ≡ true → Pass ≡ size_in_lem n
+pub size-passes : (n : ℕ) {b : Bool} → b ≡ size_up_to 5 n → b ≡ true → pass ≡ size_in_lem n
 unfolding size_in_lem
 size-passes n e f = rw (← e, f)
 
-pub size-fails : (n : ℕ) {b : Bool} → b ≡ size_up_to 5 n → b ≡ false → Fail BadLength ≡ size_in_lem n
+pub size-fails : (n : ℕ) {b : Bool} → b ≡ size_up_to 5 n → b ≡ false → Err BadLength ≡ size_in_lem n
 unfolding size_in_lem
 size-fails n e f = rw (← e, f)
 
-pub size-passed : (n : ℕ) → size_in_lem n ≡ Pass → size_up_to 5 n ≡ true
+pub size-passed : (n : ℕ) → size_in_lem n ≡ pass → size_up_to 5 n ≡ true
 unfolding size_in_lem
 size-passed n e = go (size_up_to 5 n) e
   where
-    go : (b : Bool) → cond b Pass (Fail BadLength) ≡ Pass → b ≡ true
+    go : (b : Bool) → cond b pass (Err BadLength) ≡ pass → b ≡ true
     go true f = refl
     go false f = differ f
 
 -- a length that is refused ends the tests
-pub tests-stop : (x : Factors) (n m : ℕ) {v : Verdict} {r : Refusal} → v ≡ size_in_lem (length x.a) → v ≡ Fail r → v ≡ product_tests_lem x n m
+pub tests-stop : (x : Factors) (n m : ℕ) {v : Verdict} {r : Refusal} → v ≡ size_in_lem (length x.a) → v ≡ Err r → v ≡ product_tests_lem x n m
 unfolding product_tests_lem
 tests-stop x n m e f =
     f ∙ sym (failed _ (sym (failed _ (sym (failed _ (sym (failed _ (sym (failed _ e f)) refl)) refl)) refl)) refl)
@@ -82,7 +83,7 @@ module _ (n : ℕ) (a b w₁ w₂ w₃ : List ℕ) (w₀ : List ℕ) (la : lengt
       ⨾ sub-≅ (rest-≅ (laid k (omega arith))) (rest-≅ ey)
       ⨾ eq-≅ (sym (product-folded n (λ j. get_or a j 0) (λ j. get_or b j 0) k l)))
 
-  pub plain-law : {out : List ℕ} → out ≡ tab n (λ k. (get_or w₃ k 0 + (q - get_or w₃ (n + k) 0)) % q) → out ≡ plain (factors_of a b)
+  pub plain-law : {out : List ℕ} → out ≡ tab n (λ k. (get_or w₃ k 0 + (q - get_or w₃ (n + k) 0)) % q) → out ≡ plain (factors a b)
   unfolding plain
   plain-law e = rw la (e ∙ tab-ext n _ _ entry)
 
@@ -93,7 +94,7 @@ unfolding plain
 plain-long x = tab-length (length x.a) _
 
 module _ (x : Factors) (n m : ℕ) {v : Verdict} (e : v ≡ product_tests_lem x n m) where
-  pub fitting : v ≡ Pass → (length x.a ≤ n) × Fit (length x.a) x.a x.b m
+  pub fitting : v ≡ pass → (length x.a ≤ n) × Fit (length x.a) x.a x.b m
   unfolding product_tests_lem
   fitting f =
       let all = (both _ _ (sym e ∙ f)).0 in
@@ -110,11 +111,11 @@ module _ (x : Factors) (n m : ℕ) {v : Verdict} (e : v ≡ product_tests_lem x 
         },
       )
 
-  pub product-refused : {r : Refusal} {out : List ℕ} → v ≡ Fail r → out ≡ replicate n 0 → seen (refused r 0) out ≡ shown (product_tests_lem x n m) (plain x) 0 n
+  pub product-refused : {r : Refusal} {out : List ℕ} → v ≡ Err r → out ≡ replicate n 0 → seen (refused r 0) out ≡ shown (product_tests_lem x n m) (plain x) 0 n
   product-refused f z = shown-failed _ _ _ (sym e ∙ f) z
 
   pub product-done :
-      (old : List ℕ) {part : List ℕ} → v ≡ Pass → old ≡ replicate n 0 → part ≡ plain x →
+      (old : List ℕ) {part : List ℕ} → v ≡ pass → old ≡ replicate n 0 → part ≡ plain x →
       seen (done (length x.a)) (part ++ drop (length x.a) old) ≡ shown (product_tests_lem x n m) (plain x) 0 n
   product-done old f z w = shown-passed _ _ _ (sym e ∙ f) old (plain-long x) z (ap (λ (t : List ℕ). t ++ drop (length x.a) old) w)
 

@@ -3,7 +3,7 @@
 --   size_up_to k n             n is 32 times a power of two up to 2^k
 --   size_in_lem n                 2: a factor's length is none of those, up to 1024
 --   Factors                  what the call is lent to read: a and b
---   factors_of, factors       the factors from lists, and from what is lent in a contract
+--   factors, factors       the factors from lists, and from what is lent in a contract
 --   product_tests_lem x n m       the tests in their order, with room for n numbers and a scratch of m
 --   plain x                  what the call gives: the product of 01's rule, modulo X^L + 1 and q
 --   ProductSeen              what is seen of the call: the refusal's number and place, the output, and what the scratch holds
@@ -11,14 +11,15 @@
 --   product_seen t out scratch   what is seen where the call tells t and leaves out and scratch
 --   product_result x n m      what the call shows: a scratch of zeros, refused or not
 --   ProductSeenAll           `product_seen` forgets nothing
+use Rattle.std.specs.Prelude.{Err}
 use Rattle.std.specs.Prelude.{◌≡◌, Bool, true, cond, List, ℕ, zero, suc, ◌*◌, ◌^◌, eqb, length, replicate}
 use Rattle.numbers.specs.Residue.{residue}
 use Rattle.schemes.specs.{Schemes.fixed_of, declared.Scheme.TheVariants.Bcns}
 use Rattle.lists.specs.{Entries.tab, Entries.nums}
 use Rattle.polynomial.specs.Product.{product}
 use Rattle.refusals.specs.Refusals.{◌then◌, length_is_lem, room_for_lem, publics_in_lem}
-use Rattle.refusals.specs.declared.Verdict.TheVariants.{Pass, Fail}
-use Rattle.refusals.specs.{Seen.Output, Seen.Told, Seen.Seen, Seen.shown, Seen.seen, declared.Refusal.TheVariants.BadLength, declared.Verdict.Verdict}
+use Rattle.refusals.specs.Refusals.{pass}
+use Rattle.refusals.specs.{Seen.Output, Seen.Told, Seen.Seen, Seen.shown, Seen.seen, declared.Refusal.TheVariants.BadLength, Refusals.Verdict}
 
 abbrev pub q : ℕ
 q = (fixed_of Bcns).q
@@ -28,17 +29,14 @@ size_up_to zero n = eqb n 32
 size_up_to (suc k) n = cond (eqb n (32 * 2 ^ suc k)) true (size_up_to k n)
 
 unfoldable pub size_in_lem : ℕ → Verdict
-size_in_lem n = cond (size_up_to 5 n) Pass (Fail BadLength)
+size_in_lem n = cond (size_up_to 5 n) pass (Err BadLength)
 
 pub record Factors : Type 0 where
   pub a : List ℕ
   pub b : List ℕ
 
-abbrev pub factors_of : List ℕ → List ℕ → Factors
-factors_of a b = record { a = a; b = b }
-
 abbrev pub factors : List ℕ → List ℕ → Factors
-factors a b = factors_of a b
+factors a b = record { a = a; b = b }
 
 unfoldable pub product_tests_lem : Factors → ℕ → ℕ → Verdict
 product_tests_lem x n m =

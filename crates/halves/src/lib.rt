@@ -13,7 +13,7 @@ ghost use Rattle.refusals.specs.Seen.{told, shown, seen};
 ghost use Rattle.halves.specs.Halves.{q, size_up_to, size_in_lem, factors, product_tests_lem, plain, product_seen, product_result};
 ghost use Rattle.halves.specs.Steps.{Size, from, Ahead, Product, Padded, Rows, Spread, Joined, Fit};
 
-use refusals::{Answer, Refusal, Verdict};
+use refusals::Refusal;
 use schemes::Bcns;
 
 const Q: u64 = Bcns::Q as u64;
@@ -37,34 +37,14 @@ fn less_both(m: u32, x: u32, y: u32) -> u32
     numbers::fold((m as u64) + (Q - (x as u64)) + (Q - (y as u64))) as u32
 }
 
-// The n numbers at x, copied to `to`.
-fn copy(w: &mut [u32], x: usize, to: usize, n: usize)
-    requires n_in_bounds { (x + n ≤ length w.old) × (to + n ≤ length w.old) }
-    requires ahead { Ahead x to n }
-    ensures { Stored 0 w.old to n (from w.old x) w.new }
-{
-    let mut i: usize = 0;
-    while i < n {
-        let s = x + i;
-        let t = to + i;
-        w[t] = w[s];
-        i += 1;
-    }
-}
-
 // The sums of the n numbers at x and those at y.
 fn add(w: &mut [u32], x: usize, y: usize, to: usize, n: usize)
     requires n_in_bounds { (x + n ≤ length w.old) × (y + n ≤ length w.old) × (to + n ≤ length w.old) }
     requires ahead { Ahead x to n × Ahead y to n }
     ensures { Stored 0 w.old to n (λ (k : ℕ). (from w.old x k + from w.old y k) % q) w.new }
 {
-    let mut i: usize = 0;
-    while i < n {
-        let s = x + i;
-        let u = y + i;
-        let t = to + i;
-        w[t] = plus(w[s], w[u]);
-        i += 1;
+    for i in 0..n {
+        w[to + i] = plus(w[x + i], w[y + i]);
     }
 }
 
@@ -74,13 +54,8 @@ fn subtract(w: &mut [u32], x: usize, y: usize, to: usize, n: usize)
     requires ahead { Ahead x to n × Ahead y to n }
     ensures { Stored 0 w.old to n (λ (k : ℕ). (from w.old to k + (q - from w.old x k) + (q - from w.old y k)) % q) w.new }
 {
-    let mut i: usize = 0;
-    while i < n {
-        let s = x + i;
-        let u = y + i;
-        let t = to + i;
-        w[t] = less_both(w[t], w[s], w[u]);
-        i += 1;
+    for i in 0..n {
+        w[to + i] = less_both(w[to + i], w[x + i], w[y + i]);
     }
 }
 
@@ -109,12 +84,8 @@ fn lay_second(w: &[u32], b: &mut [u64])
     requires by_index { (k : ℕ) → get_or b.old k 0 ≡ 0 }
     ensures { Padded w.now b.new }
 {
-    let mut k: usize = 0;
-    while k < 32 {
-        let s = 32 + k;
-        let t = 1 + k;
-        b[t] = w[s] as u64;
-        k += 1;
+    for k in 0..32 {
+        b[1 + k] = w[32 + k] as u64;
     }
 }
 
@@ -128,14 +99,11 @@ fn two_rows(w: &[u32], b: &[u64], lows: &mut [u64], highs: &mut [u64], i: usize)
 {
     let x = w[i];
     let y = w[i + 1];
-    let mut k: usize = 0;
-    while k < 33 {
-        let c = i + k;
+    for k in 0..33 {
         let p = times(x, b[k + 1] as u32);
         let r = times(y, b[k] as u32);
-        lows[c] = lows[c] + (low(p) + low(r));
-        highs[c] = highs[c] + (high(p) + high(r));
-        k += 1;
+        lows[i + k] += low(p) + low(r);
+        highs[i + k] += high(p) + high(r);
     }
 }
 
@@ -144,10 +112,8 @@ fn rows(w: &[u32], b: &[u64], lows: &mut [u64], highs: &mut [u64])
     requires in_bounds { 64 ≤ length w.now }
     ensures { Rows w.now 32 lows.new highs.new }
 {
-    let mut i: usize = 0;
-    while i < 32 {
-        two_rows(w, b, lows, highs, i);
-        i += 2;
+    for i in 0..16 {
+        two_rows(w, b, lows, highs, 2 * i);
     }
 }
 
@@ -157,10 +123,8 @@ fn settle(lows: &[u64], highs: &[u64], w: &mut [u32])
     requires by_index { (k : ℕ) → k < 64 → (get_or lows.now k 0 < 2 ^ 40) × (get_or highs.now k 0 < 2 ^ 40) }
     ensures { Stored 0 w.old 0 64 (λ (k : ℕ). (get_or lows.now k 0 + 2 * get_or highs.now k 0) % q) w.new }
 {
-    let mut k: usize = 0;
-    while k < 64 {
+    for k in 0..64 {
         w[k] = numbers::fold(lows[k] + 2 * highs[k]) as u32;
-        k += 1;
     }
 }
 
@@ -184,9 +148,9 @@ fn spread(w: &mut [u32], h: usize)
 {
     add(w, 0, h, 4 * h, h);
     add(w, 2 * h, 3 * h, 5 * h, h);
-    copy(w, h, 6 * h, h);
-    copy(w, 2 * h, h, h);
-    copy(w, 6 * h, 2 * h, h);
+    w.copy_within(h..2 * h, 6 * h);
+    w.copy_within(2 * h..3 * h, h);
+    w.copy_within(6 * h..7 * h, 2 * h);
 }
 
 // The product of the sums, less the two others, is what lies in the middle.
@@ -216,25 +180,12 @@ fn halves(w: &mut [u32], n: usize)
         let ten = 10 * h;
         spread(w, h);
         halves(&mut w[four..ten], h);
-        copy(w, four, ten, two);
+        w.copy_within(four..six, ten);
         halves(&mut w[two..eight], h);
-        copy(w, two, eight, two);
+        w.copy_within(two..four, eight);
         halves(&mut w[0..six], h);
-        copy(w, eight, two, two);
+        w.copy_within(eight..ten, two);
         join(w, h);
-    }
-}
-
-// The numbers of x, written at `to`.
-fn load(w: &mut [u32], x: &[u32], to: usize)
-    requires { to + length x.now ≤ length w.old }
-    ensures { Stored 0 w.old to (length x.now) (λ (k : ℕ). get_or x.now k 0) w.new }
-{
-    let mut i: usize = 0;
-    while i < x.len() {
-        let t = to + i;
-        w[t] = x[i];
-        i += 1;
     }
 }
 
@@ -244,11 +195,8 @@ fn fold_into(w: &[u32], out: &mut [u32])
     ensures { out.new ≡ tab (length out.old) (λ (k : ℕ). (get_or w.now k 0 + (q - get_or w.now (length out.old + k) 0)) % q) }
 {
     let n = out.len();
-    let mut i: usize = 0;
-    while i < out.len() {
-        let t = n + i;
-        out[i] = minus(w[i], w[t]);
-        i += 1;
+    for i in 0..n {
+        out[i] = minus(w[i], w[n + i]);
     }
 }
 
@@ -258,80 +206,60 @@ fn multiply(a: &[u32], b: &[u32], out: &mut [u32], scratch: &mut [u32])
     ensures { out.new ≡ plain (factors a.now b.now) }
 {
     let n = out.len();
-    load(scratch, a, 0);
-    load(scratch, b, n);
+    scratch[..n].copy_from_slice(a);
+    scratch[n..2 * n].copy_from_slice(b);
     halves(scratch, n);
     fold_into(scratch, out);
 }
 
 // 32 times a power of two up to 1024.
+#[tactic(auto, unfolding(crate::specs::Halves::size_up_to))]
 fn is_size(n: usize) -> bool
     ensures { result ≡ size_up_to 5 n }
 {
-    if n == 1024 {
-        return true;
-    }
-    if n == 512 {
-        return true;
-    }
-    if n == 256 {
-        return true;
-    }
-    if n == 128 {
-        return true;
-    }
-    if n == 64 {
-        return true;
-    }
-    n == 32
+    matches!(n, 32 | 64 | 128 | 256 | 512 | 1024)
 }
 
-fn size_in(n: usize) -> Verdict
+fn size_in(n: usize) -> Result<(), Refusal>
     ensures { result ≡ size_in_lem n }
 {
     if is_size(n) {
-        Verdict::Pass
+        Ok(())
     } else {
-        Verdict::Fail(Refusal::BadLength)
+        Err(Refusal::BadLength)
     }
 }
 
 // The tests in their order.
-fn product_tests(a: &[u32], b: &[u32], room: usize, scratch: usize) -> Verdict
+fn product_tests(a: &[u32], b: &[u32], room: usize, scratch: usize) -> Result<(), Refusal>
     ensures { result ≡ product_tests_lem (factors a.now b.now) room scratch }
 {
     let n = a.len();
-    let size = size_in(n);
-    let Verdict::Pass = size else {
-        return size;
-    };
-    let long = refusals::length_is(size, b.len(), n);
-    let fits = refusals::room_for(refusals::room_for(long, room, n), scratch, 6 * n);
-    refusals::publics_in(refusals::publics_in(fits, Bcns::Q, a), Bcns::Q, b)
+    size_in(n)?;
+    refusals::length_is(b.len(), n)?;
+    refusals::room_for(room, n)?;
+    refusals::room_for(scratch, 6 * n)?;
+    refusals::publics_in(Bcns::Q, a)?;
+    refusals::publics_in(Bcns::Q, b)
 }
 
 // The product into zeros, where nothing is refused; the scratch is left as it is then.
-fn product_in(a: &[u32], b: &[u32], out: &mut [u32], scratch: &mut [u32]) -> Answer
+fn product_in(a: &[u32], b: &[u32], out: &mut [u32], scratch: &mut [u32]) -> Result<usize, Refusal>
     requires { out.old ≡ replicate (length out.old) 0 }
     ensures { seen (told result) out.new ≡ shown (product_tests_lem (factors a.now b.now) (length out.old) (length scratch.old)) (plain (factors a.now b.now)) 0 (length out.old) }
 {
-    let v = product_tests(a, b, out.len(), scratch.len());
-    match v {
-        Verdict::Fail(r) => Answer::Refused(r),
-        Verdict::Pass => {
-            let n = a.len();
-            multiply(a, b, &mut out[..n], scratch);
-            Answer::Done(n)
-        }
-    }
+    product_tests(a, b, out.len(), scratch.len())?;
+    let n = a.len();
+    multiply(a, b, &mut out[..n], scratch);
+    Ok(n)
 }
 
 // Product: a, b. The scratch is zeroed last, refused or not.
-pub fn product(a: &[u32], b: &[u32], out: &mut [u32], scratch: &mut [u32]) -> Answer
+pub fn product(a: &[u32], b: &[u32], out: &mut [u32], scratch: &mut [u32]) -> Result<usize, Refusal>
     ensures { product_seen (told result) out.new scratch.new ≡ product_result (factors a.now b.now) (length out.old) (length scratch.old) }
 {
-    lists::zero_numbers(out);
+    out.fill(0);
     let r = product_in(a, b, out, scratch);
-    lists::zero_numbers(scratch);
+    scratch.fill(0);
     r
 }

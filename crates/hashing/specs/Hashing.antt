@@ -5,7 +5,7 @@
 --   digest_result input n     what SHA3-256 shows
 use Rattle.std.specs.Prelude.{List, ℕ, length}
 use Rattle.sponge.specs.Sponge.{shake128, sha3}
-use Rattle.refusals.specs.{Refusals.◌then◌, Refusals.length_up_to_lem, Refusals.room_for_lem, Seen.Seen, Seen.shown, declared.Verdict.Verdict}
+use Rattle.refusals.specs.{Refusals.◌then◌, Refusals.length_up_to_lem, Refusals.room_for_lem, Seen.Seen, Seen.shown, Refusals.Verdict}
 
 unfoldable pub shake_tests_lem : List ℕ → Verdict
 shake_tests_lem input = length_up_to_lem (length input) 65536

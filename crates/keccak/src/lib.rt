@@ -196,13 +196,11 @@ const CONSTANTS: [u64; 24] = [
 pub fn permute(a: [u64; 25]) -> [u64; 25]
     ensures { result ≡ keccak_f a }
 {
-    let constants = CONSTANTS;
     let mut s = a;
-    let mut i: usize = 0;
-    while i < 24 {
-        let t = round(s, constants[i]);
+    for rc in &CONSTANTS {
+        // Not `s = round(..)`: the checker does not yet lay a call's result in an array that is there.
+        let t = round(s, *rc);
         s = t;
-        i += 1;
     }
     s
 }

@@ -1,9 +1,8 @@
 -- A question is exactly its four lines (`specs/Exactly.antt`), a line at a time.
 --   exactly                     a question is read as its numbers, and no other text is
 --   question-short, enough      a question has at most 60 bytes, so the first 61 of a text tell
-use Rattle.lists.proofs.Kit.{refl, ◌∙◌, sym, ap, List, [], append_assoc, append-nil, ℕ, dec_le, arith, length, take}
+use Rattle.lists.proofs.Kit.{refl, ◌∙◌, sym, ap, List, [], append_assoc, append-nil, ℕ, dec_le, arith, length, take, length-append, length-take, take_all}
 use Rattle.std.proofs.Common.{◌≡◌, ◌∷◌, ◌++◌, ◌^◌, ◌≤◌, ◌<◌}
-use Rattle.lists.proofs.Kit.{length-append, length-take, take_all}
 use Rattle.text.specs.Text.{scheme_name, decimal, line, Read, number, other, field_in}
 use Rattle.text.proofs.{Numeral.decimal-length, Lines.line-forth, Lines.line-back}
 use Rattle.line.specs.Line.{coin_name, v_name, w_name, question, Asked, numbers, text, shifted, moved, asked, refusal, answer_to, answered}

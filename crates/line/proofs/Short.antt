@@ -1,16 +1,14 @@
 -- An answer has at most 22 bytes (`specs/Exactly.antt`).
 use Rattle.lists.proofs.Kit.{ap, Bool, cond, List, [], ℕ, arith, ltb, length, length-append}
-use Rattle.std.proofs.Common.{◌∷◌, ◌≤◌, ◌<◌}
-use Rattle.schemes.specs.declared.Named.TheVariants.{Known, Unknown}
+use Rattle.std.proofs.Common.{Option, Some, None, ◌∷◌, ◌≤◌, ◌<◌}
 use Rattle.schemes.specs.Schemes.{by_family, family_of, fixed_of, scheme_of_lem}
-use Rattle.schemes.specs.{declared.Family.Family, declared.Fixed.Fixed, declared.Named.Named}
+use Rattle.schemes.specs.{declared.Family.Family, declared.Fixed.Fixed, declared.Scheme.Scheme}
 use Rattle.schemes.proofs.Sound.{sound}
 use Rattle.lists.specs.First.{both}
 use Rattle.lists.proofs.Table.{cond-all}
 use Rattle.text.proofs.{Numeral.decimal-length, Writing.one-digit, Writing.line-length}
 use Rattle.bcns.proofs.{Regions.hint-below, Regions.key_below, Formula.peer-below}
-use Rattle.line.specs.Line.{Asked, numbers, text, asked, refusal, shown, bcns_shown, frodo_shown, bcns_answer, frodo_answer, settled_in, settled, answer_to}
-use Rattle.line.specs.Line.{answered}
+use Rattle.line.specs.Line.{Asked, numbers, text, asked, refusal, shown, bcns_shown, frodo_shown, bcns_answer, frodo_answer, settled_in, settled, answer_to, answered}
 use Rattle.line.specs.Exactly.{Short}
 use Rattle.line.proofs.Deciding.{key-small, peer-small}
 use Rattle.bcns.specs.Rounding as bcns
@@ -57,10 +55,10 @@ family-fits Family.Bcns f coin v w b = bcns-fits coin v w
 family-fits Family.NewHope f coin v w b = refusal-fits (omega arith)
 family-fits Family.Frodo f coin v w b = frodo-fits f coin v w b
 
-settled-fits : (r : Named) (coin v w : ℕ) → Fits (settled_in r coin v w)
+settled-fits : (r : Option Scheme) (coin v w : ℕ) → Fits (settled_in r coin v w)
 unfolding settled_in
-settled-fits (Known s) coin v w = family-fits (family_of s) (fixed_of s) coin v w (sound s).key-room
-settled-fits Unknown coin v w = refusal-fits (omega arith)
+settled-fits (Some s) coin v w = family-fits (family_of s) (fixed_of s) coin v w (sound s).key-room
+settled-fits None coin v w = refusal-fits (omega arith)
 
 answer-fits : (r : Asked) → Fits (answer_to r)
 unfolding answer_to settled

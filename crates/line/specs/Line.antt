@@ -3,9 +3,8 @@
 --   asked xs           the four numbers that xs begins with and what stands behind them, or that xs is other text
 --   settled a b c d    the answer's text: hint, key and the peer's key; or a refusal: 1, 9, 4, in that order
 --   answered xs        the output of every input: 8 for other text, and where anything stands behind the four lines
-use Rattle.std.specs.Prelude.{cond, List, [], ◌∷◌, ◌++◌, ℕ, ltb}
-use Rattle.schemes.specs.declared.Named.TheVariants.{Known, Unknown}
-use Rattle.schemes.specs.{declared.Fixed.Fixed, declared.Named.Named, Schemes.by_family, Schemes.family_of, Schemes.fixed_of, Schemes.scheme_of_lem}
+use Rattle.std.specs.Prelude.{cond, List, [], ◌∷◌, ◌++◌, ℕ, ltb, Option, Some, None}
+use Rattle.schemes.specs.{declared.Fixed.Fixed, declared.Scheme.Scheme, Schemes.by_family, Schemes.family_of, Schemes.fixed_of, Schemes.scheme_of_lem}
 use Rattle.lists.specs.First.{both}
 use Rattle.text.specs.Text.{scheme_name, refusal_name, line, Read, number, other, field_in}
 use Rattle.bcns.specs.Rounding as bcns
@@ -78,9 +77,9 @@ frodo_answer f coin v w =
     (cond (both (ltb v f.q) (ltb w f.q)) (frodo_shown (frodo.interval f) f.keybits v w) (refusal 4))
 
 -- 1 for a scheme not 0 or 2..5
-unfoldable pub settled_in : Named → ℕ → ℕ → ℕ → List ℕ
-settled_in (Known s) coin v w = by_family (family_of s) (bcns_answer coin v w) (refusal 1) (frodo_answer (fixed_of s) coin v w)
-settled_in Unknown coin v w = refusal 1
+unfoldable pub settled_in : Option Scheme → ℕ → ℕ → ℕ → List ℕ
+settled_in (Some s) coin v w = by_family (family_of s) (bcns_answer coin v w) (refusal 1) (frodo_answer (fixed_of s) coin v w)
+settled_in None coin v w = refusal 1
 
 unfoldable pub settled : ℕ → ℕ → ℕ → ℕ → List ℕ
 settled scheme coin v w = settled_in (scheme_of_lem scheme) coin v w

@@ -1,9 +1,10 @@
-pub mod Kit
 pub mod Entries
-pub mod Parts
-pub mod Same
 pub mod Fill
 pub mod First
-pub mod Top
-pub mod Table
+pub mod Kit
+pub mod Made
+pub mod Parts
+pub mod Same
 pub mod Stored
+pub mod Table
+pub mod Top

@@ -5,7 +5,8 @@
 
 ghost use Rattle.std.specs.Prelude.{◌^◌, ◌≤◌, ◌<◌};
 
-use bench::BenchAnswer;
+use bench::Compared;
+use refusals::Refusal;
 use schemes::Scheme;
 use std::io;
 
@@ -20,14 +21,21 @@ fn field(rt: &impl Print, name: &[u8], n: u64) -> io::Result<()> {
 }
 
 // A run's line.
-fn told(rt: &impl Print, scheme: u32, name: &[u8], answer: BenchAnswer) -> io::Result<()> {
+fn told(
+    rt: &impl Print,
+    scheme: u32,
+    name: &[u8],
+    answer: Result<Compared, Refusal>,
+) -> io::Result<()> {
     field(rt, b"bench scheme=", scheme as u64)?;
     text(rt, b" run=")?;
     text(rt, name)?;
     match answer {
-        BenchAnswer::Agree(_) => text(rt, b" agree")?,
-        BenchAnswer::Differ(bit, _) => field(rt, b" differ=", bit as u64)?,
-        BenchAnswer::Refused(r) => {
+        Ok(n) => match n.differ {
+            None => text(rt, b" agree")?,
+            Some(bit) => field(rt, b" differ=", bit as u64)?,
+        },
+        Err(r) => {
             field(rt, b" refusal=", r.number() as u64)?;
             field(rt, b" place=", r.place() as u64)?;
         }

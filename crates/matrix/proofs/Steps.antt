@@ -2,7 +2,7 @@
 --   words-length, words-at     secrets or noise as words: how many, and an entry
 --   gained-length, gained-at, gained-none   a list of sums: its length, its entries, and with no product yet
 --   wrapped, gain-next, gained-next, gained-more   a sum that wrapped before it gained; one product more for a sum; for each; n more
---   on-zeros, on-copy, known   sums that start as zeros and are added at the end; what is made of a copy; the products of a row whose length is known
+--   on-zeros                   sums that start as zeros and are added at the end
 --   reduced-gained, steps-are  from the noise to the remainders, by place; in three steps
 --   mixed                      they are those of the whole sums, by row and column
 use Rattle.lists.proofs.Kit.{refl, ◌∙◌, sym, ap, List, ℕ, arith, mod-add-mod, mod-eq_of_lt, div-add-mod', add-one, length, get_or}
@@ -13,7 +13,7 @@ use Rattle.numbers.proofs.Congruence.{finer-≅, eq-≅, ◌⨾◌, add-≅, sum
 use Rattle.numbers.proofs.Sums.{natural, sum-split, pos_sum}
 use Rattle.lists.specs.Entries.{tab, ints}
 use Rattle.lists.proofs.{Entries.tab-length, Entries.tab-at, Entries.tab-ext, Entries.tab-getD, Same.equal-all}
-use Rattle.matrix.specs.{Matrix.times, Matrix.rows, Matrix.ints_at, Steps.dot_term, Words.words_of, Words.gained, Words.reduced}
+use Rattle.matrix.specs.{Matrix.times, Matrix.rows, Matrix.ints_at, Words.words_of, Words.gained, Words.reduced}
 
 pub words-length : (m : ℕ) (zs : List ℤ) → length (words_of m zs) ≡ length zs
 unfolding words_of
@@ -85,14 +85,6 @@ on-zeros m n r f ws {l} s e d =
     ∙ ap (λ (y : ℕ). y % m) b
     ∙ wrapped m 0 (sum_ℕ n (f k)) (get_or ws k 0)
     ∙ ap (λ (y : ℕ). y % m) c)
-
--- of y, made of a copy b of it
-pub on-copy : (f : List ℕ → List ℕ) {b y o : List ℕ} → b ≡ y → o ≡ f b → o ≡ f y
-on-copy f e d = d ∙ ap f e
-
--- of n numbers, where n is known to be k
-pub known : (m : ℕ) {n k : ℕ} (row cols ws : List ℕ) {o : List ℕ} → n ≡ k → o ≡ gained m k (dot_term k row cols) ws → o ≡ gained m n (dot_term n row cols) ws
-known m row cols ws e d = d ∙ ap (λ (j : ℕ). gained m j (dot_term j row cols) ws) (sym e)
 
 -- ---- from the noise e to the remainders
 

@@ -36,22 +36,9 @@ pub fn words(zs: &[i32], out: &mut [u16])
     requires { length zs.now ≡ length out.old }
     ensures { out.new ≡ words_of 65536 zs.now }
 {
-    let mut k: usize = 0;
-    while k < out.len() {
-        out[k] = word(zs[k]);
-        k += 1;
+    for (k, z) in zs.iter().enumerate() {
+        out[k] = word(*z);
     }
-}
-
-// The bits of a number, read with a sign. The compiler sees that they stay as they are.
-fn signed(x: u32) -> i32
-    ensures { x < 32768 → result ≡ pos x }
-{
-    if x < 2147483648 {
-        return x as i32;
-    }
-    let rest = 4294967295 - x;
-    -1 - (rest as i32)
 }
 
 // A number in 16 bits, where it fits. What does not is cut to the bounds of the instruction that packs eight numbers at a time: with them the compiler
@@ -59,10 +46,7 @@ fn signed(x: u32) -> i32
 fn packed(x: u32) -> u16
     ensures { x < 32768 → result ≡ x }
 {
-    let z = signed(x);
-    let low = if z < -32768 { -32768 } else { z };
-    let both = if 32767 < low { 32767 } else { low };
-    word(both)
+    word(x.cast_signed().clamp(-32768, 32767))
 }
 
 // Numbers in 16 bits each, where they fit. The answer has every bit that some number has, so no number is over it.
@@ -72,18 +56,16 @@ fn narrow_bits(xs: &[u32], out: &mut [u16]) -> u32
     ensures out_value { Below 32768 xs.now → out.new ≡ xs.now }
 {
     let mut bits: u32 = 0;
-    let mut k: usize = 0;
-    while k < out.len() {
-        let x = xs[k];
-        bits = bits | x;
-        out[k] = packed(x);
-        k += 1;
+    for (k, x) in xs.iter().enumerate() {
+        bits |= *x;
+        out[k] = packed(*x);
     }
     bits
 }
 
 // Numbers in 16 bits each, with the test. The answer is the place of the first number that is q or more, or how many there are. Where q is a power of two,
-// as in Frodo, numbers are all below it where their bits are, and so one pass does both.
+// as in Frodo, numbers are all below it where their bits are, and so one pass does both. It is no Option, here and below: the public clauses ask for this number,
+// `first_over_lem`, and `lists::first_over` gives it.
 fn narrow_below(q: u32, xs: &[u32], out: &mut [u16]) -> usize
     requires { (0 < q) × (q ≤ 32768) × (length xs.now ≡ length out.old) }
     ensures value { result ≡ first_over_lem q xs.now }
@@ -100,10 +82,8 @@ fn add_words(ws: &[u16], sums: &mut [u16])
     requires { length ws.now ≡ length sums.old }
     ensures { sums.new ≡ tab (length sums.old) (λ k. (get_or sums.old k 0 + get_or ws.now k 0) % 65536) }
 {
-    let mut k: usize = 0;
-    while k < sums.len() {
-        sums[k] = add_product(sums[k], ws[k], 1);
-        k += 1;
+    for (k, w) in ws.iter().enumerate() {
+        sums[k] = add_product(sums[k], *w, 1);
     }
 }
 
@@ -124,22 +104,21 @@ pub fn reduce(q: u32, sums: &[u16], out: &mut [u32])
 {
     let c = (65536 / q % 65536) as u16;
     let w = q as u16;
-    let mut k: usize = 0;
-    while k < out.len() {
-        out[k] = remainder(sums[k], c, w) as u32;
-        k += 1;
+    for (k, sum) in sums.iter().enumerate() {
+        out[k] = remainder(*sum, c, w) as u32;
     }
 }
 
-// Column j of S, as words.
-fn column(s: &[i32], j: usize, out: &mut [u16])
-    requires { (j < 8) × (length s.now ≡ 8 * length out.old) }
-    ensures { out.new ≡ tab (length out.old) (λ t. residue 65536 (ints s.now (t * 8 + j))) }
+// The 8 columns of a matrix, one after the other. `at` gives a word by its place in the matrix.
+fn lay<F: Fn(usize) -> u16>(n: usize, at: F, cols: &mut [u16])
+    requires cols_len { length cols.old ≡ 8 * n }
+    requires pre { (k : ℕ) → k < 8 * n → F.pre at k }
+    ensures { (f : ℕ → ℕ) → ((k r : ℕ) → k < 8 * n → F.post at k r → r ≡ f k) → cols.new ≡ tab (8 * n) (λ k. f (k % n * 8 + k / n)) }
 {
-    let mut t: usize = 0;
-    while t < out.len() {
-        out[t] = word(s[t * 8 + j]);
-        t += 1;
+    for j in 0..8 {
+        for t in 0..n {
+            cols[j * n + t] = at(t * 8 + j);
+        }
     }
 }
 
@@ -148,12 +127,7 @@ pub fn columns(n: usize, s: &[i32], cols: &mut [u16])
     requires { (0 < n) × (length s.now ≡ 8 * n) × (length cols.old ≡ 8 * n) }
     ensures { cols.new ≡ columns_of 65536 n s.now }
 {
-    let mut j: usize = 0;
-    while j < 8 {
-        let a = j * n;
-        column(s, j, &mut cols[a..a + n]);
-        j += 1;
-    }
+    lay(n, |k| word(s[k]), cols);
 }
 
 // The number x with what stands at t in each of the 8 columns. The loop is short and of a fixed length, so that the sums stay in registers.
@@ -161,10 +135,8 @@ fn add_products(x: u16, n: usize, t: usize, cols: &[u16], sums: &mut [u16])
     requires { (t < n) × (length cols.now ≡ 8 * n) × (length sums.old ≡ 8) }
     ensures { sums.new ≡ tab 8 (λ j. (get_or sums.old j 0 + x * get_or cols.now (j * n + t) 0) % 65536) }
 {
-    let mut j: usize = 0;
-    while j < 8 {
+    for j in 0..8 {
         sums[j] = add_product(sums[j], x, cols[j * n + t]);
-        j += 1;
     }
 }
 
@@ -173,10 +145,8 @@ fn dots_on(n: usize, row: &[u16], cols: &[u16], sums: &mut [u16])
     requires { (length row.now ≡ n) × (length cols.now ≡ 8 * n) × (length sums.old ≡ 8) }
     ensures { sums.new ≡ gained 65536 n (dot_term n row.now cols.now) sums.old }
 {
-    let mut t: usize = 0;
-    while t < n {
+    for t in 0..n {
         add_products(row[t], n, t, cols, sums);
-        t += 1;
     }
 }
 
@@ -210,12 +180,10 @@ pub fn add_right(n: usize, r: usize, x: &[u16], cols: &[u16], sums: &mut [u16])
     requires { (length x.now ≡ r * n) × (length cols.now ≡ 8 * n) × (length sums.old ≡ 8 * r) }
     ensures { sums.new ≡ gained 65536 n (right_term n x.now cols.now) sums.old }
 {
-    let mut i: usize = 0;
-    while i < r {
+    for i in 0..r {
         let a = i * n;
         let b = i * 8;
         add_dots(n, &x[a..a + n], cols, &mut sums[b..b + 8]);
-        i += 1;
     }
 }
 
@@ -237,7 +205,7 @@ fn right_row(
     at
 }
 
-// The r rows of X, up to the first that has a number which is q or more. The answer is its place, or X's length.
+// `add_right` of numbers, up to the first row that has one which is q or more. The answer is its place, or X's length.
 fn right_rows(
     q: u32,
     n: usize,
@@ -251,15 +219,13 @@ fn right_rows(
     ensures value { result ≡ first_over_lem q x.now }
     ensures sums_value { Below q x.now → sums.new ≡ gained 65536 n (right_term n x.now cols.now) sums.old }
 {
-    let mut i: usize = 0;
-    while i < r {
+    for i in 0..r {
         let a = i * n;
         let b = i * 8;
         let at = right_row(q, n, &x[a..a + n], cols, line, &mut sums[b..b + 8]);
         if at < n {
             return a + at;
         }
-        i += 1;
     }
     x.len()
 }
@@ -329,10 +295,8 @@ fn weigh(start: u16, w: &[u16], y: &[u16], c: usize, j: usize) -> u16
     ensures { result ≡ (start + sum_ℕ (length w.now) (block_term c w.now y.now j)) % 65536 }
 {
     let mut sum = start;
-    let mut u: usize = 0;
-    while u < w.len() {
-        sum = add_product(sum, number_at(y, u * c, c, j), w[u]);
-        u += 1;
+    for (u, x) in w.iter().enumerate() {
+        sum = add_product(sum, number_at(y, u * c, c, j), *x);
     }
     sum
 }
@@ -343,10 +307,8 @@ fn add_rows(w: &[u16], y: &[u16], sums: &mut [u16])
     ensures { sums.new ≡ block_gained w.now y.now sums.old }
 {
     let c = sums.len();
-    let mut j: usize = 0;
-    while j < c {
-        sums[j] = weigh(sums[j], w, y, c, j);
-        j += 1;
+    for (j, sum) in sums.iter_mut().enumerate() {
+        *sum = weigh(*sum, w, y, c, j);
     }
 }
 
@@ -368,12 +330,10 @@ pub fn add_left(n: usize, c: usize, t: usize, m: usize, s: &[u16], y: &[u16], su
     requires { (length s.now ≡ 8 * n) × (t + m ≤ n) × (length y.now ≡ m * c) × (length sums.old ≡ 8 * c) }
     ensures { sums.new ≡ gained 65536 m (part_term n c t s.now y.now) sums.old }
 {
-    let mut i: usize = 0;
-    while i < 8 {
+    for i in 0..8 {
         let a = i * c;
         let b = i * n + t;
         add_block(&s[b..b + m], y, &mut sums[a..a + c]);
-        i += 1;
     }
 }
 
@@ -400,14 +360,6 @@ fn left_block(
     at
 }
 
-// A block is four rows, or what is left of them.
-fn at_most_four(n: usize) -> usize
-    requires { 0 < n }
-    ensures { (0 < result) × (result ≤ n) × (result ≤ 4) }
-{
-    if n < 4 { n } else { 4 }
-}
-
 // All rows of Y, a block at a time, up to the first block that has a number which is q or more. The answer is its place, or Y's length.
 fn left_rows(
     q: u32,
@@ -423,16 +375,14 @@ fn left_rows(
     ensures value { result ≡ first_over_lem q y.now }
     ensures sums_value { Below q y.now → sums.new ≡ gained 65536 n (left_term n c s.now y.now) sums.old }
 {
-    let mut t: usize = 0;
-    while t < n {
-        let m = at_most_four(n - t);
+    for t in (0..n).step_by(4) {
+        let m = (n - t).min(4);
         let l = m * c;
         let d = t * c;
         let at = left_block(q, n, c, t, m, s, &y[d..d + l], &mut block[..l], sums);
         if at < l {
             return d + at;
         }
-        t += m;
     }
     y.len()
 }
@@ -483,30 +433,13 @@ pub fn mix_left(q: u32, n: usize, s: &[i32], y: &[u32], e: &[i32], out: &mut [u3
     )
 }
 
-// Column j of Y, which has 8, as words. Numbers of 32 bits go from memory into a vector one by one; words of 16 bits would go through other registers: Finish in
-// Challenge, with the columns of S made so, took 4.6 microseconds in place of 3.6.
-fn turn_column(y: &[u32], j: usize, out: &mut [u16])
-    requires { (j < 8) × (length y.now ≡ 8 * length out.old) × Below 32768 y.now }
-    ensures { out.new ≡ tab (length out.old) (λ t. get_or y.now (t * 8 + j) 0) }
-{
-    let mut t: usize = 0;
-    while t < out.len() {
-        out[t] = y[t * 8 + j] as u16;
-        t += 1;
-    }
-}
-
-// The columns of Y, one after the other.
+// The 8 columns of Y as words, one after the other. Numbers of 32 bits go from memory into a vector one by one; words of 16 bits would go through other
+// registers: Finish in Challenge, with the columns of S made so, took 4.6 microseconds in place of 3.6.
 fn turn(n: usize, y: &[u32], cols: &mut [u16])
     requires { (0 < n) × (length y.now ≡ 8 * n) × (length cols.old ≡ 8 * n) × Below 32768 y.now }
     ensures { cols.new ≡ turned n y.now }
 {
-    let mut j: usize = 0;
-    while j < 8 {
-        let a = j * n;
-        turn_column(y, j, &mut cols[a..a + n]);
-        j += 1;
-    }
+    lay(n, |k| y[k] as u16, cols);
 }
 
 // SY + E, where Y has 8 columns, with room for S as words, the columns of Y and the sums.

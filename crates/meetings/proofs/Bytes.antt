@@ -4,14 +4,14 @@
 --   laid-link              and back: a link of sessions, laid out
 --   linking-bytes, same-key-bytes   as specs/Linked states them
 use Rattle.lists.proofs.Kit.{refl, ◌∙◌, sym, ap, subst, false, List, ℕ}
-use Rattle.std.proofs.Common.{◌≡◌}
+use Rattle.std.proofs.Common.{Some, ◌≡◌}
 use Rattle.schemes.specs.declared.Scheme.{Scheme}
 use Rattle.refusals.specs.Seen.{answer}
 use Rattle.agreement.specs.{Run.Run, Exchange.Rooms}
 use Rattle.session.specs.Seen.{CallSeen, number, Turn, turn, moved}
 use Rattle.session.specs.{declared.Stage.Stage, declared.Session.Session, Table.Call, Table.step, Sequences.Sound}
 use Rattle.session.proofs.Sequences.{step-sound}
-use Rattle.session_bytes.specs.{Bytes.bytes_of, Bytes.staged, Bytes.session_in, Bytes.closes, Bytes.laid_out, Bytes.moved_bytes, declared.Found.TheVariants.At}
+use Rattle.session_bytes.specs.{Bytes.bytes_of, Bytes.staged, Bytes.session_in, Bytes.closes, Bytes.laid_out, Bytes.moved_bytes}
 use Rattle.session_bytes.proofs.{Stages.parts, Bytes.taken_back, Bytes.laid-back, Bytes.moved-bytes, Bytes.held_by}
 use Rattle.meetings.specs.Linked.{Link, LinkBytes, linked_by, LinkingBytes, SameKeyBytes}
 use Rattle.meetings.proofs.Linked.{first, second, third, linking, same_key}
@@ -32,8 +32,8 @@ record ByValue {c : Scheme} {x : Run} {bs cs : List ℕ} {m : Rooms} (t : LinkBy
   pub y : Session
   pub z : Session
   pub link : Link c x y z m
-  pub first : staged bs ≡ At y.stage
-  pub second : staged cs ≡ At z.stage
+  pub first : staged bs ≡ Some y.stage
+  pub second : staged cs ≡ Some z.stage
   pub initiator : t.initiator ≡ bytes_of link.initiator
   pub replier : t.replier ≡ bytes_of link.replier
   pub sound : Sound link.initiator
@@ -98,7 +98,7 @@ pub linking-bytes : LinkingBytes
 linking-bytes c x bs cs m = (
   λ t. let v = by_values t in
       let h = (linking c x _ _ m).0 v.link in
-      (v.first ∙ ap At h.0, v.second ∙ ap At h.1, h.2, h.3),
+      (v.first ∙ ap Some h.0, v.second ∙ ap Some h.1, h.2, h.3),
   λ h. let y = laid-back bs Stage.Idle h.0 in
       let z = laid-back cs Stage.Idle h.1 in
       let t = laid-link y.1 z.1 ((linking c x (session_in Stage.Idle bs) (session_in Stage.Idle cs) m).1 (refl, refl, h.2, h.3)) in

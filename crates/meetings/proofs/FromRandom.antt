@@ -3,12 +3,12 @@
 --   sendable          what the random bytes make is sendable
 --   replied-is, finished-is   with Finish they are the calls of an exchange
 --   from-random-finishes, from-random   as specs/FromRandom states them
+use Rattle.std.proofs.Common.{Some, Option, ◌≡◌}
+use Rattle.noise.specs.declared.RuleName.{RuleName}
 use Rattle.lists.proofs.Kit.{refl, ◌∙◌, sym, ap, List, ℕ, length}
-use Rattle.std.proofs.Common.{◌≡◌}
-use Rattle.schemes.specs.{Schemes.fixed_of, declared.Named.TheVariants.Known, declared.Scheme.Scheme}
+use Rattle.schemes.specs.{Schemes.fixed_of, declared.Scheme.Scheme}
 use Rattle.lists.specs.Ranges.{Below}
-use Rattle.noise.specs.declared.Ruled.{Ruled}
-use Rattle.refusals.specs.{Refusals.number_in, Seen.answer, Seen.shown, declared.Verdict.TheVariants.Pass}
+use Rattle.refusals.specs.{Refusals.number_in, Seen.answer, Seen.shown, Refusals.pass}
 use Rattle.refusals.proofs.{Laws.number-zero, Laws.both, Seen.written-answer}
 use Rattle.values.proofs.Ranges.{offered-counted}
 use Rattle.wire.specs.Wire.{seed_in}
@@ -16,7 +16,7 @@ use Rattle.wire.proofs.Travel.{seed-back}
 use Rattle.offer.specs.{Offer.Offer, Offer.offer_tests, Offer.offer_message, Inside.offer_lengths_lem, Inside.offer_in_lem}
 use Rattle.offer.proofs.Offering.{offer-opens}
 use Rattle.finish.specs.Finish.{FinishRooms, finish_shown, finish_result}
-use Rattle.reply.specs.Reply.{Reply, ReplySeen, reply_of, reply_tests, reply_message, reply_key, reply_digest, outputs, reply_result}
+use Rattle.reply.specs.Reply.{Reply, ReplySeen, reply, reply_tests, reply_message, reply_key, reply_digest, outputs, reply_result}
 use Rattle.agreement.specs.Run.{Run, reply_to, replying, finish_with}
 use Rattle.agreement.specs.{Agreement.Near, Agreement.Agreed, Exchange.Sendable, Exchange.Rooms, Exchange.offers}
 use Rattle.agreement.proofs.Tests.{sendable-by, finish-passes}
@@ -26,21 +26,21 @@ use Rattle.exchange.proofs.Shown.{open-offers, answer-replies}
 use Rattle.meetings.specs.FromRandom.{Lendings, opening, answering, run_of, Opened, finish_on, FromRandom, FromRandomFinishes}
 use Rattle.meetings.proofs.Linked.{agreed}
 
-module _ (c : Scheme) (k : Ruled) (x : Lendings) (t : Opened c k x) (b : Below 256 x.random) (b' : Below 256 x.random') where
+module _ (c : Scheme) (k : Option RuleName) (x : Lendings) (t : Opened c k x) (b : Below 256 x.random) (b' : Below 256 x.random') where
   abbrev o : Offer
-  o = open_offer (Known c) k (opening x)
+  o = open_offer (Some c) k (opening x)
 
   abbrev y : Reply
-  y = answer_reply (Known c) k (answering x (offer_message (Known c) o))
+  y = answer_reply (Some c) k (answering x (offer_message (Some c) o))
 
   abbrev run : Run
   run = run_of c k x
 
-  open-passed : open_tests (Known c) k (opening x) t.open-rooms ≡ Pass
+  open-passed : open_tests (Some c) k (opening x) t.open-rooms ≡ pass
   unfolding open_shown
   open-passed = number-zero _ (sym t.open-accepted ∙ ap (λ (s : OpenSeen). s.number) t.opens)
 
-  opening-is : answer t.opened.opening ≡ offer_message (Known c) o
+  opening-is : answer t.opened.opening ≡ offer_message (Some c) o
   unfolding open_shown
   opening-is = ap (λ (s : OpenSeen). answer s.opening) t.opens ∙ written-answer _ 0 _ open-passed
 
@@ -48,14 +48,14 @@ module _ (c : Scheme) (k : Ruled) (x : Lendings) (t : Opened c k x) (b : Below 2
   unfolding open_shown
   secret-is = ap (λ (s : OpenSeen). answer s.s) t.opens ∙ written-answer _ _ _ open-passed
 
-  offer-passed : offer_tests (Known c) o t.open-rooms.opening ≡ Pass
-  offer-passed = open-offers (Known c) k (opening x) t.open-rooms b open-passed
+  offer-passed : offer_tests (Some c) o t.open-rooms.opening ≡ pass
+  offer-passed = open-offers (Some c) k (opening x) t.open-rooms b open-passed
 
   seed-long : length o.seed ≡ (fixed_of c).seed
   unfolding offer_tests offer_in_lem offer_lengths_lem
   seed-long = (offer-opens c o t.open-rooms.opening (both _ _ offer-passed).0).0.seed-long
 
-  seed-is : seed_in c (offer_message (Known c) o) ≡ o.seed
+  seed-is : seed_in c (offer_message (Some c) o) ≡ o.seed
   unfolding offer_message
   seed-is = seed-back c (offered-counted c o.a o.s o.e) o.seed seed-long
 
@@ -66,39 +66,39 @@ module _ (c : Scheme) (k : Ruled) (x : Lendings) (t : Opened c k x) (b : Below 2
 
   reply-is : y ≡ replying c run
   unfolding drawn_reply answer_reply run_of
-  reply-is = ap (λ (a : List ℕ). reply_of (offer_message (Known c) o) a y.s' y.e' y.e'' y.coins) public-is
+  reply-is = ap (λ (a : List ℕ). reply (offer_message (Some c) o) a y.s' y.e' y.e'' y.coins) public-is
 
-  answered : t.reply ≡ outputs (answer_tests (Known c) k (answering x (offer_message (Known c) o)) t.reply-rooms) (reply_message (Known c) y) (reply_key (Known c) y) (reply_digest (Known c) y) t.reply-rooms
+  answered : t.reply ≡ outputs (answer_tests (Some c) k (answering x (offer_message (Some c) o)) t.reply-rooms) (reply_message (Some c) y) (reply_key (Some c) y) (reply_digest (Some c) y) t.reply-rooms
   answered = rw opening-is at t.answers
 
-  answer-passed : answer_tests (Known c) k (answering x (offer_message (Known c) o)) t.reply-rooms ≡ Pass
+  answer-passed : answer_tests (Some c) k (answering x (offer_message (Some c) o)) t.reply-rooms ≡ pass
   unfolding outputs
   answer-passed = number-zero _ (sym t.reply-accepted ∙ ap (λ (s : ReplySeen). s.number) answered)
 
-  message-is : answer t.reply.message ≡ reply_message (Known c) (replying c run)
+  message-is : answer t.reply.message ≡ reply_message (Some c) (replying c run)
   unfolding outputs
-  message-is = ap (λ (s : ReplySeen). answer s.message) answered ∙ written-answer _ 0 _ answer-passed ∙ ap (reply_message (Known c)) reply-is
+  message-is = ap (λ (s : ReplySeen). answer s.message) answered ∙ written-answer _ 0 _ answer-passed ∙ ap (reply_message (Some c)) reply-is
 
-  reply-passed : reply_tests (Known c) y t.reply-rooms ≡ Pass
-  reply-passed = answer-replies (Known c) k (answering x (offer_message (Known c) o)) t.reply-rooms b' answer-passed
+  reply-passed : reply_tests (Some c) y t.reply-rooms ≡ pass
+  reply-passed = answer-replies (Some c) k (answering x (offer_message (Some c) o)) t.reply-rooms b' answer-passed
 
   sendable : Sendable c run
   unfolding run_of
-  sendable = sendable-by c run t.open-rooms.opening t.reply-rooms (offer_message (Known c) o) offer-passed (rw reply-is at reply-passed)
+  sendable = sendable-by c run t.open-rooms.opening t.reply-rooms (offer_message (Some c) o) offer-passed (rw reply-is at reply-passed)
 
   module _ (m : FinishRooms) where
     abbrev rooms : Rooms
     rooms = record { offer = t.open-rooms.opening; reply = t.reply-rooms; finish = m }
 
-    sent : answer (offers c run rooms).out ≡ offer_message (Known c) o
+    sent : answer (offers c run rooms).out ≡ offer_message (Some c) o
     unfolding run_of shown
     sent = written-answer _ 0 _ offer-passed
 
-    replied-is : t.reply ≡ reply_result (Known c) (reply_to run (answer (offers c run rooms).out)) t.reply-rooms
+    replied-is : t.reply ≡ reply_result (Some c) (reply_to run (answer (offers c run rooms).out)) t.reply-rooms
     unfolding run_of
     replied-is = answered ∙ rw (answer-passed, sent, ← reply-is, reply-passed)
 
-    finished-is : finish_on t m ≡ finish_result (Known c) (finish_with run (answer t.reply.message)) m
+    finished-is : finish_on t m ≡ finish_result (Some c) (finish_with run (answer t.reply.message)) m
     unfolding run_of
     finished-is = rw secret-is
 

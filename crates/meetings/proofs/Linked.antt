@@ -4,9 +4,9 @@
 --   asked          what a link has asked of its sessions, rooms and inputs
 --   link           a link of two idle sessions
 --   linking, same_key   as specs/Linked states them
+use Rattle.std.proofs.Common.{Some, ◌≡◌}
 use Rattle.lists.proofs.Kit.{refl, ◌∙◌, sym, ap, ap₂, true, List, ℕ, eq-eqb}
-use Rattle.std.proofs.Common.{◌≡◌}
-use Rattle.schemes.specs.{Schemes.scheme_of_lem, Schemes.scheme_number, declared.Named.TheVariants.Known, declared.Scheme.Scheme}
+use Rattle.schemes.specs.{Schemes.scheme_of_lem, Schemes.scheme_number, declared.Scheme.Scheme}
 use Rattle.schemes.proofs.Laws.{by_number}
 use Rattle.refusals.specs.Seen.{Seen, answer}
 use Rattle.offer.specs.Offer.{offer_result}
@@ -25,8 +25,8 @@ use Rattle.agreement.specs.Exchange as exchange
 -- ---- three calls
 
 module _ (c : Scheme) (x : Run) (m : Rooms) {o : Seen ℕ} {r : ReplySeen} {f : FinishSeen} (offers : o ≡ exchange.offers c x m)
-    (replies : r ≡ reply_result (Known c) (inputs.reply_to x (answer o.out)) m.reply)
-    (finishes : f ≡ finish_result (Known c) (inputs.finish_with x (answer r.message)) m.finish) where
+    (replies : r ≡ reply_result (Some c) (inputs.reply_to x (answer o.out)) m.reply)
+    (finishes : f ≡ finish_result (Some c) (inputs.finish_with x (answer r.message)) m.finish) where
   pub replied : r ≡ exchange.replies c x m
   replied = replies ∙ rw offers
 
@@ -103,10 +103,10 @@ module _ {c : Scheme} {x : Run} {y z : Session} {m : Rooms} (t : Link c x y z m)
   offers : t.offer ≡ exchange.offers c x m
   offers = offer-only (offer-went.2 ∙ rw (by_number c))
 
-  replies : t.reply ≡ reply_result (Known c) (inputs.reply_to x (answer t.offer.out)) m.reply
+  replies : t.reply ≡ reply_result (Some c) (inputs.reply_to x (answer t.offer.out)) m.reply
   replies = reply-only (reply-went.2 ∙ rw (by_number c))
 
-  finishes : t.finish ≡ finish_result (Known c) (inputs.finish_with x (answer t.reply.message)) m.finish
+  finishes : t.finish ≡ finish_result (Some c) (inputs.finish_with x (answer t.reply.message)) m.finish
   finishes = finish-only (finish-went.2 ∙ rw (by_number c))
 
   run : Exchange c x
@@ -117,19 +117,19 @@ module _ {c : Scheme} {x : Run} {y z : Session} {m : Rooms} (t : Link c x y z m)
   asked = let g = gave run in (idle-when _ offer-went.0, idle-when _ reply-went.0, g.enough, g.sendable)
 
   -- both are keyed with the keys of the run
-  replier-is : t.replier ≡ keyed (Known c) (reply_key (Known c) (inputs.replying c x))
+  replier-is : t.replier ≡ keyed (Some c) (reply_key (Some c) (inputs.replying c x))
   unfolding row exchanged run
   replier-is = reply-went.1 ∙ rw (by_number c, offers, (gave run).opening)
 
-  initiator-is : t.initiator ≡ keyed (Known c) (finish_key (Known c) (inputs.finishing c x))
+  initiator-is : t.initiator ≡ keyed (Some c) (finish_key (Some c) (inputs.finishing c x))
   unfolding row exchanged run
   initiator-is = finish-went.1 ∙ rw (by_number c, replied c x m offers replies finishes, (gave run).message)
 
 pub same_key : SameKey
 same_key c x y z m t near =
     let ranged = (asked t).3.ranged in
-    let p : t.replier ≡ linked_by c x = replier-is t ∙ ap (keyed (Known c)) (own-published c x ranged) in
-    let i : t.initiator ≡ linked_by c x = initiator-is t ∙ ap (keyed (Known c)) (sym (keys-meet c x ranged near) ∙ own-published c x ranged) in
+    let p : t.replier ≡ linked_by c x = replier-is t ∙ ap (keyed (Some c)) (own-published c x ranged) in
+    let i : t.initiator ≡ linked_by c x = initiator-is t ∙ ap (keyed (Some c)) (sym (keys-meet c x ranged near) ∙ own-published c x ranged) in
     (ap (λ (u : Session). u.key) (i ∙ sym p), i, p)
 
 -- ---- a link of two idle sessions

@@ -9,7 +9,7 @@
 --   SameKey          under demand 3's premise both sessions are then linked_by c x, and so hold the same key
 --   LinkingBytes     there is a link of two buffers exactly where both are idle sessions, the rooms are enough and the inputs are sendable
 --   SameKeyBytes     under demand 3's premise both buffers are then the same 130 bytes, linked_by c x laid out
-use Rattle.std.specs.Prelude.{◌≡◌, List, ◌↔◌, ℕ, length}
+use Rattle.std.specs.Prelude.{Some, ◌≡◌, List, ◌↔◌, ℕ, length}
 use Rattle.schemes.specs.{Schemes.scheme_number, declared.Scheme.Scheme}
 use Rattle.refusals.specs.Seen.{Seen, answer}
 use Rattle.finish.specs.Finish.{FinishSeen}
@@ -18,7 +18,7 @@ use Rattle.agreement.specs.{Run.Run, Exchange.Sendable, Exchange.Rooms, Exchange
 use Rattle.session.specs.Seen.{CallSeen, of_offer, of_reply, of_finish, Turn, turn, moved}
 use Rattle.session.specs.Table.{Call, offering, replying, finishing, padded}
 use Rattle.session.specs.{declared.Session.Session, declared.Stage.TheVariants.Idle, declared.Stage.TheVariants.Keyed}
-use Rattle.session_bytes.specs.{declared.Found.TheVariants.At, Bytes.bytes_of, Bytes.staged, Bytes.moved_bytes}
+use Rattle.session_bytes.specs.Bytes.{bytes_of, staged, moved_bytes}
 use Rattle.agreement.specs.Run as inputs
 
 -- x has one list of public numbers, which both sessions take, and one secret s, which Offer and Finish take
@@ -62,7 +62,7 @@ SameKey =
 abbrev pub LinkingBytes : Type 0
 LinkingBytes =
     (c : Scheme) (x : Run) (bs cs : List ℕ) (m : Rooms)
-    → LinkBytes c x bs cs m ↔ ((staged bs ≡ At Idle) × (staged cs ≡ At Idle) × Enough c m × Sendable c x)
+    → LinkBytes c x bs cs m ↔ ((staged bs ≡ Some Idle) × (staged cs ≡ Some Idle) × Enough c m × Sendable c x)
 
 abbrev pub SameKeyBytes : Type 0
 SameKeyBytes =

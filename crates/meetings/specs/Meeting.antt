@@ -4,8 +4,8 @@
 --   Reached          the inputs of a meeting are sendable, and on any such there is a meeting
 --   EveryCut         on any such, in any parts that do not run past the end of their row and join into A, both boxes go by rows from begin to end and nothing is
 --                    refused; the two boxes need not cut A alike
-use Rattle.std.specs.Prelude.{◌≡◌, ◌↔◌, List, [], ℕ, ◌≤◌, ◌⊎◌}
-use Rattle.schemes.specs.{Schemes.family_of, Schemes.fixed_of, declared.Family.Family, declared.Named.TheVariants.Known, declared.Scheme.Scheme}
+use Rattle.std.specs.Prelude.{Some, ◌≡◌, ◌↔◌, List, [], ℕ, ◌≤◌, ◌⊎◌}
+use Rattle.schemes.specs.{Schemes.family_of, Schemes.fixed_of, declared.Family.Family, declared.Scheme.Scheme}
 use Rattle.lists.specs.Ranges.{Below}
 use Rattle.refusals.specs.Seen.{Seen, answer}
 use Rattle.offer.specs.Offer.{offer_message, offer_result}
@@ -20,18 +20,18 @@ pub record Meeting (c : Scheme) (x : Run) : Type 0 where
   -- Offer
   pub offer : Seen ℕ
   pub offers :
-      (offer ≡ offer_result (Known c) (offering x) rooms.offer)
+      (offer ≡ offer_result (Some c) (offering x) rooms.offer)
       ⊎ OfferRun c (offer_begin_of x.s x.e x.seed) x.a rooms.offer offer
   pub offer-accepted : offer.number ≡ 0
   -- Reply, to the opening as Offer wrote it
   pub reply : ReplySeen
   pub replies :
-      (reply ≡ reply_result (Known c) (reply_to x (answer offer.out)) rooms.reply)
+      (reply ≡ reply_result (Some c) (reply_to x (answer offer.out)) rooms.reply)
       ⊎ ReplyRun c (reply_begin_of (answer offer.out) x.s' x.e' x.e'') x.a rooms.reply reply
   pub reply-accepted : reply.number ≡ 0
   -- Finish, of the reply as Reply wrote it
   pub finish : FinishSeen
-  pub finishes : finish ≡ finish_result (Known c) (finish_with x (answer reply.message)) rooms.finish
+  pub finishes : finish ≡ finish_result (Some c) (finish_with x (answer reply.message)) rooms.finish
   pub finish-accepted : finish.number ≡ 0
 
 -- ---- what is shown; Frodo has no coins, and a seed is bytes
@@ -49,4 +49,4 @@ EveryCut =
     Sendable c x → joined ps ≡ x.a → joined ps' ≡ x.a → WithinRows (fixed_of c).n 0 ps → WithinRows (fixed_of c).n 0 ps' →
     (fixed_of c).opening ≤ n → (fixed_of c).reply ≤ m.message → (fixed_of c).key ≤ m.key → 32 ≤ m.digest →
     OfferAccepted c (offer_begin_of x.s x.e x.seed) ps n
-    × ReplyAccepted c (reply_begin_of (offer_message (Known c) (offering x)) x.s' x.e' x.e'') ps' m
+    × ReplyAccepted c (reply_begin_of (offer_message (Some c) (offering x)) x.s' x.e' x.e'') ps' m

@@ -1,11 +1,10 @@
 -- All 256 groups.
 --   hints-length, keys_length, peers-length, hints-below, keys_below, peers-below   lengths and ranges
---   small-group, hint-group   a group of small numbers, of hints
+--   small_group, hint_group   a group of small numbers, of hints
 --   hints-group          group i of the hints is the hint of group i
 --   own_keys             the replier's bits are those of its own hints
 --   groups-agree         where each group is within the margin, all 256 bits agree
 --   hint-at, at_place    the hint at k, by its group and its place there
---   group_at             a group read at its four places
 --   hints-next, hints-end   the loop that writes the hints, at each turn and after
 use Rattle.lists.proofs.Kit.{refl, ◌∙◌, sym, ap, ap₂, subst, List, Bool, true, false, cond, ℕ, zero, suc, arith, leb, length}
 use Rattle.std.proofs.Common.{◌≡◌, ◌+◌, ◌*◌, ◌/◌, ◌%◌, ◌<◌, ◌≤◌}
@@ -33,14 +32,14 @@ entry-small g h (suc zero) = h.h1
 entry-small g h (suc (suc zero)) = h.h2
 entry-small g h (suc (suc (suc j))) = h.h3
 
-pub small-group : {xs : List ℕ} {g : Four} (i : ℕ) → Below q xs → g ≡ group_of xs i → BelowQ g
+pub small_group : {xs : List ℕ} {g : Four} (i : ℕ) → Below q xs → g ≡ group_of xs i → BelowQ g
 unfolding group_of
-small-group i h e =
+small_group i h e =
     subst BelowQ (sym e) (record { s0 = h.below i; s1 = h.below (i + 256); s2 = h.below (i + 512); s3 = h.below (i + 768) })
 
-pub hint-group : {xs : List ℕ} {g : Four} (i : ℕ) → Below 4 xs → g ≡ group_of xs i → Hint g
+pub hint_group : {xs : List ℕ} {g : Four} (i : ℕ) → Below 4 xs → g ≡ group_of xs i → Hint g
 unfolding group_of
-hint-group i h e =
+hint_group i h e =
     subst Hint (sym e) (record { h0 = h.below i; h1 = h.below (i + 256); h2 = h.below (i + 512); h3 = h.below (i + 768) })
 
 module _ (cs vs : List ℕ) where
@@ -103,14 +102,9 @@ groups-agree cs vs ws hc hv hw d =
     tab-ext groups _ _
     (λ i l.
     ap (λ (h : Four). bit_of h (group_of ws i)) (hints-group cs vs i l)
-    ∙ agreement (get_or cs i 0) (group_of vs i) (group_of ws i) (hc.below i) (small-group i hv refl) (small-group i hw refl) (d i l))
+    ∙ agreement (get_or cs i 0) (group_of vs i) (group_of ws i) (hc.below i) (small_group i hv refl) (small_group i hw refl) (d i l))
 
 -- ---- the code: entry j of group i stands at i + 256 j
-
-pub group_at : (xs : List ℕ) (i : ℕ) {p0 p1 p2 p3 : ℕ} → p0 ≡ i + groups * 0 → p1 ≡ i + groups * 1 → p2 ≡ i + groups * 2 → p3 ≡ i + groups * 3
-    → ◌≡◌ {A = Four} (record { e0 = get_or xs p0 0; e1 = get_or xs p1 0; e2 = get_or xs p2 0; e3 = get_or xs p3 0 }) (group_of xs i)
-unfolding group_of
-group_at xs i {p0} r0 r1 r2 r3 = let first : p0 ≡ i = omega arith in rw (first, r1, r2, r3) refl
 
 -- the loop that writes the hints: h is that of group i
 

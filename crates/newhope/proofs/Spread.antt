@@ -1,6 +1,6 @@
 -- A loop over 256 groups that writes at each turn the four places of a group: i, i + 256, i + 512 and i + 768.
 --   Spread f out i   what holds when i groups are written: f k at each of their places k
---   spread-start, spread-next, spread_end   before, at each turn, and after
+--   spread_start, spread-next, spread_end   before, at each turn, and after
 use Rattle.lists.proofs.Kit.{◌∙◌, sym, ap, List, ℕ, arith, length, get_or, set, length-set}
 use Rattle.std.proofs.Common.{◌≡◌, ◌+◌, ◌%◌, ◌<◌, ◌≤◌}
 use Rattle.lists.specs.Entries.{tab}
@@ -11,8 +11,8 @@ pub record Spread (f : ℕ → ℕ) (out : List ℕ) (i : ℕ) : Type 0 where
   pub long : length out ≡ 1024
   pub made : (k : ℕ) → k < 1024 → k % 256 < i → get_or out k 0 ≡ f k
 
-pub spread-start : (f : ℕ → ℕ) (out : List ℕ) → length out ≡ 1024 → Spread f out 0
-spread-start f out h = record { seen = omega arith; long = h; made = λ k l m. absurd (omega arith) }
+pub spread_start : (f : ℕ → ℕ) (out : List ℕ) → length out ≡ 1024 → Spread f out 0
+spread_start f out h = record { seen = omega arith; long = h; made = λ k l m. absurd (omega arith) }
 
 pub spread-next : {f : ℕ → ℕ} {out : List ℕ} {i a b c d : ℕ} → Spread f out i → i < 256
     → a ≡ f i → b ≡ f (i + 256) → c ≡ f (i + 512) → d ≡ f (i + 768)

@@ -9,6 +9,8 @@ ghost use Rattle.lists.specs.Ranges.{Below};
 ghost use Rattle.newhope.specs.Group.{q, size, groups, up_of, down_of, off_of, offs_of, term_of, hint_of, bit_of, group_of, hints_of, peers_of};
 ghost use Rattle.newhope.specs.Shown.{BelowQ, Hint};
 
+use lists::each::set_each;
+
 // q, 2q and 8q, and the number of groups.
 const Q: u32 = schemes::NewHope::Q;
 
@@ -18,7 +20,8 @@ const EIGHT: u32 = 8 * Q;
 
 const GROUPS: usize = schemes::NewHope::GROUPS;
 
-// What a group has at its entries i, i + 256, i + 512 and i + 768.
+// What a group has at its entries i, i + 256, i + 512 and i + 768. A struct and no array: the clauses of `hint` and `bit` and the theorem `Agreement` name
+// its entries.
 #[derive(Clone, Copy)]
 pub struct Four {
     pub e0: u32,
@@ -36,6 +39,7 @@ fn minus(x: u32, y: u32) -> i32
 }
 
 // P of one entry, at most 4: X = 2x + b is below 2q.
+#[tactic(auto, unfolding(crate::specs::Group::up_of))]
 fn up(b: u32, x: u32) -> u32
     requires { (b < 2) × (x < q) }
     ensures { (result ≡ up_of b x) × (result < 5) }
@@ -44,6 +48,7 @@ fn up(b: u32, x: u32) -> u32
 }
 
 // Q of one entry, at most 3.
+#[tactic(auto, unfolding(crate::specs::Group::down_of))]
 fn down(b: u32, x: u32) -> u32
     requires { (b < 2) × (x < q) }
     ensures { (result ≡ down_of b x) × (result < 5) }
@@ -61,6 +66,7 @@ fn off(b: u32, x: u32) -> u32
 }
 
 // The sum of the four.
+#[tactic(auto, unfolding(crate::specs::Group::offs_of))]
 fn offs(b: u32, v: Four) -> u32
     requires { (b < 2) × BelowQ v }
     ensures { result ≡ offs_of b v }
@@ -69,6 +75,7 @@ fn offs(b: u32, v: Four) -> u32
 }
 
 // The vector's entry at x, where the four sum to s: P or Q.
+#[tactic(auto, using(std::proofs::lemmas::Bool::Decides::nat_tests))]
 fn pick(b: u32, x: u32, s: u32) -> u32
     requires { (b < 2) × (x < q) }
     ensures { (result ≡ cond (ltb s q) (up_of b x) (down_of b x)) × (result < 5) }
@@ -77,6 +84,7 @@ fn pick(b: u32, x: u32, s: u32) -> u32
 }
 
 // k, where the four sum to s.
+#[tactic(auto, using(std::proofs::lemmas::Bool::Decides::nat_tests))]
 fn side(s: u32) -> u32
     ensures { (result ≡ cond (ltb s q) 0 1) × (result < 2) }
 {
@@ -140,6 +148,7 @@ fn place(i: usize, j: usize) -> usize
 }
 
 // Group i of 1,024 numbers.
+#[tactic(auto, unfolding(crate::specs::Group::group_of))]
 fn group(xs: &[u32], i: usize) -> Four
     requires { (length xs.now ≡ size) × (i < groups) }
     ensures { result ≡ group_of xs.now i }
@@ -153,31 +162,27 @@ fn group(xs: &[u32], i: usize) -> Four
 }
 
 // Of all 256 groups: hint j of group i at i + 256 j.
+#[tactic(auto, using(crate::proofs::Groups::small_group, crate::proofs::Spread::spread_start))]
 pub fn hints(coins: &[u32], v: &[u32], out: &mut [u32])
     requires coins_len { (length coins.now ≡ groups) × Below 2 coins.now }
     requires v_len { (length v.now ≡ size) × Below q v.now × (length out.old ≡ size) }
     ensures { out.new ≡ hints_of coins.now v.now }
 {
-    let mut i: usize = 0;
-    while i < GROUPS {
+    for i in 0..GROUPS {
         let h = hint(coins[i], group(v, i));
         out[place(i, 0)] = h.e0;
         out[place(i, 1)] = h.e1;
         out[place(i, 2)] = h.e2;
         out[place(i, 3)] = h.e3;
-        i += 1;
     }
 }
 
 // The bits of all 256 groups under their hints: the initiator's, and with its own hints the replier's.
+#[tactic(auto, using(crate::proofs::Groups::small_group, crate::proofs::Groups::hint_group))]
 pub fn peers(hints: &[u32], w: &[u32], out: &mut [u32])
     requires hints_len { (length hints.now ≡ size) × Below 4 hints.now }
     requires w_len { (length w.now ≡ size) × Below q w.now × (length out.old ≡ groups) }
     ensures { out.new ≡ peers_of hints.now w.now }
 {
-    let mut i: usize = 0;
-    while i < GROUPS {
-        out[i] = bit(group(hints, i), group(w, i));
-        i += 1;
-    }
+    set_each(out, |i, _| bit(group(hints, i), group(w, i)));
 }

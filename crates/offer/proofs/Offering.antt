@@ -4,13 +4,14 @@
 --   offer-failed, offer-last-decides   its verdict by the test that decides
 --   opening-long     an opening is as long as the scheme says
 --   offer-unknown    its tests where the number names no scheme
+use Rattle.std.proofs.Common.{Err, Some, None, Option}
 use Rattle.lists.proofs.Kit.{sym, ap, ◌∙◌, ℕ, arith, length}
 use Rattle.std.proofs.Common.{◌≡◌, ◌≤◌}
-use Rattle.schemes.specs.{Schemes.fixed_of, declared.Named.Named, declared.Scheme.Scheme, declared.Named.TheVariants.Known, declared.Named.TheVariants.Unknown}
+use Rattle.schemes.specs.{Schemes.fixed_of, declared.Scheme.Scheme}
 use Rattle.schemes.proofs.Sound.{sound}
 use Rattle.refusals.specs.Refusals.{◌then◌, publics_in_lem, not_blank_lem, secrets_in_lem}
-use Rattle.refusals.specs.declared.Verdict.TheVariants.{Pass, Fail}
-use Rattle.refusals.specs.{declared.Verdict.Verdict, declared.Refusal.Refusal, declared.Refusal.TheVariants.NoScheme}
+use Rattle.refusals.specs.Refusals.{pass}
+use Rattle.refusals.specs.{Refusals.Verdict, declared.Refusal.Refusal, declared.Refusal.TheVariants.NoScheme}
 use Rattle.refusals.proofs.Laws.{both, all_pass, length-passed, room-passed, publics-passed, secrets-passed, then-assoc, failed, before-failed, before-passed}
 use Rattle.values.specs.Fit.{Counted, Small}
 use Rattle.values.proofs.Ranges.{offered-counted}
@@ -26,12 +27,12 @@ pub record Ranges (c : Scheme) (x : Offer) : Type 0 where
   pub seed-long : length x.seed ≡ (fixed_of c).seed
 
 module _ (c : Scheme) (x : Offer) where
-  pub opening-long : length x.seed ≡ (fixed_of c).seed → length (offer_message (Known c) x) ≡ (fixed_of c).opening
+  pub opening-long : length x.seed ≡ (fixed_of c).seed → length (offer_message (Some c) x) ≡ (fixed_of c).opening
   unfolding offer_message
   opening-long l = opening-length c x.seed _ l (numbers-long c (offered-counted c x.a x.s x.e))
 
   -- of lengths, room and secrets
-  lengths-open : (n : ℕ) → offer_sizes c x n ≡ Pass → secrets_in_lem (fixed_of c).largest x.s then secrets_in_lem (fixed_of c).largest x.e ≡ Pass
+  lengths-open : (n : ℕ) → offer_sizes c x n ≡ pass → secrets_in_lem (fixed_of c).largest x.s then secrets_in_lem (fixed_of c).largest x.e ≡ pass
       → Opens c x × ((fixed_of c).opening ≤ n)
   unfolding offer_lengths_lem
   lengths-open n t u =
@@ -49,7 +50,7 @@ module _ (c : Scheme) (x : Offer) where
         room-passed _ _ roomy.1,
       )
 
-  pub offer-opens : (n : ℕ) → offer_in_lem c x n ≡ Pass → Ranges c x × ((fixed_of c).opening ≤ n)
+  pub offer-opens : (n : ℕ) → offer_in_lem c x n ≡ pass → Ranges c x × ((fixed_of c).opening ≤ n)
   unfolding offer_in_lem
   offer-opens n t =
       let noise = both _ _ t in
@@ -74,20 +75,20 @@ module _ (c : Scheme) (x : Offer) where
   unfolding offer_in_lem
   in_two n = then-assoc _ _ _
 
-  pub ahead-opens : (n : ℕ) → offer_ahead c x n ≡ Pass → Opens c x × ((fixed_of c).opening ≤ n)
+  pub ahead-opens : (n : ℕ) → offer_ahead c x n ≡ pass → Opens c x × ((fixed_of c).opening ≤ n)
   unfolding offer_ahead
   ahead-opens n t = let p = before-passed _ _ _ t in lengths-open n p.0 p.1
 
-  pub offer-failed : (n : ℕ) {v : Verdict} {r : Refusal} → v ≡ offer_ahead c x n → v ≡ Fail r → offer_tests (Known c) x n ≡ Fail r
+  pub offer-failed : (n : ℕ) {r : Refusal} → Err r ≡ offer_ahead c x n → offer_tests (Some c) x n ≡ Err r
   unfolding offer_tests offer_in_lem offer_lengths_lem offer_ahead
-  offer-failed n e f = failed _ (sym (in_two n)) (before-failed _ _ _ (sym e ∙ f))
+  offer-failed n e = failed _ (sym (in_two n)) (before-failed _ _ _ (sym e))
 
-  pub offer-last-decides : (n : ℕ) {v : Verdict} → offer_ahead c x n ≡ Pass → v ≡ publics_in_lem (fixed_of c).q x.a then not_blank_lem (offered_part c x)
-      → offer_tests (Known c) x n ≡ v
+  pub offer-last-decides : (n : ℕ) {v : Verdict} → offer_ahead c x n ≡ pass → v ≡ publics_in_lem (fixed_of c).q x.a then not_blank_lem (offered_part c x)
+      → offer_tests (Some c) x n ≡ v
   unfolding offer_tests offer_in_lem offer_lengths_lem offer_ahead
   offer-last-decides n t e =
       ap (λ (u : Verdict). u then not_blank_lem (offered_part c x)) (in_two n ∙ (before-passed _ _ _ t).2) ∙ sym e
 
-pub offer-unknown : {c : Named} (x : Offer) (n : ℕ) → c ≡ Unknown → offer_tests c x n ≡ Fail NoScheme
+pub offer-unknown : {c : Option Scheme} (x : Offer) (n : ℕ) → c ≡ None → offer_tests c x n ≡ Err NoScheme
 unfolding offer_tests
 offer-unknown x n e = rw e

@@ -10,8 +10,7 @@ ghost use Rattle.offer.specs.Offer.{offer, offer_result};
 mod opener;
 mod tests;
 
-use refusals::{Answer, Refusal};
-use schemes::Named;
+use refusals::Refusal;
 
 // Offer: the opening message, from the public numbers a, the secret s, the noise e and the seed.
 pub fn offer(
@@ -21,11 +20,9 @@ pub fn offer(
     e: &[i32],
     seed: &[u8],
     message: &mut [u8],
-) -> Answer
+) -> Result<usize, Refusal>
     ensures { seen (told result) message.new ≡ offer_result (scheme_of_lem scheme) (offer a.now s.now e.now seed.now) (length message.old) }
 {
-    let Named::Known(known) = refusals::named(scheme, message) else {
-        return Answer::Refused(Refusal::NoScheme);
-    };
+    let known = refusals::named(scheme, message)?;
     opener::offer_in(known, a, s, e, seed, message)
 }

@@ -7,20 +7,25 @@
 --   unpacked-on   a group more is unpacked
 --   written_on    digits written behind digits written
 --   written_none, stored   no digit is written; a number more, by its bits
---   sixteen       sixteen bytes of one number, four at a time
+--   copied, bytes-are   a part that was copied over; the bytes of a number as std has them
+--   sixteen       sixteen bytes of one number, eight at a time
 --   shifted_fits, shifted-low, shifted-high   a number under another that is shifted up, in two words
 --   few, quad-below   a few numbers fit a word; four are below 2^(4 w)
 --   one_more, two-quads   a number more; four and four
 --   packed-on     a group more is packed
 --   words-on      a number of 32 bits more is packed
+--   group_fits    a group that is still to come has its bytes and its numbers
 --   fewer         of the first n digits, the first m
 --   resume        `Flow` with nothing held, where the first j digits are there
-use Rattle.lists.proofs.Kit.{sym, ap, ◌∙◌, List, append_assoc, append-nil, ℕ, suc, add_assoc}
+use Rattle.lists.proofs.Kit.{refl, sym, ap, ◌∙◌, List, append_assoc, append-nil, ℕ, zero, suc, add_assoc}
 use Rattle.std.proofs.Common.{◌≡◌, ◌++◌, ◌+◌, ◌*◌, ◌-◌, ◌/◌, ◌%◌, ◌^◌, ◌≤◌, ◌<◌}
-use Rattle.lists.proofs.Kit.{add-mul-mod_self_left, lt_of_lt_of_le, mod-lt, mul_assoc, mul_comm, mul-le-mul, mul-mod_left, mul-zero, add-zero, one-mul}
+use Rattle.lists.proofs.Kit.{add-mul-mod_self_left, lt_of_lt_of_le, mod-lt, mul_assoc, mul_comm, mul-le-mul, mul-le-mul_left, le_of_mul-le-mul_left, mul-mod_left, mul-zero, add-zero, one-mul}
 use Rattle.lists.proofs.Kit.{zero-add, arith, length, get_or, take, drop, set, length-append, take-append-drop, drop_at, drop-drop, length-take-le, take_at}
 use Rattle.lists.proofs.Kit.{take-take, field, mod-pow-add, pow-add, pow_mono, pow_pos, shl_exact, shl-shr, shr-shr, digits_lt}
 use lib.Pow.{split}
+use native.Mathlib.Nat.{pow-zero, pow-suc, div-one, div-div-eq-div-mul}
+use borrow.Rule.Slice.PartMut.{put_mid}
+use Rattle.std.specs.Int.{bytes_low_first}
 use Rattle.numbers.proofs.Natural.{power-power}
 use Rattle.lists.specs.Ranges.{Below}
 use Rattle.lists.proofs.Parts.{below-drop}
@@ -93,18 +98,26 @@ stored w k v j x out {o} l e f =
     let room : j + k < length (written b k v j out) = rw (written-length b k v j out (omega arith)) (omega arith) in
     rw (f, place) (one b (v / b ^ k) (j + k) (written b k v j out) room ∙ written_on b k 1 v j out l)
 
--- two numbers of 64 bits, four bytes at a time
-pub sixteen : (z v u j : ℕ) (out : List ℕ) {o1 o2 o3 o4 : List ℕ} → j + 16 ≤ length out → digits 256 8 v ≡ digits 256 8 z → z / 256 ^ 8 ≡ u
-    → o1 ≡ written 256 4 v j out → o2 ≡ written 256 4 (v / 4294967296) (j + 4) o1 → o3 ≡ written 256 4 u (j + 8) o2
-    → o4 ≡ written 256 4 (u / 4294967296) (j + 12) o3 → o4 ≡ written 256 16 z j out
-sixteen z v u j out {o1} {o2} {o3} {o4} l d e e1 e2 e3 e4 =
-    let low : o2 ≡ written 256 8 z j out =
-    e2 ∙ ap (written 256 4 (v / 4294967296) (j + 4)) e1 ∙ written_on 256 4 4 v j out (omega arith) ∙ rw d in
-    let len : length o2 ≡ length out = ap length low ∙ written-length 256 8 z j out (omega arith) in
-    let up : j + 12 ≡ j + 8 + 4 = omega arith in
-    let high : o4 ≡ written 256 8 u (j + 8) o2 =
-    e4 ∙ ap (written 256 4 (u / 4294967296) (j + 12)) e3 ∙ rw up (written_on 256 4 4 u (j + 8) o2 (omega arith)) in
-    high ∙ rw (low, ← e) (written_on 256 8 8 z j out l)
+-- what stands where k bytes were copied
+pub copied : (k v j : ℕ) (out : List ℕ) {p : List ℕ} → p ≡ digits 256 k v → put_mid j (j + k - j) out p ≡ written 256 k v j out
+copied k v j out e =
+    let n : j + k - j ≡ k = omega arith in
+    rw (e, n, append_assoc, drop-drop)
+
+-- the bytes of a number as std has them, from byte i on
+bytes-from : (i k v : ℕ) → bytes_low_first i k v ≡ digits 256 k (v / 256 ^ i)
+unfolding digits
+bytes-from i zero v = refl
+bytes-from zero (suc k) v = rw (bytes-from 1 k v, pow-zero, div-one)
+bytes-from (suc i) (suc k) v = rw (bytes-from (suc (suc i)) k v, pow-suc 256 (suc i), ← div-div-eq-div-mul)
+
+pub bytes-are : (k v : ℕ) → bytes_low_first 0 k v ≡ digits 256 k v
+bytes-are k v = rw (bytes-from 0 k v, pow-zero, div-one)
+
+-- two numbers of 64 bits
+pub sixteen : (z v u j : ℕ) (out : List ℕ) {o1 o2 : List ℕ} → j + 16 ≤ length out → digits 256 8 v ≡ digits 256 8 z → z / 256 ^ 8 ≡ u
+    → o1 ≡ written 256 8 v j out → o2 ≡ written 256 8 u (j + 8) o1 → o2 ≡ written 256 16 z j out
+sixteen z v u j out l d e e1 e2 = e2 ∙ rw (e1, d, ← e) (written_on 256 8 8 z j out l)
 
 -- a number shifted up k bits over another of k bits, in two words
 module _ (k n low high : ℕ) (e : n + k ≡ 64) (h : low < 2 ^ k) where
@@ -167,6 +180,14 @@ words-on j {xs} out h s l =
     let f : value (2 ^ 32) xs / 256 ^ (4 * j) ≡ x + 256 ^ 4 * r =
     past 32 8 h j (4 * j) (omega arith) ∙ value-split (2 ^ 32) 1 (drop j xs) ∙ rw (value-one (2 ^ 32) xs j) in
     rw n (further 256 (value (2 ^ 32) xs) (4 * j) x out (omega arith) s 4 4 r l (omega arith) f)
+
+-- of n bytes, r of which stand behind the groups of w, and of the m numbers that they are
+pub group_fits : (r : ℕ) {w n m g k : ℕ} → 0 < w → w * m ≡ 8 * n → k ≡ n - r → g < k / w → (w * g + w + r ≤ n) × (8 * g + 8 ≤ m)
+group_fits r {w} {n} {m} {g} {k} p e s l =
+    let u : g + 1 ≤ k / w = omega arith in
+    let a : w * (g + 1) ≤ w * (k / w) = mul-le-mul_left w u in
+    let b : w * g + w + r ≤ n = omega (arith, a) in
+    (b, le_of_mul-le-mul_left {k = w} (omega (arith, e, b)) p)
 
 pub fewer : (b v m n : ℕ) (out : List ℕ) → take n out ≡ digits b n v → m ≤ n → take m out ≡ digits b m v
 fewer b v m n out h l =

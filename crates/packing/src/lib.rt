@@ -1,7 +1,7 @@
 // Numbers of w bits as bytes and back, w from 1 to 32: 01, "Bytes on the wire". Both fill the whole of `out`.
 //
-// Eight numbers are w bytes. At the widths that the schemes use, groups of eight go through code that is made for the width: a loop with a literal
-// in place of w, in which every shift and every place is a constant. What is left behind the last group, and every other width, goes through a bit
+// Eight numbers are w bytes. At the widths that the schemes use, groups of eight go through code that is made for the width, a const
+// parameter, in which every shift and every place is a constant. What is left behind the last group, and every other width, goes through a bit
 // accumulator in a machine word: numbers go in at one end and bytes come out at the other, four at a time, and the other way round. Between turns
 // fewer than 32 bits are held, so 32 more still fit it.
 
@@ -21,42 +21,39 @@ pub fn pack(w: u32, xs: &[u32], out: &mut [u8])
     pack_rest(w, xs, out, done);
 }
 
-// Groups of eight numbers, and how many groups. The widths of the schemes stand here as literals, each of which becomes a loop of its own.
+// Groups of eight numbers, and how many groups. Each width of the schemes has a loop of its own.
 fn pack_most(w: u32, xs: &[u32], out: &mut [u8]) -> usize
     requires w_nonzero { (0 < w) × (w ≤ 32) × Below (2 ^ w) xs.now }
     requires xs_value { w * length xs.now ≡ 8 * length out.old }
     ensures { (w * result ≤ length out.old) × (take (w * result) out.new ≡ digits 256 (w * result) (value (2 ^ w) xs.now)) }
 {
     match w {
-        1 => pack_groups(1, xs, out),
-        2 => pack_groups(2, xs, out),
-        4 => pack_groups(4, xs, out),
-        11 => pack_groups(11, xs, out),
-        12 => pack_groups(12, xs, out),
-        14 => pack_groups(14, xs, out),
-        15 => pack_groups(15, xs, out),
+        1 => pack_groups::<1>(xs, out),
+        2 => pack_groups::<2>(xs, out),
+        4 => pack_groups::<4>(xs, out),
+        11 => pack_groups::<11>(xs, out),
+        12 => pack_groups::<12>(xs, out),
+        14 => pack_groups::<14>(xs, out),
+        15 => pack_groups::<15>(xs, out),
         32 => pack_words(xs, out),
         _ => 0,
     }
 }
 
 // Groups of eight numbers, w bytes each, as long as their stores stay within the bytes.
-fn pack_groups(w: u32, xs: &[u32], out: &mut [u8]) -> usize
-    requires w_nonzero { (0 < w) × (w < 16) × Below (2 ^ w) xs.now }
-    requires xs_value { w * length xs.now ≡ 8 * length out.old }
-    ensures { (w * result ≤ length out.old) × (take (w * result) out.new ≡ digits 256 (w * result) (value (2 ^ w) xs.now)) }
+fn pack_groups<const W: u32>(xs: &[u32], out: &mut [u8]) -> usize
+    requires w_nonzero { (0 < W) × (W < 16) × Below (2 ^ W) xs.now }
+    requires xs_value { W * length xs.now ≡ 8 * length out.old }
+    ensures { (W * result ≤ length out.old) × (take (W * result) out.new ≡ digits 256 (W * result) (value (2 ^ W) xs.now)) }
 {
-    let size = w as usize;
-    let mut i: usize = 0;
-    let mut g: usize = 0;
-    while i + 16 <= out.len() {
-        let low = quad(w, xs, 8 * g);
-        let high = quad(w, xs, 8 * g + 4);
-        put_group(w, low, high, out, i);
-        i += size;
-        g += 1;
+    let size = W as usize;
+    let groups = out.len().saturating_sub(16 - size) / size;
+    for g in 0..groups {
+        let low = quad(W, xs, 8 * g);
+        let high = quad(W, xs, 8 * g + 4);
+        put_group(W, low, high, out, size * g);
     }
-    g
+    groups
 }
 
 // Numbers of 32 bits: four bytes each, which the compiler copies several at a time. All are packed; the whole groups of them count.
@@ -65,12 +62,10 @@ fn pack_words(xs: &[u32], out: &mut [u8]) -> usize
     requires xs_value { 32 * length xs.now ≡ 8 * length out.old }
     ensures { (32 * result ≤ length out.old) × (take (32 * result) out.new ≡ digits 256 (32 * result) (value (2 ^ 32) xs.now)) }
 {
-    let mut j: usize = 0;
-    while j < xs.len() {
+    for j in 0..xs.len() {
         put_word(out, 4 * j, xs[j] as u64);
-        j += 1;
     }
-    j / 8
+    xs.len() / 8
 }
 
 // Four numbers as one of 4 w bits, in four turns, which the compiler unrolls.
@@ -78,10 +73,8 @@ fn quad(w: u32, xs: &[u32], j: usize) -> u64
     requires { (w < 16) × Below (2 ^ w) xs.now × (j + 4 ≤ length xs.now) }
     ensures { result ≡ value (2 ^ w) (take 4 (drop j xs.now)) }
 {
-    let mut v: u64 = 0;
-    let mut k: usize = 4;
-    while 0 < k {
-        k -= 1;
+    let mut v = 0;
+    for k in (0..4).rev() {
         v = onto(w, v, xs[j + k]);
     }
     v
@@ -102,10 +95,8 @@ fn put_group(w: u32, low: u64, high: u64, out: &mut [u8], i: usize)
 {
     let lower = low + (high << (4 * w));
     let upper = high >> (64 - 4 * w);
-    put_word(out, i, lower);
-    put_word(out, i + 4, lower / 4294967296);
-    put_word(out, i + 8, upper);
-    put_word(out, i + 12, upper / 4294967296);
+    put_words(out, i, lower);
+    put_words(out, i + 8, upper);
 }
 
 // The numbers behind the groups that are done, to the end, at any width.
@@ -117,12 +108,10 @@ fn pack_rest(w: u32, xs: &[u32], out: &mut [u8], done: usize)
 {
     let mut acc: u64 = 0;
     let mut held: u32 = 0;
-    let mut i: usize = 8 * done;
     let mut j: usize = w as usize * done;
-    while i < xs.len() {
+    for i in 8 * done..xs.len() {
         acc += (xs[i] as u64) << held;
         held += w;
-        i += 1;
         if 32 <= held {
             put_word(out, j, acc);
             acc = acc >> 32;
@@ -133,26 +122,31 @@ fn pack_rest(w: u32, xs: &[u32], out: &mut [u8], done: usize)
     put_rest(out, j, acc);
 }
 
-// The four lowest bytes of v, at j. Stores side by side, which compile to one.
+// The eight bytes of v, at j.
+fn put_words(out: &mut [u8], j: usize, v: u64)
+    requires { j + 8 ≤ length out.old }
+    ensures { out.new ≡ take j out.old ++ digits 256 8 v ++ drop (j + 8) out.old }
+{
+    out[j..j + 8].copy_from_slice(&v.to_le_bytes());
+}
+
+// The four lowest bytes of v, at j.
 fn put_word(out: &mut [u8], j: usize, v: u64)
     requires { j + 4 ≤ length out.old }
     ensures { out.new ≡ take j out.old ++ digits 256 4 v ++ drop (j + 4) out.old }
 {
-    out[j] = (v % 256) as u8;
-    out[j + 1] = (v / 256 % 256) as u8;
-    out[j + 2] = (v / 65536 % 256) as u8;
-    out[j + 3] = (v / 16777216 % 256) as u8;
+    let word = (v % 4294967296) as u32;
+    out[j..j + 4].copy_from_slice(&word.to_le_bytes());
 }
 
 // The lowest bytes of v, from j to the end: what is left when the numbers fill no whole word.
-fn put_rest(out: &mut [u8], mut j: usize, mut v: u64)
+fn put_rest(out: &mut [u8], j: usize, mut v: u64)
     requires { j ≤ length out.old }
     ensures { out.new ≡ take j out.old ++ digits 256 (length out.old - j) v }
 {
-    while j < out.len() {
-        out[j] = (v % 256) as u8;
+    for i in j..out.len() {
+        out[i] = (v % 256) as u8;
         v = v / 256;
-        j += 1;
     }
 }
 
@@ -166,40 +160,37 @@ pub fn unpack(w: u32, bytes: &[u8], out: &mut [u32])
     unpack_rest(w, bytes, out, done);
 }
 
-// Groups of eight numbers, and how many groups. The widths of the schemes stand here as literals, each of which becomes a loop of its own.
+// Groups of eight numbers, and how many groups. Each width of the schemes has a loop of its own.
 fn unpack_most(w: u32, bytes: &[u8], out: &mut [u32]) -> usize
     requires w_nonzero { (0 < w) × (w ≤ 32) }
     requires bytes_value { 8 * length bytes.now ≡ w * length out.old }
     ensures { (w * result ≤ length bytes.now) × (take (8 * result) out.new ≡ digits (2 ^ w) (8 * result) (value 256 bytes.now)) }
 {
     match w {
-        1 => unpack_groups(1, bytes, out),
-        2 => unpack_groups(2, bytes, out),
-        4 => unpack_groups(4, bytes, out),
-        11 => unpack_groups(11, bytes, out),
-        12 => unpack_groups(12, bytes, out),
-        14 => unpack_groups(14, bytes, out),
-        15 => unpack_groups(15, bytes, out),
-        32 => unpack_groups(32, bytes, out),
+        1 => unpack_groups::<1>(bytes, out),
+        2 => unpack_groups::<2>(bytes, out),
+        4 => unpack_groups::<4>(bytes, out),
+        11 => unpack_groups::<11>(bytes, out),
+        12 => unpack_groups::<12>(bytes, out),
+        14 => unpack_groups::<14>(bytes, out),
+        15 => unpack_groups::<15>(bytes, out),
+        32 => unpack_groups::<32>(bytes, out),
         _ => 0,
     }
 }
 
 // Groups of eight numbers, w bytes each, as long as their reads stay within the bytes.
-fn unpack_groups(w: u32, bytes: &[u8], out: &mut [u32]) -> usize
-    requires w_nonzero { (0 < w) × (w ≤ 32) }
-    requires bytes_value { 8 * length bytes.now ≡ w * length out.old }
-    ensures { (w * result ≤ length bytes.now) × (take (8 * result) out.new ≡ digits (2 ^ w) (8 * result) (value 256 bytes.now)) }
+fn unpack_groups<const W: u32>(bytes: &[u8], out: &mut [u32]) -> usize
+    requires w_nonzero { (0 < W) × (W ≤ 32) }
+    requires bytes_value { 8 * length bytes.now ≡ W * length out.old }
+    ensures { (W * result ≤ length bytes.now) × (take (8 * result) out.new ≡ digits (2 ^ W) (8 * result) (value 256 bytes.now)) }
 {
-    let size = w as usize;
-    let mut i: usize = 0;
-    let mut g: usize = 0;
-    while i + size + 7 <= bytes.len() {
-        unpack_group(w, bytes, i, out, 8 * g);
-        i += size;
-        g += 1;
+    let size = W as usize;
+    let groups = bytes.len().saturating_sub(7) / size;
+    for g in 0..groups {
+        unpack_group(W, bytes, size * g, out, 8 * g);
     }
-    g
+    groups
 }
 
 // The eight numbers from byte i on, at j.
@@ -208,10 +199,8 @@ fn unpack_group(w: u32, bytes: &[u8], i: usize, out: &mut [u32], j: usize)
     ensures { out.new ≡ take j out.old ++ digits (2 ^ w) 8 (value 256 (drop i bytes.now)) ++ drop (j + 8) out.old }
 {
     // eight turns, which the compiler unrolls
-    let mut k: u32 = 0;
-    while k < 8 {
+    for k in 0..8u32 {
         out[j + k as usize] = number(w, bytes, i, k * w);
-        k += 1;
     }
 }
 
@@ -226,12 +215,12 @@ fn number(w: u32, bytes: &[u8], i: usize, t: u32) -> u32
     ((v >> (t % 8)) % (1u64 << w)) as u32
 }
 
-// The number of the four bytes from i on.
+// The number of the four bytes from i on, which compile to one load.
 fn four(bytes: &[u8], i: usize) -> u64
     requires { i + 4 ≤ length bytes.now }
     ensures { (result ≡ value 256 (take 4 (drop i bytes.now))) × (result < 4294967296) }
 {
-    joined(bytes[i], bytes[i + 1], bytes[i + 2], bytes[i + 3])
+    u64::from(u32::from_le_bytes([bytes[i], bytes[i + 1], bytes[i + 2], bytes[i + 3]]))
 }
 
 // The numbers behind the groups that are done, to the end, at any width.
@@ -246,8 +235,7 @@ fn unpack_rest(w: u32, bytes: &[u8], out: &mut [u32], done: usize)
     let mut acc: u64 = 0;
     let mut held: u32 = 0;
     let mut i: usize = w as usize * done;
-    let mut j: usize = 8 * done;
-    while j < out.len() {
+    for j in 8 * done..out.len() {
         if held < w {
             acc += word(bytes, i) << held;
             held += 32;
@@ -256,7 +244,6 @@ fn unpack_rest(w: u32, bytes: &[u8], out: &mut [u32], done: usize)
         out[j] = (acc % base) as u32;
         acc = acc >> w;
         held -= w;
-        j += 1;
     }
 }
 
@@ -268,12 +255,12 @@ fn word(bytes: &[u8], i: usize) -> u64
     if i + 4 <= bytes.len() {
         four(bytes, i)
     } else {
-        joined(
+        u64::from(u32::from_le_bytes([
             byte(bytes, i),
             byte(bytes, i + 1),
             byte(bytes, i + 2),
             byte(bytes, i + 3),
-        )
+        ]))
     }
 }
 
@@ -282,11 +269,4 @@ fn byte(bytes: &[u8], i: usize) -> u8
     ensures { result ≡ get_or bytes.now i 0 }
 {
     if i < bytes.len() { bytes[i] } else { 0 }
-}
-
-// The number of four bytes, the lowest first. Of bytes that lie side by side it compiles to one load.
-fn joined(a: u8, b: u8, c: u8, d: u8) -> u64
-    ensures { (result ≡ a + 256 * b + 65536 * c + 16777216 * d) × (result < 4294967296) }
-{
-    a as u64 + 256 * b as u64 + 65536 * c as u64 + 16777216 * d as u64
 }

@@ -4,7 +4,7 @@
 
 #![tactic(auto)]
 
-ghost use Rattle.std.specs.Prelude.{◌≡◌, ◌++◌, ◌+◌, ◌*◌, ◌%◌, ◌<◌, ◌≤◌, length, take, drop, set};
+ghost use Rattle.std.specs.Prelude.{◌≡◌, ◌++◌, ◌+◌, ◌*◌, ◌%◌, ◌<◌, ◌≤◌, ℕ, List, length, get_or, take, drop, set};
 ghost use Rattle.lists.specs.Ranges.{Below};
 ghost use Rattle.matrix.specs.Steps.{part_term, columns_from};
 ghost use Rattle.matrix.specs.Words.{gained, right_term};
@@ -15,25 +15,29 @@ pub fn unpair(xs: &[u32], out: &mut [u16])
     requires { length out.old ≡ 2 * length xs.now }
     ensures { out.new ≡ words xs.now }
 {
-    let mut i: usize = 0;
-    while i < xs.len() {
-        let x = xs[i];
-        out[2 * i] = (x % 65536) as u16;
-        out[2 * i + 1] = (x / 65536) as u16;
-        i += 1;
+    for (i, x) in xs.iter().enumerate() {
+        out[2 * i] = (*x % 65536) as u16;
+        out[2 * i + 1] = (*x / 65536) as u16;
     }
 }
 
-// The way back.
+// The way back. `at` gives a word by its place.
+fn pair_by<F: Fn(usize) -> u32>(at: F, out: &mut [u32])
+    requires pre { (k : ℕ) → k < 2 * length out.old → F.pre at k }
+    requires post { (k w : ℕ) → k < 2 * length out.old → F.post at k w → w < 65536 }
+    ensures { (ws : List ℕ) → length ws ≡ 2 * length out.old → ((k w : ℕ) → k < 2 * length out.old → F.post at k w → w ≡ get_or ws k 0) → out.new ≡ pairs ws }
+{
+    for (i, x) in out.iter_mut().enumerate() {
+        *x = at(2 * i) + 65536 * at(2 * i + 1);
+    }
+}
+
+// The way back, of words.
 pub fn pair(ws: &[u16], out: &mut [u32])
     requires { length ws.now ≡ 2 * length out.old }
     ensures { out.new ≡ pairs ws.now }
 {
-    let mut i: usize = 0;
-    while i < out.len() {
-        out[i] = ws[2 * i] as u32 + 65536 * ws[2 * i + 1] as u32;
-        i += 1;
-    }
+    pair_by(|k| ws[k] as u32, out);
 }
 
 // Word k: the lower half of number k / 2 where k is even, and its upper half where k is odd.
@@ -55,23 +59,17 @@ fn put_each(at: usize, ws: &[u32], out: &mut [u32])
     requires { (at + length ws.now ≤ 2 * length out.old) × Below 65536 ws.now }
     ensures { out.new ≡ pairs (take at (words out.old) ++ (ws.now ++ drop (at + length ws.now) (words out.old))) }
 {
-    let mut k: usize = 0;
-    while k < ws.len() {
-        put_word(at + k, ws[k], out);
-        k += 1;
+    for (k, w) in ws.iter().enumerate() {
+        put_word(at + k, *w, out);
     }
 }
 
-// Two numbers of 16 bits in one.
+// The way back, of numbers of 16 bits.
 fn pair_numbers(xs: &[u32], out: &mut [u32])
     requires { (length xs.now ≡ 2 * length out.old) × Below 65536 xs.now }
     ensures { out.new ≡ pairs xs.now }
 {
-    let mut i: usize = 0;
-    while i < out.len() {
-        out[i] = xs[2 * i] + 65536 * xs[2 * i + 1];
-        i += 1;
-    }
+    pair_by(|k| xs[k], out);
 }
 
 // Numbers of 16 bits as words, from word `at` on. Where they start and end on whole numbers, as whole rows do, two go at a time.
@@ -101,13 +99,11 @@ pub fn add_rows(
     requires { (n ≡ 2 * h) × (length x.now ≡ r * h) × (length cols.now ≡ 8 * n) × (length line.old ≡ n) × (length sums.old ≡ 8 * r) }
     ensures { sums.new ≡ gained wrap n (right_term n (words x.now) cols.now) sums.old }
 {
-    let mut i: usize = 0;
-    while i < r {
+    for i in 0..r {
         let a = i * h;
         let b = i * 8;
         unpair(&x[a..a + h], line);
         matrix::add_right(n, 1, line, cols, &mut sums[b..b + 8]);
-        i += 1;
     }
 }
 
@@ -117,12 +113,10 @@ pub fn some_columns(h: usize, r: usize, c: usize, secret: &[u32], out: &mut [u16
     ensures { out.new ≡ columns_from (2 * h) (2 * r) (2 * c) (words secret.now) }
 {
     let w = 2 * c;
-    let mut k: usize = 0;
-    while k < 8 {
+    for k in 0..8 {
         let a = k * h + r;
         let b = k * w;
         unpair(&secret[a..a + c], &mut out[b..b + w]);
-        k += 1;
     }
 }
 
@@ -141,11 +135,9 @@ pub fn add_left(
     ensures { sums.new ≡ gained wrap w (part_term w n 0 s.now (words x.now)) sums.old }
 {
     let l = 4 * h;
-    let mut t: usize = 0;
-    while t < w {
+    for t in (0..w).step_by(4) {
         let a = t * h;
         unpair(&x[a..a + l], block);
         matrix::add_left(w, n, t, 4, s, block, sums);
-        t += 4;
     }
 }

@@ -1,18 +1,15 @@
--- The kernel's numbers in the machine: one product, two sums added, and the two halves put together.
+-- The kernel's numbers in the machine: one product, and sums added.
 --   widen-fits, widen        a number of 16 bits in 32
 --   one-fits, one            one product
 --   span-one, span-join, span_small   the products of some neighbouring entries: of one, of some and those behind them, and their size
 --   secret-small             the size of one secret
 --   near_fits, far-fits, all-fits, all   four such sums of m products, one behind the other, added two by two
 --   first-none, first_fits, first_more   the sum of the first i products
---   times-*, both-*          65536 times one sum, and another
---   noise-*                  a sum and the noise
---   plus-*                   two numbers of one type
-use Rattle.lists.proofs.Kit.{◌≡◌, refl, sym, ap, ap₂, ◌∙◌, subst, List, ℕ, ◌+◌, ◌*◌, ◌^◌, ◌≤◌, ◌<◌, arith, mul-le-mul, le_refl, get_or, length, ℤ, pos, nat_abs}
-use Rattle.lists.proofs.Kit.{◌+ℤ◌, ◌*ℤ◌, +ℤ_idl, nat_abs-le, Width, w16, w32, w64, SFits, to_z, of_z, hbits, to_z-of_z, sfits_widen}
+use Rattle.lists.proofs.Kit.{◌≡◌, refl, sym, ap, ap₂, ◌∙◌, subst, List, ℕ, ◌+◌, ◌*◌, ◌≤◌, ◌<◌, arith, mul-le-mul, le_refl, get_or, length, ℤ, pos, nat_abs}
+use Rattle.lists.proofs.Kit.{◌+ℤ◌, ◌*ℤ◌, +ℤ_idl, w16, w32, SFits, to_z, of_z, to_z-of_z, sfits_widen}
 use Rattle.numbers.specs.Sum.{sum}
-use Rattle.numbers.proofs.Size.{abs-add, abs-mul, abs-mul-≤, abs-sum}
-use Rattle.numbers.proofs.{Sums.whole, Sums.sum-ext, Sums.sum-split, Machine.fits-abs, Machine.widened, Machine.wide}
+use Rattle.numbers.proofs.Size.{abs-mul-≤, abs-sum}
+use Rattle.numbers.proofs.{Sums.whole, Sums.sum-ext, Sums.sum-split, Machine.fits-abs}
 use Rattle.lists.specs.Entries.{ints}
 use Rattle.polynomial.specs.Steps.{dot, span, Pair}
 
@@ -137,52 +134,6 @@ module _ (m : ℕ) (w s : List ℤ) (i t : ℕ) (y : ℤ) (p : Pair w s) (few : 
 
   pub first_more : to_z w32 (of_z w32 (to_z w32 t +ℤ to_z w32 (of_z w32 y))) ≡ span (i + m) w s 0
   first_more = to_z-of_z first_fits ∙ first-is
-
--- ---- the two halves put together, and the noise added
-
-module _ (x y : ℤ) (fx : SFits w64 x) (fy : SFits w64 y) (hx : nat_abs x ≤ 2 ^ 31) (hy : nat_abs y ≤ 2 ^ 31) where
-  times-is : to_z w64 (of_z w64 x) *ℤ pos 65536 ≡ x *ℤ pos 65536
-  times-is = ap (λ (z : ℤ). z *ℤ pos 65536) (to_z-of_z fx)
-
-  times-small : nat_abs (x *ℤ pos 65536) ≤ 2 ^ 47
-  times-small = omega (arith, abs-mul x (pos 65536))
-
-  pub times-fits : SFits w64 (to_z w64 (of_z w64 x) *ℤ pos 65536)
-  times-fits = subst (SFits w64) (sym times-is) (fits-abs w64 _ (omega (arith, times-small)))
-
-  both_is : to_z w64 (of_z w64 (to_z w64 (of_z w64 x) *ℤ pos 65536)) +ℤ to_z w64 (of_z w64 y) ≡ x *ℤ pos 65536 +ℤ y
-  both_is = ap₂ (λ (a b : ℤ). a +ℤ b) (to_z-of_z times-fits ∙ times-is) (to_z-of_z fy)
-
-  pub both-fits : SFits w64 (to_z w64 (of_z w64 (to_z w64 (of_z w64 x) *ℤ pos 65536)) +ℤ to_z w64 (of_z w64 y))
-  both-fits = subst (SFits w64) (sym both_is) (fits-abs w64 _ (omega (arith, abs-add (x *ℤ pos 65536) y, times-small)))
-
-  pub both_read : to_z w64 (of_z w64 (to_z w64 (of_z w64 (to_z w64 (of_z w64 x) *ℤ pos 65536)) +ℤ to_z w64 (of_z w64 y))) ≡ x *ℤ pos 65536 +ℤ y
-  both_read = to_z-of_z both-fits ∙ both_is
-
-module _ (x e : ℤ) (fx : SFits w64 x) (fe : SFits w32 e) (hx : nat_abs x ≤ 2 ^ 60) where
-  noise-is : to_z w64 (of_z w64 x) +ℤ widened e ≡ x +ℤ e
-  noise-is = ap₂ (λ (a b : ℤ). a +ℤ b) (to_z-of_z fx) (wide e fe)
-
-  pub noise-small : nat_abs (x +ℤ e) ≤ 2 ^ 61
-  noise-small = omega (arith, abs-add x e, nat_abs-le e {H = 2 ^ 31} fe.sfits)
-
-  pub noise-fits : SFits w64 (to_z w64 (of_z w64 x) +ℤ widened e)
-  noise-fits = subst (SFits w64) (sym noise-is) (fits-abs w64 _ (omega (arith, noise-small)))
-
-  pub noise-read : to_z w64 (of_z w64 (to_z w64 (of_z w64 x) +ℤ widened e)) ≡ x +ℤ e
-  noise-read = to_z-of_z noise-fits ∙ noise-is
-
--- ---- two numbers added where they stand
-
-module _ (w : Width) (x y : ℤ) (fx : SFits w x) (fy : SFits w y) (few : nat_abs x + nat_abs y < 2 ^ hbits w) where
-  plus-is : to_z w (of_z w x) +ℤ to_z w (of_z w y) ≡ x +ℤ y
-  plus-is = ap₂ (λ (a b : ℤ). a +ℤ b) (to_z-of_z fx) (to_z-of_z fy)
-
-  pub plus-fits : SFits w (to_z w (of_z w x) +ℤ to_z w (of_z w y))
-  plus-fits = subst (SFits w) (sym plus-is) (fits-abs w _ (omega (arith, abs-add x y)))
-
-  pub plus-read : to_z w (of_z w (to_z w (of_z w x) +ℤ to_z w (of_z w y))) ≡ x +ℤ y
-  plus-read = to_z-of_z plus-fits ∙ plus-is
 
 -- ---- a secret in 16 bits
 

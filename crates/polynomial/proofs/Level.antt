@@ -1,30 +1,31 @@
 -- The sums of a window and secrets in the code: by the plain rule, from halves of 16 bits, and from three times half as many.
 --   slide-size              the sums of halves and secrets fit 32 bits
 --   dot-pair, dot-part      what a dot product asks, and what it is
---   halving-*               the halves, laid one after the other
+--   halving-next            one more number, whose two halves are laid
 --   laid-high, laid-low     they are what the dot products ask
 --   sums-small, leaf-made   the sums of both halves, their size, and what they are put together
 --   made-ext                the sums of numbers that are congruent, and of the same secrets
---   add-fits, add-next      numbers added to others, where they stand
+--   may-add                 two entries that are not too large
 --   added-small, joined     what is added to both halves
 --   three-small, level-made both halves of the sums from three products, and that they fit
 --   low-*, high-*, middle-* what these three are lent, and what they make
 --   few-size                where there are many secrets, none is large
 --   ready_at, made_at       by another count
-use Rattle.lists.proofs.Kit.{◌≡◌, refl, ◌∙◌, sym, ap, ap₂, subst, List, ℕ, ◌+◌, ◌-◌, ◌*◌, ◌^◌, ◌<◌, ◌≤◌, arith, dec_lt, mul-le-mul, le_refl, length, get_or, set}
-use Rattle.lists.proofs.Kit.{take, drop, length-set, get_or-take, get_or-drop, get_or-set_same, get_or-set_other, Width, SFits, to_z, of_z, hbits, ℤ, pos, nat_abs, ◌+ℤ◌}
+use Rattle.lists.proofs.Kit.{◌≡◌, ◌∙◌, sym, ap, ap₂, subst, List, ℕ, ◌+◌, ◌-◌, ◌*◌, ◌^◌, ◌<◌, ◌≤◌, arith, dec_lt, mul-le-mul, le_refl, length, get_or, set}
+use Rattle.lists.proofs.Kit.{take, drop, length-set, get_or-take, get_or-drop, get_or-set_same, get_or-set_other, Width, SFits, hbits, ℤ, pos, nat_abs, ◌+ℤ◌}
 use Rattle.lists.proofs.Kit.{◌-ℤ◌, ◌*ℤ◌}
 use borrow.Author.Count.{below_more}
 use Rattle.numbers.specs.{Residue.residue, Congruence.◌≅⟨◌⟩◌}
 use Rattle.numbers.proofs.Congruence.{eq-≅, ◌⨾◌, add-≅, residue-lt, residue-≅}
 use Rattle.numbers.proofs.Sums.{whole, sum-ext, sum-add, sum-mul-right}
-use Rattle.numbers.proofs.{Difference.as-diff, Difference.diff-≡, Difference.diffs, Size.abs-add, Size.abs-mul, Size.abs-mul-≤, Size.abs-sum}
+use Rattle.std.proofs.lemmas.List.{get_or_default}
+use Rattle.numbers.proofs.{Machine.fits-abs, Difference.as-diff, Difference.diff-≡, Difference.diffs, Size.abs-add, Size.abs-mul, Size.abs-mul-≤, Size.abs-sum}
 use Rattle.lists.specs.{Entries.nums, Entries.ints, Ranges.Stored}
-use Rattle.lists.proofs.{Parts.slice-long, Parts.slice_at, Parts.front_long, Parts.part, Stored.store-next, Stored.not_yet, Stored.front_at}
+use Rattle.lists.proofs.{Parts.slice-long, Parts.slice_at, Parts.front_long, Parts.part, Stored.front_at}
 use Rattle.polynomial.specs.Steps.{lift, upper, lower, dot, span, slide, Pair, Few, Ready, Prepared, Halved, Made, Joined}
 use Rattle.polynomial.proofs.Three.{slide-≅, three-low, three-high, few-low, few-high, few-middle, few-ext}
 use Rattle.polynomial.proofs.Halves.{upper-small, lower-small, lift-lt, halves-≅}
-use Rattle.polynomial.proofs.{Kernel.plus-fits, Kernel.plus-read, Stores.ints-is, Stores.part-entry, Stores.take_within}
+use Rattle.polynomial.proofs.{Stores.ints-is, Stores.part-entry, Stores.take_within}
 
 -- (x s) c + y s = (x c + y) s
 regroup : (x y s c : ℤ) → (x *ℤ s) *ℤ c +ℤ y *ℤ s ≡ (x *ℤ c +ℤ y) *ℤ s
@@ -80,12 +81,6 @@ pub record Halving (q n : ℕ) (d : List ℕ) (t t' : List ℤ) (i : ℕ) : Type
   pub low : (k : ℕ) → k < i → ints t' (3 * n + k) ≡ lower (lift q (get_or d k 0))
 
 module _ {q n : ℕ} {d : List ℕ} {t : List ℤ} where
-  pub halving-none : Halving q n d t t 0
-  halving-none = record { long = refl; secrets = λ j p. refl; high = λ k p. absurd (none k p); low = λ k p. absurd (none k p) }
-    where
-      none : (k : ℕ) → k < 0 → ⊥
-      none k p = omega arith
-
   pub halving-next :
       {t' : List ℤ} {i : ℕ} {h l : ℤ} → Halving q n d t t' i → i < n + n → 5 * n ≤ length t → h ≡ upper (lift q (get_or d i 0)) → l ≡ lower (lift q (get_or d i 0)) →
       Halving q n d t (set (set t' (n + i) h) (3 * n + i) l) (i + 1)
@@ -105,9 +100,6 @@ module _ {q n : ℕ} {d : List ℕ} {t : List ℤ} where
             (λ k g. get_or-set_other u (3 * n + i) (3 * n + k) l (pos 0) (omega arith) ∙ get_or-set_other t' (n + i) (3 * n + k) h (pos 0) (omega arith) ∙ old.low k g)
             (get_or-set_same u (3 * n + i) l (pos 0) (omega (arith, both)) ∙ el);
       }
-
-  pub halving-all : {t' : List ℤ} {i : ℕ} → Halving q n d t t' i → n + n ≤ i → Halved q n d t t'
-  halving-all o e = record { long = o.long; secrets = o.secrets; high = λ i p. o.high i (omega arith); low = λ i p. o.low i (omega arith) }
 
 module _ {q n : ℕ} {d : List ℕ} {t t' : List ℤ} (r : Ready q n d t) (h : Halved q n d t t') (long : 5 * n ≤ length t) where
   secrets' : Few n (ints t')
@@ -184,27 +176,11 @@ module _ {q n : ℕ} {d : List ℕ} {t t' : List ℤ} (r : Ready q n d t) (h : H
             rw (put-at k p)
             (omega (arith, abs-add (ints o₂ k *ℤ pos 65536) (ints o₂ (n + k)), abs-mul (ints o₂ k) (pos 65536), highs-small k p, lows-small k p))
 
--- ---- numbers added to others in front of them
+-- ---- two numbers that may be added
 
-module _ (W : Width) (B n : ℕ) {o o' : List ℤ} {to x k : ℕ} (old : Stored (pos 0) o to k (λ j. ints o (to + j) +ℤ ints o (x + j)) o')
-    (fx : SFits W (get_or o' (to + k) (pos 0))) (fy : SFits W (get_or o' (x + k) (pos 0))) (fits : B + B + 1 ≤ 2 ^ hbits W)
-    (h : (to + n ≤ x) × (x + n ≤ length o) × ((j : ℕ) → j < x + n → nat_abs (ints o j) ≤ B)) (l : k < n) where
-  to_is : get_or o' (to + k) (pos 0) ≡ ints o (to + k)
-  to_is = not_yet old ∙ sym (ints-is o (to + k))
-
-  from_is : get_or o' (x + k) (pos 0) ≡ ints o (x + k)
-  from_is = old.above (x + k) (omega (arith, h.0)) ∙ sym (ints-is o (x + k))
-
-  few : nat_abs (get_or o' (to + k) (pos 0)) + nat_abs (get_or o' (x + k) (pos 0)) < 2 ^ hbits W
-  few = rw (to_is, from_is) (omega (arith, fits, h.2 (to + k) (omega (arith, h.0)), h.2 (x + k) (omega arith)))
-
-  pub add-fits : SFits W (to_z W (of_z W (get_or o' (to + k) (pos 0))) +ℤ to_z W (of_z W (get_or o' (x + k) (pos 0))))
-  add-fits = plus-fits W _ _ fx fy few
-
-  pub add-next :
-      Stored (pos 0) o to (k + 1) (λ j. ints o (to + j) +ℤ ints o (x + j))
-      (set o' (to + k) (to_z W (of_z W (to_z W (of_z W (get_or o' (to + k) (pos 0))) +ℤ to_z W (of_z W (get_or o' (x + k) (pos 0)))))))
-  add-next = store-next old (omega (arith, h.0, h.1)) (plus-read W _ _ fx fy few ∙ ap₂ (λ (y z : ℤ). y +ℤ z) to_is from_is)
+pub may-add : (w : Width) (B : ℕ) (l : List ℤ) (i j : ℕ) (z : ℤ) → i < length l → j < length l → nat_abs (ints l i) ≤ B → nat_abs (ints l j) ≤ B → B + B + 1 ≤ 2 ^ hbits w → SFits w (get_or l i z +ℤ get_or l j z)
+unfolding ints
+may-add w B l i j z p r hx hy h = rw (get_or_default l i z (pos 0) p, get_or_default l j z (pos 0) r) (fits-abs w _ (omega (arith, abs-add (get_or l i (pos 0)) (get_or l j (pos 0)))))
 
 -- ---- three products
 

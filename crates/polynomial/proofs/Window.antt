@@ -10,10 +10,10 @@ use Rattle.numbers.specs.{Residue.residue, Congruence.◌≅⟨◌⟩◌}
 use Rattle.numbers.proofs.Congruence.{eq-≅, refl-≅, ◌⨾◌, add-≅, same-residue, residue-lt, residue-≅}
 use Rattle.numbers.proofs.{Sums.whole, Sums.sum-ext, Sums.sum-reverse, Size.abs-zero}
 use Rattle.lists.specs.{Entries.tab, Entries.nums, Entries.ints, Ranges.Below, Ranges.Within, Ranges.Stored}
-use Rattle.lists.proofs.{Entries.tab-ext, Stored.front_at}
+use Rattle.lists.proofs.{Entries.tab-ext, Parts.part, Stored.front_at}
 use Rattle.polynomial.specs.Product.{turn, product, mixed, bare}
 use Rattle.polynomial.specs.Steps.{Fit, both, dot, slide, Ready, Made, Windowed}
-use Rattle.polynomial.proofs.{Turn.turn_in, Turn.turn-over, Laws.product-comm, Three.slide-≅, Stores.ints-is}
+use Rattle.polynomial.proofs.{Turn.turn_in, Turn.turn-over, Laws.product-comm, Three.slide-≅, Stores.ints-is, Stores.rest-long, Stores.part-entry}
 
 -- [-a | a]
 both-low : (n : ℕ) (a : ℕ → ℤ) (i : ℕ) → i < n → both n a i ≡ neg_ℤ (a i)
@@ -47,7 +47,7 @@ product-window n a s k h =
 
 pub laid-window :
     {q : ℕ} (a d d₁ d₂ : List ℕ) → 0 < q → 0 < length a → length a + length a ≤ length d → Below q a → Below q d →
-    Stored 0 d 0 (length a - 1) (λ i. residue q (neg_ℤ (nums a (i + 1)))) d₁ → Stored 0 d₁ (length a - 1) (length a) (λ i. get_or a i 0) d₂ → Windowed q (length a) a d₂
+    Stored 0 d 0 (length (part a 1)) (λ i. residue q (neg_ℤ (nums (part a 1) i))) d₁ → Stored 0 d₁ (length a - 1) (length a) (λ i. get_or a i 0) d₂ → Windowed q (length a) a d₂
 unfolding nums
 laid-window {q} a d d₁ d₂ hq some l ba bd s₁ s₂ = record { at = λ i p. place i p (dec_lt i (n - 1)); below = λ i p. small i (dec_lt i (n - 1)) (dec_lt i (n - 1 + n)) }
   where
@@ -55,7 +55,11 @@ laid-window {q} a d d₁ d₂ hq some l ba bd s₁ s₂ = record { at = λ i p. 
     n = length a
 
     front : (i : ℕ) → i < n - 1 → get_or d₂ i 0 ≡ residue q (neg_ℤ (pos (get_or a (i + 1) 0)))
-    front i p = let e : 0 + i ≡ i = omega arith in s₂.below i p ∙ ap (λ (k : ℕ). get_or d₁ k 0) (sym e) ∙ s₁.inside i p
+    front i p =
+        let e : 1 + i ≡ i + 1 = omega arith in
+        s₂.below i p
+        ∙ front_at s₁ i (omega (arith, rest-long 1 a))
+        ∙ ap (λ (x : ℕ). residue q (neg_ℤ (pos x))) (part-entry 0 1 a i ∙ ap (λ (k : ℕ). get_or a k 0) e)
 
     behind : (i : ℕ) → n - 1 ≤ i → i < n - 1 + n → get_or d₂ i 0 ≡ get_or a (i - (n - 1)) 0
     behind i p r =
@@ -63,7 +67,7 @@ laid-window {q} a d d₁ d₂ hq some l ba bd s₁ s₂ = record { at = λ i p. 
         ap (λ (k : ℕ). get_or d₂ k 0) (sym e) ∙ s₂.inside (i - (n - 1)) (omega arith)
 
     last : (i : ℕ) → n - 1 + n ≤ i → get_or d₂ i 0 ≡ get_or d i 0
-    last i p = s₂.above i p ∙ s₁.above i (omega arith)
+    last i p = s₂.above i p ∙ s₁.above i (omega (arith, rest-long 1 a))
 
     place : (i : ℕ) → i + 1 < n + n → Dec (i < n - 1) → nums d₂ i ≅⟨ q ⟩ both n (nums a) (i + 1)
     place i p (yes r) =

@@ -15,6 +15,7 @@
 --   Prepared x n t    halves of a window of 2 n numbers at x of t, and n secrets in front
 --   Halved q n d t t'   the halves of the window of d laid behind the n secrets
 --   Made q n w s o    o has the n sums of the window w and the secrets s, modulo q, and they fit
+--   Summed R w to x n w'   the n entries at `to` with those at x added, where R a b r says that r is a + b, and the others as they were
 --   Joined m o o'     the sums of the whole from those of its three products: both halves, and what is added to either
 --   Windowed q n a d  [-a | a] without its first entry
 use Rattle.std.specs.Prelude.{◌≡◌, List, cond, ℕ, ◌+◌, ◌-◌, ◌*◌, ◌/◌, ◌%◌, ◌^◌, ◌<◌, ◌≤◌, ltb, length, get_or, ℤ, pos, neg_ℤ, nat_abs, ◌+ℤ◌, ◌-ℤ◌, ◌*ℤ◌}
@@ -87,6 +88,12 @@ pub record Halved (q n : ℕ) (d : List ℕ) (t t' : List ℤ) : Type 0 where
 pub record Made (q n : ℕ) (w s : ℕ → ℤ) (o : List ℤ) : Type 0 where
   pub at : (k : ℕ) → k < n → ints o k ≅⟨ q ⟩ slide n w s k
   pub size : (k : ℕ) → k < n → nat_abs (ints o k) ≤ n * 2 ^ 47
+
+pub record Summed {A : Type 0} (R : A → A → A → Type 0) (w : List A) (to x n : ℕ) (w' : List A) : Type 0 where
+  pub long : length w' ≡ length w
+  pub inside : (z : A) (k : ℕ) → k < n → R (get_or w (to + k) z) (get_or w (x + k) z) (get_or w' (to + k) z)
+  pub below : (z : A) (i : ℕ) → i < to → get_or w' i z ≡ get_or w i z
+  pub above : (z : A) (i : ℕ) → to + n ≤ i → get_or w' i z ≡ get_or w i z
 
 pub record Joined (m : ℕ) (o o' : List ℤ) : Type 0 where
   pub low : (k : ℕ) → k < m → ints o' k ≡ ints o k +ℤ ints o (m + m + k)

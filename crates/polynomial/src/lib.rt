@@ -16,9 +16,10 @@ ghost use Rattle.numbers.specs.Residue.{residue};
 ghost use Rattle.lists.specs.Entries.{tab, nums, ints};
 ghost use Rattle.lists.specs.Ranges.{Below, Within, Stored};
 ghost use Rattle.polynomial.specs.Product.{mixed, bare};
-ghost use Rattle.polynomial.specs.Steps.{Fit, lift, upper, lower, span, slide, Pair, Ready, Prepared, Halved, Made, Joined, Windowed};
+ghost use Rattle.polynomial.specs.Steps.{Fit, lift, upper, lower, span, slide, Pair, Ready, Prepared, Halved, Made, Summed, Joined, Windowed};
 
 use schemes::Bcns;
+use std::ops::Add;
 
 // One product. The functions below it are a tree of sums.
 fn product(w: &[i16], s: &[i16], i: usize) -> i32
@@ -52,42 +53,20 @@ fn sixty_four(w: &[i16], s: &[i16], i: usize) -> i32
     (sixteen(w, s, i) + sixteen(w, s, i + 16)) + (sixteen(w, s, j) + sixteen(w, s, j + 16))
 }
 
-// The kernel: the sum of the products of the entries of two slices, sixty-four at a time where they come out even.
-fn by_blocks(w: &[i16], s: &[i16]) -> i32
-    requires { Pair w.now s.now × (length w.now % 64 ≡ 0) }
-    ensures { result ≡ span (length w.now) w.now s.now 0 }
-{
-    let mut sum: i32 = 0;
-    let mut i: usize = 0;
-    while i < w.len() {
-        sum = sum + sixty_four(w, s, i);
-        i += 64;
-    }
-    sum
-}
-
-fn one_by_one(w: &[i16], s: &[i16]) -> i32
-    requires { Pair w.now s.now }
-    ensures { result ≡ span (length w.now) w.now s.now 0 }
-{
-    let mut sum: i32 = 0;
-    let mut i: usize = 0;
-    while i < w.len() {
-        sum = sum + product(w, s, i);
-        i += 1;
-    }
-    sum
-}
-
+// The kernel: the sum of the products of the entries of two slices, sixty-four at a time, and then of those that are left.
 fn dot_product(w: &[i16], s: &[i16]) -> i32
     requires { Pair w.now s.now }
     ensures { result ≡ span (length w.now) w.now s.now 0 }
 {
-    if w.len() % 64 == 0 {
-        by_blocks(w, s)
-    } else {
-        one_by_one(w, s)
+    let blocks = w.len() / 64;
+    let mut sum = 0;
+    for b in 0..blocks {
+        sum += sixty_four(w, s, 64 * b);
     }
+    for i in 64 * blocks..w.len() {
+        sum += product(w, s, i);
+    }
+    sum
 }
 
 // The n dot products of the secrets in front of t with its entries from x on, at `to` of o.
@@ -95,12 +74,9 @@ fn dots(t: &[i16], x: usize, o: &mut [i64], to: usize, n: usize)
     requires { Prepared x n t.now × (to + n ≤ length o.old) }
     ensures { Stored (pos 0) o.old to n (slide n (λ (i : ℕ). ints t.now (x + i)) (ints t.now)) o.new }
 {
-    let mut k: usize = 0;
-    while k < n {
+    for k in 0..n {
         let a = x + k;
-        let c = to + k;
-        o[c] = dot_product(&t[a..a + n], &t[..n]) as i64;
-        k += 1;
+        o[to + k] = dot_product(&t[a..a + n], &t[..n]) as i64;
     }
 }
 
@@ -135,14 +111,10 @@ fn lay_halves(q: u32, d: &[u32], t: &mut [i16], n: usize)
     requires n_in_bounds { (2 * n ≤ length d.now) × (5 * n ≤ length t.old) }
     ensures { Halved q n d.now t.old t.new }
 {
-    let mut i: usize = 0;
-    while i < 2 * n {
+    for i in 0..2 * n {
         let y = lifted(q, d[i]);
-        let a = n + i;
-        let b = 3 * n + i;
-        t[a] = high_half(y);
-        t[b] = low_half(y);
-        i += 1;
+        t[n + i] = high_half(y);
+        t[3 * n + i] = low_half(y);
     }
 }
 
@@ -158,11 +130,8 @@ fn put_together(o: &mut [i64], n: usize)
     requires { (n + n ≤ length o.old) × ((k : ℕ) → k < n + n → nat_abs (ints o.old k) ≤ 2 ^ 31) }
     ensures { Stored (pos 0) o.old 0 n (λ (k : ℕ). ints o.old k *ℤ pos 65536 +ℤ ints o.old (n + k)) o.new }
 {
-    let mut k: usize = 0;
-    while k < n {
-        let b = n + k;
-        o[k] = together(o[k], o[b]);
-        k += 1;
+    for k in 0..n {
+        o[k] = together(o[k], o[n + k]);
     }
 }
 
@@ -193,54 +162,19 @@ fn subtract(q: u32, d: &mut [u32], x: usize, y: usize, to: usize, n: usize)
     requires by_index { (i : ℕ) → i < to → get_or d.old i 0 < q }
     ensures { Stored 0 d.old to n (λ (k : ℕ). residue q (nums d.old (x + k) -ℤ nums d.old (y + k))) d.new }
 {
-    let mut i: usize = 0;
-    while i < n {
-        let a = x + i;
-        let b = y + i;
-        let c = to + i;
-        d[c] = minus(q, d[a], d[b]);
-        i += 1;
+    for i in 0..n {
+        d[to + i] = minus(q, d[x + i], d[y + i]);
     }
 }
 
-// The first n secrets, copied behind them.
-fn copy(t: &mut [i16], to: usize, n: usize)
-    requires { (n ≤ to) × (to + n ≤ length t.old) }
-    ensures { Stored (pos 0) t.old to n (ints t.old) t.new }
+// The n entries at x, added to those at `to`.
+fn add<T: Copy + Add<Output = T>>(w: &mut [T], to: usize, x: usize, n: usize)
+    requires n_in_bounds { (to + n ≤ x) × (x + n ≤ length w.old) }
+    requires by_index { (z : T) (k : ℕ) → k < n → T.can_add (get_or w.old (to + k) z) (get_or w.old (x + k) z) }
+    ensures { Summed T.add_gives w.old to x n w.new }
 {
-    let mut i: usize = 0;
-    while i < n {
-        let c = to + i;
-        t[c] = t[i];
-        i += 1;
-    }
-}
-
-// The n secrets at x, added to those at `to`.
-fn add(t: &mut [i16], to: usize, x: usize, n: usize)
-    requires { (to + n ≤ x) × (x + n ≤ length t.old) × ((k : ℕ) → k < x + n → nat_abs (ints t.old k) ≤ 16383) }
-    ensures { Stored (pos 0) t.old to n (λ (k : ℕ). ints t.old (to + k) +ℤ ints t.old (x + k)) t.new }
-{
-    let mut k: usize = 0;
-    while k < n {
-        let b = x + k;
-        let c = to + k;
-        t[c] = t[c] + t[b];
-        k += 1;
-    }
-}
-
-// The n sums at x, added to those at `to`.
-fn add_sums(o: &mut [i64], to: usize, x: usize, n: usize)
-    requires { (to + n ≤ x) × (x + n ≤ length o.old) × ((k : ℕ) → k < x + n → nat_abs (ints o.old k) ≤ 2 ^ 61) }
-    ensures { Stored (pos 0) o.old to n (λ (k : ℕ). ints o.old (to + k) +ℤ ints o.old (x + k)) o.new }
-{
-    let mut k: usize = 0;
-    while k < n {
-        let b = x + k;
-        let c = to + k;
-        o[c] = o[c] + o[b];
-        k += 1;
+    for k in 0..n {
+        w[to + k] = w[to + k] + w[x + k];
     }
 }
 
@@ -249,8 +183,8 @@ fn join(o: &mut [i64], m: usize)
     ensures { Joined m o.old o.new }
 {
     let two = m + m;
-    add_sums(o, 0, two, m);
-    add_sums(o, m, two, m);
+    add(o, 0, two, m);
+    add(o, m, two, m);
 }
 
 // Half of a length that is even and above 64, else 0. A block of 64 products is what the compiler makes full instructions of: down to 128 the product takes 1.04
@@ -282,7 +216,7 @@ fn windows(q: u32, d: &mut [u32], t: &mut [i16], o: &mut [i64], n: usize)
     let two = m + m;
     let four = two + two;
     subtract(q, d, 0, m, four, two);
-    copy(t, two, m);
+    t.copy_within(..m, two);
     windows(q, &mut d[four..], &mut t[two..], o, m);
     subtract(q, d, two, m, four, two);
     add(t, 0, m, m);
@@ -301,24 +235,10 @@ fn negative(q: u32, x: u32) -> u32
 
 fn lay_negatives(q: u32, a: &[u32], d: &mut [u32])
     requires { Below q a.now × (length a.now ≤ length d.old) }
-    ensures { Stored 0 d.old 0 (length a.now - 1) (λ (i : ℕ). residue q (neg_ℤ (nums a.now (i + 1)))) d.new }
+    ensures { Stored 0 d.old 0 (length a.now) (λ (i : ℕ). residue q (neg_ℤ (nums a.now i))) d.new }
 {
-    let mut i: usize = 0;
-    while i + 1 < a.len() {
-        d[i] = negative(q, a[i + 1]);
-        i += 1;
-    }
-}
-
-fn lay_numbers(a: &[u32], d: &mut [u32], to: usize)
-    requires { to + length a.now ≤ length d.old }
-    ensures { Stored 0 d.old to (length a.now) (λ (i : ℕ). get_or a.now i 0) d.new }
-{
-    let mut i: usize = 0;
-    while i < a.len() {
-        let c = to + i;
-        d[c] = a[i];
-        i += 1;
+    for (i, x) in a.iter().enumerate() {
+        d[i] = negative(q, *x);
     }
 }
 
@@ -328,8 +248,9 @@ fn lay_window(q: u32, a: &[u32], d: &mut [u32])
     requires a_nonzero { (0 < length a.now) × (length a.now + length a.now ≤ length d.old) }
     ensures { Windowed q (length a.now) a.now d.new }
 {
-    lay_negatives(q, a, d);
-    lay_numbers(a, d, a.len() - 1);
+    let n = a.len() - 1;
+    lay_negatives(q, &a[1..], d);
+    d[n..n + a.len()].copy_from_slice(a);
 }
 
 // The secret, its last entry first, in front of t.
@@ -337,10 +258,8 @@ fn reverse(s: &[i32], t: &mut [i16])
     requires { (length s.now ≤ length t.old) × Within 51 s.now }
     ensures { Stored (pos 0) t.old 0 (length s.now) (λ (j : ℕ). ints s.now (length s.now - (j + 1))) t.new }
 {
-    let mut j: usize = 0;
-    while j < s.len() {
+    for j in 0..s.len() {
         t[j] = s[s.len() - 1 - j] as i16;
-        j += 1;
     }
 }
 
@@ -357,10 +276,8 @@ fn entries(o: &[i64], e: &[i32], out: &mut [u32])
     requires by_index { (k : ℕ) → k < length out.old → nat_abs (ints o.now k) ≤ 2 ^ 60 }
     ensures { out.new ≡ tab (length out.old) (λ (k : ℕ). residue bcns.q (ints o.now k +ℤ ints e.now k)) }
 {
-    let mut k: usize = 0;
-    while k < out.len() {
+    for k in 0..out.len() {
         out[k] = reduce(o[k], e[k]);
-        k += 1;
     }
 }
 

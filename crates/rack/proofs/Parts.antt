@@ -5,17 +5,16 @@
 --   moved-long                              a call keeps the length of a session's bytes
 --   part-long, inside-long, front_long, slot-long   how long the parts are
 --   part_placed, part-other                 a slot that was written, and another
+use Rattle.std.proofs.Common.{Err, Some, None, Option, ◌≡◌, ◌∷◌, ◌++◌, ◌+◌, ◌-◌, ◌*◌, ◌≤◌, ◌<◌}
 use Rattle.lists.proofs.Kit.{refl, ◌∙◌, sym, ap, Bool, true, false, cond, List, [], ℕ, zero, suc, arith, dec_lt, length}
-use Rattle.std.proofs.Common.{◌≡◌, ◌∷◌, ◌++◌, ◌+◌, ◌-◌, ◌*◌, ◌≤◌, ◌<◌}
 use Rattle.lists.proofs.Kit.{get_or, set, take, drop, replicate, length-replicate, length-drop, length-append, take-append-drop, take-append-le, drop-append-le}
 use Rattle.lists.proofs.Kit.{drop-drop, length-take-le, drop_at, take_at, eqb-true, ltb-true, eq-eqb, ne_eqb, lt-ltb, le-ltb}
 use Rattle.refusals.specs.declared.Refusal.TheVariants.{OutOfStage, NoStudio}
-use Rattle.refusals.specs.{Refusals.◌then◌, declared.Refusal.Refusal, declared.Verdict.TheVariants.Pass, declared.Verdict.TheVariants.Fail}
+use Rattle.refusals.specs.{Refusals.◌then◌, declared.Refusal.Refusal, Refusals.pass}
 use Rattle.refusals.proofs.Laws.{differ, both}
-use Rattle.session.specs.{Table.Call, Table.step, Seen.CallSeen, Seen.turn, Seen.moved}
+use Rattle.session.specs.{declared.Stage.Stage, Table.Call, Table.step, Seen.CallSeen, Seen.turn, Seen.moved}
 use Rattle.session.proofs.Sequences.{step-sound}
 use Rattle.session_bytes.specs.Bytes.{bytes_of, staged, session_in, closes, moved_at, moved_bytes}
-use Rattle.session_bytes.specs.{declared.Found.Found, declared.Found.TheVariants.At, declared.Found.TheVariants.Nowhere}
 use Rattle.session_bytes.proofs.Bytes.{taken_back, laid-back}
 use Rattle.rack.specs.Slots.{part, inside, with_slot, rack_is, slot_tests, Owned}
 use Rattle.lists.proofs.Parts as parts
@@ -47,12 +46,12 @@ wiped-slot (suc a) i (x ∷ r) h = ap (λ (t : List ℕ). x ∷ t) (wiped-slot a
 
 -- ---- the tests of a slot
 
-asked : (b : Bool) (r : Refusal) → cond b Pass (Fail r) ≡ Pass → b ≡ true
+asked : (b : Bool) (r : Refusal) → cond b pass (Err r) ≡ pass → b ≡ true
 asked true r e = refl
 asked false r e = differ e
 
 module _ (bs : List ℕ) (i : ℕ) where
-  pub slot-rack : (b : Bool) → slot_tests bs i b ≡ Pass → (i < 8) × (length bs ≡ 1048)
+  pub slot-rack : (b : Bool) → slot_tests bs i b ≡ pass → (i < 8) × (length bs ≡ 1048)
   unfolding slot_tests rack_is
   slot-rack b e = let t = both _ _ (both _ _ e).0 in (ltb-true i 8 (asked _ _ t.0), eqb-true (length bs) 1048 (asked _ _ t.1))
 
@@ -61,7 +60,7 @@ module _ (bs : List ℕ) (i : ℕ) where
   slot-number e = eqb-true _ _ (asked _ _ (both _ _ e).1)
 
   module _ (h : i < 8) (l : length bs ≡ 1048) where
-    pub slot-closes : slot_tests bs i true ≡ Pass
+    pub slot-closes : slot_tests bs i true ≡ pass
     unfolding slot_tests rack_is ◌then◌
     slot-closes = rw (lt-ltb i 8 h, eq-eqb (length bs) 1048 l)
 
@@ -75,20 +74,20 @@ module _ (bs : List ℕ) (i : ℕ) where
     pub slot-mine : get_or bs (131 * i) 0 ≡ i → Owned bs i
     slot-mine e = slot-own (sym first ∙ e)
 
-    pub slot-other : (get_or bs (131 * i) 0 ≡ i → ⊥) → slot_tests bs i false ≡ Fail OutOfStage
+    pub slot-other : (get_or bs (131 * i) 0 ≡ i → ⊥) → slot_tests bs i false ≡ Err OutOfStage
     unfolding slot_tests rack_is ◌then◌
     slot-other e = rw (lt-ltb i 8 h, eq-eqb (length bs) 1048 l, ne_eqb (get_or (part bs i) 0 0) i (λ f. e (first ∙ f)))
 
-  pub slot-none : (b : Bool) → 8 ≤ i → slot_tests bs i b ≡ Fail NoStudio
+  pub slot-none : (b : Bool) → 8 ≤ i → slot_tests bs i b ≡ Err NoStudio
   unfolding slot_tests ◌then◌
   slot-none b h = rw (le-ltb i 8 h)
 
-  pub slot-short : (b : Bool) → i < 8 → (length bs ≡ 1048 → ⊥) → slot_tests bs i b ≡ Fail OutOfStage
+  pub slot-short : (b : Bool) → i < 8 → (length bs ≡ 1048 → ⊥) → slot_tests bs i b ≡ Err OutOfStage
   unfolding slot_tests rack_is ◌then◌
   slot-short b h l = rw (lt-ltb i 8 h, ne_eqb (length bs) 1048 l)
 
   -- a studio's own slot takes every call
-  pub slot-takes : (b : Bool) → Owned bs i → slot_tests bs i b ≡ Pass
+  pub slot-takes : (b : Bool) → Owned bs i → slot_tests bs i b ≡ pass
   slot-takes true o = let r = slot-rack false o in slot-closes r.0 r.1
   slot-takes false o = o
 
@@ -98,10 +97,10 @@ spared-long : (b : Bool) (bs : List ℕ) (t u : CallSeen) → length (cond b (tu
 spared-long true bs t u = length-replicate {A = ℕ} (length bs) 0
 spared-long false bs t u = refl
 
-at_long : (f : Found) (bs : List ℕ) (x : Call) → staged bs ≡ f → length (moved_at f bs x).session ≡ length bs
+at_long : (f : Option Stage) (bs : List ℕ) (x : Call) → staged bs ≡ f → length (moved_at f bs x).session ≡ length bs
 unfolding moved
-at_long Nowhere bs x e = spared-long (closes x) bs _ _
-at_long (At st) bs x e =
+at_long None bs x e = spared-long (closes x) bs _ _
+at_long (Some st) bs x e =
     let y = session_in st bs in
     let h = step-sound y x (laid-back bs st e).1 in
     (stages.parts (bytes_of (step y x)) (step y x).stage (taken_back (step y x) h).0).long ∙ sym (stages.parts bs st e).long

@@ -1,9 +1,8 @@
 -- The theorems of specs/Shown.
 --   turned, numbered, slotwise, untouched, blind, wiped, alone, run-rack, emptied; threads is in Calls
-use Rattle.lists.proofs.Kit.{refl, ◌∙◌, sym, ap, subst, Bool, true, false, cond, List, [], ℕ, zero, suc, arith, eqb, length, get_or, drop}
-use Rattle.std.proofs.Common.{◌≡◌, ◌∷◌, ◌<◌}
-use Rattle.lists.proofs.Kit.{replicate, eqb-true, eqb-false}
-use Rattle.refusals.specs.{Seen.if_passed, Seen.done, declared.Verdict.Verdict, declared.Verdict.TheVariants.Pass, declared.Verdict.TheVariants.Fail}
+use Rattle.std.proofs.Common.{Ok, Err, ◌≡◌, ◌∷◌, ◌<◌}
+use Rattle.lists.proofs.Kit.{refl, ◌∙◌, sym, ap, subst, Bool, true, false, cond, List, [], ℕ, zero, suc, arith, eqb, length, get_or, drop, replicate, eqb-true, eqb-false}
+use Rattle.refusals.specs.{Seen.if_passed, Seen.done, Refusals.Verdict}
 use Rattle.session.specs.{Table.Call, Table.closing, Table.no_key_lem, Sequences.RanBy, Seen.CallSeen, Seen.of_close, Seen.shown_by_lem, Seen.Turn, Seen.turn}
 use Rattle.session_bytes.specs.{Bytes.bytes_of, Bytes.closes, Bytes.moved_bytes, Shown.RanBytes}
 use Rattle.rack.specs.Shown.{own, views, Turned, Numbered, Slotwise, Untouched, Blind, Wiped, Alone, RunRack, Emptied}
@@ -27,22 +26,22 @@ numbers i m = turn (i ∷ m.session) m.seen
 -- a call by the verdict v of its slot's tests
 module _ (bs : List ℕ) (i : ℕ) (x : Call) where
   other : (j : ℕ) → (i ≡ j → ⊥) → (v : Verdict) → slot_tests bs i (closes x) ≡ v → part (moved_by v bs i x).session j ≡ part bs j
-  other j o Pass e =
+  other j o (Ok _) e =
       let r = slot-rack bs i (closes x) e in part-other bs (i ∷ (moved_bytes (inside bs i) x).session) i r.0 r.1 (slot-long bs i r.0 r.1 x) j o
-  other j o (Fail q) e = refl
+  other j o (Err q) e = refl
 
   same : (v : Verdict) → slot_tests bs i (closes x) ≡ v → length (moved_by v bs i x).session ≡ length bs
-  same Pass e =
+  same (Ok _) e =
       let r = slot-rack bs i (closes x) e in placed-long bs (i ∷ (moved_bytes (inside bs i) x).session) i r.0 r.1 (slot-long bs i r.0 r.1 x)
-  same (Fail q) e = refl
+  same (Err q) e = refl
 
   mine : (v : Verdict) → slot_tests bs i (closes x) ≡ v
       → of_slot i (moved_by v bs i x) ≡ if_passed v (numbers i (moved_bytes (inside bs i) x)) (turn (part bs i) (shown_by_lem v x))
-  mine Pass e =
+  mine (Ok _) e =
       let r = slot-rack bs i (closes x) e in
       ap (λ (s : List ℕ). turn s (moved_bytes (inside bs i) x).seen)
       (part_placed bs (i ∷ (moved_bytes (inside bs i) x).session) i r.0 r.1 (slot-long bs i r.0 r.1 x))
-  mine (Fail q) e = refl
+  mine (Err q) e = refl
 
   moved-long : length (moved_in bs i x).session ≡ length bs
   unfolding moved_in

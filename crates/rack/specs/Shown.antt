@@ -14,8 +14,8 @@
 --   Alone           over any sequence: the bytes of studio j's slot and all that it sees are those of its own 130 bytes under its own calls, the only ones
 --   RunRack         over any sequence: a record that held a session holds the run of request a's table under the studio's own calls
 --   Emptied         clear leaves eight idle sessions behind their numbers
-use Rattle.std.specs.Prelude.{◌≡◌, cond, List, [], ◌∷◌, ℕ, ◌≤◌, ◌<◌, eqb, length, replicate}
-use Rattle.refusals.specs.{Seen.done, declared.Refusal.TheVariants.NoStudio, declared.Verdict.TheVariants.Fail}
+use Rattle.std.specs.Prelude.{Err, ◌≡◌, cond, List, [], ◌∷◌, ℕ, ◌≤◌, ◌<◌, eqb, length, replicate}
+use Rattle.refusals.specs.{Seen.done, declared.Refusal.TheVariants.NoStudio}
 use Rattle.session.specs.Seen.{CallSeen, of_close, shown_by_lem, turn}
 use Rattle.session.specs.{declared.Session.Session, Table.Call, Table.closing, Table.run, Sequences.RanBy, Sequences.Ran, Sequences.Sound}
 use Rattle.session_bytes.specs.{Bytes.bytes_of, Bytes.moved_bytes, Shown.RanBytes}
@@ -41,7 +41,7 @@ views j (x ∷ xs) (t ∷ ts) = cond (eqb x.by j) (t ∷ views j xs ts) (views j
 -- ---- what is shown: one call
 
 abbrev pub Turned : Type 0
-Turned = (bs : List ℕ) (i : ℕ) (x : Call) → 8 ≤ i → moved_in bs i x ≡ turn bs (shown_by_lem (Fail NoStudio) x)
+Turned = (bs : List ℕ) (i : ℕ) (x : Call) → 8 ≤ i → moved_in bs i x ≡ turn bs (shown_by_lem (Err NoStudio) x)
 
 abbrev pub Numbered : Type 0
 Numbered =

@@ -6,13 +6,15 @@
 --   slot_tests bs i b   the tests of a slot: 16 for a number over 7, then 10 for bytes that are no rack, then 10 for a slot without its studio's number; close (b) does
 --                      not look at that number
 --   Owned bs i         they pass: the bytes are a rack with studio i's number in its own slot
+--   Placed bs i b r     r is where slot i begins, where its tests pass, or their refusal
 --   moved_in bs i x     the promise of every call of a studio: its slot's tests, and then what the call on the session's bytes leads to and shows
 --   empty_rack          eight idle records with their numbers
 --   ClearSeen, cleared bs   what is seen of clear, and its promise
+use Rattle.std.specs.Prelude.{Err, Result, MatchResult}
 use Rattle.std.specs.Prelude.{◌≡◌, Bool, true, false, cond, List, [], ◌∷◌, ◌++◌, ℕ, zero, suc, ◌*◌, eqb, ltb, length, get_or, take, drop, replicate}
 use Rattle.refusals.specs.declared.Refusal.TheVariants.{OutOfStage, NoStudio}
-use Rattle.refusals.specs.declared.Verdict.TheVariants.{Pass, Fail}
-use Rattle.refusals.specs.{Refusals.number_in, Refusals.place_in, Refusals.◌then◌, Seen.if_passed, declared.Verdict.Verdict}
+use Rattle.refusals.specs.Refusals.{pass}
+use Rattle.refusals.specs.{Refusals.number_in, Refusals.place_in, Refusals.◌then◌, Seen.if_passed, Refusals.Verdict, declared.Refusal.Refusal}
 use Rattle.session.specs.{Table.Call, Seen.CallSeen, Seen.shown_by_lem, Seen.Turn, Seen.turn}
 use Rattle.session_bytes.specs.Bytes.{closes, moved_bytes}
 
@@ -26,16 +28,19 @@ abbrev pub with_slot : List ℕ → ℕ → List ℕ → List ℕ
 with_slot bs i s = take (131 * i) bs ++ (s ++ drop 131 (drop (131 * i) bs))
 
 unfoldable pub rack_is : List ℕ → Verdict
-rack_is bs = cond (eqb (length bs) 1048) Pass (Fail OutOfStage)
+rack_is bs = cond (eqb (length bs) 1048) pass (Err OutOfStage)
 
 unfoldable pub slot_tests : List ℕ → ℕ → Bool → Verdict
 slot_tests bs i b =
-    cond (ltb i 8) Pass (Fail NoStudio)
+    cond (ltb i 8) pass (Err NoStudio)
     then rack_is bs
-    then cond (cond b true (eqb (get_or (part bs i) 0 0) i)) Pass (Fail OutOfStage)
+    then cond (cond b true (eqb (get_or (part bs i) 0 0) i)) pass (Err OutOfStage)
 
 abbrev pub Owned : List ℕ → ℕ → Type 0
-Owned bs i = slot_tests bs i false ≡ Pass
+Owned bs i = slot_tests bs i false ≡ pass
+
+abbrev pub Placed : List ℕ → ℕ → Bool → Result ℕ Refusal → Type 0
+Placed bs i b r = MatchResult r (λ at. (slot_tests bs i b ≡ pass) × (at ≡ 131 * i)) (λ q. slot_tests bs i b ≡ Err q)
 
 abbrev pub in_rack : List ℕ → ℕ → Turn (List ℕ) CallSeen → Turn (List ℕ) CallSeen
 in_rack bs i m = turn (with_slot bs i (i ∷ m.session)) m.seen

@@ -11,30 +11,30 @@ ghost use Rattle.reply.specs.Reply as replies;
 ghost use Rattle.finish.specs.Finish as finishes;
 ghost use Rattle.session.specs.Table.{offering, replying, finishing, closing};
 ghost use Rattle.session.specs.Seen.{of_offer, of_reply, of_finish, of_close, told_by, turn};
-ghost use Rattle.rack.specs.Slots.{slot_tests, moved_in, empty_rack, cleared};
+ghost use Rattle.rack.specs.Slots.{Placed, moved_in, empty_rack, cleared};
 
-use finish::FinishAnswer;
-use refusals::{Answer, Refusal, Verdict};
-use reply::ReplyAnswer;
+use finish::FinishCounts;
+use refusals::Refusal;
+use reply::ReplyCounts;
 
-// The tests of a studio's slot: 16, then 10. Close does not look at the slot's number.
-fn slot(bytes: &[u8], studio: u32, closes: bool) -> Verdict
-    ensures { result ≡ slot_tests bytes.now studio closes }
+// Where a studio's slot begins, after its tests: 16, then 10. Close does not look at the slot's number.
+fn slot(bytes: &[u8], studio: u32, closes: bool) -> Result<usize, Refusal>
+    ensures { Placed bytes.now studio closes result }
 {
     if 8 <= studio {
-        return Verdict::Fail(Refusal::NoStudio);
+        return Err(Refusal::NoStudio);
     }
     if bytes.len() != 1048 {
-        return Verdict::Fail(Refusal::OutOfStage);
-    }
-    if closes {
-        return Verdict::Pass;
+        return Err(Refusal::OutOfStage);
     }
     let at = 131 * (studio as usize);
-    if bytes[at] as u32 != studio {
-        return Verdict::Fail(Refusal::OutOfStage);
+    if closes {
+        return Ok(at);
     }
-    Verdict::Pass
+    if u32::from(bytes[at]) != studio {
+        return Err(Refusal::OutOfStage);
+    }
+    Ok(at)
 }
 
 // Offer for a studio.
@@ -47,15 +47,16 @@ pub fn offer(
     e: &[i32],
     seed: &[u8],
     message: &mut [u8],
-) -> Answer
+) -> Result<usize, Refusal>
     ensures { turn bytes.new (of_offer (seen (told result) message.new)) ≡ moved_in bytes.old studio (offering scheme (offers.offer a.now s.now e.now seed.now) (length message.old)) }
 {
-    if let Verdict::Fail(refusal) = slot(bytes, studio, false) {
-        return session::stop(refusal, message);
+    match slot(bytes, studio, false) {
+        Err(refusal) => session::stop(refusal, message),
+        Ok(at) => {
+            let own = &mut bytes[at + 1..at + 131];
+            session_bytes::offer(own, scheme, a, s, e, seed, message)
+        }
     }
-    let from = 131 * (studio as usize) + 1;
-    let end = from + 130;
-    session_bytes::offer(&mut bytes[from..end], scheme, a, s, e, seed, message)
 }
 
 // Reply for one.
@@ -72,28 +73,19 @@ pub fn reply(
     message: &mut [u8],
     key: &mut [u8],
     digest: &mut [u8],
-) -> ReplyAnswer
+) -> Result<ReplyCounts, Refusal>
     ensures { turn bytes.new (of_reply (replies.reply_seen (replies.reply_told result) message.new key.new digest.new))
         ≡ moved_in bytes.old studio (replying scheme (replies.reply opening.now a.now s1.now e1.now e2.now coins.now) (replies.reply_rooms message.old key.old digest.old)) }
 {
-    if let Verdict::Fail(refusal) = slot(bytes, studio, false) {
-        return session::stop_reply(refusal, message, key, digest);
+    match slot(bytes, studio, false) {
+        Err(refusal) => session::stop_reply(refusal, message, key, digest),
+        Ok(at) => {
+            let own = &mut bytes[at + 1..at + 131];
+            session_bytes::reply(
+                own, scheme, opening, a, s1, e1, e2, coins, message, key, digest,
+            )
+        }
     }
-    let from = 131 * (studio as usize) + 1;
-    let end = from + 130;
-    session_bytes::reply(
-        &mut bytes[from..end],
-        scheme,
-        opening,
-        a,
-        s1,
-        e1,
-        e2,
-        coins,
-        message,
-        key,
-        digest,
-    )
 }
 
 // Finish for one.
@@ -105,31 +97,27 @@ pub fn finish(
     s: &[i32],
     key: &mut [u8],
     digest: &mut [u8],
-) -> FinishAnswer
+) -> Result<FinishCounts, Refusal>
     ensures { turn bytes.new (of_finish (finishes.finish_seen (finishes.finish_told result) key.new digest.new))
         ≡ moved_in bytes.old studio (finishing scheme (finishes.finish reply.now s.now) (finishes.finish_rooms key.old digest.old)) }
 {
-    if let Verdict::Fail(refusal) = slot(bytes, studio, false) {
-        return session::stop_finish(refusal, key, digest);
+    match slot(bytes, studio, false) {
+        Err(refusal) => session::stop_finish(refusal, key, digest),
+        Ok(at) => {
+            let own = &mut bytes[at + 1..at + 131];
+            session_bytes::finish(own, scheme, reply, s, key, digest)
+        }
     }
-    let from = 131 * (studio as usize) + 1;
-    let end = from + 130;
-    session_bytes::finish(&mut bytes[from..end], scheme, reply, s, key, digest)
 }
 
 // Close for one, whatever its slot holds: the number and 130 zeros.
-pub fn close(bytes: &mut [u8], studio: u32) -> Verdict
+pub fn close(bytes: &mut [u8], studio: u32) -> Result<(), Refusal>
     ensures { turn bytes.new (of_close (told_by result)) ≡ moved_in bytes.old studio closing }
 {
-    let v = slot(bytes, studio, true);
-    let Verdict::Pass = v else {
-        return v;
-    };
-    let at = 131 * (studio as usize);
-    let end = at + 131;
-    lists::zero_bytes(&mut bytes[at..end]);
+    let at = slot(bytes, studio, true)?;
+    bytes[at..at + 131].fill(0);
     bytes[at] = studio as u8;
-    Verdict::Pass
+    Ok(())
 }
 
 // An empty rack.
@@ -137,23 +125,19 @@ fn lay_empty(bytes: &mut [u8])
     requires { length bytes.old ≡ 1048 }
     ensures { bytes.new ≡ empty_rack }
 {
-    lists::zero_bytes(bytes);
-    bytes[131] = 1;
-    bytes[262] = 2;
-    bytes[393] = 3;
-    bytes[524] = 4;
-    bytes[655] = 5;
-    bytes[786] = 6;
-    bytes[917] = 7;
+    bytes.fill(0);
+    for studio in 0..8 {
+        bytes[131 * studio] = studio as u8;
+    }
 }
 
 // Clear: eight idle records with their numbers, whatever the bytes held.
-pub fn clear(bytes: &mut [u8]) -> Verdict
+pub fn clear(bytes: &mut [u8]) -> Result<(), Refusal>
     ensures { record { number = number_in result; place = place_in result; rack = bytes.new } ≡ cleared bytes.old }
 {
     if bytes.len() != 1048 {
-        return Verdict::Fail(Refusal::OutOfStage);
+        return Err(Refusal::OutOfStage);
     }
     lay_empty(bytes);
-    Verdict::Pass
+    Ok(())
 }

@@ -1,23 +1,23 @@
 -- What holds of the number of a chain of tests, if it holds of each test's: which refusals cannot arise.
 --   and, passes                           a test and those after it; a test that passes
 --   lengths, rooms, publics, secrets, blanks   each kind of test
+use Rattle.std.proofs.Common.{Ok, Err, ◌≡◌}
 use Rattle.lists.proofs.Kit.{refl, Bool, true, false, cond, List, ℕ, eqb, leb, ltb, ℤ, length}
-use Rattle.std.proofs.Common.{◌≡◌}
 use Rattle.lists.specs.First.{first_over_lem, first_beyond_lem}
 use Rattle.blank.specs.Blank.{blank}
-use Rattle.refusals.specs.Refusals.{◌then◌, length_is_lem, room_for_lem, publics_in_lem, not_blank_lem, secrets_in_lem, number_in, Verdict, Pass, Fail}
+use Rattle.refusals.specs.Refusals.{◌then◌, length_is_lem, room_for_lem, publics_in_lem, not_blank_lem, secrets_in_lem, number_in, Verdict, pass}
 
 module _ (P : ℕ → Type 0) where
-  pub and : (v w : Verdict) → P (number_in v) → (v ≡ Pass → P (number_in w)) → P (number_in (v then w))
+  pub and : (v w : Verdict) → P (number_in v) → (v ≡ pass → P (number_in w)) → P (number_in (v then w))
   unfolding ◌then◌
-  and Pass w a b = b refl
-  and (Fail r) w a b = a
+  and (Ok _) w a b = b refl
+  and (Err r) w a b = a
 
   either : (t : Bool) (v w : Verdict) → P (number_in v) → P (number_in w) → P (number_in (cond t v w))
   either true v w a b = a
   either false v w a b = b
 
-  pub passes : {v : Verdict} → v ≡ Pass → P 0 → P (number_in v)
+  pub passes : {v : Verdict} → v ≡ pass → P 0 → P (number_in v)
   passes e a = rw e a
 
   module _ (none : P 0) where

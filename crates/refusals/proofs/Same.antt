@@ -1,9 +1,9 @@
 -- A refusal and a verdict back from their number and their place.
 --   same-refusal, same-verdict   two refusals with the same number and place are the same; so are two verdicts
+use Rattle.std.proofs.Common.{Ok, Err, ◌≡◌}
 use Rattle.lists.proofs.Kit.{refl, ap, cond, ℕ, arith, eqb}
-use Rattle.std.proofs.Common.{◌≡◌}
 use Rattle.refusals.specs.Refusals.{number_of, place_of, number_in, place_in, Refusal, Verdict, NoScheme, BadLength, Short, PublicOver, MessageOver}
-use Rattle.refusals.specs.Refusals.{SecretBeyond, RanOut, Misfit, OutOfStage, OutOfTurn, NoRule, NewerFormat, NoStudio, Blank, NotAscending, Pass, Fail}
+use Rattle.refusals.specs.Refusals.{SecretBeyond, RanOut, Misfit, OutOfStage, OutOfTurn, NoRule, NewerFormat, NoStudio, Blank, NotAscending}
 use Rattle.refusals.proofs.Laws.{some}
 
 refusal_by : ℕ → ℕ → Refusal
@@ -46,7 +46,7 @@ pub same-refusal : (a b : Refusal) → number_of a ≡ number_of b → place_of 
 same-refusal a b e f = cc (back a, back b)
 
 pub same-verdict : (v w : Verdict) → number_in v ≡ number_in w → place_in v ≡ place_in w → v ≡ w
-same-verdict Pass Pass e f = refl
-same-verdict Pass (Fail s) e f = absurd (omega (arith, some s))
-same-verdict (Fail r) Pass e f = absurd (omega (arith, some r))
-same-verdict (Fail r) (Fail s) e f = ap Fail (same-refusal r s e f)
+same-verdict (Ok _) (Ok _) e f = refl
+same-verdict (Ok _) (Err s) e f = absurd (omega (arith, some s))
+same-verdict (Err r) (Ok _) e f = absurd (omega (arith, some r))
+same-verdict (Err r) (Err s) e f = ap Err (same-refusal r s e f)

@@ -8,12 +8,12 @@
 --   seen_done, seen-refused           what is seen without a refusal says that the tests have passed; what is seen of a refusal, that the output is zero
 --   same-counts, same-refused, never_both   what an answer's numbers say: of two without a refusal, of two refusals, and of one of each
 --   one, seen_all, told-all           what follows
+use Rattle.std.proofs.Common.{Ok, Err, ◌≡◌, ◌++◌, ◌-◌, ◌≤◌}
 use Rattle.lists.proofs.Kit.{refl, sym, ◌∙◌, ap, List, append-nil, ℕ, zero, suc, sub-zero, zero-sub, suc-sub-suc, arith, length, take}
-use Rattle.std.proofs.Common.{◌≡◌, ◌++◌, ◌-◌, ◌≤◌}
 use Rattle.lists.proofs.Kit.{drop, replicate, get_or, length-replicate, length-append, take-append_seam}
 use Rattle.lists.proofs.Same.{restored, append-all, equal-all}
-use Rattle.refusals.specs.Seen.{output, written, answer, Told, done, refused, Seen, shown, seen, One, SeenAll, ToldAll, Done, Refused}
-use Rattle.refusals.specs.Refusals.{number_of, Refusal, Verdict, Pass, Fail}
+use Rattle.refusals.specs.Seen.{output, written, answer, Told, done, refused, Seen, shown, seen, One, SeenAll, ToldAll}
+use Rattle.refusals.specs.Refusals.{number_of, Refusal, Verdict, pass}
 use Rattle.refusals.proofs.{Laws.some, Laws.number-zero, Same.same-refusal}
 
 drop-zeros : {A : Type 0} (z : A) (m n : ℕ) → drop m (replicate n z) ≡ replicate (n - m) z
@@ -21,7 +21,7 @@ drop-zeros z zero n = simp sub-zero
 drop-zeros z (suc m) zero = simp zero-sub
 drop-zeros z (suc m) (suc n) = drop-zeros z m n ∙ simp suc-sub-suc
 
-module _ {A : Type 0} (xs : List A) (z : A) (room : ℕ) {v : Verdict} (e : v ≡ Pass) where
+module _ {A : Type 0} (xs : List A) (z : A) (room : ℕ) {v : Verdict} (e : v ≡ pass) where
   pub written-passed : {n : ℕ} {out : List A} (old : List A) → length xs ≡ n → old ≡ replicate room z → out ≡ xs ++ drop n old
       → output n out ≡ written v xs z room
   unfolding written
@@ -40,7 +40,7 @@ module _ {A : Type 0} (xs : List A) (z : A) (room : ℕ) {v : Verdict} (e : v �
   unfolding written
   written-whole l = let s : room - length xs ≡ 0 = omega arith in rw (e, s, append-nil xs, l)
 
-module _ {A : Type 0} (xs : List A) (z : A) (room : ℕ) {v : Verdict} {r : Refusal} (e : v ≡ Fail r) where
+module _ {A : Type 0} (xs : List A) (z : A) (room : ℕ) {v : Verdict} {r : Refusal} (e : v ≡ Err r) where
   pub written-failed : {out : List A} → out ≡ replicate room z → output 0 out ≡ written v xs z room
   unfolding written
   written-failed o = rw (e, o)
@@ -59,26 +59,26 @@ module _ {A : Type 0} (xs : List A) (z : A) (room : ℕ) {v : Verdict} {r : Refu
   shown-restored {n} old part {zs} o h l w = shown-failed (restored n room z old part zs o h l w)
 
 module _ {A : Type 0} (xs : List A) (z : A) (room : ℕ) where
-  pub seen_done : (v : Verdict) (n : ℕ) (out : List A) → seen (done n) out ≡ shown v xs z room → v ≡ Pass
+  pub seen_done : (v : Verdict) (n : ℕ) (out : List A) → seen (done n) out ≡ shown v xs z room → v ≡ pass
   unfolding seen shown
   seen_done v n out e = number-zero v (ap (λ (s : Seen A). s.number) e)
 
   pub seen-refused : (v : Verdict) (r : Refusal) (n : ℕ) {out : List A} → seen (refused r n) out ≡ shown v xs z room → out ≡ replicate room z
   unfolding seen shown written
-  seen-refused Pass r n e = let n : number_of r ≡ 0 = ap (λ (s : Seen A). s.number) e in absurd (omega (arith, some r))
-  seen-refused (Fail s) r n e = ap (λ (s : Seen A). s.out.holds) e
+  seen-refused (Ok _) r n e = let n : number_of r ≡ 0 = ap (λ (s : Seen A). s.number) e in absurd (omega (arith, some r))
+  seen-refused (Err s) r n e = ap (λ (s : Seen A). s.out.holds) e
 
 module _ {A : Type 0} (z : A) where
   pub written-length : (v : Verdict) (xs : List A) (room : ℕ) → length xs ≤ room → length (written v xs z room).holds ≡ room
   unfolding written
-  written-length Pass xs room h = length-append xs (replicate (room - length xs) z) ∙ omega (arith, length-replicate (room - length xs) z)
-  written-length (Fail r) xs room h = length-replicate room z
+  written-length (Ok _) xs room h = length-append xs (replicate (room - length xs) z) ∙ omega (arith, length-replicate (room - length xs) z)
+  written-length (Err r) xs room h = length-replicate room z
 
-  pub written_all : (P : A → Type 0) (v : Verdict) (xs : List A) (room : ℕ) → P z → (v ≡ Pass → (k : ℕ) → P (get_or xs k z)) → (k : ℕ)
+  pub written_all : (P : A → Type 0) (v : Verdict) (xs : List A) (room : ℕ) → P z → (v ≡ pass → (k : ℕ) → P (get_or xs k z)) → (k : ℕ)
       → P (get_or (written v xs z room).holds k z)
   unfolding written
-  written_all P Pass xs room o h = append-all P z xs (replicate (room - length xs) z) (h refl) (equal-all P z (room - length xs) o)
-  written_all P (Fail r) xs room o h = equal-all P z room o
+  written_all P (Ok _) xs room o h = append-all P z xs (replicate (room - length xs) z) (h refl) (equal-all P z (room - length xs) o)
+  written_all P (Err r) xs room o h = equal-all P z room o
 
 pub one : One
 one A promised s t e f = e ∙ sym f
@@ -103,7 +103,7 @@ module _ {A : Type 0} where
   never_both r e = let z : 0 ≡ number_of r = ap (λ (t : Told A). t.number) e in absurd (omega (arith, some r))
 
 pub told-all : ToldAll
-told-all (Done m) (Done n) e = ap Done (same-counts e)
-told-all (Done m) (Refused s) e = never_both s e
-told-all (Refused r) (Done n) e = never_both r (sym e)
-told-all (Refused r) (Refused s) e = ap Refused (same-refused r s e)
+told-all (Ok m) (Ok n) e = ap Ok (same-counts e)
+told-all (Ok m) (Err s) e = never_both s e
+told-all (Err r) (Ok n) e = never_both r (sym e)
+told-all (Err r) (Err s) e = ap Err (same-refused r s e)

@@ -11,19 +11,19 @@
 --   done n, refused r z   the numbers of an answer without a refusal, and of the refusal r
 --   Seen A              what is seen of a call with one output
 --   shown v xs z n      what such a call shows
+--   Answer              what it answers: how much it wrote, or the refusal
 --   told r              the numbers of its answer
 --   seen t out          what is seen of it where it tells t and leaves out
 --   One                 no two results satisfy one promise, whatever the call
 --   SeenAll             `seen` forgets nothing: from what is seen come the number, the place, the count and the output
 --   ToldAll             `told` forgets nothing: two answers with the same numbers are the same
-use Rattle.std.specs.Prelude.{◌≡◌, List, ◌++◌, ℕ, ◌-◌, length, replicate, take}
+use Rattle.std.specs.Prelude.{Ok, Err, Result, ◌≡◌, List, ◌++◌, ℕ, ◌-◌, length, replicate, take}
 use Rattle.lists.specs.declared.Peak.{Peak}
-use Rattle.refusals.specs.Refusals.{number_of, place_of, number_in, place_in, Refusal, Verdict, Pass, Fail}
-pub use Rattle.refusals.specs.{declared.Answer.Answer, declared.Answer.TheVariants.Done, declared.Answer.TheVariants.Refused}
+use Rattle.refusals.specs.Refusals.{number_of, place_of, number_in, place_in, Refusal, Verdict}
 
 abbrev pub if_passed : {A : Type 0} → Verdict → A → A → A
-if_passed Pass a z = a
-if_passed (Fail r) a z = z
+if_passed (Ok _) a z = a
+if_passed (Err r) a z = z
 
 pub record Output (A : Type 0) : Type 0 where
   pub count : ℕ
@@ -64,9 +64,13 @@ pub record Seen (A : Type 0) : Type 0 where
 unfoldable pub shown : {A : Type 0} → Verdict → List A → A → ℕ → Seen A
 shown v xs z n = record { number = number_in v; place = place_in v; out = written v xs z n }
 
+-- how much a call wrote, or the refusal
+abbrev pub Answer : Type 0
+Answer = Result ℕ Refusal
+
 abbrev pub told : Answer → Told ℕ
-told (Done n) = done n
-told (Refused r) = refused r 0
+told (Ok n) = done n
+told (Err r) = refused r 0
 
 unfoldable pub seen : {A : Type 0} → Told ℕ → List A → Seen A
 seen t out = record { number = t.number; place = t.place; out = output t.counts out }

@@ -1,10 +1,11 @@
 -- What is stated in specs/Shown.
+use Rattle.std.proofs.Common.{Ok, Err}
 use Rattle.lists.proofs.Kit.{sym, ap, ◌∙◌}
 use Rattle.schemes.proofs.Sound.{sound}
 use Rattle.refusals.specs.Seen.{Told}
 use Rattle.refusals.proofs.{Laws.both, Seen.same-counts, Seen.same-refused, Seen.never_both}
 use Rattle.wire.proofs.Travel.{opening-again}
-use Rattle.reply.specs.Reply.{ReplySeen, opened_of, reply_seen, Done, Refused, ReplyCounts}
+use Rattle.reply.specs.Reply.{ReplySeen, opened_of, reply_seen, ReplyCounts}
 use Rattle.reply.specs.Shown.{ReplySeenAll, ReplyToldAll, OpeningComesBack, KeysFit}
 use Rattle.reply.proofs.Replying.{key-length, reply-sized, reply-apart}
 
@@ -27,10 +28,10 @@ reply-seen-all t t' message message' key key' digest digest' e = (
 )
 
 pub reply-told-all : ReplyToldAll
-reply-told-all (Done n) (Done n') e = ap Done (same-counts e)
-reply-told-all (Done n) (Refused r) e = never_both r e
-reply-told-all (Refused r) (Done n) e = never_both r (sym e)
-reply-told-all (Refused r) (Refused s) e = ap Refused (same-refused r s e)
+reply-told-all (Ok n) (Ok n') e = ap Ok (same-counts e)
+reply-told-all (Ok n) (Err r) e = never_both r e
+reply-told-all (Err r) (Ok n) e = never_both r (sym e)
+reply-told-all (Err r) (Err s) e = ap Err (same-refused r s e)
 
 pub opening-comes-back : OpeningComesBack
 unfolding opened_of

@@ -9,20 +9,21 @@
 --   reply_key c x              the key: the published bits of v; reply_digest: the key's digest
 --   reply_result c x m         its promise: what is seen, as a function of what is lent, in the scheme c; reply_shown v: by the verdict v of any tests; outputs v: of
 --                             any three outputs
---   reply, reply_rooms         what is lent, from the slices of a contract; reply_of, reply_rooms_of: from lists and numbers
+--   reply                      what is lent
+--   reply_rooms, reply_rooms_of   the rooms, from the outputs of a contract and from numbers
 --   reply_told r               the numbers of its answer r
 --   reply_seen t message key digest   what is seen where Reply tells t and leaves these outputs
-use Rattle.std.specs.Prelude.{List, [], ◌++◌, ℕ, ℤ, length}
-use Rattle.schemes.specs.{Schemes.fixed_of, declared.Scheme.Scheme, declared.Named.Named, declared.Named.TheVariants.Known, declared.Named.TheVariants.Unknown}
+use Rattle.std.specs.Prelude.{Ok, Err, Some, None, Option, Result, List, [], ◌++◌, ℕ, ℤ, length}
+use Rattle.refusals.specs.declared.Refusal.{Refusal}
+use Rattle.schemes.specs.{Schemes.fixed_of, declared.Scheme.Scheme}
 use Rattle.packing.specs.Packing.{packed}
 use Rattle.sponge.specs.Sponge.{sha3}
 use Rattle.refusals.specs.Refusals.{number_in, place_in, ◌then◌, length_is_lem, room_for_lem, publics_in_lem, message_in, not_blank_lem, secrets_in_lem}
 use Rattle.refusals.specs.Seen.{Output, output, written, Told, done, refused}
-use Rattle.refusals.specs.{declared.Verdict.Verdict, declared.Verdict.TheVariants.Fail, declared.Refusal.TheVariants.NoScheme}
+use Rattle.refusals.specs.{Refusals.Verdict, declared.Refusal.TheVariants.NoScheme}
 use Rattle.values.specs.{Values.replied, Values.mixed_value, Keys.hints, Keys.keys}
 use Rattle.wire.specs.Wire.{opened_in, numbers_in, coins_in}
-pub use Rattle.reply.specs.declared.ReplyAnswer.TheVariants.{Done, Refused}
-pub use Rattle.reply.specs.{declared.ReplyCounts.ReplyCounts, declared.ReplyAnswer.ReplyAnswer}
+pub use Rattle.reply.specs.{declared.ReplyCounts.ReplyCounts}
 
 pub record Reply : Type 0 where
   pub opening : List ℕ
@@ -53,9 +54,9 @@ reply_value c x = mixed_value c (opened_of c x) x.s' x.e''
 abbrev pub replied_part : Scheme → List ℕ → List ℤ → List ℤ → List ℕ
 replied_part c a s' e' = packed (fixed_of c).width (replied c a s' e')
 
-unfoldable pub reply_tests : Named → Reply → ReplyRooms → Verdict
-reply_tests Unknown x m = Fail NoScheme
-reply_tests (Known c) x m =
+unfoldable pub reply_tests : Option Scheme → Reply → ReplyRooms → Verdict
+reply_tests None x m = Err NoScheme
+reply_tests (Some c) x m =
     length_is_lem (length x.opening) (fixed_of c).opening
     then length_is_lem (length x.a) (fixed_of c).public
     then length_is_lem (length x.s') (fixed_of c).secret
@@ -73,15 +74,15 @@ reply_tests (Known c) x m =
     then secrets_in_lem (fixed_of c).largest x.e''
     then not_blank_lem (replied_part c x.a x.s' x.e')
 
-unfoldable pub reply_message : Named → Reply → List ℕ
-reply_message Unknown x = []
-reply_message (Known c) x = replied_part c x.a x.s' x.e' ++ packed (fixed_of c).hintbits (hints c (coins_in c x.coins) (reply_value c x))
+unfoldable pub reply_message : Option Scheme → Reply → List ℕ
+reply_message None x = []
+reply_message (Some c) x = replied_part c x.a x.s' x.e' ++ packed (fixed_of c).hintbits (hints c (coins_in c x.coins) (reply_value c x))
 
-unfoldable pub reply_key : Named → Reply → List ℕ
-reply_key Unknown x = []
-reply_key (Known c) x = packed (fixed_of c).keybits (keys c (coins_in c x.coins) (reply_value c x))
+unfoldable pub reply_key : Option Scheme → Reply → List ℕ
+reply_key None x = []
+reply_key (Some c) x = packed (fixed_of c).keybits (keys c (coins_in c x.coins) (reply_value c x))
 
-abbrev pub reply_digest : Named → Reply → List ℕ
+abbrev pub reply_digest : Option Scheme → Reply → List ℕ
 reply_digest c x = sha3 (reply_key c x)
 
 -- ---- the promise
@@ -96,19 +97,16 @@ outputs v message key digest m =
       digest = written v digest 0 m.digest;
     }
 
-abbrev pub reply_shown : Verdict → Named → Reply → ReplyRooms → ReplySeen
+abbrev pub reply_shown : Verdict → Option Scheme → Reply → ReplyRooms → ReplySeen
 reply_shown v c x m = outputs v (reply_message c x) (reply_key c x) (reply_digest c x) m
 
-abbrev pub reply_result : Named → Reply → ReplyRooms → ReplySeen
+abbrev pub reply_result : Option Scheme → Reply → ReplyRooms → ReplySeen
 reply_result c x m = reply_shown (reply_tests c x m) c x m
 
 -- ---- of a call
 
-abbrev pub reply_of : List ℕ → List ℕ → List ℤ → List ℤ → List ℤ → List ℕ → Reply
-reply_of opening a s' e' e'' coins = record { opening = opening; a = a; s' = s'; e' = e'; e'' = e''; coins = coins }
-
 abbrev pub reply : List ℕ → List ℕ → List ℤ → List ℤ → List ℤ → List ℕ → Reply
-reply opening a s1 e1 e2 coins = reply_of opening a s1 e1 e2 coins
+reply opening a s' e' e'' coins = record { opening = opening; a = a; s' = s'; e' = e'; e'' = e''; coins = coins }
 
 abbrev pub reply_rooms_of : ℕ → ℕ → ℕ → ReplyRooms
 reply_rooms_of message key digest = record { message = message; key = key; digest = digest }
@@ -116,9 +114,9 @@ reply_rooms_of message key digest = record { message = message; key = key; diges
 abbrev pub reply_rooms : List ℕ → List ℕ → List ℕ → ReplyRooms
 reply_rooms message key digest = reply_rooms_of (length message) (length key) (length digest)
 
-abbrev pub reply_told : ReplyAnswer → Told ReplyCounts
-reply_told (Done n) = done n
-reply_told (Refused r) = refused r (record { message = 0; key = 0; digest = 0 })
+abbrev pub reply_told : Result ReplyCounts Refusal → Told ReplyCounts
+reply_told (Ok n) = done n
+reply_told (Err r) = refused r (record { message = 0; key = 0; digest = 0 })
 
 unfoldable pub reply_seen : Told ReplyCounts → List ℕ → List ℕ → List ℕ → ReplySeen
 reply_seen t message key digest =

@@ -10,20 +10,13 @@ mod replier;
 mod tests;
 
 use refusals::Refusal;
-use schemes::Named;
 
-// What Reply gives: how much it wrote of each output, or the refusal.
+// What Reply gives where nothing is refused: how much it wrote of each output.
 #[derive(Clone, Copy)]
 pub struct ReplyCounts {
     pub message: usize,
     pub key: usize,
     pub digest: usize,
-}
-
-#[derive(Clone, Copy)]
-pub enum ReplyAnswer {
-    Done(ReplyCounts),
-    Refused(Refusal),
 }
 
 // Reply: the reply message, the replier's key and its digest, from the opening message, the public numbers a, the secret s', the noise e' and e'' and the coins.
@@ -38,12 +31,10 @@ pub fn reply(
     message: &mut [u8],
     key: &mut [u8],
     digest: &mut [u8],
-) -> ReplyAnswer
+) -> Result<ReplyCounts, Refusal>
     ensures { reply_seen (reply_told result) message.new key.new digest.new ≡ reply_result (scheme_of_lem scheme) (reply opening.now a.now s1.now e1.now e2.now coins.now) (reply_rooms message.old key.old digest.old) }
 {
     replier::zero_outputs(message, key);
-    let Named::Known(known) = refusals::named(scheme, digest) else {
-        return ReplyAnswer::Refused(Refusal::NoScheme);
-    };
+    let known = refusals::named(scheme, digest)?;
     replier::reply_in(known, opening, a, s1, e1, e2, coins, message, key, digest)
 }

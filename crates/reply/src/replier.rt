@@ -1,18 +1,16 @@
 // Reply, once the scheme is known and all outputs hold zeros: lengths and rooms, then the opening, then the secrets; then the message's numbers, with the test of
 // the public numbers, which the product reads once, and, where they are not all 0, message and key into the parts of the outputs that they take, and the key's
 // digest. In 01's order the public numbers come before the opening and the secrets: where one of these is refused, they are tested first.
-ghost use Rattle.std.specs.Prelude.{◌≡◌, length, replicate};
+ghost use Rattle.std.specs.Prelude.{Some, ◌≡◌, length, replicate};
 ghost use Rattle.schemes.specs.Schemes.{fixed_of};
-ghost use Rattle.schemes.specs.declared.Named.TheVariants.{Known};
-ghost use Rattle.refusals.specs.Refusals.{◌then◌, publics_in_lem, not_blank_lem};
+ghost use Rattle.refusals.specs.Refusals.{◌then◌, publics_in_lem, not_blank_lem, pass};
 ghost use Rattle.refusals.specs.Steps.{Laid};
-ghost use Rattle.refusals.specs.declared.Verdict.TheVariants.{Pass};
 ghost use Rattle.values.specs.Fit.{Counted};
-ghost use Rattle.reply.specs.Reply.{reply_of, reply_rooms_of, reply, reply_rooms, replied_part, reply_message, reply_key, reply_told, reply_seen, reply_result};
+ghost use Rattle.reply.specs.Reply.{reply, reply_rooms_of, reply_rooms, replied_part, reply_message, reply_key, reply_told, reply_seen, reply_result};
 ghost use Rattle.reply.specs.Inside.{reply_sizes_lem, reply_last, reply_rest, message_from, key_from, Settles, Mixes, Replying};
 
-use crate::{ReplyAnswer, ReplyCounts};
-use refusals::Verdict;
+use crate::ReplyCounts;
+use refusals::Refusal;
 use schemes::Scheme;
 
 // Both outputs become zeros, whatever they held.
@@ -20,8 +18,8 @@ pub(crate) fn zero_outputs(message: &mut [u8], key: &mut [u8])
     ensures message_value { message.new ≡ replicate (length message.old) 0 }
     ensures key_value { key.new ≡ replicate (length key.old) 0 }
 {
-    lists::zero_bytes(message);
-    lists::zero_bytes(key);
+    message.fill(0);
+    key.fill(0);
 }
 
 // Message and key of what is lent, with the test of the public numbers. The opening's numbers b become the message's. No scheme has more than 1024 values or
@@ -36,7 +34,7 @@ fn lay(
     coins: &[u8],
     message: &mut [u8],
     key: &mut [u8],
-) -> Verdict
+) -> Result<(), Refusal>
     requires settles { Settles scheme b.old s1.now e2.now coins.now × Mixes scheme a.now s1.now e1.now }
     requires message_len { (length message.old ≡ (fixed_of scheme).reply) × (length key.old ≡ (fixed_of scheme).key) }
     ensures value { result ≡ publics_in_lem (fixed_of scheme).q a.now then not_blank_lem (replied_part scheme a.now s1.now e1.now) }
@@ -51,23 +49,18 @@ fn lay(
     let mut hints = [0u32; 1024];
     let mut entries = [0u32; 1024];
     let at = values::products::reply(scheme, a, s1, e1, e2, b, &mut v[..n]);
-    let w = refusals::publics_at(at, a);
-    match w {
-        Verdict::Fail(r) => Verdict::Fail(r),
-        Verdict::Pass => {
-            wire::steps::lay_values(
-                scheme,
-                b,
-                &v[..n],
-                coins,
-                &mut tosses[..g],
-                &mut hints[..n],
-                &mut entries[..g],
-                message,
-                key,
-            )
-        }
-    }
+    refusals::publics_at(at, a)?;
+    wire::steps::lay_values(
+        scheme,
+        b,
+        &v[..n],
+        coins,
+        &mut tosses[..g],
+        &mut hints[..n],
+        &mut entries[..g],
+        message,
+        key,
+    )
 }
 
 // The secrets' tests, then message and key. What is refused leaves zeros; a secret is refused behind the public numbers.
@@ -81,7 +74,7 @@ fn with_secrets(
     coins: &[u8],
     message: &mut [u8],
     key: &mut [u8],
-) -> Verdict
+) -> Result<(), Refusal>
     requires replying { Replying scheme a.now s1.now e1.now e2.now coins.now message.old key.old }
     requires counted { Counted (fixed_of scheme).secret (fixed_of scheme).q b.old }
     ensures value { result ≡ publics_in_lem (fixed_of scheme).q a.now then reply_last scheme a.now s1.now e1.now e2.now }
@@ -90,10 +83,11 @@ fn with_secrets(
 {
     let f = scheme.fixed();
     let v = wire::steps::reply_secrets(scheme, s1, e1, e2);
-    match v {
-        Verdict::Fail(_) => refusals::publics_before(v, f.q, a),
-        Verdict::Pass => lay(scheme, b, a, s1, e1, e2, coins, message, key),
+    if let Err(r) = v {
+        refusals::publics_in(f.q, a)?;
+        return Err(r);
     }
+    lay(scheme, b, a, s1, e1, e2, coins, message, key)
 }
 
 // The opening's numbers, of which no scheme has more than 6912, then the secrets' tests. A refused message ends the call here, with its place, behind the public
@@ -108,21 +102,21 @@ fn with_opening(
     coins: &[u8],
     message: &mut [u8],
     key: &mut [u8],
-) -> Verdict
+) -> Result<(), Refusal>
     requires replying { Replying scheme a.now s1.now e1.now e2.now coins.now message.old key.old }
     requires opening_len { length opening.now ≡ (fixed_of scheme).opening }
     ensures value { result ≡ publics_in_lem (fixed_of scheme).q a.now then reply_rest scheme (reply opening.now a.now s1.now e1.now e2.now coins.now) }
-    ensures laid { Laid result (reply_message (Known scheme) (reply opening.now a.now s1.now e1.now e2.now coins.now)) message.old message.new }
-    ensures laid_2 { Laid result (reply_key (Known scheme) (reply opening.now a.now s1.now e1.now e2.now coins.now)) key.old key.new }
+    ensures laid { Laid result (reply_message (Some scheme) (reply opening.now a.now s1.now e1.now e2.now coins.now)) message.old message.new }
+    ensures laid_2 { Laid result (reply_key (Some scheme) (reply opening.now a.now s1.now e1.now e2.now coins.now)) key.old key.new }
 {
     let f = scheme.fixed();
     let n = f.secret;
     let mut b = [0u32; 6912];
     let v = wire::take_opening(scheme, opening, &mut b[..n]);
-    let Verdict::Pass = v else {
-        zero_outputs(message, key);
-        return refusals::publics_before(v, f.q, a);
-    };
+    if let Err(r) = v {
+        refusals::publics_in(f.q, a)?;
+        return Err(r);
+    }
     with_secrets(scheme, &mut b[..n], a, s1, e1, e2, coins, message, key)
 }
 
@@ -138,17 +132,17 @@ fn reply_sized(
     message: &mut [u8],
     key: &mut [u8],
     digest: &mut [u8],
-) -> ReplyAnswer
-    requires digest_value { reply_sizes_lem scheme (reply_of opening.now a.now s1.now e1.now e2.now coins.now) (reply_rooms_of (length message.old) (length key.old) (length digest.old))
-        ≡ Pass }
+) -> Result<ReplyCounts, Refusal>
+    requires digest_value { reply_sizes_lem scheme (reply opening.now a.now s1.now e1.now e2.now coins.now) (reply_rooms_of (length message.old) (length key.old) (length digest.old))
+        ≡ pass }
     requires message_value { (message.old ≡ replicate (length message.old) 0) × (key.old ≡ replicate (length key.old) 0) }
     requires digest_value_2 { digest.old ≡ replicate (length digest.old) 0 }
-    ensures { reply_seen (reply_told result) message.new key.new digest.new ≡ reply_result (Known scheme) (reply opening.now a.now s1.now e1.now e2.now coins.now) (reply_rooms message.old key.old digest.old) }
+    ensures { reply_seen (reply_told result) message.new key.new digest.new ≡ reply_result (Some scheme) (reply opening.now a.now s1.now e1.now e2.now coins.now) (reply_rooms message.old key.old digest.old) }
 {
     let f = scheme.fixed();
     let n = f.reply;
     let k = f.key;
-    let v = with_opening(
+    with_opening(
         scheme,
         opening,
         a,
@@ -158,18 +152,13 @@ fn reply_sized(
         coins,
         &mut message[..n],
         &mut key[..k],
-    );
-    match v {
-        Verdict::Fail(r) => ReplyAnswer::Refused(r),
-        Verdict::Pass => {
-            sponge::lay_digest(&key[..k], digest);
-            ReplyAnswer::Done(ReplyCounts {
-                message: n,
-                key: k,
-                digest: 32,
-            })
-        }
-    }
+    )?;
+    sponge::lay_digest(&key[..k], digest);
+    Ok(ReplyCounts {
+        message: n,
+        key: k,
+        digest: 32,
+    })
 }
 
 pub(crate) fn reply_in(
@@ -183,12 +172,12 @@ pub(crate) fn reply_in(
     message: &mut [u8],
     key: &mut [u8],
     digest: &mut [u8],
-) -> ReplyAnswer
+) -> Result<ReplyCounts, Refusal>
     requires message_value { (message.old ≡ replicate (length message.old) 0) × (key.old ≡ replicate (length key.old) 0) }
     requires digest_value { digest.old ≡ replicate (length digest.old) 0 }
-    ensures { reply_seen (reply_told result) message.new key.new digest.new ≡ reply_result (Known scheme) (reply opening.now a.now s1.now e1.now e2.now coins.now) (reply_rooms message.old key.old digest.old) }
+    ensures { reply_seen (reply_told result) message.new key.new digest.new ≡ reply_result (Some scheme) (reply opening.now a.now s1.now e1.now e2.now coins.now) (reply_rooms message.old key.old digest.old) }
 {
-    let v = crate::tests::reply_sizes(
+    crate::tests::reply_sizes(
         scheme,
         opening,
         a,
@@ -199,11 +188,6 @@ pub(crate) fn reply_in(
         message.len(),
         key.len(),
         digest.len(),
-    );
-    match v {
-        Verdict::Fail(r) => ReplyAnswer::Refused(r),
-        Verdict::Pass => {
-            reply_sized(scheme, opening, a, s1, e1, e2, coins, message, key, digest)
-        }
-    }
+    )?;
+    reply_sized(scheme, opening, a, s1, e1, e2, coins, message, key, digest)
 }

@@ -3,7 +3,7 @@ ghost use Rattle.std.specs.Prelude.{◌≡◌};
 ghost use Rattle.reply.specs.Reply.{reply, reply_rooms_of};
 ghost use Rattle.reply.specs.Inside.{reply_lengths_lem, reply_sizes_lem};
 
-use refusals::Verdict;
+use refusals::Refusal;
 use schemes::Scheme;
 
 fn reply_lengths(
@@ -14,16 +14,16 @@ fn reply_lengths(
     e1: &[i32],
     e2: &[i32],
     coins: &[u8],
-) -> Verdict
+) -> Result<(), Refusal>
     ensures { result ≡ reply_lengths_lem scheme (reply opening.now a.now s1.now e1.now e2.now coins.now) }
 {
     let f = scheme.fixed();
-    let v = refusals::length_is(Verdict::Pass, opening.len(), f.opening);
-    let v = refusals::length_is(v, a.len(), f.public);
-    let v = refusals::length_is(v, s1.len(), f.secret);
-    let v = refusals::length_is(v, e1.len(), f.noise);
-    let v = refusals::length_is(v, e2.len(), f.mixed);
-    refusals::length_is(v, coins.len(), f.coins)
+    refusals::length_is(opening.len(), f.opening)?;
+    refusals::length_is(a.len(), f.public)?;
+    refusals::length_is(s1.len(), f.secret)?;
+    refusals::length_is(e1.len(), f.noise)?;
+    refusals::length_is(e2.len(), f.mixed)?;
+    refusals::length_is(coins.len(), f.coins)
 }
 
 pub(crate) fn reply_sizes(
@@ -37,12 +37,12 @@ pub(crate) fn reply_sizes(
     room: usize,
     keyroom: usize,
     digestroom: usize,
-) -> Verdict
+) -> Result<(), Refusal>
     ensures { result ≡ reply_sizes_lem scheme (reply opening.now a.now s1.now e1.now e2.now coins.now) (reply_rooms_of room keyroom digestroom) }
 {
     let f = scheme.fixed();
-    let v = reply_lengths(scheme, opening, a, s1, e1, e2, coins);
-    let v = refusals::room_for(v, room, f.reply);
-    let v = refusals::room_for(v, keyroom, f.key);
-    refusals::room_for(v, digestroom, 32)
+    reply_lengths(scheme, opening, a, s1, e1, e2, coins)?;
+    refusals::room_for(room, f.reply)?;
+    refusals::room_for(keyroom, f.key)?;
+    refusals::room_for(digestroom, 32)
 }

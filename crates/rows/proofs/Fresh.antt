@@ -5,17 +5,16 @@
 --   Left, left          such a state after any parts: what it names, counts and keeps, that its call has begun, and what its sums are
 --   fill                parts that join into A are accepted
 --   in-turn, too-early, has_all   whether all of A has come
-use Rattle.lists.proofs.Kit.{refl, ◌∙◌, sym, ap, ap₂, subst, Bool, true, false, List, [], ℕ, arith, ℤ, length, get_or, replicate}
-use Rattle.std.proofs.Common.{◌≡◌, ◌≢◌, ◌*◌, ◌%◌, ◌<◌}
-use Rattle.lists.proofs.Kit.{length-replicate}
+use Rattle.std.proofs.Common.{Err, Some, ◌≡◌, ◌≢◌, ◌*◌, ◌%◌, ◌<◌}
+use Rattle.lists.proofs.Kit.{refl, ◌∙◌, sym, ap, ap₂, subst, Bool, true, false, List, [], ℕ, arith, ℤ, length, get_or, replicate, length-replicate}
 use Rattle.schemes.specs.Schemes.{family_of, fixed_of, scheme_number}
-use Rattle.schemes.specs.{declared.Family.Family, declared.Named.TheVariants.Known, declared.Scheme.Scheme}
+use Rattle.schemes.specs.{declared.Family.Family, declared.Scheme.Scheme}
 use Rattle.lists.specs.Ranges.{Below}
 use Rattle.matrix.specs.Words.{words_of, gained, reduced}
 use Rattle.matrix.proofs.Steps.{words-length}
 use Rattle.parts.specs.Parts.{wrap}
 use Rattle.parts.proofs.{Joining.whole-right, Joining.whole-left, Words.words-pairs}
-use Rattle.refusals.specs.{Refusals.in_turn, declared.Refusal.TheVariants.OutOfTurn, declared.Verdict.TheVariants.Pass, declared.Verdict.TheVariants.Fail}
+use Rattle.refusals.specs.{Refusals.in_turn, declared.Refusal.TheVariants.OutOfTurn, Refusals.pass}
 use Rattle.refusals.proofs.Laws.{turn-passes}
 use Rattle.values.proofs.Numbers.{numbers-in}
 use Rattle.rows_state.specs.State.{tag_of, frodo_of_lem, long, named, taken, saved_of, secret_of, sums_of, held_of, Layout, laid, secret_words_lem, fresh, saved_in, begun}
@@ -115,7 +114,7 @@ once k n q call scheme kept held s e ps some-n sixteens some w all b sl el kl hl
 -- ---- of Frodo's schemes
 
 pub record Left (k : Call) (c : Scheme) (kept : List ℕ) (s e : List ℤ) (xs last : List ℕ) : Type 0 where
-  pub is-named : named last ≡ Known c
+  pub is-named : named last ≡ Some c
   pub counted : taken last ≡ length xs
   pub kept-is : saved_of last ≡ kept
   pub has-begun : begun k (fixed_of c) last ≡ true
@@ -181,13 +180,13 @@ module _ {k : Call} {c : Scheme} {kept : List ℕ} {s e : List ℤ} {first : Lis
       takes k c first ps l.is-named l.has-begun f.some at small (omega (arith, all, f.public, l.counted))
 
 module _ {k : Call} {c : Scheme} {kept : List ℕ} {s e : List ℤ} {xs last : List ℕ} (frodo : family_of c ≡ Family.Frodo) (l : Left k c kept s e xs last) where
-  pub in-turn : length xs ≡ (fixed_of c).public → in_turn (complete k (fixed_of c) last) ≡ Pass
+  pub in-turn : length xs ≡ (fixed_of c).public → in_turn (complete k (fixed_of c) last) ≡ pass
   in-turn all = turn-passes (complete-so k (fixed_of c) last l.has-begun (l.counted ∙ all ∙ (numbers-in c frodo).public))
 
   pub has_all : complete k (fixed_of c) last ≡ true → length xs ≡ (fixed_of c).public
   has_all e = sym l.counted ∙ (completes k (fixed_of c) last e).1 ∙ sym (numbers-in c frodo).public
 
-  pub too-early : length xs ≢ (fixed_of c).public → in_turn (complete k (fixed_of c) last) ≡ Fail OutOfTurn
+  pub too-early : length xs ≢ (fixed_of c).public → in_turn (complete k (fixed_of c) last) ≡ Err OutOfTurn
   unfolding in_turn
   too-early h = ap (λ (b : Bool). in_turn b) (go (complete k (fixed_of c) last) refl)
     where

@@ -1,18 +1,17 @@
 -- Offer by rows is Offer on the joined matrix: what is stated of it in specs/Shown.
 --   same-offer, early-offer, offer-taken   what is shown
+use Rattle.std.proofs.Common.{Ok, Err, Some, ◌≡◌, ◌≢◌, ◌++◌}
 use Rattle.lists.proofs.Kit.{refl, ◌∙◌, sym, ap, ap₂, true, List, ℕ, arith, length, take, replicate, take_at, drop_at}
-use Rattle.std.proofs.Common.{◌≡◌, ◌≢◌, ◌++◌}
-use Rattle.schemes.specs.{Schemes.family_of, Schemes.fixed_of, declared.Family.Family, declared.Named.TheVariants.Known, declared.Scheme.Scheme}
+use Rattle.schemes.specs.{Schemes.family_of, Schemes.fixed_of, declared.Family.Family, declared.Scheme.Scheme}
 use Rattle.lists.specs.Ranges.{Below}
 use Rattle.lists.proofs.Entries.{below-zeros}
 use Rattle.packing.specs.Packing.{packed}
-use Rattle.refusals.specs.Refusals.{number_in, ◌then◌, not_blank_lem, secrets_in_lem}
-use Rattle.refusals.specs.declared.Verdict.TheVariants.{Pass, Fail}
-use Rattle.refusals.specs.{Seen.shown, Seen.written, declared.Verdict.Verdict, declared.Refusal.TheVariants.OutOfTurn}
+use Rattle.refusals.specs.Refusals.{number_in, ◌then◌, not_blank_lem, secrets_in_lem, pass}
+use Rattle.refusals.specs.{Seen.shown, Seen.written, Refusals.Verdict, declared.Refusal.TheVariants.OutOfTurn}
 use Rattle.refusals.proofs.Laws.{number-zero, both, failed, length-passes, turn-passed, below-passes, within-passes, all_pass}
 use Rattle.values.specs.Values.{offered}
 use Rattle.wire.specs.Wire.{opening}
-use Rattle.offer.specs.{Offer.Offer, Offer.offer_of, Offer.offer_tests, Offer.offered_part, Offer.offer_message, Inside.offer_lengths_lem, Inside.offer_in_lem}
+use Rattle.offer.specs.{Offer.Offer, Offer.offer, Offer.offer_tests, Offer.offered_part, Offer.offer_message, Inside.offer_lengths_lem, Inside.offer_in_lem}
 use Rattle.offer.proofs.Offering.{Ranges, offer-opens}
 use Rattle.rows_state.specs.{State.long, State.named, State.saved_of, State.all_below, State.saved_in, Part.state_shown, declared.Call.Call}
 use Rattle.rows_state.proofs.{Tests.goes, Tests.below_all, Tests.frodos, Laying.seed-kept-long}
@@ -23,33 +22,33 @@ use Rattle.rows.proofs.Fresh.{Starts, Left, left, fill, in-turn, has_all, too-ea
 use Rattle.rows.proofs.{Opening.OfferSized, Opening.begin-sized, Ends.not-refused, Ends.by-frodo, Shown.took-parts}
 
 -- turn, room and blank part; and of the whole call lengths, room, numbers, secrets and blank part
-chain : (i r b l p s e b' : Verdict) → i ≡ Pass → l ≡ Pass → p ≡ Pass → s ≡ Pass → e ≡ Pass → b ≡ b'
+chain : (i r b l p s e b' : Verdict) → i ≡ pass → l ≡ pass → p ≡ pass → s ≡ pass → e ≡ pass → b ≡ b'
     → i then r then b ≡ l then r then p then s then e then b'
 unfolding ◌then◌
-chain i Pass b l p s e b' h1 h2 h3 h4 h5 d = rw (h1, h2, h3, h4, h5) d
-chain i (Fail r) b l p s e b' h1 h2 h3 h4 h5 d = rw (h1, h2)
+chain i (Ok _) b l p s e b' h1 h2 h3 h4 h5 d = rw (h1, h2, h3, h4, h5) d
+chain i (Err r) b l p s e b' h1 h2 h3 h4 h5 d = rw (h1, h2)
 
 -- ---- after a good begin
 
 module _ (c : Scheme) (x : OfferBegin) (m : ℕ) (frodo : family_of c ≡ Family.Frodo) (bytes : Below 256 x.seed)
-    (good : (offer_begin_result (Known c) x m).number ≡ 0) where
+    (good : (offer_begin_result (Some c) x m).number ≡ 0) where
   abbrev first : List ℕ
-  first = (offer_begin_result (Known c) x m).state
+  first = (offer_begin_result (Some c) x m).state
 
   abbrev kept : List ℕ
   kept = x.seed ++ replicate 48 0
 
-  passes : offer_begin_tests (Known c) x m ≡ Pass
+  passes : offer_begin_tests (Some c) x m ≡ pass
   passes = (not-refused _ _ good).0
 
   sized : OfferSized c x m
   sized = begin-sized c x m passes
 
-  secret-in : secrets_in_lem (fixed_of c).largest x.s ≡ Pass
+  secret-in : secrets_in_lem (fixed_of c).largest x.s ≡ pass
   unfolding offer_begin_tests
   secret-in = (both _ _ (both _ _ passes).0).1
 
-  noise-in : secrets_in_lem (fixed_of c).largest x.e ≡ Pass
+  noise-in : secrets_in_lem (fixed_of c).largest x.e ≡ pass
   unfolding offer_begin_tests
   noise-in = (both _ _ passes).1
 
@@ -71,7 +70,7 @@ module _ (c : Scheme) (x : OfferBegin) (m : ℕ) (frodo : family_of c ≡ Family
         kept_in = kept_in;
         secret-long = sized.secret;
         noise-long = sized.noise;
-        is = (not-refused (offer_state (Known c) x) (replicate m 0) good).1;
+        is = (not-refused (offer_state (Some c) x) (replicate m 0) good).1;
       }
 
   -- ---- and any parts
@@ -83,7 +82,7 @@ module _ (c : Scheme) (x : OfferBegin) (m : ℕ) (frodo : family_of c ≡ Family
     last-seed : take 16 (saved_of last) ≡ x.seed
     last-seed = ap (take 16) walk.kept-is ∙ take_at x.seed (replicate 48 0) 16 seed-is
 
-    early : (n : ℕ) → length a ≢ (fixed_of c).public → offer_end_tests (named last) last n ≡ Fail OutOfTurn
+    early : (n : ℕ) → length a ≢ (fixed_of c).public → offer_end_tests (named last) last n ≡ Err OutOfTurn
     unfolding offer_end_tests
     early n h = ap (λ d. offer_end_tests d last n) walk.is-named ∙ failed _ refl (failed _ refl (too-early frodo walk h))
 
@@ -91,24 +90,24 @@ module _ (c : Scheme) (x : OfferBegin) (m : ℕ) (frodo : family_of c ≡ Family
 
     module _ (all : length a ≡ (fixed_of c).public) where
       abbrev whole : Offer
-      whole = offer_of a x.s x.e x.seed
+      whole = offer a x.s x.e x.seed
 
       sent : sent_part c last ≡ offered_part c whole
       unfolding offered
       sent = ap (packed (fixed_of c).width) (walk.sums all ∙ sym (by-frodo _ _ _ frodo))
 
-      lengths : offer_lengths_lem c whole ≡ Pass
+      lengths : offer_lengths_lem c whole ≡ pass
       unfolding offer_lengths_lem
       lengths =
           all_pass (all_pass (all_pass (length-passes all) (length-passes sized.secret)) (length-passes sized.noise)) (length-passes sized.seed)
 
-      same_tests : (n : ℕ) → offer_end_tests (named last) last n ≡ offer_tests (Known c) whole n
+      same_tests : (n : ℕ) → offer_end_tests (named last) last n ≡ offer_tests (Some c) whole n
       unfolding offer_end_tests offer_tests offer_lengths_lem
       same_tests n =
           ap (λ d. offer_end_tests d last n) walk.is-named
           ∙ chain _ _ _ (offer_lengths_lem c whole) _ _ _ _ (in-turn frodo walk all) lengths (below-passes walk.below) secret-in noise-in (ap not_blank_lem sent)
 
-      same-message : offer_end_message (named last) last ≡ offer_message (Known c) whole
+      same-message : offer_end_message (named last) last ≡ offer_message (Some c) whole
       unfolding offer_end_message offer_message
       same-message = ap (λ d. offer_end_message d last) walk.is-named ∙ ap₂ (opening c) last-seed sent
 
@@ -131,12 +130,12 @@ early-offer c x a n t frodo bytes (m, r) some =
 
 module _ (c : Scheme) (x : OfferBegin) (ps : List (List ℕ)) (n : ℕ) (frodo : family_of c ≡ Family.Frodo) (bytes : Below 256 x.seed) where
   abbrev joint : Offer
-  joint = offer_of (joined ps) x.s x.e x.seed
+  joint = offer (joined ps) x.s x.e x.seed
 
   abbrev size : ℕ
   size = long (fixed_of c).n
 
-  begin-passes : Ranges c joint → offer_begin_tests (Known c) x size ≡ Pass
+  begin-passes : Ranges c joint → offer_begin_tests (Some c) x size ≡ pass
   unfolding offer_begin_tests
   begin-passes r =
       all_pass
@@ -145,14 +144,14 @@ module _ (c : Scheme) (x : OfferBegin) (ps : List (List ℕ)) (n : ℕ) (frodo :
       (within-passes r.secret.within))
       (within-passes r.noise.within)
 
-  ranges : offer_tests (Known c) joint n ≡ Pass → Ranges c joint
+  ranges : offer_tests (Some c) joint n ≡ pass → Ranges c joint
   unfolding offer_tests offer_in_lem offer_lengths_lem
   ranges t = (offer-opens c joint n (both _ _ t).0).0
 
-  by_parts : offer_tests (Known c) joint n ≡ Pass → WithinRows (fixed_of c).n 0 ps → OfferAccepted c x ps n
+  by_parts : offer_tests (Some c) joint n ≡ pass → WithinRows (fixed_of c).n 0 ps → OfferAccepted c x ps n
   unfolding state_shown shown
   by_parts t w =
-      let g : (offer_begin_result (Known c) x size).number ≡ 0 = ap number_in (begin-passes (ranges t)) in
+      let g : (offer_begin_result (Some c) x size).number ≡ 0 = ap number_in (begin-passes (ranges t)) in
       let all = (ranges t).public.long in
       let o = fill (begins c x size frodo bytes g) ps w (ranges t).public.below all in
       record {
@@ -162,11 +161,11 @@ module _ (c : Scheme) (x : OfferBegin) (ps : List (List ℕ)) (n : ℕ) (frodo :
         ends = sym (ap number_in (same_tests c x size frodo bytes g (joined ps) o.0 (took-parts o.1) all n ∙ t));
       }
 
-  as-whole : OfferAccepted c x ps n → offer_tests (Known c) joint n ≡ Pass
+  as-whole : OfferAccepted c x ps n → offer_tests (Some c) joint n ≡ pass
   unfolding offer_end_tests shown
   as-whole a =
       let p = took-parts a.parts in
-      let z : offer_end_tests (named a.last) a.last n ≡ Pass = number-zero _ a.ends in
+      let z : offer_end_tests (named a.last) a.last n ≡ pass = number-zero _ a.ends in
       let l = walk c x size frodo bytes a.begins (joined ps) a.last p in
       let o = both _ _ (sym (ap (λ d. offer_end_tests d a.last n) l.is-named) ∙ z) in
       let all = has_all frodo l (turn-passed _ (both _ _ o.0).0) in

@@ -1,18 +1,17 @@
 -- Reply by rows is Reply on the joined matrix: what is stated of it in specs/Shown.
 --   same-reply, early-reply, reply-taken   what is shown
+use Rattle.std.proofs.Common.{Err, Some, ◌≡◌, ◌≢◌, ◌++◌}
 use Rattle.lists.proofs.Kit.{refl, ◌∙◌, sym, ap, ap₂, List, [], ℕ, length, replicate}
-use Rattle.std.proofs.Common.{◌≡◌, ◌≢◌, ◌++◌}
-use Rattle.schemes.specs.{Schemes.family_of, Schemes.fixed_of, declared.Family.Family, declared.Named.TheVariants.Known, declared.Scheme.Scheme}
+use Rattle.schemes.specs.{Schemes.family_of, Schemes.fixed_of, declared.Family.Family, declared.Scheme.Scheme}
 use Rattle.packing.specs.Packing.{packed}
 use Rattle.sponge.specs.Sponge.{sha3}
-use Rattle.refusals.specs.declared.Verdict.TheVariants.{Pass, Fail}
-use Rattle.refusals.specs.Refusals.{number_in, ◌then◌, not_blank_lem}
-use Rattle.refusals.specs.{Seen.written, declared.Verdict.Verdict, declared.Refusal.TheVariants.OutOfTurn}
+use Rattle.refusals.specs.Refusals.{pass, number_in, ◌then◌, not_blank_lem}
+use Rattle.refusals.specs.{Seen.written, Refusals.Verdict, declared.Refusal.TheVariants.OutOfTurn}
 use Rattle.refusals.proofs.Laws.{number-zero, both, failed, then-assoc, length-passes, publics-passed, turn-passed, below-passes, all_pass}
 use Rattle.values.specs.{Fit.Counted, Keys.hints, Values.replied}
 use Rattle.values.proofs.{Numbers.numbers-in, Ranges.mixed-counted}
 use Rattle.wire.specs.{Wire.opened_in, Wire.coins_in, Steps.reply_secrets_lem, Steps.key_by}
-use Rattle.reply.specs.Reply.{Reply, ReplyRooms, reply_of, reply_tests, opened_of, replied_part, reply_value, reply_message, reply_key, outputs}
+use Rattle.reply.specs.Reply.{Reply, ReplyRooms, reply, reply_tests, opened_of, replied_part, reply_value, reply_message, reply_key, outputs}
 use Rattle.reply.specs.Inside.{reply_lengths_lem, reply_last, reply_rest}
 use Rattle.reply.proofs.Replying.{Sized, reply-sized, reply-apart}
 use Rattle.rows_state.specs.{State.long, State.named, Part.state_shown, declared.Call.Call}
@@ -27,24 +26,24 @@ use Rattle.rows.proofs.Replying as rows
 
 -- ---- verdicts and outputs
 
-chain : (i r s t b l p o c b' : Verdict) → i ≡ Pass → l ≡ Pass → p ≡ Pass → o ≡ Pass → c ≡ Pass → b ≡ b'
+chain : (i r s t b l p o c b' : Verdict) → i ≡ pass → l ≡ pass → p ≡ pass → o ≡ pass → c ≡ pass → b ≡ b'
     → i then r then s then t then b ≡ l then r then s then t then p then (o then (c then b'))
 unfolding ◌then◌
-chain i r s t b l p o c b' e f g h k d = rw (e, f, g, h, k, d) (sym (then-assoc (r then s then t) Pass b'))
+chain i r s t b l p o c b' e f g h k d = rw (e, f, g, h, k, d) (sym (then-assoc (r then s then t) pass b'))
 
 -- ---- after a good begin
 
-module _ (c : Scheme) (x : ReplyBegin) (m : ℕ) (frodo : family_of c ≡ Family.Frodo) (good : (reply_begin_result (Known c) x m).number ≡ 0) where
+module _ (c : Scheme) (x : ReplyBegin) (m : ℕ) (frodo : family_of c ≡ Family.Frodo) (good : (reply_begin_result (Some c) x m).number ≡ 0) where
   abbrev first : List ℕ
-  first = (reply_begin_result (Known c) x m).state
+  first = (reply_begin_result (Some c) x m).state
 
-  passes : (reply_begin_sizes c x m ≡ Pass) × (reply_begin_rest c x ≡ Pass)
+  passes : (reply_begin_sizes c x m ≡ pass) × (reply_begin_rest c x ≡ pass)
   passes = both _ _ (sym (begin-apart c x m) ∙ (not-refused _ _ good).0)
 
   sized : rows.Sized c x m
   sized = begin-sized c x m passes.0
 
-  rest : (not_blank_lem (opened_in c x.opening) ≡ Pass) × (reply_secrets_lem c x.s' x.e' x.e'' ≡ Pass)
+  rest : (not_blank_lem (opened_in c x.opening) ≡ pass) × (reply_secrets_lem c x.s' x.e' x.e'' ≡ pass)
   unfolding reply_begin_rest
   rest = both _ _ passes.1
 
@@ -61,7 +60,7 @@ module _ (c : Scheme) (x : ReplyBegin) (m : ℕ) (frodo : family_of c ≡ Family
         kept_in = below_all (fixed_of c).q (value_of c x) value.below;
         secret-long = sized.secret-long;
         noise-long = sized.noise-long;
-        is = (not-refused (reply_state (Known c) x) (replicate m 0) good).1;
+        is = (not-refused (reply_state (Some c) x) (replicate m 0) good).1;
       }
 
   -- ---- and any parts
@@ -70,7 +69,7 @@ module _ (c : Scheme) (x : ReplyBegin) (m : ℕ) (frodo : family_of c ≡ Family
     walk : Left Call.Reply c (value_of c x) x.s' x.e' a last
     walk = left begins parts
 
-    early : (m : ReplyRooms) → length a ≢ (fixed_of c).public → reply_end_tests (named last) last m ≡ Fail OutOfTurn
+    early : (m : ReplyRooms) → length a ≢ (fixed_of c).public → reply_end_tests (named last) last m ≡ Err OutOfTurn
     unfolding reply_end_tests
     early m h =
         ap (λ d. reply_end_tests d last m) walk.is-named ∙ failed _ refl (failed _ refl (failed _ refl (failed _ refl (too-early frodo walk h))))
@@ -83,9 +82,9 @@ module _ (c : Scheme) (x : ReplyBegin) (m : ℕ) (frodo : family_of c ≡ Family
       sent = ap (packed (fixed_of c).width) (walk.sums all ∙ sym (by-frodo _ _ _ frodo))
 
       abbrev whole : Reply
-      whole = reply_of x.opening a x.s' x.e' x.e'' []
+      whole = reply x.opening a x.s' x.e' x.e'' []
 
-      lengths : reply_lengths_lem c whole ≡ Pass
+      lengths : reply_lengths_lem c whole ≡ pass
       unfolding reply_lengths_lem
       lengths =
           all_pass
@@ -95,7 +94,7 @@ module _ (c : Scheme) (x : ReplyBegin) (m : ℕ) (frodo : family_of c ≡ Family
           (length-passes sized.last-long))
           (length-passes (sym (frodos c frodo).coins))
 
-      same_tests : (m : ReplyRooms) → reply_end_tests (named last) last m ≡ reply_tests (Known c) whole m
+      same_tests : (m : ReplyRooms) → reply_end_tests (named last) last m ≡ reply_tests (Some c) whole m
       unfolding reply_end_tests reply_rest reply_last opened_of
       same_tests m =
           ap (λ d. reply_end_tests d last m) walk.is-named
@@ -103,13 +102,13 @@ module _ (c : Scheme) (x : ReplyBegin) (m : ℕ) (frodo : family_of c ≡ Family
           (opened-tests c frodo (opened_in c x.opening) ∙ rest.0) rest.1 (ap not_blank_lem sent)
           ∙ sym (reply-apart c whole m)
 
-      same-message : reply_end_message (named last) last ≡ reply_message (Known c) whole
+      same-message : reply_end_message (named last) last ≡ reply_message (Some c) whole
       unfolding reply_end_message reply_message reply_value opened_of value_of
       same-message =
           ap (λ d. reply_end_message d last) walk.is-named
           ∙ ap₂ (λ (u v : List ℕ). u ++ packed (fixed_of c).hintbits (hints c (coins_in c []) v)) sent walk.kept-is
 
-      same_key : reply_end_key (named last) last ≡ reply_key (Known c) whole
+      same_key : reply_end_key (named last) last ≡ reply_key (Some c) whole
       unfolding reply_end_key reply_key reply_value opened_of value_of
       same_key =
           ap (λ d. reply_end_key d last) walk.is-named ∙ ap (λ (v : List ℕ). key_by c v []) walk.kept-is
@@ -135,12 +134,12 @@ early-reply c x a m t frodo (n, r) some =
 
 module _ (c : Scheme) (x : ReplyBegin) (ps : List (List ℕ)) (m : ReplyRooms) (frodo : family_of c ≡ Family.Frodo) where
   abbrev joint : Reply
-  joint = reply_of x.opening (joined ps) x.s' x.e' x.e'' []
+  joint = reply x.opening (joined ps) x.s' x.e' x.e'' []
 
   abbrev size : ℕ
   size = long (fixed_of c).n
 
-  begin-passes : Sized c joint m → reply_rest c joint ≡ Pass → reply_begin_tests (Known c) x size ≡ Pass
+  begin-passes : Sized c joint m → reply_rest c joint ≡ pass → reply_begin_tests (Some c) x size ≡ pass
   unfolding reply_begin_sizes reply_begin_rest reply_rest reply_last opened_of
   begin-passes s t =
       let r = both _ _ t in
@@ -151,13 +150,13 @@ module _ (c : Scheme) (x : ReplyBegin) (ps : List (List ℕ)) (m : ReplyRooms) (
       (length-passes refl))
       (all_pass (sym (opened-tests c frodo (opened_in c x.opening)) ∙ r.0) (both _ _ r.1).0)
 
-  by_parts : reply_tests (Known c) joint m ≡ Pass → WithinRows (fixed_of c).n 0 ps → ReplyAccepted c x ps m
+  by_parts : reply_tests (Some c) joint m ≡ pass → WithinRows (fixed_of c).n 0 ps → ReplyAccepted c x ps m
   unfolding state_shown outputs
   by_parts t w =
       let o = both _ _ (sym (reply-apart c joint m) ∙ t) in
       let s = reply-sized c joint m (both _ _ o.0).0 in
       let below = publics-passed _ (joined ps) (numbers-in c frodo).q-some (both _ _ o.0).1 in
-      let g : (reply_begin_result (Known c) x size).number ≡ 0 = ap number_in (begin-passes s o.1) in
+      let g : (reply_begin_result (Some c) x size).number ≡ 0 = ap number_in (begin-passes s o.1) in
       let k = fill (begins c x size frodo g) ps w below s.public-long in
       record {
         begins = g;
@@ -166,11 +165,11 @@ module _ (c : Scheme) (x : ReplyBegin) (ps : List (List ℕ)) (m : ReplyRooms) (
         ends = sym (ap number_in (same_tests c x size frodo g (joined ps) k.0 (took-parts k.1) s.public-long m ∙ t));
       }
 
-  as-whole : ReplyAccepted c x ps m → reply_tests (Known c) joint m ≡ Pass
+  as-whole : ReplyAccepted c x ps m → reply_tests (Some c) joint m ≡ pass
   unfolding reply_end_tests outputs
   as-whole a =
       let p = took-parts a.parts in
-      let z : reply_end_tests (named a.last) a.last m ≡ Pass = number-zero _ a.ends in
+      let z : reply_end_tests (named a.last) a.last m ≡ pass = number-zero _ a.ends in
       let l = walk c x size frodo a.begins (joined ps) a.last p in
       let o = both _ _ (sym (ap (λ y. reply_end_tests y a.last m) l.is-named) ∙ z) in
       let turn = (both _ _ (both _ _ (both _ _ o.0).0).0).0 in

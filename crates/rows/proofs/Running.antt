@@ -8,8 +8,8 @@
 --   Stepped, stepped-after   a part behind the numbers xs that have come
 --   below-front, below-behind   of two lists joined
 --   Walked, walked   what any parts leave: the state after the numbers that they join into
+use Rattle.std.proofs.Common.{Ok, Err, ◌≡◌, ◌∷◌, ◌++◌, ◌+◌, ◌*◌, ◌-◌, ◌/◌, ◌%◌, ◌≤◌, ◌<◌}
 use Rattle.lists.proofs.Kit.{refl, ◌∙◌, sym, ap, ap₂, subst, Bool, true, false, cond, List, [], append_assoc, append-nil, ℕ}
-use Rattle.std.proofs.Common.{◌≡◌, ◌∷◌, ◌++◌, ◌+◌, ◌*◌, ◌-◌, ◌/◌, ◌%◌, ◌≤◌, ◌<◌}
 use Rattle.lists.proofs.Kit.{arith, zero-mod, div-mul-le_self, length, take, drop, length-append, length-take, length-drop, take-append-drop}
 use Rattle.lists.proofs.Kit.{drop_of_length-le, take_at, take_all, take-nil, drop-nil, take-append-le, drop-append-le, length-take-le}
 use Rattle.lists.specs.Ranges.{Below}
@@ -18,8 +18,7 @@ use Rattle.matrix.specs.Words.{gained}
 use Rattle.matrix.proofs.Steps.{gained-length}
 use Rattle.parts.specs.Parts.{wrap, words, pairs, placed}
 use Rattle.parts.proofs.{Joining.append_at, Joining.placed-in, Joining.so_far, Joining.nothing, Words.append-below}
-use Rattle.refusals.specs.declared.Verdict.TheVariants.{Pass, Fail}
-use Rattle.refusals.specs.{Refusals.number_in, Seen.if_passed, Seen.shown, declared.Verdict.Verdict}
+use Rattle.refusals.specs.{Refusals.number_in, Seen.if_passed, Seen.shown, Refusals.Verdict}
 use Rattle.reply.specs.Reply.{outputs}
 use Rattle.rows_state.specs.State.{long, named, taken, saved_of, secret_of, sums_of, held_of, laid, onward, terms, fills, held_with, sums_with, stepped}
 use Rattle.rows_state.specs.{Part.state_shown, Part.part_tests, declared.Call.Call}
@@ -30,8 +29,8 @@ use Rattle.rows_state.proofs.Taking.{linear}
 use Rattle.rows.specs.{Offer.offer_end_tests, Reply.reply_end_tests, Shown.blocks, Runs.Refused, Runs.joined, Runs.steps, Runs.WithinRows}
 
 pub kept-still : {A : Type 0} (v : Verdict) (x old : A) → 0 < number_in v → if_passed v x old ≡ old
-kept-still Pass x old h = absurd (omega arith)
-kept-still (Fail r) x old h = refl
+kept-still (Ok _) x old h = absurd (omega arith)
+kept-still (Err r) x old h = refl
 
 pub unchanged : {st after : List ℕ} → Refused st after → after ≡ st
 unfolding state_shown shown outputs

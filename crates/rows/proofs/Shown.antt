@@ -4,12 +4,11 @@
 --   without          the run without what was refused
 --   Cut, took-cut    accepted parts: what they leave, and that none runs past the end of its row or past the last row
 --   frodos-are, allowed, joining, empty-part, again, running   what is shown
+use Rattle.std.proofs.Common.{Ok, Err, Some, None, Option, ◌≡◌, ◌∷◌, ◌++◌, ◌+◌, ◌*◌, ◌-◌, ◌%◌, ◌≤◌, ◌<◌}
 use Rattle.lists.proofs.Kit.{refl, ◌∙◌, sym, ap, ap₂, subst, Bool, true, false, cond, List, [], append_assoc, append-nil, ℕ, zero, suc}
-use Rattle.std.proofs.Common.{◌≡◌, ◌∷◌, ◌++◌, ◌+◌, ◌*◌, ◌-◌, ◌%◌, ◌≤◌, ◌<◌}
 use Rattle.lists.proofs.Kit.{arith, mod-lt, mod-eq_of_lt, mod-add-mod, lt-leb, le-leb, eqb, take_at, drop_at, drop-drop, length, get_or}
 use Rattle.lists.proofs.Kit.{take, drop, length-append, length-take, length-drop, take-append-drop}
-use Rattle.schemes.specs.declared.Named.TheVariants.{Known, Unknown}
-use Rattle.schemes.specs.{Schemes.family_of, Schemes.fixed_of, Schemes.scheme_of_lem, declared.Named.Named, declared.Family.Family, declared.Scheme.Scheme}
+use Rattle.schemes.specs.{Schemes.family_of, Schemes.fixed_of, Schemes.scheme_of_lem, declared.Family.Family, declared.Scheme.Scheme}
 use Rattle.schemes.proofs.Sound.{sound}
 use Rattle.lists.specs.Ranges.{Below}
 use Rattle.lists.proofs.Parts.{below-drop, below-take}
@@ -17,7 +16,7 @@ use Rattle.matrix.specs.Words.{gained}
 use Rattle.matrix.proofs.Steps.{gained-length}
 use Rattle.parts.specs.Parts.{wrap, words, pairs, placed}
 use Rattle.parts.proofs.Words.{words-below, append-below}
-use Rattle.refusals.specs.{Refusals.number_in, Seen.if_passed, declared.Verdict.Verdict, declared.Verdict.TheVariants.Pass, declared.Verdict.TheVariants.Fail}
+use Rattle.refusals.specs.{Refusals.number_in, Seen.if_passed, Refusals.Verdict, Refusals.pass}
 use Rattle.refusals.proofs.Laws.{differ, both, turn-passed, publics-passed, turn-passes, below-passes, all_pass}
 use Rattle.values.proofs.Numbers.{numbers-in}
 use Rattle.rows_state.specs.State.{frodo_in_lem, named, taken, saved_of, secret_of, sums_of, held_of, Layout, laid, onward, ◌and◌, saved_in, begun, terms, fills}
@@ -35,14 +34,14 @@ use Rattle.rows.proofs.Ends.{not-refused, by-frodo}
 -- ---- the state
 
 pub frodos-are : Frodos
-frodos-are k c = (λ e. frodo-in (scheme_of_lem k) c e, λ d. ap frodo_in_lem d.0 ∙ by-frodo _ _ (Known c) d.1)
+frodos-are k c = (λ e. frodo-in (scheme_of_lem k) c e, λ d. ap frodo_in_lem d.0 ∙ by-frodo _ _ (Some c) d.1)
 
 pub allowed : Allowed
 allowed n = omega arith
 
 -- ---- accepted parts
 
-accepted : (k : Call) (st p : List ℕ) → Accepts k st p → part_tests k (named st) st p ≡ Pass
+accepted : (k : Call) (st p : List ℕ) → Accepts k st p → part_tests k (named st) st p ≡ pass
 accepted k st p t = (not-refused _ _ t).0
 
 -- what a part that is not refused says of the state before it and after it
@@ -53,15 +52,15 @@ record Good-part (k : Call) (c : Scheme) (st p : List ℕ) : Type 0 where
   is : next k st p ≡ stepped k (fixed_of c).n st p
 
 -- it names a scheme
-scheme-named : (k : Call) (st p : List ℕ) → Accepts k st p → (c : Scheme) × (named st ≡ Known c)
+scheme-named : (k : Call) (st p : List ℕ) → Accepts k st p → (c : Scheme) × (named st ≡ Some c)
 unfolding part_tests
 scheme-named k st p t = go (named st) refl
   where
-    go : (x : Named) → named st ≡ x → (c : Scheme) × (named st ≡ Known c)
-    go Unknown e = differ (sym (ap (λ y. part_tests k y st p) e) ∙ accepted k st p t)
-    go (Known c) e = (c, e)
+    go : (x : Option Scheme) → named st ≡ x → (c : Scheme) × (named st ≡ Some c)
+    go None e = differ (sym (ap (λ y. part_tests k y st p) e) ∙ accepted k st p t)
+    go (Some c) e = (c, e)
 
-good-part : (k : Call) (c : Scheme) (st p : List ℕ) → named st ≡ Known c → Accepts k st p → Good-part k c st p
+good-part : (k : Call) (c : Scheme) (st p : List ℕ) → named st ≡ Some c → Accepts k st p → Good-part k c st p
 unfolding part_tests part_state state_shown
 good-part k c st p e t =
     let z = accepted k st p t in
@@ -75,13 +74,13 @@ good-part k c st p e t =
     }
 
 -- and back
-part-good : (k : Call) (c : Scheme) (st p : List ℕ) → named st ≡ Known c → begun k (fixed_of c) st ≡ true → Fits (fixed_of c).n (taken st) (length p)
-    → Below (fixed_of c).q p → state_seen Pass (stepped k (fixed_of c).n st p) ≡ part_result k st p
+part-good : (k : Call) (c : Scheme) (st p : List ℕ) → named st ≡ Some c → begun k (fixed_of c) st ≡ true → Fits (fixed_of c).n (taken st) (length p)
+    → Below (fixed_of c).q p → state_seen pass (stepped k (fixed_of c).n st p) ≡ part_result k st p
 unfolding part_tests
 part-good k c st p e b f l =
     part-known k st p c e (sym (all_pass (turn-passes (sym (goes b (sym (fits-so (fixed_of c).n (taken st) (length p) f))))) (below-passes l))) refl
 
-part-goes : (k : Call) (st p : List ℕ) {after : List ℕ} → state_seen Pass after ≡ part_result k st p → Accepts k st p × (next k st p ≡ after)
+part-goes : (k : Call) (st p : List ℕ) {after : List ℕ} → state_seen pass after ≡ part_result k st p → Accepts k st p × (next k st p ≡ after)
 unfolding state_seen
 part-goes k st p e = (sym (ap (λ (s : StateSeen). s.number) e), sym (ap (λ (s : StateSeen). s.state) e))
 
@@ -277,7 +276,7 @@ fits-behind n at a (suc b) o f =
     let e : (at + a) % n ≡ at % n + a = sym (mod-add-mod at n a) ∙ mod-eq_of_lt (omega (arith, f.in_row)) in
     record { in_row = omega (arith, e, f.in_row); in_all = omega (arith, f.in_all) }
 
-join : (k : Call) (c : Scheme) (st p p' : List ℕ) → named st ≡ Known c → begun k (fixed_of c) st ≡ true
+join : (k : Call) (c : Scheme) (st p p' : List ℕ) → named st ≡ Some c → begun k (fixed_of c) st ≡ true
     → Fits (fixed_of c).n (taken st) (length p + length p') → Below (wrap * wrap) st → Below (fixed_of c).q p → Below (fixed_of c).q p'
     → Accepts k st p × (part_result k (next k st p) p' ≡ part_result k st (p ++ p'))
 unfolding stepped
@@ -293,7 +292,7 @@ join k c st p p' called b f w h l =
       g.0,
       ap (λ (s : List ℕ). part_result k s p') g.1
           ∙ sym second
-          ∙ ap (state_seen Pass) (steps-join k c st p p' b num.some f w word)
+          ∙ ap (state_seen pass) (steps-join k c st p p' b num.some f w word)
           ∙ part-good k c st (p ++ p') called b (rw (length-append p p') f) (append-below p p' h l),
     )
 
@@ -304,7 +303,7 @@ splits k st p p' w t =
     let g = good-part k i.0 st (p ++ p') i.1 t in
     join k i.0 st p p' i.1 g.has-begun (rw (length-append p p') at g.fit) w (below-front p p' g.below) (below-behind p p' g.below)
 
-joins : (k : Call) (c : Scheme) (st p p' : List ℕ) → named st ≡ Known c → Below (wrap * wrap) st → taken st % (fixed_of c).n + length (p ++ p') ≤ (fixed_of c).n
+joins : (k : Call) (c : Scheme) (st p p' : List ℕ) → named st ≡ Some c → Below (wrap * wrap) st → taken st % (fixed_of c).n + length (p ++ p') ≤ (fixed_of c).n
     → Accepts k st p → Accepts k (next k st p) p' → part_result k (next k st p) p' ≡ part_result k st (p ++ p')
 unfolding stepped
 joins k c st p p' called w row t u =
@@ -321,12 +320,12 @@ unfolding state_shown
 empty-part k st = go (part_tests k (named st) st []) refl
   where
     go : (v : Verdict) → part_tests k (named st) st [] ≡ v → next k st [] ≡ st
-    go Pass e =
+    go (Ok _) e =
         let t : Accepts k st [] = ap number_in e in
         let i = scheme-named k st [] t in
         let g = good-part k i.0 st [] i.1 t in
         g.is ∙ none k i.0 st g.has-begun
-    go (Fail r) e = ap (λ v. if_passed v (part_state k (named st) st []) st) e
+    go (Err r) e = ap (λ v. if_passed v (part_state k (named st) st []) st) e
 
 -- ---- accepted parts, one after the other
 
@@ -335,7 +334,7 @@ unfolding joined
 took-parts Took.none = Parts.none
 took-parts (Took.more p t ts) = Parts.more p t (took-parts ts)
 
-pub takes : (k : Call) (c : Scheme) (st : List ℕ) (ps : List (List ℕ)) → named st ≡ Known c → begun k (fixed_of c) st ≡ true → 0 < (fixed_of c).n
+pub takes : (k : Call) (c : Scheme) (st : List ℕ) (ps : List (List ℕ)) → named st ≡ Some c → begun k (fixed_of c) st ≡ true → 0 < (fixed_of c).n
     → WithinRows (fixed_of c).n (taken st) ps → Below (fixed_of c).q (joined ps) → taken st + length (joined ps) ≤ (fixed_of c).n * (fixed_of c).n
     → (last : List ℕ) × Took k st ps last
 unfolding joined stepped
@@ -369,7 +368,7 @@ pub record Cut (k : Call) (c : Scheme) (st : List ℕ) (ps : List (List ℕ)) (l
   pub below : Below (fixed_of c).q (joined ps)
   pub few : taken st + length (joined ps) ≤ (fixed_of c).n * (fixed_of c).n
 
-pub took-cut : (k : Call) (c : Scheme) {st last : List ℕ} {ps : List (List ℕ)} → named st ≡ Known c → taken st ≤ (fixed_of c).n * (fixed_of c).n
+pub took-cut : (k : Call) (c : Scheme) {st last : List ℕ} {ps : List (List ℕ)} → named st ≡ Some c → taken st ≤ (fixed_of c).n * (fixed_of c).n
     → Took k st ps last → Cut k c st ps last
 unfolding joined steps stepped
 took-cut k c called m Took.none =

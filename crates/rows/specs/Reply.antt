@@ -8,13 +8,13 @@
 --   reply_end_message, reply_end_key   message and key: that part and the hints of V; the published bits of V
 --   reply_end_result st m       its promise, likewise: the state is zeros; refused, it stays as it was
 --   reply_begin_lem, reply_begin_of  what is lent, from the slices of a contract, and from lists
-use Rattle.std.specs.Prelude.{List, [], ◌++◌, ℕ, ℤ, length, replicate}
-use Rattle.schemes.specs.{Schemes.fixed_of, declared.Named.Named, declared.Scheme.Scheme, declared.Named.TheVariants.Known, declared.Named.TheVariants.Unknown}
+use Rattle.std.specs.Prelude.{Err, Some, None, Option, List, [], ◌++◌, ℕ, ℤ, length, replicate}
+use Rattle.schemes.specs.{Schemes.fixed_of, declared.Scheme.Scheme}
 use Rattle.packing.specs.Packing.{packed}
 use Rattle.sponge.specs.Sponge.{sha3}
 use Rattle.refusals.specs.Refusals.{◌then◌, length_is_lem, room_for_lem, in_turn, not_blank_lem, secrets_in_lem}
 use Rattle.refusals.specs.declared.Refusal.TheVariants.{NoScheme, OutOfTurn}
-use Rattle.refusals.specs.{Seen.if_passed, declared.Verdict.Verdict, declared.Verdict.TheVariants.Fail}
+use Rattle.refusals.specs.{Seen.if_passed, Refusals.Verdict}
 use Rattle.values.specs.{Values.mixed_value, Keys.hints, Keys.keys}
 use Rattle.wire.specs.Wire.{opened_in, numbers_in, coins_in}
 use Rattle.reply.specs.Reply.{ReplyRooms, ReplySeen, outputs}
@@ -30,9 +30,9 @@ pub record ReplyBegin : Type 0 where
   pub e' : List ℤ
   pub e'' : List ℤ
 
-unfoldable pub reply_begin_tests : Named → ReplyBegin → ℕ → Verdict
-reply_begin_tests Unknown x m = Fail NoScheme
-reply_begin_tests (Known c) x m =
+unfoldable pub reply_begin_tests : Option Scheme → ReplyBegin → ℕ → Verdict
+reply_begin_tests None x m = Err NoScheme
+reply_begin_tests (Some c) x m =
     length_is_lem (length x.opening) (fixed_of c).opening
     then length_is_lem (length x.s') (fixed_of c).secret
     then length_is_lem (length x.e') (fixed_of c).noise
@@ -46,31 +46,31 @@ reply_begin_tests (Known c) x m =
 unfoldable pub value_of : Scheme → ReplyBegin → List ℕ
 value_of c x = mixed_value c (numbers_in c (opened_in c x.opening)) x.s' x.e''
 
-unfoldable pub reply_state : Named → ReplyBegin → List ℕ
-reply_state Unknown x = []
-reply_state (Known c) x = laid (fresh Call.Reply c (value_of c x) x.s' x.e')
+unfoldable pub reply_state : Option Scheme → ReplyBegin → List ℕ
+reply_state None x = []
+reply_state (Some c) x = laid (fresh Call.Reply c (value_of c x) x.s' x.e')
 
-abbrev pub reply_begin_result : Named → ReplyBegin → ℕ → StateSeen
+abbrev pub reply_begin_result : Option Scheme → ReplyBegin → ℕ → StateSeen
 reply_begin_result c x m = state_shown (reply_begin_tests c x m) (reply_state c x) (replicate m 0)
 
 -- ---- end
 
-unfoldable pub reply_end_tests : Named → List ℕ → ReplyRooms → Verdict
-reply_end_tests Unknown st m = Fail OutOfTurn
-reply_end_tests (Known c) st m =
+unfoldable pub reply_end_tests : Option Scheme → List ℕ → ReplyRooms → Verdict
+reply_end_tests None st m = Err OutOfTurn
+reply_end_tests (Some c) st m =
     in_turn (complete Call.Reply (fixed_of c) st)
     then room_for_lem m.message (fixed_of c).reply
     then room_for_lem m.key (fixed_of c).key
     then room_for_lem m.digest 32
     then not_blank_lem (sent_part c st)
 
-unfoldable pub reply_end_message : Named → List ℕ → List ℕ
-reply_end_message Unknown st = []
-reply_end_message (Known c) st = sent_part c st ++ packed (fixed_of c).hintbits (hints c (coins_in c []) (saved_of st))
+unfoldable pub reply_end_message : Option Scheme → List ℕ → List ℕ
+reply_end_message None st = []
+reply_end_message (Some c) st = sent_part c st ++ packed (fixed_of c).hintbits (hints c (coins_in c []) (saved_of st))
 
-unfoldable pub reply_end_key : Named → List ℕ → List ℕ
-reply_end_key Unknown st = []
-reply_end_key (Known c) st = packed (fixed_of c).keybits (keys c (coins_in c []) (saved_of st))
+unfoldable pub reply_end_key : Option Scheme → List ℕ → List ℕ
+reply_end_key None st = []
+reply_end_key (Some c) st = packed (fixed_of c).keybits (keys c (coins_in c []) (saved_of st))
 
 abbrev pub reply_end_result : List ℕ → ReplyRooms → EndSeen ReplySeen
 reply_end_result st m =

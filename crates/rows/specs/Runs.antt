@@ -13,8 +13,8 @@
 --                          among them, and an end, with room for n bytes or the rooms o, of which t is seen besides the state
 --   OfferAccepted, ReplyAccepted   a begin of the scheme c on the inputs x with a state of its fixed length, the parts ps and an end with such rooms, and none
 --                          of them refused
-use Rattle.std.specs.Prelude.{◌≡◌, List, [], ◌∷◌, ◌++◌, ℕ, ◌+◌, ◌%◌, ◌≤◌, ◌<◌, length}
-use Rattle.schemes.specs.{Schemes.fixed_of, declared.Named.TheVariants.Known, declared.Scheme.Scheme}
+use Rattle.std.specs.Prelude.{Some, ◌≡◌, List, [], ◌∷◌, ◌++◌, ℕ, ◌+◌, ◌%◌, ◌≤◌, ◌<◌, length}
+use Rattle.schemes.specs.{Schemes.fixed_of, declared.Scheme.Scheme}
 use Rattle.refusals.specs.Seen.{Seen}
 use Rattle.reply.specs.Reply.{ReplyRooms, ReplySeen}
 use Rattle.rows_state.specs.{State.long, State.stepped, Part.StateSeen, Part.part_result, declared.Call.Call}
@@ -64,17 +64,17 @@ pub record RunBy {T : Type 0} (begin : StateSeen) (go : List ℕ → List ℕ �
   pub ends : t ≡ end last
 
 abbrev pub OfferRun : Scheme → OfferBegin → List ℕ → ℕ → Seen ℕ → Type 0
-OfferRun c x a n t = (m : ℕ) × RunBy (offer_begin_result (Known c) x m) (λ st st'. Parts Call.Offer st a st') (λ st. (offer_end_result st n).answer) t
+OfferRun c x a n t = (m : ℕ) × RunBy (offer_begin_result (Some c) x m) (λ st st'. Parts Call.Offer st a st') (λ st. (offer_end_result st n).answer) t
 
 abbrev pub ReplyRun : Scheme → ReplyBegin → List ℕ → ReplyRooms → ReplySeen → Type 0
-ReplyRun c x a o t = (m : ℕ) × RunBy (reply_begin_result (Known c) x m) (λ st st'. Parts Call.Reply st a st') (λ st. (reply_end_result st o).answer) t
+ReplyRun c x a o t = (m : ℕ) × RunBy (reply_begin_result (Some c) x m) (λ st st'. Parts Call.Reply st a st') (λ st. (reply_end_result st o).answer) t
 
 -- ---- none of them refused
 
 abbrev pub OfferAccepted : Scheme → OfferBegin → List (List ℕ) → ℕ → Type 0
 OfferAccepted c x ps n =
-    RunBy (offer_begin_result (Known c) x (long (fixed_of c).n)) (λ st st'. Took Call.Offer st ps st') (λ st. (offer_end_result st n).answer.number) 0
+    RunBy (offer_begin_result (Some c) x (long (fixed_of c).n)) (λ st st'. Took Call.Offer st ps st') (λ st. (offer_end_result st n).answer.number) 0
 
 abbrev pub ReplyAccepted : Scheme → ReplyBegin → List (List ℕ) → ReplyRooms → Type 0
 ReplyAccepted c x ps o =
-    RunBy (reply_begin_result (Known c) x (long (fixed_of c).n)) (λ st st'. Took Call.Reply st ps st') (λ st. (reply_end_result st o).answer.number) 0
+    RunBy (reply_begin_result (Some c) x (long (fixed_of c).n)) (λ st st'. Took Call.Reply st ps st') (λ st. (reply_end_result st o).answer.number) 0

@@ -15,16 +15,16 @@
 --   EarlyOffer, EarlyReply   where the parts do not fill the rows, it gives 11, and zeros
 --   OfferTaken, ReplyTaken   of parts that do not run past the end of their row, begin, all parts and end are accepted exactly if the whole-matrix call accepts the
 --                     joined matrix
-use Rattle.std.specs.Prelude.{◌≡◌, ◌↔◌, true, List, [], ◌++◌, ℕ, ◌+◌, ◌*◌, ◌/◌, ◌%◌, ◌≤◌, ◌<◌, ℤ, length, take, drop, ◌≢◌}
+use Rattle.std.specs.Prelude.{Err, Some, ◌≡◌, ◌↔◌, true, List, [], ◌++◌, ℕ, ◌+◌, ◌*◌, ◌/◌, ◌%◌, ◌≤◌, ◌<◌, ℤ, length, take, drop, ◌≢◌}
 use Rattle.schemes.specs.Schemes.{family_of, fixed_of, scheme_of_lem}
-use Rattle.schemes.specs.{declared.Family.Family, declared.Named.TheVariants.Known, declared.Scheme.Scheme}
+use Rattle.schemes.specs.{declared.Family.Family, declared.Scheme.Scheme}
 use Rattle.lists.specs.Ranges.{Below}
 use Rattle.matrix.specs.{Matrix.right_mixed, Matrix.left_mixed, Words.words_of, Words.gained, Words.reduced}
 use Rattle.parts.specs.Parts.{wrap}
-use Rattle.refusals.specs.declared.Verdict.TheVariants.{Pass, Fail}
+use Rattle.refusals.specs.Refusals.{pass}
 use Rattle.refusals.specs.{Seen.Seen, Seen.shown, declared.Refusal.TheVariants.OutOfTurn}
-use Rattle.offer.specs.Offer.{offer_of, offer_tests, offer_result}
-use Rattle.reply.specs.Reply.{ReplyRooms, ReplySeen, reply_of, reply_tests, outputs, reply_result}
+use Rattle.offer.specs.Offer.{offer, offer_tests, offer_result}
+use Rattle.reply.specs.Reply.{ReplyRooms, ReplySeen, reply, reply_tests, outputs, reply_result}
 use Rattle.rows_state.specs.State.{frodo_of_lem, long, named, taken, secret_of, sums_of, held_of, laid, secret_words_lem, begun, terms}
 use Rattle.rows_state.specs.{Part.part_result, declared.Call.Call}
 use Rattle.rows.specs.Runs.{Accepts, next, Refused, Parts, Good, joined, steps, WithinRows, OfferRun, ReplyRun, OfferAccepted, ReplyAccepted}
@@ -33,7 +33,7 @@ use Rattle.rows.specs.{Offer.OfferBegin, Reply.ReplyBegin}
 -- ---- the state
 
 abbrev pub Frodos : Type 0
-Frodos = (k : ℕ) (c : Scheme) → (frodo_of_lem k ≡ Known c) ↔ (scheme_of_lem k ≡ Known c) × (family_of c ≡ Family.Frodo)
+Frodos = (k : ℕ) (c : Scheme) → (frodo_of_lem k ≡ Some c) ↔ (scheme_of_lem k ≡ Some c) × (family_of c ≡ Family.Frodo)
 
 abbrev pub Allowed : Type 0
 Allowed = (n : ℕ) → long n ≤ 32 * n + 256
@@ -44,7 +44,7 @@ abbrev pub Joining : Type 0
 Joining =
     ((k : Call) (st p p' : List ℕ) → Below (wrap * wrap) st → Accepts k st (p ++ p') →
     Accepts k st p × (part_result k (next k st p) p' ≡ part_result k st (p ++ p')))
-    × ((k : Call) (c : Scheme) (st p p' : List ℕ) → named st ≡ Known c → Below (wrap * wrap) st →
+    × ((k : Call) (c : Scheme) (st p p' : List ℕ) → named st ≡ Some c → Below (wrap * wrap) st →
     taken st % (fixed_of c).n + length (p ++ p') ≤ (fixed_of c).n → Accepts k st p → Accepts k (next k st p) p' →
     part_result k (next k st p) p' ≡ part_result k st (p ++ p'))
 
@@ -59,7 +59,7 @@ blocks n xs = length xs / (16 * n) * (16 * n)
 
 abbrev pub Running : Type 0
 Running =
-    (k : Call) (c : Scheme) (st xs last : List ℕ) → named st ≡ Known c → begun k (fixed_of c) st ≡ true → taken st ≡ 0 → Below (wrap * wrap) st →
+    (k : Call) (c : Scheme) (st xs last : List ℕ) → named st ≡ Some c → begun k (fixed_of c) st ≡ true → taken st ≡ 0 → Below (wrap * wrap) st →
     Parts k st xs last →
     (taken last ≡ length xs)
     × (sums_of (fixed_of c).n last
@@ -88,31 +88,31 @@ Once =
 abbrev pub SameOffer : Type 0
 SameOffer =
     (c : Scheme) (x : OfferBegin) (a : List ℕ) (n : ℕ) (t : Seen ℕ) → family_of c ≡ Family.Frodo → Below 256 x.seed → OfferRun c x a n t →
-    length a ≡ (fixed_of c).public → t ≡ offer_result (Known c) (offer_of a x.s x.e x.seed) n
+    length a ≡ (fixed_of c).public → t ≡ offer_result (Some c) (offer a x.s x.e x.seed) n
 
 abbrev pub EarlyOffer : Type 0
 EarlyOffer =
     (c : Scheme) (x : OfferBegin) (a : List ℕ) (n : ℕ) (t : Seen ℕ) → family_of c ≡ Family.Frodo → Below 256 x.seed → OfferRun c x a n t →
-    length a ≢ (fixed_of c).public → t ≡ shown (Fail OutOfTurn) [] 0 n
+    length a ≢ (fixed_of c).public → t ≡ shown (Err OutOfTurn) [] 0 n
 
 abbrev pub SameReply : Type 0
 SameReply =
     (c : Scheme) (x : ReplyBegin) (a : List ℕ) (m : ReplyRooms) (t : ReplySeen) → family_of c ≡ Family.Frodo → ReplyRun c x a m t →
-    length a ≡ (fixed_of c).public → t ≡ reply_result (Known c) (reply_of x.opening a x.s' x.e' x.e'' []) m
+    length a ≡ (fixed_of c).public → t ≡ reply_result (Some c) (reply x.opening a x.s' x.e' x.e'' []) m
 
 abbrev pub EarlyReply : Type 0
 EarlyReply =
     (c : Scheme) (x : ReplyBegin) (a : List ℕ) (m : ReplyRooms) (t : ReplySeen) → family_of c ≡ Family.Frodo → ReplyRun c x a m t →
-    length a ≢ (fixed_of c).public → t ≡ outputs (Fail OutOfTurn) [] [] [] m
+    length a ≢ (fixed_of c).public → t ≡ outputs (Err OutOfTurn) [] [] [] m
 
 -- ---- accepted as whole
 
 abbrev pub OfferTaken : Type 0
 OfferTaken =
     (c : Scheme) (x : OfferBegin) (ps : List (List ℕ)) (n : ℕ) → family_of c ≡ Family.Frodo → Below 256 x.seed → WithinRows (fixed_of c).n 0 ps →
-    (offer_tests (Known c) (offer_of (joined ps) x.s x.e x.seed) n ≡ Pass) ↔ OfferAccepted c x ps n
+    (offer_tests (Some c) (offer (joined ps) x.s x.e x.seed) n ≡ pass) ↔ OfferAccepted c x ps n
 
 abbrev pub ReplyTaken : Type 0
 ReplyTaken =
     (c : Scheme) (x : ReplyBegin) (ps : List (List ℕ)) (m : ReplyRooms) → family_of c ≡ Family.Frodo → WithinRows (fixed_of c).n 0 ps →
-    (reply_tests (Known c) (reply_of x.opening (joined ps) x.s' x.e' x.e'' []) m ≡ Pass) ↔ ReplyAccepted c x ps m
+    (reply_tests (Some c) (reply x.opening (joined ps) x.s' x.e' x.e'' []) m ≡ pass) ↔ ReplyAccepted c x ps m

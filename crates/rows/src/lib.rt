@@ -14,40 +14,39 @@ ghost use Rattle.rows.specs.Reply.{reply_begin_lem, reply_begin_result, reply_en
 mod opener;
 mod replier;
 
-use refusals::{Answer, Refusal, Verdict};
-use reply::ReplyAnswer;
+use refusals::Refusal;
+use reply::ReplyCounts;
 use rows_state::Call;
-use schemes::Named;
 
 // Offer, begin: the secret s, the noise e and the seed into the state, afresh.
-pub fn offer_begin(scheme: u32, s: &[i32], e: &[i32], seed: &[u8], state: &mut [u32]) -> Verdict
+pub fn offer_begin(
+    scheme: u32,
+    s: &[i32],
+    e: &[i32],
+    seed: &[u8],
+    state: &mut [u32],
+) -> Result<(), Refusal>
     ensures { state_seen result state.new ≡ offer_begin_result (frodo_of_lem scheme) (offer_begin_lem s.now e.now seed.now) (length state.old) }
 {
-    lists::zero_numbers(state);
-    let Named::Known(known) = rows_state::state::frodo_of(scheme) else {
-        return Verdict::Fail(Refusal::NoScheme);
-    };
+    state.fill(0);
+    let known = rows_state::state::frodo_of(scheme).ok_or(Refusal::NoScheme)?;
     opener::begin_in(known, s, e, seed, state)
 }
 
 // Offer, a part: some numbers of the current row of A.
-pub fn offer_part(p: &[u32], state: &mut [u32]) -> Verdict
+pub fn offer_part(p: &[u32], state: &mut [u32]) -> Result<(), Refusal>
     ensures { state_seen result state.new ≡ part_result Call.Offer state.old p.now }
 {
     rows_state::part::part(Call::Offer, p, state)
 }
 
 // Offer, end: the opening message.
-pub fn offer_end(state: &mut [u32], message: &mut [u8]) -> Answer
+pub fn offer_end(state: &mut [u32], message: &mut [u8]) -> Result<usize, Refusal>
     ensures { record { answer = seen (told result) message.new; state = state.new } ≡ offer_end_result state.old (length message.old) }
 {
-    match opener::send(state, message) {
-        Answer::Refused(r) => Answer::Refused(r),
-        Answer::Done(n) => {
-            lists::zero_numbers(state);
-            Answer::Done(n)
-        }
-    }
+    let n = opener::send(state, message)?;
+    state.fill(0);
+    Ok(n)
 }
 
 // Reply, begin: the opening message, the secret s' and the noise e' and e'' into the state, afresh.
@@ -58,18 +57,16 @@ pub fn reply_begin(
     e1: &[i32],
     e2: &[i32],
     state: &mut [u32],
-) -> Verdict
+) -> Result<(), Refusal>
     ensures { state_seen result state.new ≡ reply_begin_result (frodo_of_lem scheme) (reply_begin_lem opening.now s1.now e1.now e2.now) (length state.old) }
 {
-    lists::zero_numbers(state);
-    let Named::Known(known) = rows_state::state::frodo_of(scheme) else {
-        return Verdict::Fail(Refusal::NoScheme);
-    };
+    state.fill(0);
+    let known = rows_state::state::frodo_of(scheme).ok_or(Refusal::NoScheme)?;
     replier::begin_in(known, opening, s1, e1, e2, state)
 }
 
 // Reply, a part: some numbers of the current row of A.
-pub fn reply_part(p: &[u32], state: &mut [u32]) -> Verdict
+pub fn reply_part(p: &[u32], state: &mut [u32]) -> Result<(), Refusal>
     ensures { state_seen result state.new ≡ part_result Call.Reply state.old p.now }
 {
     rows_state::part::part(Call::Reply, p, state)
@@ -81,15 +78,12 @@ pub fn reply_end(
     message: &mut [u8],
     key: &mut [u8],
     digest: &mut [u8],
-) -> ReplyAnswer
+) -> Result<ReplyCounts, Refusal>
     ensures { record { answer = reply_seen (reply_told result) message.new key.new digest.new; state = state.new } ≡ reply_end_result state.old (reply_rooms message.old key.old digest.old) }
 {
-    lists::zero_bytes(digest);
-    let a = replier::send(state, message, key, digest.len());
-    let ReplyAnswer::Done(n) = a else {
-        return a;
-    };
+    digest.fill(0);
+    let n = replier::send(state, message, key, digest.len())?;
     sponge::lay_digest(&key[..n.key], digest);
-    lists::zero_numbers(state);
-    ReplyAnswer::Done(n)
+    state.fill(0);
+    Ok(n)
 }

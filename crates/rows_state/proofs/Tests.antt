@@ -6,13 +6,13 @@
 --   completes, complete-so   all of A has come, likewise
 --   Frodos, frodos, frodo-named   what Frodo's schemes have in common; a state names none but these
 --   square                   n n is small
+use Rattle.std.proofs.Common.{Some, None, Option}
 use Rattle.lists.proofs.Kit.{refl, sym, ap, Bool, true, false, List, ℕ, arith, le_of_eq, mul-le-mul, leb-true, eqb-true}
 use Rattle.std.proofs.Common.{◌≡◌, ◌+◌, ◌*◌, ◌%◌, ◌^◌, ◌<◌, ◌≤◌}
 use Rattle.lists.proofs.Kit.{eq-eqb, le-leb, lt-leb, leb, length, get_or}
 use Rattle.schemes.specs.declared.Scheme.TheVariants.{Bcns, NewHope, Challenge, Classical, Recommended, Paranoid}
-use Rattle.schemes.specs.declared.Named.TheVariants.{Known, Unknown}
 use Rattle.schemes.specs.Schemes.{family_of, fixed_of, scheme_of_lem}
-use Rattle.schemes.specs.{declared.Fixed.Fixed, declared.Family.Family, declared.Named.Named, declared.Scheme.Scheme}
+use Rattle.schemes.specs.{declared.Fixed.Fixed, declared.Family.Family, declared.Scheme.Scheme}
 use Rattle.lists.specs.{Ranges.Below, First.first_over_lem}
 use Rattle.lists.proofs.{First.none_found, Table.both_true}
 use Rattle.rows_state.specs.State.{frodo_in_lem, frodo_of_lem, tag_of, long, taken, saved_of, ◌and◌, all_below, saved_in, begun, fits_in_lem, complete, Call}
@@ -106,22 +106,22 @@ frodos Classical e = record { seed = refl; coins = refl; words = refl; sixteens 
 frodos Recommended e = record { seed = refl; coins = refl; words = refl; sixteens = refl; power = refl; coinbits = refl }
 frodos Paranoid e = record { seed = refl; coins = refl; words = refl; sixteens = refl; power = refl; coinbits = refl }
 
-unknown-is : {X : Type 0} {c : Scheme} → Unknown ≡ Known c → X
+unknown-is : {X : Type 0} {c : Scheme} → None ≡ Some c → X
 unknown-is e = let z : ◌≡◌ {A = ℕ} 0 1 = cc in absurd (omega arith)
 
-scheme_in : Named → Scheme → Scheme
-scheme_in Unknown d = d
-scheme_in (Known c) d = c
+scheme_in : Option Scheme → Scheme → Scheme
+scheme_in None d = d
+scheme_in (Some c) d = c
 
-pub frodo-in : (x : Named) (c : Scheme) → frodo_in_lem x ≡ Known c → (x ≡ Known c) × (family_of c ≡ Family.Frodo)
+pub frodo-in : (x : Option Scheme) (c : Scheme) → frodo_in_lem x ≡ Some c → (x ≡ Some c) × (family_of c ≡ Family.Frodo)
 unfolding scheme_in
-frodo-in Unknown c e = unknown-is e
-frodo-in (Known Bcns) c e = unknown-is e
-frodo-in (Known NewHope) c e = unknown-is e
-frodo-in (Known Challenge) c e = (e, ap (λ (y : Named). family_of (scheme_in y c)) (sym e))
-frodo-in (Known Classical) c e = (e, ap (λ (y : Named). family_of (scheme_in y c)) (sym e))
-frodo-in (Known Recommended) c e = (e, ap (λ (y : Named). family_of (scheme_in y c)) (sym e))
-frodo-in (Known Paranoid) c e = (e, ap (λ (y : Named). family_of (scheme_in y c)) (sym e))
+frodo-in None c e = unknown-is e
+frodo-in (Some Bcns) c e = unknown-is e
+frodo-in (Some NewHope) c e = unknown-is e
+frodo-in (Some Challenge) c e = (e, ap (λ (y : Option Scheme). family_of (scheme_in y c)) (sym e))
+frodo-in (Some Classical) c e = (e, ap (λ (y : Option Scheme). family_of (scheme_in y c)) (sym e))
+frodo-in (Some Recommended) c e = (e, ap (λ (y : Option Scheme). family_of (scheme_in y c)) (sym e))
+frodo-in (Some Paranoid) c e = (e, ap (λ (y : Option Scheme). family_of (scheme_in y c)) (sym e))
 
-pub frodo-named : (k : ℕ) (c : Scheme) → frodo_of_lem k ≡ Known c → family_of c ≡ Family.Frodo
+pub frodo-named : (k : ℕ) (c : Scheme) → frodo_of_lem k ≡ Some c → family_of c ≡ Family.Frodo
 frodo-named k c e = (frodo-in (scheme_of_lem k) c e).1

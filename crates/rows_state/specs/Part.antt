@@ -7,10 +7,12 @@
 --   part_state k c st p    the state with the part
 --   part_result k st p     its promise: what is seen, as a function of what is lent; refused, the state stays as it was
 --   StateSeenAll          `state_seen` forgets nothing: from what is seen come the verdict and the state
+use Rattle.std.specs.Prelude.{Err, Some, None, Option}
+use Rattle.schemes.specs.declared.Scheme.{Scheme}
 use Rattle.std.specs.Prelude.{◌≡◌, List, ℕ, length}
-use Rattle.schemes.specs.{Schemes.fixed_of, declared.Named.Named, declared.Named.TheVariants.Known, declared.Named.TheVariants.Unknown}
+use Rattle.schemes.specs.{Schemes.fixed_of}
 use Rattle.refusals.specs.Refusals.{number_in, place_in, ◌then◌, in_turn, publics_in_lem}
-use Rattle.refusals.specs.{Seen.if_passed, declared.Verdict.Verdict, declared.Verdict.TheVariants.Fail, declared.Refusal.TheVariants.OutOfTurn}
+use Rattle.refusals.specs.{Seen.if_passed, Refusals.Verdict, declared.Refusal.TheVariants.OutOfTurn}
 use Rattle.rows_state.specs.State.{named, taken, ◌and◌, begun, fits_in_lem, stepped, Call}
 
 pub record StateSeen : Type 0 where
@@ -26,15 +28,15 @@ state_seen r after = record { number = number_in r; place = place_in r; state = 
 
 -- ---- a part
 
-unfoldable pub part_tests : Call → Named → List ℕ → List ℕ → Verdict
-part_tests k Unknown st p = Fail OutOfTurn
-part_tests k (Known c) st p =
+unfoldable pub part_tests : Call → Option Scheme → List ℕ → List ℕ → Verdict
+part_tests k None st p = Err OutOfTurn
+part_tests k (Some c) st p =
     in_turn (begun k (fixed_of c) st and fits_in_lem (fixed_of c).n (taken st) (length p))
     then publics_in_lem (fixed_of c).q p
 
-unfoldable pub part_state : Call → Named → List ℕ → List ℕ → List ℕ
-part_state k Unknown st p = st
-part_state k (Known c) st p = stepped k (fixed_of c).n st p
+unfoldable pub part_state : Call → Option Scheme → List ℕ → List ℕ → List ℕ
+part_state k None st p = st
+part_state k (Some c) st p = stepped k (fixed_of c).n st p
 
 abbrev pub part_result : Call → List ℕ → List ℕ → StateSeen
 part_result k st p = state_shown (part_tests k (named st) st p) (part_state k (named st) st p) st

@@ -26,21 +26,21 @@
 --   held_with n st p      the numbers that are held back, with the part p behind them
 --   sums_with k n st p    the sums with the part p, which sixteen rows enter where it fills them
 --   stepped k n st p     the state with the part p
+use Rattle.std.specs.Prelude.{Some, None, Option}
 use Rattle.std.specs.Prelude.{Bool, cond, List, ◌∷◌, ◌++◌, ℕ, ◌+◌, ◌*◌, ◌-◌, ◌%◌, eqb, leb, ℤ, length, get_or, take, drop, replicate}
 use Rattle.schemes.specs.Schemes.{by_family, family_of, fixed_of, scheme_number, scheme_of_lem}
-use Rattle.schemes.specs.declared.Named.TheVariants.{Known, Unknown}
-use Rattle.schemes.specs.{declared.Fixed.Fixed, declared.Named.Named, declared.Scheme.Scheme}
+use Rattle.schemes.specs.{declared.Fixed.Fixed, declared.Scheme.Scheme}
 use Rattle.lists.specs.First.{first_over_lem, both}
 use Rattle.matrix.specs.Words.{words_of, columns_of, gained, right_term, left_term}
 use Rattle.parts.specs.Parts.{wrap, words, pairs, placed}
 pub use Rattle.rows_state.specs.declared.Call.{Call}
 
 -- 1 reads here: the scheme is not 2 to 5
-abbrev pub frodo_in_lem : Named → Named
-frodo_in_lem Unknown = Unknown
-frodo_in_lem (Known c) = by_family (family_of c) Unknown Unknown (Known c)
+abbrev pub frodo_in_lem : Option Scheme → Option Scheme
+frodo_in_lem None = None
+frodo_in_lem (Some c) = by_family (family_of c) None None (Some c)
 
-abbrev pub frodo_of_lem : ℕ → Named
+abbrev pub frodo_of_lem : ℕ → Option Scheme
 frodo_of_lem k = frodo_in_lem (scheme_of_lem k)
 
 abbrev pub tag_of : Call → ℕ
@@ -52,7 +52,7 @@ tag_of Call.Reply = 4
 abbrev pub long : ℕ → ℕ
 long n = 16 * n + 67
 
-abbrev pub named : List ℕ → Named
+abbrev pub named : List ℕ → Option Scheme
 named st = frodo_of_lem (get_or st 1 0)
 
 abbrev pub taken : List ℕ → ℕ

@@ -3,10 +3,10 @@
 // of 32 bits, to which each part is added as it comes, would hold no rows back; but a vector has half as many such words, plain x86-64 multiplies no four of them,
 // and a part has one row where the products take several into a sum: tried in C, such sums took 1.8 to 2.1 times as long. Sixteen divides n in every set, so that no
 // row is left at the end. As words sixteen rows take the room that eight would take as numbers.
+ghost use Rattle.std.specs.Prelude.{Some};
 ghost use Rattle.std.specs.Prelude.{◌≡◌, true, ◌+◌, ◌*◌, ◌%◌, ◌<◌, ◌≤◌, length, take, drop};
 ghost use Rattle.schemes.specs.Schemes.{family_of, fixed_of};
 ghost use Rattle.schemes.specs.declared.Family.{Family};
-ghost use Rattle.schemes.specs.declared.Named.TheVariants.{Known};
 ghost use Rattle.lists.specs.Ranges.{Below};
 ghost use Rattle.matrix.specs.Steps.{part_term};
 ghost use Rattle.matrix.specs.Words.{gained, right_term};
@@ -18,8 +18,8 @@ ghost use Rattle.rows_state.specs.Part.{part_tests, state_seen, part_result};
 ghost use Rattle.rows_state.specs.Inside.{holding, entered, Sized};
 
 use crate::Call;
-use refusals::{Refusal, Verdict};
-use schemes::{Named, Scheme};
+use refusals::Refusal;
+use schemes::Scheme;
 
 // The part p, as words, behind those that are held back, and in the count.
 fn hold(n: usize, at: usize, p: &[u32], state: &mut [u32])
@@ -169,39 +169,31 @@ fn put_part(call: Call, n: usize, p: &[u32], state: &mut [u32])
 }
 
 // Its numbers first.
-fn take_part(call: Call, q: u32, n: usize, p: &[u32], state: &mut [u32]) -> Verdict
+fn take_part(call: Call, q: u32, n: usize, p: &[u32], state: &mut [u32]) -> Result<(), Refusal>
     requires { (0 < q) × (q ≤ 32768) × Sized n state.old × (fits_in_lem n (taken state.old) (length p.now) ≡ true) }
     ensures value { result ≡ publics_in_lem q p.now }
     ensures state_value { state.new ≡ if_passed result (stepped call n state.old p.now) state.old }
 {
-    let v = refusals::publics_in(Verdict::Pass, q, p);
-    match v {
-        Verdict::Fail(r) => Verdict::Fail(r),
-        Verdict::Pass => {
-            put_part(call, n, p, state);
-            Verdict::Pass
-        }
-    }
+    refusals::publics_in(q, p)?;
+    put_part(call, n, p, state);
+    Ok(())
 }
 
-fn part_in(call: Call, scheme: Scheme, p: &[u32], state: &mut [u32]) -> Verdict
+fn part_in(call: Call, scheme: Scheme, p: &[u32], state: &mut [u32]) -> Result<(), Refusal>
     requires { family_of scheme ≡ Family.Frodo }
-    ensures value { result ≡ part_tests call (Known scheme) state.old p.now }
+    ensures value { result ≡ part_tests call (Some scheme) state.old p.now }
     ensures state_value { state.new ≡ if_passed result (stepped call (fixed_of scheme).n state.old p.now) state.old }
 {
     let f = scheme.fixed();
-    let v = refusals::in_turn(crate::state::may_take(call, f, state, p.len()));
-    match v {
-        Verdict::Fail(r) => Verdict::Fail(r),
-        Verdict::Pass => take_part(call, f.q, f.n, p, state),
-    }
+    refusals::in_turn(crate::state::may_take(call, f, state, p.len()))?;
+    take_part(call, f.q, f.n, p, state)
 }
 
-pub fn part(call: Call, p: &[u32], state: &mut [u32]) -> Verdict
+pub fn part(call: Call, p: &[u32], state: &mut [u32]) -> Result<(), Refusal>
     ensures { state_seen result state.new ≡ part_result call state.old p.now }
 {
-    let Named::Known(known) = crate::state::named(state) else {
-        return Verdict::Fail(Refusal::OutOfTurn);
+    let Some(known) = crate::state::named(state) else {
+        return Err(Refusal::OutOfTurn);
     };
     part_in(call, known, p, state)
 }

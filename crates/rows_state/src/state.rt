@@ -7,28 +7,25 @@ ghost use Rattle.rows_state.specs.State.{frodo_of_lem, long, named, taken, saved
 ghost use Rattle.rows_state.specs.Inside.{keeping, Sized};
 
 use crate::Call;
-use schemes::{Family, Fixed, Named, Scheme};
+use schemes::{Family, Fixed, Scheme};
 
 // The scheme that a number names, if it is one of Frodo's.
-pub fn frodo_of(no: u32) -> Named
+pub fn frodo_of(no: u32) -> Option<Scheme>
     ensures { result ≡ frodo_of_lem no }
 {
-    let Named::Known(known) = schemes::scheme_of(no) else {
-        return Named::Unknown;
-    };
+    let known = Scheme::try_from(no).ok()?;
     match known.family() {
-        Family::Bcns => Named::Unknown,
-        Family::NewHope => Named::Unknown,
-        Family::Frodo => Named::Known(known),
+        Family::Frodo => Some(known),
+        _ => None,
     }
 }
 
 // The scheme that a state names.
-pub fn named(state: &[u32]) -> Named
+pub fn named(state: &[u32]) -> Option<Scheme>
     ensures { result ≡ named state.now }
 {
     if state.len() < 2 {
-        return Named::Unknown;
+        return None;
     }
     frodo_of(state[1])
 }

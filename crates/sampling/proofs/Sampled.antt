@@ -5,18 +5,19 @@
 --   grow-below, grow-passes         so of Grow
 --   never-eighteen, eighteen-says   where Noise is refused with 18, and what its place says
 --   same-grown                      two boxes grow the same numbers
+use Rattle.std.proofs.Common.{Ok, Err, Some, None, Option, ◌≡◌, ◌*◌, ◌/◌, ◌<◌, ◌≤◌}
+use Rattle.noise.specs.declared.RuleName.{RuleName}
 use Rattle.lists.proofs.Kit.{refl, ◌∙◌, sym, Bool, true, false, List, ℕ, arith, eqb, ltb, pos, nat_abs, length, take, take_at, ltb-true}
-use Rattle.std.proofs.Common.{◌≡◌, ◌*◌, ◌/◌, ◌<◌, ◌≤◌}
 use Rattle.schemes.specs.declared.Scheme.TheVariants.{Bcns, NewHope, Challenge, Classical, Recommended, Paranoid}
-use Rattle.schemes.specs.{Schemes.fixed_of, Schemes.family_of, Schemes.by_family, Schemes.new_hope, declared.Scheme.Scheme, declared.Named.TheVariants.Known}
+use Rattle.schemes.specs.{Schemes.fixed_of, Schemes.family_of, Schemes.by_family, Schemes.new_hope, declared.Scheme.Scheme}
 use Rattle.lists.specs.Ranges.{Below, Within}
 use Rattle.lists.proofs.Parts.{below-take, below-drop, part-within}
-use Rattle.noise.specs.{Noise.d1, Noise.d2, Noise.d3, Noise.d4, declared.Ruled.Ruled, declared.Ruled.TheVariants.By, declared.Ruled.TheVariants.Unknown}
+use Rattle.noise.specs.{Noise.d1, Noise.d2, Noise.d3, Noise.d4}
 use Rattle.noise.proofs.{Noise.newhope-within, Noise.frodo-within, Stream.by_name-below}
 use Rattle.bcns_noise.specs.Noise.{first_not_above_lem}
 use Rattle.bcns_noise.proofs.Table.{largest-51, each-place}
 use Rattle.refusals.specs.Refusals.{number_in, place_in, ◌then◌, length_is_lem, table_in_lem}
-use Rattle.refusals.specs.{Seen.written, Seen.shown, declared.Verdict.Verdict, declared.Verdict.TheVariants.Pass, declared.Verdict.TheVariants.Fail}
+use Rattle.refusals.specs.{Seen.written, Seen.shown, Refusals.Verdict, Refusals.pass}
 use Rattle.refusals.proofs.Laws.{differ, both, number-zero, within-passes, below-passes}
 use Rattle.refusals.proofs.{Number.and, Number.lengths, Number.rooms, Seen.written_all}
 use Rattle.sampling.specs.Expand.{expand_numbers, expand_result, ExpandPasses, blocks, grow_numbers, grow_tests, grow_result, SameGrown, GrowPasses}
@@ -27,7 +28,7 @@ use Rattle.sampling.proofs.{Noising.sizes-passed, Noising.tests-passed, Expandin
 -- ---- what is written is not refused later
 
 pub values-within : (c : Scheme) (x : Noise) → Below 256 x.bytes → length x.table ≡ by_family (family_of c) 153 0 0
-    → Within (fixed_of c).largest (noise_values_lem (Known c) x)
+    → Within (fixed_of c).largest (noise_values_lem (Some c) x)
 unfolding noise_values_lem
 values-within Bcns x b w = largest-51 x.table x.bytes w
 values-within NewHope x b w = newhope-within x.bytes b
@@ -36,7 +37,7 @@ values-within Classical x b w = frodo-within d2 11 x.bytes
 values-within Recommended x b w = frodo-within d3 11 x.bytes
 values-within Paranoid x b w = frodo-within d4 15 x.bytes
 
-pub noise-within : (c : Scheme) (x : Noise) (n : ℕ) → Below 256 x.bytes → Within (fixed_of c).largest (noise_result (Known c) x n).out.holds
+pub noise-within : (c : Scheme) (x : Noise) (n : ℕ) → Below 256 x.bytes → Within (fixed_of c).largest (noise_result (Some c) x n).out.holds
 unfolding shown
 noise-within c x n b =
     record {
@@ -48,19 +49,19 @@ noise-within c x n b =
 pub noise-passes : NoisePasses
 noise-passes c x n b from many = within-passes (part-within (fixed_of c).largest from many _ (noise-within c x n b))
 
-numbers-below : (k : Ruled) (stream : List ℕ) → Below new_hope.q (expand_numbers k stream)
+numbers-below : (k : Option RuleName) (stream : List ℕ) → Below new_hope.q (expand_numbers k stream)
 unfolding expand_numbers
-numbers-below Unknown stream = record { below = λ i. omega arith }
-numbers-below (By r) stream = by_name-below r stream
+numbers-below None stream = record { below = λ i. omega arith }
+numbers-below (Some r) stream = by_name-below r stream
 
-pub expand-below : (k : Ruled) (stream : List ℕ) (n : ℕ) → Below new_hope.q (expand_result k stream n).out.holds
+pub expand-below : (k : Option RuleName) (stream : List ℕ) (n : ℕ) → Below new_hope.q (expand_result k stream n).out.holds
 unfolding shown
 expand-below k stream n = record { below = written_all 0 (λ i. i < new_hope.q) _ _ n (omega arith) (λ e. (numbers-below k stream).below) }
 
 pub expand-passes : ExpandPasses
 expand-passes k stream n from many = below-passes (below-take (below-drop (expand-below k stream n) from) many)
 
-pub grow-below : (k : Ruled) (seed : List ℕ) (n : ℕ) → Below new_hope.q (grow_result k seed n).out.holds
+pub grow-below : (k : Option RuleName) (seed : List ℕ) (n : ℕ) → Below new_hope.q (grow_result k seed n).out.holds
 unfolding shown
 grow-below k seed n = record { below = written_all 0 (λ i. i < new_hope.q) _ _ n (omega arith) (λ e. (numbers-below k (blocks seed)).below) }
 
@@ -89,7 +90,7 @@ module _ (c : Scheme) (x : Noise) (n : ℕ) where
       (and Other _ _ (either-other (length x.bytes) (each * (fixed_of c).noise) (each * (fixed_of c).mixed) _ refl) (λ e. lengths-other _ _))
       (λ e. rooms Other (λ f. omega arith) (λ f. omega arith) _ _)
 
-  tests-other : (each words : ℕ) → Other (number_in (noise_sizes_lem c each words x n then Pass))
+  tests-other : (each words : ℕ) → Other (number_in (noise_sizes_lem c each words x n then pass))
   tests-other each words = and Other _ _ (sizes-other each words) (λ e f. omega arith)
 
 pub never-eighteen : NeverEighteen
@@ -103,11 +104,11 @@ never-eighteen Paranoid x n e = absurd (tests-other Paranoid x n 2 0 e)
 
 -- where it is 18, the tests before it have passed, and it was the table's
 at_table : (v : Verdict) (p m : ℕ) (t : Bool) → ltb p m ≡ t → Other (number_in v) → number_in (v then table_in_lem p m) ≡ 18
-    → (v ≡ Pass) × (p < m) × (place_in (v then table_in_lem p m) ≡ p)
+    → (v ≡ pass) × (p < m) × (place_in (v then table_in_lem p m) ≡ p)
 unfolding ◌then◌ table_in_lem
-at_table (Fail r) p m t e o f = absurd (o f)
-at_table Pass p m true e o f = (refl, ltb-true p m e, rw e)
-at_table Pass p m false e o f = let z : ◌≡◌ {A = ℕ} 0 18 = rw e at f in absurd (omega arith)
+at_table (Err r) p m t e o f = absurd (o f)
+at_table (Ok _) p m true e o f = (refl, ltb-true p m e, rw e)
+at_table (Ok _) p m false e o f = let z : ◌≡◌ {A = ℕ} 0 18 = rw e at f in absurd (omega arith)
 
 pub eighteen-says : EighteenSays
 unfolding noise_tests_lem noise_sizes_lem
@@ -119,13 +120,13 @@ eighteen-says x n e =
 
 -- ---- two boxes
 
-grown-long : (k : Ruled) (seed : List ℕ) (n : ℕ) → grow_tests k seed n ≡ Pass → length (grow_numbers k seed) ≡ 1024
+grown-long : (k : Option RuleName) (seed : List ℕ) (n : ℕ) → grow_tests k seed n ≡ pass → length (grow_numbers k seed) ≡ 1024
 unfolding grow_tests
-grown-long Unknown seed n e = differ e
-grown-long (By r) seed n e = omega (arith, enough-passed _ _ refl (both _ _ e).1, numbers-few r (blocks seed))
+grown-long None seed n e = differ e
+grown-long (Some r) seed n e = omega (arith, enough-passed _ _ refl (both _ _ e).1, numbers-few r (blocks seed))
 
 -- the answer stands at the front, whatever the room
-grown-front : (k : Ruled) (seed : List ℕ) (n : ℕ) → (grow_result k seed n).number ≡ 0 → take 1024 (grow_result k seed n).out.holds ≡ grow_numbers k seed
+grown-front : (k : Option RuleName) (seed : List ℕ) (n : ℕ) → (grow_result k seed n).number ≡ 0 → take 1024 (grow_result k seed n).out.holds ≡ grow_numbers k seed
 unfolding shown written
 grown-front k seed n z =
     let e = number-zero (grow_tests k seed n) (sym z) in

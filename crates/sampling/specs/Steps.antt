@@ -4,7 +4,7 @@
 --   grow_sizes_lem seed n              Grow's
 use Rattle.std.specs.Prelude.{List, ℕ, ◌*◌, ◌/◌, length}
 use Rattle.schemes.specs.{Schemes.fixed_of, Schemes.new_hope, declared.Scheme.Scheme}
-use Rattle.refusals.specs.{Refusals.◌then◌, Refusals.length_is_lem, Refusals.length_up_to_lem, Refusals.room_for_lem, declared.Verdict.Verdict}
+use Rattle.refusals.specs.{Refusals.◌then◌, Refusals.length_is_lem, Refusals.length_up_to_lem, Refusals.room_for_lem, Refusals.Verdict}
 use Rattle.sampling.specs.Noise.{Noise, length_either_lem}
 
 unfoldable pub noise_sizes_lem : Scheme → ℕ → ℕ → Noise → ℕ → Verdict

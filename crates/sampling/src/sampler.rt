@@ -1,30 +1,29 @@
 // Noise, Expand and Grow, once the scheme or the rule is known and the output holds zeros: the tests in 01's order, then the work of the crates `noise`
 // and `bcns_noise` into the part of the output that the answer takes.
+ghost use Rattle.std.specs.Prelude.{Some};
 ghost use Rattle.std.specs.Prelude.{◌≡◌, ◌++◌, ◌*◌, ◌/◌, ◌%◌, ◌≤◌, ◌<◌, length, drop, replicate, pos};
 ghost use Rattle.schemes.specs.Schemes.{family_of, by_family};
-ghost use Rattle.schemes.specs.declared.Named.TheVariants.{Known};
-ghost use Rattle.refusals.specs.Refusals.{◌then◌, table_in_lem};
+ghost use Rattle.refusals.specs.Refusals.{pass, table_in_lem};
 ghost use Rattle.refusals.specs.Seen.{told, seen};
-ghost use Rattle.refusals.specs.declared.Verdict.TheVariants.{Pass};
 ghost use Rattle.bcns_noise.specs.Noise.{first_not_above_lem};
-ghost use Rattle.noise.specs.declared.Ruled.TheVariants.{By};
 ghost use Rattle.sponge.specs.Sponge.{shake128};
-ghost use Rattle.sampling.specs.Noise.{noise_of, noise, length_either_lem, noise_tests_lem, noise_values_lem, noise_result};
+ghost use Rattle.sampling.specs.Noise.{noise, length_either_lem, noise_tests_lem, noise_values_lem, noise_result};
 ghost use Rattle.sampling.specs.Expand.{expand_result, grow_result};
 ghost use Rattle.sampling.specs.Steps.{noise_sizes_lem, expand_sizes_lem, grow_sizes_lem};
 
-use noise::RuleName;
-use refusals::{Answer, Refusal, Verdict};
+use noise::{FrodoSet, RuleName};
+use refusals::Refusal;
 use schemes::{Family, NewHope, Scheme};
 
 // An input's length is one of two.
-fn length_either(m: usize, x: usize, y: usize) -> Verdict
+#[tactic(auto, unfolding(crate::specs::Noise::length_either_lem))]
+fn length_either(m: usize, x: usize, y: usize) -> Result<(), Refusal>
     ensures { result ≡ length_either_lem m x y }
 {
     if m == x {
-        return Verdict::Pass;
+        return Ok(());
     }
-    refusals::length_is(Verdict::Pass, m, y)
+    refusals::length_is(m, y)
 }
 
 // The tests of lengths, where a value takes so many bytes and the table so many words.
@@ -35,32 +34,32 @@ fn noise_sizes(
     bytes: &[u8],
     table: &[u64],
     room: usize,
-) -> Verdict
+) -> Result<(), Refusal>
     requires { (0 < each) × (each ≤ 25) }
     ensures { result ≡ noise_sizes_lem s each words (noise bytes.now table.now) room }
 {
     let f = s.fixed();
-    let v = length_either(bytes.len(), each * f.noise, each * f.mixed);
-    let w = refusals::length_is(v, table.len(), words);
-    refusals::room_for(w, room, bytes.len() / each)
+    length_either(bytes.len(), each * f.noise, each * f.mixed)?;
+    refusals::length_is(table.len(), words)?;
+    refusals::room_for(room, bytes.len() / each)
 }
 
-// Each entry of the table is above its forerunner. The table is gone through only where nothing was refused before.
-fn table_ascends(v: Verdict, table: &[u64]) -> Verdict
-    ensures { result ≡ v then table_in_lem (first_not_above_lem table.now) 51 }
+// Each entry of the table is above its forerunner.
+fn table_ascends(table: &[u64]) -> Result<(), Refusal>
+    ensures { result ≡ table_in_lem (first_not_above_lem table.now) 51 }
 {
-    let Verdict::Pass = v else {
-        return v;
-    };
-    refusals::table_in(Verdict::Pass, bcns_noise::first_not_above(table), 51)
+    refusals::table_in(bcns_noise::first_not_above(table), 51)
 }
 
 // BCNS alone has a table, 51 entries of three words.
-fn noise_tests(s: Scheme, bytes: &[u8], table: &[u64], room: usize) -> Verdict
-    ensures { result ≡ noise_tests_lem (Known s) (noise bytes.now table.now) room }
+fn noise_tests(s: Scheme, bytes: &[u8], table: &[u64], room: usize) -> Result<(), Refusal>
+    ensures { result ≡ noise_tests_lem (Some s) (noise bytes.now table.now) room }
 {
     match s.family() {
-        Family::Bcns => table_ascends(noise_sizes(s, 25, 153, bytes, table, room), table),
+        Family::Bcns => {
+            noise_sizes(s, 25, 153, bytes, table, room)?;
+            table_ascends(table)
+        }
         Family::NewHope => noise_sizes(s, 4, 0, bytes, table, room),
         Family::Frodo => noise_sizes(s, 2, 0, bytes, table, room),
     }
@@ -80,23 +79,23 @@ fn noise_count(s: Scheme, bytes: &[u8]) -> usize
 // The values, into the part that they fill.
 fn noise_fill(s: Scheme, bytes: &[u8], table: &[u64], out: &mut [i32])
     requires { (length bytes.now ≡ by_family (family_of s) 25 4 2 * length out.old) × (length table.now ≡ by_family (family_of s) 153 0 0) }
-    ensures { out.new ≡ noise_values_lem (Known s) (noise bytes.now table.now) }
+    ensures { out.new ≡ noise_values_lem (Some s) (noise bytes.now table.now) }
 {
     match s {
         Scheme::Bcns => bcns_noise::values(table, bytes, out),
         Scheme::NewHope => noise::newhope(bytes, out),
-        Scheme::Challenge => noise::challenge(bytes, out),
-        Scheme::Classical => noise::classical(bytes, out),
-        Scheme::Recommended => noise::recommended(bytes, out),
-        Scheme::Paranoid => noise::paranoid(bytes, out),
+        Scheme::Challenge => noise::frodo(FrodoSet::Challenge, bytes, out),
+        Scheme::Classical => noise::frodo(FrodoSet::Classical, bytes, out),
+        Scheme::Recommended => noise::frodo(FrodoSet::Recommended, bytes, out),
+        Scheme::Paranoid => noise::frodo(FrodoSet::Paranoid, bytes, out),
     }
 }
 
 // The values at the front of the output, and how many they are.
 fn noise_values(s: Scheme, bytes: &[u8], table: &[u64], out: &mut [i32]) -> usize
-    requires { noise_tests_lem (Known s) (noise_of bytes.now table.now) (length out.old) ≡ Pass }
-    ensures value { result ≡ length (noise_values_lem (Known s) (noise bytes.now table.now)) }
-    ensures out_value { out.new ≡ noise_values_lem (Known s) (noise bytes.now table.now) ++ drop result out.old }
+    requires { noise_tests_lem (Some s) (noise bytes.now table.now) (length out.old) ≡ pass }
+    ensures value { result ≡ length (noise_values_lem (Some s) (noise bytes.now table.now)) }
+    ensures out_value { out.new ≡ noise_values_lem (Some s) (noise bytes.now table.now) ++ drop result out.old }
 {
     let n = noise_count(s, bytes);
     noise_fill(s, bytes, table, &mut out[..n]);
@@ -104,57 +103,56 @@ fn noise_values(s: Scheme, bytes: &[u8], table: &[u64], out: &mut [i32]) -> usiz
 }
 
 // Noise in a known scheme.
-pub(crate) fn noise_in(s: Scheme, bytes: &[u8], table: &[u64], out: &mut [i32]) -> Answer
+pub(crate) fn noise_in(
+    s: Scheme,
+    bytes: &[u8],
+    table: &[u64],
+    out: &mut [i32],
+) -> Result<usize, Refusal>
     requires { out.old ≡ replicate (length out.old) (pos 0) }
-    ensures { seen (told result) out.new ≡ noise_result (Known s) (noise bytes.now table.now) (length out.old) }
+    ensures { seen (told result) out.new ≡ noise_result (Some s) (noise bytes.now table.now) (length out.old) }
 {
-    let v = noise_tests(s, bytes, table, out.len());
-    match v {
-        Verdict::Fail(r) => Answer::Refused(r),
-        Verdict::Pass => Answer::Done(noise_values(s, bytes, table, out)),
-    }
+    noise_tests(s, bytes, table, out.len())?;
+    Ok(noise_values(s, bytes, table, out))
 }
 
 // Expand's tests of lengths.
-fn expand_sizes(stream: &[u8], room: usize) -> Verdict
+fn expand_sizes(stream: &[u8], room: usize) -> Result<(), Refusal>
     ensures { result ≡ expand_sizes_lem stream.now room }
 {
-    let v = refusals::length_up_to(Verdict::Pass, stream.len(), 65536);
-    refusals::room_for(v, room, NewHope::PUBLIC)
+    refusals::length_up_to(stream.len(), 65536)?;
+    refusals::room_for(room, NewHope::PUBLIC)
 }
 
 // Expand, where the lengths are allowed. Where the stream runs out, the numbers that were written are zeroed again.
-fn expand_in(name: RuleName, stream: &[u8], out: &mut [u32]) -> Answer
-    requires out_value { expand_sizes_lem stream.now (length out.old) ≡ Pass }
+fn expand_in(name: RuleName, stream: &[u8], out: &mut [u32]) -> Result<usize, Refusal>
+    requires out_value { expand_sizes_lem stream.now (length out.old) ≡ pass }
     requires out_value_2 { out.old ≡ replicate (length out.old) 0 }
-    ensures { seen (told result) out.new ≡ expand_result (By name) stream.now (length out.old) }
+    ensures { seen (told result) out.new ≡ expand_result (Some name) stream.now (length out.old) }
 {
     let n = noise::expand(name, stream, &mut out[..NewHope::PUBLIC]);
     if n < NewHope::PUBLIC {
-        lists::zero_numbers(&mut out[..NewHope::PUBLIC]);
-        return Answer::Refused(Refusal::RanOut(n));
+        out[..NewHope::PUBLIC].fill(0);
+        return Err(Refusal::RanOut(n));
     }
-    Answer::Done(n)
+    Ok(n)
 }
 
 // Expand by a known rule.
-pub(crate) fn expand_by(name: RuleName, stream: &[u8], out: &mut [u32]) -> Answer
+pub(crate) fn expand_by(name: RuleName, stream: &[u8], out: &mut [u32]) -> Result<usize, Refusal>
     requires { out.old ≡ replicate (length out.old) 0 }
-    ensures { seen (told result) out.new ≡ expand_result (By name) stream.now (length out.old) }
+    ensures { seen (told result) out.new ≡ expand_result (Some name) stream.now (length out.old) }
 {
-    let v = expand_sizes(stream, out.len());
-    match v {
-        Verdict::Fail(r) => Answer::Refused(r),
-        Verdict::Pass => expand_in(name, stream, out),
-    }
+    expand_sizes(stream, out.len())?;
+    expand_in(name, stream, out)
 }
 
 // Grow's tests of lengths.
-fn grow_sizes(seed: &[u8], room: usize) -> Verdict
+fn grow_sizes(seed: &[u8], room: usize) -> Result<(), Refusal>
     ensures { result ≡ grow_sizes_lem seed.now room }
 {
-    let v = refusals::length_is(Verdict::Pass, seed.len(), NewHope::SEED);
-    refusals::room_for(v, room, NewHope::PUBLIC)
+    refusals::length_is(seed.len(), NewHope::SEED)?;
+    refusals::room_for(room, NewHope::PUBLIC)
 }
 
 // The bytes that are made first, of whole words: 17 blocks by the low bits, too few for one seed in about 500, and 14 by the whole word, too few for none that
@@ -169,47 +167,54 @@ fn first_bytes(name: RuleName) -> usize
 }
 
 // As many bytes of the seed as are lent, then their numbers.
-fn grow_from(name: RuleName, seed: &[u8], bytes: &mut [u8], out: &mut [u32]) -> Answer
-    requires out_value { (grow_sizes_lem seed.now (length out.old) ≡ Pass) × (length bytes.old ≤ 24 * 168) }
+fn grow_from(
+    name: RuleName,
+    seed: &[u8],
+    bytes: &mut [u8],
+    out: &mut [u32],
+) -> Result<usize, Refusal>
+    requires out_value { (grow_sizes_lem seed.now (length out.old) ≡ pass) × (length bytes.old ≤ 24 * 168) }
     requires out_value_2 { out.old ≡ replicate (length out.old) 0 }
-    ensures { seen (told result) out.new ≡ expand_result (By name) (shake128 seed.now (length bytes.old)) (length out.old) }
+    ensures { seen (told result) out.new ≡ expand_result (Some name) (shake128 seed.now (length bytes.old)) (length out.old) }
 {
     sponge::shake128(seed, bytes);
     expand_in(name, bytes, out)
 }
 
 // By the first bytes, and only where they run out by all. What decides is public, as the seed is.
-fn grow_first(name: RuleName, seed: &[u8], bytes: &mut [u8], out: &mut [u32]) -> Answer
-    requires out_value { (grow_sizes_lem seed.now (length out.old) ≡ Pass) × (length bytes.old ≡ 24 * 168) }
+fn grow_first(
+    name: RuleName,
+    seed: &[u8],
+    bytes: &mut [u8],
+    out: &mut [u32],
+) -> Result<usize, Refusal>
+    requires out_value { (grow_sizes_lem seed.now (length out.old) ≡ pass) × (length bytes.old ≡ 24 * 168) }
     requires out_value_2 { out.old ≡ replicate (length out.old) 0 }
-    ensures { seen (told result) out.new ≡ grow_result (By name) seed.now (length out.old) }
+    ensures { seen (told result) out.new ≡ grow_result (Some name) seed.now (length out.old) }
 {
     let n = first_bytes(name);
     let a = grow_from(name, seed, &mut bytes[..n], out);
-    let Answer::Refused(_) = a else {
+    if a.is_ok() {
         return a;
-    };
+    }
     grow_from(name, seed, bytes, out)
 }
 
 // Lends `grow_first` room for 24 blocks of 168 bytes.
-fn grow_in(name: RuleName, seed: &[u8], out: &mut [u32]) -> Answer
-    requires out_value { grow_sizes_lem seed.now (length out.old) ≡ Pass }
+fn grow_in(name: RuleName, seed: &[u8], out: &mut [u32]) -> Result<usize, Refusal>
+    requires out_value { grow_sizes_lem seed.now (length out.old) ≡ pass }
     requires out_value_2 { out.old ≡ replicate (length out.old) 0 }
-    ensures { seen (told result) out.new ≡ grow_result (By name) seed.now (length out.old) }
+    ensures { seen (told result) out.new ≡ grow_result (Some name) seed.now (length out.old) }
 {
     let mut blocks = [0u8; 4032];
     grow_first(name, seed, &mut blocks, out)
 }
 
 // Grow by a known rule.
-pub(crate) fn grow_by(name: RuleName, seed: &[u8], out: &mut [u32]) -> Answer
+pub(crate) fn grow_by(name: RuleName, seed: &[u8], out: &mut [u32]) -> Result<usize, Refusal>
     requires { out.old ≡ replicate (length out.old) 0 }
-    ensures { seen (told result) out.new ≡ grow_result (By name) seed.now (length out.old) }
+    ensures { seen (told result) out.new ≡ grow_result (Some name) seed.now (length out.old) }
 {
-    let v = grow_sizes(seed, out.len());
-    match v {
-        Verdict::Fail(r) => Answer::Refused(r),
-        Verdict::Pass => grow_in(name, seed, out),
-    }
+    grow_sizes(seed, out.len())?;
+    grow_in(name, seed, out)
 }

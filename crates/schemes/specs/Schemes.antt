@@ -6,10 +6,10 @@
 --   by_family F a b c   what is meant in each family: a in BCNS, b in NewHope, c in Frodo
 --   scheme_number s     the number of a scheme, 0 to 5
 --   scheme_of_lem k         the scheme that a number names, or that it names none
-use Rattle.std.specs.Prelude.{ℕ, ◌+◌, ◌*◌, cond, eqb}
+--   Names k r               r is that scheme, or the error where it names none
+use Rattle.std.specs.Prelude.{ℕ, ◌+◌, ◌*◌, cond, eqb, Option, Some, None, Result, MatchResult, ◌≡◌}
 pub use Rattle.schemes.specs.declared.Scheme.TheVariants.{Bcns, NewHope, Challenge, Classical, Recommended, Paranoid}
-pub use Rattle.schemes.specs.declared.Named.TheVariants.{Known, Unknown}
-pub use Rattle.schemes.specs.{declared.Fixed.Fixed, declared.Family.Family, declared.Named.Named, declared.Scheme.Scheme}
+pub use Rattle.schemes.specs.{declared.Fixed.Fixed, declared.Family.Family, declared.Scheme.Scheme, declared.UnknownScheme.UnknownScheme}
 
 -- 01, "The three families and their numbers", "The calls" and "Bytes on the wire"
 abbrev pub bcns : Fixed
@@ -116,12 +116,15 @@ scheme_number Recommended = 4
 scheme_number Paranoid = 5
 
 -- 01, "Refusal numbers and their order", 1: the scheme is not 0 to 5
-abbrev pub scheme_of_lem : ℕ → Named
+abbrev pub scheme_of_lem : ℕ → Option Scheme
 scheme_of_lem k =
-    cond (eqb k 0) (Known Bcns)
-    (cond (eqb k 1) (Known NewHope)
-    (cond (eqb k 2) (Known Challenge)
-    (cond (eqb k 3) (Known Classical)
-    (cond (eqb k 4) (Known Recommended)
-    (cond (eqb k 5) (Known Paranoid)
-    Unknown)))))
+    cond (eqb k 0) (Some Bcns)
+    (cond (eqb k 1) (Some NewHope)
+    (cond (eqb k 2) (Some Challenge)
+    (cond (eqb k 3) (Some Classical)
+    (cond (eqb k 4) (Some Recommended)
+    (cond (eqb k 5) (Some Paranoid)
+    None)))))
+
+abbrev pub Names : ℕ → Result Scheme UnknownScheme → Type 0
+Names k r = MatchResult r (λ c. scheme_of_lem k ≡ Some c) (λ e. scheme_of_lem k ≡ None)

@@ -2,11 +2,12 @@
 --   followed, answered, accepted, kept, sounds
 --   kept_by       what a refusal does not change
 --   step-sound    one step
+use Rattle.std.proofs.Common.{Ok, Err, Some, None, Option, ◌≡◌, ◌∷◌}
+use Rattle.schemes.specs.declared.Scheme.{Scheme}
 use Rattle.lists.proofs.Kit.{refl, ◌∙◌, sym, ap, ap₂, Bool, true, false, cond, List, [], ℕ, arith}
-use Rattle.std.proofs.Common.{◌≡◌, ◌∷◌}
-use Rattle.schemes.specs.{Schemes.scheme_of_lem, declared.Named.Named, declared.Named.TheVariants.Known, declared.Named.TheVariants.Unknown}
-use Rattle.refusals.specs.declared.Verdict.TheVariants.{Pass, Fail}
-use Rattle.refusals.specs.{Refusals.number_in, Seen.if_passed, declared.Verdict.Verdict, declared.Refusal.TheVariants.OutOfStage}
+use Rattle.schemes.specs.{Schemes.scheme_of_lem}
+use Rattle.refusals.specs.Refusals.{pass}
+use Rattle.refusals.specs.{Refusals.number_in, Seen.if_passed, Refusals.Verdict, declared.Refusal.TheVariants.OutOfStage}
 use Rattle.refusals.proofs.Laws.{number-zero}
 use Rattle.finish.specs.Finish.{Finish, finish_key}
 use Rattle.reply.specs.Reply.{Reply, reply_key}
@@ -49,13 +50,13 @@ accepted y x e =
     let a = go ((row x).allowed y.stage) refl p in
     (a, rw p, (answered y x).0 a)
   where
-    go : (b : Bool) → (row x).allowed y.stage ≡ b → cond b (row x).tests (Fail OutOfStage) ≡ Pass → b ≡ true
+    go : (b : Bool) → (row x).allowed y.stage ≡ b → cond b (row x).tests (Err OutOfStage) ≡ pass → b ≡ true
     go true a p = refl
     go false a p = let z : ◌≡◌ {A = ℕ} 0 1 = cc in absurd (omega arith)
 
 pub kept_by : {A : Type 0} (v : Verdict) (y z : A) → (number_in v ≡ 0 → ⊥) → if_passed v z y ≡ y
-kept_by Pass y z n = absurd (n refl)
-kept_by (Fail r) y z n = refl
+kept_by (Ok _) y z n = absurd (n refl)
+kept_by (Err r) y z n = refl
 
 pub kept : Kept
 unfolding moved step
@@ -63,19 +64,19 @@ kept y x n = kept_by (outcome y.stage x) y (row x).leads (λ e. n (verdict y x �
 
 -- ---- sound sessions
 
-offered-sound : (c : Named) → Sound (offered c)
-offered-sound Unknown = refl
-offered-sound (Known c) = refl
+offered-sound : (c : Option Scheme) → Sound (offered c)
+offered-sound None = refl
+offered-sound (Some c) = refl
 
-replied-sound : (c : Named) (x : Reply) → Sound (keyed c (reply_key c x))
+replied-sound : (c : Option Scheme) (x : Reply) → Sound (keyed c (reply_key c x))
 unfolding reply_key
-replied-sound Unknown x = refl
-replied-sound (Known c) x = (reply_key (Known c) x, key-length c x, refl)
+replied-sound None x = refl
+replied-sound (Some c) x = (reply_key (Some c) x, key-length c x, refl)
 
-finished-sound : (c : Named) (x : Finish) → Sound (keyed c (finish_key c x))
+finished-sound : (c : Option Scheme) (x : Finish) → Sound (keyed c (finish_key c x))
 unfolding finish_key
-finished-sound Unknown x = refl
-finished-sound (Known c) x = (finish_key (Known c) x, finishes.key-length c x, refl)
+finished-sound None x = refl
+finished-sound (Some c) x = (finish_key (Some c) x, finishes.key-length c x, refl)
 
 leads-sound : (x : Call) → Sound (row x).leads
 unfolding row
@@ -85,8 +86,8 @@ leads-sound (finishing k x m) = finished-sound (scheme_of_lem k) x
 leads-sound closing = refl
 
 after-sound : (v : Verdict) (y z : Session) → Sound y → Sound z → Sound (if_passed v z y)
-after-sound Pass y z h i = i
-after-sound (Fail r) y z h i = h
+after-sound (Ok _) y z h i = i
+after-sound (Err r) y z h i = h
 
 pub step-sound : (y : Session) (x : Call) → Sound y → Sound (step y x)
 unfolding step

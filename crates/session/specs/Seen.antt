@@ -6,7 +6,7 @@
 --   moved y x        the promise: what the call x on the session y leads to and shows
 use Rattle.std.specs.Prelude.{ℕ}
 use Rattle.schemes.specs.Schemes.{scheme_of_lem}
-use Rattle.refusals.specs.{Refusals.number_in, Refusals.place_in, Seen.Told, Seen.Seen, Seen.shown, declared.Verdict.Verdict}
+use Rattle.refusals.specs.{Refusals.number_in, Refusals.place_in, Seen.Told, Seen.Seen, Seen.shown, Refusals.Verdict}
 use Rattle.offer.specs.Offer.{offer_message}
 use Rattle.finish.specs.Finish.{FinishSeen, finish_shown}
 use Rattle.reply.specs.Reply.{ReplySeen, reply_shown}

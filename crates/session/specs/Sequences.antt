@@ -10,9 +10,9 @@
 --   Accepted         a call that refuses nothing was allowed, leads where the table says, and shows what the call beneath promises
 --   Kept             a refused call, with 10 or any other number, changes no stage and no key byte
 --   Sounds           the idle session is sound, and every sequence leaves a sound one sound
-use Rattle.std.specs.Prelude.{◌≡◌, true, false, List, [], ◌∷◌, ℕ, length}
+use Rattle.std.specs.Prelude.{Err, ◌≡◌, true, false, List, [], ◌∷◌, ℕ, length}
 use Rattle.schemes.specs.Schemes.{scheme_of_lem, fixed_of}
-use Rattle.refusals.specs.{declared.Refusal.TheVariants.OutOfStage, declared.Verdict.TheVariants.Pass, declared.Verdict.TheVariants.Fail}
+use Rattle.refusals.specs.{declared.Refusal.TheVariants.OutOfStage, Refusals.pass}
 use Rattle.offer.specs.Offer.{offer_result}
 use Rattle.finish.specs.Finish.{finish_result}
 use Rattle.reply.specs.Reply.{reply_result}
@@ -34,7 +34,7 @@ abbrev pub beneath : Call → CallSeen
 beneath (offering k x n) = of_offer (offer_result (scheme_of_lem k) x n)
 beneath (replying k x m) = of_reply (reply_result (scheme_of_lem k) x m)
 beneath (finishing k x m) = of_finish (finish_result (scheme_of_lem k) x m)
-beneath closing = of_close (told_by Pass)
+beneath closing = of_close (told_by pass)
 
 -- ---- what a session can hold
 
@@ -54,7 +54,7 @@ Followed = (y z : Session) (xs : List Call) (ts : List CallSeen) → Ran y xs z 
 abbrev pub Answered : Type 0
 Answered =
     (y : Session) (x : Call)
-    → ((row x).allowed y.stage ≡ true → (moved y x).seen ≡ beneath x) × ((row x).allowed y.stage ≡ false → (moved y x).seen ≡ shown_by_lem (Fail OutOfStage) x)
+    → ((row x).allowed y.stage ≡ true → (moved y x).seen ≡ beneath x) × ((row x).allowed y.stage ≡ false → (moved y x).seen ≡ shown_by_lem (Err OutOfStage) x)
 
 abbrev pub Accepted : Type 0
 Accepted =

@@ -4,23 +4,21 @@
 
 #![tactic(auto)]
 
-ghost use Rattle.std.specs.Prelude.{◌≡◌, [], min, take, length};
+ghost use Rattle.std.specs.Prelude.{Err, None, ◌≡◌, [], take, length};
 ghost use Rattle.schemes.specs.Schemes.{scheme_of_lem};
-ghost use Rattle.schemes.specs.declared.Named.TheVariants.{Unknown};
 ghost use Rattle.refusals.specs.Seen.{told, seen, shown};
-ghost use Rattle.refusals.specs.declared.Verdict.TheVariants.{Fail};
 ghost use Rattle.offer.specs.Offer as offers;
 ghost use Rattle.reply.specs.Reply as replies;
 ghost use Rattle.finish.specs.Finish as finishes;
-ghost use Rattle.finish.specs.Finish.{finish_of, finish_rooms, finish_seen, finish_shown, finish_told};
+ghost use Rattle.finish.specs.Finish.{finish, finish_rooms, finish_seen, finish_shown, finish_told};
 ghost use Rattle.session.specs.Table.{offering, replying, finishing, closing, when_idle, when_offered, padded, no_key_lem};
 ghost use Rattle.session.specs.Table as table;
 ghost use Rattle.session.specs.Seen.{of_offer, of_reply, of_finish, of_close, turn, moved};
 
-use finish::FinishAnswer;
-use refusals::{Answer, Refusal};
-use reply::ReplyAnswer;
-use schemes::{Named, Scheme};
+use finish::FinishCounts;
+use refusals::Refusal;
+use reply::ReplyCounts;
+use schemes::Scheme;
 
 // Where a session stands, with the scheme that it was opened with.
 #[derive(Clone, Copy)]
@@ -37,23 +35,11 @@ pub struct Session {
     pub key: [u8; 128],
 }
 
-// What a call answers: the session after it, and the answer of the call beneath, or 10. Of Offer and Close:
+// What a call answers: the session after it, and the answer of the call beneath, or 10.
 #[derive(Drop)]
-pub struct Moved {
+pub struct Moved<A> {
     pub session: Session,
-    pub answer: Answer,
-}
-
-#[derive(Drop)]
-pub struct ReplyMoved {
-    pub session: Session,
-    pub answer: ReplyAnswer,
-}
-
-#[derive(Drop)]
-pub struct FinishMoved {
-    pub session: Session,
-    pub answer: FinishAnswer,
+    pub answer: A,
 }
 
 // Whether the stage takes an Offer or a Reply.
@@ -62,8 +48,7 @@ pub fn is_idle(stage: Stage) -> bool
 {
     match stage {
         Stage::Idle => true,
-        Stage::Offered(_) => false,
-        Stage::Keyed(_) => false,
+        _ => false,
     }
 }
 
@@ -72,13 +57,13 @@ fn awaits(stage: Stage, scheme: u32) -> bool
     ensures { result ≡ when_offered scheme stage }
 {
     match stage {
-        Stage::Idle => false,
         Stage::Offered(known) => known.number() == scheme,
-        Stage::Keyed(_) => false,
+        _ => false,
     }
 }
 
 // No key: 128 zeros.
+#[tactic(auto, unfolding(crate::specs::Table::no_key_lem))]
 pub fn no_key() -> [u8; 128]
     ensures { result ≡ no_key_lem }
 {
@@ -99,7 +84,7 @@ pub fn idle() -> Session
 pub fn offered(scheme: u32) -> Session
     ensures { result ≡ table.offered (scheme_of_lem scheme) }
 {
-    let Named::Known(known) = schemes::scheme_of(scheme) else {
+    let Ok(known) = Scheme::try_from(scheme) else {
         return idle();
     };
     Session {
@@ -108,22 +93,13 @@ pub fn offered(scheme: u32) -> Session
     }
 }
 
-fn smaller(a: usize, b: usize) -> usize
-    ensures { result ≡ min a b }
-{
-    if a < b {
-        return a;
-    }
-    b
-}
-
 // The first n bytes of an output in the key's place of 128, as far as there are so many and the place takes them.
 fn padded_key(key: &[u8], n: usize) -> [u8; 128]
     ensures { result ≡ padded (take n key.now) }
 {
     let mut place = no_key();
-    let count = smaller(n, smaller(key.len(), 128));
-    lists::copy_bytes(&key[0..count], &mut place[0..count]);
+    let count = n.min(key.len()).min(128);
+    place[..count].copy_from_slice(&key[..count]);
     place
 }
 
@@ -131,7 +107,7 @@ fn padded_key(key: &[u8], n: usize) -> [u8; 128]
 pub fn keyed(scheme: u32, key: &[u8], n: usize) -> Session
     ensures { result ≡ table.keyed (scheme_of_lem scheme) (take n key.now) }
 {
-    let Named::Known(known) = schemes::scheme_of(scheme) else {
+    let Ok(known) = Scheme::try_from(scheme) else {
         return idle();
     };
     Session {
@@ -141,36 +117,43 @@ pub fn keyed(scheme: u32, key: &[u8], n: usize) -> Session
 }
 
 // The refusal of a call ahead of the one beneath: each output is zeroed, whatever it held. Of Offer:
-pub fn stop(refusal: Refusal, message: &mut [u8]) -> Answer
-    ensures { seen (told result) message.new ≡ shown (Fail refusal) [] 0 (length message.old) }
+#[tactic(auto, unfolding(refusals::specs::Seen::shown, refusals::specs::Seen::seen, refusals::specs::Seen::written))]
+pub fn stop(refusal: Refusal, message: &mut [u8]) -> Result<usize, Refusal>
+    ensures { seen (told result) message.new ≡ shown (Err refusal) [] 0 (length message.old) }
 {
-    lists::zero_bytes(message);
-    Answer::Refused(refusal)
+    message.fill(0);
+    Err(refusal)
 }
 
 // Of Reply.
+#[tactic(auto, unfolding(reply::specs::Reply::outputs, reply::specs::Reply::reply_seen, refusals::specs::Seen::written))]
 pub fn stop_reply(
     refusal: Refusal,
     message: &mut [u8],
     key: &mut [u8],
     digest: &mut [u8],
-) -> ReplyAnswer
+) -> Result<ReplyCounts, Refusal>
     ensures { replies.reply_seen (replies.reply_told result) message.new key.new digest.new
-        ≡ replies.outputs (Fail refusal) [] [] [] (replies.reply_rooms message.old key.old digest.old) }
+        ≡ replies.outputs (Err refusal) [] [] [] (replies.reply_rooms message.old key.old digest.old) }
 {
-    lists::zero_bytes(message);
-    lists::zero_bytes(key);
-    lists::zero_bytes(digest);
-    ReplyAnswer::Refused(refusal)
+    message.fill(0);
+    key.fill(0);
+    digest.fill(0);
+    Err(refusal)
 }
 
 // Of Finish, in which a refusal shows the same whatever the scheme and the inputs are.
-pub fn stop_finish(refusal: Refusal, key: &mut [u8], digest: &mut [u8]) -> FinishAnswer
-    ensures { finish_seen (finish_told result) key.new digest.new ≡ finish_shown (Fail refusal) Unknown (finish_of [] []) (finish_rooms key.old digest.old) }
+#[tactic(auto, unfolding(finish::specs::Finish::finish_shown, finish::specs::Finish::finish_seen, refusals::specs::Seen::written))]
+pub fn stop_finish(
+    refusal: Refusal,
+    key: &mut [u8],
+    digest: &mut [u8],
+) -> Result<FinishCounts, Refusal>
+    ensures { finish_seen (finish_told result) key.new digest.new ≡ finish_shown (Err refusal) None (finish [] []) (finish_rooms key.old digest.old) }
 {
-    lists::zero_bytes(key);
-    lists::zero_bytes(digest);
-    FinishAnswer::Refused(refusal)
+    key.fill(0);
+    digest.fill(0);
+    Err(refusal)
 }
 
 // Offer: when idle; it leads to offered.
@@ -182,7 +165,7 @@ pub fn offer(
     e: &[i32],
     seed: &[u8],
     message: &mut [u8],
-) -> Moved
+) -> Moved<Result<usize, Refusal>>
     ensures { turn result.session (of_offer (seen (told result.answer) message.new)) ≡ moved session (offering scheme (offers.offer a.now s.now e.now seed.now) (length message.old)) }
 {
     let stage = session.stage;
@@ -191,7 +174,7 @@ pub fn offer(
         return Moved { session, answer };
     }
     let answer = offer::offer(scheme, a, s, e, seed, message);
-    let Answer::Done(_) = answer else {
+    let Ok(_) = answer else {
         return Moved { session, answer };
     };
     Moved {
@@ -213,20 +196,20 @@ pub fn reply(
     message: &mut [u8],
     key: &mut [u8],
     digest: &mut [u8],
-) -> ReplyMoved
+) -> Moved<Result<ReplyCounts, Refusal>>
     ensures { turn result.session (of_reply (replies.reply_seen (replies.reply_told result.answer) message.new key.new digest.new))
         ≡ moved session (replying scheme (replies.reply opening.now a.now s1.now e1.now e2.now coins.now) (replies.reply_rooms message.old key.old digest.old)) }
 {
     let stage = session.stage;
     if !is_idle(stage) {
         let answer = stop_reply(Refusal::OutOfStage, message, key, digest);
-        return ReplyMoved { session, answer };
+        return Moved { session, answer };
     }
     let answer = reply::reply(scheme, opening, a, s1, e1, e2, coins, message, key, digest);
-    let ReplyAnswer::Done(counts) = answer else {
-        return ReplyMoved { session, answer };
+    let Ok(counts) = answer else {
+        return Moved { session, answer };
     };
-    ReplyMoved {
+    Moved {
         session: keyed(scheme, key, counts.key),
         answer,
     }
@@ -240,31 +223,31 @@ pub fn finish(
     s: &[i32],
     key: &mut [u8],
     digest: &mut [u8],
-) -> FinishMoved
+) -> Moved<Result<FinishCounts, Refusal>>
     ensures { turn result.session (of_finish (finish_seen (finish_told result.answer) key.new digest.new))
         ≡ moved session (finishing scheme (finishes.finish reply.now s.now) (finish_rooms key.old digest.old)) }
 {
     let stage = session.stage;
     if !awaits(stage, scheme) {
         let answer = stop_finish(Refusal::OutOfStage, key, digest);
-        return FinishMoved { session, answer };
+        return Moved { session, answer };
     }
     let answer = finish::finish(scheme, reply, s, key, digest);
-    let FinishAnswer::Done(counts) = answer else {
-        return FinishMoved { session, answer };
+    let Ok(counts) = answer else {
+        return Moved { session, answer };
     };
-    FinishMoved {
+    Moved {
         session: keyed(scheme, key, counts.key),
         answer,
     }
 }
 
 // Close: always; it leads to idle.
-pub fn close(session: Session) -> Moved
+pub fn close(session: Session) -> Moved<Result<usize, Refusal>>
     ensures { turn result.session (of_close (told result.answer)) ≡ moved session closing }
 {
     Moved {
         session: idle(),
-        answer: Answer::Done(0),
+        answer: Ok(0),
     }
 }

@@ -2,22 +2,21 @@
 --   taken_back, laid-back, fresh, closed, untouched, run-bytes
 --   moved-bytes   a call on the bytes of a session is the call by value
 --   held_by       a buffer on which a call other than close refuses nothing is a session
+use Rattle.std.proofs.Common.{Some, None, Option, Err, ◌≡◌, ◌∷◌, ◌++◌, ◌-◌, ◌≤◌}
 use Rattle.lists.proofs.Kit.{refl, ◌∙◌, sym, ap, true, false, List, [], ℕ, suc, arith, length, get_or, take, drop, replicate}
-use Rattle.std.proofs.Common.{◌≡◌, ◌∷◌, ◌++◌, ◌-◌, ◌≤◌}
 use Rattle.lists.proofs.Kit.{length-replicate, length-append, length-drop, take-append-drop, drop_at, length-take-le, take_all, eq-eqb}
 use Rattle.schemes.specs.declared.Scheme.TheVariants.{Bcns, NewHope, Challenge, Classical, Recommended, Paranoid}
 use Rattle.schemes.specs.Schemes.{fixed_of}
 use Rattle.schemes.proofs.Sound.{sound}
 use Rattle.blank.specs.Blank.{blank}
 use Rattle.blank.proofs.Laws.{blank-zeros, zeros-blank}
-use Rattle.refusals.specs.{Seen.done, declared.Refusal.TheVariants.OutOfStage, declared.Verdict.TheVariants.Fail}
+use Rattle.refusals.specs.{Seen.done, declared.Refusal.TheVariants.OutOfStage}
 use Rattle.session.specs.declared.Stage.TheVariants.{Idle, Offered, Keyed}
 use Rattle.session.specs.Table.{Call, closing, row, outcome, step, run, no_key_lem, padded}
 use Rattle.session.specs.Seen.{CallSeen, of_close, number, shown_by_lem, Turn, turn, moved}
 use Rattle.session.specs.{declared.Stage.Stage, declared.Session.Session, Sequences.RanBy, Sequences.Ran, Sequences.Sound, Sequences.Holds}
 use Rattle.session.proofs.{Laws.shown-number, Sequences.step-sound}
-use Rattle.session_bytes.specs.Bytes.{stage_byte_lem, scheme_byte_lem, bytes_of, stage_in_lem, key_length_lem, staged, session_in, closes, laid_out, moved_at, moved_bytes, Found}
-use Rattle.session_bytes.specs.Bytes.{At, Nowhere}
+use Rattle.session_bytes.specs.Bytes.{stage_byte_lem, scheme_byte_lem, bytes_of, stage_in_lem, key_length_lem, staged, session_in, closes, laid_out, moved_at, moved_bytes}
 use Rattle.session_bytes.specs.Shown.{TakenBack, LaidBack, Fresh, Closed, Untouched, RanBytes, RunBytes}
 use Rattle.session_bytes.proofs.Stages.{parts}
 
@@ -60,7 +59,7 @@ shaped-holds (Keyed c) key s =
 
 -- ---- taken back
 
-named_back : (st : Stage) → stage_in_lem (stage_byte_lem st) (scheme_byte_lem st) ≡ At st
+named_back : (st : Stage) → stage_in_lem (stage_byte_lem st) (scheme_byte_lem st) ≡ Some st
 unfolding stage_in_lem
 named_back Idle = refl
 named_back (Offered Bcns) = refl
@@ -76,7 +75,7 @@ named_back (Keyed Classical) = refl
 named_back (Keyed Recommended) = refl
 named_back (Keyed Paranoid) = refl
 
-staged-back : (st : Stage) (key : List ℕ) → Shaped st key → staged (bytes_of (record { stage = st; key = key })) ≡ At st
+staged-back : (st : Stage) (key : List ℕ) → Shaped st key → staged (bytes_of (record { stage = st; key = key })) ≡ Some st
 unfolding staged bytes_of
 staged-back st key s = rw (eq-eqb (suc (suc (length key))) 130 (omega (arith, s.long)), named_back st, s.behind)
 
@@ -105,10 +104,10 @@ fresh = ((taken_back (record { stage = Idle; key = no_key_lem }) refl).0, refl)
 
 -- ---- close, and what is no session
 
-closed_at : (bs : List ℕ) (f : Found) → staged bs ≡ f → moved_at f bs closing ≡ turn (replicate (length bs) 0) (of_close (done 0))
+closed_at : (bs : List ℕ) (f : Option Stage) → staged bs ≡ f → moved_at f bs closing ≡ turn (replicate (length bs) 0) (of_close (done 0))
 unfolding bytes_of moved step outcome row no_key_lem shown_by_lem
-closed_at bs Nowhere e = refl
-closed_at bs (At st) e = ap (λ (n : ℕ). turn (replicate n 0) (of_close (done 0))) (sym (parts bs st e).long)
+closed_at bs None e = refl
+closed_at bs (Some st) e = ap (λ (n : ℕ). turn (replicate n 0) (of_close (done 0))) (sym (parts bs st e).long)
 
 pub closed : Closed
 unfolding moved_bytes
@@ -127,10 +126,10 @@ moved-bytes y h x = let t = taken_back y h in rw t.0 (ap (λ (z : Session). laid
 pub held_by : (bs : List ℕ) (x : Call) → closes x ≡ false → number (moved_bytes bs x).seen ≡ 0 → (y : Session) × (bs ≡ bytes_of y) × Sound y
 held_by bs x f z = go (staged bs) refl
   where
-    go : (s : Found) → staged bs ≡ s → (y : Session) × (bs ≡ bytes_of y) × Sound y
-    go (At st) e = let l = laid-back bs st e in (session_in st bs, sym l.0, l.1)
-    go Nowhere e =
-        let n : number (moved_bytes bs x).seen ≡ 10 = rw (untouched bs x e f) (shown-number (Fail OutOfStage) x) in
+    go : (s : Option Stage) → staged bs ≡ s → (y : Session) × (bs ≡ bytes_of y) × Sound y
+    go (Some st) e = let l = laid-back bs st e in (session_in st bs, sym l.0, l.1)
+    go None e =
+        let n : number (moved_bytes bs x).seen ≡ 10 = rw (untouched bs x e f) (shown-number (Err OutOfStage) x) in
         absurd (omega (arith, n, z))
 
 run-from : (y : Session) (bs : List ℕ) (xs : List Call) (cs : List ℕ) (ts : List CallSeen) → Sound y → bs ≡ bytes_of y → RanBytes bs xs cs ts

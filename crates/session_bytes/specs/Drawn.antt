@@ -6,33 +6,34 @@
 --   Opens      an open that refuses nothing leaves the buffer and shows the message that Offer leaves and shows there, lent what open makes of the random bytes
 --   Answers    so of answer and Reply
 --   Stays      a refused open or answer leaves the buffer as it was
-use Rattle.std.specs.Prelude.{◌≡◌, Bool, false, cond, List, ℕ}
+use Rattle.session.specs.declared.Stage.{Stage}
+use Rattle.std.specs.Prelude.{Some, None, Err, Option, ◌≡◌, Bool, false, cond, List, ℕ}
+use Rattle.noise.specs.declared.RuleName.{RuleName}
 use Rattle.schemes.specs.Schemes.{scheme_of_lem}
 use Rattle.lists.specs.Ranges.{Below}
-use Rattle.noise.specs.declared.Ruled.{Ruled}
-use Rattle.refusals.specs.{Seen.if_passed, declared.Refusal.TheVariants.OutOfStage, declared.Verdict.Verdict, declared.Verdict.TheVariants.Fail}
+use Rattle.refusals.specs.{Seen.if_passed, declared.Refusal.TheVariants.OutOfStage, Refusals.Verdict}
 use Rattle.reply.specs.Reply.{ReplyRooms, ReplySeen, reply_key}
 use Rattle.exchange.specs.Open.{OpenLent, OpenRooms, OpenSeen, open_offer, open_tests, open_shown}
 use Rattle.exchange.specs.Answer.{AnswerLent, answer_reply, answer_tests, answer_shown}
 use Rattle.session.specs.{Table.offering, Table.replying, Table.when_idle, Table.offered, Table.keyed, Seen.of_offer, Seen.of_reply, Seen.Turn, Seen.turn}
-use Rattle.session_bytes.specs.Bytes.{Found, At, Nowhere, bytes_of, staged, moved_bytes}
+use Rattle.session_bytes.specs.Bytes.{bytes_of, staged, moved_bytes}
 
-abbrev pub idle_at : Found → Bool
-idle_at (At st) = when_idle st
-idle_at Nowhere = false
+abbrev pub idle_at : Option Stage → Bool
+idle_at (Some st) = when_idle st
+idle_at None = false
 
 unfoldable pub ahead : List ℕ → Verdict → Verdict
-ahead bs v = cond (idle_at (staged bs)) v (Fail OutOfStage)
+ahead bs v = cond (idle_at (staged bs)) v (Err OutOfStage)
 
 -- ---- the promises
 
-unfoldable pub open_moved : List ℕ → ℕ → Ruled → OpenLent → OpenRooms → Turn (List ℕ) OpenSeen
+unfoldable pub open_moved : List ℕ → ℕ → Option RuleName → OpenLent → OpenRooms → Turn (List ℕ) OpenSeen
 open_moved bs k r x m =
     let c = scheme_of_lem k in
     let v = ahead bs (open_tests c r x m) in
     turn (if_passed v (bytes_of (offered c)) bs) (open_shown v c r x m)
 
-unfoldable pub answer_moved : List ℕ → ℕ → Ruled → AnswerLent → ReplyRooms → Turn (List ℕ) ReplySeen
+unfoldable pub answer_moved : List ℕ → ℕ → Option RuleName → AnswerLent → ReplyRooms → Turn (List ℕ) ReplySeen
 answer_moved bs k r x m =
     let c = scheme_of_lem k in
     let v = ahead bs (answer_tests c r x m) in
@@ -42,7 +43,7 @@ answer_moved bs k r x m =
 
 abbrev pub Opens : Type 0
 Opens =
-    (bs : List ℕ) (k : ℕ) (r : Ruled) (x : OpenLent) (m : OpenRooms) → Below 256 x.random
+    (bs : List ℕ) (k : ℕ) (r : Option RuleName) (x : OpenLent) (m : OpenRooms) → Below 256 x.random
     → let o = open_moved bs k r x m in
     o.seen.number ≡ 0
     → moved_bytes bs (offering k (open_offer (scheme_of_lem k) r x) m.opening)
@@ -50,12 +51,12 @@ Opens =
 
 abbrev pub Answers : Type 0
 Answers =
-    (bs : List ℕ) (k : ℕ) (r : Ruled) (x : AnswerLent) (m : ReplyRooms) → Below 256 x.random
+    (bs : List ℕ) (k : ℕ) (r : Option RuleName) (x : AnswerLent) (m : ReplyRooms) → Below 256 x.random
     → let o = answer_moved bs k r x m in
     o.seen.number ≡ 0 → moved_bytes bs (replying k (answer_reply (scheme_of_lem k) r x) m) ≡ turn o.session (of_reply o.seen)
 
 abbrev pub Stays : Type 0
 Stays =
-    (bs : List ℕ) (k : ℕ) (r : Ruled)
+    (bs : List ℕ) (k : ℕ) (r : Option RuleName)
     → ((x : OpenLent) (m : OpenRooms) → ((open_moved bs k r x m).seen.number ≡ 0 → ⊥) → (open_moved bs k r x m).session ≡ bs)
     × ((x : AnswerLent) (m : ReplyRooms) → ((answer_moved bs k r x m).seen.number ≡ 0 → ⊥) → (answer_moved bs k r x m).session ≡ bs)

@@ -3,7 +3,7 @@
 
 #![tactic(auto)]
 
-ghost use Rattle.std.specs.Prelude.{◌≡◌, ◌≤◌, length, drop, []};
+ghost use Rattle.std.specs.Prelude.{Err, None, ◌≡◌, ◌≤◌, length, drop, []};
 ghost use Rattle.refusals.specs.Seen.{done, told, seen};
 ghost use Rattle.offer.specs.Offer as offers;
 ghost use Rattle.reply.specs.Reply as replies;
@@ -12,26 +12,16 @@ ghost use Rattle.session.specs.Table.{offering, replying, finishing, closing};
 ghost use Rattle.session.specs.Seen.{of_offer, of_reply, of_finish, of_close, turn};
 ghost use Rattle.session_bytes.specs.Bytes.{stage_byte_lem, scheme_byte_lem, bytes_of, stage_in_lem, key_length_lem, staged, moved_bytes};
 ghost use Rattle.noise.specs.Expand.{rule_of_lem};
-ghost use Rattle.noise.specs.declared.Ruled as ruled;
-ghost use Rattle.schemes.specs.declared.Named.TheVariants.{Unknown};
-ghost use Rattle.refusals.specs.declared.Verdict.TheVariants.{Fail};
-ghost use Rattle.exchange.specs.Open.{open_lent, open_lent_of, open_rooms, open_shown, open_told, open_seen};
+ghost use Rattle.exchange.specs.Open.{open_lent, open_rooms, open_shown, open_told, open_seen};
 ghost use Rattle.exchange.specs.Answer.{answer_lent};
 ghost use Rattle.session_bytes.specs.Drawn.{idle_at, open_moved, answer_moved};
 
-use exchange::OpenAnswer;
-use finish::FinishAnswer;
-use refusals::{Answer, Refusal};
-use reply::ReplyAnswer;
-use schemes::Named;
+use exchange::OpenCounts;
+use finish::FinishCounts;
+use refusals::Refusal;
+use reply::ReplyCounts;
+use schemes::Scheme;
 use session::{Session, Stage};
-
-// The stage of a buffer that is a session, or that it is none.
-#[derive(Clone, Copy)]
-pub enum Found {
-    At(Stage),
-    Nowhere,
-}
 
 fn stage_byte(stage: Stage) -> u8
     ensures { result ≡ stage_byte_lem stage }
@@ -58,48 +48,47 @@ fn key_length(stage: Stage) -> usize
     ensures { (result ≡ key_length_lem stage) × (result ≤ 128) }
 {
     match stage {
-        Stage::Idle => 0,
-        Stage::Offered(_) => 0,
         Stage::Keyed(known) => known.fixed().key,
+        _ => 0,
     }
 }
 
 // The stage that the first two bytes name.
-fn stage_in(stage: u8, scheme: u8) -> Found
+#[tactic(auto, unfolding(crate::specs::Bytes::stage_in_lem))]
+fn stage_in(stage: u8, scheme: u8) -> Option<Stage>
     ensures { result ≡ stage_in_lem stage scheme }
 {
     if stage == 0 {
         if scheme == 0 {
-            return Found::At(Stage::Idle);
+            return Some(Stage::Idle);
         }
-        return Found::Nowhere;
+        return None;
     }
-    let Named::Known(known) = schemes::scheme_of(scheme as u32) else {
-        return Found::Nowhere;
+    let Ok(known) = Scheme::try_from(u32::from(scheme)) else {
+        return None;
     };
-    if stage == 1 {
-        return Found::At(Stage::Offered(known));
+    match stage {
+        1 => Some(Stage::Offered(known)),
+        2 => Some(Stage::Keyed(known)),
+        _ => None,
     }
-    if stage == 2 {
-        return Found::At(Stage::Keyed(known));
-    }
-    Found::Nowhere
 }
 
-pub fn stage_of(bytes: &[u8]) -> Found
+// The stage of a buffer that is a session; of another, none.
+#[tactic(auto, unfolding(crate::specs::Bytes::staged))]
+pub fn stage_of(bytes: &[u8]) -> Option<Stage>
     ensures { result ≡ staged bytes.now }
 {
     if bytes.len() != 130 {
-        return Found::Nowhere;
+        return None;
     }
-    let Found::At(stage) = stage_in(bytes[0], bytes[1]) else {
-        return Found::Nowhere;
-    };
+    let stage = stage_in(bytes[0], bytes[1])?;
     let from = 2 + key_length(stage);
     if blank::bytes(&bytes[from..130]) {
-        return Found::At(stage);
+        Some(stage)
+    } else {
+        None
     }
-    Found::Nowhere
 }
 
 fn key_of(bytes: &[u8]) -> [u8; 128]
@@ -107,7 +96,7 @@ fn key_of(bytes: &[u8]) -> [u8; 128]
     ensures { result ≡ drop 2 bytes.now }
 {
     let mut key = session::no_key();
-    lists::copy_bytes(&bytes[2..130], &mut key);
+    key.copy_from_slice(&bytes[2..130]);
     key
 }
 
@@ -117,7 +106,7 @@ fn lay_out(y: Session, bytes: &mut [u8])
 {
     let stage = y.stage;
     let key = y.key;
-    lists::copy_bytes(&key, &mut bytes[2..130]);
+    bytes[2..130].copy_from_slice(&key);
     bytes[0] = stage_byte(stage);
     bytes[1] = scheme_byte(stage) as u8;
 }
@@ -131,10 +120,10 @@ pub fn offer(
     e: &[i32],
     seed: &[u8],
     message: &mut [u8],
-) -> Answer
+) -> Result<usize, Refusal>
     ensures { turn bytes.new (of_offer (seen (told result) message.new)) ≡ moved_bytes bytes.old (offering scheme (offers.offer a.now s.now e.now seed.now) (length message.old)) }
 {
-    let Found::At(stage) = stage_of(bytes) else {
+    let Some(stage) = stage_of(bytes) else {
         return session::stop(Refusal::OutOfStage, message);
     };
     let key = key_of(bytes);
@@ -157,11 +146,11 @@ pub fn reply(
     message: &mut [u8],
     key: &mut [u8],
     digest: &mut [u8],
-) -> ReplyAnswer
+) -> Result<ReplyCounts, Refusal>
     ensures { turn bytes.new (of_reply (replies.reply_seen (replies.reply_told result) message.new key.new digest.new))
         ≡ moved_bytes bytes.old (replying scheme (replies.reply opening.now a.now s1.now e1.now e2.now coins.now) (replies.reply_rooms message.old key.old digest.old)) }
 {
-    let Found::At(stage) = stage_of(bytes) else {
+    let Some(stage) = stage_of(bytes) else {
         return session::stop_reply(Refusal::OutOfStage, message, key, digest);
     };
     let held = key_of(bytes);
@@ -182,11 +171,11 @@ pub fn finish(
     s: &[i32],
     key: &mut [u8],
     digest: &mut [u8],
-) -> FinishAnswer
+) -> Result<FinishCounts, Refusal>
     ensures { turn bytes.new (of_finish (finishes.finish_seen (finishes.finish_told result) key.new digest.new))
         ≡ moved_bytes bytes.old (finishing scheme (finishes.finish reply.now s.now) (finishes.finish_rooms key.old digest.old)) }
 {
-    let Found::At(stage) = stage_of(bytes) else {
+    let Some(stage) = stage_of(bytes) else {
         return session::stop_finish(Refusal::OutOfStage, key, digest);
     };
     let held = key_of(bytes);
@@ -200,7 +189,7 @@ pub fn finish(
 pub fn close(bytes: &mut [u8])
     ensures { turn bytes.new (of_close (done 0)) ≡ moved_bytes bytes.old closing }
 {
-    lists::zero_bytes(bytes);
+    bytes.fill(0);
 }
 
 // Whether a buffer is an idle session.
@@ -208,19 +197,20 @@ fn takes(bytes: &[u8]) -> bool
     ensures { result ≡ idle_at (staged bytes.now) }
 {
     match stage_of(bytes) {
-        Found::At(stage) => session::is_idle(stage),
-        Found::Nowhere => false,
+        Some(stage) => session::is_idle(stage),
+        None => false,
     }
 }
 
 // The refusal of open ahead of the call beneath.
-fn stop_open(refusal: Refusal, opening: &mut [u8], s: &mut [i32]) -> OpenAnswer
+#[tactic(auto, unfolding(exchange::specs::Open::open_shown, exchange::specs::Open::open_seen, refusals::specs::Seen::written))]
+fn stop_open(refusal: Refusal, opening: &mut [u8], s: &mut [i32]) -> Result<OpenCounts, Refusal>
     ensures { open_seen (open_told result) opening.new s.new
-        ≡ open_shown (Fail refusal) Unknown ruled.Ruled.Unknown (open_lent_of [] [] []) (open_rooms opening.old s.old) }
+        ≡ open_shown (Err refusal) None None (open_lent [] [] []) (open_rooms opening.old s.old) }
 {
-    lists::zero_bytes(opening);
-    lists::zero_values(s);
-    OpenAnswer::Refused(refusal)
+    opening.fill(0);
+    s.fill(0);
+    Err(refusal)
 }
 
 // Open on a session in bytes: Offer from random bytes.
@@ -233,7 +223,7 @@ pub fn open(
     random: &[u8],
     opening: &mut [u8],
     s: &mut [i32],
-) -> OpenAnswer
+) -> Result<OpenCounts, Refusal>
     ensures { turn bytes.new (open_seen (open_told result) opening.new s.new)
         ≡ open_moved bytes.old scheme (rule_of_lem rule) (open_lent a.now table.now random.now) (open_rooms opening.old s.old) }
 {
@@ -241,7 +231,7 @@ pub fn open(
         return stop_open(Refusal::OutOfStage, opening, s);
     }
     let opened = exchange::open(scheme, rule, a, table, random, opening, s);
-    let OpenAnswer::Done(_) = opened else {
+    let Ok(_) = opened else {
         return opened;
     };
     let next = session::offered(scheme);
@@ -261,7 +251,7 @@ pub fn answer(
     message: &mut [u8],
     key: &mut [u8],
     digest: &mut [u8],
-) -> ReplyAnswer
+) -> Result<ReplyCounts, Refusal>
     ensures { turn bytes.new (replies.reply_seen (replies.reply_told result) message.new key.new digest.new)
         ≡ answer_moved bytes.old scheme (rule_of_lem rule) (answer_lent opening.now a.now table.now random.now) (replies.reply_rooms message.old key.old digest.old) }
 {
@@ -271,7 +261,7 @@ pub fn answer(
     let reply = exchange::answer(
         scheme, rule, opening, a, table, random, message, key, digest,
     );
-    let ReplyAnswer::Done(counts) = reply else {
+    let Ok(counts) = reply else {
         return reply;
     };
     let next = session::keyed(scheme, key, counts.key);

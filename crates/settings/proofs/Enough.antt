@@ -1,7 +1,6 @@
 -- The first 50 bytes of a text tell what is read (`specs/Shown.antt`): settings have at most 49, and the line of a newer format at most 18.
-use Rattle.lists.proofs.Kit.{refl, ◌∙◌, sym, ap, List, append_assoc, ℕ, dec_le, arith, eqb, length, take, drop, length-take}
+use Rattle.lists.proofs.Kit.{refl, ◌∙◌, sym, ap, List, append_assoc, ℕ, dec_le, arith, eqb, length, take, drop, length-take, take-append-drop, take_all}
 use Rattle.std.proofs.Common.{◌≡◌, ◌++◌, ◌+◌, ◌-◌, ◌^◌, ◌≤◌, ◌<◌}
-use Rattle.lists.proofs.Kit.{take-append-drop, take_all}
 use lib.Seq.{take-append-add}
 use Rattle.lists.proofs.Table.{cond-all}
 use Rattle.text.specs.Text.{line}

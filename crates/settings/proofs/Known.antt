@@ -1,15 +1,19 @@
 -- What settings are, as the code tests it.
 --   scheme-known, rule-known   a scheme's number, a rule's
 --   scheme-small, rule-is, rule-small   and which they are
---   format-none, format-some   the format, by the label's length
---   not-allowed                a byte that is no digit and no capital letter
-use Rattle.lists.proofs.Kit.{refl, ◌∙◌, inl, inr, Bool, true, false, cond, not, ℕ, zero, suc, arith, eqb, leb, ltb, leb-true}
-use Rattle.std.proofs.Common.{◌≡◌, ◌⊎◌, ◌||◌, ◌&&◌, ◌≤◌, ◌<◌}
-use Rattle.lists.proofs.Kit.{eqb-true, eqb-false, le-leb, lt-leb}
-use Rattle.lists.specs.First.{both}
+--   format-some                the format of settings with a label
+--   not-allowed                a byte that is no digit and no capital letter, as std tests it
+--   place                      how many letters a text begins with, as std finds it
+use Rattle.lists.proofs.Kit.{refl, ◌∙◌, inl, inr, Bool, true, false, cond, not, List, [], ℕ, zero, suc, length, arith, eqb, leb, ltb, leb-true}
+use Rattle.std.specs.Char.{is_ascii_digit, is_ascii_uppercase}
+use Rattle.std.specs.List.{position_or_len}
+use Rattle.std.specs.Option.{unwrap_or}
+use Rattle.std.proofs.Common.{Some, None, ◌≡◌, ◌∷◌, ◌+◌, ◌⊎◌, ◌||◌, ◌&&◌, ◌≤◌, ◌<◌}
+use Rattle.lists.proofs.Kit.{eqb-true, eqb-false, ltb-false, le-leb, lt-leb}
+use Rattle.lists.specs.First.{first_where, both}
 use Rattle.text.specs.Text.{is_digit_lem}
-use Rattle.text.proofs.Reading.{less}
-use Rattle.settings.specs.Settings.{format_of, is_scheme_lem, is_rule_lem, not_allowed_lem}
+use Rattle.text.proofs.Runs.{run-within}
+use Rattle.settings.specs.Settings.{format_of, is_scheme_lem, is_rule_lem, not_allowed_lem, letters}
 
 -- of a number by a sequence of tests, at the first of them that holds
 first-scheme : (a : ℕ) (t0 t1 t2 t3 t4 t5 : Bool)
@@ -58,20 +62,16 @@ rule-small b e = go (rule-is b e)
     go (inl p) = omega arith
     go (inr p) = omega arith
 
-pub format-none : (n : ℕ) → n ≡ 0 → 1 ≡ format_of n
-unfolding format_of
-format-none n e = rw e
-
 pub format-some : (n : ℕ) → (n ≡ 0 → ⊥) → 2 ≡ format_of n
 unfolding format_of
 format-some zero h = absurd (h refl)
 format-some (suc n) h = refl
 
-pub not-allowed : (c : ℕ) → ((ltb c 48 || ltb 57 c) && (ltb c 65 || ltb 90 c)) ≡ not_allowed_lem c
+pub not-allowed : (c : ℕ) → not (is_ascii_digit c || is_ascii_uppercase c) ≡ not_allowed_lem c
 unfolding not_allowed_lem is_digit_lem
-not-allowed c = rw (less c 48, less 57 c, less c 65, less 90 c) (go (leb 48 c) (leb c 57) (leb 65 c) (leb c 90))
+not-allowed c = go (leb 48 c) (leb c 57) (leb 65 c) (leb c 90)
   where
-    go : (s t u v : Bool) → ((not s || not t) && (not u || not v)) ≡ cond (both s t) false (cond (both u v) false true)
+    go : (s t u v : Bool) → not ((s && t) || (u && v)) ≡ cond (both s t) false (cond (both u v) false true)
     go true true u v = refl
     go true false true true = refl
     go true false true false = refl
@@ -79,3 +79,26 @@ not-allowed c = rw (less c 48, less 57 c, less c 65, less 90 c) (go (leb 48 c) (
     go false t true true = refl
     go false t true false = refl
     go false t false v = refl
+
+letters-are : (xs : List ℕ) → position_or_len not_allowed_lem xs ≡ letters xs
+unfolding letters first_where
+letters-are [] = refl
+letters-are (x ∷ xs) = go (not_allowed_lem x) (letters-are xs)
+  where
+    go : (t : Bool) → position_or_len not_allowed_lem xs ≡ first_where not_allowed_lem xs
+        → cond (not t) (1 + position_or_len not_allowed_lem xs) 0 ≡ cond t zero (suc (first_where not_allowed_lem xs))
+    go true e = refl
+    go false e = rw e (omega arith)
+
+letters-fit : (xs : List ℕ) → letters xs ≤ length xs
+unfolding letters
+letters-fit xs = run-within not_allowed_lem xs
+
+-- how many letters a text begins with, as std finds it: the place of the first byte that is none, or the length
+pub place : (xs : List ℕ)
+    → unwrap_or (cond (ltb (position_or_len not_allowed_lem xs) (length xs)) (Some (position_or_len not_allowed_lem xs)) None) (length xs) ≡ letters xs
+place xs = rw (letters-are xs) (go (ltb (letters xs) (length xs)) refl)
+  where
+    go : (t : Bool) → ltb (letters xs) (length xs) ≡ t → unwrap_or (cond t (Some (letters xs)) None) (length xs) ≡ letters xs
+    go true e = refl
+    go false e = omega (arith, ltb-false (letters xs) (length xs) e, letters-fit xs)

@@ -1,23 +1,25 @@
 -- What the writer's steps rest on.
 --   size_is                        how long the text of settings is
 --   known-no-scheme, known-no-rule, known_both   its first two tests, as they are made
---   letter-fails, letters-pass     its last one
---   passed, tests-failed, tests-go-on   the tests in two parts
+--   known-fails, length-fails, room-fails, tests-go-on   the tests in their order: where each fails, and where only the last is left
 --   Accepted, accepted             what it says of settings that all tests pass
 --   label-none, label-left, lines_left   a label's line, and all lines, in parts
 --   write-refused, write_done      what is seen where a test fails, and where the lines were written over zeros
 --   stored_back                    what the output holds is read as what was written
+use Rattle.std.proofs.Common.{Option, Some, None, Err, ◌≡◌, ◌⊎◌, ◌∷◌, ◌++◌, ◌+◌, ◌≤◌}
+use Rattle.std.specs.Option.{ok_or}
+use Rattle.schemes.specs.{Schemes.scheme_of_lem, declared.Scheme.Scheme}
+use Rattle.noise.specs.{Expand.rule_of_lem, declared.RuleName.RuleName}
 use Rattle.lists.proofs.Kit.{refl, ◌∙◌, sym, ap, inl, inr, Bool, true, false, cond, List, [], append-nil, ℕ, zero, suc}
-use Rattle.std.proofs.Common.{◌≡◌, ◌⊎◌, ◌∷◌, ◌++◌, ◌+◌, ◌≤◌, ◌<◌}
-use Rattle.lists.proofs.Kit.{arith, length, replicate, length-append, leb-true, le-leb, lt-leb, ne_eqb}
+use Rattle.lists.proofs.Kit.{arith, length, replicate, length-append, leb-true, ne_eqb}
 use Rattle.text.specs.{Text.LF, Text.digits_up_to, Text.decimal, Text.scheme_name, Text.line, Steps.Written}
 use Rattle.text.proofs.Writing.{joined, Left, left-all, written_none, one-digit, line-length}
 use Rattle.text.proofs.{Answer.answers, Runs.run-within}
 use Rattle.refusals.specs.declared.Refusal.TheVariants.{NoScheme, NoRule, Misfit}
-use Rattle.refusals.specs.declared.Verdict.TheVariants.{Pass, Fail}
+use Rattle.refusals.specs.Refusals.{pass}
 use Rattle.refusals.specs.Seen.{written, done, refused, shown, seen}
-use Rattle.refusals.specs.{Refusals.◌then◌, Refusals.length_up_to_lem, Refusals.room_for_lem, declared.Refusal.Refusal, declared.Verdict.Verdict}
-use Rattle.refusals.proofs.Laws.{both, number-zero, differ, stays, goes_on, also, up-to-passed, room-passed}
+use Rattle.refusals.specs.{Refusals.◌then◌, Refusals.length_up_to_lem, Refusals.room_for_lem, declared.Refusal.Refusal, Refusals.Verdict}
+use Rattle.refusals.proofs.Laws.{both, number-zero, differ, failed, went_on, up-to-passed, room-passed}
 use Rattle.refusals.proofs.Seen.{shown-failed, written-answer}
 use Rattle.settings.specs.Settings.{Setup, format_name, rule_name, label_name, format_of, label_line, text_of, is_scheme_lem, is_rule_lem, not_allowed_lem, letters}
 use Rattle.settings.specs.Calls.{scheme_known, rule_known, allowed, write_tests_lem, write_result}
@@ -55,82 +57,87 @@ size_is x h k =
 -- ---- the tests
 
 module _ (a b : ℕ) where
-  pub known-no-scheme : is_scheme_lem a ≡ false → Fail NoScheme ≡ scheme_known a then rule_known b
-  unfolding ◌then◌ scheme_known
+  pub known-no-scheme : scheme_of_lem a ≡ None → Err NoScheme ≡ scheme_known a then rule_known b
+  unfolding ◌then◌ scheme_known is_scheme_lem
   known-no-scheme e = rw e
 
-  pub known-no-rule : is_scheme_lem a ≡ true → is_rule_lem b ≡ false → Fail NoRule ≡ scheme_known a then rule_known b
-  unfolding ◌then◌ scheme_known rule_known
-  known-no-rule e f = rw (e, f)
+  module _ {s : Scheme} (e : scheme_of_lem a ≡ Some s) {o : Option RuleName} (f : o ≡ rule_of_lem b) where
+    pub known-no-rule : {r : Refusal} → Err r ≡ ok_or o NoRule → Err r ≡ scheme_known a then rule_known b
+    unfolding ◌then◌ scheme_known rule_known is_scheme_lem is_rule_lem
+    known-no-rule {r} h = go o refl h
+      where
+        go : (p : Option RuleName) → o ≡ p → Err r ≡ ok_or p NoRule → Err r ≡ scheme_known a then rule_known b
+        go None g h = let z : r ≡ NoRule = cc in let n : rule_of_lem b ≡ None = sym f ∙ g in rw (e, n, z)
+        go (Some k) g h = cc
 
-  pub known_both : is_scheme_lem a ≡ true → is_rule_lem b ≡ true → Pass ≡ scheme_known a then rule_known b
-  unfolding ◌then◌ scheme_known rule_known
-  known_both e f = rw (e, f)
+    pub known_both : {k : RuleName} → o ≡ Some k → pass ≡ scheme_known a then rule_known b
+    unfolding ◌then◌ scheme_known rule_known is_scheme_lem is_rule_lem
+    known_both g = let n = sym f ∙ g in rw (e, n)
 
-scheme-passed : (a : ℕ) → scheme_known a ≡ Pass → is_scheme_lem a ≡ true
+scheme-passed : (a : ℕ) → scheme_known a ≡ pass → is_scheme_lem a ≡ true
 unfolding scheme_known
 scheme-passed a = go (is_scheme_lem a)
   where
-    go : (t : Bool) → cond t Pass (Fail NoScheme) ≡ Pass → t ≡ true
+    go : (t : Bool) → cond t pass (Err NoScheme) ≡ pass → t ≡ true
     go true e = refl
     go false e = differ e
 
-rule-passed : (b : ℕ) → rule_known b ≡ Pass → is_rule_lem b ≡ true
+rule-passed : (b : ℕ) → rule_known b ≡ pass → is_rule_lem b ≡ true
 unfolding rule_known
 rule-passed b = go (is_rule_lem b)
   where
-    go : (t : Bool) → cond t Pass (Fail NoRule) ≡ Pass → t ≡ true
+    go : (t : Bool) → cond t pass (Err NoRule) ≡ pass → t ≡ true
     go true e = refl
     go false e = differ e
 
-allowed-passed : (l : List ℕ) → allowed l ≡ Pass → letters l ≡ length l
+allowed-passed : (l : List ℕ) → allowed l ≡ pass → letters l ≡ length l
 unfolding allowed letters
 allowed-passed l e = omega (arith, leb-true (length l) (letters l) (go _ e), run-within not_allowed_lem l)
   where
-    go : (t : Bool) → cond t Pass (Fail Misfit) ≡ Pass → t ≡ true
+    go : (t : Bool) → cond t pass (Err Misfit) ≡ pass → t ≡ true
     go true e = refl
     go false e = differ e
 
-module _ {v : Verdict} (l : List ℕ) {n : ℕ} (p : v ≡ Pass) (e : n ≡ letters l) where
-  pub letter-fails : n < length l → Fail Misfit ≡ v then allowed l
-  unfolding allowed
-  letter-fails h = goes_on p (rw (← e, lt-leb (length l) n h))
+-- one test more, behind tests of which one has failed, and behind tests that have passed
+falls : {t : Verdict} {r : Refusal} (w : Verdict) → Err r ≡ t → Err r ≡ t then w
+falls w e = sym (failed w e refl)
 
-  pub letters-pass : length l ≤ n → Pass ≡ v then allowed l
-  unfolding allowed
-  letters-pass h = goes_on p (rw (← e, le-leb (length l) n h))
+goes : {t w : Verdict} → pass ≡ t → w ≡ t then w
+goes e = sym (went_on _ e refl)
 
--- the first three tests, and their verdict v
-module _ (x : Setup) (room : ℕ) {u v : Verdict} (e : u ≡ scheme_known x.scheme then rule_known x.rule)
-    (f : v ≡ u then length_up_to_lem (length x.label) 16) where
-  front-is : v ≡ scheme_known x.scheme then rule_known x.rule then length_up_to_lem (length x.label) 16
-  front-is = also f e refl
-
-  pub tests-failed : {r : Refusal} → v ≡ Fail r → v ≡ write_tests_lem x room
+module _ (x : Setup) (room : ℕ) where
+  pub known-fails : {r : Refusal} → Err r ≡ scheme_known x.scheme then rule_known x.rule → Err r ≡ write_tests_lem x room
   unfolding write_tests_lem
-  tests-failed g = rw (← front-is) (stays _ g ∙ stays _ (sym (stays _ g) ∙ g))
+  known-fails e = falls _ (falls _ (falls _ e))
 
-  module _ (g : v ≡ Pass) where
-    pub label-short : length x.label ≤ 16
-    label-short = up-to-passed _ 16 (both _ _ (sym front-is ∙ g)).1
+  module _ (k : pass ≡ scheme_known x.scheme then rule_known x.rule) where
+    pub length-fails : {r : Refusal} → Err r ≡ length_up_to_lem (length x.label) 16 → Err r ≡ write_tests_lem x room
+    unfolding write_tests_lem
+    length-fails e = falls _ (falls _ (e ∙ goes k))
 
     text-long : length (text_of x) ≡ size_of (length x.label)
-    text-long =
-        let k = both _ _ (both _ _ (sym front-is ∙ g)).0 in
-        size_is x (scheme-passed _ k.0) (rule-passed _ k.1)
+    text-long = let b = both _ _ (sym k) in size_is x (scheme-passed _ b.0) (rule-passed _ b.1)
 
-    pub tests-go-on : {m : ℕ} {w z : Verdict} → m ≡ size_of (length x.label) → w ≡ Pass then room_for_lem room m → z ≡ w then allowed x.label
-        → z ≡ write_tests_lem x room
-    unfolding write_tests_lem ◌then◌
-    tests-go-on {m} s o h =
-        let q : m ≡ length (text_of x) = s ∙ sym text-long in
-        h ∙ rw (o, q, ← front-is, g)
+    module _ (l : pass ≡ length_up_to_lem (length x.label) 16) {m : ℕ} (s : m ≡ size_of (length x.label)) where
+      front : pass ≡ scheme_known x.scheme then rule_known x.rule then length_up_to_lem (length x.label) 16
+      front = l ∙ goes k
+
+      room-is : room_for_lem room m ≡ room_for_lem room (length (text_of x))
+      room-is = ap (room_for_lem room) (s ∙ sym text-long)
+
+      pub room-fails : {r : Refusal} → Err r ≡ room_for_lem room m → Err r ≡ write_tests_lem x room
+      unfolding write_tests_lem
+      room-fails e = falls _ (e ∙ room-is ∙ goes front)
+
+      pub tests-go-on : {w : Verdict} → pass ≡ room_for_lem room m → w ≡ allowed x.label → w ≡ write_tests_lem x room
+      unfolding write_tests_lem
+      tests-go-on e h = h ∙ goes (e ∙ room-is ∙ goes front)
 
 pub record Accepted (x : Setup) (room : ℕ) : Type 0 where
   pub valid : Valid x
   pub fits : length (text_of x) ≤ room
 
-pub accepted : {x : Setup} {room : ℕ} → write_tests_lem x room ≡ Pass → Accepted x room
+pub accepted : {x : Setup} {room : ℕ} → write_tests_lem x room ≡ pass → Accepted x room
 unfolding write_tests_lem
 accepted {x} {room} e =
     let a = both _ _ e in
@@ -179,17 +186,17 @@ lines_left x d {f} e h = left-all 0 (parts f x) d (lines_are f x e) (omega arith
 
 -- ---- the promise; an output of n bytes has k of them still, once it is zeroed
 
-module _ (x : Setup) {n k : ℕ} {v : Verdict} (h : k ≡ n) (e : v ≡ write_tests_lem x k) where
-  tests : v ≡ write_tests_lem x n
-  tests = e ∙ ap (write_tests_lem x) h
+module _ (x : Setup) {n k : ℕ} (h : k ≡ n) where
+  tests : write_tests_lem x n ≡ write_tests_lem x k
+  tests = ap (write_tests_lem x) (sym h)
 
-  pub write-refused : {r : Refusal} {out : List ℕ} → v ≡ Fail r → out ≡ replicate n 0 → seen (refused r 0) out ≡ write_result x n
-  write-refused f z = shown-failed _ _ _ (sym tests ∙ f) z
+  pub write-refused : {r : Refusal} {out : List ℕ} → Err r ≡ write_tests_lem x k → out ≡ replicate n 0 → seen (refused r 0) out ≡ write_result x n
+  write-refused e z = shown-failed _ _ _ (tests ∙ sym e) z
 
-  pub write_done : {old out : List ℕ} {r : ℕ} → v ≡ Pass → old ≡ replicate n 0 → Written 0 (text_of x) old out r → seen (done r) out ≡ write_result x n
+  pub write_done : {old out : List ℕ} {r : ℕ} → pass ≡ write_tests_lem x k → old ≡ replicate n 0 → Written 0 (text_of x) old out r → seen (done r) out ≡ write_result x n
   unfolding shown seen written
-  write_done f z w =
-      let g = sym tests ∙ f in
+  write_done e z w =
+      let g = tests ∙ sym e in
       let o = answers n refl (rw z at w) in
       rw (g, o.holds, o.count)
 

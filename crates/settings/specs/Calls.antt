@@ -4,8 +4,7 @@
 --   write_tests_lem x n               the writer's tests in their order, with room for n bytes
 --   write_result x n              what the writer shows
 --   stored x                     a setup as the struct `Settings`: the label in 16 bytes with zeros behind it, and its count
---   nothing, ended e             no settings, all zero; an answer without any
---   answer_of r                   the reader's answer by value to what it made of a text
+--   answer_of r                   the reader's answer by value to what it made of a text: the settings, or why there are none
 --   Read, read_of                 what the reader is lent: its own number and the text
 --   reading_of x                  what the reader makes of it
 --   read_verdict r                15: the format is newer; 8: any other misfit
@@ -14,30 +13,35 @@
 --   format_told r v               the format that was read or is newer, where v is the tests' verdict; 0 after 8 and 3
 --   ReadSeen                     what is seen of the reader: the refusal's number and place, the label, the format, the scheme and the rule
 --   ReadCounts                   the numbers that its answer carries: how long the label is, the format, the scheme and the rule
+--   LentAnswer                   its answer: these numbers, or why nothing was read
+--   refusal_of e, newer_in e      the refusal of that: 15, 8 or 3; and the format, where it is newer, and else 0
 --   read_shown v r n              what the reader shows of r by the verdict v
 --   read_result x n               what it shows of what it is lent
 --   read_told a                   the numbers of its answer
 --   read_seen t label             what is seen of it where it tells t and leaves label
 --   ReadSeenAll, ReadToldAll     `read_seen` and `read_told` forget nothing
-use Rattle.std.specs.Prelude.{◌≡◌, cond, List, [], ◌++◌, ℕ, ◌-◌, leb, length, replicate}
-use Rattle.refusals.specs.declared.Refusal.TheVariants.{NoScheme, NoRule, Misfit, NewerFormat}
-use Rattle.refusals.specs.Seen.{if_passed, Output, output, written, Told, Seen, shown, told}
+use Rattle.std.specs.Prelude.{Ok, Err, Result, ◌≡◌, cond, List, [], ◌++◌, ℕ, ◌-◌, leb, length, replicate}
+use Rattle.refusals.specs.declared.Refusal.TheVariants.{NoScheme, NoRule, Short, Misfit, NewerFormat}
+use Rattle.refusals.specs.Seen.{if_passed, Output, output, written, Told, done, refused, Seen, shown}
 use Rattle.refusals.specs.Refusals.{number_in, place_in, ◌then◌, length_up_to_lem, room_for_lem}
-use Rattle.refusals.specs.{declared.Verdict.Verdict, declared.Verdict.TheVariants.Pass, declared.Verdict.TheVariants.Fail}
+use Rattle.refusals.specs.{Refusals.Verdict, Refusals.pass}
 use Rattle.settings.specs.Settings.{Setup, setup_of, format_of, text_of, is_scheme_lem, is_rule_lem, letters, Reading, setup, newer, misfit, reads}
-pub use Rattle.settings.specs.{declared.Ending.Ending, declared.Settings.Settings, declared.ReadAnswer.ReadAnswer, declared.LentAnswer.LentAnswer}
-use Rattle.settings.specs.declared.Ending.TheVariants as ending
+use Rattle.refusals.specs.declared.Refusal.{Refusal}
+pub use Rattle.settings.specs.{declared.Settings.Settings, declared.ReadCounts.ReadCounts, declared.Unread.Unread}
+use Rattle.settings.specs.declared.Misfit as why
+use Rattle.settings.specs.declared.Misfit.TheVariants as misfits
+use Rattle.settings.specs.declared.Unread.TheVariants as unread
 
 -- ---- writing
 
 unfoldable pub scheme_known : ℕ → Verdict
-scheme_known a = cond (is_scheme_lem a) Pass (Fail NoScheme)
+scheme_known a = cond (is_scheme_lem a) pass (Err NoScheme)
 
 unfoldable pub rule_known : ℕ → Verdict
-rule_known b = cond (is_rule_lem b) Pass (Fail NoRule)
+rule_known b = cond (is_rule_lem b) pass (Err NoRule)
 
 unfoldable pub allowed : List ℕ → Verdict
-allowed l = cond (leb (length l) (letters l)) Pass (Fail Misfit)
+allowed l = cond (leb (length l) (letters l)) pass (Err Misfit)
 
 unfoldable pub write_tests_lem : Setup → ℕ → Verdict
 write_tests_lem x n =
@@ -52,16 +56,10 @@ abbrev pub stored : Setup → Settings
 stored x =
     record { scheme = x.scheme; rule = x.rule; label = x.label ++ replicate (16 - length x.label) 0; count = length x.label }
 
-abbrev pub nothing : Settings
-nothing = record { scheme = 0; rule = 0; label = replicate 16 0; count = 0 }
-
-abbrev pub ended : Ending → ReadAnswer
-ended e = record { ending = e; settings = nothing }
-
-abbrev pub answer_of : Reading → ReadAnswer
-answer_of (setup x) = record { ending = ending.Read; settings = stored x }
-answer_of (newer n) = ended (ending.Newer n)
-answer_of misfit = ended ending.Refused
+abbrev pub answer_of : Reading → Result Settings why.Misfit
+answer_of (setup x) = Ok (stored x)
+answer_of (newer n) = Err (misfits.Newer n)
+answer_of misfit = Err misfits.Other
 
 -- ---- reading into a lent label
 
@@ -76,9 +74,9 @@ abbrev pub reading_of : Read → Reading
 reading_of x = reads x.reader x.text
 
 abbrev pub read_verdict : Reading → Verdict
-read_verdict (setup x) = Pass
-read_verdict (newer n) = Fail NewerFormat
-read_verdict misfit = Fail Misfit
+read_verdict (setup x) = pass
+read_verdict (newer n) = Err NewerFormat
+read_verdict misfit = Err Misfit
 
 abbrev pub setup_in : Reading → Setup
 setup_in (setup x) = x
@@ -101,12 +99,6 @@ pub record ReadSeen : Type 0 where
   pub scheme : ℕ
   pub rule : ℕ
 
-pub record ReadCounts : Type 0 where
-  pub label : ℕ
-  pub format : ℕ
-  pub scheme : ℕ
-  pub rule : ℕ
-
 unfoldable pub read_shown : Verdict → Reading → ℕ → ReadSeen
 read_shown v r n =
     record {
@@ -121,13 +113,22 @@ read_shown v r n =
 abbrev pub read_result : Read → ℕ → ReadSeen
 read_result x n = read_shown (read_tests (reading_of x) n) (reading_of x) n
 
+abbrev pub LentAnswer : Type 0
+LentAnswer = Result ReadCounts Unread
+
+abbrev pub refusal_of : Unread → Refusal
+refusal_of (unread.Misfit (misfits.Newer n)) = NewerFormat
+refusal_of (unread.Misfit misfits.Other) = Misfit
+refusal_of unread.Short = Short
+
+abbrev pub newer_in : Unread → ℕ
+newer_in (unread.Misfit (misfits.Newer n)) = n
+newer_in (unread.Misfit misfits.Other) = 0
+newer_in unread.Short = 0
+
 abbrev pub read_told : LentAnswer → Told ReadCounts
-read_told a =
-    record {
-      number = (told a.answer).number;
-      place = (told a.answer).place;
-      counts = record { label = (told a.answer).counts; format = a.format; scheme = a.scheme; rule = a.rule };
-    }
+read_told (Ok n) = done n
+read_told (Err e) = refused (refusal_of e) (record { label = 0; format = newer_in e; scheme = 0; rule = 0 })
 
 unfoldable pub read_seen : Told ReadCounts → List ℕ → ReadSeen
 read_seen t label =

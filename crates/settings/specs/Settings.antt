@@ -7,13 +7,13 @@
 --   letters xs          how many capital letters and digits xs begins with
 --   Reading             what a reader makes of a text: a setup, a newer format by its number, or a misfit
 --   reads reader xs     that of the text xs, by a reader of the formats up to its own
-use Rattle.std.specs.Prelude.{Bool, true, false, cond, List, [], ◌∷◌, ◌++◌, ℕ, zero, suc, eqb, leb, ltb, length, get_or, take, drop}
-use Rattle.schemes.specs.{Schemes.scheme_of_lem, declared.Named.Named}
+use Rattle.std.specs.Prelude.{Option, Some, None, Bool, true, false, cond, List, [], ◌∷◌, ◌++◌, ℕ, zero, suc, eqb, leb, ltb, length, get_or, take, drop}
+use Rattle.noise.specs.declared.RuleName.{RuleName}
+use Rattle.schemes.specs.declared.Scheme.{Scheme}
+use Rattle.schemes.specs.{Schemes.scheme_of_lem}
 use Rattle.lists.specs.First.{first_where, both}
 use Rattle.text.specs.Text.{LF, scheme_name, line, Read, number, other, is_digit_lem, begins, field_in}
-use Rattle.noise.specs.{Expand.rule_of_lem, declared.Ruled.Ruled}
-use Rattle.schemes.specs.declared.Named.TheVariants as named
-use Rattle.noise.specs.declared.Ruled.TheVariants as ruled
+use Rattle.noise.specs.{Expand.rule_of_lem}
 
 pub record Setup : Type 0 where
   pub scheme : ℕ
@@ -49,13 +49,13 @@ text_of x = line format_name (format_of (length x.label)) ++ (line scheme_name x
 
 -- ---- their numbers and letters
 
-abbrev pub some_scheme : Named → Bool
-some_scheme (named.Known s) = true
-some_scheme named.Unknown = false
+abbrev pub some_scheme : Option Scheme → Bool
+some_scheme (Some s) = true
+some_scheme None = false
 
-abbrev pub some_rule : Ruled → Bool
-some_rule (ruled.By r) = true
-some_rule ruled.Unknown = false
+abbrev pub some_rule : Option RuleName → Bool
+some_rule (Some r) = true
+some_rule None = false
 
 unfoldable pub is_scheme_lem : ℕ → Bool
 is_scheme_lem a = some_scheme (scheme_of_lem a)

@@ -6,34 +6,27 @@ ghost use Rattle.settings.specs.Settings.{setup_of, label_line, text_of};
 ghost use Rattle.settings.specs.Steps.{size_of};
 ghost use Rattle.settings.specs.Calls.{scheme_known, rule_known, allowed, write_tests_lem};
 
-use refusals::{Refusal, Verdict};
+use refusals::Refusal;
+use schemes::Scheme;
 
 // The scheme, then the rule.
-fn known(scheme: u32, rule: u32) -> Verdict
+fn known(scheme: u32, rule: u32) -> Result<(), Refusal>
     ensures { result ≡ scheme_known scheme then rule_known rule }
 {
-    if crate::is_scheme(scheme as u64) {
-        if crate::is_rule(rule as u64) {
-            Verdict::Pass
-        } else {
-            Verdict::Fail(Refusal::NoRule)
-        }
-    } else {
-        Verdict::Fail(Refusal::NoScheme)
-    }
+    Scheme::try_from(scheme)?;
+    noise::rule_of(rule).ok_or(Refusal::NoRule)?;
+    Ok(())
 }
 
 // Each byte of the label is a capital letter or a digit.
-fn label_in(v: Verdict, label: &[u8]) -> Verdict
-    ensures { result ≡ v then allowed label.now }
+#[tactic(auto, unfolding(crate::specs::Calls::allowed))]
+fn label_in(label: &[u8]) -> Result<(), Refusal>
+    ensures { result ≡ allowed label.now }
 {
-    let Verdict::Pass = v else {
-        return v;
-    };
     if crate::count_letters(label) < label.len() {
-        Verdict::Fail(Refusal::Misfit)
+        Err(Refusal::Misfit)
     } else {
-        Verdict::Pass
+        Ok(())
     }
 }
 
@@ -42,24 +35,17 @@ fn size(n: usize) -> usize
     requires { n ≤ 16 }
     ensures { result ≡ size_of n }
 {
-    if n == 0 {
-        return 26;
-    }
-    33 + n
+    if n == 0 { 26 } else { 33 + n }
 }
 
 // The text's length is known once the scheme, the rule and the label's length are.
-pub(crate) fn write_tests(scheme: u32, rule: u32, label: &[u8], room: usize) -> Verdict
+pub(crate) fn write_tests(scheme: u32, rule: u32, label: &[u8], room: usize) -> Result<(), Refusal>
     ensures { result ≡ write_tests_lem (setup_of scheme rule label.now) room }
 {
-    let v = refusals::length_up_to(known(scheme, rule), label.len(), 16);
-    let Verdict::Pass = v else {
-        return v;
-    };
-    label_in(
-        refusals::room_for(Verdict::Pass, room, size(label.len())),
-        label,
-    )
+    known(scheme, rule)?;
+    refusals::length_up_to(label.len(), 16)?;
+    refusals::room_for(room, size(label.len()))?;
+    label_in(label)
 }
 
 // The label's line, where there is a label.
@@ -67,7 +53,7 @@ fn write_label(label: &[u8], out: &mut [u8], at: usize) -> usize
     requires { at + length (label_line label.now) ≤ length out.old }
     ensures { Written at (label_line label.now) out.old out.new result }
 {
-    if label.len() == 0 {
+    if label.is_empty() {
         return at;
     }
     let k = text::write_text(b"label=", out, at);

@@ -10,21 +10,12 @@ ghost use Rattle.keccak.specs.Keccak.{keccak_f};
 ghost use Rattle.sponge.specs.Sponge.{byte_at, over, ending, absorbed, squeezed, shake128 as shaken, sha3};
 ghost use Rattle.sponge.specs.Fit.{WholeLanes, Rate};
 
-// The number of eight bytes, the lowest first. Of bytes that lie side by side it compiles to one load.
-fn joined(a: u8, b: u8, c: u8, d: u8, e: u8, f: u8, g: u8, h: u8) -> u64
-    ensures { result ≡ a + 256 * (b + 256 * (c + 256 * (d + 256 * (e + 256 * (f + 256 * (g + 256 * h)))))) }
-{
-    let low = a as u64 + 256 * (b as u64 + 256 * (c as u64 + 256 * d as u64));
-    let high = e as u64 + 256 * (f as u64 + 256 * (g as u64 + 256 * h as u64));
-    low + 4294967296 * high
-}
-
 // The lane that eight bytes make.
 fn load(b: &[u8]) -> u64
     requires { length b.now ≡ 8 }
     ensures { result ≡ value 256 b.now }
 {
-    joined(b[0], b[1], b[2], b[3], b[4], b[5], b[6], b[7])
+    u64::from_le_bytes([b[0], b[1], b[2], b[3], b[4], b[5], b[6], b[7]])
 }
 
 // The state with a block laid over its first lanes.
@@ -33,13 +24,9 @@ fn xor_block(s: [u64; 25], b: &[u8]) -> [u64; 25]
     ensures { result ≡ over s b.now }
 {
     let mut t = s;
-    let n = b.len() / 8;
-    let mut i: usize = 0;
-    while i < n {
+    for i in 0..b.len() / 8 {
         let at = 8 * i;
-        let x = load(&b[at..at + 8]);
-        t[i] = t[i] ^ x;
-        i += 1;
+        t[i] ^= load(&b[at..at + 8]);
     }
     t
 }
@@ -51,8 +38,8 @@ fn pad(rest: &[u8], suffix: u8, block: &mut [u8])
 {
     let n = rest.len();
     let room = block.len();
-    lists::zero_bytes(block);
-    lists::copy_bytes(rest, &mut block[..n]);
+    block.fill(0);
+    block[..n].copy_from_slice(rest);
     if n + 1 == room {
         block[n] = suffix + 128;
         return;
@@ -84,32 +71,15 @@ fn absorb(input: &[u8], rate: usize, suffix: u8) -> [u64; 25]
     requires { Rate rate × (suffix < 128) }
     ensures { result ≡ absorbed rate suffix input.now }
 {
-    let n = input.len();
+    let blocks = input.len() / rate;
     let mut s = [0u64; 25];
-    let mut j: usize = 0;
-    while rate <= n - j * rate {
+    for j in 0..blocks {
         let at = j * rate;
         let x = xor_block(s, &input[at..at + rate]);
         let y = keccak::permute(x);
         s = y;
-        j += 1;
     }
-    absorb_rest(s, &input[j * rate..], rate, suffix)
-}
-
-// The eight bytes of a lane.
-fn store(x: u64, out: &mut [u8])
-    requires { length out.old ≡ 8 }
-    ensures { out.new ≡ tab 8 (λ k. x / 2 ^ (8 * k) % 256) }
-{
-    out[0] = (x % 256) as u8;
-    out[1] = ((x >> 8) % 256) as u8;
-    out[2] = ((x >> 16) % 256) as u8;
-    out[3] = ((x >> 24) % 256) as u8;
-    out[4] = ((x >> 32) % 256) as u8;
-    out[5] = ((x >> 40) % 256) as u8;
-    out[6] = ((x >> 48) % 256) as u8;
-    out[7] = ((x >> 56) % 256) as u8;
+    absorb_rest(s, &input[blocks * rate..], rate, suffix)
 }
 
 // The first bytes of a state: whole lanes, then what is left.
@@ -119,16 +89,12 @@ fn put(s: [u64; 25], out: &mut [u8])
 {
     let n = out.len();
     let lanes = n / 8;
-    let mut i: usize = 0;
-    while i < lanes {
+    for i in 0..lanes {
         let at = i * 8;
-        store(s[i], &mut out[at..at + 8]);
-        i += 1;
+        out[at..at + 8].copy_from_slice(&s[i].to_le_bytes());
     }
-    let mut k = lanes * 8;
-    while k < n {
+    for k in lanes * 8..n {
         out[k] = ((s[k / 8] >> (8 * (k % 8))) % 256) as u8;
-        k += 1;
     }
 }
 
@@ -137,17 +103,16 @@ fn squeeze(s: [u64; 25], rate: usize, out: &mut [u8])
     requires { Rate rate }
     ensures { out.new ≡ squeezed rate s (length out.old) }
 {
-    let n = out.len();
+    // All blocks but the last, which may be whole.
+    let blocks = out.len().saturating_sub(1) / rate;
     let mut t = s;
-    let mut j: usize = 0;
-    while rate < n - j * rate {
+    for j in 0..blocks {
         let at = j * rate;
         put(t, &mut out[at..at + rate]);
         let u = keccak::permute(t);
         t = u;
-        j += 1;
     }
-    put(t, &mut out[j * rate..]);
+    put(t, &mut out[blocks * rate..]);
 }
 
 pub fn shake128(input: &[u8], out: &mut [u8])

@@ -4,16 +4,15 @@
 --   line-forth, line-back       the text of a line is read as its number, and nothing else is
 --   told-number, told-within, told-other   what was found at a position
 use Rattle.lists.proofs.Kit.{refl, ◌∙◌, sym, ap, ap₂, subst, Bool, true, false, cond, List, [], append_assoc, ℕ, suc}
-use Rattle.std.proofs.Common.{◌≡◌, ◌∷◌, ◌++◌, ◌^◌, ◌≤◌, ◌<◌}
+use Rattle.std.proofs.Common.{Option, Some, None, ◌≡◌, ◌∷◌, ◌++◌, ◌^◌, ◌≤◌, ◌<◌}
 use Rattle.lists.proofs.Kit.{pow-le-pow_right, add-one, arith, eqb, length, get_or, take, drop, length-take, take-append_seam, drop_at}
 use Rattle.lists.proofs.Kit.{get_or-append_seam, split_at, eqb-true, eq-eqb, le-leb}
 use lib.Seq.{drop-append-add}
 use Rattle.lists.specs.First.{first_where, both}
 use Rattle.text.specs.Text.{LF, digits_up_to, decimal, line, number, other, is_digit_lem, not_digit_lem, run, value_of, well_formed_lem, number_in, begins, field_in}
-use Rattle.text.specs.Steps.{read_of, behind, Reads, Found}
+use Rattle.text.specs.Steps.{read_of, behind, Reads}
 use Rattle.text.proofs.Numeral.{Numeral, made, made-length, only, enough, value, small, some, runs, front, taken}
 use Rattle.text.proofs.Reading.{Formed, formed-is, formed-room, begins-is}
-use Rattle.text.specs.declared.Found.TheVariants as found
 
 -- ---- a number
 
@@ -96,12 +95,12 @@ line-back {n} {ys} name xs = go (begins name xs) refl
 
 -- ---- what was found at a position, in the terms of `field_in`
 
-module _ (name s : List ℕ) (at : ℕ) {f : Found} (r : Reads s f (field_in name (drop at s))) where
-  pub told-number : {n k : ℕ} → f ≡ found.Number n k → field_in name (drop at s) ≡ number n (drop k s)
+module _ (name s : List ℕ) (at : ℕ) {f : Option (ℕ × ℕ)} (r : Reads s f (field_in name (drop at s))) where
+  pub told-number : {n k : ℕ} → f ≡ Some (n, k) → field_in name (drop at s) ≡ number n (drop k s)
   told-number e = sym r.means ∙ ap (read_of s) e
 
-  pub told-within : {n k : ℕ} → f ≡ found.Number n k → k ≤ length s
-  told-within e = subst (λ (g : Found). behind g ≤ length s) e r.within
+  pub told-within : {n k : ℕ} → f ≡ Some (n, k) → k ≤ length s
+  told-within e = subst (λ (g : Option (ℕ × ℕ)). behind g ≤ length s) e r.within
 
-  pub told-other : f ≡ found.Other → field_in name (drop at s) ≡ other
+  pub told-other : f ≡ None → field_in name (drop at s) ≡ other
   told-other e = sym r.means ∙ ap (read_of s) e

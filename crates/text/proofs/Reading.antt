@@ -1,23 +1,26 @@
 -- Reading: what the functions that take a text apart rest on.
 --   less                    below is not at most
---   not-digit               no digit: below '0' or above '9'
+--   not-digit, place        what std tests is no digit; the place of the first that is none is the run's length
 --   Valued, valued-none, valued-more, valued-all, valued-room   a loop over digits: before, at each turn, after; and its numbers fit
 --   few, many, ended, formed   the tests of `well_formed_lem`, the first three failing
 --   Formed, formed-is       what it means that all pass
---   Begun, begun-none, begun_more, begun-differs, begun-short, begun_all   a loop over a label: before, at each turn, and at its three ends
---   begins-is               a text that begins with a label is the label and the rest
+--   begun, begins-is        whether a text begins with a label, as std tests it; and where it does, it is the label and the rest
 --   number_size, number-found, number-other   the number at a position, or other text
 --   label-room, label-found, label-other   the number of a line with its label at a position, or other text
-use Rattle.lists.proofs.Kit.{refl, ◌∙◌, sym, ap, Bool, true, false, cond, not, List, [], ℕ, suc}
-use Rattle.std.proofs.Common.{◌≡◌, ◌||◌, ◌&&◌, ◌∷◌, ◌++◌, ◌+◌, ◌*◌, ◌-◌, ◌^◌, ◌≤◌, ◌<◌}
+use Rattle.lists.proofs.Kit.{refl, ◌∙◌, sym, ap, Bool, true, false, cond, not, List, [], ℕ, zero, suc}
+use Rattle.std.proofs.Common.{Option, Some, None, ◌≡◌, ◌||◌, ◌&&◌, ◌∷◌, ◌++◌, ◌+◌, ◌*◌, ◌-◌, ◌^◌, ◌≤◌, ◌<◌}
 use Rattle.lists.proofs.Kit.{dec_lt, pow-succ', pow-le-pow_right, add-one, arith, eqb, leb, ltb, drop-cons, drop-drop, length, get_or, take, drop}
-use Rattle.lists.proofs.Kit.{drop_of_length-le, length-append, length-drop, List·getD-eq-default, leb-true, leb-false, eqb-true, lt-ltb, le-ltb, le-leb, lt-leb}
+use Rattle.lists.proofs.Kit.{drop_of_length-le, length-append, length-drop, List·getD-eq-default, leb-true, leb-false, eqb-true, eqb-false, ltb-false, lt-ltb, le-ltb, le-leb, lt-leb}
 use Rattle.lists.proofs.Kit.{eq-eqb, ne_eqb}
-use Rattle.lists.specs.First.{both}
+use Rattle.lists.specs.First.{first_where, both}
 use Rattle.lists.proofs.{Table.both_true, Parts.part, Parts.to_end}
+use Rattle.text.proofs.Runs.{run-within}
 use Rattle.text.specs.Text.{LF, number, is_digit_lem, not_digit_lem, run, value_of, well_formed_lem, number_in, begins, field_in}
-use Rattle.text.specs.Steps.{Reads, Found}
-use Rattle.text.specs.declared.Found.TheVariants as found
+use Rattle.text.specs.Steps.{Reads}
+use Rattle.std.specs.Char.{is_ascii_digit}
+use Rattle.std.specs.Cmp.Lexicographic.{pointwise}
+use Rattle.std.specs.List.{position_or_len}
+use Rattle.std.specs.Option.{unwrap_or}
 
 -- ---- digits
 
@@ -28,14 +31,37 @@ less x y = go (leb y x) refl
     go true e = le-ltb x y (leb-true y x e)
     go false e = lt-ltb x y (leb-false y x e)
 
-pub not-digit : (c : ℕ) → (ltb c 48 || ltb 57 c) ≡ not_digit_lem c
+pub not-digit : (c : ℕ) → not (is_ascii_digit c) ≡ not_digit_lem c
 unfolding not_digit_lem is_digit_lem
-not-digit c = rw (less c 48, less 57 c) (go (leb 48 c) (leb c 57))
+not-digit c = go (leb 48 c) (leb c 57)
   where
-    go : (a b : Bool) → (not a || not b) ≡ cond (both a b) false true
+    go : (a b : Bool) → not (a && b) ≡ cond (both a b) false true
     go true true = refl
     go true false = refl
     go false b = refl
+
+run_is : (xs : List ℕ) → position_or_len not_digit_lem xs ≡ run xs
+unfolding run first_where
+run_is [] = refl
+run_is (x ∷ xs) = go (not_digit_lem x) (run_is xs)
+  where
+    go : (t : Bool) → position_or_len not_digit_lem xs ≡ first_where not_digit_lem xs
+        → cond (not t) (1 + position_or_len not_digit_lem xs) 0 ≡ cond t zero (suc (first_where not_digit_lem xs))
+    go true e = refl
+    go false e = rw e (omega arith)
+
+run-fits : (xs : List ℕ) → run xs ≤ length xs
+unfolding run
+run-fits xs = run-within not_digit_lem xs
+
+-- the run's length, as std finds it: the place of the first that is no digit, or the length
+pub place : (xs : List ℕ)
+    → unwrap_or (cond (ltb (position_or_len not_digit_lem xs) (length xs)) (Some (position_or_len not_digit_lem xs)) None) (length xs) ≡ run xs
+place xs = rw (run_is xs) (go (ltb (run xs) (length xs)) refl)
+  where
+    go : (t : Bool) → ltb (run xs) (length xs) ≡ t → unwrap_or (cond t (Some (run xs)) None) (length xs) ≡ run xs
+    go true e = refl
+    go false e = omega (arith, ltb-false (run xs) (length xs) e, run-fits xs)
 
 pub record Valued (s : List ℕ) (n i : ℕ) : Type 0 where
   pub seen : i ≤ length s
@@ -134,7 +160,7 @@ module _ (s : List ℕ) (at : ℕ) (h : at ≤ length s) where
       (omega (arith, f.ten), omega (arith, l), omega (arith, l, ap length (to_end s at), length-drop at s))
 
   pub number-found : {n v : ℕ} → n ≡ run (part s at) → true ≡ well_formed_lem (part s at) → v ≡ value_of (take n (part s at)) 0
-      → Reads s (found.Number v (at + n + 1)) (number_in (drop at s))
+      → Reads s (Some (v, at + n + 1)) (number_in (drop at s))
   unfolding number_in
   number-found {n} {v} r w d =
       record {
@@ -144,38 +170,29 @@ module _ (s : List ℕ) (at : ℕ) (h : at ≤ length s) where
         within = (number_size r w).2;
       }
 
-  pub number-other : false ≡ well_formed_lem (part s at) → Reads s found.Other (number_in (drop at s))
+  pub number-other : false ≡ well_formed_lem (part s at) → Reads s None (number_in (drop at s))
   unfolding number_in
   number-other w = record { means = rw (← to_end s at, ← w); within = omega arith }
 
 -- ---- a label
 
-pub record Begun (label s : List ℕ) (i : ℕ) : Type 0 where
-  pub seen : i ≤ length label
-  pub left : begins label s ≡ begins (drop i label) (drop i s)
+same_test : (x y : ℕ) → eqb x y ≡ eqb y x
+same_test x y = go (eqb y x) refl
+  where
+    go : (t : Bool) → eqb y x ≡ t → eqb x y ≡ t
+    go true e = eq-eqb x y (sym (eqb-true y x e))
+    go false e = ne_eqb x y (λ h. eqb-false y x e (sym h))
 
-pub begun-none : (label s : List ℕ) → Begun label s 0
-begun-none label s = record { seen = omega arith; left = refl }
-
-module _ {label s : List ℕ} {i : ℕ} (h : Begun label s i) where
-  here : i < length label → i < length s → begins label s ≡ both (eqb (get_or s i 0) (get_or label i 0)) (begins (drop (suc i) label) (drop (suc i) s))
-  unfolding begins
-  here l m = h.left ∙ rw (drop-cons label i 0 l, drop-cons s i 0 m)
-
-  pub begun_more : i < length label → i < length s → get_or s i 0 ≡ get_or label i 0 → Begun label s (i + 1)
-  begun_more l m e =
-      record { seen = omega arith; left = here l m ∙ rw (eq-eqb (get_or s i 0) (get_or label i 0) e, add-one) }
-
-  pub begun-differs : i < length label → i < length s → (get_or s i 0 ≡ get_or label i 0 → ⊥) → false ≡ begins label s
-  begun-differs l m d = sym (here l m ∙ rw (ne_eqb (get_or s i 0) (get_or label i 0) d))
-
-  pub begun-short : i < length label → length s ≤ i → false ≡ begins label s
-  unfolding begins
-  begun-short l m = sym (h.left ∙ rw (drop-cons label i 0 l, drop_of_length-le s m))
-
-  pub begun_all : length label ≤ i → true ≡ begins label s
-  unfolding begins
-  begun_all l = sym (h.left ∙ rw (drop_of_length-le label l))
+-- that s begins with a label, as std tests it
+pub begun : (label s : List ℕ) → pointwise eqb label (take (length label) s) ≡ begins label s
+unfolding begins
+begun [] s = refl
+begun (c ∷ cs) [] = refl
+begun (c ∷ cs) (x ∷ xs) = rw (begun cs xs, same_test c x) (go (eqb x c))
+  where
+    go : (t : Bool) → (t && begins cs xs) ≡ both t (begins cs xs)
+    go true = refl
+    go false = refl
 
 pub begins-is : (label xs : List ℕ) → begins label xs ≡ true → xs ≡ label ++ drop (length label) xs
 unfolding begins
@@ -190,10 +207,10 @@ module _ (label s : List ℕ) (at : ℕ) (h : at ≤ length s) where
       omega
       (arith, ap length (begins-is label (part s at) (sym b)) ∙ length-append label (drop (length label) (part s at)), ap length (to_end s at), length-drop at s)
 
-  pub label-found : {r : Found} → true ≡ begins label (part s at) → Reads s r (number_in (drop (at + length label) s)) → Reads s r (field_in label (drop at s))
+  pub label-found : {r : Option (ℕ × ℕ)} → true ≡ begins label (part s at) → Reads s r (number_in (drop (at + length label) s)) → Reads s r (field_in label (drop at s))
   unfolding field_in
   label-found b f = record { means = f.means ∙ rw (← to_end s at, ← b, to_end s at, drop-drop (length label) at s); within = f.within }
 
-  pub label-other : false ≡ begins label (part s at) → Reads s found.Other (field_in label (drop at s))
+  pub label-other : false ≡ begins label (part s at) → Reads s None (field_in label (drop at s))
   unfolding field_in
   label-other b = record { means = rw (← to_end s at, ← b); within = omega arith }

@@ -4,46 +4,25 @@
 #![tactic(auto)]
 
 ghost use Rattle.std.specs.Prelude.{◌≡◌, ◌+◌, ◌-◌, ◌≤◌, length, drop};
-ghost use Rattle.text.specs.Text.{not_digit_lem, run, value_of, well_formed_lem, begins, number_in, field_in, decimal, line};
+ghost use Rattle.text.specs.Text.{run, value_of, well_formed_lem, begins, number_in, field_in, decimal, line};
 ghost use Rattle.text.specs.Steps.{Reads, Written};
 
-// What reading a number finds: the number and the position behind its line, or other text.
-#[derive(Clone, Copy)]
-pub enum Found {
-    Number(u64, usize),
-    Other,
-}
-
 // ---- reading
-
-fn not_digit(c: u8) -> bool
-    ensures { result ≡ not_digit_lem c }
-{
-    (c < b'0') | (b'9' < c)
-}
 
 // How many digits s begins with.
 fn digits(s: &[u8]) -> usize
     ensures { result ≡ run s.now }
 {
-    let mut i: usize = 0;
-    while i < s.len() {
-        if not_digit(s[i]) {
-            return i;
-        }
-        i += 1;
-    }
-    i
+    s.iter()
+        .position(|c| !c.is_ascii_digit())
+        .unwrap_or(s.len())
 }
 
 // A digit's value. Below '0' it is 0, as in the definition, so that no caller owes that c is a digit.
 fn digit(c: u8) -> u64
     ensures { (result ≡ c - 48) × (result ≤ 207) }
 {
-    if c < b'0' {
-        return 0;
-    }
-    (c - b'0') as u64
+    u64::from(c.saturating_sub(b'0'))
 }
 
 // The number that at most ten digits make: below 23 * 10^10, whatever bytes they are.
@@ -51,11 +30,9 @@ fn value(s: &[u8]) -> u64
     requires { length s.now ≤ 10 }
     ensures { result ≡ value_of s.now 0 }
 {
-    let mut n: u64 = 0;
-    let mut i: usize = 0;
-    while i < s.len() {
-        n = 10 * n + digit(s[i]);
-        i += 1;
+    let mut n = 0;
+    for c in s {
+        n = 10 * n + digit(*c);
     }
     n
 }
@@ -77,17 +54,17 @@ fn well_formed(s: &[u8], n: usize) -> bool
     ((s[0] != b'0') | (n == 1)) & (s[n] == b'\n')
 }
 
-// The number at a position.
-fn number(s: &[u8], at: usize) -> Found
+// The number at a position, and the position behind its line; or other text.
+fn number(s: &[u8], at: usize) -> Option<(u64, usize)>
     requires { at ≤ length s.now }
     ensures { Reads s.now result (number_in (drop at s.now)) }
 {
     let t = &s[at..];
     let n = digits(t);
     if well_formed(t, n) {
-        Found::Number(value(&t[..n]), at + n + 1)
+        Some((value(&t[..n]), at + n + 1))
     } else {
-        Found::Other
+        None
     }
 }
 
@@ -95,28 +72,18 @@ fn number(s: &[u8], at: usize) -> Found
 pub fn begins_with(label: &[u8], s: &[u8]) -> bool
     ensures { result ≡ begins label.now s.now }
 {
-    let mut i: usize = 0;
-    while i < label.len() {
-        if s.len() <= i {
-            return false;
-        }
-        if s[i] != label[i] {
-            return false;
-        }
-        i += 1;
-    }
-    true
+    s.starts_with(label)
 }
 
-// The number of the line at a position, where it has that name.
-pub fn field(label: &[u8], s: &[u8], at: usize) -> Found
+// The number of the line at a position, where it has that name, and the position behind the line.
+pub fn field(label: &[u8], s: &[u8], at: usize) -> Option<(u64, usize)>
     requires { at ≤ length s.now }
     ensures { Reads s.now result (field_in label.now (drop at s.now)) }
 {
     if begins_with(label, &s[at..]) {
         number(s, at + label.len())
     } else {
-        Found::Other
+        None
     }
 }
 
@@ -142,7 +109,7 @@ pub fn write_text(text: &[u8], out: &mut [u8], at: usize) -> usize
     ensures { Written at text.now out.old out.new result }
 {
     let end = at + text.len();
-    lists::copy_bytes(text, &mut out[at..end]);
+    out[at..end].copy_from_slice(text);
     end
 }
 

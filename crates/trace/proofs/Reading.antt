@@ -1,37 +1,10 @@
--- Two lines of a trace: what the functions that read them rest on, and both ways.
---   slack-other, slack-read, two-other, two-bad, two-read   what they find
---   two-forth, two_back                                     two lines are read as their numbers, and nothing else is
-use Rattle.lists.proofs.Kit.{refl, ◌∙◌, ap₂, List, Bool, true, false, cond, ℕ, arith, leb, drop, leb-true, le-leb, lt-leb}
+-- Two lines of a trace, both ways.
+--   two-forth, two_back   two lines are read as their numbers, and nothing else is
+use Rattle.lists.proofs.Kit.{refl, ap₂, List, Bool, true, false, cond, ℕ, arith, leb, leb-true, le-leb}
 use Rattle.std.proofs.Common.{◌≡◌, ◌++◌, ◌≤◌, ◌<◌, ◌^◌}
-use Rattle.text.specs.{Text.scheme_name, Text.line, Text.Read, Text.number, Text.other, Text.field_in, declared.Found.Found}
-use Rattle.text.proofs.Lines.{line-forth, line-back, told-number, told-within, told-other}
-use Rattle.trace.specs.{Trace.slack_name, Trace.two, Trace.neither, Trace.slack_in, Trace.scheme_in, Trace.two_in, Steps.Reads, Steps.Pair}
-use Rattle.text.specs.Steps as text
-use Rattle.text.specs.declared.Found.TheVariants as found
-use Rattle.trace.specs.declared.Pair.TheVariants as pair
-
-module _ (a : ℕ) (s : List ℕ) (at : ℕ) {g : Found} (r : text.Reads s g (field_in slack_name (drop at s))) where
-  pub slack-other : g ≡ found.Other → Reads s pair.Other (slack_in a (field_in slack_name (drop at s)))
-  unfolding slack_in
-  slack-other e = record { means = rw (told-other slack_name s at r e); within = omega arith }
-
-  pub slack-read : {b k : ℕ} → g ≡ found.Number b k → Reads s (pair.Exchange a b k) (slack_in a (field_in slack_name (drop at s)))
-  unfolding slack_in
-  slack-read e = record { means = rw (told-number slack_name s at r e); within = told-within slack_name s at r e }
-
-module _ (s : List ℕ) (at : ℕ) {g : Found} (r : text.Reads s g (field_in scheme_name (drop at s))) where
-  pub two-other : g ≡ found.Other → Reads s pair.Other (two_in (drop at s))
-  unfolding two_in scheme_in
-  two-other e = record { means = rw (told-other scheme_name s at r e); within = omega arith }
-
-  module _ {a k : ℕ} (e : g ≡ found.Number a k) where
-    pub two-bad : 5 < a → Reads s pair.Other (two_in (drop at s))
-    unfolding two_in scheme_in
-    two-bad l = record { means = rw (told-number scheme_name s at r e, lt-leb a 5 l); within = omega arith }
-
-    pub two-read : {p : Pair} → a ≤ 5 → Reads s p (slack_in a (field_in slack_name (drop k s))) → Reads s p (two_in (drop at s))
-    unfolding two_in scheme_in
-    two-read l h = record { means = h.means ∙ rw (told-number scheme_name s at r e, le-leb a 5 l); within = h.within }
+use Rattle.text.specs.{Text.scheme_name, Text.line, Text.Read, Text.number, Text.other, Text.field_in}
+use Rattle.text.proofs.Lines.{line-forth, line-back}
+use Rattle.trace.specs.{Trace.slack_name, Trace.two, Trace.neither, Trace.slack_in, Trace.scheme_in, Trace.two_in}
 
 pub two-forth : (a b : ℕ) (zs : List ℕ) → a ≤ 5 → b < 10 ^ 10 → two_in (line scheme_name a ++ (line slack_name b ++ zs)) ≡ two a b zs
 unfolding two_in scheme_in slack_in

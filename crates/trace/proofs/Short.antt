@@ -1,9 +1,8 @@
 -- How long texts are (`specs/Exactly.antt`).
 --   answered-short   an answer has at most 372 bytes: 2,048 exchanges, slacks below 10^10, sums below 10^14
 --   enough           a trace has at most 53,248 bytes, so the first 53,249 of a text tell
-use Rattle.lists.proofs.Kit.{refl, ◌∙◌, sym, ap, Bool, true, false, cond, List, [], ℕ, suc, dec_le, arith, eqb, length, take}
+use Rattle.lists.proofs.Kit.{refl, ◌∙◌, sym, ap, Bool, true, false, cond, List, [], ℕ, suc, dec_le, arith, eqb, length, take, length-append, length-take, take_all}
 use Rattle.std.proofs.Common.{◌≡◌, ◌∷◌, ◌++◌, ◌*◌, ◌^◌, ◌≤◌, ◌<◌}
-use Rattle.lists.proofs.Kit.{length-append, length-take, take_all}
 use Rattle.lists.specs.First.{largest_by}
 use Rattle.text.specs.Text.{scheme_name, line}
 use Rattle.text.proofs.{Numeral.decimal-length, Writing.line-length}

@@ -1,122 +1,124 @@
 -- The counters after a trace are those of its exchanges.
---   text_after t r            the text, where the counters are t and r is still to come
+--   text_after ts r           the text, where the counters are ts and r is still to come
 --   run_end, run-over, run_more, run-other   at the end, over the limit, with one exchange more, and with other text
 --   answer-is                from zeros on it is the answer
---   held_none, made-is       how large they are: before, and after one exchange more
-use Rattle.lists.proofs.Kit.{refl, sym, ap, subst, Bool, true, false, cond, List, [], ℕ, zero, suc, max, arith, eqb, length}
+--   zeros, put               the counters before, and with one exchange more
+--   held_none, held_more     how large they are: before, and after one exchange more
+use Rattle.lists.proofs.Kit.{refl, sym, ap, Bool, true, false, cond, List, [], ℕ, zero, suc, max, arith, eqb, length}
 use Rattle.std.proofs.Common.{◌≡◌, ◌∷◌, ◌+◌, ◌*◌, ◌≤◌, ◌<◌}
-use Rattle.lists.proofs.Kit.{get_or, set, replicate, length-set, get_or-set_same, get_or-set_other, eqb-true, eqb-false}
+use Rattle.lists.proofs.Kit.{get_or, set, replicate, length-set, get_or-set_same, get_or-set_other, get_or-replicate, dec_lt, List·getD-eq-default, eqb-true, eqb-false}
 use Rattle.lists.specs.First.{largest_by}
-use Rattle.lists.proofs.{Table.cond-all, Entries.below-zeros}
+use Rattle.lists.proofs.Table.{cond-all}
 use Rattle.text.specs.Text.{line, refusal_name}
-use Rattle.trace.specs.Trace.{Exchange, two, neither, two_in, Trace, recorded, unread, more, recorded_in, slacks_of, total, block_of, summary}
-use Rattle.trace.specs.Trace.{answer_to, answered}
-use Rattle.trace.specs.Steps.{zeros, added, Held, block_at, summary_of, Tally}
-use Rattle.trace.specs.Exactly.{Valid, none, some}
+use Rattle.trace.specs.Trace.{Exchange, two, neither, two_in, Trace, recorded, unread, more, recorded_in, slacks_of, total, block_of, summary, answer_to, answered}
+use Rattle.trace.specs.Steps.{none, added, Held, block_at, summary_of, Tally}
+use Rattle.trace.specs.Exactly.{Valid, none as no_more, some}
 use Rattle.trace.proofs.Exactly.{no_other}
 
 -- ---- all exchanges, one after the other
 
-add_all : Tally → List Exchange → Tally
-add_all t [] = t
-add_all t (y ∷ ys) = add_all (added t y.scheme y.slack) ys
+-- one exchange more, of scheme a with the slack b
+abbrev pub put : List Tally → ℕ → ℕ → List Tally
+put ts a b = set ts a (added (get_or ts a none) b)
 
--- the text, where the counters are t and r is still to come
-pub text_after : Tally → Trace → List ℕ
-text_after t (recorded ys) = summary_of (add_all t ys)
-text_after t unread = line refusal_name 8
+add_all : List Tally → List Exchange → List Tally
+add_all ts [] = ts
+add_all ts (y ∷ ys) = add_all (put ts y.scheme y.slack) ys
 
-after_more : (t : Tally) (a b : ℕ) (r : Trace) → text_after t (more a b r) ≡ text_after (added t a b) r
+-- the text, where the counters are ts and r is still to come
+pub text_after : List Tally → Trace → List ℕ
+text_after ts (recorded ys) = summary_of (add_all ts ys)
+text_after ts unread = line refusal_name 8
+
+after_more : (ts : List Tally) (a b : ℕ) (r : Trace) → text_after ts (more a b r) ≡ text_after (put ts a b) r
 unfolding text_after add_all
-after_more t a b (recorded ys) = refl
-after_more t a b unread = refl
+after_more ts a b (recorded ys) = refl
+after_more ts a b unread = refl
 
-pub run_end : (k : ℕ) (t : Tally) → text_after t (recorded_in k []) ≡ summary_of t
+pub run_end : (k : ℕ) (ts : List Tally) → text_after ts (recorded_in k []) ≡ summary_of ts
 unfolding recorded_in text_after add_all
-run_end zero t = refl
-run_end (suc k) t = refl
+run_end zero ts = refl
+run_end (suc k) ts = refl
 
-pub run-over : (xs : List ℕ) (t : Tally) → 0 < length xs → text_after t (recorded_in zero xs) ≡ line refusal_name 8
+pub run-over : (xs : List ℕ) (ts : List Tally) → 0 < length xs → text_after ts (recorded_in zero xs) ≡ line refusal_name 8
 unfolding recorded_in text_after
-run-over [] t h = absurd (omega arith)
-run-over (c ∷ cs) t h = refl
+run-over [] ts h = absurd (omega arith)
+run-over (c ∷ cs) ts h = refl
 
-pub run_more : {a b : ℕ} {ys : List ℕ} (k : ℕ) (xs : List ℕ) (t : Tally) → 0 < length xs → two_in xs ≡ two a b ys
-    → text_after t (recorded_in (suc k) xs) ≡ text_after (added t a b) (recorded_in k ys)
+pub run_more : {a b : ℕ} {ys : List ℕ} (k : ℕ) (xs : List ℕ) (ts : List Tally) → 0 < length xs → two_in xs ≡ two a b ys
+    → text_after ts (recorded_in (suc k) xs) ≡ text_after (put ts a b) (recorded_in k ys)
 unfolding recorded_in
-run_more k [] t h e = absurd (omega arith)
-run_more {a} {b} {ys} k (c ∷ cs) t h e = rw e (after_more t a b (recorded_in k ys))
+run_more k [] ts h e = absurd (omega arith)
+run_more {a} {b} {ys} k (c ∷ cs) ts h e = rw e (after_more ts a b (recorded_in k ys))
 
-pub run-other : (k : ℕ) (xs : List ℕ) (t : Tally) → 0 < length xs → two_in xs ≡ neither → text_after t (recorded_in (suc k) xs) ≡ line refusal_name 8
+pub run-other : (k : ℕ) (xs : List ℕ) (ts : List Tally) → 0 < length xs → two_in xs ≡ neither
+    → text_after ts (recorded_in (suc k) xs) ≡ line refusal_name 8
 unfolding recorded_in text_after
-run-other k [] t h e = absurd (omega arith)
-run-other k (c ∷ cs) t h e = rw e
+run-other k [] ts h e = absurd (omega arith)
+run-other k (c ∷ cs) ts h e = rw e
 
 -- ---- the counters of each scheme
 
-set_at : (xs : List ℕ) (a v j : ℕ) → a < length xs → get_or (set xs a v) j 0 ≡ cond (eqb a j) v (get_or xs j 0)
-set_at xs a v j h = go (eqb a j) refl
+put_at : (ts : List Tally) (a b j : ℕ) → a < length ts
+    → get_or (put ts a b) j none ≡ cond (eqb a j) (added (get_or ts j none) b) (get_or ts j none)
+put_at ts a b j h = go (eqb a j) refl
   where
-    go : (t : Bool) → eqb a j ≡ t → get_or (set xs a v) j 0 ≡ cond t v (get_or xs j 0)
-    go true e = rw (← eqb-true a j e) (get_or-set_same xs a v 0 h)
-    go false e = get_or-set_other xs a j v 0 (λ z. eqb-false a j e (sym z))
+    go : (t : Bool) → eqb a j ≡ t → get_or (put ts a b) j none ≡ cond t (added (get_or ts j none) b) (get_or ts j none)
+    go true e = rw (← eqb-true a j e) (get_or-set_same ts a (added (get_or ts a none) b) none h)
+    go false e = get_or-set_other ts a j (added (get_or ts a none) b) none (λ z. eqb-false a j e (sym z))
 
-record Long (t : Tally) : Type 0 where
-  counts : length t.count ≡ 6
-  sums : length t.sum ≡ 6
-  largests : length t.largest ≡ 6
+-- the counters of scheme j in us are those in ts with the slacks zs besides
+record Sums (ts us : List Tally) (zs : List ℕ) (j : ℕ) : Type 0 where
+  count-is : (get_or us j none).count ≡ (get_or ts j none).count + length zs
+  sum_is : (get_or us j none).sum ≡ (get_or ts j none).sum + total zs
+  largest-is : (get_or us j none).largest ≡ max (get_or ts j none).largest (largest_by (λ x. x) zs)
 
-long-added : (t : Tally) (a b : ℕ) → Long t → Long (added t a b)
-long-added t a b h =
-    record { counts = rw length-set h.counts; sums = rw length-set h.sums; largests = rw length-set h.largests }
-
--- the counters u are those of t with the slacks zs of scheme j besides
-record Sums (t u : Tally) (zs : List ℕ) (j : ℕ) : Type 0 where
-  count-is : get_or u.count j 0 ≡ get_or t.count j 0 + length zs
-  sum_is : get_or u.sum j 0 ≡ get_or t.sum j 0 + total zs
-  largest-is : get_or u.largest j 0 ≡ max (get_or t.largest j 0) (largest_by (λ x. x) zs)
-
-module _ (t u : Tally) (a b j : ℕ) (zs : List ℕ) (l : Long t) (p : a ≤ 5) (h : Sums (added t a b) u zs j) where
-  at_j : (xs : List ℕ) (v : ℕ) {e : Bool} → length xs ≡ 6 → eqb a j ≡ e → get_or (set xs a v) j 0 ≡ cond e v (get_or xs j 0)
-  at_j xs v m q = rw q at (set_at xs a v j (omega arith))
-
-  sums-step : (e : Bool) → eqb a j ≡ e → Sums t u (cond e (b ∷ zs) zs) j
+module _ (ts us : List Tally) (a b j : ℕ) (zs : List ℕ) (l : a < length ts) (h : Sums (put ts a b) us zs j) where
+  sums-step : (e : Bool) → eqb a j ≡ e → Sums ts us (cond e (b ∷ zs) zs) j
   unfolding total largest_by
   sums-step true q =
-      let i : a ≡ j = eqb-true a j q in
+      let w : get_or (put ts a b) j none ≡ added (get_or ts j none) b = rw q at (put_at ts a b j l) in
       record {
-        count-is = omega (arith, h.count-is, at_j t.count (get_or t.count a 0 + 1) l.counts q, ap (λ (k : ℕ). get_or t.count k 0) i);
-        sum_is = omega (arith, h.sum_is, at_j t.sum (get_or t.sum a 0 + b) l.sums q, ap (λ (k : ℕ). get_or t.sum k 0) i);
-        largest-is =
-            omega (arith, h.largest-is, at_j t.largest (max (get_or t.largest a 0) b) l.largests q, ap (λ (k : ℕ). get_or t.largest k 0) i);
+        count-is = omega (arith, h.count-is, ap (λ (t : Tally). t.count) w);
+        sum_is = omega (arith, h.sum_is, ap (λ (t : Tally). t.sum) w);
+        largest-is = omega (arith, h.largest-is, ap (λ (t : Tally). t.largest) w);
       }
   sums-step false q =
+      let w : get_or (put ts a b) j none ≡ get_or ts j none = rw q at (put_at ts a b j l) in
       record {
-        count-is = omega (arith, h.count-is, at_j t.count (get_or t.count a 0 + 1) l.counts q);
-        sum_is = omega (arith, h.sum_is, at_j t.sum (get_or t.sum a 0 + b) l.sums q);
-        largest-is = omega (arith, h.largest-is, at_j t.largest (max (get_or t.largest a 0) b) l.largests q);
+        count-is = omega (arith, h.count-is, ap (λ (t : Tally). t.count) w);
+        sum_is = omega (arith, h.sum_is, ap (λ (t : Tally). t.sum) w);
+        largest-is = omega (arith, h.largest-is, ap (λ (t : Tally). t.largest) w);
       }
 
-sums-all : (t : Tally) {ys : List Exchange} → Long t → Valid ys → (j : ℕ) → Sums t (add_all t ys) (slacks_of j ys) j
+sums-all : (ts : List Tally) {ys : List Exchange} → length ts ≡ 6 → Valid ys → (j : ℕ) → Sums ts (add_all ts ys) (slacks_of j ys) j
 unfolding add_all slacks_of total largest_by
-sums-all t l none j = record { count-is = omega arith; sum_is = omega arith; largest-is = omega arith }
-sums-all t l (some {y} {ys} a b v) j =
-    let u = added t y.scheme y.slack in
-    sums-step t (add_all u ys) y.scheme y.slack j (slacks_of j ys) l a (sums-all u (long-added t y.scheme y.slack l) v j)
-    (eqb y.scheme j) refl
+sums-all ts l no_more j = record { count-is = omega arith; sum_is = omega arith; largest-is = omega arith }
+sums-all ts l (some {y} {ys} a b v) j =
+    let us = put ts y.scheme y.slack in
+    let m : length us ≡ 6 = rw length-set l in
+    sums-step ts (add_all us ys) y.scheme y.slack j (slacks_of j ys) (omega arith) (sums-all us m v j) (eqb y.scheme j) refl
 
-long-zeros : Long zeros
-long-zeros = record { counts = refl; sums = refl; largests = refl }
+abbrev pub zeros : List Tally
+zeros = replicate 6 none
+
+zero_at : (j : ℕ) → get_or zeros j none ≡ none
+zero_at j = go (dec_lt j 6)
+  where
+    go : Dec (j < 6) → get_or zeros j none ≡ none
+    go (yes l) = get_or-replicate 6 j none none l
+    go (no l) = List·getD-eq-default zeros none {n = j} (omega arith)
 
 module _ {ys : List Exchange} (v : Valid ys) where
   block-is : (j : ℕ) → block_at (add_all zeros ys) j ≡ block_of j ys
   unfolding block_of
   block-is j =
-      let s = sums-all zeros long-zeros v j in
-      let o : get_or {A = ℕ} (replicate 6 0) j 0 ≡ 0 = omega (arith, (below-zeros {q = 1} 6 (omega arith)).below j) in
-      let c : get_or (add_all zeros ys).count j 0 ≡ length (slacks_of j ys) = omega (arith, s.count-is, o) in
-      let m : get_or (add_all zeros ys).sum j 0 ≡ total (slacks_of j ys) = omega (arith, s.sum_is, o) in
-      let g : get_or (add_all zeros ys).largest j 0 ≡ largest_by (λ x. x) (slacks_of j ys) = omega (arith, s.largest-is, o) in
+      let s = sums-all zeros refl v j in
+      let o : get_or zeros j none ≡ none = zero_at j in
+      let c : (get_or (add_all zeros ys) j none).count ≡ length (slacks_of j ys) = omega (arith, s.count-is, ap (λ (t : Tally). t.count) o) in
+      let m : (get_or (add_all zeros ys) j none).sum ≡ total (slacks_of j ys) = omega (arith, s.sum_is, ap (λ (t : Tally). t.sum) o) in
+      let g : (get_or (add_all zeros ys) j none).largest ≡ largest_by (λ x. x) (slacks_of j ys) =
+      omega (arith, s.largest-is, ap (λ (t : Tally). t.largest) o) in
       rw (c, m, g)
 
   summary-is : summary_of (add_all zeros ys) ≡ summary ys
@@ -136,36 +138,21 @@ answer-is xs = go (recorded_in 2048 xs) refl
 pub held_none : Held 0 zeros
 held_none =
     record {
-      counts = refl;
-      sums = refl;
-      largests = refl;
-      few = λ j. omega (arith, (below-zeros {q = 1} 6 (omega arith)).below j);
-      small = λ j. omega (arith, (below-zeros {q = 1} 6 (omega arith)).below j);
+      six = refl;
+      few = λ j. omega (arith, ap (λ (t : Tally). t.count) (zero_at j));
+      small = λ j. omega (arith, ap (λ (t : Tally). t.sum) (zero_at j));
     }
 
-held-added : {n : ℕ} (t : Tally) (a b : ℕ) → Held n t → a ≤ 5 → b < 10000000000 → Held (n + 1) (added t a b)
-held-added {n} t a b h p l =
+pub held_more : {n : ℕ} (ts : List Tally) (a b : ℕ) → Held n ts → a ≤ 5 → b < 10000000000 → Held (n + 1) (put ts a b)
+held_more {n} ts a b h p l =
     record {
-      counts = rw length-set h.counts;
-      sums = rw length-set h.sums;
-      largests = rw length-set h.largests;
+      six = rw length-set h.six;
       few =
           λ j.
-          rw (set_at t.count a (get_or t.count a 0 + 1) j (omega (arith, h.counts)))
-          (cond-all (λ x. x ≤ n + 1) (eqb a j) (omega (arith, h.few a)) (omega (arith, h.few j)));
+          rw (put_at ts a b j (omega (arith, h.six)))
+          (cond-all (λ (t : Tally). t.count ≤ n + 1) (eqb a j) (omega (arith, h.few j)) (omega (arith, h.few j)));
       small =
           λ j.
-          rw (set_at t.sum a (get_or t.sum a 0 + b) j (omega (arith, h.sums)))
-          (cond-all (λ x. x ≤ (n + 1) * 10000000000) (eqb a j) (omega (arith, h.small a)) (omega (arith, h.small j)));
+          rw (put_at ts a b j (omega (arith, h.six)))
+          (cond-all (λ (t : Tally). t.sum ≤ (n + 1) * 10000000000) (eqb a j) (omega (arith, h.small j)) (omega (arith, h.small j)));
     }
-
--- the counters with that largest slack, as the code makes them
-abbrev made : Tally → ℕ → ℕ → ℕ → Tally
-made t a b m =
-    record { count = set t.count a (get_or t.count a 0 + 1); sum = set t.sum a (get_or t.sum a 0 + b); largest = set t.largest a m }
-
-pub made-is : {n m : ℕ} (t : Tally) (a b : ℕ) → m ≡ max (get_or t.largest a 0) b → Held n t → a ≤ 5 → b < 10000000000
-    → (made t a b m ≡ added t a b) × Held (n + 1) (made t a b m)
-made-is {n} {m} t a b e h p l =
-    let q : made t a b m ≡ added t a b = ap (made t a b) e in
-    (q, subst (Held (n + 1)) (sym q) (held-added t a b h p l))

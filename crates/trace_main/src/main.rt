@@ -2,27 +2,10 @@
 // `trace`'s `specs/Exactly.antt`. A read or a write that fails ends the program with its error.
 #![tactic(auto)]
 
-ghost use Rattle.std.specs.Prelude.{◌≤◌, length, IfOk};
-
-use std::io::{self, Read};
-
-// Reads until the buffer is full or the input ends, and tells how many bytes then stand at its front.
-fn read_full(input: &mut impl Read, buffer: &mut [u8]) -> io::Result<usize>
-    ensures { IfOk result (λ n. n ≤ length buffer.new) }
-{
-    let mut n = 0;
-    while n < buffer.len() {
-        let more = input.read(&mut buffer[n..])?;
-        if more == 0 {
-            break;
-        }
-        n += more;
-    }
-    Ok(n)
-}
+use std::io;
 
 fn run(rt: &HostRuntime, input: &mut [u8]) -> io::Result<()> {
-    let n = read_full(&mut rt.stdin(), input)?;
+    let n = reading::read_full(&mut rt.stdin(), input)?;
     let mut out = [0u8; 372];
     let m = trace::answer(&input[..n], &mut out);
     rt.write_all(&out[..m])

@@ -1,21 +1,18 @@
 -- What a level writes, entry by entry: the first n of each half (`specs/Level.antt`, Butterflies).
 --   stored_is                  what the code stores
---   butterflies-none, run_more   before, and after one more of a run
---   crossed-none, crossed-more   the same of a level across, whose rows have entry o of all blocks
---   powers-none, powers-more   the powers of its blocks, before and after one more
---   reads_in, block-≤          what a row reads stands within the list, and its powers within the table
+--   run_more                   after one more of a run
+--   crossed-more               the same of a level across, whose rows have entry o of all blocks
+--   powers-more                the powers of its blocks, after one more
+--   block-≤                    the powers of a row stand within the table
 --   product-fits, exponent-≤   the products, and the power that a run reads
 --   next-run                   a run ends within its block
-use Rattle.lists.proofs.Kit.{◌≡◌, ◌∙◌, sym, ap, ap₂, List, ◌≢◌, ℕ, zero, suc, ◌+◌, ◌-◌, ◌*◌, ◌/◌, ◌%◌, ◌^◌, ◌<◌, ◌≤◌, arith, add_assoc, not-suc-le-zero, mod-lt}
+use Rattle.lists.proofs.Kit.{◌≡◌, ◌∙◌, sym, ap, ap₂, List, ◌≢◌, ℕ, zero, suc, ◌+◌, ◌-◌, ◌*◌, ◌/◌, ◌%◌, ◌^◌, ◌<◌, ◌≤◌, arith, add_assoc, mod-lt}
 use Rattle.lists.proofs.Kit.{mul-le-mul, mul-le-mul_left, mul-le-mul_right, div-mul-le_self, div-add-mod, div-add-mod', div-lt_iff_lt-mul, lt-div-mul-add}
 use Rattle.lists.proofs.Kit.{dec_lt, length, get_or, set, length-set, get_or-set_same, get_or-set_other}
 use native.Mathlib.Nat.{mul-div-le, mul-div-mul_left, div-eq_of_lt-le}
 use Rattle.std.proofs.Common.{below_more}
 use Rattle.transform.specs.Level.{tight, powered, low, high, Half, first, second, place, butterfly, stored, entry, factor, beside, Butterflies, Powers}
 use Rattle.transform.specs.Level.{Crossed, OneBlock}
-
-pub butterflies-none : (src : List ℕ) (a h : ℕ) (dst : List ℕ) → length dst ≡ 1024 → Butterflies src a h 0 dst
-butterflies-none src a h dst e = record { size = e; made = λ c k p. absurd (not-suc-le-zero p) }
 
 -- two stores, one to each half
 module _ (dst : List ℕ) (k : ℕ) (f : Half → ℕ) where
@@ -79,9 +76,6 @@ run_more src dst dst' a h k j w l m old ew e =
     rw (← add_assoc k j 1) (butterflies-more src dst dst' a h (k + j) w (k + k / h * h + j) (omega arith) old (rw b ew) (rw b (omega arith)) e)
 
 -- ---- levels across: entry o of all blocks side by side
-
-pub crossed-none : (src ws dst : List ℕ) (h m u v : ℕ) → length dst ≡ 1024 → Crossed src ws h m u v (0 * m) dst
-crossed-none src ws dst h m u v e = record { size = e; made = λ c o i p q. absurd (omega arith) }
 
 -- an entry that was made before stands in a row before, or earlier in the same row
 data Earlier (m o i p j : ℕ) : Type 0 where
@@ -154,18 +148,7 @@ module _ (src ws dst : List ℕ) (h m u v o i : ℕ) (hi : i < m) (room : o * (2
   unfolding stored
   crossed-more dst' e = rw e (record { size = simp length-set old.size; made = now-made })
 
--- an entry that is read stands within the list
-pub reads_in : (h m u v o i : ℕ) → o < h → i < m → 2 * (h * u) + m * v ≤ 1023 + u + v → o * u + i * v + h * u < 1024
-reads_in h m u v o i a b c = omega (arith, mul-le-mul_right u a, mul-le-mul_right v b)
-
 -- ---- the powers of a level across
-
-pub powers-none : (a h : ℕ) (ws fs : List ℕ) → length ws ≡ 512 → length fs ≡ 512 → Powers a h 0 ws fs
-powers-none a h ws fs l k =
-    record {
-      power = λ i p. absurd (not-suc-le-zero p);
-      factors = record { fits = omega arith; long = l; also = k; word = λ i p. absurd (not-suc-le-zero p); told = λ i p. absurd (not-suc-le-zero p) };
-    }
 
 module _ (a h i : ℕ) (ws fs : List ℕ) (x y : ℕ) (hi : i < 512) (ex : x ≡ 7 ^ (h * (a + 2 * i)) % 12289) (ey : y ≡ factor x) (old : Powers a h i ws fs) where
   abbrev xs : List ℕ

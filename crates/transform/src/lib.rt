@@ -10,9 +10,10 @@
 ghost use Rattle.std.specs.Prelude.{◌≡◌, ◌+◌, ◌*◌, ◌%◌, ◌<◌, ◌≤◌, length};
 ghost use Rattle.lists.specs.Ranges.{Below};
 ghost use Rattle.transform.specs.Transform.{transformed, inverted};
-ghost use Rattle.transform.specs.Theorems.{entrywise, multiplied, TableRule};
+ghost use Rattle.transform.specs.Theorems.{entrywise, multiplied};
 ghost use Rattle.transform.specs.Level.{tight, factor, powered, stored, Butterflies, OneBlock, Factors, Powers, Crossed, remainders, sums, scaled};
 
+use powers::Table;
 use schemes::NewHope;
 
 pub mod on_transforms;
@@ -34,7 +35,7 @@ fn powered(w: u16, f: u16, y: u16) -> u16
 {
     let p = (w as u32) * (y as u32);
     let h = (y as u32) * (f as u32) / 65536;
-    std::num::wrapping_sub_u16((p % 65536) as u16, (h * NewHope::Q % 65536) as u16)
+    ((p % 65536) as u16).wrapping_sub((h * NewHope::Q % 65536) as u16)
 }
 
 // Two entries of the level before, h apart, make two of the next, e apart.
@@ -61,51 +62,45 @@ fn join(
 
 // 16 entries of one block, from k on: they share their power. Its factor stands in an array, of which the compiler makes a vector of 16 bits a number; of one
 // factor it makes a vector of 32 bits a number, and multiplies twice.
-fn run(t: &[u32; 2048], src: &[u16; 1024], dst: &mut [u16; 1024], a: usize, h: usize, k: usize)
+fn run(t: &Table, src: &[u16; 1024], dst: &mut [u16; 1024], a: usize, h: usize, k: usize)
     requires a_bound { (a < 2) × (0 < h) × OneBlock h 16 k }
-    requires table_rule { TableRule t.now × Butterflies src.now a h k dst.old }
+    requires made { Butterflies src.now a h k dst.old }
     ensures { Butterflies src.now a h (k + 16) dst.new }
 {
     let i = k / h;
     let r = k + i * h;
     let e = h * (a + 2 * i);
-    let v = t[e];
+    let v = t.powers[e];
     let w = v as u16;
     let f = (65536 * v / NewHope::Q) as u16;
     let fs = [f; 16];
-    let mut j: usize = 0;
-    while j < 16 {
+    for j in 0..16 {
         join(src, dst, w, fs[j], r + j, h, k + j, 512);
-        j += 1;
     }
 }
 
 // One level, in runs of 16 entries, which lie side by side. It is small enough to be compiled anew into each of its six calls, where h is a constant and a run
 // is laid out in vectors. With more than 16 factors it would be too large for that, as it would with two halvings a level.
-fn level(t: &[u32; 2048], src: &[u16; 1024], dst: &mut [u16; 1024], a: usize, h: usize)
+fn level(t: &Table, src: &[u16; 1024], dst: &mut [u16; 1024], a: usize, h: usize)
     requires a_bound { (a < 2) × (0 < h) × (512 % h ≡ 0) × (h % 16 ≡ 0) }
-    requires table_rule { TableRule t.now × (length dst.old ≡ 1024) }
+    requires dst_len { length dst.old ≡ 1024 }
     ensures { Butterflies src.now a h 512 dst.new }
 {
-    let mut k: usize = 0;
-    while k < 512 {
+    for k in (0..512).step_by(16) {
         run(t, src, dst, a, h, k);
-        k += 16;
     }
 }
 
 // The powers of m blocks, and their factors.
-fn lay(t: &[u32; 2048], ws: &mut [u16; 512], fs: &mut [u16; 512], a: usize, h: usize, m: usize)
+fn lay(t: &Table, ws: &mut [u16; 512], fs: &mut [u16; 512], a: usize, h: usize, m: usize)
     requires a_bound { (a < 2) × (0 < h) × (h * m ≡ 512) }
-    requires table_rule { TableRule t.now × (length ws.old ≡ 512) × (length fs.old ≡ 512) }
+    requires lengths { (length ws.old ≡ 512) × (length fs.old ≡ 512) }
     ensures { Powers a h m ws.new fs.new }
 {
-    let mut i: usize = 0;
-    while i < m {
-        let v = t[h * (a + 2 * i)];
+    for i in 0..m {
+        let v = t.powers[h * (a + 2 * i)];
         ws[i] = v as u16;
         fs[i] = (65536 * v / NewHope::Q) as u16;
-        i += 1;
     }
 }
 
@@ -128,14 +123,13 @@ fn row(
     let d = h * u;
     let r = o * u;
     let k = o * (2 * m);
-    let mut i: usize = 0;
-    while i < m {
+    for i in 0..m {
         join(src, dst, ws[i], fs[i], r + i * v, d, k + i, m);
-        i += 1;
     }
 }
 
 // One level, where entry o of block i is read at o u + i v.
+// h, m, u and v are no struct: each call gives them as literals, and the loops are laid out by these.
 fn cross(
     ws: &[u16; 512],
     fs: &[u16; 512],
@@ -150,10 +144,8 @@ fn cross(
     requires dst_len { length dst.old ≡ 1024 }
     ensures { Crossed src.now ws.now h m u v 512 dst.new }
 {
-    let mut o: usize = 0;
-    while o < h {
+    for o in 0..h {
         row(ws, fs, src, dst, h, m, u, v, o);
-        o += 1;
     }
 }
 
@@ -162,10 +154,8 @@ fn narrow(src: &[u32; 1024], dst: &mut [u16; 1024])
     requires { Below 12289 src.now × (length src.now ≡ 1024) × (length dst.old ≡ 1024) }
     ensures { dst.new ≡ src.now }
 {
-    let mut k: usize = 0;
-    while k < NewHope::N {
-        dst[k] = src[k] as u16;
-        k += 1;
+    for (k, x) in dst.iter_mut().enumerate() {
+        *x = src[k] as u16;
     }
 }
 
@@ -173,17 +163,15 @@ fn reduce(src: &[u16; 1024], dst: &mut [u32; 1024])
     requires { Below 65536 src.now × (length dst.old ≡ 1024) }
     ensures { dst.new ≡ remainders src.now }
 {
-    let mut k: usize = 0;
-    while k < NewHope::N {
-        dst[k] = (src[k] as u32) % NewHope::Q;
-        k += 1;
+    for (k, x) in dst.iter_mut().enumerate() {
+        *x = (src[k] as u32) % NewHope::Q;
     }
 }
 
 // Entry i becomes the sum over j of g_j 7^(j (a + 2i)): the transform where a is 1, and the sums of its inverse, the other way round, where a is 0.
 // The buffers are locals, so that the compiler sees that they do not overlap.
-fn sums(t: &[u32; 2048], g: &mut [u32; 1024], a: usize)
-    requires { (a < 2) × TableRule t.now × Below 12289 g.old × (length g.old ≡ 1024) }
+fn sums(t: &Table, g: &mut [u32; 1024], a: usize)
+    requires { (a < 2) × Below 12289 g.old × (length g.old ≡ 1024) }
     ensures { g.new ≡ sums a g.old }
 {
     let mut p = [0u16; 1024];
@@ -209,8 +197,9 @@ fn sums(t: &[u32; 2048], g: &mut [u32; 1024], a: usize)
 }
 
 // The transform, in place. Whoever makes several lends the table to all: making it copies it.
-fn ahead(t: &[u32; 2048], g: &mut [u32; 1024])
-    requires { TableRule t.now × Below 12289 g.old × (length g.old ≡ 1024) }
+// What is asked of g is no struct's rule, for C lends the bare array.
+fn ahead(t: &Table, g: &mut [u32; 1024])
+    requires { Below 12289 g.old × (length g.old ≡ 1024) }
     ensures { g.new ≡ transformed g.old }
 {
     sums(t, g, 1);
@@ -220,27 +209,25 @@ pub fn forward(g: &mut [u32; 1024])
     requires { Below 12289 g.old × (length g.old ≡ 1024) }
     ensures { g.new ≡ transformed g.old }
 {
-    let t = powers::table();
+    let t = Table::new();
     ahead(&t, g);
 }
 
 // Entry k of the inverse is entry 1024 - k of the sums times 12277 7^-k, which is 12 7^(1024 - k): 12277 is -12, and -1 is 7^1024. 12288 * (12 * 12288) fits.
-fn scale(t: &[u32; 2048], src: &[u32; 1024], dst: &mut [u32; 1024])
-    requires { TableRule t.now × Below 12289 src.now × (length dst.old ≡ 1024) }
+fn scale(t: &Table, src: &[u32; 1024], dst: &mut [u32; 1024])
+    requires { Below 12289 src.now × (length dst.old ≡ 1024) }
     ensures { dst.new ≡ scaled src.now }
 {
-    dst[0] = src[0] * (12 * t[NewHope::N]) % NewHope::Q;
-    let mut k: usize = 1;
-    while k < NewHope::N {
+    dst[0] = src[0] * (12 * t.powers[NewHope::N]) % NewHope::Q;
+    for k in 1..NewHope::N {
         let r = NewHope::N - k;
-        dst[k] = src[r] * (12 * t[r]) % NewHope::Q;
-        k += 1;
+        dst[k] = src[r] * (12 * t.powers[r]) % NewHope::Q;
     }
 }
 
 // The inverse, in place.
-fn back(t: &[u32; 2048], g: &mut [u32; 1024])
-    requires { TableRule t.now × Below 12289 g.old × (length g.old ≡ 1024) }
+fn back(t: &Table, g: &mut [u32; 1024])
+    requires { Below 12289 g.old × (length g.old ≡ 1024) }
     ensures { g.new ≡ inverted g.old }
 {
     sums(t, g, 0);
@@ -252,7 +239,7 @@ pub fn inverse(g: &mut [u32; 1024])
     requires { Below 12289 g.old × (length g.old ≡ 1024) }
     ensures { g.new ≡ inverted g.old }
 {
-    let t = powers::table();
+    let t = Table::new();
     back(&t, g);
 }
 
@@ -262,7 +249,7 @@ pub fn product(a: &mut [u32; 1024], b: &mut [u32; 1024])
     ensures a_after { a.new ≡ multiplied a.old b.old }
     ensures b_after { b.new ≡ transformed b.old }
 {
-    let t = powers::table();
+    let t = Table::new();
     ahead(&t, a);
     ahead(&t, b);
     on_transforms::weigh(b, a);

@@ -5,16 +5,10 @@
 --   numbers_of             each scheme has the numbers of its family
 --   numbers-in             so has a scheme of which the family is known
 --   in-each                a fact of what is meant by the family, from that of each family with its numbers
---   Each, each             a fact that is another one in each family
---   in-arm, arm-asks       in an arm of a match over the family: what is made there is what is meant, and what is asked there
---   key-bits               an entry's key has fewer than 32 bits
---   packed-below           a number below q fits the width of a packed number
-use Rattle.lists.proofs.Kit.{refl, ◌∙◌, sym, subst, List, ℕ, lt_of_lt_of_le, arith, T, leb, lit≤}
+use Rattle.lists.proofs.Kit.{refl, subst, ℕ, arith, T, leb, lit≤}
 use Rattle.std.proofs.Common.{◌≡◌, ◌*◌, ◌/◌, ◌%◌, ◌^◌, ◌≤◌, ◌<◌}
 use Rattle.schemes.specs.Schemes.{by_family, family_of, fixed_of, bcns, new_hope, frodo}
 use Rattle.schemes.specs.{declared.Family.Family, declared.Fixed.Fixed, declared.Scheme.Scheme}
-use Rattle.schemes.proofs.Sound.{sound}
-use Rattle.lists.specs.Ranges.{Below}
 use Rattle.frodo.specs.Shown.{Round}
 
 -- the rounding interval, `interval` of the scheme
@@ -117,37 +111,3 @@ pub in-each : {A : Type 0} (P : A → Type 0) (F : Family) {f : Fixed} {x y z : 
 in-each P Family.Bcns k b n o = b k
 in-each P Family.NewHope k b n o = n k
 in-each P Family.Frodo k b n o = o k
-
-abbrev pub Each : Family → Type 0 → Type 0 → Type 0 → Type 0
-Each Family.Bcns X Y Z = X
-Each Family.NewHope X Y Z = Y
-Each Family.Frodo X Y Z = Z
-
-each : (F : Family) {f : Fixed} {X Y Z : Type 0} → Numbers F f → (Bcns f → X) → (NewHope f → Y) → (Frodo f → Z) → Each F X Y Z
-each Family.Bcns k b n o = b k
-each Family.NewHope k b n o = n k
-each Family.Frodo k b n o = o k
-
-by-same : {A : Type 0} (F : Family) {f : Fixed} {w x y z x' y' z' : A} → Numbers F f → w ≡ by_family F x y z
-    → (Bcns f → x ≡ x') → (NewHope f → y ≡ y') → (Frodo f → z ≡ z') → w ≡ by_family F x' y' z'
-by-same Family.Bcns k p b n o = p ∙ b k
-by-same Family.NewHope k p b n o = p ∙ n k
-by-same Family.Frodo k p b n o = p ∙ o k
-
--- where F is the scheme's family
-module _ (F : Family) (c : Scheme) (i : family_of c ≡ F) where
-  pub in-arm : {A : Type 0} {w x y z x' y' z' : A} → w ≡ by_family F x y z
-      → (Bcns (fixed_of c) → x ≡ x') → (NewHope (fixed_of c) → y ≡ y') → (Frodo (fixed_of c) → z ≡ z') → w ≡ by_family (family_of c) x' y' z'
-  in-arm {A} {w} {x' = x'} {y' = y'} {z' = z'} p b n o =
-      subst (λ (F : Family). w ≡ by_family F x' y' z') (sym i) (by-same F (numbers-in c i) p b n o)
-
-  pub arm-asks : {X Y Z : Type 0} → (Bcns (fixed_of c) → X) → (NewHope (fixed_of c) → Y) → (Frodo (fixed_of c) → Z) → Each F X Y Z
-  arm-asks = each F (numbers-in c i)
-
--- ---- the size of numbers
-
-pub key-bits : (s : Scheme) → (fixed_of s).keybits < 32
-key-bits s = let k = (sound s).key-room in omega arith
-
-pub packed-below : (s : Scheme) {xs : List ℕ} → Below (fixed_of s).q xs → Below (2 ^ (fixed_of s).width) xs
-packed-below s h = record { below = λ k. lt_of_lt_of_le (h.below k) (sound s).q_room }

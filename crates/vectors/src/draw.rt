@@ -55,19 +55,11 @@ fn more(h: u32, x: u32) -> u32 {
 }
 
 pub fn check_bytes(xs: &[u8]) -> u32 {
-    let mut h: u32 = 1;
-    for x in xs {
-        h = more(h, *x as u32);
-    }
-    h
+    xs.iter().fold(1, |h, x| more(h, u32::from(*x)))
 }
 
 pub fn check_numbers(xs: &[u32]) -> u32 {
-    let mut h: u32 = 1;
-    for x in xs {
-        h = more(h, *x);
-    }
-    h
+    xs.iter().fold(1, |h, x| more(h, *x))
 }
 
 // What a value counts as: itself, or itself plus 2^32 where it is negative.
@@ -75,10 +67,6 @@ fn counted(z: i32) -> u32 {
     numbers::residue64(z as i64, 4294967296) as u32
 }
 
-pub fn check_values(zs: &[i32]) -> u32 {
-    let mut h: u32 = 1;
-    for z in zs {
-        h = more(h, counted(*z));
-    }
-    h
+pub fn check_values(xs: &[i32]) -> u32 {
+    xs.iter().fold(1, |h, x| more(h, counted(*x)))
 }

@@ -1,9 +1,10 @@
 // A line for a case of Offer, Reply, Finish or Bench. An output is fresh in each case, and is the front of its buffer that the case lends. The message of
 // a good case is kept for the call that takes it.
 use crate::faults::put_bytes;
-use crate::lent::{Count, bytes, length, name, numbers, room, room_for, values};
+use crate::lent::{Count, front, length, name, part, room, room_for};
 use crate::{Setting, lent, lines};
-use bench::BenchAnswer;
+use bench::Compared;
+use refusals::Refusal;
 use std::io;
 
 fn head(rt: &impl Print, call: &[u8], g: Setting) -> io::Result<()> {
@@ -29,10 +30,10 @@ fn offer_line(
     let n = room_for(g, Count::Opening, message.len());
     let answer = offer::offer(
         name(g, 6),
-        numbers(a, length(g, Count::Public)),
-        values(zs, lent::S, k),
-        values(zs, lent::E, k),
-        bytes(xs, lent::SEED, length(g, Count::Seed)),
+        front(a, length(g, Count::Public)),
+        part(zs, lent::S, k),
+        part(zs, lent::E, k),
+        part(xs, lent::SEED, length(g, Count::Seed)),
         &mut message[0..n],
     );
     head(rt, b"offer scheme=", g)?;
@@ -70,12 +71,12 @@ fn reply_line(
     let k = length(g, Count::Secret);
     let answer = reply::reply(
         name(g, 6),
-        bytes(xs, lent::OPENING, length(g, Count::Opening)),
-        numbers(a, length(g, Count::Public)),
-        values(zs, lent::S1, k),
-        values(zs, lent::E1, k),
-        values(zs, lent::E2, length(g, Count::Mixed)),
-        bytes(xs, lent::COINS, length(g, Count::Coins)),
+        part(xs, lent::OPENING, length(g, Count::Opening)),
+        front(a, length(g, Count::Public)),
+        part(zs, lent::S1, k),
+        part(zs, lent::E1, k),
+        part(zs, lent::E2, length(g, Count::Mixed)),
+        part(xs, lent::COINS, length(g, Count::Coins)),
         &mut message[0..n],
         &mut key[0..m],
         &mut digest[0..d],
@@ -118,8 +119,8 @@ fn finish_line(
 ) -> io::Result<()> {
     let n = room_for(g, Count::Key, key.len());
     let d = room(32, g.c, digest.len());
-    let reply = bytes(xs, lent::REPLY, length(g, Count::Reply));
-    let s = values(zs, lent::S, length(g, Count::Secret));
+    let reply = part(xs, lent::REPLY, length(g, Count::Reply));
+    let s = part(zs, lent::S, length(g, Count::Secret));
     let answer = finish::finish(name(g, 6), reply, s, &mut key[0..n], &mut digest[0..d]);
     head(rt, b"finish scheme=", g)?;
     lines::told_finish(rt, answer)?;
@@ -132,18 +133,18 @@ pub fn finish_case(rt: &impl Print, g: Setting, zs: &[i32], xs: &[u8]) -> io::Re
     finish_line(rt, g, zs, xs, &mut key, &mut digest)
 }
 
-fn bench_on(g: Setting, a: &[u32], zs: &[i32], xs: &[u8]) -> BenchAnswer {
+fn bench_on(g: Setting, a: &[u32], zs: &[i32], xs: &[u8]) -> Result<Compared, Refusal> {
     let n = length(g, Count::Secret);
     bench::bench(
         name(g, 6),
-        numbers(a, length(g, Count::Public)),
-        values(zs, lent::S, n),
-        values(zs, lent::E, n),
-        bytes(xs, lent::SEED, length(g, Count::Seed)),
-        values(zs, lent::S1, n),
-        values(zs, lent::E1, n),
-        values(zs, lent::E2, length(g, Count::Mixed)),
-        bytes(xs, lent::COINS, length(g, Count::Coins)),
+        front(a, length(g, Count::Public)),
+        part(zs, lent::S, n),
+        part(zs, lent::E, n),
+        part(xs, lent::SEED, length(g, Count::Seed)),
+        part(zs, lent::S1, n),
+        part(zs, lent::E1, n),
+        part(zs, lent::E2, length(g, Count::Mixed)),
+        part(xs, lent::COINS, length(g, Count::Coins)),
     )
 }
 

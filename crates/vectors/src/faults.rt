@@ -2,19 +2,7 @@
 use crate::lent::Count;
 use crate::{Call, Setting, lent};
 
-fn put_number(xs: &mut [u32], i: usize, x: u32) {
-    if i < xs.len() {
-        xs[i] = x;
-    }
-}
-
-fn put_value(zs: &mut [i32], i: usize, z: i32) {
-    if i < zs.len() {
-        zs[i] = z;
-    }
-}
-
-fn put_byte(xs: &mut [u8], i: usize, x: u8) {
+fn put<T: Copy>(xs: &mut [T], i: usize, x: T) {
     if i < xs.len() {
         xs[i] = x;
     }
@@ -23,7 +11,7 @@ fn put_byte(xs: &mut [u8], i: usize, x: u8) {
 // A list of bytes, from an index on.
 pub fn put_bytes(from: &[u8], at: usize, xs: &mut [u8]) {
     for (i, x) in from.iter().enumerate() {
-        put_byte(xs, at.wrapping_add(i), *x);
+        put(xs, at.wrapping_add(i), *x);
     }
 }
 
@@ -33,8 +21,8 @@ const BEYOND: i32 = 402685952;
 // Two entries in each of the lists s, e, s', e', e'': of list j the entries 40 - 10j and 50.
 fn beyond(values: &mut [i32]) {
     for j in 0..5 {
-        put_value(values, 6934 * j + 40, BEYOND);
-        put_value(values, 6944 * j + 50, BEYOND);
+        put(values, 6934 * j + 40, BEYOND);
+        put(values, 6944 * j + 50, BEYOND);
     }
 }
 
@@ -57,7 +45,7 @@ fn packed_at(g: Setting) -> usize {
 fn blank(at: usize, n: usize, bytes: &mut [u8]) {
     let from = lent::cut(at, bytes.len());
     let to = from + lent::cut(n, bytes.len() - from);
-    lists::zero_bytes(&mut bytes[from..to]);
+    bytes[from..to].fill(0);
 }
 
 // Four bytes in the middle of the packed part.
@@ -66,8 +54,8 @@ fn over(at: usize, n: usize, bytes: &mut [u8]) {
 }
 
 fn public(n: usize, q: u32, a: &mut [u32]) {
-    put_number(a, n / 2, q);
-    put_number(a, n.wrapping_sub(1), q);
+    put(a, n / 2, q);
+    put(a, n.wrapping_sub(1), q);
 }
 
 // A call's good case draws its lists; each further one adds its fault.
@@ -75,7 +63,7 @@ pub fn prepare(g: Setting, a: &mut [u32], values: &mut [i32], bytes: &mut [u8]) 
     let c = g.c;
     match c {
         0 | 10 => lent::draw(g, a, values, bytes),
-        2 => lists::zero_values(values),
+        2 => values.fill(0),
         3 => beyond(values),
         4 => blank(packed_at(g), lent::entries(g.k, Count::Packed), bytes),
         5 => over(packed_at(g), lent::entries(g.k, Count::Packed), bytes),

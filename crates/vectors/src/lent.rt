@@ -2,7 +2,7 @@
 ghost use Rattle.std.specs.Prelude.{◌≤◌};
 
 use crate::{Call, Setting, draw};
-use schemes::{Fixed, Named, Scheme};
+use schemes::{Fixed, Scheme};
 
 // Where the lists begin in the values and in the bytes.
 pub const S: usize = 0;
@@ -38,10 +38,7 @@ pub enum Count {
 }
 
 pub fn fixed(k: u32) -> Fixed {
-    let Named::Known(s) = schemes::scheme_of(k) else {
-        return Scheme::Bcns.fixed();
-    };
-    s.fixed()
+    Scheme::try_from(k).unwrap_or(Scheme::Bcns).fixed()
 }
 
 pub fn entries(k: u32, what: Count) -> usize {
@@ -97,29 +94,16 @@ pub fn room_for(g: Setting, what: Count, most: usize) -> usize
 pub fn cut(n: usize, most: usize) -> usize
     ensures { result ≤ most }
 {
-    if n < most { n } else { most }
+    n.min(most)
 }
 
-pub fn numbers(xs: &[u32], n: usize) -> &[u32] {
-    let to = cut(n, xs.len());
-    &xs[0..to]
+// The first n entries of a list, and n from an index on: as far as there are so many.
+pub fn front<T>(xs: &[T], n: usize) -> &[T] {
+    &xs[..cut(n, xs.len())]
 }
 
-pub fn words(xs: &[u64], n: usize) -> &[u64] {
-    let to = cut(n, xs.len());
-    &xs[0..to]
-}
-
-pub fn values(zs: &[i32], at: usize, n: usize) -> &[i32] {
-    let from = cut(at, zs.len());
-    let to = from + cut(n, zs.len() - from);
-    &zs[from..to]
-}
-
-pub fn bytes(xs: &[u8], at: usize, n: usize) -> &[u8] {
-    let from = cut(at, xs.len());
-    let to = from + cut(n, xs.len() - from);
-    &xs[from..to]
+pub fn part<T>(xs: &[T], at: usize, n: usize) -> &[T] {
+    front(&xs[cut(at, xs.len())..], n)
 }
 
 // The seed of stream j of scheme k.

@@ -1,10 +1,10 @@
 // The words of a line: docs/VECTORS.md, "A line".
 use crate::{draw, lent};
-use bench::BenchAnswer;
-use finish::FinishAnswer;
+use bench::Compared;
+use finish::FinishCounts;
 use lists::Peak;
-use refusals::{Answer, Refusal};
-use reply::ReplyAnswer;
+use refusals::Refusal;
+use reply::ReplyCounts;
 use std::io;
 
 pub fn text(rt: &impl Print, t: &[u8]) -> io::Result<()> {
@@ -23,7 +23,7 @@ fn count(rt: &impl Print, name: &[u8], n: usize) -> io::Result<()> {
 
 // The checksum of the first n bytes.
 pub fn summed(rt: &impl Print, name: &[u8], xs: &[u8], n: usize) -> io::Result<()> {
-    field(rt, name, draw::check_bytes(lent::bytes(xs, 0, n)))
+    field(rt, name, draw::check_bytes(lent::part(xs, 0, n)))
 }
 
 fn accepted(rt: &impl Print, name: &[u8], n: usize) -> io::Result<()> {
@@ -38,23 +38,21 @@ fn refused(rt: &impl Print, r: Refusal, rest: &[u8]) -> io::Result<()> {
 }
 
 // What a call with one output says.
-pub fn told(rt: &impl Print, answer: Answer) -> io::Result<()> {
+pub fn told(rt: &impl Print, answer: Result<usize, Refusal>) -> io::Result<()> {
     match answer {
-        Answer::Done(n) => accepted(rt, b" written=", n),
-        Answer::Refused(r) => refused(rt, r, b" written=0"),
+        Ok(n) => accepted(rt, b" written=", n),
+        Err(r) => refused(rt, r, b" written=0"),
     }
 }
 
-pub fn told_reply(rt: &impl Print, answer: ReplyAnswer) -> io::Result<()> {
+pub fn told_reply(rt: &impl Print, answer: Result<ReplyCounts, Refusal>) -> io::Result<()> {
     match answer {
-        ReplyAnswer::Done(n) => {
+        Ok(n) => {
             accepted(rt, b" message_written=", n.message)?;
             count(rt, b" key_written=", n.key)?;
             count(rt, b" digest_written=", n.digest)
         }
-        ReplyAnswer::Refused(r) => {
-            refused(rt, r, b" message_written=0 key_written=0 digest_written=0")
-        }
+        Err(r) => { refused(rt, r, b" message_written=0 key_written=0 digest_written=0") }
     }
 }
 
@@ -64,14 +62,14 @@ fn used(rt: &impl Print, slack: Peak) -> io::Result<()> {
     count(rt, b" slack_index=", slack.at)
 }
 
-pub fn told_finish(rt: &impl Print, answer: FinishAnswer) -> io::Result<()> {
+pub fn told_finish(rt: &impl Print, answer: Result<FinishCounts, Refusal>) -> io::Result<()> {
     match answer {
-        FinishAnswer::Done(n) => {
+        Ok(n) => {
             accepted(rt, b" key_written=", n.key)?;
             count(rt, b" digest_written=", n.digest)?;
             used(rt, n.slack)
         }
-        FinishAnswer::Refused(r) => {
+        Err(r) => {
             refused(
                 rt,
                 r,
@@ -87,10 +85,9 @@ fn agreed(rt: &impl Print, differ: usize, slack: Peak) -> io::Result<()> {
 }
 
 // The first differing bit counts from 1, 0 where the keys agree.
-pub fn told_bench(rt: &impl Print, answer: BenchAnswer) -> io::Result<()> {
+pub fn told_bench(rt: &impl Print, answer: Result<Compared, Refusal>) -> io::Result<()> {
     match answer {
-        BenchAnswer::Agree(slack) => agreed(rt, 0, slack),
-        BenchAnswer::Differ(i, slack) => agreed(rt, i.wrapping_add(1), slack),
-        BenchAnswer::Refused(r) => refused(rt, r, b" differ=0 slack=0 slack_index=0"),
+        Ok(n) => agreed(rt, n.differ.map_or(0, |i| i.wrapping_add(1)), n.slack),
+        Err(r) => refused(rt, r, b" differ=0 slack=0 slack_index=0"),
     }
 }

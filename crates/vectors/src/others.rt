@@ -1,7 +1,7 @@
 // A line for a case of Noise, Expand, Grow or a hash: calls that take bytes, which stand first in the buffer.
-use crate::lent::{Count, bytes, longer, name, numbers, room};
+use crate::lent::{Count, front, longer, name, part, room};
 use crate::{Call, Setting, draw, lent, lines};
-use refusals::Answer;
+use refusals::Refusal;
 use std::io;
 
 // Word i of Noise's table: each of an entry's three is 2^58 times the entry's number, counted from 1. In cases 6 to 9 the entries from 25 on are each
@@ -44,11 +44,11 @@ fn bytes_of(k: u32, n: usize) -> usize {
     }
 }
 
-fn noise_on(g: Setting, xs: &[u8], table: &[u64], out: &mut [i32]) -> Answer {
+fn noise_on(g: Setting, xs: &[u8], table: &[u64], out: &mut [i32]) -> Result<usize, Refusal> {
     sampling::noise(
         name(g, 6),
-        bytes(xs, 0, longer(bytes_of(g.k, values_of(g)), g.c)),
-        lent::words(table, longer(words_of(g.k), g.c)),
+        part(xs, 0, longer(bytes_of(g.k, values_of(g)), g.c)),
+        lent::front(table, longer(words_of(g.k), g.c)),
         out,
     )
 }
@@ -66,7 +66,7 @@ fn noise_line(
     lines::field(rt, b"noise scheme=", g.k)?;
     lines::field(rt, b" case=", g.c)?;
     lines::told(rt, answer)?;
-    lines::field(rt, b" values=", draw::check_values(lent::values(out, 0, n)))?;
+    lines::field(rt, b" values=", draw::check_values(lent::part(out, 0, n)))?;
     lines::text(rt, b"\n")
 }
 
@@ -85,11 +85,11 @@ fn stream_length(c: u32) -> usize {
     }
 }
 
-fn numbers_on(g: Setting, xs: &[u8], out: &mut [u32]) -> Answer {
+fn numbers_on(g: Setting, xs: &[u8], out: &mut [u32]) -> Result<usize, Refusal> {
     let call = g.call;
     match call {
-        Call::Expand => sampling::expand(name(g, 15), bytes(xs, 0, stream_length(g.c)), out),
-        _ => sampling::grow(name(g, 15), bytes(xs, 0, longer(32, g.c)), out),
+        Call::Expand => sampling::expand(name(g, 15), part(xs, 0, stream_length(g.c)), out),
+        _ => sampling::grow(name(g, 15), part(xs, 0, longer(32, g.c)), out),
     }
 }
 
@@ -107,7 +107,7 @@ fn numbers_line(rt: &impl Print, g: Setting, xs: &[u8], out: &mut [u32]) -> io::
     numbers_head(rt, g)?;
     lines::field(rt, b" case=", g.c)?;
     lines::told(rt, answer)?;
-    lines::field(rt, b" numbers=", draw::check_numbers(numbers(out, n)))?;
+    lines::field(rt, b" numbers=", draw::check_numbers(front(out, n)))?;
     lines::text(rt, b"\n")
 }
 
@@ -123,11 +123,11 @@ fn hash_length(c: u32) -> usize {
     }
 }
 
-fn hash_on(g: Setting, xs: &[u8], out: &mut [u8]) -> Answer {
+fn hash_on(g: Setting, xs: &[u8], out: &mut [u8]) -> Result<usize, Refusal> {
     let call = g.call;
     match call {
-        Call::Shake128 => hashing::shake128(bytes(xs, 0, hash_length(g.c)), out),
-        _ => hashing::sha3_256(bytes(xs, 0, hash_length(g.c)), out),
+        Call::Shake128 => hashing::shake128(part(xs, 0, hash_length(g.c)), out),
+        _ => hashing::sha3_256(part(xs, 0, hash_length(g.c)), out),
     }
 }
 

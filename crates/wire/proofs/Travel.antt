@@ -18,7 +18,7 @@ use Rattle.lists.specs.Ranges.{Below}
 use Rattle.lists.proofs.Parts.{below-take, below-drop}
 use Rattle.packing.specs.Packing.{packed, unpacked}
 use Rattle.packing.proofs.Laws.{unpacked-length, unpacked-below}
-use Rattle.refusals.specs.{Refusals.not_blank_lem, Refusals.received_in, declared.Verdict.Verdict, declared.Verdict.TheVariants.Pass}
+use Rattle.refusals.specs.{Refusals.not_blank_lem, Refusals.received_in, Refusals.Verdict, Refusals.pass}
 use Rattle.refusals.proofs.Laws.{both, message-passed}
 use Rattle.values.specs.Fit.{Counted}
 use Rattle.wire.specs.Wire.{opening, packed_at, opened_in, replied_in, numbers_in, hints_in, coins_in, seed_in}
@@ -71,8 +71,8 @@ module _ (c : Scheme) where
     pub numbers-blank : not_blank_lem (packed (fixed_of c).width xs) ≡ not_blank_lem xs
     numbers-blank = as-blank (numbers c) h (sound c).q_room
 
-    pub told-blank : {v w : Verdict} → v ≡ not_blank_lem xs → v ≡ w → w ≡ not_blank_lem (packed (fixed_of c).width xs)
-    told-blank e f = sym f ∙ e ∙ sym numbers-blank
+    pub told-blank : {v : Verdict} → v ≡ not_blank_lem xs → v ≡ not_blank_lem (packed (fixed_of c).width xs)
+    told-blank e = e ∙ sym numbers-blank
 
     -- ---- an opening
 
@@ -122,7 +122,7 @@ module _ (c : Scheme) where
   coins-given coins = record { long = unpacked-length _ _ _; below = unpacked-below _ _ _ }
 
   -- u, taken from the packed part p with the verdict v
-  pub message-counted : (p : List ℕ) {u : List ℕ} {v : Verdict} → u ≡ numbers_in c p → v ≡ received_in (fixed_of c).q p (numbers_in c p) → v ≡ Pass
+  pub message-counted : (p : List ℕ) {u : List ℕ} {v : Verdict} → u ≡ numbers_in c p → v ≡ received_in (fixed_of c).q p (numbers_in c p) → v ≡ pass
       → Counted (fixed_of c).secret (fixed_of c).q u
   unfolding numbers_in received_in
   message-counted p e t h =

@@ -5,7 +5,7 @@
 use Rattle.std.specs.Prelude.{◌≡◌, List, ◌++◌, ℕ, ℤ, length}
 use Rattle.schemes.specs.{Schemes.fixed_of, declared.Scheme.Scheme}
 use Rattle.packing.specs.Packing.{packed}
-use Rattle.refusals.specs.{Refusals.◌then◌, Refusals.secrets_in_lem, declared.Verdict.Verdict}
+use Rattle.refusals.specs.{Refusals.◌then◌, Refusals.secrets_in_lem, Refusals.Verdict}
 use Rattle.values.specs.Keys.{hints, keys}
 use Rattle.wire.specs.Wire.{coins_in}
 

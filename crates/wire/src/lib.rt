@@ -11,22 +11,18 @@ ghost use Rattle.wire.specs.Wire.{opening, packed_at, opened_in, replied_in, num
 
 pub mod steps;
 
-use refusals::Verdict;
+use refusals::Refusal;
 use schemes::{Family, Scheme};
 
-// Where the packed part of an opening begins, and where its seed does.
-#[derive(Clone, Copy)]
-struct Starts(usize, usize);
-
-// Frodo's seed stands before its packed part, the others' behind it.
-fn opening_starts(scheme: Scheme) -> Starts
+// Where the packed part of an opening begins, and where its seed does. Frodo's seed stands before its packed part, the others' behind it.
+fn opening_starts(scheme: Scheme) -> (usize, usize)
     ensures { (result.0 ≡ packed_at scheme) × (result.1 ≡ seed_at scheme) }
 {
     let f = scheme.fixed();
     match scheme.family() {
-        Family::Bcns => Starts(0, f.packed),
-        Family::NewHope => Starts(0, f.packed),
-        Family::Frodo => Starts(f.seed, 0),
+        Family::Bcns => (0, f.packed),
+        Family::NewHope => (0, f.packed),
+        Family::Frodo => (f.seed, 0),
     }
 }
 
@@ -37,30 +33,27 @@ pub fn lay_opening(scheme: Scheme, numbers: &[u32], seed: &[u8], out: &mut [u8])
     ensures { out.new ≡ opening scheme seed.now (packed (fixed_of scheme).width numbers.now) }
 {
     let f = scheme.fixed();
-    let starts = opening_starts(scheme);
-    let start = starts.0;
+    let (start, from) = opening_starts(scheme);
     let end = start + f.packed;
     packing::pack(f.width, numbers, &mut out[start..end]);
-    let from = starts.1;
     let to = from + f.seed;
-    lists::copy_bytes(seed, &mut out[from..to]);
+    out[from..to].copy_from_slice(seed);
 }
 
 // The unpack step of Reply: the opening's numbers, whether each is below q, and whether its packed part is blank.
-pub fn take_opening(scheme: Scheme, opening: &[u8], numbers: &mut [u32]) -> Verdict
+pub fn take_opening(scheme: Scheme, opening: &[u8], numbers: &mut [u32]) -> Result<(), Refusal>
     requires { (length opening.now ≡ (fixed_of scheme).opening) × (length numbers.old ≡ (fixed_of scheme).secret) }
     ensures value { result ≡ received_in (fixed_of scheme).q (opened_in scheme opening.now) (numbers_in scheme (opened_in scheme opening.now)) }
     ensures numbers_value { numbers.new ≡ numbers_in scheme (opened_in scheme opening.now) }
 {
     let f = scheme.fixed();
-    let starts = opening_starts(scheme);
-    let start = starts.0;
+    let (start, _) = opening_starts(scheme);
     let end = start + f.packed;
     refusals::take_message(f.width, f.q, &opening[start..end], numbers)
 }
 
 // The unpack step of Finish: the reply's numbers, whether each is below q, and whether its packed part is blank.
-pub fn take_reply(scheme: Scheme, reply: &[u8], numbers: &mut [u32]) -> Verdict
+pub fn take_reply(scheme: Scheme, reply: &[u8], numbers: &mut [u32]) -> Result<(), Refusal>
     requires { (length reply.now ≡ (fixed_of scheme).reply) × (length numbers.old ≡ (fixed_of scheme).secret) }
     ensures value { result ≡ received_in (fixed_of scheme).q (replied_in scheme reply.now) (numbers_in scheme (replied_in scheme reply.now)) }
     ensures numbers_value { numbers.new ≡ numbers_in scheme (replied_in scheme reply.now) }
@@ -89,7 +82,7 @@ pub fn take_coins(scheme: Scheme, bytes: &[u8], coins: &mut [u32])
     let f = scheme.fixed();
     let w = f.coinbits;
     if w == 0 {
-        lists::zero_numbers(coins);
+        coins.fill(0);
     } else {
         packing::unpack(w, bytes, coins);
     }

@@ -10,34 +10,29 @@ ghost use Rattle.values.specs.Keys as settled;
 ghost use Rattle.wire.specs.Wire.{opening, coins_in};
 ghost use Rattle.wire.specs.Steps.{reply_secrets_lem, Rooms, message_by, key_by};
 
-use refusals::Verdict;
+use refusals::Refusal;
 use schemes::Scheme;
 
 // The tests of s', e' and e'', in this order.
-pub fn reply_secrets(scheme: Scheme, s1: &[i32], e1: &[i32], e2: &[i32]) -> Verdict
+pub fn reply_secrets(scheme: Scheme, s1: &[i32], e1: &[i32], e2: &[i32]) -> Result<(), Refusal>
     ensures { result ≡ reply_secrets_lem scheme s1.now e1.now e2.now }
 {
     let f = scheme.fixed();
-    let v = refusals::secrets_in(Verdict::Pass, f.largest, s1);
-    let v = refusals::secrets_in(v, f.largest, e1);
-    refusals::secrets_in(v, f.largest, e2)
+    refusals::secrets_in(f.largest, s1)?;
+    refusals::secrets_in(f.largest, e1)?;
+    refusals::secrets_in(f.largest, e2)
 }
 
 // The opening's bytes, of its numbers b. A blank part is refused before anything is written.
-pub fn lay_numbers(scheme: Scheme, b: &[u32], seed: &[u8], out: &mut [u8]) -> Verdict
+pub fn lay_numbers(scheme: Scheme, b: &[u32], seed: &[u8], out: &mut [u8]) -> Result<(), Refusal>
     requires counted { Counted (fixed_of scheme).secret (fixed_of scheme).q b.now }
     requires seed_len { (length seed.now ≡ (fixed_of scheme).seed) × (length out.old ≡ (fixed_of scheme).opening) }
     ensures value { result ≡ not_blank_lem (packed (fixed_of scheme).width b.now) }
     ensures laid { Laid result (opening scheme seed.now (packed (fixed_of scheme).width b.now)) out.old out.new }
 {
-    let v = refusals::not_blank(b);
-    match v {
-        Verdict::Fail(r) => Verdict::Fail(r),
-        Verdict::Pass => {
-            crate::lay_opening(scheme, b, seed, out);
-            Verdict::Pass
-        }
-    }
+    refusals::not_blank(b)?;
+    crate::lay_opening(scheme, b, seed, out);
+    Ok(())
 }
 
 // The hints and the entries of the key, of v; tosses, the coins as numbers, is room for what lies between.
@@ -60,20 +55,15 @@ fn settle(
 }
 
 // The message's bytes, of its numbers u and the hints. A blank part is refused before anything is written.
-fn lay_message(scheme: Scheme, u: &[u32], hints: &[u32], message: &mut [u8]) -> Verdict
+fn lay_message(scheme: Scheme, u: &[u32], hints: &[u32], message: &mut [u8]) -> Result<(), Refusal>
     requires counted { Counted (fixed_of scheme).secret (fixed_of scheme).q u.now }
     requires counted_2 { Counted (fixed_of scheme).mixed (2 ^ (fixed_of scheme).hintbits) hints.now × (length message.old ≡ (fixed_of scheme).reply) }
     ensures value { result ≡ not_blank_lem (packed (fixed_of scheme).width u.now) }
     ensures laid { Laid result (packed (fixed_of scheme).width u.now ++ packed (fixed_of scheme).hintbits hints.now) message.old message.new }
 {
-    let v = refusals::not_blank(u);
-    match v {
-        Verdict::Fail(r) => Verdict::Fail(r),
-        Verdict::Pass => {
-            crate::lay_reply(scheme, u, hints, message);
-            Verdict::Pass
-        }
-    }
+    refusals::not_blank(u)?;
+    crate::lay_reply(scheme, u, hints, message);
+    Ok(())
 }
 
 // Message and key, of u and v; tosses, hints and entries are room for what lies between.
@@ -87,7 +77,7 @@ pub fn lay_values(
     entries: &mut [u32],
     message: &mut [u8],
     key: &mut [u8],
-) -> Verdict
+) -> Result<(), Refusal>
     requires counted { Counted (fixed_of scheme).secret (fixed_of scheme).q u.now × Counted (fixed_of scheme).mixed (fixed_of scheme).q v.now }
     requires coins_len { (length coins.now ≡ (fixed_of scheme).coins) × Rooms scheme tosses.old hints.old entries.old }
     requires message_len { (length message.old ≡ (fixed_of scheme).reply) × (length key.old ≡ (fixed_of scheme).key) }
@@ -96,12 +86,7 @@ pub fn lay_values(
     ensures laid_2 { Laid result (key_by scheme v.now coins.now) key.old key.new }
 {
     settle(scheme, coins, v, tosses, hints, entries);
-    let sent = lay_message(scheme, u, hints, message);
-    match sent {
-        Verdict::Fail(r) => Verdict::Fail(r),
-        Verdict::Pass => {
-            crate::lay_key(scheme, entries, key);
-            Verdict::Pass
-        }
-    }
+    lay_message(scheme, u, hints, message)?;
+    crate::lay_key(scheme, entries, key);
+    Ok(())
 }

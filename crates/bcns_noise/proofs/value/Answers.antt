@@ -1,17 +1,7 @@
 -- `bcns_noise::value` meets its contract: eight limbs of three bytes, a count and a sign.
-use Rattle.lists.proofs.Kit.{◌∙◌, refl, arith, to_z-of_z, w32}
+use Rattle.lists.proofs.Kit.{◌∙◌, to_z-of_z, w32}
 use Rattle.bcns_noise.proofs.{Limbs.eight-below, Limbs.number-eight, Limbs.value-is}
 use Rattle.bcns_noise.proofs.value.Goals as goal
-
-pub count-requires : goal.count-requires
-count-requires c =
-    record {
-      long = c.requires.0.long;
-      eight = refl;
-      column = omega arith;
-      small = c.requires.0.small;
-      below = eight-below c.three.ensures.1 c.three-2.ensures.1 c.three-3.ensures.1 c.three-4.ensures.1 c.three-5.ensures.1 c.three-6.ensures.1 c.three-7.ensures.1 c.three-8.ensures.1;
-    }
 
 pub returns : goal.returns
 returns c =

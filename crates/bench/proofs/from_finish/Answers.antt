@@ -1,14 +1,15 @@
 -- `bench::from_finish` meets its contract: Finish's refusal, or the slack that it used and its key.
-use Rattle.finish.specs.Finish.{finish_of}
+use Rattle.refusals.proofs.Ends.{given_up}
+use Rattle.finish.specs.Finish.{finish}
 use Rattle.bench.proofs.{Answering.named, Answering.finish-refused, Answering.finish-done}
 use Rattle.bench.proofs.from_finish.Goals as goal
 
-pub returns-in-Refused : goal.returns-in-Refused
-returns-in-Refused c =
+pub returns-in_err-counts : goal.returns-in_err-counts
+returns-in_err-counts c =
     let a = c.args in
-    finish-refused a.scheme (finish_of a.reply.now a.s.now) (named a.scheme c.number.ensures) c.requires c.finish-v.result _ _ c.finish-v.ensures c.in-Refused.is
+    rw (given_up _ c.from_residual.ensures) (finish-refused a.scheme (finish a.reply.now a.s.now) (named a.scheme c.number.ensures) c.requires _ _ c.in_err-counts.ensures)
 
-pub returns-in-Done : goal.returns-in-Done
-returns-in-Done c =
+pub returns : goal.returns
+returns c =
     let a = c.args in
-    finish-done a.scheme (finish_of a.reply.now a.s.now) (named a.scheme c.number.ensures) c.requires c.finish-v.result _ _ c.finish-v.ensures c.in-Done.is
+    finish-done a.scheme (finish a.reply.now a.s.now) (named a.scheme c.number.ensures) c.requires _ _ _ c.in_ok-counts.ensures

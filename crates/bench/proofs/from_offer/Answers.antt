@@ -4,8 +4,8 @@ use Rattle.std.proofs.Common.{◌≡◌, ◌≤◌}
 use Rattle.schemes.specs.{Schemes.fixed_of, declared.Fixed.Fixed, declared.Scheme.Scheme}
 use Rattle.schemes.proofs.Sound.{sound}
 use Rattle.lists.proofs.Parts.{buffer-long, front_long}
-use Rattle.refusals.proofs.Steps.{front_fits}
-use Rattle.bench.specs.Bench.{bench_of}
+use Rattle.refusals.proofs.{Ends.given_up, Steps.front_fits}
+use Rattle.bench.specs.Bench.{bench}
 use Rattle.bench.proofs.{Answering.named, Answering.offer-refused, Answering.offer-sent, Answering.offer-told}
 use Rattle.bench.proofs.from_offer.Goals as goal
 
@@ -20,34 +20,34 @@ module _ (s : Scheme) {f : Fixed} (e : f ≡ fixed_of s) where
   long : length {A = ℕ} (take f.opening (replicate 12976 0)) ≡ (fixed_of s).opening
   long = buffer-long _ 12976 roomy ∙ is
 
-pub slice_bounds-opening-end-in-Done : goal.slice_bounds-opening-end-in-Done
-slice_bounds-opening-end-in-Done c =
+pub slice_bounds-opening-end-2 : goal.slice_bounds-opening-end-2
+slice_bounds-opening-end-2 c =
     let a = c.args in
-    let x = bench_of a.a.now a.s.now a.e.now a.seed.now a.s1.now a.e1.now a.e2.now a.coins.now in
+    let x = bench a.a.now a.s.now a.e.now a.seed.now a.s1.now a.e1.now a.e2.now a.coins.now in
     let f = c.fixed-f.ensures in
-    let sent = offer-sent a.scheme x (named a.scheme c.number.ensures) (long a.scheme f) c.offer-v.result _ c.offer-v.ensures c.in-Done.is in
+    let sent = offer-sent a.scheme x (named a.scheme c.number.ensures) (long a.scheme f) _ _ c.in_ok-offer.ensures in
     front_fits _ sent.0 (sent.1 ∙ sym (is a.scheme f)) _
 
 pub slice_bounds-from_reply-end : goal.slice_bounds-from_reply-end
 slice_bounds-from_reply-end c =
     let a = c.args in
-    let x = bench_of a.a.now a.s.now a.e.now a.seed.now a.s1.now a.e1.now a.e2.now a.coins.now in
+    let x = bench a.a.now a.s.now a.e.now a.seed.now a.s1.now a.e1.now a.e2.now a.coins.now in
     let f = c.fixed-f.ensures in
-    let sent = offer-sent a.scheme x (named a.scheme c.number.ensures) (long a.scheme f) c.offer-v.result _ c.offer-v.ensures c.in-Done.is in
+    let sent = offer-sent a.scheme x (named a.scheme c.number.ensures) (long a.scheme f) _ _ c.in_ok-offer.ensures in
     sym (front_long _ _ (front_fits _ sent.0 (sent.1 ∙ sym (is a.scheme f)) _))
 
-pub returns-in-Refused : goal.returns-in-Refused
-returns-in-Refused c =
+pub returns-in_err-offer : goal.returns-in_err-offer
+returns-in_err-offer c =
     let a = c.args in
-    let x = bench_of a.a.now a.s.now a.e.now a.seed.now a.s1.now a.e1.now a.e2.now a.coins.now in
-    offer-refused a.scheme x (named a.scheme c.number.ensures) (long a.scheme c.fixed-f.ensures) c.offer-v.result _ c.offer-v.ensures _ c.in-Refused.is
+    let x = bench a.a.now a.s.now a.e.now a.seed.now a.s1.now a.e1.now a.e2.now a.coins.now in
+    rw (given_up _ c.from_residual.ensures) (offer-refused a.scheme x (named a.scheme c.number.ensures) (long a.scheme c.fixed-f.ensures) _ _ c.in_err-offer.ensures)
 
-pub returns-in-Done : goal.returns-in-Done
-returns-in-Done c =
+pub returns : goal.returns
+returns c =
     let a = c.args in
-    let x = bench_of a.a.now a.s.now a.e.now a.seed.now a.s1.now a.e1.now a.e2.now a.coins.now in
+    let x = bench a.a.now a.s.now a.e.now a.seed.now a.s1.now a.e1.now a.e2.now a.coins.now in
     let f = c.fixed-f.ensures in
-    offer-told a.scheme x (named a.scheme c.number.ensures) (long a.scheme f) c.offer-v.result _ c.offer-v.ensures (is a.scheme f) _ c.in-Done.is
+    offer-told a.scheme x (named a.scheme c.number.ensures) (long a.scheme f) _ _ (is a.scheme f) _ c.in_ok-offer.ensures
     c.from_reply.ensures
 
 pub slice_bounds-opening-end : goal.slice_bounds-opening-end

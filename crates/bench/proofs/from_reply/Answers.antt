@@ -4,8 +4,8 @@ use Rattle.std.proofs.Common.{◌≡◌, ◌+◌, ◌≤◌}
 use Rattle.schemes.specs.{Schemes.fixed_of, declared.Fixed.Fixed, declared.Scheme.Scheme}
 use Rattle.schemes.proofs.Sound.{sound}
 use Rattle.lists.proofs.Parts.{buffer-long, front_long}
-use Rattle.refusals.proofs.Steps.{front_fits}
-use Rattle.reply.specs.Reply.{reply_of}
+use Rattle.refusals.proofs.{Ends.given_up, Steps.front_fits}
+use Rattle.reply.specs.Reply.{reply}
 use Rattle.bench.proofs.{Answering.named, Answering.reply-refused, Answering.reply-sent, Answering.reply-told}
 use Rattle.reply.proofs.Replying as reply
 use Rattle.bench.proofs.from_reply.Goals as goal
@@ -28,20 +28,20 @@ module _ (s : Scheme) {f : Fixed} (e : f ≡ fixed_of s) where
   rooms keys h = (buffer-long _ 12968 reply-room ∙ reply-is, front_long _ keys (key-room h) ∙ key-is)
 
 -- the message that Reply has made, and the other half of the keys
-pub slice_bounds-reply-end-in-Done : goal.slice_bounds-reply-end-in-Done
-slice_bounds-reply-end-in-Done c =
+pub slice_bounds-reply-end-6 : goal.slice_bounds-reply-end-6
+slice_bounds-reply-end-6 c =
     let a = c.args in
-    let x = reply_of a.opening.now a.a.now a.s1.now a.e1.now a.e2.now a.coins.now in
+    let x = reply a.opening.now a.a.now a.s1.now a.e1.now a.e2.now a.coins.now in
     let f = c.fixed-f.ensures in
-    let sent = reply-sent a.scheme x a.s.now (named a.scheme c.number.ensures) (rooms a.scheme f a.keys.now c.requires) c.reply-v.result _ _ _ c.reply-v.ensures c.in-Done.is in
+    let sent = reply-sent a.scheme x a.s.now (named a.scheme c.number.ensures) (rooms a.scheme f a.keys.now c.requires) _ _ _ _ c.in_ok-reply.ensures in
     front_fits _ sent (reply.message-length a.scheme x ∙ sym (reply-is a.scheme f)) _
 
 pub slice_bounds-from_finish-end : goal.slice_bounds-from_finish-end
 slice_bounds-from_finish-end c =
     let a = c.args in
-    let x = reply_of a.opening.now a.a.now a.s1.now a.e1.now a.e2.now a.coins.now in
+    let x = reply a.opening.now a.a.now a.s1.now a.e1.now a.e2.now a.coins.now in
     let f = c.fixed-f.ensures in
-    let sent = reply-sent a.scheme x a.s.now (named a.scheme c.number.ensures) (rooms a.scheme f a.keys.now c.requires) c.reply-v.result _ _ _ c.reply-v.ensures c.in-Done.is in
+    let sent = reply-sent a.scheme x a.s.now (named a.scheme c.number.ensures) (rooms a.scheme f a.keys.now c.requires) _ _ _ _ c.in_ok-reply.ensures in
     sym (front_long _ _ (front_fits _ sent (reply.message-length a.scheme x ∙ sym (reply-is a.scheme f)) _))
 
 pub slice_bounds-from_finish-count : goal.slice_bounds-from_finish-count
@@ -53,20 +53,20 @@ slice_bounds-from_finish-start c = omega (arith, key-room c.args.scheme c.fixed-
 pub from_finish-requires : goal.from_finish-requires
 from_finish-requires c = simp (length-take, length-drop) (omega (arith, c.requires, key-is c.args.scheme c.fixed-f.ensures))
 
-pub returns-in-Refused : goal.returns-in-Refused
-returns-in-Refused c =
+pub returns-in_err-reply : goal.returns-in_err-reply
+returns-in_err-reply c =
     let a = c.args in
-    let x = reply_of a.opening.now a.a.now a.s1.now a.e1.now a.e2.now a.coins.now in
-    reply-refused a.scheme x a.s.now (named a.scheme c.number.ensures) (rooms a.scheme c.fixed-f.ensures a.keys.now c.requires) c.reply-v.result _ _ _ c.reply-v.ensures _
-    c.in-Refused.is
+    let x = reply a.opening.now a.a.now a.s1.now a.e1.now a.e2.now a.coins.now in
+    rw (given_up _ c.from_residual.ensures)
+    (reply-refused a.scheme x a.s.now (named a.scheme c.number.ensures) (rooms a.scheme c.fixed-f.ensures a.keys.now c.requires) _ _ _ _ c.in_err-reply.ensures)
 
-pub returns-in-Done : goal.returns-in-Done
-returns-in-Done c =
+pub returns : goal.returns
+returns c =
     let a = c.args in
-    let x = reply_of a.opening.now a.a.now a.s1.now a.e1.now a.e2.now a.coins.now in
+    let x = reply a.opening.now a.a.now a.s1.now a.e1.now a.e2.now a.coins.now in
     let f = c.fixed-f.ensures in
-    reply-told a.scheme x a.s.now (named a.scheme c.number.ensures) (rooms a.scheme f a.keys.now c.requires) c.reply-v.result _ _ _ c.reply-v.ensures (reply-is a.scheme f)
-    (key-is a.scheme f) _ a.keys.now c.in-Done.is c.from_finish.ensures
+    reply-told a.scheme x a.s.now (named a.scheme c.number.ensures) (rooms a.scheme f a.keys.now c.requires) _ _ _ _ (reply-is a.scheme f) (key-is a.scheme f) _ a.keys.now
+    c.in_ok-reply.ensures c.from_finish.ensures
 
 pub slice_bounds-reply-end : goal.slice_bounds-reply-end
 slice_bounds-reply-end c = reply-room c.args.scheme c.fixed-f.ensures

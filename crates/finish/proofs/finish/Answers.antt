@@ -1,94 +1,93 @@
 -- `finish::finish` meets its contract: the outputs are zeroed first, and then hold what the scheme by its name gives, by the verdict of all tests.
-use Rattle.lists.proofs.Kit.{sym, ap, ◌∙◌, List, ℕ, length, rules}
-use Rattle.std.proofs.Common.{◌≡◌}
-use Rattle.schemes.specs.{Schemes.fixed_of, Schemes.scheme_of_lem, declared.Fixed.Fixed, declared.Named.TheVariants.Known, declared.Scheme.Scheme}
+use Rattle.std.proofs.Common.{Ok, Some, ◌≡◌, ◌≤◌, ◌++◌}
+use Rattle.lists.proofs.Kit.{refl, sym, ap, ◌∙◌, List, ℕ, length, drop, replicate}
+use Rattle.schemes.specs.{Schemes.fixed_of, declared.Fixed.Fixed, declared.Scheme.Scheme}
 use Rattle.lists.specs.declared.Peak.{Peak}
 use Rattle.lists.proofs.{Parts.front_long, Same.zeros-long}
 use Rattle.sponge.proofs.Output.{sha3-length}
-use Rattle.refusals.specs.{Refusals.◌then◌, Refusals.room_for_lem, declared.Verdict.Verdict, declared.Verdict.TheVariants.Pass}
-use Rattle.refusals.specs.declared.Outcome.TheVariants.{Slack}
-use Rattle.refusals.proofs.{Laws.both, Laws.room-passed, Seen.written-passed, Steps.passed-by, Steps.failed-by}
-use Rattle.finish.specs.Finish.{Finish, finish_of, finish_rooms_of, finish_tests, finish_key, finish_slack}
+use Rattle.refusals.specs.{Steps.Laid, Steps.outcome, Refusals.◌then◌, Refusals.room_for_lem, declared.Refusal.TheVariants.NoScheme}
+use Rattle.refusals.proofs.{Ends.given_up, Laws.room-passed, Seen.written-passed, Steps.passed-by, Steps.failed-by}
+use Rattle.finish.specs.Finish.{Finish, finish, finish_rooms, finish_tests, finish_key, finish_slack}
 use Rattle.finish.specs.Inside.{finish_sizes_lem, finish_rest}
 use Rattle.finish.proofs.Finishing.{key-length, finish-apart, held, held_fits, held-hashed, finish-unknown, finish-refused, finish-done}
 use Rattle.finish.proofs.finish.Goals as goal
-use Rattle.finish.proofs.finish.Goals.{After-key_in-end}
 
-pub returns-in_default : goal.returns-in_default
-returns-in_default c =
-    finish-refused _ _ _ (finish-unknown _ _ (sym c.named.ensures.value.0 ∙ c.in_default.is)) c.named.ensures.value.1 c.zero_bytes.ensures
+-- the verdict of all tests, where the outputs were zeroed first
+tests : (c : Scheme) (x : Finish) (key digest : List ℕ) {zk zd : List ℕ} → zk ≡ replicate (length key) 0 → zd ≡ replicate (length digest) 0
+    → finish_tests (Some c) x (finish_rooms key digest) ≡ finish_sizes_lem c x (length zk) then room_for_lem (length zd) 32 then finish_rest c x
+tests c x key digest k d = rw (zeros-long (length key) 0 k, zeros-long (length digest) 0 d) (finish-apart c x (finish_rooms key digest))
 
-pub key_in-end-requires : goal.key_in-end-requires
-key_in-end-requires c =
-    record {
-      key_value = λ e. sym c.finish_sizes-v.ensures ∙ (both _ _ (sym c.room_for-v.ensures ∙ e)).0;
-      key_value_2 = c.named.ensures.out_value;
-    }
+pub returns-in_err-known : goal.returns-in_err-known
+returns-in_err-known c =
+    let v = c.in_err-known.ensures.value in
+    rw (given_up _ {e = NoScheme} c.from_residual.ensures)
+    (finish-refused _ _ _ (finish-unknown _ _ v.0) v.1 (c.fill.ensures.after (λ y e. e)))
 
--- the call from its tests on
-module _ (c : After-key_in-end) where
-  abbrev scheme : Scheme
-  scheme = c.in-Known.known
+pub returns-in_err-finish_sizes : goal.returns-in_err-finish_sizes
+unfolding ◌then◌
+returns-in_err-finish_sizes c =
+    let v = c.in_ok-known.ensures.value in
+    let z = c.fill.ensures.after (λ y e. e) in
+    let t = tests c.in_ok-known.known (finish c.args.reply.now c.args.s.now) c.args.key.now c.args.digest.now v.1 z in
+    rw (given_up _ c.from_residual-in_err-finish_sizes.ensures, v.0) (finish-refused _ _ _ (t ∙ rw (← c.in_err-finish_sizes.ensures)) v.1 z)
 
-  abbrev x : Finish
-  x = finish_of c.args.reply.now c.args.s.now
+pub returns-in_err-room_for : goal.returns-in_err-room_for
+unfolding ◌then◌
+returns-in_err-room_for c =
+    let v = c.in_ok-known.ensures.value in
+    let z = c.fill.ensures.after (λ y e. e) in
+    let t = tests c.in_ok-known.known (finish c.args.reply.now c.args.s.now) c.args.key.now c.args.digest.now v.1 z in
+    rw (given_up _ c.from_residual-in_err-room_for.ensures, v.0)
+    (finish-refused _ _ _ (t ∙ rw (← c.in_ok-finish_sizes.ensures, ← c.in_err-room_for.ensures)) v.1 z)
 
-  abbrev key : List ℕ
-  key = finish_key (Known scheme) x
+pub key_in-requires : goal.key_in-requires
+key_in-requires c = record { key_value = sym c.in_ok-finish_sizes.ensures; key_value_2 = c.in_ok-known.ensures.out_value }
 
-  abbrev slack : Peak
-  slack = finish_slack (Known scheme) x
+pub returns-in_err-slack : goal.returns-in_err-slack
+unfolding ◌then◌
+returns-in_err-slack c =
+    let v = c.in_ok-known.ensures.value in
+    let z = c.fill.ensures.after (λ y e. e) in
+    let x = finish c.args.reply.now c.args.s.now in
+    let t = tests c.in_ok-known.known x c.args.key.now c.args.digest.now v.1 z in
+    let e = failed-by (finish_rest c.in_ok-known.known x) _ c.in_err-slack.ensures.value refl in
+    rw (given_up _ c.from_residual-in_err-slack.ensures, v.0)
+    (finish-refused _ _ _ (t ∙ rw (← c.in_ok-finish_sizes.ensures, ← c.in_ok-room_for.ensures) e) (rw e at c.in_err-slack.ensures.laid ∙ v.1) z)
 
-  abbrev verdict : Verdict
-  verdict = c.room_for-v.result then finish_rest scheme x
+pub returns : goal.returns
+unfolding ◌then◌
+returns c =
+    let s = c.in_ok-known.known in
+    let v = c.in_ok-known.ensures.value in
+    let z = c.fill.ensures.after (λ y e. e) in
+    let x = finish c.args.reply.now c.args.s.now in
+    let t = tests s x c.args.key.now c.args.digest.now v.1 z in
+    let p = passed-by (finish_rest s x) (finish_slack (Some s) x) c.in_ok-slack.ensures.value refl in
+    let e = t ∙ rw (← c.in_ok-finish_sizes.ensures, ← c.in_ok-room_for.ensures) p.0 in
+    let long = key-length s x in
+    let is = ap (λ (g : Fixed). g.key) c.fixed-f.ensures in
+    let key = finish_key (Some s) x in
+    let zero = c.in_ok-known.ensures.out_value in
+    let laid = c.in_ok-slack.ensures.laid in
+    rw v.0
+    (finish-done _ _ _ e (written-passed _ _ _ e _ (long ∙ sym is) v.1 (held key zero p.0 is long laid))
+    (written-passed _ _ _ e _ (sha3-length _) z (held-hashed key zero p.0 is long laid _ c.lay_digest.ensures)) p.1)
 
-  is_known : scheme_of_lem c.args.scheme ≡ Known scheme
-  is_known = sym c.named.ensures.value.0 ∙ c.in-Known.is
-
-  -- the verdict of all tests, with the rooms as they were lent
-  apart : finish_tests (Known scheme) x (finish_rooms_of (length c.args.key.now) (length c.args.digest.now)) ≡ verdict
-  apart =
-      finish-apart _ _ _ (c.finish_sizes-v.ensures ∙ ap (finish_sizes_lem scheme x) (zeros-long _ 0 c.named.ensures.value.1))
-      (c.room_for-v.ensures ∙ ap (λ (n : ℕ). c.finish_sizes-v.result then room_for_lem n 32) (zeros-long _ 0 c.zero_bytes.ensures))
-
-  is : c.fixed-f.result.key ≡ (fixed_of scheme).key
-  is = ap (λ (g : Fixed). g.key) c.fixed-f.ensures
-
-  -- where nothing is refused
-  passed : {p : Peak} → c.key_in-end.result ≡ Slack p → verdict ≡ Pass
-  passed w = (passed-by verdict slack c.key_in-end.ensures.value w).0
-
-pub returns-in-Refused : goal.returns-in-Refused
-returns-in-Refused c =
-    let k = (goal.at.returns-in-Refused c).After-key_in-end in
-    let e = failed-by (verdict k) (slack k) c.key_in-end.ensures.value c.in-Refused.is in
-    rw (is_known k)
-    (finish-refused _ _ _ (apart k ∙ e) (rw e at c.key_in-end.ensures.laid ∙ c.named.ensures.value.1) c.zero_bytes.ensures)
-
-pub returns-in-Slack : goal.returns-in-Slack
-returns-in-Slack c =
-    let k = (goal.at.returns-in-Slack c).After-key_in-end in
-    let p = c.key_in-end.ensures in
-    let w = c.in-Slack.is in
-    let used = (passed-by (verdict k) (slack k) p.value w).1 in
-    let e = apart k ∙ passed k w in
-    let long = key-length (scheme k) (x k) in
-    rw (is_known k)
-    (finish-done _ _ _ e
-    (written-passed _ _ _ e _ (long ∙ sym (is k)) c.named.ensures.value.1 (held (key k) c.named.ensures.out_value (passed k w) (is k) long p.laid))
-    (written-passed _ _ _ e _ (sha3-length _) c.zero_bytes.ensures (held-hashed (key k) c.named.ensures.out_value (passed k w) (is k) long p.laid _ c.lay_digest.ensures))
-    used)
+-- the key that was written is all there
+fits : (s : Scheme) (x : Finish) {old out : List ℕ} {f : Fixed} {p : Peak} → old ≡ replicate (length old) 0 → f ≡ fixed_of s
+    → Ok p ≡ outcome (finish_rest s x) (finish_slack (Some s) x) → Laid (finish_rest s x) (finish_key (Some s) x ++ drop (fixed_of s).key old) old out
+    → f.key ≤ length out
+fits s x z f v l =
+    held_fits (finish_key (Some s) x) z (passed-by (finish_rest s x) (finish_slack (Some s) x) v refl).0 (ap (λ (g : Fixed). g.key) f) (key-length s x) l
 
 pub slice_bounds-lay_digest-end : goal.slice_bounds-lay_digest-end
 slice_bounds-lay_digest-end c =
-    let k = (goal.at.slice_bounds-lay_digest-end c).After-key_in-end in
-    held_fits (key k) c.named.ensures.out_value (passed k c.in-Slack.is) (is k) (key-length (scheme k) (x k)) c.key_in-end.ensures.laid
+    fits _ (finish c.args.reply.now c.args.s.now) c.in_ok-known.ensures.out_value c.fixed-f.ensures c.in_ok-slack.ensures.value c.in_ok-slack.ensures.laid
 
-pub slice_bounds-lay_digest-end-in-Slack : goal.slice_bounds-lay_digest-end-in-Slack
-slice_bounds-lay_digest-end-in-Slack c =
-    let k = (goal.at.slice_bounds-lay_digest-end-in-Slack c).After-key_in-end in
-    sym (front_long _ _ (held_fits (key k) c.named.ensures.out_value (passed k c.in-Slack.is) (is k) (key-length (scheme k) (x k)) c.key_in-end.ensures.laid))
+pub slice_bounds-lay_digest-end-2 : goal.slice_bounds-lay_digest-end-2
+slice_bounds-lay_digest-end-2 c =
+    let n = fits _ (finish c.args.reply.now c.args.s.now) c.in_ok-known.ensures.out_value c.fixed-f.ensures c.in_ok-slack.ensures.value c.in_ok-slack.ensures.laid in
+    sym (front_long _ _ n)
 
 pub lay_digest-requires : goal.lay_digest-requires
-lay_digest-requires c =
-    room-passed _ _ (both _ _ (sym c.room_for-v.ensures ∙ (both _ _ (passed (goal.at.lay_digest-requires c).After-key_in-end c.in-Slack.is)).0)).1
+lay_digest-requires c = room-passed _ _ (sym c.in_ok-room_for.ensures)

@@ -1,24 +1,9 @@
--- `frodo::hints` meets its contract: it fills with the hints of the values.
-use Rattle.lists.proofs.Kit.{sym, arith, length-set}
-use Rattle.lists.proofs.Fill.{fill_start, fill-next, fill-whole}
+-- `frodo::hints` meets its contract.
+use Rattle.lists.proofs.Kit.{arith, rules}
+use Rattle.lists.proofs.Made.{made_whole}
 use Rattle.frodo.specs.Rounding.{hints_of}
 use Rattle.frodo.proofs.hints.Goals as goal
 
-pub hint-requires : goal.hint-requires
-hint-requires c = (c.requires.0, c.requires.1.below _)
-
-pub loop-k-preserved : goal.loop-k-preserved
-loop-k-preserved c = fill-next _ c.loop-k.invariant (omega arith) c.hint.ensures
-
 pub returns : goal.returns
 unfolding hints_of
-returns c = fill-whole c.loop-k.invariant (sym c.requires.2) (omega arith)
-
-pub loop-k-init : goal.loop-k-init
-loop-k-init c = fill_start _ _
-
-pub loop-k-smaller : goal.loop-k-smaller
-loop-k-smaller c = simp length-set (omega arith)
-
-pub shape_of-out : goal.shape_of-out
-shape_of-out c = c.loop-k.invariant.long
+returns c = made_whole _ _ (omega arith) (λ k l. let e = c.set_each.ensures.made k (omega arith) in search rules)

@@ -1,11 +1,8 @@
 -- `halves::add` meets its contract.
-use Rattle.lists.proofs.Kit.{◌+◌, ◌-◌, ◌%◌, ◌≤◌}
+use Rattle.lists.proofs.Kit.{◌+◌, ◌%◌}
 use Rattle.lists.specs.Ranges.{Stored}
 use Rattle.halves.specs.{Halves.q, Steps.from}
 use Rattle.halves.proofs.add.Given as goal
 
 abbrev pub invariant-loop-i : goal.invariant-loop-i
-invariant-loop-i l = (l.i ≤ l.n) × Stored 0 l.initial.w l.to l.i (λ k. (from l.initial.w l.x k + from l.initial.w l.y k) % q) l.w
-
-abbrev pub decreases-loop-i : goal.decreases-loop-i
-decreases-loop-i l = l.n - l.i
+invariant-loop-i l = Stored 0 l.initial.w l.to l.i (λ k. (from l.initial.w l.x k + from l.initial.w l.y k) % q) l.w

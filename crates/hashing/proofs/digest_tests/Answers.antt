@@ -1,10 +1,13 @@
 -- `hashing::digest_tests` meets its contract.
-use Rattle.lists.proofs.Kit.{refl}
-use Rattle.refusals.proofs.Laws.{first, also}
+use Rattle.lists.proofs.Kit.{refl, sym, ◌∙◌}
+use Rattle.refusals.proofs.{Laws.failed, Laws.went_on, Ends.given_up}
 use Rattle.hashing.specs.Hashing.{digest_tests_lem}
 use Rattle.hashing.proofs.digest_tests.Goals as goal
 
+pub returns-in_err-length_up_to : goal.returns-in_err-length_up_to
+unfolding digest_tests_lem
+returns-in_err-length_up_to c = given_up _ c.from_residual.ensures ∙ sym (failed _ c.in_err-length_up_to.ensures refl)
+
 pub returns : goal.returns
 unfolding digest_tests_lem
-returns c =
-    also c.room_for.ensures (first c.length_up_to.ensures refl) refl
+returns c = c.room_for.ensures ∙ sym (went_on _ c.in_ok-length_up_to.ensures refl)

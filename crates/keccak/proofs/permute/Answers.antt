@@ -5,18 +5,18 @@ use Rattle.keccak.specs.Keccak.{rounds, keccak_f, constants}
 use Rattle.keccak.proofs.{Rounds.round-next}
 use Rattle.keccak.proofs.permute.Goals as goal
 
-pub loop-i-preserved : goal.loop-i-preserved
-loop-i-preserved c =
-    let l = c.loop-i in
-    let i = l.i in
-    (omega arith, ap (rounds (drop (i + 1) constants)) c.round-t.ensures ∙ sym (round-next l.s i (omega arith)) ∙ l.invariant.1)
+pub loop-rc-init : goal.loop-rc-init
+loop-rc-init c = unfold keccak_f in refl
+
+pub loop-rc-preserved : goal.loop-rc-preserved
+loop-rc-preserved c =
+    let l = c.loop-rc in
+    let i = l.rc-index in
+    ap (rounds (drop (i + 1) constants)) c.round-t.ensures ∙ sym (round-next l.s i (omega arith)) ∙ l.invariant
 
 pub returns : goal.returns
 unfolding rounds
 returns c =
-    let l = c.loop-i in
-    let h : 24 ≡ l.i = omega arith in
-    ap (λ (k : ℕ). rounds (drop k constants) l.s) h ∙ l.invariant.1
-
-pub loop-i-init : goal.loop-i-init
-loop-i-init c = unfold keccak_f in (omega arith, refl)
+    let l = c.loop-rc in
+    let h : 24 ≡ l.rc-index = omega arith in
+    ap (λ (k : ℕ). rounds (drop k constants) l.s) h ∙ l.invariant

@@ -3,8 +3,8 @@ use Rattle.text.proofs.Answer.{answers}
 use Rattle.line.proofs.{Showing.shown-short}
 use Rattle.line.proofs.answer.Goals as goal
 
-pub write-n-requires : goal.write-n-requires
-write-n-requires c = shown-short _ c.decide.ensures
+pub write-requires : goal.write-requires
+write-requires c = shown-short _ c.decide.ensures
 
 pub returns : goal.returns
-returns c = answers 32 c.decide.ensures c.write-n.ensures
+returns c = answers 32 c.decide.ensures c.write.ensures

@@ -5,7 +5,7 @@ use Rattle.line.specs.Line.{bcns_shown}
 use Rattle.line.proofs.show_bcns.Goals as goal
 
 pub peer-requires : goal.peer-requires
-peer-requires c = omega (arith, c.hint-h.ensures, hint-below c.double-z.result)
+peer-requires c = omega (arith, c.hint-hint.ensures, hint-below c.double-z.result)
 
 pub returns : goal.returns
 returns c = unfold bcns_shown in cc

@@ -6,7 +6,7 @@ use Rattle.line.proofs.show_frodo.Goals as goal
 
 pub peer-requires : goal.peer-requires
 peer-requires c =
-    (c.requires.0, omega (arith, c.hint-h.ensures, hint-below c.args.i c.args.v), c.requires.2)
+    (c.requires.0, omega (arith, c.hint-hint.ensures, hint-below c.args.i c.args.v), c.requires.2)
 
 pub returns : goal.returns
 returns c = unfold frodo_shown in cc

@@ -11,13 +11,13 @@ under-l a b = omega (arith, or_add_and a b, and_le_r a b)
 under-r : (a b : ℕ) → b ≤ bit_or a b
 under-r a b = omega (arith, or_add_and a b, and_le_l a b)
 
-pub loop-i-preserved : goal.loop-i-preserved
-loop-i-preserved c =
-    let x = get_or c.args.xs.now c.loop-i.i 0 in
-    reached-more (λ x. x) 0 _ c.loop-i.i _ _ c.loop-i.invariant (omega arith) (under-l c.loop-i.bits x) (under-r c.loop-i.bits x)
+pub loop-x-preserved : goal.loop-x-preserved
+loop-x-preserved c =
+    let x = get_or c.args.xs.now c.loop-x.x-index 0 in
+    reached-more (λ x. x) 0 _ c.loop-x.x-index _ _ c.loop-x.invariant (omega arith) (under-l c.loop-x.bits x) (under-r c.loop-x.bits x)
 
-pub loop-i-init : goal.loop-i-init
-loop-i-init c = reached-none (λ x. x) 0 _
+pub loop-x-init : goal.loop-x-init
+loop-x-init c = reached-none (λ x. x) 0 _
 
 pub returns : goal.returns
-returns c = reached-all (λ x. x) 0 _ _ _ c.loop-i.invariant (omega arith)
+returns c = reached-all (λ x. x) 0 _ _ _ c.loop-x.invariant (omega arith)

@@ -1,6 +1,6 @@
 -- `lists::first_apart` meets its contract.
-use Rattle.lists.proofs.Kit.{arith}
-use Rattle.lists.proofs.{First.tried-none, First.along, First.parted, First.met}
+use Rattle.lists.proofs.Kit.{arith, ◌∙◌}
+use Rattle.lists.proofs.{First.tried-none, First.along, First.parted, First.met, First.reached_end}
 use Rattle.lists.proofs.first_apart.Goals as goal
 
 pub returns-then-xs-at : goal.returns-then-xs-at
@@ -13,7 +13,7 @@ loop-at-preserved c =
 
 pub returns : goal.returns
 returns c =
-    met c.args.xs.now c.args.ys.now c.requires c.loop-at.at c.loop-at.invariant c.loop-at-test.false
+    reached_end c.loop-at.auto.at-end c.loop-at-test.false ∙ met c.args.xs.now c.args.ys.now c.requires c.loop-at.at c.loop-at.invariant c.loop-at-test.false
 
 pub loop-at-init : goal.loop-at-init
 loop-at-init c = tried-none _ _

@@ -3,4 +3,4 @@ use Rattle.lists.proofs.{Top.peak-is}
 use Rattle.lists.proofs.peak_of.Goals as goal
 
 pub returns : goal.returns
-returns c = peak-is _ _ _ c.largest_of-most.ensures c.search_all-at.ensures
+returns c = peak-is _ _ _ c.largest-most.ensures c.search_all-at.ensures

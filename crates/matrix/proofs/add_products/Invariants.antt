@@ -1,5 +1,5 @@
 -- `matrix::add_products` meets its contract: it fills with each sum and its product.
-use Rattle.lists.proofs.Kit.{List, ℕ, ◌+◌, ◌*◌, ◌-◌, ◌%◌, get_or}
+use Rattle.lists.proofs.Kit.{List, ℕ, ◌+◌, ◌*◌, ◌%◌, get_or}
 use Rattle.lists.proofs.Fill.{Filled}
 use Rattle.matrix.proofs.add_products.Given as goal
 
@@ -8,6 +8,3 @@ from x n t cols sums j = (get_or sums j 0 + x * get_or cols (j * n + t) 0) % 655
 
 abbrev pub invariant-loop-j : goal.invariant-loop-j
 invariant-loop-j l = Filled (from l.x l.n l.t l.cols l.initial.sums) l.initial.sums l.sums l.j
-
-abbrev pub decreases-loop-j : goal.decreases-loop-j
-decreases-loop-j l = 8 - l.j

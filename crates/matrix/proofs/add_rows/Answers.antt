@@ -4,9 +4,6 @@ use Rattle.lists.proofs.Fill.{fill_start, fill-next, fill_end, fill-old}
 use Rattle.matrix.specs.{Steps.block_gained, Words.gained}
 use Rattle.matrix.proofs.add_rows.Goals as goal
 
-pub weigh-requires : goal.weigh-requires
-weigh-requires c = (c.requires, omega arith)
-
 pub loop-j-preserved : goal.loop-j-preserved
 loop-j-preserved c =
     fill-next _ c.loop-j.invariant (omega arith) (rw (fill-old 0 c.loop-j.invariant) at c.weigh.ensures)
@@ -17,6 +14,3 @@ returns c = fill_end c.loop-j.invariant (omega arith)
 
 pub loop-j-init : goal.loop-j-init
 loop-j-init c = fill_start _ _
-
-pub shape_of-sums : goal.shape_of-sums
-shape_of-sums c = c.loop-j.invariant.long

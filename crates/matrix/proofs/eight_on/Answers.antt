@@ -1,17 +1,7 @@
 -- `matrix::eight_on` meets its contract.
-use Rattle.lists.proofs.Kit.{◌∙◌, sym, ap, arith, length}
-use Rattle.matrix.proofs.{Search.below_wider, Steps.words-length, Steps.gained-length, Terms.eight-terms, Whole.left_is}
+use Rattle.lists.proofs.Kit.{arith}
+use Rattle.matrix.proofs.{Terms.eight-terms, Whole.left_is}
 use Rattle.matrix.proofs.eight_on.Goals as goal
-
-pub turn-requires : goal.turn-requires
-turn-requires c =
-    let f = c.requires.fit.0.shape in
-    (f.many, f.xs-long, c.requires.ws_len.1, below_wider f.room c.requires.fit.0.xs-below)
-
-pub reduce-requires : goal.reduce-requires
-reduce-requires c =
-    let f = c.requires.fit.0.shape in
-    (f.some, f.room, f.whole, c.requires.fit.2 ∙ sym (ap length c.add_right.ensures ∙ gained-length _ _ _ _ ∙ ap length c.words-2.ensures ∙ words-length _ _ ∙ c.requires.fit.1))
 
 pub returns : goal.returns
 returns c =

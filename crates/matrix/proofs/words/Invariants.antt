@@ -1,5 +1,5 @@
 -- `matrix::words` meets its contract: it fills with the words of the values.
-use Rattle.lists.proofs.Kit.{List, ℕ, ◌-◌, length, ℤ}
+use Rattle.lists.proofs.Kit.{List, ℕ, ℤ}
 use Rattle.numbers.specs.Residue.{residue}
 use Rattle.lists.specs.Entries.{ints}
 use Rattle.lists.proofs.Fill.{Filled}
@@ -10,6 +10,3 @@ from zs k = residue 65536 (ints zs k)
 
 abbrev pub invariant-loop-k : goal.invariant-loop-k
 invariant-loop-k l = Filled (from l.zs) l.initial.out l.out l.k
-
-abbrev pub decreases-loop-k : goal.decreases-loop-k
-decreases-loop-k l = length l.out - l.k

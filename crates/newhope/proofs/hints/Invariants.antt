@@ -1,12 +1,7 @@
 -- `newhope::hints` meets its contract: it writes the four places of each group.
-use Rattle.std.proofs.Common.{◌-◌}
-use Rattle.newhope.specs.Group.{groups}
 use Rattle.newhope.proofs.Groups.{hint-at}
 use Rattle.newhope.proofs.{Spread.Spread}
 use Rattle.newhope.proofs.hints.Given as goal
 
 abbrev pub invariant-loop-i : goal.invariant-loop-i
 invariant-loop-i l = Spread (hint-at l.coins l.v) l.out l.i
-
-abbrev pub decreases-loop-i : goal.decreases-loop-i
-decreases-loop-i l = groups - l.i

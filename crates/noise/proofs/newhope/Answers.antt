@@ -1,9 +1,11 @@
 -- `noise::newhope` meets its contract: it fills with the values of the bytes.
-use Rattle.lists.proofs.Kit.{◌∙◌, ap₂, arith, length, length-set, to_z-of_z, w32}
-use Rattle.std.proofs.Common.{◌≡◌, ◌/◌}
-use Rattle.lists.proofs.Fill.{fill_start, fill-next, fill_end}
+use Rattle.lists.proofs.Kit.{◌∙◌, ap₂, arith, to_z-of_z, w32}
+use Rattle.lists.proofs.Fill.{fill_start, fill-next, fill-whole}
 use Rattle.noise.specs.Noise.{ones_less_of, ones_less_lem, new_hope_noise}
 use Rattle.noise.proofs.newhope.Goals as goal
+
+pub loop-i-init : goal.loop-i-init
+loop-i-init c = fill_start _ _
 
 pub loop-i-preserved : goal.loop-i-preserved
 unfolding ones_less_lem
@@ -15,15 +17,4 @@ loop-i-preserved c =
 
 pub returns : goal.returns
 unfolding new_hope_noise
-returns c =
-    let e : length c.args.out.now ≡ length c.args.bytes.now / 4 = omega arith in
-    rw (← e) (fill_end c.loop-i.invariant (omega arith))
-
-pub loop-i-init : goal.loop-i-init
-loop-i-init c = fill_start _ _
-
-pub loop-i-smaller : goal.loop-i-smaller
-loop-i-smaller c = simp length-set (omega arith)
-
-pub shape_of-out : goal.shape_of-out
-shape_of-out c = c.loop-i.invariant.long
+returns c = fill-whole c.loop-i.invariant (omega arith) (omega arith)

@@ -1,6 +1,6 @@
 -- `packing::pack_words` meets its contract: after j turns the first 4 j bytes are there.
-use Rattle.lists.proofs.Kit.{refl, ◌∙◌, arith}
-use Rattle.std.proofs.Common.{◌*◌, ◌/◌, ◌≤◌}
+use Rattle.lists.proofs.Kit.{refl, ◌∙◌, arith, length}
+use Rattle.std.proofs.Common.{◌≡◌, ◌*◌, ◌/◌, ◌≤◌}
 use Rattle.packing.specs.Packing.{value, digits}
 use Rattle.packing.proofs.{Groups.words-on, Groups.fewer}
 use Rattle.packing.proofs.pack_words.Goals as goal
@@ -25,8 +25,10 @@ loop-j-preserved c =
 pub returns : goal.returns
 returns c =
     let l = c.loop-j in
-    let whole : 32 * (l.j / 8) ≤ 4 * l.j = omega arith in
-    (omega (arith, c.requires.xs_value), fewer 256 (value 4294967296 c.args.xs.now) (32 * (l.j / 8)) (4 * l.j) l.out l.invariant.2 whole)
+    let n = length c.args.xs.now in
+    let all : l.j ≡ n = omega arith in
+    let whole : 32 * (n / 8) ≤ 4 * n = omega arith in
+    (omega (arith, c.requires.xs_value), fewer 256 (value 4294967296 c.args.xs.now) (32 * (n / 8)) (4 * n) l.out (rw all at l.invariant.2) whole)
 
 pub shape_of-out : goal.shape_of-out
 shape_of-out c = c.loop-j.invariant.0

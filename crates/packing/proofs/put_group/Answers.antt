@@ -1,5 +1,5 @@
 -- `packing::put_group` meets its contract: sixteen bytes of one number, of which a word holds each half.
-use Rattle.lists.proofs.Kit.{◌∙◌, arith}
+use Rattle.lists.proofs.Kit.{arith}
 use Rattle.std.proofs.Common.{◌≡◌, ◌+◌, ◌*◌, ◌-◌, ◌^◌}
 use Rattle.packing.proofs.{Groups.shifted_fits, Groups.shifted-low, Groups.shifted-high, Groups.sixteen}
 use Rattle.packing.proofs.put_group.Goals as goal
@@ -22,11 +22,5 @@ returns c =
     sixteen (low + 2 ^ k * high) _ _ c.args.i c.args.out.now c.requires.3
     (shifted-low k n low high (word (goal.at.returns c).Start) c.requires.2)
     (shifted-high k n low high (word (goal.at.returns c).Start) c.requires.2)
-    c.put_word.ensures
-    c.put_word-2.ensures
-    c.put_word-3.ensures
-    c.put_word-4.ensures
-
-pub shape_of-out : goal.shape_of-out
-shape_of-out c =
-    c.put_word-4.auto.out ∙ c.put_word-3.auto.out ∙ c.put_word-2.auto.out ∙ c.put_word.auto.out
+    c.put_words.ensures
+    c.put_words-2.ensures

@@ -6,6 +6,3 @@ use Rattle.packing.proofs.quad.Given as goal
 
 abbrev pub invariant-loop-k : goal.invariant-loop-k
 invariant-loop-k l = (l.k ≤ 4) × (l.v ≡ value (2 ^ l.w) (take (4 - l.k) (drop (l.j + l.k) l.xs)))
-
-abbrev pub decreases-loop-k : goal.decreases-loop-k
-decreases-loop-k l = l.k

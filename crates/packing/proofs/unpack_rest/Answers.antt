@@ -8,10 +8,10 @@ use Rattle.packing.specs.Packing.{value, unpacked}
 use Rattle.packing.proofs.Flow.{Flow, take_in, emit, one, fits, all-out}
 use Rattle.packing.proofs.{Laws.value-take-below, Groups.based, Groups.resume}
 use Rattle.packing.proofs.unpack_rest.Goals as goal
-use Rattle.packing.proofs.unpack_rest.Goals.{After-slice_known-1, In-loop-j, Joined-held-w, Then-held-w, then-held-w, else-held-w}
+use Rattle.packing.proofs.unpack_rest.Goals.{Start, In-loop-j, Joined-held-w, Then-held-w, then-held-w, else-held-w}
 
 -- what is done had room
-done-fits : (c : After-slice_known-1) → 8 * c.args.done ≤ length c.args.out.now
+done-fits : (c : Start) → 8 * c.args.done ≤ length c.args.out.now
 done-fits c =
     le_of_mul-le-mul_left {k = c.args.w} (omega (arith, c.requires.bytes_value, c.requires.done_in_bounds.0)) c.requires.w_nonzero.0
 
@@ -19,7 +19,7 @@ pub loop-j-init : goal.loop-j-init
 loop-j-init c =
     let a = c.args in
     let bytes : Below 256 a.bytes.now = record { below = λ n. omega (arith, c.type_inv.bytes n) } in
-    (omega arith, done-fits (goal.at.loop-j-init c).After-slice_known-1, resume 8 a.w bytes (a.w * a.done) (8 * a.done) refl (omega arith) (done-fits (goal.at.loop-j-init c).After-slice_known-1) c.requires.done_in_bounds.1)
+    (omega arith, done-fits (goal.at.loop-j-init c).Start, resume 8 a.w bytes (a.w * a.done) (8 * a.done) refl (omega arith) (done-fits (goal.at.loop-j-init c).Start) c.requires.done_in_bounds.1)
 
 -- where a number is still to come, so is a byte
 byte-comes : (c : Then-held-w) → c.loop-j.i < length c.args.bytes.now
@@ -82,9 +82,6 @@ loop-j-preserved c =
 pub returns : goal.returns
 unfolding unpacked
 returns c = all-out c.loop-j.invariant.2 (omega arith)
-
-pub overflow_mul-j : goal.overflow_mul-j
-overflow_mul-j c = omega (arith, done-fits (goal.at.overflow_mul-j c).After-slice_known-1)
 
 pub word-requires : goal.word-requires
 word-requires c = omega (arith, byte-comes (goal.at.word-requires c).Then-held-w)

@@ -1,7 +1,7 @@
 -- `parts::put_each` meets its contract: after k turns k words are laid.
-use Rattle.lists.proofs.Kit.{◌≡◌, refl, ◌∙◌, sym, ap, List, ◌++◌, append_assoc, ℕ, ◌+◌, ◌<◌, ◌≤◌, add-one, arith, length, get_or, set, take, drop}
+use Rattle.lists.proofs.Kit.{◌≡◌, ◌∙◌, sym, ap, List, ◌++◌, append_assoc, ℕ, ◌+◌, ◌<◌, ◌≤◌, add-one, arith, length, get_or, set, take, drop}
 use Rattle.lists.proofs.Kit.{take_all}
-use lib.Seq.{paste, paste-zero, paste-suc, length-paste}
+use lib.Seq.{paste, paste-suc, length-paste}
 use Rattle.parts.specs.Parts.{words, pairs}
 use Rattle.parts.proofs.{Words.words_long, Words.pairs-words}
 use Rattle.parts.proofs.put_each.Goals as goal
@@ -32,26 +32,16 @@ put_all old at ws {xs} e =
     ∙ ap (λ (y : List ℕ). take at old ++ y ++ drop (at + length ws) old) (take_all (length ws) ws (omega arith))
     ∙ append_assoc (take at old) ws (drop (at + length ws) old))
 
-pub loop-k-init : goal.loop-k-init
-loop-k-init c = (omega arith, refl, paste-zero (words c.args.out.now) c.args.at c.args.ws.now)
-
-pub put_word-requires : goal.put_word-requires
-put_word-requires c =
-    (omega (arith, c.loop-k.invariant.1, c.requires.0), c.requires.1.below c.loop-k.k)
-
 pub loop-k-preserved : goal.loop-k-preserved
 loop-k-preserved c =
     let g = c.args in
     let b = c.loop-k in
-    let e = put_next (words g.out.now) g.at g.ws.now b.k b.invariant.2 (omega (arith, words_long g.out.now)) c.loop-k-test.true c.put_word.ensures in
-    (omega arith, lasting g.at g.ws.now (b.k + 1) _ _ e (omega arith) (omega (arith, words_long g.out.now)), e)
+    let e = put_next (words g.out.now) g.at g.ws.now b.k b.invariant.1 (omega (arith, words_long g.out.now)) c.loop-k-test.true c.put_word.ensures in
+    (lasting g.at g.ws.now (b.k + 1) _ _ e (omega arith) (omega (arith, words_long g.out.now)), e)
 
 pub returns : goal.returns
 returns c =
     let g = c.args in
     let l = c.loop-k in
     let e : l.k ≡ length g.ws.now = omega arith in
-    put_all (words g.out.now) g.at g.ws.now (l.invariant.2 ∙ ap (paste (words g.out.now) g.at g.ws.now) e)
-
-pub shape_of-out : goal.shape_of-out
-shape_of-out c = c.loop-k.invariant.1
+    put_all (words g.out.now) g.at g.ws.now (l.invariant.1 ∙ ap (paste (words g.out.now) g.at g.ws.now) e)

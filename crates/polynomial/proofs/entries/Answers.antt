@@ -1,10 +1,10 @@
 -- `polynomial::entries` meets its contract: it fills with the sums, reduced.
-use Rattle.lists.proofs.Kit.{◌≡◌, ◌∙◌, sym, ap₂, subst, ◌^◌, ◌≤◌, arith, get_or, length-set, ℤ, pos, nat_abs, ◌+ℤ◌, w32, w64, to_z, of_z}
+use Rattle.lists.proofs.Kit.{◌≡◌, ◌∙◌, sym, ap₂, subst, ◌^◌, ◌≤◌, arith, get_or, ℤ, pos, nat_abs, ◌+ℤ◌, w32, w64, to_z, of_z}
 use Rattle.lists.proofs.Kit.{to_z-of_z}
 use Rattle.numbers.specs.Residue.{residue}
 use Rattle.schemes.specs.Schemes.{bcns}
 use Rattle.lists.specs.Entries.{ints}
-use Rattle.lists.proofs.Fill.{fill_start, fill-next, fill_end}
+use Rattle.lists.proofs.Fill.{fill_start, fill-next}
 use Rattle.polynomial.proofs.entries.Goals as goal
 use Rattle.polynomial.proofs.entries.Goals.{After-reduce-arg-in-loop-k-1}
 
@@ -26,12 +26,3 @@ loop-k-preserved c = fill-next _ c.loop-k.invariant (omega arith) (c.reduce.ensu
 
 pub loop-k-init : goal.loop-k-init
 loop-k-init c = fill_start _ _
-
-pub loop-k-smaller : goal.loop-k-smaller
-loop-k-smaller c = simp length-set (omega arith)
-
-pub shape_of-out : goal.shape_of-out
-shape_of-out c = c.loop-k.invariant.long
-
-pub returns : goal.returns
-returns c = fill_end c.loop-k.invariant (omega arith)

@@ -1,5 +1,5 @@
 -- `polynomial::entries` meets its contract: it fills with the sums, reduced.
-use Rattle.lists.proofs.Kit.{List, ℕ, ◌-◌, length, ℤ, ◌+ℤ◌}
+use Rattle.lists.proofs.Kit.{List, ℕ, ℤ, ◌+ℤ◌}
 use Rattle.numbers.specs.Residue.{residue}
 use Rattle.schemes.specs.Schemes.{bcns}
 use Rattle.lists.specs.Entries.{ints}
@@ -11,6 +11,3 @@ by o e k = residue bcns.q (ints o k +ℤ ints e k)
 
 abbrev pub invariant-loop-k : goal.invariant-loop-k
 invariant-loop-k l = Filled (by l.o l.e) l.initial.out l.out l.k
-
-abbrev pub decreases-loop-k : goal.decreases-loop-k
-decreases-loop-k l = length l.out - l.k

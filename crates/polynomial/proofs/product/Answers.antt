@@ -1,6 +1,6 @@
 -- `polynomial::product` meets its contract.
 use Rattle.lists.proofs.Kit.{◌∙◌, get_or, ℤ, pos}
-use Rattle.polynomial.proofs.{Kernel.widen-fits, Kernel.one-fits, Kernel.one, Kernel.span-one, Kernel.secret-small}
+use Rattle.polynomial.proofs.{Kernel.one, Kernel.span-one, Kernel.secret-small}
 use Rattle.polynomial.proofs.product.Goals as goal
 use Rattle.polynomial.proofs.product.Goals.{Start}
 
@@ -10,18 +10,6 @@ half s = get_or s.args.w.now s.args.i (pos 0)
 
 abbrev small : Start → ℤ
 small s = get_or s.args.s.now s.args.i (pos 0)
-
-pub overflow_cast-result : goal.overflow_cast-result
-overflow_cast-result c = widen-fits (half c.before) (record { sfits = c.result-1.given })
-
-pub overflow_cast-result-2 : goal.overflow_cast-result-2
-overflow_cast-result-2 c = widen-fits (small c.before.before) (record { sfits = c.result-2-1.given })
-
-pub overflow_mul-result : goal.overflow_mul-result
-overflow_mul-result c =
-    let p = c.requires.0 in
-    one-fits (half c.before.before) (small c.before.before) (record { sfits = c.result-1.given }) (record { sfits = c.result-2-1.given })
-    (p.w-within.within c.args.i) (secret-small _ _ c.args.i p c.requires.1)
 
 pub returns : goal.returns
 returns c =

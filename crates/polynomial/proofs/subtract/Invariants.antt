@@ -1,11 +1,8 @@
 -- `polynomial::subtract` meets its contract.
-use Rattle.lists.proofs.Kit.{◌+◌, ◌-◌, ◌≤◌, ◌-ℤ◌}
+use Rattle.lists.proofs.Kit.{◌+◌, ◌-ℤ◌}
 use Rattle.numbers.specs.Residue.{residue}
 use Rattle.lists.specs.{Entries.nums, Ranges.Stored}
 use Rattle.polynomial.proofs.subtract.Given as goal
 
 abbrev pub invariant-loop-i : goal.invariant-loop-i
-invariant-loop-i l = (l.i ≤ l.n) × Stored 0 l.initial.d l.to l.i (λ k. residue l.q (nums l.initial.d (l.x + k) -ℤ nums l.initial.d (l.y + k))) l.d
-
-abbrev pub decreases-loop-i : goal.decreases-loop-i
-decreases-loop-i l = l.n - l.i
+invariant-loop-i l = Stored 0 l.initial.d l.to l.i (λ k. residue l.q (nums l.initial.d (l.x + k) -ℤ nums l.initial.d (l.y + k))) l.d

@@ -1,14 +1,10 @@
 -- `refusals::length_up_to` meets its contract.
 use Rattle.lists.proofs.Kit.{le-leb, lt-leb}
 use Rattle.refusals.specs.Refusals.{length_up_to_lem}
-use Rattle.refusals.proofs.{Laws.stays, Laws.goes_on}
 use Rattle.refusals.proofs.length_up_to.Goals as goal
 
-pub returns-in_default : goal.returns-in_default
-returns-in_default c = stays _ c.in_default.is
-
 pub returns-then-m-n : goal.returns-then-m-n
-returns-then-m-n c = unfold length_up_to_lem in goes_on c.in-Pass.is (rw (le-leb _ _ c.if-m-n.true))
+returns-then-m-n c = unfold length_up_to_lem in rw (le-leb _ _ c.if-m-n.true)
 
 pub returns-else-m-n : goal.returns-else-m-n
-returns-else-m-n c = unfold length_up_to_lem in goes_on c.in-Pass.is (rw (lt-leb _ _ c.if-m-n.false))
+returns-else-m-n c = unfold length_up_to_lem in rw (lt-leb _ _ c.if-m-n.false)

@@ -5,4 +5,5 @@ use Rattle.refusals.proofs.named.Goals as goal
 
 pub returns : goal.returns
 returns c =
-    record { value = (c.scheme_of.ensures, c.zero_bytes.ensures); out_value = zeros (length c.args.out.now) 0 c.zero_bytes.ensures }
+    let z = c.fill.ensures.after (λ y e. e) in
+    record { value = (c.try_from.ensures, z); out_value = zeros (length c.args.out.now) 0 z }

@@ -11,9 +11,9 @@ returns-then-at-nums c =
     let e = over q c.unpack.new.out c.first_over-at.result c.first_over-at.ensures c.if-at-nums.true ∙ ap (message_in q) c.unpack.ensures in
     record { value = sym (failed _ e refl); nums_after = c.unpack.ensures }
 
-pub returns-else-at-nums : goal.returns-else-at-nums
+pub returns : goal.returns
 unfolding received_in
-returns-else-at-nums c =
+returns c =
     let q = c.args.q in
     let e = under q c.unpack.new.out c.first_over-at.result c.first_over-at.ensures c.if-at-nums.false ∙ ap (message_in q) c.unpack.ensures in
     record { value = c.part_not_blank.ensures ∙ sym (went_on _ e refl); nums_after = c.unpack.ensures }

@@ -6,7 +6,7 @@ use Rattle.session_bytes.proofs.answer.Goals as goal
 
 pub returns : goal.returns
 returns c =
-    answer-done _ _ _ _ _ _ _ _ c.answer-reply.result c.answer-reply.ensures (sym c.takes.ensures ∙ c.if-not-takes.false) c.in-Done.is c.keyed-next.ensures
+    answer-done _ _ _ _ _ _ _ _ c.answer-reply.result c.answer-reply.ensures (sym c.takes.ensures ∙ c.if-not-takes.false) c.in-Ok.is c.keyed-next.ensures
     c.lay_out.ensures
 
 pub returns-then-not-takes : goal.returns-then-not-takes

@@ -6,7 +6,7 @@ use Rattle.session_bytes.proofs.open.Goals as goal
 
 pub returns : goal.returns
 returns c =
-    open_done _ _ _ _ _ _ _ c.open-opened.result (sym c.takes.ensures ∙ c.if-not-takes.false) c.open-opened.ensures c.in-Done.is c.offered-next.ensures
+    open_done _ _ _ _ _ _ _ c.open-opened.result (sym c.takes.ensures ∙ c.if-not-takes.false) c.open-opened.ensures c.in-Ok.is c.offered-next.ensures
     c.lay_out.ensures
 
 pub returns-then-not-takes : goal.returns-then-not-takes

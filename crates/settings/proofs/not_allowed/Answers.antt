@@ -3,4 +3,4 @@ use Rattle.settings.proofs.{Known.not-allowed}
 use Rattle.settings.proofs.not_allowed.Goals as goal
 
 pub returns : goal.returns
-returns c = not-allowed c.args.c
+returns c = rw (c.is_ascii_digit.ensures.value, c.is_ascii_uppercase.ensures.value) (not-allowed c.args.c)

@@ -1,10 +1,6 @@
 -- `sponge::squeeze` meets its contract: whole blocks of the output, then the last one.
-use Rattle.std.proofs.Common.{◌-◌, ◌*◌}
 use Rattle.sponge.proofs.Squeezing.{Squeezed}
 use Rattle.sponge.proofs.squeeze.Given as goal
 
 abbrev pub invariant-loop-j : goal.invariant-loop-j
 invariant-loop-j l = Squeezed l.rate l.initial.t l.initial.out l.out l.t l.j
-
-abbrev pub decreases-loop-j : goal.decreases-loop-j
-decreases-loop-j l = l.n - l.j * l.rate

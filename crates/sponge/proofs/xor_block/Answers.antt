@@ -4,16 +4,16 @@ use Rattle.lists.proofs.Fill.{fill_start}
 use Rattle.sponge.proofs.{Lanes.laid_next, Lanes.laid-all}
 use Rattle.sponge.proofs.xor_block.Goals as goal
 
-pub load-x-requires : goal.load-x-requires
-load-x-requires c = simp (length-take, length-drop) (omega arith)
+pub load-requires : goal.load-requires
+load-requires c = simp (length-take, length-drop) (omega arith)
 
 pub loop-i-preserved : goal.loop-i-preserved
 loop-i-preserved c =
-    (omega arith, laid_next c.args.s c.args.b.now c.loop-i.invariant.1 c.load-x.result (omega arith) c.load-x.ensures)
+    laid_next c.args.s c.args.b.now c.loop-i.invariant c.load.result (omega arith) c.load.ensures
 
 pub returns : goal.returns
 returns c =
-    laid-all c.args.s c.args.b.now c.loop-i.invariant.1 (omega arith) (omega arith)
+    laid-all c.args.s c.args.b.now c.loop-i.invariant (omega arith) (omega arith)
 
 pub loop-i-init : goal.loop-i-init
-loop-i-init c = (omega arith, fill_start _ _)
+loop-i-init c = fill_start _ _

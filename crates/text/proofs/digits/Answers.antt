@@ -1,21 +1,19 @@
 -- `text::digits` meets its contract: it searches for the first byte that is no digit.
-use Rattle.lists.proofs.Kit.{◌∙◌, sym, arith}
-use Rattle.lists.proofs.First.{passed_none, passed-more, found, missing}
-use Rattle.text.specs.Text.{not_digit_lem, run}
+use Rattle.lists.proofs.Kit.{◌∙◌, ap, refl, not, rules, length, cond, ltb}
+use Rattle.std.proofs.Common.{Some, None, ◌≡◌}
+use Rattle.std.proofs.lemmas.Iterator.{YieldsList-from_slice}
+use Rattle.std.proofs.lemmas.Iterator.Search.{position_from_yields_List}
+use Rattle.std.specs.Char.{is_ascii_digit}
+use Rattle.std.specs.List.{position_or_len}
+use Rattle.std.specs.Option.{unwrap_or}
+use Rattle.text.specs.Text.{not_digit_lem}
+use Rattle.text.proofs.Reading.{not-digit, place}
 use Rattle.text.proofs.digits.Goals as goal
 
-pub loop-i-init : goal.loop-i-init
-loop-i-init c = passed_none not_digit_lem _ 0
-
-pub returns-then-not_digit : goal.returns-then-not_digit
-unfolding run
-returns-then-not_digit c =
-    found not_digit_lem _ 0 c.loop-i.i c.loop-i.invariant (omega arith) (sym c.not_digit.ensures ∙ c.if-not_digit.true)
-
-pub loop-i-preserved : goal.loop-i-preserved
-loop-i-preserved c =
-    passed-more not_digit_lem _ 0 c.loop-i.i c.loop-i.invariant (omega arith) (sym c.not_digit.ensures ∙ c.if-not_digit.false)
-
 pub returns : goal.returns
-unfolding run
-returns c = missing not_digit_lem _ 0 c.loop-i.i c.loop-i.invariant c.loop-i-test.false
+returns c =
+    let s = c.args.s.now in
+    let e : c.position.result ≡ cond (ltb (position_or_len not_digit_lem s) (length s)) (Some (position_or_len not_digit_lem s)) None =
+    position_from_yields_List not_digit_lem _ _ c.position.result c.position.ensures.ran (YieldsList-from_slice s cc)
+    (λ x b q k. let t : b ≡ not (is_ascii_digit x.now) = search rules in (refl, t ∙ not-digit x.now)) in
+    c.unwrap_or.ensures ∙ ap (λ o. unwrap_or o (length s)) e ∙ place s

@@ -1,19 +1,13 @@
--- `told::tell_bench` meets its contract, by the answer's case: a bit below 1,024 has a successor.
-use Rattle.lists.proofs.Kit.{add-one, arith, rules}
+-- `told::tell_bench` meets its contract, by the answer's case.
 use Rattle.told.proofs.tell_bench.Goals as goal
 
-pub overflow_add-differ : goal.overflow_add-differ
-overflow_add-differ c =
-    omega (arith, rw c.in-Differ.is at c.requires)
+pub differ_number-requires : goal.differ_number-requires
+differ_number-requires c = rw c.in-Ok.is at c.requires
 
-pub returns-in-Agree : goal.returns-in-Agree
-returns-in-Agree c =
-    rw (c.in-Agree.is, c.tell_verdict.ensures.0, c.tell_verdict.ensures.1)
+pub returns-in-Ok : goal.returns-in-Ok
+returns-in-Ok c =
+    rw (c.in-Ok.is, c.tell_verdict.ensures.0, c.tell_verdict.ensures.1, c.differ_number.ensures)
 
-pub returns-in-Differ : goal.returns-in-Differ
-returns-in-Differ c =
-    rw (c.in-Differ.is, c.tell_verdict-in-Differ.ensures.0, c.tell_verdict-in-Differ.ensures.1, add-one _)
-
-pub returns-in-Refused : goal.returns-in-Refused
-returns-in-Refused c =
-    rw (c.in-Refused.is, c.tell_verdict-in-Refused.ensures.0, c.tell_verdict-in-Refused.ensures.1)
+pub returns-in-Err : goal.returns-in-Err
+returns-in-Err c =
+    rw (c.in-Err.is, c.tell_verdict-in-Err.ensures.0, c.tell_verdict-in-Err.ensures.1)

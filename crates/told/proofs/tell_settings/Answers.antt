@@ -1,16 +1,10 @@
--- `told::tell_settings` meets its contract: the answer's numbers are those of `tell`.
-use Rattle.lists.proofs.Kit.{ap, ℕ, rules}
-use Rattle.refusals.specs.Seen.{Told}
-use Rattle.settings.specs.Calls.{ReadCounts}
+-- `told::tell_settings` meets its contract, by the answer's case.
 use Rattle.told.proofs.tell_settings.Goals as goal
 
-pub returns : goal.returns
-returns c =
-    let a = c.args.found in
-    let all : Told ℕ → Told ReadCounts =
-    λ t. record {
-      number = t.number;
-      place = t.place;
-      counts = record { label = t.counts; format = a.format; scheme = a.scheme; rule = a.rule };
-    } in
-    ap all c.tell.ensures
+pub returns-in-Ok : goal.returns-in-Ok
+returns-in-Ok c =
+    rw (c.in-Ok.is, c.tell_verdict.ensures.0, c.tell_verdict.ensures.1)
+
+pub returns-in-Err : goal.returns-in-Err
+returns-in-Err c =
+    rw (c.in-Err.is, c.tell_verdict-in-Err.ensures.0, c.tell_verdict-in-Err.ensures.1, c.format.ensures, c.refusal.ensures)

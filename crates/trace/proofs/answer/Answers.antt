@@ -4,11 +4,11 @@ use Rattle.text.proofs.Answer.{answers}
 use Rattle.trace.proofs.{Short.answered-short}
 use Rattle.trace.proofs.answer.Goals as goal
 
-pub write-n-requires : goal.write-n-requires
-write-n-requires c =
+pub write-requires : goal.write-requires
+write-requires c =
     let xs = c.args.text.now in
     omega (arith, ap length c.count.ensures, answered-short xs)
 
 pub returns : goal.returns
 returns c =
-    answers 372 c.count.ensures c.write-n.ensures
+    answers 372 c.count.ensures c.write.ensures

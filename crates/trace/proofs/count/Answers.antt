@@ -3,27 +3,32 @@ use Rattle.lists.proofs.Kit.{arith}
 use Rattle.trace.proofs.Counting.{going-none, going_more, going-many, going-other, going-all, pair-known}
 use Rattle.trace.proofs.count.Goals as goal
 
-pub returns-then-n-ge2048 : goal.returns-then-n-ge2048
-returns-then-n-ge2048 c = going-many c.loop-at.invariant (omega arith) (omega arith)
+pub loop-init : goal.loop-init
+loop-init c = going-none _
 
-pub returns-in_default : goal.returns-in_default
-returns-in_default c =
-    going-other c.loop-at.invariant (omega arith) (omega arith) c.two_lines.ensures c.in_default.is
+pub returns-then-s-at : goal.returns-then-s-at
+returns-then-s-at c = going-all c.loop.invariant (omega arith)
 
-pub add-t-requires : goal.add-t-requires
-add-t-requires c =
-    let k = pair-known c.args.s.now c.loop-at.at c.two_lines.ensures c.in-Exchange.is in
-    (c.loop-at.invariant.held, omega arith, k.0, k.1)
+pub returns-in_err-pair : goal.returns-in_err-pair
+returns-in_err-pair c = rw c.from_residual.ensures (going-other c.loop.invariant (omega arith) (omega arith) c.in_err-pair.ensures.means)
 
-pub loop-at-preserved : goal.loop-at-preserved
-loop-at-preserved c =
-    going_more c.loop-at.invariant (omega arith) (omega arith) c.two_lines.ensures c.in-Exchange.is c.add-t.ensures.0 c.add-t.ensures.1
+pub bounds-tallies-pair : goal.bounds-tallies-pair
+bounds-tallies-pair c = omega (arith, pair-known c.args.s.now c.loop.at c.in_ok-pair.pair c.in_ok-pair.ensures.means)
+
+pub offset_bounds-tallies-pair : goal.offset_bounds-tallies-pair
+offset_bounds-tallies-pair c = omega (arith, pair-known c.args.s.now c.loop.at c.in_ok-pair.pair c.in_ok-pair.ensures.means)
+
+pub add-requires : goal.add-requires
+add-requires c =
+    let h = c.loop.invariant.held in
+    let k = pair-known c.args.s.now c.loop.at c.in_ok-pair.pair c.in_ok-pair.ensures.means in
+    (omega (arith, h.few c.in_ok-pair.pair.scheme), omega (arith, h.small c.in_ok-pair.pair.scheme), k.1)
+
+pub loop-preserved : goal.loop-preserved
+loop-preserved c = rw c.add.ensures (going_more c.loop.invariant (omega arith) (omega arith) c.in_ok-pair.pair c.in_ok-pair.ensures)
+
+pub returns-then-at-s : goal.returns-then-at-s
+returns-then-at-s c = going-many c.loop.invariant (omega arith) (omega arith)
 
 pub returns : goal.returns
-returns c = going-all c.loop-at.invariant c.loop-at-test.false
-
-pub loop-at-init : goal.loop-at-init
-loop-at-init c = going-none _ c.zeros-t.ensures
-
-pub two_lines-requires : goal.two_lines-requires
-two_lines-requires c = c.loop-at.invariant.within
+returns c = going-all c.loop.invariant (omega arith)

@@ -1,22 +1,30 @@
--- `trace::two_lines` meets its contract.
-use Rattle.lists.proofs.Kit.{arith}
-use Rattle.text.specs.Text.{scheme_name}
-use Rattle.text.proofs.Lines.{told-within}
-use Rattle.trace.proofs.{Reading.two-other, Reading.two-bad, Reading.two-read}
+-- `trace::two_lines` meets its contract: a line at a time.
+use Rattle.lists.proofs.Kit.{arith, le-leb, lt-leb}
+use Rattle.trace.specs.Trace.{slack_in, scheme_in, two_in}
 use Rattle.trace.proofs.two_lines.Goals as goal
 
-pub returns-in_default : goal.returns-in_default
-returns-in_default c =
-    two-other c.args.s.now c.args.at c.field.ensures c.in_default.is
+pub returns-in_err-scheme : goal.returns-in_err-scheme
+unfolding two_in scheme_in
+returns-in_err-scheme c = rw c.from_residual.ensures (record { means = rw (← c.in_err-scheme.ensures.means); within = omega arith })
 
-pub slack_line-requires : goal.slack_line-requires
-slack_line-requires c =
-    told-within scheme_name c.args.s.now c.args.at c.field.ensures c.in-Number.is
+pub returns-then-scheme-gt5 : goal.returns-then-scheme-gt5
+unfolding two_in scheme_in
+returns-then-scheme-gt5 c =
+    record { means = rw (← c.in_ok-scheme.ensures.means, lt-leb c.in_ok-scheme.scheme 5 (omega arith)); within = omega arith }
 
-pub returns-then-scheme-le5 : goal.returns-then-scheme-le5
-returns-then-scheme-le5 c =
-    two-read c.args.s.now c.args.at c.field.ensures c.in-Number.is c.if-scheme-le5.true c.slack_line.ensures
+pub returns-in_err-slack : goal.returns-in_err-slack
+unfolding two_in scheme_in slack_in
+returns-in_err-slack c =
+    rw c.from_residual-in_err-slack.ensures
+    (record {
+      means = rw (← c.in_ok-scheme.ensures.means, le-leb c.in_ok-scheme.scheme 5 (omega arith), ← c.in_err-slack.ensures.means);
+      within = omega arith;
+    })
 
-pub returns-else-scheme-le5 : goal.returns-else-scheme-le5
-returns-else-scheme-le5 c =
-    two-bad c.args.s.now c.args.at c.field.ensures c.in-Number.is (omega arith)
+pub returns : goal.returns
+unfolding two_in scheme_in slack_in
+returns c =
+    record {
+      means = rw (← c.in_ok-scheme.ensures.means, le-leb c.in_ok-scheme.scheme 5 (omega arith), ← c.in_ok-slack.ensures.means);
+      within = c.in_ok-slack.ensures.within;
+    }

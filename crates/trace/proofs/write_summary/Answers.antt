@@ -4,7 +4,7 @@ use Rattle.trace.proofs.Writing.{blocks-none, blocks-room, blocks_more, blocks-a
 use Rattle.trace.proofs.write_summary.Goals as goal
 
 pub loop-scheme-init : goal.loop-scheme-init
-loop-scheme-init c = blocks-none c.args.t c.args.out.now c.requires
+loop-scheme-init c = blocks-none c.args.tallies c.args.out.now c.requires
 
 pub write_block-at-requires : goal.write_block-at-requires
 write_block-at-requires c = blocks-room c.loop-scheme.invariant (omega arith)

@@ -7,7 +7,7 @@ use Rattle.transform.proofs.back.Goals as goal
 pub scale-requires : goal.scale-requires
 scale-requires c =
     let e = c.sums.ensures in
-    (c.requires.0, rw e (sums-below 0 _), ap length e ∙ sums-length 0 _)
+    (rw e (sums-below 0 _), ap length e ∙ sums-length 0 _)
 
 pub returns : goal.returns
 returns c =

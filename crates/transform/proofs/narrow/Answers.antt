@@ -3,9 +3,6 @@ use Rattle.lists.proofs.Kit.{refl, ◌∙◌, sym, arith}
 use Rattle.lists.proofs.{Entries.tab-getD, Fill.fill_start, Fill.fill-next, Fill.fill-whole}
 use Rattle.transform.proofs.narrow.Goals as goal
 
-pub overflow_cast-dst : goal.overflow_cast-dst
-overflow_cast-dst c = omega (arith, c.requires.0.below c.loop-k.k)
-
 pub loop-k-preserved : goal.loop-k-preserved
 loop-k-preserved c = fill-next _ c.loop-k.invariant (omega arith) refl
 

@@ -14,7 +14,7 @@ weigh-requires c =
 pub back-requires : goal.back-requires
 back-requires c =
     let e = c.weigh.ensures in
-    (c.table-t.ensures, rw e (entrywise-below _ _), ap length e ∙ entrywise-length _ _)
+    (rw e (entrywise-below _ _), ap length e ∙ entrywise-length _ _)
 
 pub returns : goal.returns
 returns c =

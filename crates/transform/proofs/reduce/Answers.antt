@@ -4,9 +4,6 @@ use Rattle.lists.proofs.Fill.{fill_start, fill-next, fill-whole}
 use Rattle.transform.specs.Level.{remainders}
 use Rattle.transform.proofs.reduce.Goals as goal
 
-pub overflow_cast-dst : goal.overflow_cast-dst
-overflow_cast-dst c = omega (arith, c.requires.0.below c.loop-k.k)
-
 pub loop-k-preserved : goal.loop-k-preserved
 loop-k-preserved c = fill-next _ c.loop-k.invariant (omega arith) refl
 

@@ -3,45 +3,27 @@ use Rattle.lists.proofs.Kit.{◌≡◌, ◌∙◌, sym, ap, ap₂, ℕ, ◌-◌,
 use Rattle.lists.specs.Entries.{tab}
 use Rattle.lists.proofs.Fill.{fill-next, fill_end, fill-first}
 use Rattle.transform.specs.Level.{scaled}
-use Rattle.transform.proofs.{Seven.power-lt, Joins.product-fits}
 use Rattle.transform.proofs.scale.Invariants.{entry}
 use Rattle.transform.proofs.scale.Goals as goal
-
-pub overflow_mul-dst : goal.overflow_mul-dst
-overflow_mul-dst c = omega (arith, power-lt c.requires.0 1024)
-
-pub overflow_mul-dst-2 : goal.overflow_mul-dst-2
-overflow_mul-dst-2 c = record { fits = product-fits _ _ (c.requires.1.below 0) (omega (arith, power-lt c.requires.0 1024)) }
 
 pub loop-k-init : goal.loop-k-init
 loop-k-init c =
     let z : 0 < length c.args.dst.now = omega arith in (
-      omega arith,
-      simp length-set c.requires.2,
-      fill-first _ c.args.dst.now _ z (ap (λ (x : ℕ). get_or c.args.src.now 0 0 * (12 * x) % 12289) (c.requires.0.power 1024 (omega arith))),
+      simp length-set c.requires.1,
+      fill-first _ c.args.dst.now _ z (ap (λ (x : ℕ). get_or c.args.src.now 0 0 * (12 * x) % 12289) (c.args.t.now.rule.power 1024 (omega arith))),
     )
-
-pub overflow_mul-dst-in-loop-k : goal.overflow_mul-dst-in-loop-k
-overflow_mul-dst-in-loop-k c =
-    omega (arith, power-lt c.requires.0 (1024 - c.loop-k.k))
-
-pub overflow_mul-dst-in-loop-k-2 : goal.overflow_mul-dst-in-loop-k-2
-overflow_mul-dst-in-loop-k-2 c =
-    let k = c.loop-k.k in
-    record { fits = product-fits _ _ (c.requires.1.below (1024 - k)) (omega (arith, power-lt c.requires.0 (1024 - k))) }
 
 pub loop-k-preserved : goal.loop-k-preserved
 loop-k-preserved c =
     let l = c.loop-k in
     let m : 1024 - l.k ≡ (1024 - l.k) % 1024 = sym (mod-eq_of_lt (omega arith)) in (
-      omega arith,
-      l.invariant.1,
-      fill-next _ l.invariant.2 (omega arith)
-          (ap₂ (λ (r x : ℕ). get_or c.args.src.now r 0 * (12 * x) % 12289) m (c.requires.0.power (1024 - l.k) (omega arith))),
+      l.invariant.0,
+      fill-next _ l.invariant.1 (omega arith)
+          (ap₂ (λ (r x : ℕ). get_or c.args.src.now r 0 * (12 * x) % 12289) m (c.args.t.now.rule.power (1024 - l.k) (omega arith))),
     )
 
 pub returns : goal.returns
 unfolding scaled
 returns c =
     let l = c.loop-k in
-    fill_end l.invariant.2 (omega arith) ∙ ap (λ (n : ℕ). tab n (entry c.args.src.now)) l.invariant.1
+    fill_end l.invariant.1 (omega arith) ∙ ap (λ (n : ℕ). tab n (entry c.args.src.now)) l.invariant.0

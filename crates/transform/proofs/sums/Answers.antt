@@ -1,5 +1,5 @@
 -- `transform::sums` meets its contract: ten levels, each of which makes its sums twice as long, and the remainders.
-use Rattle.lists.proofs.Kit.{refl, ◌∙◌, ap, arith, length}
+use Rattle.lists.proofs.Kit.{refl, ◌∙◌}
 use Rattle.transform.proofs.Levels.{Holds, Placed, holds-start, five-levels, first-across, last-across, in_order, holds-end}
 use Rattle.transform.proofs.sums.Goals as goal
 use Rattle.transform.proofs.sums.Goals.{After-cross-2, After-cross-4, After-level-5}
@@ -7,7 +7,7 @@ use Rattle.transform.proofs.sums.Goals.{After-cross-2, After-cross-4, After-leve
 -- what five levels make of the numbers, eight and ten
 half : (c : After-level-5) → Holds c.args.g.now c.args.a 32 32 c.level-5.new.dst
 half c =
-    five-levels _ _ 1 32 refl (holds-start _ _ _ c.narrow.ensures c.requires.2)
+    five-levels _ _ 1 32 refl (holds-start _ _ _ c.narrow.ensures c.requires.1)
     c.level.ensures c.level-2.ensures c.level-3.ensures c.level-4.ensures c.level-5.ensures
 
 eight : (c : After-cross-2) → Placed c.args.g.now c.args.a 256 4 256 1 c.cross-2.new.dst
@@ -18,38 +18,8 @@ whole : (c : After-cross-4) → Placed c.args.g.now c.args.a 1024 1 1024 1 c.cro
 whole c =
     last-across (eight (goal.at.After-cross-4 c).After-cross-2) c.lay-3.ensures c.cross-3.ensures c.lay-4.ensures c.cross-4.ensures
 
-pub level-requires-2 : goal.level-requires-2
-level-requires-2 c = record { a_bound = (c.requires.0, omega arith, refl, refl); table_rule = (c.requires.1, ap length c.narrow.ensures ∙ c.requires.3) }
-
-pub level-requires-6 : goal.level-requires-6
-level-requires-6 c = record { a_bound = (c.requires.0, omega arith, refl, refl); table_rule = (c.requires.1, c.level-4.ensures.size) }
-
-pub lay-requires : goal.lay-requires
-lay-requires c = record { a_bound = (c.requires.0, omega arith, refl); table_rule = (c.requires.1, refl, refl) }
-
-pub lay-requires-2 : goal.lay-requires-2
-lay-requires-2 c = record { a_bound = (c.requires.0, omega arith, refl); table_rule = (c.requires.1, c.lay.ensures.factors.long, c.lay.ensures.factors.also) }
-
-pub lay-requires-3 : goal.lay-requires-3
-lay-requires-3 c = record { a_bound = (c.requires.0, omega arith, refl); table_rule = (c.requires.1, c.lay-2.ensures.factors.long, c.lay-2.ensures.factors.also) }
-
-pub lay-requires-4 : goal.lay-requires-4
-lay-requires-4 c = record { a_bound = (c.requires.0, omega arith, refl); table_rule = (c.requires.1, c.lay-3.ensures.factors.long, c.lay-3.ensures.factors.also) }
-
 pub reduce-requires : goal.reduce-requires
-reduce-requires c = ((whole (goal.at.reduce-requires c).After-cross-4).small, c.requires.3)
+reduce-requires c = ((whole (goal.at.reduce-requires c).After-cross-4).small, c.requires.2)
 
 pub returns : goal.returns
 returns c = c.reduce.ensures ∙ holds-end _ _ _ (in_order (whole (goal.at.returns c).After-cross-4))
-
-pub cross-requires : goal.cross-requires
-cross-requires c = record { m_nonzero = (omega arith, refl, omega arith, c.lay.ensures.factors); dst_len = c.level-5.ensures.size }
-
-pub cross-requires-2 : goal.cross-requires-2
-cross-requires-2 c = record { m_nonzero = (omega arith, refl, omega arith, c.lay-2.ensures.factors); dst_len = c.level-6.ensures.size }
-
-pub cross-requires-3 : goal.cross-requires-3
-cross-requires-3 c = record { m_nonzero = (omega arith, refl, omega arith, c.lay-3.ensures.factors); dst_len = c.cross.ensures.size }
-
-pub cross-requires-4 : goal.cross-requires-4
-cross-requires-4 c = record { m_nonzero = (omega arith, refl, omega arith, c.lay-4.ensures.factors); dst_len = c.cross-2.ensures.size }

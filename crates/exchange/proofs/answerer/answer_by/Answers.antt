@@ -15,12 +15,11 @@ returns-else-a-eq0 c =
     let L = lends c.args.scheme _ _ c.args.a.now (λ e. omega (arith, z.lent.public-long)) in
     answer-passed z L.none (sym L.from) c.answer_drawn.ensures
 
-pub answer_grown-requires : goal.answer_grown-requires
-answer_grown-requires c =
-    let z = answer-sized c.args.scheme _ _ _ c.requires.digest_value (record { below = λ i. omega (arith, c.type_inv.random i) }) in
-    record { answer_sized = sized-newhope z (omega arith); message_value = c.requires.message_value; digest_value = c.requires.digest_value_2 }
+pub answer_grown-requires-clause-answer_sized : goal.answer_grown-requires-clause-answer_sized
+answer_grown-requires-clause-answer_sized c =
+    sized-newhope (answer-sized c.args.scheme _ _ _ c.requires.digest_value (record { below = λ i. omega (arith, c.type_inv.random i) })) (omega arith)
 
-pub answer_drawn-requires : goal.answer_drawn-requires
-answer_drawn-requires c =
+pub answer_drawn-requires-clause-random_len : goal.answer_drawn-requires-clause-random_len
+answer_drawn-requires-clause-random_len c =
     let z = answer-sized c.args.scheme _ _ _ c.requires.digest_value (record { below = λ i. omega (arith, c.type_inv.random i) }) in
-    record { random_len = (z.lent.random-long, z.lent.table-long); message_value = c.requires.message_value; digest_value = c.requires.digest_value_2 }
+    (z.lent.random-long, z.lent.table-long)

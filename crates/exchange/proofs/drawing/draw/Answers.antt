@@ -1,25 +1,28 @@
 -- `exchange::drawing::draw` meets its contract: Noise's answer.
-use Rattle.lists.proofs.Kit.{ℕ, sym, ap, ◌∙◌}
+use Rattle.lists.proofs.Kit.{ℕ, ap, ◌∙◌}
 use Rattle.schemes.specs.Schemes.{scheme_of_lem}
 use Rattle.schemes.proofs.Laws.{by_number}
 use Rattle.lists.proofs.Parts.{front_long}
-use Rattle.refusals.proofs.Laws.{differ}
-use Rattle.exchange.proofs.{Drawn.draw-failed, Drawn.draw-passed}
+use Rattle.refusals.proofs.Ends.{given_up}
+use Rattle.exchange.proofs.Drawn.{draw-failed, draw-passed}
 use Rattle.exchange.proofs.drawing.draw.Goals as goal
 
-pub returns-in-Refused : goal.returns-in-Refused
-returns-in-Refused c =
+pub returns-in_err-noise-clause-value : goal.returns-in_err-noise-clause-value
+returns-in_err-noise-clause-value c =
     let a = c.args in
-    let p = draw-failed c.requires.0 (ap scheme_of_lem c.number.ensures ∙ by_number a.scheme) (front_long _ a.out.now c.requires.1) c.noise-v.result _ c.noise-v.ensures
-    {X = ℕ} c.in-Refused.is in
-    record { value = p.0; drew = λ h. differ (p.0 ∙ h) }
+    let n = ap scheme_of_lem c.number.ensures ∙ by_number a.scheme in
+    given_up _ c.from_residual.ensures
+    ∙ (draw-failed c.requires.0 n (front_long _ a.out.now c.requires.1) c.noise.result _ c.noise.ensures {X = ℕ} c.in_err-noise.was).0
 
-pub returns-in-Done : goal.returns-in-Done
-returns-in-Done c =
+pub returns-in_err-noise-clause-drew : goal.returns-in_err-noise-clause-drew
+returns-in_err-noise-clause-drew c =
     let a = c.args in
-    let p = draw-passed c.requires.0 (ap scheme_of_lem c.number.ensures ∙ by_number a.scheme) (front_long _ a.out.now c.requires.1) c.noise-v.result _ c.noise-v.ensures
-    a.out.now c.in-Done.is in
+    let n = ap scheme_of_lem c.number.ensures ∙ by_number a.scheme in
+    (draw-failed c.requires.0 n (front_long _ a.out.now c.requires.1) c.noise.result _ c.noise.ensures c.in_err-noise.was).1
+
+pub returns : goal.returns
+returns c =
+    let a = c.args in
+    let n = ap scheme_of_lem c.number.ensures ∙ by_number a.scheme in
+    let p = draw-passed c.requires.0 n (front_long _ a.out.now c.requires.1) c.noise.result _ c.noise.ensures a.out.now c.in_ok-noise.was in
     record { value = p.0; drew = p.1 }
-
-pub slice_bounds-noise-end-3 : goal.slice_bounds-noise-end-3
-slice_bounds-noise-end-3 c = sym (front_long _ c.args.out.now c.requires.1)

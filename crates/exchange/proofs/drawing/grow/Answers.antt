@@ -1,16 +1,16 @@
 -- `exchange::drawing::grow` meets its contract: Grow's answer.
-use Rattle.lists.proofs.Kit.{rules}
-use Rattle.refusals.proofs.Laws.{differ}
-use Rattle.exchange.proofs.{Grown.grow-failed, Grown.grow-passed}
+use Rattle.lists.proofs.Kit.{◌∙◌}
+use Rattle.refusals.proofs.Ends.{given_up}
+use Rattle.exchange.proofs.Grown.{grow-failed, grow-passed}
 use Rattle.exchange.proofs.drawing.grow.Goals as goal
 
-pub returns-in-Refused : goal.returns-in-Refused
-returns-in-Refused c =
+pub returns-in_err-grow-clause-value : goal.returns-in_err-grow-clause-value
+returns-in_err-grow-clause-value c =
     let h = c.requires in
-    record { value = grow-failed _ _ h.0 h.1 h.2 c.grow-v.result _ c.grow-v.ensures c.in-Refused.is; numbers_value = λ e. differ e }
+    given_up _ c.from_residual.ensures ∙ grow-failed _ _ h.0 h.1 h.2 c.grow.result _ c.grow.ensures c.in_err-grow.was
 
-pub returns-in-Done : goal.returns-in-Done
-returns-in-Done c =
+pub returns : goal.returns
+returns c =
     let h = c.requires in
-    let x = grow-passed _ _ h.0 h.1 h.2 c.grow-v.result _ c.grow-v.ensures c.in-Done.is in
-    record { value = x.0; numbers_value = λ _. x.1 }
+    let p = grow-passed _ _ h.0 h.1 h.2 c.grow.result _ c.grow.ensures c.in_ok-grow.was in
+    record { value = p.0; numbers_value = λ _. p.1 }

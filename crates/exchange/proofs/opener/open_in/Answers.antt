@@ -1,11 +1,8 @@
--- `exchange::opener::open_in` meets its contract: the refusal of a length or room, or what follows.
-use Rattle.lists.proofs.Kit.{rules}
-use Rattle.sampling.proofs.Expanding.{passes}
-use Rattle.exchange.proofs.{Opening.open-failed}
+-- `exchange::opener::open_in` meets its contract: where a length or room is refused the outputs keep their zeros.
+use Rattle.refusals.proofs.Ends.{given_up}
+use Rattle.exchange.proofs.Opening.{open-failed}
 use Rattle.exchange.proofs.opener.open_in.Goals as goal
 
-pub open_sized-requires : goal.open_sized-requires
-open_sized-requires c = record { s_value = passes c.open_sizes-v.ensures c.in-Pass.is; opening_value = c.requires }
-
-pub returns-in-Fail : goal.returns-in-Fail
-returns-in-Fail c = search (rules, open-failed)
+pub returns-in_err-open_sizes : goal.returns-in_err-open_sizes
+returns-in_err-open_sizes c =
+    rw (given_up _ c.from_residual.ensures) (open-failed _ _ _ _ c.in_err-open_sizes.ensures c.requires.0 c.requires.1)

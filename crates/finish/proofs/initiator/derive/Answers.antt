@@ -1,5 +1,5 @@
 -- `finish::initiator::derive` meets its contract: value, hints, and what they settle, with room for each.
-use Rattle.lists.proofs.Kit.{sym, ap₂, ◌∙◌, List, ℕ, arith, length, rules}
+use Rattle.lists.proofs.Kit.{sym, ap₂, ◌∙◌, List, ℕ, arith, length}
 use Rattle.std.proofs.Common.{◌≡◌, ◌≤◌}
 use Rattle.schemes.specs.Schemes.{fixed_of}
 use Rattle.schemes.proofs.Sound.{sound}

@@ -1,12 +1,13 @@
 -- `finish::initiator::key_in` meets its contract: a test that has failed ends the call, and otherwise the rest of the tests decides.
-use Rattle.lists.proofs.Kit.{refl, sym, ap, ap₂, ◌∙◌, List, ℕ, arith, length, drop, replicate, rules}
+use Rattle.std.proofs.Common.{Some}
+use Rattle.lists.proofs.Kit.{sym, ap, ◌∙◌, List, ℕ, arith, length, drop, replicate}
 use Rattle.std.proofs.Common.{◌≡◌, ◌++◌, ◌≤◌}
-use Rattle.schemes.specs.{Schemes.fixed_of, declared.Fixed.Fixed, declared.Named.TheVariants.Known, declared.Scheme.Scheme}
+use Rattle.schemes.specs.{Schemes.fixed_of, declared.Fixed.Fixed, declared.Scheme.Scheme}
 use Rattle.lists.specs.declared.Peak.{Peak}
 use Rattle.lists.proofs.Parts.{front_long}
-use Rattle.refusals.specs.{Seen.if_passed, Steps.outcome, declared.Verdict.Verdict}
-use Rattle.refusals.proofs.{Laws.failed, Laws.went_on, Steps.blank-front, Steps.outcome-refused}
-use Rattle.finish.specs.{Finish.Finish, Finish.finish_of, Finish.finish_key, Finish.finish_slack, Inside.finish_rest}
+use Rattle.refusals.specs.{Seen.if_passed, Refusals.Verdict}
+use Rattle.refusals.proofs.{Steps.blank-front}
+use Rattle.finish.specs.{Finish.Finish, Finish.finish, Finish.finish_key, Finish.finish_slack, Inside.finish_rest}
 use Rattle.finish.proofs.{Finishing.finish-sized, Finishing.laid-front}
 use Rattle.finish.proofs.initiator.key_in.Goals as goal
 
@@ -15,10 +16,10 @@ module _ (s : Scheme) (x : Finish) where
   rest = finish_rest s x
 
   abbrev key : List ℕ
-  key = finish_key (Known s) x
+  key = finish_key (Some s) x
 
   abbrev slack : Peak
-  slack = finish_slack (Known s) x
+  slack = finish_slack (Some s) x
 
 -- the part that the key takes, of room m
 module _ (s : Scheme) {f : Fixed} (d : f ≡ fixed_of s) where
@@ -30,17 +31,17 @@ module _ (s : Scheme) {f : Fixed} (d : f ≡ fixed_of s) where
 
 pub slice_bounds-with_reply-end : goal.slice_bounds-with_reply-end
 slice_bounds-with_reply-end c =
-    let z = finish-sized c.args.scheme (finish_of c.args.reply.now c.args.s.now) (length c.args.key.now) (c.requires.key_value c.in-Pass.is) in
+    let z = finish-sized c.args.scheme (finish c.args.reply.now c.args.s.now) (length c.args.key.now) c.requires.key_value in
     roomy c.args.scheme c.fixed-f.ensures z.2
 
-pub slice_bounds-with_reply-end-in-Pass : goal.slice_bounds-with_reply-end-in-Pass
-slice_bounds-with_reply-end-in-Pass c =
-    let z = finish-sized c.args.scheme (finish_of c.args.reply.now c.args.s.now) (length c.args.key.now) (c.requires.key_value c.in-Pass.is) in
+pub slice_bounds-with_reply-end-2 : goal.slice_bounds-with_reply-end-2
+slice_bounds-with_reply-end-2 c =
+    let z = finish-sized c.args.scheme (finish c.args.reply.now c.args.s.now) (length c.args.key.now) c.requires.key_value in
     sym (front_long _ c.args.key.now (roomy c.args.scheme c.fixed-f.ensures z.2))
 
 pub with_reply-requires : goal.with_reply-requires
 with_reply-requires c =
-    let z = finish-sized c.args.scheme (finish_of c.args.reply.now c.args.s.now) (length c.args.key.now) (c.requires.key_value c.in-Pass.is) in (
+    let z = finish-sized c.args.scheme (finish c.args.reply.now c.args.s.now) (length c.args.key.now) c.requires.key_value in (
       record {
         reply-long = z.0;
         secret-long = z.1;
@@ -49,19 +50,12 @@ with_reply-requires c =
       ap (λ (g : Fixed). g.secret) c.fixed-f.ensures,
     )
 
-pub returns-in-Fail : goal.returns-in-Fail
-returns-in-Fail c =
-    let x = finish_of c.args.reply.now c.args.s.now in
-    let e = failed (rest c.args.scheme x) refl c.in-Fail.is in
-    record { value = sym (outcome-refused e (slack c.args.scheme x)); laid = rw e refl }
-
-pub returns-in-Pass : goal.returns-in-Pass
-returns-in-Pass c =
+pub returns : goal.returns
+returns c =
     let s = c.args.scheme in
-    let x = finish_of c.args.reply.now c.args.s.now in
-    let old = c.args.key.now in
-    let e = sym (went_on (rest s x) refl c.in-Pass.is) in record {
-      value = c.with_reply.ensures.value ∙ ap (λ (v : Verdict). outcome v (slack s x)) e;
+    let x = finish c.args.reply.now c.args.s.now in
+    let old = c.args.key.now in record {
+      value = c.with_reply.ensures.value;
       laid = laid-front (rest s x) (key s x) old c.fixed-f.result.key c.with_reply.ensures.laid
-          ∙ ap₂ (λ (v : Verdict) (k : ℕ). if_passed v (key s x ++ drop k old) old) e (long c.args.scheme c.fixed-f.ensures);
+          ∙ ap (λ (k : ℕ). if_passed (rest s x) (key s x ++ drop k old) old) (long c.args.scheme c.fixed-f.ensures);
     }

@@ -1,5 +1,5 @@
 -- `finish::initiator::settle` meets its contract: entries, bytes, slacks and the largest of them.
-use Rattle.lists.proofs.Kit.{ap, ◌∙◌, rules}
+use Rattle.lists.proofs.Kit.{ap, ◌∙◌}
 use Rattle.schemes.specs.Schemes.{fixed_of}
 use Rattle.lists.specs.First.{peak_of_lem}
 use Rattle.packing.specs.Packing.{packed}

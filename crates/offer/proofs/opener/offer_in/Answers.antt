@@ -1,13 +1,8 @@
--- `offer::opener::offer_in` meets its contract: the tests but that of the public numbers, then that one and that of the part about to be sent.
-use Rattle.lists.proofs.Kit.{sym, ◌∙◌, rules}
-use Rattle.refusals.proofs.Seen.{shown-failed}
+-- `offer::opener::offer_in` meets its contract: where a test but that of the public numbers fails, the output keeps its zeros.
+use Rattle.refusals.proofs.{Ends.given_up, Seen.shown-failed}
 use Rattle.offer.proofs.{Offering.offer-failed}
 use Rattle.offer.proofs.opener.offer_in.Goals as goal
 
-pub send-requires : goal.send-requires
-send-requires c =
-    record { message_value = sym c.offer-v.ensures ∙ c.in-Pass.is; message_value_2 = c.requires }
-
-pub returns-in-Fail : goal.returns-in-Fail
-returns-in-Fail c =
-    shown-failed _ _ _ (offer-failed _ _ _ c.offer-v.ensures c.in-Fail.is) c.requires
+pub returns-in_err-offer : goal.returns-in_err-offer
+returns-in_err-offer c =
+    rw (given_up _ c.from_residual.ensures) (shown-failed _ _ _ (offer-failed _ _ _ c.in_err-offer.ensures) c.requires)

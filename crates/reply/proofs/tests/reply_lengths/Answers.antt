@@ -1,16 +1,35 @@
 -- `reply::tests::reply_lengths` meets its contract: one test after the other.
-use Rattle.lists.proofs.Kit.{refl, rules}
-use Rattle.refusals.proofs.Laws.{first, also}
+use Rattle.refusals.specs.Refusals.{◌then◌}
+use Rattle.refusals.proofs.Ends.{given_up}
 use Rattle.reply.specs.Inside.{reply_lengths_lem}
 use Rattle.reply.proofs.tests.reply_lengths.Goals as goal
 
+pub returns-in_err-length_is : goal.returns-in_err-length_is
+unfolding reply_lengths_lem ◌then◌
+returns-in_err-length_is c =
+    rw (given_up _ c.from_residual.ensures, ← c.fixed-f.ensures, ← c.in_err-length_is.ensures)
+
+pub returns-in_err-length_is-2 : goal.returns-in_err-length_is-2
+unfolding reply_lengths_lem ◌then◌
+returns-in_err-length_is-2 c =
+    rw (given_up _ c.from_residual-in_err-length_is-2.ensures, ← c.fixed-f.ensures, ← c.in_ok-length_is.ensures, ← c.in_err-length_is-2.ensures)
+
+pub returns-in_err-length_is-3 : goal.returns-in_err-length_is-3
+unfolding reply_lengths_lem ◌then◌
+returns-in_err-length_is-3 c =
+    rw (given_up _ c.from_residual-in_err-length_is-3.ensures, ← c.fixed-f.ensures, ← c.in_ok-length_is.ensures, ← c.in_ok-length_is-2.ensures, ← c.in_err-length_is-3.ensures)
+
+pub returns-in_err-length_is-4 : goal.returns-in_err-length_is-4
+unfolding reply_lengths_lem ◌then◌
+returns-in_err-length_is-4 c =
+    rw (given_up _ c.from_residual-in_err-length_is-4.ensures, ← c.fixed-f.ensures, ← c.in_ok-length_is.ensures, ← c.in_ok-length_is-2.ensures, ← c.in_ok-length_is-3.ensures, ← c.in_err-length_is-4.ensures)
+
+pub returns-in_err-length_is-5 : goal.returns-in_err-length_is-5
+unfolding reply_lengths_lem ◌then◌
+returns-in_err-length_is-5 c =
+    rw (given_up _ c.from_residual-in_err-length_is-5.ensures, ← c.fixed-f.ensures, ← c.in_ok-length_is.ensures, ← c.in_ok-length_is-2.ensures, ← c.in_ok-length_is-3.ensures, ← c.in_ok-length_is-4.ensures, ← c.in_err-length_is-5.ensures)
+
 pub returns : goal.returns
-unfolding reply_lengths_lem
+unfolding reply_lengths_lem ◌then◌
 returns c =
-    rw c.fixed-f.ensures at
-    (also c.length_is.ensures
-    (also c.length_is-v-5.ensures
-    (also c.length_is-v-4.ensures
-    (also c.length_is-v-3.ensures
-    (also c.length_is-v-2.ensures
-    (first c.length_is-v.ensures refl) refl) refl) refl) refl) refl)
+    rw (← c.fixed-f.ensures, ← c.in_ok-length_is.ensures, ← c.in_ok-length_is-2.ensures, ← c.in_ok-length_is-3.ensures, ← c.in_ok-length_is-4.ensures, ← c.in_ok-length_is-5.ensures) c.length_is-6.ensures

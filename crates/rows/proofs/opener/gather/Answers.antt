@@ -1,5 +1,5 @@
 -- `rows::opener::gather` meets its contract: it fills with the entries of the source.
-use Rattle.lists.proofs.Kit.{refl, ◌∙◌, ap, ℕ, arith, get_or, length-set}
+use Rattle.lists.proofs.Kit.{refl, ◌∙◌, ap, ℕ, arith, get_or}
 use Rattle.lists.specs.Entries.{tab}
 use Rattle.lists.proofs.{Entries.tab-getD, Fill.fill_start, Fill.fill-next, Fill.fill_end}
 use Rattle.rows.proofs.opener.gather.Goals as goal
@@ -9,9 +9,6 @@ loop-k-init c = fill_start _ _
 
 pub overflow_cast-out : goal.overflow_cast-out
 overflow_cast-out c = record { fits = c.requires.1.below c.loop-k.k }
-
-pub loop-k-smaller : goal.loop-k-smaller
-loop-k-smaller c = simp length-set (omega arith)
 
 pub loop-k-preserved : goal.loop-k-preserved
 loop-k-preserved c = fill-next _ c.loop-k.invariant (omega arith) refl

@@ -1,5 +1,5 @@
 -- `rows::opener::spread` meets its contract: it fills with the entries of the source.
-use Rattle.lists.proofs.Kit.{refl, ◌∙◌, ap, ℕ, arith, get_or, length-set}
+use Rattle.lists.proofs.Kit.{◌∙◌, ap, ℕ, arith, get_or}
 use Rattle.lists.specs.Entries.{tab}
 use Rattle.lists.proofs.{Entries.tab-getD, Fill.fill_start, Fill.fill-next, Fill.fill_end}
 use Rattle.rows.proofs.opener.spread.Goals as goal
@@ -7,14 +7,8 @@ use Rattle.rows.proofs.opener.spread.Goals as goal
 pub loop-k-init : goal.loop-k-init
 loop-k-init c = fill_start _ _
 
-pub overflow_cast-out : goal.overflow_cast-out
-overflow_cast-out c = omega (arith, c.type_inv.bytes c.loop-k.k)
-
-pub loop-k-smaller : goal.loop-k-smaller
-loop-k-smaller c = simp length-set (omega arith)
-
 pub loop-k-preserved : goal.loop-k-preserved
-loop-k-preserved c = fill-next _ c.loop-k.invariant (omega arith) refl
+loop-k-preserved c = fill-next _ c.loop-k.invariant (omega arith) c.from.ensures
 
 pub shape_of-out : goal.shape_of-out
 shape_of-out c = c.loop-k.invariant.long

@@ -1,12 +1,12 @@
 -- `rows::replier::begin_sized` meets its contract: it lends room for the opening's numbers; a refused opening ends the call; then the secrets, and then the state.
 use Rattle.lists.proofs.Kit.{refl, ◌∙◌, sym, ap, List, ℕ, arith, length}
 use Rattle.std.proofs.Common.{◌≡◌, ◌≤◌}
-use Rattle.schemes.specs.{Schemes.fixed_of, declared.Fixed.Fixed, declared.Named.TheVariants.Known}
+use Rattle.schemes.specs.{Schemes.family_of, Schemes.fixed_of, declared.Family.Family, declared.Fixed.Fixed, declared.Scheme.Scheme}
 use Rattle.schemes.proofs.Sound.{sound}
 use Rattle.lists.proofs.Parts.{part-long, buffer-long, front_long}
 use Rattle.packing.proofs.Laws.{unpacked-length}
-use Rattle.refusals.specs.{Refusals.not_blank_lem, Seen.if_passed, declared.Verdict.Verdict}
-use Rattle.refusals.proofs.{Laws.failed, Laws.went_on, Steps.front-is, Steps.front_fits}
+use Rattle.refusals.specs.{Refusals.not_blank_lem, Refusals.received_in, Refusals.Verdict}
+use Rattle.refusals.proofs.{Ends.given_up, Laws.failed, Laws.went_on, Steps.front-is, Steps.front_fits}
 use Rattle.values.specs.Values.{mixed_value}
 use Rattle.values.proofs.{Numbers.numbers-in, Ranges.mixed-counted}
 use Rattle.wire.specs.Wire.{opened_in, numbers_in}
@@ -17,7 +17,7 @@ use Rattle.rows_state.proofs.{Tests.frodos, Laying.keeping-long, Laying.keeping-
 use Rattle.rows.specs.{Reply.ReplyBegin, Reply.reply_begin_of, Reply.value_of, Reply.reply_state, Inside.reply_begin_rest}
 use Rattle.rows.proofs.{Replying.Sized, Replying.begin-sized, Replying.opened-tests}
 use Rattle.rows.proofs.replier.begin_sized.Goals as goal
-use Rattle.rows.proofs.replier.begin_sized.Goals.{After-fixed-f, After-reply_secrets-v, After-take_opening-v}
+use Rattle.rows.proofs.replier.begin_sized.Goals.{After-fixed-f}
 
 module _ (x : After-fixed-f) where
   abbrev lent : ReplyBegin
@@ -42,15 +42,9 @@ module _ (x : After-fixed-f) where
       (mixed-counted b.args.scheme xs b.args.s1.now b.args.e2.now).long ∙ (numbers-in b.args.scheme b.requires.scheme_value.0).mixed
 
 -- the unpack step's verdict, without the test that cannot fail
-unpacked : (t : After-take_opening-v) → let a = t.args in t.take_opening-v.result ≡ not_blank_lem (opened_in a.scheme a.opening.now)
-unpacked t =
-    t.take_opening-v.ensures.value ∙ opened-tests t.args.scheme t.requires.scheme_value.0 (opened_in t.args.scheme t.args.opening.now)
-
--- where it has passed, the secrets decide
-tested : (s : After-reply_secrets-v) → s.reply_secrets-v.result ≡ reply_begin_rest s.args.scheme (reply_begin_of s.args.opening.now s.args.s1.now s.args.e1.now s.args.e2.now)
-unfolding reply_begin_rest
-tested s =
-    s.reply_secrets-v.ensures ∙ sym (went_on _ (unpacked (goal.at.After-reply_secrets-v s).After-take_opening-v) s.in-Pass.is)
+unpacked : (c : Scheme) (opening : List ℕ) {v : Verdict} → family_of c ≡ Family.Frodo
+    → v ≡ received_in (fixed_of c).q (opened_in c opening) (numbers_in c (opened_in c opening)) → v ≡ not_blank_lem (opened_in c opening)
+unpacked c opening frodo e = e ∙ opened-tests c frodo (opened_in c opening)
 
 pub slice_bounds-b-end : goal.slice_bounds-b-end
 slice_bounds-b-end c = few (goal.at.slice_bounds-b-end c).After-fixed-f
@@ -58,29 +52,29 @@ slice_bounds-b-end c = few (goal.at.slice_bounds-b-end c).After-fixed-f
 pub slice_bounds-take_opening-end : goal.slice_bounds-take_opening-end
 slice_bounds-take_opening-end c = sym (buffer-long _ 6912 (few (goal.at.slice_bounds-take_opening-end c).After-fixed-f))
 
-pub take_opening-v-requires : goal.take_opening-v-requires
-take_opening-v-requires c = ((sized (goal.at.take_opening-v-requires c).After-fixed-f).opening-long, buffer-long _ 6912 (few (goal.at.take_opening-v-requires c).After-fixed-f) ∙ many (goal.at.take_opening-v-requires c).After-fixed-f)
+pub take_opening-requires : goal.take_opening-requires
+take_opening-requires c = ((sized (goal.at.take_opening-requires c).After-fixed-f).opening-long, buffer-long _ 6912 (few (goal.at.take_opening-requires c).After-fixed-f) ∙ many (goal.at.take_opening-requires c).After-fixed-f)
 
-pub slice_bounds-b-end-in-Pass-v : goal.slice_bounds-b-end-in-Pass-v
-slice_bounds-b-end-in-Pass-v c =
-    front_fits _ c.take_opening-v.ensures.numbers_value (numbers-long (goal.at.slice_bounds-b-end-in-Pass-v c).After-fixed-f) _
+pub slice_bounds-b-end-2 : goal.slice_bounds-b-end-2
+slice_bounds-b-end-2 c =
+    front_fits _ c.in_ok-take_opening.ensures.numbers_value (numbers-long (goal.at.slice_bounds-b-end-2 c).After-fixed-f) _
 
 pub slice_bounds-mix-end : goal.slice_bounds-mix-end
 slice_bounds-mix-end c =
-    sym (front_long _ _ (front_fits _ c.take_opening-v.ensures.numbers_value (numbers-long (goal.at.slice_bounds-mix-end c).After-fixed-f) _))
+    sym (front_long _ _ (front_fits _ c.in_ok-take_opening.ensures.numbers_value (numbers-long (goal.at.slice_bounds-mix-end c).After-fixed-f) _))
 
-pub slice_bounds-mix-end-in-Pass-v : goal.slice_bounds-mix-end-in-Pass-v
-slice_bounds-mix-end-in-Pass-v c =
-    omega (arith, (sized (goal.at.slice_bounds-mix-end-in-Pass-v c).After-fixed-f).state-long)
+pub slice_bounds-mix-end-2 : goal.slice_bounds-mix-end-2
+slice_bounds-mix-end-2 c =
+    omega (arith, (sized (goal.at.slice_bounds-mix-end-2 c).After-fixed-f).state-long)
 
 pub mix-requires : goal.mix-requires
 mix-requires c =
     let a = c.args in
     let z = sized (goal.at.mix-requires c).After-fixed-f in
-    let v = c.take_opening-v.ensures in
-    let w = secrets-small a.scheme a.s1.now a.e1.now a.e2.now (sym c.reply_secrets-v.ensures ∙ c.in-Pass-v.is) in record {
+    let v = c.in_ok-take_opening.ensures in
+    let w = secrets-small a.scheme a.s1.now a.e1.now a.e2.now (sym c.in_ok-reply_secrets.ensures) in record {
       counted = (
-        message-counted a.scheme (opened_in a.scheme a.opening.now) (front-is _ v.numbers_value (numbers-long (goal.at.mix-requires c).After-fixed-f) _) v.value c.in-Pass.is,
+        message-counted a.scheme (opened_in a.scheme a.opening.now) (front-is _ v.numbers_value (numbers-long (goal.at.mix-requires c).After-fixed-f) _) v.value refl,
         part-long 3 64 a.state.now (omega (arith, z.state-long)) ∙ sym (numbers-in a.scheme c.requires.scheme_value.0).mixed,
       );
       small = (record { long = z.secret-long; within = w.0 }, record { long = z.last-long; within = w.2 });
@@ -108,23 +102,26 @@ lay_state-requires c =
     })
 
 -- a refused opening
-pub returns-in_default : goal.returns-in_default
+pub returns-in_err-take_opening : goal.returns-in_err-take_opening
 unfolding reply_begin_rest
-returns-in_default c =
-    let e = c.in_default.is in
-    record { value = e ∙ sym (failed _ (unpacked (goal.at.returns-in_default c).After-take_opening-v) e); state_value_2 = ap (λ (v : Verdict). if_passed v (reply_state (Known c.args.scheme) (reply_begin_of c.args.opening.now c.args.s1.now c.args.e1.now c.args.e2.now)) c.args.state.now) (sym e) }
+returns-in_err-take_opening c =
+    let u = unpacked c.args.scheme c.args.opening.now c.requires.scheme_value.0 c.in_err-take_opening.ensures.value in
+    rw (given_up _ c.from_residual.ensures) (record { value = sym (failed _ u refl); state_value_2 = refl })
 
-pub returns-in-Fail : goal.returns-in-Fail
-returns-in-Fail c =
-    record { value = sym c.in-Fail.is ∙ tested (goal.at.returns-in-Fail c).After-reply_secrets-v; state_value_2 = refl }
+pub returns-in_err-reply_secrets : goal.returns-in_err-reply_secrets
+unfolding reply_begin_rest
+returns-in_err-reply_secrets c =
+    let u = unpacked c.args.scheme c.args.opening.now c.requires.scheme_value.0 c.in_ok-take_opening.ensures.value in
+    rw (given_up _ c.from_residual-in_err-reply_secrets.ensures)
+    (record { value = c.in_err-reply_secrets.ensures ∙ sym (went_on _ u refl); state_value_2 = refl })
 
-pub returns-in-Pass-v : goal.returns-in-Pass-v
-unfolding reply_state value_of
-returns-in-Pass-v c =
+pub returns : goal.returns
+unfolding reply_begin_rest reply_state value_of
+returns c =
     let a = c.args in record {
-      value = sym c.in-Pass-v.is ∙ tested (goal.at.returns-in-Pass-v c).After-reply_secrets-v;
+      value = c.in_ok-reply_secrets.ensures ∙ sym (went_on _ (unpacked a.scheme a.opening.now c.requires.scheme_value.0 c.in_ok-take_opening.ensures.value) refl);
       state_value_2 = c.lay_state.ensures
           ∙ ap (λ (v : List ℕ). laid (fresh Call.Reply a.scheme v a.s1.now a.e1.now))
-          (keeping-kept (fixed_of a.scheme).n a.state.now (sized (goal.at.returns-in-Pass-v c).After-fixed-f).state-long c.requires.scheme_value.1 c.mix.ensures (value-long (goal.at.returns-in-Pass-v c).After-fixed-f _)
-          ∙ ap (λ (xs : List ℕ). mixed_value a.scheme xs a.s1.now a.e2.now) (front-is _ c.take_opening-v.ensures.numbers_value (numbers-long (goal.at.returns-in-Pass-v c).After-fixed-f) _));
+          (keeping-kept (fixed_of a.scheme).n a.state.now (sized (goal.at.returns c).After-fixed-f).state-long c.requires.scheme_value.1 c.mix.ensures (value-long (goal.at.returns c).After-fixed-f _)
+          ∙ ap (λ (xs : List ℕ). mixed_value a.scheme xs a.s1.now a.e2.now) (front-is _ c.in_ok-take_opening.ensures.numbers_value (numbers-long (goal.at.returns c).After-fixed-f) _));
     }

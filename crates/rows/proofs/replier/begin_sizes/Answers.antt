@@ -1,8 +1,9 @@
 -- `rows::replier::begin_sizes` meets its contract: one test after the other.
-use Rattle.lists.proofs.Kit.{refl, ap, arith}
+use Rattle.lists.proofs.Kit.{refl, ◌∙◌, ap, arith}
 use Rattle.std.proofs.Common.{◌≤◌}
 use Rattle.schemes.specs.declared.Fixed.{Fixed}
-use Rattle.refusals.proofs.Laws.{first, also}
+use Rattle.refusals.specs.Refusals.{◌then◌}
+use Rattle.refusals.proofs.Ends.{given_up}
 use Rattle.rows.specs.Inside.{reply_begin_sizes}
 use Rattle.rows.proofs.replier.begin_sizes.Goals as goal
 use Rattle.rows.proofs.replier.begin_sizes.Goals.{After-fixed-f}
@@ -16,9 +17,22 @@ overflow_mul-f c = omega (arith, few (goal.at.overflow_mul-f c).After-fixed-f)
 pub overflow_add-f : goal.overflow_add-f
 overflow_add-f c = omega (arith, few (goal.at.overflow_add-f c).After-fixed-f)
 
+pub returns-in_err-length_is : goal.returns-in_err-length_is
+unfolding reply_begin_sizes ◌then◌
+returns-in_err-length_is c = given_up _ c.from_residual.ensures ∙ rw (← c.fixed-f.ensures, ← c.in_err-length_is.ensures) refl
+
+pub returns-in_err-length_is-2 : goal.returns-in_err-length_is-2
+unfolding reply_begin_sizes ◌then◌
+returns-in_err-length_is-2 c = given_up _ c.from_residual-in_err-length_is-2.ensures ∙ rw (← c.fixed-f.ensures, ← c.in_ok-length_is.ensures, ← c.in_err-length_is-2.ensures) refl
+
+pub returns-in_err-length_is-3 : goal.returns-in_err-length_is-3
+unfolding reply_begin_sizes ◌then◌
+returns-in_err-length_is-3 c = given_up _ c.from_residual-in_err-length_is-3.ensures ∙ rw (← c.fixed-f.ensures, ← c.in_ok-length_is.ensures, ← c.in_ok-length_is-2.ensures, ← c.in_err-length_is-3.ensures) refl
+
+pub returns-in_err-length_is-4 : goal.returns-in_err-length_is-4
+unfolding reply_begin_sizes ◌then◌
+returns-in_err-length_is-4 c = given_up _ c.from_residual-in_err-length_is-4.ensures ∙ rw (← c.fixed-f.ensures, ← c.in_ok-length_is.ensures, ← c.in_ok-length_is-2.ensures, ← c.in_ok-length_is-3.ensures, ← c.in_err-length_is-4.ensures) refl
+
 pub returns : goal.returns
-unfolding reply_begin_sizes
-returns c =
-    rw c.fixed-f.ensures at
-    (also c.length_is.ensures
-    (also c.length_is-v-4.ensures (also c.length_is-v-3.ensures (also c.length_is-v-2.ensures (first c.length_is-v.ensures refl) refl) refl) refl) refl)
+unfolding reply_begin_sizes ◌then◌
+returns c = c.length_is-5.ensures ∙ rw (← c.fixed-f.ensures, ← c.in_ok-length_is.ensures, ← c.in_ok-length_is-2.ensures, ← c.in_ok-length_is-3.ensures, ← c.in_ok-length_is-4.ensures) refl

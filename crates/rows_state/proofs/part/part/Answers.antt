@@ -9,8 +9,8 @@ returns-in_default c =
 
 pub part_in-requires : goal.part_in-requires
 part_in-requires c =
-    frodo-named (get_or c.args.state.now 1 0) _ (sym c.named.ensures ∙ c.in-Known.is)
+    frodo-named (get_or c.args.state.now 1 0) _ (sym c.named.ensures ∙ c.in-Some.is)
 
 pub returns : goal.returns
 returns c =
-    part-known c.args.call c.args.state.now c.args.p.now _ (sym c.named.ensures ∙ c.in-Known.is) c.part_in.ensures.value c.part_in.ensures.state_value
+    part-known c.args.call c.args.state.now c.args.p.now _ (sym c.named.ensures ∙ c.in-Some.is) c.part_in.ensures.value c.part_in.ensures.state_value

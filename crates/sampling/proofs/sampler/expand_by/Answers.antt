@@ -1,10 +1,8 @@
 -- `sampling::sampler::expand_by` meets its contract: zeros stay where a test fails.
-use Rattle.lists.proofs.Kit.{rules}
-use Rattle.sampling.proofs.{Expanding.passes, Expanding.sizes-failed}
+use Rattle.refusals.proofs.Ends.{given_up}
+use Rattle.sampling.proofs.Expanding.{sizes-failed}
 use Rattle.sampling.proofs.sampler.expand_by.Goals as goal
 
-pub expand_in-requires : goal.expand_in-requires
-expand_in-requires c = search (rules, passes)
-
-pub returns-in-Fail : goal.returns-in-Fail
-returns-in-Fail c = search (rules, sizes-failed)
+pub returns-in_err-expand_sizes : goal.returns-in_err-expand_sizes
+returns-in_err-expand_sizes c =
+    rw (given_up _ c.from_residual.ensures) (sizes-failed c.args.name _ _ c.in_err-expand_sizes.ensures c.requires)

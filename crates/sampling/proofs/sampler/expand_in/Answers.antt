@@ -1,18 +1,17 @@
 -- `sampling::sampler::expand_in` meets its contract: the part that was lent is filled, or is zero again.
+use Rattle.std.proofs.Common.{Some, ◌≡◌, ◌++◌}
 use Rattle.lists.proofs.Kit.{◌∙◌, sym, ap, List, ℕ, arith, length, drop, length-take, length-take-le}
-use Rattle.std.proofs.Common.{◌≡◌, ◌++◌}
-use Rattle.noise.specs.declared.Ruled.TheVariants.{By}
 use Rattle.refusals.proofs.Seen.{shown-passed, shown-restored}
 use Rattle.sampling.specs.Expand.{expand_numbers}
 use Rattle.sampling.proofs.Expanding.{room-enough, ran_out, full, numbers-few, whole_part}
 use Rattle.sampling.proofs.sampler.expand_in.Goals as goal
 
-pub slice_bounds-zero_numbers-end : goal.slice_bounds-zero_numbers-end
-slice_bounds-zero_numbers-end c =
+pub slice_bounds-fill-end : goal.slice_bounds-fill-end
+slice_bounds-fill-end c =
     omega (arith, c.out-1.given.1, room-enough c.args.name c.args.stream.now _ c.requires.out_value)
 
-pub slice_bounds-zero_numbers-end-then-n-lt-PUBLIC : goal.slice_bounds-zero_numbers-end-then-n-lt-PUBLIC
-slice_bounds-zero_numbers-end-then-n-lt-PUBLIC c =
+pub slice_bounds-fill-end-then-n-lt-PUBLIC : goal.slice_bounds-fill-end-then-n-lt-PUBLIC
+slice_bounds-fill-end-then-n-lt-PUBLIC c =
     simp length-take (omega (arith, c.out-1.given.1, room-enough c.args.name c.args.stream.now _ c.requires.out_value))
 
 pub returns-then-n-lt-PUBLIC : goal.returns-then-n-lt-PUBLIC
@@ -20,12 +19,12 @@ unfolding expand_numbers
 returns-then-n-lt-PUBLIC c =
     let e = ran_out c.args.name c.args.stream.now _ c.requires.out_value c.expand-n.ensures.value c.if-n-lt-PUBLIC.true in
     let l = c.out-1.given.0 ∙ length-take-le 1024 c.args.out.now (room-enough c.args.name c.args.stream.now _ c.requires.out_value) in
-    shown-restored _ _ _ e c.args.out.now c.expand-n.new.out c.requires.out_value_2 (room-enough c.args.name c.args.stream.now _ c.requires.out_value) l c.zero_numbers.ensures
+    shown-restored _ _ _ e c.args.out.now c.expand-n.new.out c.requires.out_value_2 (room-enough c.args.name c.args.stream.now _ c.requires.out_value) l (c.fill.ensures.after (λ y e. e))
 
 pub returns : goal.returns
 unfolding expand_numbers
 returns c =
-    let xs = expand_numbers (By c.args.name) c.args.stream.now in
+    let xs = expand_numbers (Some c.args.name) c.args.stream.now in
     let l = c.if-n-lt-PUBLIC.false in
     let e = full c.args.name c.args.stream.now _ c.requires.out_value c.expand-n.ensures.value l in
     let long : length xs ≡ 1024 = omega (arith, c.expand-n.ensures.value, numbers-few c.args.name c.args.stream.now) in

@@ -1,8 +1,13 @@
 -- `sampling::sampler::expand_sizes` meets its contract.
-use Rattle.lists.proofs.Kit.{refl}
-use Rattle.refusals.proofs.Laws.{first, also}
+use Rattle.lists.proofs.Kit.{refl, sym, ◌∙◌}
+use Rattle.refusals.proofs.{Laws.failed, Laws.went_on, Ends.given_up}
 use Rattle.sampling.specs.Steps.{expand_sizes_lem}
 use Rattle.sampling.proofs.sampler.expand_sizes.Goals as goal
 
+pub returns-in_err-length_up_to : goal.returns-in_err-length_up_to
+unfolding expand_sizes_lem
+returns-in_err-length_up_to c = given_up _ c.from_residual.ensures ∙ sym (failed _ c.in_err-length_up_to.ensures refl)
+
 pub returns : goal.returns
-returns c = unfold expand_sizes_lem in also c.room_for.ensures (first c.length_up_to-v.ensures refl) refl
+unfolding expand_sizes_lem
+returns c = c.room_for.ensures ∙ sym (went_on _ c.in_ok-length_up_to.ensures refl)

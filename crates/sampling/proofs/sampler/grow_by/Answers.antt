@@ -1,10 +1,8 @@
 -- `sampling::sampler::grow_by` meets its contract: zeros stay where a test fails.
-use Rattle.lists.proofs.Kit.{rules}
-use Rattle.sampling.proofs.{Expanding.passes, Growing.sizes-failed}
+use Rattle.refusals.proofs.Ends.{given_up}
+use Rattle.sampling.proofs.Growing.{sizes-failed}
 use Rattle.sampling.proofs.sampler.grow_by.Goals as goal
 
-pub grow_in-requires : goal.grow_in-requires
-grow_in-requires c = search (rules, passes)
-
-pub returns-in-Fail : goal.returns-in-Fail
-returns-in-Fail c = search (rules, sizes-failed)
+pub returns-in_err-grow_sizes : goal.returns-in_err-grow_sizes
+returns-in_err-grow_sizes c =
+    rw (given_up _ c.from_residual.ensures) (sizes-failed c.args.name _ _ c.in_err-grow_sizes.ensures c.requires)

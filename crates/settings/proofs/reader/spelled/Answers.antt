@@ -1,8 +1,7 @@
 -- `settings::reader::spelled` meets its contract.
-use Rattle.lists.proofs.Kit.{◌∙◌, sym, ap, arith, length, length-take, length-take-le}
+use Rattle.lists.proofs.Kit.{◌∙◌, sym, arith, length, length-take, length-take-le}
 use Rattle.std.proofs.Common.{◌≤◌}
-use Rattle.settings.specs.Calls.{answer_of}
-use Rattle.settings.proofs.{Steps.spelled-size, Steps.spelled-setup, Steps.spelled-misfit}
+use Rattle.settings.proofs.{Steps.spelled-size}
 use Rattle.settings.proofs.reader.spelled.Goals as goal
 use Rattle.settings.proofs.reader.spelled.Goals.{Then-well_spelled}
 
@@ -11,16 +10,6 @@ size : (c : Then-well_spelled)
     → (c.count_letters-n.result ≤ 16) × (c.count_letters-n.result ≤ length c.args.s.now)
 size c =
     spelled-size c.args.s.now c.count_letters-n.ensures (sym c.if-well_spelled.true ∙ c.well_spelled.ensures)
-
-pub returns-then-well_spelled : goal.returns-then-well_spelled
-returns-then-well_spelled c =
-    c.found.ensures
-    ∙ ap answer_of
-    (spelled-setup c.args.s.now c.count_letters-n.ensures c.args.scheme c.args.rule (sym c.if-well_spelled.true ∙ c.well_spelled.ensures))
-
-pub returns-else-well_spelled : goal.returns-else-well_spelled
-returns-else-well_spelled c =
-    c.nothing.ensures ∙ ap answer_of (spelled-misfit c.args.scheme c.args.rule c.args.s.now (sym c.if-well_spelled.false ∙ c.well_spelled.ensures))
 
 pub slice_bounds-found-end : goal.slice_bounds-found-end
 slice_bounds-found-end c = sym (length-take-le _ _ (size (goal.at.slice_bounds-found-end c).Then-well_spelled).1)

@@ -1,21 +1,25 @@
 -- `settings::writer::write_tests` meets its contract.
-use Rattle.lists.proofs.Kit.{rules}
+use Rattle.lists.proofs.Kit.{◌∙◌, sym}
+use Rattle.refusals.proofs.{Laws.up-to-passed, Ends.given_up}
 use Rattle.settings.specs.Settings.{setup_of}
-use Rattle.settings.proofs.{Store.tests-failed, Store.label-short, Store.tests-go-on}
+use Rattle.settings.proofs.{Store.known-fails, Store.length-fails, Store.room-fails, Store.tests-go-on}
 use Rattle.settings.proofs.writer.write_tests.Goals as goal
 
-pub enum_told-1 : goal.enum_told-1
-enum_told-1 c = search rules
+pub returns-in_err-known : goal.returns-in_err-known
+returns-in_err-known c = given_up _ c.from_residual.ensures ∙ known-fails (setup_of c.args.scheme c.args.rule c.args.label.now) c.args.room c.in_err-known.ensures
 
-pub returns-in_default : goal.returns-in_default
-returns-in_default c =
-    tests-failed (setup_of c.args.scheme c.args.rule c.args.label.now) c.args.room c.known.ensures c.length_up_to-v.ensures c.in_default.is
+pub returns-in_err-length_up_to : goal.returns-in_err-length_up_to
+returns-in_err-length_up_to c =
+    given_up _ c.from_residual-in_err-length_up_to.ensures ∙ length-fails (setup_of c.args.scheme c.args.rule c.args.label.now) c.args.room c.in_ok-known.ensures c.in_err-length_up_to.ensures
 
 pub size-requires : goal.size-requires
-size-requires c =
-    label-short (setup_of c.args.scheme c.args.rule c.args.label.now) c.args.room c.known.ensures c.length_up_to-v.ensures c.in-Pass.is
+size-requires c = up-to-passed _ 16 (sym c.in_ok-length_up_to.ensures)
+
+pub returns-in_err-room_for : goal.returns-in_err-room_for
+returns-in_err-room_for c =
+    given_up _ c.from_residual-in_err-room_for.ensures
+    ∙ room-fails (setup_of c.args.scheme c.args.rule c.args.label.now) c.args.room c.in_ok-known.ensures c.in_ok-length_up_to.ensures c.size.ensures c.in_err-room_for.ensures
 
 pub returns : goal.returns
 returns c =
-    tests-go-on (setup_of c.args.scheme c.args.rule c.args.label.now) c.args.room c.known.ensures c.length_up_to-v.ensures
-    c.in-Pass.is c.size.ensures c.room_for.ensures c.label_in.ensures
+    tests-go-on (setup_of c.args.scheme c.args.rule c.args.label.now) c.args.room c.in_ok-known.ensures c.in_ok-length_up_to.ensures c.size.ensures c.in_ok-room_for.ensures c.label_in.ensures

@@ -1,22 +1,18 @@
 -- `transform::on_transforms::add_noise` meets its contract: it fills with the sums.
-use Rattle.lists.proofs.Kit.{◌≡◌, ◌∙◌, ap, ℕ, ◌+◌, ◌%◌, ◌<◌, arith, get_or, to_z-of_z}
+use Rattle.lists.proofs.Kit.{◌≡◌, ◌∙◌, ap, ℕ, ◌+◌, ◌%◌, ◌<◌, arith, get_or, pos, to_z-of_z, w32}
 use Rattle.numbers.specs.Residue.{residue}
 use Rattle.numbers.proofs.Congruence.{residue-lt}
 use Rattle.lists.specs.Entries.{ints}
 use Rattle.lists.proofs.Fill.{fill_start, fill-next, fill-whole}
-use Rattle.transform.proofs.{Entrywise.noised, Small.entry-small}
+use Rattle.transform.proofs.{Entrywise.noised}
 use Rattle.transform.proofs.on_transforms.add_noise.Goals as goal
 use Rattle.transform.proofs.on_transforms.add_noise.Goals.{After-lifted}
-
-pub lifted-requires : goal.lifted-requires
-lifted-requires c =
-    entry-small c.loop-k.k c.requires.2 (record { sfits = c.lifted-arg-1.given })
 
 -- what the callee says of the entry that it was handed
 remainder : (c : After-lifted)
     → c.lifted.result ≡ residue 12289 (ints c.args.e.now c.loop-k.k)
 unfolding ints
-remainder c = rw (to_z-of_z (record { sfits = c.lifted-arg-1.given })) at c.lifted.ensures
+remainder c = rw (to_z-of_z {w = w32} {z = get_or c.args.e.now c.loop-k.k (pos 0)} (record { sfits = omega arith })) at c.lifted.ensures
 
 -- a sum of two numbers below q
 sum_lt : (c : After-lifted)
@@ -41,6 +37,3 @@ overflow_add-x c = omega (arith, sum_lt (goal.at.overflow_add-x c).After-lifted)
 
 pub wrapped-requires : goal.wrapped-requires
 wrapped-requires c = sum_lt (goal.at.wrapped-requires c).After-lifted
-
-pub shape_of-out : goal.shape_of-out
-shape_of-out c = c.loop-k.invariant.long

@@ -5,7 +5,7 @@ use Rattle.transform.proofs.on_transforms.mix.Goals as goal
 
 pub mix_turned-requires : goal.mix_turned-requires
 mix_turned-requires c =
-    record { table_rule = (c.table-t.ensures, c.requires.a_len.0, c.requires.a_len.1, rw c.turn.ensures (transformed-below _)); e_len = (c.requires.e_len, c.requires.within_2, search rules, c.requires.a_len.3) }
+    record { a_len = (c.requires.a_len.0, c.requires.a_len.1, rw c.turn.ensures (transformed-below _)); e_len = (c.requires.e_len, c.requires.within_2, search rules, c.requires.a_len.3) }
 
 pub returns : goal.returns
 returns c =

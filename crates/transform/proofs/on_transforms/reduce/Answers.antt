@@ -1,22 +1,17 @@
 -- `transform::on_transforms::reduce` meets its contract: it fills with the remainders.
-use Rattle.lists.proofs.Kit.{◌≡◌, arith, to_z-of_z}
+use Rattle.lists.proofs.Kit.{◌≡◌, arith, get_or, pos, to_z-of_z, w32}
 use Rattle.numbers.specs.Residue.{residue}
 use Rattle.lists.specs.Entries.{ints}
 use Rattle.lists.proofs.Fill.{fill_start, fill-next, fill-whole}
 use Rattle.transform.specs.Level.{reduced}
-use Rattle.transform.proofs.{Small.entry-small}
 use Rattle.transform.proofs.on_transforms.reduce.Goals as goal
 use Rattle.transform.proofs.on_transforms.reduce.Goals.{After-lifted}
-
-pub lifted-requires : goal.lifted-requires
-lifted-requires c =
-    entry-small c.loop-k.k c.requires.1 (record { sfits = c.lifted-arg-1.given })
 
 -- what the callee says of the entry that it was handed
 remainder : (c : After-lifted)
     → c.lifted.result ≡ residue 12289 (ints c.args.s.now c.loop-k.k)
 unfolding ints
-remainder c = rw (to_z-of_z (record { sfits = c.lifted-arg-1.given })) at c.lifted.ensures
+remainder c = rw (to_z-of_z {w = w32} {z = get_or c.args.s.now c.loop-k.k (pos 0)} (record { sfits = omega arith })) at c.lifted.ensures
 
 pub loop-k-preserved : goal.loop-k-preserved
 loop-k-preserved c = fill-next _ c.loop-k.invariant (omega arith) (remainder (goal.at.loop-k-preserved c).After-lifted)

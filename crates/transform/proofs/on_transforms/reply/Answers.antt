@@ -7,11 +7,11 @@ use Rattle.transform.proofs.on_transforms.reply.Goals as goal
 pub value_turned-requires : goal.value_turned-requires
 value_turned-requires c =
     let e = c.turn.ensures in
-    record { table_rule = (c.table-t.ensures, c.requires.a_len.2, c.requires.a_len.3, ap length e ∙ transformed-length _, rw e (transformed-below _)); e_len = (c.requires.s_len.4, c.requires.s_len.5, c.requires.a_len.4) }
+    record { b_len = (c.requires.a_len.2, c.requires.a_len.3, ap length e ∙ transformed-length _, rw e (transformed-below _)); e_len = (c.requires.s_len.4, c.requires.s_len.5, c.requires.a_len.4) }
 
 pub mix_turned-requires : goal.mix_turned-requires
 mix_turned-requires c =
-    record { table_rule = (c.table-t.ensures, c.requires.a_len.0, c.requires.a_len.1, rw c.turn.ensures (transformed-below _)); e_len = (c.requires.s_len.2, c.requires.s_len.3, c.value_turned.ensures.x_len, c.requires.a_len.2) }
+    record { a_len = (c.requires.a_len.0, c.requires.a_len.1, rw c.turn.ensures (transformed-below _)); e_len = (c.requires.s_len.2, c.requires.s_len.3, c.value_turned.ensures.x_len, c.requires.a_len.2) }
 
 pub returns : goal.returns
 returns c =

@@ -6,7 +6,7 @@ use Rattle.transform.proofs.on_transforms.value.Goals as goal
 pub value_turned-requires : goal.value_turned-requires
 value_turned-requires c =
     let e = c.turn.ensures in
-    record { table_rule = (c.table-t.ensures, c.requires.b_len.0, c.requires.b_len.1, ap length e ∙ transformed-length _, rw e (transformed-below _)); e_len = (c.requires.e_len, c.requires.within_2, c.requires.b_len.3) }
+    record { b_len = (c.requires.b_len.0, c.requires.b_len.1, ap length e ∙ transformed-length _, rw e (transformed-below _)); e_len = (c.requires.e_len, c.requires.within_2, c.requires.b_len.3) }
 
 pub returns : goal.returns
 returns c =

@@ -5,8 +5,8 @@ use Rattle.transform.specs.Theorems.{entrywise}
 use Rattle.transform.proofs.{Joins.product-fits}
 use Rattle.transform.proofs.on_transforms.weigh.Goals as goal
 
-pub overflow_mul-x : goal.overflow_mul-x
-overflow_mul-x c =
+pub overflow_mul-z : goal.overflow_mul-z
+overflow_mul-z c =
     let l = c.loop-k in
     record { fits = product-fits _ _ (c.requires.1.below l.k) (rw (fill-old 0 l.invariant) (omega (arith, c.requires.3.below l.k))) }
 
