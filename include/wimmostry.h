@@ -316,11 +316,11 @@
  * x86-64. On Arm it was measured before the products that stand now: no call took more than here.
  *
  *     wim_offer 102              wim_reply 125              wim_finish 104
- *     wim_open 137               wim_answer 191             wim_noise 3
+ *     wim_open 133               wim_answer 187             wim_noise 3
  *     wim_expand 1               wim_grow 7                 wim_shake128 3
  *     wim_sha3_256 2             wim_product 2              wim_bench 159
  *     wim_session_offer 102      wim_session_reply 125      wim_session_finish 105
- *     wim_session_open 137       wim_session_answer 191     wim_session_close 1
+ *     wim_session_open 133       wim_session_answer 187     wim_session_close 1
  *     wim_rack_offer 102         wim_rack_reply 125         wim_rack_finish 105
  *     wim_rack_close 1           wim_rack_clear 1           wim_settings_write 1
  *     wim_settings_read 1        wim_rows_offer_begin 28    wim_rows_offer_part 21

@@ -10,6 +10,7 @@ ghost use Rattle.lists.specs.Ranges.{Below};
 
 use newhope::Four;
 use refusals::Refusal;
+use schemes::FrodoRecommended;
 use std::io;
 
 fn text(rt: &impl Print, t: &[u8]) -> io::Result<()> {
@@ -80,9 +81,9 @@ fn bcns_peer(rt: &impl Print, w: u32, h: u32) -> io::Result<()>
 }
 
 // Frodo Recommended: the bits of an entry's key, and the interval.
-const B: u32 = 4;
+const B: u32 = FrodoRecommended::KEYBITS;
 
-const I: u32 = 32768 >> B;
+const I: u32 = FrodoRecommended::Q >> B;
 
 fn frodo_value(rt: &impl Print, v: u32) -> io::Result<()>
     requires { v < (fixed_of Recommended).q }

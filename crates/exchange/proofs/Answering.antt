@@ -2,7 +2,7 @@
 --   answer-sized                 what passed sizes say: lengths and rooms
 --   answer-decides               its verdict where Grow has not refused: the table's, or Reply's
 --   answer-unordered, answer-drawn   what is seen of Reply by public numbers: where the table is refused, and where it is not
---   seed-taken                   the seed of NewHope's opening, as the code lends it
+--   seed-taken, seed-long        the seed of NewHope's opening, as the code lends it
 --   answer-passed, answer-grows, answer-ran-out   what is seen of answer where Grow has not refused, and where the opening or Grow's bytes are
 --   answer-newhope, sized-newhope   the same of a scheme of which no public numbers are lent
 --   answer-unknown, answer-failed   what is seen of answer where no scheme is named, and where lengths or rooms are refused
@@ -131,6 +131,10 @@ module _ (c : Scheme) (x : AnswerLent) (m : ReplyRooms) {v : Verdict} (o : v ≡
 pub seed-taken : (opening : List ℕ) → length opening ≡ 1824 → take (length opening - 1792) (drop 1792 opening) ≡ seed_in NewHope opening
 unfolding seed_in
 seed-taken opening l = ap (λ (n : ℕ). take (n - 1792) (drop 1792 opening)) l
+
+pub seed-long : (opening : List ℕ) → length opening ≡ 1824 → length (seed_in NewHope opening) ≡ 32
+unfolding seed_in
+seed-long opening l = part-long 1792 32 opening (omega arith)
 
 pub answer-passed : {c : Scheme} {k : Option RuleName} {x : AnswerLent} {m : ReplyRooms} {a : List ℕ} {u : ReplySeen} → AnswerSized c k x m
     → grown c k (seed_of c x) ≡ pass → a ≡ public_from c k (seed_of c x) x.a

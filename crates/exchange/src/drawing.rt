@@ -56,7 +56,8 @@ pub(crate) fn ruled(rule: u32) -> Result<(), Refusal>
     Ok(())
 }
 
-// NewHope's public numbers, grown from a seed.
+// NewHope's public numbers, grown from a seed. It is not inlined, so that its room for the blocks is given back before Offer or Reply runs.
+#[inline(never)]
 pub(crate) fn grow(rule: u32, seed: &[u8], numbers: &mut [u32]) -> Result<(), Refusal>
     requires { (ruled_in (rule_of_lem rule) ≡ pass) × (length seed.now ≡ 32) × (length numbers.old ≡ 1024) }
     ensures value { result ≡ grown variants.NewHope (rule_of_lem rule) seed.now }

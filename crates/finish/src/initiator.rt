@@ -83,7 +83,11 @@ fn with_reply(
     ensures laid { Laid (finish_rest scheme (finish reply.now s.now)) (finish_key (Some scheme) (finish reply.now s.now)) key.old key.new }
 {
     let mut u = [0u32; 6912];
-    wire::take_reply(scheme, reply, &mut u[..n])?;
+    let v = wire::take_reply(scheme, reply, &mut u[..n]);
+    let Ok(()) = v else {
+        key.fill(0);
+        return v.map(|()| Peak { most: 0, at: 0 });
+    };
     with_secret(scheme, reply, &u[..n], s, key)
 }
 

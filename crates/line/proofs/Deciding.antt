@@ -4,11 +4,12 @@
 --   bcns-shown, bcns-refused, frodo-shown, frodo-refused   the two families' answers, by the tests
 --   Ready, ready, fitted     what the numbers of a scheme of Frodo are fit for
 --   key-small, peer-small    a key in Frodo has at most two digits
+--   beyond                   a number of more than 32 bits names no scheme
 --   unnamed, in-family       the answers, by the scheme
 --   other_text, some-behind, nothing-behind   the answers, by what was read of the lines
 use Rattle.lists.proofs.Kit.{refl, sym, ap, ◌⊎◌, inl, inr, Bool, true, false, cond, List, ℕ, pow-le-pow_right, arith}
 use Rattle.std.proofs.Common.{Option, Some, None, Result, Ok, Err, ◌≡◌, ◌*◌, ◌^◌, ◌≤◌, ◌<◌}
-use Rattle.lists.proofs.Kit.{ltb, length, drop_of_length-le, drop-cons, ltb-true, ltb-false, lt-ltb, le-ltb}
+use Rattle.lists.proofs.Kit.{eqb, ltb, length, drop_of_length-le, drop-cons, ltb-true, ltb-false, lt-ltb, le-ltb, ne_eqb}
 use Rattle.schemes.specs.Schemes.{by_family, family_of, fixed_of, scheme_of_lem}
 use Rattle.schemes.specs.{declared.Family.Family, declared.Fixed.Fixed, declared.Scheme.Scheme}
 use Rattle.lists.specs.First.{both}
@@ -103,6 +104,11 @@ module _ (I B : ℕ) (b : B ≤ 4) where
   peer-small h w = key-small _
 
 -- ---- the schemes
+
+pub beyond : (k : ℕ) → 2 ^ 32 ≤ k → None ≡ scheme_of_lem k
+beyond k h =
+    let n : (m : ℕ) → m < 2 ^ 32 → eqb k m ≡ false = λ m l. ne_eqb k m (omega arith) in
+    rw (n 0 (omega arith), n 1 (omega arith), n 2 (omega arith), n 3 (omega arith), n 4 (omega arith), n 5 (omega arith))
 
 module _ (k coin v w : ℕ) where
   pub unnamed : (o : Option Scheme) {n : Refusal} → o ≡ scheme_of_lem k → Err n ≡ ok_or o Unnamed → refusal (number_of n) ≡ settled k coin v w

@@ -1,6 +1,7 @@
 -- The remainder without a division: q divides 65536, k times. Of u k, modulo 65536, is left the remainder of u, k times.
 --   kept        so it is with k modulo 65536, as a word has it
 --   back        and q times that, by 65536, is the remainder
+--   back_fits   so it fits a word
 use Rattle.lists.proofs.Kit.{◌∙◌, sym, ap, ℕ, suc, arith, div-add-mod', mod-lt, mul-div_cancel, mul-le-mul_right}
 use Rattle.std.proofs.Common.{◌≡◌, ◌+◌, ◌*◌, ◌/◌, ◌%◌, ◌<◌, ◌≤◌}
 use Rattle.lists.proofs.Kit.{le-div_iff_mul-le, digits_mod}
@@ -32,3 +33,6 @@ module _ (q c u : ℕ) (some : 0 < q) (few : q < 65536) (whole : 65536 % q ≡ 0
 
   pub back : u * c % 65536 * q / 65536 ≡ u % q
   back = ap (λ (x : ℕ). x / 65536) whole-times ∙ mul-div_cancel (u % q) (omega arith)
+
+  pub back_fits : u * c % 65536 * q / 65536 < 65536
+  back_fits = rw back (omega (arith, mod-lt u some))

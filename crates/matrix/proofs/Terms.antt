@@ -1,9 +1,10 @@
 -- The products that the sums gain: how the parts of the matrices that are lent make up the whole. Row i of a matrix with n columns lies from i n on.
 --   row_in                 a row ends inside
 --   Row, row_of            row i of a list that is filled row by row: it ends inside, and is as it was
+--   column-row             column j is row j of the columns
 --   eight-terms            the sums of SY where Y has 8 columns, by its columns
 --   right-sums             row i of the sums of XS
---   block_row              a block of rows of Y and their words, for row i of SY
+--   in-s, block-long, block_row   a block of rows of Y and their words, for row i of SY
 --   in-y, part-terms       a block as it lies in Y
 use Rattle.lists.proofs.Kit.{◌∙◌, sym, ap, ap₂, List, ℕ, suc, arith, mul-le-mul_right, mul_comm, mod-lt, digits_div}
 use Rattle.std.proofs.Common.{◌≡◌, ◌+◌, ◌*◌, ◌-◌, ◌/◌, ◌%◌, ◌<◌, ◌≤◌}
@@ -19,12 +20,17 @@ row_in r n i h = let m : suc i * n ≤ r * n = mul-le-mul_right n h in omega ari
 
 pub record Row (n i : ℕ) (d out : List ℕ) : Type 0 where
   pub first : i * n + n ≤ length d
+  pub room : i * n + n ≤ length out
   pub same : take (i * n + n - i * n) (drop (i * n) out) ≡ take (i * n + n - i * n) (drop (i * n) d)
 
 pub row_of : {f : ℕ → ℕ} {d out : List ℕ} (r n i : ℕ) → Filled f d out (i * n) → r * n ≤ length d → i < r → Row n i d out
 row_of r n i h l p =
     let e = row_in r n i p in
-    record { first = omega arith; same = ap (take (i * n + n - i * n)) (fill-rest h) }
+    record { first = omega arith; room = omega (arith, h.long); same = ap (take (i * n + n - i * n)) (fill-rest h) }
+
+pub column-row : (f : ℕ → ℕ) (n m j : ℕ) → m ≡ n → tab m (λ t. f (t * 8 + j)) ≡ tab n (λ t. f ((j * n + t) % n * 8 + (j * n + t) / n))
+column-row f n m j e =
+    ap (λ (k : ℕ). tab k (λ t. f (t * 8 + j))) e ∙ tab-ext n _ _ (λ t p. ap₂ (λ (a b : ℕ). f (a * 8 + b)) (sym (digits_mod j p)) (sym (digits_div j p)))
 
 turned-at : (n : ℕ) (y : List ℕ) (j t : ℕ) → j < 8 → t < n → get_or (turned n y) (j * n + t) 0 ≡ get_or y (t * 8 + j) 0
 unfolding turned
@@ -72,12 +78,15 @@ module _ (n i : ℕ) (x cols : List ℕ) where
 
 -- the block y of m rows, from row t of Y on, into row i of the 8 rows of sums
 module _ (n c t m : ℕ) (s y : List ℕ) (hs : length s ≡ 8 * n) (b : t + m ≤ n) (hy : length y ≡ m * c) (i : ℕ) (r : i < 8) where
-  in-s : i * n + t + m ≤ length s
+  pub in-s : i * n + t + m ≤ length s
   in-s = omega (arith, row_in 8 n i r, hs, b)
 
   module _ (sums l : List ℕ) (h : length sums ≡ 8 * c) (d : l ≡ take (i * c + c - i * c) (drop (i * c) sums)) where
     wide : length l ≡ c
     wide = rw d (slice-long (i * c) c sums (rw h (row_in 8 c i r)))
+
+    pub block-long : length y ≡ length (take (i * n + t + m - (i * n + t)) (drop (i * n + t) s)) * length l
+    block-long = rw (slice-long (i * n + t) m s in-s, wide) hy
 
     pub block_row : {p : List ℕ} → p ≡ block_gained (take (i * n + t + m - (i * n + t)) (drop (i * n + t) s)) y l
         → p ≡ tab c (λ j. (get_or sums (i * c + j) 0 + sum_ℕ m (part_term n c t s y (i * c + j))) % 65536)

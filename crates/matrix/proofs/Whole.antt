@@ -1,5 +1,5 @@
 -- What the code makes of whole matrices is what the definitions say.
---   column-at              an entry of the columns of S
+--   column-at, columns-length   an entry of the columns of S, and how many there are
 --   right-any, left-any    words of any modulus m that is a multiple of q: XS + E by rows of X and columns of S; SY + E by rows of Y
 --   right_is, left_is, bare-is   so of what the code has made; US as XS + E without noise
 use Rattle.lists.proofs.Kit.{refl, ◌∙◌, ap, ap₂, List, ℕ, arith, mod-lt, div-lt_iff_lt-mul, digits_div, digits_mod, digits_lt}
@@ -8,15 +8,19 @@ use Rattle.lists.proofs.Kit.{length, get_or, replicate, ℤ, pos, +ℤ_idr, *ℤ
 use Rattle.numbers.specs.{Residue.residue, Congruence.◌≅⟨◌⟩◌}
 use Rattle.numbers.proofs.Congruence.{eq-≅, refl-≅, ◌⨾◌, mul-≅, residue-≅}
 use Rattle.lists.specs.Entries.{nums, ints}
-use Rattle.lists.proofs.{Entries.tab-at, Entries.tab-ext, Same.equal-all}
+use Rattle.lists.proofs.{Entries.tab-length, Entries.tab-at, Entries.tab-ext, Same.equal-all}
 use Rattle.matrix.specs.Matrix.{times, rows, nums_at, ints_at, right_mixed, left_mixed, bare}
 use Rattle.matrix.specs.{Steps.Shape, Words.words_of, Words.gained, Words.reduced, Words.columns_of, Words.right_term, Words.left_term}
 use Rattle.matrix.proofs.Steps.{words-at, mixed, steps-are}
 
-column-at : (m n : ℕ) (s : List ℤ) (j t : ℕ) → j < 8 → t < n → get_or (columns_of m n s) (j * n + t) 0 ≡ residue m (ints s (t * 8 + j))
+pub column-at : (m n : ℕ) (s : List ℤ) (j t : ℕ) → j < 8 → t < n → get_or (columns_of m n s) (j * n + t) 0 ≡ residue m (ints s (t * 8 + j))
 unfolding columns_of
 column-at m n s j t p l =
     tab-at (8 * n) _ (j * n + t) 0 (digits_lt p l) ∙ ap₂ (λ (a b : ℕ). residue m (ints s (a * 8 + b))) (digits_mod j l) (digits_div j l)
+
+pub columns-length : (m n : ℕ) (s : List ℤ) → length (columns_of m n s) ≡ 8 * n
+unfolding columns_of
+columns-length m n s = tab-length (8 * n) _
 
 -- a number times a word that is a secret modulo m
 product-≅ : (m : ℕ) → 0 < m → (x w : ℕ) (z : ℤ) → w ≡ residue m z → pos (x * w) ≅⟨ m ⟩ pos x *ℤ z

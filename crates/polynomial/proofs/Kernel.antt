@@ -5,10 +5,11 @@
 --   secret-small             the size of one secret
 --   near_fits, far-fits, all-fits, all   four such sums of m products, one behind the other, added two by two
 --   first-none, first_fits, first_more   the sum of the first i products
-use Rattle.lists.proofs.Kit.{◌≡◌, refl, sym, ap, ap₂, ◌∙◌, subst, List, ℕ, ◌+◌, ◌*◌, ◌≤◌, ◌<◌, arith, mul-le-mul, le_refl, get_or, length, ℤ, pos, nat_abs}
-use Rattle.lists.proofs.Kit.{◌+ℤ◌, ◌*ℤ◌, +ℤ_idl, w16, w32, SFits, to_z, of_z, to_z-of_z, sfits_widen}
+--   plus-*                   two numbers of one type
+use Rattle.lists.proofs.Kit.{◌≡◌, refl, sym, ap, ap₂, ◌∙◌, subst, List, ℕ, ◌+◌, ◌*◌, ◌^◌, ◌≤◌, ◌<◌, arith, mul-le-mul, le_refl, get_or, length, ℤ, pos, nat_abs}
+use Rattle.lists.proofs.Kit.{◌+ℤ◌, ◌*ℤ◌, +ℤ_idl, Width, w16, w32, SFits, to_z, of_z, hbits, to_z-of_z, sfits_widen}
 use Rattle.numbers.specs.Sum.{sum}
-use Rattle.numbers.proofs.Size.{abs-mul-≤, abs-sum}
+use Rattle.numbers.proofs.Size.{abs-add, abs-mul-≤, abs-sum}
 use Rattle.numbers.proofs.{Sums.whole, Sums.sum-ext, Sums.sum-split, Machine.fits-abs}
 use Rattle.lists.specs.Entries.{ints}
 use Rattle.polynomial.specs.Steps.{dot, span, Pair}
@@ -134,6 +135,18 @@ module _ (m : ℕ) (w s : List ℤ) (i t : ℕ) (y : ℤ) (p : Pair w s) (few : 
 
   pub first_more : to_z w32 (of_z w32 (to_z w32 t +ℤ to_z w32 (of_z w32 y))) ≡ span (i + m) w s 0
   first_more = to_z-of_z first_fits ∙ first-is
+
+-- ---- two numbers added where they stand
+
+module _ (w : Width) (x y : ℤ) (fx : SFits w x) (fy : SFits w y) (few : nat_abs x + nat_abs y < 2 ^ hbits w) where
+  plus-is : to_z w (of_z w x) +ℤ to_z w (of_z w y) ≡ x +ℤ y
+  plus-is = ap₂ (λ (a b : ℤ). a +ℤ b) (to_z-of_z fx) (to_z-of_z fy)
+
+  pub plus-fits : SFits w (to_z w (of_z w x) +ℤ to_z w (of_z w y))
+  plus-fits = subst (SFits w) (sym plus-is) (fits-abs w _ (omega (arith, abs-add x y)))
+
+  pub plus-read : to_z w (of_z w (to_z w (of_z w x) +ℤ to_z w (of_z w y))) ≡ x +ℤ y
+  plus-read = to_z-of_z plus-fits ∙ plus-is
 
 -- ---- a secret in 16 bits
 

@@ -113,10 +113,10 @@ fn with_opening(
     let n = f.secret;
     let mut b = [0u32; 6912];
     let v = wire::take_opening(scheme, opening, &mut b[..n]);
-    if let Err(r) = v {
-        refusals::publics_in(f.q, a)?;
-        return Err(r);
-    }
+    let Ok(()) = v else {
+        zero_outputs(message, key);
+        return refusals::publics_before(v, f.q, a);
+    };
     with_secrets(scheme, &mut b[..n], a, s1, e1, e2, coins, message, key)
 }
 

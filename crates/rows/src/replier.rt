@@ -55,7 +55,10 @@ fn begin_sized(
     let f = scheme.fixed();
     let m = f.secret;
     let mut b = [0u32; 6912];
-    wire::take_opening(scheme, opening, &mut b[..m])?;
+    let v = wire::take_opening(scheme, opening, &mut b[..m]);
+    let Ok(()) = v else {
+        return v;
+    };
     wire::steps::reply_secrets(scheme, s1, e1, e2)?;
     values::products::mix(scheme, &b[..m], s1, e2, &mut state[3..67]);
     rows_state::state::lay_state(Call::Reply, scheme, f.n, s1, e1, state);

@@ -6,6 +6,7 @@
 
 ghost use Rattle.std.specs.Prelude.{◌≡◌, ◌≤◌};
 ghost use Rattle.schemes.specs.Schemes.{bcns, new_hope, frodo, fixed_of, family_of, scheme_number, Names};
+ghost use Rattle.schemes.specs.declared.Scheme.TheVariants.{Challenge, Classical, Recommended, Paranoid};
 
 // What is fixed in a scheme. Lengths of bytes and counts of numbers are usize, widths in bits and bounds u32.
 #[derive(Clone, Copy)]
@@ -202,10 +203,135 @@ fn frodo(n: usize, q: u32, largest: u32, width: u32, keybits: u32, key: usize) -
     }
 }
 
-// The longest messages and keys of all schemes are those of Frodo Paranoid and of BCNS.
-pub const LONGEST_OPENING: usize = 16 + 15 * 864;
+#[derive(Clone, Copy)]
+pub struct FrodoChallenge;
 
-pub const LONGEST_REPLY: usize = 15 * 864 + 8;
+impl FrodoChallenge {
+    pub const N: usize = 352;
+
+    pub const Q: u32 = 2048;
+
+    pub const LARGEST: u32 = 3;
+
+    pub const WIDTH: u32 = 11;
+
+    pub const KEYBITS: u32 = 1;
+
+    pub const KEY: usize = 8;
+
+    pub fn fixed() -> Fixed
+        ensures { result ≡ fixed_of Challenge }
+    {
+        frodo(
+            FrodoChallenge::N,
+            FrodoChallenge::Q,
+            FrodoChallenge::LARGEST,
+            FrodoChallenge::WIDTH,
+            FrodoChallenge::KEYBITS,
+            FrodoChallenge::KEY,
+        )
+    }
+}
+
+#[derive(Clone, Copy)]
+pub struct FrodoClassical;
+
+impl FrodoClassical {
+    pub const N: usize = 592;
+
+    pub const Q: u32 = 4096;
+
+    pub const LARGEST: u32 = 4;
+
+    pub const WIDTH: u32 = 12;
+
+    pub const KEYBITS: u32 = 2;
+
+    pub const KEY: usize = 16;
+
+    pub fn fixed() -> Fixed
+        ensures { result ≡ fixed_of Classical }
+    {
+        frodo(
+            FrodoClassical::N,
+            FrodoClassical::Q,
+            FrodoClassical::LARGEST,
+            FrodoClassical::WIDTH,
+            FrodoClassical::KEYBITS,
+            FrodoClassical::KEY,
+        )
+    }
+}
+
+#[derive(Clone, Copy)]
+pub struct FrodoRecommended;
+
+impl FrodoRecommended {
+    pub const N: usize = 752;
+
+    pub const Q: u32 = 32768;
+
+    pub const LARGEST: u32 = 5;
+
+    pub const WIDTH: u32 = 15;
+
+    pub const KEYBITS: u32 = 4;
+
+    pub const KEY: usize = 32;
+
+    pub fn fixed() -> Fixed
+        ensures { result ≡ fixed_of Recommended }
+    {
+        frodo(
+            FrodoRecommended::N,
+            FrodoRecommended::Q,
+            FrodoRecommended::LARGEST,
+            FrodoRecommended::WIDTH,
+            FrodoRecommended::KEYBITS,
+            FrodoRecommended::KEY,
+        )
+    }
+}
+
+#[derive(Clone, Copy)]
+pub struct FrodoParanoid;
+
+impl FrodoParanoid {
+    pub const N: usize = 864;
+
+    pub const Q: u32 = 32768;
+
+    pub const LARGEST: u32 = 6;
+
+    pub const WIDTH: u32 = 15;
+
+    pub const KEYBITS: u32 = 4;
+
+    pub const KEY: usize = 32;
+
+    // The longest messages of all schemes.
+    pub const OPENING: usize = 16 + 15 * FrodoParanoid::N;
+
+    pub const REPLY: usize = 15 * FrodoParanoid::N + 8;
+
+    pub fn fixed() -> Fixed
+        ensures { result ≡ fixed_of Paranoid }
+    {
+        frodo(
+            FrodoParanoid::N,
+            FrodoParanoid::Q,
+            FrodoParanoid::LARGEST,
+            FrodoParanoid::WIDTH,
+            FrodoParanoid::KEYBITS,
+            FrodoParanoid::KEY,
+        )
+    }
+}
+
+// The longest messages of all schemes.
+pub const LONGEST_OPENING: usize = FrodoParanoid::OPENING;
+
+pub const LONGEST_REPLY: usize = FrodoParanoid::REPLY;
 
 // The three families: in schemes 0 and 1 products are of polynomials, NewHope's through the transform; in Frodo they are of matrices.
 #[derive(Clone, Copy, Debug, PartialEq, Eq)]
@@ -232,10 +358,10 @@ impl Scheme {
         match self {
             Scheme::Bcns => Bcns::fixed(),
             Scheme::NewHope => NewHope::fixed(),
-            Scheme::Challenge => frodo(352, 2048, 3, 11, 1, 8),
-            Scheme::Classical => frodo(592, 4096, 4, 12, 2, 16),
-            Scheme::Recommended => frodo(752, 32768, 5, 15, 4, 32),
-            Scheme::Paranoid => frodo(864, 32768, 6, 15, 4, 32),
+            Scheme::Challenge => FrodoChallenge::fixed(),
+            Scheme::Classical => FrodoClassical::fixed(),
+            Scheme::Recommended => FrodoRecommended::fixed(),
+            Scheme::Paranoid => FrodoParanoid::fixed(),
         }
     }
 

@@ -1,19 +1,21 @@
 -- What the reader's steps rest on, each in the terms of `Settings`.
 --   padded                                 a label in its 16 bytes
---   spelled-size, last-room                the label's line: where its letters lie, and that its name stands there
---   tail_more                              what stands behind the rule in format 1, where that is not nothing
+--   few, many, unended, formed             the tests of `well_spelled_lem`, the first three failing
+--   spelled-size, spelled-setup, spelled-misfit, last-room, last-spelled, last-misfit   the label's line
+--   tail-two, tail_none, tail_more, tail-end, end_short   what stands behind the rule
 --   given_up                               the error that `?` hands on
 --   rule-other, rule-read, rule-bad, scheme-.., format-..   the lines, where they are other text, read, or bad
-use Rattle.lists.proofs.Kit.{refl, ◌∙◌, sym, ap, true, false, List, ℕ, suc, arith, eqb, leb}
+use Rattle.lists.proofs.Kit.{refl, ◌∙◌, sym, ap, Bool, true, false, List, ℕ, suc, add-one, arith, eqb, leb}
 use Rattle.std.specs.Option.{ok_or}
-use Rattle.std.proofs.Common.{Option, Some, None, Result, Ok, Err, IsErr, IsErrAnd, ◌≡◌, ◌++◌, ◌+◌, ◌-◌, ◌≤◌, ◌<◌}
-use Rattle.lists.proofs.Kit.{drop-cons, length, get_or, drop, replicate, length-append, leb-true, eqb-true, lt-ltb, le-ltb}
+use Rattle.std.proofs.Common.{Option, Some, None, Result, Ok, Err, IsErr, IsErrAnd, ◌≡◌, ◌&&◌, ◌++◌, ◌+◌, ◌-◌, ◌≤◌, ◌<◌}
+use Rattle.lists.proofs.Kit.{drop-cons, length, get_or, take, drop, replicate, length-append, length-drop, drop_of_length-le, leb-true, eqb-true, le-leb, lt-leb}
+use Rattle.lists.proofs.Kit.{lt-ltb, le-ltb, ne_eqb}
 use Rattle.lists.specs.First.{both}
-use Rattle.lists.proofs.{Table.both_true, Parts.drop-same}
+use Rattle.lists.proofs.{Table.both_true, Parts.part, Parts.to_end, Parts.drop-same}
 use Rattle.text.specs.{Text.LF, Text.scheme_name, Text.begins, Text.field_in, Steps.Reads}
 use Rattle.text.proofs.{Reading.begins-is, Lines.told-number, Lines.told-other}
-use Rattle.settings.specs.Settings.{format_name, rule_name, label_name, is_scheme_lem, is_rule_lem, letters, newer, misfit, well_spelled_lem}
-use Rattle.settings.specs.Settings.{end_in, tail_in, rule_in, scheme_in, format_in, reads}
+use Rattle.settings.specs.Settings.{setup_of, format_name, rule_name, label_name, is_scheme_lem, is_rule_lem, letters, setup, newer, misfit, well_spelled_lem, spelled_in}
+use Rattle.settings.specs.Settings.{last_in, end_in, tail_in, rule_in, scheme_in, format_in, reads}
 use Rattle.settings.specs.Calls.{answer_of}
 use Rattle.settings.specs.declared.Misfit as why
 use Rattle.settings.specs.declared.Misfit.TheVariants as misfits
@@ -22,6 +24,32 @@ use Rattle.settings.specs.declared.Misfit.TheVariants as misfits
 
 pub padded : {p : List ℕ} (l : List ℕ) → p ≡ l → p ++ drop (length l) (replicate 16 0) ≡ l ++ replicate (16 - length l) 0
 padded l e = rw (e, drop-same)
+
+module _ (xs : List ℕ) where
+  pub few : letters xs < 1 → false ≡ well_spelled_lem xs
+  unfolding well_spelled_lem
+  few h = rw (lt-leb 1 (letters xs) h)
+
+  module _ (h : 1 ≤ letters xs) where
+    pub many : 16 < letters xs → false ≡ well_spelled_lem xs
+    unfolding well_spelled_lem
+    many l = rw (le-leb 1 (letters xs) h, lt-leb (letters xs) 16 l)
+
+    module _ (l : letters xs ≤ 16) where
+      pub unended : length xs ≤ letters xs → false ≡ well_spelled_lem xs
+      unfolding well_spelled_lem
+      unended e = rw (le-leb 1 (letters xs) h, le-leb (letters xs) 16 l, ne_eqb (length xs) (suc (letters xs)) (λ z. omega arith))
+
+      pub formed : (eqb (length xs) (letters xs + 1) && eqb (get_or xs (letters xs) 0) LF) ≡ well_spelled_lem xs
+      unfolding well_spelled_lem
+      formed =
+          rw (le-leb 1 (letters xs) h, le-leb (letters xs) 16 l, add-one)
+          (go (eqb (length xs) (suc (letters xs))) (eqb (get_or xs (letters xs) 0) LF))
+        where
+          go : (s t : Bool) → (s && t) ≡ both s t
+          go true true = refl
+          go true false = refl
+          go false t = refl
 
 module _ (xs : List ℕ) {n : ℕ} (r : n ≡ letters xs) where
   pub spelled-size : true ≡ well_spelled_lem xs → (n ≤ 16) × (n ≤ length xs)
@@ -34,14 +62,51 @@ module _ (xs : List ℕ) {n : ℕ} (r : n ≡ letters xs) where
       let v = both_true (eqb (length xs) (suc n)) stop u.1 in
       (omega (arith, leb-true (letters xs) 16 u.0), omega (arith, eqb-true (length xs) (suc (letters xs)) v.0))
 
+  pub spelled-setup : (a b : ℕ) → true ≡ well_spelled_lem xs → setup (setup_of a b (take n xs)) ≡ spelled_in a b xs
+  unfolding spelled_in
+  spelled-setup a b w = rw (← w, r)
+
+pub spelled-misfit : (a b : ℕ) (xs : List ℕ) → false ≡ well_spelled_lem xs → misfit ≡ spelled_in a b xs
+unfolding spelled_in
+spelled-misfit a b xs w = rw (← w)
+
 pub last-room : (s : List ℕ) → true ≡ begins label_name s → 6 ≤ length s
 last-room s w = omega (arith, ap length (begins-is label_name s (sym w)) ∙ length-append label_name (drop 6 s))
 
+module _ (a b : ℕ) (s : List ℕ) (at : ℕ) where
+  pub last-spelled : true ≡ begins label_name (part s at) → spelled_in a b (part (part s at) 6) ≡ last_in a b (drop at s)
+  unfolding last_in
+  last-spelled w =
+      let v : true ≡ begins label_name (drop at s) = rw (to_end s at) at w in
+      rw (to_end (part s at) 6, to_end s at, ← v)
+
+  pub last-misfit : false ≡ begins label_name (part s at) → misfit ≡ last_in a b (drop at s)
+  unfolding last_in
+  last-misfit w =
+      let v : false ≡ begins label_name (drop at s) = rw (to_end s at) at w in
+      rw (← v)
+
 -- ---- what stands behind the rule
 
-pub tail_more : (f a b : ℕ) (s : List ℕ) (at : ℕ) → f ≡ 1 → at < length s → misfit ≡ tail_in f a b (drop at s)
-unfolding tail_in end_in
-tail_more f a b s at e l = rw (e, drop-cons s at 0 l)
+module _ (f a b : ℕ) (s : List ℕ) (at : ℕ) where
+  pub tail-two : f ≡ 2 → last_in a b (drop at s) ≡ tail_in f a b (drop at s)
+  unfolding tail_in
+  tail-two e = rw e
+
+  pub tail_none : (f ≡ 2 → ⊥) → (f ≡ 1 → ⊥) → misfit ≡ tail_in f a b (drop at s)
+  unfolding tail_in
+  tail_none g h = rw (ne_eqb f 1 h, ne_eqb f 2 g)
+
+  pub tail_more : f ≡ 1 → at < length s → misfit ≡ tail_in f a b (drop at s)
+  unfolding tail_in end_in
+  tail_more e l = rw (e, drop-cons s at 0 l)
+
+  pub tail-end : f ≡ 1 → length s ≤ at → setup (setup_of a b (part s at)) ≡ tail_in f a b (drop at s)
+  unfolding tail_in end_in
+  tail-end e l = rw (e, to_end s at, drop_of_length-le s l)
+
+pub end_short : (s : List ℕ) (at : ℕ) → length s ≤ at → length (part s at) ≤ 16
+end_short s at l = omega (arith, ap length (to_end s at), length-drop at s)
 
 -- ---- the lines
 

@@ -4,7 +4,9 @@
 --   seven-minus       1024 more are a minus, which is 12288
 --   forty-nine, seven-back, forty-nine-back   49, 8778 and 1254 as powers of 7
 --   table-rule        where the test passes over a table of 2,048 entries, each entry is its power of 7
-use Rattle.lists.proofs.Kit.{◌≡◌, sym, ap, Bool, List, ℕ, ◌+◌, ◌*◌, ◌%◌, ◌^◌, ◌<◌, mul-one, arith, pos, pow-add, T, eqb, eqb→eq, length, get_or}
+--   power-lt          an entry of the table is below 12289
+use Rattle.lists.proofs.Kit.{◌≡◌, sym, ap, Bool, List, ℕ, ◌+◌, ◌*◌, ◌%◌, ◌^◌, ◌<◌, mul-one, mod-lt, arith, dec_lt, pos, pow-add, T, eqb, eqb→eq, length, get_or}
+use Rattle.lists.proofs.Kit.{List·getD-eq-default}
 use Rattle.numbers.specs.Congruence.{◌≅⟨◌⟩◌}
 use Rattle.numbers.proofs.Congruence.{eq-≅, refl-≅, sym-≅, ◌⨾◌, mul-≅, mod-≅}
 use Rattle.numbers.proofs.{Natural.one-pow, Natural.power-power, Modular.pow-≅}
@@ -43,3 +45,11 @@ table-rule t p l = record { size = l; power = power; minus = power 1024 (omega a
   where
     power : (k : ℕ) → k < 2048 → get_or t k 0 ≡ 7 ^ k % 12289
     power k h = eqb→eq (get_or t k 0) (7 ^ k % 12289) (at right 0 t p k (rw l h))
+
+-- past its end the table reads 0
+pub power-lt : {t : List ℕ} → TableRule t → (k : ℕ) → get_or t k 0 < 12289
+power-lt {t} r k = go (dec_lt k 2048)
+  where
+    go : Dec (k < 2048) → get_or t k 0 < 12289
+    go (yes h) = rw (r.power k h) (mod-lt (7 ^ k) (omega arith))
+    go (no h) = rw (List·getD-eq-default t 0 {n = k} (omega (arith, r.size))) (omega arith)

@@ -5,10 +5,14 @@
 --   numbers_of             each scheme has the numbers of its family
 --   numbers-in             so has a scheme of which the family is known
 --   in-each                a fact of what is meant by the family, from that of each family with its numbers
-use Rattle.lists.proofs.Kit.{refl, subst, ℕ, arith, T, leb, lit≤}
+--   key-bits               an entry's key has fewer than 32 bits
+--   packed-below           a number below q fits the width of a packed number
+use Rattle.lists.proofs.Kit.{refl, subst, List, ℕ, lt_of_lt_of_le, arith, T, leb, lit≤}
 use Rattle.std.proofs.Common.{◌≡◌, ◌*◌, ◌/◌, ◌%◌, ◌^◌, ◌≤◌, ◌<◌}
 use Rattle.schemes.specs.Schemes.{by_family, family_of, fixed_of, bcns, new_hope, frodo}
 use Rattle.schemes.specs.{declared.Family.Family, declared.Fixed.Fixed, declared.Scheme.Scheme}
+use Rattle.schemes.proofs.Sound.{sound}
+use Rattle.lists.specs.Ranges.{Below}
 use Rattle.frodo.specs.Shown.{Round}
 
 -- the rounding interval, `interval` of the scheme
@@ -111,3 +115,11 @@ pub in-each : {A : Type 0} (P : A → Type 0) (F : Family) {f : Fixed} {x y z : 
 in-each P Family.Bcns k b n o = b k
 in-each P Family.NewHope k b n o = n k
 in-each P Family.Frodo k b n o = o k
+
+-- ---- the size of numbers
+
+pub key-bits : (s : Scheme) → (fixed_of s).keybits < 32
+key-bits s = let k = (sound s).key-room in omega arith
+
+pub packed-below : (s : Scheme) {xs : List ℕ} → Below (fixed_of s).q xs → Below (2 ^ (fixed_of s).width) xs
+packed-below s h = record { below = λ k. lt_of_lt_of_le (h.below k) (sound s).q_room }

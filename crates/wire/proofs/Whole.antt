@@ -1,6 +1,8 @@
 -- Numbers that fill whole bytes, once over their count and bits.
 --   Whole w n b    n numbers of w bits, from 1 to 32, fill b bytes
---   numbers, hints, keys   those of a message, of a reply and of a key
+--   numbers, hints, keys, coins   those of a message, of a reply, of a key and, where there are any, of the coins
+--   fit            what `pack` asks: such numbers, and a buffer for their bytes
+--   hold           what `unpack` asks: such bytes, and a buffer for their numbers
 --   long           how many bytes they take
 --   back           numbers packed and unpacked are the same
 --   as-blank       they are blank where their bytes are
@@ -31,7 +33,13 @@ module _ (c : Scheme) where
   pub keys : Whole (fixed_of c).keybits (fixed_of c).groups (fixed_of c).key
   keys = record { some = (sound c).key; room = omega (arith, (sound c).key-room); whole = (tied c).keys }
 
+  pub coins : 0 < (fixed_of c).coinbits → Whole (fixed_of c).coinbits (fixed_of c).groups (fixed_of c).coins
+  coins h = record { some = h; room = (sound c).coin-room; whole = (tied c).coins }
+
 module _ {w n b : ℕ} (h : Whole w n b) where
+  pub hold : {m k : ℕ} → m ≡ b → k ≡ n → ((0 < w) × (w ≤ 32)) × (8 * m ≡ w * k)
+  hold l e = ((h.some, h.room), omega (arith, h.whole, ap (λ (i : ℕ). w * i) e))
+
   module _ {q : ℕ} {xs : List ℕ} (p : Counted n q xs) where
     filled : w * length xs ≡ 8 * b
     filled = omega (arith, h.whole, ap (λ (i : ℕ). w * i) p.long)
@@ -42,6 +50,9 @@ module _ {w n b : ℕ} (h : Whole w n b) where
     module _ (r : q ≤ 2 ^ w) where
       small : Below (2 ^ w) xs
       small = record { below = λ k. lt_of_lt_of_le (p.below.below k) r }
+
+      pub fit : {m : ℕ} → m ≡ b → ((0 < w) × (w ≤ 32) × Below (2 ^ w) xs) × (w * length xs ≡ 8 * m)
+      fit l = ((h.some, h.room, small), omega (arith, filled))
 
       pub back : unpacked w n (packed w xs) ≡ xs
       back = ap (λ (i : ℕ). unpacked w i (packed w xs)) (sym p.long) ∙ unpack-pack w b xs filled small

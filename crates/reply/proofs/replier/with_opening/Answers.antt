@@ -1,10 +1,11 @@
 -- `reply::replier::with_opening` meets its contract: it lends room for the opening's numbers; a refused message ends the call, and otherwise the secrets' tests decide.
 use Rattle.std.proofs.Common.{◌≡◌}
 use Rattle.lists.proofs.Kit.{sym, ap, ◌∙◌, List, ℕ, length}
+use Rattle.lists.proofs.Same.{zeros}
 use Rattle.schemes.specs.{Schemes.fixed_of, declared.Fixed.Fixed, declared.Scheme.Scheme}
 use Rattle.packing.proofs.Laws.{unpacked-length}
 use Rattle.refusals.specs.{Refusals.◌then◌, Refusals.publics_in_lem, Seen.if_passed, Refusals.Verdict}
-use Rattle.refusals.proofs.{Ends.given_up, Laws.went_on, Steps.front-is}
+use Rattle.refusals.proofs.{Laws.failed, Laws.went_on, Laws.before-fail, Steps.front-is, Steps.put-kept}
 use Rattle.wire.specs.Wire.{opened_in, numbers_in}
 use Rattle.wire.proofs.Travel.{message-counted}
 use Rattle.reply.specs.{Reply.reply, Reply.opened_of, Inside.reply_rest}
@@ -20,23 +21,25 @@ with_secrets-requires-clause-counted c =
     let s = c.args.scheme in
     let o = c.args.opening.now in
     let v = c.take_opening-v.ensures in
-    message-counted s (opened_in s o) (front-is _ v.numbers_value (numbers-long s o c.fixed-f.ensures) _) v.value c.in_default.is
+    message-counted s (opened_in s o) (front-is _ v.numbers_value (numbers-long s o c.fixed-f.ensures) _) v.value c.in-Ok.is
 
-pub returns-in_err-publics_in-clause-value : goal.returns-in_err-publics_in-clause-value
-unfolding ◌then◌
-returns-in_err-publics_in-clause-value c =
-    rw (given_up _ c.from_residual.ensures, ← c.fixed-f.ensures, ← c.in_err-publics_in.ensures)
-
-pub returns-in-Err-clause-value : goal.returns-in-Err-clause-value
-unfolding reply_rest opened_of ◌then◌
-returns-in-Err-clause-value c =
-    rw (← c.take_opening-v.ensures.value, c.in-Err.is, ← c.fixed-f.ensures, ← c.in_ok-publics_in.ensures)
+pub returns-in_default : goal.returns-in_default
+unfolding reply_rest opened_of
+returns-in_default c =
+    let f = fixed_of c.args.scheme in
+    let P = publics_in_lem f.q c.args.a.now in
+    let e = c.in_default.is in
+    let q = rw c.fixed-f.ensures at c.publics_before.ensures ∙ sym (before-fail P e) in record {
+      value = q ∙ ap (λ (w : Verdict). P then w) (e ∙ sym (failed _ c.take_opening-v.ensures.value e));
+      laid = c.zero_outputs.ensures.message_value ∙ sym (zeros f.reply 0 c.requires.replying.message-blank) ∙ put-kept P _ q e;
+      laid_2 = c.zero_outputs.ensures.key_value ∙ sym (zeros f.key 0 c.requires.replying.key-blank) ∙ put-kept P _ q e;
+    }
 
 pub returns-clause-value : goal.returns-clause-value
 unfolding reply_rest opened_of
 returns-clause-value c =
     let a = c.args in
-    c.with_secrets.ensures.value ∙ ap (λ (w : Verdict). publics_in_lem (fixed_of a.scheme).q a.a.now then w) (sym (went_on _ c.take_opening-v.ensures.value c.in_default.is))
+    c.with_secrets.ensures.value ∙ ap (λ (w : Verdict). publics_in_lem (fixed_of a.scheme).q a.a.now then w) (sym (went_on _ c.take_opening-v.ensures.value c.in-Ok.is))
 
 pub returns-clause-laid : goal.returns-clause-laid
 unfolding opened_of
